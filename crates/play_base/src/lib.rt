@@ -21,3 +21,6 @@ pub use packet::{Bytes, Packet, Ticket};
 pub use planned::Call;
 pub use steady::SteadyFiles;
 pub use trouble::{NoMemory, Trouble};
+
+#[cfg(test)]
+mod tests;
