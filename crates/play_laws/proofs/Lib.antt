@@ -1,0 +1,4 @@
+pub mod ArrivalLemmas
+pub mod Starts
+pub mod StrictLemmas
+pub mod TextLemmas

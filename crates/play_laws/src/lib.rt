@@ -1,0 +1,39 @@
+//! The laws of every play: what holds of its history whatever its policy is, so long as the policy is lawful.
+#![tactic(auto)]
+
+ghost use Rattle.std.specs.Prelude.{◌≡◌, ◌-◌, ◌++◌, ℕ, List, length, Some, slice_get};
+ghost use Rattle.altq_model.specs.declared.Mark.{Mark};
+ghost use Rattle.altq_model.specs.declared.Rule.{Rule};
+ghost use Rattle.altq_model.specs.Arrivals.{Arrival, arrival, arrivals_of, coming_of, comings};
+ghost use Rattle.altq_model.specs.Capture.{Record};
+ghost use Rattle.altq_model.specs.History.{Coming, Decision};
+ghost use Rattle.altq_model.specs.Laws.{at_of};
+ghost use Rattle.altq_model.specs.Policies.{Answering, strict, one_queue};
+ghost use Rattle.altq_model.specs.Texts.{Naming, fates, fate_rows, departures, departure_records};
+ghost use Rattle.play_laws.specs.Lawful.{IsLawful, NeverWaits, AreRising, AreHeld};
+
+/// The arrivals of a capture rise, there is one for each record, and a play sees each as it is.
+pub fn arrivals_rise()
+    ensures rising { (mark : List ℕ → Mark) (records : List Record) → AreRising (comings (arrivals_of mark records)) }
+    ensures one_each { (mark : List ℕ → Mark) (records : List Record) → length (comings (arrivals_of mark records)) ≡ length records }
+    ensures at { (arrived : List Arrival) (n : ℕ) → (arrival arrived n).at ≡ at_of (comings arrived) n }
+    ensures seen { (arrived : List Arrival) (n : ℕ) (a : Coming) → slice_get (comings arrived) (n - 1) ≡ Some a → coming_of (arrival arrived n) ≡ a }
+{}
+
+/// Strict order is lawful and never waits, and so is one queue, which holds every frame of class 1.
+pub fn strict_order_is_lawful()
+    ensures lawful { (classes : List ℕ) (rule : Rule) (answer : Answering) → IsLawful (strict classes rule answer) }
+    ensures never_waits { (classes : List ℕ) (rule : Rule) (answer : Answering) → NeverWaits (strict classes rule answer) }
+    ensures one_lawful { (limit : ℕ) → IsLawful (one_queue limit) }
+    ensures one_never_waits { (limit : ℕ) → NeverWaits (one_queue limit) }
+    ensures one_holds { (limit : ℕ) (mark : List ℕ → Mark) (records : List Record) → ((bytes : List ℕ) → (mark bytes).class ≡ 1)
+        → AreHeld (one_queue limit) (comings (arrivals_of mark records)) }
+{}
+
+/// The texts of a longer journal begin with those of its front.
+pub fn texts_extend()
+    ensures fates { (names : Naming) (arrived : List Arrival) (xs ys : List Decision)
+        → fates names arrived (xs ++ ys) ≡ fates names arrived xs ++ fate_rows names arrived ys }
+    ensures departures { (arrived : List Arrival) (xs ys : List Decision)
+        → departures arrived (xs ++ ys) ≡ departures arrived xs ++ departure_records arrived ys }
+{}
