@@ -1,4 +1,9 @@
+pub mod AllLaws
 pub mod ArrivalLemmas
+pub mod DueLemmas
+pub mod LinkLemmas
+pub mod OrderLemmas
 pub mod Starts
 pub mod StrictLemmas
 pub mod TextLemmas
+pub mod TimeLemmas

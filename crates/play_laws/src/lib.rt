@@ -37,3 +37,16 @@ pub fn texts_extend()
     ensures departures { (arrived : List Arrival) (xs ys : List Decision)
         → departures arrived (xs ++ ys) ≡ departures arrived xs ++ departure_records arrived ys }
 {}
+
+ghost use Rattle.std.specs.Prelude.{◌<◌};
+ghost use Rattle.altq_model.specs.History.{Entry};
+ghost use Rattle.altq_model.specs.Play.{Policy, AreDue};
+ghost use Rattle.play_laws.specs.Events.{HasLaws};
+
+/// The laws of the first events of every play of a lawful policy, however many: each is the offer of the next arrival, or a
+/// sending at the least moment at which a class may send, before every arrival that was not offered; each class departs in order
+/// of number, no packet starts before it arrives, and each end is that of its run.
+pub fn due_events_keep_the_laws()
+    ensures laws { (p : Policy) (rate seed : ℕ) (arrived : List Coming) (g : List Entry) → 0 < rate → IsLawful p → AreRising arrived
+        → AreDue p rate seed arrived g → HasLaws p rate seed arrived g }
+{}
