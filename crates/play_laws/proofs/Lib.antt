@@ -1,6 +1,8 @@
 pub mod AllLaws
 pub mod ArrivalLemmas
+pub mod CountLemmas
 pub mod DueLemmas
+pub mod EndLemmas
 pub mod LinkLemmas
 pub mod OrderLemmas
 pub mod Starts

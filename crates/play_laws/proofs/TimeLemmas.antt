@@ -153,7 +153,7 @@ on_time_step p rate seed arrived g e pos law rise t (inr x) =
     let P : Event → Type 0 = λ y. IsOnTime p rate arrived (y ∷ bare g) in
     subst P (sym x.event) (on_time_sent p rate arrived (bare g) x.sending pos law (t.starts x.sending.class x.sending.start x.may.held x.may.start) t)
 
-have_arrived : (p : Policy) (rate : ℕ) (arrived : List Coming) (h : List Event) (s : ℕ) → IsOnTime p rate arrived h
+pub have_arrived : (p : Policy) (rate : ℕ) (arrived : List Coming) (h : List Event) (s : ℕ) → IsOnTime p rate arrived h
     → first_start p (link rate h).free h p.classes ≡ Some s → HaveArrived s h
 have_arrived p rate arrived h s t f =
     let x = first_of p (link rate h).free h p.classes s f in

@@ -1,6 +1,6 @@
 -- What the events of a play are: an offer of the next arrival, or a sending at the least moment at which one may be.
-use Rattle.std.specs.Prelude.{◌≡◌, ◌≤◌, ◌<◌, ◌⊎◌, ◌+◌, ℕ, List, [], ◌∷◌, Some, slice_get}
-use Rattle.altq_model.specs.History.{Coming, Sending, Sent, Entry, bare, offered, head, labels}
+use Rattle.std.specs.Prelude.{◌≡◌, ◌≤◌, ◌<◌, ◌⊎◌, ◌+◌, ℕ, List, [], ◌∷◌, length, Some, slice_get}
+use Rattle.altq_model.specs.History.{Coming, Sending, Sent, Entry, bare, offered, head, waiting, labels}
 use Rattle.altq_model.specs.Laws.{IsOrdered, IsNotBefore}
 use Rattle.altq_model.specs.Link.{link, end_of, HasLinkEnds}
 use Rattle.altq_model.specs.Play.{Policy, first_start, offer_of}
@@ -43,3 +43,8 @@ pub record HasLaws (p : Policy) (rate seed : ℕ) (arrived : List Coming) (g : L
   pub ordered : IsOrdered g
   pub not_before : IsNotBefore arrived g
   pub ends : HasLinkEnds rate (bare g)
+
+-- every arrival was offered, and nothing waits in any class
+pub record IsWhole (arrived : List Coming) (g : List Entry) : Type 0 where
+  pub offers : offered (bare g) ≡ length arrived
+  pub empty : (c : ℕ) → waiting c (bare g) ≡ []

@@ -50,3 +50,17 @@ pub fn due_events_keep_the_laws()
     ensures laws { (p : Policy) (rate seed : ℕ) (arrived : List Coming) (g : List Entry) → 0 < rate → IsLawful p → AreRising arrived
         → AreDue p rate seed arrived g → HasLaws p rate seed arrived g }
 {}
+
+ghost use Rattle.altq_model.specs.Laws.{KeepsLaws};
+ghost use Rattle.altq_model.specs.Play.{IsPlay};
+ghost use Rattle.play_laws.specs.Events.{IsWhole};
+
+/// The laws of every play of a lawful policy whose classes hold each arrival: each packet is sent or dropped, once; each class
+/// departs in order of number, no packet starts before it arrives, and each end is that of its run. At the end every arrival was
+/// offered, and nothing waits.
+pub fn plays_keep_the_laws()
+    ensures laws { (p : Policy) (rate seed : ℕ) (arrived : List Coming) (g : List Entry) → 0 < rate → IsLawful p → AreRising arrived
+        → AreHeld p arrived → IsPlay p rate seed arrived g → KeepsLaws rate arrived g }
+    ensures whole { (p : Policy) (rate seed : ℕ) (arrived : List Coming) (g : List Entry) → 0 < rate → IsLawful p → AreRising arrived
+        → AreHeld p arrived → IsPlay p rate seed arrived g → IsWhole arrived g }
+{}
