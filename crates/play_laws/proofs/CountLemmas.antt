@@ -110,7 +110,7 @@ numbers_append (d ∷ xs) ys = ap (λ (l : List ℕ). d.0 ∷ l) (numbers_append
 pub journal_occurs : (n : ℕ) (xs ys : List Decision) → occurs n (numbers (xs ++ ys)) ≡ occurs n (numbers xs) + occurs n (numbers ys)
 journal_occurs n xs ys = ap (occurs n) (numbers_append xs ys) ∙ occurs_append n (numbers xs) (numbers ys)
 
-labels_push : (xs : List Place) (x : Place) → all_labels (xs ++ x ∷ []) ≡ all_labels xs ++ x.1 ∷ []
+pub labels_push : (xs : List Place) (x : Place) → all_labels (xs ++ x ∷ []) ≡ all_labels xs ++ x.1 ∷ []
 labels_push [] x = refl
 labels_push (y ∷ xs) x = ap (λ (l : List ℕ). y.1 ∷ l) (labels_push xs x)
 
@@ -126,7 +126,7 @@ out_case : (n d m : ℕ) (x : Place) (xs : List Place) (b : Bool) → slice_get 
 out_case n d m x xs true h r = let same : x.1 ≡ m = cc in ap (λ (k : ℕ). one k n + occurs n (all_labels xs)) (sym same)
 out_case n d m x xs false h r = omega (arith, r h)
 
-taken_out : (n d m : ℕ) (xs : List Place) → slice_get (of_class d xs) 0 ≡ Some m → one m n + occurs n (all_labels (without_first d xs)) ≡ occurs n (all_labels xs)
+pub taken_out : (n d m : ℕ) (xs : List Place) → slice_get (of_class d xs) 0 ≡ Some m → one m n + occurs n (all_labels (without_first d xs)) ≡ occurs n (all_labels xs)
 taken_out n d m [] h = absurd (cc)
 taken_out n d m (x ∷ xs) h = out_case n d m x xs (x.0 == d) h (taken_out n d m xs)
 

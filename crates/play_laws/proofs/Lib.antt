@@ -1,5 +1,6 @@
 pub mod AllLaws
 pub mod ArrivalLemmas
+pub mod BusyLemmas
 pub mod CountLemmas
 pub mod DueLemmas
 pub mod EndLemmas

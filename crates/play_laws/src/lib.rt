@@ -64,3 +64,12 @@ pub fn plays_keep_the_laws()
     ensures whole { (p : Policy) (rate seed : ℕ) (arrived : List Coming) (g : List Entry) → 0 < rate → IsLawful p → AreRising arrived
         → AreHeld p arrived → IsPlay p rate seed arrived g → IsWhole arrived g }
 {}
+
+ghost use Rattle.altq_model.specs.Laws.{IsBusy};
+
+/// Where any class may send at any moment, the link is busy: each sending starts at the greater of the last end and the least
+/// arrival of those that are left. It holds of the first events of a play, however many.
+pub fn link_is_busy()
+    ensures busy { (p : Policy) (rate seed : ℕ) (arrived : List Coming) (g : List Entry) → 0 < rate → IsLawful p → NeverWaits p → AreRising arrived
+        → AreHeld p arrived → AreDue p rate seed arrived g → IsBusy rate arrived g }
+{}
