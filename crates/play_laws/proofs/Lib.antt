@@ -5,6 +5,7 @@ pub mod CountLemmas
 pub mod DueLemmas
 pub mod EndLemmas
 pub mod LinkLemmas
+pub mod OneLemmas
 pub mod OrderLemmas
 pub mod Starts
 pub mod StrictLemmas

@@ -73,3 +73,17 @@ pub fn link_is_busy()
     ensures busy { (p : Policy) (rate seed : ℕ) (arrived : List Coming) (g : List Entry) → 0 < rate → IsLawful p → NeverWaits p → AreRising arrived
         → AreHeld p arrived → AreDue p rate seed arrived g → IsBusy rate arrived g }
 {}
+
+ghost use Rattle.std.specs.Prelude.{◌≤◌, drop};
+ghost use Rattle.altq_model.specs.Play.{play};
+
+/// The play is one: of two histories of due events the shorter is the older part of the longer, so two plays of the same policy,
+/// rate, seed and arrivals are the same; and for a lawful policy there is one, which `play` computes.
+pub fn the_play_is_one()
+    ensures older_part { (p : Policy) (rate seed : ℕ) (arrived : List Coming) (g k : List Entry) → AreDue p rate seed arrived g
+        → AreDue p rate seed arrived k → length g ≤ length k → drop (length k - length g) k ≡ g }
+    ensures one { (p : Policy) (rate seed : ℕ) (arrived : List Coming) (g k : List Entry) → IsPlay p rate seed arrived g
+        → IsPlay p rate seed arrived k → g ≡ k }
+    ensures exists { (p : Policy) (rate seed : ℕ) (arrived : List Coming) → 0 < rate → IsLawful p → AreRising arrived
+        → IsPlay p rate seed arrived (play p rate seed arrived) }
+{}
