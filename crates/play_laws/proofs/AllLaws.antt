@@ -1,12 +1,13 @@
 -- The laws of the events that are due, and of every play.
-use Rattle.std.proofs.Common.{◌≡◌, ◌<◌, ℕ, List, [], ◌∷◌, length}
-use Rattle.altq_model.specs.History.{Coming, Entry, bare, offered, waiting}
+use Rattle.std.proofs.Common.{◌<◌, ℕ, List, arith}
+use Rattle.altq_model.specs.History.{Coming, Entry}
 use Rattle.altq_model.specs.Laws.{KeepsLaws}
 use Rattle.altq_model.specs.Play.{Policy, AreDue, IsPlay}
 use Rattle.play_laws.specs.Lawful.{IsLawful, AreRising, AreHeld}
 use Rattle.play_laws.specs.Events.{HasLaws, IsWhole}
 use Rattle.play_laws.proofs.TimeLemmas.{each_follows}
 use Rattle.play_laws.proofs.OrderLemmas.{ordered, not_before, link_ends}
+use Rattle.play_laws.proofs.CountLemmas.{balanced}
 use Rattle.play_laws.proofs.EndLemmas.{is_over, all_offered, no_places, nothing_waits, conserved}
 
 pub due_laws : (p : Policy) (rate seed : ℕ) (arrived : List Coming) (g : List Entry) → 0 < rate → IsLawful p → AreRising arrived
@@ -15,6 +16,7 @@ due_laws p rate seed arrived g pos law rise due =
     let f = each_follows p rate seed arrived g pos law rise due in
     record {
       each = f;
+      once = λ n. omega (arith, (balanced p rate seed arrived g n f).once);
       ordered = ordered p rate seed arrived g f;
       not_before = not_before p rate seed arrived g law f;
       ends = link_ends p rate seed arrived g law f;

@@ -1,6 +1,6 @@
 -- The arrivals of a capture rise, and a play sees of each what it needs.
-use Rattle.std.proofs.Common.{◌≡◌, ◌-◌, ◌∙◌, ℕ, zero, suc, max, List, [], ◌∷◌, Some, length, refl, ap, arith}
-use Rattle.std.specs.Prelude.{slice_get, option_map, unwrap_or}
+use Rattle.std.proofs.Common.{◌≡◌, ◌-◌, ◌∙◌, ℕ, zero, suc, max, List, [], ◌∷◌, ◌++◌, Some, length, refl, ap, arith}
+use Rattle.std.specs.Prelude.{nat_lt, slice_get, option_map, unwrap_or}
 use Rattle.std.specs.Option.{option_map_or}
 use Rattle.altq_model.specs.declared.Mark.{Mark}
 use Rattle.altq_model.specs.Capture.{Record}
@@ -8,7 +8,7 @@ use Rattle.altq_model.specs.Arrivals.{Arrival, arrivals_from, arrivals_of, arriv
 use Rattle.altq_model.specs.History.{Coming}
 use Rattle.altq_model.specs.Laws.{at_of}
 use Rattle.altq_model.specs.Play.{Policy}
-use Rattle.play_laws.specs.Lawful.{IsOneOf, RiseFrom, AreRising, AreHeld}
+use Rattle.play_laws.specs.Lawful.{IsOneOf, RiseFrom, AreRising, AreHeld, greatest}
 
 rise_from : (mark : List ℕ → Mark) (latest : ℕ) (records : List Record) → RiseFrom latest (comings (arrivals_from mark latest records))
 rise_from mark latest [] = tt
@@ -57,3 +57,27 @@ held_from p mark latest (r ∷ rs) h = (h r.captured, held_from p mark (max late
 pub arrivals_held : (p : Policy) (mark : List ℕ → Mark) (records : List Record)
     → ((bytes : List ℕ) → IsOneOf (mark bytes).class p.classes) → AreHeld p (comings (arrivals_of mark records))
 arrivals_held p mark records h = held_from p mark 0 records h
+
+abbrev arrival_of : (List ℕ → Mark) → (t : ℕ) → Record → Arrival
+arrival_of mark t r = record {
+  at = max t r.stamp;
+  len = max r.original (length r.captured);
+  class = (mark r.captured).class;
+  prec = (mark r.captured).prec;
+  bytes = r.captured;
+  raised = nat_lt r.stamp t;
+}
+
+from_append : (mark : List ℕ → Mark) (t : ℕ) (xs ys : List Record)
+    → arrivals_from mark t (xs ++ ys) ≡ arrivals_from mark t xs ++ arrivals_from mark (greatest t xs) ys
+from_append mark t [] ys = refl
+from_append mark t (r ∷ xs) ys = ap (λ (l : List Arrival). arrival_of mark t r ∷ l) (from_append mark (max t r.stamp) xs ys)
+
+-- the arrivals of more records begin with those of the fewer
+pub arrivals_append : (mark : List ℕ → Mark) (xs ys : List Record)
+    → arrivals_of mark (xs ++ ys) ≡ arrivals_of mark xs ++ arrivals_from mark (greatest 0 xs) ys
+arrivals_append mark xs ys = from_append mark 0 xs ys
+
+pub comings_append : (xs ys : List Arrival) → comings (xs ++ ys) ≡ comings xs ++ comings ys
+comings_append [] ys = refl
+comings_append (a ∷ xs) ys = ap (λ (l : List Coming). coming_of a ∷ l) (comings_append xs ys)

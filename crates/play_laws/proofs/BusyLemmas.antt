@@ -1,6 +1,6 @@
 -- The link never idles while a packet waits that is not dropped.
 use Rattle.std.proofs.Common.{◌≡◌, ◌≤◌, ◌<◌, ◌+◌, ◌-◌, ◌∙◌, ◌⊎◌, inl, inr, ℕ, zero, suc, max, Bool, true, false, cond, List, [], ◌∷◌, ◌++◌, length, None, Some, refl, ap, sym, subst, arith}
-use Rattle.std.specs.Prelude.{slice_get, if◌then◌else◌, ◌==◌}
+use Rattle.std.specs.Prelude.{slice_get, ◌==◌}
 use Rattle.std.proofs.lemmas.Bool.{eqb-true, eq-eqb}
 use Rattle.std.proofs.lemmas.Grind.{common_steps}
 use Rattle.std.proofs.lemmas.Option.{slice_get_within}
@@ -10,11 +10,11 @@ use Rattle.altq_model.specs.declared.Verdict.{Verdict}
 use Rattle.altq_model.specs.declared.Verdict.TheVariants.{Keep, Drop}
 use Rattle.altq_model.specs.History.{Coming, Answer, Words, Event, Offered, Sent, Sending, Entry, bare, offered, drawn, head, waiting, labels, Decision, dropped_by, decided, journal}
 use Rattle.altq_model.specs.Link.{link}
-use Rattle.altq_model.specs.Laws.{occurs, numbers, dropped, dropped_of, sent, sent_of, at_of, IsLeft, StartsBusy, FollowsBusy, AllBusy, IsBusy}
-use Rattle.altq_model.specs.Play.{Policy, class_start, first_start, offer_of, AreDue}
+use Rattle.altq_model.specs.Laws.{occurs, numbers, dropped, dropped_of, sent, sent_of, IsLeft, StartsBusy, FollowsBusy, AllBusy, IsBusy}
+use Rattle.altq_model.specs.Play.{Policy, class_start, AreDue}
 use Rattle.play_laws.specs.Lawful.{IsOneOf, IsLawful, NeverWaits, AreHeld, AreRising}
 use Rattle.play_laws.specs.Events.{IsOffer, IsSending, EachFollows}
-use Rattle.play_laws.proofs.Starts.{least_is, head_of, start_of}
+use Rattle.play_laws.proofs.Starts.{least_is, start_of}
 use Rattle.play_laws.proofs.DueLemmas.{offer_event}
 use Rattle.play_laws.proofs.TimeLemmas.{each_follows, rising_at}
 use Rattle.play_laws.proofs.OrderLemmas.{RisesTo, rises_push, rises_weaken, AreOf, waiting_of, IsNumbered, head_numbered, at_numbered}
@@ -180,14 +180,14 @@ left_case : (p : Policy) (rate seed : ℕ) (arrived : List Coming) (js : List De
 unfolding KeepsDrops
 left_case p rate seed arrived js g x xs n f k e l (inl low) =
     let r : RisesTo 0 (offered (bare g)) (all_labels (x ∷ xs)) =
-      (let P : List Place → Type 0 = λ ys. RisesTo 0 (offered (bare g)) (all_labels ys) in subst P e (places_rise p rate seed arrived g f)) in
+    (let P : List Place → Type 0 = λ ys. RisesTo 0 (offered (bare g)) (all_labels ys) in subst P e (places_rise p rate seed arrived g f)) in
     let b = (balanced p rate seed arrived g n f).once in
     let q = ap (λ (ys : List Place). occurs n (all_labels ys)) e in
     first_least 0 (offered (bare g)) n x.1 (all_labels xs) r
     (omega (arith, b, q, split n g, k n low, l.kept, l.unsent, should_be n (offered (bare g)) l.from_one low))
 left_case p rate seed arrived js g x xs n f k e l (inr high) =
     let r : RisesTo 0 (offered (bare g)) (all_labels (x ∷ xs)) =
-      (let P : List Place → Type 0 = λ ys. RisesTo 0 (offered (bare g)) (all_labels ys) in subst P e (places_rise p rate seed arrived g f)) in
+    (let P : List Place → Type 0 = λ ys. RisesTo 0 (offered (bare g)) (all_labels ys) in subst P e (places_rise p rate seed arrived g f)) in
     omega (arith, bounded x.1 (offered (bare g)) (all_labels xs) r.1)
 
 first_left : (p : Policy) (rate seed : ℕ) (arrived : List Coming) (js : List Decision) (g : List Entry) (x : Place) (xs : List Place)
@@ -196,7 +196,7 @@ unfolding KeepsDrops
 first_left p rate seed arrived js g x xs f k e =
     let i = is_first p rate seed arrived g x xs f e in
     let r : RisesTo 0 (offered (bare g)) (all_labels (x ∷ xs)) =
-      (let P : List Place → Type 0 = λ ys. RisesTo 0 (offered (bare g)) (all_labels ys) in subst P e (places_rise p rate seed arrived g f)) in
+    (let P : List Place → Type 0 = λ ys. RisesTo 0 (offered (bare g)) (all_labels ys) in subst P e (places_rise p rate seed arrived g f)) in
     let b = (balanced p rate seed arrived g x.1 f).once in
     let q : occurs x.1 (all_labels (places g)) ≡ one x.1 x.1 + occurs x.1 (all_labels xs) = ap (λ (ys : List Place). occurs x.1 (all_labels ys)) e in
     let o = one_same x.1 in
@@ -237,7 +237,7 @@ busy_at p rate seed arrived js g e y (x ∷ xs) nw rise can f k q =
     let own = never_waits_start p free g y.sending.class y.sending.start y.packet nw y.front y.may.start in
     let num = head_numbered p rate seed arrived g y.sending.class e.label y.packet f y.number y.front in
     let r : RisesTo 0 (offered (bare g)) (all_labels (x ∷ xs)) =
-      (let P : List Place → Type 0 = λ ys. RisesTo 0 (offered (bare g)) (all_labels ys) in subst P q (places_rise p rate seed arrived g f)) in
+    (let P : List Place → Type 0 = λ ys. RisesTo 0 (offered (bare g)) (all_labels ys) in subst P q (places_rise p rate seed arrived g f)) in
     let out = taken_out e.label y.sending.class e.label (places g) (ap (λ (l : List ℕ). slice_get l 0) (of_class_labels y.sending.class g) ∙ y.number) in
     let same = ap (λ (ys : List Place). occurs e.label (all_labels ys)) q in
     let before : x.1 ≤ e.label = first_least 0 (offered (bare g)) e.label x.1 (all_labels xs) r (omega (arith, out, same, one_same e.label)) in

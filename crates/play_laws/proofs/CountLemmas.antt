@@ -1,17 +1,14 @@
 -- Each number has one fate, or waits.
-use Rattle.std.proofs.Common.{◌≡◌, ◌≤◌, ◌<◌, ◌+◌, ◌-◌, ◌∙◌, ◌⊎◌, inl, inr, ℕ, zero, suc, Bool, true, false, cond, List, [], ◌∷◌, ◌++◌, None, Some, drop, refl, ap, sym, subst, arith}
+use Rattle.std.proofs.Common.{◌≡◌, ◌+◌, ◌∙◌, ◌⊎◌, inl, inr, ℕ, Bool, true, false, cond, List, [], ◌∷◌, ◌++◌, Some, drop, refl, ap, sym, subst, arith}
 use Rattle.std.specs.Prelude.{slice_get, if◌then◌else◌, ◌==◌, ◌&&◌, nat_lt, nat_le}
 use Rattle.std.proofs.lemmas.Bool.{eqb-true, eq-eqb}
 use Rattle.std.proofs.lemmas.Grind.{common_steps}
-use Rattle.altq_model.specs.declared.Fate.{Fate}
-use Rattle.altq_model.specs.declared.Fate.TheVariants as fate
 use Rattle.altq_model.specs.declared.Verdict.{Verdict}
 use Rattle.altq_model.specs.declared.Verdict.TheVariants.{Keep, Drop}
-use Rattle.altq_model.specs.History.{Coming, Answer, Words, Event, Offered, Sent, Sending, Entry, bare, offered, drawn, labels, labels_after, with_offer, without_head, Decision, dropped_by, decided, journal}
-use Rattle.altq_model.specs.Laws.{occurs, numbers, dropped, dropped_of, sent, sent_of}
-use Rattle.altq_model.specs.Play.{Policy, offer_of}
+use Rattle.altq_model.specs.History.{Coming, Words, Event, Offered, Sent, Entry, bare, offered, drawn, labels, labels_after, with_offer, without_head, Decision, dropped_by, decided, journal}
+use Rattle.altq_model.specs.Laws.{occurs, numbers}
+use Rattle.altq_model.specs.Play.{Policy}
 use Rattle.play_laws.specs.Events.{IsOffer, IsSending, EachFollows}
-use Rattle.play_laws.proofs.OrderLemmas.{RisesTo, rises_push, rises_weaken}
 
 -- the class and the label of a packet that waits
 abbrev pub Place : Type 0

@@ -1,15 +1,15 @@
 -- At the end of a play every arrival was offered, and nothing waits.
-use Rattle.std.proofs.Common.{◌≡◌, ◌≤◌, ◌<◌, ◌+◌, ◌-◌, ◌∙◌, ◌⊎◌, inl, inr, ℕ, zero, suc, Bool, true, false, cond, List, [], ◌∷◌, ◌++◌, length, None, Some, drop, refl, ap, sym, subst, arith}
+use Rattle.std.proofs.Common.{◌≡◌, ◌≤◌, ◌<◌, ◌+◌, ◌∙◌, ◌⊎◌, inl, inr, ℕ, zero, suc, Bool, true, false, cond, List, [], ◌∷◌, ◌++◌, length, None, Some, refl, ap, sym, subst, arith}
 use Rattle.std.specs.Prelude.{slice_get, ◌==◌, nat_le}
 use Rattle.std.specs.declared.option.Option.{Option}
 use Rattle.std.proofs.lemmas.Bool.{eq-eqb}
 use Rattle.std.proofs.lemmas.Option.{slice_get_within}
 use Rattle.altq_model.specs.declared.Verdict.{Verdict}
 use Rattle.altq_model.specs.declared.Verdict.TheVariants.{Keep, Drop}
-use Rattle.altq_model.specs.History.{Coming, Answer, Words, Event, Offered, Sent, Sending, Entry, bare, offered, drawn, head, waiting, labels, journal}
+use Rattle.altq_model.specs.History.{Coming, Words, Event, Entry, bare, offered, drawn, waiting, labels, journal}
 use Rattle.altq_model.specs.Link.{link}
 use Rattle.altq_model.specs.Laws.{IsConserved, occurs}
-use Rattle.altq_model.specs.Play.{Policy, Choice, first_start, offer_of, head_sent, sent_at, due_from, due, AreDue, IsPlay}
+use Rattle.altq_model.specs.Play.{Policy, Choice, offer_of, head_sent, sent_at, due_from, due, AreDue}
 use Rattle.play_laws.specs.Lawful.{IsOneOf, IsLawful, MaySend, AreHeld, AreRising}
 use Rattle.play_laws.specs.Events.{IsOffer, IsSending, EachFollows}
 use Rattle.play_laws.proofs.Starts.{head_of, none_waits}

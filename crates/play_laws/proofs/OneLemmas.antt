@@ -1,13 +1,13 @@
 -- The play is one, and it exists.
 use Rattle.std.proofs.Common.{◌≡◌, ◌≤◌, ◌<◌, ◌+◌, ◌-◌, ◌*◌, ◌∙◌, ◌⊎◌, inl, inr, ℕ, zero, suc, Bool, true, false, cond, List, [], ◌∷◌, ◌++◌, length, length-append, None, Some, drop, refl, ap, sym, subst, arith}
-use Rattle.std.specs.Prelude.{slice_get, if◌then◌else◌, ◌==◌}
+use Rattle.std.specs.Prelude.{slice_get, ◌==◌}
 use Rattle.std.specs.declared.option.Option.{Option}
 use Rattle.std.proofs.lemmas.Option.{slice_get_past, slice_get_within}
 use Rattle.altq_model.specs.declared.Verdict.{Verdict}
 use Rattle.altq_model.specs.declared.Verdict.TheVariants.{Keep, Drop}
-use Rattle.altq_model.specs.History.{Coming, Answer, Words, Event, Offered, Sent, Sending, Entry, bare, offered, drawn, head, waiting, labels}
+use Rattle.altq_model.specs.History.{Coming, Words, Event, Offered, Sent, Entry, bare, offered, drawn, waiting}
 use Rattle.altq_model.specs.Link.{link}
-use Rattle.altq_model.specs.Play.{Policy, class_start, first_start, lesser, offer_of, due, due_from, AreDue, IsPlay, play_on, play}
+use Rattle.altq_model.specs.Play.{Policy, class_start, first_start, lesser, due, due_from, AreDue, IsPlay, play_on, play}
 use Rattle.play_laws.specs.Lawful.{IsLawful, AreRising}
 use Rattle.play_laws.specs.Events.{IsOffer, IsSending, EachFollows}
 use Rattle.play_laws.proofs.DueLemmas.{first_after, next_after}
@@ -146,3 +146,35 @@ plays_on (suc turns) p rate seed arrived g pos law rise d l =
 pub play_is : (p : Policy) (rate seed : ℕ) (arrived : List Coming) → 0 < rate → IsLawful p → AreRising arrived
     → IsPlay p rate seed arrived (play p rate seed arrived)
 play_is p rate seed arrived pos law rise = plays_on (2 * length arrived) p rate seed arrived [] pos law rise tt (omega arith)
+
+-- the events up to an arrival do not depend on what comes after it
+abbrev Agree : (n : ℕ) → List Coming → List Coming → Type 0
+Agree n xs ys = (k : ℕ) → k ≤ n → slice_get xs k ≡ slice_get ys k
+
+same_due : (p : Policy) (rate seed : ℕ) (xs ys : List Coming) (g : List Entry) → next_after xs g ≡ next_after ys g → due p rate seed xs g ≡ due p rate seed ys g
+same_due p rate seed xs ys g e = ap (λ (o : Option Coming). due_from p rate seed g o (first_after p rate g)) e
+
+grows_by : (e : Event) (h : List Event) → offered h ≤ offered (e ∷ h)
+grows_by (Offered a w v) h = omega arith
+grows_by (Sent s) h = omega arith
+
+grows : (e : Entry) (g : List Entry) → offered (bare g) ≤ offered (bare (e ∷ g))
+grows e g = grows_by e.what (bare g)
+
+agree_due : (p : Policy) (rate seed : ℕ) (xs ys : List Coming) (n : ℕ) (e : Entry) (g : List Entry) → offered (bare g) ≤ n → Agree n xs ys
+    → AreDue p rate seed xs (e ∷ g) → AreDue p rate seed ys (e ∷ g)
+agree_due p rate seed xs ys n e [] l a d = (sym (same_due p rate seed xs ys [] (a 0 l)) ∙ d.0, tt)
+agree_due p rate seed xs ys n e (x ∷ g) l a d = (
+  sym (same_due p rate seed xs ys (x ∷ g) (a (offered (bare (x ∷ g))) l)) ∙ d.0,
+  agree_due p rate seed xs ys n x g (omega (arith, l, grows x g)) a d.1,
+)
+
+front_agrees : (xs ys : List Coming) (k : ℕ) → k < length xs → slice_get xs k ≡ slice_get (xs ++ ys) k
+front_agrees [] ys k l = absurd (omega arith)
+front_agrees (x ∷ xs) ys zero l = refl
+front_agrees (x ∷ xs) ys (suc k) l = front_agrees xs ys k (omega arith)
+
+pub later_arrivals : (p : Policy) (rate seed : ℕ) (arrived more : List Coming) (e : Entry) (g : List Entry) → offered (bare g) < length arrived
+    → AreDue p rate seed arrived (e ∷ g) → AreDue p rate seed (arrived ++ more) (e ∷ g)
+later_arrivals p rate seed arrived more e g l d =
+    agree_due p rate seed arrived (arrived ++ more) (offered (bare g)) e g (omega arith) (λ k m. front_agrees arrived more k (omega arith)) d

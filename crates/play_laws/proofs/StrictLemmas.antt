@@ -8,7 +8,7 @@ use Rattle.altq_model.specs.Arrivals.{arrivals_of, comings}
 use Rattle.altq_model.specs.History.{Coming, Event, head, waiting}
 use Rattle.altq_model.specs.Play.{Policy, class_start, first_start, lesser}
 use Rattle.altq_model.specs.Policies.{Answering, strict, one_queue, first_waiting}
-use Rattle.play_laws.specs.Lawful.{IsOneOf, IsLawful, HaveArrived, MaySend, NeverWaits, AreHeld}
+use Rattle.play_laws.specs.Lawful.{IsOneOf, IsLawful, HaveArrived, MaySend, NeverWaits, IsSteady, AreHeld}
 use Rattle.play_laws.proofs.Starts.{first_of, least_is, head_of, start_of}
 use Rattle.play_laws.proofs.ArrivalLemmas.{arrivals_held}
 
@@ -50,6 +50,10 @@ strict_lawful classes r answer = record {
 
 pub strict_never_waits : (classes : List ℕ) (r : Rule) (answer : Answering) → NeverWaits (strict classes r answer)
 strict_never_waits classes r answer = λ h c t. refl
+
+-- a policy that never waits is steady
+pub steady : (p : Policy) → NeverWaits p → IsSteady p
+steady p nw = λ h c t u l m. nw h c u ∙ (let q : u ≡ t = omega (arith, l, m, nw h c t) in q) ∙ sym (nw h c t)
 
 pub one_queue_holds : (limit : ℕ) (mark : List ℕ → Mark) (records : List Record) → ((bytes : List ℕ) → (mark bytes).class ≡ 1)
     → AreHeld (one_queue limit) (comings (arrivals_of mark records))

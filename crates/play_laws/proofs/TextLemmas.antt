@@ -1,7 +1,8 @@
 -- The texts of a longer journal begin with those of its front.
 use Rattle.std.proofs.Common.{◌≡◌, ◌∙◌, List, [], ◌∷◌, ◌++◌, ℕ, refl, ap, sym, append_assoc}
+use Rattle.std.proofs.lemmas.List.{append-nil}
 use Rattle.altq_model.specs.Arrivals.{Arrival, arrival}
-use Rattle.altq_model.specs.History.{Decision}
+use Rattle.altq_model.specs.History.{Entry, Decision, decided, journal}
 use Rattle.altq_model.specs.Texts.{Naming, fate_row, fate_rows, fates, fates_head, departure_record, departure_records, departures, capture_head}
 
 pub fate_rows-append : (names : Naming) (arrived : List Arrival) (xs ys : List Decision)
@@ -29,3 +30,10 @@ pub departures-append : (arrived : List Arrival) (xs ys : List Decision)
 departures-append arrived xs ys =
     ap (λ (t : List ℕ). capture_head ++ t) (departure_records-append arrived xs ys)
     ∙ sym (append_assoc capture_head (departure_records arrived xs) (departure_records arrived ys))
+
+-- a journal of more events begins with that of the older ones
+pub journal-append : (es g : List Entry) → journal (es ++ g) ≡ journal g ++ journal es
+journal-append [] g = sym (append-nil (journal g))
+journal-append (e ∷ es) g =
+    ap (λ (js : List Decision). js ++ decided e.label e.what) (journal-append es g)
+    ∙ append_assoc (journal g) (journal es) (decided e.label e.what)

@@ -1,23 +1,17 @@
 -- In a play every head has arrived by the moment of the next sending.
-use Rattle.std.proofs.Common.{◌≡◌, ◌≤◌, ◌<◌, ◌∙◌, ◌⊎◌, inl, inr, ℕ, zero, suc, max, Bool, true, false, List, [], ◌∷◌, ◌++◌, None, Some, refl, sym, subst, arith}
+use Rattle.std.proofs.Common.{◌≡◌, ◌≤◌, ◌<◌, ◌∙◌, ◌⊎◌, inl, inr, ℕ, zero, suc, max, Bool, true, false, List, [], ◌∷◌, ◌++◌, None, Some, refl, ap, sym, subst, arith}
 use Rattle.std.specs.Prelude.{slice_get, ◌==◌}
 use Rattle.std.specs.declared.option.Option.{Option}
 use Rattle.altq_model.specs.declared.Verdict.{Verdict}
 use Rattle.altq_model.specs.declared.Verdict.TheVariants.{Keep, Drop}
 use Rattle.altq_model.specs.History.{Coming, Answer, Words, Event, Offered, Sent, Sending, Entry, bare, offered, drawn, head, waiting, with_offer, without_head}
 use Rattle.altq_model.specs.Link.{link, end_of}
-use Rattle.altq_model.specs.Play.{Policy, class_start, first_start, due, AreDue}
-use Rattle.play_laws.specs.Lawful.{IsOneOf, IsLawful, HaveArrived, RiseFrom, AreRising}
+use Rattle.altq_model.specs.Play.{Policy, lesser, class_start, first_start, due, AreDue}
+use Rattle.play_laws.specs.Lawful.{IsOneOf, IsLawful, HaveArrived, RiseFrom, AreRising, IsSteady, latest, start_at, first_at}
 use Rattle.play_laws.specs.Events.{IsOffer, IsSending, EachFollows}
 use Rattle.play_laws.proofs.Starts.{first_of, least_of, head_of, start_of}
 use Rattle.play_laws.proofs.LinkLemmas.{end_later}
 use Rattle.play_laws.proofs.DueLemmas.{due_is, offer_event}
-
--- the greatest moment of what was offered
-abbrev pub latest : List Event → ℕ
-latest [] = 0
-latest (Offered a w v ∷ h) = max a.at (latest h)
-latest (Sent s ∷ h) = latest h
 
 abbrev Within : (t : ℕ) → List Coming → Type 0
 Within t [] = Unit {0}
@@ -176,3 +170,43 @@ pub each_follows : (p : Policy) (rate seed : ℕ) (arrived : List Coming) (g : L
 each_follows p rate seed arrived [] pos law rise d = tt
 each_follows p rate seed arrived (e ∷ g) pos law rise d =
     (follows p rate seed arrived g e law (on_time p rate seed arrived g pos law rise d.1) d.0, each_follows p rate seed arrived g pos law rise d.1)
+
+-- in a play one moment serves for all classes: the greater of the last end and the greatest arrival of what was offered
+same_case : (p : Policy) (rate : ℕ) (arrived : List Coming) (h : List Event) (c : ℕ) (o : Option Coming) → IsLawful p → IsSteady p → IsOnTime p rate arrived h
+    → IsOneOf c p.classes → head c h ≡ o → class_start p (link rate h).free h c ≡ start_at p (max (link rate h).free (latest h)) h c
+same_case p rate arrived h c None law s t i e = rw e refl
+same_case p rate arrived h c (Some a) law s t i e =
+    let free : ℕ = (link rate h).free in
+    let x = start_of p free h c a e in
+    let y : start_at p (max free (latest h)) h c ≡ Some (p.start_from h c (max free (latest h))) = rw e refl in
+    let l = law.later h c (max free a.at) in
+    let m = t.starts c (p.start_from h c (max free a.at)) i x in
+    let same = s h c (max free a.at) (max free (latest h)) (omega (arith, head_latest c h a e)) (omega (arith, l, m)) in
+    x ∙ ap (λ (n : ℕ). Some n) (sym same) ∙ sym y
+
+same_firsts : (p : Policy) (rate : ℕ) (arrived : List Coming) (h : List Event) (cs : List ℕ) → IsLawful p → IsSteady p → IsOnTime p rate arrived h
+    → ((c : ℕ) → IsOneOf c cs → IsOneOf c p.classes)
+    → first_start p (link rate h).free h cs ≡ first_at p (max (link rate h).free (latest h)) h cs
+same_firsts p rate arrived h [] law s t i = refl
+same_firsts p rate arrived h (c ∷ cs) law s t i =
+    let x = same_case p rate arrived h c (head c h) law s t (i c (inl refl)) refl in
+    let y = same_firsts p rate arrived h cs law s t (λ d f. i d (inr f)) in
+    ap (λ (o : Option ℕ). lesser o (first_start p (link rate h).free h cs)) x
+    ∙ ap (λ (o : Option ℕ). lesser (start_at p (max (link rate h).free (latest h)) h c) o) y
+
+pub one_moment : (p : Policy) (rate seed : ℕ) (arrived : List Coming) (g : List Entry) → 0 < rate → IsLawful p → IsSteady p → AreRising arrived
+    → AreDue p rate seed arrived g
+    → first_start p (link rate (bare g)).free (bare g) p.classes ≡ first_at p (max (link rate (bare g)).free (latest (bare g))) (bare g) p.classes
+one_moment p rate seed arrived g pos law s rise d =
+    same_firsts p rate arrived (bare g) p.classes law s (on_time p rate seed arrived g pos law rise d) (λ c i. i)
+
+pub all_arrived : (p : Policy) (rate seed : ℕ) (arrived : List Coming) (g : List Entry) → 0 < rate → IsLawful p → AreRising arrived
+    → AreDue p rate seed arrived g → (s : ℕ) → first_start p (link rate (bare g)).free (bare g) p.classes ≡ Some s → latest (bare g) ≤ s
+all_arrived p rate seed arrived g pos law rise d = λ s f.
+    let x = first_of p (link rate (bare g)).free (bare g) p.classes s f in
+    (on_time p rate seed arrived g pos law rise d).starts x.class s x.one x.start
+
+pub next_later : (p : Policy) (rate seed : ℕ) (arrived : List Coming) (g : List Entry) → 0 < rate → IsLawful p → AreRising arrived
+    → AreDue p rate seed arrived g → (a : Coming) → slice_get arrived (offered (bare g)) ≡ Some a → latest (bare g) ≤ a.at
+next_later p rate seed arrived g pos law rise d = λ a e.
+    (on_time p rate seed arrived g pos law rise d).comes (offered (bare g)) a (omega arith) e

@@ -1,7 +1,7 @@
 -- What the events of a play are: an offer of the next arrival, or a sending at the least moment at which one may be.
-use Rattle.std.specs.Prelude.{◌≡◌, ◌≤◌, ◌<◌, ◌⊎◌, ◌+◌, ℕ, List, [], ◌∷◌, length, Some, slice_get}
-use Rattle.altq_model.specs.History.{Coming, Sending, Sent, Entry, bare, offered, head, waiting, labels}
-use Rattle.altq_model.specs.Laws.{IsOrdered, IsNotBefore}
+use Rattle.std.specs.Prelude.{◌≡◌, ◌≤◌, ◌<◌, ◌⊎◌, ◌+◌, ℕ, List, [], ◌∷◌, length, Some, slice_get, if◌then◌else◌, nat_lt, nat_le, ◌&&◌}
+use Rattle.altq_model.specs.History.{Coming, Sending, Sent, Entry, bare, offered, head, waiting, labels, journal}
+use Rattle.altq_model.specs.Laws.{occurs, numbers, IsOrdered, IsNotBefore}
 use Rattle.altq_model.specs.Link.{link, end_of, HasLinkEnds}
 use Rattle.altq_model.specs.Play.{Policy, first_start, offer_of}
 use Rattle.play_laws.specs.Lawful.{MaySend}
@@ -37,9 +37,14 @@ EachFollows p rate seed arrived [] = Unit {0}
 EachFollows p rate seed arrived (e ∷ g) =
     (IsOffer p rate seed arrived g e ⊎ IsSending p rate arrived g e) × EachFollows p rate seed arrived g
 
+-- each number up to the count of offers has at most one fate, and no other number has one
+abbrev pub IsDecidedOnce : List Entry → Type 0
+IsDecidedOnce g = (n : ℕ) → occurs n (numbers (journal g)) ≤ (if nat_lt 0 n && nat_le n (offered (bare g)) then 1 else 0)
+
 -- what holds of the first events of a play
 pub record HasLaws (p : Policy) (rate seed : ℕ) (arrived : List Coming) (g : List Entry) : Type 0 where
   pub each : EachFollows p rate seed arrived g
+  pub once : IsDecidedOnce g
   pub ordered : IsOrdered g
   pub not_before : IsNotBefore arrived g
   pub ends : HasLinkEnds rate (bare g)

@@ -1,7 +1,9 @@
 -- When a policy is lawful, and when arrivals suit it. A law is asked after every history.
-use Rattle.std.specs.Prelude.{◌≡◌, ◌≤◌, ◌⊎◌, ℕ, List, [], ◌∷◌, Some}
-use Rattle.altq_model.specs.History.{Coming, Answer, Words, Event, Offered, head}
-use Rattle.altq_model.specs.Play.{Policy, class_start, first_start}
+use Rattle.std.specs.Prelude.{◌≡◌, ◌≤◌, ◌⊎◌, ℕ, max, List, [], ◌∷◌, None, Some, option_map}
+use Rattle.std.specs.declared.option.Option.{Option}
+use Rattle.altq_model.specs.Capture.{Record}
+use Rattle.altq_model.specs.History.{Coming, Answer, Words, Event, Offered, Sent, head}
+use Rattle.altq_model.specs.Play.{Policy, class_start, first_start, lesser}
 
 -- a class is one of these
 abbrev pub IsOneOf : (c : ℕ) → List ℕ → Type 0
@@ -30,6 +32,24 @@ pub record IsLawful (p : Policy) : Type 0 where
 abbrev pub NeverWaits : Policy → Type 0
 NeverWaits p = (h : List Event) (c t : ℕ) → p.start_from h c t ≡ t
 
+-- asked again from a later moment that is not past the answer, a class gives the same answer, as a least moment does
+abbrev pub IsSteady : Policy → Type 0
+IsSteady p = (h : List Event) (c t u : ℕ) → t ≤ u → u ≤ p.start_from h c t → p.start_from h c u ≡ p.start_from h c t
+
+-- the greatest arrival of what was offered, 0 at first
+abbrev pub latest : List Event → ℕ
+latest [] = 0
+latest (Offered a w v ∷ h) = max a.at (latest h)
+latest (Sent s ∷ h) = latest h
+
+-- the least moment, from one moment on for all, at which a class that waits may send
+abbrev pub start_at : Policy → (t : ℕ) → List Event → (c : ℕ) → Option ℕ
+start_at p t h c = option_map (λ (a : Coming). p.start_from h c t) (head c h)
+
+abbrev pub first_at : Policy → (t : ℕ) → List Event → List ℕ → Option ℕ
+first_at p t h [] = None
+first_at p t h (c ∷ cs) = lesser (start_at p t h c) (first_at p t h cs)
+
 -- no moment of these arrivals is before the one before it, nor the first before this
 abbrev pub RiseFrom : (t : ℕ) → List Coming → Type 0
 RiseFrom t [] = Unit {0}
@@ -42,3 +62,8 @@ AreRising arrived = RiseFrom 0 arrived
 abbrev pub AreHeld : Policy → List Coming → Type 0
 AreHeld p [] = Unit {0}
 AreHeld p (a ∷ rest) = IsOneOf a.class p.classes × AreHeld p rest
+
+-- the greatest of this moment and the stamps of these records
+abbrev pub greatest : (t : ℕ) → List Record → ℕ
+greatest t [] = t
+greatest t (r ∷ rs) = greatest (max t r.stamp) rs

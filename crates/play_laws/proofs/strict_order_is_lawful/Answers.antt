@@ -12,3 +12,6 @@ returns-clause-one_lawful c = λ limit. lemma.strict_lawful (1 ∷ []) Share (ta
 
 pub returns-clause-one_holds : goal.returns-clause-one_holds
 returns-clause-one_holds c = lemma.one_queue_holds
+
+pub returns-clause-steady : goal.returns-clause-steady
+returns-clause-steady c = lemma.steady

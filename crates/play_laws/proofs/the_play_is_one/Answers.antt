@@ -9,3 +9,6 @@ returns-clause-one c = lemma.one_whole
 
 pub returns-clause-exists : goal.returns-clause-exists
 returns-clause-exists c = lemma.play_is
+
+pub returns-clause-later_arrivals : goal.returns-clause-later_arrivals
+returns-clause-later_arrivals c = lemma.later_arrivals
