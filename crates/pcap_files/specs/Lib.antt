@@ -1,0 +1,4 @@
+pub mod Ahead
+pub mod Faults
+pub mod Forms
+pub mod Stand
