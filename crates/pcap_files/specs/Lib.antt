@@ -1,4 +1,5 @@
 pub mod Ahead
 pub mod Faults
 pub mod Forms
+pub mod Reading
 pub mod Stand

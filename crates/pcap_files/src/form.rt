@@ -1,5 +1,5 @@
 // The head of a capture.
-ghost use Rattle.std.specs.Prelude.{◌≡◌, IfOk, IfErr, option_map};
+ghost use Rattle.std.specs.Prelude.{◌≡◌, ◌≤◌, IfOk, OnOk, IfErr, option_map, length};
 ghost use Rattle.altq_model.specs.Capture.{head, Formed, Unformed, form_of, damage};
 ghost use Rattle.pcap_files.specs.Forms.{form};
 
@@ -20,6 +20,7 @@ impl Head {
     /// low 16 bits; nothing else is looked at. Constant time.
     pub fn read(bytes: &[u8]) -> Result<Head, Damage>
         ensures ok { IfOk result (λ answer. head bytes.now ≡ Formed (form answer)) }
+        ensures long { OnOk result (24 ≤ length bytes.now) }
         ensures err { IfErr result (λ damage. head bytes.now ≡ Unformed damage) }
     {
         if bytes.len() < 24 {

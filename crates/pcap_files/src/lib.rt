@@ -7,12 +7,12 @@ mod fault;
 mod form;
 mod numbers;
 mod progress;
-//mod reader;
+mod reader;
 mod stand;
 mod writing;
 
 pub use altq_model::{Damage, DamageKind};
 pub use fault::CaptureFault;
 pub use form::Head;
-//pub use reader::{Reader, Record};
+pub use reader::{Reader, Record};
 pub use writing::{head_bytes, record_head};

@@ -41,6 +41,7 @@ fn stamp(head: Head, bytes: &[u8]) -> u64
 // What the bytes at the next record's place tell of it.
 pub fn stand_at(head: Head, progress: Progress, ahead: &[u8]) -> Stand
     ensures value { result ≡ stand_at (form head) progress.count progress.place ahead.now }
+    ensures none { result ≡ Stand.End → length ahead.now ≡ 0 }
     ensures fits { (stamp captured original : ℕ) → result ≡ Stand.Headed stamp captured original →
         (progress.count < 4000000) × (progress.place + 16 + captured ≤ 2 ^ 30) × (16 ≤ length ahead.now) }
 {
