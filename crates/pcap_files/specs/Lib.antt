@@ -3,3 +3,4 @@ pub mod Faults
 pub mod Forms
 pub mod Reading
 pub mod Stand
+pub mod Written

@@ -15,4 +15,4 @@ pub use altq_model::{Damage, DamageKind};
 pub use fault::CaptureFault;
 pub use form::Head;
 pub use reader::{Reader, Record};
-pub use writing::{head_bytes, record_head};
+pub use writing::{head_bytes, record_head, written_captures_read_back};

@@ -20,7 +20,7 @@ returns-in-End-clause-none g c = λ bytes records s.
     let empty : length c.as_slice.result.now ≡ 0 = c.in-End.ensures.none refl in
     stands_with _ _ self _ bytes records s refl refl
         (λ h. pending_took _ _ self.file self.progress.place self.ahead c.fill.new.self bytes (s.pending c.requires.sound) c.in_default.ensures.took)
-        (λ h. omega (arith, empty, ap length c.as_slice.ensures))
+        (λ _. omega (arith, empty, ap length c.as_slice.ensures))
         (subst (λ q. IsCause q (step (form self.head) bytes (length records) (place_after 24 records))) (sym c.requires.sound) tt)
 
 pub returns-in-Limit-clause-fault : goal.returns-in-Limit-clause-fault
