@@ -70,13 +70,13 @@ whole_head form bytes ahead rest count at within e h =
     let captured = word form.big ahead 8 in
     let original = word form.big ahead 12 in
     let room : nat_lt (length bytes) (at + 16 + captured) ≡ nat_lt (length (drop at bytes)) (16 + captured) =
-        grind (arith, length-drop at bytes, within) in
+    grind (arith, length-drop at bytes, within) in
     let stamps : stamp form bytes at ≡ stamp form ahead 0 = rw (w0, w4) refl in
     let behind : drop (at + 16) bytes ≡ drop 16 (drop at bytes) = sym (drop-drop 16 at bytes) in
     rw (some, head, some_ahead, head_ahead, w8, w12)
-        (same_tests (count == most_records) (nat_lt longest captured || nat_lt longest original)
-            ((captured == 0) && (original == 0)) (nat_lt most_bytes (at + 16 + captured)) at (drop at bytes) _
-            (stamp form ahead 0) captured original (rw (room, stamps, behind) refl))
+    (same_tests (count == most_records) (nat_lt longest captured || nat_lt longest original)
+    ((captured == 0) && (original == 0)) (nat_lt most_bytes (at + 16 + captured)) at (drop at bytes) _
+    (stamp form ahead 0) captured original (rw (room, stamps, behind) refl))
 
 -- where fewer bytes stand than a head has
 part_head : (form : Form) (bytes ahead : List ℕ) (count at : ℕ) → at ≤ length bytes → length bytes ≡ at + length ahead

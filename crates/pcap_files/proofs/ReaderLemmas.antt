@@ -115,9 +115,9 @@ pub stands_step : (v w : View) (r : Reader) (ahead bytes : List ℕ) (records : 
 stands_step v w r ahead bytes records s sound t enough =
     let p = pending_took v w r.file r.progress.place r.ahead ahead bytes (s.pending sound) t in
     let here = step_here (form r.head) bytes ahead p.rest.0 r.progress.count r.progress.place p.place p.rest.2
-        (none_left w r.file r.progress.place 16 ahead bytes p enough) in
+    (none_left w r.file r.progress.place 16 ahead bytes p enough) in
     ap (λ (n : ℕ). step (form r.head) bytes n (place_after 24 records)) (sym s.count)
-        ∙ ap (λ (n : ℕ). step (form r.head) bytes r.progress.count n) (sym s.place) ∙ here
+    ∙ ap (λ (n : ℕ). step (form r.head) bytes r.progress.count n) (sym s.place) ∙ here
 
 -- so the reading ends there
 pub stands_reads : (v : View) (r : Reader) (bytes : List ℕ) (records : List capture.Record) (last : Step) → StandsFor v r bytes records
@@ -205,17 +205,16 @@ answered v w r n answer ahead bytes records stamp captured original s sound t he
     let long : length (take captured (drop 16 ahead)) ≡ captured = omega (arith, length-take captured (drop 16 ahead), length-drop 16 ahead, k.enough) in
     let whole : nat_lt (length (drop r.progress.place bytes)) (16 + captured) ≡ false = grind (arith, ap length e, length-append ahead p.rest.0, k.enough) in
     let same : take captured (drop 16 (drop r.progress.place bytes)) ≡ take captured (drop 16 ahead) =
-        ap (λ (xs : List ℕ). take captured (drop 16 xs)) e ∙ seen captured 16 ahead p.rest.0 k.enough in
+    ap (λ (xs : List ℕ). take captured (drop 16 xs)) e ∙ seen captured 16 ahead p.rest.0 k.enough in
     let next : step_of (Headed stamp captured original) r.progress.place (drop r.progress.place bytes) ≡ Next x (r.progress.place + 16 + captured) = rw (whole, same) refl in
     let place : r.progress.place + 16 + captured ≡ place_after 24 records + 16 + length (take captured (drop 16 ahead)) = omega (arith, s.place, long) in
     let stands : step (form r.head) bytes (length records) (place_after 24 records) ≡ Next x (place_after 24 records + 16 + length x.captured) =
-        here ∙ next ∙ ap (Next x) place in
-    (
+    here ∙ next ∙ ap (Next x) place in (
       x,
       record { number = omega (arith, k.number, s.count); stamp = k.stamp; len = k.len ∙ ap (max original) (sym long); bytes = k.bytes },
       record {
         formed = s.formed ∙ ap (λ h. Formed (form h)) (sym k.head);
-        stand = subst (λ h. Stand (form h) bytes 0 24 (records ++ x ∷ [])) (sym k.head) 
+        stand = subst (λ h. Stand (form h) bytes 0 24 (records ++ x ∷ [])) (sym k.head)
             (stand_more (form r.head) bytes 0 24 records x s.stand (ap (λ (n : ℕ). step (form r.head) bytes n (place_after 24 records)) (omega arith) ∙ stands));
         count = omega (arith, k.count, s.count, length-append records (x ∷ []));
         place = k.place ∙ place ∙ sym (place_after_more 24 records x);
@@ -234,8 +233,8 @@ pub stands_at : (v w : View) (r : Reader) (ahead found bytes : List ℕ) (record
 stands_at v w r ahead found bytes records q s sound t enough same value =
     let rest = drop r.progress.place bytes in
     stands_step v w r ahead bytes records s sound t enough
-        ∙ ap (λ (xs : List ℕ). step_of (stand_at (form r.head) r.progress.count r.progress.place xs) r.progress.place rest) (sym same)
-        ∙ ap (λ (p : Stands). step_of p r.progress.place rest) (sym value)
+    ∙ ap (λ (xs : List ℕ). step_of (stand_at (form r.head) r.progress.count r.progress.place xs) r.progress.place rest) (sym same)
+    ∙ ap (λ (p : Stands). step_of p r.progress.place rest) (sym value)
 
 -- the head of the file is told by the bytes that a start takes
 pub started_head : (v w : View) (file : ℕ) (none ahead found bytes : List ℕ) → none ≡ [] → v.left file ≡ Some bytes

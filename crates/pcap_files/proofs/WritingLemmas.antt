@@ -25,8 +25,7 @@ head_words : (end captured original : ℕ) → end < 2 ^ 32 * 10 ^ 9 → capture
     × (stamp written_form (record_head end captured original) 0 ≡ end)
 head_words end captured original he hc ho =
     let seconds : end / 10 ^ 9 < 2 ^ 32 = omega (arith, he) in
-    let fraction : end % 10 ^ 9 < 2 ^ 32 = omega arith in
-    (
+    let fraction : end % 10 ^ 9 < 2 ^ 32 = omega arith in (
       from_le_bytes-to_le_bytes_4 captured (omega (arith, hc)),
       from_le_bytes-to_le_bytes_4 original (omega (arith, ho)),
       stamp_by (record_head end captured original) (end / 10 ^ 9) (end % 10 ^ 9) end (from_le_bytes-to_le_bytes_4 (end / 10 ^ 9) seconds)
@@ -49,8 +48,18 @@ passes : (hd : List ℕ) (count at end captured original : ℕ) → length hd �
 passes hd count at end captured original long w8 w12 st hc short known some room =
     let empty : (length hd == 0) ≡ false = rw long refl in
     let part : nat_lt (length hd) 16 ≡ false = rw long refl in
-    rw (empty, is_other count most_records hc, part, w8, w12, not_less longest captured short, not_less longest original known,
-        is_some original captured some, not_less most_bytes (at + 16 + captured) room, st) refl
+    rw (
+      empty,
+      is_other count most_records hc,
+      part,
+      w8,
+      w12,
+      not_less longest captured short,
+      not_less longest original known,
+      is_some original captured some,
+      not_less most_bytes (at + 16 + captured) room,
+      st,
+    ) refl
 
 drop_front : (pre rest : List ℕ) → drop (length pre) (pre ++ rest) ≡ rest
 drop_front [] rest = refl
@@ -64,11 +73,11 @@ whole_next : (hd : List ℕ) (r : Record) (rest : List ℕ) (at : ℕ) → lengt
     → step_of (Headed r.stamp (length r.captured) r.original) at (hd ++ (r.captured ++ rest)) ≡ Next r (at + 16 + length r.captured)
 whole_next hd r rest at long =
     let size : length (hd ++ (r.captured ++ rest)) ≡ 16 + (length r.captured + length rest) =
-        omega (arith, length-append hd (r.captured ++ rest), length-append r.captured rest, long) in
+    omega (arith, length-append hd (r.captured ++ rest), length-append r.captured rest, long) in
     let whole : nat_lt (length (hd ++ (r.captured ++ rest))) (16 + length r.captured) ≡ false =
-        not_less (length (hd ++ (r.captured ++ rest))) (16 + length r.captured) (omega (arith, size)) in
+    not_less (length (hd ++ (r.captured ++ rest))) (16 + length r.captured) (omega (arith, size)) in
     let front : drop 16 (hd ++ (r.captured ++ rest)) ≡ r.captured ++ rest =
-        ap (λ (n : ℕ). drop n (hd ++ (r.captured ++ rest))) (sym long) ∙ drop_front hd (r.captured ++ rest) in
+    ap (λ (n : ℕ). drop n (hd ++ (r.captured ++ rest))) (sym long) ∙ drop_front hd (r.captured ++ rest) in
     rw (whole, front, take_front r.captured rest) refl
 
 at_end : (f : Form) (bytes : List ℕ) (count at : ℕ) → length bytes ≡ at → step f bytes count at ≡ End
@@ -85,7 +94,7 @@ step_written pre rest r count h hc room =
     let here = step_here written_form all hd (r.captured ++ rest) count (length pre) (omega (arith, length-append pre (record_text r ++ rest))) behind (inl (omega arith)) in
     let stands = passes hd count (length pre) r.stamp (length r.captured) r.original refl words.0 words.1 words.2 hc h.captured h.original h.some room in
     here ∙ ap (λ q. step_of q (length pre) (drop (length pre) all)) stands ∙ ap (step_of (Headed r.stamp (length r.captured) r.original) (length pre)) behind
-        ∙ whole_next hd r rest (length pre) refl
+    ∙ whole_next hd r rest (length pre) refl
 
 -- so do all
 stand_written : (pre : List ℕ) (count : ℕ) (rs : List Record) → All IsWithin rs → count + length rs ≤ most_records
@@ -98,22 +107,22 @@ stand_written pre count (r ∷ rs) all hc room =
     let front = pre ++ record_text r in
     let same : front ++ rest ≡ pre ++ (record_text r ++ rest) = append_assoc pre (record_text r) rest in
     let size : length front ≡ length pre + 16 + length r.captured =
-        omega (arith, length-append pre (record_text r), length-append (record_head r.stamp (length r.captured) r.original) r.captured) in
+    omega (arith, length-append pre (record_text r), length-append (record_head r.stamp (length r.captured) r.original) r.captured) in
     let fits : length (front ++ rest) ≤ most_bytes = omega (arith, ap length same, room) in
     let after = stand_written front (count + 1) rs (λ k d h. all (suc k) d (omega (arith, h))) (omega (arith, hc)) fits in
     let first = step_written pre rest r count (all 0 r (omega arith)) (omega (arith, hc)) (omega (arith, size, length-append front rest, fits)) in
     let others : Stand written_form (pre ++ (record_text r ++ rest)) (count + 1) (length pre + 16 + length r.captured) rs =
-        subst (λ (n : ℕ). Stand written_form (pre ++ (record_text r ++ rest)) (count + 1) n rs) size
-            (subst (λ (b : List ℕ). Stand written_form b (count + 1) (length front) rs) same after.0) in
+    subst (λ (n : ℕ). Stand written_form (pre ++ (record_text r ++ rest)) (count + 1) n rs) size
+    (subst (λ (b : List ℕ). Stand written_form b (count + 1) (length front) rs) same after.0) in
     let last : step written_form (pre ++ (record_text r ++ rest)) (count + length (r ∷ rs)) (place_after (length pre + 16 + length r.captured) rs) ≡ End =
-        ap (λ (n : ℕ). step written_form (pre ++ (record_text r ++ rest)) n (place_after (length pre + 16 + length r.captured) rs)) (omega arith)
-            ∙ ap (λ (n : ℕ). step written_form (pre ++ (record_text r ++ rest)) (count + 1 + length rs) (place_after n rs)) (sym size)
-            ∙ ap (λ (b : List ℕ). step written_form b (count + 1 + length rs) (place_after (length front) rs)) (sym same) ∙ after.1 in
+    ap (λ (n : ℕ). step written_form (pre ++ (record_text r ++ rest)) n (place_after (length pre + 16 + length r.captured) rs)) (omega arith)
+    ∙ ap (λ (n : ℕ). step written_form (pre ++ (record_text r ++ rest)) (count + 1 + length rs) (place_after n rs)) (sym size)
+    ∙ ap (λ (b : List ℕ). step written_form b (count + 1 + length rs) (place_after (length front) rs)) (sym same) ∙ after.1 in
     ((first, others), last)
 
 pub reads_written : (records : List Record) → AreWithin records → IsCapture (written records) records
 reads_written records h =
     let both = stand_written capture_head 0 records h.each (omega (arith, h.count)) h.size in
     reads_formed written_form (written records) records End
-        (head_seen capture_head (record_texts records) (inl (omega arith)))
-        (record { stand = both.0; ended = ap (λ (n : ℕ). step written_form (written records) n (place_after 24 records)) (omega arith) ∙ both.1 })
+    (head_seen capture_head (record_texts records) (inl (omega arith)))
+    (record { stand = both.0; ended = ap (λ (n : ℕ). step written_form (written records) n (place_after 24 records)) (omega arith) ∙ both.1 })

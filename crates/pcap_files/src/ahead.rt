@@ -60,12 +60,7 @@ impl Ahead {
 
     // Takes bytes from the file until so many are there, or the file is at its end. What was passed is given up before
     // the first read, so that each byte is moved once for each time that it is waited for.
-    pub fn fill<F: Files>(
-        &mut self,
-        files: &mut F,
-        file: u32,
-        need: usize,
-    ) -> Result<(), Trouble>
+    pub fn fill<F: Files>(&mut self, files: &mut F, file: u32, need: usize) -> Result<(), Trouble>
         requires there { IsSome ((F.view files.old).part file) }
         requires small { need < 2 ^ 40 }
         ensures took { OnOk result (TookInto (F.view files.old) (F.view files.new) file self.old self.new) }
@@ -92,7 +87,7 @@ fn drop_front(buffer: &mut Vec<u8>, count: usize)
     ensures { buffer.new.items ≡ drop count buffer.old.items }
 {
     let kept = buffer.len() - count;
-    buffer.rotate_left(count);
+    buffer.copy_within(count.., 0);
     buffer.truncate(kept);
 }
 

@@ -16,3 +16,6 @@ pub use fault::CaptureFault;
 pub use form::Head;
 pub use reader::{Reader, Record};
 pub use writing::{head_bytes, record_head, written_captures_read_back};
+
+#[cfg(test)]
+mod tests;

@@ -4,12 +4,12 @@ ghost use Rattle.play_base.specs.View.{ReadFault};
 ghost use Rattle.pcap_files.specs.Ahead.{TookSome};
 ghost use Rattle.pcap_files.specs.Reading.{StandsFor, Answers, Stays, IsWhole, IsFault, IsHeadFault, SameBut, IsTaken, IsCut};
 
+use crate::CaptureFault;
 use crate::ahead::Ahead;
 use crate::fault::fault_of;
 use crate::form::{Head, damage_at};
 use crate::progress::Progress;
 use crate::stand::{RECORD_HEAD, Stand, stand_at};
-use crate::CaptureFault;
 use altq_model::DamageKind;
 use play_base::{Bytes, Files};
 use std::alloc::Global;
@@ -43,11 +43,7 @@ impl Reader {
     /// Reads the head of the capture that the file has left. `Damage` comes exactly where the head fails a test,
     /// `Read` only where the count of read faults of the file's part rose in this call, and `Limit` never. At most 65,536
     /// bytes past the head were taken. `file` was answered by `files`.
-    pub fn start<F: Files>(
-        alloc: Global,
-        files: &mut F,
-        file: u32,
-    ) -> Result<Reader, CaptureFault>
+    pub fn start<F: Files>(alloc: Global, files: &mut F, file: u32) -> Result<Reader, CaptureFault>
         requires there { IsSome ((F.view files.old).part file) }
         ensures stands { IfOk result (λ reader. (bytes : List ℕ) → (F.view files.old).left file ≡ Some bytes →
             StandsFor (F.view files.new) reader bytes []) }

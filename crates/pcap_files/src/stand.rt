@@ -13,7 +13,9 @@ use altq_model::DamageKind;
 pub const RECORD_HEAD: usize = 16;
 
 const MOST_RECORDS: u32 = 4_000_000;
+
 const MOST_BYTES: u32 = 1 << 30;
+
 const LONGEST: u32 = 262_144;
 
 // What the bytes at a place tell of the record there: its stamp in nanoseconds and its two lengths in bytes, or the first

@@ -23,8 +23,7 @@ pub returns-then-count-eq0-clause-took : goal.returns-then-count-eq0-clause-took
 returns-then-count-eq0-clause-took g c =
     let before = c.loop-files.invariant.took in
     let next = take c.in-Ok.count c.read.new.into in
-    let none : next ≡ [] = ap (λ (n : ℕ). take n c.read.new.into) c.if-count-eq0.true in
-    (
+    let none : next ≡ [] = ap (λ (n : ℕ). take n c.read.new.into) c.if-count-eq0.true in (
       before.0 ++ next,
       took_more _ _ _ _ before.0 next before.1 c.in-Ok.ensures.took,
       before.2 ∙ ap (λ (r : List ℕ). c.args.buffer.now.items ++ r) (sym (append-nil before.0) ∙ ap (λ (r : List ℕ). before.0 ++ r) (sym none)),
