@@ -1,0 +1,13 @@
+pub mod AllLaws
+pub mod ArrivalLemmas
+pub mod BusyLemmas
+pub mod CountLemmas
+pub mod DueLemmas
+pub mod EndLemmas
+pub mod LinkLemmas
+pub mod OneLemmas
+pub mod OrderLemmas
+pub mod Starts
+pub mod StrictLemmas
+pub mod TextLemmas
+pub mod TimeLemmas
