@@ -1,14 +1,13 @@
 -- What stands at a place of a capture is told by the bytes that were taken from that place on.
-use Rattle.std.proofs.Common.{◌≡◌, ◌≢◌, ◌≤◌, ◌<◌, ◌∙◌, ℕ, zero, suc, ◌+◌, ◌-◌, ◌*◌, List, [], ◌∷◌, ◌++◌, length, take, drop, refl, sym, ap, arith, inl, inr, append-nil, length-append, length-drop}
+use Rattle.std.proofs.Common.{◌≡◌, ◌≤◌, ◌<◌, ◌∙◌, ℕ, ◌+◌, List, ◌++◌, length, take, drop, refl, sym, ap, arith, inl, inr, length-append, length-drop}
 use Rattle.std.specs.Prelude.{◌==◌, ◌||◌, ◌&&◌, ◌⊎◌, Bool, true, false, nat_lt, nat_le, if◌then◌else◌}
-use Rattle.std.specs.Int.{w16, w32, from_be_bytes, from_le_bytes}
+use Rattle.std.specs.Int.{w32, from_be_bytes, from_le_bytes}
 use Rattle.std.proofs.lemmas.List.{take-append-le, drop-append-le, drop-drop}
 use Rattle.std.proofs.lemmas.Bool.{cases_lt}
 use Rattle.altq_model.specs.declared.capture.DamageKind.TheVariants.{ShortRecord, EmptyRecord, LongRecord}
 use Rattle.altq_model.specs.Capture.{Form, Step, Next, Fault, word, stamp, damage, most_records, most_bytes, longest, step}
 use Rattle.altq_model.specs.Capture as capture
 use Rattle.pcap_files.specs.Stand.{stand_at, step_of}
-use Rattle.pcap_files.specs.declared.stand.Stand.{Stand}
 use Rattle.pcap_files.specs.declared.stand.Stand.TheVariants.{End, Limit, Damaged, Headed}
 
 -- bytes within a front

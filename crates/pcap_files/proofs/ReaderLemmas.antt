@@ -1,11 +1,10 @@
 -- What a reader stands for, as it takes bytes and answers records.
-use Rattle.std.proofs.Common.{◌≡◌, ◌≤◌, ◌<◌, ◌∙◌, ℕ, zero, suc, ◌+◌, ◌-◌, List, [], ◌∷◌, ◌++◌, length, take, drop, refl, sym, ap, subst, arith, inl, inr, append-nil, append_assoc, length-append, length-drop}
-use Rattle.std.proofs.lemmas.Grind.{common_steps}
+use Rattle.std.proofs.Common.{◌≡◌, ◌≤◌, ◌<◌, ◌∙◌, ℕ, ◌+◌, List, [], ◌∷◌, ◌++◌, length, take, drop, refl, sym, ap, subst, arith, inl, inr, append-nil, append_assoc, length-append, length-drop}
 use Rattle.std.specs.Prelude.{◌⊎◌, Bool, true, false, nat_lt, max, None, Some}
 use Rattle.std.specs.declared.option.Option.{Option}
 use Rattle.std.specs.Int.{w16, from_be_bytes, from_le_bytes}
-use Rattle.std.proofs.lemmas.List.{take-append-le, drop-append-le, drop-drop, length-take}
-use Rattle.play_base.specs.View.{View, Took, IsAtEnd}
+use Rattle.std.proofs.lemmas.List.{drop-append-le, drop-drop, length-take}
+use Rattle.play_base.specs.View.{View, IsAtEnd}
 use Rattle.play_base.specs.ViewLaws.{took_more}
 use Rattle.altq_model.specs.declared.capture.DamageKind.TheVariants.{ShortRecord}
 use Rattle.altq_model.specs.Capture.{Form, Step, Next, Fault, Stand, Formed, Unformed, Head, half, word, head, head_in, form_of, damage, step, place_after, Reads, ReadsFrom, ReadsAs}

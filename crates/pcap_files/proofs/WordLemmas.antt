@@ -1,5 +1,5 @@
 -- The numbers that byteorder reads are those of the definitions.
-use Rattle.std.proofs.Common.{◌≡◌, ℕ, ◌+◌, List, [], ◌∷◌, take, drop, refl, arith}
+use Rattle.std.proofs.Common.{◌≡◌, ℕ, List, [], ◌∷◌, take, drop, arith}
 use Rattle.std.specs.Prelude.{true, false}
 use Rattle.std.specs.Int.{w16, w32, from_be_bytes, from_le_bytes}
 use Rattle.byteorder.specs.Endian.{big_number, little_number}

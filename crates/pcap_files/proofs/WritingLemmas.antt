@@ -1,9 +1,8 @@
 -- What is written reads back.
-use Rattle.std.proofs.Common.{◌≡◌, ◌≤◌, ◌<◌, ◌∙◌, ℕ, zero, suc, ◌+◌, ◌-◌, ◌*◌, ◌/◌, ◌%◌, ◌^◌, List, [], ◌∷◌, ◌++◌, length, take, drop, refl, sym, ap, subst, arith, inl, inr, append-nil, append_assoc, length-append, length-drop}
-use Rattle.std.specs.Prelude.{◌==◌, ◌||◌, ◌&&◌, ◌⊎◌, Bool, true, false, nat_lt, nat_le, max, All}
+use Rattle.std.proofs.Common.{◌≡◌, ◌≤◌, ◌<◌, ◌∙◌, ℕ, suc, ◌+◌, ◌*◌, ◌/◌, ◌%◌, ◌^◌, List, [], ◌∷◌, ◌++◌, length, take, drop, refl, sym, ap, subst, arith, inl, append_assoc, length-append}
+use Rattle.std.specs.Prelude.{◌==◌, ◌&&◌, true, false, nat_lt, nat_le, max, All}
 use Rattle.std.proofs.lemmas.Nat.{from_le_bytes-to_le_bytes_4}
-use Rattle.std.proofs.lemmas.List.{take-append-le, drop-append-le}
-use Rattle.altq_model.specs.Capture.{Form, Record, Step, Next, End, Stand, Formed, Head, word, stamp, head, step, place_after, longest, most_records, most_bytes, IsCapture}
+use Rattle.altq_model.specs.Capture.{Form, Record, Next, End, Stand, word, stamp, step, place_after, longest, most_records, most_bytes, IsCapture}
 use Rattle.altq_model.specs.Texts.{capture_head, record_head}
 use Rattle.pcap_files.specs.Stand.{stand_at, step_of}
 use Rattle.pcap_files.specs.Written.{record_text, record_texts, written, IsWithin, AreWithin}

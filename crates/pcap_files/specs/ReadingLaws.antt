@@ -3,7 +3,7 @@ use Rattle.std.specs.Prelude.{◌≡◌, ◌≤◌, ◌+◌, ℕ, List, [], ◌�
 use Rattle.std.proofs.Common.{◌∙◌, ap, sym, subst, refl, arith, length-append, length-drop}
 use Rattle.play_base.specs.View.{View, Keeps}
 use Rattle.play_base.specs.ViewLaws.{still_there, part_of_there}
-use Rattle.altq_model.specs.Capture.{Form, Record, Step, End, Next, Fault, Limit, Head, Formed, Unformed, head, step, Stand, place_after, ReadsAs, ReadsFrom, Reads}
+use Rattle.altq_model.specs.Capture.{Form, Record, Step, End, Next, Fault, Limit, Head, step, Stand, place_after, ReadsAs, ReadsFrom, Reads}
 use Rattle.pcap_files.specs.Ahead.{TookSome}
 use Rattle.pcap_files.specs.Forms.{form}
 use Rattle.pcap_files.specs.Reading.{StandsFor}

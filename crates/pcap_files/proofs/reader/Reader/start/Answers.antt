@@ -1,4 +1,4 @@
-use Rattle.std.proofs.Common.{◌≡◌, ◌≤◌, ℕ, ◌∙◌, ap, sym, refl, arith, length}
+use Rattle.std.proofs.Common.{◌≡◌, ◌≤◌, ◌∙◌, ap, refl, arith, length}
 use Rattle.pcap_files.proofs.ReaderLemmas.{started, started_head}
 use Rattle.pcap_files.proofs.reader.Reader.start.Goals as goal
 
