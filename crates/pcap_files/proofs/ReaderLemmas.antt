@@ -18,7 +18,7 @@ use Rattle.pcap_files.specs.declared.stand.Stand.TheVariants.{Headed}
 use Rattle.pcap_files.specs.declared.fault.CaptureFault.{CaptureFault}
 use Rattle.pcap_files.specs.declared.fault.CaptureFault.TheVariants as fault
 use Rattle.pcap_files.specs.declared.reader.Reader.{Reader}
-use Rattle.pcap_files.specs.declared.reader.Record.{Record}
+use Rattle.pcap_files.specs.declared.record.Record.{Record}
 use Rattle.pcap_files.proofs.PlaceLemmas.{seen, word_seen, length_here, step_here}
 
 is_less : (m n : ℕ) → m < n → nat_lt m n ≡ true

@@ -10,7 +10,7 @@ use Rattle.pcap_files.specs.Forms.{form}
 use Rattle.pcap_files.specs.declared.fault.CaptureFault.{CaptureFault}
 use Rattle.pcap_files.specs.declared.fault.CaptureFault.TheVariants as fault
 use Rattle.pcap_files.specs.declared.reader.Reader.{Reader}
-use Rattle.pcap_files.specs.declared.reader.Record.{Record}
+use Rattle.pcap_files.specs.declared.record.Record.{Record}
 
 -- the answer shows this record of the capture, the one after so many; its length is the greater of the two
 pub record Shows (answer : Record) (count : ℕ) (r : capture.Record) : Type 0 where
@@ -42,6 +42,15 @@ pub record StandsFor (v : View) (r : Reader) (bytes : List ℕ) (records : List 
 abbrev pub Answers : View → View → Reader → Reader → Record → Type 0
 Answers old_view new_view old new answer = (bytes : List ℕ) (records : List capture.Record) → StandsFor old_view old bytes records
     → (r : capture.Record) × Shows answer (length records) r × StandsFor new_view new bytes (records ++ r ∷ [])
+
+-- how many records a reader has answered
+abbrev pub answered : Reader → ℕ
+answered r = r.progress.count
+
+-- the answer is the next by number, whether or not the file tells its bytes
+pub record Counts (old new : Reader) (answer : Record) : Type 0 where
+  pub number : answer.number ≡ answered old + 1
+  pub count : answered new ≡ answered old + 1
 
 -- no record was answered: the reader stands for what it stood for
 abbrev pub Stays : View → View → Reader → Reader → Type 0

@@ -8,13 +8,15 @@ mod form;
 mod numbers;
 mod progress;
 mod reader;
+mod record;
 mod stand;
 mod writing;
 
 pub use altq_model::{Damage, DamageKind};
 pub use fault::CaptureFault;
 pub use form::Head;
-pub use reader::{Reader, Record};
+pub use reader::Reader;
+pub use record::Record;
 pub use writing::{head_bytes, record_head, written_captures_read_back};
 
 #[cfg(test)]

@@ -1,10 +1,10 @@
 // Reads the records of a capture one by one.
-ghost use Rattle.std.specs.Prelude.{◌≡◌, ◌≤◌, ◌<◌, ◌+◌, ◌^◌, ◌⊎◌, ℕ, List, [], length, None, Some, Err, IsSome, IfOk, IfErr, IfSome, IfNone, OnOk, OnErr, IsErrOf};
+ghost use Rattle.std.specs.Prelude.{◌≡◌, ◌≤◌, ◌<◌, ◌+◌, ◌^◌, ◌⊎◌, ℕ, List, [], max, length, None, Some, Err, IsSome, IfOk, IfErr, IfSome, IfNone, OnOk, OnErr, IsErrOf};
 ghost use Rattle.play_base.specs.View.{ReadFault};
 ghost use Rattle.pcap_files.specs.Ahead.{TookSome};
-ghost use Rattle.pcap_files.specs.Reading.{StandsFor, Answers, Stays, IsWhole, IsFault, IsHeadFault, SameBut, IsTaken, IsCut};
+ghost use Rattle.pcap_files.specs.Reading.{StandsFor, Answers, Counts, Stays, IsWhole, IsFault, IsHeadFault, SameBut, IsTaken, IsCut};
 
-use crate::CaptureFault;
+use crate::{CaptureFault, Record};
 use crate::ahead::Ahead;
 use crate::fault::fault_of;
 use crate::form::{Head, damage_at};
@@ -16,16 +16,6 @@ use std::alloc::Global;
 
 // Bytes of a file's head.
 const FILE_HEAD: usize = 24;
-
-/// A record of a capture. `number` counts from 1, `stamp` is in nanoseconds, `len` is the greater of the original and the
-/// captured length in bytes, and `bytes` are those captured.
-#[derive(Drop)]
-pub struct Record {
-    pub number: u64,
-    pub stamp: u64,
-    pub len: u32,
-    pub bytes: Bytes,
-}
 
 /// Reads a capture from an opened file. It takes pieces of at most 65,536 bytes from it, and holds no more than a piece
 /// and a record at once.
@@ -87,6 +77,7 @@ impl Reader {
         requires there { IsSome ((F.view files.old).part self.old.file) }
         ensures record { IfOk result (λ answer. IfSome answer (λ r.
             Answers (F.view files.old) (F.view files.new) self.old self.new r)) }
+        ensures counted { IfOk result (λ answer. IfSome answer (λ r. Counts self.old self.new r)) }
         ensures end { IfOk result (λ answer. IfNone answer (IsWhole (F.view files.old) self.old)) }
         ensures none { IfOk result (λ answer. IfNone answer (Stays (F.view files.old) (F.view files.new) self.old self.new)) }
         ensures fault { IfErr result (λ fault. IsFault (F.view files.old) self.old fault) }
@@ -117,6 +108,7 @@ impl Reader {
         requires sound { self.old.fault ≡ None }
         ensures record { IfOk result (λ answer. IfSome answer (λ r.
             Answers (F.view files.old) (F.view files.new) self.old self.new r)) }
+        ensures counted { IfOk result (λ answer. IfSome answer (λ r. Counts self.old self.new r)) }
         ensures end { IfOk result (λ answer. IfNone answer (IsWhole (F.view files.old) self.old)) }
         ensures none { IfOk result (λ answer. IfNone answer (Stays (F.view files.old) (F.view files.new) self.old self.new)) }
         ensures fault { IfErr result (λ fault. IsFault (F.view files.old) self.old fault) }
@@ -160,6 +152,9 @@ impl Reader {
     ) -> Result<Record, CaptureFault>
         requires counted { self.old.progress.count < 4000000 }
         requires placed { self.old.progress.place + 16 + captured ≤ 2 ^ 30 }
+        requires early { stamp < 2 ^ 62 }
+        requires short { max captured original ≤ 262144 }
+        requires some { 1 ≤ max captured original }
         ensures taken { IfOk result (λ r. IsTaken self.old self.new r stamp captured original) }
         ensures cut { IfErr result (λ fault. IsCut fault self.old.progress.place self.old.ahead captured) }
         ensures same { OnErr result (SameBut self.old self.new) }

@@ -1,5 +1,5 @@
 // The tests of a record that need no more than its head.
-ghost use Rattle.std.specs.Prelude.{◌≡◌, ◌+◌, ◌≤◌, ◌<◌, ◌^◌, ℕ, length};
+ghost use Rattle.std.specs.Prelude.{◌≡◌, ◌+◌, ◌≤◌, ◌<◌, ◌^◌, ℕ, max, length};
 ghost use Rattle.altq_model.specs.Capture.{stamp};
 ghost use Rattle.pcap_files.specs.Forms.{form};
 ghost use Rattle.pcap_files.specs.Stand.{stand_at};
@@ -34,7 +34,8 @@ pub enum Stand {
 // The stamp of the record that begins these bytes, in nanoseconds. A fraction of a second or more is carried.
 fn stamp(head: Head, bytes: &[u8]) -> u64
     requires { 8 ≤ length bytes.now }
-    ensures { result ≡ stamp (form head) bytes.now 0 }
+    ensures value { result ≡ stamp (form head) bytes.now 0 }
+    ensures early { result < 2 ^ 62 }
 {
     let unit = if head.nanos { 1 } else { 1000 };
     u64::from(word(head.big, bytes, 0)) * 1_000_000_000 + u64::from(word(head.big, bytes, 4)) * unit
@@ -46,6 +47,8 @@ pub fn stand_at(head: Head, progress: Progress, ahead: &[u8]) -> Stand
     ensures none { result ≡ Stand.End → length ahead.now ≡ 0 }
     ensures fits { (stamp captured original : ℕ) → result ≡ Stand.Headed stamp captured original →
         (progress.count < 4000000) × (progress.place + 16 + captured ≤ 2 ^ 30) × (16 ≤ length ahead.now) }
+    ensures headed { (stamp captured original : ℕ) → result ≡ Stand.Headed stamp captured original →
+        (stamp < 2 ^ 62) × (max captured original ≤ 262144) × (1 ≤ max captured original) }
 {
     if ahead.is_empty() {
         return Stand::End;

@@ -61,3 +61,7 @@ returns-in-Err-take_record-clause-fault g c = λ bytes records s.
 
 pub returns-in-Err-take_record-clause-some : goal.returns-in-Err-take_record-clause-some
 returns-in-Err-take_record-clause-some g c = took_into _ _ _ _ _ (took_twice _ _ _ _ _ _ _ c.in_default.ensures.took c.in_default-fill.ensures.took)
+
+pub take_record-requires-clause-early : goal.take_record-requires-clause-early
+take_record-requires-clause-early g c =
+    (c.stand_at.ensures.headed c.in-Headed.stamp c.in-Headed.captured c.in-Headed.original c.in-Headed.is).0
