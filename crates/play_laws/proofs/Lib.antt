@@ -8,6 +8,7 @@ pub mod LawfulLemmas
 pub mod LinkLemmas
 pub mod OneLemmas
 pub mod OrderLemmas
+pub mod RunLemmas
 pub mod Starts
 pub mod StrictLemmas
 pub mod TextLemmas
