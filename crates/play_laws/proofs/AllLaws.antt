@@ -6,7 +6,7 @@ use Rattle.altq_model.specs.Play.{Policy, AreDue, IsPlay}
 use Rattle.play_laws.specs.Lawful.{IsLawful, AreRising, AreHeld}
 use Rattle.play_laws.specs.Events.{HasLaws, IsWhole}
 use Rattle.play_laws.proofs.TimeLemmas.{each_follows}
-use Rattle.play_laws.proofs.OrderLemmas.{ordered, not_before, link_ends}
+use Rattle.play_laws.proofs.OrderLemmas.{of_arrivals, ordered, not_before, link_ends}
 use Rattle.play_laws.proofs.CountLemmas.{balanced}
 use Rattle.play_laws.proofs.EndLemmas.{is_over, all_offered, no_places, nothing_waits, conserved}
 
@@ -16,6 +16,7 @@ due_laws p rate seed arrived g pos law rise due =
     let f = each_follows p rate seed arrived g pos law rise due in
     record {
       each = f;
+      of_arrivals = of_arrivals p rate seed arrived g f;
       once = λ n. omega (arith, (balanced p rate seed arrived g n f).once);
       ordered = ordered p rate seed arrived g f;
       not_before = not_before p rate seed arrived g law f;

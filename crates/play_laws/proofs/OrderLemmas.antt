@@ -6,12 +6,12 @@ use Rattle.std.specs.declared.option.Option.{Option}
 use Rattle.std.proofs.lemmas.Bool.{eqb-true}
 use Rattle.altq_model.specs.declared.Verdict.{Verdict}
 use Rattle.altq_model.specs.declared.Verdict.TheVariants.{Keep, Drop}
-use Rattle.altq_model.specs.History.{Coming, Words, Event, Entry, bare, offered, drawn, head, waiting, labels, with_offer, without_head}
+use Rattle.altq_model.specs.History.{Offered, Sent, Coming, Words, Event, Entry, bare, offered, drawn, head, waiting, labels, with_offer, without_head}
 use Rattle.altq_model.specs.Link.{link, HasLinkEnds}
 use Rattle.altq_model.specs.Laws.{AllBelow, sent_in, FollowsInOrder, IsOrdered, at_of, StartsAfter, IsNotBefore}
 use Rattle.altq_model.specs.Play.{Policy}
 use Rattle.play_laws.specs.Lawful.{IsLawful}
-use Rattle.play_laws.specs.Events.{IsOffer, IsSending, EachFollows}
+use Rattle.play_laws.specs.Events.{IsOffer, IsSending, EachFollows, IsOfArrival, AreOfArrivals}
 use Rattle.play_laws.proofs.Starts.{head_of}
 use Rattle.play_laws.proofs.DueLemmas.{offer_event}
 
@@ -170,6 +170,56 @@ head_numbered p rate seed arrived g c n a f e h = numbered arrived (labels c g) 
 
 pub at_numbered : (arrived : List Coming) (n : ℕ) (a : Coming) → slice_get arrived (n - 1) ≡ Some a → at_of arrived n ≡ a.at
 at_numbered arrived n a e = ap (λ (o : Option Coming). option_map_or (λ (x : Coming). x.at) o 0) e
+
+-- what waits in a class is of that class
+abbrev AllOfClass : (c : ℕ) → List Coming → Type 0
+AllOfClass c [] = Unit {0}
+AllOfClass c (a ∷ ws) = (a.class ≡ c) × AllOfClass c ws
+
+class_push : (c : ℕ) (a : Coming) (ws : List Coming) → AllOfClass c ws → a.class ≡ c → AllOfClass c (ws ++ a ∷ [])
+class_push c a [] x e = (e, tt)
+class_push c a (b ∷ ws) x e = (x.0, class_push c a ws x.1 e)
+
+class_offer : (c : ℕ) (a : Coming) (b : Bool) (v : Verdict) (ws : List Coming) → (a.class == c) ≡ b → AllOfClass c ws → AllOfClass c (with_offer b v a ws)
+class_offer c a true Keep ws t x = class_push c a ws x (eqb-true a.class c t)
+class_offer c a false Keep ws t x = x
+class_offer c a b (Drop r) ws t x = x
+
+class_rest : (c : ℕ) (b : Bool) (ws : List Coming) → AllOfClass c ws → AllOfClass c (without_head b ws)
+class_rest c false ws x = x
+class_rest c true [] x = tt
+class_rest c true (a ∷ ws) x = x.1
+
+waiting_class : (c : ℕ) (h : List Event) → AllOfClass c (waiting c h)
+waiting_class c [] = tt
+waiting_class c (Offered a w v ∷ h) = class_offer c a (a.class == c) v.verdict (waiting c h) refl (waiting_class c h)
+waiting_class c (Sent s ∷ h) = class_rest c (s.class == c) (waiting c h) (waiting_class c h)
+
+first_class : (c : ℕ) (ws : List Coming) (a : Coming) → AllOfClass c ws → slice_get ws 0 ≡ Some a → c ≡ a.class
+first_class c [] a x e = absurd (cc)
+first_class c (b ∷ ws) a x e = let same : b ≡ a = cc in sym x.0 ∙ ap (λ (y : Coming). y.class) same
+
+arrival_step : (p : Policy) (rate seed : ℕ) (arrived : List Coming) (g : List Entry) (e : Entry) → EachFollows p rate seed arrived g
+    → IsOffer p rate seed arrived g e ⊎ IsSending p rate arrived g e → IsOfArrival arrived e.label e.what
+arrival_step p rate seed arrived g e f (inl y) =
+    let P : Entry → Type 0 = λ z. IsOfArrival arrived z.label z.what in
+    let k : offered (bare g) + 1 - 1 ≡ offered (bare g) = omega arith in
+    subst P (sym y.offer) (omega arith, ap (slice_get arrived) k ∙ y.next)
+arrival_step p rate seed arrived g e f (inr y) =
+    let P : Event → Type 0 = λ z. IsOfArrival arrived e.label z in
+    let c : ℕ = y.sending.class in
+    let n = head_numbered p rate seed arrived g c e.label y.packet f y.number y.front in
+    subst P (sym y.event) (record {
+      packet = y.packet;
+      from_one = n.from_one;
+      arrival = n.there;
+      class = first_class c (waiting c (bare g)) y.packet (waiting_class c (bare g)) y.front;
+      len = y.len;
+    })
+
+pub of_arrivals : (p : Policy) (rate seed : ℕ) (arrived : List Coming) (g : List Entry) → EachFollows p rate seed arrived g → AreOfArrivals arrived g
+of_arrivals p rate seed arrived [] f = tt
+of_arrivals p rate seed arrived (e ∷ g) f = (arrival_step p rate seed arrived g e f.1 f.0, of_arrivals p rate seed arrived g f.1)
 
 -- a sending starts no earlier than the last end, nor than its packet's arrival
 pub record StartsLate (free at start : ℕ) : Type 0 where

@@ -53,7 +53,7 @@ strict_never_waits classes r answer = λ h c t. refl
 
 -- a policy that never waits is steady
 pub steady : (p : Policy) → NeverWaits p → IsSteady p
-steady p nw = λ h c t u l m. nw h c u ∙ (let q : u ≡ t = omega (arith, l, m, nw h c t) in q) ∙ sym (nw h c t)
+steady p nw = λ h c t u b e l m. nw h c u ∙ (let q : u ≡ t = omega (arith, l, m, nw h c t) in q) ∙ sym (nw h c t)
 
 pub one_queue_holds : (limit : ℕ) (mark : List ℕ → Mark) (records : List Record) → ((bytes : List ℕ) → (mark bytes).class ≡ 1)
     → AreHeld (one_queue limit) (comings (arrivals_of mark records))

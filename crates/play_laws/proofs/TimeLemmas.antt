@@ -181,7 +181,7 @@ same_case p rate arrived h c (Some a) law s t i e =
     let y : start_at p (max free (latest h)) h c ≡ Some (p.start_from h c (max free (latest h))) = rw e refl in
     let l = law.later h c (max free a.at) in
     let m = t.starts c (p.start_from h c (max free a.at)) i x in
-    let same = s h c (max free a.at) (max free (latest h)) (omega (arith, head_latest c h a e)) (omega (arith, l, m)) in
+    let same = s h c (max free a.at) (max free (latest h)) a e (omega (arith, head_latest c h a e)) (omega (arith, l, m)) in
     x ∙ ap (λ (n : ℕ). Some n) (sym same) ∙ sym y
 
 same_firsts : (p : Policy) (rate : ℕ) (arrived : List Coming) (h : List Event) (cs : List ℕ) → IsLawful p → IsSteady p → IsOnTime p rate arrived h

@@ -1,6 +1,6 @@
 -- What the events of a play are: an offer of the next arrival, or a sending at the least moment at which one may be.
-use Rattle.std.specs.Prelude.{◌≡◌, ◌≤◌, ◌<◌, ◌⊎◌, ◌+◌, ℕ, List, [], ◌∷◌, length, Some, slice_get, if◌then◌else◌, nat_lt, nat_le, ◌&&◌}
-use Rattle.altq_model.specs.History.{Coming, Sending, Sent, Entry, bare, offered, head, waiting, labels, journal}
+use Rattle.std.specs.Prelude.{◌≡◌, ◌≤◌, ◌<◌, ◌⊎◌, ◌+◌, ◌-◌, ℕ, List, [], ◌∷◌, length, Some, slice_get, if◌then◌else◌, nat_lt, nat_le, ◌&&◌}
+use Rattle.altq_model.specs.History.{Coming, Sending, Event, Offered, Sent, Entry, bare, offered, head, waiting, labels, journal}
 use Rattle.altq_model.specs.Laws.{occurs, numbers, IsOrdered, IsNotBefore}
 use Rattle.altq_model.specs.Link.{link, end_of, HasLinkEnds}
 use Rattle.altq_model.specs.Play.{Policy, first_start, offer_of}
@@ -37,6 +37,23 @@ EachFollows p rate seed arrived [] = Unit {0}
 EachFollows p rate seed arrived (e ∷ g) =
     (IsOffer p rate seed arrived g e ⊎ IsSending p rate arrived g e) × EachFollows p rate seed arrived g
 
+-- a sending is of the arrival of its number, and has its class and its length
+pub record SendsArrival (arrived : List Coming) (n : ℕ) (s : Sending) : Type 0 where
+  pub packet : Coming
+  pub from_one : 0 < n
+  pub arrival : slice_get arrived (n - 1) ≡ Some packet
+  pub class : s.class ≡ packet.class
+  pub len : s.len ≡ packet.len
+
+-- an event is of the arrival of its number
+abbrev pub IsOfArrival : List Coming → (n : ℕ) → Event → Type 0
+IsOfArrival arrived n (Offered a w v) = (0 < n) × (slice_get arrived (n - 1) ≡ Some a)
+IsOfArrival arrived n (Sent s) = SendsArrival arrived n s
+
+abbrev pub AreOfArrivals : List Coming → List Entry → Type 0
+AreOfArrivals arrived [] = Unit {0}
+AreOfArrivals arrived (e ∷ g) = IsOfArrival arrived e.label e.what × AreOfArrivals arrived g
+
 -- each number up to the count of offers has at most one fate, and no other number has one
 abbrev pub IsDecidedOnce : List Entry → Type 0
 IsDecidedOnce g = (n : ℕ) → occurs n (numbers (journal g)) ≤ (if nat_lt 0 n && nat_le n (offered (bare g)) then 1 else 0)
@@ -44,6 +61,7 @@ IsDecidedOnce g = (n : ℕ) → occurs n (numbers (journal g)) ≤ (if nat_lt 0 
 -- what holds of the first events of a play
 pub record HasLaws (p : Policy) (rate seed : ℕ) (arrived : List Coming) (g : List Entry) : Type 0 where
   pub each : EachFollows p rate seed arrived g
+  pub of_arrivals : AreOfArrivals arrived g
   pub once : IsDecidedOnce g
   pub ordered : IsOrdered g
   pub not_before : IsNotBefore arrived g

@@ -1,5 +1,5 @@
 -- When a policy is lawful, and when arrivals suit it. A law is asked after every history.
-use Rattle.std.specs.Prelude.{◌≡◌, ◌≤◌, ◌⊎◌, ℕ, max, List, [], ◌∷◌, None, Some, option_map}
+use Rattle.std.specs.Prelude.{◌≡◌, ◌≤◌, ◌⊎◌, ◌↔◌, ℕ, max, List, [], ◌∷◌, None, Some, option_map}
 use Rattle.std.specs.declared.option.Option.{Option}
 use Rattle.altq_model.specs.Capture.{Record}
 use Rattle.altq_model.specs.History.{Coming, Answer, Words, Event, Offered, Sent, head}
@@ -32,9 +32,27 @@ pub record IsLawful (p : Policy) : Type 0 where
 abbrev pub NeverWaits : Policy → Type 0
 NeverWaits p = (h : List Event) (c t : ℕ) → p.start_from h c t ≡ t
 
--- asked again from a later moment that is not past the answer, a class gives the same answer, as a least moment does
+-- asked again from a later moment that is not past the answer, a class that waits gives the same answer, as a least moment does
 abbrev pub IsSteady : Policy → Type 0
-IsSteady p = (h : List Event) (c t u : ℕ) → t ≤ u → u ≤ p.start_from h c t → p.start_from h c u ≡ p.start_from h c t
+IsSteady p = (h : List Event) (c t u : ℕ) (b : Coming) → head c h ≡ Some b → t ≤ u → u ≤ p.start_from h c t
+    → p.start_from h c u ≡ p.start_from h c t
+
+-- after a history this class of the policy waits, and may send at this moment
+pub record IsCandidate (allowed : List Event → (c t : ℕ) → Type 0) (p : Policy) (h : List Event) (s c : ℕ) : Type 0 where
+  pub held : IsOneOf c p.classes
+  pub packet : Coming
+  pub front : head c h ≡ Some packet
+  pub may : allowed h c s
+
+-- a policy by when a class that waits may send: it gives the least such moment, an offer changes nothing of it, and the pick is a
+-- candidate wherever there is one
+pub record SendsWhen (allowed : List Event → (c t : ℕ) → Type 0) (p : Policy) : Type 0 where
+  pub later : (h : List Event) (c t : ℕ) → t ≤ p.start_from h c t
+  pub may : (h : List Event) (c t : ℕ) (b : Coming) → head c h ≡ Some b → allowed h c (p.start_from h c t)
+  pub least : (h : List Event) (c t u : ℕ) (b : Coming) → head c h ≡ Some b → t ≤ u → allowed h c u → p.start_from h c t ≤ u
+  pub keeps : (h : List Event) (a : Coming) (w : Words) (v : Answer) (c t : ℕ) (b : Coming) → head c h ≡ Some b
+      → allowed (Offered a w v ∷ h) c t ↔ allowed h c t
+  pub picks : (h : List Event) (s c : ℕ) → IsCandidate allowed p h s c → IsCandidate allowed p h s (p.pick h s).class
 
 -- the greatest arrival of what was offered, 0 at first
 abbrev pub latest : List Event → ℕ

@@ -2,19 +2,20 @@
 //! nothing: each states its laws, and a caller that cites one calls nothing at run time.
 #![tactic(auto)]
 
-ghost use Rattle.std.specs.Prelude.{◌≡◌, ◌≤◌, ◌<◌, ◌-◌, ◌++◌, ◌∷◌, ℕ, max, List, drop, length, Some, slice_get};
+ghost use Rattle.std.specs.Prelude.{Bool, IsTrue, ◌≡◌, ◌≤◌, ◌<◌, ◌-◌, ◌++◌, ◌∷◌, ℕ, max, List, drop, length, Some, slice_get};
 ghost use Rattle.altq_model.specs.declared.Mark.{Mark};
 ghost use Rattle.altq_model.specs.declared.Rule.{Rule};
 ghost use Rattle.altq_model.specs.Arrivals.{Arrival, arrival, arrivals_from, arrivals_of, coming_of, comings};
 ghost use Rattle.altq_model.specs.Capture.{Record};
-ghost use Rattle.altq_model.specs.History.{Coming, Decision, Entry, bare, journal, offered};
+ghost use Rattle.altq_model.specs.History.{Coming, Decision, Entry, Event, bare, journal, offered};
 ghost use Rattle.altq_model.specs.Laws.{IsBusy, KeepsLaws, at_of};
-ghost use Rattle.altq_model.specs.Link.{link};
+ghost use Rattle.altq_model.specs.Link.{HasLinkEnds, link};
 ghost use Rattle.altq_model.specs.Play.{AreDue, IsPlay, Policy, first_start, play};
 ghost use Rattle.altq_model.specs.Policies.{Answering, one_queue, strict};
 ghost use Rattle.altq_model.specs.Texts.{Naming, departure_records, departures, fate_rows, fates};
 ghost use Rattle.play_laws.specs.Events.{HasLaws, IsWhole};
-ghost use Rattle.play_laws.specs.Lawful.{AreHeld, AreRising, IsLawful, IsOneOf, IsSteady, NeverWaits, first_at, greatest, latest};
+ghost use Rattle.play_laws.specs.Lawful.{AreHeld, AreRising, IsLawful, IsOneOf, IsSteady, NeverWaits, SendsWhen, first_at, greatest, latest};
+ghost use Rattle.play_laws.specs.Runs.{AreRunEnds, sendings};
 
 /// The arrivals of a capture rise, there is one for each record, those of more records begin with those of the fewer, and a play
 /// sees each as it is. Where each mark is a class of the policy, the policy holds them all.
@@ -42,8 +43,15 @@ pub fn strict_order_is_lawful()
     ensures steady { (p : Policy) → NeverWaits p → IsSteady p }
 {}
 
+/// A policy by when a class may send is lawful and steady, where its moments are the least, an offer changes nothing for a class
+/// that waits, and its pick is a candidate wherever there is one.
+pub fn policies_by_moments_are_lawful()
+    ensures lawful { (allowed : List Event → (c t : ℕ) → Bool) (p : Policy) → SendsWhen (λ h c t. IsTrue (allowed h c t)) p → IsLawful p }
+    ensures steady { (allowed : List Event → (c t : ℕ) → Bool) (p : Policy) → SendsWhen (λ h c t. IsTrue (allowed h c t)) p → IsSteady p }
+{}
+
 /// The laws of the first events of every play of a lawful policy, however many: each is the offer of the next arrival, or a
-/// sending at the least moment at which a class may send, before every arrival that was not offered; no number has two fates; each
+/// sending at the least moment at which a class may send, before every arrival that was not offered; each is of the arrival of its number, with its class and length; no number has two fates; each
 /// class departs in order of number, no packet starts before it arrives, and each end is that of its run.
 pub fn due_events_keep_the_laws()
     ensures laws { (p : Policy) (rate seed : ℕ) (arrived : List Coming) (g : List Entry) → 0 < rate → IsLawful p → AreRising arrived
@@ -58,6 +66,12 @@ pub fn plays_keep_the_laws()
         → AreHeld p arrived → IsPlay p rate seed arrived g → KeepsLaws rate arrived g }
     ensures whole { (p : Policy) (rate seed : ℕ) (arrived : List Coming) (g : List Entry) → 0 < rate → IsLawful p → AreRising arrived
         → AreHeld p arrived → IsPlay p rate seed arrived g → IsWhole arrived g }
+{}
+
+/// The link's ends in words of starts, lengths and ends alone: no sending starts before the end of the one before it, and in a run
+/// that began at r each end is r and the time of the run's bytes up to it, rounded up once.
+pub fn ends_are_those_of_the_runs()
+    ensures ends { (rate : ℕ) (h : List Event) → HasLinkEnds rate h → AreRunEnds rate (sendings h) }
 {}
 
 /// Where any class may send at any moment, the link is busy: each sending starts at the greater of the last end and the least
