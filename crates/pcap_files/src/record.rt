@@ -1,5 +1,5 @@
 // A record of a capture.
-ghost use Rattle.std.specs.Prelude.{◌≤◌, ◌<◌, ◌^◌};
+ghost use Rattle.std.specs.Prelude.{◌≤◌, ◌<◌, ◌^◌, length};
 
 use play_base::Bytes;
 
@@ -15,4 +15,5 @@ pub struct Record {
     ghost early: { stamp < 2 ^ 62 },
     ghost some: { 1 ≤ len },
     ghost short: { len ≤ 262144 },
+    ghost within: { length bytes ≤ len },
 }

@@ -1,16 +1,25 @@
 -- What a gathered file was given when writing stopped.
-use Rattle.std.proofs.Common.{◌≡◌, ◌++◌, ◌∙◌, ℕ, zero, suc, List, [], ◌∷◌, take, drop, refl, ap, sym, append_assoc, arith}
+use Rattle.std.proofs.Common.{◌≡◌, ◌++◌, ◌∙◌, ℕ, zero, suc, List, [], ◌∷◌, length, take, drop, refl, ap, sym, append_assoc, arith}
 use Rattle.std.proofs.lemmas.List.{append-nil}
 use Rattle.std.proofs.lemmas.Grind.{common_steps}
 use Rattle.std.specs.Prelude.{IsSome}
+use Rattle.altq_model.specs.declared.Fate.{Fate}
+use Rattle.altq_model.specs.declared.Fate.TheVariants.{Sent}
+use Rattle.altq_model.specs.declared.Rule.{Rule}
+use Rattle.altq_model.specs.Arrivals.{Arrival}
+use Rattle.altq_model.specs.Texts.{departure_record, record_head}
 use Rattle.play_base.specs.View.{View, Wrote, WroteFront}
 use Rattle.play_base.specs.ViewLaws.{wrote_more_there}
 use Rattle.play_loop.specs.Gathered.{Grew, Stopped}
 
-pub take_drop : (k : ℕ) (xs : List ℕ) → take k xs ++ drop k xs ≡ xs
-take_drop zero xs = grind (arith, common_steps)
-take_drop (suc k) [] = grind (arith, common_steps)
-take_drop (suc k) (x ∷ xs) = ap (λ (r : List ℕ). x ∷ r) (take_drop k xs)
+pub take_drop : {X : Type 0} (k : ℕ) (xs : List X) → take k xs ++ drop k xs ≡ xs
+take_drop zero xs = refl
+take_drop (suc k) [] = refl
+take_drop (suc k) (x ∷ xs) = ap (λ r. x ∷ r) (take_drop k xs)
+
+pub take_all : {X : Type 0} (xs : List X) → take (length xs) xs ≡ xs
+take_all [] = refl
+take_all (x ∷ xs) = ap (λ r. x ∷ r) (take_all xs)
 
 pub stopped_at_front : (v w : View) (file : ℕ) (before bytes : List ℕ) → WroteFront v w file before → Stopped v w file before bytes
 stopped_at_front v w file before bytes x = record {
@@ -38,3 +47,35 @@ grew_by_itself u v w file before after bytes there x y e = record {
   wrote = wrote_more_there u v w file before bytes there x y;
   split = ap (λ (r : List ℕ). (before ++ bytes) ++ r) e ∙ append-nil (before ++ bytes);
 }
+
+-- one text after another
+pub grew_more : (u v w : View) (file : ℕ) (a b c xs ys : List ℕ) → IsSome (u.part file) → Grew u v file a b xs → Grew v w file b c ys → Grew u w file a c (xs ++ ys)
+grew_more u v w file a b c xs ys there x y = record {
+  written = x.written ++ y.written;
+  wrote = wrote_more_there u v w file x.written y.written there x.wrote y.wrote;
+  split = append_assoc x.written y.written c ∙ ap (λ (r : List ℕ). x.written ++ r) y.split ∙ sym (append_assoc x.written b ys)
+      ∙ ap (λ (r : List ℕ). r ++ ys) x.split ∙ append_assoc a xs ys;
+}
+
+pub stopped_more : (u v w : View) (file : ℕ) (a b xs ys : List ℕ) → IsSome (u.part file) → Grew u v file a b xs → Stopped v w file b ys → Stopped u w file a (xs ++ ys)
+stopped_more u v w file a b xs ys there x y = record {
+  written = x.written ++ y.written;
+  rest = y.rest;
+  wrote = wrote_more_there u v w file x.written y.written there x.wrote y.wrote;
+  split = append_assoc x.written y.written y.rest ∙ ap (λ (r : List ℕ). x.written ++ r) y.split ∙ sym (append_assoc x.written b ys)
+      ∙ ap (λ (r : List ℕ). r ++ ys) x.split ∙ append_assoc a xs ys;
+}
+
+pub stopped_longer : (u v : View) (file : ℕ) (a xs ys : List ℕ) → Stopped u v file a xs → Stopped u v file a (xs ++ ys)
+stopped_longer u v file a xs ys x = record {
+  written = x.written;
+  rest = x.rest ++ ys;
+  wrote = x.wrote;
+  split = sym (append_assoc x.written x.rest ys) ∙ ap (λ (r : List ℕ). r ++ ys) x.split ∙ append_assoc a xs ys;
+}
+
+-- the record of a packet that was sent
+pub departed : (a : Arrival) (f : Fate) (start end captured : ℕ) (rule : Rule) (head : List ℕ) → f ≡ Sent start end rule
+    → head ≡ record_head end captured a.len → captured ≡ length a.bytes → head ++ a.bytes ≡ departure_record a f
+departed a f start end captured rule head e h n =
+    ap (λ (r : List ℕ). r ++ a.bytes) (h ∙ ap (λ k. record_head end k a.len) n) ∙ sym (ap (departure_record a) e)

@@ -16,7 +16,7 @@ use Rattle.play_loop.specs.declared.queue.Due.{Due}
 use Rattle.play_loop.specs.declared.queue.Due.TheVariants.{End, Offer, Send}
 use Rattle.play_loop.specs.declared.queue.Decided.{Decided}
 use Rattle.play_loop.specs.Decided.{IsPlayed, IsCutOff}
-use Rattle.play_loop.specs.Queue.{due_of, one_coming, held_comings, held_numbers, decisions_of, decision_of}
+use Rattle.play_loop.specs.Queue.{AreNumbered, AreSound, FateInTime, due_of, one_coming, held_comings, held_numbers, decisions_of, decision_of}
 use Rattle.play_loop.proofs.Come.{HasCome, ComesFirst, ComesLater, come_kept, come_dropped, come_sent, come_end, come_cut}
 use Rattle.play_loop.proofs.HeldLemmas.{comings-push, numbers-push, decisions-push, length-comings}
 
@@ -205,3 +205,47 @@ pub offers_within : (free : ℕ) (q : List Held) (coming : Option Held) (a : Hel
 offers_within free q coming a next n e w =
     let P : Option Held → Type 0 = λ o. IfSome o (λ h. next < n) in
     subst P (offers free q coming a e).0 w
+
+-- the packets that wait are numbered, and the decisions sound, after each turn
+pub numbered_push : (n : ℕ) (q : List Held) (a : Held) → AreNumbered n q → 1 ≤ a.number → a.number ≤ n → AreNumbered n (q ++ a ∷ [])
+numbered_push n [] a x l m = (l, m, tt)
+numbered_push n (h ∷ q) a x l m = (x.0, x.1, numbered_push n q a x.2 l m)
+
+pub sound_push : (n : ℕ) (ds : List Decided) (d : Decided) → AreSound n ds → 1 ≤ d.number → d.number ≤ n → FateInTime d.fate → AreSound n (ds ++ d ∷ [])
+sound_push n [] d x l m t = (l, m, t, tt)
+sound_push n (e ∷ ds) d x l m t = (x.0, x.1, x.2, sound_push n ds d x.3 l m t)
+
+pub turn_offers_numbered : (free n next : ℕ) (q q' : List Held) (ds ds' : List Decided) (coming : Option Held) (a : Held)
+    → AreNumbered n q → AreSound n ds → due_of free (slice_get q 0) coming ≡ Offer a
+    → IfSome coming (λ h. h.number ≡ next + 1) → IfSome coming (λ h. next < n)
+    → q' ≡ cond (length q == 50) q (q ++ a ∷ [])
+    → ds' ≡ cond (length q == 50) (ds ++ record { number = a.number; fate = Dropped Full } ∷ []) ds
+    → AreNumbered n q' × AreSound n ds'
+turn_offers_numbered free n next q q' ds ds' coming a x y e number within eq ed = go (length q == 50) eq ed
+  where
+    is_next : a.number ≡ next + 1
+    is_next = let P : Option Held → Type 0 = λ o. IfSome o (λ h. h.number ≡ next + 1) in subst P (offers free q coming a e).0 number
+    inside : next < n
+    inside = offers_within free q coming a next n e within
+    go : (b : Bool) → q' ≡ cond b q (q ++ a ∷ []) → ds' ≡ cond b (ds ++ record { number = a.number; fate = Dropped Full } ∷ []) ds
+        → AreNumbered n q' × AreSound n ds'
+    go true k l =
+        let P : List Held → Type 0 = AreNumbered n in
+        let S : List Decided → Type 0 = AreSound n in
+        (subst P (sym k) x, subst S (sym l) (sound_push n ds (record { number = a.number; fate = Dropped Full }) y (omega (arith, is_next)) (omega (arith, is_next, inside)) tt))
+    go false k l =
+        let P : List Held → Type 0 = AreNumbered n in
+        let S : List Decided → Type 0 = AreSound n in
+        (subst P (sym k) (numbered_push n q a x (omega (arith, is_next)) (omega (arith, is_next, inside))), subst S (sym l) y)
+
+pub turn_sends_numbered : (free n : ℕ) (q q' : List Held) (ds ds' : List Decided) (coming : Option Held) (h : Held) (s e : ℕ)
+    → AreNumbered n q → AreSound n ds → due_of free (slice_get q 0) coming ≡ Send h s → e < clock_end
+    → q' ≡ drop 1 q → ds' ≡ ds ++ record { number = h.number; fate = Sent s e Share } ∷ []
+    → AreNumbered n q' × AreSound n ds'
+turn_sends_numbered free n q q' ds ds' coming h s e x y d late eq ed =
+    let z = sends free q coming h s d in
+    let P : List Held → Type 0 = AreNumbered n in
+    let S : List Decided → Type 0 = AreSound n in
+    let w : AreNumbered n (h ∷ z.rest) = subst P z.queue x in
+    let rest : z.rest ≡ q' = sym (eq ∙ ap (λ (r : List Held). drop 1 r) z.queue) in
+    (subst P rest w.2, subst S (sym ed) (sound_push n ds (record { number = h.number; fate = Sent s e Share }) y w.0 w.1 late))

@@ -1,4 +1,7 @@
 pub mod Decided
 pub mod Gathered
 pub mod GatheredLaws
+pub mod OneQueue
+pub mod Outputs
 pub mod Queue
+pub mod Reading

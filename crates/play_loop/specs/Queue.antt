@@ -1,6 +1,8 @@
 -- What the loop over one queue holds and decides, in the words of a play.
-use Rattle.std.specs.Prelude.{ℕ, max, nat_le, List, [], ◌∷◌, if◌then◌else◌, None, Some}
+use Rattle.std.specs.Prelude.{ℕ, ◌≤◌, ◌<◌, ◌^◌, ◌*◌, max, nat_le, List, [], ◌∷◌, if◌then◌else◌, None, Some}
 use Rattle.std.specs.declared.option.Option.{Option}
+use Rattle.altq_model.specs.declared.Fate.{Fate}
+use Rattle.altq_model.specs.declared.Fate.TheVariants.{Dropped, Sent}
 use Rattle.altq_model.specs.Arrivals.{Arrival}
 use Rattle.altq_model.specs.History.{Coming, Decision}
 use Rattle.play_loop.specs.declared.held.Arrived.{Arrived}
@@ -46,3 +48,18 @@ decision_of d = (d.number, d.fate)
 abbrev pub decisions_of : List Decided → List Decision
 decisions_of [] = []
 decisions_of (d ∷ ds) = decision_of d ∷ decisions_of ds
+
+-- a sending ends before the clock does
+abbrev pub FateInTime : Fate → Type 0
+FateInTime (Dropped reason) = Unit {0}
+FateInTime (Sent start end rule) = end < 2 ^ 32 * 10 ^ 9
+
+-- each decision is of one of so many packets, and in time
+abbrev pub AreSound : (count : ℕ) → List Decided → Type 0
+AreSound count [] = Unit {0}
+AreSound count (d ∷ ds) = (1 ≤ d.number) × (d.number ≤ count) × FateInTime d.fate × AreSound count ds
+
+-- each packet that waits is one of so many
+abbrev pub AreNumbered : (count : ℕ) → List Held → Type 0
+AreNumbered count [] = Unit {0}
+AreNumbered count (h ∷ hs) = (1 ≤ h.number) × (h.number ≤ count) × AreNumbered count hs

@@ -1,5 +1,5 @@
 // Packets before and in a queue.
-ghost use Rattle.std.specs.Prelude.{◌<◌, ◌^◌};
+ghost use Rattle.std.specs.Prelude.{◌<◌, ◌≤◌, ◌^◌, length};
 
 use play_base::Bytes;
 
@@ -15,6 +15,8 @@ pub struct Arrived {
     /// The captured bytes.
     pub bytes: Bytes,
     ghost early: { at < 2 ^ 62 },
+    ghost short: { len ≤ 262144 },
+    ghost within: { length bytes ≤ len },
 }
 
 /// A packet that waits: its number, its arrival in nanoseconds, its length in bytes.

@@ -1,9 +1,12 @@
-//! The loop of a play.
+//! The loop of a play: reads the arrivals of a capture, decides what becomes of each, and writes departures and fates.
 #![tactic(auto)]
 
 mod gathered;
 mod held;
+mod outputs;
 mod queue;
+mod reading;
+mod writing;
 
 pub use held::{Arrived, Held};
 pub use queue::{Decided, Decisions, Due, decide};

@@ -2,7 +2,7 @@
 ghost use Rattle.std.specs.Prelude.{◌≡◌, ◌==◌, ◌≤◌, ◌<◌, ◌+◌, ◌^◌, ◌++◌, ◌∷◌, [], List, ℕ, IfOk, OnOk, IfSome, Some, None, slice_get, length, if◌then◌else◌};
 ghost use Rattle.altq_model.specs.History.{Entry, journal};
 ghost use Rattle.altq_model.specs.Policies.{one_queue};
-ghost use Rattle.play_loop.specs.Queue.{due_of, decisions_of, comings_held, one_coming};
+ghost use Rattle.play_loop.specs.Queue.{AreSound, due_of, decisions_of, comings_held, one_coming};
 ghost use Rattle.play_loop.specs.Decided.{HasEnded};
 
 use crate::{Arrived, Held};
@@ -66,7 +66,7 @@ fn head_of(queue: &VecDeque<Held>) -> Option<Held>
 
 // The arrival at a place, as it would wait.
 fn arrival_at(arrived: &[Arrived], place: usize) -> Option<Held>
-    requires { length arrived.now < 2 ^ 32 }
+    requires { length arrived.now < 2 ^ 63 }
     ensures none { result ≡ None → slice_get (comings_held arrived.now) place ≡ None }
     ensures coming { IfSome result (λ h. slice_get (comings_held arrived.now) place ≡ Some (one_coming h.at h.len)) }
     ensures number { IfSome result (λ h. h.number ≡ place + 1) }
@@ -111,8 +111,9 @@ fn offer(
 pub fn decide(alloc: Global, rate: u64, arrived: &[Arrived]) -> Result<Decisions, NoMemory>
     requires least { 1000 ≤ rate }
     requires most { rate ≤ 10 ^ 12 }
-    requires count { length arrived.now < 2 ^ 32 }
-    ensures { IfOk result (λ d. (seed : ℕ) → (g : List Entry)
+    requires count { length arrived.now < 2 ^ 63 }
+    ensures sound { IfOk result (λ d. AreSound (length arrived.now) d.list.items) }
+    ensures played { IfOk result (λ d. (seed : ℕ) → (g : List Entry)
         × HasEnded d.cut (one_queue 50) rate seed (comings_held arrived.now) g
         × (decisions_of d.list.items ≡ journal g)) }
 {

@@ -1,7 +1,7 @@
 use Rattle.std.proofs.Common.{◌≡◌, ◌+◌, ◌-◌, ◌*◌, ◌≤◌, ◌<◌, ◌^◌, ℕ, List, length}
 use Rattle.altq_model.specs.History.{Entry}
 use Rattle.altq_model.specs.Laws.{clock_end}
-use Rattle.play_loop.specs.Queue.{comings_held, held_comings, held_numbers, decisions_of}
+use Rattle.play_loop.specs.Queue.{AreNumbered, AreSound, comings_held, held_comings, held_numbers, decisions_of}
 use Rattle.play_loop.proofs.Come.{HasCome}
 use Rattle.play_loop.proofs.queue.decide.Given as goal
 
@@ -10,6 +10,8 @@ invariant-events l = record {
   within : l.next ≤ length l.arrived;
   rate : l.clock.rate ≡ l.rate;
   free : l.clock.link.free < clock_end;
+  numbered : AreNumbered (length l.arrived) l.queue.items;
+  sound : AreSound (length l.arrived) l.list.items;
   come : (seed : ℕ) → (g : List Entry) × HasCome l.rate seed (comings_held l.arrived) g l.clock.link
       (held_numbers l.queue.items) (held_comings l.queue.items) l.next (decisions_of l.list.items);
 }
