@@ -1,9 +1,9 @@
 -- A reader among other calls, and readings of the same bytes.
 use Rattle.std.specs.Prelude.{◌≡◌, ◌≤◌, ◌+◌, ℕ, List, [], ◌∷◌, ◌++◌, length, None, Some, IsSome}
-use Rattle.std.proofs.Common.{◌∙◌, ap, sym, subst, refl, arith, length-append, length-drop}
+use Rattle.std.proofs.Common.{◌∙◌, ap, sym, subst, refl, arith, append-nil, length-append, length-drop}
 use Rattle.play_base.specs.View.{View, Keeps}
 use Rattle.play_base.specs.ViewLaws.{still_there, part_of_there}
-use Rattle.altq_model.specs.Capture.{Form, Record, Step, End, Next, Fault, Limit, Head, step, Stand, place_after, ReadsAs, ReadsFrom, Reads}
+use Rattle.altq_model.specs.Capture.{Form, Record, Step, End, Next, Fault, Limit, Head, step, Stand, place_after, ReadsAs, ReadsFrom, Reads, Unformed, Formed, head}
 use Rattle.pcap_files.specs.Ahead.{TookSome}
 use Rattle.pcap_files.specs.Forms.{form}
 use Rattle.pcap_files.specs.Reading.{StandsFor}
@@ -83,3 +83,25 @@ answered_front v r bytes records all last s x h =
     let y : ReadsAs (form r.head) bytes all last = subst (λ (found : Head). ReadsFrom found bytes all last) s.formed x in
     stand_front (form r.head) bytes 0 24 records all last s.stand y.stand
     (ap (λ (n : ℕ). step (form r.head) bytes n (place_after 24 all)) (omega arith) ∙ y.ended) h
+
+empty : (rs : List Record) → length rs ≡ 0 → rs ≡ []
+empty [] h = refl
+empty (r ∷ rs) h = absurd (omega (arith, h))
+
+one_from : (h : Head) (bytes : List ℕ) (xs ys : List Record) (p q : Step) → ReadsFrom h bytes xs p → IsLast p → ReadsFrom h bytes ys q → IsLast q
+    → (xs ≡ ys) × (p ≡ q)
+one_from (Unformed found) bytes xs ys p q a hp b hq = (a.0 ∙ sym b.0, a.1 ∙ sym b.1)
+one_from (Formed f) bytes xs ys p q a hp b hq =
+    let start : (rs : List Record) (last : Step) → step f bytes (length rs) (place_after 24 rs) ≡ last → step f bytes (0 + length rs) (place_after 24 rs) ≡ last =
+    λ rs last e. ap (λ (n : ℕ). step f bytes n (place_after 24 rs)) (omega arith) ∙ e in
+    let front = stand_front f bytes 0 24 xs ys q a.stand b.stand (start ys q b.ended) hq in
+    let back = stand_front f bytes 0 24 ys xs p b.stand a.stand (start xs p a.ended) hp in
+    let none : front.0 ≡ [] = empty front.0
+    (omega (arith, ap length front.1, length-append xs front.0, ap length back.1, length-append ys back.0)) in
+    let same : xs ≡ ys = sym (front.1 ∙ ap (λ (rs : List Record). xs ++ rs) none ∙ append-nil xs) in
+    (same, sym a.ended ∙ ap (λ (rs : List Record). step f bytes (length rs) (place_after 24 rs)) same ∙ b.ended)
+
+-- bytes have at most one reading
+pub one_reading : (bytes : List ℕ) (xs ys : List Record) (p q : Step) → Reads bytes xs p → IsLast p → Reads bytes ys q → IsLast q
+    → (xs ≡ ys) × (p ≡ q)
+one_reading bytes xs ys p q a hp b hq = one_from (head bytes) bytes xs ys p q a hp b hq

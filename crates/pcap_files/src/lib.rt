@@ -5,6 +5,7 @@
 mod ahead;
 mod fault;
 mod form;
+mod laws;
 mod numbers;
 mod progress;
 mod reader;
@@ -15,9 +16,10 @@ mod writing;
 pub use altq_model::{Damage, DamageKind};
 pub use fault::CaptureFault;
 pub use form::Head;
+pub use laws::{bytes_read_one_way, written_captures_read_back};
 pub use reader::Reader;
 pub use record::Record;
-pub use writing::{head_bytes, record_head, written_captures_read_back};
+pub use writing::{head_bytes, record_head};
 
 #[cfg(test)]
 mod tests;

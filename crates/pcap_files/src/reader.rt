@@ -85,6 +85,7 @@ impl Reader {
         ensures read { IsErrOf result CaptureFault.Read →
             ReadFault (F.view files.old) (F.view files.new) self.old.file ⊎ (self.old.fault ≡ Some CaptureFault.Read) }
         ensures again { (fault : CaptureFault) → self.old.fault ≡ Some fault → result ≡ Err fault }
+        ensures idle { IsSome self.old.fault → F.view files.new ≡ F.view files.old }
         ensures kept { IfErr result (λ fault. self.new.fault ≡ Some fault) }
         ensures sound { OnOk result (self.new.fault ≡ None) }
         ensures file { self.new.file ≡ self.old.file }

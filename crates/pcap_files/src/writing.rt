@@ -1,8 +1,6 @@
 // The heads that a capture is written with.
-ghost use Rattle.std.specs.Prelude.{◌≡◌, ◌<◌, ◌*◌, ◌^◌, List};
-ghost use Rattle.altq_model.specs.Capture.{Record, IsCapture};
+ghost use Rattle.std.specs.Prelude.{◌≡◌, ◌<◌, ◌*◌, ◌^◌};
 ghost use Rattle.altq_model.specs.Texts.{capture_head, record_head};
-ghost use Rattle.pcap_files.specs.Written.{AreWithin, written};
 
 use byteorder::{ByteOrder, LittleEndian};
 
@@ -28,10 +26,3 @@ pub fn record_head(end: u64, captured: u32, len: u32) -> [u8; 16]
     LittleEndian::write_u32(&mut head[12..], len);
     head
 }
-
-/// What the two heads write, with the captured bytes after each record's head, is a capture of the records that were given,
-/// while lengths, count and size are within the limits. It does nothing.
-#[tactic(auto, using(crate::proofs::WritingLemmas::reads_written))]
-pub fn written_captures_read_back()
-    ensures { (records : List Record) → AreWithin records → IsCapture (written records) records }
-{}

@@ -3,5 +3,6 @@ pub mod Gathered
 pub mod GatheredLaws
 pub mod OneQueue
 pub mod Outputs
+pub mod Played
 pub mod Queue
 pub mod Reading

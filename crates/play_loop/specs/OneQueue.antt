@@ -53,13 +53,6 @@ pub record HoldFronts (v : View) (dep fat : ℕ) (records : List Record) (g : Li
   pub departures : HoldsFront v dep (departures_of records g)
   pub fates : HoldsFront v fat (fates_of records g)
 
--- what stands after the complete records of a capture: no further record
-abbrev pub IsLast : Step → Type 0
-IsLast End = Unit {0}
-IsLast (Next r after) = ⊥
-IsLast (Fault fault) = Unit {0}
-IsLast Limit = Unit {0}
-
 -- every name keeps its bytes but those of the two files, and no file its part or name
 abbrev pub KeepsBut : (dep fat : ℕ) → View → View → Type 0
 KeepsBut dep fat old new = Keeps (λ n. (n ≢ old.name dep) × (n ≢ old.name fat)) (λ f. ⊥) old new
