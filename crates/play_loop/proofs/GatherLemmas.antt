@@ -79,3 +79,10 @@ pub departed : (a : Arrival) (f : Fate) (start end captured : ℕ) (rule : Rule)
     → head ≡ record_head end captured a.len → captured ≡ length a.bytes → head ++ a.bytes ≡ departure_record a f
 departed a f start end captured rule head e h n =
     ap (λ (r : List ℕ). r ++ a.bytes) (h ∙ ap (λ k. record_head end k a.len) n) ∙ sym (ap (departure_record a) e)
+
+-- a text that nothing was gathered before
+pub grew_whole : (u v : View) (file : ℕ) (bytes : List ℕ) → Wrote u v file bytes → Grew u v file [] [] bytes
+grew_whole u v file bytes x = record { written = bytes; wrote = x; split = append-nil bytes }
+
+pub stopped_whole : (u v : View) (file : ℕ) (bytes : List ℕ) → WroteFront u v file bytes → Stopped u v file [] bytes
+stopped_whole u v file bytes x = record { written = take x.0 bytes; rest = drop x.0 bytes; wrote = x.1; split = take_drop x.0 bytes }

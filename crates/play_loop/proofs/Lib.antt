@@ -5,3 +5,4 @@ pub mod GatherLemmas
 pub mod OutputLemmas
 pub mod ReadLemmas
 pub mod DecisionLemmas
+pub mod PlayLemmas

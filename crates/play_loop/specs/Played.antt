@@ -1,9 +1,9 @@
 -- What a play over files leaves, and when each of its faults comes.
-use Rattle.std.specs.Prelude.{◌≡◌, ℕ, Bool, true, false, List, [], Some, IsTrue, IsSome}
+use Rattle.std.specs.Prelude.{◌≡◌, ◌⊎◌, ℕ, Bool, true, false, List, [], Some, IsTrue, IsSome}
 use Rattle.altq_model.specs.declared.capture.Damage.{Damage}
 use Rattle.altq_model.specs.Capture.{Record, Step, Fault, Limit, Reads, IsCapture}
 use Rattle.altq_model.specs.History.{Entry}
-use Rattle.play_base.specs.View.{View}
+use Rattle.play_base.specs.View.{View, ReadFault, WriteFault}
 use Rattle.play_base.specs.Holds.{HoldsAt, Apart}
 use Rattle.pcap_files.specs.declared.fault.CaptureFault.{CaptureFault}
 use Rattle.pcap_files.specs.declared.fault.CaptureFault.TheVariants as capture
@@ -65,6 +65,14 @@ IsLimited old o = IsTrue old.tells → (bytes : List ℕ) → old.left o.arrival
 abbrev pub IsLate : View → View → (rate : ℕ) → Opened → Type 0
 IsLate old new rate o = IsTrue old.tells → (bytes : List ℕ) → old.left o.arrivals ≡ Some bytes
     → (records : List Record) × IsCapture bytes records × HasPlayed true rate new o.departures o.fates records
+
+-- when each fault of a play comes
+abbrev pub Explains : View → View → (rate : ℕ) → Opened → PlayFault → Type 0
+Explains old new rate o (play.Capture damage) = IsDamaged old o damage
+Explains old new rate o play.Read = ReadFault old new o.arrivals
+Explains old new rate o (play.Write kind) = ((kind ≡ 1) × WriteFault old new o.departures) ⊎ ((kind ≡ 2) × WriteFault old new o.fates)
+Explains old new rate o (play.Limit kind) = ((kind ≡ 1) × IsLimited old o) ⊎ ((kind ≡ 2) × IsLate old new rate o)
+Explains old new rate o play.NoMemory = Unit {0}
 
 abbrev pub capture_fault : CaptureFault → PlayFault
 capture_fault (capture.Damage damage) = play.Capture damage

@@ -1,11 +1,11 @@
 // The play of one queue, from a capture to departures and fates.
-ghost use Rattle.std.specs.Prelude.{◌≡◌, ◌≢◌, ◌≤◌, ◌<◌, ◌^◌, ◌⊎◌, ℕ, List, [], length, Some, IsTrue, IsSome, IfOk, OnOk, OnErr, IsErrOf};
+ghost use Rattle.std.specs.Prelude.{◌≡◌, ◌≢◌, ◌≤◌, ◌<◌, ◌^◌, ◌⊎◌, ℕ, List, [], length, Some, IsTrue, IsSome, IfOk, IfErr, OnOk, OnErr, IsErrOf};
 ghost use Rattle.altq_model.specs.Capture.{Record};
 ghost use Rattle.altq_model.specs.Texts.{capture_head, fates_head};
-ghost use Rattle.play_base.specs.View.{ReadFault, WriteFault};
+ghost use Rattle.play_base.specs.View.{WriteFault};
 ghost use Rattle.play_loop.specs.OneQueue.{KeepsBut, arrivals_in};
 ghost use Rattle.play_loop.specs.Outputs.{TextsAre, FrontsAre, HasTexts};
-ghost use Rattle.play_loop.specs.Played.{AreReady, AreEmpty, HasPlayed, HasStopped, Plays, Fronts, IsDamaged, IsLimited, IsLate, capture_fault, output_fault};
+ghost use Rattle.play_loop.specs.Played.{AreReady, AreEmpty, HasPlayed, HasStopped, Plays, Fronts, Explains, capture_fault, output_fault};
 ghost use Rattle.play_loop.specs.Queue.{arrivals_held};
 
 use crate::gathered::write_all;
@@ -104,4 +104,48 @@ fn output_fault(fault: OutputFault) -> PlayFault
         OutputFault::Fates => PlayFault::Write(2),
         OutputFault::NoMemory => PlayFault::NoMemory,
     }
+}
+
+/// Plays the capture that the arrivals have left through one queue of 50 packets and a link of `rate` bits per second, 1,000
+/// to 10^12: writes both heads, reads the whole capture, decides, and writes a record for each sending and a row for each
+/// fate. The statistics stay empty. What each error means, and when it comes, `PlayFault` says; after an error departures
+/// and fates hold fronts of their texts, and after a sending that would end too late exactly the texts of what was decided
+/// before it. Costs a few steps and the bytes of each packet; holds all packets and decisions at once.
+pub fn play_one_queue<F: Files>(
+    alloc: Global,
+    files: &mut F,
+    rate: u64,
+    opened: Opened,
+) -> Result<(), PlayFault>
+    requires ready { AreReady (F.view files.old) opened }
+    requires least { 1000 ≤ rate }
+    requires most { rate ≤ 10 ^ 12 }
+    ensures done { OnOk result (Plays (F.view files.old) (F.view files.new) rate opened) }
+    ensures why { IfErr result (Explains (F.view files.old) (F.view files.new) rate opened) }
+    ensures front { OnErr result (Fronts (F.view files.old) (F.view files.new) rate opened) }
+    ensures keeps { KeepsBut opened.departures opened.fates (F.view files.old) (F.view files.new) }
+    ensures said { (F.view files.new).said ≡ (F.view files.old).said }
+{
+    match write_heads(files, opened.departures, opened.fates) {
+        Ok(()) => {}
+        Err(fault) => return Err(output_fault(fault)),
+    }
+    let arrived = match read_arrivals(alloc, files, opened.arrivals) {
+        Ok(arrived) => arrived,
+        Err(fault) => return Err(capture_fault(fault)),
+    };
+    let mut outputs = Outputs {
+        departures: opened.departures,
+        fates: opened.fates,
+        records: Vec::new(alloc),
+        rows: Vec::new(alloc),
+    };
+    let cut = match play_arrived(alloc, files, rate, &mut outputs, &arrived) {
+        Ok(cut) => cut,
+        Err(fault) => return Err(output_fault(fault)),
+    };
+    if cut {
+        return Err(PlayFault::Limit(2));
+    }
+    Ok(())
 }

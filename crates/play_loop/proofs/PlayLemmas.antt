@@ -1,0 +1,178 @@
+-- From what was decided and written to the play.
+use Rattle.std.proofs.Common.{◌≡◌, ◌≢◌, ◌++◌, ◌∙◌, ◌⊎◌, ℕ, Bool, true, false, List, [], ◌∷◌, Some, ap, sym, refl, subst, inl, inr}
+use Rattle.std.specs.Prelude.{IsSome, IsTrue}
+use Rattle.std.proofs.lemmas.List.{append-nil}
+use Rattle.altq_model.specs.Arrivals.{Arrival, comings}
+use Rattle.altq_model.specs.Capture.{Record, Step, End, Fault, Limit, Reads, IsCapture}
+use Rattle.altq_model.specs.History.{Coming, Decision, Entry, journal}
+use Rattle.altq_model.specs.Policies.{one_queue}
+use Rattle.altq_model.specs.Texts.{capture_head, departure_records, fates_head, fate_rows}
+use Rattle.play_base.specs.View.{View, Keeps, Any, Wrote, WroteFront, ReadFault, WriteFault}
+use Rattle.play_base.specs.ViewLaws.{keeps_trans, keeps_fewer, rose_later}
+use Rattle.play_base.specs.Holds.{HoldsAt, Apart}
+use Rattle.play_base.specs.HoldsLaws.{holds_kept, apart_kept}
+use Rattle.pcap_files.specs.declared.fault.CaptureFault.{CaptureFault}
+use Rattle.pcap_files.specs.declared.fault.CaptureFault.TheVariants as capture
+use Rattle.pcap_files.specs.ReadingLaws.{IsLast}
+use Rattle.pcap_files.specs.Reading.{ReadsTo}
+use Rattle.play_loop.specs.declared.held.Arrived.{Arrived}
+use Rattle.play_loop.specs.declared.queue.Decided.{Decided}
+use Rattle.play_loop.specs.declared.fault.Opened.{Opened}
+use Rattle.play_loop.specs.declared.outputs.OutputFault.{OutputFault}
+use Rattle.play_loop.specs.declared.outputs.OutputFault.TheVariants as output
+use Rattle.play_loop.specs.Decided.{HasEnded}
+use Rattle.play_loop.specs.Gathered.{HasText, HoldsFront}
+use Rattle.play_loop.specs.GatheredLaws.{text_of_held, text_front, front_same}
+use Rattle.play_loop.specs.OneQueue.{KeepsBut, HoldTexts, HoldFronts, IsFrontOf, arrivals_in, departures_of, fates_of, one_name}
+use Rattle.play_loop.specs.Outputs.{TextsAre, FrontsAre}
+use Rattle.play_loop.specs.Played.{AreEmpty, EndsAs, HasPlayed, HasStopped, Explains, IsDamaged, capture_fault, output_fault}
+use Rattle.play_loop.specs.Queue.{arrivals_held, arrival_of, comings_held, one_coming, decisions_of}
+use Rattle.play_loop.specs.Reading.{HasFault}
+use Rattle.play_loop.proofs.GatherLemmas.{grew_whole, stopped_whole}
+use Rattle.play_loop.proofs.OutputLemmas.{texts_departed, texts_rowed, fronts_departed, fronts_rowed}
+
+-- the heads
+texts_empty : (v : View) (dep fat : ℕ) → AreEmpty v dep fat → TextsAre v dep fat [] [] [] []
+texts_empty v dep fat h = record { departures = text_of_held v dep [] h.departures; fates = text_of_held v fat [] h.fates; apart = h.apart }
+
+pub heads_first : (u v : View) (dep fat : ℕ) (bytes : List ℕ) → bytes ≡ capture_head → AreEmpty u dep fat → WroteFront u v dep bytes
+    → FrontsAre v dep fat capture_head fates_head
+heads_first u v dep fat bytes e h x =
+    let P : List ℕ → Type 0 = λ xs. WroteFront u v dep xs in
+    fronts_departed u v dep fat [] [] [] [] capture_head fates_head (texts_empty u dep fat h) (stopped_whole u v dep capture_head (subst P e x))
+
+pub heads_second : (u v w : View) (dep fat : ℕ) (bytes row : List ℕ) → bytes ≡ capture_head → row ≡ fates_head → AreEmpty u dep fat
+    → Wrote u v dep bytes → WroteFront v w fat row → FrontsAre w dep fat capture_head fates_head
+heads_second u v w dep fat bytes row e f h x y =
+    let P : List ℕ → Type 0 = λ xs. Wrote u v dep xs in
+    let Q : List ℕ → Type 0 = λ xs. WroteFront v w fat xs in
+    fronts_rowed v w dep fat [] [] capture_head [] fates_head
+    (texts_departed u v dep fat [] [] [] [] [] capture_head (texts_empty u dep fat h) (grew_whole u v dep capture_head (subst P e x)))
+    (stopped_whole v w fat fates_head (subst Q f y))
+
+pub heads_whole : (u v w : View) (dep fat : ℕ) (bytes row : List ℕ) → bytes ≡ capture_head → row ≡ fates_head → AreEmpty u dep fat
+    → Wrote u v dep bytes → Wrote v w fat row → TextsAre w dep fat [] [] capture_head fates_head
+heads_whole u v w dep fat bytes row e f h x y =
+    let P : List ℕ → Type 0 = λ xs. Wrote u v dep xs in
+    let Q : List ℕ → Type 0 = λ xs. Wrote v w fat xs in
+    texts_rowed v w dep fat [] [] [] capture_head [] fates_head
+    (texts_departed u v dep fat [] [] [] [] [] capture_head (texts_empty u dep fat h) (grew_whole u v dep capture_head (subst P e x)))
+    (grew_whole v w fat fates_head (subst Q f y))
+
+-- the play of the arrivals that were read
+comings_are : (xs : List Arrived) → comings_held xs ≡ comings (arrivals_held xs)
+comings_are [] = refl
+comings_are (x ∷ xs) = ap (λ (r : List Coming). one_coming x.at x.len ∷ r) (comings_are xs)
+
+ends_as : (cut : Bool) (rate seed : ℕ) (records : List Record) (g : List Entry) → HasEnded cut (one_queue 50) rate seed (comings (arrivals_in records)) g
+    → EndsAs cut rate seed records g
+ends_as false rate seed records g h = h
+ends_as true rate seed records g h = h
+
+begun : (cut : Bool) (rate seed : ℕ) (records : List Record) (g : List Entry) → EndsAs cut rate seed records g → IsFrontOf rate seed records g
+begun false rate seed records g h = h.begun
+begun true rate seed records g h = h.begun
+
+ended : (cut : Bool) (rate seed : ℕ) (arrived : List Arrived) (records : List Record) (g : List Entry) → arrivals_held arrived ≡ arrivals_in records
+    → HasEnded cut (one_queue 50) rate seed (comings_held arrived) g → EndsAs cut rate seed records g
+ended cut rate seed arrived records g e h =
+    let P : List Coming → Type 0 = λ cs. HasEnded cut (one_queue 50) rate seed cs g in
+    ends_as cut rate seed records g (subst P (comings_are arrived ∙ ap comings e) h)
+
+records_are : (arrived : List Arrived) (records : List Record) (list : List Decided) (g : List Entry) → arrivals_held arrived ≡ arrivals_in records
+    → decisions_of list ≡ journal g → capture_head ++ departure_records (arrivals_held arrived) (decisions_of list) ≡ departures_of records g
+records_are arrived records list g e j =
+    ap (λ (l : List Arrival). capture_head ++ departure_records l (decisions_of list)) e
+    ∙ ap (λ (k : List Decision). capture_head ++ departure_records (arrivals_in records) k) j
+
+rows_are : (arrived : List Arrived) (records : List Record) (list : List Decided) (g : List Entry) → arrivals_held arrived ≡ arrivals_in records
+    → decisions_of list ≡ journal g → fates_head ++ fate_rows one_name (arrivals_held arrived) (decisions_of list) ≡ fates_of records g
+rows_are arrived records list g e j =
+    ap (λ (l : List Arrival). fates_head ++ fate_rows one_name l (decisions_of list)) e
+    ∙ ap (λ (k : List Decision). fates_head ++ fate_rows one_name (arrivals_in records) k) j
+
+pub played : (cut : Bool) (rate seed : ℕ) (v : View) (dep fat dep' fat' : ℕ) (arrived : List Arrived) (records : List Record) (list : List Decided) (g : List Entry)
+    → arrivals_held arrived ≡ arrivals_in records → HasEnded cut (one_queue 50) rate seed (comings_held arrived) g → decisions_of list ≡ journal g
+    → dep' ≡ dep → fat' ≡ fat
+    → HoldsAt v dep' (capture_head ++ departure_records (arrivals_held arrived) (decisions_of list))
+    → HoldsAt v fat' (fates_head ++ fate_rows one_name (arrivals_held arrived) (decisions_of list))
+    → (h : List Entry) × EndsAs cut rate seed records h × HoldTexts v dep fat records h
+played cut rate seed v dep fat dep' fat' arrived records list g e h j d f x y =
+    let P : List ℕ → Type 0 = λ xs. HoldsAt v dep' xs in
+    let Q : List ℕ → Type 0 = λ xs. HoldsAt v fat' xs in
+    let R : ℕ → Type 0 = λ n. HoldsAt v n (departures_of records g) in
+    let S : ℕ → Type 0 = λ n. HoldsAt v n (fates_of records g) in
+    (g, ended cut rate seed arrived records g e h,
+        record { departures = subst R d (subst P (records_are arrived records list g e j) x); fates = subst S f (subst Q (rows_are arrived records list g e j) y) })
+
+pub stopped : (cut : Bool) (rate seed : ℕ) (v : View) (dep fat dep' fat' : ℕ) (arrived : List Arrived) (records : List Record) (list : List Decided) (g : List Entry)
+    → arrivals_held arrived ≡ arrivals_in records → HasEnded cut (one_queue 50) rate seed (comings_held arrived) g → decisions_of list ≡ journal g
+    → dep' ≡ dep → fat' ≡ fat
+    → FrontsAre v dep' fat' (capture_head ++ departure_records (arrivals_held arrived) (decisions_of list))
+        (fates_head ++ fate_rows one_name (arrivals_held arrived) (decisions_of list))
+    → (h : List Entry) × IsFrontOf rate seed records h × HoldFronts v dep fat records h
+stopped cut rate seed v dep fat dep' fat' arrived records list g e h j d f x =
+    let R : ℕ → Type 0 = λ n. HoldsFront v n (departures_of records g) in
+    let S : ℕ → Type 0 = λ n. HoldsFront v n (fates_of records g) in
+    (g, begun cut rate seed records g (ended cut rate seed arrived records g e h),
+        record {
+          departures = subst R d (front_same v dep' _ _ (records_are arrived records list g e j) x.departures);
+          fates = subst S f (front_same v fat' _ _ (rows_are arrived records list g e j) x.fates);
+        })
+
+-- before any event only fronts of the heads stand
+pub stopped_heads : (rate : ℕ) (v : View) (dep fat : ℕ) (records : List Record) → FrontsAre v dep fat capture_head fates_head → HasStopped rate v dep fat records
+stopped_heads rate v dep fat records h = λ seed. (
+    [],
+    record { events = tt; in_time = tt },
+    record {
+      departures = front_same v dep capture_head (capture_head ++ []) (sym (append-nil capture_head)) h.departures;
+      fates = front_same v fat fates_head (fates_head ++ []) (sym (append-nil fates_head)) h.fates;
+    },
+)
+
+-- whole texts are fronts
+whole_front : (v : View) (file : ℕ) (text : List ℕ) → HoldsAt v file text → HoldsFront v file text
+whole_front v file text h = record { written = text; rest = []; holds = h; split = append-nil text }
+
+pub cut_stopped : (rate : ℕ) (v : View) (dep fat : ℕ) (records : List Record) → HasPlayed true rate v dep fat records → HasStopped rate v dep fat records
+cut_stopped rate v dep fat records h = λ seed.
+    let x = h seed in
+    (x.0, begun true rate seed records x.0 x.1, record { departures = whole_front v dep _ x.2.departures; fates = whole_front v fat _ x.2.fates })
+
+-- what was read leaves what was written
+pub texts_kept : (F : ℕ → Type 0) (v w : View) (dep fat : ℕ) (recs rows ds ts : List ℕ) → TextsAre v dep fat recs rows ds ts → Keeps Any F v w
+    → TextsAre w dep fat recs rows ds ts
+texts_kept F v w dep fat recs rows ds ts h k = record {
+  departures = record { written = h.departures.written; holds = holds_kept F v w dep h.departures.written h.departures.holds k; split = h.departures.split };
+  fates = record { written = h.fates.written; holds = holds_kept F v w fat h.fates.written h.fates.holds k; split = h.fates.split };
+  apart = apart_kept Any F v w dep fat h.departures.holds.there h.fates.holds.there h.apart k;
+}
+
+pub keeps_then_read : (u v w : View) (dep fat : ℕ) (F : ℕ → Type 0) → KeepsBut dep fat u v → Keeps Any F v w → KeepsBut dep fat u w
+keeps_then_read u v w dep fat F x y = keeps_trans _ _ u v w x (keeps_fewer Any _ F (λ f. ⊥) v w (λ n h. tt) (λ f h. absurd h) y)
+
+pub read_since : (N : List ℕ → Type 0) (F : ℕ → Type 0) (u v w : View) (file p : ℕ) → Keeps N F u v → u.part file ≡ Some p → ReadFault v w file → ReadFault u w file
+read_since N F u v w file p k there x = λ q at. rose_later _ _ _ (k.later.read q) (x q (k.part file q at))
+
+pub write_since : (N : List ℕ → Type 0) (F : ℕ → Type 0) (u v w : View) (file : ℕ) → Keeps N F u v → WriteFault v w file → WriteFault u w file
+write_since N F u v w file k x = λ q at. rose_later _ _ _ (k.later.write q) (x q (k.part file q at))
+
+pub explains_output : (u v : View) (rate : ℕ) (o : Opened) (f : OutputFault) → (f ≡ output.Departures → WriteFault u v o.departures)
+    → (f ≡ output.Fates → WriteFault u v o.fates) → Explains u v rate o (output_fault f)
+explains_output u v rate o output.Departures d t = inl (refl, d refl)
+explains_output u v rate o output.Fates d t = inr (refl, t refl)
+explains_output u v rate o output.NoMemory d t = tt
+
+pub explains_capture : (u v w : View) (rate : ℕ) (o : Opened) (f : CaptureFault) → (IsTrue u.tells → v.left o.arrivals ≡ u.left o.arrivals)
+    → HasFault v o.arrivals f → (f ≡ capture.Read → ReadFault u w o.arrivals) → Explains u w rate o (capture_fault f)
+explains_capture u v w rate o (capture.Damage d) left h r = λ t bytes e. h bytes (left t ∙ e)
+explains_capture u v w rate o capture.Limit left h r = inl (refl, λ t bytes e. h bytes (left t ∙ e))
+explains_capture u v w rate o capture.Read left h r = r refl
+explains_capture u v w rate o capture.NoMemory left h r = tt
+
+pub texts_new : (v : View) (dep fat : ℕ) (recs rows ds ts : List ℕ) → recs ≡ [] → rows ≡ [] → TextsAre v dep fat [] [] ds ts → TextsAre v dep fat recs rows ds ts
+texts_new v dep fat recs rows ds ts r s h =
+    let P : List ℕ → Type 0 = λ xs. TextsAre v dep fat xs [] ds ts in
+    let Q : List ℕ → Type 0 = λ xs. TextsAre v dep fat recs xs ds ts in
+    subst Q (sym s) (subst P (sym r) h)
