@@ -12,4 +12,5 @@ mod writing;
 
 pub use fault::{Opened, PlayFault};
 pub use held::{Arrived, Held};
+pub use play::play_one_queue;
 pub use queue::{Decided, Decisions, Due, decide};

@@ -1,5 +1,5 @@
 -- The words behind the program's name: the command `play`, and its options in this order, each followed by its value.
-use Rattle.std.specs.Prelude.{◌==◌, ◌&&◌, ℕ, Bool, not, is_none, List, [], length, slice_get, string_bytes, codes, if◌then◌else◌, None, Some, String}
+use Rattle.std.specs.Prelude.{◌≢◌, ◌==◌, ◌&&◌, ℕ, Bool, not, is_none, List, [], length, slice_get, string_bytes, codes, if◌then◌else◌, None, Some, String}
 use Rattle.std.specs.Option.{option_map_or}
 use Rattle.std.specs.Str.{bytes_eq}
 use Rattle.std.specs.declared.option.Option.{Option}
@@ -73,3 +73,16 @@ refusal words =
     else if is_none (seed_of words) then Some 4
     else if not (are_distinct words) then Some 3
     else None
+
+-- the same in facts
+pub record AreDistinct (config arrivals departures fates stats : List ℕ) : Type 0 where
+  pub config_arrivals : config ≢ arrivals
+  pub config_departures : config ≢ departures
+  pub config_fates : config ≢ fates
+  pub config_stats : config ≢ stats
+  pub arrivals_departures : arrivals ≢ departures
+  pub arrivals_fates : arrivals ≢ fates
+  pub arrivals_stats : arrivals ≢ stats
+  pub departures_fates : departures ≢ fates
+  pub departures_stats : departures ≢ stats
+  pub fates_stats : fates ≢ stats

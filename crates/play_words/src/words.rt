@@ -2,7 +2,7 @@
 ghost use Rattle.std.specs.Prelude.{◌≡◌, ◌<◌, length, Some, None, IfOk, IfErr, OnOk, IsOk};
 ghost use Rattle.std.specs.Str.{bytes_eq};
 ghost use Rattle.line_text.specs.Numbers.{number};
-ghost use Rattle.play_words.specs.Words.{word_at, is_word, has_options, are_distinct_names, differ_from, refusal, seed_of, config_name, interface_name, arrivals_name, departures_name, fates_name, stats_name};
+ghost use Rattle.play_words.specs.Words.{AreDistinct, word_at, is_word, has_options, are_distinct_names, differ_from, refusal, seed_of, config_name, interface_name, arrivals_name, departures_name, fates_name, stats_name};
 ghost use Rattle.play_words.specs.Kinds.{words_kind};
 
 use line_text::{Word, whole};
@@ -122,6 +122,7 @@ pub fn play_words(words: &[String]) -> Result<PlayWords<'_>, WordsFault>
     ensures fates { IfOk result (λ w. w.fates.now ≡ fates_name words.now) }
     ensures stats { IfOk result (λ w. w.stats.now ≡ stats_name words.now) }
     ensures seed { IfOk result (λ w. seed_of words.now ≡ Some w.seed) }
+    ensures distinct { IfOk result (λ w. AreDistinct w.config.now w.arrivals.now w.departures.now w.fates.now w.stats.now) }
 {
     if !is(words, 0, "play") {
         return Err(WordsFault::NoCommand);

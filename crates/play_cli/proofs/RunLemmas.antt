@@ -1,0 +1,395 @@
+-- From the files of a play to the names of the words.
+use Rattle.std.proofs.Common.{◌≡◌, ◌≢◌, ◌≤◌, ◌<◌, ◌+◌, ◌++◌, ◌∙◌, ◌⊎◌, ℕ, true, false, List, [], ◌∷◌, None, Some, ap, sym, refl, subst, inl, inr, arith}
+use Rattle.std.specs.Prelude.{IsSome, IsTrue}
+use Rattle.std.specs.declared.option.Option.{Option}
+use Rattle.std.proofs.lemmas.List.{append-nil}
+use Rattle.altq_model.specs.declared.capture.Damage.{Damage}
+use Rattle.altq_model.specs.Arrivals.{comings}
+use Rattle.altq_model.specs.Capture.{Record, Step, End, Fault, Limit, Reads, IsCapture}
+use Rattle.altq_model.specs.History.{Entry}
+use Rattle.altq_model.specs.Laws.{IsBusy, KeepsLaws}
+use Rattle.altq_model.specs.Play.{IsPlay}
+use Rattle.altq_model.specs.declared.Rule.TheVariants.{Share}
+use Rattle.altq_model.specs.Policies.{one_queue, tail}
+use Rattle.play_base.specs.View.{View, Keeps, Any, Rose, Later}
+use Rattle.play_base.specs.ViewLaws.{keeps_trans, keeps_fewer, part_of_there, rose_later}
+use Rattle.play_base.specs.Holds.{HoldsAt}
+use Rattle.pcap_files.specs.ReadingLaws.{IsLast, one_reading}
+use Rattle.play_laws.proofs.AllLaws.{play_laws}
+use Rattle.play_laws.proofs.ArrivalLemmas.{arrivals_rise}
+use Rattle.play_laws.proofs.BusyLemmas.{is_busy}
+use Rattle.play_laws.proofs.StrictLemmas.{strict_lawful, strict_never_waits, one_queue_holds}
+use Rattle.play_words.specs.Conf.{IsOneQueue, line_of}
+use Rattle.play_words.proofs.LineLemmas.{one_word, no_feed, cancel_right}
+use Rattle.play_loop.specs.declared.fault.Opened.{Opened}
+use Rattle.play_loop.specs.declared.fault.PlayFault.{PlayFault}
+use Rattle.play_loop.specs.declared.fault.PlayFault.TheVariants as play
+use Rattle.play_loop.specs.Gathered.{HoldsFront}
+use Rattle.play_words.specs.Numbers.{rate_of}
+use Rattle.play_loop.specs.OneQueue.{KeepsBut, IsPlayOf, IsCutOf, HoldTexts, HoldFronts, arrivals_in, departures_of, fates_of, one_mark}
+use Rattle.play_loop.specs.Played.{Plays, Explains}
+use Rattle.play_loop.specs.Played as loop
+use Rattle.play_cli.specs.Opening.{AreOpened, Accepts, AcceptsNone, CannotRead, IsEmptied, KeepsOthers}
+use Rattle.play_cli.specs.Run.{Names, HasPlayed, HasFronts, Fronts, IsFrontAt, IsDamagedAt, IsLimited, IsLate, IsPlayable, IsQuiet}
+use Rattle.play_cli.specs.Causes.{Causes, run_fault, config_fault, open_fault, status_of}
+use Rattle.play_cli.specs.declared.input.ConfigFault.{ConfigFault}
+use Rattle.play_cli.specs.declared.input.ConfigFault.TheVariants as conf
+use Rattle.play_cli.specs.declared.opening.OpenFault.{OpenFault}
+use Rattle.play_cli.specs.declared.opening.OpenFault.TheVariants as open_
+use Rattle.altq_model.specs.Numbers.{damage_number}
+use Rattle.play_cli.specs.Run.{IsCode}
+use Rattle.play_cli.specs.declared.fault.RunFault.{RunFault}
+use Rattle.play_cli.specs.declared.fault.RunFault.TheVariants as fault
+
+pub same_some : (xs ys : List ℕ) → Some xs ≡ Some ys → xs ≡ ys
+same_some xs ys h = cc
+
+some_bytes : (o : Option (List ℕ)) → IsSome o → (xs : List ℕ) × (o ≡ Some xs)
+some_bytes None h = cc
+some_bytes (Some xs) h = (xs, refl)
+
+no_bytes : (xs : List ℕ) → None ≡ Some xs → ⊥
+no_bytes xs h = cc
+
+-- a text has one rate
+same_rate : (o : Option ℕ) (a b : ℕ) → o ≡ Some a → o ≡ Some b → a ≡ b
+same_rate o a b h k = let e : Some a ≡ Some b = sym h ∙ k in cc
+
+one_line : (text name v w : List ℕ) → (text ≡ line_of name v) ⊎ (text ≡ line_of name v ++ 10 ∷ []) → (text ≡ line_of name w) ⊎ (text ≡ line_of name w ++ 10 ∷ []) → v ≡ w
+one_line text name v w (inl x) (inl y) = one_word name v w (sym x ∙ y)
+one_line text name v w (inl x) (inr y) = absurd (no_feed name v (line_of name w) (sym x ∙ y))
+one_line text name v w (inr x) (inl y) = absurd (no_feed name w (line_of name v) (sym y ∙ x))
+one_line text name v w (inr x) (inr y) = one_word name v w (cancel_right (line_of name v) (line_of name w) (10 ∷ []) (sym x ∙ y))
+
+pub one_rate : (text name : List ℕ) (a b : ℕ) → IsOneQueue text name a → IsOneQueue text name b → a ≡ b
+one_rate text name a b x y =
+    same_rate _ a b x.plain.value (ap rate_of (one_line text name x.word y.word x.whole y.whole) ∙ y.plain.value)
+
+-- where the outputs were not created, or emptied
+pub front_kept : (u v : View) (name text : List ℕ) → v.bytes name ≡ u.bytes name → IsFrontAt u v name text
+front_kept u v name text e = inl e
+
+pub front_emptied : (u v : View) (name text : List ℕ) → (v.bytes name ≡ u.bytes name) ⊎ (v.bytes name ≡ Some []) → IsFrontAt u v name text
+front_emptied u v name text (inl e) = inl e
+front_emptied u v name text (inr e) = inr ([], text, e, refl)
+
+pub fronts_kept : (u v : View) (n : Names) (seed : ℕ) → ((name : List ℕ) → v.bytes name ≡ u.bytes name) → Fronts u v n seed
+fronts_kept u v n seed k = λ t text bytes rate records last c a b r l. record {
+  history = [];
+  play = record { events = tt; in_time = tt };
+  departures = inl (k n.departures);
+  fates = inl (k n.fates);
+  stats = inl (k n.stats);
+}
+
+pub fronts_emptied : (u a v : View) (n : Names) (seed : ℕ) → Keeps Any Any u a → IsEmptied a v n.departures → IsEmptied a v n.fates → IsEmptied a v n.stats → Fronts u v n seed
+fronts_emptied u a v n seed k d f s = λ t text bytes rate records last c x b r l.
+    let told : IsTrue a.tells = k.tells ∙ t in
+    record {
+      history = [];
+      play = record { events = tt; in_time = tt };
+      departures = front_emptied u v n.departures _ (since n.departures (d told));
+      fates = front_emptied u v n.fates _ (since n.fates (f told));
+      stats = front_emptied u v n.stats _ (since n.stats (s told));
+    }
+  where
+    since : (name : List ℕ) → (v.bytes name ≡ a.bytes name) ⊎ (v.bytes name ≡ Some []) → (v.bytes name ≡ u.bytes name) ⊎ (v.bytes name ≡ Some [])
+    since name (inl e) = inl (e ∙ k.bytes name tt)
+    since name (inr e) = inr e
+
+-- what a file of the play holds stands under its name
+held_at : (b c : View) (dep fat file : ℕ) (name text : List ℕ) → KeepsBut dep fat b c → IsSome (b.part file) → b.name file ≡ name → IsTrue b.tells
+    → HoldsAt c file text → c.bytes name ≡ Some text
+held_at b c dep fat file name text k there e t h =
+    let p = part_of_there (b.part file) there in
+    ap c.bytes (sym (k.name file p.0 p.1 ∙ e)) ∙ h.bytes (k.tells ∙ t)
+
+-- the two steps before the play, and the play
+pub record Steps (u a b c : View) (n : Names) (rate : ℕ) (o : Opened) : Type 0 where
+  pub read : Keeps Any Any u a
+  pub accepted : Accepts u n.config n.interface rate
+  pub opened : AreOpened a b n.arrivals n.departures n.fates n.stats o
+  pub others : KeepsOthers n.departures n.fates n.stats a b
+  pub played : KeepsBut o.departures o.fates b c
+  pub stats_departures : n.departures ≢ n.stats
+  pub stats_fates : n.fates ≢ n.stats
+  pub least : 1000 ≤ rate
+
+told_a : (u a b c : View) (n : Names) (rate : ℕ) (o : Opened) → Steps u a b c n rate o → IsTrue u.tells → IsTrue a.tells
+told_a u a b c n rate o s t = s.read.tells ∙ t
+
+told_b : (u a b c : View) (n : Names) (rate : ℕ) (o : Opened) → Steps u a b c n rate o → IsTrue u.tells → IsTrue b.tells
+told_b u a b c n rate o s t = s.others.tells ∙ told_a u a b c n rate o s t
+
+left_is : (u a b c : View) (n : Names) (rate : ℕ) (o : Opened) → Steps u a b c n rate o → IsTrue u.tells → b.left o.arrivals ≡ u.bytes n.arrivals
+left_is u a b c n rate o s t = s.opened.left (told_a u a b c n rate o s t) ∙ s.read.bytes n.arrivals tt
+
+stats_held : (u a b c : View) (n : Names) (rate : ℕ) (o : Opened) → Steps u a b c n rate o → IsTrue u.tells → c.bytes n.stats ≡ Some []
+stats_held u a b c n rate o s t =
+    let told = told_a u a b c n rate o s t in
+    s.played.bytes n.stats ((λ e. s.stats_departures (sym (e ∙ s.opened.departures_name told))), (λ e. s.stats_fates (sym (e ∙ s.opened.fates_name told))))
+    ∙ s.opened.stats_empty told
+
+departures_held : (u a b c : View) (n : Names) (rate : ℕ) (o : Opened) (text : List ℕ) → Steps u a b c n rate o → IsTrue u.tells
+    → HoldsAt c o.departures text → c.bytes n.departures ≡ Some text
+departures_held u a b c n rate o text s t h =
+    held_at b c o.departures o.fates o.departures n.departures text s.played s.opened.ready.empty.departures.there
+    (s.opened.departures_name (told_a u a b c n rate o s t)) (told_b u a b c n rate o s t) h
+
+fates_held : (u a b c : View) (n : Names) (rate : ℕ) (o : Opened) (text : List ℕ) → Steps u a b c n rate o → IsTrue u.tells
+    → HoldsAt c o.fates text → c.bytes n.fates ≡ Some text
+fates_held u a b c n rate o text s t h =
+    held_at b c o.departures o.fates o.fates n.fates text s.played s.opened.ready.empty.fates.there
+    (s.opened.fates_name (told_a u a b c n rate o s t)) (told_b u a b c n rate o s t) h
+
+-- the laws of the play
+laws_of : (rate seed : ℕ) (records : List Record) (g : List Entry) → 1000 ≤ rate → IsPlayOf rate seed records g → KeepsLaws rate (comings (arrivals_in records)) g
+laws_of rate seed records g l x =
+    play_laws (one_queue 50) rate seed (comings (arrivals_in records)) g (omega arith) (strict_lawful (1 ∷ []) Share (tail 50)) (arrivals_rise one_mark records)
+    (one_queue_holds 50 one_mark records (λ b. refl)) (record { events = x.begun.events; done = x.done })
+
+busy_of : (rate seed : ℕ) (records : List Record) (g : List Entry) → 1000 ≤ rate → IsPlayOf rate seed records g → IsBusy rate (comings (arrivals_in records)) g
+busy_of rate seed records g l x =
+    is_busy (one_queue 50) rate seed (comings (arrivals_in records)) g (omega arith) (strict_lawful (1 ∷ []) Share (tail 50)) (strict_never_waits (1 ∷ []) Share (tail 50)) (arrivals_rise one_mark records)
+    (one_queue_holds 50 one_mark records (λ b. refl)) x.begun.events
+
+pub done_of : (u a b c : View) (n : Names) (rate : ℕ) (o : Opened) (seed : ℕ) → Steps u a b c n rate o → Plays b c rate o → IsTrue u.tells → HasPlayed u c n seed
+done_of u a b c n rate o seed s p t =
+    let left = left_is u a b c n rate o s t in
+    let found = some_bytes (a.bytes n.arrivals) (s.opened.there (told_a u a b c n rate o s t)) in
+    let x = p (told_b u a b c n rate o s t) found.0 (s.opened.left (told_a u a b c n rate o s t) ∙ found.1) in
+    let conf = s.accepted t in
+    let y = x.2 seed in
+    record {
+      text = conf.0;
+      rate = rate;
+      bytes = found.0;
+      records = x.0;
+      history = y.0;
+      config = conf.1;
+      accepted = conf.2;
+      arrivals = sym (s.read.bytes n.arrivals tt) ∙ found.1;
+      capture = x.1;
+      play = y.1;
+      departures = departures_held u a b c n rate o _ s t y.2.departures;
+      fates = fates_held u a b c n rate o _ s t y.2.fates;
+      stats = stats_held u a b c n rate o s t;
+      laws = laws_of rate seed x.0 y.0 s.least y.1;
+      busy = busy_of rate seed x.0 y.0 s.least y.1;
+      in_time = y.1.begun.in_time;
+    }
+
+front_at : (u c : View) (name text : List ℕ) (written rest : List ℕ) → c.bytes name ≡ Some written → written ++ rest ≡ text → IsFrontAt u c name text
+front_at u c name text written rest e s = inr (written, rest, e, s)
+
+pub fronts_of : (u a b c : View) (n : Names) (rate : ℕ) (o : Opened) (seed : ℕ) → Steps u a b c n rate o → loop.Fronts b c rate o → Fronts u c n seed
+fronts_of u a b c n rate o seed s f = λ t text bytes other records last at accepted arrivals reads is_last.
+    let conf = s.accepted t in
+    let P : List ℕ → Type 0 = λ xs. IsOneQueue xs n.interface rate in
+    let same : rate ≡ other = one_rate text n.interface rate other (subst P (same_some _ _ (sym conf.1 ∙ at)) conf.2) accepted in
+    let x = f (told_b u a b c n rate o s t) bytes (left_is u a b c n rate o s t ∙ arrivals) records last reads is_last seed in
+    let R : ℕ → Type 0 = λ r. HasFronts u c n seed r records in
+    subst R same (record {
+      history = x.0;
+      play = x.1;
+      departures = front_at u c n.departures _ x.2.departures.written x.2.departures.rest (departures_held u a b c n rate o _ s t x.2.departures.holds) x.2.departures.split;
+      fates = front_at u c n.fates _ x.2.fates.written x.2.fates.rest (fates_held u a b c n rate o _ s t x.2.fates.holds) x.2.fates.split;
+      stats = front_at u c n.stats [] [] [] (stats_held u a b c n rate o s t) refl;
+    })
+
+rose_since : (u a b c : View) (n : Names) (rate : ℕ) (o : Opened) (p : ℕ) → Steps u a b c n rate o → Rose (b.write_faults p) (c.write_faults p) → Rose (u.write_faults p) (c.write_faults p)
+rose_since u a b c n rate o p s x = rose_later _ _ _ (s.read.later.write p) (rose_later _ _ _ (s.others.later.write p) x)
+
+pub causes_of : (u a b c : View) (n : Names) (rate : ℕ) (o : Opened) (f : PlayFault) → Steps u a b c n rate o → Explains b c rate o f → Causes u c n (run_fault f)
+causes_of u a b c n rate o (play.Capture d) s x = λ t.
+    let found = some_bytes (a.bytes n.arrivals) (s.opened.there (told_a u a b c n rate o s t)) in
+    let y = x (told_b u a b c n rate o s t) found.0 (s.opened.left (told_a u a b c n rate o s t) ∙ found.1) in
+    record { bytes = found.0; records = y.0; damage = d; arrivals = sym (s.read.bytes n.arrivals tt) ∙ found.1; reads = y.1; at = refl; what = refl }
+causes_of u a b c n rate o play.Read s x = inl (rose_later _ _ _ (s.read.later.read 2) (rose_later _ _ _ (s.others.later.read 2) (x 2 s.opened.arrivals_part)))
+causes_of u a b c n rate o (play.Write kind) s (inl x) =
+    let P : ℕ → Type 0 = λ k. (1 ≤ k) × (k ≤ 3) × Rose (u.write_faults (k + 2)) (c.write_faults (k + 2)) in
+    subst P (sym x.0) (omega arith, omega arith, rose_since u a b c n rate o 3 s (x.1 3 s.opened.departures_part))
+causes_of u a b c n rate o (play.Write kind) s (inr x) =
+    let P : ℕ → Type 0 = λ k. (1 ≤ k) × (k ≤ 3) × Rose (u.write_faults (k + 2)) (c.write_faults (k + 2)) in
+    subst P (sym x.0) (omega arith, omega arith, rose_since u a b c n rate o 4 s (x.1 4 s.opened.fates_part))
+causes_of u a b c n rate o (play.Limit kind) s (inl x) = inl (x.0, λ t.
+    let found = some_bytes (a.bytes n.arrivals) (s.opened.there (told_a u a b c n rate o s t)) in
+    let y = x.1 (told_b u a b c n rate o s t) found.0 (s.opened.left (told_a u a b c n rate o s t) ∙ found.1) in
+    record { bytes = found.0; records = y.0; arrivals = sym (s.read.bytes n.arrivals tt) ∙ found.1; reads = y.1 })
+causes_of u a b c n rate o (play.Limit kind) s (inr x) = inr (x.0, λ t seed.
+    let found = some_bytes (a.bytes n.arrivals) (s.opened.there (told_a u a b c n rate o s t)) in
+    let y = x.1 (told_b u a b c n rate o s t) found.0 (s.opened.left (told_a u a b c n rate o s t) ∙ found.1) in
+    let conf = s.accepted t in
+    let z = y.2 seed in
+    record {
+      text = conf.0;
+      rate = rate;
+      bytes = found.0;
+      records = y.0;
+      history = z.0;
+      config = conf.1;
+      accepted = conf.2;
+      arrivals = sym (s.read.bytes n.arrivals tt) ∙ found.1;
+      capture = y.1;
+      cut = z.1;
+      departures = departures_held u a b c n rate o _ s t z.2.departures;
+      fates = fates_held u a b c n rate o _ s t z.2.fates;
+    })
+causes_of u a b c n rate o play.NoMemory s x = tt
+
+-- where the configuration is accepted it is not refused
+pub accepted_not : (u v : View) (n : Names) (rate : ℕ) → Accepts u n.config n.interface rate → AcceptsNone u n.config n.interface → IsTrue u.tells
+    → (name : List ℕ) → v.bytes name ≡ u.bytes name
+accepted_not u v n rate x y t = let c = x t in absurd (y t c.0 c.1 rate c.2)
+
+pub keeps_others : (u a b c : View) (n : Names) (rate : ℕ) (o : Opened) → Steps u a b c n rate o → KeepsOthers n.departures n.fates n.stats u c
+keeps_others u a b c n rate o s =
+    let one : KeepsOthers n.departures n.fates n.stats u a = keeps_fewer Any _ Any (λ f. ⊥) u a (λ m h. tt) (λ f h. absurd h) s.read in
+    let two : KeepsOthers n.departures n.fates n.stats u b = keeps_trans _ _ u a b one (keeps_fewer _ _ _ _ a b (λ m h. (s.read.tells ∙ h.0, h.1, h.2, h.3)) (λ f h. h) s.others) in
+    keeps_trans _ _ u b c two (keeps_fewer _ _ _ _ b c
+        (λ m h. ((λ e. h.1 (e ∙ s.opened.departures_name (s.read.tells ∙ h.0))), (λ e. h.2 (e ∙ s.opened.fates_name (s.read.tells ∙ h.0))))) (λ f h. h) s.played)
+
+pub keeps_opened : (u a b : View) (n : Names) → Keeps Any Any u a → KeepsOthers n.departures n.fates n.stats a b → KeepsOthers n.departures n.fates n.stats u b
+keeps_opened u a b n x y =
+    let one : KeepsOthers n.departures n.fates n.stats u a = keeps_fewer Any _ Any (λ f. ⊥) u a (λ m h. tt) (λ f h. absurd h) x in
+    keeps_trans _ _ u a b one (keeps_fewer _ _ _ _ a b (λ m h. (x.tells ∙ h.0, h.1, h.2, h.3)) (λ f h. h) y)
+
+end_fault : (d : Damage) → End ≡ Fault d → ⊥
+end_fault d h = cc
+
+end_limit : End ≡ Limit → ⊥
+end_limit h = cc
+
+-- what is playable ends early only by a fault that a count tells, or by want of memory
+pub is_memory : (u v : View) (n : Names) (seed : ℕ) (f : RunFault) → IsTrue u.tells → IsPlayable u n seed → IsQuiet u v → Causes u v n f → f ≡ fault.NoMemory
+is_memory u v n seed fault.Unbuilt t p q x = absurd (x t p.text p.config p.rate p.accepted)
+is_memory u v n seed fault.Config t p q (inl x) = absurd ((q 1).0 x)
+is_memory u v n seed fault.Config t p q (inr x) = absurd (no_bytes p.text (sym x.1 ∙ p.config))
+is_memory u v n seed fault.Arrivals t p q (inl x) = absurd ((q 2).0 x)
+is_memory u v n seed fault.Arrivals t p q (inr x) = absurd (no_bytes p.bytes (sym x.1 ∙ p.arrivals))
+is_memory u v n seed (fault.Write kind) t p q x = absurd ((q (kind + 2)).1 x.2)
+is_memory u v n seed (fault.Capture d) t p q x =
+    let y = x t in
+    let B : List ℕ → Type 0 = λ xs. Reads xs y.records (Fault y.damage) in
+    let same = one_reading p.bytes p.records y.records End (Fault y.damage) p.capture tt (subst B (same_some _ _ (sym y.arrivals ∙ p.arrivals)) y.reads) tt in
+    absurd (end_fault y.damage same.1)
+is_memory u v n seed (fault.Limit kind) t p q (inl x) =
+    let y = x.1 t in
+    let B : List ℕ → Type 0 = λ xs. Reads xs y.records Limit in
+    let same = one_reading p.bytes p.records y.records End Limit p.capture tt (subst B (same_some _ _ (sym y.arrivals ∙ p.arrivals)) y.reads) tt in
+    absurd (end_limit same.1)
+is_memory u v n seed (fault.Limit kind) t p q (inr x) =
+    let y = x.1 t seed in
+    let B : List ℕ → Type 0 = λ xs. Reads xs y.records End in
+    let same = one_reading p.bytes y.records p.records End End (subst B (same_some _ _ (sym y.arrivals ∙ p.arrivals)) y.capture) tt p.capture tt in
+    let C : List ℕ → Type 0 = λ xs. IsOneQueue xs n.interface y.rate in
+    let rate = one_rate p.text n.interface y.rate p.rate (subst C (same_some _ _ (sym y.config ∙ p.config)) y.accepted) p.accepted in
+    let R : List Record → Type 0 = λ rs. IsCutOf y.rate seed rs y.history in
+    let S : ℕ → Type 0 = λ r. IsCutOf r seed p.records y.history in
+    absurd (p.in_time y.history (subst S rate (subst R same.0 y.cut)))
+is_memory u v n seed fault.NoMemory t p q x = refl
+
+pub causes_config : (u v : View) (n : Names) (f : ConfigFault) → (f ≡ conf.Unbuilt → AcceptsNone u n.config n.interface) → (f ≡ conf.Read → CannotRead u v 1 n.config)
+    → Causes u v n (config_fault f)
+causes_config u v n conf.Unbuilt a b = a refl
+causes_config u v n conf.Read a b = b refl
+causes_config u v n conf.NoMemory a b = tt
+
+read_before : (u a v : View) (name : List ℕ) → Keeps Any Any u a → CannotRead a v 2 name → CannotRead u v 2 name
+read_before u a v name k (inl x) = inl (rose_later _ _ _ (k.later.read 2) x)
+read_before u a v name k (inr x) = inr (sym k.tells ∙ x.0, sym (k.bytes name tt) ∙ x.1)
+
+pub causes_open : (u a v : View) (n : Names) (f : OpenFault) → Keeps Any Any u a → (f ≡ open_.Arrivals → CannotRead a v 2 n.arrivals)
+    → ((k : ℕ) → f ≡ open_.Write k → (1 ≤ k) × (k ≤ 3) × Rose (a.write_faults (k + 2)) (v.write_faults (k + 2))) → Causes u v n (open_fault f)
+causes_open u a v n open_.Arrivals k r w = read_before u a v n.arrivals k (r refl)
+causes_open u a v n (open_.Write kind) k r w = let x = w kind refl in (x.0, x.1, rose_later _ _ _ (k.later.write (kind + 2)) x.2)
+causes_open u a v n open_.NoMemory k r w = tt
+
+-- statuses
+pub code_of : (f : RunFault) → IsCode (status_of f).code
+code_of fault.Unbuilt = inr (inr (inr (inr (inr (inr (inr refl))))))
+code_of fault.Config = inr (inr (inr (inl refl)))
+code_of fault.Arrivals = inr (inr (inr (inl refl)))
+code_of (fault.Write kind) = inr (inr (inr (inr (inl refl))))
+code_of (fault.Capture d) = inr (inr (inl refl))
+code_of (fault.Limit kind) = inr (inr (inr (inr (inr (inl refl)))))
+code_of fault.NoMemory = inr (inr (inr (inr (inr (inr (inl refl))))))
+
+pub not_words : (f : RunFault) → (status_of f).code ≡ 2 → ⊥
+not_words fault.Unbuilt e = omega (arith, e)
+not_words fault.Config e = omega (arith, e)
+not_words fault.Arrivals e = omega (arith, e)
+not_words (fault.Write kind) e = omega (arith, e)
+not_words (fault.Capture d) e = omega (arith, e)
+not_words (fault.Limit kind) e = omega (arith, e)
+not_words fault.NoMemory e = omega (arith, e)
+
+pub not_done : (f : RunFault) → (status_of f).code ≡ 0 → ⊥
+not_done fault.Unbuilt e = omega (arith, e)
+not_done fault.Config e = omega (arith, e)
+not_done fault.Arrivals e = omega (arith, e)
+not_done (fault.Write kind) e = omega (arith, e)
+not_done (fault.Capture d) e = omega (arith, e)
+not_done (fault.Limit kind) e = omega (arith, e)
+not_done fault.NoMemory e = omega (arith, e)
+
+pub unbuilt_of : (u v : View) (n : Names) (f : RunFault) → Causes u v n f → (status_of f).code ≡ 9 → ((status_of f).kind ≡ 1) × AcceptsNone u n.config n.interface
+unbuilt_of u v n fault.Unbuilt x e = (refl, x)
+unbuilt_of u v n fault.Config x e = absurd (omega (arith, e))
+unbuilt_of u v n fault.Arrivals x e = absurd (omega (arith, e))
+unbuilt_of u v n (fault.Write kind) x e = absurd (omega (arith, e))
+unbuilt_of u v n (fault.Capture d) x e = absurd (omega (arith, e))
+unbuilt_of u v n (fault.Limit kind) x e = absurd (omega (arith, e))
+unbuilt_of u v n fault.NoMemory x e = absurd (omega (arith, e))
+
+pub damaged_of : (u v : View) (n : Names) (f : RunFault) → Causes u v n f → (status_of f).code ≡ 4 → IsTrue u.tells → IsDamagedAt u n (status_of f).place (status_of f).kind
+damaged_of u v n fault.Unbuilt x e = absurd (omega (arith, e))
+damaged_of u v n fault.Config x e = absurd (omega (arith, e))
+damaged_of u v n fault.Arrivals x e = absurd (omega (arith, e))
+damaged_of u v n (fault.Write kind) x e = absurd (omega (arith, e))
+damaged_of u v n (fault.Capture d) x e = x
+damaged_of u v n (fault.Limit kind) x e = absurd (omega (arith, e))
+damaged_of u v n fault.NoMemory x e = absurd (omega (arith, e))
+
+pub read_of : (u v : View) (n : Names) (f : RunFault) → Causes u v n f → (status_of f).code ≡ 5
+    → (((status_of f).kind ≡ 1) × CannotRead u v 1 n.config) ⊎ (((status_of f).kind ≡ 2) × CannotRead u v 2 n.arrivals)
+read_of u v n fault.Unbuilt x e = absurd (omega (arith, e))
+read_of u v n fault.Config x e = inl (refl, x)
+read_of u v n fault.Arrivals x e = inr (refl, x)
+read_of u v n (fault.Write kind) x e = absurd (omega (arith, e))
+read_of u v n (fault.Capture d) x e = absurd (omega (arith, e))
+read_of u v n (fault.Limit kind) x e = absurd (omega (arith, e))
+read_of u v n fault.NoMemory x e = absurd (omega (arith, e))
+
+pub write_of : (u v : View) (n : Names) (f : RunFault) → Causes u v n f → (status_of f).code ≡ 6
+    → (1 ≤ (status_of f).kind) × ((status_of f).kind ≤ 3) × Rose (u.write_faults ((status_of f).kind + 2)) (v.write_faults ((status_of f).kind + 2))
+write_of u v n fault.Unbuilt x e = absurd (omega (arith, e))
+write_of u v n fault.Config x e = absurd (omega (arith, e))
+write_of u v n fault.Arrivals x e = absurd (omega (arith, e))
+write_of u v n (fault.Write kind) x e = x
+write_of u v n (fault.Capture d) x e = absurd (omega (arith, e))
+write_of u v n (fault.Limit kind) x e = absurd (omega (arith, e))
+write_of u v n fault.NoMemory x e = absurd (omega (arith, e))
+
+pub limit_of : (u v : View) (n : Names) (f : RunFault) → Causes u v n f → (status_of f).code ≡ 7
+    → (((status_of f).kind ≡ 1) × (IsTrue u.tells → IsLimited u n)) ⊎ (((status_of f).kind ≡ 2) × (IsTrue u.tells → (seed : ℕ) → IsLate u v n seed))
+limit_of u v n fault.Unbuilt x e = absurd (omega (arith, e))
+limit_of u v n fault.Config x e = absurd (omega (arith, e))
+limit_of u v n fault.Arrivals x e = absurd (omega (arith, e))
+limit_of u v n (fault.Write kind) x e = absurd (omega (arith, e))
+limit_of u v n (fault.Capture d) x e = absurd (omega (arith, e))
+limit_of u v n (fault.Limit kind) x e = x
+limit_of u v n fault.NoMemory x e = absurd (omega (arith, e))
+
+pub memory_of : (u v : View) (n : Names) (seed : ℕ) (f : RunFault) → Causes u v n f → IsTrue u.tells → IsPlayable u n seed → IsQuiet u v → (status_of f).code ≡ 8
+memory_of u v n seed f x t p q = ap (λ (r : RunFault). (status_of r).code) (is_memory u v n seed f t p q x)
+
+pub names_same : (x y : Names) → x.config ≡ y.config → x.interface ≡ y.interface → x.arrivals ≡ y.arrivals → x.departures ≡ y.departures
+    → x.fates ≡ y.fates → x.stats ≡ y.stats → x ≡ y
+names_same x y c i a d f s =
+    ap {B = Names} (λ (v : List ℕ). record { config = v; interface = x.interface; arrivals = x.arrivals; departures = x.departures; fates = x.fates; stats = x.stats }) c
+    ∙ ap {B = Names} (λ (v : List ℕ). record { config = y.config; interface = v; arrivals = x.arrivals; departures = x.departures; fates = x.fates; stats = x.stats }) i
+    ∙ ap {B = Names} (λ (v : List ℕ). record { config = y.config; interface = y.interface; arrivals = v; departures = x.departures; fates = x.fates; stats = x.stats }) a
+    ∙ ap {B = Names} (λ (v : List ℕ). record { config = y.config; interface = y.interface; arrivals = y.arrivals; departures = v; fates = x.fates; stats = x.stats }) d
+    ∙ ap {B = Names} (λ (v : List ℕ). record { config = y.config; interface = y.interface; arrivals = y.arrivals; departures = y.departures; fates = v; stats = x.stats }) f
+    ∙ ap {B = Names} (λ (v : List ℕ). record { config = y.config; interface = y.interface; arrivals = y.arrivals; departures = y.departures; fates = y.fates; stats = v }) s

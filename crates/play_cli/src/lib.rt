@@ -1,0 +1,11 @@
+//! All that the program does: the words, the configuration, the files, the play and the status.
+#![tactic(auto)]
+
+mod fault;
+mod input;
+mod opening;
+mod program;
+
+pub use fault::RunFault;
+pub use play_text::Status;
+pub use program::{run, run_steady};

@@ -1,0 +1,182 @@
+// The one public call: from the words of the command line to a status.
+ghost use Rattle.std.specs.Prelude.{◌≡◌, ◌≢◌, ◌≤◌, ◌+◌, ◌⊎◌, ℕ, List, None, Some, IsTrue, IfErr, OnOk, OnErr};
+ghost use Rattle.altq_model.specs.Numbers.{damage_number};
+ghost use Rattle.play_base.specs.View.{View, Rose};
+ghost use Rattle.play_words.specs.Conf.{IsOneQueue};
+ghost use Rattle.play_words.specs.Words.{AreDistinct, refusal, seed_of};
+ghost use Rattle.play_cli.specs.Opening.{AcceptsNone, CannotRead, KeepsOthers};
+ghost use Rattle.play_cli.specs.Causes.{Causes, names_of, names_read, run_fault, config_fault, open_fault, status_of, ended};
+ghost use Rattle.play_cli.specs.Run.{HasPlayed, Fronts, IsDamagedAt, IsLimited, IsLate, IsPlayable, IsQuiet, IsCode};
+
+use crate::RunFault;
+use crate::input::{ConfigFault, config_rate};
+use crate::opening::{OpenFault, open_files};
+use play_base::{Files, SteadyFiles};
+use play_loop::{PlayFault, play_one_queue};
+use play_text::Status;
+use play_words::{PlayWords, play_words};
+use std::alloc::Global;
+
+// What a fault of the play means for the run.
+fn run_fault(fault: PlayFault) -> RunFault
+    ensures { result ≡ run_fault fault }
+{
+    match fault {
+        PlayFault::Capture(damage) => RunFault::Capture(damage),
+        PlayFault::Read => RunFault::Arrivals,
+        PlayFault::Write(kind) => RunFault::Write(kind),
+        PlayFault::Limit(kind) => RunFault::Limit(kind),
+        PlayFault::NoMemory => RunFault::NoMemory,
+    }
+}
+
+// What a fault of the configuration means for the run.
+fn config_fault(fault: ConfigFault) -> RunFault
+    ensures { result ≡ config_fault fault }
+{
+    match fault {
+        ConfigFault::Unbuilt => RunFault::Unbuilt,
+        ConfigFault::Read => RunFault::Config,
+        ConfigFault::NoMemory => RunFault::NoMemory,
+    }
+}
+
+// What a file that is not there means for the run.
+fn open_fault(fault: OpenFault) -> RunFault
+    ensures { result ≡ open_fault fault }
+{
+    match fault {
+        OpenFault::Arrivals => RunFault::Arrivals,
+        OpenFault::Write(kind) => RunFault::Write(kind),
+        OpenFault::NoMemory => RunFault::NoMemory,
+    }
+}
+
+// A status without a place.
+fn ended(code: u8, kind: u8) -> Status
+    ensures { result ≡ ended code kind }
+{
+    Status {
+        code,
+        line: 0,
+        word: 0,
+        place: 0,
+        kind,
+    }
+}
+
+// The status of a fault.
+fn status_of(fault: RunFault) -> Status
+    ensures { result ≡ status_of fault }
+{
+    match fault {
+        RunFault::Unbuilt => ended(9, 1),
+        RunFault::Config => ended(5, 1),
+        RunFault::Arrivals => ended(5, 2),
+        RunFault::Write(kind) => ended(6, kind),
+        RunFault::Capture(damage) => Status {
+            code: 4,
+            line: 0,
+            word: 0,
+            place: damage.place,
+            kind: damage.kind.number(),
+        },
+        RunFault::Limit(kind) => ended(7, kind),
+        RunFault::NoMemory => ended(8, 0),
+    }
+}
+
+// Reads the configuration, opens the files and plays.
+fn play_files<F: Files>(
+    alloc: Global,
+    files: &mut F,
+    words: &PlayWords<'_>,
+) -> Result<(), RunFault>
+    requires { AreDistinct words.now.config.now words.now.arrivals.now words.now.departures.now words.now.fates.now words.now.stats.now }
+    ensures done { OnOk result (IsTrue (F.view files.old).tells → (seed : ℕ) →
+        HasPlayed (F.view files.old) (F.view files.new) (names_read words.now) seed) }
+    ensures why { IfErr result (Causes (F.view files.old) (F.view files.new) (names_read words.now)) }
+    ensures front { OnErr result ((seed : ℕ) → Fronts (F.view files.old) (F.view files.new) (names_read words.now) seed) }
+    ensures nothing { IsTrue (F.view files.old).tells → AcceptsNone (F.view files.old) words.now.config.now words.now.interface.now →
+        (n : List ℕ) → (F.view files.new).bytes n ≡ (F.view files.old).bytes n }
+    ensures keeps { KeepsOthers words.now.departures.now words.now.fates.now words.now.stats.now (F.view files.old) (F.view files.new) }
+    ensures said { (F.view files.new).said ≡ (F.view files.old).said }
+{
+    let rate = match config_rate(alloc, files, words.config, words.interface) {
+        Ok(rate) => rate,
+        Err(fault) => return Err(config_fault(fault)),
+    };
+    let opened = match open_files(files, words) {
+        Ok(opened) => opened,
+        Err(fault) => return Err(open_fault(fault)),
+    };
+    match play_one_queue(alloc, files, rate, opened) {
+        Ok(()) => Ok(()),
+        Err(fault) => Err(run_fault(fault)),
+    }
+}
+
+/// All that the program does. `words` are the words behind the program's name: `play --config C --interface I --arrivals A
+/// --departures D --fates T --stats Z --seed N`. It plays the capture A through one queue of 50 packets and a link of the
+/// rate that the configuration C gives the interface I, and writes the departures to D and the fates to T; Z is created and stays
+/// empty. The status says how it ended, and each clause below when that comes and what it leaves.
+///
+/// Where the files tell their bytes, status 0 means the headline of `HasPlayed`. Status 8 comes where there was no memory,
+/// and nothing ties it down. Nothing is created before the configuration is accepted and the arrivals are open.
+pub fn run<F: Files>(alloc: Global, words: &[String], files: &mut F) -> Status
+    ensures code { IsCode result.code }
+
+    // Words are refused exactly where they fail a test, with the kind of the first.
+    ensures words { result.code ≡ 2 → refusal words.now ≡ Some result.kind }
+    ensures refused { (kind : ℕ) → refusal words.now ≡ Some kind → (result.code ≡ 2) × (result.kind ≡ kind) }
+
+    // What is done, and the laws of what was decided.
+    ensures done { result.code ≡ 0 → IsTrue (F.view files.old).tells → (seed : ℕ) → seed_of words.now ≡ Some seed →
+        HasPlayed (F.view files.old) (F.view files.new) (names_of words.now) seed }
+
+    // When each fault comes.
+    ensures unbuilt { result.code ≡ 9 → (result.kind ≡ 1)
+        × AcceptsNone (F.view files.old) (names_of words.now).config (names_of words.now).interface }
+    ensures damaged { result.code ≡ 4 → IsTrue (F.view files.old).tells →
+        IsDamagedAt (F.view files.old) (names_of words.now) result.place result.kind }
+    ensures read { result.code ≡ 5 →
+        ((result.kind ≡ 1) × CannotRead (F.view files.old) (F.view files.new) 1 (names_of words.now).config)
+        ⊎ ((result.kind ≡ 2) × CannotRead (F.view files.old) (F.view files.new) 2 (names_of words.now).arrivals) }
+    ensures write { result.code ≡ 6 → (1 ≤ result.kind) × (result.kind ≤ 3)
+        × Rose ((F.view files.old).write_faults (result.kind + 2)) ((F.view files.new).write_faults (result.kind + 2)) }
+    ensures limit { result.code ≡ 7 →
+        ((result.kind ≡ 1) × (IsTrue (F.view files.old).tells → IsLimited (F.view files.old) (names_of words.now)))
+        ⊎ ((result.kind ≡ 2) × (IsTrue (F.view files.old).tells → (seed : ℕ) →
+            IsLate (F.view files.old) (F.view files.new) (names_of words.now) seed)) }
+
+    // What is playable is done, unless a fault or want of memory comes.
+    ensures complete { IsTrue (F.view files.old).tells → refusal words.now ≡ None → (seed : ℕ) →
+        IsPlayable (F.view files.old) (names_of words.now) seed → IsQuiet (F.view files.old) (F.view files.new) →
+        (result.code ≡ 0) ⊎ (result.code ≡ 8) }
+
+    // What stands after any other status than 0, and what no status touches.
+    ensures front { result.code ≢ 0 → (seed : ℕ) → Fronts (F.view files.old) (F.view files.new) (names_of words.now) seed }
+    ensures nothing { IsTrue (F.view files.old).tells →
+        AcceptsNone (F.view files.old) (names_of words.now).config (names_of words.now).interface →
+        (n : List ℕ) → (F.view files.new).bytes n ≡ (F.view files.old).bytes n }
+    ensures others { KeepsOthers (names_of words.now).departures (names_of words.now).fates (names_of words.now).stats
+        (F.view files.old) (F.view files.new) }
+    ensures said { (F.view files.new).said ≡ (F.view files.old).said }
+{
+    let read = match play_words(words) {
+        Ok(read) => read,
+        Err(fault) => return ended(2, fault.kind()),
+    };
+    match play_files(alloc, files, &read) {
+        Ok(()) => ended(0, 0),
+        Err(fault) => status_of(fault),
+    }
+}
+
+/// Over files that never fail, no fault of reading or writing is answered.
+pub fn run_steady(alloc: Global, words: &[String], files: &mut SteadyFiles) -> Status
+    ensures read { result.code ≢ 5 }
+    ensures write { result.code ≢ 6 }
+{
+    run(alloc, words, files)
+}
