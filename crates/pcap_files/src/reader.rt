@@ -4,12 +4,12 @@ ghost use Rattle.play_base.specs.View.{ReadFault};
 ghost use Rattle.pcap_files.specs.Ahead.{TookSome};
 ghost use Rattle.pcap_files.specs.Reading.{StandsFor, Answers, Counts, Stays, IsWhole, IsFault, IsHeadFault, SameBut, IsTaken, IsCut};
 
-use crate::{CaptureFault, Record};
 use crate::ahead::Ahead;
 use crate::fault::fault_of;
 use crate::form::{Head, damage_at};
 use crate::progress::Progress;
 use crate::stand::{RECORD_HEAD, Stand, stand_at};
+use crate::{CaptureFault, Record};
 use altq_model::DamageKind;
 use play_base::{Bytes, Files};
 use std::alloc::Global;

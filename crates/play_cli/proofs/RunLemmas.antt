@@ -1,20 +1,18 @@
 -- From the files of a play to the names of the words.
-use Rattle.std.proofs.Common.{◌≡◌, ◌≢◌, ◌≤◌, ◌<◌, ◌+◌, ◌++◌, ◌∙◌, ◌⊎◌, ℕ, true, false, List, [], ◌∷◌, None, Some, ap, sym, refl, subst, inl, inr, arith}
+use Rattle.std.proofs.Common.{◌≡◌, ◌≢◌, ◌≤◌, ◌+◌, ◌++◌, ◌∙◌, ◌⊎◌, ℕ, List, [], ◌∷◌, None, Some, ap, sym, refl, subst, inl, inr, arith}
 use Rattle.std.specs.Prelude.{IsSome, IsTrue}
 use Rattle.std.specs.declared.option.Option.{Option}
-use Rattle.std.proofs.lemmas.List.{append-nil}
 use Rattle.altq_model.specs.declared.capture.Damage.{Damage}
 use Rattle.altq_model.specs.Arrivals.{comings}
-use Rattle.altq_model.specs.Capture.{Record, Step, End, Fault, Limit, Reads, IsCapture}
+use Rattle.altq_model.specs.Capture.{Record, End, Fault, Limit, Reads}
 use Rattle.altq_model.specs.History.{Entry}
 use Rattle.altq_model.specs.Laws.{IsBusy, KeepsLaws}
-use Rattle.altq_model.specs.Play.{IsPlay}
 use Rattle.altq_model.specs.declared.Rule.TheVariants.{Share}
 use Rattle.altq_model.specs.Policies.{one_queue, tail}
-use Rattle.play_base.specs.View.{View, Keeps, Any, Rose, Later}
+use Rattle.play_base.specs.View.{View, Keeps, Any, Rose}
 use Rattle.play_base.specs.ViewLaws.{keeps_trans, keeps_fewer, part_of_there, rose_later}
 use Rattle.play_base.specs.Holds.{HoldsAt}
-use Rattle.pcap_files.specs.ReadingLaws.{IsLast, one_reading}
+use Rattle.pcap_files.specs.ReadingLaws.{one_reading}
 use Rattle.play_laws.proofs.AllLaws.{play_laws}
 use Rattle.play_laws.proofs.ArrivalLemmas.{arrivals_rise}
 use Rattle.play_laws.proofs.BusyLemmas.{is_busy}
@@ -24,9 +22,8 @@ use Rattle.play_words.proofs.LineLemmas.{one_word, no_feed, cancel_right}
 use Rattle.play_loop.specs.declared.fault.Opened.{Opened}
 use Rattle.play_loop.specs.declared.fault.PlayFault.{PlayFault}
 use Rattle.play_loop.specs.declared.fault.PlayFault.TheVariants as play
-use Rattle.play_loop.specs.Gathered.{HoldsFront}
 use Rattle.play_words.specs.Numbers.{rate_of}
-use Rattle.play_loop.specs.OneQueue.{KeepsBut, IsPlayOf, IsCutOf, HoldTexts, HoldFronts, arrivals_in, departures_of, fates_of, one_mark}
+use Rattle.play_loop.specs.OneQueue.{KeepsBut, IsPlayOf, IsCutOf, arrivals_in, one_mark}
 use Rattle.play_loop.specs.Played.{Plays, Explains}
 use Rattle.play_loop.specs.Played as loop
 use Rattle.play_cli.specs.Opening.{AreOpened, Accepts, AcceptsNone, CannotRead, IsEmptied, KeepsOthers}
@@ -36,7 +33,6 @@ use Rattle.play_cli.specs.declared.input.ConfigFault.{ConfigFault}
 use Rattle.play_cli.specs.declared.input.ConfigFault.TheVariants as conf
 use Rattle.play_cli.specs.declared.opening.OpenFault.{OpenFault}
 use Rattle.play_cli.specs.declared.opening.OpenFault.TheVariants as open_
-use Rattle.altq_model.specs.Numbers.{damage_number}
 use Rattle.play_cli.specs.Run.{IsCode}
 use Rattle.play_cli.specs.declared.fault.RunFault.{RunFault}
 use Rattle.play_cli.specs.declared.fault.RunFault.TheVariants as fault
@@ -212,29 +208,35 @@ causes_of u a b c n rate o (play.Write kind) s (inl x) =
 causes_of u a b c n rate o (play.Write kind) s (inr x) =
     let P : ℕ → Type 0 = λ k. (1 ≤ k) × (k ≤ 3) × Rose (u.write_faults (k + 2)) (c.write_faults (k + 2)) in
     subst P (sym x.0) (omega arith, omega arith, rose_since u a b c n rate o 4 s (x.1 4 s.opened.fates_part))
-causes_of u a b c n rate o (play.Limit kind) s (inl x) = inl (x.0, λ t.
-    let found = some_bytes (a.bytes n.arrivals) (s.opened.there (told_a u a b c n rate o s t)) in
-    let y = x.1 (told_b u a b c n rate o s t) found.0 (s.opened.left (told_a u a b c n rate o s t) ∙ found.1) in
-    record { bytes = found.0; records = y.0; arrivals = sym (s.read.bytes n.arrivals tt) ∙ found.1; reads = y.1 })
-causes_of u a b c n rate o (play.Limit kind) s (inr x) = inr (x.0, λ t seed.
-    let found = some_bytes (a.bytes n.arrivals) (s.opened.there (told_a u a b c n rate o s t)) in
-    let y = x.1 (told_b u a b c n rate o s t) found.0 (s.opened.left (told_a u a b c n rate o s t) ∙ found.1) in
-    let conf = s.accepted t in
-    let z = y.2 seed in
-    record {
-      text = conf.0;
-      rate = rate;
-      bytes = found.0;
-      records = y.0;
-      history = z.0;
-      config = conf.1;
-      accepted = conf.2;
-      arrivals = sym (s.read.bytes n.arrivals tt) ∙ found.1;
-      capture = y.1;
-      cut = z.1;
-      departures = departures_held u a b c n rate o _ s t z.2.departures;
-      fates = fates_held u a b c n rate o _ s t z.2.fates;
-    })
+causes_of u a b c n rate o (play.Limit kind) s (inl x) = inl (
+  x.0,
+  λ t.
+      let found = some_bytes (a.bytes n.arrivals) (s.opened.there (told_a u a b c n rate o s t)) in
+      let y = x.1 (told_b u a b c n rate o s t) found.0 (s.opened.left (told_a u a b c n rate o s t) ∙ found.1) in
+      record { bytes = found.0; records = y.0; arrivals = sym (s.read.bytes n.arrivals tt) ∙ found.1; reads = y.1 },
+)
+causes_of u a b c n rate o (play.Limit kind) s (inr x) = inr (
+  x.0,
+  λ t seed.
+      let found = some_bytes (a.bytes n.arrivals) (s.opened.there (told_a u a b c n rate o s t)) in
+      let y = x.1 (told_b u a b c n rate o s t) found.0 (s.opened.left (told_a u a b c n rate o s t) ∙ found.1) in
+      let conf = s.accepted t in
+      let z = y.2 seed in
+      record {
+        text = conf.0;
+        rate = rate;
+        bytes = found.0;
+        records = y.0;
+        history = z.0;
+        config = conf.1;
+        accepted = conf.2;
+        arrivals = sym (s.read.bytes n.arrivals tt) ∙ found.1;
+        capture = y.1;
+        cut = z.1;
+        departures = departures_held u a b c n rate o _ s t z.2.departures;
+        fates = fates_held u a b c n rate o _ s t z.2.fates;
+      },
+)
 causes_of u a b c n rate o play.NoMemory s x = tt
 
 -- where the configuration is accepted it is not refused
@@ -247,7 +249,7 @@ keeps_others u a b c n rate o s =
     let one : KeepsOthers n.departures n.fates n.stats u a = keeps_fewer Any _ Any (λ f. ⊥) u a (λ m h. tt) (λ f h. absurd h) s.read in
     let two : KeepsOthers n.departures n.fates n.stats u b = keeps_trans _ _ u a b one (keeps_fewer _ _ _ _ a b (λ m h. (s.read.tells ∙ h.0, h.1, h.2, h.3)) (λ f h. h) s.others) in
     keeps_trans _ _ u b c two (keeps_fewer _ _ _ _ b c
-        (λ m h. ((λ e. h.1 (e ∙ s.opened.departures_name (s.read.tells ∙ h.0))), (λ e. h.2 (e ∙ s.opened.fates_name (s.read.tells ∙ h.0))))) (λ f h. h) s.played)
+    (λ m h. ((λ e. h.1 (e ∙ s.opened.departures_name (s.read.tells ∙ h.0))), (λ e. h.2 (e ∙ s.opened.fates_name (s.read.tells ∙ h.0))))) (λ f h. h) s.played)
 
 pub keeps_opened : (u a b : View) (n : Names) → Keeps Any Any u a → KeepsOthers n.departures n.fates n.stats a b → KeepsOthers n.departures n.fates n.stats u b
 keeps_opened u a b n x y =

@@ -1,5 +1,5 @@
 -- What a run of the program leaves, and when each of its statuses comes.
-use Rattle.std.specs.Prelude.{◌≡◌, ◌≢◌, ◌≤◌, ◌<◌, ◌+◌, ◌⊎◌, ◌^◌, ℕ, List, [], ◌++◌, length, Some, IsTrue}
+use Rattle.std.specs.Prelude.{◌≡◌, ◌<◌, ◌⊎◌, ◌^◌, ℕ, List, [], ◌++◌, length, Some, IsTrue}
 use Rattle.altq_model.specs.declared.capture.Damage.{Damage}
 use Rattle.altq_model.specs.Arrivals.{comings}
 use Rattle.altq_model.specs.Capture.{Record, Step, Fault, Limit, Reads, IsCapture}
@@ -8,10 +8,8 @@ use Rattle.altq_model.specs.Laws.{IsBusy, IsInTime, KeepsLaws}
 use Rattle.altq_model.specs.Numbers.{damage_number}
 use Rattle.play_base.specs.View.{View, Rose}
 use Rattle.pcap_files.specs.ReadingLaws.{IsLast}
-use Rattle.play_loop.specs.declared.fault.PlayFault.{PlayFault}
 use Rattle.play_loop.specs.OneQueue.{IsPlayOf, IsFrontOf, IsCutOf, arrivals_in, departures_of, fates_of}
 use Rattle.play_words.specs.Conf.{IsOneQueue}
-use Rattle.play_cli.specs.Opening.{AcceptsNone}
 
 -- these are all the bytes that the file had left
 abbrev pub HadLeft : View → ℕ → List ℕ → Type 0

@@ -87,11 +87,7 @@ fn status_of(fault: RunFault) -> Status
 }
 
 // Reads the configuration, opens the files and plays.
-fn play_files<F: Files>(
-    alloc: Global,
-    files: &mut F,
-    words: &PlayWords<'_>,
-) -> Result<(), RunFault>
+fn play_files<F: Files>(alloc: Global, files: &mut F, words: &PlayWords<'_>) -> Result<(), RunFault>
     requires { AreDistinct words.now.config.now words.now.arrivals.now words.now.departures.now words.now.fates.now words.now.stats.now }
     ensures done { OnOk result (IsTrue (F.view files.old).tells → (seed : ℕ) →
         HasPlayed (F.view files.old) (F.view files.new) (names_read words.now) seed) }
@@ -147,7 +143,7 @@ pub fn run<F: Files>(alloc: Global, words: &[String], files: &mut F) -> Status
     ensures limit { result.code ≡ 7 →
         ((result.kind ≡ 1) × (IsTrue (F.view files.old).tells → IsLimited (F.view files.old) (names_of words.now)))
         ⊎ ((result.kind ≡ 2) × (IsTrue (F.view files.old).tells → (seed : ℕ) →
-            IsLate (F.view files.old) (F.view files.new) (names_of words.now) seed)) }
+        IsLate (F.view files.old) (F.view files.new) (names_of words.now) seed)) }
 
     // What is playable is done, unless a fault or want of memory comes.
     ensures complete { IsTrue (F.view files.old).tells → refusal words.now ≡ None → (seed : ℕ) →

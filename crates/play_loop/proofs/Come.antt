@@ -1,6 +1,6 @@
 -- One more event of the play of one queue.
 use Rattle.std.proofs.lemmas.List.{append-nil}
-use Rattle.std.proofs.Common.{◌≡◌, ◌≢◌, ◌≤◌, ◌<◌, ◌+◌, ◌∙◌, drop, ℕ, zero, suc, max, Bool, true, false, cond, List, [], ◌∷◌, ◌++◌, None, Some, refl, ap, sym, subst, arith, length}
+use Rattle.std.proofs.Common.{◌≡◌, ◌≤◌, ◌<◌, ◌+◌, ◌∙◌, drop, ℕ, max, true, false, cond, List, [], ◌∷◌, ◌++◌, None, Some, refl, ap, arith, length}
 use Rattle.std.specs.Prelude.{slice_get, nat_le, option_map, ◌==◌}
 use Rattle.std.specs.declared.option.Option.{Option}
 use Rattle.altq_model.specs.declared.Rule.TheVariants.{Share}
@@ -8,10 +8,10 @@ use Rattle.altq_model.specs.declared.Reason.TheVariants.{Full}
 use Rattle.altq_model.specs.declared.Verdict.{Verdict}
 use Rattle.altq_model.specs.declared.Verdict.TheVariants.{Keep, Drop}
 use Rattle.altq_model.specs.declared.Fate.TheVariants as fate
-use Rattle.altq_model.specs.History.{Coming, Answer, Words, Event, Offered, Sent, Entry, Sending, Decision, bare, offered, drawn, waiting, labels, journal}
+use Rattle.altq_model.specs.History.{Coming, Offered, Sent, Entry, Decision, bare, offered, drawn, waiting, labels, journal}
 use Rattle.altq_model.specs.Link.{Link, link, after_sending, end_of}
-use Rattle.altq_model.specs.Laws.{IsInTime, clock_end}
-use Rattle.altq_model.specs.Play.{AreDue, Choice, due, due_from, lesser, first_start, offer_of, sent_at, head_sent}
+use Rattle.altq_model.specs.Laws.{clock_end}
+use Rattle.altq_model.specs.Play.{due, due_from, lesser, first_start, offer_of, sent_at, head_sent}
 use Rattle.altq_model.specs.Policies.{one_queue}
 use Rattle.play_loop.specs.Decided.{IsBegun, IsPlayed, IsCutOff}
 use Rattle.play_loop.specs.Queue.{one_coming}
@@ -147,7 +147,7 @@ pub come_sent : (rate seed : ℕ) (arrived : List Coming) (g : List Entry) (cloc
     → HasCome rate seed arrived g clock (n ∷ ns) (one_coming at len ∷ ws) next js → ComesLater (max clock.free at) (slice_get arrived next)
     → end_of rate clock (max clock.free at) len < clock_end
     → HasCome rate seed arrived (send_entry rate clock n (max clock.free at) len ∷ g) (after_sending rate clock (max clock.free at) len) ns ws next
-        (js ++ (n, fate.Sent (max clock.free at) (end_of rate clock (max clock.free at) len) Share) ∷ [])
+    (js ++ (n, fate.Sent (max clock.free at) (end_of rate clock (max clock.free at) len) Share) ∷ [])
 come_sent rate seed arrived g clock n at len ns ws next js x h t = record {
   begun = record { events = (due_sending rate seed arrived g clock n at len ns ws next js x h, x.begun.events); in_time = (t, x.begun.in_time) };
   link = ap (λ (l : Link). after_sending rate l (max clock.free at) len) x.link;

@@ -1,8 +1,7 @@
 -- The texts of one decision more, and of all.
-use Rattle.std.proofs.Common.{◌≡◌, ◌≤◌, ◌<◌, ◌+◌, ◌++◌, ◌∙◌, ℕ, zero, suc, List, [], ◌∷◌, length, take, drop, get_or, ap, sym, refl, subst, append_assoc, arith}
-use Rattle.std.specs.Prelude.{codes, slice_get, unwrap_or, Some}
+use Rattle.std.proofs.Common.{◌≡◌, ◌≤◌, ◌<◌, ◌+◌, ◌++◌, ◌∙◌, ℕ, zero, suc, List, [], ◌∷◌, length, take, drop, get_or, ap, sym, refl, append_assoc, arith}
+use Rattle.std.specs.Prelude.{codes, slice_get, unwrap_or}
 use Rattle.std.proofs.lemmas.List.{append-nil}
-use Rattle.altq_model.specs.declared.Fate.{Fate}
 use Rattle.altq_model.specs.Arrivals.{Arrival, arrival, no_arrival}
 use Rattle.altq_model.specs.History.{Decision}
 use Rattle.altq_model.specs.Texts.{departure_record, departure_records, fate_row, fate_rows, fate_text}
@@ -80,14 +79,14 @@ pub fronts_of_all : (v : View) (dep fat : ℕ) (arrived : List Arrival) (list : 
     → FrontsAre v dep fat (ds ++ departure_records arrived (decisions_of list)) (ts ++ fate_rows one_name arrived (decisions_of list))
 fronts_of_all v dep fat arrived list k ds ts h =
     let whole : decisions_of (take k list) ++ decisions_of (drop k list) ≡ decisions_of list =
-        sym (decisions-append (take k list) (drop k list)) ∙ ap decisions_of (take_drop k list) in
+    sym (decisions-append (take k list) (drop k list)) ∙ ap decisions_of (take_drop k list) in
     fronts_same v dep fat _ _ _ _
     (append_assoc ds (departure_records arrived (decisions_of (take k list))) (departure_records arrived (decisions_of (drop k list)))
-        ∙ ap (λ (r : List ℕ). ds ++ r) (sym (departure_records-append arrived (decisions_of (take k list)) (decisions_of (drop k list)))
-        ∙ ap (departure_records arrived) whole))
+    ∙ ap (λ (r : List ℕ). ds ++ r) (sym (departure_records-append arrived (decisions_of (take k list)) (decisions_of (drop k list)))
+    ∙ ap (departure_records arrived) whole))
     (append_assoc ts (fate_rows one_name arrived (decisions_of (take k list))) (fate_rows one_name arrived (decisions_of (drop k list)))
-        ∙ ap (λ (r : List ℕ). ts ++ r) (sym (fate_rows-append one_name arrived (decisions_of (take k list)) (decisions_of (drop k list)))
-        ∙ ap (fate_rows one_name arrived) whole))
+    ∙ ap (λ (r : List ℕ). ts ++ r) (sym (fate_rows-append one_name arrived (decisions_of (take k list)) (decisions_of (drop k list)))
+    ∙ ap (fate_rows one_name arrived) whole))
     (fronts_longer v dep fat _ _ (departure_records arrived (decisions_of (drop k list))) (fate_rows one_name arrived (decisions_of (drop k list))) h)
 
 pub texts_of_all : (v : View) (dep fat : ℕ) (recs rows : List ℕ) (arrived : List Arrival) (list : List Decided) (k : ℕ) (ds ts : List ℕ) → k ≡ length list

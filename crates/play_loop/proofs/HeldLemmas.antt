@@ -1,7 +1,6 @@
 -- What stands at a place of the lists of a loop.
-use Rattle.std.proofs.Common.{◌≡◌, ◌++◌, ℕ, zero, suc, List, [], ◌∷◌, None, Some, refl, ap, drop, length}
+use Rattle.std.proofs.Common.{◌≡◌, ◌++◌, ℕ, zero, suc, List, [], ◌∷◌, None, Some, refl, ap, length}
 use Rattle.std.specs.Prelude.{slice_get}
-use Rattle.altq_model.specs.History.{Coming}
 use Rattle.play_loop.specs.declared.held.Arrived.{Arrived}
 use Rattle.play_loop.specs.declared.held.Held.{Held}
 use Rattle.play_loop.specs.declared.queue.Decided.{Decided}

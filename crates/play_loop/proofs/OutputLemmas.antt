@@ -1,13 +1,12 @@
 -- What a write to one of the two output files leaves of both texts.
-use Rattle.std.proofs.Common.{◌≡◌, ◌++◌, ◌∙◌, ℕ, List, [], ap, sym, refl, subst}
+use Rattle.std.proofs.Common.{◌≡◌, ◌++◌, ◌∙◌, ℕ, List, [], sym, refl, subst}
 use Rattle.std.proofs.lemmas.List.{append-nil}
 use Rattle.std.specs.Prelude.{IsSome}
 use Rattle.std.specs.declared.option.Option.{Option}
 use Rattle.play_base.specs.View.{View, Wrote, WroteFront}
 use Rattle.play_base.specs.ViewLaws.{keeps_trans, keeps_fewer, part_of_there}
-use Rattle.play_base.specs.Holds.{Apart}
 use Rattle.play_base.specs.HoldsLaws.{apart_kept, apart_sym}
-use Rattle.play_loop.specs.Gathered.{Grew, Stopped, HasText, HoldsFront}
+use Rattle.play_loop.specs.Gathered.{Grew, Stopped}
 use Rattle.play_loop.specs.GatheredLaws.{text_grew, text_stopped, text_beside, text_front, text_same, front_longer, front_same}
 use Rattle.play_loop.specs.OneQueue.{KeepsBut}
 use Rattle.play_loop.specs.declared.outputs.Outputs.{Outputs}

@@ -1,32 +1,30 @@
 -- From what was decided and written to the play.
-use Rattle.std.proofs.Common.{◌≡◌, ◌≢◌, ◌++◌, ◌∙◌, ◌⊎◌, ℕ, Bool, true, false, List, [], ◌∷◌, Some, ap, sym, refl, subst, inl, inr}
-use Rattle.std.specs.Prelude.{IsSome, IsTrue}
+use Rattle.std.proofs.Common.{◌≡◌, ◌++◌, ◌∙◌, ℕ, Bool, true, false, List, [], ◌∷◌, Some, ap, sym, refl, subst, inl, inr}
+use Rattle.std.specs.Prelude.{IsTrue}
 use Rattle.std.proofs.lemmas.List.{append-nil}
 use Rattle.altq_model.specs.Arrivals.{Arrival, comings}
-use Rattle.altq_model.specs.Capture.{Record, Step, End, Fault, Limit, Reads, IsCapture}
+use Rattle.altq_model.specs.Capture.{Record}
 use Rattle.altq_model.specs.History.{Coming, Decision, Entry, journal}
 use Rattle.altq_model.specs.Policies.{one_queue}
 use Rattle.altq_model.specs.Texts.{capture_head, departure_records, fates_head, fate_rows}
 use Rattle.play_base.specs.View.{View, Keeps, Any, Wrote, WroteFront, ReadFault, WriteFault}
 use Rattle.play_base.specs.ViewLaws.{keeps_trans, keeps_fewer, rose_later}
-use Rattle.play_base.specs.Holds.{HoldsAt, Apart}
+use Rattle.play_base.specs.Holds.{HoldsAt}
 use Rattle.play_base.specs.HoldsLaws.{holds_kept, apart_kept}
 use Rattle.pcap_files.specs.declared.fault.CaptureFault.{CaptureFault}
 use Rattle.pcap_files.specs.declared.fault.CaptureFault.TheVariants as capture
-use Rattle.pcap_files.specs.ReadingLaws.{IsLast}
-use Rattle.pcap_files.specs.Reading.{ReadsTo}
 use Rattle.play_loop.specs.declared.held.Arrived.{Arrived}
 use Rattle.play_loop.specs.declared.queue.Decided.{Decided}
 use Rattle.play_loop.specs.declared.fault.Opened.{Opened}
 use Rattle.play_loop.specs.declared.outputs.OutputFault.{OutputFault}
 use Rattle.play_loop.specs.declared.outputs.OutputFault.TheVariants as output
 use Rattle.play_loop.specs.Decided.{HasEnded}
-use Rattle.play_loop.specs.Gathered.{HasText, HoldsFront}
-use Rattle.play_loop.specs.GatheredLaws.{text_of_held, text_front, front_same}
+use Rattle.play_loop.specs.Gathered.{HoldsFront}
+use Rattle.play_loop.specs.GatheredLaws.{text_of_held, front_same}
 use Rattle.play_loop.specs.OneQueue.{KeepsBut, HoldTexts, HoldFronts, IsFrontOf, arrivals_in, departures_of, fates_of, one_name}
 use Rattle.play_loop.specs.Outputs.{TextsAre, FrontsAre}
-use Rattle.play_loop.specs.Played.{AreEmpty, EndsAs, HasPlayed, HasStopped, Explains, IsDamaged, capture_fault, output_fault}
-use Rattle.play_loop.specs.Queue.{arrivals_held, arrival_of, comings_held, one_coming, decisions_of}
+use Rattle.play_loop.specs.Played.{AreEmpty, EndsAs, HasPlayed, HasStopped, Explains, capture_fault, output_fault}
+use Rattle.play_loop.specs.Queue.{arrivals_held, comings_held, one_coming, decisions_of}
 use Rattle.play_loop.specs.Reading.{HasFault}
 use Rattle.play_loop.proofs.GatherLemmas.{grew_whole, stopped_whole}
 use Rattle.play_loop.proofs.OutputLemmas.{texts_departed, texts_rowed, fronts_departed, fronts_rowed}
@@ -101,34 +99,38 @@ played cut rate seed v dep fat dep' fat' arrived records list g e h j d f x y =
     let P : List ℕ → Type 0 = λ xs. HoldsAt v dep' xs in
     let Q : List ℕ → Type 0 = λ xs. HoldsAt v fat' xs in
     let R : ℕ → Type 0 = λ n. HoldsAt v n (departures_of records g) in
-    let S : ℕ → Type 0 = λ n. HoldsAt v n (fates_of records g) in
-    (g, ended cut rate seed arrived records g e h,
-        record { departures = subst R d (subst P (records_are arrived records list g e j) x); fates = subst S f (subst Q (rows_are arrived records list g e j) y) })
+    let S : ℕ → Type 0 = λ n. HoldsAt v n (fates_of records g) in (
+      g,
+      ended cut rate seed arrived records g e h,
+      record { departures = subst R d (subst P (records_are arrived records list g e j) x); fates = subst S f (subst Q (rows_are arrived records list g e j) y) },
+    )
 
 pub stopped : (cut : Bool) (rate seed : ℕ) (v : View) (dep fat dep' fat' : ℕ) (arrived : List Arrived) (records : List Record) (list : List Decided) (g : List Entry)
     → arrivals_held arrived ≡ arrivals_in records → HasEnded cut (one_queue 50) rate seed (comings_held arrived) g → decisions_of list ≡ journal g
     → dep' ≡ dep → fat' ≡ fat
     → FrontsAre v dep' fat' (capture_head ++ departure_records (arrivals_held arrived) (decisions_of list))
-        (fates_head ++ fate_rows one_name (arrivals_held arrived) (decisions_of list))
+    (fates_head ++ fate_rows one_name (arrivals_held arrived) (decisions_of list))
     → (h : List Entry) × IsFrontOf rate seed records h × HoldFronts v dep fat records h
 stopped cut rate seed v dep fat dep' fat' arrived records list g e h j d f x =
     let R : ℕ → Type 0 = λ n. HoldsFront v n (departures_of records g) in
-    let S : ℕ → Type 0 = λ n. HoldsFront v n (fates_of records g) in
-    (g, begun cut rate seed records g (ended cut rate seed arrived records g e h),
-        record {
-          departures = subst R d (front_same v dep' _ _ (records_are arrived records list g e j) x.departures);
-          fates = subst S f (front_same v fat' _ _ (rows_are arrived records list g e j) x.fates);
-        })
+    let S : ℕ → Type 0 = λ n. HoldsFront v n (fates_of records g) in (
+      g,
+      begun cut rate seed records g (ended cut rate seed arrived records g e h),
+      record {
+        departures = subst R d (front_same v dep' _ _ (records_are arrived records list g e j) x.departures);
+        fates = subst S f (front_same v fat' _ _ (rows_are arrived records list g e j) x.fates);
+      },
+    )
 
 -- before any event only fronts of the heads stand
 pub stopped_heads : (rate : ℕ) (v : View) (dep fat : ℕ) (records : List Record) → FrontsAre v dep fat capture_head fates_head → HasStopped rate v dep fat records
 stopped_heads rate v dep fat records h = λ seed. (
-    [],
-    record { events = tt; in_time = tt },
-    record {
-      departures = front_same v dep capture_head (capture_head ++ []) (sym (append-nil capture_head)) h.departures;
-      fates = front_same v fat fates_head (fates_head ++ []) (sym (append-nil fates_head)) h.fates;
-    },
+  [],
+  record { events = tt; in_time = tt },
+  record {
+    departures = front_same v dep capture_head (capture_head ++ []) (sym (append-nil capture_head)) h.departures;
+    fates = front_same v fat fates_head (fates_head ++ []) (sym (append-nil fates_head)) h.fates;
+  },
 )
 
 -- whole texts are fronts

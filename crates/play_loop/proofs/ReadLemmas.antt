@@ -1,10 +1,10 @@
 -- What the reading of a capture keeps and finds.
-use Rattle.std.proofs.Common.{◌≡◌, ◌≢◌, ◌≤◌, ◌<◌, ◌^◌, ◌++◌, ◌∙◌, ◌⊎◌, ℕ, max, List, [], ◌∷◌, length, None, Some, refl, ap, sym, subst, inl, inr, arith}
+use Rattle.std.proofs.Common.{◌≡◌, ◌≢◌, ◌++◌, ◌∙◌, ◌⊎◌, ℕ, max, List, [], ◌∷◌, length, None, Some, refl, ap, sym, subst, inl, inr}
 use Rattle.std.specs.Prelude.{nat_lt}
 use Rattle.std.specs.declared.option.Option.{Option}
-use Rattle.altq_model.specs.Arrivals.{Arrival, arrivals_of, arrivals_from}
-use Rattle.altq_model.specs.Capture.{Record, Head, Unformed, Fault, head, ReadsFrom, Reads}
-use Rattle.play_base.specs.View.{View, Keeps, Any, ReadFault, Later, Rose}
+use Rattle.altq_model.specs.Arrivals.{Arrival}
+use Rattle.altq_model.specs.Capture.{Record, Head, Fault, ReadsFrom}
+use Rattle.play_base.specs.View.{View, Keeps, Any, ReadFault}
 use Rattle.play_base.specs.ViewLaws.{keeps_trans, rose_later}
 use Rattle.pcap_files.specs.Ahead.{TookSome}
 use Rattle.pcap_files.specs.declared.fault.CaptureFault.{CaptureFault}
@@ -63,8 +63,7 @@ arrival_more records r list latest count answer a held top shows at len bytes ra
       prec = 0;
       bytes = r.captured;
       raised = nat_lt r.stamp (greatest 0 records);
-    } = cc (at, len, bytes, raised, top, shows.stamp, shows.len, shows.bytes) in
-    (
+    } = cc (at, len, bytes, raised, top, shows.stamp, shows.len, shows.bytes) in (
       held-push list a ∙ ap (λ (l : List Arrival). l ++ arrival_of a ∷ []) held ∙ ap (λ (x : Arrival). arrivals_in records ++ x ∷ []) made
           ∙ sym (arrivals_append one_mark records (r ∷ [])),
       greatest-push 0 records r ∙ ap (λ n. max n r.stamp) top ∙ ap (λ n. max latest n) (sym shows.stamp),

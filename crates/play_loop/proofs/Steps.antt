@@ -4,7 +4,6 @@ use Rattle.std.specs.Prelude.{slice_get, nat_le, ◌==◌, IfSome}
 use Rattle.std.specs.declared.option.Option.{Option}
 use Rattle.altq_model.specs.declared.Rule.TheVariants.{Share}
 use Rattle.altq_model.specs.declared.Reason.TheVariants.{Full}
-use Rattle.altq_model.specs.declared.Verdict.{Verdict}
 use Rattle.altq_model.specs.declared.Verdict.TheVariants.{Keep, Drop}
 use Rattle.altq_model.specs.declared.Fate.TheVariants.{Dropped, Sent}
 use Rattle.altq_model.specs.History.{Coming, Entry, Decision}
@@ -12,11 +11,10 @@ use Rattle.altq_model.specs.Laws.{clock_end}
 use Rattle.altq_model.specs.Link.{Link, after_sending, end_of}
 use Rattle.altq_model.specs.Policies.{one_queue}
 use Rattle.play_loop.specs.declared.held.Held.{Held}
-use Rattle.play_loop.specs.declared.queue.Due.{Due}
 use Rattle.play_loop.specs.declared.queue.Due.TheVariants.{End, Offer, Send}
 use Rattle.play_loop.specs.declared.queue.Decided.{Decided}
 use Rattle.play_loop.specs.Decided.{IsPlayed, IsCutOff}
-use Rattle.play_loop.specs.Queue.{AreNumbered, AreSound, FateInTime, due_of, one_coming, held_comings, held_numbers, decisions_of, decision_of}
+use Rattle.play_loop.specs.Queue.{AreNumbered, AreSound, FateInTime, due_of, one_coming, held_comings, held_numbers, decisions_of}
 use Rattle.play_loop.proofs.Come.{HasCome, ComesFirst, ComesLater, come_kept, come_dropped, come_sent, come_end, come_cut}
 use Rattle.play_loop.proofs.HeldLemmas.{comings-push, numbers-push, decisions-push, length-comings}
 
@@ -139,17 +137,20 @@ turn_offers rate seed arrived g clock q q' next ds ds' coming a x f e eq ed = go
   where
     two : (coming ≡ Some a) × ComesFirst clock.free a.at (held_comings q)
     two = offers clock.free q coming a e
+
     at_next : (slice_get arrived next ≡ Some (one_coming a.at a.len)) × (a.number ≡ next + 1)
     at_next = found arrived next coming a f two.0
+
     full : (b : Bool) → (length q == 50) ≡ b → cond (length (held_comings q) == 50) (Drop Full) Keep ≡ cond b (Drop Full) Keep
     full b t = ap (λ n. cond (n == 50) (Drop Full) Keep) (length-comings q) ∙ ap (λ u. cond u (Drop Full) Keep) t
+
     go : (b : Bool) → (length q == 50) ≡ b → q' ≡ cond b q (q ++ a ∷ []) → ds' ≡ cond b (ds ++ record { number = a.number; fate = Dropped Full } ∷ []) ds
         → (g' : List Entry) × HasCome rate seed arrived g' clock (held_numbers q') (held_comings q') (next + 1) (decisions_of ds')
     go true t k l =
         let P : List Held → Type 0 = λ r. (g' : List Entry) × HasCome rate seed arrived g' clock (held_numbers r) (held_comings r) (next + 1) (decisions_of ds') in
         let S : List Decision → Type 0 = λ js. (g' : List Entry) × HasCome rate seed arrived g' clock (held_numbers q) (held_comings q) (next + 1) js in
         let same : decisions_of ds ++ (next + 1, Dropped Full) ∷ [] ≡ decisions_of ds' =
-            ap (λ n. decisions_of ds ++ (n, Dropped Full) ∷ []) (sym at_next.1) ∙ sym (decisions-push ds (record { number = a.number; fate = Dropped Full })) ∙ ap decisions_of (sym l) in
+        ap (λ n. decisions_of ds ++ (n, Dropped Full) ∷ []) (sym at_next.1) ∙ sym (decisions-push ds (record { number = a.number; fate = Dropped Full })) ∙ ap decisions_of (sym l) in
         subst P (sym k) (subst S same (_, come_dropped rate seed arrived g clock (held_numbers q) (held_comings q) next (decisions_of ds) a.at a.len x at_next.0 two.1 (full true t)))
     go false t k l =
         let P : List Held → Type 0 = λ r. (g' : List Entry) × HasCome rate seed arrived g' clock (held_numbers r) (held_comings r) (next + 1) (decisions_of ds') in
@@ -158,7 +159,7 @@ turn_offers rate seed arrived g clock q q' next ds ds' coming a x f e eq ed = go
         let W : List Coming → Type 0 = λ ws. (g' : List Entry) × HasCome rate seed arrived g' clock (held_numbers q ++ (next + 1) ∷ []) ws (next + 1) (decisions_of ds) in
         let numbers : held_numbers q ++ (next + 1) ∷ [] ≡ held_numbers (q ++ a ∷ []) = ap (λ n. held_numbers q ++ n ∷ []) (sym at_next.1) ∙ sym (numbers-push q a) in
         subst P (sym k) (subst S (sym l) (subst N numbers (subst W (sym (comings-push q a))
-            (_, come_kept rate seed arrived g clock (held_numbers q) (held_comings q) next (decisions_of ds) a.at a.len x at_next.0 two.1 (full false t)))))
+        (_, come_kept rate seed arrived g clock (held_numbers q) (held_comings q) next (decisions_of ds) a.at a.len x at_next.0 two.1 (full false t)))))
 
 -- the turn at which the head is sent
 pub turn_sends : (rate seed : ℕ) (arrived : List Coming) (g : List Entry) (clock clock' : Link) (q q' : List Held) (next : ℕ) (ds ds' : List Decided) (coming : Option Held) (h : Held) (s e : ℕ)
@@ -174,14 +175,14 @@ turn_sends rate seed arrived g clock clock' q q' next ds ds' coming h s e x f d 
     let F : ℕ → Type 0 = λ t. t < clock_end in
     let intime : end_of rate clock (max clock.free h.at) h.len < clock_end = subst E y.start (subst F ee late) in
     let come = come_sent rate seed arrived g clock h.number h.at h.len (held_numbers y.rest) (held_comings y.rest) next (decisions_of ds)
-        (subst P y.queue x) (comes_later arrived next (max clock.free h.at) coming f y.later) intime in
+    (subst P y.queue x) (comes_later arrived next (max clock.free h.at) coming f y.later) intime in
     let C : Link → Type 0 = λ l. (g' : List Entry) × HasCome rate seed arrived g' l (held_numbers q') (held_comings q') next (decisions_of ds') in
     let Q : List Held → Type 0 = λ r. (g' : List Entry) × HasCome rate seed arrived g' (after_sending rate clock (max clock.free h.at) h.len) (held_numbers r) (held_comings r) next (decisions_of ds') in
     let D : List Decision → Type 0 = λ js. (g' : List Entry) × HasCome rate seed arrived g' (after_sending rate clock (max clock.free h.at) h.len) (held_numbers y.rest) (held_comings y.rest) next js in
     let same : decisions_of ds ++ (h.number, Sent (max clock.free h.at) (end_of rate clock (max clock.free h.at) h.len) Share) ∷ [] ≡ decisions_of ds' =
-        ap (λ t. decisions_of ds ++ (h.number, Sent t (end_of rate clock t h.len) Share) ∷ []) (sym y.start)
-        ∙ ap (λ t. decisions_of ds ++ (h.number, Sent s t Share) ∷ []) (sym ee)
-        ∙ sym (decisions-push ds (record { number = h.number; fate = Sent s e Share })) ∙ ap decisions_of (sym ed) in
+    ap (λ t. decisions_of ds ++ (h.number, Sent t (end_of rate clock t h.len) Share) ∷ []) (sym y.start)
+    ∙ ap (λ t. decisions_of ds ++ (h.number, Sent s t Share) ∷ []) (sym ee)
+    ∙ sym (decisions-push ds (record { number = h.number; fate = Sent s e Share })) ∙ ap decisions_of (sym ed) in
     let after : after_sending rate clock (max clock.free h.at) h.len ≡ clock' = ap (λ t. after_sending rate clock t h.len) (sym y.start) ∙ sym ec in
     let rest : y.rest ≡ q' = sym (eq ∙ ap (λ (r : List Held). drop 1 r) y.queue) in
     subst C after (subst Q rest (subst D same (_, come)))
@@ -225,8 +226,10 @@ turn_offers_numbered free n next q q' ds ds' coming a x y e number within eq ed 
   where
     is_next : a.number ≡ next + 1
     is_next = let P : Option Held → Type 0 = λ o. IfSome o (λ h. h.number ≡ next + 1) in subst P (offers free q coming a e).0 number
+
     inside : next < n
     inside = offers_within free q coming a next n e within
+
     go : (b : Bool) → q' ≡ cond b q (q ++ a ∷ []) → ds' ≡ cond b (ds ++ record { number = a.number; fate = Dropped Full } ∷ []) ds
         → AreNumbered n q' × AreSound n ds'
     go true k l =

@@ -1,9 +1,8 @@
 -- How far a play has come, and how it ended.
-use Rattle.std.specs.Prelude.{◌≡◌, ◌+◌, ℕ, List, [], ◌∷◌, Some, None, Bool, true, false}
-use Rattle.altq_model.specs.History.{Coming, Decision, Event, Entry, bare, offered, journal, labels, waiting}
+use Rattle.std.specs.Prelude.{◌≡◌, ℕ, List, Some, None, Bool, true, false}
+use Rattle.altq_model.specs.History.{Coming, Entry}
 use Rattle.altq_model.specs.Laws.{IsInTime, IsLate}
-use Rattle.altq_model.specs.Link.{Link, link}
-use Rattle.altq_model.specs.Play.{Policy, AreDue, IsPlay, due}
+use Rattle.altq_model.specs.Play.{Policy, AreDue, due}
 
 -- these are the first events of a play, each sending in time
 pub record IsBegun (p : Policy) (rate seed : ℕ) (arrived : List Coming) (g : List Entry) : Type 0 where

@@ -1,10 +1,9 @@
 -- The one queue of an interface without classes, and what a play of it leaves.
-use Rattle.std.specs.Prelude.{◌≡◌, ◌≢◌, ◌≤◌, ◌+◌, ℕ, List, [], ◌∷◌, ◌++◌, codes, Some}
+use Rattle.std.specs.Prelude.{◌≢◌, ℕ, List, codes}
 use Rattle.altq_model.specs.declared.Mark.{Mark}
 use Rattle.altq_model.specs.Arrivals.{Arrival, arrivals_of, comings}
-use Rattle.altq_model.specs.Capture.{Record, Step, End, Next, Fault, Limit, Reads, IsCapture}
-use Rattle.altq_model.specs.History.{Entry, Decision, journal}
-use Rattle.altq_model.specs.Play.{Policy}
+use Rattle.altq_model.specs.Capture.{Record}
+use Rattle.altq_model.specs.History.{Entry, journal}
 use Rattle.altq_model.specs.Policies.{one_queue}
 use Rattle.altq_model.specs.Texts.{departures, fates}
 use Rattle.play_base.specs.View.{View, Keeps}

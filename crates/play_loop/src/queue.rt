@@ -83,11 +83,7 @@ fn arrival_at(arrived: &[Arrived], place: usize) -> Option<Held>
 }
 
 // Keeps a packet, or drops it where the queue is full.
-fn offer(
-    queue: &mut VecDeque<Held>,
-    list: &mut Vec<Decided>,
-    packet: Held,
-) -> Result<(), NoMemory>
+fn offer(queue: &mut VecDeque<Held>, list: &mut Vec<Decided>, packet: Held) -> Result<(), NoMemory>
     ensures queue { OnOk result (queue.new.items ≡
         (if length queue.old.items == 50 then queue.old.items else queue.old.items ++ packet ∷ [])) }
     ensures list { OnOk result (list.new.items ≡ (if length queue.old.items == 50

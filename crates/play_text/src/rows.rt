@@ -86,7 +86,11 @@ pub fn fate_row(
 ) -> Result<Vec<u8>, NoMemory>
     ensures { IfOk result (λ row. row.items ≡ fate_text number at len class.now fate.now) }
 {
-    let (mut number_text, mut at_text, mut len_text) = (Buffer::new(), Buffer::new(), Buffer::new());
+    let (mut number_text, mut at_text, mut len_text) = (
+        Buffer::new(),
+        Buffer::new(),
+        Buffer::new(),
+    );
     let number = number_text.format(number);
     let at = at_text.format(at);
     let len = len_text.format(len);

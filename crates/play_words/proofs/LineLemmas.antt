@@ -1,5 +1,5 @@
 -- A line has one word at the place of its rate.
-use Rattle.std.proofs.Common.{◌≡◌, ◌≢◌, ◌++◌, ◌∙◌, ◌+◌, ◌⊎◌, ℕ, zero, suc, List, [], ◌∷◌, length, take, ap, sym, refl, subst, inl, inr, arith, append_assoc, length-append}
+use Rattle.std.proofs.Common.{◌≡◌, ◌≢◌, ◌++◌, ◌∙◌, ◌⊎◌, ℕ, List, [], ◌∷◌, length, take, ap, sym, inl, inr, arith, append_assoc, length-append}
 use Rattle.std.specs.Prelude.{codes}
 use Rattle.std.proofs.Math.Seq.{take-append_seam}
 use Rattle.play_words.specs.Conf.{line_of, WithoutFeed}
@@ -24,10 +24,10 @@ pub no_feed : (name word rest : List ℕ) → line_of name word ≢ rest ++ 10 �
 no_feed name word rest e =
     let front : List ℕ = codes "interface " ++ (name ++ (codes " bandwidth " ++ (word ++ codes " hfs"))) in
     let split : front ++ 99 ∷ [] ≡ line_of name word =
-        append_assoc (codes "interface ") (name ++ (codes " bandwidth " ++ (word ++ codes " hfs"))) (99 ∷ [])
-        ∙ ap (λ (r : List ℕ). codes "interface " ++ r) (append_assoc name (codes " bandwidth " ++ (word ++ codes " hfs")) (99 ∷ [])
-        ∙ ap (λ (r : List ℕ). name ++ r) (append_assoc (codes " bandwidth ") (word ++ codes " hfs") (99 ∷ [])
-        ∙ ap (λ (r : List ℕ). codes " bandwidth " ++ r) (append_assoc word (codes " hfs") (99 ∷ [])))) in
+    append_assoc (codes "interface ") (name ++ (codes " bandwidth " ++ (word ++ codes " hfs"))) (99 ∷ [])
+    ∙ ap (λ (r : List ℕ). codes "interface " ++ r) (append_assoc name (codes " bandwidth " ++ (word ++ codes " hfs")) (99 ∷ [])
+    ∙ ap (λ (r : List ℕ). name ++ r) (append_assoc (codes " bandwidth ") (word ++ codes " hfs") (99 ∷ [])
+    ∙ ap (λ (r : List ℕ). codes " bandwidth " ++ r) (append_assoc word (codes " hfs") (99 ∷ [])))) in
     let k : 99 ≡ 10 = last_of front rest 99 10 (split ∙ e) in
     omega (arith, k)
 
@@ -60,12 +60,12 @@ pub not_third : (line name named behind : List ℕ) → line ≡ codes "interfac
     → ((rest : List ℕ) → behind ≢ codes " bandwidth " ++ rest) → (word : List ℕ) → line ≢ line_of name word
 not_third line name named behind a b n word e =
     n (word ++ codes " hfsc") (cancel_left name behind (codes " bandwidth " ++ (word ++ codes " hfsc")) (sym b
-        ∙ cancel_left (codes "interface ") named (name ++ (codes " bandwidth " ++ (word ++ codes " hfsc"))) (sym a ∙ e)))
+    ∙ cancel_left (codes "interface ") named (name ++ (codes " bandwidth " ++ (word ++ codes " hfsc"))) (sym a ∙ e)))
 
 -- so it is where the end is not the last part
 pub not_fourth : (line name named behind rest : List ℕ) → line ≡ codes "interface " ++ named → named ≡ name ++ behind
     → behind ≡ codes " bandwidth " ++ rest → ((word : List ℕ) → rest ≢ word ++ codes " hfsc") → (word : List ℕ) → line ≢ line_of name word
 not_fourth line name named behind rest a b c n word e =
     n word (cancel_left (codes " bandwidth ") rest (word ++ codes " hfsc") (sym c
-        ∙ cancel_left name behind (codes " bandwidth " ++ (word ++ codes " hfsc")) (sym b
-        ∙ cancel_left (codes "interface ") named (name ++ (codes " bandwidth " ++ (word ++ codes " hfsc"))) (sym a ∙ e))))
+    ∙ cancel_left name behind (codes " bandwidth " ++ (word ++ codes " hfsc")) (sym b
+    ∙ cancel_left (codes "interface ") named (name ++ (codes " bandwidth " ++ (word ++ codes " hfsc"))) (sym a ∙ e))))

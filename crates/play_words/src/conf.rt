@@ -8,7 +8,9 @@ use line_text::{Word, rate};
 
 /// The least and the greatest bandwidth in bits per second, and the longest line in bytes.
 const LEAST: u64 = 1_000;
+
 const MOST: u64 = 1_000_000_000_000;
+
 const LONGEST: usize = 4_096;
 
 // What follows a front of a text.

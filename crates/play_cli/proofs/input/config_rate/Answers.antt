@@ -1,4 +1,4 @@
-use Rattle.std.proofs.Common.{◌≡◌, ◌∙◌, Some, List, ℕ, sym, subst}
+use Rattle.std.proofs.Common.{◌∙◌, List, ℕ, sym, subst}
 use Rattle.play_words.specs.Conf.{IsOneQueue}
 use Rattle.play_cli.proofs.RunLemmas.{same_some}
 use Rattle.play_cli.proofs.input.config_rate.Goals as goal

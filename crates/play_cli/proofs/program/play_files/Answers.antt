@@ -1,8 +1,7 @@
 -- A run ends at its configuration, at one of its files, or at its play.
-use Rattle.std.proofs.Common.{◌≡◌, ◌≢◌, ℕ, Err, ap, sym, subst}
+use Rattle.std.proofs.Common.{ℕ, Err, ap, sym, subst}
 use Rattle.std.specs.Prelude.{Result}
 use Rattle.play_loop.specs.declared.fault.Opened.{Opened}
-use Rattle.play_loop.specs.declared.fault.PlayFault.{PlayFault}
 use Rattle.play_cli.specs.Causes.{Causes, names_read}
 use Rattle.play_cli.specs.declared.fault.RunFault.{RunFault}
 use Rattle.play_cli.specs.declared.input.ConfigFault.{ConfigFault}
@@ -14,8 +13,8 @@ pub returns-in-Err-clause-why : goal.returns-in-Err-clause-why
 returns-in-Err-clause-why g c =
     let P : RunFault → Type 0 = λ f. Causes (g.F.Files.view c.args.files.now) (g.F.Files.view c.config_rate.new.files) (names_read c.args.words.now) f in
     subst P (sym c.config_fault.ensures) (causes_config (g.F.Files.view c.args.files.now) (g.F.Files.view c.config_rate.new.files) (names_read c.args.words.now)
-        c.in-Err.fault (λ e. c.in-Err.ensures.unbuilt (ap {B = Result ℕ ConfigFault} (λ (f : ConfigFault). Err f) e))
-        (λ e. c.in-Err.ensures.read (ap {B = Result ℕ ConfigFault} (λ (f : ConfigFault). Err f) e)))
+    c.in-Err.fault (λ e. c.in-Err.ensures.unbuilt (ap {B = Result ℕ ConfigFault} (λ (f : ConfigFault). Err f) e))
+    (λ e. c.in-Err.ensures.read (ap {B = Result ℕ ConfigFault} (λ (f : ConfigFault). Err f) e)))
 
 pub returns-in-Err-clause-front : goal.returns-in-Err-clause-front
 returns-in-Err-clause-front g c = λ seed. fronts_kept _ _ (names_read c.args.words.now) seed (λ name. c.in-Err.ensures.keeps.bytes name tt)
@@ -24,9 +23,9 @@ pub returns-in-Err-open_files-clause-why : goal.returns-in-Err-open_files-clause
 returns-in-Err-open_files-clause-why g c =
     let P : RunFault → Type 0 = λ f. Causes (g.F.Files.view c.args.files.now) (g.F.Files.view c.open_files.new.files) (names_read c.args.words.now) f in
     subst P (sym c.open_fault.ensures) (causes_open (g.F.Files.view c.args.files.now) (g.F.Files.view c.config_rate.new.files) (g.F.Files.view c.open_files.new.files)
-        (names_read c.args.words.now) c.in-Err-open_files.fault c.in-Ok.ensures.keeps
-        (λ e. c.in-Err-open_files.ensures.read (ap {B = Result Opened OpenFault} (λ (f : OpenFault). Err f) e))
-        (λ k e. c.in-Err-open_files.ensures.write k (ap {B = Result Opened OpenFault} (λ (f : OpenFault). Err f) e)))
+    (names_read c.args.words.now) c.in-Err-open_files.fault c.in-Ok.ensures.keeps
+    (λ e. c.in-Err-open_files.ensures.read (ap {B = Result Opened OpenFault} (λ (f : OpenFault). Err f) e))
+    (λ k e. c.in-Err-open_files.ensures.write k (ap {B = Result Opened OpenFault} (λ (f : OpenFault). Err f) e)))
 
 pub returns-in-Err-open_files-clause-front : goal.returns-in-Err-open_files-clause-front
 returns-in-Err-open_files-clause-front g c = λ seed.
@@ -39,16 +38,16 @@ returns-in-Err-open_files-clause-nothing g c = λ t x. accepted_not (g.F.Files.v
 pub returns-in-Ok-play_one_queue-clause-done : goal.returns-in-Ok-play_one_queue-clause-done
 returns-in-Ok-play_one_queue-clause-done g c = λ t seed.
     let steps : Steps (g.F.Files.view c.args.files.now) (g.F.Files.view c.config_rate.new.files) (g.F.Files.view c.open_files.new.files)
-        (g.F.Files.view c.play_one_queue.new.files) (names_read c.args.words.now) c.in-Ok.rate c.in-Ok-open_files.opened = record {
-          read = c.in-Ok.ensures.keeps;
-          accepted = c.in-Ok.ensures.accepted;
-          opened = c.in-Ok-open_files.ensures.opened;
-          others = c.in-Ok-open_files.ensures.keeps;
-          played = c.in-Ok-play_one_queue.ensures.keeps;
-          stats_departures = c.requires.departures_stats;
-          stats_fates = c.requires.fates_stats;
-          least = c.in-Ok.ensures.least;
-        } in
+    (g.F.Files.view c.play_one_queue.new.files) (names_read c.args.words.now) c.in-Ok.rate c.in-Ok-open_files.opened = record {
+      read = c.in-Ok.ensures.keeps;
+      accepted = c.in-Ok.ensures.accepted;
+      opened = c.in-Ok-open_files.ensures.opened;
+      others = c.in-Ok-open_files.ensures.keeps;
+      played = c.in-Ok-play_one_queue.ensures.keeps;
+      stats_departures = c.requires.departures_stats;
+      stats_fates = c.requires.fates_stats;
+      least = c.in-Ok.ensures.least;
+    } in
     done_of _ _ _ _ (names_read c.args.words.now) c.in-Ok.rate c.in-Ok-open_files.opened seed steps c.in-Ok-play_one_queue.ensures.done t
 
 pub returns-in-Ok-play_one_queue-clause-nothing : goal.returns-in-Ok-play_one_queue-clause-nothing
@@ -57,33 +56,33 @@ returns-in-Ok-play_one_queue-clause-nothing g c = λ t x. accepted_not (g.F.File
 pub returns-in-Err-play_one_queue-clause-why : goal.returns-in-Err-play_one_queue-clause-why
 returns-in-Err-play_one_queue-clause-why g c =
     let steps : Steps (g.F.Files.view c.args.files.now) (g.F.Files.view c.config_rate.new.files) (g.F.Files.view c.open_files.new.files)
-        (g.F.Files.view c.play_one_queue.new.files) (names_read c.args.words.now) c.in-Ok.rate c.in-Ok-open_files.opened = record {
-          read = c.in-Ok.ensures.keeps;
-          accepted = c.in-Ok.ensures.accepted;
-          opened = c.in-Ok-open_files.ensures.opened;
-          others = c.in-Ok-open_files.ensures.keeps;
-          played = c.in-Err-play_one_queue.ensures.keeps;
-          stats_departures = c.requires.departures_stats;
-          stats_fates = c.requires.fates_stats;
-          least = c.in-Ok.ensures.least;
-        } in
+    (g.F.Files.view c.play_one_queue.new.files) (names_read c.args.words.now) c.in-Ok.rate c.in-Ok-open_files.opened = record {
+      read = c.in-Ok.ensures.keeps;
+      accepted = c.in-Ok.ensures.accepted;
+      opened = c.in-Ok-open_files.ensures.opened;
+      others = c.in-Ok-open_files.ensures.keeps;
+      played = c.in-Err-play_one_queue.ensures.keeps;
+      stats_departures = c.requires.departures_stats;
+      stats_fates = c.requires.fates_stats;
+      least = c.in-Ok.ensures.least;
+    } in
     let P : RunFault → Type 0 = λ f. Causes (g.F.Files.view c.args.files.now) (g.F.Files.view c.play_one_queue.new.files) (names_read c.args.words.now) f in
     subst P (sym c.run_fault.ensures) (causes_of _ _ _ _ (names_read c.args.words.now) c.in-Ok.rate c.in-Ok-open_files.opened c.in-Err-play_one_queue.fault steps
-        c.in-Err-play_one_queue.ensures.why)
+    c.in-Err-play_one_queue.ensures.why)
 
 pub returns-in-Err-play_one_queue-clause-front : goal.returns-in-Err-play_one_queue-clause-front
 returns-in-Err-play_one_queue-clause-front g c = λ seed.
     let steps : Steps (g.F.Files.view c.args.files.now) (g.F.Files.view c.config_rate.new.files) (g.F.Files.view c.open_files.new.files)
-        (g.F.Files.view c.play_one_queue.new.files) (names_read c.args.words.now) c.in-Ok.rate c.in-Ok-open_files.opened = record {
-          read = c.in-Ok.ensures.keeps;
-          accepted = c.in-Ok.ensures.accepted;
-          opened = c.in-Ok-open_files.ensures.opened;
-          others = c.in-Ok-open_files.ensures.keeps;
-          played = c.in-Err-play_one_queue.ensures.keeps;
-          stats_departures = c.requires.departures_stats;
-          stats_fates = c.requires.fates_stats;
-          least = c.in-Ok.ensures.least;
-        } in
+    (g.F.Files.view c.play_one_queue.new.files) (names_read c.args.words.now) c.in-Ok.rate c.in-Ok-open_files.opened = record {
+      read = c.in-Ok.ensures.keeps;
+      accepted = c.in-Ok.ensures.accepted;
+      opened = c.in-Ok-open_files.ensures.opened;
+      others = c.in-Ok-open_files.ensures.keeps;
+      played = c.in-Err-play_one_queue.ensures.keeps;
+      stats_departures = c.requires.departures_stats;
+      stats_fates = c.requires.fates_stats;
+      least = c.in-Ok.ensures.least;
+    } in
     fronts_of _ _ _ _ (names_read c.args.words.now) c.in-Ok.rate c.in-Ok-open_files.opened seed steps c.in-Err-play_one_queue.ensures.front
 
 pub returns-in-Err-play_one_queue-clause-nothing : goal.returns-in-Err-play_one_queue-clause-nothing

@@ -14,49 +14,49 @@ returns-in-Err-clause-front g c = λ other seed. fronts_kept _ _ (names_of c.arg
 pub returns-in-Ok-play_files-clause-nothing : goal.returns-in-Ok-play_files-clause-nothing
 returns-in-Ok-play_files-clause-nothing g c = λ t x.
     let names : names_read c.in-Ok.read ≡ names_of c.args.words.now =
-        names_same _ _ c.in-Ok.ensures.config c.in-Ok.ensures.interface c.in-Ok.ensures.arrivals c.in-Ok.ensures.departures c.in-Ok.ensures.fates c.in-Ok.ensures.stats in
+    names_same _ _ c.in-Ok.ensures.config c.in-Ok.ensures.interface c.in-Ok.ensures.arrivals c.in-Ok.ensures.departures c.in-Ok.ensures.fates c.in-Ok.ensures.stats in
     let P : Names → Type 0 = λ n. AcceptsNone (g.F.Files.view c.args.files.now) n.config n.interface in
     c.play_files.ensures.nothing t (subst P (sym names) x)
 
 pub returns-in-Err-play_files-clause-unbuilt : goal.returns-in-Err-play_files-clause-unbuilt
 returns-in-Err-play_files-clause-unbuilt g c =
     let names : names_read c.in-Ok.read ≡ names_of c.args.words.now =
-        names_same _ _ c.in-Ok.ensures.config c.in-Ok.ensures.interface c.in-Ok.ensures.arrivals c.in-Ok.ensures.departures c.in-Ok.ensures.fates c.in-Ok.ensures.stats in
+    names_same _ _ c.in-Ok.ensures.config c.in-Ok.ensures.interface c.in-Ok.ensures.arrivals c.in-Ok.ensures.departures c.in-Ok.ensures.fates c.in-Ok.ensures.stats in
     let Q : Names → Type 0 = λ n. Causes (g.F.Files.view c.args.files.now) (g.F.Files.view c.play_files.new.files) n c.in-Err-play_files.fault in
     let S : Status → Type 0 = λ s. s.code ≡ 9 → (s.kind ≡ 1)
-        × AcceptsNone (g.F.Files.view c.args.files.now) (names_of c.args.words.now).config (names_of c.args.words.now).interface in
+    × AcceptsNone (g.F.Files.view c.args.files.now) (names_of c.args.words.now).config (names_of c.args.words.now).interface in
     subst S (sym c.status_of.ensures) (unbuilt_of (g.F.Files.view c.args.files.now) (g.F.Files.view c.play_files.new.files) (names_of c.args.words.now)
-        c.in-Err-play_files.fault (subst Q names c.in-Err-play_files.ensures.why))
+    c.in-Err-play_files.fault (subst Q names c.in-Err-play_files.ensures.why))
 
 pub returns-in-Err-play_files-clause-limit : goal.returns-in-Err-play_files-clause-limit
 returns-in-Err-play_files-clause-limit g c =
     let names : names_read c.in-Ok.read ≡ names_of c.args.words.now =
-        names_same _ _ c.in-Ok.ensures.config c.in-Ok.ensures.interface c.in-Ok.ensures.arrivals c.in-Ok.ensures.departures c.in-Ok.ensures.fates c.in-Ok.ensures.stats in
+    names_same _ _ c.in-Ok.ensures.config c.in-Ok.ensures.interface c.in-Ok.ensures.arrivals c.in-Ok.ensures.departures c.in-Ok.ensures.fates c.in-Ok.ensures.stats in
     let Q : Names → Type 0 = λ n. Causes (g.F.Files.view c.args.files.now) (g.F.Files.view c.play_files.new.files) n c.in-Err-play_files.fault in
     let S : Status → Type 0 = λ s. s.code ≡ 7 → ((s.kind ≡ 1) × (IsTrue (g.F.Files.view c.args.files.now).tells → IsLimited (g.F.Files.view c.args.files.now) (names_of c.args.words.now)))
-        ⊎ ((s.kind ≡ 2) × (IsTrue (g.F.Files.view c.args.files.now).tells → (seed : ℕ) →
-            IsLate (g.F.Files.view c.args.files.now) (g.F.Files.view c.play_files.new.files) (names_of c.args.words.now) seed)) in
+    ⊎ ((s.kind ≡ 2) × (IsTrue (g.F.Files.view c.args.files.now).tells → (seed : ℕ) →
+    IsLate (g.F.Files.view c.args.files.now) (g.F.Files.view c.play_files.new.files) (names_of c.args.words.now) seed)) in
     subst S (sym c.status_of.ensures) (limit_of (g.F.Files.view c.args.files.now) (g.F.Files.view c.play_files.new.files) (names_of c.args.words.now)
-        c.in-Err-play_files.fault (subst Q names c.in-Err-play_files.ensures.why))
+    c.in-Err-play_files.fault (subst Q names c.in-Err-play_files.ensures.why))
 
 pub returns-in-Err-play_files-clause-complete : goal.returns-in-Err-play_files-clause-complete
 returns-in-Err-play_files-clause-complete g c = λ t r seed p q.
     let names : names_read c.in-Ok.read ≡ names_of c.args.words.now =
-        names_same _ _ c.in-Ok.ensures.config c.in-Ok.ensures.interface c.in-Ok.ensures.arrivals c.in-Ok.ensures.departures c.in-Ok.ensures.fates c.in-Ok.ensures.stats in
+    names_same _ _ c.in-Ok.ensures.config c.in-Ok.ensures.interface c.in-Ok.ensures.arrivals c.in-Ok.ensures.departures c.in-Ok.ensures.fates c.in-Ok.ensures.stats in
     let Q : Names → Type 0 = λ n. Causes (g.F.Files.view c.args.files.now) (g.F.Files.view c.play_files.new.files) n c.in-Err-play_files.fault in
     inr (ap (λ (s : Status). s.code) c.status_of.ensures ∙ memory_of (g.F.Files.view c.args.files.now) (g.F.Files.view c.play_files.new.files)
-        (names_of c.args.words.now) seed c.in-Err-play_files.fault (subst Q names c.in-Err-play_files.ensures.why) t p q)
+    (names_of c.args.words.now) seed c.in-Err-play_files.fault (subst Q names c.in-Err-play_files.ensures.why) t p q)
 
 pub returns-in-Err-play_files-clause-front : goal.returns-in-Err-play_files-clause-front
 returns-in-Err-play_files-clause-front g c = λ other seed.
     let names : names_read c.in-Ok.read ≡ names_of c.args.words.now =
-        names_same _ _ c.in-Ok.ensures.config c.in-Ok.ensures.interface c.in-Ok.ensures.arrivals c.in-Ok.ensures.departures c.in-Ok.ensures.fates c.in-Ok.ensures.stats in
+    names_same _ _ c.in-Ok.ensures.config c.in-Ok.ensures.interface c.in-Ok.ensures.arrivals c.in-Ok.ensures.departures c.in-Ok.ensures.fates c.in-Ok.ensures.stats in
     let P : Names → Type 0 = λ n. Fronts (g.F.Files.view c.args.files.now) (g.F.Files.view c.play_files.new.files) n seed in
     subst P names (c.in-Err-play_files.ensures.front seed)
 
 pub returns-in-Err-play_files-clause-nothing : goal.returns-in-Err-play_files-clause-nothing
 returns-in-Err-play_files-clause-nothing g c = λ t x.
     let names : names_read c.in-Ok.read ≡ names_of c.args.words.now =
-        names_same _ _ c.in-Ok.ensures.config c.in-Ok.ensures.interface c.in-Ok.ensures.arrivals c.in-Ok.ensures.departures c.in-Ok.ensures.fates c.in-Ok.ensures.stats in
+    names_same _ _ c.in-Ok.ensures.config c.in-Ok.ensures.interface c.in-Ok.ensures.arrivals c.in-Ok.ensures.departures c.in-Ok.ensures.fates c.in-Ok.ensures.stats in
     let P : Names → Type 0 = λ n. AcceptsNone (g.F.Files.view c.args.files.now) n.config n.interface in
     c.play_files.ensures.nothing t (subst P (sym names) x)

@@ -15,19 +15,19 @@ pub returns-in-End-clause-played : goal.returns-in-End-clause-played
 returns-in-End-clause-played c = λ seed.
     let x = c.events.invariant.come seed in
     let f : Finds (comings_held c.args.arrived.now) c.events.next c.arrival_at.result =
-        record { none = c.arrival_at.ensures.none; packet = c.arrival_at.ensures.coming; number = c.arrival_at.ensures.number } in
+    record { none = c.arrival_at.ensures.none; packet = c.arrival_at.ensures.coming; number = c.arrival_at.ensures.number } in
     let d : due_of c.events.clock.link.free (slice_get c.events.queue.items 0) c.arrival_at.result ≡ End = cc in
     (x.0, turn_ends _ seed _ x.0 _ c.events.queue.items _ _ _ x.1 f d, sym x.1.decided)
 
 pub events-preserved-in-Offer : goal.events-preserved-in-Offer
 events-preserved-in-Offer c =
     let f : Finds (comings_held c.args.arrived.now) c.events.next c.arrival_at.result =
-        record { none = c.arrival_at.ensures.none; packet = c.arrival_at.ensures.coming; number = c.arrival_at.ensures.number } in
+    record { none = c.arrival_at.ensures.none; packet = c.arrival_at.ensures.coming; number = c.arrival_at.ensures.number } in
     let d : due_of c.events.clock.link.free (slice_get c.events.queue.items 0) c.arrival_at.result ≡ Offer c.in-Offer.packet = cc in
     let inside = offers_within _ c.events.queue.items _ c.in-Offer.packet c.events.next _ d c.arrival_at.ensures.within in
     let more = turn_offers_numbered _ _ c.events.next c.events.queue.items c.offer.new.queue.items c.events.list.items c.offer.new.list.items _ c.in-Offer.packet
-        c.events.invariant.numbered c.events.invariant.sound d c.arrival_at.ensures.number c.arrival_at.ensures.within
-        c.in_ok-offer-in-Offer.ensures.queue c.in_ok-offer-in-Offer.ensures.list in
+    c.events.invariant.numbered c.events.invariant.sound d c.arrival_at.ensures.number c.arrival_at.ensures.within
+    c.in_ok-offer-in-Offer.ensures.queue c.in_ok-offer-in-Offer.ensures.list in
     record {
       within = omega (arith, inside);
       rate = c.events.invariant.rate;
@@ -44,7 +44,7 @@ pub returns-then-end-ge-CLOCK_END-clause-played : goal.returns-then-end-ge-CLOCK
 returns-then-end-ge-CLOCK_END-clause-played c = λ seed.
     let x = c.events.invariant.come seed in
     let f : Finds (comings_held c.args.arrived.now) c.events.next c.arrival_at.result =
-        record { none = c.arrival_at.ensures.none; packet = c.arrival_at.ensures.coming; number = c.arrival_at.ensures.number } in
+    record { none = c.arrival_at.ensures.none; packet = c.arrival_at.ensures.coming; number = c.arrival_at.ensures.number } in
     let d : due_of c.events.clock.link.free (slice_get c.events.queue.items 0) c.arrival_at.result ≡ Send c.in-Send.packet c.in-Send.start = cc in
     let e : c.end_of-end.result ≡ end_of c.args.rate c.events.clock.link c.in-Send.start c.in-Send.packet.len = cc in
     (x.0, turn_cuts _ seed _ x.0 _ c.events.queue.items _ _ _ c.in-Send.packet c.in-Send.start c.end_of-end.result x.1 f d e (omega arith), sym x.1.decided)
@@ -52,16 +52,16 @@ returns-then-end-ge-CLOCK_END-clause-played c = λ seed.
 pub events-preserved : goal.events-preserved
 events-preserved c =
     let f : Finds (comings_held c.args.arrived.now) c.events.next c.arrival_at.result =
-        record { none = c.arrival_at.ensures.none; packet = c.arrival_at.ensures.coming; number = c.arrival_at.ensures.number } in
+    record { none = c.arrival_at.ensures.none; packet = c.arrival_at.ensures.coming; number = c.arrival_at.ensures.number } in
     let d : due_of c.events.clock.link.free (slice_get c.events.queue.items 0) c.arrival_at.result ≡ Send c.in-Send.packet c.in-Send.start = cc in
     let e : c.end_of-end.result ≡ end_of c.args.rate c.events.clock.link c.in-Send.start c.in-Send.packet.len = cc in
     let early : c.end_of-end.result < clock_end = omega arith in
     let link : c.send.new.self.link ≡ after_sending c.args.rate c.events.clock.link c.in-Send.start c.in-Send.packet.len = cc in
     let free : c.send.new.self.link.free ≡ c.end_of-end.result = ap (λ (l : Link). l.free) link ∙ sym e in
     let pushed : c.push.new.self.items ≡ c.events.list.items ++ record { number = c.in-Send.packet.number; fate = Sent c.in-Send.start c.end_of-end.result Share } ∷ [] =
-        grind (arith, common_steps) in
+    grind (arith, common_steps) in
     let more = turn_sends_numbered _ _ c.events.queue.items c.pop_front.new.self.items c.events.list.items c.push.new.self.items _ c.in-Send.packet
-        c.in-Send.start c.end_of-end.result c.events.invariant.numbered c.events.invariant.sound d early c.pop_front.ensures.rest pushed in
+    c.in-Send.start c.end_of-end.result c.events.invariant.numbered c.events.invariant.sound d early c.pop_front.ensures.rest pushed in
     record {
       within = c.events.invariant.within;
       rate = c.send.ensures.rate ∙ c.events.invariant.rate;

@@ -1,4 +1,4 @@
-use Rattle.std.proofs.Common.{◌≡◌, ◌+◌, ◌-◌, ◌*◌, ◌≤◌, ◌<◌, ◌^◌, ℕ, List, length}
+use Rattle.std.proofs.Common.{◌≡◌, ◌+◌, ◌-◌, ◌*◌, ◌≤◌, ◌<◌, ℕ, List, length}
 use Rattle.altq_model.specs.History.{Entry}
 use Rattle.altq_model.specs.Laws.{clock_end}
 use Rattle.play_loop.specs.Queue.{AreNumbered, AreSound, comings_held, held_comings, held_numbers, decisions_of}

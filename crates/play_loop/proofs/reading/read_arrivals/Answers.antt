@@ -1,4 +1,4 @@
-use Rattle.std.proofs.Common.{◌≡◌, ◌∙◌, ◌++◌, ap, sym, refl, subst, arith, length, [], ◌∷◌, None, Some, Err}
+use Rattle.std.proofs.Common.{◌≡◌, ◌∙◌, ◌++◌, ap, sym, refl, subst, arith, length, [], ◌∷◌, Err}
 use Rattle.std.specs.Prelude.{IfSome, Result}
 use Rattle.pcap_files.specs.declared.fault.CaptureFault.{CaptureFault}
 use Rattle.pcap_files.specs.declared.fault.CaptureFault.TheVariants.{Read}
@@ -45,7 +45,7 @@ pub records-preserved : goal.records-preserved
 records-preserved g c =
     let P : Option Record → Type 0 = λ o. IfSome o (λ r. Answers (g.F.Files.view c.records.files) (g.F.Files.view c.next.new.files) c.records.reader c.next.new.self r) in
     let answer : Answers (g.F.Files.view c.records.files) (g.F.Files.view c.next.new.files) c.records.reader c.next.new.self c.in-Some.record =
-        subst P c.in-Some.is c.in-Ok-next.ensures.record in
+    subst P c.in-Some.is c.in-Ok-next.ensures.record in
     let pushed : c.push.new.self.items ≡ c.records.list.items ++ c.arrived_of-arrived.result ∷ [] = grind (arith, common_steps) in
     record {
       there = still_there _ _ _ _ _ c.next.ensures.some.1.keeps c.records.invariant.there;
@@ -58,6 +58,6 @@ records-preserved g c =
           let x = c.records.invariant.read bytes h in
           let y = answer bytes x.0 x.1 in
           let z = arrival_more x.0 y.0 c.records.list.items c.records.latest (length x.0) c.in-Some.record c.arrived_of-arrived.result x.2 x.3 y.1
-              c.arrived_of-arrived.ensures.at c.arrived_of-arrived.ensures.len c.arrived_of-arrived.ensures.bytes c.arrived_of-arrived.ensures.raised in
+          c.arrived_of-arrived.ensures.at c.arrived_of-arrived.ensures.len c.arrived_of-arrived.ensures.bytes c.arrived_of-arrived.ensures.raised in
           (x.0 ++ y.0 ∷ [], y.2, ap arrivals_held pushed ∙ z.0, z.1 ∙ sym c.arrived_of-arrived.ensures.at);
     }

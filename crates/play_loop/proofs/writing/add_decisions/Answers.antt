@@ -1,6 +1,5 @@
 -- Each turn adds the texts of one decision.
-use Rattle.std.proofs.Common.{◌≡◌, ◌∙◌, ◌<◌, ◌+◌, arith, length, sym, subst, ℕ}
-use Rattle.std.specs.Prelude.{IsSome}
+use Rattle.std.proofs.Common.{◌∙◌, ◌+◌, arith}
 use Rattle.play_base.specs.ViewLaws.{still_there}
 use Rattle.play_loop.specs.Queue.{arrivals_held}
 use Rattle.play_loop.proofs.DecisionLemmas.{sound_at, more_texts, fronts_of_all, texts_of_all}
@@ -19,7 +18,7 @@ add_decision-requires-clause-early g c = (sound_at _ c.args.list.now c.loop-deci
 pub returns-in-Err-clause-stopped : goal.returns-in-Err-clause-stopped
 returns-in-Err-clause-stopped g c = λ ds ts h.
     let more = more_texts (arrivals_held c.args.arrived.now) c.args.list.now c.loop-decided.decided-index _ c.packet_of-packet.result.now ds ts
-        c.loop-decided-test.true c.packet_of-packet.ensures in
+    c.loop-decided-test.true c.packet_of-packet.ensures in
     let front = c.in-Err.ensures.stopped _ _ (c.loop-decided.invariant.wrote ds ts h) in
     fronts_of_all _ _ _ (arrivals_held c.args.arrived.now) c.args.list.now (c.loop-decided.decided-index + 1) ds ts
     (fronts_same _ _ _ _ _ _ _ more.records more.rows
@@ -39,7 +38,7 @@ loop-decided-preserved g c =
       said = c.in-Ok.ensures.said ∙ c.loop-decided.invariant.said;
       wrote = λ ds ts h.
           let more = more_texts (arrivals_held c.args.arrived.now) c.args.list.now c.loop-decided.decided-index _ c.packet_of-packet.result.now ds ts
-              c.loop-decided-test.true c.packet_of-packet.ensures in
+          c.loop-decided-test.true c.packet_of-packet.ensures in
           texts_same _ _ _ _ _ _ _ _ _ more.records more.rows (c.in-Ok.ensures.wrote _ _ (c.loop-decided.invariant.wrote ds ts h));
     }
 

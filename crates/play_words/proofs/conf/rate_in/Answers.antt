@@ -1,6 +1,6 @@
 -- The text has no such rate where its line, its word or its length is another.
-use Rattle.std.proofs.Common.{◌≡◌, ◌∙◌, ◌≤◌, ℕ, List, ap, sym, subst, length, arith}
-use Rattle.play_words.specs.Conf.{IsPlainRate, line_of}
+use Rattle.std.proofs.Common.{◌≡◌, ◌∙◌, ℕ, List, ap, sym, subst, length, arith}
+use Rattle.play_words.specs.Conf.{IsPlainRate}
 use Rattle.play_words.proofs.LineLemmas.{line_is, one_word}
 use Rattle.play_words.proofs.conf.rate_in.Goals as goal
 
