@@ -107,10 +107,10 @@ impl Running {
     }
 }
 
-/// Over openings the least of what they allow reaches a count exactly where each of them allows it, and the deadline is
+/// The least over all openings of what they allow reaches a count exactly where each of them allows it, and the deadline is
 /// the moment from which it does.
 #[tactic(auto, using(crate::proofs::Reaching::least_is_for_each, crate::proofs::Deadlines::deadline_is_for_each))]
-pub fn least_counts()
+pub fn least_over_openings()
     ensures each { (s : Curve) (os : List Opening) (t count : ℕ) → (IsAtLeast (least_over s os t) count ↔ Reaches s os t count) }
     ensures come { (s : Curve) (os : List Opening) (t count : ℕ) → (HasCome (deadline s os count) t ↔ Reaches s os t count) }
 {}

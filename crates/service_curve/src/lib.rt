@@ -7,7 +7,7 @@
 //! Curve Algorithm for Link-Sharing, Real-Time and Priority Services", SIGCOMM 1997.
 #![tactic(auto)]
 
-ghost use Rattle.std.specs.Prelude.{◌≡◌, ◌≢◌, ◌<◌, ◌≤◌, ◌+◌, ◌-◌, ◌*◌, ◌^◌, ℕ, IfSome, Some, None};
+ghost use Rattle.std.specs.Prelude.{◌≡◌, ◌≢◌, ◌<◌, ◌≤◌, ◌+◌, ◌-◌, ◌*◌, ◌^◌, ◌↔◌, ℕ, IfSome, Some, None};
 ghost use Rattle.service_curve.specs.Curve.{IsInRange, amount, curve, first, straight};
 ghost use Rattle.service_curve.specs.Moment.{IsFirst};
 
@@ -30,6 +30,8 @@ impl Curve {
         ensures no_piece { d ≡ 0 → result ≡ straight m2 }
         ensures one_slope { m1 ≡ m2 → result ≡ straight m2 }
         ensures bent { d ≢ 0 → m1 ≢ m2 → result ≡ curve m1 d m2 }
+        ensures normal { (result.d ≡ 0) ↔ (result.m1 ≡ result.m2) }
+        ensures in_range { IsInRange (curve m1 d m2) → IsInRange result }
         ensures same { (t : ℕ) → amount result t ≡ amount (curve m1 d m2) t }
     {
         if d == 0 || m1 == m2 {
