@@ -1,6 +1,12 @@
 //! The definitions that the crates above cite, in specs/, and the plain enums that they speak of.
 #![tactic(auto)]
 
+mod capture;
+mod rows;
+
+pub use capture::{Damage, DamageKind};
+pub use rows::worked_examples;
+
 /// By which rule a packet was sent.
 #[derive(Clone, Copy, Debug, PartialEq, Eq)]
 pub enum Rule {
@@ -33,4 +39,11 @@ pub enum Verdict {
 pub enum Fate {
     Dropped(Reason),
     Sent { start: u64, end: u64, rule: Rule },
+}
+
+/// The class that a frame belongs to, and its precedence in a queue with several: 0, 1 or 2.
+#[derive(Clone, Copy, Debug, PartialEq, Eq)]
+pub struct Mark {
+    pub class: u32,
+    pub prec: u8,
 }

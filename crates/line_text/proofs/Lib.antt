@@ -1,0 +1,4 @@
+pub mod Passing
+pub mod Splitting
+pub mod Digits
+pub mod Colons

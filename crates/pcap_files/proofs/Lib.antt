@@ -1,0 +1,4 @@
+pub mod PlaceLemmas
+pub mod ReaderLemmas
+pub mod WordLemmas
+pub mod WritingLemmas

@@ -1,0 +1,19 @@
+use Rattle.std.proofs.Common.{◌≡◌, ◌≤◌, ◌∙◌, ap, refl, arith, length}
+use Rattle.pcap_files.proofs.ReaderLemmas.{started, started_head}
+use Rattle.pcap_files.proofs.reader.Reader.start.Goals as goal
+
+pub returns-in-Err-read-clause-damaged : goal.returns-in-Err-read-clause-damaged
+returns-in-Err-read-clause-damaged g c = λ bytes h.
+    started_head _ _ c.args.file c.in-Ok.ahead c.fill.new.self _ bytes c.in-Ok.ensures.none h c.in_default-fill.ensures.took c.in_default-fill.ensures.enough c.as_slice.ensures
+    ∙ c.in-Err-read.ensures.err
+
+pub returns-clause-stands : goal.returns-clause-stands
+returns-clause-stands g c = λ bytes h.
+    let none : length c.in-Ok.ahead ≡ 0 = ap length c.in-Ok.ensures.none in
+    let long : 24 ≤ length c.as_slice.result.now = c.in-Ok-read.ensures.long in
+    started _ _ _ c.in-Ok.ahead c.fill.new.self bytes c.in-Ok.ensures.none h c.in_default-fill.ensures.took
+    (omega (arith, long, ap length c.as_slice.ensures))
+    (omega (arith, none, c.in_default-fill.ensures.bounded))
+    c.pass.ensures refl refl refl
+    (started_head _ _ c.args.file c.in-Ok.ahead c.fill.new.self _ bytes c.in-Ok.ensures.none h c.in_default-fill.ensures.took c.in_default-fill.ensures.enough c.as_slice.ensures
+    ∙ c.in-Ok-read.ensures.ok)

@@ -1,0 +1,67 @@
+use Rattle.std.proofs.Common.{◌≡◌, ℕ, ◌∙◌, ap, sym, subst, refl, arith, length}
+use Rattle.altq_model.specs.Capture.{step, place_after, Fault, damage}
+use Rattle.pcap_files.specs.Forms.{form}
+use Rattle.pcap_files.specs.Reading.{IsCause}
+use Rattle.pcap_files.proofs.ReaderLemmas.{took_some, took_into, took_twice, pending_took, stands_at, stands_reads, stands_with, cut_reads, answered}
+use Rattle.pcap_files.proofs.reader.Reader.take_next.Goals as goal
+
+pub returns-in-Err-fill-clause-some : goal.returns-in-Err-fill-clause-some
+returns-in-Err-fill-clause-some g c = took_some _ _ _ _ _ _ c.in_default.ensures.took c.in-Err-fill.ensures.some
+
+pub returns-in-End-clause-end : goal.returns-in-End-clause-end
+returns-in-End-clause-end g c = λ bytes records s.
+    let self = c.args.self.now in
+    stands_reads _ self bytes records _ s
+    (stands_at _ _ self c.fill.new.self _ bytes records _ s c.requires.sound c.in_default.ensures.took c.in_default.ensures.enough c.as_slice.ensures c.in-End.ensures.value)
+
+pub returns-in-End-clause-none : goal.returns-in-End-clause-none
+returns-in-End-clause-none g c = λ bytes records s.
+    let self = c.args.self.now in
+    let empty : length c.as_slice.result.now ≡ 0 = c.in-End.ensures.none refl in
+    stands_with _ _ self _ bytes records s refl refl
+    (λ h. pending_took _ _ self.file self.progress.place self.ahead c.fill.new.self bytes (s.pending c.requires.sound) c.in_default.ensures.took)
+    (λ _. omega (arith, empty, ap length c.as_slice.ensures))
+    (subst (λ q. IsCause q (step (form self.head) bytes (length records) (place_after 24 records))) (sym c.requires.sound) tt)
+
+pub returns-in-Limit-clause-fault : goal.returns-in-Limit-clause-fault
+returns-in-Limit-clause-fault g c = λ bytes records s.
+    let self = c.args.self.now in
+    stands_reads _ self bytes records _ s
+    (stands_at _ _ self c.fill.new.self _ bytes records _ s c.requires.sound c.in_default.ensures.took c.in_default.ensures.enough c.as_slice.ensures c.in-Limit.ensures.value)
+
+pub returns-in-Damaged-clause-fault : goal.returns-in-Damaged-clause-fault
+returns-in-Damaged-clause-fault g c = λ bytes records s.
+    let self = c.args.self.now in
+    stands_reads _ self bytes records _ s
+    (stands_at _ _ self c.fill.new.self _ bytes records _ s c.requires.sound c.in_default.ensures.took c.in_default.ensures.enough c.as_slice.ensures c.in-Damaged.ensures.value
+    ∙ ap (λ (place : ℕ). Fault (damage place c.in-Damaged.kind)) (sym c.from.ensures) ∙ ap Fault (sym c.damage_at.ensures))
+
+pub returns-in-Ok-clause-record : goal.returns-in-Ok-clause-record
+returns-in-Ok-clause-record g c = λ bytes records s.
+    let self = c.args.self.now in
+    answered _ _ self c.take_record.new.self c.in-Ok.record c.fill-in-Headed.new.self bytes records c.in-Headed.stamp c.in-Headed.captured c.in-Headed.original
+    s c.requires.sound
+    (took_twice _ _ _ _ _ _ _ c.in_default.ensures.took c.in_default-fill.ensures.took)
+    (stands_at _ _ self c.fill.new.self _ bytes records _ s c.requires.sound c.in_default.ensures.took c.in_default.ensures.enough c.as_slice.ensures c.in-Headed.ensures.value)
+    (omega (arith, s.ahead c.requires.sound, c.in_default.ensures.bounded, c.in_default-fill.ensures.bounded))
+    c.in-Ok.ensures.taken
+
+pub returns-in-Ok-clause-some : goal.returns-in-Ok-clause-some
+returns-in-Ok-clause-some g c = took_into _ _ _ _ _ (took_twice _ _ _ _ _ _ _ c.in_default.ensures.took c.in_default-fill.ensures.took)
+
+pub returns-in-Err-take_record-clause-fault : goal.returns-in-Err-take_record-clause-fault
+returns-in-Err-take_record-clause-fault g c = λ bytes records s.
+    let self = c.args.self.now in
+    cut_reads _ _ self c.fill-in-Headed.new.self bytes records c.in-Headed.stamp c.in-Headed.captured c.in-Headed.original c.in-Err-take_record.fault
+    s c.requires.sound
+    (took_twice _ _ _ _ _ _ _ c.in_default.ensures.took c.in_default-fill.ensures.took)
+    (stands_at _ _ self c.fill.new.self _ bytes records _ s c.requires.sound c.in_default.ensures.took c.in_default.ensures.enough c.as_slice.ensures c.in-Headed.ensures.value)
+    c.in_default-fill.ensures.enough
+    c.in-Err-take_record.ensures.cut
+
+pub returns-in-Err-take_record-clause-some : goal.returns-in-Err-take_record-clause-some
+returns-in-Err-take_record-clause-some g c = took_into _ _ _ _ _ (took_twice _ _ _ _ _ _ _ c.in_default.ensures.took c.in_default-fill.ensures.took)
+
+pub take_record-requires-clause-early : goal.take_record-requires-clause-early
+take_record-requires-clause-early g c =
+    (c.stand_at.ensures.headed c.in-Headed.stamp c.in-Headed.captured c.in-Headed.original c.in-Headed.is).0

@@ -1,0 +1,9 @@
+-- What a call on a file that did nothing means for its reader.
+use Rattle.play_base.specs.declared.trouble.Trouble.{Trouble}
+use Rattle.play_base.specs.declared.trouble.Trouble.TheVariants as trouble
+use Rattle.pcap_files.specs.declared.fault.CaptureFault.{CaptureFault}
+use Rattle.pcap_files.specs.declared.fault.CaptureFault.TheVariants.{Read, NoMemory}
+
+abbrev pub fault_of : Trouble → CaptureFault
+fault_of trouble.Failed = Read
+fault_of trouble.NoMemory = NoMemory

@@ -1,0 +1,108 @@
+-- What a reader stands for: the bytes that its file had left at the start, and the records answered so far.
+use Rattle.std.specs.Prelude.{◌≡◌, ◌≤◌, ◌<◌, ◌+◌, ℕ, max, List, [], ◌++◌, ◌∷◌, length, take, drop, None, Some}
+use Rattle.std.specs.declared.option.Option.{Option}
+use Rattle.play_base.specs.View.{View}
+use Rattle.altq_model.specs.declared.capture.DamageKind.TheVariants.{ShortRecord}
+use Rattle.altq_model.specs.Capture.{Step, End, Fault, damage, Limit, Formed, Unformed, head, step, Stand, place_after, Reads, IsCapture}
+use Rattle.altq_model.specs.Capture as capture
+use Rattle.pcap_files.specs.Ahead.{Pending}
+use Rattle.pcap_files.specs.Forms.{form}
+use Rattle.pcap_files.specs.declared.fault.CaptureFault.{CaptureFault}
+use Rattle.pcap_files.specs.declared.fault.CaptureFault.TheVariants as fault
+use Rattle.pcap_files.specs.declared.reader.Reader.{Reader}
+use Rattle.pcap_files.specs.declared.record.Record.{Record}
+
+-- the answer shows this record of the capture, the one after so many; its length is the greater of the two
+pub record Shows (answer : Record) (count : ℕ) (r : capture.Record) : Type 0 where
+  pub number : answer.number ≡ count + 1
+  pub stamp : answer.stamp ≡ r.stamp
+  pub len : answer.len ≡ max r.original (length r.captured)
+  pub bytes : answer.bytes ≡ r.captured
+
+-- where the fault is told by the bytes, it is what stands there
+abbrev pub IsCause : Option CaptureFault → Step → Type 0
+IsCause None stands = Unit {0}
+IsCause (Some (fault.Damage found)) stands = stands ≡ Fault found
+IsCause (Some fault.Limit) stands = stands ≡ Limit
+IsCause (Some fault.Read) stands = Unit {0}
+IsCause (Some fault.NoMemory) stands = Unit {0}
+
+-- the reader's file had these bytes left at the start, and these records were answered, the first complete ones
+pub record StandsFor (v : View) (r : Reader) (bytes : List ℕ) (records : List capture.Record) : Type 0 where
+  pub formed : head bytes ≡ Formed (form r.head)
+  pub stand : Stand (form r.head) bytes 0 24 records
+  pub count : r.progress.count ≡ length records
+  pub place : r.progress.place ≡ place_after 24 records
+  -- what follows them was taken ahead, or is what the file has left
+  pub pending : r.fault ≡ None → Pending v r.file r.progress.place r.ahead bytes
+  pub ahead : r.fault ≡ None → length r.ahead ≤ 65536
+  pub cause : IsCause r.fault (step (form r.head) bytes (length records) (place_after 24 records))
+
+-- a record was answered: the one that follows those answered before
+abbrev pub Answers : View → View → Reader → Reader → Record → Type 0
+Answers old_view new_view old new answer = (bytes : List ℕ) (records : List capture.Record) → StandsFor old_view old bytes records
+    → (r : capture.Record) × Shows answer (length records) r × StandsFor new_view new bytes (records ++ r ∷ [])
+
+-- how many records a reader has answered
+abbrev pub answered : Reader → ℕ
+answered r = r.progress.count
+
+-- the answer is the next by number, whether or not the file tells its bytes
+pub record Counts (old new : Reader) (answer : Record) : Type 0 where
+  pub number : answer.number ≡ answered old + 1
+  pub count : answered new ≡ answered old + 1
+
+-- no record was answered: the reader stands for what it stood for
+abbrev pub Stays : View → View → Reader → Reader → Type 0
+Stays old_view new_view old new = (bytes : List ℕ) (records : List capture.Record) → StandsFor old_view old bytes records
+    → StandsFor new_view new bytes records
+
+-- the records answered are all of a capture
+abbrev pub IsWhole : View → Reader → Type 0
+IsWhole v r = (bytes : List ℕ) (records : List capture.Record) → StandsFor v r bytes records → IsCapture bytes records
+
+-- what these bytes read as, where the fault is told by the bytes
+abbrev pub ReadsTo : CaptureFault → List ℕ → List capture.Record → Type 0
+ReadsTo (fault.Damage found) bytes records = Reads bytes records (Fault found)
+ReadsTo fault.Limit bytes records = Reads bytes records Limit
+ReadsTo fault.Read bytes records = Unit {0}
+ReadsTo fault.NoMemory bytes records = Unit {0}
+
+-- where the fault of a start is told by the bytes, it is the first test that their head fails
+abbrev pub IsHeadFault : CaptureFault → List ℕ → Type 0
+IsHeadFault (fault.Damage found) bytes = head bytes ≡ Unformed found
+IsHeadFault fault.Limit bytes = ⊥
+IsHeadFault fault.Read bytes = Unit {0}
+IsHeadFault fault.NoMemory bytes = Unit {0}
+
+-- the fault is the one that follows the records answered
+abbrev pub IsFault : View → Reader → CaptureFault → Type 0
+IsFault v r f = (bytes : List ℕ) (records : List capture.Record) → StandsFor v r bytes records → ReadsTo f bytes records
+
+-- nothing changed but the bytes ahead
+pub record SameBut (old new : Reader) : Type 0 where
+  pub head : new.head ≡ old.head
+  pub file : new.file ≡ old.file
+  pub progress : new.progress ≡ old.progress
+  pub fault : new.fault ≡ old.fault
+
+-- the record with this head was taken from the bytes ahead
+pub record IsTaken (old new : Reader) (answer : Record) (stamp_given captured original : ℕ) : Type 0 where
+  pub enough : 16 + captured ≤ length old.ahead
+  pub head : new.head ≡ old.head
+  pub file : new.file ≡ old.file
+  pub fault : new.fault ≡ old.fault
+  pub count : new.progress.count ≡ old.progress.count + 1
+  pub place : new.progress.place ≡ old.progress.place + 16 + captured
+  pub ahead : new.ahead ≡ drop (16 + captured) old.ahead
+  pub number : answer.number ≡ old.progress.count + 1
+  pub stamp : answer.stamp ≡ stamp_given
+  pub len : answer.len ≡ max original captured
+  pub bytes : answer.bytes ≡ take captured (drop 16 old.ahead)
+
+-- why the record at this place was not taken
+abbrev pub IsCut : CaptureFault → (at : ℕ) → (ahead : List ℕ) → (captured : ℕ) → Type 0
+IsCut (fault.Damage found) at ahead captured = (length ahead < 16 + captured) × (found ≡ damage at ShortRecord)
+IsCut fault.Limit at ahead captured = ⊥
+IsCut fault.Read at ahead captured = ⊥
+IsCut fault.NoMemory at ahead captured = Unit {0}

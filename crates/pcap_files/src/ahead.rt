@@ -1,0 +1,125 @@
+// Bytes that are taken from a file in pieces, ahead of their use.
+ghost use Rattle.std.specs.Prelude.{◌≡◌, ◌≤◌, ◌<◌, ◌+◌, ◌⊎◌, ◌^◌, ◌++◌, [], max, length, drop, vec_len, IsSome, IfOk, OnOk, OnErr, IsErrOf};
+ghost use Rattle.play_base.specs.View.{ReadFault, IsAtEnd};
+ghost use Rattle.pcap_files.specs.Ahead.{TookSome, TookInto};
+
+use play_base::{Files, NoMemory, Trouble};
+use std::alloc::Global;
+use std::marker::Model;
+
+// The most bytes that one read takes.
+const PIECE: usize = 65_536;
+
+/// The bytes that were taken and not passed yet, which contracts see as their list.
+#[derive(Drop)]
+pub struct Ahead {
+    buffer: Vec<u8>,
+    from: usize,
+    piece: Vec<u8>,
+}
+
+impl Model for Ahead {
+    ghost use Rattle.std.specs.Prelude.{ℕ, List, ◌≡◌, ◌≤◌, drop, vec_len};
+
+    ghost Value = { List ℕ };
+
+    ghost view = { λ a. drop a.from a.buffer.items };
+
+    ghost invariant = { λ a. (a.from ≤ vec_len a.buffer) × (vec_len a.piece ≡ 65536) };
+}
+
+impl Ahead {
+    // Room for one piece, and no byte yet.
+    pub fn new(alloc: Global) -> Result<Ahead, NoMemory>
+        ensures none { IfOk result (λ ahead. ahead ≡ []) }
+    {
+        match Vec::from_elem(alloc, 0u8, PIECE) {
+            Ok(piece) => Ok(Ahead {
+                buffer: Vec::new(alloc),
+                from: 0,
+                piece,
+            }),
+            Err(_) => Err(NoMemory),
+        }
+    }
+
+    // The bytes in order.
+    pub fn as_slice(&self) -> &[u8]
+        ensures { result.now ≡ self.now }
+    {
+        &self.buffer[self.from..]
+    }
+
+    // Leaves out the first bytes.
+    pub fn pass(&mut self, count: usize)
+        requires { count ≤ length self.old }
+        ensures { self.new ≡ drop count self.old }
+    {
+        self.from += count;
+    }
+
+    // Takes bytes from the file until so many are there, or the file is at its end. What was passed is given up before
+    // the first read, so that each byte is moved once for each time that it is waited for.
+    pub fn fill<F: Files>(&mut self, files: &mut F, file: u32, need: usize) -> Result<(), Trouble>
+        requires there { IsSome ((F.view files.old).part file) }
+        requires small { need < 2 ^ 40 }
+        ensures took { OnOk result (TookInto (F.view files.old) (F.view files.new) file self.old self.new) }
+        ensures enough { OnOk result ((need ≤ length self.new) ⊎ IsAtEnd (F.view files.new) file) }
+        ensures bounded { OnOk result (length self.new ≤ max (length self.old) (need + 65535)) }
+        ensures some { OnErr result (TookSome (F.view files.old) (F.view files.new) file) }
+        ensures failed { IsErrOf result Trouble.Failed → ReadFault (F.view files.old) (F.view files.new) file }
+    {
+        if self.buffer.len() - self.from >= need {
+            return Ok(());
+        }
+        drop_front(&mut self.buffer, self.from);
+        self.from = 0;
+        match take_pieces(files, file, &mut self.buffer, &mut self.piece, need) {
+            Ok(()) => Ok(()),
+            Err(trouble) => Err(trouble),
+        }
+    }
+}
+
+// Moves the bytes behind the first so many to the front.
+fn drop_front(buffer: &mut Vec<u8>, count: usize)
+    requires { count ≤ vec_len buffer.old }
+    ensures { buffer.new.items ≡ drop count buffer.old.items }
+{
+    let kept = buffer.len() - count;
+    buffer.copy_within(count.., 0);
+    buffer.truncate(kept);
+}
+
+// Reads pieces into the buffer until it has so many bytes, or the file is at its end.
+fn take_pieces<F: Files>(
+    files: &mut F,
+    file: u32,
+    buffer: &mut Vec<u8>,
+    piece: &mut [u8],
+    need: usize,
+) -> Result<(), Trouble>
+    requires there { IsSome ((F.view files.old).part file) }
+    requires small { need < 2 ^ 40 }
+    requires room { length piece.old ≡ 65536 }
+    ensures took { OnOk result (TookInto (F.view files.old) (F.view files.new) file buffer.old.items buffer.new.items) }
+    ensures enough { OnOk result ((need ≤ vec_len buffer.new) ⊎ IsAtEnd (F.view files.new) file) }
+    ensures bounded { OnOk result (vec_len buffer.new ≤ max (vec_len buffer.old) (need + 65535)) }
+    ensures some { OnErr result (TookSome (F.view files.old) (F.view files.new) file) }
+    ensures failed { IsErrOf result Trouble.Failed → ReadFault (F.view files.old) (F.view files.new) file }
+    ensures room { length piece.new ≡ length piece.old }
+{
+    while buffer.len() < need {
+        let count = match files.read(file, piece) {
+            Ok(count) => count,
+            Err(trouble) => return Err(trouble),
+        };
+        if count == 0 {
+            return Ok(());
+        }
+        if buffer.extend_from_slice(&piece[..count]).is_err() {
+            return Err(Trouble::NoMemory);
+        }
+    }
+    Ok(())
+}

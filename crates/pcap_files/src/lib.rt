@@ -1,0 +1,23 @@
+//! Captures in the classic capture format of version 2.4 (libpcap, pcap-savefile(5)): a reader that answers the records of
+//! a file one by one from pieces of it, and the heads that a capture is written with.
+#![tactic(auto)]
+
+mod ahead;
+mod fault;
+mod form;
+mod numbers;
+mod progress;
+mod reader;
+mod record;
+mod stand;
+mod writing;
+
+pub use altq_model::{Damage, DamageKind};
+pub use fault::CaptureFault;
+pub use form::Head;
+pub use reader::Reader;
+pub use record::Record;
+pub use writing::{head_bytes, record_head, written_captures_read_back};
+
+#[cfg(test)]
+mod tests;

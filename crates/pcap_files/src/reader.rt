@@ -1,0 +1,184 @@
+// Reads the records of a capture one by one.
+ghost use Rattle.std.specs.Prelude.{◌≡◌, ◌≤◌, ◌<◌, ◌+◌, ◌^◌, ◌⊎◌, ℕ, List, [], max, length, None, Some, Err, IsSome, IfOk, IfErr, IfSome, IfNone, OnOk, OnErr, IsErrOf};
+ghost use Rattle.play_base.specs.View.{ReadFault};
+ghost use Rattle.pcap_files.specs.Ahead.{TookSome};
+ghost use Rattle.pcap_files.specs.Reading.{StandsFor, Answers, Counts, Stays, IsWhole, IsFault, IsHeadFault, SameBut, IsTaken, IsCut};
+
+use crate::{CaptureFault, Record};
+use crate::ahead::Ahead;
+use crate::fault::fault_of;
+use crate::form::{Head, damage_at};
+use crate::progress::Progress;
+use crate::stand::{RECORD_HEAD, Stand, stand_at};
+use altq_model::DamageKind;
+use play_base::{Bytes, Files};
+use std::alloc::Global;
+
+// Bytes of a file's head.
+const FILE_HEAD: usize = 24;
+
+/// Reads a capture from an opened file. It takes pieces of at most 65,536 bytes from it, and holds no more than a piece
+/// and a record at once.
+#[derive(Drop)]
+pub struct Reader {
+    alloc: Global,
+    file: u32,
+    head: Head,
+    progress: Progress,
+    ahead: Ahead,
+    fault: Option<CaptureFault>,
+}
+
+impl Reader {
+    /// Reads the head of the capture that the file has left. `Damage` comes exactly where the head fails a test,
+    /// `Read` only where the count of read faults of the file's part rose in this call, and `Limit` never. At most 65,536
+    /// bytes past the head were taken. `file` was answered by `files`.
+    pub fn start<F: Files>(alloc: Global, files: &mut F, file: u32) -> Result<Reader, CaptureFault>
+        requires there { IsSome ((F.view files.old).part file) }
+        ensures stands { IfOk result (λ reader. (bytes : List ℕ) → (F.view files.old).left file ≡ Some bytes →
+            StandsFor (F.view files.new) reader bytes []) }
+        ensures file { IfOk result (λ reader. reader.file ≡ file) }
+        ensures sound { IfOk result (λ reader. reader.fault ≡ None) }
+        ensures damaged { IfErr result (λ fault. (bytes : List ℕ) → (F.view files.old).left file ≡ Some bytes →
+            IsHeadFault fault bytes) }
+        ensures read { IsErrOf result CaptureFault.Read → ReadFault (F.view files.old) (F.view files.new) file }
+        ensures some { TookSome (F.view files.old) (F.view files.new) file }
+    {
+        let Ok(mut ahead) = Ahead::new(alloc) else {
+            return Err(CaptureFault::NoMemory);
+        };
+        if let Err(trouble) = ahead.fill(files, file, FILE_HEAD) {
+            return Err(fault_of(trouble));
+        }
+        let head = match Head::read(ahead.as_slice()) {
+            Ok(head) => head,
+            Err(damage) => return Err(CaptureFault::Damage(damage)),
+        };
+        ahead.pass(FILE_HEAD);
+        Ok(Reader {
+            alloc,
+            file,
+            head,
+            progress: Progress {
+                count: 0,
+                place: 24,
+            },
+            ahead,
+            fault: None,
+        })
+    }
+
+    /// The next record, or none where the file ends at a record's place. `Damage` and `Limit` come exactly where the bytes
+    /// at that place fail a test, `Read` only where the count of read faults of the file's part rose in this call.
+    /// After any fault the reader answers that fault again and takes nothing. When a record is answered, at most 65,536
+    /// bytes past it were taken. What the file has left is to be what it had left after this reader's last call. Takes time
+    /// in proportion to the bytes taken and the record's.
+    pub fn next<F: Files>(&mut self, files: &mut F) -> Result<Option<Record>, CaptureFault>
+        requires there { IsSome ((F.view files.old).part self.old.file) }
+        ensures record { IfOk result (λ answer. IfSome answer (λ r.
+            Answers (F.view files.old) (F.view files.new) self.old self.new r)) }
+        ensures counted { IfOk result (λ answer. IfSome answer (λ r. Counts self.old self.new r)) }
+        ensures end { IfOk result (λ answer. IfNone answer (IsWhole (F.view files.old) self.old)) }
+        ensures none { IfOk result (λ answer. IfNone answer (Stays (F.view files.old) (F.view files.new) self.old self.new)) }
+        ensures fault { IfErr result (λ fault. IsFault (F.view files.old) self.old fault) }
+        ensures stays { OnErr result (Stays (F.view files.old) (F.view files.new) self.old self.new) }
+        ensures read { IsErrOf result CaptureFault.Read →
+            ReadFault (F.view files.old) (F.view files.new) self.old.file ⊎ (self.old.fault ≡ Some CaptureFault.Read) }
+        ensures again { (fault : CaptureFault) → self.old.fault ≡ Some fault → result ≡ Err fault }
+        ensures kept { IfErr result (λ fault. self.new.fault ≡ Some fault) }
+        ensures sound { OnOk result (self.new.fault ≡ None) }
+        ensures file { self.new.file ≡ self.old.file }
+        ensures some { TookSome (F.view files.old) (F.view files.new) self.old.file }
+    {
+        if let Some(fault) = self.fault {
+            return Err(fault);
+        }
+        match self.take_next(files) {
+            Ok(record) => Ok(record),
+            Err(fault) => {
+                self.fault = Some(fault);
+                Err(fault)
+            }
+        }
+    }
+
+    // The next record of a reader that has answered no fault.
+    fn take_next<F: Files>(&mut self, files: &mut F) -> Result<Option<Record>, CaptureFault>
+        requires there { IsSome ((F.view files.old).part self.old.file) }
+        requires sound { self.old.fault ≡ None }
+        ensures record { IfOk result (λ answer. IfSome answer (λ r.
+            Answers (F.view files.old) (F.view files.new) self.old self.new r)) }
+        ensures counted { IfOk result (λ answer. IfSome answer (λ r. Counts self.old self.new r)) }
+        ensures end { IfOk result (λ answer. IfNone answer (IsWhole (F.view files.old) self.old)) }
+        ensures none { IfOk result (λ answer. IfNone answer (Stays (F.view files.old) (F.view files.new) self.old self.new)) }
+        ensures fault { IfErr result (λ fault. IsFault (F.view files.old) self.old fault) }
+        ensures same { OnErr result (SameBut self.old self.new) }
+        ensures read { IsErrOf result CaptureFault.Read → ReadFault (F.view files.old) (F.view files.new) self.old.file }
+        ensures sound { OnOk result (self.new.fault ≡ None) }
+        ensures file { self.new.file ≡ self.old.file }
+        ensures some { TookSome (F.view files.old) (F.view files.new) self.old.file }
+    {
+        if let Err(trouble) = self.ahead.fill(files, self.file, RECORD_HEAD) {
+            return Err(fault_of(trouble));
+        }
+        let place = self.progress.place;
+        match stand_at(self.head, self.progress, self.ahead.as_slice()) {
+            Stand::End => Ok(None),
+            Stand::Limit => Err(CaptureFault::Limit),
+            Stand::Damaged(kind) => Err(CaptureFault::Damage(damage_at(u64::from(place), kind))),
+            Stand::Headed {
+                stamp,
+                captured,
+                original,
+            } => {
+                let whole = RECORD_HEAD + captured as usize;
+                if let Err(trouble) = self.ahead.fill(files, self.file, whole) {
+                    return Err(fault_of(trouble));
+                }
+                match self.take_record(stamp, captured, original) {
+                    Ok(record) => Ok(Some(record)),
+                    Err(fault) => Err(fault),
+                }
+            }
+        }
+    }
+
+    // Takes the record with this head from the bytes ahead, where it stands whole.
+    fn take_record(
+        &mut self,
+        stamp: u64,
+        captured: u32,
+        original: u32,
+    ) -> Result<Record, CaptureFault>
+        requires counted { self.old.progress.count < 4000000 }
+        requires placed { self.old.progress.place + 16 + captured ≤ 2 ^ 30 }
+        requires early { stamp < 2 ^ 62 }
+        requires short { max captured original ≤ 262144 }
+        requires some { 1 ≤ max captured original }
+        ensures taken { IfOk result (λ r. IsTaken self.old self.new r stamp captured original) }
+        ensures cut { IfErr result (λ fault. IsCut fault self.old.progress.place self.old.ahead captured) }
+        ensures same { OnErr result (SameBut self.old self.new) }
+    {
+        let Progress { count, place } = self.progress;
+        let whole = RECORD_HEAD + captured as usize;
+        let ahead = self.ahead.as_slice();
+        if ahead.len() < whole {
+            let damage = damage_at(u64::from(place), DamageKind::ShortRecord);
+            return Err(CaptureFault::Damage(damage));
+        }
+        let Ok(bytes) = ahead[RECORD_HEAD..whole].to_vec(self.alloc) else {
+            return Err(CaptureFault::NoMemory);
+        };
+        self.ahead.pass(whole);
+        self.progress = Progress {
+            count: count + 1,
+            place: place + 16 + captured,
+        };
+        Ok(Record {
+            number: u64::from(count) + 1,
+            stamp,
+            len: captured.max(original),
+            bytes: Bytes::of(bytes),
+        })
+    }
+}

@@ -1,0 +1,41 @@
+-- What one more file does to the list of opened files, and what is found at a place of it.
+use Rattle.std.proofs.Common.{◌≡◌, ℕ, zero, suc, List, [], ◌∷◌, ◌++◌, length, drop, Some, refl, arith, ap, sym, get_or}
+use Rattle.std.specs.Prelude.{IsSome, slice_get, string_bytes, option_map}
+use Rattle.std.specs.Option.{option_map_or}
+use Rattle.std.proofs.lemmas.Option.{slice_get_past}
+use Rattle.play_base.specs.declared.opened.OpenedFile.{OpenedFile}
+use Rattle.play_base.specs.Memory.{Added, part_at, name_at, left_at}
+
+pub slice_get-push : {X : Type 0} (xs : List X) (x : X) → slice_get (xs ++ x ∷ []) (length xs) ≡ Some x
+slice_get-push [] x = refl
+slice_get-push (y ∷ xs) x = slice_get-push xs x
+
+pub slice_get-append : {X : Type 0} (xs ys : List X) (f : ℕ) (y : X) → slice_get xs f ≡ Some y → slice_get (xs ++ ys) f ≡ Some y
+slice_get-append [] ys f y h = cc
+slice_get-append (x ∷ xs) ys zero y h = h
+slice_get-append (x ∷ xs) ys (suc f) y h = slice_get-append xs ys f y h
+
+pub part_at-append : (xs ys : List OpenedFile) (f p : ℕ) → part_at xs f ≡ Some p
+    → (part_at (xs ++ ys) f ≡ part_at xs f) × (name_at (xs ++ ys) f ≡ name_at xs f) × (left_at (xs ++ ys) f ≡ left_at xs f)
+part_at-append [] ys f p h = cc
+part_at-append (x ∷ xs) ys zero p h = (refl, refl, refl)
+part_at-append (x ∷ xs) ys (suc f) p h = part_at-append xs ys f p h
+
+pub added : (old : List OpenedFile) (o : OpenedFile) → Added old (old ++ o ∷ []) (length old) o.part (string_bytes o.name) (drop o.place o.bytes.items)
+added old o = record {
+  fresh = ap (option_map (λ (x : OpenedFile). x.part)) (slice_get_past old (length old) (omega arith));
+  part = ap (option_map (λ (x : OpenedFile). x.part)) (slice_get-push old o);
+  name = ap (λ r. option_map_or (λ (x : OpenedFile). string_bytes x.name) r []) (slice_get-push old o);
+  left = ap (option_map (λ (x : OpenedFile). drop x.place x.bytes.items)) (slice_get-push old o);
+  others = λ f p h. part_at-append old (o ∷ []) f p h;
+}
+
+pub name_at_found : (xs : List OpenedFile) (f : ℕ) (o : OpenedFile) → IsSome (part_at xs f) → o ≡ get_or xs f o → name_at xs f ≡ string_bytes o.name
+name_at_found [] f o there at = cc
+name_at_found (x ∷ xs) zero o there at = ap (λ (y : OpenedFile). string_bytes y.name) (sym at)
+name_at_found (x ∷ xs) (suc f) o there at = name_at_found xs f o there at
+
+pub part_at_found : (xs : List OpenedFile) (f : ℕ) (o : OpenedFile) → IsSome (part_at xs f) → o ≡ get_or xs f o → part_at xs f ≡ Some o.part
+part_at_found [] f o there at = cc
+part_at_found (x ∷ xs) zero o there at = ap (λ (y : OpenedFile). Some y.part) (sym at)
+part_at_found (x ∷ xs) (suc f) o there at = part_at_found xs f o there at

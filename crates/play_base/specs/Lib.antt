@@ -1,0 +1,7 @@
+pub mod Holds
+pub mod HoldsLaws
+pub mod Memory
+pub mod Overwritten
+pub mod Steady
+pub mod View
+pub mod ViewLaws

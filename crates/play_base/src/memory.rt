@@ -1,0 +1,184 @@
+// Files in memory, which tell everything.
+ghost use Rattle.std.specs.Prelude.{◌≡◌, ◌≢◌, ◌≤◌, ◌<◌, ℕ, List, Some, None, OnOk, OnErr, option_map, slice_index};
+ghost use Rattle.play_base.specs.View.{Unchanged, SameCounts, Keeps, Any, IsFresh};
+ghost use Rattle.play_base.specs.Memory.{memory_view};
+
+use crate::names::{append_bytes, bytes_of, set_bytes};
+use crate::numbered::{add_file, copy_next, name_of, part_of};
+use crate::opened::{Chunk, OpenedFile};
+use crate::planned::{Failing, count_fault, fails_now};
+use crate::{Call, Files, NoMemory, Trouble};
+use std::alloc::Global;
+use std::collections::BTreeMap;
+
+/// Files that are held in memory. They tell everything, and fail where `fail_at` planned it and nowhere else.
+#[derive(Drop)]
+pub struct MemoryFiles {
+    alloc: Global,
+    names: BTreeMap<String, Vec<u8>>,
+    opened: Vec<OpenedFile>,
+    said: Vec<u8>,
+    read_faults: [u64; 16],
+    write_faults: [u64; 16],
+    chunk: Chunk,
+    failing: Vec<Failing>,
+    calls: [u64; 5],
+}
+
+impl MemoryFiles {
+    /// No name, no file, nothing said, every count 0, and no bound on a read. Takes no memory.
+    pub fn new(alloc: Global) -> Self
+        ensures names { (n : List ℕ) → (memory_view result).bytes n ≡ None }
+        ensures fresh { IsFresh (memory_view result) }
+    {
+        MemoryFiles {
+            alloc,
+            names: BTreeMap::new(alloc),
+            opened: Vec::new(alloc),
+            said: Vec::new(alloc),
+            read_faults: [0; 16],
+            write_faults: [0; 16],
+            chunk: Chunk { most: u32::MAX },
+            failing: Vec::new(alloc),
+            calls: [0; 5],
+        }
+    }
+}
+
+impl MemoryFiles {
+    /// Sets the bytes under a name, which is made if it isn't there. Files that were opened before keep what they have
+    /// left. After `NoMemory` nothing has changed. Takes a copy of the bytes.
+    pub fn put(&mut self, name: &str, bytes: &[u8]) -> Result<(), NoMemory>
+        ensures set { OnOk result ((memory_view self.new).bytes name.now ≡ Some bytes.now) }
+        ensures others { Keeps (λ n. n ≢ name.now) Any (memory_view self.old) (memory_view self.new) }
+        ensures said { (memory_view self.new).said ≡ (memory_view self.old).said }
+        ensures counts { SameCounts (memory_view self.old) (memory_view self.new) }
+        ensures err { OnErr result (Unchanged (memory_view self.old) (memory_view self.new)) }
+    {
+        let Ok(bytes) = bytes.to_vec(self.alloc) else {
+            return Err(NoMemory);
+        };
+        match set_bytes(self.alloc, &mut self.names, name, bytes) {
+            Ok(()) => Ok(()),
+            Err(_) => Err(NoMemory),
+        }
+    }
+
+    /// The bytes under a name: `None` exactly where the name isn't there.
+    pub fn get(&self, name: &str) -> Option<&[u8]>
+        ensures { option_map (λ s. s.now) result ≡ (memory_view self.now).bytes name.now }
+    {
+        bytes_of(&self.names, name)
+    }
+
+    /// The text said so far.
+    pub fn said(&self) -> &[u8]
+        ensures { result.now ≡ (memory_view self.now).said }
+    {
+        self.said.as_slice()
+    }
+
+    /// Lets one `read` move at most so many bytes, at least 1.
+    pub fn chunk(&mut self, most: u32)
+        requires { 1 ≤ most }
+        ensures same { Unchanged (memory_view self.old) (memory_view self.new) }
+        ensures counts { SameCounts (memory_view self.old) (memory_view self.new) }
+    {
+        self.chunk = Chunk { most };
+    }
+
+    /// Lets the nth call of this kind fail, from 0, counting each call of the kind since `new`. A failing call answers
+    /// `Failed`, raises its part's count and does nothing else. After `NoMemory` nothing is planned.
+    pub fn fail_at(&mut self, call: Call, nth: u64) -> Result<(), NoMemory>
+        ensures same { Unchanged (memory_view self.old) (memory_view self.new) }
+        ensures counts { SameCounts (memory_view self.old) (memory_view self.new) }
+    {
+        match self.failing.push(Failing { call, nth }) {
+            Ok(()) => Ok(()),
+            Err(_) => Err(NoMemory),
+        }
+    }
+
+    /// The count of read faults of a part, a number below 16.
+    pub fn read_faults(&self, part: u8) -> u64
+        requires { part < 16 }
+        ensures { result ≡ (memory_view self.now).read_faults part }
+    {
+        self.read_faults[usize::from(part)]
+    }
+
+    /// The count of write faults of a part, a number below 16.
+    pub fn write_faults(&self, part: u8) -> u64
+        requires { part < 16 }
+        ensures { result ≡ (memory_view self.now).write_faults part }
+    {
+        self.write_faults[usize::from(part)]
+    }
+}
+
+impl Files for MemoryFiles {
+    ghost view = { memory_view };
+
+    fn open(&mut self, part: u8, name: &str) -> Result<u32, Trouble> {
+        if fails_now(&self.failing, &mut self.calls, Call::Open) {
+            count_fault(&mut self.read_faults, part);
+            return Err(Trouble::Failed);
+        }
+        let bytes = match self.names.get(name) {
+            Some(bytes) => bytes.to_vec(self.alloc),
+            None => return Err(Trouble::Failed),
+        };
+        let Ok(bytes) = bytes else {
+            return Err(Trouble::NoMemory);
+        };
+        add_file(self.alloc, &mut self.opened, part, name, bytes)
+    }
+
+    fn create(&mut self, part: u8, name: &str) -> Result<u32, Trouble> {
+        if fails_now(&self.failing, &mut self.calls, Call::Create) {
+            count_fault(&mut self.write_faults, part);
+            return Err(Trouble::Failed);
+        }
+        let none = Vec::new(self.alloc);
+        let file = add_file(self.alloc, &mut self.opened, part, name, none)?;
+        match set_bytes(self.alloc, &mut self.names, name, Vec::new(self.alloc)) {
+            Ok(()) => Ok(file),
+            Err(_) => {
+                let _ = self.opened.pop();
+                Err(Trouble::NoMemory)
+            }
+        }
+    }
+
+    fn read(&mut self, file: u32, into: &mut [u8]) -> Result<usize, Trouble> {
+        if fails_now(&self.failing, &mut self.calls, Call::Read) {
+            count_fault(&mut self.read_faults, part_of(&self.opened, file));
+            return Err(Trouble::Failed);
+        }
+        let from = &mut self.opened[file as usize];
+        Ok(copy_next(from, &self.chunk, into))
+    }
+
+    fn write(&mut self, file: u32, bytes: &[u8]) -> Result<usize, Trouble> {
+        if fails_now(&self.failing, &mut self.calls, Call::Write) {
+            count_fault(&mut self.write_faults, part_of(&self.opened, file));
+            return Err(Trouble::Failed);
+        }
+        let name = name_of(&self.opened, file);
+        match append_bytes(self.alloc, &mut self.names, name, bytes) {
+            Ok(()) => Ok(bytes.len()),
+            Err(_) => Err(Trouble::NoMemory),
+        }
+    }
+
+    fn say(&mut self, text: &[u8]) -> Result<(), Trouble> {
+        if fails_now(&self.failing, &mut self.calls, Call::Say) {
+            count_fault(&mut self.write_faults, 0);
+            return Err(Trouble::Failed);
+        }
+        match self.said.extend_from_slice(text) {
+            Ok(()) => Ok(()),
+            Err(_) => Err(Trouble::NoMemory),
+        }
+    }
+}

@@ -1,0 +1,19 @@
+ghost use Rattle.std.specs.Prelude.{◌<◌, ◌≤◌, vec_len};
+
+/// A file that was opened or created, with the bytes that stood under its name then and the place read up to.
+#[derive(Drop)]
+pub struct OpenedFile {
+    pub part: u8,
+    pub name: String,
+    pub bytes: Vec<u8>,
+    pub place: usize,
+    ghost small: { part < 16 },
+    ghost inside: { place ≤ vec_len bytes },
+}
+
+/// How many bytes one read moves at most.
+#[derive(Clone, Copy)]
+pub struct Chunk {
+    pub most: u32,
+    ghost some: { 1 ≤ most },
+}

@@ -1,0 +1,145 @@
+// Files in memory that never fail.
+ghost use Rattle.std.specs.Prelude.{◌≡◌, ◌≢◌, ◌≤◌, ◌<◌, ℕ, List, [], Some, None, OnOk, OnErr, option_map, unwrap_or};
+ghost use Rattle.play_base.specs.View.{Unchanged, Keeps, Any, IsFresh};
+ghost use Rattle.play_base.specs.Memory.{bytes_under};
+ghost use Rattle.play_base.specs.Steady.{steady_view};
+
+use crate::names::{append_bytes, bytes_of, set_bytes};
+use crate::numbered::{add_file, copy_next, name_of};
+use crate::opened::{Chunk, OpenedFile};
+use crate::{Files, NoMemory, Trouble};
+use std::alloc::Global;
+use std::collections::BTreeMap;
+
+/// Files that are held in memory and never fail: a name that isn't there opens as an empty file, so that what they tell
+/// has every name, and every count is 0.
+#[derive(Drop)]
+pub struct SteadyFiles {
+    alloc: Global,
+    names: BTreeMap<String, Vec<u8>>,
+    opened: Vec<OpenedFile>,
+    said: Vec<u8>,
+    chunk: Chunk,
+}
+
+impl SteadyFiles {
+    /// No file, nothing said, every name empty, and no bound on a read. Takes no memory.
+    pub fn new(alloc: Global) -> Self
+        ensures none { (n : List ℕ) → bytes_under result.names n ≡ None }
+        ensures names { (n : List ℕ) → (steady_view result).bytes n ≡ Some [] }
+        ensures fresh { IsFresh (steady_view result) }
+    {
+        SteadyFiles {
+            alloc,
+            names: BTreeMap::new(alloc),
+            opened: Vec::new(alloc),
+            said: Vec::new(alloc),
+            chunk: Chunk { most: u32::MAX },
+        }
+    }
+}
+
+impl SteadyFiles {
+    /// Sets the bytes under a name. Files that were opened before keep what they have left. After `NoMemory` nothing has
+    /// changed. Takes a copy of the bytes.
+    pub fn put(&mut self, name: &str, bytes: &[u8]) -> Result<(), NoMemory>
+        ensures set { OnOk result (bytes_under self.new.names name.now ≡ Some bytes.now) }
+        ensures others { Keeps (λ n. n ≢ name.now) Any (steady_view self.old) (steady_view self.new) }
+        ensures said { (steady_view self.new).said ≡ (steady_view self.old).said }
+        ensures err { OnErr result (Unchanged (steady_view self.old) (steady_view self.new)) }
+    {
+        let Ok(bytes) = bytes.to_vec(self.alloc) else {
+            return Err(NoMemory);
+        };
+        match set_bytes(self.alloc, &mut self.names, name, bytes) {
+            Ok(()) => Ok(()),
+            Err(_) => Err(NoMemory),
+        }
+    }
+
+    /// The bytes under a name: `None` exactly where it was neither put nor created.
+    pub fn get(&self, name: &str) -> Option<&[u8]>
+        ensures kept { option_map (λ s. s.now) result ≡ bytes_under self.now.names name.now }
+        ensures told { (steady_view self.now).bytes name.now ≡ Some (unwrap_or (option_map (λ s. s.now) result) []) }
+    {
+        bytes_of(&self.names, name)
+    }
+
+    /// The text said so far.
+    pub fn said(&self) -> &[u8]
+        ensures { result.now ≡ (steady_view self.now).said }
+    {
+        self.said.as_slice()
+    }
+
+    /// Lets one `read` move at most so many bytes, at least 1.
+    pub fn chunk(&mut self, most: u32)
+        requires { 1 ≤ most }
+        ensures same { Unchanged (steady_view self.old) (steady_view self.new) }
+    {
+        self.chunk = Chunk { most };
+    }
+
+    /// The count of read faults of a part, a number below 16: always 0.
+    pub fn read_faults(&self, part: u8) -> u64
+        requires { part < 16 }
+        ensures { result ≡ 0 }
+    {
+        0
+    }
+
+    /// The count of write faults of a part, a number below 16: always 0.
+    pub fn write_faults(&self, part: u8) -> u64
+        requires { part < 16 }
+        ensures { result ≡ 0 }
+    {
+        0
+    }
+}
+
+impl Files for SteadyFiles {
+    ghost view = { steady_view };
+
+    fn open(&mut self, part: u8, name: &str) -> Result<u32, Trouble> {
+        let bytes = match self.names.get(name) {
+            Some(bytes) => bytes.to_vec(self.alloc),
+            None => Ok(Vec::new(self.alloc)),
+        };
+        match bytes {
+            Ok(bytes) => add_file(self.alloc, &mut self.opened, part, name, bytes),
+            Err(_) => Err(Trouble::NoMemory),
+        }
+    }
+
+    fn create(&mut self, part: u8, name: &str) -> Result<u32, Trouble> {
+        let none = Vec::new(self.alloc);
+        let file = add_file(self.alloc, &mut self.opened, part, name, none)?;
+        match set_bytes(self.alloc, &mut self.names, name, Vec::new(self.alloc)) {
+            Ok(()) => Ok(file),
+            Err(_) => {
+                let _ = self.opened.pop();
+                Err(Trouble::NoMemory)
+            }
+        }
+    }
+
+    fn read(&mut self, file: u32, into: &mut [u8]) -> Result<usize, Trouble> {
+        let from = &mut self.opened[file as usize];
+        Ok(copy_next(from, &self.chunk, into))
+    }
+
+    fn write(&mut self, file: u32, bytes: &[u8]) -> Result<usize, Trouble> {
+        let name = name_of(&self.opened, file);
+        match append_bytes(self.alloc, &mut self.names, name, bytes) {
+            Ok(()) => Ok(bytes.len()),
+            Err(_) => Err(Trouble::NoMemory),
+        }
+    }
+
+    fn say(&mut self, text: &[u8]) -> Result<(), Trouble> {
+        match self.said.extend_from_slice(text) {
+            Ok(()) => Ok(()),
+            Err(_) => Err(Trouble::NoMemory),
+        }
+    }
+}

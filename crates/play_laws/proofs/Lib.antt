@@ -1,0 +1,15 @@
+pub mod AllLaws
+pub mod ArrivalLemmas
+pub mod BusyLemmas
+pub mod CountLemmas
+pub mod DueLemmas
+pub mod EndLemmas
+pub mod LawfulLemmas
+pub mod LinkLemmas
+pub mod OneLemmas
+pub mod OrderLemmas
+pub mod RunLemmas
+pub mod Starts
+pub mod StrictLemmas
+pub mod TextLemmas
+pub mod TimeLemmas

@@ -1,0 +1,23 @@
+use Rattle.play_laws.proofs.ArrivalLemmas as lemma
+use Rattle.play_laws.proofs.arrivals_rise.Goals as goal
+
+pub returns-clause-rising : goal.returns-clause-rising
+returns-clause-rising c = lemma.arrivals_rise
+
+pub returns-clause-one_each : goal.returns-clause-one_each
+returns-clause-one_each c = lemma.arrivals_length
+
+pub returns-clause-at : goal.returns-clause-at
+returns-clause-at c = lemma.arrival_at
+
+pub returns-clause-seen : goal.returns-clause-seen
+returns-clause-seen c = lemma.coming_of_number
+
+pub returns-clause-extend : goal.returns-clause-extend
+returns-clause-extend c = lemma.arrivals_append
+
+pub returns-clause-comings_extend : goal.returns-clause-comings_extend
+returns-clause-comings_extend c = lemma.comings_append
+
+pub returns-clause-held : goal.returns-clause-held
+returns-clause-held c = lemma.arrivals_held

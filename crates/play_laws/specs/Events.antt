@@ -1,0 +1,73 @@
+-- What the events of a play are: an offer of the next arrival, or a sending at the least moment at which one may be.
+use Rattle.std.specs.Prelude.{◌≡◌, ◌≤◌, ◌<◌, ◌⊎◌, ◌+◌, ◌-◌, ℕ, List, [], ◌∷◌, length, Some, slice_get, if◌then◌else◌, nat_lt, nat_le, ◌&&◌}
+use Rattle.altq_model.specs.History.{Coming, Sending, Event, Offered, Sent, Entry, bare, offered, head, waiting, labels, journal}
+use Rattle.altq_model.specs.Laws.{occurs, numbers, IsOrdered, IsNotBefore}
+use Rattle.altq_model.specs.Link.{link, end_of, HasLinkEnds}
+use Rattle.altq_model.specs.Play.{Policy, first_start, offer_of}
+use Rattle.play_laws.specs.Lawful.{MaySend}
+
+-- after a history this event is the offer of the next arrival, whose number is its place among the arrivals; no class may send
+-- before that arrival
+pub record IsOffer (p : Policy) (rate seed : ℕ) (arrived : List Coming) (g : List Entry) (e : Entry) : Type 0 where
+  pub packet : Coming
+  pub next : slice_get arrived (offered (bare g)) ≡ Some packet
+  pub offer : e ≡ offer_of p seed g packet
+  pub place : e.label ≡ offered (bare g) + 1
+  pub first : (s : ℕ) → first_start p (link rate (bare g)).free (bare g) p.classes ≡ Some s → packet.at ≤ s
+
+-- after a history this event is a sending of a class's head, with the link's end; it starts at the least moment at which a class
+-- may send, its class and rule are the pick's, and every arrival up to its start was offered before
+pub record IsSending (p : Policy) (rate : ℕ) (arrived : List Coming) (g : List Entry) (e : Entry) : Type 0 where
+  pub sending : Sending
+  pub packet : Coming
+  pub event : e.what ≡ Sent sending
+  pub number : slice_get (labels sending.class g) 0 ≡ Some e.label
+  pub front : head sending.class (bare g) ≡ Some packet
+  pub len : sending.len ≡ packet.len
+  pub end : sending.end ≡ end_of rate (link rate (bare g)) sending.start sending.len
+  pub least : first_start p (link rate (bare g)).free (bare g) p.classes ≡ Some sending.start
+  pub class : sending.class ≡ (p.pick (bare g) sending.start).class
+  pub rule : sending.rule ≡ (p.pick (bare g) sending.start).rule
+  pub may : MaySend p (link rate (bare g)).free (bare g) sending.class sending.start
+  pub passed : (a : Coming) → slice_get arrived (offered (bare g)) ≡ Some a → sending.start < a.at
+
+-- each event of a history is one of the two
+abbrev pub EachFollows : Policy → (rate seed : ℕ) → List Coming → List Entry → Type 0
+EachFollows p rate seed arrived [] = Unit {0}
+EachFollows p rate seed arrived (e ∷ g) =
+    (IsOffer p rate seed arrived g e ⊎ IsSending p rate arrived g e) × EachFollows p rate seed arrived g
+
+-- a sending is of the arrival of its number, and has its class and its length
+pub record SendsArrival (arrived : List Coming) (n : ℕ) (s : Sending) : Type 0 where
+  pub packet : Coming
+  pub from_one : 0 < n
+  pub arrival : slice_get arrived (n - 1) ≡ Some packet
+  pub class : s.class ≡ packet.class
+  pub len : s.len ≡ packet.len
+
+-- an event is of the arrival of its number
+abbrev pub IsOfArrival : List Coming → (n : ℕ) → Event → Type 0
+IsOfArrival arrived n (Offered a w v) = (0 < n) × (slice_get arrived (n - 1) ≡ Some a)
+IsOfArrival arrived n (Sent s) = SendsArrival arrived n s
+
+abbrev pub AreOfArrivals : List Coming → List Entry → Type 0
+AreOfArrivals arrived [] = Unit {0}
+AreOfArrivals arrived (e ∷ g) = IsOfArrival arrived e.label e.what × AreOfArrivals arrived g
+
+-- each number up to the count of offers has at most one fate, and no other number has one
+abbrev pub IsDecidedOnce : List Entry → Type 0
+IsDecidedOnce g = (n : ℕ) → occurs n (numbers (journal g)) ≤ (if nat_lt 0 n && nat_le n (offered (bare g)) then 1 else 0)
+
+-- what holds of the first events of a play
+pub record HasLaws (p : Policy) (rate seed : ℕ) (arrived : List Coming) (g : List Entry) : Type 0 where
+  pub each : EachFollows p rate seed arrived g
+  pub of_arrivals : AreOfArrivals arrived g
+  pub once : IsDecidedOnce g
+  pub ordered : IsOrdered g
+  pub not_before : IsNotBefore arrived g
+  pub ends : HasLinkEnds rate (bare g)
+
+-- every arrival was offered, and nothing waits in any class
+pub record IsWhole (arrived : List Coming) (g : List Entry) : Type 0 where
+  pub offers : offered (bare g) ≡ length arrived
+  pub empty : (c : ℕ) → waiting c (bare g) ≡ []

@@ -1,0 +1,4 @@
+pub mod Come
+pub mod HeldLemmas
+pub mod Steps
+pub mod GatherLemmas

@@ -1,0 +1,4 @@
+pub mod Decided
+pub mod Gathered
+pub mod GatheredLaws
+pub mod Queue

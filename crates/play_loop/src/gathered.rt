@@ -1,0 +1,85 @@
+// Writing in pieces: short texts are gathered, up to 65,536 bytes, and then written at once.
+ghost use Rattle.std.specs.Prelude.{◌≡◌, ◌≤◌, [], List, ℕ, IsSome, OnOk, OnErr, IsErrOf, max, vec_len};
+ghost use Rattle.play_base.specs.View.{Wrote, WroteFront, WriteFault};
+ghost use Rattle.play_loop.specs.Gathered.{Grew, Stopped};
+
+use play_base::{Files, Trouble};
+use std::alloc::Global;
+
+/// How many bytes are gathered at most.
+const BOUND: usize = 65_536;
+
+/// Writes all the bytes, or after an error a front of them. `Failed` comes only where the count of write faults of the file's
+/// part rose in this call.
+pub fn write_all<F: Files>(files: &mut F, file: u32, bytes: &[u8]) -> Result<(), Trouble>
+    requires { IsSome ((F.view files.old).part file) }
+    ensures wrote { OnOk result (Wrote (F.view files.old) (F.view files.new) file bytes.now) }
+    ensures front { OnErr result (WroteFront (F.view files.old) (F.view files.new) file bytes.now) }
+    ensures failed { IsErrOf result Trouble.Failed → WriteFault (F.view files.old) (F.view files.new) file }
+{
+    let mut at = 0;
+    while at < bytes.len() {
+        let count = match files.write(file, &bytes[at..]) {
+            Ok(count) => count,
+            Err(trouble) => return Err(trouble),
+        };
+        if count == 0 {
+            return Err(Trouble::Failed);
+        }
+        at += count;
+    }
+    Ok(())
+}
+
+/// Adds bytes to those that are gathered for a file; where they would be too many, those before them are written first. A
+/// text longer than the bound is written by itself. After an error a front of all of it was written.
+pub fn gather<F: Files>(
+    files: &mut F,
+    file: u32,
+    pending: &mut Vec<u8>,
+    bytes: &[u8],
+) -> Result<(), Trouble>
+    requires { IsSome ((F.view files.old).part file) }
+    ensures grew { OnOk result (Grew (F.view files.old) (F.view files.new) file pending.old.items pending.new.items bytes.now) }
+    ensures bounded { OnOk result (vec_len pending.new ≤ max (vec_len pending.old) 65536) }
+    ensures stopped { OnErr result (Stopped (F.view files.old) (F.view files.new) file pending.old.items bytes.now) }
+    ensures failed { IsErrOf result Trouble.Failed → WriteFault (F.view files.old) (F.view files.new) file }
+{
+    if pending.len() + bytes.len() <= BOUND {
+        return match pending.extend_from_slice(bytes) {
+            Ok(()) => Ok(()),
+            Err(_) => Err(Trouble::NoMemory),
+        };
+    }
+    match flush(files, file, pending) {
+        Ok(()) => {}
+        Err(trouble) => return Err(trouble),
+    }
+    if bytes.len() > BOUND {
+        return match write_all(files, file, bytes) {
+            Ok(()) => Ok(()),
+            Err(trouble) => Err(trouble),
+        };
+    }
+    match pending.extend_from_slice(bytes) {
+        Ok(()) => Ok(()),
+        Err(_) => Err(Trouble::NoMemory),
+    }
+}
+
+/// Writes what is gathered for a file. After an error a front of it was written.
+pub fn flush<F: Files>(files: &mut F, file: u32, pending: &mut Vec<u8>) -> Result<(), Trouble>
+    requires { IsSome ((F.view files.old).part file) }
+    ensures wrote { OnOk result (Wrote (F.view files.old) (F.view files.new) file pending.old.items) }
+    ensures empty { OnOk result (pending.new.items ≡ []) }
+    ensures front { OnErr result (WroteFront (F.view files.old) (F.view files.new) file pending.old.items) }
+    ensures failed { IsErrOf result Trouble.Failed → WriteFault (F.view files.old) (F.view files.new) file }
+{
+    match write_all(files, file, pending) {
+        Ok(()) => {
+            pending.clear();
+            Ok(())
+        }
+        Err(trouble) => Err(trouble),
+    }
+}
