@@ -3,62 +3,61 @@ use Rattle.std.proofs.Common.{◌≡◌, ◌≤◌, ◌<◌, ◌+◌, ◌-◌, �
 use Rattle.std.specs.Prelude.{nat_le, ◌==◌, if◌then◌else◌, Option, None, Some}
 use Rattle.std.proofs.lemmas.Bool.{cases_lt}
 use Rattle.std.proofs.lemmas.Nat.{div_below}
-use Rattle.altq_model.specs.Units.{ceil_div}
 use Rattle.service_curve.specs.declared.Curve.{Curve}
-use Rattle.service_curve.specs.Curve.{amount, first}
+use Rattle.service_curve.specs.Curve.{amount, time_at, first}
 use Rattle.service_curve.specs.Moment.{IsFirst, HasCome}
 use Rattle.service_curve.proofs.Amounts.{mul_mono, amount_before, amount_after}
 
 -- a quotient rounded up is the least number whose product reaches the amount
-pub ceil_comes : (rate x y : ℕ) → 0 < rate → x ≤ rate * y → ceil_div x rate ≤ y
-ceil_comes rate x y h k =
+pub time_comes : (rate x y : ℕ) → 0 < rate → x ≤ rate * y → time_at rate x ≤ y
+time_comes rate x y h k =
     let one : x + (rate - 1) < (y + 1) * rate = omega arith in
     let two = div_below (x + (rate - 1)) rate (y + 1) h one in
     omega arith
 
-pub ceil_reaches : (rate x y : ℕ) → 0 < rate → ceil_div x rate ≤ y → x ≤ rate * y
-ceil_reaches rate x y h k =
-    let one : x ≤ rate * ceil_div x rate = omega arith in
-    let two = mul_mono rate (ceil_div x rate) y k in
+pub time_reaches : (rate x y : ℕ) → 0 < rate → time_at rate x ≤ y → x ≤ rate * y
+time_reaches rate x y h k =
+    let one : x ≤ rate * time_at rate x = omega arith in
+    let two = mul_mono rate (time_at rate x) y k in
     omega arith
 
 -- an amount that the first piece gives
-before_comes : (s : Curve) (x t : ℕ) → x ≤ s.m1 * s.d → x ≤ amount s t → ceil_div x s.m1 ≤ t
+before_comes : (s : Curve) (x t : ℕ) → x ≤ s.m1 * s.d → x ≤ amount s t → time_at s.m1 x ≤ t
 before_comes s x t h k = go (cases_lt 0 s.m1) (cases_lt s.d t)
   where
-    go : (0 < s.m1) ⊎ (s.m1 ≤ 0) → (s.d < t) ⊎ (t ≤ s.d) → ceil_div x s.m1 ≤ t
-    go (inl z) (inl a) = let one = ceil_comes s.m1 x s.d z h in omega arith
-    go (inl z) (inr a) = let one = amount_before s t a in ceil_comes s.m1 x t z (omega arith)
+    go : (0 < s.m1) ⊎ (s.m1 ≤ 0) → (s.d < t) ⊎ (t ≤ s.d) → time_at s.m1 x ≤ t
+    go (inl z) (inl a) = let one = time_comes s.m1 x s.d z h in omega arith
+    go (inl z) (inr a) = let one = amount_before s t a in time_comes s.m1 x t z (omega arith)
     go (inr z) b =
         let flat : s.m1 ≡ 0 = omega arith in
         let one = ap (λ n. n * s.d) flat in
         let nothing : x ≡ 0 = omega arith in
-        let two : ceil_div x s.m1 ≡ ceil_div 0 0 = ap (λ n. ceil_div n s.m1) nothing ∙ ap (λ n. ceil_div 0 n) flat in
+        let two : time_at s.m1 x ≡ time_at 0 0 = ap (λ n. time_at s.m1 n) nothing ∙ ap (λ n. time_at n 0) flat in
         omega arith
 
-before_reaches : (s : Curve) (x t : ℕ) → x ≤ s.m1 * s.d → ceil_div x s.m1 ≤ t → x ≤ amount s t
+before_reaches : (s : Curve) (x t : ℕ) → x ≤ s.m1 * s.d → time_at s.m1 x ≤ t → x ≤ amount s t
 before_reaches s x t h k = go (cases_lt 0 s.m1) (cases_lt s.d t)
   where
     go : (0 < s.m1) ⊎ (s.m1 ≤ 0) → (s.d < t) ⊎ (t ≤ s.d) → x ≤ amount s t
     go (inl z) (inl a) = let one = amount_after s t (omega arith) in omega arith
-    go (inl z) (inr a) = let one = amount_before s t a in let two = ceil_reaches s.m1 x t z k in omega arith
+    go (inl z) (inr a) = let one = amount_before s t a in let two = time_reaches s.m1 x t z k in omega arith
     go (inr z) b =
         let flat : s.m1 ≡ 0 = omega arith in
         let one = ap (λ n. n * s.d) flat in
         omega arith
 
 -- an amount that the first piece does not give
-after_comes : (s : Curve) (x t : ℕ) → s.m1 * s.d < x → x ≤ amount s t → (0 < s.m2) × (s.d + ceil_div (x - s.m1 * s.d) s.m2 ≤ t)
+after_comes : (s : Curve) (x t : ℕ) → s.m1 * s.d < x → x ≤ amount s t → (0 < s.m2) × (s.d + time_at s.m2 (x - s.m1 * s.d) ≤ t)
 after_comes s x t h k = go (cases_lt 0 s.m2) (cases_lt s.d t)
   where
-    go : (0 < s.m2) ⊎ (s.m2 ≤ 0) → (s.d < t) ⊎ (t ≤ s.d) → (0 < s.m2) × (s.d + ceil_div (x - s.m1 * s.d) s.m2 ≤ t)
+    go : (0 < s.m2) ⊎ (s.m2 ≤ 0) → (s.d < t) ⊎ (t ≤ s.d) → (0 < s.m2) × (s.d + time_at s.m2 (x - s.m1 * s.d) ≤ t)
     go z (inr a) =
         let one = amount_before s t a in
         let two = mul_mono s.m1 t s.d a in
         absurd (omega arith)
     go (inl z) (inl a) =
         let one = amount_after s t (omega arith) in
-        let two = ceil_comes s.m2 (x - s.m1 * s.d) (t - s.d) z (omega arith) in
+        let two = time_comes s.m2 (x - s.m1 * s.d) (t - s.d) z (omega arith) in
         (z, omega arith)
     go (inr z) (inl a) =
         let one = amount_after s t (omega arith) in
@@ -66,10 +65,10 @@ after_comes s x t h k = go (cases_lt 0 s.m2) (cases_lt s.d t)
         let two = ap (λ n. n * (t - s.d)) flat in
         absurd (omega arith)
 
-after_reaches : (s : Curve) (x t : ℕ) → s.m1 * s.d < x → 0 < s.m2 → s.d + ceil_div (x - s.m1 * s.d) s.m2 ≤ t → x ≤ amount s t
+after_reaches : (s : Curve) (x t : ℕ) → s.m1 * s.d < x → 0 < s.m2 → s.d + time_at s.m2 (x - s.m1 * s.d) ≤ t → x ≤ amount s t
 after_reaches s x t h z k =
     let one = amount_after s t (omega arith) in
-    let two = ceil_reaches s.m2 (x - s.m1 * s.d) (t - s.d) z (omega arith) in
+    let two = time_reaches s.m2 (x - s.m1 * s.d) (t - s.d) z (omega arith) in
     omega arith
 
 -- `first` has come exactly where the curve gives the amount
@@ -77,7 +76,7 @@ pub first_comes : (s : Curve) (x t : ℕ) → x ≤ amount s t → HasCome (firs
 first_comes s x t h = go (nat_le x (s.m1 * s.d)) (s.m2 == 0) refl refl
   where
     go : (a b : Bool) → nat_le x (s.m1 * s.d) ≡ a → (s.m2 == 0) ≡ b
-        → HasCome (if a then Some (ceil_div x s.m1) else if b then None else Some (s.d + ceil_div (x - s.m1 * s.d) s.m2)) t
+        → HasCome (if a then Some (time_at s.m1 x) else if b then None else Some (s.d + time_at s.m2 (x - s.m1 * s.d))) t
     go true b e f = before_comes s x t (grind (arith, e)) h
     go false true e f = let two = after_comes s x t (grind (arith, e)) h in absurd (grind (arith, f, two.0))
     go false false e f = (after_comes s x t (grind (arith, e)) h).1
@@ -86,7 +85,7 @@ pub first_reaches : (s : Curve) (x t : ℕ) → HasCome (first s x) t → x ≤ 
 first_reaches s x t = go (nat_le x (s.m1 * s.d)) (s.m2 == 0) refl refl
   where
     go : (a b : Bool) → nat_le x (s.m1 * s.d) ≡ a → (s.m2 == 0) ≡ b
-        → HasCome (if a then Some (ceil_div x s.m1) else if b then None else Some (s.d + ceil_div (x - s.m1 * s.d) s.m2)) t → x ≤ amount s t
+        → HasCome (if a then Some (time_at s.m1 x) else if b then None else Some (s.d + time_at s.m2 (x - s.m1 * s.d))) t → x ≤ amount s t
     go true b e f h = before_reaches s x t (grind (arith, e)) h
     go false true e f h = absurd h
     go false false e f h = after_reaches s x t (grind (arith, e)) (grind (arith, f)) h
