@@ -9,7 +9,7 @@
 //! SIGCOMM 1997: the deadline curve and the eligible curve.
 #![tactic(auto)]
 
-ghost use Rattle.std.specs.Prelude.{◌≡◌, ◌<◌, ◌≤◌, ◌^◌, ◌∷◌, ◌↔◌, [], All, List, ℕ, IsTrue, IsSomeAnd, OnOk, OnErr};
+ghost use Rattle.std.specs.Prelude.{◌≡◌, ◌<◌, ◌≤◌, ◌^◌, ◌∷◌, ◌↔◌, [], All, List, ℕ, None, IsTrue, IsSomeAnd, OnOk, OnErr};
 ghost use Rattle.std.specs.Option.{ForSome};
 ghost use Rattle.service_curve.specs.declared.Curve.{Curve};
 ghost use Rattle.service_curve.specs.Curve.{IsInRange, curve};
@@ -35,7 +35,8 @@ pub struct Opening {
 
 /// A curve over the openings of a class.
 ///
-/// Contracts say for which curve and which openings a value stands.
+/// Contracts say for which curve and which openings a value stands. Of these the last one is the latest and has the
+/// greatest count, by the conditions of `begin`.
 #[derive(Debug, Drop)]
 pub struct Running {
     curve: Curve,
@@ -48,11 +49,12 @@ pub struct Running {
 impl Running {
     ghost use Rattle.runtime_curve.specs.Running.{StandsFor, IsUnchanged, last_of};
 
-    /// The curve without an opening. If its slope rises, it has to rise from 0.
+    /// The curve without an opening. If its slope rises, it has to rise from 0. This takes no memory.
     pub fn new(alloc: Global, curve: Curve) -> Running
         requires in_range { IsInRange curve }
         requires slopes { RisesFromZero curve }
         ensures none { StandsFor result curve [] }
+        ensures empty { last_of result ≡ None }
     {
         Running {
             curve,
@@ -61,7 +63,8 @@ impl Running {
     }
 
     /// Adds an opening at a moment before 2^80 with a count below 2^100, neither of which is less than in the opening
-    /// before it. `NoMemory` is the answer where there is no room for it; then nothing has changed.
+    /// before it. It takes room for one opening more. `NoMemory` is the answer where there is none; then nothing has
+    /// changed.
     pub fn begin(&mut self, at: u128, count: u128) -> Result<(), NoMemory>
         requires at { at < 2 ^ 80 }
         requires count { count < 2 ^ 100 }
@@ -79,7 +82,8 @@ impl Running {
 
     /// The first moment, in nanoseconds, up to which the class is allowed `count` units: the least over all openings of
     /// what they allow reaches it then. `None` comes exactly where there is no such moment. There is an opening; `count`
-    /// is greater than the last one's, and less than 2^100.
+    /// is greater than the last one's, and less than 2^100. This takes no memory, and time in proportion to the number of
+    /// openings.
     pub fn deadline(&self, count: u128) -> Option<u128>
         requires amount { count < 2 ^ 100 }
         requires opened { IsSomeAnd (last_of self.now) (λ last. last.count < count) }
@@ -92,7 +96,8 @@ impl Running {
 
     /// Whether a class that was sent `count` units may be sent more at `now`, a moment in nanoseconds: whether the least
     /// over all openings of what makes it eligible reaches the count. There is an opening, and none is later than `now`;
-    /// `now` is less than 2^80, and `count` less than 2^101.
+    /// `now` is less than 2^80, and `count` less than 2^101. This takes no memory, and time in proportion to the number of
+    /// openings.
     pub fn eligible(&self, now: u128, count: u128) -> bool
         requires now { now < 2 ^ 80 }
         requires amount { count < 2 ^ 101 }
