@@ -1,0 +1,3 @@
+pub mod Breakpoints
+pub mod Between
+pub mod Excess

@@ -1,0 +1,69 @@
+-- When the least over all openings reaches a count: where each opening does, and where it is computed so.
+use Rattle.std.proofs.Common.{◌≡◌, ◌≤◌, ℕ, Bool, true, false, List, [], ◌∷◌, ◌++◌, take, drop, refl, ap, sym, subst, arith, ◌∙◌}
+use Rattle.std.specs.Prelude.{nat_le, if◌then◌else◌, reverse, IsTrue, ◌↔◌, Option, None, Some}
+use Rattle.std.proofs.lemmas.List.{take-append-drop, reverse-append}
+use Rattle.service_curve.specs.declared.Curve.{Curve}
+use Rattle.runtime_curve.specs.declared.Opening.{Opening}
+use Rattle.runtime_curve.specs.Opening.{line, least_of, least_over, IsAtLeast, Reaches}
+use Rattle.runtime_curve.specs.Deadline.{reaches}
+
+-- a least of one and more reaches what all of them reach
+both_reach : (x n : ℕ) (o : Option ℕ) → n ≤ x → IsAtLeast o n → IsAtLeast (least_of x o) n
+both_reach x n None h r = h
+both_reach x n (Some y) h r = omega arith
+
+each_reaches : (x n : ℕ) (o : Option ℕ) → IsAtLeast (least_of x o) n → (n ≤ x) × IsAtLeast o n
+each_reaches x n None r = (r, tt)
+each_reaches x n (Some y) r = (omega arith, omega arith)
+
+pub least_reaches : (s : Curve) (os : List Opening) (t count : ℕ) → Reaches s os t count → IsAtLeast (least_over s os t) count
+least_reaches s [] t count r = tt
+least_reaches s (o ∷ os) t count r = both_reach (line s t o) count (least_over s os t) r.0 (least_reaches s os t count r.1)
+
+pub least_reached : (s : Curve) (os : List Opening) (t count : ℕ) → IsAtLeast (least_over s os t) count → Reaches s os t count
+least_reached s [] t count r = tt
+least_reached s (o ∷ os) t count r =
+    let both = each_reaches (line s t o) count (least_over s os t) r in
+    (both.0, least_reached s os t count both.1)
+
+pub least_is_for_each : (s : Curve) (os : List Opening) (t count : ℕ) → IsAtLeast (least_over s os t) count ↔ Reaches s os t count
+least_is_for_each s os t count = (least_reached s os t count, least_reaches s os t count)
+
+-- the computed truth
+pub reaches_true : (s : Curve) (os : List Opening) (t count : ℕ) → reaches s os t count ≡ true → Reaches s os t count
+reaches_true s [] t count = λ e. tt
+reaches_true s (o ∷ os) t count = go (nat_le count (line s t o)) refl (reaches_true s os t count)
+  where
+    go : (b : Bool) → nat_le count (line s t o) ≡ b → (reaches s os t count ≡ true → Reaches s os t count)
+        → (if b then reaches s os t count else false) ≡ true → (count ≤ line s t o) × Reaches s os t count
+    go true f rest e = (grind (arith, f), rest e)
+    go false f rest e = absurd cc
+
+pub true_reaches : (s : Curve) (os : List Opening) (t count : ℕ) → Reaches s os t count → reaches s os t count ≡ true
+true_reaches s [] t count r = refl
+true_reaches s (o ∷ os) t count r = go (nat_le count (line s t o)) refl (true_reaches s os t count r.1)
+  where
+    go : (b : Bool) → nat_le count (line s t o) ≡ b → reaches s os t count ≡ true → (if b then reaches s os t count else false) ≡ true
+    go true f rest = rest
+    go false f rest = absurd (grind (arith, f, r.0))
+
+-- openings before others that do not reach the count do not make them reach it
+reaches_after : (s : Curve) (os ps : List Opening) (t count : ℕ) → reaches s ps t count ≡ false → reaches s (os ++ ps) t count ≡ false
+reaches_after s [] ps t count e = e
+reaches_after s (o ∷ os) ps t count e = go (nat_le count (line s t o)) (reaches_after s os ps t count e)
+  where
+    go : (b : Bool) → reaches s (os ++ ps) t count ≡ false → (if b then reaches s (os ++ ps) t count else false) ≡ false
+    go true rest = rest
+    go false rest = refl
+
+pub reaches_taken : (s : Curve) (xs : List Opening) (k t count : ℕ) → reaches s (reverse (take k xs)) t count ≡ false → reaches s (reverse xs) t count ≡ false
+reaches_taken s xs k t count e =
+    let halves : reverse xs ≡ reverse (drop k xs) ++ reverse (take k xs)
+    = ap (λ (ys : List Opening). reverse ys) (sym (take-append-drop k xs)) ∙ reverse-append (take k xs) (drop k xs) in
+    subst (λ (ys : List Opening). reaches s ys t count ≡ false) (sym halves)
+    (reaches_after s (reverse (drop k xs)) (reverse (take k xs)) t count e)
+
+-- computed over the openings of a running curve, it is what the least over them says
+pub reaches_least : (s : Curve) (os : List Opening) (t count : ℕ) → IsTrue (reaches s os t count) ↔ IsAtLeast (least_over s os t) count
+reaches_least s os t count =
+    (λ e. least_reaches s os t count (reaches_true s os t count e), λ r. true_reaches s os t count (least_reached s os t count r))

@@ -1,0 +1,149 @@
+//! Service curves over the openings of a class: when a class is to have sent so much, and whether it may send now.
+//!
+//! A class opens when a packet comes to it while nothing of it waits. An opening is the moment of that, and the count of
+//! what the class was sent before it. From each opening on the class is allowed its count and what its curve gives; of
+//! all openings the least counts. Moments are in nanoseconds, counts in units, of which a byte has 8,000,000,000.
+//!
+//! This keeps every opening, so an answer takes time and memory in proportion to their number. The source is Stoica,
+//! Zhang and Ng, "A Hierarchical Fair Service Curve Algorithm for Link-Sharing, Real-Time and Priority Services",
+//! SIGCOMM 1997: the deadline curve and the eligible curve.
+#![tactic(auto)]
+
+ghost use Rattle.std.specs.Prelude.{◌≡◌, ◌<◌, ◌≤◌, ◌^◌, ◌∷◌, ◌↔◌, [], All, List, ℕ, None, IsTrue, IsSomeAnd, OnOk, OnErr};
+ghost use Rattle.std.specs.Option.{ForSome};
+ghost use Rattle.service_curve.specs.declared.Curve.{Curve};
+ghost use Rattle.service_curve.specs.Curve.{IsInRange, curve};
+ghost use Rattle.service_curve.specs.Moment.{IsFirst, HasCome};
+ghost use Rattle.runtime_curve.specs.declared.Opening.{Opening};
+ghost use Rattle.runtime_curve.specs.Opening.{IsWithin, opening, RisesFromZero, least_over, IsAtLeast, Reaches, eligible_curve};
+ghost use Rattle.runtime_curve.specs.Deadline.{deadline, reaches};
+
+use play_base::NoMemory;
+use service_curve::Curve;
+use std::alloc::Global;
+
+mod lines;
+
+use lines::{all_allow, eligible_curve, latest};
+
+/// A moment at which a class opened, in nanoseconds, and the units that it had been sent by real time before it.
+#[derive(Clone, Copy, Debug, PartialEq, Eq)]
+pub struct Opening {
+    pub at: u128,
+    pub count: u128,
+}
+
+/// A curve over the openings of a class.
+///
+/// Contracts say for which curve and which openings a value stands. Of these the last one is the latest and has the
+/// greatest count, by the conditions of `begin`.
+#[derive(Debug, Drop)]
+pub struct Running {
+    curve: Curve,
+    openings: Vec<Opening>,
+    ghost in_range: { IsInRange curve },
+    ghost slopes: { RisesFromZero curve },
+    ghost within: { All IsWithin openings.items },
+}
+
+impl Running {
+    ghost use Rattle.runtime_curve.specs.Running.{StandsFor, IsUnchanged, last_of};
+
+    /// The curve without an opening. If its slope rises, it has to rise from 0. This takes no memory.
+    pub fn new(alloc: Global, curve: Curve) -> Running
+        requires in_range { IsInRange curve }
+        requires slopes { RisesFromZero curve }
+        ensures none { StandsFor result curve [] }
+        ensures empty { last_of result ≡ None }
+    {
+        Running {
+            curve,
+            openings: Vec::new(alloc),
+        }
+    }
+
+    /// Adds an opening at a moment before 2^80 with a count below 2^100, neither of which is less than in the opening
+    /// before it. It takes room for one opening more. `NoMemory` is the answer where there is none; then nothing has
+    /// changed.
+    pub fn begin(&mut self, at: u128, count: u128) -> Result<(), NoMemory>
+        requires at { at < 2 ^ 80 }
+        requires count { count < 2 ^ 100 }
+        requires later { ForSome (last_of self.old) (λ last. (last.at ≤ at) × (last.count ≤ count)) }
+        ensures opened { OnOk result ((s : Curve) (os : List Opening) → StandsFor self.old s os
+            → StandsFor self.new s (opening at count ∷ os)) }
+        ensures last { OnOk result (last_of self.new ≡ Some (opening at count)) }
+        ensures refused { OnErr result (IsUnchanged self.old self.new) }
+    {
+        match self.openings.push(Opening { at, count }) {
+            Ok(()) => Ok(()),
+            Err(_) => Err(NoMemory),
+        }
+    }
+
+    /// The first moment, in nanoseconds, up to which the class is allowed `count` units: the least over all openings of
+    /// what they allow reaches it then. `None` comes exactly where there is no such moment. There is an opening; `count`
+    /// is greater than the last one's, and less than 2^100. This takes no memory, and time in proportion to the number of
+    /// openings.
+    pub fn deadline(&self, count: u128) -> Option<u128>
+        requires amount { count < 2 ^ 100 }
+        requires opened { IsSomeAnd (last_of self.now) (λ last. last.count < count) }
+        ensures first { (s : Curve) (os : List Opening) → StandsFor self.now s os
+            → IsFirst (λ t. IsAtLeast (least_over s os t) count) result }
+        ensures is { (s : Curve) (os : List Opening) → StandsFor self.now s os → result ≡ deadline s os count }
+    {
+        latest(&self.curve, &self.openings, count)
+    }
+
+    /// Whether a class that was sent `count` units may be sent more at `now`, a moment in nanoseconds: whether the least
+    /// over all openings of what makes it eligible reaches the count. There is an opening, and none is later than `now`;
+    /// `now` is less than 2^80, and `count` less than 2^101. This takes no memory, and time in proportion to the number of
+    /// openings.
+    pub fn eligible(&self, now: u128, count: u128) -> bool
+        requires now { now < 2 ^ 80 }
+        requires amount { count < 2 ^ 101 }
+        requires opened { IsSomeAnd (last_of self.now) (λ last. last.at ≤ now) }
+        ensures reached { (s : Curve) (os : List Opening) → StandsFor self.now s os
+            → (IsTrue result ↔ IsAtLeast (least_over (eligible_curve s) os now) count) }
+        ensures is { (s : Curve) (os : List Opening) → StandsFor self.now s os
+            → result ≡ reaches (eligible_curve s) os now count }
+    {
+        let curve = eligible_curve(&self.curve);
+        all_allow(&curve, &self.openings, now, count)
+    }
+}
+
+/// The least over all openings of what they allow reaches a count exactly where each of them allows it, and the deadline is
+/// the moment from which it does.
+#[tactic(auto, using(crate::proofs::Reaching::least_is_for_each, crate::proofs::Deadlines::deadline_is_for_each))]
+pub fn least_over_openings()
+    ensures each { (s : Curve) (os : List Opening) (t count : ℕ) → (IsAtLeast (least_over s os t) count ↔ Reaches s os t count) }
+    ensures come { (s : Curve) (os : List Opening) (t count : ℕ) → (HasCome (deadline s os count) t ↔ Reaches s os t count) }
+{}
+
+/// Worked examples of the definitions: a curve that gives nothing for 20 milliseconds and then 4 megabits a second.
+pub fn worked_openings()
+    ensures one_opening { deadline (curve 0 20000000 4000000) (opening 0 0 ∷ []) 16000000000000 ≡ Some 24000000 }
+    ensures two_openings { deadline (curve 0 20000000 4000000)
+        (opening 10000001 8000000000000 ∷ opening 0 0 ∷ []) 16000000000000 ≡ Some 32000001 }
+    ensures least { least_over (curve 0 20000000 4000000)
+        (opening 10000001 8000000000000 ∷ opening 0 0 ∷ []) 32000000 ≡ Some 15999996000000 }
+    ensures before_an_opening { least_over (curve 8000000 10000000 0) (opening 16000000 7 ∷ []) 15999999 ≡ Some 7 }
+    ensures early { least_over (eligible_curve (curve 0 20000000 4000000)) (opening 0 0 ∷ []) 5 ≡ Some 20000000 }
+    ensures falling { eligible_curve (curve 8000000 10000000 0) ≡ curve 8000000 10000000 0 }
+{}
+
+#[cfg(test)]
+mod tests {
+    use super::*;
+
+    #[test]
+    fn convex_curve_with_two_openings(rt: HostRuntime) {
+        let mut running = Running::new(rt.alloc(), Curve::make(0, 20000000, 4000000));
+        assert_eq!(rt; running.begin(0, 0), Ok(()));
+        assert_eq!(rt; running.deadline(16000000000000), Some(24000000));
+        assert_eq!(rt; running.begin(10000001, 8000000000000), Ok(()));
+        assert_eq!(rt; running.deadline(16000000000000), Some(32000001));
+        assert!(rt; running.eligible(10000001, 8000000000000));
+        assert!(rt; !running.eligible(10000001, 8000000000001));
+    }
+}

@@ -1,0 +1,90 @@
+//! What openings allow, one by one and all together.
+ghost use Rattle.std.specs.Prelude.{◌≡◌, ◌<◌, ◌≤◌, ◌^◌, nat_le, All, reverse};
+ghost use Rattle.service_curve.specs.Curve.{IsInRange};
+ghost use Rattle.runtime_curve.specs.Opening.{IsWithin, line, eligible_curve};
+ghost use Rattle.runtime_curve.specs.Deadline.{later_of, reached_at, deadline, reaches};
+
+use crate::Opening;
+use service_curve::Curve;
+
+/// The later of two moments, where `None` is never.
+fn later_of(a: Option<u128>, b: Option<u128>) -> Option<u128>
+    ensures { result ≡ later_of a b }
+{
+    match (a, b) {
+        (Some(x), Some(y)) => Some(x.max(y)),
+        _ => None,
+    }
+}
+
+/// The first moment up to which an opening allows a count.
+fn reached_at(curve: &Curve, opening: Opening, count: u128) -> Option<u128>
+    requires in_range { IsInRange curve.now }
+    requires within { IsWithin opening }
+    requires amount { count < 2 ^ 100 }
+    ensures { result ≡ reached_at curve.now opening count }
+{
+    if count <= opening.count {
+        return Some(0);
+    }
+    match curve.first(count - opening.count) {
+        None => None,
+        Some(t) => Some(opening.at + t),
+    }
+}
+
+/// The first moment up to which all openings allow a count.
+pub fn latest(curve: &Curve, openings: &[Opening], count: u128) -> Option<u128>
+    requires in_range { IsInRange curve.now }
+    requires within { All IsWithin openings.now }
+    requires amount { count < 2 ^ 100 }
+    ensures { result ≡ deadline curve.now (reverse openings.now) count }
+{
+    let mut latest = Some(0);
+    for opening in openings {
+        latest = later_of(reached_at(curve, *opening, count), latest);
+    }
+    latest
+}
+
+/// The curve that makes a class eligible.
+pub fn eligible_curve(curve: &Curve) -> Curve
+    requires { IsInRange curve.now }
+    ensures is { result ≡ eligible_curve curve.now }
+    ensures in_range { IsInRange result }
+{
+    if curve.m2 <= curve.m1 {
+        *curve
+    } else {
+        Curve {
+            m1: curve.m2,
+            d: 0,
+            m2: curve.m2,
+        }
+    }
+}
+
+/// Whether an opening allows a count up to a moment.
+fn allows(curve: &Curve, opening: Opening, now: u128, count: u128) -> bool
+    requires in_range { IsInRange curve.now }
+    requires within { IsWithin opening }
+    requires now { now < 2 ^ 80 }
+    ensures { result ≡ nat_le count (line curve.now now opening) }
+{
+    count <= opening.count + curve.amount(now.saturating_sub(opening.at))
+}
+
+/// Whether all openings allow a count up to a moment.
+pub fn all_allow(curve: &Curve, openings: &[Opening], now: u128, count: u128) -> bool
+    requires in_range { IsInRange curve.now }
+    requires within { All IsWithin openings.now }
+    requires now { now < 2 ^ 80 }
+    ensures { result ≡ reaches curve.now (reverse openings.now) now count }
+{
+    for opening in openings {
+        if !allows(curve, *opening, now, count) {
+            return false;
+        }
+    }
+    true
+}

@@ -1,0 +1,121 @@
+//! Service curves of two pieces: how much they give in a time, and the least time in which they give so much.
+//!
+//! Times are in nanoseconds and slopes in bits per second. Amounts are in units, of which a byte has 8,000,000,000: so a
+//! slope of m bits per second gives exactly m·t units in t nanoseconds, and every amount is a whole number.
+//!
+//! No call takes memory, and each takes constant time. The source is Stoica, Zhang and Ng, "A Hierarchical Fair Service
+//! Curve Algorithm for Link-Sharing, Real-Time and Priority Services", SIGCOMM 1997.
+#![tactic(auto)]
+
+ghost use Rattle.std.specs.Prelude.{◌≡◌, ◌≢◌, ◌<◌, ◌≤◌, ◌+◌, ◌-◌, ◌*◌, ◌^◌, ◌↔◌, ℕ, IfSome, Some, None};
+ghost use Rattle.service_curve.specs.Curve.{IsInRange, amount, curve, first, straight};
+ghost use Rattle.service_curve.specs.Moment.{IsFirst};
+
+/// A service curve of two pieces: the slope `m1` for a time of `d`, and from there on the slope `m2`.
+///
+/// Slopes are in bits per second, up to 10^12; `d` is in nanoseconds, up to 10^15. A curve with `d` = 0 is the line of slope
+/// `m2`. It gives 0 in no time.
+#[derive(Clone, Copy, Debug, PartialEq, Eq)]
+pub struct Curve {
+    pub m1: u64,
+    pub d: u64,
+    pub m2: u64,
+}
+
+impl Curve {
+    /// The curve of these slopes and this bend, in the one form that all equal curves have: where there is no first piece
+    /// (`d` = 0) or both slopes are one, it is the line of slope `m2`, with `d` = 0 and `m1` = `m2`.
+    #[tactic(auto, using(crate::proofs::Amounts::straight_without_piece, crate::proofs::Amounts::straight_of_one_slope))]
+    pub fn make(m1: u64, d: u64, m2: u64) -> Curve
+        ensures no_piece { d ≡ 0 → result ≡ straight m2 }
+        ensures one_slope { m1 ≡ m2 → result ≡ straight m2 }
+        ensures bent { d ≢ 0 → m1 ≢ m2 → result ≡ curve m1 d m2 }
+        ensures normal { (result.d ≡ 0) ↔ (result.m1 ≡ result.m2) }
+        ensures in_range { IsInRange (curve m1 d m2) → IsInRange result }
+        ensures same { (t : ℕ) → amount result t ≡ amount (curve m1 d m2) t }
+    {
+        if d == 0 || m1 == m2 {
+            Curve { m1: m2, d: 0, m2 }
+        } else {
+            Curve { m1, d, m2 }
+        }
+    }
+
+    /// The units that the curve gives in `t` nanoseconds, where `t` is less than 2^80.
+    pub fn amount(&self, t: u128) -> u128
+        requires in_range { IsInRange self.now }
+        requires time { t < 2 ^ 80 }
+        ensures first_piece { t ≤ self.now.d → result ≡ self.now.m1 * t }
+        ensures second_piece { self.now.d ≤ t → result ≡ self.now.m1 * self.now.d + self.now.m2 * (t - self.now.d) }
+        ensures is { result ≡ amount self.now t }
+        ensures bounded { result ≤ 10 ^ 12 * t }
+    {
+        let d = self.d as u128;
+        if t <= d {
+            self.m1 as u128 * t
+        } else {
+            self.m1 as u128 * d + self.m2 as u128 * (t - d)
+        }
+    }
+
+    /// The least time, in nanoseconds, in which the curve gives `wanted` units, where `wanted` is less than 2^100. `None`
+    /// comes exactly where it never gives so much: its second slope is 0, and its first piece gives less.
+    pub fn first(&self, wanted: u128) -> Option<u128>
+        requires in_range { IsInRange self.now }
+        requires wanted { wanted < 2 ^ 100 }
+        ensures least { IsFirst (λ t. wanted ≤ amount self.now t) result }
+        ensures is { result ≡ first self.now wanted }
+        ensures bounded { IfSome result (λ t. t ≤ self.now.d + wanted) }
+    {
+        let m1 = self.m1 as u128;
+        let m2 = self.m2 as u128;
+        let bend = m1 * self.d as u128;
+        if wanted <= bend {
+            if m1 == 0 {
+                return Some(0);
+            }
+            return Some((wanted + (m1 - 1)) / m1);
+        }
+        if m2 == 0 {
+            return None;
+        }
+        Some(self.d as u128 + (wanted - bend + (m2 - 1)) / m2)
+    }
+}
+
+/// Worked examples of the definitions.
+pub fn worked_curves()
+    ensures nothing { amount (curve 6000000 10000000 1000000) 0 ≡ 0 }
+    ensures bend { amount (curve 6000000 10000000 1000000) 10000000 ≡ 60000000000000 }
+    ensures past { amount (curve 6000000 10000000 1000000) 10000001 ≡ 60000001000000 }
+    ensures of_200_bytes { first (curve 4000000 5000000 1000000) 1600000000000 ≡ Some 400000 }
+    ensures after_a_wait { first (curve 0 20000000 4000000) 16000000000000 ≡ Some 24000000 }
+    ensures all { first (curve 8000000 10000000 0) 80000000000000 ≡ Some 10000000 }
+    ensures never { first (curve 8000000 10000000 0) 80000000000001 ≡ None }
+{}
+
+#[cfg(test)]
+mod tests {
+    use super::*;
+
+    #[test]
+    fn curve_of_the_voice_class(rt: HostRuntime) {
+        let curve = Curve::make(4000000, 5000000, 1000000);
+        assert_eq!(rt; curve.d, 5000000);
+        assert_eq!(rt; Curve::make(4000000, 0, 1000000).m1, 1000000);
+        assert_eq!(rt; Curve::make(4000000, 5, 4000000).d, 0);
+        for (t, units) in [
+            (0, 0),
+            (400000, 1600000000000),
+            (5000000, 20000000000000),
+            (5000001, 20000001000000),
+        ] {
+            assert_eq!(rt; curve.amount(t), units);
+            assert_eq!(rt; curve.first(units), Some(t));
+        }
+        assert_eq!(rt;
+            Curve::make(8000000, 10000000, 0).first(80000000000001),
+            None
+        );
+    }
+}
