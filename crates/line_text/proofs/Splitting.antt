@@ -1,6 +1,6 @@
 -- Words: what a blank and the end of a line make of the bytes before them, and one step along a line.
 use Rattle.std.proofs.Common.{◌≡◌, ℕ, zero, suc, ◌+◌, ◌-◌, ◌<◌, ◌≤◌, ◌++◌, Bool, true, false, cond, List, [], ◌∷◌, ◌⊎◌, inl, inr, add-zero, length, take, drop, get_or, max, refl, sym, ap, ◌∙◌, arith, eqb, nat_lt, slice_index}
-use Rattle.std.proofs.lemmas.List.{take_more, get_or-drop, length-drop, append-nil, append_assoc, drop_all, at_drop_more}
+use Rattle.std.proofs.lemmas.List.{take_more, get_or-drop, length-drop, append-nil, append_assoc, drop_all, at_drop_more, length-append, length-take-le}
 use Rattle.std.proofs.lemmas.Bool.Decides.{nat_tests}
 use Rattle.line_text.specs.declared.word.Word.{Word}
 use Rattle.line_text.specs.Lines.{joint, joined, ends}
@@ -108,3 +108,30 @@ pub end_kept : (found more all : List (List ℕ)) (span left : List ℕ) → fou
     → more ≡ found ++ word_list span → more ≡ all
 end_kept found more all span left h e plain m =
     let g = rw (e, append-nil, words_of-end span plain) at h in m ∙ g
+
+pub count_byte_kept : (found all : ℕ) (span left rest : List ℕ) (byte : ℕ) → found + length (words_of (span ++ left)) ≡ all → left ≡ byte ∷ rest
+    → found + length (words_of ((span ++ byte ∷ []) ++ rest)) ≡ all
+count_byte_kept found all span left rest byte h e = rw append_assoc (rw e at h)
+
+above_zero : (start at : ℕ) → cond {A = ℕ} (nat_lt 0 (at - start)) 1 0 ≡ cond {A = ℕ} (nat_lt start at) 1 0
+above_zero start at = grind (arith, nat_tests)
+
+word_list-len : (span : List ℕ) → length (word_list span) ≡ cond {A = ℕ} (nat_lt 0 (length span)) 1 0
+word_list-len [] = refl
+word_list-len (byte ∷ span) = rw (positive (suc (length span)) (omega arith)) refl
+
+-- the words that the bytes from start to at are: one where there are bytes
+pub span_words : (line : List ℕ) (start at : ℕ) → start ≤ at → at ≤ length line → length (word_list (take (at - start) (drop start line))) ≡ cond (nat_lt start at) 1 0
+span_words line start at order inside =
+    let l : length (take (at - start) (drop start line)) ≡ at - start = length-take-le (at - start) (drop start line) (omega (arith, length-drop start line)) in
+    word_list-len (take (at - start) (drop start line)) ∙ rw l (above_zero start at)
+
+pub count_blank_kept : (found all : ℕ) (span left rest : List ℕ) (blank : ℕ) → found + length (words_of (span ++ left)) ≡ all → left ≡ blank ∷ rest
+    → ArePlain span → is_blank blank ≡ true → found + length (word_list span) + length (words_of rest) ≡ all
+count_blank_kept found all span left rest blank h e plain is =
+    let g = rw (e, words_of-blank span blank rest plain is) at h in
+    omega (arith, length-append (word_list span) (words_of rest), g)
+
+pub count_end_kept : (found all : ℕ) (span left : List ℕ) → found + length (words_of (span ++ left)) ≡ all → left ≡ [] → ArePlain span
+    → found + length (word_list span) ≡ all
+count_end_kept found all span left h e plain = rw (e, append-nil, words_of-end span plain) at h

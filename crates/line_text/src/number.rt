@@ -97,8 +97,10 @@ fn multiple_of(byte: u8) -> u64
     }
 }
 
-/// What stands before the first such byte, and what stands behind it.
-pub(crate) fn cut(mark: u8, text: &[u8]) -> Option<(&[u8], &[u8])>
+/// What stands before the first such byte of a text, and what stands behind it; `None` exactly where there is none.
+///
+/// Takes the text's length in time and no memory.
+pub fn cut(mark: u8, text: &[u8]) -> Option<(&[u8], &[u8])>
     ensures value { option_map (λ p. (p.0.now, p.1.now)) result ≡ cut mark text.now }
     ensures shorter { IfSome result (λ p. length p.1.now < length text.now) }
 {
@@ -112,6 +114,16 @@ fn place_of(mark: u8, text: &[u8]) -> Option<usize>
     ensures within { IfSome result (λ at. at < length text.now) }
 {
     text.iter().position(|byte| *byte == mark)
+}
+
+/// The whole number that decimal digits write, leading zeros included.
+///
+/// `None` exactly where the text is not one or more decimal digits and nothing else, or the number is 2^64 or more. Takes
+/// the text's length in time and no memory.
+pub fn decimal(text: &[u8]) -> Option<u64>
+    ensures { result ≡ number 10 text.now }
+{
+    number(10, text)
 }
 
 /// The number that one or more digits and nothing else write, if it is below 2^64.

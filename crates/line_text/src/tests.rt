@@ -1,5 +1,7 @@
 //! Literal cases of every call.
-use super::{Line, LineFault, Word, ip4, ip6, next_line, rate, whole, words};
+use super::{
+    Line, LineFault, Word, cut, decimal, ip4, ip6, next_line, rate, whole, word_count, words,
+};
 use std::alloc::Global;
 use std::test::Fail;
 
@@ -246,4 +248,21 @@ fn places_of_lines(rt: HostRuntime) {
         })
     );
     assert_eq!(rt; next_line(text, 7, 4), None);
+}
+
+#[test]
+fn parts_of_texts(rt: HostRuntime) {
+    let line = Line {
+        number: 1,
+        from: 0,
+        to: 8,
+    };
+    assert_eq!(rt; word_count(b"a\\\nb # c", &line), 2);
+    assert_eq!(rt; decimal(b"0128"), Some(128));
+    assert_eq!(rt; decimal(b"0x1"), None);
+    assert!(rt; cut(b'/', b"::1").is_none());
+    if let Some((front, back)) = cut(b'/', b"::/0/1") {
+        assert_eq!(rt; front.len(), 2);
+        assert_eq!(rt; back.len(), 3);
+    }
 }

@@ -65,6 +65,46 @@ pub fn words<'a>(alloc: Global, text: &'a [u8], line: &Line) -> Result<Vec<Word<
     }
 }
 
+/// How many words a logical line of a text has, also where it is too long for `words`.
+///
+/// `line` is one that `next_line` answers for the text. Takes the line's length in time and no memory.
+pub fn word_count(text: &[u8], line: &Line) -> u64
+    requires order { line.now.from ≤ line.now.to }
+    requires within { line.now.to ≤ length text.now }
+    ensures value { result ≡ length (words_in text.now line.now) }
+    ensures within { result ≤ length text.now }
+{
+    count(&text[line.from..line.to])
+}
+
+/// How many words a line's bytes have.
+fn count(line: &[u8]) -> u64
+    ensures value { result ≡ length (words_of (joined line.now)) }
+    ensures within { result ≤ length line.now }
+{
+    let mut found = 0;
+    let mut start = 0;
+    let mut at = 0;
+    while at < line.len() && !ends_line(line[at]) {
+        let blank = blank_len(&line[at..]);
+        if blank == 0 {
+            at += 1;
+        } else {
+            found += one_if(start < at);
+            at += blank;
+            start = at;
+        }
+    }
+    found + one_if(start < at)
+}
+
+/// One for a word that is there.
+fn one_if(is_there: bool) -> u64
+    ensures { result ≡ (if is_there then 1 else 0) }
+{
+    if is_there { 1 } else { 0 }
+}
+
 /// The words of a line's bytes.
 fn split(alloc: Global, line: &[u8]) -> Result<Vec<Word<'_>>, AllocError>
     ensures words { IfOk result (λ found. parts_of found.items ≡ words_of (joined line.now)) }

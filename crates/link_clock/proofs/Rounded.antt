@@ -33,7 +33,7 @@ run_units sent rate time p h k =
     omega arith
 
 -- one packet more takes a run's end less than 2^62 further
-pub goes_on : (rate free run sent len : ℕ) → 1000 ≤ rate → free ≡ run + ceil_div sent rate → len < 2 ^ 32 → free < 2 ^ 63
+pub goes_on : (rate free run sent len : ℕ) → 1000 ≤ rate → free ≡ run + ceil_div sent rate → len < 2 ^ 32 → free ≤ 2 ^ 63
     → run + ceil_div (sent + units len) rate < 2 ^ 63 + 2 ^ 62
 goes_on rate free run sent len h e k f =
     let sum = ceil_sum sent (units len) rate (omega arith) in

@@ -69,11 +69,11 @@ impl LinkClock {
         self.free
     }
 
-    /// The end, in nanoseconds, of a packet of `len` bytes that starts at `now`: no earlier than the last end, and before
-    /// 2^63. One division; takes no memory.
+    /// The end, in nanoseconds, of a packet of `len` bytes that starts at `now`: no earlier than the last end, and no later
+    /// than 2^63. One division; takes no memory.
     pub fn end_of(&self, now: u64, len: u32) -> u64
         requires free { self.now.link.free ≤ now }
-        requires early { now < 2 ^ 63 }
+        requires early { now ≤ 2 ^ 63 }
         ensures end { result ≡ end_of self.now.rate self.now.link now len }
         ensures bound { result < 2 ^ 63 + 2 ^ 62 }
     {

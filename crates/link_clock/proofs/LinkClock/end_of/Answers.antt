@@ -4,7 +4,7 @@ use Rattle.altq_model.specs.Units.{ceil_div, units}
 use Rattle.link_clock.proofs.Rounded.{goes_on}
 use Rattle.link_clock.proofs.LinkClock.end_of.Goals as goal
 
-bounded : (rate free run sent len bytes : ℕ) → 1000 ≤ rate → free ≡ run + ceil_div sent rate → len < 2 ^ 32 → free < 2 ^ 63 → bytes ≡ len
+bounded : (rate free run sent len bytes : ℕ) → 1000 ≤ rate → free ≡ run + ceil_div sent rate → len < 2 ^ 32 → free ≤ 2 ^ 63 → bytes ≡ len
     → run + ceil_div (sent + units bytes) rate < 2 ^ 63 + 2 ^ 62
 bounded rate free run sent len bytes h e k f same =
     let P : ℕ → Type 0 = λ n. run + ceil_div (sent + units n) rate < 2 ^ 63 + 2 ^ 62 in

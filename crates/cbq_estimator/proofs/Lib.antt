@@ -1,0 +1,5 @@
+pub mod Least
+pub mod LinkEnds
+pub mod Rises
+pub mod Starting
+pub mod Times

@@ -1,0 +1,4 @@
+pub mod Average
+pub mod Capped
+pub mod Estimate
+pub mod Starts

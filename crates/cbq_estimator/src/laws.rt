@@ -1,0 +1,27 @@
+// Laws of the estimator's histories. The functions do nothing: each states its laws.
+ghost use Rattle.std.specs.Prelude.{◌≡◌, ◌≤◌, ◌<◌, ℕ, List, IsTrue};
+ghost use Rattle.altq_model.specs.History.{Event};
+ghost use Rattle.altq_model.specs.Link.{Link, link};
+ghost use Rattle.cbq_estimator.specs.Average.{Pace, Ended};
+ghost use Rattle.cbq_estimator.specs.Capped.{RisesByIdleTime, KeepsItsRate};
+ghost use Rattle.cbq_estimator.specs.Starts.{allows_start, least_start, EndsItsRun, IsLeastStart};
+
+/// There is a least moment at which a packet is allowed to start, from each moment on, and one alone. From it on the packet
+/// is allowed at each moment. The link is one after some sendings.
+pub fn least_starts_are_told()
+    ensures told { (p : Pace) (h : List Ended) (rate : ℕ) (l : Link) (now len : ℕ) → 0 < rate → EndsItsRun rate l
+        → IsLeastStart p h rate l now len (least_start p h rate l now len) }
+    ensures one { (p : Pace) (h : List Ended) (rate : ℕ) (l : Link) (now len s t : ℕ)
+        → IsLeastStart p h rate l now len s → IsLeastStart p h rate l now len t → s ≡ t }
+    ensures stays { (p : Pace) (h : List Ended) (rate : ℕ) (l : Link) (len t u : ℕ) → 0 < rate → EndsItsRun rate l → t ≤ u
+        → IsTrue (allows_start p h rate l t len) → IsTrue (allows_start p h rate l u len) }
+    ensures links { (rate : ℕ) (h : List Event) → 0 < rate → EndsItsRun rate (link rate h) }
+{}
+
+/// A class that sends only when it is allowed to keeps to its rate: within each stretch of such sendings it is at most a burst
+/// and a packet ahead of 32 31sts of it.
+pub fn allowed_packets_keep_the_rate()
+    ensures rise { (p : Pace) (e b : Ended) (h : List Ended) → RisesByIdleTime p e b h }
+    ensures rate { (p : Pace) (longest : ℕ) (e : Ended) (es : List Ended) (b : Ended) (h : List Ended) → 0 < p.rate
+        → KeepsItsRate p longest e es b h }
+{}

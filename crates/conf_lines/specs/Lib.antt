@@ -1,0 +1,4 @@
+pub mod Grammar
+pub mod Options
+pub mod Slots
+pub mod Texts

@@ -1,0 +1,18 @@
+//! The statements of a configuration text, after altq.conf(5) in this project's own profile: each logical line read word by
+//! word, up to the first word that no statement has there.
+#![tactic(auto)]
+
+mod fault;
+mod grammar;
+mod item;
+mod options;
+mod slot;
+mod statement;
+mod step;
+
+pub use fault::{ConfFault, ConfPlace};
+pub use item::{Item, Items, Key, Text, What};
+pub use statement::{Form, Statement, statements};
+
+#[cfg(test)]
+mod tests;

@@ -1,0 +1,189 @@
+//! The statements of a text.
+ghost use Rattle.std.specs.Prelude.{◌≡◌, ◌+◌, ◌≤◌, ◌++◌, [], length, IfOk, OnOk};
+ghost use Rattle.line_text.specs.Words.{bytes_of, parts_of};
+ghost use Rattle.conf_lines.specs.Grammar.{start};
+ghost use Rattle.conf_lines.specs.Texts.{statements_of, statement_of, line_feeds, read_from, as_statement, fault_at, item_of, before};
+
+use crate::fault::{ConfPlace, TOO_LONG};
+use crate::grammar::{Next, Place, Refusal, Step};
+use crate::item::{Item, Items, What};
+use crate::step::step;
+use line_text::{Line, LineFault, Word, next_line, word_count, words};
+use play_base::NoMemory;
+use std::alloc::Global;
+
+/// Which statement a line is.
+#[derive(Clone, Copy, Debug, PartialEq, Eq)]
+pub enum Form {
+    Interface,
+    ClassHfsc,
+    ClassCbq,
+    Filter,
+    Filter6,
+    /// The fault stands before the form is known.
+    Unread,
+}
+
+/// A statement, read up to its first fault.
+#[derive(Debug, Drop)]
+pub struct Statement {
+    /// The number of its first physical line, from 1.
+    pub line: u64,
+    /// Which statement it is.
+    pub form: Form,
+    /// What its words say, up to the fault.
+    pub items: Items,
+    /// The count of the line's words, and 1.
+    pub end: u64,
+    /// Its first fault.
+    pub fault: Option<ConfPlace>,
+}
+
+/// The statements of a text, in order, one for each logical line that has words or is too long.
+///
+/// Each is read up to its first fault, which it keeps. Answers `NoMemory` where there was none for the list, a name or the
+/// words of a line. Takes the text's length in time, and its statements and the words of one line in memory.
+/// Source: altq.conf(5).
+pub fn statements(alloc: Global, text: &[u8]) -> Result<Vec<Statement>, NoMemory>
+    ensures { IfOk result (λ found. found.items ≡ statements_of text.now) }
+{
+    let mut found = Vec::new(alloc);
+    let mut from = 0;
+    let mut number = 1;
+    while let Some(line) = next_line(text, from, number) {
+        let statement = statement_of(alloc, text, &line)?;
+        add_statement(&mut found, statement)?;
+        number += line_feeds(&text[from..line.to]);
+        from = line.to;
+    }
+    Ok(found)
+}
+
+/// Adds a statement, if there is one.
+fn add_statement(found: &mut Vec<Statement>, statement: Option<Statement>) -> Result<(), NoMemory>
+    ensures { OnOk result (found.new.items ≡ found.old.items ++ before statement []) }
+{
+    match statement {
+        None => Ok(()),
+        Some(statement) => match found.push(statement) {
+            Ok(()) => Ok(()),
+            Err(_) => Err(NoMemory),
+        },
+    }
+}
+
+/// How many line feeds a text has.
+fn line_feeds(text: &[u8]) -> u64
+    ensures value { result ≡ line_feeds text.now }
+    ensures within { result ≤ length text.now }
+{
+    let mut count = 0;
+    for byte in text {
+        if *byte == b'\n' {
+            count += 1;
+        }
+    }
+    count
+}
+
+/// The statement of a logical line, if it is one.
+fn statement_of(alloc: Global, text: &[u8], line: &Line) -> Result<Option<Statement>, NoMemory>
+    requires order { line.now.from ≤ line.now.to }
+    requires within { line.now.to ≤ length text.now }
+    ensures { IfOk result (λ found. found ≡ statement_of line.now.number (bytes_of text.now line.now)) }
+{
+    match words(alloc, text, line) {
+        Ok(found) => {
+            if found.is_empty() {
+                return Ok(None);
+            }
+            let end = found.len() as u64 + 1;
+            match read(alloc, line.number, end, found.as_slice()) {
+                Ok(statement) => Ok(Some(statement)),
+                Err(NoMemory) => Err(NoMemory),
+            }
+        }
+        Err(LineFault::TooLong) => Ok(Some(Statement {
+            line: line.number,
+            form: Form::Unread,
+            items: Items::of(Vec::new(alloc)),
+            end: word_count(text, line) + 1,
+            fault: Some(ConfPlace {
+                line: line.number,
+                word: 0,
+                kind: TOO_LONG,
+            }),
+        })),
+        Err(LineFault::NoMemory) => Err(NoMemory),
+    }
+}
+
+/// Reads the words of a line, the number of the word behind them being `end`.
+fn read(alloc: Global, line: u64, end: u64, words: &[Word]) -> Result<Statement, NoMemory>
+    requires { end ≡ length words.now + 1 }
+    ensures { IfOk result (λ found. found ≡ as_statement line end (read_from line (parts_of words.now) start 1)) }
+{
+    let mut items = Vec::new(alloc);
+    let mut place = Place {
+        form: Form::Unread,
+        next: Next::Statement,
+        settled: false,
+    };
+    let mut at = 1;
+    for word in words {
+        match step(alloc, place, word) {
+            Ok(taken) => {
+                let Step { what, after } = taken;
+                add_item(&mut items, at, what)?;
+                place = after;
+            }
+            Err(Refusal::Kind(kind)) => {
+                let fault = Some(ConfPlace {
+                    line,
+                    word: at,
+                    kind,
+                });
+                return Ok(Statement {
+                    line,
+                    form: place.form,
+                    items: Items::of(items),
+                    end,
+                    fault,
+                });
+            }
+            Err(Refusal::NoMemory) => return Err(NoMemory),
+        }
+        at += 1;
+    }
+    let fault = fault_at(line, at, crate::step::end(place));
+    Ok(Statement {
+        line,
+        form: place.form,
+        items: Items::of(items),
+        end,
+        fault,
+    })
+}
+
+/// The fault of a kind at a word of a line.
+fn fault_at(line: u64, word: u64, kind: Option<u8>) -> Option<ConfPlace>
+    ensures { result ≡ fault_at line word kind }
+{
+    match kind {
+        None => None,
+        Some(kind) => Some(ConfPlace { line, word, kind }),
+    }
+}
+
+/// Adds the item of a word, if it says more than which statement it is.
+fn add_item(items: &mut Vec<Item>, word: u64, what: Option<What>) -> Result<(), NoMemory>
+    ensures { OnOk result (items.new.items ≡ items.old.items ++ item_of word what) }
+{
+    match what {
+        None => Ok(()),
+        Some(what) => match items.push(Item { word, what }) {
+            Ok(()) => Ok(()),
+            Err(_) => Err(NoMemory),
+        },
+    }
+}

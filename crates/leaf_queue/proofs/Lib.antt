@@ -1,0 +1,3 @@
+pub mod Linking
+pub mod Changing
+pub mod Rows

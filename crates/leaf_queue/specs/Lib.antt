@@ -1,0 +1,5 @@
+pub mod Linked
+pub mod Lists
+pub mod Pool
+pub mod Queue
+pub mod Words

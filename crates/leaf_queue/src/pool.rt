@@ -1,0 +1,61 @@
+// The packets that wait, by their tickets.
+ghost use Rattle.std.specs.Prelude.{◌≡◌, ◌≢◌, ◌<◌, ◌+◌, ◌^◌, ℕ, None, Some, IsSome, IfOk};
+ghost use Rattle.leaf_queue.specs.Pool.{Held, IsReserved, packet_of, count_of};
+
+use crate::reserve::reserved;
+use play_base::{NoMemory, Packet, Ticket};
+use slab::Slab;
+use std::alloc::Global;
+use std::marker::Model;
+
+/// The packets that wait. Contracts see a map from tickets to packets, and the room that was reserved.
+#[derive(Drop)]
+pub struct Pool {
+    held: Slab<Packet>,
+    room: u32,
+}
+
+impl Model for Pool {
+    ghost Value = { Held };
+
+    ghost view = { λ p. record { slots = p.held.slots; room = p.room } };
+
+    ghost invariant = { λ p. IsReserved p.held p.room };
+}
+
+impl Pool {
+    /// Room for `n` packets. Takes all the memory that the pool will ever take: about 64 bytes for each. `NoMemory` comes only for
+    /// want of it.
+    pub fn reserve(alloc: Global, n: u32) -> Result<Pool, NoMemory>
+        ensures empty { IfOk result (λ p. (t : ℕ) → packet_of p t ≡ None) }
+        ensures count { IfOk result (λ p. count_of p ≡ 0) }
+        ensures room { IfOk result (λ p. p.room ≡ n) }
+    {
+        let held = reserved(alloc, n)?;
+        Ok(Pool { held, room: n })
+    }
+
+    /// Puts a packet where fewer are held than there is room, and answers its ticket, one that was not held. Constant time.
+    pub fn put(&mut self, packet: Packet) -> Ticket
+        requires { count_of self.old < self.old.room }
+        ensures fresh { packet_of self.old result.0 ≡ None }
+        ensures put { packet_of self.new result.0 ≡ Some packet }
+        ensures others { (t : ℕ) → t ≢ result.0 → packet_of self.new t ≡ packet_of self.old t }
+        ensures count { count_of self.new ≡ count_of self.old + 1 }
+        ensures room { self.new.room ≡ self.old.room }
+    {
+        Ticket(self.held.insert_reserved(packet) as u32)
+    }
+
+    /// Takes out the packet of a ticket that is held, which is then free. Constant time.
+    pub fn take(&mut self, ticket: Ticket) -> Packet
+        requires { IsSome (packet_of self.old ticket.0) }
+        ensures taken { packet_of self.old ticket.0 ≡ Some result }
+        ensures free { packet_of self.new ticket.0 ≡ None }
+        ensures others { (t : ℕ) → t ≢ ticket.0 → packet_of self.new t ≡ packet_of self.old t }
+        ensures count { count_of self.old ≡ count_of self.new + 1 }
+        ensures room { self.new.room ≡ self.old.room }
+    {
+        self.held.remove(ticket.0 as usize)
+    }
+}

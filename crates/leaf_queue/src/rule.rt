@@ -1,0 +1,88 @@
+// The rule by which a queue keeps or drops what is offered to it.
+ghost use Rattle.std.specs.Prelude.{◌≡◌, ◌≤◌, ◌<◌, ◌-◌, ◌^◌, ◌∷◌, ◌↔◌, ℕ, List};
+ghost use Rattle.leaf_queue.specs.Words.{Drew};
+
+use crate::Words;
+use altq_model::{Reason, Verdict};
+
+/// How many packets of a queue wait: those of precedence 0, those of precedence 0 or 1, and all of them. A precedence is 0, 1 or 2.
+#[derive(Clone, Copy, Debug, PartialEq, Eq)]
+pub struct Waiting {
+    pub best: u32,
+    pub middle: u32,
+    pub all: u32,
+}
+
+/// The rule of one queue. Its laws are clauses of its methods: it drops for want of room exactly where its waiting packets equal
+/// its limit, the limit never changes, and each verdict is what it says after all that it was asked and told, by the seed's words.
+/// None of the calls takes memory.
+pub trait QueueRule {
+    ghost use Rattle.altq_model.specs.History.{Words as DrawnWords};
+    ghost use Rattle.leaf_queue.specs.declared.rule.Waiting.{Waiting};
+    ghost use Rattle.leaf_queue.specs.Queue.{QueueEvent, Asked, Gone, Saying};
+
+    /// The most packets that may wait.
+    ghost most: { Self → ℕ };
+
+    /// What it may have been asked and told, the newest first.
+    ghost stands: { Self → List QueueEvent → Type 0 };
+
+    /// What it says of a packet after that.
+    ghost says: { Self → Saying };
+
+    /// The most packets that may wait, 1 to 10,000.
+    fn limit(&self) -> u32
+        ensures { result ≡ most self.now };
+
+    /// Whether a packet of precedence `prec` that comes at `now`, in nanoseconds, is kept, where so many wait before it. It is
+    /// dropped as `Full` exactly where as many wait as may.
+    fn offer(&mut self, now: u64, waiting: Waiting, prec: u8, words: &mut Words) -> Verdict
+        requires room { waiting.all ≤ most self.old }
+        requires prec { prec ≤ 2 }
+        ensures full { (result ≡ Verdict.Drop Reason.Full) ↔ (waiting.all ≡ most self.old) }
+        ensures verdict { (q : List QueueEvent) → stands self.old q → words.old.drawn < 2 ^ 64 - 1
+            → result ≡ (says self.old q now waiting prec words.old).verdict }
+        ensures words { (q : List QueueEvent) → stands self.old q → words.old.drawn < 2 ^ 64 - 1
+            → Drew words.old words.new (says self.old q now waiting prec words.old).took }
+        ensures history { (q : List QueueEvent) → stands self.old q → words.old.drawn < 2 ^ 64 - 1
+            → stands self.new (Asked now waiting prec words.old (says self.old q now waiting prec words.old) ∷ q) }
+        ensures limit { most self.new ≡ most self.old }
+        ensures kind { says self.new ≡ says self.old };
+
+    /// Tells it that a packet of precedence `prec` left at `now`, in nanoseconds, and that so many wait after it.
+    fn left(&mut self, now: u64, prec: u8, waiting: Waiting)
+        requires prec { prec ≤ 2 }
+        ensures history { (q : List QueueEvent) → stands self.old q → stands self.new (Gone now prec waiting ∷ q) }
+        ensures limit { most self.new ≡ most self.old }
+        ensures kind { says self.new ≡ says self.old };
+}
+
+/// Drops what comes where as many wait as `limit`, 1 to 10,000, and keeps everything else.
+#[derive(Clone, Copy, Debug, PartialEq, Eq)]
+pub struct Tail {
+    pub limit: u32,
+}
+
+impl QueueRule for Tail {
+    ghost use Rattle.leaf_queue.specs.Queue.{tail_says};
+
+    ghost most = { λ t. t.limit };
+
+    ghost stands = { λ t q. Unit {0} };
+
+    ghost says = { λ t. tail_says t.limit };
+
+    fn limit(&self) -> u32 {
+        self.limit
+    }
+
+    fn offer(&mut self, _now: u64, waiting: Waiting, _prec: u8, _words: &mut Words) -> Verdict {
+        if waiting.all == self.limit {
+            Verdict::Drop(Reason::Full)
+        } else {
+            Verdict::Keep
+        }
+    }
+
+    fn left(&mut self, _now: u64, _prec: u8, _waiting: Waiting) {}
+}

@@ -1,0 +1,14 @@
+//! The heads of a frame of Ethernet that name its flow: code point, protocol, addresses and ports of IPv4 and IPv6.
+//!
+//! No call takes memory or refuses a frame: whatever isn't a whole head of either protocol is `Other`. Not read are
+//! extension heads of IPv6, so a packet whose ports stand behind one has none here, and what a tunnel holds.
+#![tactic(auto)]
+
+mod heads;
+mod points;
+
+pub use heads::{FlowHeads, flow};
+pub use points::precedence;
+
+#[cfg(test)]
+mod tests;
