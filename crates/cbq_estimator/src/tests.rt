@@ -51,5 +51,8 @@ fn class_is_paced_and_borrows(rt: HostRuntime) {
     assert_eq!(rt; class.average(), -19_616_089);
     class.ended(7_500_000, 1500);
     assert_eq!(rt; class.average(), -29_503_087);
-    assert_eq!(rt; class.start(7_500_000, 1500, &LinkClock::new(8_000_000)), 46_581_116);
+    assert_eq!(rt;
+        class.start(7_500_000, 1500, &LinkClock::new(8_000_000)),
+        46_581_116
+    );
 }

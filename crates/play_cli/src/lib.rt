@@ -9,3 +9,6 @@ mod program;
 pub use fault::RunFault;
 pub use play_text::Status;
 pub use program::{run, run_steady};
+
+#[cfg(test)]
+mod tests;

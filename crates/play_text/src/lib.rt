@@ -6,3 +6,6 @@ mod status;
 
 pub use rows::{fate_row, fates_head};
 pub use status::{Status, Totals};
+
+#[cfg(test)]
+mod tests;

@@ -6,3 +6,6 @@ mod words;
 
 pub use conf::one_queue_rate;
 pub use words::{PlayWords, WordsFault, play_words};
+
+#[cfg(test)]
+mod tests;

@@ -1,0 +1,260 @@
+use crate::{Status, run, run_steady};
+use play_base::{Call, MemoryFiles, NoMemory, SteadyFiles};
+use std::alloc::Global;
+use std::test::Fail;
+
+const WORDS: [&str; 15] = [
+    "play",
+    "--config",
+    "conf",
+    "--interface",
+    "if0",
+    "--arrivals",
+    "in",
+    "--departures",
+    "out",
+    "--fates",
+    "fates",
+    "--stats",
+    "stats",
+    "--seed",
+    "42",
+];
+
+const IMPLIED: &str = "interface if0 bandwidth 8M hfsc";
+
+// The head of a capture in little-endian nanoseconds.
+const HEAD: [u8; 24] = [
+    0x4d, 0x3c, 0xb2, 0xa1, 2, 0, 4, 0, 0, 0, 0, 0, 0, 0, 0, 0, 0, 0, 4, 0, 1, 0, 0, 0,
+];
+
+// The same in big-endian microseconds.
+const BIG_HEAD: [u8; 24] = [
+    0xa1, 0xb2, 0xc3, 0xd4, 0, 2, 0, 4, 0, 0, 0, 0, 0, 0, 0, 0, 0, 4, 0, 0, 0, 0, 0, 1,
+];
+
+// The words of a play, but for one.
+fn words_but(alloc: Global, place: usize, word: &str) -> Result<Vec<String>, NoMemory> {
+    let mut words = Vec::new(alloc);
+    for (i, text) in WORDS.iter().enumerate() {
+        let text = if i == place { word } else { *text };
+        words.push(String::from_str(alloc, text)?)?;
+    }
+    Ok(words)
+}
+
+// A capture of so many equal packets, at this second and nanosecond, with 60 captured bytes each.
+fn capture(
+    alloc: Global,
+    count: u32,
+    second: u32,
+    nanosecond: u32,
+    len: u32,
+) -> Result<Vec<u8>, NoMemory> {
+    let mut bytes = Vec::from_slice(alloc, &HEAD)?;
+    for _ in 0..count {
+        bytes.extend_from_slice(&second.to_le_bytes())?;
+        bytes.extend_from_slice(&nanosecond.to_le_bytes())?;
+        bytes.extend_from_slice(&60u32.to_le_bytes())?;
+        bytes.extend_from_slice(&len.to_le_bytes())?;
+        bytes.extend_from_slice(&[0; 60])?;
+    }
+    Ok(bytes)
+}
+
+// Plays a capture under a configuration.
+fn played(
+    alloc: Global,
+    files: &mut MemoryFiles,
+    config: &str,
+    capture: &[u8],
+) -> Result<Status, NoMemory> {
+    files.put("conf", config.as_bytes())?;
+    files.put("in", capture)?;
+    let words = words_but(alloc, 0, "play")?;
+    Ok(run(alloc, &words, files))
+}
+
+fn ended(code: u8, place: u64, kind: u8) -> Status {
+    Status {
+        code,
+        line: 0,
+        word: 0,
+        place,
+        kind,
+    }
+}
+
+const FATES: &str = "number,arrival,length,class,fate,start,end\n";
+
+#[test]
+fn empty_capture(rt: HostRuntime) -> Result<(), Fail> {
+    let mut files = MemoryFiles::new(rt.alloc());
+    let status = played(rt.alloc(), &mut files, IMPLIED, &HEAD)?;
+    assert_eq!(rt; status, ended(0, 0, 0));
+    assert!(rt; files.get("out").unwrap_or_default() == HEAD.as_slice());
+    assert!(rt; files.get("fates").unwrap_or_default() == FATES.as_bytes());
+    assert_eq!(rt; FATES.len(), 43);
+    assert!(rt; files.get("stats").is_some_and(|s| s.is_empty()));
+    Ok(())
+}
+
+#[test]
+fn one_packet_at_five_seconds(rt: HostRuntime) -> Result<(), Fail> {
+    let mut files = MemoryFiles::new(rt.alloc());
+    let arrivals = capture(rt.alloc(), 1, 5, 0, 1000)?;
+    let status = played(rt.alloc(), &mut files, IMPLIED, &arrivals)?;
+    assert_eq!(rt; status, ended(0, 0, 0), "ample memory does not answer 8");
+    let rows =
+        b"number,arrival,length,class,fate,start,end\n1,5000000000,1000,default,share,5000000000,5001000000\n";
+    assert!(rt; files.get("fates").unwrap_or_default() == rows.as_slice());
+    let departures = files.get("out").unwrap_or_default();
+    assert_eq!(rt; departures.len(), 100);
+    let head = [
+        5, 0, 0, 0, 0x40, 0x42, 0x0f, 0, 0x3c, 0, 0, 0, 0xe8, 3, 0, 0,
+    ];
+    assert!(rt; departures.get(24..40).unwrap_or_default() == head.as_slice());
+    let mut files = SteadyFiles::new(rt.alloc());
+    files.put("conf", IMPLIED.as_bytes())?;
+    files.put("in", &arrivals)?;
+    let words = words_but(rt.alloc(), 0, "play")?;
+    assert_eq!(rt; run_steady(rt.alloc(), &words, &mut files), ended(0, 0, 0));
+    Ok(())
+}
+
+#[test]
+fn fraction_is_carried_in_a_run(rt: HostRuntime) -> Result<(), Fail> {
+    let mut files = MemoryFiles::new(rt.alloc());
+    let arrivals = capture(rt.alloc(), 3, 0, 0, 100)?;
+    let config = "interface if0 bandwidth 3M hfsc";
+    let status = played(rt.alloc(), &mut files, config, &arrivals)?;
+    assert_eq!(rt; status, ended(0, 0, 0));
+    let rows =
+        b"number,arrival,length,class,fate,start,end\n1,0,100,default,share,0,266667\n2,0,100,default,share,266667,533334\n3,0,100,default,share,533334,800000\n";
+    assert!(rt; files.get("fates").unwrap_or_default() == rows.as_slice());
+    Ok(())
+}
+
+#[test]
+fn fifty_first_packet_is_dropped(rt: HostRuntime) -> Result<(), Fail> {
+    let mut files = MemoryFiles::new(rt.alloc());
+    let arrivals = capture(rt.alloc(), 51, 0, 0, 100)?;
+    let status = played(rt.alloc(), &mut files, IMPLIED, &arrivals)?;
+    assert_eq!(rt; status, ended(0, 0, 0));
+    let rows =
+        b"number,arrival,length,class,fate,start,end\n51,0,100,default,full,,\n1,0,100,default,share,0,100000\n";
+    let fates = files.get("fates").unwrap_or_default();
+    assert!(rt; fates.get(..rows.len()).unwrap_or_default() == rows.as_slice());
+    Ok(())
+}
+
+#[test]
+fn last_moment_of_the_clock(rt: HostRuntime) -> Result<(), Fail> {
+    let config = "interface if0 bandwidth 1000 hfsc";
+    let sent =
+        "1,4294965198847999999,262144,default,share,4294965198847999999,4294967295999999999\n";
+    for (nanosecond, status, rows) in [
+        (848_000_000, ended(7, 0, 2), ""),
+        (847_999_999, ended(0, 0, 0), sent),
+    ] {
+        let mut files = MemoryFiles::new(rt.alloc());
+        let arrivals = capture(rt.alloc(), 1, 4_294_965_198, nanosecond, 262_144)?;
+        let answer = played(rt.alloc(), &mut files, config, &arrivals)?;
+        assert_eq!(rt; answer, status);
+        let fates = files.get("fates").unwrap_or_default();
+        assert!(rt; fates.get(43..).unwrap_or_default() == rows.as_bytes());
+    }
+    Ok(())
+}
+
+#[test]
+fn second_write_fails(rt: HostRuntime) -> Result<(), Fail> {
+    let mut files = MemoryFiles::new(rt.alloc());
+    files.fail_at(Call::Write, 1)?;
+    let arrivals = capture(rt.alloc(), 1, 5, 0, 1000)?;
+    let status = played(rt.alloc(), &mut files, IMPLIED, &arrivals)?;
+    assert_eq!(rt; status, ended(6, 0, 2));
+    assert!(rt; files.get("out").unwrap_or_default() == HEAD.as_slice());
+    assert!(rt; files.get("fates").is_some_and(|f| f.is_empty()));
+    Ok(())
+}
+
+#[test]
+fn refused_words_and_names(rt: HostRuntime) -> Result<(), Fail> {
+    let arrivals = capture(rt.alloc(), 1, 5, 0, 1000)?;
+    for (place, word, code, kind) in [
+        (0, "replay", 2, 1),
+        (8, "fates", 2, 3),
+        (14, "x", 2, 4),
+        (4, "if9", 9, 1),
+        (2, "none", 5, 1),
+        (6, "none", 5, 2),
+    ] {
+        let mut files = MemoryFiles::new(rt.alloc());
+        files.put("conf", IMPLIED.as_bytes())?;
+        files.put("in", &arrivals)?;
+        let words = words_but(rt.alloc(), place, word)?;
+        assert_eq!(rt; run(rt.alloc(), &words, &mut files), ended(code, 0, kind));
+        assert!(rt; files.get("out").is_none(), "{word:?}");
+    }
+    Ok(())
+}
+
+#[test]
+fn empty_file_is_no_capture(rt: HostRuntime) -> Result<(), Fail> {
+    let mut files = MemoryFiles::new(rt.alloc());
+    let status = played(rt.alloc(), &mut files, IMPLIED, &[])?;
+    assert_eq!(rt; status, ended(4, 0, 1));
+    Ok(())
+}
+
+#[test]
+fn last_record_cut_by_one_byte(rt: HostRuntime) -> Result<(), Fail> {
+    let mut files = MemoryFiles::new(rt.alloc());
+    let mut arrivals = capture(rt.alloc(), 2, 0, 0, 100)?;
+    arrivals.truncate(175);
+    let status = played(rt.alloc(), &mut files, IMPLIED, &arrivals)?;
+    assert_eq!(rt; status, ended(4, 100, 5));
+    assert!(rt; files.get("out").unwrap_or_default() == HEAD.as_slice());
+    assert!(rt; files.get("fates").unwrap_or_default() == FATES.as_bytes());
+    Ok(())
+}
+
+#[test]
+fn big_endian_microseconds_and_a_raised_stamp(rt: HostRuntime) -> Result<(), Fail> {
+    let mut arrivals = Vec::from_slice(rt.alloc(), &BIG_HEAD)?;
+    for stamp in [5, 4] {
+        arrivals.extend_from_slice(&[0, 0, 0, 2, 0, 0, 0, stamp, 0, 0, 0, 60, 0, 0, 0, 100])?;
+        arrivals.extend_from_slice(&[0; 60])?;
+    }
+    let mut files = MemoryFiles::new(rt.alloc());
+    let status = played(rt.alloc(), &mut files, IMPLIED, &arrivals)?;
+    assert_eq!(rt; status, ended(0, 0, 0));
+    let rows =
+        b"number,arrival,length,class,fate,start,end\n1,2000005000,100,default,share,2000005000,2000105000\n2,2000005000,100,default,share,2000105000,2000205000\n";
+    assert!(rt; files.get("fates").unwrap_or_default() == rows.as_slice());
+    Ok(())
+}
+
+#[test]
+fn damaged_heads_and_records(rt: HostRuntime) -> Result<(), Fail> {
+    for (at, changed, cut, place, kind) in [
+        (0, [0x1f, 0x8b, 8, 0, 2, 0, 4, 0], 24, 0, 2),
+        (0, [0x4d, 0x3c, 0xb2, 0xa1, 2, 0, 3, 0], 24, 4, 3),
+        (16, [0, 0, 4, 0, 101, 0, 0, 0], 24, 20, 4),
+        (32, [0, 0, 0, 0, 0, 0, 0, 0], 100, 24, 6),
+        (32, [60, 0, 0, 0, 1, 0, 4, 0], 100, 24, 7),
+    ] {
+        let mut arrivals = capture(rt.alloc(), 1, 0, 0, 100)?;
+        for (i, byte) in changed.iter().enumerate() {
+            if let Some(there) = arrivals.get_mut(at as usize + i) {
+                *there = *byte;
+            }
+        }
+        arrivals.truncate(cut);
+        let mut files = MemoryFiles::new(rt.alloc());
+        let status = played(rt.alloc(), &mut files, IMPLIED, &arrivals)?;
+        assert_eq!(rt; status, ended(4, place, kind));
+    }
+    Ok(())
+}
