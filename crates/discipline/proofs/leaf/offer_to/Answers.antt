@@ -1,0 +1,25 @@
+use Rattle.std.proofs.Common.{◌≡◌, ◌∙◌, arith, length, sym}
+use Rattle.leaf_queue.specs.Lists.{list_of}
+use Rattle.discipline.proofs.LeafLemmas.{all_wait}
+use Rattle.discipline.proofs.leaf.offer_to.Goals as goal
+
+pub offer-verdict-requires-clause-room : goal.offer-verdict-requires-clause-room
+offer-verdict-requires-clause-room g c =
+    omega (arith, all_wait c.waiting-waiting.result (list_of c.args.lists.now.lists c.args.place) c.waiting-waiting.ensures, c.requires.bounded)
+
+pub push-requires-clause-room : goal.push-requires-clause-room
+push-requires-clause-room g c =
+    let all = all_wait c.waiting-waiting.result (list_of c.args.lists.now.lists c.args.place) c.waiting-waiting.ensures in
+    let less : length (list_of c.args.lists.now.lists c.args.place) ≡ g.Q.QueueRule.most c.args.queue.now → ⊥ =
+    λ e. let full = c.in-Keep.ensures.full.1 (all ∙ e) in (cc) in
+    c.requires.room (omega (arith, less, c.requires.bounded))
+
+pub returns-in-Keep-clause-full : goal.returns-in-Keep-clause-full
+returns-in-Keep-clause-full g c =
+    let all = all_wait c.waiting-waiting.result (list_of c.args.lists.now.lists c.args.place) c.waiting-waiting.ensures in
+    (λ e. sym all ∙ c.offer-verdict.ensures.full.0 e, λ e. c.offer-verdict.ensures.full.1 (all ∙ e))
+
+pub returns-in-Drop-clause-full : goal.returns-in-Drop-clause-full
+returns-in-Drop-clause-full g c =
+    let all = all_wait c.waiting-waiting.result (list_of c.args.lists.now.lists c.args.place) c.waiting-waiting.ensures in
+    (λ e. sym all ∙ c.offer-verdict.ensures.full.0 e, λ e. c.offer-verdict.ensures.full.1 (all ∙ e))
