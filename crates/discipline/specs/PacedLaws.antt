@@ -36,7 +36,7 @@ paced_lawful class gap answer g = record {
 }
 
 pub paced_steady : (class gap : ℕ) (answer : Answering) → 1 ≤ gap → IsSteady (paced class gap answer)
-paced_steady class gap answer g h c t u l m = multiple_same gap t u g l m
+paced_steady class gap answer g h c t u b e l m = multiple_same gap t u g l m
 
 -- what counts nothing has counted no more than there were
 pub counts_none : (n : ℕ) → 0 ≤ n
