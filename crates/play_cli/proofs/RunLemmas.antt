@@ -4,7 +4,7 @@ use Rattle.std.specs.Prelude.{IsSome, IsTrue}
 use Rattle.std.specs.declared.option.Option.{Option}
 use Rattle.altq_model.specs.declared.capture.Damage.{Damage}
 use Rattle.altq_model.specs.Arrivals.{comings}
-use Rattle.altq_model.specs.Capture.{Record, End, Fault, Limit, Reads}
+use Rattle.altq_model.specs.Capture.{Record, Step, End, Fault, Limit, Reads}
 use Rattle.altq_model.specs.History.{Entry}
 use Rattle.altq_model.specs.Laws.{IsBusy, KeepsLaws}
 use Rattle.altq_model.specs.declared.Rule.TheVariants.{Share}
@@ -12,7 +12,8 @@ use Rattle.altq_model.specs.Policies.{one_queue, tail}
 use Rattle.play_base.specs.View.{View, Keeps, Any, Rose}
 use Rattle.play_base.specs.ViewLaws.{keeps_trans, keeps_fewer, part_of_there, rose_later}
 use Rattle.play_base.specs.Holds.{HoldsAt}
-use Rattle.pcap_files.specs.ReadingLaws.{one_reading}
+use Rattle.altq_model.specs.Numbers.{damage_number}
+use Rattle.pcap_files.specs.ReadingLaws.{IsLast, one_reading}
 use Rattle.play_laws.proofs.AllLaws.{play_laws}
 use Rattle.play_laws.proofs.ArrivalLemmas.{arrivals_rise}
 use Rattle.play_laws.proofs.BusyLemmas.{is_busy}
@@ -27,7 +28,7 @@ use Rattle.play_loop.specs.OneQueue.{KeepsBut, IsPlayOf, IsCutOf, arrivals_in, o
 use Rattle.play_loop.specs.Played.{Plays, Explains}
 use Rattle.play_loop.specs.Played as loop
 use Rattle.play_cli.specs.Opening.{AreOpened, Accepts, AcceptsNone, CannotRead, IsEmptied, KeepsOthers}
-use Rattle.play_cli.specs.Run.{Names, HasPlayed, HasFronts, Fronts, IsFrontAt, IsDamagedAt, IsLimited, IsLate, IsPlayable, IsQuiet}
+use Rattle.play_cli.specs.Run.{Names, HasPlayed, HasFronts, Fronts, IsFrontAt, IsDamagedAt, IsLimited, IsLate, IsPlayable, EndsWith, IsQuiet}
 use Rattle.play_cli.specs.Causes.{Causes, run_fault, config_fault, open_fault, status_of}
 use Rattle.play_cli.specs.declared.input.ConfigFault.{ConfigFault}
 use Rattle.play_cli.specs.declared.input.ConfigFault.TheVariants as conf
@@ -306,6 +307,70 @@ pub causes_open : (u a v : View) (n : Names) (f : OpenFault) → Keeps Any Any u
 causes_open u a v n open_.Arrivals k r w = read_before u a v n.arrivals k (r refl)
 causes_open u a v n (open_.Write kind) k r w = let x = w kind refl in (x.0, x.1, rose_later _ _ _ (k.later.write (kind + 2)) x.2)
 causes_open u a v n open_.NoMemory k r w = tt
+
+limit_fault : (d : Damage) → Limit ≡ Fault d → ⊥
+limit_fault d h = cc
+
+fault_end : (d : Damage) → Fault d ≡ End → ⊥
+fault_end d h = cc
+
+limit_end : Limit ≡ End → ⊥
+limit_end h = cc
+
+fault_same : (d e : Damage) → Fault d ≡ Fault e → d ≡ e
+fault_same d e h = cc
+
+-- bytes under one name read one way
+last_same : (u : View) (n : Names) (bytes other : List ℕ) (xs ys : List Record) (p q : Step) → IsLast p → IsLast q → u.bytes n.arrivals ≡ Some bytes
+    → u.bytes n.arrivals ≡ Some other → Reads bytes xs p → Reads other ys q → p ≡ q
+last_same u n bytes other xs ys p q hp hq a b r s =
+    let B : List ℕ → Type 0 = λ zs. Reads zs ys q in
+    (one_reading bytes xs ys p q r hp (subst B (same_some _ _ (sym b ∙ a)) s) hq).1
+
+-- a capture with a damage or at a limit is not played
+pub damaged_not : (u v : View) (n : Names) (seed : ℕ) (d : Damage) → EndsWith u n (Fault d) → HasPlayed u v n seed → ⊥
+damaged_not u v n seed d x p = fault_end d (last_same u n x.bytes p.bytes x.records p.records (Fault d) End tt tt x.arrivals p.arrivals x.reads p.capture)
+
+pub limited_not : (u v : View) (n : Names) (seed : ℕ) → EndsWith u n Limit → HasPlayed u v n seed → ⊥
+limited_not u v n seed x p = limit_end (last_same u n x.bytes p.bytes x.records p.records Limit End tt tt x.arrivals p.arrivals x.reads p.capture)
+
+-- what is told of it, unless a count of faults rose or memory was wanting
+pub told_damage : (u v : View) (n : Names) (d : Damage) (f : RunFault) → IsTrue u.tells → EndsWith u n (Fault d) → IsQuiet u v → Causes u v n f
+    → (((status_of f).code ≡ 4) × ((status_of f).place ≡ d.place) × ((status_of f).kind ≡ damage_number d.kind)) ⊎ ((status_of f).code ≡ 8)
+told_damage u v n d fault.Unbuilt t p q x = absurd (x t p.text p.config p.rate p.accepted)
+told_damage u v n d fault.Config t p q (inl x) = absurd ((q 1).0 x)
+told_damage u v n d fault.Config t p q (inr x) = absurd (no_bytes p.text (sym x.1 ∙ p.config))
+told_damage u v n d fault.Arrivals t p q (inl x) = absurd ((q 2).0 x)
+told_damage u v n d fault.Arrivals t p q (inr x) = absurd (no_bytes p.bytes (sym x.1 ∙ p.arrivals))
+told_damage u v n d (fault.Write kind) t p q x = absurd ((q (kind + 2)).1 x.2)
+told_damage u v n d (fault.Capture e) t p q x =
+    let y = x t in
+    let same : d ≡ y.damage = fault_same d y.damage (last_same u n p.bytes y.bytes p.records y.records (Fault d) (Fault y.damage) tt tt p.arrivals y.arrivals p.reads y.reads) in
+    inl (refl, y.at ∙ ap (λ (b : Damage). b.place) (sym same), y.what ∙ ap (λ (b : Damage). damage_number b.kind) (sym same))
+told_damage u v n d (fault.Limit kind) t p q (inl x) =
+    let y = x.1 t in
+    absurd (limit_fault d (last_same u n y.bytes p.bytes y.records p.records Limit (Fault d) tt tt y.arrivals p.arrivals y.reads p.reads))
+told_damage u v n d (fault.Limit kind) t p q (inr x) =
+    let y = x.1 t 0 in
+    absurd (fault_end d (last_same u n p.bytes y.bytes p.records y.records (Fault d) End tt tt p.arrivals y.arrivals p.reads y.capture))
+told_damage u v n d fault.NoMemory t p q x = inr refl
+
+pub told_limit : (u v : View) (n : Names) (f : RunFault) → IsTrue u.tells → EndsWith u n Limit → IsQuiet u v → Causes u v n f
+    → (((status_of f).code ≡ 7) × ((status_of f).kind ≡ 1)) ⊎ ((status_of f).code ≡ 8)
+told_limit u v n fault.Unbuilt t p q x = absurd (x t p.text p.config p.rate p.accepted)
+told_limit u v n fault.Config t p q (inl x) = absurd ((q 1).0 x)
+told_limit u v n fault.Config t p q (inr x) = absurd (no_bytes p.text (sym x.1 ∙ p.config))
+told_limit u v n fault.Arrivals t p q (inl x) = absurd ((q 2).0 x)
+told_limit u v n fault.Arrivals t p q (inr x) = absurd (no_bytes p.bytes (sym x.1 ∙ p.arrivals))
+told_limit u v n (fault.Write kind) t p q x = absurd ((q (kind + 2)).1 x.2)
+told_limit u v n (fault.Capture e) t p q x =
+    let y = x t in
+    absurd (limit_fault y.damage (last_same u n p.bytes y.bytes p.records y.records Limit (Fault y.damage) tt tt p.arrivals y.arrivals p.reads y.reads))
+told_limit u v n (fault.Limit kind) t p q (inl x) = inl (refl, x.0)
+told_limit u v n (fault.Limit kind) t p q (inr x) =
+    let y = x.1 t 0 in
+    absurd (limit_end (last_same u n p.bytes y.bytes p.records y.records Limit End tt tt p.arrivals y.arrivals p.reads y.capture))
+told_limit u v n fault.NoMemory t p q x = inr refl
 
 -- statuses
 pub code_of : (f : RunFault) → IsCode (status_of f).code

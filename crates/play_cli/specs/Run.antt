@@ -118,3 +118,14 @@ pub record IsPlayable (old : View) (n : Names) (seed : ℕ) : Type 0 where
 -- the statuses of this program
 abbrev pub IsCode : ℕ → Type 0
 IsCode c = (c ≡ 0) ⊎ (c ≡ 2) ⊎ (c ≡ 4) ⊎ (c ≡ 5) ⊎ (c ≡ 6) ⊎ (c ≡ 7) ⊎ (c ≡ 8) ⊎ (c ≡ 9)
+
+-- the configuration is accepted, and the reading of the arrivals ends so
+pub record EndsWith (old : View) (n : Names) (last : Step) : Type 0 where
+  pub text : List ℕ
+  pub rate : ℕ
+  pub bytes : List ℕ
+  pub records : List Record
+  pub config : old.bytes n.config ≡ Some text
+  pub accepted : IsOneQueue text n.interface rate
+  pub arrivals : old.bytes n.arrivals ≡ Some bytes
+  pub reads : Reads bytes records last

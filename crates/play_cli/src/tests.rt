@@ -258,3 +258,27 @@ fn damaged_heads_and_records(rt: HostRuntime) -> Result<(), Fail> {
     }
     Ok(())
 }
+
+#[test]
+fn each_call_fails_in_turn(rt: HostRuntime) -> Result<(), Fail> {
+    let arrivals = capture(rt.alloc(), 1, 5, 0, 1000)?;
+    for (call, nth, code, kind) in [
+        (Call::Open, 0, 5, 1),
+        (Call::Open, 1, 5, 2),
+        (Call::Create, 0, 6, 1),
+        (Call::Create, 1, 6, 2),
+        (Call::Create, 2, 6, 3),
+        (Call::Read, 0, 5, 1),
+        (Call::Read, 2, 5, 2),
+        (Call::Write, 0, 6, 1),
+        (Call::Write, 1, 6, 2),
+        (Call::Write, 2, 6, 1),
+        (Call::Write, 3, 6, 2),
+    ] {
+        let mut files = MemoryFiles::new(rt.alloc());
+        files.fail_at(call, nth)?;
+        let status = played(rt.alloc(), &mut files, IMPLIED, &arrivals)?;
+        assert_eq!(rt; status, ended(code, 0, kind), "{call:?} {nth}");
+    }
+    Ok(())
+}

@@ -3,9 +3,10 @@ use Rattle.std.proofs.Common.{◌≡◌, ◌∙◌, ◌⊎◌, ℕ, ap, sym, sub
 use Rattle.std.specs.Prelude.{IsTrue}
 use Rattle.play_text.specs.declared.status.Status.{Status}
 use Rattle.play_cli.specs.Opening.{AcceptsNone}
-use Rattle.play_cli.specs.Run.{Names, Fronts, IsLimited, IsLate}
+use Rattle.play_cli.specs.Run.{Names, HasPlayed, Fronts, IsLimited, IsLate}
 use Rattle.play_cli.specs.Causes.{Causes, names_of, names_read}
-use Rattle.play_cli.proofs.RunLemmas.{fronts_kept, names_same, unbuilt_of, limit_of, memory_of}
+use Rattle.play_cli.proofs.RunLemmas.{fronts_kept, names_same, unbuilt_of, limit_of, memory_of, damaged_not, limited_not, told_damage, told_limit}
+use Rattle.altq_model.specs.Numbers.{damage_number}
 use Rattle.play_cli.proofs.program.run.Goals as goal
 
 pub returns-in-Err-clause-front : goal.returns-in-Err-clause-front
@@ -60,3 +61,35 @@ returns-in-Err-play_files-clause-nothing g c = λ t x.
     names_same _ _ c.in-Ok.ensures.config c.in-Ok.ensures.interface c.in-Ok.ensures.arrivals c.in-Ok.ensures.departures c.in-Ok.ensures.fates c.in-Ok.ensures.stats in
     let P : Names → Type 0 = λ n. AcceptsNone (g.F.Files.view c.args.files.now) n.config n.interface in
     c.play_files.ensures.nothing t (subst P (sym names) x)
+
+pub returns-in-Ok-play_files-clause-damage_told : goal.returns-in-Ok-play_files-clause-damage_told
+returns-in-Ok-play_files-clause-damage_told g c = λ t r d x q.
+    let names : names_read c.in-Ok.read ≡ names_of c.args.words.now =
+    names_same _ _ c.in-Ok.ensures.config c.in-Ok.ensures.interface c.in-Ok.ensures.arrivals c.in-Ok.ensures.departures c.in-Ok.ensures.fates c.in-Ok.ensures.stats in
+    let P : Names → Type 0 = λ n. HasPlayed (g.F.Files.view c.args.files.now) (g.F.Files.view c.play_files.new.files) n 0 in
+    absurd (damaged_not (g.F.Files.view c.args.files.now) (g.F.Files.view c.play_files.new.files) (names_of c.args.words.now) 0 d x (subst P names (c.in-Ok-play_files.ensures.done t 0)))
+
+pub returns-in-Ok-play_files-clause-limit_told : goal.returns-in-Ok-play_files-clause-limit_told
+returns-in-Ok-play_files-clause-limit_told g c = λ t r x q.
+    let names : names_read c.in-Ok.read ≡ names_of c.args.words.now =
+    names_same _ _ c.in-Ok.ensures.config c.in-Ok.ensures.interface c.in-Ok.ensures.arrivals c.in-Ok.ensures.departures c.in-Ok.ensures.fates c.in-Ok.ensures.stats in
+    let P : Names → Type 0 = λ n. HasPlayed (g.F.Files.view c.args.files.now) (g.F.Files.view c.play_files.new.files) n 0 in
+    absurd (limited_not (g.F.Files.view c.args.files.now) (g.F.Files.view c.play_files.new.files) (names_of c.args.words.now) 0 x (subst P names (c.in-Ok-play_files.ensures.done t 0)))
+
+pub returns-in-Err-play_files-clause-damage_told : goal.returns-in-Err-play_files-clause-damage_told
+returns-in-Err-play_files-clause-damage_told g c = λ t r d p q.
+    let names : names_read c.in-Ok.read ≡ names_of c.args.words.now =
+    names_same _ _ c.in-Ok.ensures.config c.in-Ok.ensures.interface c.in-Ok.ensures.arrivals c.in-Ok.ensures.departures c.in-Ok.ensures.fates c.in-Ok.ensures.stats in
+    let Q : Names → Type 0 = λ n. Causes (g.F.Files.view c.args.files.now) (g.F.Files.view c.play_files.new.files) n c.in-Err-play_files.fault in
+    let S : Status → Type 0 = λ s. ((s.code ≡ 4) × (s.place ≡ d.place) × (s.kind ≡ damage_number d.kind)) ⊎ (s.code ≡ 8) in
+    subst S (sym c.status_of.ensures) (told_damage (g.F.Files.view c.args.files.now) (g.F.Files.view c.play_files.new.files)
+    (names_of c.args.words.now) d c.in-Err-play_files.fault t p q (subst Q names c.in-Err-play_files.ensures.why))
+
+pub returns-in-Err-play_files-clause-limit_told : goal.returns-in-Err-play_files-clause-limit_told
+returns-in-Err-play_files-clause-limit_told g c = λ t r p q.
+    let names : names_read c.in-Ok.read ≡ names_of c.args.words.now =
+    names_same _ _ c.in-Ok.ensures.config c.in-Ok.ensures.interface c.in-Ok.ensures.arrivals c.in-Ok.ensures.departures c.in-Ok.ensures.fates c.in-Ok.ensures.stats in
+    let Q : Names → Type 0 = λ n. Causes (g.F.Files.view c.args.files.now) (g.F.Files.view c.play_files.new.files) n c.in-Err-play_files.fault in
+    let S : Status → Type 0 = λ s. ((s.code ≡ 7) × (s.kind ≡ 1)) ⊎ (s.code ≡ 8) in
+    subst S (sym c.status_of.ensures) (told_limit (g.F.Files.view c.args.files.now) (g.F.Files.view c.play_files.new.files)
+    (names_of c.args.words.now) c.in-Err-play_files.fault t p q (subst Q names c.in-Err-play_files.ensures.why))
