@@ -1,0 +1,4 @@
+pub mod Average
+pub mod Ruling
+pub mod Red
+pub mod Exact

@@ -1,0 +1,42 @@
+// How far a queue is from its next early drop.
+ghost use Rattle.std.specs.Prelude.{◌≡◌, ◌≤◌, ◌<◌, ◌-◌, ◌*◌, ◌^◌, nat_lt, ℤ, pos, negsuc, ◌≤ℤ◌};
+ghost use Rattle.red_average.specs.Ruling.{risen, spacing};
+
+/// One divided by the greatest chance of an early drop, that at the upper threshold.
+const INVERSE_CHANCE: u64 = 10;
+
+/// The greatest count, at which it stays.
+const MOST: i64 = 1 << 62;
+
+// The count of kept packets after one more: 0 after -1.
+pub fn risen(count: i64) -> u64
+    requires least { negsuc 0 ≤ℤ count }
+    requires most { count ≤ℤ pos (2 ^ 62) }
+    ensures value { result ≡ risen count }
+    ensures most { result ≤ 2 ^ 62 }
+{
+    if count < MOST {
+        (count + 1) as u64
+    } else {
+        count as u64
+    }
+}
+
+// What the spacing of drops, ten times the width between the thresholds, still leaves after so many kept packets, each of which
+// took as much as the average is over the lower threshold. 0 is none.
+pub fn room(width: u64, count: u64, over: u64) -> u128
+    requires { count ≤ 2 ^ 62 }
+    ensures value { result ≡ spacing width - count * over }
+    ensures most { result ≤ 2 ^ 68 }
+{
+    let spacing = u128::from(INVERSE_CHANCE) * u128::from(width);
+    spacing.saturating_sub(u128::from(count) * u128::from(over))
+}
+
+// Whether a word, as a fraction of 2^32, is below the chance `over` / `room`.
+pub fn falls(word: u32, room: u128, over: u64) -> bool
+    requires { room ≤ 2 ^ 68 }
+    ensures { result ≡ nat_lt (word * room) (2 ^ 32 * over) }
+{
+    u128::from(word) * room < (u128::from(over) << 32)
+}

@@ -1,0 +1,3 @@
+pub mod Precedence
+pub mod Rio
+pub mod Any
