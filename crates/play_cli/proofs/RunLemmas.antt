@@ -1,12 +1,16 @@
 -- From the files of a play to the names of the words.
-use Rattle.std.proofs.Common.{◌≡◌, ◌≢◌, ◌≤◌, ◌+◌, ◌++◌, ◌∙◌, ◌⊎◌, ℕ, List, [], ◌∷◌, None, Some, ap, sym, refl, subst, inl, inr, arith}
+use Rattle.std.proofs.Common.{◌≡◌, ◌≢◌, ◌≤◌, ◌<◌, ◌-◌, ◌+◌, ◌++◌, ◌∙◌, ◌⊎◌, ℕ, zero, suc, length, drop, List, [], ◌∷◌, None, Some, ap, sym, refl, subst, inl, inr, arith}
 use Rattle.std.specs.Prelude.{IsSome, IsTrue}
 use Rattle.std.specs.declared.option.Option.{Option}
 use Rattle.altq_model.specs.declared.capture.Damage.{Damage}
 use Rattle.altq_model.specs.Arrivals.{comings}
-use Rattle.altq_model.specs.Capture.{Record, Step, End, Fault, Limit, Reads}
-use Rattle.altq_model.specs.History.{Entry}
-use Rattle.altq_model.specs.Laws.{IsBusy, KeepsLaws}
+use Rattle.altq_model.specs.Capture.{Record, Step, End, Fault, Limit, Reads, IsCapture}
+use Rattle.altq_model.specs.History.{Entry, Event, Offered, Sent, Coming}
+use Rattle.altq_model.specs.Laws.{IsBusy, KeepsLaws, IsInTime, EndsInTime}
+use Rattle.altq_model.specs.Laws.{IsLate as IsLate_}
+use Rattle.altq_model.specs.Play.{Policy, AreDue, due}
+use Rattle.play_laws.proofs.OneLemmas.{one_play}
+use Rattle.play_loop.specs.Decided.{IsPlayed, IsCutOff}
 use Rattle.altq_model.specs.declared.Rule.TheVariants.{Share}
 use Rattle.altq_model.specs.Policies.{one_queue, tail}
 use Rattle.play_base.specs.View.{View, Keeps, Any, Rose}
@@ -28,7 +32,7 @@ use Rattle.play_loop.specs.OneQueue.{KeepsBut, IsPlayOf, IsCutOf, arrivals_in, o
 use Rattle.play_loop.specs.Played.{Plays, Explains}
 use Rattle.play_loop.specs.Played as loop
 use Rattle.play_cli.specs.Opening.{AreOpened, Accepts, AcceptsNone, CannotRead, IsEmptied, KeepsOthers}
-use Rattle.play_cli.specs.Run.{Names, HasPlayed, HasFronts, Fronts, IsFrontAt, IsDamagedAt, IsLimited, IsLate, IsPlayable, EndsWith, IsQuiet}
+use Rattle.play_cli.specs.Run.{Names, HasPlayed, HasFronts, Fronts, IsFrontAt, IsDamagedAt, IsLimited, IsLate, IsPlayable, EndsWith, EndsLate, IsQuiet}
 use Rattle.play_cli.specs.Causes.{Causes, run_fault, config_fault, open_fault, status_of}
 use Rattle.play_cli.specs.declared.input.ConfigFault.{ConfigFault}
 use Rattle.play_cli.specs.declared.input.ConfigFault.TheVariants as conf
@@ -371,6 +375,86 @@ told_limit u v n (fault.Limit kind) t p q (inr x) =
     let y = x.1 t 0 in
     absurd (limit_end (last_same u n p.bytes y.bytes p.records y.records Limit End tt tt p.arrivals y.arrivals p.reads y.capture))
 told_limit u v n fault.NoMemory t p q x = inr refl
+
+-- each of the older events is in time too
+in_time_drop : (n : ℕ) (g : List Entry) → IsInTime g → IsInTime (drop n g)
+in_time_drop zero g h = h
+in_time_drop (suc n) [] h = h
+in_time_drop (suc n) (e ∷ g) h = in_time_drop n g h.1
+
+late_not : (e : Entry) → IsLate_ e.what → EndsInTime e.what → ⊥
+late_not e l h = late_event e.what l h
+  where
+    late_event : (x : Event) → IsLate_ x → EndsInTime x → ⊥
+    late_event (Offered a w v) l h = l
+    late_event (Sent s) l h = omega (arith, l, h)
+
+none_some : (e : Entry) → None ≡ Some e → ⊥
+none_some e h = cc
+
+due_drop_next : (p : Policy) (rate seed : ℕ) (arrived : List Coming) (k : List Entry) (m : ℕ) → AreDue p rate seed arrived k → m < length k
+    → (e : Entry) × (due p rate seed arrived (drop (suc m) k) ≡ Some e)
+due_drop_next p rate seed arrived [] m d l = absurd (omega (arith, l))
+due_drop_next p rate seed arrived (e ∷ k) zero d l = (e, d.0)
+due_drop_next p rate seed arrived (e ∷ k) (suc m) d l = due_drop_next p rate seed arrived k m d.1 (omega (arith, l))
+
+suc_pred : (n : ℕ) → 0 < n → suc (n - 1) ≡ n
+suc_pred n l = omega (arith, l)
+
+short_or_long : (n m : ℕ) → (n < m) ⊎ (m ≤ n)
+short_or_long n m = grind arith
+
+-- no play that ended in time is cut off
+not_cut : (p : Policy) (rate seed : ℕ) (arrived : List Coming) (g k : List Entry) → IsPlayed p rate seed arrived g → (c : IsCutOff p rate seed arrived k)
+    → (length g < length (c.next ∷ k)) ⊎ (length (c.next ∷ k) ≤ length g) → ⊥
+not_cut p rate seed arrived g k x c (inl l) =
+    let late : List Entry = c.next ∷ k in
+    let d : AreDue p rate seed arrived late = (c.is_due, c.begun.events) in
+    let m : ℕ = length late - length g in
+    let y = due_drop_next p rate seed arrived late (m - 1) d (omega (arith, l)) in
+    let same : drop (suc (m - 1)) late ≡ g = ap (λ (i : ℕ). drop i late) (suc_pred m (omega (arith, l))) ∙ one_play p rate seed arrived g late x.begun.events d (omega (arith, l)) in
+    none_some y.0 (sym x.done ∙ ap (due p rate seed arrived) (sym same) ∙ y.1)
+not_cut p rate seed arrived g k x c (inr l) =
+    let late : List Entry = c.next ∷ k in
+    let d : AreDue p rate seed arrived late = (c.is_due, c.begun.events) in
+    let same : drop (length g - length late) g ≡ late = one_play p rate seed arrived late g d x.begun.events l in
+    let h : IsInTime late = subst IsInTime same (in_time_drop (length g - length late) g x.begun.in_time) in
+    late_not c.next c.late h.0
+
+-- the same arrivals under the same configuration
+late_cut : (u : View) (n : Names) (seed : ℕ) (x : EndsLate u n seed) (text bytes : List ℕ) (rate : ℕ) (records : List Record)
+    → u.bytes n.config ≡ Some text → IsOneQueue text n.interface rate → u.bytes n.arrivals ≡ Some bytes → IsCapture bytes records
+    → IsCutOf rate seed records x.history
+late_cut u n seed x text bytes rate records c a b r =
+    let B : List ℕ → Type 0 = λ xs. Reads xs records End in
+    let same = one_reading x.bytes x.records records End End x.capture tt (subst B (same_some _ _ (sym b ∙ x.arrivals)) r) tt in
+    let C : List ℕ → Type 0 = λ xs. IsOneQueue xs n.interface rate in
+    let one = one_rate x.text n.interface x.rate rate x.accepted (subst C (same_some _ _ (sym c ∙ x.config)) a) in
+    let R : List Record → Type 0 = λ rs. IsCutOf x.rate seed rs x.history in
+    let S : ℕ → Type 0 = λ v. IsCutOf v seed records x.history in
+    subst S one (subst R same.0 x.cut)
+
+pub late_not_played : (u v : View) (n : Names) (seed : ℕ) → EndsLate u n seed → HasPlayed u v n seed → ⊥
+late_not_played u v n seed x p =
+    let c = late_cut u n seed x p.text p.bytes p.rate p.records p.config p.accepted p.arrivals p.capture in
+    not_cut (one_queue 50) p.rate seed (comings (arrivals_in p.records)) p.history x.history p.play c (short_or_long _ _)
+
+pub told_late : (u v : View) (n : Names) (seed : ℕ) (f : RunFault) → IsTrue u.tells → EndsLate u n seed → IsQuiet u v → Causes u v n f
+    → (((status_of f).code ≡ 7) × ((status_of f).kind ≡ 2)) ⊎ ((status_of f).code ≡ 8)
+told_late u v n seed fault.Unbuilt t p q x = absurd (x t p.text p.config p.rate p.accepted)
+told_late u v n seed fault.Config t p q (inl x) = absurd ((q 1).0 x)
+told_late u v n seed fault.Config t p q (inr x) = absurd (no_bytes p.text (sym x.1 ∙ p.config))
+told_late u v n seed fault.Arrivals t p q (inl x) = absurd ((q 2).0 x)
+told_late u v n seed fault.Arrivals t p q (inr x) = absurd (no_bytes p.bytes (sym x.1 ∙ p.arrivals))
+told_late u v n seed (fault.Write kind) t p q x = absurd ((q (kind + 2)).1 x.2)
+told_late u v n seed (fault.Capture e) t p q x =
+    let y = x t in
+    absurd (end_fault y.damage (last_same u n p.bytes y.bytes p.records y.records End (Fault y.damage) tt tt p.arrivals y.arrivals p.capture y.reads))
+told_late u v n seed (fault.Limit kind) t p q (inl x) =
+    let y = x.1 t in
+    absurd (end_limit (last_same u n p.bytes y.bytes p.records y.records End Limit tt tt p.arrivals y.arrivals p.capture y.reads))
+told_late u v n seed (fault.Limit kind) t p q (inr x) = inl (refl, x.0)
+told_late u v n seed fault.NoMemory t p q x = inr refl
 
 -- statuses
 pub code_of : (f : RunFault) → IsCode (status_of f).code

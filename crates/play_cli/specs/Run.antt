@@ -129,3 +129,16 @@ pub record EndsWith (old : View) (n : Names) (last : Step) : Type 0 where
   pub accepted : IsOneQueue text n.interface rate
   pub arrivals : old.bytes n.arrivals ≡ Some bytes
   pub reads : Reads bytes records last
+
+-- the configuration is accepted, the arrivals are a capture, and a packet of its play would end too late
+pub record EndsLate (old : View) (n : Names) (seed : ℕ) : Type 0 where
+  pub text : List ℕ
+  pub rate : ℕ
+  pub bytes : List ℕ
+  pub records : List Record
+  pub history : List Entry
+  pub config : old.bytes n.config ≡ Some text
+  pub accepted : IsOneQueue text n.interface rate
+  pub arrivals : old.bytes n.arrivals ≡ Some bytes
+  pub capture : IsCapture bytes records
+  pub cut : IsCutOf rate seed records history

@@ -6,7 +6,7 @@ ghost use Rattle.play_words.specs.Conf.{IsOneQueue};
 ghost use Rattle.play_words.specs.Words.{AreDistinct, refusal, seed_of};
 ghost use Rattle.play_cli.specs.Opening.{AcceptsNone, CannotRead, KeepsOthers};
 ghost use Rattle.play_cli.specs.Causes.{Causes, names_of, names_read, run_fault, config_fault, open_fault, status_of, ended};
-ghost use Rattle.play_cli.specs.Run.{HasPlayed, Fronts, IsDamagedAt, IsLimited, IsLate, IsPlayable, EndsWith, IsQuiet, IsCode};
+ghost use Rattle.play_cli.specs.Run.{HasPlayed, Fronts, IsDamagedAt, IsLimited, IsLate, IsPlayable, EndsWith, EndsLate, IsQuiet, IsCode};
 ghost use Rattle.altq_model.specs.declared.capture.Damage.{Damage};
 ghost use Rattle.altq_model.specs.Capture.{Fault, Limit};
 
@@ -152,13 +152,16 @@ pub fn run<F: Files>(alloc: Global, words: &[String], files: &mut F) -> Status
         IsPlayable (F.view files.old) (names_of words.now) seed → IsQuiet (F.view files.old) (F.view files.new) →
         (result.code ≡ 0) ⊎ (result.code ≡ 8) }
 
-    // So is a damage told, or a limit of the arrivals.
+    // So is a damage told, a limit of the arrivals, or a packet that would end too late.
     ensures damage_told { IsTrue (F.view files.old).tells → refusal words.now ≡ None → (d : Damage) →
         EndsWith (F.view files.old) (names_of words.now) (Fault d) → IsQuiet (F.view files.old) (F.view files.new) →
         ((result.code ≡ 4) × (result.place ≡ d.place) × (result.kind ≡ damage_number d.kind)) ⊎ (result.code ≡ 8) }
     ensures limit_told { IsTrue (F.view files.old).tells → refusal words.now ≡ None →
         EndsWith (F.view files.old) (names_of words.now) Limit → IsQuiet (F.view files.old) (F.view files.new) →
         ((result.code ≡ 7) × (result.kind ≡ 1)) ⊎ (result.code ≡ 8) }
+    ensures late_told { IsTrue (F.view files.old).tells → refusal words.now ≡ None → (seed : ℕ) →
+        EndsLate (F.view files.old) (names_of words.now) seed → IsQuiet (F.view files.old) (F.view files.new) →
+        ((result.code ≡ 7) × (result.kind ≡ 2)) ⊎ (result.code ≡ 8) }
 
     // What stands after any other status than 0, and what no status touches.
     ensures front { result.code ≢ 0 → (seed : ℕ) → Fronts (F.view files.old) (F.view files.new) (names_of words.now) seed }

@@ -5,7 +5,7 @@ use Rattle.play_text.specs.declared.status.Status.{Status}
 use Rattle.play_cli.specs.Opening.{AcceptsNone}
 use Rattle.play_cli.specs.Run.{Names, HasPlayed, Fronts, IsLimited, IsLate}
 use Rattle.play_cli.specs.Causes.{Causes, names_of, names_read}
-use Rattle.play_cli.proofs.RunLemmas.{fronts_kept, names_same, unbuilt_of, limit_of, memory_of, damaged_not, limited_not, told_damage, told_limit}
+use Rattle.play_cli.proofs.RunLemmas.{fronts_kept, names_same, unbuilt_of, limit_of, memory_of, damaged_not, limited_not, told_damage, told_limit, late_not_played, told_late}
 use Rattle.altq_model.specs.Numbers.{damage_number}
 use Rattle.play_cli.proofs.program.run.Goals as goal
 
@@ -93,3 +93,19 @@ returns-in-Err-play_files-clause-limit_told g c = λ t r p q.
     let S : Status → Type 0 = λ s. ((s.code ≡ 7) × (s.kind ≡ 1)) ⊎ (s.code ≡ 8) in
     subst S (sym c.status_of.ensures) (told_limit (g.F.Files.view c.args.files.now) (g.F.Files.view c.play_files.new.files)
     (names_of c.args.words.now) c.in-Err-play_files.fault t p q (subst Q names c.in-Err-play_files.ensures.why))
+
+pub returns-in-Ok-play_files-clause-late_told : goal.returns-in-Ok-play_files-clause-late_told
+returns-in-Ok-play_files-clause-late_told g c = λ t r seed x q.
+    let names : names_read c.in-Ok.read ≡ names_of c.args.words.now =
+    names_same _ _ c.in-Ok.ensures.config c.in-Ok.ensures.interface c.in-Ok.ensures.arrivals c.in-Ok.ensures.departures c.in-Ok.ensures.fates c.in-Ok.ensures.stats in
+    let P : Names → Type 0 = λ n. HasPlayed (g.F.Files.view c.args.files.now) (g.F.Files.view c.play_files.new.files) n seed in
+    absurd (late_not_played (g.F.Files.view c.args.files.now) (g.F.Files.view c.play_files.new.files) (names_of c.args.words.now) seed x (subst P names (c.in-Ok-play_files.ensures.done t seed)))
+
+pub returns-in-Err-play_files-clause-late_told : goal.returns-in-Err-play_files-clause-late_told
+returns-in-Err-play_files-clause-late_told g c = λ t r seed p q.
+    let names : names_read c.in-Ok.read ≡ names_of c.args.words.now =
+    names_same _ _ c.in-Ok.ensures.config c.in-Ok.ensures.interface c.in-Ok.ensures.arrivals c.in-Ok.ensures.departures c.in-Ok.ensures.fates c.in-Ok.ensures.stats in
+    let Q : Names → Type 0 = λ n. Causes (g.F.Files.view c.args.files.now) (g.F.Files.view c.play_files.new.files) n c.in-Err-play_files.fault in
+    let S : Status → Type 0 = λ s. ((s.code ≡ 7) × (s.kind ≡ 2)) ⊎ (s.code ≡ 8) in
+    subst S (sym c.status_of.ensures) (told_late (g.F.Files.view c.args.files.now) (g.F.Files.view c.play_files.new.files)
+    (names_of c.args.words.now) seed c.in-Err-play_files.fault t p q (subst Q names c.in-Err-play_files.ensures.why))
