@@ -51,7 +51,7 @@ module _ {Q : Type 0} (stands : Q → List QueueEvent → Type 0) (says : Q → 
   pub record Offers (d e : Row Q) (ticket : Ticket) (class len prec now : ℕ) (w z : Words) (v : Verdict) : Type 0 where
     pub lists : (c : ℕ) → list_at e.first e.listed.lists c ≡ after_offer v class (entry ticket len prec) (list_at d.first d.listed.lists) c
     pub full : v ≡ Drop Full → length (list_at d.first d.listed.lists class) ≡ limit_at d.first (map most d.queues) class
-    pub not_full : length (list_at d.first d.listed.lists class) ≡ limit_at d.first (map most d.queues) class → v ≡ Drop Full
+    pub at_limit : length (list_at d.first d.listed.lists class) ≡ limit_at d.first (map most d.queues) class → v ≡ Drop Full
     pub history : OffersWell stands says d e ticket w z (coming class len prec now) v
     pub policy : strict_of says e ≡ strict_of says d
     pub limits : limit_at e.first (map most e.queues) ≡ limit_at d.first (map most d.queues)
@@ -76,7 +76,7 @@ module _ {Q : Type 0} (stands : Q → List QueueEvent → Type 0) (says : Q → 
       record {
         lists = λ c. ap (λ (ls : List (List Entry)). list_at d.first ls c) is ∙ lists_offered d.first d.listed.lists k class v x c place.listed place.is;
         full = λ e. ap length here ∙ full.0 e ∙ sym most_is;
-        not_full = λ e. full.1 (sym (ap length here) ∙ e ∙ most_is);
+        at_limit = λ e. full.1 (sym (ap length here) ∙ e ∙ most_is);
         history = offers_well stands says d k p q l ticket class len prec now w z v there place.is place.listed lists same asks;
         policy = policy_kept stands says d k p q l there same;
         limits = ap (limit_at d.first) (map_kept most d.queues k p q there limit);

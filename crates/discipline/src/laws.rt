@@ -76,7 +76,7 @@ pub trait Discipline {
 
         ensures lists { IfOk result (λ v. (c : ℕ) → lists self.new c ≡ after_offer v class (entry ticket len prec) (lists self.old) c) }
         ensures full { (result ≡ Ok (Verdict.Drop Reason.Full)) → length (lists self.old class) ≡ limits self.old class }
-        ensures not_full { IfOk result (λ v. length (lists self.old class) ≡ limits self.old class → v ≡ Verdict.Drop Reason.Full) }
+        ensures at_limit { IfOk result (λ v. length (lists self.old class) ≡ limits self.old class → v ≡ Verdict.Drop Reason.Full) }
 
         // after a history that it stood for: the verdict, the words drawn, and the history with this offer
         ensures history { IfOk result (λ v. (h : List Happened) → stands self.old h → IsOffer now (bare h) → words.old.drawn < 2 ^ 64 - 1

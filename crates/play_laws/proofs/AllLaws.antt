@@ -8,7 +8,8 @@ use Rattle.play_laws.specs.Events.{HasLaws, IsWhole}
 use Rattle.play_laws.proofs.TimeLemmas.{each_follows}
 use Rattle.play_laws.proofs.OrderLemmas.{of_arrivals, ordered, not_before, link_ends}
 use Rattle.play_laws.proofs.CountLemmas.{balanced}
-use Rattle.play_laws.proofs.EndLemmas.{is_over, all_offered, no_places, nothing_waits, conserved}
+use Rattle.play_laws.proofs.FewLemmas.{few_decided}
+use Rattle.play_laws.proofs.EndLemmas.{is_over, all_offered, offered_within, no_places, nothing_waits, conserved}
 
 pub due_laws : (p : Policy) (rate seed : ℕ) (arrived : List Coming) (g : List Entry) → 0 < rate → IsLawful p → AreRising arrived
     → AreDue p rate seed arrived g → HasLaws p rate seed arrived g
@@ -17,6 +18,8 @@ due_laws p rate seed arrived g pos law rise due =
     record {
       each = f;
       of_arrivals = of_arrivals p rate seed arrived g f;
+      came = offered_within p rate seed arrived g f;
+      few = few_decided p rate seed arrived g f;
       once = λ n. omega (arith, (balanced p rate seed arrived g n f).once);
       ordered = ordered p rate seed arrived g f;
       not_before = not_before p rate seed arrived g law f;

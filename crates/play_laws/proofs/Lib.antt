@@ -4,6 +4,7 @@ pub mod BusyLemmas
 pub mod CountLemmas
 pub mod DueLemmas
 pub mod EndLemmas
+pub mod FewLemmas
 pub mod LawfulLemmas
 pub mod LinkLemmas
 pub mod OneLemmas

@@ -14,6 +14,7 @@ use Rattle.play_laws.proofs.DueLemmas.{first_after, next_after}
 use Rattle.play_laws.proofs.TimeLemmas.{on_time, follows, each_follows}
 use Rattle.play_laws.proofs.CountLemmas.{Place, places, with_place, without_first, of_class, of_class_labels}
 use Rattle.play_laws.proofs.EndLemmas.{nothing_waits}
+use Rattle.play_laws.proofs.FewLemmas.{one_less}
 
 cons_same : (e f : Entry) (g k : List Entry) → e ≡ f → g ≡ k → e ∷ g ≡ f ∷ k
 cons_same e f g k p q = cc
@@ -82,16 +83,6 @@ one_whole p rate seed arrived g k x y = one_whole_case p rate seed arrived g k x
 abbrev left : List Coming → List Entry → ℕ
 left arrived g = 2 * (length arrived - offered (bare g)) + length (places g)
 
-out_length : (d m : ℕ) (x : Place) (xs : List Place) (b : Bool) → slice_get (cond b (x.1 ∷ of_class d xs) (of_class d xs)) 0 ≡ Some m
-    → (slice_get (of_class d xs) 0 ≡ Some m → length (without_first d xs) + 1 ≡ length xs)
-    → length (cond b xs (x ∷ without_first d xs)) + 1 ≡ length xs + 1
-out_length d m x xs true h r = refl
-out_length d m x xs false h r = omega (arith, r h)
-
-taken_length : (d m : ℕ) (xs : List Place) → slice_get (of_class d xs) 0 ≡ Some m → length (without_first d xs) + 1 ≡ length xs
-taken_length d m [] h = absurd (cc)
-taken_length d m (x ∷ xs) h = let q = out_length d m x xs (x.0 == d) h (taken_length d m xs) in omega (arith, q)
-
 kept_length : (v : Verdict) (x : Place) (xs : List Place) → length (with_place v x xs) ≤ length xs + 1
 kept_length Keep x xs = omega (arith, length-append xs (x ∷ []))
 kept_length (Drop r) x xs = omega arith
@@ -106,7 +97,7 @@ fewer p rate seed arrived g e (inl y) =
     subst P (sym y.offer) (omega (arith, i, l))
 fewer p rate seed arrived g e (inr y) =
     let P : Event → Type 0 = λ z. let f : Entry = record { label = e.label; what = z } in left arrived (f ∷ g) < left arrived g in
-    let l = taken_length y.sending.class e.label (places g) (ap (λ (ns : List ℕ). slice_get ns 0) (of_class_labels y.sending.class g) ∙ y.number) in
+    let l = one_less y.sending.class e.label (places g) (ap (λ (ns : List ℕ). slice_get ns 0) (of_class_labels y.sending.class g) ∙ y.number) in
     subst P (sym y.event) (omega (arith, l))
 
 empty_starts : (p : Policy) (free : ℕ) (h : List Event) (cs : List ℕ) → ((c : ℕ) → waiting c h ≡ []) → first_start p free h cs ≡ None

@@ -62,6 +62,9 @@ IsDecidedOnce g = (n : ℕ) → occurs n (numbers (journal g)) ≤ (if nat_lt 0 
 pub record HasLaws (p : Policy) (rate seed : ℕ) (arrived : List Coming) (g : List Entry) : Type 0 where
   pub each : EachFollows p rate seed arrived g
   pub of_arrivals : AreOfArrivals arrived g
+  -- no more packets were offered than arrive, and no more have a fate than were offered
+  pub came : offered (bare g) ≤ length arrived
+  pub few : length (journal g) ≤ offered (bare g)
   pub once : IsDecidedOnce g
   pub ordered : IsOrdered g
   pub not_before : IsNotBefore arrived g

@@ -70,8 +70,8 @@ returns-clause-lists g c = (done g c).lists
 pub returns-clause-full : goal.returns-clause-full
 returns-clause-full g c = λ e. (done g c).full (cc)
 
-pub returns-clause-not_full : goal.returns-clause-not_full
-returns-clause-not_full g c = (done g c).not_full
+pub returns-clause-at_limit : goal.returns-clause-at_limit
+returns-clause-at_limit g c = (done g c).at_limit
 
 pub returns-clause-history : goal.returns-clause-history
 returns-clause-history g c = (done g c).history

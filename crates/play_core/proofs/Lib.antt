@@ -1,0 +1,6 @@
+pub mod Come
+pub mod CutLemmas
+pub mod HeldLemmas
+pub mod Moves
+pub mod TotalLemmas
+pub mod TurnLemmas
