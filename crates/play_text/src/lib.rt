@@ -1,10 +1,12 @@
-//! The texts of a play: the rows of its fates, and the status that it ends with.
+//! The texts of a play: the names of its classes, the rows of its fates, and the status that it ends with.
 #![tactic(auto)]
 
+mod names;
 mod rows;
 mod status;
 
-pub use rows::{fate_row, fates_head};
+pub use names::Names;
+pub use rows::{fate_row, fates_head, named_row};
 pub use status::{Status, Totals};
 
 #[cfg(test)]

@@ -2,7 +2,9 @@
 ghost use Rattle.std.specs.Prelude.{◌≡◌, ◌∷◌, [], IfOk, map};
 ghost use Rattle.csv.specs.Writing.{default_writer, row_text};
 ghost use Rattle.altq_model.specs.Texts.{fate_text, fates_head, rule_word, reason_word};
+ghost use Rattle.play_text.specs.Names.{HasClass, name_of};
 
+use crate::names::Names;
 use altq_model::{Fate, Reason, Rule};
 use csv::WriterBuilder;
 use itoa::Buffer;
@@ -74,9 +76,26 @@ fn row_of_texts<'a>(
 }
 
 /// The row of a packet's fate: its number from 1, its arrival in nanoseconds, its length in bytes, the name of its class, how it
-/// was sent or why it was dropped, and for a sending its start and end in nanoseconds. The only error is want of memory.
-/// Costs the length of the row, and one allocation of it.
+/// was sent or why it was dropped, and for a sending its start and end in nanoseconds. The class is one of `names`. The only
+/// error is want of memory. Costs the length of the row, one allocation of it, and a search for the class.
 pub fn fate_row(
+    alloc: Global,
+    names: &Names,
+    number: u64,
+    at: u64,
+    len: u32,
+    class: u32,
+    fate: &Fate,
+) -> Result<Vec<u8>, NoMemory>
+    requires { HasClass names.now class }
+    ensures { IfOk result (λ row. row.items ≡ fate_text number at len (name_of names.now class) fate.now) }
+{
+    named_row(alloc, number, at, len, names.name(class), fate)
+}
+
+/// The same row, where the name of the class is at hand. The only error is want of memory. Costs the length of the row, and one
+/// allocation of it.
+pub fn named_row(
     alloc: Global,
     number: u64,
     at: u64,

@@ -1,20 +1,48 @@
-use crate::{fate_row, fates_head};
+use crate::{Names, fate_row, fates_head};
 use altq_model::{Fate, Reason, Rule};
 use std::test::Fail;
 
 #[test]
-fn rows_of_a_sending_and_of_a_drop(rt: HostRuntime) -> Result<(), Fail> {
+fn one_packet_at_five_seconds(rt: HostRuntime) -> Result<(), Fail> {
+    let mut names = Names::make(rt.alloc());
+    names.add(1, "default")?;
     let sent = Fate::Sent {
         start: 5_000_000_000,
         end: 5_001_000_000,
         rule: Rule::Share,
     };
-    let row = fate_row(rt.alloc(), 1, 5_000_000_000, 1000, "default", &sent)?;
+    let row = fate_row(rt.alloc(), &names, 1, 5_000_000_000, 1000, 1, &sent)?;
     let text = b"1,5000000000,1000,default,share,5000000000,5001000000\n";
     assert!(rt; row.as_slice() == text.as_slice());
-    let full = Fate::Dropped(Reason::Full);
-    let row = fate_row(rt.alloc(), 51, 0, 100, "default", &full)?;
-    assert!(rt; row.as_slice() == b"51,0,100,default,full,,\n".as_slice());
     assert_eq!(rt; fates_head().len(), 43);
+    Ok(())
+}
+
+#[test]
+fn fifty_first_packet_is_dropped(rt: HostRuntime) -> Result<(), Fail> {
+    let mut names = Names::make(rt.alloc());
+    names.add(1, "default")?;
+    let full = Fate::Dropped(Reason::Full);
+    let row = fate_row(rt.alloc(), &names, 51, 0, 100, 1, &full)?;
+    assert!(rt; row.as_slice() == b"51,0,100,default,full,,\n".as_slice());
+    Ok(())
+}
+
+#[test]
+fn voice_overtakes_bulk_data(rt: HostRuntime) -> Result<(), Fail> {
+    let mut names = Names::make(rt.alloc());
+    names.add(1, "voice")?;
+    names.add(2, "data")?;
+    assert_eq!(rt; names.len(), 2);
+    assert_eq!(rt; names.place(1), Some(0));
+    assert_eq!(rt; names.place(2), Some(1));
+    assert_eq!(rt; names.place(0), None);
+    let sent = Fate::Sent {
+        start: 10_000_000,
+        end: 10_200_000,
+        rule: Rule::RealTime,
+    };
+    let row = fate_row(rt.alloc(), &names, 51, 10_000_000, 200, 1, &sent)?;
+    assert!(rt; row.as_slice() == b"51,10000000,200,voice,realtime,10000000,10200000\n".as_slice());
     Ok(())
 }

@@ -1,0 +1,95 @@
+-- What a binary search finds among entries whose classes rise, and what is read at the place that it found.
+use Rattle.std.proofs.Common.{◌≡◌, ℕ, ◌<◌, ◌≤◌, ◌≢◌, List, [], ◌∷◌, ◌++◌, length, get_or, map, Option, Some, None, Result, Ok, Err, eqb, refl, sym, ◌∙◌, ap, arith, IsTrue}
+use Rattle.std.specs.List.{All, AllPairs, position_or_len, slice_get, find}
+use Rattle.std.specs.Option.{unwrap_or, option_map}
+use Rattle.std.specs.List.Sorted.{IsSearchInRange, IsBinarySearchResult, IsNonDecreasingBy}
+use Rattle.std.specs.Ordering.{nat_cmp, ordering_index}
+use Rattle.std.specs.Result.{result_ok}
+use Rattle.std.proofs.lemmas.Cmp.{ranked}
+use Rattle.std.proofs.lemmas.List.{get_or-map, length-map}
+use Rattle.std.proofs.lemmas.List.Sums.{position_or_len_is}
+use Rattle.std.proofs.lemmas.List.Sorted.{IsNonDecreasingBy-from_default}
+use Rattle.std.proofs.lemmas.List.Folds.{find_at}
+use Rattle.std.proofs.lemmas.List.Elements.{All-push}
+use Rattle.std.proofs.lemmas.List.Quantifiers.{position-Some, all_pairs_push}
+use Rattle.std.proofs.lemmas.Option.{slice_get-get_or}
+use Rattle.std.proofs.lemmas.Bool.Decides.{nat_tests}
+use Rattle.std.proofs.lemmas.Grind.{common_steps}
+use Rattle.play_text.specs.Names.{NameList, AreNames, place_of, name_of, is_name}
+
+-- a place at which a class stands, and before which it does not, is its place
+place_is : (names : NameList) (class at : ℕ) (d : ℕ × List ℕ) → at < length names → (get_or names at d).0 ≡ class
+    → ((k : ℕ) → k < at → (get_or names k d).0 ≢ class) → place_of names class ≡ Some at
+place_is names class at d inside here before =
+    let first : position_or_len (λ pair. eqb pair.0 class) names ≡ at = position_or_len_is (λ pair. eqb pair.0 class) names at d (omega arith) (λ k lt. grind (arith, nat_tests, before k lt)) (λ _. grind (arith, nat_tests)) in
+    grind (arith, nat_tests, first)
+
+-- a class that stands nowhere has no place
+no_place : (names : NameList) (class : ℕ) (d : ℕ × List ℕ)
+    → ((k : ℕ) → k < length names → (get_or names k d).0 ≢ class) → place_of names class ≡ None
+no_place names class d nowhere =
+    let last : position_or_len (λ pair. eqb pair.0 class) names ≡ length names = position_or_len_is (λ pair. eqb pair.0 class) names (length names) d (omega arith) (λ k lt. grind (arith, nat_tests, nowhere k lt)) (λ lt. absurd (omega (arith, lt))) in
+    grind (arith, nat_tests, last)
+
+module _ {X : Type 0} (pair : X → ℕ × List ℕ) (xs : List X) (d : X) (rising : AllPairs (λ x y. x.0 < y.0) (map pair xs)) (class : ℕ) where
+  -- the class of an entry, and of its pair
+  class_at : (k : ℕ) → k < length xs → (get_or (map pair xs) k (0, [])).0 ≡ (pair (get_or xs k d)).0
+  class_at k lt = ap (λ (p : ℕ × List ℕ). p.0) (get_or-map pair xs k d (0, []) lt)
+
+  -- the classes of the entries rise
+  rises : (i j : ℕ) → i < j → j < length xs → (pair (get_or xs i d)).0 < (pair (get_or xs j d)).0
+  rises i j lt inside = rw (← class_at i (omega arith), ← class_at j inside) (rising i j (0, []) lt (rw length-map inside))
+
+  -- where the search found an entry, its class stands there and at no place before
+  found : (at : ℕ) → at < length xs → (pair (get_or xs at d)).0 ≡ class → place_of (map pair xs) class ≡ Some at
+  found at inside here = place_is (map pair xs) class at (0, []) (rw length-map inside) (class_at at inside ∙ here)
+      (λ k lt same. omega (arith, rises k at lt inside, class_at k (omega arith), same, here))
+
+  -- where it found none, the class stands nowhere
+  missed : ((k : ℕ) → k < length xs → (pair (get_or xs k d)).0 ≢ class) → place_of (map pair xs) class ≡ None
+  missed nowhere = no_place (map pair xs) class (0, [])
+      (λ k lt same. let inside : k < length xs = rw length-map at lt in nowhere k inside (sym (class_at k inside) ∙ same))
+
+  -- the searched key rises along the entries, as a binary search asks
+  keys_rise : IsNonDecreasingBy (λ x. ordering_index (nat_cmp (pair x).0 class)) xs
+  keys_rise = IsNonDecreasingBy-from_default (λ x. ordering_index (nat_cmp (pair x).0 class)) xs d (λ i j le inside.
+      let classes : (pair (get_or xs i d)).0 ≤ (pair (get_or xs j d)).0 = grind (arith, rises i j, λ (same : i ≡ j). ap (λ (k : ℕ). (pair (get_or xs k d)).0) same) in
+      grind (arith, nat_tests))
+
+  -- so what it answers is the place of the class
+  search_ends : (r : Result ℕ ℕ) → IsSearchInRange r (length xs) → IsBinarySearchResult (λ x. nat_cmp (pair x).0 class) xs r
+      → result_ok r ≡ place_of (map pair xs) class
+  search_ends (Ok at) inside equal = sym (found at inside (ranked _ class _ (sym (equal d))))
+  search_ends (Err at) inside parted = sym (missed (λ k lt same.
+      let below = λ (less : k < at). ranked (pair (get_or xs k d)).0 class _ (sym ((parted keys_rise).0 k d (omega arith) less)) in
+      let above = λ (more : at ≤ k). ranked (pair (get_or xs k d)).0 class _ (sym ((parted keys_rise).1 k d more lt)) in
+      grind (arith, below, above)))
+
+-- the search over entries whose classes rise answers the place of the class
+pub searched : {X : Type 0} (pair : X → ℕ × List ℕ) (xs : List X) (class : ℕ) (r : Result ℕ ℕ) → AllPairs (λ x y. x.0 < y.0) (map pair xs)
+    → IsSearchInRange r (length xs) → IsBinarySearchResult (λ x. nat_cmp (pair x).0 class) xs r → result_ok r ≡ place_of (map pair xs) class
+searched pair [] class (Ok at) rising inside equal = absurd (omega (arith, inside))
+searched pair [] class (Err at) rising inside parted = refl
+searched pair (x ∷ xs) class r rising inside h = search_ends pair (x ∷ xs) x rising class r inside h
+
+-- at the place of a class its name is read
+pub name_at : {X : Type 0} (pair : X → ℕ × List ℕ) (xs : List X) (class at : ℕ) (x : X) → place_of (map pair xs) class ≡ Some at
+    → x ≡ get_or xs at x → name_of (map pair xs) class ≡ (pair x).1
+name_at pair xs class at x place read =
+    let names = map pair xs in
+    let here = position-Some (λ e. eqb e.0 class) names at (0, []) place in
+    let first : position_or_len (λ e. eqb e.0 class) names ≡ at = position_or_len_is (λ e. eqb e.0 class) names at (0, []) (omega (arith, here.0)) here.2 (λ _. here.1) in
+    let pair_read : get_or names at (0, []) ≡ pair x = get_or-map pair xs at x (0, []) (rw length-map at here.0) ∙ ap pair (sym read) in
+    let first_pair : find (λ e. eqb e.0 class) names ≡ slice_get names at = find_at (λ e. eqb e.0 class) names ∙ ap (slice_get names) first in
+    let found_pair : slice_get names at ≡ Some (pair x) = slice_get-get_or names at (0, []) here.0 ∙ ap (λ (e : ℕ × List ℕ). Some e) pair_read in
+    ap (λ (o : Option (ℕ × List ℕ)). unwrap_or (option_map (λ e. e.1) o) []) (first_pair ∙ found_pair)
+
+-- one more class after the others, with a name that is not there
+pub names_grow : (names : NameList) (class : ℕ) (name : List ℕ) → AreNames names → All (λ pair. pair.0 < class) names → IsTrue (is_name name)
+    → All (λ pair. pair.1 ≢ name) names → length names < 256 → AreNames (names ++ (class, name) ∷ [])
+names_grow names class name good last named fresh room = record {
+  rising = all_pairs_push (λ x y. x.0 < y.0) names (class, name) good.rising last;
+  named = All-push (λ pair. IsTrue (is_name pair.1)) names (class, name) good.named named;
+  different = all_pairs_push (λ x y. x.1 ≢ y.1) names (class, name) good.different fresh;
+  few = grind (arith, common_steps);
+}

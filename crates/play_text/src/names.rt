@@ -1,0 +1,100 @@
+// The names of the queue classes.
+ghost use Rattle.std.specs.Prelude.{◌≡◌, ◌≢◌, ◌<◌, ◌++◌, ◌∷◌, [], length, All, IfSome, IsTrue, OnOk, OnErr};
+ghost use Rattle.play_text.specs.Names.{AreNames, HasClass, is_name, name_of, place_of};
+
+use play_base::NoMemory;
+use std::alloc::Global;
+use std::marker::Model;
+
+// A queue class and its name.
+#[derive(Drop)]
+struct Named {
+    class: u32,
+    name: String,
+}
+
+/// The queue classes of an interface in the order of its file, each with its name. Contracts see a list of pairs of a class and a
+/// name, in which the classes rise.
+#[derive(Drop)]
+pub struct Names {
+    entries: Vec<Named>,
+}
+
+impl Model for Names {
+    ghost use Rattle.play_text.specs.Names.{AreNames, NameList};
+
+    ghost Value = { NameList };
+
+    ghost use Rattle.play_text.specs.Named.{pairs_of};
+
+    ghost view = { λ n. pairs_of n.entries.items };
+
+    ghost invariant = { λ n. AreNames (pairs_of n.entries.items) };
+}
+
+impl Names {
+    /// No class. Takes no memory.
+    pub fn make(alloc: Global) -> Names
+        ensures { result ≡ [] }
+    {
+        Names {
+            entries: Vec::new(alloc),
+        }
+    }
+
+    /// Puts a queue class at the end, with the name that altq.conf(5) gives it: 1 to 64 letters, digits and `_`, `-`, `.`, `:`, `/`.
+    /// The only error is want of memory, and then nothing has changed. Costs the length of the name, and now and then a move of
+    /// all entries.
+    pub fn add(&mut self, class: u32, name: &str) -> Result<(), NoMemory>
+        requires last { All (λ pair. pair.0 < class) self.old }
+        requires named { IsTrue (is_name name.now) }
+        requires fresh { All (λ pair. pair.1 ≢ name.now) self.old }
+        requires room { length self.old < 256 }
+        ensures added { OnOk result (self.new ≡ self.old ++ (class, name.now) ∷ []) }
+        ensures kept { OnErr result (self.new ≡ self.old) }
+    {
+        let alloc = *self.entries.allocator();
+        let name = String::from_str(alloc, name)?;
+        self.entries.push(Named { class, name })?;
+        Ok(())
+    }
+
+    /// How many classes there are, at most 256. Takes no memory, in constant time.
+    pub fn len(&self) -> u32
+        ensures count { result ≡ length self.now }
+        ensures names { AreNames self.now }
+    {
+        self.entries.len() as u32
+    }
+
+    /// The place, from 0, at which a class stands; None exactly where it is not there. Takes no memory, in the time of a binary search.
+    pub fn place(&self, class: u32) -> Option<u32>
+        ensures { result ≡ place_of self.now class }
+    {
+        match self.search(class) {
+            Some(at) => Some(at as u32),
+            None => None,
+        }
+    }
+
+    // The name of a class.
+    pub(crate) fn name(&self, class: u32) -> &str
+        requires { HasClass self.now class }
+        ensures { result.now ≡ name_of self.now class }
+    {
+        match self.search(class) {
+            Some(at) => self.entries[at].name.as_str(),
+            None => "",
+        }
+    }
+
+    // Where a class stands: the classes rise.
+    fn search(&self, class: u32) -> Option<usize>
+        ensures place { result ≡ place_of self.now class }
+        ensures few { IfSome result (λ at. at < 256) }
+    {
+        self.entries
+            .binary_search_by_key(&class, |named| named.class)
+            .ok()
+    }
+}
