@@ -15,7 +15,7 @@ use crate::{Arrived, Decided};
 use altq_model::Fate;
 use pcap_files::record_head;
 use play_base::{Files, Trouble};
-use play_text::fate_row;
+use play_text::named_row;
 use std::alloc::Global;
 
 // Adds the record of a packet that was sent.
@@ -65,7 +65,7 @@ fn add_row<F: Files>(
         (fate_text decided.number packet.now.at packet.now.len (codes "default") decided.fate)) }
     ensures failed { IsErrOf result Trouble.Failed → WriteFault (F.view files.old) (F.view files.new) file }
 {
-    let Ok(row) = fate_row(
+    let Ok(row) = named_row(
         alloc,
         decided.number,
         packet.at,

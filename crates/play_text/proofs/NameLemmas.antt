@@ -80,9 +80,9 @@ name_at pair xs class at x place read =
     let here = position-Some (λ e. eqb e.0 class) names at (0, []) place in
     let first : position_or_len (λ e. eqb e.0 class) names ≡ at = position_or_len_is (λ e. eqb e.0 class) names at (0, []) (omega (arith, here.0)) here.2 (λ _. here.1) in
     let pair_read : get_or names at (0, []) ≡ pair x = get_or-map pair xs at x (0, []) (rw length-map at here.0) ∙ ap pair (sym read) in
-    let met : find (λ e. eqb e.0 class) names ≡ Some (pair x) =
-    find_at (λ e. eqb e.0 class) names ∙ ap (slice_get names) first ∙ slice_get-get_or names at (0, []) here.0 ∙ ap (λ (e : ℕ × List ℕ). Some e) pair_read in
-    ap (λ (o : Option (ℕ × List ℕ)). unwrap_or (option_map (λ e. e.1) o) []) met
+    let first_pair : find (λ e. eqb e.0 class) names ≡ slice_get names at = find_at (λ e. eqb e.0 class) names ∙ ap (slice_get names) first in
+    let found_pair : slice_get names at ≡ Some (pair x) = slice_get-get_or names at (0, []) here.0 ∙ ap (λ (e : ℕ × List ℕ). Some e) pair_read in
+    ap (λ (o : Option (ℕ × List ℕ)). unwrap_or (option_map (λ e. e.1) o) []) (first_pair ∙ found_pair)
 
 -- one more class after the others, with a name that is not there
 pub names_grow : (names : NameList) (class : ℕ) (name : List ℕ) → AreNames names → All (λ pair. pair.0 < class) names → IsTrue (is_name name)

@@ -7,7 +7,7 @@ use std::alloc::Global;
 use std::marker::Model;
 
 // A queue class and its name.
-#[derive(Debug, Drop)]
+#[derive(Drop)]
 struct Named {
     class: u32,
     name: String,
@@ -15,7 +15,7 @@ struct Named {
 
 /// The queue classes of an interface in the order of its file, each with its name. Contracts see a list of pairs of a class and a
 /// name, in which the classes rise.
-#[derive(Debug, Drop)]
+#[derive(Drop)]
 pub struct Names {
     entries: Vec<Named>,
 }

@@ -29,13 +29,20 @@ fn fifty_first_packet_is_dropped(rt: HostRuntime) -> Result<(), Fail> {
 }
 
 #[test]
-fn classes_stand_at_their_places(rt: HostRuntime) -> Result<(), Fail> {
+fn voice_overtakes_bulk_data(rt: HostRuntime) -> Result<(), Fail> {
     let mut names = Names::make(rt.alloc());
     names.add(1, "voice")?;
-    names.add(4, "bulk:0")?;
+    names.add(2, "data")?;
     assert_eq!(rt; names.len(), 2);
     assert_eq!(rt; names.place(1), Some(0));
-    assert_eq!(rt; names.place(4), Some(1));
-    assert_eq!(rt; names.place(2), None);
+    assert_eq!(rt; names.place(2), Some(1));
+    assert_eq!(rt; names.place(0), None);
+    let sent = Fate::Sent {
+        start: 10_000_000,
+        end: 10_200_000,
+        rule: Rule::RealTime,
+    };
+    let row = fate_row(rt.alloc(), &names, 51, 10_000_000, 200, 1, &sent)?;
+    assert!(rt; row.as_slice() == b"51,10000000,200,voice,realtime,10000000,10200000\n".as_slice());
     Ok(())
 }
