@@ -1,8 +1,5 @@
-pub mod Come
-pub mod HeldLemmas
-pub mod Steps
+pub mod DecisionLemmas
 pub mod GatherLemmas
 pub mod OutputLemmas
-pub mod ReadLemmas
-pub mod DecisionLemmas
 pub mod PlayLemmas
+pub mod ReadLemmas

@@ -8,7 +8,7 @@ use Rattle.play_base.specs.ViewLaws.{keeps_trans, keeps_fewer, part_of_there}
 use Rattle.play_base.specs.HoldsLaws.{apart_kept, apart_sym}
 use Rattle.play_loop.specs.Gathered.{Grew, Stopped}
 use Rattle.play_loop.specs.GatheredLaws.{text_grew, text_stopped, text_beside, text_front, text_same, front_longer, front_same}
-use Rattle.play_loop.specs.OneQueue.{KeepsBut}
+use Rattle.play_loop.specs.Setup.{KeepsBut}
 use Rattle.play_loop.specs.declared.outputs.Outputs.{Outputs}
 use Rattle.play_loop.specs.Outputs.{TextsAre, FrontsAre, SameFiles}
 use Rattle.play_loop.proofs.GatherLemmas.{stopped_at_front}

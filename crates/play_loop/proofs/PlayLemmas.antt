@@ -1,11 +1,11 @@
 -- From what was decided and written to the play.
-use Rattle.std.proofs.Common.{◌≡◌, ◌++◌, ◌∙◌, ℕ, Bool, true, false, List, [], ◌∷◌, Some, ap, sym, refl, subst, inl, inr}
+use Rattle.std.proofs.Common.{◌≡◌, ◌≤◌, ◌++◌, ◌∙◌, ℕ, Bool, true, false, List, [], ◌∷◌, Some, ap, sym, refl, subst, inl, inr}
 use Rattle.std.specs.Prelude.{IsTrue}
 use Rattle.std.proofs.lemmas.List.{append-nil}
 use Rattle.altq_model.specs.Arrivals.{Arrival, comings}
 use Rattle.altq_model.specs.Capture.{Record}
 use Rattle.altq_model.specs.History.{Coming, Decision, Entry, journal}
-use Rattle.altq_model.specs.Policies.{one_queue}
+use Rattle.altq_model.specs.Play.{Policy}
 use Rattle.altq_model.specs.Texts.{capture_head, departure_records, fates_head, fate_rows}
 use Rattle.play_base.specs.View.{View, Keeps, Any, Wrote, WroteFront, ReadFault, WriteFault}
 use Rattle.play_base.specs.ViewLaws.{keeps_trans, keeps_fewer, rose_later}
@@ -13,19 +13,25 @@ use Rattle.play_base.specs.Holds.{HoldsAt}
 use Rattle.play_base.specs.HoldsLaws.{holds_kept, apart_kept}
 use Rattle.pcap_files.specs.declared.fault.CaptureFault.{CaptureFault}
 use Rattle.pcap_files.specs.declared.fault.CaptureFault.TheVariants as capture
-use Rattle.play_loop.specs.declared.held.Arrived.{Arrived}
-use Rattle.play_loop.specs.declared.queue.Decided.{Decided}
+use Rattle.play_core.specs.declared.arrived.Arrived.{Arrived}
+use Rattle.play_core.specs.declared.decided.Decided.{Decided}
+use Rattle.play_core.specs.declared.decided.Decisions.{Decisions}
+use Rattle.play_core.specs.Arrived.{HavePrecs, arrivals_held, coming_of, comings_held, decisions_of}
+use Rattle.play_core.specs.Decided.{IsDecided}
+use Rattle.play_core.specs.Ended.{HasEnded}
 use Rattle.play_loop.specs.declared.fault.Opened.{Opened}
 use Rattle.play_loop.specs.declared.outputs.OutputFault.{OutputFault}
 use Rattle.play_loop.specs.declared.outputs.OutputFault.TheVariants as output
-use Rattle.play_loop.specs.Decided.{HasEnded}
 use Rattle.play_loop.specs.Gathered.{HoldsFront}
 use Rattle.play_loop.specs.GatheredLaws.{text_of_held, front_same}
-use Rattle.play_loop.specs.OneQueue.{KeepsBut, HoldTexts, HoldFronts, IsFrontOf, arrivals_in, departures_of, fates_of, one_name}
-use Rattle.play_loop.specs.Outputs.{TextsAre, FrontsAre}
+use Rattle.play_loop.specs.Outputs.{AreNamed, TextsAre, FrontsAre}
+use Rattle.play_loop.specs.Setup.{Setup, KeepsBut, IsFrontOf, arrivals_in, departures_of, fates_of}
 use Rattle.play_loop.specs.Played.{AreEmpty, EndsAs, HasPlayed, HasStopped, Explains, capture_fault, output_fault}
-use Rattle.play_loop.specs.Queue.{arrivals_held, comings_held, one_coming, decisions_of}
-use Rattle.play_loop.specs.Reading.{HasFault}
+use Rattle.play_loop.specs.Reading.{AreMarked, HasFault}
+use Rattle.play_text.specs.Names.{NameList, HasClass}
+use Rattle.play_text.specs.declared.status.Totals.{Totals}
+use Rattle.play_laws.specs.Lawful.{AreHeld, IsOneOf}
+use Rattle.altq_model.specs.declared.Mark.{Mark}
 use Rattle.play_loop.proofs.GatherLemmas.{grew_whole, stopped_whole}
 use Rattle.play_loop.proofs.OutputLemmas.{texts_departed, texts_rowed, fronts_departed, fronts_rowed}
 
@@ -60,87 +66,112 @@ heads_whole u v w dep fat bytes row e f h x y =
 -- the play of the arrivals that were read
 comings_are : (xs : List Arrived) → comings_held xs ≡ comings (arrivals_held xs)
 comings_are [] = refl
-comings_are (x ∷ xs) = ap (λ (r : List Coming). one_coming x.at x.len ∷ r) (comings_are xs)
+comings_are (x ∷ xs) = ap (λ (r : List Coming). coming_of x ∷ r) (comings_are xs)
 
-ends_as : (cut : Bool) (rate seed : ℕ) (records : List Record) (g : List Entry) → HasEnded cut (one_queue 50) rate seed (comings (arrivals_in records)) g
-    → EndsAs cut rate seed records g
-ends_as false rate seed records g h = h
-ends_as true rate seed records g h = h
+ends_as : (cut : Bool) (x : Setup) (records : List Record) (g : List Entry) → HasEnded cut x.policy x.rate x.seed (comings (arrivals_in x records)) g
+    → EndsAs cut x records g
+ends_as false x records g h = h
+ends_as true x records g h = h
 
-begun : (cut : Bool) (rate seed : ℕ) (records : List Record) (g : List Entry) → EndsAs cut rate seed records g → IsFrontOf rate seed records g
-begun false rate seed records g h = h.begun
-begun true rate seed records g h = h.begun
+begun : (cut : Bool) (x : Setup) (records : List Record) (g : List Entry) → EndsAs cut x records g → IsFrontOf x records g
+begun false x records g h = h.begun
+begun true x records g h = h.begun
 
-ended : (cut : Bool) (rate seed : ℕ) (arrived : List Arrived) (records : List Record) (g : List Entry) → arrivals_held arrived ≡ arrivals_in records
-    → HasEnded cut (one_queue 50) rate seed (comings_held arrived) g → EndsAs cut rate seed records g
-ended cut rate seed arrived records g e h =
-    let P : List Coming → Type 0 = λ cs. HasEnded cut (one_queue 50) rate seed cs g in
-    ends_as cut rate seed records g (subst P (comings_are arrived ∙ ap comings e) h)
+ended : (cut : Bool) (x : Setup) (arrived : List Arrived) (records : List Record) (g : List Entry) → arrivals_held arrived ≡ arrivals_in x records
+    → HasEnded cut x.policy x.rate x.seed (comings_held arrived) g → EndsAs cut x records g
+ended cut x arrived records g e h =
+    let P : List Coming → Type 0 = λ cs. HasEnded cut x.policy x.rate x.seed cs g in
+    ends_as cut x records g (subst P (comings_are arrived ∙ ap comings e) h)
 
-records_are : (arrived : List Arrived) (records : List Record) (list : List Decided) (g : List Entry) → arrivals_held arrived ≡ arrivals_in records
-    → decisions_of list ≡ journal g → capture_head ++ departure_records (arrivals_held arrived) (decisions_of list) ≡ departures_of records g
-records_are arrived records list g e j =
+records_are : (x : Setup) (arrived : List Arrived) (records : List Record) (list : List Decided) (g : List Entry) → arrivals_held arrived ≡ arrivals_in x records
+    → decisions_of list ≡ journal g → capture_head ++ departure_records (arrivals_held arrived) (decisions_of list) ≡ departures_of x records g
+records_are x arrived records list g e j =
     ap (λ (l : List Arrival). capture_head ++ departure_records l (decisions_of list)) e
-    ∙ ap (λ (k : List Decision). capture_head ++ departure_records (arrivals_in records) k) j
+    ∙ ap (λ (k : List Decision). capture_head ++ departure_records (arrivals_in x records) k) j
 
-rows_are : (arrived : List Arrived) (records : List Record) (list : List Decided) (g : List Entry) → arrivals_held arrived ≡ arrivals_in records
-    → decisions_of list ≡ journal g → fates_head ++ fate_rows one_name (arrivals_held arrived) (decisions_of list) ≡ fates_of records g
-rows_are arrived records list g e j =
-    ap (λ (l : List Arrival). fates_head ++ fate_rows one_name l (decisions_of list)) e
-    ∙ ap (λ (k : List Decision). fates_head ++ fate_rows one_name (arrivals_in records) k) j
+rows_are : (x : Setup) (arrived : List Arrived) (records : List Record) (list : List Decided) (g : List Entry) → arrivals_held arrived ≡ arrivals_in x records
+    → decisions_of list ≡ journal g → fates_head ++ fate_rows x.names (arrivals_held arrived) (decisions_of list) ≡ fates_of x records g
+rows_are x arrived records list g e j =
+    ap (λ (l : List Arrival). fates_head ++ fate_rows x.names l (decisions_of list)) e
+    ∙ ap (λ (k : List Decision). fates_head ++ fate_rows x.names (arrivals_in x records) k) j
 
-pub played : (cut : Bool) (rate seed : ℕ) (v : View) (dep fat dep' fat' : ℕ) (arrived : List Arrived) (records : List Record) (list : List Decided) (g : List Entry)
-    → arrivals_held arrived ≡ arrivals_in records → HasEnded cut (one_queue 50) rate seed (comings_held arrived) g → decisions_of list ≡ journal g
+pub played : (x : Setup) (stood : List Entry → Type 0) (v : View) (dep fat dep' fat' : ℕ) (arrived : List Arrived) (records : List Record) (list : List Decided) (d : Decisions)
+    → arrivals_held arrived ≡ arrivals_in x records → IsDecided x.policy stood x.rate x.seed (comings_held arrived) d → list ≡ d.list.items
     → dep' ≡ dep → fat' ≡ fat
     → HoldsAt v dep' (capture_head ++ departure_records (arrivals_held arrived) (decisions_of list))
-    → HoldsAt v fat' (fates_head ++ fate_rows one_name (arrivals_held arrived) (decisions_of list))
-    → (h : List Entry) × EndsAs cut rate seed records h × HoldTexts v dep fat records h
-played cut rate seed v dep fat dep' fat' arrived records list g e h j d f x y =
+    → HoldsAt v fat' (fates_head ++ fate_rows x.names (arrivals_held arrived) (decisions_of list))
+    → HasPlayed d.cut x stood v dep fat records d.totals
+played x stood v dep fat dep' fat' arrived records list d e h l dd f y z =
+    let j : decisions_of list ≡ journal h.history = ap decisions_of l ∙ h.decided in
     let P : List ℕ → Type 0 = λ xs. HoldsAt v dep' xs in
     let Q : List ℕ → Type 0 = λ xs. HoldsAt v fat' xs in
-    let R : ℕ → Type 0 = λ n. HoldsAt v n (departures_of records g) in
-    let S : ℕ → Type 0 = λ n. HoldsAt v n (fates_of records g) in (
-      g,
-      ended cut rate seed arrived records g e h,
-      record { departures = subst R d (subst P (records_are arrived records list g e j) x); fates = subst S f (subst Q (rows_are arrived records list g e j) y) },
-    )
+    let R : ℕ → Type 0 = λ n. HoldsAt v n (departures_of x records h.history) in
+    let S : ℕ → Type 0 = λ n. HoldsAt v n (fates_of x records h.history) in
+    record {
+      history = h.history;
+      play = ended d.cut x arrived records h.history e h.play;
+      texts = record {
+        departures = subst R dd (subst P (records_are x arrived records list h.history e j) y);
+        fates = subst S f (subst Q (rows_are x arrived records list h.history e j) z);
+      };
+      stands = h.stands;
+      totals = h.totals;
+    }
 
-pub stopped : (cut : Bool) (rate seed : ℕ) (v : View) (dep fat dep' fat' : ℕ) (arrived : List Arrived) (records : List Record) (list : List Decided) (g : List Entry)
-    → arrivals_held arrived ≡ arrivals_in records → HasEnded cut (one_queue 50) rate seed (comings_held arrived) g → decisions_of list ≡ journal g
+pub stopped : (x : Setup) (stood : List Entry → Type 0) (v : View) (dep fat dep' fat' : ℕ) (arrived : List Arrived) (records : List Record) (list : List Decided) (d : Decisions)
+    → arrivals_held arrived ≡ arrivals_in x records → IsDecided x.policy stood x.rate x.seed (comings_held arrived) d → list ≡ d.list.items
     → dep' ≡ dep → fat' ≡ fat
     → FrontsAre v dep' fat' (capture_head ++ departure_records (arrivals_held arrived) (decisions_of list))
-    (fates_head ++ fate_rows one_name (arrivals_held arrived) (decisions_of list))
-    → (h : List Entry) × IsFrontOf rate seed records h × HoldFronts v dep fat records h
-stopped cut rate seed v dep fat dep' fat' arrived records list g e h j d f x =
-    let R : ℕ → Type 0 = λ n. HoldsFront v n (departures_of records g) in
-    let S : ℕ → Type 0 = λ n. HoldsFront v n (fates_of records g) in (
-      g,
-      begun cut rate seed records g (ended cut rate seed arrived records g e h),
-      record {
-        departures = subst R d (front_same v dep' _ _ (records_are arrived records list g e j) x.departures);
-        fates = subst S f (front_same v fat' _ _ (rows_are arrived records list g e j) x.fates);
-      },
-    )
+    (fates_head ++ fate_rows x.names (arrivals_held arrived) (decisions_of list))
+    → HasStopped x v dep fat records
+stopped x stood v dep fat dep' fat' arrived records list d e h l dd f y =
+    let j : decisions_of list ≡ journal h.history = ap decisions_of l ∙ h.decided in
+    let R : ℕ → Type 0 = λ n. HoldsFront v n (departures_of x records h.history) in
+    let S : ℕ → Type 0 = λ n. HoldsFront v n (fates_of x records h.history) in
+    record {
+      history = h.history;
+      play = begun d.cut x records h.history (ended d.cut x arrived records h.history e h.play);
+      texts = record {
+        departures = subst R dd (front_same v dep' _ _ (records_are x arrived records list h.history e j) y.departures);
+        fates = subst S f (front_same v fat' _ _ (rows_are x arrived records list h.history e j) y.fates);
+      };
+    }
 
 -- before any event only fronts of the heads stand
-pub stopped_heads : (rate : ℕ) (v : View) (dep fat : ℕ) (records : List Record) → FrontsAre v dep fat capture_head fates_head → HasStopped rate v dep fat records
-stopped_heads rate v dep fat records h = λ seed. (
-  [],
-  record { events = tt; in_time = tt },
-  record {
+pub stopped_heads : (x : Setup) (v : View) (dep fat : ℕ) (records : List Record) → FrontsAre v dep fat capture_head fates_head → HasStopped x v dep fat records
+stopped_heads x v dep fat records h = record {
+  history = [];
+  play = record { events = tt; in_time = tt };
+  texts = record {
     departures = front_same v dep capture_head (capture_head ++ []) (sym (append-nil capture_head)) h.departures;
     fates = front_same v fat fates_head (fates_head ++ []) (sym (append-nil fates_head)) h.fates;
-  },
-)
+  };
+}
 
 -- whole texts are fronts
 whole_front : (v : View) (file : ℕ) (text : List ℕ) → HoldsAt v file text → HoldsFront v file text
 whole_front v file text h = record { written = text; rest = []; holds = h; split = append-nil text }
 
-pub cut_stopped : (rate : ℕ) (v : View) (dep fat : ℕ) (records : List Record) → HasPlayed true rate v dep fat records → HasStopped rate v dep fat records
-cut_stopped rate v dep fat records h = λ seed.
-    let x = h seed in
-    (x.0, begun true rate seed records x.0 x.1, record { departures = whole_front v dep _ x.2.departures; fates = whole_front v fat _ x.2.fates })
+pub cut_stopped : (x : Setup) (stood : List Entry → Type 0) (v : View) (dep fat : ℕ) (records : List Record) (t : Totals) → HasPlayed true x stood v dep fat records t
+    → HasStopped x v dep fat records
+cut_stopped x stood v dep fat records t h = record {
+  history = h.history;
+  play = begun true x records h.history h.play;
+  texts = record { departures = whole_front v dep _ h.texts.departures; fates = whole_front v fat _ h.texts.fates };
+}
+
+-- what is told of each frame is so of each packet
+pub all_held : (p : Policy) (mark : List ℕ → Mark) (xs : List Arrived) → ((frame : List ℕ) → IsOneOf (mark frame).class p.classes) → AreMarked mark xs → AreHeld p (comings_held xs)
+all_held p mark [] h m = tt
+all_held p mark (x ∷ xs) h m = let P : Mark → Type 0 = λ k. IsOneOf k.class p.classes in (subst P (sym m.0) (h x.bytes), all_held p mark xs h m.1)
+
+pub all_precs : (mark : List ℕ → Mark) (xs : List Arrived) → ((frame : List ℕ) → (mark frame).prec ≤ 2) → AreMarked mark xs → HavePrecs xs
+all_precs mark [] h m = tt
+all_precs mark (x ∷ xs) h m = let P : Mark → Type 0 = λ k. k.prec ≤ 2 in (subst P (sym m.0) (h x.bytes), all_precs mark xs h m.1)
+
+pub all_named : (names : NameList) (mark : List ℕ → Mark) (xs : List Arrived) → ((frame : List ℕ) → HasClass names (mark frame).class) → AreMarked mark xs → AreNamed names xs
+all_named names mark [] h m = tt
+all_named names mark (x ∷ xs) h m = let P : Mark → Type 0 = λ k. HasClass names k.class in (subst P (sym m.0) (h x.bytes), all_named names mark xs h m.1)
 
 -- what was read leaves what was written
 pub texts_kept : (F : ℕ → Type 0) (v w : View) (dep fat : ℕ) (recs rows ds ts : List ℕ) → TextsAre v dep fat recs rows ds ts → Keeps Any F v w
@@ -160,18 +191,18 @@ read_since N F u v w file p k there x = λ q at. rose_later _ _ _ (k.later.read 
 pub write_since : (N : List ℕ → Type 0) (F : ℕ → Type 0) (u v w : View) (file : ℕ) → Keeps N F u v → WriteFault v w file → WriteFault u w file
 write_since N F u v w file k x = λ q at. rose_later _ _ _ (k.later.write q) (x q (k.part file q at))
 
-pub explains_output : (u v : View) (rate : ℕ) (o : Opened) (f : OutputFault) → (f ≡ output.Departures → WriteFault u v o.departures)
-    → (f ≡ output.Fates → WriteFault u v o.fates) → Explains u v rate o (output_fault f)
-explains_output u v rate o output.Departures d t = inl (refl, d refl)
-explains_output u v rate o output.Fates d t = inr (refl, t refl)
-explains_output u v rate o output.NoMemory d t = tt
+pub explains_output : (x : Setup) (stood : List Entry → Type 0) (u v : View) (o : Opened) (f : OutputFault) → (f ≡ output.Departures → WriteFault u v o.departures)
+    → (f ≡ output.Fates → WriteFault u v o.fates) → Explains x stood u v o (output_fault f)
+explains_output x stood u v o output.Departures d t = inl (refl, d refl)
+explains_output x stood u v o output.Fates d t = inr (refl, t refl)
+explains_output x stood u v o output.NoMemory d t = tt
 
-pub explains_capture : (u v w : View) (rate : ℕ) (o : Opened) (f : CaptureFault) → (IsTrue u.tells → v.left o.arrivals ≡ u.left o.arrivals)
-    → HasFault v o.arrivals f → (f ≡ capture.Read → ReadFault u w o.arrivals) → Explains u w rate o (capture_fault f)
-explains_capture u v w rate o (capture.Damage d) left h r = λ t bytes e. h bytes (left t ∙ e)
-explains_capture u v w rate o capture.Limit left h r = inl (refl, λ t bytes e. h bytes (left t ∙ e))
-explains_capture u v w rate o capture.Read left h r = r refl
-explains_capture u v w rate o capture.NoMemory left h r = tt
+pub explains_capture : (x : Setup) (stood : List Entry → Type 0) (u v w : View) (o : Opened) (f : CaptureFault) → (IsTrue u.tells → v.left o.arrivals ≡ u.left o.arrivals)
+    → HasFault v o.arrivals f → (f ≡ capture.Read → ReadFault u w o.arrivals) → Explains x stood u w o (capture_fault f)
+explains_capture x stood u v w o (capture.Damage d) left h r = λ t bytes e. h bytes (left t ∙ e)
+explains_capture x stood u v w o capture.Limit left h r = inl (refl, λ t bytes e. h bytes (left t ∙ e))
+explains_capture x stood u v w o capture.Read left h r = r refl
+explains_capture x stood u v w o capture.NoMemory left h r = tt
 
 pub texts_new : (v : View) (dep fat : ℕ) (recs rows ds ts : List ℕ) → recs ≡ [] → rows ≡ [] → TextsAre v dep fat [] [] ds ts → TextsAre v dep fat recs rows ds ts
 texts_new v dep fat recs rows ds ts r s h =

@@ -1,5 +1,5 @@
 -- What the reading of a capture keeps and finds.
-use Rattle.std.proofs.Common.{◌≡◌, ◌≢◌, ◌++◌, ◌∙◌, ◌⊎◌, ℕ, max, List, [], ◌∷◌, length, None, Some, refl, ap, sym, subst, inl, inr}
+use Rattle.std.proofs.Common.{◌≡◌, ◌≢◌, ◌≤◌, ◌++◌, ◌∙◌, ◌⊎◌, ℕ, max, arith, List, [], ◌∷◌, length, None, Some, refl, ap, sym, subst, inl, inr}
 use Rattle.std.specs.Prelude.{nat_lt}
 use Rattle.std.specs.declared.option.Option.{Option}
 use Rattle.altq_model.specs.Arrivals.{Arrival}
@@ -13,9 +13,13 @@ use Rattle.pcap_files.specs.declared.record.Record.{Record as Read}
 use Rattle.pcap_files.specs.Reading.{IsHeadFault, ReadsTo, Shows}
 use Rattle.play_laws.specs.Lawful.{greatest}
 use Rattle.play_laws.proofs.ArrivalLemmas.{arrivals_append}
-use Rattle.play_loop.specs.declared.held.Arrived.{Arrived}
-use Rattle.play_loop.specs.OneQueue.{one_mark, arrivals_in}
-use Rattle.play_loop.specs.Queue.{arrival_of, arrivals_held}
+use Rattle.altq_model.specs.declared.Mark.{Mark}
+use Rattle.altq_model.specs.Arrivals.{arrivals_of}
+use Rattle.altq_model.specs.History.{Coming}
+use Rattle.play_laws.specs.Lawful.{AreRising, RiseFrom}
+use Rattle.play_core.specs.declared.arrived.Arrived.{Arrived}
+use Rattle.play_core.specs.Arrived.{arrival_of, arrivals_held, coming_of, comings_held}
+use Rattle.play_loop.specs.Reading.{AreMarked}
 
 -- a file with a bad head has no complete record
 pub head_fault : (f : CaptureFault) (bytes : List ℕ) → IsHeadFault f bytes → ReadsTo f bytes []
@@ -51,20 +55,47 @@ held-push [] a = refl
 held-push (x ∷ xs) a = ap (λ (r : List Arrival). arrival_of x ∷ r) (held-push xs a)
 
 -- one more record is one more arrival
-pub arrival_more : (records : List Record) (r : Record) (list : List Arrived) (latest count : ℕ) (answer : Read) (a : Arrived)
-    → arrivals_held list ≡ arrivals_in records → greatest 0 records ≡ latest → Shows answer count r
-    → a.at ≡ max latest answer.stamp → a.len ≡ answer.len → a.bytes ≡ answer.bytes → a.raised ≡ nat_lt answer.stamp latest
-    → (arrivals_held (list ++ a ∷ []) ≡ arrivals_in (records ++ r ∷ [])) × (greatest 0 (records ++ r ∷ []) ≡ max latest answer.stamp)
-arrival_more records r list latest count answer a held top shows at len bytes raised =
+pub arrival_more : (mark : List ℕ → Mark) (records : List Record) (r : Record) (list : List Arrived) (latest count : ℕ) (answer : Read) (a : Arrived)
+    → arrivals_held list ≡ arrivals_of mark records → greatest 0 records ≡ latest → Shows answer count r
+    → a.at ≡ max latest answer.stamp → a.len ≡ answer.len → a.mark ≡ mark a.bytes → a.bytes ≡ answer.bytes → a.raised ≡ nat_lt answer.stamp latest
+    → (arrivals_held (list ++ a ∷ []) ≡ arrivals_of mark (records ++ r ∷ [])) × (greatest 0 (records ++ r ∷ []) ≡ max latest answer.stamp)
+arrival_more mark records r list latest count answer a held top shows at len marked bytes raised =
     let made : arrival_of a ≡ record {
       at = max (greatest 0 records) r.stamp;
       len = max r.original (length r.captured);
-      class = 1;
-      prec = 0;
+      class = (mark r.captured).class;
+      prec = (mark r.captured).prec;
       bytes = r.captured;
       raised = nat_lt r.stamp (greatest 0 records);
-    } = cc (at, len, bytes, raised, top, shows.stamp, shows.len, shows.bytes) in (
-      held-push list a ∙ ap (λ (l : List Arrival). l ++ arrival_of a ∷ []) held ∙ ap (λ (x : Arrival). arrivals_in records ++ x ∷ []) made
-          ∙ sym (arrivals_append one_mark records (r ∷ [])),
+    } = cc (at, len, marked, bytes, raised, top, shows.stamp, shows.len, shows.bytes) in (
+      held-push list a ∙ ap (λ (l : List Arrival). l ++ arrival_of a ∷ []) held ∙ ap (λ (x : Arrival). arrivals_of mark records ++ x ∷ []) made
+          ∙ sym (arrivals_append mark records (r ∷ [])),
       greatest-push 0 records r ∙ ap (λ n. max n r.stamp) top ∙ ap (λ n. max latest n) (sym shows.stamp),
     )
+
+-- the last arrival of a list, or this moment
+abbrev pub last_at : (t : ℕ) → List Coming → ℕ
+last_at t [] = t
+last_at t (a ∷ rest) = last_at a.at rest
+
+rises_on : (t : ℕ) (xs : List Coming) (a : Coming) → RiseFrom t xs → last_at t xs ≤ a.at → RiseFrom t (xs ++ a ∷ [])
+rises_on t [] a r l = (l, tt)
+rises_on t (x ∷ xs) a r l = (r.0, rises_on x.at xs a r.1 l)
+
+last_push : (t : ℕ) (xs : List Coming) (a : Coming) → last_at t (xs ++ a ∷ []) ≡ a.at
+last_push t [] a = refl
+last_push t (x ∷ xs) a = last_push x.at xs a
+
+comings-push : (xs : List Arrived) (a : Arrived) → comings_held (xs ++ a ∷ []) ≡ comings_held xs ++ coming_of a ∷ []
+comings-push [] a = refl
+comings-push (x ∷ xs) a = ap (λ (r : List Coming). coming_of x ∷ r) (comings-push xs a)
+
+pub rises_more : (xs : List Arrived) (a : Arrived) (latest : ℕ) → AreRising (comings_held xs) → last_at 0 (comings_held xs) ≡ latest → latest ≤ a.at
+    → AreRising (comings_held (xs ++ a ∷ [])) × (last_at 0 (comings_held (xs ++ a ∷ [])) ≡ a.at)
+rises_more xs a latest r l m =
+    let P : List Coming → Type 0 = λ cs. AreRising cs × (last_at 0 cs ≡ a.at) in
+    subst P (sym (comings-push xs a)) (rises_on 0 (comings_held xs) (coming_of a) r (omega (arith, l, m)), last_push 0 (comings_held xs) (coming_of a))
+
+pub marked_more : (mark : List ℕ → Mark) (xs : List Arrived) (a : Arrived) → AreMarked mark xs → a.mark ≡ mark a.bytes → AreMarked mark (xs ++ a ∷ [])
+marked_more mark [] a m e = (e, tt)
+marked_more mark (x ∷ xs) a m e = (m.0, marked_more mark xs a m.1 e)

@@ -1,8 +1,8 @@
-pub mod Decided
 pub mod Gathered
 pub mod GatheredLaws
 pub mod OneQueue
 pub mod Outputs
 pub mod Played
-pub mod Queue
 pub mod Reading
+pub mod Setup
+pub use Rattle.play_core.specs.Ended

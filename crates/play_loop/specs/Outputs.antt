@@ -1,6 +1,8 @@
 -- The two output files of a play while their texts are gathered.
-use Rattle.std.specs.Prelude.{◌≡◌, ℕ, List}
+use Rattle.std.specs.Prelude.{◌≡◌, ℕ, List, [], ◌∷◌}
 use Rattle.play_base.specs.View.{View}
+use Rattle.play_core.specs.declared.arrived.Arrived.{Arrived}
+use Rattle.play_text.specs.Names.{NameList, HasClass}
 use Rattle.play_base.specs.Holds.{Apart}
 use Rattle.play_loop.specs.Gathered.{HasText, HoldsFront}
 use Rattle.play_loop.specs.declared.outputs.Outputs.{Outputs}
@@ -26,3 +28,8 @@ HasFronts v o ds ts = FrontsAre v o.departures o.fates ds ts
 pub record SameFiles (old new : Outputs) : Type 0 where
   pub departures : new.departures ≡ old.departures
   pub fates : new.fates ≡ old.fates
+
+-- the class of each packet has a name
+abbrev pub AreNamed : NameList → List Arrived → Type 0
+AreNamed names [] = Unit {0}
+AreNamed names (a ∷ rest) = HasClass names a.mark.class × AreNamed names rest

@@ -13,7 +13,9 @@ use Rattle.play_loop.specs.declared.fault.PlayFault.{PlayFault}
 use Rattle.play_loop.specs.declared.fault.PlayFault.TheVariants as play
 use Rattle.play_loop.specs.declared.outputs.OutputFault.{OutputFault}
 use Rattle.play_loop.specs.declared.outputs.OutputFault.TheVariants as output
-use Rattle.play_loop.specs.OneQueue.{IsPlayOf, IsFrontOf, IsCutOf, HoldTexts, HoldFronts}
+use Rattle.play_core.specs.Totals.{AreTotals}
+use Rattle.play_loop.specs.Setup.{Setup, IsPlayOf, IsFrontOf, IsCutOf, HoldTexts, HoldFronts}
+use Rattle.play_text.specs.declared.status.Totals.{Totals}
 
 -- two files of different names, to which nothing was written
 pub record AreEmpty (v : View) (dep fat : ℕ) : Type 0 where
@@ -28,29 +30,35 @@ pub record AreReady (v : View) (o : Opened) : Type 0 where
   pub from_departures : Apart v o.arrivals o.departures
   pub from_fates : Apart v o.arrivals o.fates
 
--- for every seed: the files hold the texts of the play, which ended or was cut off
-abbrev pub EndsAs : (cut : Bool) → (rate seed : ℕ) → List Record → List Entry → Type 0
-EndsAs false rate seed records g = IsPlayOf rate seed records g
-EndsAs true rate seed records g = IsCutOf rate seed records g
+-- the play ended or was cut off
+abbrev pub EndsAs : (cut : Bool) → Setup → List Record → List Entry → Type 0
+EndsAs false x records g = IsPlayOf x records g
+EndsAs true x records g = IsCutOf x records g
 
-abbrev pub HasPlayed : (cut : Bool) → (rate : ℕ) → View → (dep fat : ℕ) → List Record → Type 0
-HasPlayed cut rate v dep fat records =
-    (seed : ℕ) → (g : List Entry) × EndsAs cut rate seed records g × HoldTexts v dep fat records g
+-- the play of these records ended or was cut off: the discipline stands for its history, the files hold its texts, and these are its
+-- counts
+pub record HasPlayed (cut : Bool) (x : Setup) (stood : List Entry → Type 0) (v : View) (dep fat : ℕ) (records : List Record) (t : Totals) : Type 0 where
+  pub history : List Entry
+  pub play : EndsAs cut x records history
+  pub texts : HoldTexts v dep fat x records history
+  pub stands : stood history
+  pub totals : AreTotals x.rate history t
 
--- for every seed: they hold fronts of the texts of its first events
-abbrev pub HasStopped : (rate : ℕ) → View → (dep fat : ℕ) → List Record → Type 0
-HasStopped rate v dep fat records =
-    (seed : ℕ) → (g : List Entry) × IsFrontOf rate seed records g × HoldFronts v dep fat records g
+-- the files hold fronts of the texts of the first events of the play
+pub record HasStopped (x : Setup) (v : View) (dep fat : ℕ) (records : List Record) : Type 0 where
+  pub history : List Entry
+  pub play : IsFrontOf x records history
+  pub texts : HoldFronts v dep fat x records history
 
--- where the files tell what the arrivals had left: that is a capture, and the files hold the texts of its play
-abbrev pub Plays : View → View → (rate : ℕ) → Opened → Type 0
-Plays old new rate o = IsTrue old.tells → (bytes : List ℕ) → old.left o.arrivals ≡ Some bytes
-    → (records : List Record) × IsCapture bytes records × HasPlayed false rate new o.departures o.fates records
+-- where the files tell what the arrivals had left: that is a capture, and its play ended
+abbrev pub Plays : Setup → (List Entry → Type 0) → View → View → Opened → Totals → Type 0
+Plays x stood old new o t = IsTrue old.tells → (bytes : List ℕ) → old.left o.arrivals ≡ Some bytes
+    → (records : List Record) × IsCapture bytes records × HasPlayed false x stood new o.departures o.fates records t
 
 -- the files hold fronts of the texts of the play of its complete records
-abbrev pub Fronts : View → View → (rate : ℕ) → Opened → Type 0
-Fronts old new rate o = IsTrue old.tells → (bytes : List ℕ) → old.left o.arrivals ≡ Some bytes
-    → (records : List Record) (last : Step) → Reads bytes records last → IsLast last → HasStopped rate new o.departures o.fates records
+abbrev pub Fronts : Setup → View → View → Opened → Type 0
+Fronts x old new o = IsTrue old.tells → (bytes : List ℕ) → old.left o.arrivals ≡ Some bytes
+    → (records : List Record) (last : Step) → Reads bytes records last → IsLast last → HasStopped x new o.departures o.fates records
 
 -- this is the first test that it fails
 abbrev pub IsDamaged : View → Opened → Damage → Type 0
@@ -62,17 +70,17 @@ abbrev pub IsLimited : View → Opened → Type 0
 IsLimited old o = IsTrue old.tells → (bytes : List ℕ) → old.left o.arrivals ≡ Some bytes → (records : List Record) × Reads bytes records Limit
 
 -- it is a capture whose play has a sending that would end too late, and the files hold the texts of the events before it
-abbrev pub IsLate : View → View → (rate : ℕ) → Opened → Type 0
-IsLate old new rate o = IsTrue old.tells → (bytes : List ℕ) → old.left o.arrivals ≡ Some bytes
-    → (records : List Record) × IsCapture bytes records × HasPlayed true rate new o.departures o.fates records
+abbrev pub IsLate : Setup → (List Entry → Type 0) → View → View → Opened → Type 0
+IsLate x stood old new o = IsTrue old.tells → (bytes : List ℕ) → old.left o.arrivals ≡ Some bytes
+    → (records : List Record) × IsCapture bytes records × ((t : Totals) × HasPlayed true x stood new o.departures o.fates records t)
 
 -- when each fault of a play comes
-abbrev pub Explains : View → View → (rate : ℕ) → Opened → PlayFault → Type 0
-Explains old new rate o (play.Capture damage) = IsDamaged old o damage
-Explains old new rate o play.Read = ReadFault old new o.arrivals
-Explains old new rate o (play.Write kind) = ((kind ≡ 1) × WriteFault old new o.departures) ⊎ ((kind ≡ 2) × WriteFault old new o.fates)
-Explains old new rate o (play.Limit kind) = ((kind ≡ 1) × IsLimited old o) ⊎ ((kind ≡ 2) × IsLate old new rate o)
-Explains old new rate o play.NoMemory = Unit {0}
+abbrev pub Explains : Setup → (List Entry → Type 0) → View → View → Opened → PlayFault → Type 0
+Explains x stood old new o (play.Capture damage) = IsDamaged old o damage
+Explains x stood old new o play.Read = ReadFault old new o.arrivals
+Explains x stood old new o (play.Write kind) = ((kind ≡ 1) × WriteFault old new o.departures) ⊎ ((kind ≡ 2) × WriteFault old new o.fates)
+Explains x stood old new o (play.Limit kind) = ((kind ≡ 1) × IsLimited old o) ⊎ ((kind ≡ 2) × IsLate x stood old new o)
+Explains x stood old new o play.NoMemory = Unit {0}
 
 abbrev pub capture_fault : CaptureFault → PlayFault
 capture_fault (capture.Damage damage) = play.Capture damage

@@ -1,7 +1,8 @@
 -- Each turn adds the texts of one decision.
 use Rattle.std.proofs.Common.{◌∙◌, ◌+◌, arith}
 use Rattle.play_base.specs.ViewLaws.{still_there}
-use Rattle.play_loop.specs.Queue.{arrivals_held}
+use Rattle.play_core.specs.Arrived.{arrivals_held}
+use Rattle.play_text.specs.Names.{name_of}
 use Rattle.play_loop.proofs.DecisionLemmas.{sound_at, more_texts, fronts_of_all, texts_of_all}
 use Rattle.play_loop.proofs.OutputLemmas.{texts_same, fronts_same, fronts_files, there_same, keeps_but_trans, same_trans}
 use Rattle.play_loop.proofs.writing.add_decisions.Goals as goal
@@ -17,10 +18,10 @@ add_decision-requires-clause-early g c = (sound_at _ c.args.list.now c.loop-deci
 
 pub returns-in-Err-clause-stopped : goal.returns-in-Err-clause-stopped
 returns-in-Err-clause-stopped g c = λ ds ts h.
-    let more = more_texts (arrivals_held c.args.arrived.now) c.args.list.now c.loop-decided.decided-index _ c.packet_of-packet.result.now ds ts
-    c.loop-decided-test.true c.packet_of-packet.ensures in
+    let more = more_texts (name_of c.args.names.now) (arrivals_held c.args.arrived.now) c.args.list.now c.loop-decided.decided-index _ c.packet_of-packet.result.now ds ts
+    c.loop-decided-test.true c.packet_of-packet.ensures.arrival in
     let front = c.in-Err.ensures.stopped _ _ (c.loop-decided.invariant.wrote ds ts h) in
-    fronts_of_all _ _ _ (arrivals_held c.args.arrived.now) c.args.list.now (c.loop-decided.decided-index + 1) ds ts
+    fronts_of_all (name_of c.args.names.now) _ _ _ (arrivals_held c.args.arrived.now) c.args.list.now (c.loop-decided.decided-index + 1) ds ts
     (fronts_same _ _ _ _ _ _ _ more.records more.rows
     (fronts_files _ _ _ _ _ _ _ c.loop-decided.invariant.same.departures c.loop-decided.invariant.same.fates front))
 
@@ -37,11 +38,11 @@ loop-decided-preserved g c =
           c.loop-decided.invariant.same.fates c.loop-decided.invariant.keeps k;
       said = c.in-Ok.ensures.said ∙ c.loop-decided.invariant.said;
       wrote = λ ds ts h.
-          let more = more_texts (arrivals_held c.args.arrived.now) c.args.list.now c.loop-decided.decided-index _ c.packet_of-packet.result.now ds ts
-          c.loop-decided-test.true c.packet_of-packet.ensures in
+          let more = more_texts (name_of c.args.names.now) (arrivals_held c.args.arrived.now) c.args.list.now c.loop-decided.decided-index _ c.packet_of-packet.result.now ds ts
+          c.loop-decided-test.true c.packet_of-packet.ensures.arrival in
           texts_same _ _ _ _ _ _ _ _ _ more.records more.rows (c.in-Ok.ensures.wrote _ _ (c.loop-decided.invariant.wrote ds ts h));
     }
 
 pub returns-clause-wrote : goal.returns-clause-wrote
 returns-clause-wrote g c = λ ds ts h.
-    texts_of_all _ _ _ _ _ (arrivals_held c.args.arrived.now) c.args.list.now c.loop-decided.decided-index ds ts (omega arith) (c.loop-decided.invariant.wrote ds ts h)
+    texts_of_all (name_of c.args.names.now) _ _ _ _ _ (arrivals_held c.args.arrived.now) c.args.list.now c.loop-decided.decided-index ds ts (omega arith) (c.loop-decided.invariant.wrote ds ts h)

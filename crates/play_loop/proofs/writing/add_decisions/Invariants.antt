@@ -1,9 +1,10 @@
 use Rattle.std.proofs.Common.{◌≡◌, ◌++◌, ℕ, List, take}
 use Rattle.std.specs.Prelude.{IsSome}
 use Rattle.altq_model.specs.Texts.{departure_records, fate_rows}
-use Rattle.play_loop.specs.OneQueue.{KeepsBut, one_name}
+use Rattle.play_core.specs.Arrived.{arrivals_held, decisions_of}
+use Rattle.play_text.specs.Names.{name_of}
 use Rattle.play_loop.specs.Outputs.{HasTexts, SameFiles}
-use Rattle.play_loop.specs.Queue.{arrivals_held, decisions_of}
+use Rattle.play_loop.specs.Setup.{KeepsBut}
 use Rattle.play_loop.proofs.writing.add_decisions.Given as goal
 
 abbrev pub invariant-loop-decided : goal.invariant-loop-decided
@@ -15,5 +16,5 @@ invariant-loop-decided g l = record {
   said : (g.F.Files.view l.files).said ≡ (g.F.Files.view l.fn.files).said;
   wrote : (ds ts : List ℕ) → HasTexts (g.F.Files.view l.fn.files) l.fn.outputs ds ts → HasTexts (g.F.Files.view l.files) l.outputs
       (ds ++ departure_records (arrivals_held l.arrived) (decisions_of (take l.decided-index l.list)))
-      (ts ++ fate_rows one_name (arrivals_held l.arrived) (decisions_of (take l.decided-index l.list)));
+      (ts ++ fate_rows (name_of l.names) (arrivals_held l.arrived) (decisions_of (take l.decided-index l.list)));
 }

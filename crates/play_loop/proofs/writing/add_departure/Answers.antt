@@ -2,7 +2,7 @@
 use Rattle.std.proofs.Common.{◌≡◌, ◌++◌, ◌∙◌, ap, subst, List, ℕ, length}
 use Rattle.altq_model.specs.Texts.{departure_record}
 use Rattle.play_loop.specs.Gathered.{Grew, Stopped}
-use Rattle.play_loop.specs.Queue.{arrival_of}
+use Rattle.play_core.specs.Arrived.{arrival_of}
 use Rattle.play_loop.proofs.GatherLemmas.{grew_more, stopped_more, stopped_longer, departed}
 use Rattle.play_loop.proofs.writing.add_departure.Goals as goal
 

@@ -1,5 +1,5 @@
 use Rattle.play_loop.proofs.PlayLemmas.{heads_first, heads_second, heads_whole}
-use Rattle.play_loop.proofs.play.write_heads.Goals as goal
+use Rattle.play_loop.proofs.playing.write_heads.Goals as goal
 
 pub returns-in-Err-Failed-clause-stopped : goal.returns-in-Err-Failed-clause-stopped
 returns-in-Err-Failed-clause-stopped g c = λ h. heads_first _ _ _ _ _ c.head_bytes.ensures h c.in-Err-Failed.ensures.front
