@@ -10,7 +10,7 @@ use Rattle.altq_model.specs.Laws.{IsBusy, KeepsLaws, IsInTime, EndsInTime}
 use Rattle.altq_model.specs.Laws.{IsLate as IsLate_}
 use Rattle.altq_model.specs.Play.{Policy, AreDue, due}
 use Rattle.play_laws.proofs.OneLemmas.{one_play}
-use Rattle.play_loop.specs.Decided.{IsPlayed, IsCutOff}
+use Rattle.play_core.specs.Ended.{IsPlayed, IsCutOff}
 use Rattle.altq_model.specs.declared.Rule.TheVariants.{Share}
 use Rattle.altq_model.specs.Policies.{one_queue, tail}
 use Rattle.play_base.specs.View.{View, Keeps, Any, Rose}
@@ -28,12 +28,14 @@ use Rattle.play_loop.specs.declared.fault.Opened.{Opened}
 use Rattle.play_loop.specs.declared.fault.PlayFault.{PlayFault}
 use Rattle.play_loop.specs.declared.fault.PlayFault.TheVariants as play
 use Rattle.play_words.specs.Numbers.{rate_of}
-use Rattle.play_loop.specs.OneQueue.{KeepsBut, IsPlayOf, IsCutOf, arrivals_in, one_mark}
+use Rattle.play_loop.specs.OneQueue.{one_mark, one_setup}
+use Rattle.play_loop.specs.Setup.{KeepsBut, IsPlayOf, IsCutOf, arrivals_in}
+use Rattle.play_text.specs.declared.status.Totals.{Totals}
 use Rattle.play_loop.specs.Played.{Plays, Explains}
 use Rattle.play_loop.specs.Played as loop
 use Rattle.play_cli.specs.Opening.{AreOpened, Accepts, AcceptsNone, CannotRead, IsEmptied, KeepsOthers}
 use Rattle.play_cli.specs.Run.{Names, HasPlayed, HasFronts, Fronts, IsFrontAt, IsDamagedAt, IsLimited, IsLate, IsPlayable, EndsWith, EndsLate, IsQuiet}
-use Rattle.play_cli.specs.Causes.{Causes, run_fault, config_fault, open_fault, status_of}
+use Rattle.play_cli.specs.Causes.{Causes, IsAfterConfig, IsAfterConfigFault, run_fault, config_fault, open_fault, status_of}
 use Rattle.play_cli.specs.declared.input.ConfigFault.{ConfigFault}
 use Rattle.play_cli.specs.declared.input.ConfigFault.TheVariants as conf
 use Rattle.play_cli.specs.declared.opening.OpenFault.{OpenFault}
@@ -144,105 +146,107 @@ fates_held u a b c n rate o text s t h =
     (s.opened.fates_name (told_a u a b c n rate o s t)) (told_b u a b c n rate o s t) h
 
 -- the laws of the play
-laws_of : (rate seed : ℕ) (records : List Record) (g : List Entry) → 1000 ≤ rate → IsPlayOf rate seed records g → KeepsLaws rate (comings (arrivals_in records)) g
+laws_of : (rate seed : ℕ) (records : List Record) (g : List Entry) → 1000 ≤ rate → IsPlayOf (one_setup rate seed) records g → KeepsLaws rate (comings (arrivals_in (one_setup rate seed) records)) g
 laws_of rate seed records g l x =
-    play_laws (one_queue 50) rate seed (comings (arrivals_in records)) g (omega arith) (strict_lawful (1 ∷ []) Share (tail 50)) (arrivals_rise one_mark records)
+    play_laws (one_queue 50) rate seed (comings (arrivals_in (one_setup rate seed) records)) g (omega arith) (strict_lawful (1 ∷ []) Share (tail 50)) (arrivals_rise one_mark records)
     (one_queue_holds 50 one_mark records (λ b. refl)) (record { events = x.begun.events; done = x.done })
 
-busy_of : (rate seed : ℕ) (records : List Record) (g : List Entry) → 1000 ≤ rate → IsPlayOf rate seed records g → IsBusy rate (comings (arrivals_in records)) g
+busy_of : (rate seed : ℕ) (records : List Record) (g : List Entry) → 1000 ≤ rate → IsPlayOf (one_setup rate seed) records g → IsBusy rate (comings (arrivals_in (one_setup rate seed) records)) g
 busy_of rate seed records g l x =
-    is_busy (one_queue 50) rate seed (comings (arrivals_in records)) g (omega arith) (strict_lawful (1 ∷ []) Share (tail 50)) (strict_never_waits (1 ∷ []) Share (tail 50)) (arrivals_rise one_mark records)
+    is_busy (one_queue 50) rate seed (comings (arrivals_in (one_setup rate seed) records)) g (omega arith) (strict_lawful (1 ∷ []) Share (tail 50)) (strict_never_waits (1 ∷ []) Share (tail 50)) (arrivals_rise one_mark records)
     (one_queue_holds 50 one_mark records (λ b. refl)) x.begun.events
 
-pub done_of : (u a b c : View) (n : Names) (rate : ℕ) (o : Opened) (seed : ℕ) → Steps u a b c n rate o → Plays b c rate o → IsTrue u.tells → HasPlayed u c n seed
-done_of u a b c n rate o seed s p t =
+pub done_of : (u a b c : View) (n : Names) (rate : ℕ) (o : Opened) (seed : ℕ) → Steps u a b c n rate o → (stood : List Entry → Type 0) (totals : Totals) → Plays (one_setup rate seed) stood b c o totals
+    → IsTrue u.tells → HasPlayed u c n seed
+done_of u a b c n rate o seed s stood totals p t =
     let left = left_is u a b c n rate o s t in
     let found = some_bytes (a.bytes n.arrivals) (s.opened.there (told_a u a b c n rate o s t)) in
     let x = p (told_b u a b c n rate o s t) found.0 (s.opened.left (told_a u a b c n rate o s t) ∙ found.1) in
     let conf = s.accepted t in
-    let y = x.2 seed in
+    let y = x.2 in
     record {
       text = conf.0;
       rate = rate;
       bytes = found.0;
       records = x.0;
-      history = y.0;
+      history = y.history;
       config = conf.1;
       accepted = conf.2;
       arrivals = sym (s.read.bytes n.arrivals tt) ∙ found.1;
       capture = x.1;
-      play = y.1;
-      departures = departures_held u a b c n rate o _ s t y.2.departures;
-      fates = fates_held u a b c n rate o _ s t y.2.fates;
+      play = y.play;
+      departures = departures_held u a b c n rate o _ s t y.texts.departures;
+      fates = fates_held u a b c n rate o _ s t y.texts.fates;
       stats = stats_held u a b c n rate o s t;
-      laws = laws_of rate seed x.0 y.0 s.least y.1;
-      busy = busy_of rate seed x.0 y.0 s.least y.1;
-      in_time = y.1.begun.in_time;
+      laws = laws_of rate seed x.0 y.history s.least y.play;
+      busy = busy_of rate seed x.0 y.history s.least y.play;
+      in_time = y.play.begun.in_time;
     }
 
 front_at : (u c : View) (name text : List ℕ) (written rest : List ℕ) → c.bytes name ≡ Some written → written ++ rest ≡ text → IsFrontAt u c name text
 front_at u c name text written rest e s = inr (written, rest, e, s)
 
-pub fronts_of : (u a b c : View) (n : Names) (rate : ℕ) (o : Opened) (seed : ℕ) → Steps u a b c n rate o → loop.Fronts b c rate o → Fronts u c n seed
+pub fronts_of : (u a b c : View) (n : Names) (rate : ℕ) (o : Opened) (seed : ℕ) → Steps u a b c n rate o → loop.Fronts (one_setup rate seed) b c o → Fronts u c n seed
 fronts_of u a b c n rate o seed s f = λ t text bytes other records last at accepted arrivals reads is_last.
     let conf = s.accepted t in
     let P : List ℕ → Type 0 = λ xs. IsOneQueue xs n.interface rate in
     let same : rate ≡ other = one_rate text n.interface rate other (subst P (same_some _ _ (sym conf.1 ∙ at)) conf.2) accepted in
-    let x = f (told_b u a b c n rate o s t) bytes (left_is u a b c n rate o s t ∙ arrivals) records last reads is_last seed in
+    let x = f (told_b u a b c n rate o s t) bytes (left_is u a b c n rate o s t ∙ arrivals) records last reads is_last in
     let R : ℕ → Type 0 = λ r. HasFronts u c n seed r records in
     subst R same (record {
-      history = x.0;
-      play = x.1;
-      departures = front_at u c n.departures _ x.2.departures.written x.2.departures.rest (departures_held u a b c n rate o _ s t x.2.departures.holds) x.2.departures.split;
-      fates = front_at u c n.fates _ x.2.fates.written x.2.fates.rest (fates_held u a b c n rate o _ s t x.2.fates.holds) x.2.fates.split;
+      history = x.history;
+      play = x.play;
+      departures = front_at u c n.departures _ x.texts.departures.written x.texts.departures.rest (departures_held u a b c n rate o _ s t x.texts.departures.holds) x.texts.departures.split;
+      fates = front_at u c n.fates _ x.texts.fates.written x.texts.fates.rest (fates_held u a b c n rate o _ s t x.texts.fates.holds) x.texts.fates.split;
       stats = front_at u c n.stats [] [] [] (stats_held u a b c n rate o s t) refl;
     })
 
 rose_since : (u a b c : View) (n : Names) (rate : ℕ) (o : Opened) (p : ℕ) → Steps u a b c n rate o → Rose (b.write_faults p) (c.write_faults p) → Rose (u.write_faults p) (c.write_faults p)
 rose_since u a b c n rate o p s x = rose_later _ _ _ (s.read.later.write p) (rose_later _ _ _ (s.others.later.write p) x)
 
-pub causes_of : (u a b c : View) (n : Names) (rate : ℕ) (o : Opened) (f : PlayFault) → Steps u a b c n rate o → Explains b c rate o f → Causes u c n (run_fault f)
-causes_of u a b c n rate o (play.Capture d) s x = λ t.
+pub causes_of : (u a b c : View) (n : Names) (rate : ℕ) (o : Opened) (seed : ℕ) (stood : List Entry → Type 0) (f : PlayFault) → Steps u a b c n rate o
+    → Explains (one_setup rate seed) stood b c o f → Causes u c n seed (run_fault f)
+causes_of u a b c n rate o seed stood (play.Capture d) s x = λ t.
     let found = some_bytes (a.bytes n.arrivals) (s.opened.there (told_a u a b c n rate o s t)) in
     let y = x (told_b u a b c n rate o s t) found.0 (s.opened.left (told_a u a b c n rate o s t) ∙ found.1) in
     record { bytes = found.0; records = y.0; damage = d; arrivals = sym (s.read.bytes n.arrivals tt) ∙ found.1; reads = y.1; at = refl; what = refl }
-causes_of u a b c n rate o play.Read s x = inl (rose_later _ _ _ (s.read.later.read 2) (rose_later _ _ _ (s.others.later.read 2) (x 2 s.opened.arrivals_part)))
-causes_of u a b c n rate o (play.Write kind) s (inl x) =
+causes_of u a b c n rate o seed stood play.Read s x = inl (rose_later _ _ _ (s.read.later.read 2) (rose_later _ _ _ (s.others.later.read 2) (x 2 s.opened.arrivals_part)))
+causes_of u a b c n rate o seed stood (play.Write kind) s (inl x) =
     let P : ℕ → Type 0 = λ k. (1 ≤ k) × (k ≤ 3) × Rose (u.write_faults (k + 2)) (c.write_faults (k + 2)) in
     subst P (sym x.0) (omega arith, omega arith, rose_since u a b c n rate o 3 s (x.1 3 s.opened.departures_part))
-causes_of u a b c n rate o (play.Write kind) s (inr x) =
+causes_of u a b c n rate o seed stood (play.Write kind) s (inr x) =
     let P : ℕ → Type 0 = λ k. (1 ≤ k) × (k ≤ 3) × Rose (u.write_faults (k + 2)) (c.write_faults (k + 2)) in
     subst P (sym x.0) (omega arith, omega arith, rose_since u a b c n rate o 4 s (x.1 4 s.opened.fates_part))
-causes_of u a b c n rate o (play.Limit kind) s (inl x) = inl (
+causes_of u a b c n rate o seed stood (play.Limit kind) s (inl x) = inl (
   x.0,
   λ t.
       let found = some_bytes (a.bytes n.arrivals) (s.opened.there (told_a u a b c n rate o s t)) in
       let y = x.1 (told_b u a b c n rate o s t) found.0 (s.opened.left (told_a u a b c n rate o s t) ∙ found.1) in
       record { bytes = found.0; records = y.0; arrivals = sym (s.read.bytes n.arrivals tt) ∙ found.1; reads = y.1 },
 )
-causes_of u a b c n rate o (play.Limit kind) s (inr x) = inr (
+causes_of u a b c n rate o seed stood (play.Limit kind) s (inr x) = inr (
   x.0,
-  λ t seed.
+  λ t.
       let found = some_bytes (a.bytes n.arrivals) (s.opened.there (told_a u a b c n rate o s t)) in
       let y = x.1 (told_b u a b c n rate o s t) found.0 (s.opened.left (told_a u a b c n rate o s t) ∙ found.1) in
       let conf = s.accepted t in
-      let z = y.2 seed in
+      let z = y.2.1 in
       record {
         text = conf.0;
         rate = rate;
         bytes = found.0;
         records = y.0;
-        history = z.0;
+        history = z.history;
         config = conf.1;
         accepted = conf.2;
         arrivals = sym (s.read.bytes n.arrivals tt) ∙ found.1;
         capture = y.1;
-        cut = z.1;
-        departures = departures_held u a b c n rate o _ s t z.2.departures;
-        fates = fates_held u a b c n rate o _ s t z.2.fates;
+        cut = z.play;
+        departures = departures_held u a b c n rate o _ s t z.texts.departures;
+        fates = fates_held u a b c n rate o _ s t z.texts.fates;
       },
 )
-causes_of u a b c n rate o play.NoMemory s x = tt
+causes_of u a b c n rate o seed stood play.NoMemory s x = tt
 
 -- where the configuration is accepted it is not refused
 pub accepted_not : (u v : View) (n : Names) (rate : ℕ) → Accepts u n.config n.interface rate → AcceptsNone u n.config n.interface → IsTrue u.tells
@@ -268,7 +272,7 @@ end_limit : End ≡ Limit → ⊥
 end_limit h = cc
 
 -- what is playable ends early only by a fault that a count tells, or by want of memory
-pub is_memory : (u v : View) (n : Names) (seed : ℕ) (f : RunFault) → IsTrue u.tells → IsPlayable u n seed → IsQuiet u v → Causes u v n f → f ≡ fault.NoMemory
+pub is_memory : (u v : View) (n : Names) (seed : ℕ) (f : RunFault) → IsTrue u.tells → IsPlayable u n seed → IsQuiet u v → Causes u v n seed f → f ≡ fault.NoMemory
 is_memory u v n seed fault.Unbuilt t p q x = absurd (x t p.text p.config p.rate p.accepted)
 is_memory u v n seed fault.Config t p q (inl x) = absurd ((q 1).0 x)
 is_memory u v n seed fault.Config t p q (inr x) = absurd (no_bytes p.text (sym x.1 ∙ p.config))
@@ -286,31 +290,31 @@ is_memory u v n seed (fault.Limit kind) t p q (inl x) =
     let same = one_reading p.bytes p.records y.records End Limit p.capture tt (subst B (same_some _ _ (sym y.arrivals ∙ p.arrivals)) y.reads) tt in
     absurd (end_limit same.1)
 is_memory u v n seed (fault.Limit kind) t p q (inr x) =
-    let y = x.1 t seed in
+    let y = x.1 t in
     let B : List ℕ → Type 0 = λ xs. Reads xs y.records End in
     let same = one_reading p.bytes y.records p.records End End (subst B (same_some _ _ (sym y.arrivals ∙ p.arrivals)) y.capture) tt p.capture tt in
     let C : List ℕ → Type 0 = λ xs. IsOneQueue xs n.interface y.rate in
     let rate = one_rate p.text n.interface y.rate p.rate (subst C (same_some _ _ (sym y.config ∙ p.config)) y.accepted) p.accepted in
-    let R : List Record → Type 0 = λ rs. IsCutOf y.rate seed rs y.history in
-    let S : ℕ → Type 0 = λ r. IsCutOf r seed p.records y.history in
+    let R : List Record → Type 0 = λ rs. IsCutOf (one_setup y.rate seed) rs y.history in
+    let S : ℕ → Type 0 = λ r. IsCutOf (one_setup r seed) p.records y.history in
     absurd (p.in_time y.history (subst S rate (subst R same.0 y.cut)))
 is_memory u v n seed fault.NoMemory t p q x = refl
 
-pub causes_config : (u v : View) (n : Names) (f : ConfigFault) → (f ≡ conf.Unbuilt → AcceptsNone u n.config n.interface) → (f ≡ conf.Read → CannotRead u v 1 n.config)
-    → Causes u v n (config_fault f)
-causes_config u v n conf.Unbuilt a b = a refl
-causes_config u v n conf.Read a b = b refl
-causes_config u v n conf.NoMemory a b = tt
+pub causes_config : (u v : View) (n : Names) (seed : ℕ) (f : ConfigFault) → (f ≡ conf.Unbuilt → AcceptsNone u n.config n.interface) → (f ≡ conf.Read → CannotRead u v 1 n.config)
+    → Causes u v n seed (config_fault f)
+causes_config u v n seed conf.Unbuilt a b = a refl
+causes_config u v n seed conf.Read a b = b refl
+causes_config u v n seed conf.NoMemory a b = tt
 
 read_before : (u a v : View) (name : List ℕ) → Keeps Any Any u a → CannotRead a v 2 name → CannotRead u v 2 name
 read_before u a v name k (inl x) = inl (rose_later _ _ _ (k.later.read 2) x)
 read_before u a v name k (inr x) = inr (sym k.tells ∙ x.0, sym (k.bytes name tt) ∙ x.1)
 
-pub causes_open : (u a v : View) (n : Names) (f : OpenFault) → Keeps Any Any u a → (f ≡ open_.Arrivals → CannotRead a v 2 n.arrivals)
-    → ((k : ℕ) → f ≡ open_.Write k → (1 ≤ k) × (k ≤ 3) × Rose (a.write_faults (k + 2)) (v.write_faults (k + 2))) → Causes u v n (open_fault f)
-causes_open u a v n open_.Arrivals k r w = read_before u a v n.arrivals k (r refl)
-causes_open u a v n (open_.Write kind) k r w = let x = w kind refl in (x.0, x.1, rose_later _ _ _ (k.later.write (kind + 2)) x.2)
-causes_open u a v n open_.NoMemory k r w = tt
+pub causes_open : (u a v : View) (n : Names) (seed : ℕ) (f : OpenFault) → Keeps Any Any u a → (f ≡ open_.Arrivals → CannotRead a v 2 n.arrivals)
+    → ((k : ℕ) → f ≡ open_.Write k → (1 ≤ k) × (k ≤ 3) × Rose (a.write_faults (k + 2)) (v.write_faults (k + 2))) → Causes u v n seed (open_fault f)
+causes_open u a v n seed open_.Arrivals k r w = read_before u a v n.arrivals k (r refl)
+causes_open u a v n seed (open_.Write kind) k r w = let x = w kind refl in (x.0, x.1, rose_later _ _ _ (k.later.write (kind + 2)) x.2)
+causes_open u a v n seed open_.NoMemory k r w = tt
 
 limit_fault : (d : Damage) → Limit ≡ Fault d → ⊥
 limit_fault d h = cc
@@ -339,42 +343,42 @@ pub limited_not : (u v : View) (n : Names) (seed : ℕ) → EndsWith u n Limit �
 limited_not u v n seed x p = limit_end (last_same u n x.bytes p.bytes x.records p.records Limit End tt tt x.arrivals p.arrivals x.reads p.capture)
 
 -- what is told of it, unless a count of faults rose or memory was wanting
-pub told_damage : (u v : View) (n : Names) (d : Damage) (f : RunFault) → IsTrue u.tells → EndsWith u n (Fault d) → IsQuiet u v → Causes u v n f
+pub told_damage : (u v : View) (n : Names) (seed : ℕ) (d : Damage) (f : RunFault) → IsTrue u.tells → EndsWith u n (Fault d) → IsQuiet u v → Causes u v n seed f
     → (((status_of f).code ≡ 4) × ((status_of f).place ≡ d.place) × ((status_of f).kind ≡ damage_number d.kind)) ⊎ ((status_of f).code ≡ 8)
-told_damage u v n d fault.Unbuilt t p q x = absurd (x t p.text p.config p.rate p.accepted)
-told_damage u v n d fault.Config t p q (inl x) = absurd ((q 1).0 x)
-told_damage u v n d fault.Config t p q (inr x) = absurd (no_bytes p.text (sym x.1 ∙ p.config))
-told_damage u v n d fault.Arrivals t p q (inl x) = absurd ((q 2).0 x)
-told_damage u v n d fault.Arrivals t p q (inr x) = absurd (no_bytes p.bytes (sym x.1 ∙ p.arrivals))
-told_damage u v n d (fault.Write kind) t p q x = absurd ((q (kind + 2)).1 x.2)
-told_damage u v n d (fault.Capture e) t p q x =
+told_damage u v n seed d fault.Unbuilt t p q x = absurd (x t p.text p.config p.rate p.accepted)
+told_damage u v n seed d fault.Config t p q (inl x) = absurd ((q 1).0 x)
+told_damage u v n seed d fault.Config t p q (inr x) = absurd (no_bytes p.text (sym x.1 ∙ p.config))
+told_damage u v n seed d fault.Arrivals t p q (inl x) = absurd ((q 2).0 x)
+told_damage u v n seed d fault.Arrivals t p q (inr x) = absurd (no_bytes p.bytes (sym x.1 ∙ p.arrivals))
+told_damage u v n seed d (fault.Write kind) t p q x = absurd ((q (kind + 2)).1 x.2)
+told_damage u v n seed d (fault.Capture e) t p q x =
     let y = x t in
     let same : d ≡ y.damage = fault_same d y.damage (last_same u n p.bytes y.bytes p.records y.records (Fault d) (Fault y.damage) tt tt p.arrivals y.arrivals p.reads y.reads) in
     inl (refl, y.at ∙ ap (λ (b : Damage). b.place) (sym same), y.what ∙ ap (λ (b : Damage). damage_number b.kind) (sym same))
-told_damage u v n d (fault.Limit kind) t p q (inl x) =
+told_damage u v n seed d (fault.Limit kind) t p q (inl x) =
     let y = x.1 t in
     absurd (limit_fault d (last_same u n y.bytes p.bytes y.records p.records Limit (Fault d) tt tt y.arrivals p.arrivals y.reads p.reads))
-told_damage u v n d (fault.Limit kind) t p q (inr x) =
-    let y = x.1 t 0 in
+told_damage u v n seed d (fault.Limit kind) t p q (inr x) =
+    let y = x.1 t in
     absurd (fault_end d (last_same u n p.bytes y.bytes p.records y.records (Fault d) End tt tt p.arrivals y.arrivals p.reads y.capture))
-told_damage u v n d fault.NoMemory t p q x = inr refl
+told_damage u v n seed d fault.NoMemory t p q x = inr refl
 
-pub told_limit : (u v : View) (n : Names) (f : RunFault) → IsTrue u.tells → EndsWith u n Limit → IsQuiet u v → Causes u v n f
+pub told_limit : (u v : View) (n : Names) (seed : ℕ) (f : RunFault) → IsTrue u.tells → EndsWith u n Limit → IsQuiet u v → Causes u v n seed f
     → (((status_of f).code ≡ 7) × ((status_of f).kind ≡ 1)) ⊎ ((status_of f).code ≡ 8)
-told_limit u v n fault.Unbuilt t p q x = absurd (x t p.text p.config p.rate p.accepted)
-told_limit u v n fault.Config t p q (inl x) = absurd ((q 1).0 x)
-told_limit u v n fault.Config t p q (inr x) = absurd (no_bytes p.text (sym x.1 ∙ p.config))
-told_limit u v n fault.Arrivals t p q (inl x) = absurd ((q 2).0 x)
-told_limit u v n fault.Arrivals t p q (inr x) = absurd (no_bytes p.bytes (sym x.1 ∙ p.arrivals))
-told_limit u v n (fault.Write kind) t p q x = absurd ((q (kind + 2)).1 x.2)
-told_limit u v n (fault.Capture e) t p q x =
+told_limit u v n seed fault.Unbuilt t p q x = absurd (x t p.text p.config p.rate p.accepted)
+told_limit u v n seed fault.Config t p q (inl x) = absurd ((q 1).0 x)
+told_limit u v n seed fault.Config t p q (inr x) = absurd (no_bytes p.text (sym x.1 ∙ p.config))
+told_limit u v n seed fault.Arrivals t p q (inl x) = absurd ((q 2).0 x)
+told_limit u v n seed fault.Arrivals t p q (inr x) = absurd (no_bytes p.bytes (sym x.1 ∙ p.arrivals))
+told_limit u v n seed (fault.Write kind) t p q x = absurd ((q (kind + 2)).1 x.2)
+told_limit u v n seed (fault.Capture e) t p q x =
     let y = x t in
     absurd (limit_fault y.damage (last_same u n p.bytes y.bytes p.records y.records Limit (Fault y.damage) tt tt p.arrivals y.arrivals p.reads y.reads))
-told_limit u v n (fault.Limit kind) t p q (inl x) = inl (refl, x.0)
-told_limit u v n (fault.Limit kind) t p q (inr x) =
-    let y = x.1 t 0 in
+told_limit u v n seed (fault.Limit kind) t p q (inl x) = inl (refl, x.0)
+told_limit u v n seed (fault.Limit kind) t p q (inr x) =
+    let y = x.1 t in
     absurd (limit_end (last_same u n p.bytes y.bytes p.records y.records Limit End tt tt p.arrivals y.arrivals p.reads y.capture))
-told_limit u v n fault.NoMemory t p q x = inr refl
+told_limit u v n seed fault.NoMemory t p q x = inr refl
 
 -- each of the older events is in time too
 in_time_drop : (n : ℕ) (g : List Entry) → IsInTime g → IsInTime (drop n g)
@@ -424,22 +428,22 @@ not_cut p rate seed arrived g k x c (inr l) =
 -- the same arrivals under the same configuration
 late_cut : (u : View) (n : Names) (seed : ℕ) (x : EndsLate u n seed) (text bytes : List ℕ) (rate : ℕ) (records : List Record)
     → u.bytes n.config ≡ Some text → IsOneQueue text n.interface rate → u.bytes n.arrivals ≡ Some bytes → IsCapture bytes records
-    → IsCutOf rate seed records x.history
+    → IsCutOf (one_setup rate seed) records x.history
 late_cut u n seed x text bytes rate records c a b r =
     let B : List ℕ → Type 0 = λ xs. Reads xs records End in
     let same = one_reading x.bytes x.records records End End x.capture tt (subst B (same_some _ _ (sym b ∙ x.arrivals)) r) tt in
     let C : List ℕ → Type 0 = λ xs. IsOneQueue xs n.interface rate in
     let one = one_rate x.text n.interface x.rate rate x.accepted (subst C (same_some _ _ (sym c ∙ x.config)) a) in
-    let R : List Record → Type 0 = λ rs. IsCutOf x.rate seed rs x.history in
-    let S : ℕ → Type 0 = λ v. IsCutOf v seed records x.history in
+    let R : List Record → Type 0 = λ rs. IsCutOf (one_setup x.rate seed) rs x.history in
+    let S : ℕ → Type 0 = λ v. IsCutOf (one_setup v seed) records x.history in
     subst S one (subst R same.0 x.cut)
 
 pub late_not_played : (u v : View) (n : Names) (seed : ℕ) → EndsLate u n seed → HasPlayed u v n seed → ⊥
 late_not_played u v n seed x p =
     let c = late_cut u n seed x p.text p.bytes p.rate p.records p.config p.accepted p.arrivals p.capture in
-    not_cut (one_queue 50) p.rate seed (comings (arrivals_in p.records)) p.history x.history p.play c (short_or_long _ _)
+    not_cut (one_queue 50) p.rate seed (comings (arrivals_in (one_setup p.rate seed) p.records)) p.history x.history p.play c (short_or_long _ _)
 
-pub told_late : (u v : View) (n : Names) (seed : ℕ) (f : RunFault) → IsTrue u.tells → EndsLate u n seed → IsQuiet u v → Causes u v n f
+pub told_late : (u v : View) (n : Names) (seed : ℕ) (f : RunFault) → IsTrue u.tells → EndsLate u n seed → IsQuiet u v → Causes u v n seed f
     → (((status_of f).code ≡ 7) × ((status_of f).kind ≡ 2)) ⊎ ((status_of f).code ≡ 8)
 told_late u v n seed fault.Unbuilt t p q x = absurd (x t p.text p.config p.rate p.accepted)
 told_late u v n seed fault.Config t p q (inl x) = absurd ((q 1).0 x)
@@ -484,55 +488,55 @@ not_done (fault.Capture d) e = omega (arith, e)
 not_done (fault.Limit kind) e = omega (arith, e)
 not_done fault.NoMemory e = omega (arith, e)
 
-pub unbuilt_of : (u v : View) (n : Names) (f : RunFault) → Causes u v n f → (status_of f).code ≡ 9 → ((status_of f).kind ≡ 1) × AcceptsNone u n.config n.interface
-unbuilt_of u v n fault.Unbuilt x e = (refl, x)
-unbuilt_of u v n fault.Config x e = absurd (omega (arith, e))
-unbuilt_of u v n fault.Arrivals x e = absurd (omega (arith, e))
-unbuilt_of u v n (fault.Write kind) x e = absurd (omega (arith, e))
-unbuilt_of u v n (fault.Capture d) x e = absurd (omega (arith, e))
-unbuilt_of u v n (fault.Limit kind) x e = absurd (omega (arith, e))
-unbuilt_of u v n fault.NoMemory x e = absurd (omega (arith, e))
+pub unbuilt_of : (u v : View) (n : Names) (seed : ℕ) (f : RunFault) → Causes u v n seed f → (status_of f).code ≡ 9 → ((status_of f).kind ≡ 1) × AcceptsNone u n.config n.interface
+unbuilt_of u v n seed fault.Unbuilt x e = (refl, x)
+unbuilt_of u v n seed fault.Config x e = absurd (omega (arith, e))
+unbuilt_of u v n seed fault.Arrivals x e = absurd (omega (arith, e))
+unbuilt_of u v n seed (fault.Write kind) x e = absurd (omega (arith, e))
+unbuilt_of u v n seed (fault.Capture d) x e = absurd (omega (arith, e))
+unbuilt_of u v n seed (fault.Limit kind) x e = absurd (omega (arith, e))
+unbuilt_of u v n seed fault.NoMemory x e = absurd (omega (arith, e))
 
-pub damaged_of : (u v : View) (n : Names) (f : RunFault) → Causes u v n f → (status_of f).code ≡ 4 → IsTrue u.tells → IsDamagedAt u n (status_of f).place (status_of f).kind
-damaged_of u v n fault.Unbuilt x e = absurd (omega (arith, e))
-damaged_of u v n fault.Config x e = absurd (omega (arith, e))
-damaged_of u v n fault.Arrivals x e = absurd (omega (arith, e))
-damaged_of u v n (fault.Write kind) x e = absurd (omega (arith, e))
-damaged_of u v n (fault.Capture d) x e = x
-damaged_of u v n (fault.Limit kind) x e = absurd (omega (arith, e))
-damaged_of u v n fault.NoMemory x e = absurd (omega (arith, e))
+pub damaged_of : (u v : View) (n : Names) (seed : ℕ) (f : RunFault) → Causes u v n seed f → (status_of f).code ≡ 4 → IsTrue u.tells → IsDamagedAt u n (status_of f).place (status_of f).kind
+damaged_of u v n seed fault.Unbuilt x e = absurd (omega (arith, e))
+damaged_of u v n seed fault.Config x e = absurd (omega (arith, e))
+damaged_of u v n seed fault.Arrivals x e = absurd (omega (arith, e))
+damaged_of u v n seed (fault.Write kind) x e = absurd (omega (arith, e))
+damaged_of u v n seed (fault.Capture d) x e = x
+damaged_of u v n seed (fault.Limit kind) x e = absurd (omega (arith, e))
+damaged_of u v n seed fault.NoMemory x e = absurd (omega (arith, e))
 
-pub read_of : (u v : View) (n : Names) (f : RunFault) → Causes u v n f → (status_of f).code ≡ 5
+pub read_of : (u v : View) (n : Names) (seed : ℕ) (f : RunFault) → Causes u v n seed f → (status_of f).code ≡ 5
     → (((status_of f).kind ≡ 1) × CannotRead u v 1 n.config) ⊎ (((status_of f).kind ≡ 2) × CannotRead u v 2 n.arrivals)
-read_of u v n fault.Unbuilt x e = absurd (omega (arith, e))
-read_of u v n fault.Config x e = inl (refl, x)
-read_of u v n fault.Arrivals x e = inr (refl, x)
-read_of u v n (fault.Write kind) x e = absurd (omega (arith, e))
-read_of u v n (fault.Capture d) x e = absurd (omega (arith, e))
-read_of u v n (fault.Limit kind) x e = absurd (omega (arith, e))
-read_of u v n fault.NoMemory x e = absurd (omega (arith, e))
+read_of u v n seed fault.Unbuilt x e = absurd (omega (arith, e))
+read_of u v n seed fault.Config x e = inl (refl, x)
+read_of u v n seed fault.Arrivals x e = inr (refl, x)
+read_of u v n seed (fault.Write kind) x e = absurd (omega (arith, e))
+read_of u v n seed (fault.Capture d) x e = absurd (omega (arith, e))
+read_of u v n seed (fault.Limit kind) x e = absurd (omega (arith, e))
+read_of u v n seed fault.NoMemory x e = absurd (omega (arith, e))
 
-pub write_of : (u v : View) (n : Names) (f : RunFault) → Causes u v n f → (status_of f).code ≡ 6
+pub write_of : (u v : View) (n : Names) (seed : ℕ) (f : RunFault) → Causes u v n seed f → (status_of f).code ≡ 6
     → (1 ≤ (status_of f).kind) × ((status_of f).kind ≤ 3) × Rose (u.write_faults ((status_of f).kind + 2)) (v.write_faults ((status_of f).kind + 2))
-write_of u v n fault.Unbuilt x e = absurd (omega (arith, e))
-write_of u v n fault.Config x e = absurd (omega (arith, e))
-write_of u v n fault.Arrivals x e = absurd (omega (arith, e))
-write_of u v n (fault.Write kind) x e = x
-write_of u v n (fault.Capture d) x e = absurd (omega (arith, e))
-write_of u v n (fault.Limit kind) x e = absurd (omega (arith, e))
-write_of u v n fault.NoMemory x e = absurd (omega (arith, e))
+write_of u v n seed fault.Unbuilt x e = absurd (omega (arith, e))
+write_of u v n seed fault.Config x e = absurd (omega (arith, e))
+write_of u v n seed fault.Arrivals x e = absurd (omega (arith, e))
+write_of u v n seed (fault.Write kind) x e = x
+write_of u v n seed (fault.Capture d) x e = absurd (omega (arith, e))
+write_of u v n seed (fault.Limit kind) x e = absurd (omega (arith, e))
+write_of u v n seed fault.NoMemory x e = absurd (omega (arith, e))
 
-pub limit_of : (u v : View) (n : Names) (f : RunFault) → Causes u v n f → (status_of f).code ≡ 7
-    → (((status_of f).kind ≡ 1) × (IsTrue u.tells → IsLimited u n)) ⊎ (((status_of f).kind ≡ 2) × (IsTrue u.tells → (seed : ℕ) → IsLate u v n seed))
-limit_of u v n fault.Unbuilt x e = absurd (omega (arith, e))
-limit_of u v n fault.Config x e = absurd (omega (arith, e))
-limit_of u v n fault.Arrivals x e = absurd (omega (arith, e))
-limit_of u v n (fault.Write kind) x e = absurd (omega (arith, e))
-limit_of u v n (fault.Capture d) x e = absurd (omega (arith, e))
-limit_of u v n (fault.Limit kind) x e = x
-limit_of u v n fault.NoMemory x e = absurd (omega (arith, e))
+pub limit_of : (u v : View) (n : Names) (seed : ℕ) (f : RunFault) → Causes u v n seed f → (status_of f).code ≡ 7
+    → (((status_of f).kind ≡ 1) × (IsTrue u.tells → IsLimited u n)) ⊎ (((status_of f).kind ≡ 2) × (IsTrue u.tells → IsLate u v n seed))
+limit_of u v n seed fault.Unbuilt x e = absurd (omega (arith, e))
+limit_of u v n seed fault.Config x e = absurd (omega (arith, e))
+limit_of u v n seed fault.Arrivals x e = absurd (omega (arith, e))
+limit_of u v n seed (fault.Write kind) x e = absurd (omega (arith, e))
+limit_of u v n seed (fault.Capture d) x e = absurd (omega (arith, e))
+limit_of u v n seed (fault.Limit kind) x e = x
+limit_of u v n seed fault.NoMemory x e = absurd (omega (arith, e))
 
-pub memory_of : (u v : View) (n : Names) (seed : ℕ) (f : RunFault) → Causes u v n f → IsTrue u.tells → IsPlayable u n seed → IsQuiet u v → (status_of f).code ≡ 8
+pub memory_of : (u v : View) (n : Names) (seed : ℕ) (f : RunFault) → Causes u v n seed f → IsTrue u.tells → IsPlayable u n seed → IsQuiet u v → (status_of f).code ≡ 8
 memory_of u v n seed f x t p q = ap (λ (r : RunFault). (status_of r).code) (is_memory u v n seed f t p q x)
 
 pub names_same : (x y : Names) → x.config ≡ y.config → x.interface ≡ y.interface → x.arrivals ≡ y.arrivals → x.departures ≡ y.departures
@@ -544,3 +548,69 @@ names_same x y c i a d f s =
     ∙ ap {B = Names} (λ (v : List ℕ). record { config = y.config; interface = y.interface; arrivals = y.arrivals; departures = v; fates = x.fates; stats = x.stats }) d
     ∙ ap {B = Names} (λ (v : List ℕ). record { config = y.config; interface = y.interface; arrivals = y.arrivals; departures = y.departures; fates = v; stats = x.stats }) f
     ∙ ap {B = Names} (λ (v : List ℕ). record { config = y.config; interface = y.interface; arrivals = y.arrivals; departures = y.departures; fates = y.fates; stats = v }) s
+
+-- the seed of the words is the one that was read
+pub same_seed : (o : Option ℕ) (a b : ℕ) → o ≡ Some a → o ≡ Some b → a ≡ b
+same_seed o a b h k = same_rate o a b h k
+
+pub late_for : (u v : View) (n : Names) (read : ℕ) (o : Option ℕ) (kind : ℕ) → o ≡ Some read
+    → ((kind ≡ 1) × (IsTrue u.tells → IsLimited u n)) ⊎ ((kind ≡ 2) × (IsTrue u.tells → IsLate u v n read))
+    → ((kind ≡ 1) × (IsTrue u.tells → IsLimited u n)) ⊎ ((kind ≡ 2) × (IsTrue u.tells → (seed : ℕ) → o ≡ Some seed → IsLate u v n seed))
+late_for u v n read o kind e (inl x) = inl x
+late_for u v n read o kind e (inr x) = inr (x.0, λ t seed is. let P : ℕ → Type 0 = λ k. IsLate u v n k in subst P (same_seed o read seed e is) (x.1 t))
+
+-- a status that comes after the configuration is of a fault that does
+pub after_config : (f : RunFault) → IsAfterConfig (status_of f).code (status_of f).kind → IsAfterConfigFault f
+after_config fault.Unbuilt (inl e) = omega (arith, e)
+after_config fault.Unbuilt (inr (inl e)) = omega (arith, e)
+after_config fault.Unbuilt (inr (inr (inl e))) = omega (arith, e)
+after_config fault.Unbuilt (inr (inr (inr e))) = omega (arith, e.0)
+after_config fault.Config (inl e) = omega (arith, e)
+after_config fault.Config (inr (inl e)) = omega (arith, e)
+after_config fault.Config (inr (inr (inl e))) = omega (arith, e)
+after_config fault.Config (inr (inr (inr e))) = omega (arith, e.1)
+after_config fault.Arrivals e = tt
+after_config (fault.Write kind) e = tt
+after_config (fault.Capture d) e = tt
+after_config (fault.Limit kind) e = tt
+after_config fault.NoMemory (inl e) = omega (arith, e)
+after_config fault.NoMemory (inr (inl e)) = omega (arith, e)
+after_config fault.NoMemory (inr (inr (inl e))) = omega (arith, e)
+after_config fault.NoMemory (inr (inr (inr e))) = omega (arith, e.0)
+
+pub no_place_of : (f : RunFault) → ((status_of f).code ≡ 4 → ⊥) → (status_of f).place ≡ 0
+no_place_of fault.Unbuilt n = refl
+no_place_of fault.Config n = refl
+no_place_of fault.Arrivals n = refl
+no_place_of (fault.Write kind) n = refl
+no_place_of (fault.Capture d) n = absurd (n refl)
+no_place_of (fault.Limit kind) n = refl
+no_place_of fault.NoMemory n = refl
+
+pub no_kind_of : (f : RunFault) → ((status_of f).code ≡ 0) ⊎ ((status_of f).code ≡ 8) → (status_of f).kind ≡ 0
+no_kind_of f (inl e) = absurd (not_done f e)
+no_kind_of fault.Unbuilt (inr e) = absurd (omega (arith, e))
+no_kind_of fault.Config (inr e) = absurd (omega (arith, e))
+no_kind_of fault.Arrivals (inr e) = absurd (omega (arith, e))
+no_kind_of (fault.Write kind) (inr e) = absurd (omega (arith, e))
+no_kind_of (fault.Capture d) (inr e) = absurd (omega (arith, e))
+no_kind_of (fault.Limit kind) (inr e) = absurd (omega (arith, e))
+no_kind_of fault.NoMemory (inr e) = refl
+
+pub no_line_of : (f : RunFault) → (status_of f).line ≡ 0
+no_line_of fault.Unbuilt = refl
+no_line_of fault.Config = refl
+no_line_of fault.Arrivals = refl
+no_line_of (fault.Write kind) = refl
+no_line_of (fault.Capture d) = refl
+no_line_of (fault.Limit kind) = refl
+no_line_of fault.NoMemory = refl
+
+pub no_word_of : (f : RunFault) → (status_of f).word ≡ 0
+no_word_of fault.Unbuilt = refl
+no_word_of fault.Config = refl
+no_word_of fault.Arrivals = refl
+no_word_of (fault.Write kind) = refl
+no_word_of (fault.Capture d) = refl
+no_word_of (fault.Limit kind) = refl
+no_word_of fault.NoMemory = refl

@@ -37,15 +37,15 @@ names_read words = record {
   stats = words.stats.now;
 }
 
-abbrev pub Causes : View → View → Names → RunFault → Type 0
-Causes old new n Unbuilt = AcceptsNone old n.config n.interface
-Causes old new n Config = CannotRead old new 1 n.config
-Causes old new n Arrivals = CannotRead old new 2 n.arrivals
-Causes old new n (Write kind) = (1 ≤ kind) × (kind ≤ 3) × Rose (old.write_faults (kind + 2)) (new.write_faults (kind + 2))
-Causes old new n (Capture damage) = IsTrue old.tells → IsDamagedAt old n damage.place (damage_number damage.kind)
-Causes old new n (Limit kind) = ((kind ≡ 1) × (IsTrue old.tells → IsLimited old n))
-    ⊎ ((kind ≡ 2) × (IsTrue old.tells → (seed : ℕ) → IsLate old new n seed))
-Causes old new n NoMemory = Unit {0}
+abbrev pub Causes : View → View → Names → (seed : ℕ) → RunFault → Type 0
+Causes old new n seed Unbuilt = AcceptsNone old n.config n.interface
+Causes old new n seed Config = CannotRead old new 1 n.config
+Causes old new n seed Arrivals = CannotRead old new 2 n.arrivals
+Causes old new n seed (Write kind) = (1 ≤ kind) × (kind ≤ 3) × Rose (old.write_faults (kind + 2)) (new.write_faults (kind + 2))
+Causes old new n seed (Capture damage) = IsTrue old.tells → IsDamagedAt old n damage.place (damage_number damage.kind)
+Causes old new n seed (Limit kind) = ((kind ≡ 1) × (IsTrue old.tells → IsLimited old n))
+    ⊎ ((kind ≡ 2) × (IsTrue old.tells → IsLate old new n seed))
+Causes old new n seed NoMemory = Unit {0}
 
 abbrev pub run_fault : PlayFault → RunFault
 run_fault (play.Capture damage) = Capture damage
@@ -77,3 +77,16 @@ status_of (Write kind) = ended 6 kind
 status_of (Capture damage) = record { code = 4; line = 0; word = 0; place = damage.place; kind = damage_number damage.kind }
 status_of (Limit kind) = ended 7 kind
 status_of NoMemory = ended 8 0
+
+-- the faults that come after the configuration is accepted, and their statuses
+abbrev pub IsAfterConfigFault : RunFault → Type 0
+IsAfterConfigFault Unbuilt = ⊥
+IsAfterConfigFault Config = ⊥
+IsAfterConfigFault Arrivals = Unit {0}
+IsAfterConfigFault (Write kind) = Unit {0}
+IsAfterConfigFault (Capture damage) = Unit {0}
+IsAfterConfigFault (Limit kind) = Unit {0}
+IsAfterConfigFault NoMemory = ⊥
+
+abbrev pub IsAfterConfig : (code kind : ℕ) → Type 0
+IsAfterConfig code kind = (code ≡ 4) ⊎ (code ≡ 6) ⊎ (code ≡ 7) ⊎ ((code ≡ 5) × (kind ≡ 2))

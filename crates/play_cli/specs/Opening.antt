@@ -1,9 +1,14 @@
 -- The files of a play: which are opened and created, and what stands where one of these fails.
 use Rattle.std.specs.Prelude.{◌≡◌, ◌≢◌, ◌⊎◌, ℕ, List, [], Some, IsTrue, IsSome}
+use Rattle.altq_model.specs.History.{Entry}
 use Rattle.play_base.specs.View.{View, Keeps, Rose, IsAbsent}
 use Rattle.play_words.specs.Conf.{IsOneQueue}
 use Rattle.play_loop.specs.declared.fault.Opened.{Opened}
 use Rattle.play_loop.specs.Played.{AreReady}
+
+-- nothing is told of what stands for a history
+abbrev pub Untold : List Entry → Type 0
+Untold g = Unit {0}
 
 -- the count of read faults of the part rose, or the name is told not to be there
 abbrev pub CannotRead : View → View → (part : ℕ) → (name : List ℕ) → Type 0

@@ -8,7 +8,8 @@ use Rattle.altq_model.specs.Laws.{IsBusy, IsInTime, KeepsLaws}
 use Rattle.altq_model.specs.Numbers.{damage_number}
 use Rattle.play_base.specs.View.{View, Rose}
 use Rattle.pcap_files.specs.ReadingLaws.{IsLast}
-use Rattle.play_loop.specs.OneQueue.{IsPlayOf, IsFrontOf, IsCutOf, arrivals_in, departures_of, fates_of}
+use Rattle.play_loop.specs.OneQueue.{one_setup}
+use Rattle.play_loop.specs.Setup.{IsPlayOf, IsFrontOf, IsCutOf, arrivals_in, departures_of, fates_of}
 use Rattle.play_words.specs.Conf.{IsOneQueue}
 
 -- these are all the bytes that the file had left
@@ -42,12 +43,12 @@ pub record HasPlayed (old new : View) (n : Names) (seed : ℕ) : Type 0 where
   pub accepted : IsOneQueue text n.interface rate
   pub arrivals : old.bytes n.arrivals ≡ Some bytes
   pub capture : IsCapture bytes records
-  pub play : IsPlayOf rate seed records history
-  pub departures : new.bytes n.departures ≡ Some (departures_of records history)
-  pub fates : new.bytes n.fates ≡ Some (fates_of records history)
+  pub play : IsPlayOf (one_setup rate seed) records history
+  pub departures : new.bytes n.departures ≡ Some (departures_of (one_setup rate seed) records history)
+  pub fates : new.bytes n.fates ≡ Some (fates_of (one_setup rate seed) records history)
   pub stats : new.bytes n.stats ≡ Some []
-  pub laws : KeepsLaws rate (comings (arrivals_in records)) history
-  pub busy : IsBusy rate (comings (arrivals_in records)) history
+  pub laws : KeepsLaws rate (comings (arrivals_in (one_setup rate seed) records)) history
+  pub busy : IsBusy rate (comings (arrivals_in (one_setup rate seed) records)) history
   pub in_time : IsInTime history
 
 -- the name holds what it held before the run, or a front of this text
@@ -58,9 +59,9 @@ IsFrontAt old new name text = (new.bytes name ≡ old.bytes name) ⊎ ((front : 
 -- the texts of the first events of their play
 pub record HasFronts (old new : View) (n : Names) (seed rate : ℕ) (records : List Record) : Type 0 where
   pub history : List Entry
-  pub play : IsFrontOf rate seed records history
-  pub departures : IsFrontAt old new n.departures (departures_of records history)
-  pub fates : IsFrontAt old new n.fates (fates_of records history)
+  pub play : IsFrontOf (one_setup rate seed) records history
+  pub departures : IsFrontAt old new n.departures (departures_of (one_setup rate seed) records history)
+  pub fates : IsFrontAt old new n.fates (fates_of (one_setup rate seed) records history)
   pub stats : IsFrontAt old new n.stats []
 
 abbrev pub Fronts : View → View → Names → (seed : ℕ) → Type 0
@@ -95,9 +96,9 @@ pub record IsLate (old new : View) (n : Names) (seed : ℕ) : Type 0 where
   pub accepted : IsOneQueue text n.interface rate
   pub arrivals : old.bytes n.arrivals ≡ Some bytes
   pub capture : IsCapture bytes records
-  pub cut : IsCutOf rate seed records history
-  pub departures : new.bytes n.departures ≡ Some (departures_of records history)
-  pub fates : new.bytes n.fates ≡ Some (fates_of records history)
+  pub cut : IsCutOf (one_setup rate seed) records history
+  pub departures : new.bytes n.departures ≡ Some (departures_of (one_setup rate seed) records history)
+  pub fates : new.bytes n.fates ≡ Some (fates_of (one_setup rate seed) records history)
 
 -- no count of faults rose
 abbrev pub IsQuiet : View → View → Type 0
@@ -113,7 +114,7 @@ pub record IsPlayable (old : View) (n : Names) (seed : ℕ) : Type 0 where
   pub accepted : IsOneQueue text n.interface rate
   pub arrivals : old.bytes n.arrivals ≡ Some bytes
   pub capture : IsCapture bytes records
-  pub in_time : (history : List Entry) → IsCutOf rate seed records history → ⊥
+  pub in_time : (history : List Entry) → IsCutOf (one_setup rate seed) records history → ⊥
 
 -- the statuses of this program
 abbrev pub IsCode : ℕ → Type 0
@@ -141,4 +142,4 @@ pub record EndsLate (old : View) (n : Names) (seed : ℕ) : Type 0 where
   pub accepted : IsOneQueue text n.interface rate
   pub arrivals : old.bytes n.arrivals ≡ Some bytes
   pub capture : IsCapture bytes records
-  pub cut : IsCutOf rate seed records history
+  pub cut : IsCutOf (one_setup rate seed) records history

@@ -3,6 +3,7 @@
 
 mod fault;
 mod input;
+mod one;
 mod opening;
 mod program;
 

@@ -1,20 +1,22 @@
 // The one public call: from the words of the command line to a status.
 ghost use Rattle.std.specs.Prelude.{◌≡◌, ◌≢◌, ◌≤◌, ◌+◌, ◌⊎◌, ℕ, List, None, Some, IsTrue, IfErr, OnOk, OnErr};
 ghost use Rattle.altq_model.specs.Numbers.{damage_number};
+ghost use Rattle.play_base.specs.Steady.{steady_view};
 ghost use Rattle.play_base.specs.View.{View, Rose};
 ghost use Rattle.play_words.specs.Conf.{IsOneQueue};
 ghost use Rattle.play_words.specs.Words.{AreDistinct, refusal, seed_of};
-ghost use Rattle.play_cli.specs.Opening.{AcceptsNone, CannotRead, KeepsOthers};
-ghost use Rattle.play_cli.specs.Causes.{Causes, names_of, names_read, run_fault, config_fault, open_fault, status_of, ended};
+ghost use Rattle.play_cli.specs.Opening.{Accepts, AcceptsNone, CannotRead, KeepsOthers};
+ghost use Rattle.play_cli.specs.Causes.{Causes, IsAfterConfig, IsAfterConfigFault, names_of, names_read, run_fault, config_fault, open_fault, status_of, ended};
 ghost use Rattle.play_cli.specs.Run.{HasPlayed, Fronts, IsDamagedAt, IsLimited, IsLate, IsPlayable, EndsWith, EndsLate, IsQuiet, IsCode};
 ghost use Rattle.altq_model.specs.declared.capture.Damage.{Damage};
 ghost use Rattle.altq_model.specs.Capture.{Fault, Limit};
 
 use crate::RunFault;
 use crate::input::{ConfigFault, config_rate};
+use crate::one::play_one;
 use crate::opening::{OpenFault, open_files};
 use play_base::{Files, SteadyFiles};
-use play_loop::{PlayFault, play_one_queue};
+use play_loop::PlayFault;
 use play_text::Status;
 use play_words::{PlayWords, play_words};
 use std::alloc::Global;
@@ -91,10 +93,12 @@ fn status_of(fault: RunFault) -> Status
 // Reads the configuration, opens the files and plays.
 fn play_files<F: Files>(alloc: Global, files: &mut F, words: &PlayWords<'_>) -> Result<(), RunFault>
     requires { AreDistinct words.now.config.now words.now.arrivals.now words.now.departures.now words.now.fates.now words.now.stats.now }
-    ensures done { OnOk result (IsTrue (F.view files.old).tells → (seed : ℕ) →
-        HasPlayed (F.view files.old) (F.view files.new) (names_read words.now) seed) }
-    ensures why { IfErr result (Causes (F.view files.old) (F.view files.new) (names_read words.now)) }
-    ensures front { OnErr result ((seed : ℕ) → Fronts (F.view files.old) (F.view files.new) (names_read words.now) seed) }
+    ensures done { OnOk result (IsTrue (F.view files.old).tells →
+        HasPlayed (F.view files.old) (F.view files.new) (names_read words.now) words.now.seed) }
+    ensures why { IfErr result (Causes (F.view files.old) (F.view files.new) (names_read words.now) words.now.seed) }
+    ensures front { OnErr result (Fronts (F.view files.old) (F.view files.new) (names_read words.now) words.now.seed) }
+    ensures accepted { IfErr result (λ fault. IsAfterConfigFault fault →
+        (rate : ℕ) × Accepts (F.view files.old) words.now.config.now words.now.interface.now rate) }
     ensures nothing { IsTrue (F.view files.old).tells → AcceptsNone (F.view files.old) words.now.config.now words.now.interface.now →
         (n : List ℕ) → (F.view files.new).bytes n ≡ (F.view files.old).bytes n }
     ensures keeps { KeepsOthers words.now.departures.now words.now.fates.now words.now.stats.now (F.view files.old) (F.view files.new) }
@@ -108,8 +112,8 @@ fn play_files<F: Files>(alloc: Global, files: &mut F, words: &PlayWords<'_>) -> 
         Ok(opened) => opened,
         Err(fault) => return Err(open_fault(fault)),
     };
-    match play_one_queue(alloc, files, rate, opened) {
-        Ok(()) => Ok(()),
+    match play_one(alloc, files, rate, words.seed, &opened) {
+        Ok(_) => Ok(()),
         Err(fault) => Err(run_fault(fault)),
     }
 }
@@ -132,7 +136,13 @@ pub fn run<F: Files>(alloc: Global, words: &[String], files: &mut F) -> Status
     ensures done { result.code ≡ 0 → IsTrue (F.view files.old).tells → (seed : ℕ) → seed_of words.now ≡ Some seed →
         HasPlayed (F.view files.old) (F.view files.new) (names_of words.now) seed }
 
-    // When each fault comes.
+    // What no status uses is 0.
+    ensures no_line { result.line ≡ 0 }
+    ensures no_word { result.word ≡ 0 }
+    ensures no_place { result.code ≢ 4 → result.place ≡ 0 }
+    ensures no_kind { (result.code ≡ 0) ⊎ (result.code ≡ 8) → result.kind ≡ 0 }
+
+    // When each fault comes, and that the configuration is accepted before any of the other files is looked at.
     ensures unbuilt { result.code ≡ 9 → (result.kind ≡ 1)
         × AcceptsNone (F.view files.old) (names_of words.now).config (names_of words.now).interface }
     ensures damaged { result.code ≡ 4 → IsTrue (F.view files.old).tells →
@@ -144,11 +154,14 @@ pub fn run<F: Files>(alloc: Global, words: &[String], files: &mut F) -> Status
         × Rose ((F.view files.old).write_faults (result.kind + 2)) ((F.view files.new).write_faults (result.kind + 2)) }
     ensures limit { result.code ≡ 7 →
         ((result.kind ≡ 1) × (IsTrue (F.view files.old).tells → IsLimited (F.view files.old) (names_of words.now)))
-        ⊎ ((result.kind ≡ 2) × (IsTrue (F.view files.old).tells → (seed : ℕ) →
+        ⊎ ((result.kind ≡ 2) × (IsTrue (F.view files.old).tells → (seed : ℕ) → seed_of words.now ≡ Some seed →
         IsLate (F.view files.old) (F.view files.new) (names_of words.now) seed)) }
 
+    ensures accepted_first { IsAfterConfig result.code result.kind →
+        (rate : ℕ) × Accepts (F.view files.old) (names_of words.now).config (names_of words.now).interface rate }
+
     // What is playable is done, unless a fault or want of memory comes.
-    ensures complete { IsTrue (F.view files.old).tells → refusal words.now ≡ None → (seed : ℕ) →
+    ensures complete { IsTrue (F.view files.old).tells → refusal words.now ≡ None → (seed : ℕ) → seed_of words.now ≡ Some seed →
         IsPlayable (F.view files.old) (names_of words.now) seed → IsQuiet (F.view files.old) (F.view files.new) →
         (result.code ≡ 0) ⊎ (result.code ≡ 8) }
 
@@ -159,12 +172,14 @@ pub fn run<F: Files>(alloc: Global, words: &[String], files: &mut F) -> Status
     ensures limit_told { IsTrue (F.view files.old).tells → refusal words.now ≡ None →
         EndsWith (F.view files.old) (names_of words.now) Limit → IsQuiet (F.view files.old) (F.view files.new) →
         ((result.code ≡ 7) × (result.kind ≡ 1)) ⊎ (result.code ≡ 8) }
-    ensures late_told { IsTrue (F.view files.old).tells → refusal words.now ≡ None → (seed : ℕ) →
+    ensures late_told { IsTrue (F.view files.old).tells → refusal words.now ≡ None → (seed : ℕ) → seed_of words.now ≡ Some seed →
         EndsLate (F.view files.old) (names_of words.now) seed → IsQuiet (F.view files.old) (F.view files.new) →
         ((result.code ≡ 7) × (result.kind ≡ 2)) ⊎ (result.code ≡ 8) }
 
-    // What stands after any other status than 0, and what no status touches.
-    ensures front { result.code ≢ 0 → (seed : ℕ) → Fronts (F.view files.old) (F.view files.new) (names_of words.now) seed }
+    // What stands after any other status than 0, and what no status touches. Refused words touch nothing.
+    ensures untouched { result.code ≡ 2 → F.view files.new ≡ F.view files.old }
+    ensures front { result.code ≢ 0 → (seed : ℕ) → seed_of words.now ≡ Some seed →
+        Fronts (F.view files.old) (F.view files.new) (names_of words.now) seed }
     ensures nothing { IsTrue (F.view files.old).tells →
         AcceptsNone (F.view files.old) (names_of words.now).config (names_of words.now).interface →
         (n : List ℕ) → (F.view files.new).bytes n ≡ (F.view files.old).bytes n }
@@ -182,10 +197,16 @@ pub fn run<F: Files>(alloc: Global, words: &[String], files: &mut F) -> Status
     }
 }
 
-/// Over files that never fail, no fault of reading or writing is answered.
+/// Over files that never fail, no fault of reading or writing is answered, and what is playable is done, where there is memory.
 pub fn run_steady(alloc: Global, words: &[String], files: &mut SteadyFiles) -> Status
     ensures read { result.code ≢ 5 }
     ensures write { result.code ≢ 6 }
+    ensures words { result.code ≡ 2 → refusal words.now ≡ Some result.kind }
+    ensures refused { (kind : ℕ) → refusal words.now ≡ Some kind → (result.code ≡ 2) × (result.kind ≡ kind) }
+    ensures done { result.code ≡ 0 → (seed : ℕ) → seed_of words.now ≡ Some seed →
+        HasPlayed (steady_view files.old) (steady_view files.new) (names_of words.now) seed }
+    ensures complete { refusal words.now ≡ None → (seed : ℕ) → seed_of words.now ≡ Some seed →
+        IsPlayable (steady_view files.old) (names_of words.now) seed → (result.code ≡ 0) ⊎ (result.code ≡ 8) }
 {
     run(alloc, words, files)
 }

@@ -1,7 +1,9 @@
 -- The one queue of an interface without classes.
-use Rattle.std.specs.Prelude.{ℕ, List, codes}
+use Rattle.std.specs.Prelude.{ℕ, List, [], ◌∷◌, codes}
 use Rattle.altq_model.specs.declared.Mark.{Mark}
 use Rattle.altq_model.specs.Policies.{one_queue}
+use Rattle.altq_model.specs.Texts.{Naming}
+use Rattle.play_text.specs.Names.{name_of}
 use Rattle.play_loop.specs.Setup.{Setup}
 
 -- every frame is of the one class
@@ -9,8 +11,8 @@ abbrev pub one_mark : List ℕ → Mark
 one_mark frame = record { class = 1; prec = 0 }
 
 -- whose name is `default`
-abbrev pub one_name : ℕ → List ℕ
-one_name class = codes "default"
+abbrev pub one_name : Naming
+one_name = name_of ((1, codes "default") ∷ [])
 
 -- it holds 50 packets
 abbrev pub one_setup : (rate seed : ℕ) → Setup
