@@ -1,6 +1,6 @@
 -- What files in memory mean: the names with their bytes, and the list of the files opened so far, in which a file's
 -- number is its place.
-use Rattle.std.specs.Prelude.{◌≡◌, ◌++◌, ℕ, List, [], option_map, string_bytes, slice_get, slice_index, true, None, Some, drop}
+use Rattle.std.specs.Prelude.{◌≡◌, ◌++◌, ◌∷◌, ℕ, List, [], option_map, string_bytes, slice_get, slice_index, true, None, Some, drop}
 use Rattle.std.specs.Option.{option_map_or}
 use Rattle.std.specs.declared.option.Option.{Option}
 use Rattle.std.specs.declared.alloc.Global.{Global}
@@ -36,14 +36,19 @@ memory_view m = record {
   write_faults = slice_index m.write_faults;
 }
 
+-- every file of the old list is in the new one as it was
+abbrev pub AreThere : List OpenedFile → List OpenedFile → Type 0
+AreThere old new = (f p : ℕ) → part_at old f ≡ Some p
+    → (part_at new f ≡ part_at old f) × (name_at new f ≡ name_at old f) × (left_at new f ≡ left_at old f)
+
 -- the list with one more file, of this number, part, name and bytes left
 pub record Added (old new : List OpenedFile) (file part_given : ℕ) (name_given bytes_given : List ℕ) : Type 0 where
   pub fresh : part_at old file ≡ None
   pub part : part_at new file ≡ Some part_given
   pub name : name_at new file ≡ name_given
   pub left : left_at new file ≡ Some bytes_given
-  pub others : (f p : ℕ) → part_at old f ≡ Some p
-      → (part_at new f ≡ part_at old f) × (name_at new f ≡ name_at old f) × (left_at new f ≡ left_at old f)
+  pub others : AreThere old new
+  pub last : (o : OpenedFile) × (new ≡ old ++ o ∷ [])
 
 -- a file that gave these bytes from the front of what it has left
 pub record Advanced (old new : OpenedFile) (given : List ℕ) : Type 0 where

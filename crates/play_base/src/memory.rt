@@ -1,10 +1,11 @@
 // Files in memory, which tell everything.
-ghost use Rattle.std.specs.Prelude.{◌≡◌, ◌≢◌, ◌≤◌, ◌<◌, ℕ, List, Some, None, OnOk, OnErr, option_map, slice_index};
-ghost use Rattle.play_base.specs.View.{Unchanged, SameCounts, Keeps, Any, IsFresh};
+ghost use Rattle.std.specs.Prelude.{◌≡◌, ◌≢◌, ◌≤◌, ◌<◌, ◌-◌, ◌^◌, ◌⊎◌, ◌++◌, ◌∷◌, [], ℕ, List, min, length, take, IsTrue, IsSome, Some, None, Err, IfOk, OnOk, OnErr, IsErrOf, option_map, slice_index};
+ghost use Rattle.play_base.specs.View.{Unchanged, SameCounts, Keeps, Any, IsFresh, Rose, Opened, Created, Took, Wrote, Said, ReadFault, WriteFault, IsMissed, IsAtEnd};
 ghost use Rattle.play_base.specs.Memory.{memory_view};
+ghost use Rattle.play_base.specs.Planned.{Counted, IsSamePlan, is_due, made};
 
 use crate::names::{append_bytes, bytes_of, set_bytes};
-use crate::numbered::{add_file, copy_next, name_of, part_of};
+use crate::numbered::{add_created, add_file, copy_next, name_of, part_of};
 use crate::opened::{Chunk, OpenedFile};
 use crate::planned::{Failing, count_fault, fails_now};
 use crate::{Call, Files, NoMemory, Trouble};
@@ -30,6 +31,9 @@ impl MemoryFiles {
     pub fn new(alloc: Global) -> Self
         ensures names { (n : List ℕ) → (memory_view result).bytes n ≡ None }
         ensures fresh { IsFresh (memory_view result) }
+        ensures plan { result.failing.items ≡ [] }
+        ensures made { (call : Call) → made result call ≡ 0 }
+        ensures most { result.chunk.most ≡ 2 ^ 32 - 1 }
     {
         MemoryFiles {
             alloc,
@@ -54,6 +58,8 @@ impl MemoryFiles {
         ensures said { (memory_view self.new).said ≡ (memory_view self.old).said }
         ensures counts { SameCounts (memory_view self.old) (memory_view self.new) }
         ensures err { OnErr result (Unchanged (memory_view self.old) (memory_view self.new)) }
+        ensures plan { IsSamePlan self.old self.new }
+        ensures most { self.new.chunk.most ≡ self.old.chunk.most }
     {
         let Ok(bytes) = bytes.to_vec(self.alloc) else {
             return Err(NoMemory);
@@ -83,6 +89,8 @@ impl MemoryFiles {
         requires { 1 ≤ most }
         ensures same { Unchanged (memory_view self.old) (memory_view self.new) }
         ensures counts { SameCounts (memory_view self.old) (memory_view self.new) }
+        ensures plan { IsSamePlan self.old self.new }
+        ensures most { self.new.chunk.most ≡ most }
     {
         self.chunk = Chunk { most };
     }
@@ -92,6 +100,10 @@ impl MemoryFiles {
     pub fn fail_at(&mut self, call: Call, nth: u64) -> Result<(), NoMemory>
         ensures same { Unchanged (memory_view self.old) (memory_view self.new) }
         ensures counts { SameCounts (memory_view self.old) (memory_view self.new) }
+        ensures planned { OnOk result (self.new.failing.items ≡ self.old.failing.items ++ record { call = call; nth = nth } ∷ []) }
+        ensures err { OnErr result (self.new.failing.items ≡ self.old.failing.items) }
+        ensures made { (c : Call) → made self.new c ≡ made self.old c }
+        ensures most { self.new.chunk.most ≡ self.old.chunk.most }
     {
         match self.failing.push(Failing { call, nth }) {
             Ok(()) => Ok(()),
@@ -119,7 +131,20 @@ impl MemoryFiles {
 impl Files for MemoryFiles {
     ghost view = { memory_view };
 
-    fn open(&mut self, part: u8, name: &str) -> Result<u32, Trouble> {
+    fn open(&mut self, part: u8, name: &str) -> Result<u32, Trouble>
+        requires { part < 16 }
+        ensures opened { IfOk result (λ file. Opened (memory_view self.old) (memory_view self.new) part name.now file) }
+        ensures files { OnErr result (self.new.opened.items ≡ self.old.opened.items) }
+        ensures refused { OnErr result (Unchanged (memory_view self.old) (memory_view self.new)) }
+        ensures failed { IsErrOf result Trouble.Failed →
+            Rose ((memory_view self.old).read_faults part) ((memory_view self.new).read_faults part)
+            ⊎ IsMissed (memory_view self.old) (memory_view self.new) name.now }
+        ensures due { IsTrue (is_due self.old Call.Open) → (result ≡ Err Trouble.Failed)
+            × Rose ((memory_view self.old).read_faults part) ((memory_view self.new).read_faults part) }
+        ensures quiet { (IsTrue (is_due self.old Call.Open) → ⊥) → SameCounts (memory_view self.old) (memory_view self.new) }
+        ensures otherwise { IsErrOf result Trouble.Failed → IsTrue (is_due self.old Call.Open) ⊎ ((memory_view self.old).bytes name.now ≡ None) }
+        ensures counted { Counted Call.Open self.old self.new }
+    {
         if fails_now(&self.failing, &mut self.calls, Call::Open) {
             count_fault(&mut self.read_faults, part);
             return Err(Trouble::Failed);
@@ -134,23 +159,40 @@ impl Files for MemoryFiles {
         add_file(self.alloc, &mut self.opened, part, name, bytes)
     }
 
-    fn create(&mut self, part: u8, name: &str) -> Result<u32, Trouble> {
+    fn create(&mut self, part: u8, name: &str) -> Result<u32, Trouble>
+        requires { part < 16 }
+        ensures created { IfOk result (λ file. Created (memory_view self.old) (memory_view self.new) part name.now file) }
+        ensures files { OnErr result (self.new.opened.items ≡ self.old.opened.items) }
+        ensures refused { OnErr result (Unchanged (memory_view self.old) (memory_view self.new)) }
+        ensures failed { IsErrOf result Trouble.Failed →
+            Rose ((memory_view self.old).write_faults part) ((memory_view self.new).write_faults part) }
+        ensures due { IsTrue (is_due self.old Call.Create) → (result ≡ Err Trouble.Failed)
+            × Rose ((memory_view self.old).write_faults part) ((memory_view self.new).write_faults part) }
+        ensures quiet { (IsTrue (is_due self.old Call.Create) → ⊥) → SameCounts (memory_view self.old) (memory_view self.new) }
+        ensures otherwise { IsErrOf result Trouble.Failed → IsTrue (is_due self.old Call.Create) }
+        ensures counted { Counted Call.Create self.old self.new }
+    {
         if fails_now(&self.failing, &mut self.calls, Call::Create) {
             count_fault(&mut self.write_faults, part);
             return Err(Trouble::Failed);
         }
-        let none = Vec::new(self.alloc);
-        let file = add_file(self.alloc, &mut self.opened, part, name, none)?;
-        match set_bytes(self.alloc, &mut self.names, name, Vec::new(self.alloc)) {
-            Ok(()) => Ok(file),
-            Err(_) => {
-                let _ = self.opened.pop();
-                Err(Trouble::NoMemory)
-            }
-        }
+        add_created(self.alloc, &mut self.opened, &mut self.names, part, name)
     }
 
-    fn read(&mut self, file: u32, into: &mut [u8]) -> Result<usize, Trouble> {
+    fn read(&mut self, file: u32, into: &mut [u8]) -> Result<usize, Trouble>
+        requires { IsSome ((memory_view self.old).part file) }
+        ensures count { IfOk result (λ n. n ≤ length into.new) }
+        ensures took { IfOk result (λ n. Took (memory_view self.old) (memory_view self.new) file (take n into.new)) }
+        ensures end { IfOk result (λ n. n ≡ 0 → 0 < length into.new → IsAtEnd (memory_view self.new) file) }
+        ensures refused { OnErr result (Unchanged (memory_view self.old) (memory_view self.new)) }
+        ensures failed { IsErrOf result Trouble.Failed → ReadFault (memory_view self.old) (memory_view self.new) file }
+        ensures due { IsTrue (is_due self.old Call.Read) → result ≡ Err Trouble.Failed }
+        ensures quiet { (IsTrue (is_due self.old Call.Read) → ⊥) → SameCounts (memory_view self.old) (memory_view self.new) }
+        ensures otherwise { OnErr result (IsTrue (is_due self.old Call.Read)) }
+        ensures bounded { IfOk result (λ n. (left : List ℕ) → (memory_view self.old).left file ≡ Some left →
+            n ≡ min (min (length left) (length into.old)) self.old.chunk.most) }
+        ensures counted { Counted Call.Read self.old self.new }
+    {
         if fails_now(&self.failing, &mut self.calls, Call::Read) {
             count_fault(&mut self.read_faults, part_of(&self.opened, file));
             return Err(Trouble::Failed);
@@ -159,7 +201,18 @@ impl Files for MemoryFiles {
         Ok(copy_next(from, &self.chunk, into))
     }
 
-    fn write(&mut self, file: u32, bytes: &[u8]) -> Result<usize, Trouble> {
+    fn write(&mut self, file: u32, bytes: &[u8]) -> Result<usize, Trouble>
+        requires { IsSome ((memory_view self.old).part file) }
+        ensures count { IfOk result (λ n. n ≤ length bytes.now) }
+        ensures wrote { IfOk result (λ n. Wrote (memory_view self.old) (memory_view self.new) file (take n bytes.now)) }
+        ensures none { IfOk result (λ n. n ≡ 0 → 0 < length bytes.now → WriteFault (memory_view self.old) (memory_view self.new) file) }
+        ensures refused { OnErr result (Unchanged (memory_view self.old) (memory_view self.new)) }
+        ensures failed { IsErrOf result Trouble.Failed → WriteFault (memory_view self.old) (memory_view self.new) file }
+        ensures due { IsTrue (is_due self.old Call.Write) → result ≡ Err Trouble.Failed }
+        ensures quiet { (IsTrue (is_due self.old Call.Write) → ⊥) → SameCounts (memory_view self.old) (memory_view self.new) }
+        ensures otherwise { IsErrOf result Trouble.Failed → IsTrue (is_due self.old Call.Write) }
+        ensures counted { Counted Call.Write self.old self.new }
+    {
         if fails_now(&self.failing, &mut self.calls, Call::Write) {
             count_fault(&mut self.write_faults, part_of(&self.opened, file));
             return Err(Trouble::Failed);
@@ -171,7 +224,17 @@ impl Files for MemoryFiles {
         }
     }
 
-    fn say(&mut self, text: &[u8]) -> Result<(), Trouble> {
+    fn say(&mut self, text: &[u8]) -> Result<(), Trouble>
+        ensures said { OnOk result (Said (memory_view self.old) (memory_view self.new) text.now) }
+        ensures refused { OnErr result (Unchanged (memory_view self.old) (memory_view self.new)) }
+        ensures failed { IsErrOf result Trouble.Failed →
+            Rose ((memory_view self.old).write_faults 0) ((memory_view self.new).write_faults 0) }
+        ensures due { IsTrue (is_due self.old Call.Say) → (result ≡ Err Trouble.Failed)
+            × Rose ((memory_view self.old).write_faults 0) ((memory_view self.new).write_faults 0) }
+        ensures quiet { (IsTrue (is_due self.old Call.Say) → ⊥) → SameCounts (memory_view self.old) (memory_view self.new) }
+        ensures otherwise { IsErrOf result Trouble.Failed → IsTrue (is_due self.old Call.Say) }
+        ensures counted { Counted Call.Say self.old self.new }
+    {
         if fails_now(&self.failing, &mut self.calls, Call::Say) {
             count_fault(&mut self.write_faults, 0);
             return Err(Trouble::Failed);

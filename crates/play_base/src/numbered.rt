@@ -1,10 +1,12 @@
 // The list of the files opened so far: a file's number is its place there.
-ghost use Rattle.std.specs.Prelude.{◌≡◌, ◌≤◌, ◌<◌, length, take, drop, IsSome, Some, IfOk, OnErr, IsErrOf};
-ghost use Rattle.play_base.specs.Memory.{Added, Advanced, part_at, name_at};
+ghost use Rattle.std.specs.Prelude.{◌≡◌, ◌≢◌, ◌≤◌, ◌<◌, ℕ, List, [], min, length, take, drop, IsSome, Some, IfOk, OnOk, OnErr, IsErrOf};
+ghost use Rattle.play_base.specs.Memory.{Added, Advanced, bytes_under, part_at, name_at};
 
 use crate::Trouble;
+use crate::names::set_bytes;
 use crate::opened::{Chunk, OpenedFile};
 use std::alloc::Global;
+use std::collections::BTreeMap;
 
 // Puts a file at the end, if there is a number for it.
 #[tactic(auto, using(crate::proofs::OpenedLemmas::added))]
@@ -37,8 +39,36 @@ pub fn add_file(
     }
 }
 
+// Puts a file without bytes at the end, and empties its name.
+#[tactic(auto, using(crate::proofs::OpenedLemmas::without_last))]
+pub fn add_created(
+    alloc: Global,
+    opened: &mut Vec<OpenedFile>,
+    names: &mut BTreeMap<String, Vec<u8>>,
+    part: u8,
+    name: &str,
+) -> Result<u32, Trouble>
+    requires { part < 16 }
+    ensures added { IfOk result (λ file. Added opened.old.items opened.new.items file part name.now []) }
+    ensures empty { OnOk result (bytes_under names.new name.now ≡ Some []) }
+    ensures others { OnOk result ((n : List ℕ) → n ≢ name.now → bytes_under names.new n ≡ bytes_under names.old n) }
+    ensures opened { OnErr result (opened.new.items ≡ opened.old.items) }
+    ensures names { OnErr result ((n : List ℕ) → bytes_under names.new n ≡ bytes_under names.old n) }
+    ensures memory { IsErrOf result Trouble.Failed → ⊥ }
+{
+    let file = add_file(alloc, opened, part, name, Vec::new(alloc))?;
+    match set_bytes(alloc, names, name, Vec::new(alloc)) {
+        Ok(()) => Ok(file),
+        Err(_) => {
+            let _ = opened.pop();
+            Err(Trouble::NoMemory)
+        }
+    }
+}
+
 // Copies a front of the bytes, and says how many.
 fn copy_front(from: &[u8], chunk: &Chunk, into: &mut [u8]) -> usize
+    ensures moved { result ≡ min (min (length from.now) (length into.old)) chunk.now.most }
     ensures count { result ≤ length into.new }
     ensures within { result ≤ length from.now }
     ensures copied { take result into.new ≡ take result from.now }
@@ -51,6 +81,7 @@ fn copy_front(from: &[u8], chunk: &Chunk, into: &mut [u8]) -> usize
 
 // Moves the next bytes of a file to the front of `into`, and says how many.
 pub fn copy_next(file: &mut OpenedFile, chunk: &Chunk, into: &mut [u8]) -> usize
+    ensures moved { result ≡ min (min (length (drop file.old.place file.old.bytes.items)) (length into.old)) chunk.now.most }
     ensures count { result ≤ length into.new }
     ensures advanced { Advanced file.old file.new (take result into.new) }
     ensures end { result ≡ 0 → 0 < length into.new → length (drop file.old.place file.old.bytes.items) ≡ 0 }

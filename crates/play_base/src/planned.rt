@@ -1,6 +1,7 @@
 // Failures that a test plans, and the counts that they raise.
-ghost use Rattle.std.specs.Prelude.{◌≡◌, ◌≢◌, ◌≤◌, ◌<◌, ℕ, slice_index};
+ghost use Rattle.std.specs.Prelude.{◌≡◌, ◌≢◌, ◌≤◌, ◌<◌, ◌+◌, ◌-◌, ◌^◌, ℕ, min, slice_index};
 ghost use Rattle.play_base.specs.View.{Rose};
+ghost use Rattle.play_base.specs.Planned.{is_planned, place_of};
 
 /// The kinds of calls on files.
 #[derive(Clone, Copy, Debug, PartialEq, Eq)]
@@ -19,12 +20,42 @@ pub struct Failing {
     pub nth: u64,
 }
 
+impl Call {
+    // The place at which calls of this kind are counted.
+    fn place(self) -> usize
+        ensures value { result ≡ place_of self }
+        ensures small { result < 5 }
+    {
+        match self {
+            Call::Open => 0,
+            Call::Create => 1,
+            Call::Read => 2,
+            Call::Write => 3,
+            Call::Say => 4,
+        }
+    }
+}
+
+// Whether the nth call of this kind is planned to fail.
+fn is_planned(failing: &[Failing], call: Call, nth: u64) -> bool
+    ensures { result ≡ is_planned failing.now call nth }
+{
+    let place = call.place();
+    failing
+        .iter()
+        .any(|f| f.call.place() == place && f.nth == nth)
+}
+
 // Whether the next call of this kind is to fail; it counts as made.
-pub fn fails_now(failing: &[Failing], calls: &mut [u64; 5], call: Call) -> bool {
-    let made = &mut calls[call as usize];
+pub fn fails_now(failing: &[Failing], calls: &mut [u64; 5], call: Call) -> bool
+    ensures due { result ≡ is_planned failing.now call (slice_index calls.old (place_of call)) }
+    ensures counted { slice_index calls.new (place_of call) ≡ min (slice_index calls.old (place_of call) + 1) (2 ^ 64 - 1) }
+    ensures others { (c : Call) → c ≢ call → slice_index calls.new (place_of c) ≡ slice_index calls.old (place_of c) }
+{
+    let made = &mut calls[call.place()];
     let nth = *made;
     *made = made.saturating_add(1);
-    failing.iter().any(|f| f.call == call && f.nth == nth)
+    is_planned(failing, call, nth)
 }
 
 // One more fault of this part, and of no other.

@@ -1,11 +1,11 @@
 // Files in memory that never fail.
-ghost use Rattle.std.specs.Prelude.{◌≡◌, ◌≢◌, ◌≤◌, ◌<◌, ℕ, List, [], Some, None, OnOk, OnErr, option_map, unwrap_or};
-ghost use Rattle.play_base.specs.View.{Unchanged, Keeps, Any, IsFresh};
+ghost use Rattle.std.specs.Prelude.{◌≡◌, ◌≢◌, ◌≤◌, ◌<◌, ◌-◌, ◌^◌, ℕ, List, [], min, length, take, IsSome, Some, None, IfOk, OnOk, OnErr, IsErrOf, option_map, unwrap_or};
+ghost use Rattle.play_base.specs.View.{Unchanged, Keeps, Any, IsFresh, Opened, Created, Took, Wrote, Said, WriteFault, IsAtEnd};
 ghost use Rattle.play_base.specs.Memory.{bytes_under};
 ghost use Rattle.play_base.specs.Steady.{steady_view};
 
 use crate::names::{append_bytes, bytes_of, set_bytes};
-use crate::numbered::{add_file, copy_next, name_of};
+use crate::numbered::{add_created, add_file, copy_next, name_of};
 use crate::opened::{Chunk, OpenedFile};
 use crate::{Files, NoMemory, Trouble};
 use std::alloc::Global;
@@ -28,6 +28,7 @@ impl SteadyFiles {
         ensures none { (n : List ℕ) → bytes_under result.names n ≡ None }
         ensures names { (n : List ℕ) → (steady_view result).bytes n ≡ Some [] }
         ensures fresh { IsFresh (steady_view result) }
+        ensures most { result.chunk.most ≡ 2 ^ 32 - 1 }
     {
         SteadyFiles {
             alloc,
@@ -47,6 +48,7 @@ impl SteadyFiles {
         ensures others { Keeps (λ n. n ≢ name.now) Any (steady_view self.old) (steady_view self.new) }
         ensures said { (steady_view self.new).said ≡ (steady_view self.old).said }
         ensures err { OnErr result (Unchanged (steady_view self.old) (steady_view self.new)) }
+        ensures most { self.new.chunk.most ≡ self.old.chunk.most }
     {
         let Ok(bytes) = bytes.to_vec(self.alloc) else {
             return Err(NoMemory);
@@ -76,6 +78,7 @@ impl SteadyFiles {
     pub fn chunk(&mut self, most: u32)
         requires { 1 ≤ most }
         ensures same { Unchanged (steady_view self.old) (steady_view self.new) }
+        ensures most { self.new.chunk.most ≡ most }
     {
         self.chunk = Chunk { most };
     }
@@ -100,7 +103,14 @@ impl SteadyFiles {
 impl Files for SteadyFiles {
     ghost view = { steady_view };
 
-    fn open(&mut self, part: u8, name: &str) -> Result<u32, Trouble> {
+    fn open(&mut self, part: u8, name: &str) -> Result<u32, Trouble>
+        requires { part < 16 }
+        ensures opened { IfOk result (λ file. Opened (steady_view self.old) (steady_view self.new) part name.now file) }
+        ensures files { OnErr result (self.new.opened.items ≡ self.old.opened.items) }
+        ensures refused { OnErr result (Unchanged (steady_view self.old) (steady_view self.new)) }
+        ensures failed { IsErrOf result Trouble.Failed → ⊥ }
+        ensures most { self.new.chunk.most ≡ self.old.chunk.most }
+    {
         let bytes = match self.names.get(name) {
             Some(bytes) => bytes.to_vec(self.alloc),
             None => Ok(Vec::new(self.alloc)),
@@ -111,24 +121,41 @@ impl Files for SteadyFiles {
         }
     }
 
-    fn create(&mut self, part: u8, name: &str) -> Result<u32, Trouble> {
-        let none = Vec::new(self.alloc);
-        let file = add_file(self.alloc, &mut self.opened, part, name, none)?;
-        match set_bytes(self.alloc, &mut self.names, name, Vec::new(self.alloc)) {
-            Ok(()) => Ok(file),
-            Err(_) => {
-                let _ = self.opened.pop();
-                Err(Trouble::NoMemory)
-            }
-        }
+    fn create(&mut self, part: u8, name: &str) -> Result<u32, Trouble>
+        requires { part < 16 }
+        ensures created { IfOk result (λ file. Created (steady_view self.old) (steady_view self.new) part name.now file) }
+        ensures files { OnErr result (self.new.opened.items ≡ self.old.opened.items) }
+        ensures refused { OnErr result (Unchanged (steady_view self.old) (steady_view self.new)) }
+        ensures failed { IsErrOf result Trouble.Failed → ⊥ }
+        ensures most { self.new.chunk.most ≡ self.old.chunk.most }
+    {
+        add_created(self.alloc, &mut self.opened, &mut self.names, part, name)
     }
 
-    fn read(&mut self, file: u32, into: &mut [u8]) -> Result<usize, Trouble> {
+    fn read(&mut self, file: u32, into: &mut [u8]) -> Result<usize, Trouble>
+        requires { IsSome ((steady_view self.old).part file) }
+        ensures count { IfOk result (λ n. n ≤ length into.new) }
+        ensures took { IfOk result (λ n. Took (steady_view self.old) (steady_view self.new) file (take n into.new)) }
+        ensures end { IfOk result (λ n. n ≡ 0 → 0 < length into.new → IsAtEnd (steady_view self.new) file) }
+        ensures refused { OnErr result (Unchanged (steady_view self.old) (steady_view self.new)) }
+        ensures failed { IsErrOf result Trouble.Failed → ⊥ }
+        ensures bounded { IfOk result (λ n. (left : List ℕ) → (steady_view self.old).left file ≡ Some left →
+            n ≡ min (min (length left) (length into.old)) self.old.chunk.most) }
+        ensures most { self.new.chunk.most ≡ self.old.chunk.most }
+    {
         let from = &mut self.opened[file as usize];
         Ok(copy_next(from, &self.chunk, into))
     }
 
-    fn write(&mut self, file: u32, bytes: &[u8]) -> Result<usize, Trouble> {
+    fn write(&mut self, file: u32, bytes: &[u8]) -> Result<usize, Trouble>
+        requires { IsSome ((steady_view self.old).part file) }
+        ensures count { IfOk result (λ n. n ≡ length bytes.now) }
+        ensures wrote { IfOk result (λ n. Wrote (steady_view self.old) (steady_view self.new) file (take n bytes.now)) }
+        ensures none { IfOk result (λ n. n ≡ 0 → 0 < length bytes.now → WriteFault (steady_view self.old) (steady_view self.new) file) }
+        ensures refused { OnErr result (Unchanged (steady_view self.old) (steady_view self.new)) }
+        ensures failed { IsErrOf result Trouble.Failed → ⊥ }
+        ensures most { self.new.chunk.most ≡ self.old.chunk.most }
+    {
         let name = name_of(&self.opened, file);
         match append_bytes(self.alloc, &mut self.names, name, bytes) {
             Ok(()) => Ok(bytes.len()),
@@ -136,7 +163,12 @@ impl Files for SteadyFiles {
         }
     }
 
-    fn say(&mut self, text: &[u8]) -> Result<(), Trouble> {
+    fn say(&mut self, text: &[u8]) -> Result<(), Trouble>
+        ensures said { OnOk result (Said (steady_view self.old) (steady_view self.new) text.now) }
+        ensures refused { OnErr result (Unchanged (steady_view self.old) (steady_view self.new)) }
+        ensures failed { IsErrOf result Trouble.Failed → ⊥ }
+        ensures most { self.new.chunk.most ≡ self.old.chunk.most }
+    {
         match self.said.extend_from_slice(text) {
             Ok(()) => Ok(()),
             Err(_) => Err(Trouble::NoMemory),
