@@ -1,4 +1,5 @@
 pub mod Answers
+pub mod Canonical
 pub mod Classes
 pub mod FilterStatements
 pub mod Filters

@@ -1,13 +1,16 @@
 //! The checked configuration.
 ghost use Rattle.std.specs.Prelude.{◌≡◌, IfErr, IfOk, Ok, bytes_eq, find, option_copied};
 ghost use Rattle.conf_tree.specs.Answers.{Fails};
+ghost use Rattle.conf_tree.specs.Canonical.{canonical_text};
 ghost use Rattle.conf_tree.specs.Reading.{reading};
 
 use crate::interface::Interface;
 use crate::reading::read_statement;
+use crate::text::text_of;
 use crate::tree::Tree;
 use crate::whole::{first_undecided, whole_all};
 use conf_lines::{ConfFault, Statement};
+use play_base::NoMemory;
 use std::alloc::Global;
 use std::marker::Model;
 
@@ -58,6 +61,19 @@ impl Conf {
         ensures { option_copied result ≡ find (λ i. bytes_eq name.now i.name) self.now }
     {
         find_interface(self.interfaces.as_slice(), name)
+    }
+
+    /// The canonical text: for each interface its line, its classes and its filters, each on a line of its own, with every
+    /// number in decimal and each option that holds written once. Implied classes are not written.
+    ///
+    /// Answers `NoMemory` where there was none. Takes time and memory linear in the text.
+    pub fn text(&self, alloc: Global) -> Result<Vec<u8>, NoMemory>
+        ensures { IfOk result (λ text. text.items ≡ canonical_text self.now) }
+    {
+        match text_of(alloc, self.interfaces.as_slice()) {
+            Ok(text) => Ok(text.into_bytes()),
+            Err(_) => Err(NoMemory),
+        }
     }
 }
 

@@ -5,11 +5,13 @@
 mod branch;
 mod class;
 mod class_reading;
+mod class_text;
 mod conf;
 mod draft;
 mod filter;
 mod filter_parts;
 mod filter_reading;
+mod filter_text;
 mod interface;
 mod interface_reading;
 mod items;
@@ -19,6 +21,7 @@ mod names;
 mod options;
 mod reading;
 mod settings;
+mod text;
 mod tree;
 mod whole;
 

@@ -330,3 +330,42 @@ fn classes_and_filters(rt: HostRuntime) -> Result<(), Fail> {
     assert_eq!(rt; (leaf.rate, leaf.maxburst, leaf.packetsize), (0, 0, 0));
     Ok(())
 }
+
+/// The canonical text of a text.
+fn canonical(alloc: Global, text: &str) -> Result<Vec<u8>, Fail> {
+    match built(alloc, text)? {
+        Ok(conf) => match conf.text(alloc) {
+            Ok(text) => Ok(text),
+            Err(_) => Err(Fail::new("no memory")),
+        },
+        Err(_) => Err(Fail::new("refused")),
+    }
+}
+
+#[test]
+fn canonical_text_of_voice_and_data(rt: HostRuntime) -> Result<(), Fail> {
+    let text = canonical(
+        rt.alloc(),
+        "interface if0 bandwidth 8M hfsc\nclass hfsc if0 root NULL pshare 100\nclass hfsc if0 voice root [sc 4M 5 1M]\nclass hfsc if0 data root [sc 0 5 4M] default\nfilter if0 voice 0 5004 0 0 17\n",
+    )?;
+    let expected =
+        "interface if0 bandwidth 8000000 hfsc\nclass hfsc if0 root NULL ls 8000000 0 8000000 qlimit 50\nclass hfsc if0 voice root rt 4000000 5 1000000 ls 4000000 5 1000000 qlimit 50\nclass hfsc if0 data root rt 0 5 4000000 ls 0 5 4000000 qlimit 50 default\nfilter if0 voice ruleno 0 0.0.0.0 netmask 0.0.0.0 5004 0.0.0.0 netmask 0.0.0.0 0 17\n";
+    assert_eq!(rt; text.as_slice(), expected.as_bytes());
+    let again = canonical(rt.alloc(), expected)?;
+    assert_eq!(rt; again.as_slice(), expected.as_bytes());
+    Ok(())
+}
+
+#[test]
+fn canonical_text_of_every_option(rt: HostRuntime) -> Result<(), Fail> {
+    let text = canonical(
+        rt.alloc(),
+        "interface if1 hfsc\ninterface if0 bandwidth 150M cbq\nclass cbq if0 a NULL red\nclass cbq if0 b a pbandwidth 7 priority 3 borrow rio control default\nfilter if0 b name x ruleno 7 10.1.2.3 netmask 255.0.15.0 80 0 0 tcp tos 0x1f tosmask 0x1c\nfilter6 if0 a fEff::10/12 0 1:2:3:4:5:6:7:8 53 udp tclass 8\n",
+    )?;
+    let expected =
+        "interface if1 bandwidth 100000000 hfsc\ninterface if0 bandwidth 150000000 cbq\nclass cbq if0 a NULL priority 0 exactbandwidth 150000000 maxburst 16 packetsize 1500 qlimit 50 red\nclass cbq if0 b a priority 3 exactbandwidth 10500000 borrow maxburst 16 packetsize 1500 qlimit 50 rio control default\nfilter if0 b ruleno 7 10.0.2.0 netmask 255.0.15.0 80 0.0.0.0 netmask 0.0.0.0 0 6 tos 28 tosmask 28\nfilter6 if0 a ruleno 0 fef0:0:0:0:0:0:0:0/12 0 1:2:3:4:5:6:7:8/128 53 17 tclass 8 tclassmask 255\n";
+    assert_eq!(rt; text.as_slice(), expected.as_bytes());
+    let again = canonical(rt.alloc(), expected)?;
+    assert_eq!(rt; again.as_slice(), expected.as_bytes());
+    Ok(())
+}
