@@ -7,6 +7,7 @@ pub mod Fits
 pub mod Interfaces
 pub mod Items
 pub mod Kinds
+pub mod Laws
 pub mod Masks
 pub mod Options
 pub mod Reading

@@ -16,6 +16,7 @@ mod interface;
 mod interface_reading;
 mod items;
 mod kinds;
+mod laws;
 mod masks;
 mod names;
 mod options;
@@ -29,6 +30,7 @@ pub use class::{Class, DropRule};
 pub use conf::Conf;
 pub use filter::{Addresses, Filter};
 pub use interface::{ClassList, FilterList, Interface, Kind};
+pub use laws::faults_stand;
 
 #[cfg(test)]
 mod tests;
