@@ -1,0 +1,16 @@
+pub mod Answers
+pub mod Canonical
+pub mod Classes
+pub mod FilterStatements
+pub mod Filters
+pub mod Fits
+pub mod Interfaces
+pub mod Items
+pub mod Kinds
+pub mod Laws
+pub mod Masks
+pub mod Options
+pub mod Reading
+pub mod Settings
+pub mod Tree
+pub mod Whole

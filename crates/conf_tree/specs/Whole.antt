@@ -1,0 +1,85 @@
+-- The end of the text: each interface that has classes has a default, and one that has none has two implied classes.
+use Rattle.std.specs.Prelude.{ℕ, ◌==◌, ◌&&◌, length, Bool, false, not, List, [], ◌∷◌, map, if◌then◌else◌, Option, Some, None, Result, Ok, Err, codes, is_some}
+use Rattle.service_curve.specs.declared.Curve.{Curve}
+use Rattle.service_curve.specs.Curve.{straight}
+use Rattle.conf_lines.specs.declared.fault.ConfPlace.{ConfPlace}
+use Rattle.conf_tree.specs.declared.branch.Branch.{Branch}
+use Rattle.conf_tree.specs.declared.class.Class.{Class}
+use Rattle.conf_tree.specs.declared.class.DropRule.TheVariants.{Tail}
+use Rattle.conf_tree.specs.declared.interface.Interface.{Interface}
+use Rattle.conf_tree.specs.declared.interface.Kind.{Kind}
+use Rattle.conf_tree.specs.declared.interface.Kind.TheVariants.{Hfsc, Cbq}
+use Rattle.conf_tree.specs.Kinds.{fault_at, no_default}
+use Rattle.conf_tree.specs.Tree.{Begun}
+
+-- a class that is implied: the default class is the one with a parent
+abbrev pub implied_hfsc : List ℕ → Option ℕ → Option Curve → Class
+implied_hfsc name parent share = record {
+  name = name;
+  parent = parent;
+  real = None;
+  share = share;
+  rate = 0;
+  priority = 0;
+  borrow = false;
+  control = false;
+  maxburst = 0;
+  packetsize = 0;
+  limit = 50;
+  drop = Tail;
+  first = is_some parent;
+}
+
+abbrev pub implied_cbq : List ℕ → Option ℕ → ℕ → Class
+implied_cbq name parent rate = record {
+  name = name;
+  parent = parent;
+  real = None;
+  share = None;
+  rate = rate;
+  priority = 0;
+  borrow = is_some parent;
+  control = false;
+  maxburst = 16;
+  packetsize = 1500;
+  limit = 50;
+  drop = Tail;
+  first = is_some parent;
+}
+
+-- the implied classes: a root, and below it the default class with the whole bandwidth, which borrows in CBQ
+abbrev pub implied_classes : Kind → ℕ → List Class
+implied_classes Hfsc rate =
+    implied_hfsc (codes "root") None None ∷ implied_hfsc (codes "default") (Some 0) (Some (straight rate)) ∷ []
+implied_classes Cbq rate = implied_cbq (codes "root") None rate ∷ implied_cbq (codes "default") (Some 0) rate ∷ []
+
+abbrev pub is_empty : {A : Type 0} → List A → Bool
+is_empty xs = length xs == 0
+
+abbrev pub classes_of : Kind → ℕ → List Branch → List Class
+classes_of kind rate classes = if is_empty classes then implied_classes kind rate else map (λ c. c.class) classes
+
+abbrev pub whole : Begun → Interface
+whole b = record {
+  name = b.name;
+  rate = b.rate;
+  kind = b.kind;
+  implied = is_empty b.classes;
+  classes = classes_of b.kind b.rate b.classes;
+  filters = b.filters;
+}
+
+-- the first interface that has classes and no default, at its line and word 0
+abbrev pub undecided : Begun → Bool
+undecided b = not (is_empty b.classes) && not b.chosen
+
+abbrev pub first_undecided : List Begun → Option ConfPlace
+first_undecided [] = None
+first_undecided (b ∷ interfaces) = if undecided b then Some (fault_at b.line 0 no_default) else first_undecided interfaces
+
+abbrev pub finished_unless : List Begun → Option ConfPlace → Result (List Interface) ConfPlace
+finished_unless interfaces (Some fault) = Err fault
+finished_unless interfaces None = Ok (map whole interfaces)
+
+abbrev pub finished : List Begun → Result (List Interface) ConfPlace
+finished interfaces = finished_unless interfaces (first_undecided interfaces)

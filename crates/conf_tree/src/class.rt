@@ -1,0 +1,47 @@
+//! Classes.
+
+use conf_lines::Text;
+use service_curve::Curve;
+
+/// How a queue decides whether an arriving packet is kept.
+#[derive(Clone, Copy, Debug, PartialEq, Eq)]
+pub enum DropRule {
+    /// It keeps each packet that finds room.
+    Tail,
+    /// Random early detection, after Floyd and Jacobson, 1993.
+    Red,
+    /// RED with in and out, after Clark and Fang, 1998.
+    Rio,
+}
+
+/// A class of an interface. In an HFSC class `rate`, `priority`, `maxburst` and `packetsize` are 0, and `borrow` and
+/// `control` are false; in a CBQ class `real` and `share` are `None`.
+#[derive(Debug, Drop)]
+pub struct Class {
+    /// Its name, which no other class of its interface has.
+    pub name: Text,
+    /// The number of its parent among the classes of its interface; `None` for the root.
+    pub parent: Option<u32>,
+    /// Its real-time curve. A class that is a parent has none.
+    pub real: Option<Curve>,
+    /// Its link-sharing curve, which each HFSC class but the root has. That of the root has no effect.
+    pub share: Option<Curve>,
+    /// Its rate in bits per second, 1,000 to 10^12.
+    pub rate: u64,
+    /// Its priority, 0 to 7; the greatest goes first.
+    pub priority: u8,
+    /// Whether it may borrow from its parent.
+    pub borrow: bool,
+    /// Whether packets of ICMP, IGMP, RSVP and ICMPv6 that no filter matches go to it.
+    pub control: bool,
+    /// How many packets it may send back to back, 1 to 1,000.
+    pub maxburst: u32,
+    /// The length in bytes of the packets that its burst is reckoned with, 1 to 262,144.
+    pub packetsize: u32,
+    /// How many packets its queue holds, 1 to 10,000.
+    pub limit: u32,
+    /// How its queue drops.
+    pub drop: DropRule,
+    /// Whether it is the default class, to which the packets go that no filter matches.
+    pub first: bool,
+}

@@ -1,0 +1,98 @@
+//! Interfaces, and the lists of their classes and filters.
+
+use crate::class::Class;
+use crate::filter::Filter;
+use conf_lines::Text;
+use std::marker::Model;
+
+/// How an interface shares its link.
+#[derive(Clone, Copy, Debug, PartialEq, Eq)]
+pub enum Kind {
+    /// The hierarchical fair service curve, after Stoica, Zhang and Ng, 1997.
+    Hfsc,
+    /// Class-based queueing, after Floyd and Jacobson, 1995.
+    Cbq,
+}
+
+/// The classes of an interface, in the order of the text. Contracts see them as a list.
+#[derive(Debug, Drop)]
+pub struct ClassList {
+    classes: Vec<Class>,
+}
+
+impl Model for ClassList {
+    ghost use Rattle.std.specs.Prelude.{List};
+    ghost use Rattle.conf_tree.specs.declared.class.Class.{Class};
+
+    ghost Value = { List Class };
+
+    ghost view = { λ l. l.classes.items };
+}
+
+impl ClassList {
+    ghost use Rattle.std.specs.Prelude.{◌≡◌};
+
+    /// The classes of a vector. Takes no memory.
+    pub fn of(classes: Vec<Class>) -> ClassList
+        ensures { result ≡ classes.items }
+    {
+        ClassList { classes }
+    }
+
+    /// The classes, in order. Takes no memory.
+    pub fn as_slice(&self) -> &[Class]
+        ensures { result.now ≡ self.now }
+    {
+        self.classes.as_slice()
+    }
+}
+
+/// The filters of an interface, in the order of the text. Contracts see them as a list.
+#[derive(Debug, Drop)]
+pub struct FilterList {
+    filters: Vec<Filter>,
+}
+
+impl Model for FilterList {
+    ghost use Rattle.std.specs.Prelude.{List};
+    ghost use Rattle.conf_tree.specs.declared.filter.Filter.{Filter};
+
+    ghost Value = { List Filter };
+
+    ghost view = { λ l. l.filters.items };
+}
+
+impl FilterList {
+    ghost use Rattle.std.specs.Prelude.{◌≡◌};
+
+    /// The filters of a vector. Takes no memory.
+    pub fn of(filters: Vec<Filter>) -> FilterList
+        ensures { result ≡ filters.items }
+    {
+        FilterList { filters }
+    }
+
+    /// The filters, in order. Takes no memory.
+    pub fn as_slice(&self) -> &[Filter]
+        ensures { result.now ≡ self.now }
+    {
+        self.filters.as_slice()
+    }
+}
+
+/// An interface with its classes and its filters.
+#[derive(Debug, Drop)]
+pub struct Interface {
+    /// Its name, which no other interface of the configuration has.
+    pub name: Text,
+    /// Its bandwidth in bits per second, 1,000 to 10^12.
+    pub rate: u64,
+    /// How it shares its link.
+    pub kind: Kind,
+    /// Whether the text has no class of it, so that its two classes are implied ones.
+    pub implied: bool,
+    /// Its classes, the root first, each parent before its children.
+    pub classes: ClassList,
+    /// Its filters.
+    pub filters: FilterList,
+}

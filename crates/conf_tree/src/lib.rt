@@ -1,0 +1,36 @@
+//! The checked configuration: the interfaces of a text after altq.conf(5), each with its classes and its filters, or the
+//! place and the kind of the text's first fault.
+#![tactic(auto)]
+
+mod branch;
+mod class;
+mod class_reading;
+mod class_text;
+mod conf;
+mod draft;
+mod filter;
+mod filter_parts;
+mod filter_reading;
+mod filter_text;
+mod interface;
+mod interface_reading;
+mod items;
+mod kinds;
+mod laws;
+mod masks;
+mod names;
+mod options;
+mod reading;
+mod settings;
+mod text;
+mod tree;
+mod whole;
+
+pub use class::{Class, DropRule};
+pub use conf::Conf;
+pub use filter::{Addresses, Filter};
+pub use interface::{ClassList, FilterList, Interface, Kind};
+pub use laws::faults_stand;
+
+#[cfg(test)]
+mod tests;

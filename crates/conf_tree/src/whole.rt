@@ -1,0 +1,139 @@
+//! The end of the text.
+ghost use Rattle.std.specs.Prelude.{◌≡◌, ◌∷◌, [], IfOk, Some, None, map};
+ghost use Rattle.conf_tree.specs.Whole.{implied_hfsc, implied_cbq, implied_classes, classes_of, whole, undecided, first_undecided};
+
+use crate::branch::{Branch, text_of};
+use crate::class::{Class, DropRule};
+use crate::draft::Draft;
+use crate::interface::{ClassList, FilterList, Interface, Kind};
+use crate::kinds::{NO_DEFAULT, fault_at};
+use conf_lines::{ConfPlace, Text};
+use play_base::NoMemory;
+use service_curve::Curve;
+use std::alloc::Global;
+
+/// A class of HFSC that no statement names.
+fn implied_hfsc(name: Text, parent: Option<u32>, share: Option<Curve>) -> Class
+    ensures { result ≡ implied_hfsc name parent share }
+{
+    Class {
+        name,
+        parent,
+        real: None,
+        share,
+        rate: 0,
+        priority: 0,
+        borrow: false,
+        control: false,
+        maxburst: 0,
+        packetsize: 0,
+        limit: 50,
+        drop: DropRule::Tail,
+        first: parent.is_some(),
+    }
+}
+
+/// A class of CBQ that no statement names.
+fn implied_cbq(name: Text, parent: Option<u32>, rate: u64) -> Class
+    ensures { result ≡ implied_cbq name parent rate }
+{
+    Class {
+        name,
+        parent,
+        real: None,
+        share: None,
+        rate,
+        priority: 0,
+        borrow: parent.is_some(),
+        control: false,
+        maxburst: 16,
+        packetsize: 1500,
+        limit: 50,
+        drop: DropRule::Tail,
+        first: parent.is_some(),
+    }
+}
+
+/// The two implied classes of an interface.
+fn implied_classes(alloc: Global, kind: Kind, rate: u64) -> Result<Vec<Class>, NoMemory>
+    ensures { IfOk result (λ classes. classes.items ≡ implied_classes kind rate) }
+{
+    let root = text_of(alloc, "root")?;
+    let default = text_of(alloc, "default")?;
+    let mut classes = Vec::new(alloc);
+    match kind {
+        Kind::Hfsc => {
+            classes.push(implied_hfsc(root, None, None))?;
+            let line = Curve {
+                m1: rate,
+                d: 0,
+                m2: rate,
+            };
+            classes.push(implied_hfsc(default, Some(0), Some(line)))?;
+        }
+        Kind::Cbq => {
+            classes.push(implied_cbq(root, None, rate))?;
+            classes.push(implied_cbq(default, Some(0), rate))?;
+        }
+    }
+    Ok(classes)
+}
+
+/// The classes without what later statements asked of them.
+fn bare_classes(alloc: Global, branches: Vec<Branch>) -> Result<Vec<Class>, NoMemory>
+    ensures { IfOk result (λ classes. classes.items ≡ map (λ b. b.class) branches.items) }
+{
+    let mut classes = Vec::new(alloc);
+    for branch in branches {
+        let Branch { class, .. } = branch;
+        classes.push(class)?;
+    }
+    Ok(classes)
+}
+
+/// An interface at the end of the text.
+pub(crate) fn whole(alloc: Global, draft: Draft) -> Result<Interface, NoMemory>
+    ensures { IfOk result (λ interface. interface ≡ whole draft.entry) }
+{
+    let name = text_of(alloc, draft.name)?;
+    let (rate, kind) = (draft.rate, draft.kind);
+    let (branches, filters) = draft.into_parts();
+    let none_written = branches.is_empty();
+    let classes = if none_written {
+        implied_classes(alloc, kind, rate)?
+    } else {
+        bare_classes(alloc, branches)?
+    };
+    Ok(Interface {
+        name,
+        rate,
+        kind,
+        implied: none_written,
+        classes: ClassList::of(classes),
+        filters: FilterList::of(filters),
+    })
+}
+
+/// The fault of the first interface that has classes and no default.
+pub(crate) fn first_undecided(drafts: &[Draft]) -> Option<ConfPlace>
+    ensures { result ≡ first_undecided drafts.now }
+{
+    for draft in drafts {
+        if !draft.classes.is_empty() && !draft.chosen {
+            return Some(fault_at(draft.line, 0, NO_DEFAULT));
+        }
+    }
+    None
+}
+
+/// The interfaces at the end of the text.
+pub(crate) fn whole_all(alloc: Global, drafts: Vec<Draft>) -> Result<Vec<Interface>, NoMemory>
+    ensures { IfOk result (λ interfaces. interfaces.items ≡ map whole drafts.entry.items) }
+{
+    let mut interfaces = Vec::new(alloc);
+    for draft in drafts {
+        let interface = whole(alloc, draft)?;
+        interfaces.push(interface)?;
+    }
+    Ok(interfaces)
+}
