@@ -12,3 +12,6 @@ pub use decided::{Decided, Decisions};
 pub use decisions::decide;
 pub use play_text::Totals;
 pub use turn::Turn;
+
+#[cfg(test)]
+mod tests;
