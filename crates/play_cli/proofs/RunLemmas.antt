@@ -614,3 +614,24 @@ no_word_of (fault.Write kind) = refl
 no_word_of (fault.Capture d) = refl
 no_word_of (fault.Limit kind) = refl
 no_word_of fault.NoMemory = refl
+
+-- a configuration that is not accepted is told, unless a count of faults rose or memory was wanting
+pub told_unbuilt : (u v : View) (n : Names) (seed : ℕ) (f : RunFault) → IsTrue u.tells → AcceptsNone u n.config n.interface → IsSome (u.bytes n.config) → IsQuiet u v
+    → Causes u v n seed f → (IsAfterConfigFault f → (rate : ℕ) × Accepts u n.config n.interface rate) → ((status_of f).code ≡ 9) ⊎ ((status_of f).code ≡ 8)
+told_unbuilt u v n seed fault.Unbuilt t none there q x a = inl refl
+told_unbuilt u v n seed fault.Config t none there q (inl x) a = absurd ((q 1).0 x)
+told_unbuilt u v n seed fault.Config t none there q (inr x) a = let p = some_bytes (u.bytes n.config) there in absurd (no_bytes p.0 (sym x.1 ∙ p.1))
+told_unbuilt u v n seed fault.Arrivals t none there q x a = let y = a tt in let c = y.1 t in absurd (none t c.0 c.1 y.0 c.2)
+told_unbuilt u v n seed (fault.Write kind) t none there q x a = let y = a tt in let c = y.1 t in absurd (none t c.0 c.1 y.0 c.2)
+told_unbuilt u v n seed (fault.Capture d) t none there q x a = let y = a tt in let c = y.1 t in absurd (none t c.0 c.1 y.0 c.2)
+told_unbuilt u v n seed (fault.Limit kind) t none there q x a = let y = a tt in let c = y.1 t in absurd (none t c.0 c.1 y.0 c.2)
+told_unbuilt u v n seed fault.NoMemory t none there q x a = inr refl
+
+pub unread_is : (f : RunFault) → (status_of f).code ≡ 5 → (status_of f).kind ≡ 1 → f ≡ fault.Config
+unread_is fault.Unbuilt c k = absurd (omega (arith, c))
+unread_is fault.Config c k = refl
+unread_is fault.Arrivals c k = absurd (omega (arith, k))
+unread_is (fault.Write kind) c k = absurd (omega (arith, c))
+unread_is (fault.Capture d) c k = absurd (omega (arith, c))
+unread_is (fault.Limit kind) c k = absurd (omega (arith, c))
+unread_is fault.NoMemory c k = absurd (omega (arith, c))

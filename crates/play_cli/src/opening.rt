@@ -1,6 +1,6 @@
 // Opening and creating the files of a play.
-ghost use Rattle.std.specs.Prelude.{◌≡◌, ◌≢◌, ◌≤◌, ◌+◌, ℕ, IfOk, IsErrOf, OnErr, IsTrue};
-ghost use Rattle.play_base.specs.View.{View, Rose};
+ghost use Rattle.std.specs.Prelude.{◌≡◌, ◌≢◌, ◌≤◌, ◌+◌, ℕ, List, IfOk, IsErrOf, OnErr, IsTrue};
+ghost use Rattle.play_base.specs.View.{View, IsAbsent, Rose};
 ghost use Rattle.play_words.specs.Words.{AreDistinct};
 ghost use Rattle.play_cli.specs.Opening.{AreOpened, CannotRead, IsEmptied, KeepsOthers};
 
@@ -28,6 +28,7 @@ pub fn open_files<F: Files>(files: &mut F, words: &PlayWords<'_>) -> Result<Open
     ensures read { IsErrOf result OpenFault.Arrivals → CannotRead (F.view files.old) (F.view files.new) 2 words.now.arrivals.now }
     ensures write { (kind : ℕ) → IsErrOf result (OpenFault.Write kind) → (1 ≤ kind) × (kind ≤ 3)
         × Rose ((F.view files.old).write_faults (kind + 2)) ((F.view files.new).write_faults (kind + 2)) }
+    ensures absent { IsAbsent (F.view files.old) words.now.arrivals.now → (n : List ℕ) → (F.view files.new).bytes n ≡ (F.view files.old).bytes n }
     ensures keeps { KeepsOthers words.now.departures.now words.now.fates.now words.now.stats.now (F.view files.old) (F.view files.new) }
     ensures said { (F.view files.new).said ≡ (F.view files.old).said }
 {

@@ -1,8 +1,8 @@
 // The one public call: from the words of the command line to a status.
-ghost use Rattle.std.specs.Prelude.{◌≡◌, ◌≢◌, ◌≤◌, ◌+◌, ◌⊎◌, ℕ, List, None, Some, IsTrue, IfErr, OnOk, OnErr};
+ghost use Rattle.std.specs.Prelude.{◌≡◌, ◌≢◌, ◌≤◌, ◌+◌, ◌⊎◌, ℕ, List, None, Some, IsTrue, IsSome, IsErrOf, IfErr, OnOk, OnErr};
 ghost use Rattle.altq_model.specs.Numbers.{damage_number};
 ghost use Rattle.play_base.specs.Steady.{steady_view};
-ghost use Rattle.play_base.specs.View.{View, Rose};
+ghost use Rattle.play_base.specs.View.{View, IsAbsent, Rose};
 ghost use Rattle.play_words.specs.Conf.{IsOneQueue};
 ghost use Rattle.play_words.specs.Words.{AreDistinct, refusal, seed_of};
 ghost use Rattle.play_cli.specs.Opening.{Accepts, AcceptsNone, CannotRead, KeepsOthers};
@@ -97,6 +97,9 @@ fn play_files<F: Files>(alloc: Global, files: &mut F, words: &PlayWords<'_>) -> 
         HasPlayed (F.view files.old) (F.view files.new) (names_read words.now) words.now.seed) }
     ensures why { IfErr result (Causes (F.view files.old) (F.view files.new) (names_read words.now) words.now.seed) }
     ensures front { OnErr result (Fronts (F.view files.old) (F.view files.new) (names_read words.now) words.now.seed) }
+    ensures unread { IsErrOf result RunFault.Config → (n : List ℕ) → (F.view files.new).bytes n ≡ (F.view files.old).bytes n }
+    ensures absent { IsAbsent (F.view files.old) words.now.arrivals.now → (n : List ℕ) →
+        (F.view files.new).bytes n ≡ (F.view files.old).bytes n }
     ensures accepted { IfErr result (λ fault. IsAfterConfigFault fault →
         (rate : ℕ) × Accepts (F.view files.old) words.now.config.now words.now.interface.now rate) }
     ensures nothing { IsTrue (F.view files.old).tells → AcceptsNone (F.view files.old) words.now.config.now words.now.interface.now →
@@ -165,6 +168,12 @@ pub fn run<F: Files>(alloc: Global, words: &[String], files: &mut F) -> Status
         IsPlayable (F.view files.old) (names_of words.now) seed → IsQuiet (F.view files.old) (F.view files.new) →
         (result.code ≡ 0) ⊎ (result.code ≡ 8) }
 
+    // A configuration that is not accepted is told.
+    ensures unbuilt_told { IsTrue (F.view files.old).tells → refusal words.now ≡ None →
+        AcceptsNone (F.view files.old) (names_of words.now).config (names_of words.now).interface →
+        IsSome ((F.view files.old).bytes (names_of words.now).config) → IsQuiet (F.view files.old) (F.view files.new) →
+        (result.code ≡ 9) ⊎ (result.code ≡ 8) }
+
     // So is a damage told, a limit of the arrivals, or a packet that would end too late.
     ensures damage_told { IsTrue (F.view files.old).tells → refusal words.now ≡ None → (d : Damage) →
         EndsWith (F.view files.old) (names_of words.now) (Fault d) → IsQuiet (F.view files.old) (F.view files.new) →
@@ -183,6 +192,9 @@ pub fn run<F: Files>(alloc: Global, words: &[String], files: &mut F) -> Status
     ensures nothing { IsTrue (F.view files.old).tells →
         AcceptsNone (F.view files.old) (names_of words.now).config (names_of words.now).interface →
         (n : List ℕ) → (F.view files.new).bytes n ≡ (F.view files.old).bytes n }
+    ensures unread { result.code ≡ 5 → result.kind ≡ 1 → (n : List ℕ) → (F.view files.new).bytes n ≡ (F.view files.old).bytes n }
+    ensures absent { IsAbsent (F.view files.old) (names_of words.now).arrivals → (n : List ℕ) →
+        (F.view files.new).bytes n ≡ (F.view files.old).bytes n }
     ensures others { KeepsOthers (names_of words.now).departures (names_of words.now).fates (names_of words.now).stats
         (F.view files.old) (F.view files.new) }
     ensures said { (F.view files.new).said ≡ (F.view files.old).said }

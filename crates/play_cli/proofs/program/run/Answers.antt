@@ -4,9 +4,9 @@ use Rattle.std.specs.Prelude.{IsTrue}
 use Rattle.play_text.specs.declared.status.Status.{Status}
 use Rattle.play_cli.specs.Opening.{Accepts, AcceptsNone}
 use Rattle.play_cli.specs.Run.{Names, HasPlayed, Fronts, IsDamagedAt, IsLimited, IsLate}
-use Rattle.play_cli.specs.Causes.{Causes, IsAfterConfig, names_of, names_read, status_of}
+use Rattle.play_cli.specs.Causes.{Causes, IsAfterConfig, IsAfterConfigFault, names_of, names_read, status_of}
 use Rattle.play_words.specs.Words.{seed_of}
-use Rattle.play_cli.proofs.RunLemmas.{fronts_kept, names_same, unbuilt_of, limit_of, memory_of, damaged_not, limited_not, told_damage, told_limit, late_not_played, told_late, late_for, same_seed, after_config, damaged_of}
+use Rattle.play_cli.proofs.RunLemmas.{fronts_kept, names_same, unbuilt_of, limit_of, memory_of, damaged_not, limited_not, told_damage, told_limit, late_not_played, told_late, late_for, same_seed, after_config, damaged_of, told_unbuilt}
 use Rattle.altq_model.specs.Numbers.{damage_number}
 use Rattle.play_cli.proofs.program.run.Goals as goal
 
@@ -134,3 +134,29 @@ returns-in-Err-play_files-clause-accepted_first g c = λ e.
     let S : Status → Type 0 = λ s. IsAfterConfig s.code s.kind in
     let P : Names → Type 0 = λ n. (rate : ℕ) × Accepts (g.F.Files.view c.args.files.now) n.config n.interface rate in
     subst P names (c.in-Err-play_files.ensures.accepted (after_config c.in-Err-play_files.fault (subst S c.status_of.ensures e)))
+
+pub returns-in-Ok-play_files-clause-done : goal.returns-in-Ok-play_files-clause-done
+returns-in-Ok-play_files-clause-done g c = λ code t seed is.
+    let names : names_read c.in-Ok.read ≡ names_of c.args.words.now =
+    names_same _ _ c.in-Ok.ensures.config c.in-Ok.ensures.interface c.in-Ok.ensures.arrivals c.in-Ok.ensures.departures c.in-Ok.ensures.fates c.in-Ok.ensures.stats in
+    let P : Names → Type 0 = λ n. HasPlayed (g.F.Files.view c.args.files.now) (g.F.Files.view c.play_files.new.files) n c.in-Ok.read.seed in
+    let R : ℕ → Type 0 = λ k. HasPlayed (g.F.Files.view c.args.files.now) (g.F.Files.view c.play_files.new.files) (names_of c.args.words.now) k in
+    subst R (same_seed _ _ _ c.in-Ok.ensures.seed is) (subst P names (c.in-Ok-play_files.ensures.done t))
+
+pub returns-in-Ok-play_files-clause-unbuilt_told : goal.returns-in-Ok-play_files-clause-unbuilt_told
+returns-in-Ok-play_files-clause-unbuilt_told g c = λ t r none there q.
+    let names : names_read c.in-Ok.read ≡ names_of c.args.words.now =
+    names_same _ _ c.in-Ok.ensures.config c.in-Ok.ensures.interface c.in-Ok.ensures.arrivals c.in-Ok.ensures.departures c.in-Ok.ensures.fates c.in-Ok.ensures.stats in
+    let P : Names → Type 0 = λ n. HasPlayed (g.F.Files.view c.args.files.now) (g.F.Files.view c.play_files.new.files) n c.in-Ok.read.seed in
+    let x = subst P names (c.in-Ok-play_files.ensures.done t) in
+    absurd (none t x.text x.config x.rate x.accepted)
+
+pub returns-in-Err-play_files-clause-unbuilt_told : goal.returns-in-Err-play_files-clause-unbuilt_told
+returns-in-Err-play_files-clause-unbuilt_told g c = λ t r none there q.
+    let names : names_read c.in-Ok.read ≡ names_of c.args.words.now =
+    names_same _ _ c.in-Ok.ensures.config c.in-Ok.ensures.interface c.in-Ok.ensures.arrivals c.in-Ok.ensures.departures c.in-Ok.ensures.fates c.in-Ok.ensures.stats in
+    let Q : Names → Type 0 = λ n. Causes (g.F.Files.view c.args.files.now) (g.F.Files.view c.play_files.new.files) n c.in-Ok.read.seed c.in-Err-play_files.fault in
+    let A : Names → Type 0 = λ n. IsAfterConfigFault c.in-Err-play_files.fault → (rate : ℕ) × Accepts (g.F.Files.view c.args.files.now) n.config n.interface rate in
+    let S : Status → Type 0 = λ s. (s.code ≡ 9) ⊎ (s.code ≡ 8) in
+    subst S (sym c.status_of.ensures) (told_unbuilt (g.F.Files.view c.args.files.now) (g.F.Files.view c.play_files.new.files) (names_of c.args.words.now) c.in-Ok.read.seed
+    c.in-Err-play_files.fault t none there q (subst Q names c.in-Err-play_files.ensures.why) (subst A names c.in-Err-play_files.ensures.accepted))
