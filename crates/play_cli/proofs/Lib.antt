@@ -1,2 +1,10 @@
+pub mod CheckLemmas
+pub mod ClosingLemmas
+pub mod ConfLemmas
+pub mod EndLemmas
+pub mod NameLemmas
 pub mod OneLemmas
+pub mod RateLemmas
 pub mod RunLemmas
+pub mod StepLemmas
+pub mod ToldLemmas

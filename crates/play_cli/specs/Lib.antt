@@ -1,7 +1,10 @@
 pub mod Causes
+pub mod Checked
+pub mod Configuration
+pub mod Ending
+pub mod Input
 pub mod Opening
 pub mod Run
-pub use Rattle.play_words.specs.Conf
 pub use Rattle.play_words.specs.Words
 pub use Rattle.play_loop.specs.OneQueue
 pub use Rattle.play_loop.specs.Setup

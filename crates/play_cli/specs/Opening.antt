@@ -2,9 +2,9 @@
 use Rattle.std.specs.Prelude.{◌≡◌, ◌≢◌, ◌⊎◌, ℕ, List, [], Some, IsTrue, IsSome}
 use Rattle.altq_model.specs.History.{Entry}
 use Rattle.play_base.specs.View.{View, Keeps, Rose, IsAbsent}
-use Rattle.play_words.specs.Conf.{IsOneQueue}
 use Rattle.play_loop.specs.declared.fault.Opened.{Opened}
 use Rattle.play_loop.specs.Played.{AreReady}
+use Rattle.play_cli.specs.Configuration.{IsOneQueue}
 
 -- nothing is told of what stands for a history
 abbrev pub Untold : List Entry → Type 0
@@ -14,11 +14,11 @@ Untold g = Unit {0}
 abbrev pub CannotRead : View → View → (part : ℕ) → (name : List ℕ) → Type 0
 CannotRead old new part name = Rose (old.read_faults part) (new.read_faults part) ⊎ IsAbsent old name
 
--- where the files tell: the configuration is the one line of this interface, with this rate
+-- where the files tell: the configuration says that the interface has one queue, and this rate
 abbrev pub Accepts : View → (config interface : List ℕ) → (rate : ℕ) → Type 0
 Accepts v config interface rate = IsTrue v.tells → (text : List ℕ) × (v.bytes config ≡ Some text) × IsOneQueue text interface rate
 
--- where the files tell: it is no such line
+-- where the files tell: it says no such thing
 abbrev pub AcceptsNone : View → (config interface : List ℕ) → Type 0
 AcceptsNone v config interface = IsTrue v.tells → (text : List ℕ) → v.bytes config ≡ Some text → (rate : ℕ) → IsOneQueue text interface rate → ⊥
 

@@ -10,15 +10,7 @@ use Rattle.play_base.specs.View.{View, Rose}
 use Rattle.pcap_files.specs.ReadingLaws.{IsLast}
 use Rattle.play_loop.specs.OneQueue.{one_setup}
 use Rattle.play_loop.specs.Setup.{IsPlayOf, IsFrontOf, IsCutOf, arrivals_in, departures_of, fates_of}
-use Rattle.play_words.specs.Conf.{IsOneQueue}
-
--- these are all the bytes that the file had left
-abbrev pub HadLeft : View → ℕ → List ℕ → Type 0
-HadLeft old file bytes = (all : List ℕ) → old.left file ≡ Some all → all ≡ bytes
-
--- the file had more left than a configuration may have
-abbrev pub HadMore : View → ℕ → Type 0
-HadMore old file = (all : List ℕ) → old.left file ≡ Some all → 2 ^ 20 < length all
+use Rattle.play_cli.specs.Configuration.{IsOneQueue}
 
 -- the names of the words
 pub record Names : Type 0 where
@@ -29,8 +21,8 @@ pub record Names : Type 0 where
   pub fates : List ℕ
   pub stats : List ℕ
 
--- THE HEADLINE for one queue. The configuration is the one line of the interface, with a rate; the arrivals are a capture of
--- these records; this is the history of their play, for the seed of the words. The departures and the fates hold its texts, the
+-- THE HEADLINE for one queue. The configuration gives the interface one queue and this rate; the arrivals are a capture of these
+-- records; this is the history of their play, for the seed of the words. The departures and the fates hold its texts, the
 -- statistics nothing. In its journal each arrival has one fate, each class departs in the order of arrival, no packet starts before it
 -- arrived, each end is that of its run, the link never idles while a packet waits, and every packet ends before the clock does.
 pub record HasPlayed (old new : View) (n : Names) (seed : ℕ) : Type 0 where
@@ -118,7 +110,7 @@ pub record IsPlayable (old : View) (n : Names) (seed : ℕ) : Type 0 where
 
 -- the statuses of this program
 abbrev pub IsCode : ℕ → Type 0
-IsCode c = (c ≡ 0) ⊎ (c ≡ 2) ⊎ (c ≡ 4) ⊎ (c ≡ 5) ⊎ (c ≡ 6) ⊎ (c ≡ 7) ⊎ (c ≡ 8) ⊎ (c ≡ 9)
+IsCode c = (c ≡ 0) ⊎ (c ≡ 2) ⊎ (c ≡ 3) ⊎ (c ≡ 4) ⊎ (c ≡ 5) ⊎ (c ≡ 6) ⊎ (c ≡ 7) ⊎ (c ≡ 8) ⊎ (c ≡ 9)
 
 -- the configuration is accepted, and the reading of the arrivals ends so
 pub record EndsWith (old : View) (n : Names) (last : Step) : Type 0 where

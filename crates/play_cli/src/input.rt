@@ -1,25 +1,24 @@
 // Reading the configuration.
-ghost use Rattle.std.specs.Prelude.{◌≡◌, ◌≢◌, ◌≤◌, ◌<◌, ◌^◌, ℕ, List, length, vec_len, Some, IsTrue, IsSome, IsSomeAnd, IfOk, IsErrOf};
+ghost use Rattle.std.specs.Prelude.{◌≡◌, ◌≢◌, ◌≤◌, ◌<◌, ◌^◌, ℕ, List, length, vec_len, Some, Ok, IsTrue, IsSome, IsSomeAnd, IfOk, IfErr, IsErrOf};
+ghost use Rattle.conf_lines.specs.Texts.{statements_of};
+ghost use Rattle.conf_tree.specs.Answers.{Fails};
+ghost use Rattle.conf_tree.specs.Reading.{reading};
 ghost use Rattle.play_base.specs.View.{View, ReadFault, Keeps, Any};
-ghost use Rattle.play_cli.specs.Opening.{Accepts, AcceptsNone, CannotRead};
-ghost use Rattle.play_cli.specs.Run.{HadLeft, HadMore};
+ghost use Rattle.play_cli.specs.Configuration.{absent, is_one_queue, most_bytes};
+ghost use Rattle.play_cli.specs.Input.{HadLeft, HadMore, InputCauses, IsRead, RateCauses, input_fault};
+ghost use Rattle.play_cli.specs.Opening.{Accepts, CannotRead};
 
+use crate::{ConfigFault, RunFault};
+use conf_lines::{ConfFault, ConfPlace, statements};
+use conf_tree::{Conf, Interface, Kind};
 use play_base::{Files, Trouble};
-use play_words::one_queue_rate;
 use std::alloc::Global;
 
 /// The most bytes of a configuration.
 const LIMIT: usize = 1 << 20;
 
-/// Why there is no configuration to play.
-#[derive(Clone, Copy, Debug, PartialEq, Eq)]
-pub enum ConfigFault {
-    /// It is not the one line that is played so far.
-    Unbuilt,
-    /// It could not be opened or read.
-    Read,
-    NoMemory,
-}
+/// The number of the kind NoInterface.
+const NO_INTERFACE: u8 = 9;
 
 // How the reading of a file ended.
 #[derive(Clone, Copy, Debug, PartialEq, Eq)]
@@ -33,6 +32,7 @@ pub enum InputFault {
 fn read_whole<F: Files>(alloc: Global, files: &mut F, file: u32) -> Result<Vec<u8>, InputFault>
     requires { IsSome ((F.view files.old).part file) }
     ensures whole { IfOk result (λ all. HadLeft (F.view files.old) file all.items) }
+    ensures short { IfOk result (λ all. length all.items ≤ most_bytes) }
     ensures long { IsErrOf result InputFault.TooLong → HadMore (F.view files.old) file }
     ensures failed { IsErrOf result InputFault.Read → ReadFault (F.view files.old) (F.view files.new) file }
     ensures keeps { Keeps Any (λ f. f ≢ file) (F.view files.old) (F.view files.new) }
@@ -59,8 +59,9 @@ fn read_whole<F: Files>(alloc: Global, files: &mut F, file: u32) -> Result<Vec<u
 // The bytes under a name, if there are at most 2^20.
 fn read_input<F: Files>(alloc: Global, files: &mut F, name: &str) -> Result<Vec<u8>, InputFault>
     ensures whole { IfOk result (λ all. IsTrue (F.view files.old).tells → (F.view files.old).bytes name.now ≡ Some all.items) }
+    ensures short { IfOk result (λ all. length all.items ≤ most_bytes) }
     ensures long { IsErrOf result InputFault.TooLong → IsTrue (F.view files.old).tells →
-        IsSomeAnd ((F.view files.old).bytes name.now) (λ all. 2 ^ 20 < length all) }
+        IsSomeAnd ((F.view files.old).bytes name.now) (λ all. most_bytes < length all) }
     ensures failed { IsErrOf result InputFault.Read → CannotRead (F.view files.old) (F.view files.new) 1 name.now }
     ensures keeps { Keeps Any Any (F.view files.old) (F.view files.new) }
     ensures said { (F.view files.new).said ≡ (F.view files.old).said }
@@ -72,29 +73,87 @@ fn read_input<F: Files>(alloc: Global, files: &mut F, name: &str) -> Result<Vec<
     }
 }
 
-/// The rate of the one line of configuration that is played so far.
-pub fn config_rate<F: Files>(
-    alloc: Global,
-    files: &mut F,
-    config: &str,
-    interface: &str,
-) -> Result<u64, ConfigFault>
-    ensures least { IfOk result (λ rate. 1000 ≤ rate) }
-    ensures most { IfOk result (λ rate. rate ≤ 10 ^ 12) }
-    ensures accepted { IfOk result (λ rate. Accepts (F.view files.old) config.now interface.now rate) }
-    ensures unbuilt { IsErrOf result ConfigFault.Unbuilt → AcceptsNone (F.view files.old) config.now interface.now }
-    ensures read { IsErrOf result ConfigFault.Read → CannotRead (F.view files.old) (F.view files.new) 1 config.now }
+// Why there is no configuration.
+fn input_fault(fault: InputFault) -> RunFault
+    ensures { result ≡ input_fault fault }
+{
+    match fault {
+        InputFault::TooLong => RunFault::Config(ConfigFault::TooLong),
+        InputFault::Read => RunFault::Config(ConfigFault::Read),
+        InputFault::NoMemory => RunFault::NoMemory,
+    }
+}
+
+// What a text says.
+fn conf_of(alloc: Global, text: &[u8]) -> Result<Conf, ConfFault>
+    ensures read { IfOk result (λ conf. reading (statements_of text.now) ≡ Ok conf) }
+    ensures refused { IfErr result (λ fault. Fails fault (reading (statements_of text.now))) }
+{
+    match statements(alloc, text) {
+        Ok(found) => Conf::build(alloc, found.as_slice()),
+        Err(_) => Err(ConfFault::NoMemory),
+    }
+}
+
+/// The configuration under a name.
+pub fn read_conf<F: Files>(alloc: Global, files: &mut F, config: &str) -> Result<Conf, RunFault>
+    ensures read { IfOk result (λ conf. IsRead (F.view files.old) config.now (Ok conf)) }
+    ensures why { IfErr result (λ fault. InputCauses (F.view files.old) (F.view files.new) config.now fault) }
     ensures keeps { Keeps Any Any (F.view files.old) (F.view files.new) }
     ensures said { (F.view files.new).said ≡ (F.view files.old).said }
 {
     let text = match read_input(alloc, files, config) {
         Ok(text) => text,
-        Err(InputFault::TooLong) => return Err(ConfigFault::Unbuilt),
-        Err(InputFault::Read) => return Err(ConfigFault::Read),
-        Err(InputFault::NoMemory) => return Err(ConfigFault::NoMemory),
+        Err(fault) => return Err(input_fault(fault)),
     };
-    match one_queue_rate(&text, interface) {
-        Some(rate) => Ok(rate),
-        None => Err(ConfigFault::Unbuilt),
+    match conf_of(alloc, text.as_slice()) {
+        Ok(conf) => Ok(conf),
+        Err(ConfFault::At(place)) => Err(RunFault::Config(ConfigFault::At(place))),
+        Err(ConfFault::NoMemory) => Err(RunFault::NoMemory),
     }
+}
+
+/// The fault of a configuration that lacks the interface asked for.
+pub fn absent() -> ConfPlace
+    ensures { result ≡ absent }
+{
+    ConfPlace {
+        line: 0,
+        word: 0,
+        kind: NO_INTERFACE,
+    }
+}
+
+// Whether an interface is played so far.
+fn is_one_queue(interface: &Interface) -> bool
+    ensures { result ≡ is_one_queue interface.now }
+{
+    interface.implied && interface.kind == Kind::Hfsc
+}
+
+/// The rate of an interface that is played so far: one without class statements that shares its link by HFSC.
+pub fn config_rate<F: Files>(
+    alloc: Global,
+    files: &mut F,
+    config: &str,
+    interface: &str,
+) -> Result<u64, RunFault>
+    ensures least { IfOk result (λ rate. 1000 ≤ rate) }
+    ensures most { IfOk result (λ rate. rate ≤ 10 ^ 12) }
+    ensures accepted { IfOk result (λ rate. Accepts (F.view files.old) config.now interface.now rate) }
+    ensures why { IfErr result (λ fault. RateCauses (F.view files.old) (F.view files.new) config.now interface.now fault) }
+    ensures keeps { Keeps Any Any (F.view files.old) (F.view files.new) }
+    ensures said { (F.view files.new).said ≡ (F.view files.old).said }
+{
+    let conf = match read_conf(alloc, files, config) {
+        Ok(conf) => conf,
+        Err(fault) => return Err(fault),
+    };
+    let Some(found) = conf.interface(interface) else {
+        return Err(RunFault::Config(ConfigFault::At(absent())));
+    };
+    if !is_one_queue(found) {
+        return Err(RunFault::Config(ConfigFault::Unbuilt));
+    }
+    Ok(found.rate)
 }

@@ -1,13 +1,16 @@
 //! All that the program does: the words, the configuration, the files, the play and the status.
 #![tactic(auto)]
 
+mod checking;
 mod fault;
 mod input;
 mod one;
 mod opening;
+mod playing;
 mod program;
+mod status;
 
-pub use fault::RunFault;
+pub use fault::{ConfigFault, RunFault};
 pub use play_text::Status;
 pub use program::{run, run_steady};
 

@@ -1,4 +1,3 @@
-pub mod Conf
 pub mod Kinds
+pub mod Read
 pub mod Words
-pub use Rattle.line_text.specs.Numbers

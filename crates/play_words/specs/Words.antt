@@ -1,5 +1,5 @@
--- The words behind the program's name: the command `play`, and its options in this order, each followed by its value.
-use Rattle.std.specs.Prelude.{◌≢◌, ◌==◌, ◌&&◌, ℕ, Bool, not, is_none, List, [], length, slice_get, string_bytes, codes, if◌then◌else◌, None, Some, String}
+-- The words behind the program's name: a command, `play` or `check`, and its options in their order, each followed by its value.
+use Rattle.std.specs.Prelude.{◌≡◌, ◌≢◌, ◌==◌, ◌&&◌, ℕ, Bool, not, is_none, List, [], length, slice_get, string_bytes, codes, if◌then◌else◌, None, Some, String}
 use Rattle.std.specs.Option.{option_map_or}
 use Rattle.std.specs.Str.{bytes_eq}
 use Rattle.std.specs.declared.option.Option.{Option}
@@ -16,11 +16,29 @@ word_at words i = option_map_or string_bytes (slice_get words i) []
 abbrev pub is_word : Words → ℕ → List ℕ → Bool
 is_word words i text = bytes_eq (word_at words i) text
 
--- the first word is the command
-abbrev pub is_command : Words → Bool
-is_command words = is_word words 0 (codes "play")
+-- the command that the first word names
+pub data Named : Type 0 where
+  Play : Named
+  Check : Named
+  NoCommand : Named
 
--- the options stand in their order, and nothing else
+abbrev pub named : Words → Named
+named words =
+    if is_word words 0 (codes "play") then Play
+    else if is_word words 0 (codes "check") then Check
+    else NoCommand
+
+abbrev pub IsPlay : Words → Type 0
+IsPlay words = named words ≡ Play
+
+abbrev pub IsCheck : Words → Type 0
+IsCheck words = named words ≡ Check
+
+-- check: its options stand in their order, and nothing else
+abbrev pub has_check_options : Words → Bool
+has_check_options words = (length words == 5) && (is_word words 1 (codes "--config") && is_word words 3 (codes "--interface"))
+
+-- play: its options stand in their order, and nothing else
 abbrev pub has_options : Words → Bool
 has_options words =
     (length words == 15) && (is_word words 1 (codes "--config") && (is_word words 3 (codes "--interface")
@@ -64,15 +82,25 @@ are_distinct_names config arrivals departures fates stats =
 abbrev pub are_distinct : Words → Bool
 are_distinct words = are_distinct_names (config_name words) (arrivals_name words) (departures_name words) (fates_name words) (stats_name words)
 
--- the kind of the first test that the words fail: no such command, options, a bad number, two names equal; None where they are
--- accepted
-abbrev pub refusal : Words → Option ℕ
-refusal words =
-    if not (is_command words) then Some 1
-    else if not (has_options words) then Some 2
+-- the kind of the first test that the words fail: no such command (1), options (2), a bad number (4), two names equal (3); None where
+-- they are accepted
+abbrev pub play_refusal : Words → Option ℕ
+play_refusal words =
+    if not (has_options words) then Some 2
     else if is_none (seed_of words) then Some 4
     else if not (are_distinct words) then Some 3
     else None
+
+abbrev pub check_refusal : Words → Option ℕ
+check_refusal words = if has_check_options words then None else Some 2
+
+abbrev pub refusal_by : Named → Words → Option ℕ
+refusal_by Play words = play_refusal words
+refusal_by Check words = check_refusal words
+refusal_by NoCommand words = Some 1
+
+abbrev pub refusal : Words → Option ℕ
+refusal words = refusal_by (named words) words
 
 -- the same in facts
 pub record AreDistinct (config arrivals departures fates stats : List ℕ) : Type 0 where

@@ -1,11 +1,9 @@
-//! The words of the command line, and the one line of configuration that is played so far.
+//! The words of the command line.
 #![tactic(auto)]
 
-mod conf;
 mod words;
 
-pub use conf::one_queue_rate;
-pub use words::{PlayWords, WordsFault, play_words};
+pub use words::{CheckWords, Command, PlayWords, WordsFault, read_words};
 
 #[cfg(test)]
 mod tests;

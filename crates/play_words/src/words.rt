@@ -2,7 +2,8 @@
 ghost use Rattle.std.specs.Prelude.{◌≡◌, ◌<◌, length, Some, None, IfOk, IfErr, OnOk, IsOk};
 ghost use Rattle.std.specs.Str.{bytes_eq};
 ghost use Rattle.line_text.specs.Numbers.{number};
-ghost use Rattle.play_words.specs.Words.{AreDistinct, word_at, is_word, has_options, are_distinct_names, differ_from, refusal, seed_of, config_name, interface_name, arrivals_name, departures_name, fates_name, stats_name};
+ghost use Rattle.play_words.specs.Words.{AreDistinct, IsPlay, IsCheck, word_at, is_word, has_options, has_check_options, are_distinct_names, differ_from, play_refusal, check_refusal, refusal, seed_of, config_name, interface_name, arrivals_name, departures_name, fates_name, stats_name};
+ghost use Rattle.play_words.specs.Read.{Reads, ReadsPlay, ReadsCheck};
 ghost use Rattle.play_words.specs.Kinds.{words_kind};
 
 use line_text::{Word, whole};
@@ -46,6 +47,22 @@ pub struct PlayWords<'a> {
     pub seed: u64,
 }
 
+/// The words of `check`: the name of the configuration, and the interface asked for.
+#[derive(Clone, Copy)]
+pub struct CheckWords<'a> {
+    pub config: &'a str,
+    pub interface: &'a str,
+}
+
+/// What the words ask for.
+#[derive(Clone, Copy)]
+pub enum Command<'a> {
+    /// To play a capture.
+    Play(PlayWords<'a>),
+    /// To say what a configuration means.
+    Check(CheckWords<'a>),
+}
+
 // A word that is there.
 fn word(words: &[String], i: usize) -> &str
     requires { i < length words.now }
@@ -65,7 +82,14 @@ fn is(words: &[String], i: usize, text: &str) -> bool
     }
 }
 
-// Whether the options stand in their order.
+// Whether the options of `check` stand in their order.
+fn has_check_options(words: &[String]) -> bool
+    ensures { result ≡ has_check_options words.now }
+{
+    words.len() == 5 && is(words, 1, "--config") && is(words, 3, "--interface")
+}
+
+// Whether the options of `play` stand in their order.
 fn has_options(words: &[String]) -> bool
     ensures { result ≡ has_options words.now }
 {
@@ -109,24 +133,13 @@ fn decimal(text: &str) -> Option<u64>
     whole(&Word { index: 1, parts })
 }
 
-/// Reads the words behind the program's name: `play --config C --interface I --arrivals A --departures D --fates T --stats Z
-/// --seed N`, the options in this order. The seed is one or more decimal digits, below 2^64. No two of the file names C, A,
-/// D, T and Z are equal as texts. An error is the first test that fails, in the order of `WordsFault`. Takes no memory.
-pub fn play_words(words: &[String]) -> Result<PlayWords<'_>, WordsFault>
-    ensures accepted { OnOk result (refusal words.now ≡ None) }
-    ensures refused { IfErr result (λ fault. refusal words.now ≡ Some (words_kind fault)) }
-    ensures config { IfOk result (λ w. w.config.now ≡ config_name words.now) }
-    ensures interface { IfOk result (λ w. w.interface.now ≡ interface_name words.now) }
-    ensures arrivals { IfOk result (λ w. w.arrivals.now ≡ arrivals_name words.now) }
-    ensures departures { IfOk result (λ w. w.departures.now ≡ departures_name words.now) }
-    ensures fates { IfOk result (λ w. w.fates.now ≡ fates_name words.now) }
-    ensures stats { IfOk result (λ w. w.stats.now ≡ stats_name words.now) }
-    ensures seed { IfOk result (λ w. seed_of words.now ≡ Some w.seed) }
-    ensures distinct { IfOk result (λ w. AreDistinct w.config.now w.arrivals.now w.departures.now w.fates.now w.stats.now) }
+// Reads the options of `play`.
+fn play_words(words: &[String]) -> Result<PlayWords<'_>, WordsFault>
+    requires { IsPlay words.now }
+    ensures accepted { OnOk result (play_refusal words.now ≡ None) }
+    ensures refused { IfErr result (λ fault. play_refusal words.now ≡ Some (words_kind fault)) }
+    ensures read { IfOk result (λ w. ReadsPlay words.now w) }
 {
-    if !is(words, 0, "play") {
-        return Err(WordsFault::NoCommand);
-    }
     if !has_options(words) {
         return Err(WordsFault::Options);
     }
@@ -146,4 +159,42 @@ pub fn play_words(words: &[String]) -> Result<PlayWords<'_>, WordsFault>
         return Err(WordsFault::NamesEqual);
     }
     Ok(read)
+}
+
+// Reads the options of `check`.
+fn check_words(words: &[String]) -> Result<CheckWords<'_>, WordsFault>
+    requires { IsCheck words.now }
+    ensures accepted { OnOk result (check_refusal words.now ≡ None) }
+    ensures refused { IfErr result (λ fault. check_refusal words.now ≡ Some (words_kind fault)) }
+    ensures read { IfOk result (λ w. ReadsCheck words.now w) }
+{
+    if !has_check_options(words) {
+        return Err(WordsFault::Options);
+    }
+    let (config, interface) = (word(words, 2), word(words, 4));
+    Ok(CheckWords { config, interface })
+}
+
+/// Reads the words behind the program's name: `play --config C --interface I --arrivals A --departures D --fates T --stats Z
+/// --seed N`, or `check --config C --interface I`, the options in this order. The seed is one or more decimal digits, below
+/// 2^64. No two of the file names C, A, D, T and Z are equal as texts. An error is the first test that fails, in the order of
+/// `WordsFault`. Takes no memory.
+pub fn read_words(words: &[String]) -> Result<Command<'_>, WordsFault>
+    ensures accepted { OnOk result (refusal words.now ≡ None) }
+    ensures refused { IfErr result (λ fault. refusal words.now ≡ Some (words_kind fault)) }
+    ensures read { IfOk result (λ command. Reads words.now command) }
+{
+    if is(words, 0, "play") {
+        return match play_words(words) {
+            Ok(read) => Ok(Command::Play(read)),
+            Err(fault) => Err(fault),
+        };
+    }
+    if is(words, 0, "check") {
+        return match check_words(words) {
+            Ok(read) => Ok(Command::Check(read)),
+            Err(fault) => Err(fault),
+        };
+    }
+    Err(WordsFault::NoCommand)
 }

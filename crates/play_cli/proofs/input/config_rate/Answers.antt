@@ -1,10 +1,13 @@
-use Rattle.std.proofs.Common.{◌∙◌, List, ℕ, sym, subst}
-use Rattle.play_words.specs.Conf.{IsOneQueue}
-use Rattle.play_cli.proofs.RunLemmas.{same_some}
+-- The interface is one of a configuration, whose bandwidth is in its range.
+use Rattle.std.proofs.Common.{sym}
+use Rattle.conf_lines.specs.Texts.{statements_of}
+use Rattle.play_cli.proofs.RateLemmas.{rate_is_in_range}
 use Rattle.play_cli.proofs.input.config_rate.Goals as goal
 
-pub returns-clause-unbuilt : goal.returns-clause-unbuilt
-returns-clause-unbuilt g c = λ e t text at rate h.
-    let same = same_some _ _ (sym at ∙ c.in-Ok.ensures.whole t) ∙ sym c.deref.ensures.value in
-    let P : List ℕ → Type 0 = λ xs. IsOneQueue xs c.args.interface.now rate in
-    c.in-None.ensures.none rate (subst P same h)
+pub returns-clause-least : goal.returns-clause-least
+returns-clause-least g c =
+    (rate_is_in_range (statements_of c.in-Ok.ensures.read.text) c.in-Ok.conf c.args.interface.now c.in-Some.found.now c.in-Ok.ensures.read.reads (sym c.in-Some.ensures)).0
+
+pub returns-clause-most : goal.returns-clause-most
+returns-clause-most g c =
+    (rate_is_in_range (statements_of c.in-Ok.ensures.read.text) c.in-Ok.conf c.args.interface.now c.in-Some.found.now c.in-Ok.ensures.read.reads (sym c.in-Some.ensures)).1

@@ -5,17 +5,17 @@ use Rattle.play_loop.specs.declared.fault.Opened.{Opened}
 use Rattle.play_cli.specs.Causes.{Causes, names_read}
 use Rattle.play_cli.specs.Opening.{Untold}
 use Rattle.play_cli.specs.declared.fault.RunFault.{RunFault}
-use Rattle.play_cli.specs.declared.input.ConfigFault.{ConfigFault}
 use Rattle.play_cli.specs.declared.opening.OpenFault.{OpenFault}
-use Rattle.play_cli.proofs.RunLemmas.{Steps, causes_config, causes_open, causes_of, done_of, fronts_of, fronts_kept, fronts_emptied, accepted_not}
-use Rattle.play_cli.proofs.program.play_files.Goals as goal
+use Rattle.play_cli.proofs.StepLemmas.{Steps, causes_rate, rate_not_after, causes_open, causes_of, done_of, fronts_of, fronts_kept, fronts_emptied, accepted_not}
+use Rattle.play_cli.proofs.playing.play_files.Goals as goal
 
 pub returns-in-Err-clause-why : goal.returns-in-Err-clause-why
 returns-in-Err-clause-why g c =
-    let P : RunFault → Type 0 = λ f. Causes (g.F.Files.view c.args.files.now) (g.F.Files.view c.config_rate.new.files) (names_read c.args.words.now) c.args.words.now.seed f in
-    subst P (sym c.config_fault.ensures) (causes_config (g.F.Files.view c.args.files.now) (g.F.Files.view c.config_rate.new.files) (names_read c.args.words.now) c.args.words.now.seed
-    c.in-Err.fault (λ e. c.in-Err.ensures.unbuilt (ap {B = Result ℕ ConfigFault} (λ (f : ConfigFault). Err f) e))
-    (λ e. c.in-Err.ensures.read (ap {B = Result ℕ ConfigFault} (λ (f : ConfigFault). Err f) e)))
+    causes_rate (g.F.Files.view c.args.files.now) (g.F.Files.view c.config_rate.new.files) (names_read c.args.words.now) c.args.words.now.seed c.in-Err.fault c.in-Err.ensures.why
+
+pub returns-in-Err-clause-accepted : goal.returns-in-Err-clause-accepted
+returns-in-Err-clause-accepted g c = λ after. rate_not_after (g.F.Files.view c.args.files.now) (g.F.Files.view c.config_rate.new.files)
+    c.args.words.now.config.now c.args.words.now.interface.now c.in-Err.fault c.in-Err.ensures.why after
 
 pub returns-in-Err-clause-front : goal.returns-in-Err-clause-front
 returns-in-Err-clause-front g c = fronts_kept _ _ (names_read c.args.words.now) c.args.words.now.seed (λ name. c.in-Err.ensures.keeps.bytes name tt)

@@ -1,0 +1,148 @@
+-- What the text of a configuration says is one thing.
+use Rattle.std.proofs.Common.{◌≡◌, ◌≤◌, ◌∙◌, ℕ, Bool, true, false, length, List, None, Some, Result, Ok, Err, ap, sym, refl, subst, inl, inr, arith}
+use Rattle.std.specs.Prelude.{IsSome, IsTrue, nat_lt, if◌then◌else◌}
+use Rattle.std.specs.declared.option.Option.{Option}
+use Rattle.conf_lines.specs.declared.fault.ConfPlace.{ConfPlace}
+use Rattle.conf_lines.specs.Texts.{statements_of}
+use Rattle.conf_tree.specs.declared.interface.Interface.{Interface}
+use Rattle.conf_tree.specs.Reading.{reading}
+use Rattle.play_base.specs.View.{View}
+use Rattle.play_cli.specs.Causes.{ConfigCauses, config_status}
+use Rattle.play_cli.specs.Configuration.{Configuration, TooLong, Refused, Said, Says, IsOneQueue, IsUnbuilt, most_bytes, configuration, said_by, is_one_queue}
+use Rattle.play_cli.specs.Ending.{TellsPlace, Tells}
+use Rattle.play_cli.specs.Run.{IsQuiet}
+use Rattle.play_cli.specs.declared.fault.ConfigFault.{ConfigFault}
+use Rattle.play_cli.specs.declared.fault.ConfigFault.TheVariants as conf
+
+pub same_some : (xs ys : List ℕ) → Some xs ≡ Some ys → xs ≡ ys
+same_some xs ys h = cc
+
+pub some_bytes : (o : Option (List ℕ)) → IsSome o → (xs : List ℕ) × (o ≡ Some xs)
+some_bytes None h = cc
+some_bytes (Some xs) h = (xs, refl)
+
+pub no_bytes : (xs : List ℕ) → None ≡ Some xs → ⊥
+no_bytes xs h = cc
+
+pub same_number : (o : Option ℕ) (a b : ℕ) → o ≡ Some a → o ≡ Some b → a ≡ b
+same_number o a b h k = let e : Some a ≡ Some b = sym h ∙ k in cc
+
+-- by the length of the text
+pick_second : (b : Bool) (x y : Configuration) → b ≡ false → (if b then x else y) ≡ y
+pick_second true x y e = cc
+pick_second false x y e = refl
+
+pick_first : (b : Bool) (x y : Configuration) → b ≡ true → (if b then x else y) ≡ x
+pick_first true x y e = refl
+pick_first false x y e = cc
+
+pub short_says : (name text : List ℕ) (read : Result (List Interface) ConfPlace) → length text ≤ most_bytes → reading (statements_of text) ≡ read
+    → configuration name text ≡ said_by name read
+short_says name text read l e =
+    pick_second (nat_lt most_bytes (length text)) TooLong (said_by name (reading (statements_of text))) (grind (arith, l)) ∙ ap (said_by name) e
+
+pub long_says : (name text : List ℕ) → nat_lt most_bytes (length text) ≡ true → configuration name text ≡ TooLong
+long_says name text l = pick_first (nat_lt most_bytes (length text)) TooLong (said_by name (reading (statements_of text))) l
+
+-- bytes under one name say one thing
+pub one_says : (u : View) (config interface : List ℕ) (x y : Configuration) → Says u config interface x → Says u config interface y → x ≡ y
+one_says u config interface x y a b =
+    sym a.says ∙ ap (λ (text : List ℕ). configuration interface text) (same_some a.text b.text (sym a.at ∙ b.at)) ∙ b.says
+
+refused_said : (p : ConfPlace) (is : List Interface) (i : Interface) → Refused p ≡ Said is i → ⊥
+refused_said p is i h = cc
+
+long_said : (is : List Interface) (i : Interface) → TooLong ≡ Said is i → ⊥
+long_said is i h = cc
+
+refused_long : (p : ConfPlace) → Refused p ≡ TooLong → ⊥
+refused_long p h = cc
+
+same_place : (p q : ConfPlace) → Refused p ≡ Refused q → p ≡ q
+same_place p q h = cc
+
+same_interface : (xs ys : List Interface) (x y : Interface) → Said xs x ≡ Said ys y → x ≡ y
+same_interface xs ys x y h = cc
+
+true_false : (b : Bool) → b ≡ true → b ≡ false → ⊥
+true_false b h k = cc
+
+-- where the interface has one queue, the text says so
+pub says_one : (u : View) (config interface text : List ℕ) (rate : ℕ) → u.bytes config ≡ Some text → (x : IsOneQueue text interface rate)
+    → Says u config interface (Said x.interfaces x.interface)
+says_one u config interface text rate at x = record { text = text; at = at; says = x.says }
+
+-- a text gives an interface one rate
+pub one_rate : (text name : List ℕ) (a b : ℕ) → IsOneQueue text name a → IsOneQueue text name b → a ≡ b
+one_rate text name a b x y =
+    x.carries ∙ ap (λ (i : Interface). i.rate) (same_interface x.interfaces y.interfaces x.interface y.interface (sym x.says ∙ y.says)) ∙ sym y.carries
+
+-- and then it has no fault, is not too long, and says of the interface nothing else
+pub refused_not : (u : View) (config interface text : List ℕ) (rate : ℕ) (p : ConfPlace) → u.bytes config ≡ Some text → IsOneQueue text interface rate
+    → Says u config interface (Refused p) → ⊥
+refused_not u config interface text rate p at x y =
+    refused_said p x.interfaces x.interface (one_says u config interface (Refused p) (Said x.interfaces x.interface) y (says_one u config interface text rate at x))
+
+pub long_not : (u : View) (config interface text : List ℕ) (rate : ℕ) → u.bytes config ≡ Some text → IsOneQueue text interface rate
+    → Says u config interface TooLong → ⊥
+long_not u config interface text rate at x y =
+    long_said x.interfaces x.interface (one_says u config interface TooLong (Said x.interfaces x.interface) y (says_one u config interface text rate at x))
+
+pub unbuilt_not : (u : View) (config interface text : List ℕ) (rate : ℕ) → u.bytes config ≡ Some text → IsOneQueue text interface rate
+    → IsUnbuilt u config interface → ⊥
+unbuilt_not u config interface text rate at x y =
+    let same = same_interface x.interfaces y.interfaces x.interface y.found
+    (one_says u config interface (Said x.interfaces x.interface) (Said y.interfaces y.found) (says_one u config interface text rate at x) y.says) in
+    true_false (is_one_queue y.found) (ap is_one_queue (sym same) ∙ x.one) y.other
+
+-- a fault of the configuration is not one of an accepted one
+pub config_not : (u v : View) (config interface text : List ℕ) (rate : ℕ) (f : ConfigFault) → IsTrue u.tells → IsQuiet u v → u.bytes config ≡ Some text
+    → IsOneQueue text interface rate → ConfigCauses u v config interface f → ⊥
+config_not u v config interface text rate (conf.At place) t q at x c = refused_not u config interface text rate place at x (c t)
+config_not u v config interface text rate conf.TooLong t q at x c = long_not u config interface text rate at x (c t)
+config_not u v config interface text rate conf.Unbuilt t q at x c = unbuilt_not u config interface text rate at x (c t)
+config_not u v config interface text rate conf.Read t q at x (inl c) = (q 1).0 c
+config_not u v config interface text rate conf.Read t q at x (inr c) = no_bytes text (sym c.1 ∙ at)
+
+-- it is told
+pub unread_not : (u v : View) (config interface : List ℕ) (x : Configuration) → IsQuiet u v → Says u config interface x → ConfigCauses u v config interface conf.Read → ⊥
+unread_not u v config interface x q y (inl c) = (q 1).0 c
+unread_not u v config interface x q y (inr c) = no_bytes y.text (sym c.1 ∙ y.at)
+
+tells_place : (p q : ConfPlace) → p ≡ q → TellsPlace (config_status (conf.At p)) q
+tells_place p q e = record {
+  code = refl;
+  line = ap (λ (c : ConfPlace). c.line) e;
+  word = ap (λ (c : ConfPlace). c.word) e;
+  kind = ap (λ (c : ConfPlace). c.kind) e;
+}
+
+pub told_place : (u v : View) (config interface : List ℕ) (place : ConfPlace) (f : ConfigFault) → IsTrue u.tells → IsQuiet u v
+    → Says u config interface (Refused place) → ConfigCauses u v config interface f → TellsPlace (config_status f) place
+told_place u v config interface place (conf.At p) t q y c =
+    tells_place p place (same_place p place (one_says u config interface (Refused p) (Refused place) (c t) y))
+told_place u v config interface place conf.TooLong t q y c =
+    absurd (refused_long place (one_says u config interface (Refused place) TooLong y (c t)))
+told_place u v config interface place conf.Unbuilt t q y c =
+    let x = c t in
+    absurd (refused_said place x.interfaces x.found (one_says u config interface (Refused place) (Said x.interfaces x.found) y x.says))
+told_place u v config interface place conf.Read t q y c = absurd (unread_not u v config interface (Refused place) q y c)
+
+pub told_long : (u v : View) (config interface : List ℕ) (f : ConfigFault) → IsTrue u.tells → IsQuiet u v
+    → Says u config interface TooLong → ConfigCauses u v config interface f → Tells (config_status f) 7 3
+told_long u v config interface (conf.At p) t q y c =
+    absurd (refused_long p (one_says u config interface (Refused p) TooLong (c t) y))
+told_long u v config interface conf.TooLong t q y c = record { code = refl; kind = refl }
+told_long u v config interface conf.Unbuilt t q y c =
+    let x = c t in
+    absurd (long_said x.interfaces x.found (one_says u config interface TooLong (Said x.interfaces x.found) y x.says))
+told_long u v config interface conf.Read t q y c = absurd (unread_not u v config interface TooLong q y c)
+
+pub told_unbuilt : (u v : View) (config interface : List ℕ) (f : ConfigFault) → IsTrue u.tells → IsQuiet u v
+    → IsUnbuilt u config interface → ConfigCauses u v config interface f → Tells (config_status f) 9 3
+told_unbuilt u v config interface (conf.At p) t q y c =
+    absurd (refused_said p y.interfaces y.found (one_says u config interface (Refused p) (Said y.interfaces y.found) (c t) y.says))
+told_unbuilt u v config interface conf.TooLong t q y c =
+    absurd (long_said y.interfaces y.found (one_says u config interface TooLong (Said y.interfaces y.found) (c t) y.says))
+told_unbuilt u v config interface conf.Unbuilt t q y c = record { code = refl; kind = refl }
+told_unbuilt u v config interface conf.Read t q y c = absurd (unread_not u v config interface (Said y.interfaces y.found) q y.says c)

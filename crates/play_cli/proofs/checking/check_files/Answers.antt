@@ -1,0 +1,14 @@
+-- The configuration has the interface, and its text was said.
+use Rattle.std.proofs.Common.{◌≡◌, ◌++◌, ◌∙◌, ℕ, List, ap, sym, subst}
+use Rattle.conf_tree.specs.Canonical.{canonical_text}
+use Rattle.play_cli.proofs.CheckLemmas.{read_found}
+use Rattle.play_cli.proofs.checking.check_files.Goals as goal
+
+pub returns-in-Ok-say-clause-done : goal.returns-in-Ok-say-clause-done
+returns-in-Ok-say-clause-done g c = λ t. record {
+  interfaces = c.in-Ok.conf;
+  found = c.in-Some._found.now;
+  configuration = read_found (g.F.Files.view c.args.files.now) c.args.words.now.config.now c.args.words.now.interface.now c.in-Ok.conf c.in-Some._found.now
+      c.in-Ok.ensures.read (sym c.in-Some.ensures) t;
+  said = ?;
+}

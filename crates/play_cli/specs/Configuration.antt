@@ -1,0 +1,61 @@
+-- What the text of a configuration says to one who asks for an interface, after altq.conf(5).
+use Rattle.std.specs.Prelude.{◌≡◌, ◌≤◌, ◌<◌, ◌^◌, ◌&&◌, ℕ, Bool, true, false, List, length, find, nat_lt, bytes_eq, if◌then◌else◌, Option, Some, None, Result, Ok, Err, IsTrue}
+use Rattle.conf_lines.specs.declared.fault.ConfPlace.{ConfPlace}
+use Rattle.conf_lines.specs.Texts.{statements_of}
+use Rattle.conf_tree.specs.declared.interface.Interface.{Interface}
+use Rattle.conf_tree.specs.Classes.{is_hfsc}
+use Rattle.conf_tree.specs.Kinds.{fault_at, no_interface}
+use Rattle.conf_tree.specs.Reading.{reading}
+use Rattle.play_base.specs.View.{View}
+
+-- the text is longer than 2^20 bytes; it has this fault first; or it says this, and this is the interface asked for
+pub data Configuration : Type 0 where
+  TooLong : Configuration
+  Refused : ConfPlace → Configuration
+  Said : List Interface → Interface → Configuration
+
+-- an interface that is absent is NoInterface at line 0, word 0
+abbrev pub absent : ConfPlace
+absent = fault_at 0 0 no_interface
+
+abbrev pub interface_of : List ℕ → List Interface → Option Interface
+interface_of name interfaces = find (λ i. bytes_eq name i.name) interfaces
+
+abbrev pub asked_of : List Interface → Option Interface → Configuration
+asked_of interfaces None = Refused absent
+asked_of interfaces (Some i) = Said interfaces i
+
+abbrev pub said_by : List ℕ → Result (List Interface) ConfPlace → Configuration
+said_by name (Err place) = Refused place
+said_by name (Ok interfaces) = asked_of interfaces (interface_of name interfaces)
+
+abbrev pub most_bytes : ℕ
+most_bytes = 2 ^ 20
+
+abbrev pub configuration : (name text : List ℕ) → Configuration
+configuration name text = if nat_lt most_bytes (length text) then TooLong else said_by name (reading (statements_of text))
+
+-- these are the bytes under the name of the configuration, and what they say to one who asks for the interface
+pub record Says (v : View) (config interface : List ℕ) (said : Configuration) : Type 0 where
+  pub text : List ℕ
+  pub at : v.bytes config ≡ Some text
+  pub says : configuration interface text ≡ said
+
+-- an interface that is played so far: it has no class statement and shares its link by HFSC, so that it has one queue
+abbrev pub is_one_queue : Interface → Bool
+is_one_queue i = i.implied && is_hfsc i.kind
+
+-- the text says that the interface is such a one, with this rate in bits per second
+pub record IsOneQueue (text name : List ℕ) (rate : ℕ) : Type 0 where
+  pub interfaces : List Interface
+  pub interface : Interface
+  pub says : configuration name text ≡ Said interfaces interface
+  pub one : is_one_queue interface ≡ true
+  pub carries : rate ≡ interface.rate
+
+-- the text says that the interface is another
+pub record IsUnbuilt (v : View) (config interface : List ℕ) : Type 0 where
+  pub interfaces : List Interface
+  pub found : Interface
+  pub says : Says v config interface (Said interfaces found)
+  pub other : is_one_queue found ≡ false
