@@ -1,1 +1,5 @@
+pub mod FitFilters
+pub mod FitMasks
+pub mod FitSettings
+pub mod Kept
 pub mod Lines

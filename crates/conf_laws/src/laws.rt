@@ -1,7 +1,7 @@
 //! Laws of configurations and of their canonical text.
-ghost use Rattle.conf_laws.specs.Laws.{StatementsAreRead};
+ghost use Rattle.conf_laws.specs.Laws.{ConfigurationsFit};
 
-/// The statements of the canonical text are read as the configuration.
-pub fn statements_are_read()
-    ensures { StatementsAreRead }
+/// The interfaces of a text keep to the ranges, the limits and the tree.
+pub fn configurations_fit()
+    ensures { ConfigurationsFit }
 {}

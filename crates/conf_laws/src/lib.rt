@@ -3,4 +3,4 @@
 
 mod laws;
 
-pub use laws::statements_are_read;
+pub use laws::configurations_fit;
