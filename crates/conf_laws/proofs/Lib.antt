@@ -1,5 +1,9 @@
+pub mod FitBegun
+pub mod FitBranches
+pub mod FitClasses
 pub mod FitFilters
 pub mod FitMasks
 pub mod FitSettings
 pub mod Kept
 pub mod Lines
+pub mod Places
