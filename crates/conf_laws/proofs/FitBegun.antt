@@ -1,17 +1,17 @@
 -- An interface as far as its statements are read keeps to its ranges, its limits and its tree: with a class more, and with a
 -- filter more.
-use Rattle.std.proofs.Common.{◌≡◌, ◌≢◌, ◌⊎◌, ⊎_elim, ℕ, ◌+◌, ◌<◌, ◌≤◌, ◌∙◌, Bool, true, false, ◌||◌, List, [], ◌∷◌, ◌++◌, map, length, Option, Some, None, is_none, slice_get, slice_set, bytes_eq, codes, refl, sym, ap, subst, arith, length-append, true≢false}
+use Rattle.std.proofs.Common.{◌≡◌, ◌≢◌, ℕ, ◌+◌, ◌<◌, ◌≤◌, ◌∙◌, Bool, true, false, ◌||◌, List, [], ◌∷◌, ◌++◌, map, length, Option, Some, None, is_none, slice_get, slice_set, bytes_eq, codes, refl, sym, ap, subst, arith, length-append, true≢false}
 use Rattle.std.proofs.lemmas.Bool.{or_parts, both_ways}
 use Rattle.std.proofs.lemmas.Option.{slice_get_within}
 use Rattle.std.proofs.lemmas.Slice.Eq.{bytes_eq-Decides}
 use Rattle.conf_tree.specs.declared.class.Class.{Class}
 use Rattle.conf_tree.specs.declared.filter.Filter.{Filter}
 use Rattle.conf_tree.specs.declared.interface.Kind.{Kind}
-use Rattle.conf_tree.specs.declared.interface.Kind.TheVariants.{Hfsc, Cbq}
+use Rattle.conf_tree.specs.declared.interface.Kind.TheVariants.{Hfsc}
 use Rattle.conf_tree.specs.Settings.{most_rate}
 use Rattle.conf_tree.specs.Tree.{Begun, class_number, as_parent, as_filtered, changed_to, changed, with_parent, add_class, add_filter}
-use Rattle.conf_laws.specs.Fit.{IsName, IsWithin, IsOnLevel, root, below, HasParent, IsOfKind, IsClass, HasDefault}
-use Rattle.conf_laws.proofs.FitBranches.{class_in, IsBranch, IsHeld, class_at, same_length, parent_held, IsMore, more_held, filter_held}
+use Rattle.conf_laws.specs.Fit.{IsName, IsWithin, IsOnLevel, root, below, HasParent, IsOfKind, HasDefault}
+use Rattle.conf_laws.proofs.FitBranches.{class_in, IsHeld, class_at, same_length, parent_held, IsMore, more_held, filter_held}
 use Rattle.conf_laws.proofs.FitClasses.{kept_name, level_on, without_real, less_back, less_default, less_unchosen, more_grows, more_default, first_default, more_unchosen}
 use Rattle.conf_laws.proofs.FitFilters.{HasParts}
 use Rattle.conf_laws.proofs.Kept.{Branch}
@@ -125,7 +125,7 @@ root_added b c h n top free level = record {
   chosen = chosen_more b.chosen c.class.first h.are c.class refl n.first h.chosen;
   length = added_length b.classes c;
   rooted = λ e. let no : is_none c.class.parent ≡ false = (or_parts b.rooted (is_none c.class.parent) e).1 in
-    let yes : is_none c.class.parent ≡ true = ap is_none top in absurd (both_ways (is_none c.class.parent) no yes);
+      let yes : is_none c.class.parent ≡ true = ap is_none top in absurd (both_ways (is_none c.class.parent) no yes);
 }
 
 -- below a class
@@ -136,9 +136,12 @@ parent_is b c h p s =
     let at = class_at b.classes h.are h.held.are p s.parent s.at in
     let xs = without_real h.are p q in
     let before : p < length h.are = slice_get_within h.are p q at in
-    let inside : p < length xs = omega (arith, set_length h.are p (record q { real = None })) in
-    (inside, record q { real = None }, push_on xs (c.class ∷ []) p (record q { real = None }) (set_at h.are p q (record q { real = None }) at),
-    record { named = s.named; real = refl; inner = s.plain })
+    let inside : p < length xs = omega (arith, set_length h.are p (record q { real = None })) in (
+      inside,
+      record q { real = None },
+      push_on xs (c.class ∷ []) p (record q { real = None }) (set_at h.are p q (record q { real = None }) at),
+      record { named = s.named; real = refl; inner = s.plain },
+    )
 
 below_is : (b : Begun) (c : Branch) (h : IsBegun b) → IsNew b c → (p : ℕ) → c.class.parent ≡ Some p → (s : IsBelow b.kind b.classes c.level p)
     → IsMore b.kind (slice_set b.classes p (as_parent s.parent)) (without_real h.are p s.parent.class) b.filters c
@@ -149,7 +152,7 @@ below_is b c h n p up s =
     let parents = parent_held b.kind b.classes h.are b.filters p s.parent s.at h.held in
     let above = (parents.branch p (as_parent s.parent) (set_at b.classes p s.parent (as_parent s.parent) s.at)).on in
     let on_next : IsOnLevel zs (length xs) (s.parent.level + 1) =
-      below (length xs) p s.parent.level c.class (push_at xs c.class) up (level_on xs zs (more_grows xs c.class) p s.parent.level above) in
+    below (length xs) p s.parent.level c.class (push_at xs c.class) up (level_on xs zs (more_grows xs c.class) p s.parent.level above) in
     let on : IsOnLevel zs (length xs) c.level = let P : ℕ → Type 0 = λ l. IsOnLevel zs (length xs) l in subst P (sym s.next) on_next in
     record {
       class = record {
@@ -164,16 +167,16 @@ below_is b c h n p up s =
       on = on;
       eight = omega (arith, s.next, s.deep);
       new = λ k d there. let t = less_back h.are p s.parent.class at k d there in
-        λ same_name. new_name b c h n k t.0 t.1 (same_name ∙ kept_name t.0 d t.2);
+          λ same_name. new_name b c h n k t.0 t.1 (same_name ∙ kept_name t.0 d t.2);
       childless = λ k f there hfsc child.
-        let e : Some p ≡ Some f.class = sym up ∙ child in
-        let one : p ≡ f.class = cc in
-        both_ways s.parent.filtered (s.free hfsc) ((h.held.branch p s.parent s.at).filtered k f there (sym one));
+          let e : Some p ≡ Some f.class = sym up ∙ child in
+          let one : p ≡ f.class = cc in
+          both_ways s.parent.filtered (s.free hfsc) ((h.held.branch p s.parent s.at).filtered k f there (sym one));
       parent = λ i child.
-        let e : Some p ≡ Some i = sym up ∙ child in
-        let one : p ≡ i = cc in
-        let P : ℕ → Type 0 = λ j. (q : Branch) × (slice_get (slice_set b.classes p (as_parent s.parent)) j ≡ Some q) × (q.inner ≡ true) in
-        subst P one (as_parent s.parent, set_at b.classes p s.parent (as_parent s.parent) s.at, refl);
+          let e : Some p ≡ Some i = sym up ∙ child in
+          let one : p ≡ i = cc in
+          let P : ℕ → Type 0 = λ j. (q : Branch) × (slice_get (slice_set b.classes p (as_parent s.parent)) j ≡ Some q) × (q.inner ≡ true) in
+          subst P one (as_parent s.parent, set_at b.classes p s.parent (as_parent s.parent) s.at, refl);
     }
 
 below_added : (b : Begun) (c : Branch) → IsBegun b → IsNew b c → (p : ℕ) → c.class.parent ≡ Some p → (s : IsBelow b.kind b.classes c.level p)
@@ -188,8 +191,8 @@ below_added b c h n p up s =
       chosen = chosen_more b.chosen c.class.first xs c.class refl n.first (chosen_less b.chosen h.are p s.parent.class at h.chosen);
       length = added_length ys c ∙ ap (λ k. k + 1) (set_length b.classes p (as_parent s.parent));
       rooted = λ e.
-        let none : b.classes ≡ [] = h.rooted (or_parts b.rooted (is_none c.class.parent) e).0 in
-        let there : None ≡ Some s.parent = ap (λ xs. slice_get xs p) (sym none) ∙ s.at in cc;
+          let none : b.classes ≡ [] = h.rooted (or_parts b.rooted (is_none c.class.parent) e).0 in
+          let there : None ≡ Some s.parent = ap (λ xs. slice_get xs p) (sym none) ∙ s.at in cc;
     }
 
 -- in each place
@@ -230,9 +233,9 @@ filter_added b f q h at outer parts few =
       few = omega (arith, length-append b.filters (f ∷ []));
       are = h.are;
       held = let P : List Branch → Type 0 = λ xs. IsHeld b.kind xs h.are (b.filters ++ f ∷ []) in
-        subst P (sym e) (filter_held b.kind b.classes h.are b.filters f q at outer parts h.held);
+          subst P (sym e) (filter_held b.kind b.classes h.are b.filters f q at outer parts h.held);
       rooted = λ r.
-        let none : b.classes ≡ [] = h.rooted r in
-        let there : None ≡ Some q = ap (λ xs. slice_get xs f.class) (sym none) ∙ at in cc;
+          let none : b.classes ≡ [] = h.rooted r in
+          let there : None ≡ Some q = ap (λ xs. slice_get xs f.class) (sym none) ∙ at in cc;
       chosen = h.chosen;
     }

@@ -1,18 +1,18 @@
 -- Classes with what later statements ask of them: where a class becomes a parent, where one more stands behind them, and where a
 -- filter names one.
-use Rattle.std.proofs.Common.{◌≡◌, ◌≢◌, ◌⊎◌, ⊎_elim, ℕ, ◌+◌, ◌<◌, ◌≤◌, ◌∙◌, Bool, true, false, ◌||◌, List, [], ◌∷◌, ◌++◌, map, length, Option, Some, None, slice_get, slice_set, refl, sym, ap, subst, arith, length-append}
+use Rattle.std.proofs.Common.{◌≡◌, ◌≢◌, ⊎_elim, ℕ, ◌<◌, ◌≤◌, ◌∙◌, true, false, List, [], ◌∷◌, ◌++◌, map, length, Option, Some, None, slice_get, slice_set, refl, sym, ap, subst, arith, length-append}
 use Rattle.std.proofs.lemmas.List.{map-append, map-set, length-map}
 use Rattle.std.proofs.lemmas.Option.{slice_get_within}
 use Rattle.conf_tree.specs.declared.class.Class.{Class}
 use Rattle.conf_tree.specs.declared.filter.Filter.{Filter}
 use Rattle.conf_tree.specs.declared.interface.Kind.{Kind}
-use Rattle.conf_tree.specs.declared.interface.Kind.TheVariants.{Hfsc, Cbq}
+use Rattle.conf_tree.specs.declared.interface.Kind.TheVariants.{Hfsc}
 use Rattle.conf_tree.specs.Tree.{as_parent, as_filtered}
 use Rattle.conf_laws.specs.Fit.{IsOnLevel, HasParent, IsClass, IsFilter}
-use Rattle.conf_laws.proofs.FitClasses.{IsKept, kept_parent, Grows, level_on, AreClasses, without_real, less_grows, less_back, less_fit, more_grows, more_fit}
+use Rattle.conf_laws.proofs.FitClasses.{kept_parent, level_on, AreClasses, without_real, less_grows, less_back, less_fit, more_grows, more_fit}
 use Rattle.conf_laws.proofs.FitFilters.{HasParts}
 use Rattle.conf_laws.proofs.Kept.{Branch}
-use Rattle.conf_laws.proofs.Places.{push_back, set_at, set_back, set_same, map_on}
+use Rattle.conf_laws.proofs.Places.{push_back, set_back, set_same, map_on}
 
 abbrev pub class_in : Branch → Class
 class_in c = c.class
@@ -66,11 +66,11 @@ parent_held kind bs cs fs p q at h = record {
   are = map-set class_in bs p (as_parent q) ∙ ap (λ xs. slice_set xs p (record q.class { real = None })) h.are;
   tree = less_fit kind cs fs p q.class (class_at bs cs h.are p q at) h.tree;
   branch = λ k c here.
-    ⊎_elim (λ e.
-    let P : Branch → Type 0 = λ x. IsBranch (without_real cs p q.class) fs k x in
-    let R : ℕ → Type 0 = λ i. IsBranch (without_real cs p q.class) fs i (as_parent q) in
-    subst P e.1 (subst R (sym e.0) (parent_branch kind bs cs fs p q at h)))
-    (λ e. other_branch kind bs cs fs p q at h k c e.1) (set_back bs p (as_parent q) k c here);
+      ⊎_elim (λ e.
+      let P : Branch → Type 0 = λ x. IsBranch (without_real cs p q.class) fs k x in
+      let R : ℕ → Type 0 = λ i. IsBranch (without_real cs p q.class) fs i (as_parent q) in
+      subst P e.1 (subst R (sym e.0) (parent_branch kind bs cs fs p q at h)))
+      (λ e. other_branch kind bs cs fs p q at h k c e.1) (set_back bs p (as_parent q) k c here);
 }
 
 -- one more
@@ -98,10 +98,10 @@ older_branch kind bs cs fs c h m k d here =
       on = level_on cs (cs ++ c.class ∷ []) (more_grows cs c.class) k d.level old.on;
       eight = old.eight;
       inner = λ j x there child.
-        ⊎_elim (λ e. old.inner j x e child) (λ e.
-        let t = m.parent k (ap (λ y. y.parent) e.1 ∙ child) in
-        let one : t.0 ≡ d = let s : Some t.0 ≡ Some d = sym t.1 ∙ here in cc in
-        ap (λ (y : Branch). y.inner) (sym one) ∙ t.2) (push_back cs c.class j x there);
+          ⊎_elim (λ e. old.inner j x e child) (λ e.
+          let t = m.parent k (ap (λ y. y.parent) e.1 ∙ child) in
+          let one : t.0 ≡ d = let s : Some t.0 ≡ Some d = sym t.1 ∙ here in cc in
+          ap (λ (y : Branch). y.inner) (sym one) ∙ t.2) (push_back cs c.class j x there);
       filtered = old.filtered;
     }
 
@@ -113,9 +113,9 @@ newest_branch kind bs cs fs c h m =
       on = m.on;
       eight = m.eight;
       inner = λ j x there child.
-        let up : length cs < j = parent_before kind (cs ++ c.class ∷ []) j (length cs) x.parent child (tree.class j x there).parent in
-        let within = slice_get_within (cs ++ c.class ∷ []) j x there in
-        absurd (omega (arith, length-append cs (c.class ∷ [])));
+          let up : length cs < j = parent_before kind (cs ++ c.class ∷ []) j (length cs) x.parent child (tree.class j x there).parent in
+          let within = slice_get_within (cs ++ c.class ∷ []) j x there in
+          absurd (omega (arith, length-append cs (c.class ∷ [])));
       filtered = λ j f there is. let own = (h.tree.filter j f there).class in absurd (omega arith);
     }
 
@@ -125,10 +125,10 @@ more_held kind bs cs fs c h m = record {
   are = map-append class_in bs (c ∷ []) ∙ ap (λ xs. xs ++ c.class ∷ []) h.are;
   tree = more_tree kind bs cs fs c h m;
   branch = λ k d here.
-    ⊎_elim (λ e. older_branch kind bs cs fs c h m k d e) (λ e.
-    let P : Branch → Type 0 = λ x. IsBranch (cs ++ c.class ∷ []) fs k x in
-    let R : ℕ → Type 0 = λ i. IsBranch (cs ++ c.class ∷ []) fs i c in
-    subst P e.1 (subst R (sym (e.0 ∙ same_length bs cs h.are)) (newest_branch kind bs cs fs c h m))) (push_back bs c k d here);
+      ⊎_elim (λ e. older_branch kind bs cs fs c h m k d e) (λ e.
+      let P : Branch → Type 0 = λ x. IsBranch (cs ++ c.class ∷ []) fs k x in
+      let R : ℕ → Type 0 = λ i. IsBranch (cs ++ c.class ∷ []) fs i c in
+      subst P e.1 (subst R (sym (e.0 ∙ same_length bs cs h.are)) (newest_branch kind bs cs fs c h m))) (push_back bs c k d here);
 }
 
 -- a filter names a class
@@ -167,18 +167,18 @@ pub filter_held : (kind : Kind) (bs : List Branch) (cs : List Class) (fs : List 
     → (kind ≡ Hfsc → q.inner ≡ false) → HasParts f → IsHeld kind bs cs fs → IsHeld kind (slice_set bs f.class (as_filtered q)) cs (fs ++ f ∷ [])
 filter_held kind bs cs fs f q at outer parts h = record {
   are = map-set class_in bs f.class (as_filtered q) ∙ ap (λ xs. slice_set xs f.class q.class) h.are
-    ∙ set_same cs f.class q.class (class_at bs cs h.are f.class q at);
+      ∙ set_same cs f.class q.class (class_at bs cs h.are f.class q at);
   tree = record {
     class = h.tree.class;
     names = h.tree.names;
     filter = λ k g there.
-      ⊎_elim (λ e. h.tree.filter k g e) (λ e. let P : Filter → Type 0 = λ x. IsFilter kind cs x in
-      subst P e.1 (filter_tree kind bs cs fs f q at outer parts h)) (push_back fs f k g there);
+        ⊎_elim (λ e. h.tree.filter k g e) (λ e. let P : Filter → Type 0 = λ x. IsFilter kind cs x in
+        subst P e.1 (filter_tree kind bs cs fs f q at outer parts h)) (push_back fs f k g there);
   };
   branch = λ k c here.
-    ⊎_elim (λ e.
-    let P : Branch → Type 0 = λ x. IsBranch cs (fs ++ f ∷ []) k x in
-    let R : ℕ → Type 0 = λ i. IsBranch cs (fs ++ f ∷ []) i (as_filtered q) in
-    subst P e.1 (subst R (sym e.0) (named_branch kind bs cs fs f q at h)))
-    (λ e. unnamed_branch kind bs cs fs f h k c e.1 e.0) (set_back bs f.class (as_filtered q) k c here);
+      ⊎_elim (λ e.
+      let P : Branch → Type 0 = λ x. IsBranch cs (fs ++ f ∷ []) k x in
+      let R : ℕ → Type 0 = λ i. IsBranch cs (fs ++ f ∷ []) i (as_filtered q) in
+      subst P e.1 (subst R (sym e.0) (named_branch kind bs cs fs f q at h)))
+      (λ e. unnamed_branch kind bs cs fs f h k c e.1 e.0) (set_back bs f.class (as_filtered q) k c here);
 }

@@ -1,13 +1,12 @@
 -- Classes that keep to their kind and their tree go on to do so: where one of them loses its real-time curve, and where one
 -- more stands behind them.
-use Rattle.std.proofs.Common.{◌≡◌, ◌≢◌, ◌⊎◌, inl, inr, ⊎_elim, ℕ, ◌+◌, ◌<◌, ◌≤◌, ◌∙◌, Bool, true, false, List, [], ◌∷◌, ◌++◌, length, Option, Some, None, slice_get, slice_set, refl, sym, ap, subst, length-append, arith}
-use Rattle.std.proofs.lemmas.Option.{slice_get_within}
+use Rattle.std.proofs.Common.{◌≡◌, ◌≢◌, ⊎_elim, ℕ, ◌∙◌, true, false, List, [], ◌∷◌, ◌++◌, length, Option, Some, None, slice_get, slice_set, refl, sym, ap, subst, length-append, arith}
 use Rattle.conf_tree.specs.declared.class.Class.{Class}
 use Rattle.conf_tree.specs.declared.filter.Filter.{Filter}
 use Rattle.conf_tree.specs.declared.interface.Kind.{Kind}
 use Rattle.conf_tree.specs.declared.interface.Kind.TheVariants.{Hfsc, Cbq}
-use Rattle.conf_laws.specs.Fit.{IsOnLevel, root, below, IsParent, HasParent, IsHfscClass, IsCbqClass, IsOfKind, IsClass, IsFilter, HasDefault}
-use Rattle.conf_laws.proofs.Places.{push_on, push_at, push_back, set_at, set_on, set_back, set_length}
+use Rattle.conf_laws.specs.Fit.{IsOnLevel, root, below, IsParent, HasParent, IsOfKind, IsClass, IsFilter, HasDefault}
+use Rattle.conf_laws.proofs.Places.{push_on, push_at, push_back, set_at, set_on, set_back, set_length, push_apart}
 
 -- a class that is as it was, or has lost its real-time curve
 pub data IsKept (c : Class) : Class → Type 0 where
@@ -136,12 +135,12 @@ pub less_fit : (kind : Kind) (xs : List Class) (filters : List Filter) (p : ℕ)
     → AreClasses kind (without_real xs p q) filters
 less_fit kind xs filters p q h a = record {
   class = λ k d at.
-    let t = less_back xs p q h k d at in
-    class_kept kind (without_real xs p q) k t.0 d t.2 (class_on kind xs (without_real xs p q) k t.0 (less_grows xs p q h) (a.class k t.0 t.1));
+      let t = less_back xs p q h k d at in
+      class_kept kind (without_real xs p q) k t.0 d t.2 (class_on kind xs (without_real xs p q) k t.0 (less_grows xs p q h) (a.class k t.0 t.1));
   names = λ j k d e at there same_name.
-    let s = less_back xs p q h j d at in
-    let t = less_back xs p q h k e there in
-    a.names j k s.0 t.0 s.1 t.1 (sym (kept_name s.0 d s.2) ∙ same_name ∙ kept_name t.0 e t.2);
+      let s = less_back xs p q h j d at in
+      let t = less_back xs p q h k e there in
+      a.names j k s.0 t.0 s.1 t.1 (sym (kept_name s.0 d s.2) ∙ same_name ∙ kept_name t.0 e t.2);
   filter = λ k f at. less_filter kind xs p q f h (a.filter k f at);
 }
 
@@ -169,7 +168,7 @@ more_filter : (kind : Kind) (xs : List Class) (c : Class) (f : Filter) → (kind
 more_filter kind xs c f childless k = record {
   class = omega (arith, length-append xs (c ∷ []), k.class);
   outer = λ hfsc j d at.
-    ⊎_elim (λ e. k.outer hfsc j d e) (λ e. let P : Class → Type 0 = λ x. x.parent ≢ Some f.class in subst P e.1 (childless hfsc)) (push_back xs c j d at);
+      ⊎_elim (λ e. k.outer hfsc j d e) (λ e. let P : Class → Type 0 = λ x. x.parent ≢ Some f.class in subst P e.1 (childless hfsc)) (push_back xs c j d at);
   ruleno = k.ruleno;
   addresses = k.addresses;
   target_port = k.target_port;
@@ -178,25 +177,17 @@ more_filter kind xs c f childless k = record {
   tos = k.tos;
 }
 
-more_names : (xs : List Class) (c : Class) → ((j k : ℕ) (a b : Class) → slice_get xs j ≡ Some a → slice_get xs k ≡ Some b → a.name ≡ b.name → j ≡ k)
-    → ((k : ℕ) (d : Class) → slice_get xs k ≡ Some d → c.name ≢ d.name)
-    → (j k : ℕ) (a b : Class) → (slice_get xs j ≡ Some a) ⊎ ((j ≡ length xs) × (c ≡ a)) → (slice_get xs k ≡ Some b) ⊎ ((k ≡ length xs) × (c ≡ b)) → a.name ≡ b.name → j ≡ k
-more_names xs c names new j k a b (inl e) (inl f) h = names j k a b e f h
-more_names xs c names new j k a b (inl e) (inr f) h = absurd (new j a e (ap (λ x. x.name) f.1 ∙ sym h))
-more_names xs c names new j k a b (inr e) (inl f) h = absurd (new k b f (ap (λ x. x.name) e.1 ∙ h))
-more_names xs c names new j k a b (inr e) (inr f) h = e.0 ∙ sym f.0
-
 pub more_fit : (kind : Kind) (xs : List Class) (filters : List Filter) (c : Class) → AreClasses kind xs filters → IsClass kind (xs ++ c ∷ []) (length xs) c
     → ((k : ℕ) (d : Class) → slice_get xs k ≡ Some d → c.name ≢ d.name) → ((k : ℕ) (f : Filter) → slice_get filters k ≡ Some f → kind ≡ Hfsc → c.parent ≢ Some f.class)
     → AreClasses kind (xs ++ c ∷ []) filters
 more_fit kind xs filters c a own new childless = record {
   class = λ k d at.
-    ⊎_elim (λ e. class_on kind xs (xs ++ c ∷ []) k d (more_grows xs c) (a.class k d e))
-    (λ e.
-    let P : Class → Type 0 = λ x. IsClass kind (xs ++ c ∷ []) k x in
-    let R : ℕ → Type 0 = λ i. IsClass kind (xs ++ c ∷ []) i c in
-    subst P e.1 (subst R (sym e.0) own)) (push_back xs c k d at);
-  names = λ j k d e at there. more_names xs c a.names new j k d e (push_back xs c j d at) (push_back xs c k e there);
+      ⊎_elim (λ e. class_on kind xs (xs ++ c ∷ []) k d (more_grows xs c) (a.class k d e))
+      (λ e.
+      let P : Class → Type 0 = λ x. IsClass kind (xs ++ c ∷ []) k x in
+      let R : ℕ → Type 0 = λ i. IsClass kind (xs ++ c ∷ []) i c in
+      subst P e.1 (subst R (sym e.0) own)) (push_back xs c k d at);
+  names = push_apart (λ x. x.name) xs c a.names new;
   filter = λ k f at. more_filter kind xs c f (childless k f at) (a.filter k f at);
 }
 
@@ -208,7 +199,7 @@ more_default xs c plain a = record {
   at = push_on xs (c ∷ []) a.number a.class a.at;
   first = a.first;
   one = λ k d at chosen.
-    ⊎_elim (λ e. a.one k d e chosen) (λ e. let no : d.first ≡ false = ap (λ x. x.first) (sym e.1) ∙ plain in cc) (push_back xs c k d at);
+      ⊎_elim (λ e. a.one k d e chosen) (λ e. let no : d.first ≡ false = ap (λ x. x.first) (sym e.1) ∙ plain in cc) (push_back xs c k d at);
 }
 
 pub first_default : (xs : List Class) (c : Class) → c.first ≡ true → ((k : ℕ) (d : Class) → slice_get xs k ≡ Some d → d.first ≡ false) → HasDefault (xs ++ c ∷ [])

@@ -1,5 +1,5 @@
 -- What a filter says is in its range, and its addresses are under their masks.
-use Rattle.std.proofs.Common.{◌≡◌, ℕ, zero, suc, ◌-◌, ◌^◌, ◌<◌, ◌≤◌, ◌&&◌, Bool, true, false, cond, List, [], ◌∷◌, drop, replicate, Option, Some, None, IfSome, unwrap_or, slice_get, bit_and, arith}
+use Rattle.std.proofs.Common.{ℕ, zero, suc, ◌-◌, ◌^◌, ◌<◌, ◌≤◌, Bool, true, false, cond, List, [], ◌∷◌, drop, replicate, Option, Some, None, IfSome, unwrap_or, slice_get, arith}
 use Rattle.std.proofs.lemmas.Nat.{and_le_r}
 use Rattle.conf_lines.specs.declared.item.Item.{Item}
 use Rattle.conf_lines.specs.declared.item.What.{What}
@@ -8,9 +8,8 @@ use Rattle.conf_lines.specs.declared.statement.Form.{Form}
 use Rattle.conf_lines.specs.declared.statement.Form.TheVariants as form
 use Rattle.conf_lines.specs.Laws.{AreBytes as HasBytes, IsSound, AreSound}
 use Rattle.conf_tree.specs.declared.filter.Filter.{Filter}
-use Rattle.conf_tree.specs.Filters.{has_option, has_name, past_option, past_name, option_number, part, as_ip4, ip4_in, mask_in, with_mask, address4_in, address4, with_length, address6_in, address6, addresses, under_mask, tos_in, filter_of}
+use Rattle.conf_tree.specs.Filters.{has_option, has_name, past_option, past_name, option_number, as_ip4, ip4_in, mask_in, with_mask, address4_in, address4, with_length, address6_in, address6, addresses, under_mask, tos_in, filter_of}
 use Rattle.conf_tree.specs.Items.{number_at}
-use Rattle.conf_tree.specs.Masks.{masked, prefix}
 use Rattle.conf_laws.specs.Fit.{IsWithin, AreBytes, IsMasked, IsPrefix, AreAddresses, IsTos}
 use Rattle.conf_laws.proofs.FitMasks.{and_again, masked_fit, four_same, none_masked, prefix_fit, none_prefix}
 use Rattle.conf_laws.proofs.FitSettings.{number_fit}
@@ -25,7 +24,7 @@ sound_drop zero items h = h
 sound_drop (suc n) [] h = tt
 sound_drop (suc n) (item ∷ items) h = sound_drop n items h.1
 
-abbrev IsSoundIn : Option Item → Type 0
+abbrev pub IsSoundIn : Option Item → Type 0
 IsSoundIn None = Unit {0}
 IsSoundIn (Some item) = IsSound item.what
 

@@ -1,5 +1,5 @@
 -- Addresses under their masks keep their bytes, and are under the masks.
-use Rattle.std.proofs.Common.{◌≡◌, ℕ, zero, suc, ◌+◌, ◌-◌, ◌*◌, ◌/◌, ◌^◌, ◌<◌, ◌≤◌, ◌∙◌, List, [], ◌∷◌, length, replicate, min, bit_and, All, refl, ap, ap₂, arith, pow_pos, div-mul-le_self}
+use Rattle.std.proofs.Common.{◌≡◌, ℕ, suc, ◌-◌, ◌*◌, ◌/◌, ◌^◌, ◌<◌, ◌≤◌, ◌∙◌, List, [], ◌∷◌, length, replicate, min, bit_and, All, refl, ap, ap₂, arith, pow_pos, div-mul-le_self}
 use Rattle.std.specs.Int.Bits.{and_self}
 use Rattle.std.proofs.lemmas.Nat.{and_le_l, and_assoc}
 use Rattle.std.proofs.Math.Nat.{mul-div_left}

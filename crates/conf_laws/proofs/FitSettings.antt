@@ -1,5 +1,5 @@
 -- What the options of a class set is in its range.
-use Rattle.std.proofs.Common.{◌≡◌, ◌⊎◌, inl, inr, ℕ, ◌+◌, ◌*◌, ◌/◌, ◌^◌, ◌<◌, ◌≤◌, ◌==◌, ◌&&◌, ◌||◌, Bool, true, false, cond, List, [], ◌∷◌, Option, Some, None, Result, Ok, Err, IfSome, option_map, slice_get, refl, sym, arith, nat_lt, nat_le, leb-true, le_refl, mul-le-mul, le-div_iff_mul-le}
+use Rattle.std.proofs.Common.{◌≡◌, ◌⊎◌, inr, ℕ, ◌*◌, ◌/◌, ◌^◌, ◌<◌, ◌≤◌, ◌==◌, ◌&&◌, ◌||◌, Bool, true, false, cond, List, [], ◌∷◌, Option, Some, None, Result, Ok, Err, IfSome, option_map, slice_get, refl, arith, nat_le, leb-true, le_refl, mul-le-mul, le-div_iff_mul-le}
 use Rattle.std.proofs.lemmas.Bool.{and_parts, or_parts, cond_both, eqb-false}
 use Rattle.std.proofs.Math.Nat.{div-le_of_le-mul}
 use Rattle.std.proofs.lemmas.Bool.Decides.{nat_tests}

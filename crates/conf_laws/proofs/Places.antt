@@ -1,5 +1,5 @@
 -- What stands at the places of a list with an element more, or with another element at one place.
-use Rattle.std.proofs.Common.{◌≡◌, ◌⊎◌, inl, inr, ⊎_elim, ℕ, zero, suc, ◌+◌, ◌<◌, ◌≤◌, Bool, true, false, cond, not, List, [], ◌∷◌, ◌++◌, map, length, Option, Some, None, position, slice_get, slice_set, nat_lt, refl, ap, arith}
+use Rattle.std.proofs.Common.{◌≡◌, ◌≢◌, ◌∙◌, ◌⊎◌, inl, inr, ⊎_elim, ℕ, zero, suc, ◌+◌, ◌≤◌, Bool, true, false, cond, not, List, [], ◌∷◌, ◌++◌, map, length, Some, None, position, slice_get, slice_set, nat_lt, refl, sym, ap, arith}
 use Rattle.std.proofs.lemmas.Bool.Decides.{nat_tests}
 use Rattle.std.specs.List.{position_or_len}
 
@@ -79,3 +79,31 @@ pub map_back : {X Y : Type 0} (f : X → Y) (xs : List X) (k : ℕ) (y : Y) → 
 map_back f [] k y h = cc
 map_back f (x ∷ xs) zero y h = (x, refl, cc)
 map_back f (x ∷ xs) (suc k) y h = map_back f xs k y h
+
+-- elements with names of their own
+abbrev pub AreApart : {X : Type 0} → (X → List ℕ) → List X → Type 0
+AreApart {X} name xs = (j k : ℕ) (a b : X) → slice_get xs j ≡ Some a → slice_get xs k ≡ Some b → name a ≡ name b → j ≡ k
+
+apart_by : {X : Type 0} (name : X → List ℕ) (xs : List X) (x : X) → AreApart name xs → ((k : ℕ) (y : X) → slice_get xs k ≡ Some y → name x ≢ name y)
+    → (j k : ℕ) (a b : X) → (slice_get xs j ≡ Some a) ⊎ ((j ≡ length xs) × (x ≡ a)) → (slice_get xs k ≡ Some b) ⊎ ((k ≡ length xs) × (x ≡ b)) → name a ≡ name b
+    → j ≡ k
+apart_by name xs x apart new j k a b (inl e) (inl f) h = apart j k a b e f h
+apart_by name xs x apart new j k a b (inl e) (inr f) h = absurd (new j a e (ap name f.1 ∙ sym h))
+apart_by name xs x apart new j k a b (inr e) (inl f) h = absurd (new k b f (ap name e.1 ∙ h))
+apart_by name xs x apart new j k a b (inr e) (inr f) h = e.0 ∙ sym f.0
+
+pub push_apart : {X : Type 0} (name : X → List ℕ) (xs : List X) (x : X) → AreApart name xs
+    → ((k : ℕ) (y : X) → slice_get xs k ≡ Some y → name x ≢ name y) → AreApart name (xs ++ x ∷ [])
+push_apart name xs x apart new j k a b at there = apart_by name xs x apart new j k a b (push_back xs x j a at) (push_back xs x k b there)
+
+old_name : {X : Type 0} (name : X → List ℕ) (xs : List X) (i : ℕ) (x y : X) → slice_get xs i ≡ Some x → name y ≡ name x → (k : ℕ) (z : X)
+    → slice_get (slice_set xs i y) k ≡ Some z → (w : X) × (slice_get xs k ≡ Some w) × (name w ≡ name z)
+old_name name xs i x y at same k z there =
+    ⊎_elim (λ e. (x, ap (slice_get xs) e.0 ∙ at, sym same ∙ ap name e.1)) (λ e. (z, e.1, refl)) (set_back xs i y k z there)
+
+pub set_apart : {X : Type 0} (name : X → List ℕ) (xs : List X) (i : ℕ) (x y : X) → AreApart name xs → slice_get xs i ≡ Some x → name y ≡ name x
+    → AreApart name (slice_set xs i y)
+set_apart name xs i x y apart at same j k a b here there h =
+    let s = old_name name xs i x y at same j a here in
+    let t = old_name name xs i x y at same k b there in
+    apart j k s.0 t.0 s.1 t.1 (s.2 ∙ h ∙ sym t.2)

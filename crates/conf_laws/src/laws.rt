@@ -1,7 +1,11 @@
 //! Laws of configurations and of their canonical text.
 ghost use Rattle.conf_laws.specs.Laws.{ConfigurationsFit};
 
-/// The interfaces of a text keep to the ranges, the limits and the tree.
+use conf_lines::items_are_sound;
+
+/// The interfaces of every text keep to their ranges, their limits and their trees.
 pub fn configurations_fit()
     ensures { ConfigurationsFit }
-{}
+{
+    items_are_sound();
+}
