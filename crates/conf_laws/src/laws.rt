@@ -1,5 +1,5 @@
 //! Laws of configurations and of their canonical text.
-ghost use Rattle.conf_laws.specs.Laws.{ConfigurationsFit};
+ghost use Rattle.conf_laws.specs.Laws.{ConfigurationsFit, StatementsAreRead};
 
 use conf_lines::items_are_sound;
 
@@ -9,3 +9,8 @@ pub fn configurations_fit()
 {
     items_are_sound();
 }
+
+/// The statements of the canonical text are read as the configuration.
+pub fn statements_are_read()
+    ensures { StatementsAreRead }
+{}

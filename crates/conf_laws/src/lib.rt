@@ -3,4 +3,4 @@
 
 mod laws;
 
-pub use laws::configurations_fit;
+pub use laws::{configurations_fit, statements_are_read};

@@ -1,4 +1,4 @@
--- What the items of every text's statements keep to.
+-- What the items of the statements of every text keep to, after altq.conf(5).
 use Rattle.std.specs.Prelude.{◌≡◌, ◌<◌, ◌≤◌, ℕ, true, List, [], ◌∷◌, length, All}
 use Rattle.conf_lines.specs.declared.item.Item.{Item}
 use Rattle.conf_lines.specs.declared.item.What.{What}
