@@ -1,2 +1,4 @@
 pub mod Names
 pub mod OneLine
+pub mod SoundAddresses
+pub mod SoundItems

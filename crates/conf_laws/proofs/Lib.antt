@@ -1,0 +1,13 @@
+pub mod FitBegun
+pub mod FitBranches
+pub mod FitClassStatements
+pub mod FitClasses
+pub mod FitFilterStatements
+pub mod FitFilters
+pub mod FitMasks
+pub mod FitReading
+pub mod FitSettings
+pub mod FitWhole
+pub mod Kept
+pub mod Lines
+pub mod Places

@@ -1,0 +1,6 @@
+//! Laws of the checked configuration, each the contract of a function that does nothing.
+#![tactic(auto)]
+
+mod laws;
+
+pub use laws::{configurations_fit, statements_are_read};
