@@ -1,1 +1,13 @@
+pub mod BranchesRead
+pub mod ChangesRead
+pub mod ClassesRead
+pub mod CurvesRead
+pub mod FilterPartsRead
+pub mod LevelsRead
 pub mod Lines
+pub mod NamesRead
+pub mod OptionsRead
+pub mod Places
+pub mod SpotsRead
+pub mod StatementsRead
+pub mod Types
