@@ -1,8 +1,11 @@
 pub mod BranchesRead
 pub mod ChangesRead
 pub mod ClassesRead
+pub mod ConfigurationsRead
 pub mod CurvesRead
 pub mod FilterPartsRead
+pub mod FiltersRead
+pub mod InterfacesRead
 pub mod LevelsRead
 pub mod Lines
 pub mod NamesRead

@@ -1,8 +1,5 @@
-use Rattle.std.proofs.Common.{[]}
-use Rattle.conf_laws.proofs.FilterPartsRead.{parts_read}
-use Rattle.conf_laws.proofs.ClassesRead.{next_class}
-use Rattle.conf_laws.proofs.StatementsRead.{reads_one}
+use Rattle.conf_laws.proofs.ConfigurationsRead.{configuration_is_read}
 use Rattle.conf_laws.proofs.laws.statements_are_read.Goals as goal
 
 pub returns : goal.returns
-returns c = ?
+returns c = λ interfaces fit. configuration_is_read interfaces 1 fit
