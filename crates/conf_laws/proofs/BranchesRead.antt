@@ -1,5 +1,5 @@
 -- A class of a statement, as the canonical text has it.
-use Rattle.std.proofs.Common.{◌≡◌, ◌≢◌, ℕ, ◌+◌, ◌<◌, ◌≤◌, Bool, true, false, cond, not, ◌&&◌, List, Option, Some, None, is_some, is_none, Result, Ok, Err, length, nat_le, refl, ap, sym, ◌∙◌, arith}
+use Rattle.std.proofs.Common.{◌≡◌, ◌≢◌, ℕ, ◌<◌, Bool, true, false, ◌&&◌, List, Option, Some, None, is_some, is_none, Ok, length, nat_le, refl, ap, sym, ◌∙◌, arith}
 use Rattle.std.proofs.lemmas.Bool.Decides.{nat_tests}
 use Rattle.service_curve.specs.declared.Curve.{Curve}
 use Rattle.conf_lines.specs.declared.statement.Statement.{Statement}
@@ -7,15 +7,15 @@ use Rattle.conf_tree.specs.declared.class.Class.{Class}
 use Rattle.conf_tree.specs.declared.interface.Kind.{Kind}
 use Rattle.conf_tree.specs.declared.interface.Kind.TheVariants.{Hfsc, Cbq}
 use Rattle.conf_tree.specs.Canonical.{parent_word}
-use Rattle.conf_tree.specs.Classes.{same_kind, is_full, spot_of, scope_of, shape_of_kind, branch_of, read_branch}
+use Rattle.conf_tree.specs.Classes.{same_kind, spot_of, scope_of, shape_of_kind, branch_of, read_branch}
 use Rattle.conf_tree.specs.Options.{set_options}
 use Rattle.conf_tree.specs.Settings.{unset}
 use Rattle.conf_tree.specs.Tree.{Begun, class_number}
-use Rattle.conf_laws.specs.Fit.{IsOfKind, IsWithin, IsHfscClass, IsCbqClass}
+use Rattle.conf_laws.specs.Fit.{IsOfKind, IsWithin, IsHfscClass}
 use Rattle.conf_laws.specs.Statements.{numbered, class_options, class_statement}
 use Rattle.conf_laws.proofs.OptionsRead.{settings_of, options_read}
 use Rattle.conf_laws.proofs.SpotsRead.{spot}
-use Rattle.conf_laws.proofs.Types.{Branch, Settings, Shape, Spot}
+use Rattle.conf_laws.proofs.Types.{Branch, Shape}
 
 -- a class as it is read, before others name it
 abbrev pub branch : Class → ℕ → Bool → Branch
@@ -70,6 +70,6 @@ branch_read b line interface all c level room new first limit own place =
     let s = class_statement line b.kind interface all c in
     let full : nat_le 256 (length b.classes) ≡ false = grind (arith, nat_tests) in
     let set : set_options (scope_of b s) unset (numbered 6 (class_options b.kind c)) ≡ Ok (settings_of b.kind c) =
-        options_read (scope_of b s) b.kind c 6 limit own first in
+    options_read (scope_of b s) b.kind c 6 limit own first in
     let made = shape_is b.kind b s c level own in
     rw (same_as_itself b.kind, full, new, place, set, made, branch_is b.kind c level own) refl

@@ -1,7 +1,7 @@
 -- Classes of which one is changed.
-use Rattle.std.proofs.Common.{◌≡◌, ◌⊎◌, inl, inr, ⊎_elim, ℕ, List, Option, Some, None, length, slice_get, slice_set, refl, length-set}
+use Rattle.std.proofs.Common.{◌≡◌, ◌⊎◌, inl, inr, ⊎_elim, ℕ, List, Option, Some, None, length, slice_get, refl, length-set}
 use Rattle.conf_tree.specs.Tree.{changed, changed_to}
-use Rattle.conf_laws.proofs.Places.{get_set}
+use Rattle.conf_laws.proofs.ListPlaces.{get_set}
 use Rattle.conf_laws.proofs.Types.{Branch}
 
 length_changed_to : (classes : List Branch) (i : ℕ) (change : Branch → Branch) (o : Option Branch) → length (changed_to classes i change o) ≡ length classes

@@ -1,23 +1,22 @@
 -- The classes of an interface, read one after the other.
-use Rattle.std.proofs.Common.{◌≡◌, ◌≢◌, ◌⊎◌, ⊎_elim, ℕ, ◌+◌, ◌<◌, ◌≤◌, Bool, true, false, cond, ◌&&◌, ◌||◌, List, [], ◌∷◌, ◌++◌, length, Option, Some, None, is_some, Result, Ok, codes, nat_lt, slice_get, refl, ap, sym, ◌∙◌, subst, length-append, arith}
+use Rattle.std.proofs.Common.{◌≡◌, ◌≢◌, ⊎_elim, ℕ, ◌+◌, ◌<◌, ◌≤◌, Bool, true, false, ◌||◌, List, [], ◌∷◌, length, Option, Some, None, is_some, Ok, codes, nat_lt, slice_get, refl, ap, sym, ◌∙◌, subst, length-append, arith}
 use Rattle.std.proofs.lemmas.Bool.Decides.{nat_tests}
 use Rattle.std.proofs.lemmas.Option.{slice_get_within}
 use Rattle.conf_lines.specs.declared.statement.Statement.{Statement}
 use Rattle.conf_tree.specs.declared.class.Class.{Class}
-use Rattle.conf_tree.specs.declared.filter.Filter.{Filter}
 use Rattle.conf_tree.specs.declared.interface.Interface.{Interface}
 use Rattle.conf_tree.specs.declared.interface.Kind.{Kind}
 use Rattle.conf_tree.specs.declared.interface.Kind.TheVariants.{Hfsc, Cbq}
 use Rattle.conf_tree.specs.Canonical.{parent_word, name_or_null}
 use Rattle.conf_tree.specs.Classes.{is_queue, spot_of, read_branch}
 use Rattle.conf_tree.specs.Tree.{Begun, as_parent, with_parent, add_class, class_number}
-use Rattle.conf_laws.specs.Fit.{IsOnLevel, IsParent, HasParent, IsClass, IsOfKind, IsTree, HasDefault}
+use Rattle.conf_laws.specs.Fit.{IsOnLevel, IsParent, HasParent, IsClass, IsOfKind, IsTree}
 use Rattle.conf_laws.specs.Statements.{class_statement}
 use Rattle.conf_laws.proofs.BranchesRead.{branch, branch_read}
 use Rattle.conf_laws.proofs.ChangesRead.{IsChanged, length_changed, get_changed}
 use Rattle.conf_laws.proofs.LevelsRead.{level_of_root, level_below}
 use Rattle.conf_laws.proofs.NamesRead.{class_is, class_is_new}
-use Rattle.conf_laws.proofs.Places.{get_push, has_place}
+use Rattle.conf_laws.proofs.ListPlaces.{get_push, has_place}
 use Rattle.conf_laws.proofs.SpotsRead.{spot, spot_of_root, spot_of_parent, MayHaveClasses}
 use Rattle.conf_laws.proofs.Types.{Branch}
 
@@ -73,8 +72,8 @@ below_parent i number k b s c p q r tree at class e early q_at h =
     let real : parent.class.real ≡ None = ap (λ x. x.real) same ∙ h.real in
     let outer : b.kind ≡ Hfsc → parent.class.first ≡ false = λ k_is. ap (λ x. x.first) same ∙ h.inner (sym r.kind ∙ k_is) in
     let number_is : class_number parent.class.name b.classes ≡ Some p =
-        class_is parent.class.name b.classes p parent found.1 refl
-        (λ j a g t. tree.names j p a.class parent.class (r.class j a g).here read.here (sym t)) in
+    class_is parent.class.name b.classes p parent found.1 refl
+    (λ j a g t. tree.names j p a.class parent.class (r.class j a g).here read.here (sym t)) in
     let may : MayHaveClasses b.kind parent = record {
       level = omega (arith, class.eight, up.1, deep);
       fixed = read.fixed ∙ ap (λ o. is_some o) real;
@@ -84,9 +83,9 @@ below_parent i number k b s c p q r tree at class e early q_at h =
       level = parent.level + 1;
       place = rw word (spot_of_parent b s parent.class.name p parent named number_is found.1 may);
       is = λ other o.
-        let above = level_below i.classes k other o c p at e in
-        let same_level : parent.level ≡ above.0 = read.level above.0 above.2 in
-        omega (arith, above.1, same_level);
+          let above = level_below i.classes k other o c p at e in
+          let same_level : parent.level ≡ above.0 = read.level above.0 above.2 in
+          omega (arith, above.1, same_level);
     }
 
 stands : (i : Interface) (number k : ℕ) (b : Begun) (s : Statement) (c : Class) (parent : Option ℕ) → HasRead i number k b
@@ -151,18 +150,18 @@ next_class i k b c line tree small at r =
     let place = stands i one.number k b (class_statement line b.kind i.name i.classes c) c c.parent r tree at class refl class.parent in
     let room : length b.classes < 256 = omega (arith, r.count, slice_get_within i.classes k c at) in
     let new : class_number c.name b.classes ≡ None =
-        class_is_new c.name b.classes (λ j a g t.
-          let same : j ≡ k = tree.names j k a.class c (r.class j a g).here at (sym t) in
-          omega (arith, r.count, slice_get_within b.classes j a g)) in
+    class_is_new c.name b.classes (λ j a g t.
+    let same : j ≡ k = tree.names j k a.class c (r.class j a g).here at (sym t) in
+    omega (arith, r.count, slice_get_within b.classes j a g)) in
     let default_is : c.first ≡ true → k ≡ one.number = one.one k c at in
     let is_default : k ≡ one.number → c.first ≡ true = λ e.
-        let some : Some c ≡ Some one.class = sym at ∙ (ap (λ n. slice_get i.classes n) e ∙ one.at) in
-        let same : c ≡ one.class = cc in
-        ap (λ x. x.first) same ∙ one.first in
+    let some : Some c ≡ Some one.class = sym at ∙ (ap (λ n. slice_get i.classes n) e ∙ one.at) in
+    let same : c ≡ one.class = cc in
+    ap (λ x. x.first) same ∙ one.first in
     let open_yet : c.first ≡ true → b.chosen ≡ false = λ t.
-        let e = default_is t in
-        let later : nat_lt one.number k ≡ false = grind (arith, nat_tests) in
-        r.chosen ∙ later in
+    let e = default_is t in
+    let later : nat_lt one.number k ≡ false = grind (arith, nat_tests) in
+    r.chosen ∙ later in
     let own : IsOfKind b.kind c = subst (λ kind. IsOfKind kind c) (sym r.kind) class.own in
     let read = branch_read b line i.name i.classes c place.level room new open_yet class.limit own place.place in
     let made = branch c place.level (is_some c.real) in
@@ -175,10 +174,10 @@ next_class i k b c line tree small at r =
       filters = r.filters;
       count = length-append (with_parent b.classes c.parent) (made ∷ []) ∙ ap (λ n. n + 1) (length_with_parent b.classes c.parent ∙ r.count);
       class = λ j a g. ⊎_elim
-        (λ p. let j_is : j ≡ k = p.0 ∙ (length_with_parent b.classes c.parent ∙ r.count) in
+          (λ p. let j_is : j ≡ k = p.0 ∙ (length_with_parent b.classes c.parent ∙ r.count) in
           rw (j_is, p.1) (record { here = at; level = place.is; fixed = refl; inner = λ t. absurd (false_is_true t); unnamed = refl }))
-        (λ old. parents_read i.kind i.classes b.classes k c c.parent at refl class.parent r.class j a old)
-        (get_push (with_parent b.classes c.parent) made a j g);
+          (λ old. parents_read i.kind i.classes b.classes k c c.parent at refl class.parent r.class j a old)
+          (get_push (with_parent b.classes c.parent) made a j g);
     } in
     record {
       class = made;

@@ -1,5 +1,5 @@
 -- All interfaces of a configuration, and the end of the text.
-use Rattle.std.proofs.Common.{◌≡◌, ℕ, ◌+◌, ◌<◌, ◌≤◌, Bool, true, false, cond, List, [], ◌∷◌, ◌++◌, map, length, Option, Some, None, option_map, Ok, slice_get, refl, ap, sym, ◌∙◌, subst, append_assoc, append-nil, length-append, arith}
+use Rattle.std.proofs.Common.{◌≡◌, ℕ, ◌+◌, ◌<◌, Bool, true, false, cond, List, [], ◌∷◌, ◌++◌, map, length, Option, Some, None, option_map, Ok, slice_get, refl, ap, sym, ◌∙◌, subst, append_assoc, append-nil, arith}
 use Rattle.std.proofs.lemmas.List.{length-map, map-append}
 use Rattle.std.proofs.lemmas.Option.{slice_get-map, slice_get_within}
 use Rattle.conf_lines.specs.declared.fault.ConfPlace.{ConfPlace}
@@ -7,12 +7,12 @@ use Rattle.conf_tree.specs.declared.interface.Interface.{Interface}
 use Rattle.conf_tree.specs.Canonical.{written_classes}
 use Rattle.conf_tree.specs.Reading.{reading_from}
 use Rattle.conf_tree.specs.Tree.{Begun}
-use Rattle.conf_tree.specs.Whole.{whole, undecided, first_undecided, finished}
+use Rattle.conf_tree.specs.Whole.{whole, undecided, first_undecided}
 use Rattle.conf_laws.specs.Fit.{AreFit}
 use Rattle.conf_laws.specs.Statements.{canonical_statements}
 use Rattle.conf_laws.proofs.InterfacesRead.{interface_is_read}
 use Rattle.conf_laws.proofs.NamesRead.{IsNew}
-use Rattle.conf_laws.proofs.Places.{get_front, get_pushed}
+use Rattle.conf_laws.proofs.ListPlaces.{get_front, get_pushed}
 
 -- these interfaces are read whole
 record AreReadWhole (done : List Interface) (before : List Begun) : Type 0 where
@@ -42,7 +42,7 @@ is_new done rest before i fit e j b g t =
     let mapped : slice_get (map whole before) j ≡ Some (whole b) = slice_get-map whole before j ∙ ap (λ o. option_map whole o) g in
     let there : slice_get done j ≡ Some (whole b) = sym (ap (λ l. slice_get l j) e) ∙ mapped in
     let same : length done ≡ j =
-        fit.names (length done) j i (whole b) (get_pushed done i rest) (get_front done (i ∷ rest) j (whole b) there) t in
+    fit.names (length done) j i (whole b) (get_pushed done i rest) (get_front done (i ∷ rest) j (whole b) there) t in
     let early : j < length done = slice_get_within done j (whole b) there in
     omega arith
 
@@ -59,7 +59,7 @@ all_are_read (i ∷ rest) done before line fit h =
     let next = line + 1 + length (written_classes i) + length i.filters in
     let e : (done ++ i ∷ []) ++ rest ≡ done ++ (i ∷ rest) = append_assoc done (i ∷ []) rest in
     let others = all_are_read rest (done ++ i ∷ []) (before ++ one.last ∷ []) next (subst (λ l. AreFit l) (sym e) fit)
-        (whole_more done before i one.last h one.as_is one.decided) in
+    (whole_more done before i one.last h one.as_is one.decided) in
     one.reads.on (canonical_statements next rest) ∙ (others ∙ ap (λ l. Ok l) e)
 
 pub configuration_is_read : (interfaces : List Interface) (line : ℕ) → AreFit interfaces → reading_from [] (canonical_statements line interfaces) ≡ Ok interfaces

@@ -1,5 +1,5 @@
 -- Numbers within their ranges, and the curves that three of them make, are read as they are.
-use Rattle.std.proofs.Common.{◌≡◌, ◌⊎◌, ⊎_elim, ℕ, ◌+◌, ◌*◌, ◌/◌, ◌^◌, ◌<◌, ◌≤◌, Bool, true, false, cond, not, ◌&&◌, Option, Some, None, nat_lt, nat_le, refl, ap, sym, ◌∙◌, arith}
+use Rattle.std.proofs.Common.{◌≡◌, ◌⊎◌, ℕ, ◌*◌, ◌/◌, ◌^◌, ◌≤◌, false, Some, refl, arith}
 use Rattle.std.proofs.lemmas.Bool.Decides.{nat_tests}
 use Rattle.service_curve.specs.declared.Curve.{Curve}
 use Rattle.service_curve.specs.Curve.{curve}
@@ -27,5 +27,11 @@ curve_is least s h =
     let e : s.d / 10 ^ 6 ≡ n = in_milliseconds s.d n h.bend.2 in
     let back : s.d / 10 ^ 6 * 10 ^ 6 ≡ s.d = omega arith in
     let m : made s.m1 s.d s.m2 ≡ s = made_is s.m1 s.d s.m2 h.one_slope h.two_slopes in
-    rw (within_is 0 most_rate s.m1 (omega arith), within_is 0 1000000 (s.d / 10 ^ 6) (omega arith), within_is least most_rate s.m2 h.second,
-        not_upward s.m1 (s.d / 10 ^ 6) s.m2 h.upward, back, m) refl
+    rw (
+      within_is 0 most_rate s.m1 (omega arith),
+      within_is 0 1000000 (s.d / 10 ^ 6) (omega arith),
+      within_is least most_rate s.m2 h.second,
+      not_upward s.m1 (s.d / 10 ^ 6) s.m2 h.upward,
+      back,
+      m,
+    ) refl

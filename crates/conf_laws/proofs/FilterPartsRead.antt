@@ -1,13 +1,12 @@
 -- The parts of a filter, as the canonical text has them.
-use Rattle.std.proofs.Common.{◌≡◌, ℕ, ◌+◌, ◌-◌, ◌^◌, ◌<◌, ◌≤◌, List, [], ◌∷◌, ◌++◌, drop, Option, Some, None, unwrap_or, bit_and, refl, ap, sym, ◌∙◌, arith}
+use Rattle.std.proofs.Common.{◌≡◌, ℕ, ◌-◌, ◌^◌, ◌<◌, ◌≤◌, List, drop, Option, Some, None, unwrap_or, refl, sym, arith}
 use Rattle.conf_lines.specs.declared.item.Key.{Key}
 use Rattle.conf_tree.specs.declared.filter.Addresses.{Addresses}
 use Rattle.conf_tree.specs.declared.filter.Addresses.TheVariants.{V4, V6}
 use Rattle.conf_tree.specs.declared.filter.Filter.{Filter}
 use Rattle.conf_tree.specs.Filters.{tos_in, filter_of}
-use Rattle.conf_tree.specs.Items.{within}
 use Rattle.conf_tree.specs.Masks.{masked, prefix}
-use Rattle.conf_laws.specs.Fit.{AreAddresses, IsMasked, IsPrefix, IsTos}
+use Rattle.conf_laws.specs.Fit.{AreAddresses, IsTos}
 use Rattle.conf_laws.specs.Statements.{numbered, tos_whats, filter_whats_by, filter_form}
 use Rattle.conf_laws.proofs.CurvesRead.{within_is}
 use Rattle.conf_lines.specs.declared.item.Key.TheVariants as key
@@ -39,11 +38,11 @@ pub parts_read : (f : Filter) (interface class : List ℕ) (addresses : Addresse
     → filter_of (filter_form addresses) f.class (drop 2 (numbered 2 (filter_whats_by interface class f addresses))) ≡ f
 parts_read f interface class (V4 target target_mask source source_mask) e h ruleno target_port source_port protocol tos =
     let same : V4 (masked target target_mask) target_mask (masked source source_mask) source_mask ≡ f.addresses =
-        rw (h.0.under, h.1.under) (sym e) in
+    rw (h.0.under, h.1.under) (sym e) in
     filter_is f _ _ _ _ _ _ (within_is 0 (2 ^ 32 - 1) f.ruleno (omega arith)) same (within_is 0 65535 f.target_port (omega arith))
-        (within_is 0 65535 f.source_port (omega arith)) (within_is 0 255 f.protocol (omega arith)) (tos_read key.Tos key.Tosmask _ f.tos tos)
+    (within_is 0 65535 f.source_port (omega arith)) (within_is 0 255 f.protocol (omega arith)) (tos_read key.Tos key.Tosmask _ f.tos tos)
 parts_read f interface class (V6 target target_len source source_len) e h ruleno target_port source_port protocol tos =
     let same : V6 (prefix target_len target) target_len (prefix source_len source) source_len ≡ f.addresses =
-        rw (h.0.first, h.1.first) (sym e) in
+    rw (h.0.first, h.1.first) (sym e) in
     filter_is f _ _ _ _ _ _ (within_is 0 (2 ^ 32 - 1) f.ruleno (omega arith)) same (within_is 0 65535 f.target_port (omega arith))
-        (within_is 0 65535 f.source_port (omega arith)) (within_is 0 255 f.protocol (omega arith)) (tos_read key.Tclass key.Tclassmask _ f.tos tos)
+    (within_is 0 65535 f.source_port (omega arith)) (within_is 0 255 f.protocol (omega arith)) (tos_read key.Tclass key.Tclassmask _ f.tos tos)

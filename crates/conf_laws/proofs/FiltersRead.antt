@@ -1,5 +1,5 @@
 -- The filters of an interface, read one after the other behind its classes.
-use Rattle.std.proofs.Common.{◌≡◌, ◌≢◌, ◌⊎◌, ⊎_elim, ℕ, ◌+◌, ◌<◌, ◌≤◌, Bool, true, false, cond, ◌&&◌, List, [], ◌∷◌, ◌++◌, length, Option, Some, None, Result, Ok, nat_le, slice_get, refl, ap, sym, ◌∙◌, length-append, arith}
+use Rattle.std.proofs.Common.{◌≡◌, ⊎_elim, ℕ, ◌<◌, Bool, true, false, ◌&&◌, List, [], ◌∷◌, ◌++◌, length, Some, Ok, nat_le, slice_get, refl, ap, sym, ◌∙◌, arith}
 use Rattle.std.proofs.lemmas.Bool.Decides.{nat_tests}
 use Rattle.conf_lines.specs.declared.statement.Statement.{Statement}
 use Rattle.conf_tree.specs.declared.class.Class.{Class}
@@ -13,14 +13,14 @@ use Rattle.conf_tree.specs.Canonical.{class_word, name_or_null}
 use Rattle.conf_tree.specs.Classes.{is_hfsc}
 use Rattle.conf_tree.specs.FilterStatements.{filter_read}
 use Rattle.conf_tree.specs.Items.{name_at}
-use Rattle.conf_tree.specs.Tree.{Begun, as_filtered, changed, add_filter, class_number}
+use Rattle.conf_tree.specs.Tree.{Begun, as_filtered, add_filter, class_number}
 use Rattle.conf_laws.specs.Fit.{IsTree, IsFilter}
 use Rattle.conf_laws.specs.Statements.{numbered, filter_whats_by, filter_statement}
 use Rattle.conf_laws.proofs.ChangesRead.{IsChanged, length_changed, get_changed}
 use Rattle.conf_laws.proofs.ClassesRead.{IsInner}
 use Rattle.conf_laws.proofs.FilterPartsRead.{parts_read}
 use Rattle.conf_laws.proofs.NamesRead.{class_is}
-use Rattle.conf_laws.proofs.Places.{has_place, is_false}
+use Rattle.conf_laws.proofs.ListPlaces.{has_place, is_false}
 use Rattle.conf_laws.proofs.Types.{Branch}
 
 -- a class stands for that of its number, and knows whether it has a class below it
@@ -61,11 +61,11 @@ filter_is_read i done b f line tree small h r =
     let kept = r.class f.class class found.1 in
     let word : class_word i.classes f.class ≡ class.class.name = ap (λ o. name_or_null o) kept.here in
     let number_is : class_number (class_word i.classes f.class) b.classes ≡ Some f.class =
-        class_is (class_word i.classes f.class) b.classes f.class class found.1 word
-        (λ j a g t. tree.names j f.class a.class class.class (r.class j a g).here kept.here (sym t ∙ word)) in
+    class_is (class_word i.classes f.class) b.classes f.class class found.1 word
+    (λ j a g t. tree.names j f.class a.class class.class (r.class j a g).here kept.here (sym t ∙ word)) in
     let room : nat_le 1024 (length b.filters) ≡ false = rw r.read (grind (arith, nat_tests)) in
     let outer : (is_hfsc b.kind && class.inner) ≡ false =
-        not_inner b.kind class.inner (λ k_is t. let below = kept.inner t in h.outer (sym r.kind ∙ k_is) below.number below.class below.at below.parent) in
+    not_inner b.kind class.inner (λ k_is t. let below = kept.inner t in h.outer (sym r.kind ∙ k_is) below.number below.class below.at below.parent) in
     let named = filter_class i.name (class_word i.classes f.class) f f.addresses in
     let parts = parts_read f i.name (class_word i.classes f.class) f.addresses refl h.addresses h.ruleno h.target_port h.source_port h.protocol h.tos in
     rw (room, named, number_is, found.1, outer) (ap (λ x. Ok x) parts)
@@ -93,6 +93,6 @@ next_filter i done b f line tree small h r = record {
     read = ap (λ l. l ++ f ∷ []) r.read;
     count = length_changed b.classes f.class as_filtered ∙ r.count;
     class = λ j a g. ⊎_elim (λ change. kept_changed i.classes b.classes f.class j a r.class change) (λ old. r.class j a old)
-      (get_changed b.classes f.class as_filtered j a g);
+        (get_changed b.classes f.class as_filtered j a g);
   };
 }

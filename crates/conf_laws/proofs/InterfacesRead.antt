@@ -1,5 +1,5 @@
 -- The statements of an interface, read behind those of the interfaces before it.
-use Rattle.std.proofs.Common.{◌≡◌, ℕ, ◌+◌, ◌<◌, ◌≤◌, Bool, true, false, cond, not, ◌&&◌, List, [], ◌∷◌, ◌++◌, map, length, Option, Some, None, option_map, Result, Ok, nat_le, nat_lt, ◌==◌, slice_get, refl, ap, sym, ◌∙◌, subst, append_assoc, append-nil, length-append, arith}
+use Rattle.std.proofs.Common.{◌≡◌, ℕ, ◌+◌, ◌<◌, ◌≤◌, Bool, true, false, cond, List, [], ◌∷◌, ◌++◌, map, length, Option, Some, None, option_map, Ok, nat_le, nat_lt, slice_get, refl, ap, sym, ◌∙◌, subst, append_assoc, append-nil, length-append, arith}
 use Rattle.std.proofs.lemmas.Bool.Decides.{nat_tests}
 use Rattle.std.proofs.lemmas.List.{length-map}
 use Rattle.std.proofs.lemmas.Option.{slice_get-map, slice_get_within}
@@ -11,18 +11,18 @@ use Rattle.conf_tree.specs.declared.interface.Kind.{Kind}
 use Rattle.conf_tree.specs.declared.interface.Kind.TheVariants.{Hfsc, Cbq}
 use Rattle.conf_tree.specs.Canonical.{written_classes}
 use Rattle.conf_tree.specs.Items.{within}
-use Rattle.conf_tree.specs.Interfaces.{read_interface, interface_kind, interface_rate}
+use Rattle.conf_tree.specs.Interfaces.{interface_kind, interface_rate}
 use Rattle.conf_tree.specs.Reading.{read_statement}
 use Rattle.conf_tree.specs.Settings.{most_rate}
-use Rattle.conf_tree.specs.Tree.{Begun, begun, interface_number, add_class, add_filter}
+use Rattle.conf_tree.specs.Tree.{Begun, begun, add_class, add_filter}
 use Rattle.conf_tree.specs.Whole.{whole, undecided, is_empty, implied_classes, classes_of}
-use Rattle.conf_laws.specs.Fit.{IsTree, IsInterface, IsImplied, HasClasses, HasDefault}
-use Rattle.conf_laws.specs.Statements.{kind_key, interface_statement, class_statement, class_statements, filter_statement, filter_statements, interface_statements}
+use Rattle.conf_laws.specs.Fit.{IsTree, IsInterface, IsImplied, HasClasses}
+use Rattle.conf_laws.specs.Statements.{interface_statement, class_statement, class_statements, filter_statement, filter_statements, interface_statements}
 use Rattle.conf_laws.proofs.ClassesRead.{HasRead, next_class}
 use Rattle.conf_laws.proofs.CurvesRead.{within_is}
 use Rattle.conf_laws.proofs.FiltersRead.{HasFilters, filter_interface, next_filter}
 use Rattle.conf_laws.proofs.NamesRead.{IsNew, interface_is_new}
-use Rattle.conf_laws.proofs.Places.{get_pushed, same_places}
+use Rattle.conf_laws.proofs.ListPlaces.{get_pushed, same_places}
 use Rattle.conf_laws.proofs.StatementsRead.{Reads, reads_none, reads_one, reads_both, reads_class, reads_filter, class_of_last, filter_of_last}
 use Rattle.conf_laws.proofs.Types.{Branch}
 
@@ -62,10 +62,10 @@ classes_are_read i before tree small new (c ∷ rest) done b line e r =
     let next = next_class i (length done) b c line tree small at r in
     let s = class_statement line i.kind i.name i.classes c in
     let reads : read_statement (before ++ b ∷ []) s ≡ Ok (before ++ add_class b next.class ∷ []) =
-        reads_class i.kind (before ++ b ∷ []) s ∙ class_of_last before b i.kind s i.name next.class refl (sym r.name) new next.read in
+    reads_class i.kind (before ++ b ∷ []) s ∙ class_of_last before b i.kind s i.name next.class refl (sym r.name) new next.read in
     let more : i.classes ≡ (done ++ c ∷ []) ++ rest = e ∙ sym (append_assoc done (c ∷ []) rest) in
     let has : HasRead i tree.default.number (length (done ++ c ∷ [])) (add_class b next.class) =
-        subst (λ k. HasRead i tree.default.number k (add_class b next.class)) (sym (length-append done (c ∷ []))) next.then_has in
+    subst (λ k. HasRead i tree.default.number k (add_class b next.class)) (sym (length-append done (c ∷ []))) next.then_has in
     let others = classes_are_read i before tree small new rest (done ++ c ∷ []) (add_class b next.class) (line + 1) more has in
     record { last = others.last; reads = reads_one reads others.reads; has = others.has }
 
@@ -89,8 +89,8 @@ filters_are_read i before tree small new (f ∷ rest) done b line e r =
     let next = next_filter i done b f line tree room (tree.filter (length done) f at) r in
     let s = filter_statement line i.name i.classes f in
     let reads : read_statement (before ++ b ∷ []) s ≡ Ok (before ++ add_filter b f ∷ []) =
-        reads_filter f.addresses (before ++ b ∷ []) s
-        ∙ filter_of_last before b s i.name f (filter_interface i.name _ f f.addresses) (sym r.name) new next.read in
+    reads_filter f.addresses (before ++ b ∷ []) s
+    ∙ filter_of_last before b s i.name f (filter_interface i.name _ f f.addresses) (sym r.name) new next.read in
     let more : i.filters ≡ (done ++ f ∷ []) ++ rest = e ∙ sym (append_assoc done (f ∷ []) rest) in
     let others = filters_are_read i before tree small new rest (done ++ f ∷ []) (add_filter b f) (line + 1) more next.then_has in
     record { last = others.last; reads = reads_one reads others.reads; has = others.has }
@@ -134,9 +134,9 @@ implied_is_read before line i h new room e implied =
     let b = begun line i.name i.rate i.kind in
     let written : written_classes i ≡ [] = ap (λ x. cond x [] i.classes) e in
     let none : tail line i (written_classes i) i.filters ≡ [] =
-        ap (λ l. tail line i l i.filters) written ∙ ap (λ l. tail line i [] l) implied.filters in
+    ap (λ l. tail line i l i.filters) written ∙ ap (λ l. tail line i [] l) implied.filters in
     let others : Reads (before ++ b ∷ []) (tail line i (written_classes i) i.filters) (before ++ b ∷ []) =
-        subst (λ l. Reads (before ++ b ∷ []) l (before ++ b ∷ [])) (sym none) reads_none in
+    subst (λ l. Reads (before ++ b ∷ []) l (before ++ b ∷ [])) (sym none) reads_none in
     record {
       last = b;
       reads = reads_one (interface_begins before line i h new room) others;
@@ -196,7 +196,7 @@ tree_is_read before line i h new room e tree =
     let some : 0 < length i.classes = omega (arith, within) in
     let written : written_classes i ≡ i.classes = ap (λ x. cond x [] i.classes) e in
     let others : Reads (before ++ b ∷ []) (tail line i (written_classes i) i.filters) (before ++ filters.last ∷ []) =
-        subst (λ l. Reads (before ++ b ∷ []) (tail line i l i.filters) (before ++ filters.last ∷ [])) (sym written) (reads_both classes.reads filters.reads) in
+    subst (λ l. Reads (before ++ b ∷ []) (tail line i l i.filters) (before ++ filters.last ∷ [])) (sym written) (reads_both classes.reads filters.reads) in
     record {
       last = filters.last;
       reads = reads_one (interface_begins before line i h new room) others;

@@ -1,5 +1,5 @@
 -- The level of a class, by its parent's.
-use Rattle.std.proofs.Common.{◌≡◌, ℕ, ◌+◌, List, Option, Some, None, slice_get, refl, subst, sym, ◌∙◌}
+use Rattle.std.proofs.Common.{◌≡◌, ℕ, ◌+◌, List, Some, None, slice_get, refl, subst, sym, ◌∙◌}
 use Rattle.conf_tree.specs.declared.class.Class.{Class}
 use Rattle.conf_laws.specs.Fit.{IsOnLevel, root, below}
 

@@ -8,9 +8,9 @@ pub mod FiltersRead
 pub mod InterfacesRead
 pub mod LevelsRead
 pub mod Lines
+pub mod ListPlaces
 pub mod NamesRead
 pub mod OptionsRead
-pub mod Places
 pub mod SpotsRead
 pub mod StatementsRead
 pub mod Types

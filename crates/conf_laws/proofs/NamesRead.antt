@@ -1,8 +1,8 @@
 -- The numbers of interfaces and of classes, by their names.
-use Rattle.std.proofs.Common.{◌≡◌, ◌≢◌, ℕ, ◌<◌, Bool, true, false, List, Option, Some, None, bytes_eq, length, slice_get, refl}
+use Rattle.std.proofs.Common.{◌≡◌, ◌≢◌, ℕ, true, false, List, Some, None, bytes_eq, slice_get}
 use Rattle.std.proofs.lemmas.Slice.Eq.{bytes_eq-Decides}
 use Rattle.conf_tree.specs.Tree.{Begun, interface_number, class_number}
-use Rattle.conf_laws.proofs.Places.{position_at, position_nowhere, is_false}
+use Rattle.conf_laws.proofs.ListPlaces.{position_at, position_nowhere, is_false}
 use Rattle.conf_laws.proofs.Types.{Branch}
 
 pub equal_names : (a b : List ℕ) → bytes_eq a b ≡ true → a ≡ b

@@ -1,5 +1,5 @@
 -- What the options of a class set, one after the other, as the canonical text has them.
-use Rattle.std.proofs.Common.{◌≡◌, ℕ, ◌+◌, ◌^◌, ◌/◌, Bool, true, false, cond, ◌||◌, is_some, List, [], ◌∷◌, ◌++◌, Option, Some, None, Ok, Err, Result, refl, ap, sym, ◌∙◌, append_assoc, append-nil, arith}
+use Rattle.std.proofs.Common.{◌≡◌, ℕ, ◌+◌, Bool, true, false, cond, ◌||◌, is_some, List, [], ◌∷◌, ◌++◌, Option, Some, None, Ok, Err, Result, refl, ap, sym, ◌∙◌, append_assoc, append-nil, arith}
 use Rattle.service_curve.specs.declared.Curve.{Curve}
 use Rattle.conf_lines.specs.declared.fault.ConfPlace.{ConfPlace}
 use Rattle.conf_lines.specs.declared.item.Item.{Item}
@@ -14,10 +14,9 @@ use Rattle.conf_tree.specs.declared.interface.Kind.TheVariants.{Hfsc, Cbq}
 use Rattle.conf_laws.proofs.Types.{Scope, Settings}
 use Rattle.conf_tree.specs.Kinds.{fault_at, two_defaults}
 use Rattle.conf_tree.specs.Options.{set_options}
-use Rattle.conf_tree.specs.Settings.{most_rate, unset, set_real, set_share, set_rate, set_priority, set_maxburst, set_packetsize, set_limit, curve_of}
-use Rattle.conf_tree.specs.Items.{within}
-use Rattle.conf_laws.specs.Fit.{IsWithin, IsCurve, IsCurveIfAny, IsOfKind}
-use Rattle.conf_laws.specs.Statements.{numbered, key_where, drop_whats, curve_whats, hfsc_options, cbq_options, class_options}
+use Rattle.conf_tree.specs.Settings.{most_rate, unset, set_real, set_share, set_rate, set_priority, set_maxburst, set_packetsize, set_limit}
+use Rattle.conf_laws.specs.Fit.{IsWithin, IsCurveIfAny, IsOfKind}
+use Rattle.conf_laws.specs.Statements.{numbered, key_where, drop_whats, curve_whats, class_options}
 use Rattle.conf_laws.proofs.CurvesRead.{within_is, curve_is}
 
 -- words take the settings s to t, whatever words follow
@@ -30,10 +29,10 @@ none_sets = record { on = λ at rest. (at, refl) }
 pub then_sets : {scope : Scope} {s t u : Settings} {p q : List What} → Sets scope s p t → Sets scope t q u → Sets scope s (p ++ q) u
 then_sets {scope} {s} {t} {u} {p} {q} a b = record {
   on = λ at rest.
-    let x = a.on at (q ++ rest) in
-    let y = b.on x.0 rest in
-    let e : (p ++ q) ++ rest ≡ p ++ (q ++ rest) = append_assoc p q rest in
-    (y.0, ap (λ whats. set_options scope s (numbered at whats)) e ∙ (x.1 ∙ y.1));
+      let x = a.on at (q ++ rest) in
+      let y = b.on x.0 rest in
+      let e : (p ++ q) ++ rest ≡ p ++ (q ++ rest) = append_assoc p q rest in
+      (y.0, ap (λ whats. set_options scope s (numbered at whats)) e ∙ (x.1 ∙ y.1));
 }
 
 -- one option after the other
@@ -94,8 +93,11 @@ pub default_sets : (scope : Scope) (s : Settings) (b : Bool) → s.first ≡ fal
     → Sets scope s (key_where key.Default b) (record s { first = b })
 default_sets scope s false e h = same_sets (ap (λ x. record s { first = x }) e)
 default_sets scope s true e h = record {
-  on = λ at rest. (at + 1, ap (λ b. after scope (numbered (at + 1) rest) (cond b (Err (fault_at scope.line at two_defaults)) (Ok (record s { first = true }))))
-    (not_chosen scope.chosen s.first (h refl) e));
+  on = λ at rest. (
+    at + 1,
+    ap (λ b. after scope (numbered (at + 1) rest) (cond b (Err (fault_at scope.line at two_defaults)) (Ok (record s { first = true }))))
+        (not_chosen scope.chosen s.first (h refl) e),
+  );
 }
 
 -- what all options of a class set

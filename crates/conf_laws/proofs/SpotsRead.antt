@@ -1,10 +1,9 @@
 -- The places below a root and below a parent.
-use Rattle.std.proofs.Common.{◌≡◌, ◌≢◌, ℕ, ◌+◌, ◌<◌, ◌≤◌, Bool, true, false, cond, ◌&&◌, ◌||◌, List, Option, Some, None, Result, Ok, Err, codes, bytes_eq, nat_le, slice_get, refl, ap, arith}
+use Rattle.std.proofs.Common.{◌≡◌, ◌≢◌, ℕ, ◌+◌, ◌<◌, false, List, Option, Some, None, Ok, codes, bytes_eq, nat_le, slice_get, refl, arith}
 use Rattle.std.proofs.lemmas.Bool.Decides.{nat_tests}
-use Rattle.conf_lines.specs.declared.fault.ConfPlace.{ConfPlace}
 use Rattle.conf_lines.specs.declared.statement.Statement.{Statement}
 use Rattle.conf_tree.specs.declared.interface.Kind.{Kind}
-use Rattle.conf_tree.specs.Classes.{spot_of, below, below_at, below_number, is_queue}
+use Rattle.conf_tree.specs.Classes.{spot_of, below, is_queue}
 use Rattle.conf_tree.specs.Tree.{Begun, class_number}
 use Rattle.conf_laws.proofs.NamesRead.{names_differ}
 use Rattle.conf_laws.proofs.Types.{Branch, Spot}

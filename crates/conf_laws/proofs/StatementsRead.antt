@@ -1,5 +1,5 @@
 -- Statements that are read one after the other, and those of the interface that is begun last.
-use Rattle.std.proofs.Common.{◌≡◌, ◌⊎◌, ⊎_elim, ℕ, List, [], ◌∷◌, ◌++◌, length, Option, Some, None, Result, Ok, Err, refl, ap, ◌∙◌, append_assoc}
+use Rattle.std.proofs.Common.{◌≡◌, ⊎_elim, ℕ, List, [], ◌∷◌, ◌++◌, length, Some, Result, Ok, Err, refl, ap, ◌∙◌, append_assoc}
 use Rattle.conf_lines.specs.declared.fault.ConfPlace.{ConfPlace}
 use Rattle.conf_lines.specs.declared.statement.Statement.{Statement}
 use Rattle.conf_tree.specs.declared.filter.Addresses.{Addresses}
@@ -15,7 +15,7 @@ use Rattle.conf_tree.specs.Reading.{read_form, read_statement, reading_from}
 use Rattle.conf_tree.specs.Tree.{Begun, interface_number, add_class, add_filter}
 use Rattle.conf_laws.specs.Statements.{class_form, filter_form}
 use Rattle.conf_laws.proofs.NamesRead.{IsNew, interface_is}
-use Rattle.conf_laws.proofs.Places.{get_push, get_pushed, set_pushed}
+use Rattle.conf_laws.proofs.ListPlaces.{get_push, get_pushed, set_pushed}
 use Rattle.conf_laws.proofs.Types.{Branch}
 
 -- statements take the interfaces before them to the next, whatever follows

@@ -38,7 +38,7 @@ IsCurveIfAny least (Some s) = IsCurve least s
 pub data IsOnLevel (classes : List Class) : ℕ → ℕ → Type 0 where
   root : (k : ℕ) (c : Class) → slice_get classes k ≡ Some c → c.parent ≡ None → IsOnLevel classes k 1
   below : (k p level : ℕ) (c : Class) → slice_get classes k ≡ Some c → c.parent ≡ Some p → IsOnLevel classes p level
-    → IsOnLevel classes k (level + 1)
+      → IsOnLevel classes k (level + 1)
 
 -- A class that may be a parent: it is not named NULL, which means that there is no parent; it has no real-time curve, and in HFSC
 -- it is not the default class.

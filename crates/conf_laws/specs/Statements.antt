@@ -67,7 +67,7 @@ cbq_options c =
     (what.Key key.Priority ∷ what.Whole c.priority ∷ what.Key key.Exactbandwidth ∷ what.Rate c.rate ∷ [])
     ++ (key_where key.Borrow c.borrow
     ++ ((what.Key key.Maxburst ∷ what.Whole c.maxburst ∷ what.Key key.Packetsize ∷ what.Whole c.packetsize
-        ∷ what.Key key.Qlimit ∷ what.Whole c.limit ∷ [])
+    ∷ what.Key key.Qlimit ∷ what.Whole c.limit ∷ [])
     ++ (drop_whats c.drop ++ (key_where key.Control c.control ++ key_where key.Default c.first))))
 
 abbrev pub class_options : Kind → Class → List What
