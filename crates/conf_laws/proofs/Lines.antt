@@ -31,10 +31,10 @@ pub record IsWord (word : List ℕ) : Type 0 where
   pub some : 1 ≤ length word
   pub bytes : is_word word ≡ true
 
-pub record IsLine (words : List (List ℕ)) : Type 0 where
-  pub some : 1 ≤ length words
-  pub words : All IsWord words
-  pub short : length (line_of words) ≤ 4097
+pub record IsLine (line : List (List ℕ)) : Type 0 where
+  pub some : 1 ≤ length line
+  pub words : All IsWord line
+  pub short : length (line_of line) ≤ 4097
 
 -- the statements of lines, the first of them having this number
 abbrev pub line_statements : ℕ → List (List (List ℕ)) → List Statement

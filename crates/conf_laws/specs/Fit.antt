@@ -36,8 +36,8 @@ IsCurveIfAny least (Some s) = IsCurve least s
 
 -- a class is on a level: the root on the first, each other class below its parent
 pub data IsOnLevel (classes : List Class) : ℕ → ℕ → Type 0 where
-  pub root : (k : ℕ) (c : Class) → slice_get classes k ≡ Some c → c.parent ≡ None → IsOnLevel classes k 1
-  pub below : (k p level : ℕ) (c : Class) → slice_get classes k ≡ Some c → c.parent ≡ Some p → IsOnLevel classes p level
+  root : (k : ℕ) (c : Class) → slice_get classes k ≡ Some c → c.parent ≡ None → IsOnLevel classes k 1
+  below : (k p level : ℕ) (c : Class) → slice_get classes k ≡ Some c → c.parent ≡ Some p → IsOnLevel classes p level
     → IsOnLevel classes k (level + 1)
 
 -- A class that may be a parent: it is not named NULL, which means that there is no parent; it has no real-time curve, and in HFSC
@@ -87,20 +87,20 @@ pub record IsClass (kind : Kind) (classes : List Class) (k : ℕ) (c : Class) : 
   pub own : IsOfKind kind c
 
 -- so many bytes
-pub record AreBytes (count : ℕ) (bytes : List ℕ) : Type 0 where
-  pub count : length bytes ≡ count
-  pub bytes : All (λ b. b < 256) bytes
+pub record AreBytes (n : ℕ) (list : List ℕ) : Type 0 where
+  pub count : length list ≡ n
+  pub bytes : All (λ b. b < 256) list
 
 -- addresses under their masks
-pub record IsMasked (address mask : List ℕ) : Type 0 where
-  pub address : AreBytes 4 address
-  pub mask : AreBytes 4 mask
-  pub under : masked address mask ≡ address
+pub record IsMasked (a m : List ℕ) : Type 0 where
+  pub address : AreBytes 4 a
+  pub mask : AreBytes 4 m
+  pub under : masked a m ≡ a
 
-pub record IsPrefix (address : List ℕ) (bits : ℕ) : Type 0 where
-  pub address : AreBytes 16 address
-  pub bits : bits ≤ 128
-  pub first : prefix bits address ≡ address
+pub record IsPrefix (a : List ℕ) (n : ℕ) : Type 0 where
+  pub address : AreBytes 16 a
+  pub bits : n ≤ 128
+  pub first : prefix n a ≡ a
 
 abbrev pub AreAddresses : Addresses → Type 0
 AreAddresses (V4 target target_mask source source_mask) = IsMasked target target_mask × IsMasked source source_mask
