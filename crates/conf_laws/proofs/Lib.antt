@@ -1,3 +1,6 @@
 pub mod Lines
+pub mod Marks
+pub mod NameBytes
+pub mod Numerals
 pub mod Printed
 pub mod ReadLines
