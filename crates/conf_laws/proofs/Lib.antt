@@ -1,4 +1,5 @@
 pub mod Dotted
+pub mod Groups
 pub mod Lines
 pub mod Marks
 pub mod NameBytes
