@@ -61,7 +61,7 @@ hex_is_group n small =
 is_within : (m n : ℕ) → m ≤ n → nat_le m n ≡ true
 is_within m n h = grind (arith, nat_tests)
 
-hex_bytes : (x y : ℕ) → x < 256 → y < 256 → group_bytes (hex (x * 256 + y)) ≡ Some (x ∷ y ∷ [])
+pub hex_bytes : (x y : ℕ) → x < 256 → y < 256 → group_bytes (hex (x * 256 + y)) ≡ Some (x ∷ y ∷ [])
 hex_bytes x y p q =
     let is = digits_is_IsNumeral 16 false (omega arith) (omega arith) (x * 256 + y) (omega arith) in
     let high : (x * 256 + y) / 256 ≡ x = omega arith in
@@ -86,13 +86,13 @@ pieces-front : (front rest : List ℕ) → Lacks 58 front → pieces (front ++ 5
 pieces-front [] rest h = refl
 pieces-front (byte ∷ front) rest h = rw h.0 (ap (with_first byte) (pieces-front front rest h.1))
 
-pieces-colons : (piece : List ℕ) (rest : List (List ℕ)) → AreGroups (piece ∷ rest) → pieces (with_colons (piece ∷ rest)) ≡ piece ∷ rest
+pub pieces-colons : (piece : List ℕ) (rest : List (List ℕ)) → AreGroups (piece ∷ rest) → pieces (with_colons (piece ∷ rest)) ≡ piece ∷ rest
 pieces-colons piece [] h = pieces-whole piece h.0.colon
 pieces-colons piece (next ∷ rest) h =
     pieces-front piece (with_colons (next ∷ rest)) h.0.colon ∙ ap (λ found. piece ∷ found) (pieces-colons next rest h.1)
 
 -- no two colons stand side by side
-abbrev HasNoGap : List ℕ → Type 0
+abbrev pub HasNoGap : List ℕ → Type 0
 HasNoGap text = (at : ℕ) → gap_from at text ≡ None
 
 and-first : (a b : Bool) → a ≡ false → (a && b) ≡ false
@@ -114,7 +114,7 @@ first-colons : (piece : List ℕ) (rest : List (List ℕ)) → IsGroup piece →
 first-colons piece [] is = rw append-nil at (first_byte piece [] is)
 first-colons piece (next ∷ rest) is = first_byte piece (58 ∷ with_colons (next ∷ rest)) is
 
-no_gap-colons : (piece : List ℕ) (rest : List (List ℕ)) → AreGroups (piece ∷ rest) → HasNoGap (with_colons (piece ∷ rest))
+pub no_gap-colons : (piece : List ℕ) (rest : List (List ℕ)) → AreGroups (piece ∷ rest) → HasNoGap (with_colons (piece ∷ rest))
 no_gap-colons piece [] h = no_gap-whole piece h.0.colon
 no_gap-colons piece (next ∷ rest) h =
     no_gap-front piece (with_colons (next ∷ rest)) h.0.colon (first-colons next rest h.1.0) (no_gap-colons next rest h.1)

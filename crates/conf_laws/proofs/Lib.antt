@@ -1,5 +1,6 @@
 pub mod Dotted
 pub mod Groups
+pub mod Ip6
 pub mod Lines
 pub mod Marks
 pub mod NameBytes
