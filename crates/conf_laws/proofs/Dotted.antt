@@ -1,6 +1,5 @@
 -- IPv4 addresses: four decimal numbers, joined by points.
-use Rattle.std.proofs.Common.{◌≡◌, ℕ, ◌+◌, ◌<◌, ◌≤◌, ◌^◌, ◌++◌, true, List, [], ◌∷◌, Some, length, nat_le, slice_index, decimal, refl, ap, ◌∙◌, arith}
-use Rattle.std.proofs.lemmas.Bool.Decides.{nat_tests}
+use Rattle.std.proofs.Common.{◌≡◌, ℕ, ◌+◌, ◌<◌, ◌≤◌, ◌++◌, true, List, [], ◌∷◌, Some, length, slice_index, decimal, refl, ap, ◌∙◌, arith, le-leb}
 use Rattle.std.proofs.lemmas.Fmt.{decimal_is_IsNumeral, length-decimal-le}
 use Rattle.std.proofs.lemmas.List.{length-append}
 use Rattle.line_text.specs.Addresses.{octet, ip4_of}
@@ -8,16 +7,13 @@ use Rattle.conf_lines.specs.Slots.{are_name_bytes}
 use Rattle.conf_tree.specs.Canonical.{ip4_word}
 use Rattle.conf_laws.specs.Fit.{AreBytes}
 use Rattle.conf_laws.proofs.Marks.{Lacks, cut-front}
-use Rattle.conf_laws.proofs.NameBytes.{name_bytes-append, digits-name_bytes}
+use Rattle.conf_laws.proofs.NameBytes.{name_bytes-append, decimal_bytes}
 use Rattle.conf_laws.proofs.Numerals.{numeral_lacks, decimal_number}
-
-is_within : (m n : ℕ) → m ≤ n → nat_le m n ≡ true
-is_within m n h = grind (arith, nat_tests)
 
 decimal_octet : (n : ℕ) → n < 256 → octet (decimal n) ≡ Some n
 decimal_octet n small =
     let short : length (decimal n) ≤ 3 = length-decimal-le 3 n (omega arith) (omega arith) (omega arith) in
-    rw (decimal_number n (omega arith), is_within (length (decimal n)) 3 short, is_within n 255 (omega arith)) refl
+    rw (decimal_number n (omega arith), le-leb (length (decimal n)) 3 short, le-leb n 255 (omega arith)) refl
 
 decimal_lacks : (n : ℕ) → n < 256 → Lacks 46 (decimal n)
 decimal_lacks n small = numeral_lacks 10 46 (decimal n) (decimal_is_IsNumeral n (omega arith)).0.1 (omega arith)
@@ -27,13 +23,15 @@ dotted a b c d = decimal a ++ 46 ∷ (decimal b ++ 46 ∷ (decimal c ++ 46 ∷ d
 
 dotted_read : (a b c d : ℕ) → a < 256 → b < 256 → c < 256 → d < 256 → ip4_of (dotted a b c d) ≡ Some (a ∷ b ∷ c ∷ d ∷ [])
 dotted_read a b c d p q r s =
-    rw (cut-front 46 (decimal a) (decimal b ++ 46 ∷ (decimal c ++ 46 ∷ decimal d)) (decimal_lacks a p),
-    cut-front 46 (decimal b) (decimal c ++ 46 ∷ decimal d) (decimal_lacks b q),
-    cut-front 46 (decimal c) (decimal d) (decimal_lacks c r),
-    decimal_octet a p, decimal_octet b q, decimal_octet c r, decimal_octet d s) refl
-
-decimal_bytes : (n : ℕ) → n < 2 ^ 64 → are_name_bytes (decimal n) ≡ true
-decimal_bytes n small = digits-name_bytes 10 (decimal n) (omega arith) (decimal_is_IsNumeral n small).0.1
+    rw (
+      cut-front 46 (decimal a) (decimal b ++ 46 ∷ (decimal c ++ 46 ∷ decimal d)) (decimal_lacks a p),
+      cut-front 46 (decimal b) (decimal c ++ 46 ∷ decimal d) (decimal_lacks b q),
+      cut-front 46 (decimal c) (decimal d) (decimal_lacks c r),
+      decimal_octet a p,
+      decimal_octet b q,
+      decimal_octet c r,
+      decimal_octet d s,
+    ) refl
 
 dotted_bytes : (a b c d : ℕ) → a < 256 → b < 256 → c < 256 → d < 256 → are_name_bytes (dotted a b c d) ≡ true
 dotted_bytes a b c d p q r s =
@@ -58,8 +56,12 @@ decimal_len n small = ((decimal_is_IsNumeral n (omega arith)).0.0, length-decima
 
 dotted_len : (a b c d : ℕ) → length (dotted a b c d) ≡ length (decimal a) + length (decimal b) + length (decimal c) + length (decimal d) + 3
 dotted_len a b c d =
-    omega (arith, length-append (decimal a) (46 ∷ (decimal b ++ 46 ∷ (decimal c ++ 46 ∷ decimal d))),
-    length-append (decimal b) (46 ∷ (decimal c ++ 46 ∷ decimal d)), length-append (decimal c) (46 ∷ decimal d))
+    omega (
+      arith,
+      length-append (decimal a) (46 ∷ (decimal b ++ 46 ∷ (decimal c ++ 46 ∷ decimal d))),
+      length-append (decimal b) (46 ∷ (decimal c ++ 46 ∷ decimal d)),
+      length-append (decimal c) (46 ∷ decimal d),
+    )
 
 dotted_range : (a b c d : ℕ) → a < 256 → b < 256 → c < 256 → d < 256 → (7 ≤ length (dotted a b c d)) × (length (dotted a b c d) ≤ 15)
 dotted_range a b c d p q r s = omega (arith, dotted_len a b c d, decimal_len a p, decimal_len b q, decimal_len c r, decimal_len d s)

@@ -1,18 +1,16 @@
 -- IPv6 addresses: eight groups of hexadecimal digits, joined by colons.
-use Rattle.std.proofs.Common.{◌≡◌, ℕ, zero, suc, ◌+◌, ◌-◌, ◌*◌, ◌/◌, ◌%◌, ◌<◌, ◌≤◌, ◌^◌, ◌++◌, ◌&&◌, Bool, true, false, cond, List, [], ◌∷◌, Some, None, length, eqb, nat_lt, nat_le, slice_index, eq-eqb, refl, ap, ap₂, sym, ◌∙◌, arith}
+use Rattle.std.proofs.Common.{◌≡◌, ℕ, zero, suc, ◌+◌, ◌*◌, ◌/◌, ◌%◌, ◌<◌, ◌≤◌, ◌^◌, ◌++◌, Bool, true, false, cond, List, [], ◌∷◌, Some, None, length, eqb, slice_index, refl, ap, ◌∙◌, arith, le-leb}
 use Rattle.std.proofs.lemmas.Bool.Decides.{nat_tests}
 use Rattle.std.proofs.lemmas.Fmt.{digits_is_IsNumeral}
-use Rattle.std.proofs.lemmas.List.{append_assoc, append-nil, length-append}
+use Rattle.std.proofs.lemmas.List.{append-nil}
 use Rattle.std.specs.Fmt.{digits, digits_onto, digit_glyph}
-use Rattle.line_text.specs.Addresses.{pieces, groups_of, all_groups, gap_from, ip6_of}
-use Rattle.line_text.specs.Addresses.{group as group_bytes, groups as bytes_of_groups}
-use Rattle.line_text.specs.Numbers.{number}
+use Rattle.line_text.specs.Addresses.{pieces, gap_from}
+use Rattle.line_text.specs.Addresses.{group as group_bytes}
 use Rattle.line_text.specs.Words.{with_first}
 use Rattle.conf_lines.specs.Slots.{are_name_bytes}
-use Rattle.conf_tree.specs.Canonical.{hex, ip6_word}
-use Rattle.conf_laws.specs.Fit.{AreBytes}
-use Rattle.conf_laws.proofs.Marks.{Lacks, lacks-append}
-use Rattle.conf_laws.proofs.NameBytes.{name_bytes-append, digits-name_bytes}
+use Rattle.conf_tree.specs.Canonical.{hex}
+use Rattle.conf_laws.proofs.Marks.{Lacks}
+use Rattle.conf_laws.proofs.NameBytes.{digits-name_bytes}
 use Rattle.conf_laws.proofs.Numerals.{numeral_number, numeral_lacks}
 
 -- the length of a group
@@ -58,15 +56,12 @@ hex_is_group n small =
       bytes = digits-name_bytes 16 (hex n) (omega arith) is.0.1;
     }
 
-is_within : (m n : ℕ) → m ≤ n → nat_le m n ≡ true
-is_within m n h = grind (arith, nat_tests)
-
 pub hex_bytes : (x y : ℕ) → x < 256 → y < 256 → group_bytes (hex (x * 256 + y)) ≡ Some (x ∷ y ∷ [])
 hex_bytes x y p q =
     let is = digits_is_IsNumeral 16 false (omega arith) (omega arith) (x * 256 + y) (omega arith) in
     let high : (x * 256 + y) / 256 ≡ x = omega arith in
     let low : (x * 256 + y) % 256 ≡ y = omega arith in
-    rw (numeral_number 16 (x * 256 + y) (hex (x * 256 + y)) is.0 is.1 (omega arith), is_within (length (hex (x * 256 + y))) 4 (hex_len (x * 256 + y) (omega arith)), high, low) refl
+    rw (numeral_number 16 (x * 256 + y) (hex (x * 256 + y)) is.0 is.1 (omega arith), le-leb (length (hex (x * 256 + y))) 4 (hex_len (x * 256 + y) (omega arith)), high, low) refl
 
 -- groups joined by colons
 abbrev pub with_colons : List (List ℕ) → List ℕ
@@ -94,9 +89,6 @@ pieces-colons piece (next ∷ rest) h =
 -- no two colons stand side by side
 abbrev pub HasNoGap : List ℕ → Type 0
 HasNoGap text = (at : ℕ) → gap_from at text ≡ None
-
-and-first : (a b : Bool) → a ≡ false → (a && b) ≡ false
-and-first a b h = rw h refl
 
 no_gap-whole : (text : List ℕ) → Lacks 58 text → HasNoGap text
 no_gap-whole [] h at = refl

@@ -1,12 +1,12 @@
 -- IPv6 addresses as words: sixteen bytes as eight groups.
-use Rattle.std.proofs.Common.{◌≡◌, ℕ, ◌+◌, ◌-◌, ◌*◌, ◌<◌, ◌≤◌, ◌++◌, true, List, [], ◌∷◌, All, Option, Some, None, option_and_then, length, get_or, slice_index, nat_le, refl, ap, sym, ◌∙◌, arith}
+use Rattle.std.proofs.Common.{◌≡◌, ℕ, ◌+◌, ◌-◌, ◌*◌, ◌<◌, ◌≤◌, ◌++◌, true, List, [], ◌∷◌, All, Some, None, length, refl, arith}
 use Rattle.std.proofs.lemmas.List.{append_assoc, length-append}
 use Rattle.std.proofs.lemmas.List.Elements.{All-head, All-tail}
-use Rattle.line_text.specs.Addresses.{pieces, groups, gap_from, gap, groups_of, all_groups, ip6_parts, ip6_of}
+use Rattle.line_text.specs.Addresses.{groups, gap_from, gap, ip6_of}
 use Rattle.conf_lines.specs.Slots.{are_name_bytes}
 use Rattle.conf_tree.specs.Canonical.{hex, ip6_word}
 use Rattle.conf_laws.specs.Fit.{AreBytes}
-use Rattle.conf_laws.proofs.Groups.{IsGroup, AreGroups, HasNoGap, hex_is_group, hex_bytes, with_colons, pieces-colons, no_gap-colons}
+use Rattle.conf_laws.proofs.Groups.{AreGroups, hex_is_group, hex_bytes, with_colons, pieces-colons, no_gap-colons}
 use Rattle.conf_laws.proofs.Marks.{Lacks, lacks-append}
 use Rattle.conf_laws.proofs.NameBytes.{name_bytes-append}
 

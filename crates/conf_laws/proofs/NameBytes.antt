@@ -1,7 +1,8 @@
 -- Printed words are of bytes that a NAME may have: each is plain, and a byte of a word of a line.
-use Rattle.std.proofs.Common.{◌≡◌, ℕ, ◌≤◌, ◌<◌, ◌++◌, ◌&&◌, true, List, [], ◌∷◌, length, nat_le, refl, arith}
+use Rattle.std.proofs.Common.{◌≡◌, ℕ, ◌≤◌, ◌<◌, ◌++◌, ◌&&◌, true, List, [], ◌∷◌, length, nat_le, refl, arith, leb-true, decimal, ◌^◌}
 use Rattle.std.proofs.lemmas.Bool.{and_parts}
 use Rattle.std.proofs.lemmas.Bool.Decides.{nat_tests}
+use Rattle.std.proofs.lemmas.Fmt.{decimal_is_IsNumeral}
 use Rattle.std.specs.Char.{digit_value}
 use Rattle.std.specs.Str.Parse.{AllDigits}
 use Rattle.conf_lines.specs.Slots.{is_name_byte, are_name_bytes, are_plain, is_name}
@@ -43,18 +44,18 @@ digits-name_bytes radix [] most h = refl
 digits-name_bytes radix (byte ∷ text) most h =
     rw (digit-name_byte byte (omega (arith, h.0)), digits-name_bytes radix text most h.1) refl
 
+pub decimal_bytes : (n : ℕ) → n < 2 ^ 64 → are_name_bytes (decimal n) ≡ true
+decimal_bytes n small = digits-name_bytes 10 (decimal n) (omega arith) (decimal_is_IsNumeral n small).0.1
+
 -- what a NAME has
 pub record HasName (word : List ℕ) : Type 0 where
   pub some : 1 ≤ length word
   pub most : length word ≤ 64
   pub bytes : are_name_bytes word ≡ true
 
-below : (m n : ℕ) → nat_le m n ≡ true → m ≤ n
-below m n h = grind (arith, nat_tests)
-
 pub name_has : (word : List ℕ) → is_name word ≡ true → HasName word
 unfolding is_name
 name_has word h =
     let parts = and_parts (nat_le 1 (length word) && nat_le (length word) 64) (are_name_bytes word) h in
     let lengths = and_parts (nat_le 1 (length word)) (nat_le (length word) 64) parts.0 in
-    record { some = below _ _ lengths.0; most = below _ _ lengths.1; bytes = parts.1 }
+    record { some = leb-true _ _ lengths.0; most = leb-true _ _ lengths.1; bytes = parts.1 }

@@ -1,5 +1,5 @@
 -- Numerals: what digits say, and how they are read as a number.
-use Rattle.std.proofs.Common.{◌≡◌, ◌≢◌, ℕ, zero, suc, ◌+◌, ◌-◌, ◌*◌, ◌/◌, ◌%◌, ◌<◌, ◌≤◌, ◌^◌, ◌&&◌, Bool, true, false, cond, List, [], ◌∷◌, Option, Some, None, length, eqb, nat_lt, get_or, slice_index, decimal, refl, sym, ap, ◌∙◌, arith}
+use Rattle.std.proofs.Common.{◌≡◌, ℕ, zero, suc, ◌+◌, ◌-◌, ◌*◌, ◌/◌, ◌%◌, ◌<◌, ◌≤◌, ◌^◌, ◌&&◌, Bool, true, false, List, [], ◌∷◌, Some, None, length, eqb, get_or, slice_index, decimal, refl, ap, arith, lt-ltb}
 use Rattle.std.proofs.lemmas.Bool.Decides.{nat_tests}
 use Rattle.std.proofs.lemmas.Fmt.{decimal_is_IsNumeral}
 use Rattle.std.proofs.lemmas.Str.Parse.{digit_from_value}
@@ -8,17 +8,14 @@ use Rattle.std.specs.Str.Parse.{AllDigits, IsNumeral, digits_value}
 use Rattle.line_text.specs.Numbers.{are_digits, number, whole_of, multiple_of, scaled, mantissa, rate_of}
 use Rattle.conf_laws.proofs.Marks.{Lacks, cut-none}
 
-is_below : (m n : ℕ) → m < n → nat_lt m n ≡ true
-is_below m n h = grind (arith, nat_tests)
-
 digits_are : (radix : ℕ) (text : List ℕ) → AllDigits radix text → are_digits radix text ≡ true
 digits_are radix [] h = refl
-digits_are radix (byte ∷ text) h = rw (is_below (digit_value byte) radix h.0) (digits_are radix text h.1)
+digits_are radix (byte ∷ text) h = rw (lt-ltb (digit_value byte) radix h.0) (digits_are radix text h.1)
 
 -- the number that a numeral writes
 pub numeral_number : (radix n : ℕ) (text : List ℕ) → IsNumeral radix text → digits_value radix text ≡ n → n < 2 ^ 64 → number radix text ≡ Some n
 numeral_number radix n text is e small =
-    rw (digits_are radix text is.1, is_below 0 (length text) is.0, e, is_below n (2 ^ 64) small) refl
+    rw (digits_are radix text is.1, lt-ltb 0 (length text) is.0, e, lt-ltb n (2 ^ 64) small) refl
 
 -- a byte that is no digit stands in no numeral
 other_byte : (byte mark : ℕ) → digit_value byte < digit_value mark → eqb byte mark ≡ false
@@ -66,7 +63,7 @@ scaled_whole n small =
     let same : (n * 1 + 0) * 1 ≡ n = omega arith in
     let whole : n % 1 ≡ 0 = omega arith in
     let part : n / 1 ≡ n = omega arith in
-    rw (same, whole, part, is_below n (2 ^ 64) small) refl
+    rw (same, whole, part, lt-ltb n (2 ^ 64) small) refl
 
 mantissa_whole : (n : ℕ) (text : List ℕ) → number 10 text ≡ Some n → n < 2 ^ 64 → mantissa 1 text None ≡ Some n
 mantissa_whole n text e small = rw e (scaled_whole n small)
@@ -74,6 +71,8 @@ mantissa_whole n text e small = rw e (scaled_whole n small)
 pub decimal_rate : (n : ℕ) → n < 2 ^ 64 → rate_of (decimal n) ≡ Some n
 decimal_rate n small =
     let is = decimal_is_IsNumeral n small in
-    rw (no_letter (slice_index (decimal n) (length (decimal n) - 1)) (digit_most (decimal n) (length (decimal n) - 1) is.0.1),
-    cut-none 46 (decimal n) (numeral_lacks 10 46 (decimal n) is.0.1 (omega arith)))
+    rw (
+      no_letter (slice_index (decimal n) (length (decimal n) - 1)) (digit_most (decimal n) (length (decimal n) - 1) is.0.1),
+      cut-none 46 (decimal n) (numeral_lacks 10 46 (decimal n) is.0.1 (omega arith)),
+    )
     (mantissa_whole n (decimal n) (decimal_number n small) small)

@@ -1,9 +1,7 @@
 -- What is printed is read: each word of the canonical text says the number, the name or the address that it was printed from.
-use Rattle.std.proofs.Common.{◌≡◌, ◌≢◌, ℕ, ◌+◌, ◌≤◌, ◌<◌, ◌^◌, true, List, [], ◌∷◌, ◌++◌, length, get_or, nat_le, Some, Ok, codes, decimal, refl, ap, arith}
-use Rattle.std.proofs.lemmas.Bool.Decides.{nat_tests}
+use Rattle.std.proofs.Common.{◌≡◌, ◌≢◌, ℕ, ◌≤◌, ◌<◌, ◌^◌, true, List, ◌∷◌, ◌++◌, length, get_or, Ok, codes, decimal, refl, ap, arith, le-leb}
 use Rattle.std.proofs.lemmas.Fmt.{decimal_is_IsNumeral, length-decimal-le}
 use Rattle.std.proofs.lemmas.List.{length-append}
-use Rattle.conf_lines.specs.declared.item.What.{What}
 use Rattle.conf_lines.specs.declared.item.What.TheVariants.{Name, Ip4, Ip6}
 use Rattle.conf_lines.specs.Slots.{are_name_bytes, are_plain, rate_in, whole_in, name_in, protocol_in, mask_in, address_in, address6_in}
 use Rattle.conf_tree.specs.Canonical.{ip4_word, ip6_word}
@@ -12,15 +10,9 @@ use Rattle.conf_laws.proofs.Dotted.{ip4_read, ip4_bytes, ip4_range}
 use Rattle.conf_laws.proofs.Ip6.{ip6_read, ip6_lacks, ip6_bytes, ip6_most}
 use Rattle.conf_laws.proofs.Lines.{IsWord}
 use Rattle.conf_laws.proofs.Marks.{cut-front}
-use Rattle.conf_laws.proofs.NameBytes.{name_bytes-append, name_bytes-plain, name_bytes-word, digits-name_bytes, name_has}
+use Rattle.conf_laws.proofs.NameBytes.{name_bytes-append, name_bytes-plain, name_bytes-word, decimal_bytes, name_has}
 use Rattle.conf_laws.proofs.Numerals.{digit_most, decimal_number, decimal_whole, decimal_rate}
 use Rattle.conf_laws.proofs.OtherTexts.{not_text}
-
-is_within : (m n : ℕ) → m ≤ n → nat_le m n ≡ true
-is_within m n h = grind (arith, nat_tests)
-
-decimal_bytes : (n : ℕ) → n < 2 ^ 64 → are_name_bytes (decimal n) ≡ true
-decimal_bytes n small = digits-name_bytes 10 (decimal n) (omega arith) (decimal_is_IsNumeral n small).0.1
 
 decimal_plain : (n : ℕ) → n < 2 ^ 64 → are_plain (decimal n) ≡ true
 decimal_plain n small = name_bytes-plain (decimal n) (decimal_bytes n small)
@@ -28,12 +20,12 @@ decimal_plain n small = name_bytes-plain (decimal n) (decimal_bytes n small)
 pub whole_printed : (low high n : ℕ) → low ≤ n → n ≤ high → high < 2 ^ 64 → whole_in low high (decimal n) ≡ Ok n
 unfolding whole_in
 whole_printed low high n least most small =
-    rw (decimal_plain n (omega arith), decimal_whole n (omega arith), is_within low n least, is_within n high most) refl
+    rw (decimal_plain n (omega arith), decimal_whole n (omega arith), le-leb low n least, le-leb n high most) refl
 
 pub rate_printed : (low high n : ℕ) → low ≤ n → n ≤ high → high < 2 ^ 64 → rate_in low high (decimal n) ≡ Ok n
 unfolding rate_in
 rate_printed low high n least most small =
-    rw (decimal_plain n (omega arith), decimal_rate n (omega arith), is_within low n least, is_within n high most) refl
+    rw (decimal_plain n (omega arith), decimal_rate n (omega arith), le-leb low n least, le-leb n high most) refl
 
 -- no number is a text that begins with a letter
 letter_first : (n : ℕ) (text : List ℕ) → n < 2 ^ 64 → 57 < get_or text 0 0 → decimal n ≢ text
@@ -44,9 +36,11 @@ letter_first n text small letter e =
 pub protocol_printed : (n : ℕ) → n ≤ 255 → protocol_in (decimal n) ≡ Ok n
 unfolding protocol_in
 protocol_printed n most =
-    rw (not_text (codes "icmp") (decimal n) (letter_first n (codes "icmp") (omega arith) (omega arith)),
-    not_text (codes "tcp") (decimal n) (letter_first n (codes "tcp") (omega arith) (omega arith)),
-    not_text (codes "udp") (decimal n) (letter_first n (codes "udp") (omega arith) (omega arith)))
+    rw (
+      not_text (codes "icmp") (decimal n) (letter_first n (codes "icmp") (omega arith) (omega arith)),
+      not_text (codes "tcp") (decimal n) (letter_first n (codes "tcp") (omega arith) (omega arith)),
+      not_text (codes "udp") (decimal n) (letter_first n (codes "udp") (omega arith) (omega arith)),
+    )
     (whole_printed 0 255 n (omega arith) most (omega arith))
 
 pub name_is_read : (name : List ℕ) → IsName name → name_in name ≡ Ok (Name name)
@@ -75,9 +69,14 @@ prefix_is_no_zero a bits most e =
 pub prefix_printed : (a : List ℕ) (bits : ℕ) → AreBytes 16 a → bits ≤ 128 → address6_in (ip6_word a ++ (codes "/" ++ decimal bits)) ≡ Ok (Ip6 a bits)
 unfolding address6_in
 prefix_printed a bits bytes most =
-    rw (not_text (codes "0") (ip6_word a ++ 47 ∷ decimal bits) (prefix_is_no_zero a bits most),
-    name_bytes-plain (ip6_word a ++ 47 ∷ decimal bits) (prefix_bytes a bits bytes most),
-    cut-front 47 (ip6_word a) (decimal bits) (ip6_lacks a bytes), ip6_read a bytes, decimal_number bits (omega arith), is_within bits 128 most) refl
+    rw (
+      not_text (codes "0") (ip6_word a ++ 47 ∷ decimal bits) (prefix_is_no_zero a bits most),
+      name_bytes-plain (ip6_word a ++ 47 ∷ decimal bits) (prefix_bytes a bits bytes most),
+      cut-front 47 (ip6_word a) (decimal bits) (ip6_lacks a bytes),
+      ip6_read a bytes,
+      decimal_number bits (omega arith),
+      le-leb bits 128 most,
+    ) refl
 
 -- each of them is a word of a line, of at most so many bytes
 pub decimal_is_word : (n : ℕ) → n < 2 ^ 64 → IsWord (decimal n)

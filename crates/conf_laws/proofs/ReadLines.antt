@@ -1,5 +1,5 @@
 -- Lines of words are read line by line and word by word.
-use Rattle.std.proofs.Common.{◌≡◌, ℕ, zero, suc, ◌+◌, ◌-◌, ◌<◌, ◌≤◌, ◌++◌, ◌&&◌, Bool, true, false, not, cond, List, [], ◌∷◌, All, Some, length, take, drop, eqb, nat_lt, slice_index, refl, sym, ap, ap₂, ◌∙◌, suc-add, arith}
+use Rattle.std.proofs.Common.{◌≡◌, ℕ, zero, suc, ◌+◌, ◌<◌, ◌≤◌, ◌++◌, true, false, cond, List, [], ◌∷◌, All, Some, length, take, drop, eqb, refl, sym, ap, ap₂, ◌∙◌, arith, le-ltb}
 use Rattle.std.proofs.lemmas.Bool.{and_parts}
 use Rattle.std.proofs.lemmas.Bool.Decides.{nat_tests}
 use Rattle.std.proofs.lemmas.List.{append_assoc, append-nil, length-append}
@@ -8,9 +8,9 @@ use Rattle.std.proofs.lemmas.List.Sums.{sum_by-cons}
 use Rattle.line_text.specs.Lines.{joint, joined, line_len}
 use Rattle.line_text.specs.Words.{is_blank, words_of, word_list}
 use Rattle.line_text.proofs.Splitting.{ArePlain, words_of-blank, words_of-end}
-use Rattle.conf_lines.specs.declared.statement.Statement.{Statement}
 use Rattle.conf_lines.specs.Grammar.{start}
-use Rattle.conf_lines.specs.Texts.{as_statement, before, by_words, line_feeds, line_too_long, read_from, statement_of, statements_in, statements_of}
+use Rattle.conf_lines.specs.Texts.{as_statement, before, by_words, line_feeds, read_from, statement_of, statements_in, statements_of}
+use Rattle.conf_laws.proofs.Marks.{take-through, drop-front}
 use Rattle.conf_laws.proofs.Lines.{rest_of, line_of, lines_text, is_word_byte, is_word, IsWord, IsLine, line_statements}
 
 -- the bytes of a line before its line feed
@@ -63,9 +63,10 @@ word-plain (byte ∷ word) h =
 
 behind-stays : (words : List (List ℕ)) → All IsWord words → StayOn (behind_first words)
 behind-stays [] are = tt
-behind-stays (word ∷ words) are =
-    (record { feed = refl; hash = refl; slash = refl },
-    stay_on-append word (behind_first words) (word-stays word (All-head IsWord word words are).bytes) (behind-stays words (All-tail IsWord word words are)))
+behind-stays (word ∷ words) are = (
+  record { feed = refl; hash = refl; slash = refl },
+  stay_on-append word (behind_first words) (word-stays word (All-head IsWord word words are).bytes) (behind-stays words (All-tail IsWord word words are)),
+)
 
 body-stays : (words : List (List ℕ)) → All IsWord words → StayOn (body words)
 body-stays [] are = tt
@@ -107,26 +108,14 @@ words-body word (next ∷ words) are =
     words_of-blank word 32 (body (next ∷ words)) (word-plain word is.bytes) refl
     ∙ ap₂ (λ front back. front ++ back) (one_word word is.some) (words-body next words (All-tail IsWord word (next ∷ words) are))
 
--- a front of a text, and what is behind it
-take-front : (front : List ℕ) (byte : ℕ) (rest : List ℕ) → take (length front + 1) (front ++ byte ∷ rest) ≡ front ++ byte ∷ []
-take-front [] byte rest = refl
-take-front (first ∷ front) byte rest = rw suc-add (ap (λ bytes. first ∷ bytes) (take-front front byte rest))
-
-drop-front : (front : List ℕ) (byte : ℕ) (rest : List ℕ) → drop (length front + 1) (front ++ byte ∷ rest) ≡ rest
-drop-front [] byte rest = refl
-drop-front (first ∷ front) byte rest = rw suc-add (drop-front front byte rest)
-
 -- the statement of a line
-not_long : (m n : ℕ) → m ≤ n → nat_lt n m ≡ false
-not_long m n h = grind (arith, nat_tests)
-
 statement-line : (line : ℕ) (words : List (List ℕ)) → IsLine words
     → statement_of line (body words ++ 10 ∷ []) ≡ Some (as_statement line (length words + 1) (read_from line words start 1))
 statement-line line [] is = absurd (omega (arith, is.some))
 statement-line line (word ∷ words) is =
     let on = body-stays (word ∷ words) is.words in
     let whole : length (body (word ∷ words)) + 1 ≤ 4097 = omega (arith, is.short, ap length (line_of-body (word ∷ words)), length-append (body (word ∷ words)) (10 ∷ [])) in
-    rw (joined-body (body (word ∷ words)) [] on, not_long (length (body (word ∷ words))) 4096 (omega arith))
+    rw (joined-body (body (word ∷ words)) [] on, le-ltb 4096 (length (body (word ∷ words))) (omega arith))
     (ap (by_words line) (words-body word words is.words))
 
 -- one logical line of a text
@@ -144,7 +133,7 @@ line_turn turn line words rest is =
     let e : line_of words ++ rest ≡ body words ++ 10 ∷ rest = ap (λ bytes. bytes ++ rest) (line_of-body words) ∙ append_assoc (body words) (10 ∷ []) rest in
     let some : 0 < length (body words ++ 10 ∷ rest) = omega (arith, length-append (body words) (10 ∷ rest)) in
     rw e (one_turn turn line (body words ++ 10 ∷ rest) some
-    ∙ rw (line_len-body (body words) rest on, take-front, drop-front, one_feed (body words) on, statement-line line words is) refl)
+    ∙ rw (line_len-body (body words) rest on, take-through, drop-front, one_feed (body words) on, statement-line line words is) refl)
 
 -- as many turns as bytes are enough
 lines_in : (turns line : ℕ) (lines : List (List (List ℕ))) → All IsLine lines → length (lines_text lines) ≤ turns
@@ -157,7 +146,7 @@ lines_in zero line (words ∷ lines) are enough =
 lines_in (suc turns) line (words ∷ lines) are enough =
     let is = All-head IsLine words lines are in
     let rest : length (lines_text lines) ≤ turns =
-        omega (arith, enough, length-append (line_of words) (lines_text lines), ap length (line_of-body words), length-append (body words) (10 ∷ [])) in
+    omega (arith, enough, length-append (line_of words) (lines_text lines), ap length (line_of-body words), length-append (body words) (10 ∷ [])) in
     line_turn turns line words (lines_text lines) is
     ∙ ap (λ found. as_statement line (length words + 1) (read_from line words start 1) ∷ found) (lines_in turns (line + 1) lines (All-tail IsLine words lines are) rest)
 
