@@ -3,4 +3,4 @@
 
 mod laws;
 
-pub use laws::statements_are_read;
+pub use laws::{statements_are_read, text_has_its_statements};

@@ -1,2 +1,5 @@
+pub mod FilterSteps
+pub mod GrammarPlaces
 pub mod Names
 pub mod OneLine
+pub mod Steps
