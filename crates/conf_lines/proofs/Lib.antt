@@ -2,4 +2,6 @@ pub mod FilterSteps
 pub mod GrammarPlaces
 pub mod Names
 pub mod OneLine
+pub mod SoundAddresses
+pub mod SoundItems
 pub mod Steps

@@ -5,6 +5,7 @@
 mod fault;
 mod grammar;
 mod item;
+mod laws;
 mod options;
 mod slot;
 mod statement;
@@ -12,6 +13,7 @@ mod step;
 
 pub use fault::{ConfFault, ConfPlace};
 pub use item::{Item, Items, Key, Text, What};
+pub use laws::items_are_sound;
 pub use statement::{Form, Statement, statements};
 
 #[cfg(test)]

@@ -1,0 +1,228 @@
+-- What the options of a class set is in its range.
+use Rattle.std.proofs.Common.{◌≡◌, ◌⊎◌, inr, ℕ, ◌*◌, ◌/◌, ◌^◌, ◌<◌, ◌≤◌, ◌==◌, ◌&&◌, ◌||◌, Bool, true, false, cond, List, [], ◌∷◌, Option, Some, None, Result, Ok, Err, IfSome, option_map, slice_get, refl, arith, nat_le, leb-true, le_refl, mul-le-mul, le-div_iff_mul-le}
+use Rattle.std.proofs.lemmas.Bool.{and_parts, or_parts, cond_both, eqb-false}
+use Rattle.std.proofs.Math.Nat.{div-le_of_le-mul}
+use Rattle.std.proofs.lemmas.Bool.Decides.{nat_tests}
+use Rattle.service_curve.specs.declared.Curve.{Curve}
+use Rattle.service_curve.specs.Curve.{curve, straight}
+use Rattle.conf_lines.specs.declared.fault.ConfPlace.{ConfPlace}
+use Rattle.conf_lines.specs.declared.item.Item.{Item}
+use Rattle.conf_lines.specs.declared.item.Key.{Key}
+use Rattle.conf_lines.specs.declared.item.Key.TheVariants as key
+use Rattle.conf_lines.specs.declared.item.What.{What}
+use Rattle.conf_lines.specs.declared.item.What.TheVariants as what
+use Rattle.conf_lines.specs.Grammar.{is_convex}
+use Rattle.conf_tree.specs.Items.{number_in, within, number_at, word_at}
+use Rattle.conf_tree.specs.Kinds.{fault_at, rate_range, two_defaults}
+use Rattle.conf_tree.specs.Options.{set_by_word, set_options}
+use Rattle.conf_tree.specs.Settings.{most_rate, unset, made, curve_of, curve_in, percent, set_real, set_share, set_rate, set_priority, set_maxburst, set_packetsize, set_limit, set_percent, set_first, set_option}
+use Rattle.conf_laws.specs.Fit.{IsWithin, IsCurve, IsCurveIfAny}
+use Rattle.conf_laws.proofs.Kept.{Settings, Scope}
+
+pub some_if : {A : Type 0} (P : A → Type 0) (b : Bool) (x : A) → (b ≡ true → P x) → IfSome (cond b (Some x) None) P
+some_if P true x k = k refl
+some_if P false x k = tt
+
+-- a number of a range
+within_fit : (low high : ℕ) (o : Option ℕ) → IfSome (within low high o) (IsWithin low high)
+within_fit low high None = tt
+within_fit low high (Some n) =
+    some_if (IsWithin low high) (nat_le low n && nat_le n high) n (λ t.
+    let parts = and_parts (nat_le low n) (nat_le n high) t in (leb-true low n parts.0, leb-true n high parts.1))
+
+pub number_fit : (low high : ℕ) (items : List Item) (i : ℕ) → IfSome (number_at low high items i) (IsWithin low high)
+number_fit low high items i = within_fit low high (number_in (slice_get items i))
+
+-- a curve
+straight_fit : (least m : ℕ) → IsWithin least most_rate m → IsCurve least (straight m)
+straight_fit least m h = record {
+  first = h.1;
+  second = h;
+  bend = (0, omega arith, refl);
+  upward = inr (le_refl m);
+  one_slope = λ e. refl;
+  two_slopes = λ e. refl;
+}
+
+bends_down : (m1 d m2 : ℕ) → is_convex m1 d m2 ≡ false → 0 < d → (m1 ≡ 0) ⊎ (m2 ≤ m1)
+bends_down m1 d m2 e h = grind (arith, nat_tests)
+
+made_fit : (least m1 d m2 : ℕ) → m1 ≤ most_rate → d ≤ 1000000 → IsWithin least most_rate m2 → is_convex m1 d m2 ≡ false
+    → IsCurve least (made m1 (d * 10 ^ 6) m2)
+made_fit least m1 d m2 first bend second e =
+    cond_both (d * 10 ^ 6 == 0 || m1 == m2) (straight m2) (curve m1 (d * 10 ^ 6) m2) (IsCurve least) (λ t. straight_fit least m2 second) (λ t.
+    let parts = or_parts (d * 10 ^ 6 == 0) (m1 == m2) t in
+    let bent : d * 10 ^ 6 ≡ 0 → ⊥ = eqb-false (d * 10 ^ 6) 0 parts.0 in
+    let two : m1 ≡ m2 → ⊥ = eqb-false m1 m2 parts.1 in
+    record {
+      first = first;
+      second = second;
+      bend = (d, bend, refl);
+      upward = bends_down m1 d m2 e (omega arith);
+      one_slope = λ z. absurd (bent z);
+      two_slopes = λ z. absurd (two z);
+    })
+
+curve_if : (least m1 d m2 : ℕ) (convex : Bool) → is_convex m1 d m2 ≡ convex → m1 ≤ most_rate → d ≤ 1000000 → IsWithin least most_rate m2
+    → IsCurveIfAny least (cond convex None (Some (made m1 (d * 10 ^ 6) m2)))
+curve_if least m1 d m2 true e first bend second = tt
+curve_if least m1 d m2 false e first bend second = made_fit least m1 d m2 first bend second e
+
+curve_of_fit : (least : ℕ) (m1 d m2 : Option ℕ) → IfSome m1 (IsWithin 0 most_rate) → IfSome d (IsWithin 0 1000000) → IfSome m2 (IsWithin least most_rate)
+    → IsCurveIfAny least (curve_of m1 d m2)
+curve_of_fit least None d m2 h k l = tt
+curve_of_fit least (Some m1) None m2 h k l = tt
+curve_of_fit least (Some m1) (Some d) None h k l = tt
+curve_of_fit least (Some m1) (Some d) (Some m2) h k l = curve_if least m1 d m2 (is_convex m1 d m2) refl h.1 k.1 l
+
+curve_fit : (least : ℕ) (items : List Item) → IsCurveIfAny least (curve_in least items)
+curve_fit least items = curve_of_fit least (number_at 0 most_rate items 0) (number_at 0 1000000 items 1) (number_at least most_rate items 2)
+    (number_fit 0 most_rate items 0) (number_fit 0 1000000 items 1) (number_fit least most_rate items 2)
+
+curve_less : (o : Option Curve) → IsCurveIfAny 1 o → IsCurveIfAny 0 o
+curve_less None h = tt
+curve_less (Some s) h = record {
+  first = h.first;
+  second = (omega arith, h.second.1);
+  bend = h.bend;
+  upward = h.upward;
+  one_slope = h.one_slope;
+  two_slopes = h.two_slopes;
+}
+
+line_fit : (least : ℕ) (f : ℕ → ℕ) (o : Option ℕ) → ((n : ℕ) → o ≡ Some n → IsWithin least most_rate (f n))
+    → IsCurveIfAny least (option_map (λ n. straight (f n)) o)
+line_fit least f None k = tt
+line_fit least f (Some n) k = straight_fit least (f n) (k n refl)
+
+if_some_at : {A : Type 0} (P : A → Type 0) (o : Option A) (x : A) → IfSome o P → o ≡ Some x → P x
+if_some_at P None x h e = cc
+if_some_at P (Some y) x h e = let same : y ≡ x = cc in rw same at h
+
+percent_fit : (rate n : ℕ) → IsWithin 1000 most_rate rate → IsWithin 1 100 n → IsWithin 1 most_rate (percent rate n)
+percent_fit rate n h k =
+    let below : n * rate ≤ 100 * rate = mul-le-mul k.1 (le_refl rate) in
+    let above : 1 * 1000 ≤ n * rate = mul-le-mul k.0 h.0 in
+    let above_hundred : 1 * 100 ≤ n * rate = omega arith in
+    let few : n * rate / 100 ≤ rate = div-le_of_le-mul 100 below in
+    let hundred : 0 < 100 = omega arith in
+    let some : 1 ≤ n * rate / 100 = (le-div_iff_mul-le hundred).1 above_hundred in
+    (some, omega arith)
+
+-- the settings so far, where the interface has a default class or not
+pub record AreSet (chosen : Bool) (s : Settings) : Type 0 where
+  pub real : IsCurveIfAny 0 s.real
+  pub share : IsCurveIfAny 1 s.share
+  pub rate : IfSome s.rate (IsWithin 1000 most_rate)
+  pub priority : s.priority ≤ 7
+  pub maxburst : IsWithin 1 1000 s.maxburst
+  pub packetsize : IsWithin 1 262144 s.packetsize
+  pub limit : IsWithin 1 10000 s.limit
+  pub first : s.first ≡ true → chosen ≡ false
+
+abbrev pub AreSetIfOk : Bool → Result Settings ConfPlace → Type 0
+AreSetIfOk chosen (Ok s) = AreSet chosen s
+AreSetIfOk chosen (Err fault) = Unit {0}
+
+pub unset_fit : (chosen : Bool) → AreSet chosen unset
+unset_fit chosen = record {
+  real = tt;
+  share = tt;
+  rate = tt;
+  priority = omega arith;
+  maxburst = (omega arith, omega arith);
+  packetsize = (omega arith, omega arith);
+  limit = (omega arith, omega arith);
+  first = λ e. cc;
+}
+
+real_fit : (chosen : Bool) (s : Settings) (fixed : Bool) (o : Option Curve) → AreSet chosen s → IsCurveIfAny 0 o → AreSet chosen (set_real s fixed o)
+real_fit chosen s fixed None h k = h
+real_fit chosen s fixed (Some real) h k = assumption k
+
+share_fit : (chosen : Bool) (s : Settings) (o : Option Curve) → AreSet chosen s → IsCurveIfAny 1 o → AreSet chosen (set_share s o)
+share_fit chosen s None h k = h
+share_fit chosen s (Some share) h k = assumption k
+
+rate_fit : (chosen : Bool) (s : Settings) (o : Option ℕ) → AreSet chosen s → IfSome o (IsWithin 1000 most_rate) → AreSet chosen (set_rate s o)
+rate_fit chosen s None h k = h
+rate_fit chosen s (Some n) h k = assumption k
+
+priority_fit : (chosen : Bool) (s : Settings) (o : Option ℕ) → AreSet chosen s → IfSome o (IsWithin 0 7) → AreSet chosen (set_priority s o)
+priority_fit chosen s None h k = h
+priority_fit chosen s (Some n) h k = assumption k.1
+
+maxburst_fit : (chosen : Bool) (s : Settings) (o : Option ℕ) → AreSet chosen s → IfSome o (IsWithin 1 1000) → AreSet chosen (set_maxburst s o)
+maxburst_fit chosen s None h k = h
+maxburst_fit chosen s (Some n) h k = assumption k
+
+packetsize_fit : (chosen : Bool) (s : Settings) (o : Option ℕ) → AreSet chosen s → IfSome o (IsWithin 1 262144) → AreSet chosen (set_packetsize s o)
+packetsize_fit chosen s None h k = h
+packetsize_fit chosen s (Some n) h k = assumption k
+
+limit_fit : (chosen : Bool) (s : Settings) (o : Option ℕ) → AreSet chosen s → IfSome o (IsWithin 1 10000) → AreSet chosen (set_limit s o)
+limit_fit chosen s None h k = h
+limit_fit chosen s (Some n) h k = assumption k
+
+percent_set : (scope : Scope) (s : Settings) (word : ℕ) (o : Option ℕ) → AreSet scope.chosen s → AreSetIfOk scope.chosen (set_percent scope s word o)
+percent_set scope s word None h = h
+percent_set scope s word (Some n) h =
+    let rate = percent scope.rate n in
+    cond_both (nat_le 1000 rate && nat_le rate most_rate) (Ok (set_rate s (Some rate))) (Err (fault_at scope.line word rate_range)) (AreSetIfOk scope.chosen) (λ t.
+    let parts = and_parts (nat_le 1000 rate) (nat_le rate most_rate) t in
+    rate_fit scope.chosen s (Some rate) h (leb-true 1000 rate parts.0, leb-true rate most_rate parts.1)) (λ t. tt)
+
+first_fit : (scope : Scope) (s : Settings) (word : ℕ) → AreSet scope.chosen s → AreSetIfOk scope.chosen (set_first scope s word)
+first_fit scope s word h =
+    cond_both (scope.chosen || s.first) (Err (fault_at scope.line word two_defaults)) (Ok (record s { first = true })) (AreSetIfOk scope.chosen) (λ t. tt) (λ t.
+    let free : true ≡ true → scope.chosen ≡ false = λ e. (or_parts scope.chosen s.first t).0 in assumption free)
+
+-- each option
+option_fit : (scope : Scope) (s : Settings) (word : ℕ) (option : Key) (items : List Item) → IsWithin 1000 most_rate scope.rate → AreSet scope.chosen s
+    → AreSetIfOk scope.chosen (set_option scope s word option items)
+option_fit scope s word key.Sc items r h =
+    share_fit scope.chosen (set_real s false (curve_in 1 items)) (curve_in 1 items)
+    (real_fit scope.chosen s false (curve_in 1 items) h (curve_less (curve_in 1 items) (curve_fit 1 items))) (curve_fit 1 items)
+option_fit scope s word key.Rt items r h = real_fit scope.chosen s true (curve_in 0 items) h (curve_fit 0 items)
+option_fit scope s word key.Ls items r h = share_fit scope.chosen s (curve_in 1 items) h (curve_fit 1 items)
+option_fit scope s word key.Pshare items r h =
+    let o = number_at 1 100 items 0 in
+    share_fit scope.chosen s (option_map (λ n. straight (percent scope.rate n)) o) h
+    (line_fit 1 (percent scope.rate) o (λ n e. percent_fit scope.rate n r (if_some_at (IsWithin 1 100) o n (number_fit 1 100 items 0) e)))
+option_fit scope s word key.Grate items r h =
+    let o = number_at 0 most_rate items 0 in
+    real_fit scope.chosen s true (option_map (λ n. straight n) o) h
+    (line_fit 0 (λ n. n) o (λ n e. if_some_at (IsWithin 0 most_rate) o n (number_fit 0 most_rate items 0) e))
+option_fit scope s word key.Qlimit items r h = limit_fit scope.chosen s (number_at 1 10000 items 0) h (number_fit 1 10000 items 0)
+option_fit scope s word key.Red items r h = assumption h
+option_fit scope s word key.Rio items r h = assumption h
+option_fit scope s word key.Default items r h = first_fit scope s word h
+option_fit scope s word key.Priority items r h = priority_fit scope.chosen s (number_at 0 7 items 0) h (number_fit 0 7 items 0)
+option_fit scope s word key.Pbandwidth items r h = percent_set scope s (word_at items 0) (number_at 0 100 items 0) h
+option_fit scope s word key.Exactbandwidth items r h = rate_fit scope.chosen s (number_at 1000 most_rate items 0) h (number_fit 1000 most_rate items 0)
+option_fit scope s word key.Borrow items r h = assumption h
+option_fit scope s word key.Control items r h = assumption h
+option_fit scope s word key.Maxburst items r h = maxburst_fit scope.chosen s (number_at 1 1000 items 0) h (number_fit 1 1000 items 0)
+option_fit scope s word key.Packetsize items r h = packetsize_fit scope.chosen s (number_at 1 262144 items 0) h (number_fit 1 262144 items 0)
+option_fit scope s word _ items r h = h
+
+word_fit : (scope : Scope) (s : Settings) (word : ℕ) (says : What) (items : List Item) → IsWithin 1000 most_rate scope.rate → AreSet scope.chosen s
+    → AreSetIfOk scope.chosen (set_by_word scope s word says items)
+word_fit scope s word (what.Key option) items r h = option_fit scope s word option items r h
+word_fit scope s word _ items r h = h
+
+-- all of them
+abbrev after : Scope → List Item → Result Settings ConfPlace → Result Settings ConfPlace
+after scope items set = elim set [ Ok t ↦ set_options scope t items | Err fault ↦ Err fault ]
+
+after_fit : (scope : Scope) (items : List Item) (set : Result Settings ConfPlace) → AreSetIfOk scope.chosen set
+    → ((s : Settings) → AreSet scope.chosen s → AreSetIfOk scope.chosen (set_options scope s items)) → AreSetIfOk scope.chosen (after scope items set)
+after_fit scope items (Ok s) h k = k s h
+after_fit scope items (Err fault) h k = tt
+
+pub options_fit : (scope : Scope) (s : Settings) (items : List Item) → IsWithin 1000 most_rate scope.rate → AreSet scope.chosen s
+    → AreSetIfOk scope.chosen (set_options scope s items)
+options_fit scope s [] r h = h
+options_fit scope s (item ∷ items) r h =
+    after_fit scope items (set_by_word scope s item.word item.what items) (word_fit scope s item.word item.what items r h)
+    (λ t k. options_fit scope t items r k)
