@@ -1,6 +1,6 @@
 -- Lines of words, as the canonical text has them.
-use Rattle.std.specs.Prelude.{◌≡◌, ◌≤◌, ◌+◌, ◌==◌, ◌||◌, ◌&&◌, ℕ, Bool, true, not, List, [], ◌∷◌, ◌++◌, length, All}
-use Rattle.line_text.specs.Lines.{ends, longest_line}
+use Rattle.std.specs.Prelude.{◌≡◌, ◌≤◌, ◌+◌, ◌==◌, ◌&&◌, ℕ, Bool, true, not, List, [], ◌∷◌, ◌++◌, length, All}
+use Rattle.line_text.specs.Lines.{ends}
 use Rattle.line_text.specs.Words.{is_blank}
 use Rattle.conf_lines.specs.declared.statement.Statement.{Statement}
 use Rattle.conf_lines.specs.Grammar.{start}

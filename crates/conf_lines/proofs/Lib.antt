@@ -1,4 +1,7 @@
+pub mod FilterSteps
+pub mod GrammarPlaces
 pub mod Names
 pub mod OneLine
 pub mod SoundAddresses
 pub mod SoundItems
+pub mod Steps
