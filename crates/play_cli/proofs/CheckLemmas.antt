@@ -1,6 +1,8 @@
 -- From what is read of a configuration to what it says, and how a check ends.
-use Rattle.std.proofs.Common.{◌≡◌, ◌≤◌, ◌∙◌, ◌⊎◌, ℕ, List, None, Some, Result, Ok, Err, ap, sym, refl, inl, inr, arith}
-use Rattle.std.specs.Prelude.{IsTrue}
+use Rattle.std.proofs.Common.{◌≡◌, ◌≤◌, ◌∙◌, ◌⊎◌, ℕ, suc, Bool, true, false, cond, Option, List, [], ◌∷◌, None, Some, Result, Ok, Err, ap, sym, refl, inl, inr, arith}
+use Rattle.std.specs.Prelude.{IsTrue, bytes_eq, find, slice_get}
+use Rattle.conf_laws.specs.Fit.{AreFit}
+use Rattle.conf_tree.specs.Settings.{most_rate}
 use Rattle.conf_lines.specs.declared.fault.ConfPlace.{ConfPlace}
 use Rattle.conf_tree.specs.declared.interface.Interface.{Interface}
 use Rattle.play_base.specs.View.{View, Any, Keeps, Rose}
@@ -59,3 +61,19 @@ read_found u config interface interfaces i x e t = record {
   at = x.at t;
   says = short_says interface x.text (Ok interfaces) x.short x.reads ∙ ap (asked_of interfaces) e;
 }
+
+-- the interface that is found is one of the configuration, whose bandwidth is in its range
+found_here : (b : Bool) (x i : Interface) (interfaces : List Interface) (rest : Option Interface) → cond b (Some x) rest ≡ Some i
+    → (rest ≡ Some i → (k : ℕ) × (slice_get interfaces k ≡ Some i)) → (k : ℕ) × (slice_get (x ∷ interfaces) k ≡ Some i)
+found_here true x i interfaces rest e later = (0, e)
+found_here false x i interfaces rest e later = let y = later e in (suc y.0, y.1)
+
+found_at : (p : Interface → Bool) (interfaces : List Interface) (i : Interface) → find p interfaces ≡ Some i → (k : ℕ) × (slice_get interfaces k ≡ Some i)
+found_at p [] i e = cc
+found_at p (x ∷ interfaces) i e = found_here (p x) x i interfaces (find p interfaces) e (λ d. found_at p interfaces i d)
+
+pub rate_of_found : (name : List ℕ) (interfaces : List Interface) (i : Interface) → AreFit interfaces → interface_of name interfaces ≡ Some i
+    → (1000 ≤ i.rate) × (i.rate ≤ most_rate)
+rate_of_found name interfaces i fit e =
+    let at = found_at (λ x. bytes_eq name x.name) interfaces i e in
+    (fit.interface at.0 i at.1).rate

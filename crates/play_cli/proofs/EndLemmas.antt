@@ -112,4 +112,3 @@ pub late_not_played : (u v : View) (n : Names) (seed : ℕ) → EndsLate u n see
 late_not_played u v n seed x p =
     let c = late_cut u n seed x p.text p.bytes p.rate p.records p.config p.accepted p.arrivals p.capture in
     not_cut (one_queue 50) p.rate seed (comings (arrivals_in (one_setup p.rate seed) p.records)) p.history x.history p.play c (short_or_long _ _)
-

@@ -4,7 +4,6 @@ pub mod ConfLemmas
 pub mod EndLemmas
 pub mod NameLemmas
 pub mod OneLemmas
-pub mod RateLemmas
 pub mod RunLemmas
 pub mod StepLemmas
 pub mod ToldLemmas

@@ -3,7 +3,9 @@ use Rattle.std.proofs.Common.{◌≡◌, ◌∙◌, ◌⊎◌, ℕ, List, Some, 
 use Rattle.std.specs.Prelude.{IsTrue}
 use Rattle.play_base.specs.View.{View}
 use Rattle.play_text.specs.declared.status.Status.{Status}
-use Rattle.play_words.specs.Read.{ReadsPlay, ReadsCheck}
+use Rattle.play_words.specs.Read.{Reads, ReadsPlay, ReadsCheck}
+use Rattle.play_words.specs.declared.words.Command.{Command}
+use Rattle.play_words.specs.declared.words.Command.TheVariants as asks
 use Rattle.play_words.specs.Words.{Words, IsPlay, seed_of}
 use Rattle.play_words.specs.declared.words.PlayWords.{PlayWords}
 use Rattle.play_words.specs.declared.words.CheckWords.{CheckWords}
@@ -22,6 +24,10 @@ names_same x y c i a d f s =
     ∙ ap {B = Names} (λ (v : List ℕ). record { config = y.config; interface = y.interface; arrivals = y.arrivals; departures = v; fates = x.fates; stats = x.stats }) d
     ∙ ap {B = Names} (λ (v : List ℕ). record { config = y.config; interface = y.interface; arrivals = y.arrivals; departures = y.departures; fates = v; stats = x.stats }) f
     ∙ ap {B = Names} (λ (v : List ℕ). record { config = y.config; interface = y.interface; arrivals = y.arrivals; departures = y.departures; fates = y.fates; stats = v }) s
+
+-- the command is a play
+pub play_read : (words : Words) (command : Command) (w : PlayWords) → command ≡ asks.Play w → Reads words command → ReadsPlay words w
+play_read words command w e r = let P : Command → Type 0 = λ c. Reads words c in subst P e r
 
 -- a play of the words as they stand
 pub play_of_words : (u v : View) (words : Words) (w : PlayWords) (s : Status) → ReadsPlay words w → PlayEnds u v (names_read w) w.seed s
@@ -53,9 +59,13 @@ limits : (u v : View) (words : Words) (w : PlayWords) (kind : ℕ) → ReadsPlay
     ⊎ ((kind ≡ 2) × IsPlay words × (IsTrue u.tells → (seed : ℕ) → seed_of words ≡ Some seed → IsLate u v (names_of words) seed))
     ⊎ ((kind ≡ 3) × (IsTrue u.tells → Says u (names_of words).config (names_of words).interface TooLong))
 limits u v words w kind r (inl x) = inl (x.0, r.command, x.1)
-limits u v words w kind r (inr (inl x)) = inr (inl (x.0, r.command, λ t seed is.
-    let P : ℕ → Type 0 = λ k. IsLate u v (names_of words) k in
-    subst P (same_number (seed_of words) w.seed seed r.seed is) (x.1 t)))
+limits u v words w kind r (inr (inl x)) = inr (inl (
+  x.0,
+  r.command,
+  λ t seed is.
+      let P : ℕ → Type 0 = λ k. IsLate u v (names_of words) k in
+      subst P (same_number (seed_of words) w.seed seed r.seed is) (x.1 t),
+))
 limits u v words w kind r (inr (inr x)) = inr (inr x)
 
 pub limit_of_words : (u v : View) (words : Words) (w : PlayWords) (s : Status) → ReadsPlay words w → PlayEnds u v (names_read w) w.seed s → s.code ≡ 7

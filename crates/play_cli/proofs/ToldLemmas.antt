@@ -96,7 +96,6 @@ told_late u v n seed (fault.Limit kind) t p q (inl x) =
 told_late u v n seed (fault.Limit kind) t p q (inr x) = inl (record { code = refl; kind = x.0 })
 told_late u v n seed fault.NoMemory t p q x = inr refl
 
-
 -- a configuration that cannot be used is told
 place_is_told : (u v : View) (n : Names) (seed : ℕ) (place : ConfPlace) (f : RunFault) → IsTrue u.tells → IsQuiet u v → Says u n.config n.interface (Refused place) → Causes u v n seed f
     → (IsAfterConfigFault f → (rate : ℕ) × Accepts u n.config n.interface rate) → TellsPlace (status_of f) place ⊎ ((status_of f).code ≡ 8)

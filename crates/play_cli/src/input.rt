@@ -9,6 +9,7 @@ ghost use Rattle.play_cli.specs.Input.{HadLeft, HadMore, InputCauses, IsRead, Ra
 ghost use Rattle.play_cli.specs.Opening.{Accepts, CannotRead};
 
 use crate::{ConfigFault, RunFault};
+use conf_laws::configurations_fit;
 use conf_lines::{ConfFault, ConfPlace, statements};
 use conf_tree::{Conf, Interface, Kind};
 use play_base::{Files, Trouble};
@@ -152,6 +153,7 @@ pub fn config_rate<F: Files>(
     let Some(found) = conf.interface(interface) else {
         return Err(RunFault::Config(ConfigFault::At(absent())));
     };
+    configurations_fit();
     if !is_one_queue(found) {
         return Err(RunFault::Config(ConfigFault::Unbuilt));
     }

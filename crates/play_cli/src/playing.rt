@@ -8,11 +8,11 @@ ghost use Rattle.play_cli.specs.Opening.{Accepts, AcceptsNone, KeepsOthers};
 ghost use Rattle.play_cli.specs.Run.{HasPlayed, Fronts};
 ghost use Rattle.play_cli.specs.declared.fault.ConfigFault.{ConfigFault};
 
+use crate::RunFault;
 use crate::input::config_rate;
 use crate::one::play_one;
 use crate::opening::{OpenFault, open_files};
 use crate::status::{ended, status_of};
-use crate::RunFault;
 use play_base::Files;
 use play_loop::PlayFault;
 use play_text::Status;
@@ -74,7 +74,6 @@ fn play_files<F: Files>(alloc: Global, files: &mut F, words: &PlayWords<'_>) -> 
         Err(fault) => Err(run_fault(fault)),
     }
 }
-
 
 /// Plays, and says how it ended.
 pub fn play<F: Files>(alloc: Global, files: &mut F, words: &PlayWords<'_>) -> Status

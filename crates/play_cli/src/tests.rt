@@ -62,6 +62,22 @@ fn capture(
     Ok(bytes)
 }
 
+// The words of a check.
+fn check_words(alloc: Global, interface: &str) -> Result<Vec<String>, NoMemory> {
+    let mut words = Vec::new(alloc);
+    for text in ["check", "--config", "conf", "--interface", interface] {
+        words.push(String::from_str(alloc, text)?)?;
+    }
+    Ok(words)
+}
+
+// Checks a configuration.
+fn checked(alloc: Global, files: &mut MemoryFiles, config: &str) -> Result<Status, NoMemory> {
+    files.put("conf", config.as_bytes())?;
+    let words = check_words(alloc, "if0")?;
+    Ok(run(alloc, &words, files))
+}
+
 // Plays a capture under a configuration.
 fn played(
     alloc: Global,
@@ -84,6 +100,20 @@ fn ended(code: u8, place: u64, kind: u8) -> Status {
         kind,
     }
 }
+
+// A configuration is refused.
+fn refused(line: u64, word: u64, kind: u8) -> Status {
+    Status {
+        code: 3,
+        line,
+        word,
+        place: 0,
+        kind,
+    }
+}
+
+const VOICE_AND_DATA: &str =
+    "interface if0 bandwidth 8M hfsc\nclass hfsc if0 root NULL pshare 100\nclass hfsc if0 voice root [sc 4M 5 1M]\nclass hfsc if0 data root [sc 0 5 4M] default\nfilter if0 voice 0 5004 0 0 17\n";
 
 const FATES: &str = "number,arrival,length,class,fate,start,end\n";
 
@@ -186,7 +216,7 @@ fn refused_words_and_names(rt: HostRuntime) -> Result<(), Fail> {
         (0, "replay", 2, 1),
         (8, "fates", 2, 3),
         (14, "x", 2, 4),
-        (4, "if9", 9, 1),
+        (4, "if9", 3, 9),
         (2, "none", 5, 1),
         (6, "none", 5, 2),
     ] {
@@ -280,5 +310,76 @@ fn each_call_fails_in_turn(rt: HostRuntime) -> Result<(), Fail> {
         let status = played(rt.alloc(), &mut files, IMPLIED, &arrivals)?;
         assert_eq!(rt; status, ended(code, 0, kind), "{call:?} {nth}");
     }
+    Ok(())
+}
+
+#[test]
+fn canonical_text_of_voice_and_data(rt: HostRuntime) -> Result<(), Fail> {
+    let mut files = MemoryFiles::new(rt.alloc());
+    let status = checked(rt.alloc(), &mut files, VOICE_AND_DATA)?;
+    assert_eq!(rt; status, ended(0, 0, 0));
+    let text =
+        b"interface if0 bandwidth 8000000 hfsc\nclass hfsc if0 root NULL ls 8000000 0 8000000 qlimit 50\nclass hfsc if0 voice root rt 4000000 5 1000000 ls 4000000 5 1000000 qlimit 50\nclass hfsc if0 data root rt 0 5 4000000 ls 0 5 4000000 qlimit 50 default\nfilter if0 voice ruleno 0 0.0.0.0 netmask 0.0.0.0 5004 0.0.0.0 netmask 0.0.0.0 0 17\n";
+    assert!(rt; files.said() == text.as_slice());
+    assert!(rt; files.get("out").is_none());
+    Ok(())
+}
+
+#[test]
+fn refused_configurations(rt: HostRuntime) -> Result<(), Fail> {
+    let arrivals = capture(rt.alloc(), 1, 5, 0, 1000)?;
+    for (config, play, check) in [
+        (
+            "interface if0 bandwidth 8M hfsc\nclass hfsc if0 root NULL pshare 100\nclass hfsc if0 a root rt 1M 10 2M\n",
+            refused(3, 9, 18),
+            refused(3, 9, 18),
+        ),
+        (
+            "interface if0 bandwidth 18446744073709551616 hfsc",
+            refused(1, 4, 3),
+            refused(1, 4, 3),
+        ),
+        ("interface if1 hfsc", refused(0, 0, 9), refused(0, 0, 9)),
+        (
+            "interface if0 hfsc\nclass hfsc if0 root NULL",
+            refused(1, 0, 23),
+            refused(1, 0, 23),
+        ),
+        (VOICE_AND_DATA, ended(9, 0, 3), ended(0, 0, 0)),
+        ("interface if0 cbq", ended(9, 0, 3), ended(0, 0, 0)),
+    ] {
+        let mut files = MemoryFiles::new(rt.alloc());
+        let status = played(rt.alloc(), &mut files, config, &arrivals)?;
+        assert_eq!(rt; status, play, "{config}");
+        assert!(rt; files.get("out").is_none());
+        let status = checked(rt.alloc(), &mut files, config)?;
+        assert_eq!(rt; status, check, "{config}");
+    }
+    Ok(())
+}
+
+#[test]
+fn configuration_at_its_limit(rt: HostRuntime) -> Result<(), Fail> {
+    let mut text = String::from_str(rt.alloc(), "interface if0 hfsc\n#")?;
+    for _ in text.len()..1_048_576 {
+        text.push_str("x")?;
+    }
+    let mut files = MemoryFiles::new(rt.alloc());
+    let status = checked(rt.alloc(), &mut files, text.as_str())?;
+    assert_eq!(rt; status, ended(0, 0, 0));
+    assert!(rt; files.said() == b"interface if0 bandwidth 100000000 hfsc\n".as_slice());
+    text.push_str("x")?;
+    let status = checked(rt.alloc(), &mut files, text.as_str())?;
+    assert_eq!(rt; status, ended(7, 0, 3));
+    Ok(())
+}
+
+#[test]
+fn text_is_not_said(rt: HostRuntime) -> Result<(), Fail> {
+    let mut files = MemoryFiles::new(rt.alloc());
+    files.fail_at(Call::Say, 0)?;
+    let status = checked(rt.alloc(), &mut files, IMPLIED)?;
+    assert_eq!(rt; status, ended(6, 0, 10));
+    assert!(rt; files.said().is_empty());
     Ok(())
 }

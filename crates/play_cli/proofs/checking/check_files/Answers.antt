@@ -10,5 +10,7 @@ returns-in-Ok-say-clause-done g c = λ t. record {
   found = c.in-Some._found.now;
   configuration = read_found (g.F.Files.view c.args.files.now) c.args.words.now.config.now c.args.words.now.interface.now c.in-Ok.conf c.in-Some._found.now
       c.in-Ok.ensures.read (sym c.in-Some.ensures) t;
-  said = ?;
+  said = c.in-Ok-say.ensures.said.grown (c.in-Ok.ensures.keeps.tells ∙ t)
+      ∙ ap (λ (text : List ℕ). (g.F.Files.view c.read_conf.new.files).said ++ text) (c.as_slice.ensures.value ∙ c.in-Ok-text.ensures)
+      ∙ ap (λ (before : List ℕ). before ++ canonical_text c.in-Ok.conf) c.in-Ok.ensures.said;
 }

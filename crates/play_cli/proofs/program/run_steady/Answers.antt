@@ -2,4 +2,4 @@ use Rattle.std.proofs.Common.{refl, arith}
 use Rattle.play_cli.proofs.program.run_steady.Goals as goal
 
 pub returns-clause-complete : goal.returns-clause-complete
-returns-clause-complete c = λ r seed is p. c.run.ensures.complete refl r seed is p (λ part. ((λ h. omega (arith, h)), (λ h. omega (arith, h))))
+returns-clause-complete c = λ r command seed is p. c.run.ensures.complete refl r command seed is p (λ part. ((λ h. omega (arith, h)), (λ h. omega (arith, h))))
