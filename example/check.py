@@ -23,7 +23,8 @@ It shares no code with the program, and no arithmetic but whole numbers. What it
   - Fates and departures come in the order of what happened: a drop at its arrival, a sending at its start.
 
 Then it has the departures read by tcpdump, capinfos and tshark, those that this machine has, and compares
-what they say: the count of packets, and from tcpdump the stamp of each.
+what they say: from tcpdump the stamp of each packet and its length, from tshark these and how many of its bytes
+were captured, from capinfos the count of packets and of their bytes. None of them may give a warning.
 """
 
 import os
@@ -32,7 +33,7 @@ import shutil
 import struct
 import subprocess
 import sys
-from collections import deque
+from collections import deque, namedtuple
 
 LIMIT = 50
 BILLION = 10**9
@@ -42,6 +43,11 @@ MOST_BYTES = 2**30
 LONGEST = 262_144
 FATES_HEAD = b"number,arrival,length,class,fate,start,end\n"
 DEPARTURES_HEAD = struct.pack("<IHHiIII", 0xA1B23C4D, 2, 4, 0, 0, 262144, 1)
+
+
+# What a record of the departures should tell: the end in nanoseconds, the length and the captured bytes' count, and whether
+# tcpdump tells that length, as it does of a frame with a type in its head (IEEE 802.3: a number of 1,536 or more).
+Sent = namedtuple("Sent", "end length captured has_type")
 
 
 class CannotJudge(Exception):
@@ -132,7 +138,9 @@ class Written:
     def expect(self, piece, what):
         if self.fault is None:
             found = self.file.read(len(piece))
-            if found != piece:
+            if found != piece and piece.startswith(found):
+                self.fault = f"ends at byte {self.place + len(found)}, in {what}"
+            elif found != piece:
                 self.fault = f"differs in {what}, at or after byte {self.place}\n    should be  {shown(piece)}\n    is         {shown(found)}"
             self.place += len(piece)
 
@@ -148,23 +156,23 @@ class Written:
 
 
 def compare(rate, arrivals_name, departures_name, fates_name):
-    """Whether both files are right, and the ends of what was sent."""
+    """Whether both files are right, and what was sent."""
     departures, fates = Written(departures_name), Written(fates_name)
     departures.expect(DEPARTURES_HEAD, "its head")
     fates.expect(FATES_HEAD, "its head")
-    ends, dropped = [], 0
+    sent, dropped = [], 0
     for (number, at, length, data), start, end in play(rate, arrivals(arrivals_name)):
         if start is None:
             dropped += 1
             fates.expect(f"{number},{at},{length},default,full,,\n".encode(), f"the row of packet {number}")
         else:
-            ends.append(end)
+            sent.append(Sent(end, length, len(data), len(data) >= 14 and data[12:14] >= b"\x06\x00"))
             fates.expect(f"{number},{at},{length},default,share,{start},{end}\n".encode(), f"the row of packet {number}")
             head = struct.pack("<IIII", end // BILLION, end % BILLION, len(data), length)
             departures.expect(head + data, f"the record of packet {number}")
-    print(f"played {len(ends) + dropped} packets at {rate} bits per second: {len(ends)} sent, {dropped} dropped")
+    print(f"played {len(sent) + dropped} packets at {rate} bits per second: {len(sent)} sent, {dropped} dropped")
     right = [fates.finish(), departures.finish()]
-    return all(right), ends
+    return all(right), sent
 
 
 # What tools may say on standard error without meaning a fault.
@@ -174,43 +182,64 @@ HARMLESS = ("reading from file", "dropped privs", "Running as user")
 def ask(words, name):
     """The lines that a tool prints of a capture on its standard input, and its complaint, if it has one."""
     with open(name, "rb") as file:
-        done = subprocess.run(words, stdin=file, capture_output=True, text=True, check=False)
+        done = subprocess.run(words, stdin=file, capture_output=True, text=True, errors="replace", check=False)
     said = [line for line in done.stderr.splitlines() if line.strip() and not any(h in line for h in HARMLESS)]
-    complaint = f"status {done.returncode}" if done.returncode else (said[0] if said else None)
-    return done.stdout.splitlines(), complaint
+    complaint = said[0] if said else f"status {done.returncode}"
+    return done.stdout.splitlines(), complaint if said or done.returncode else None
 
 
 def stamp_text(end):
     return f"{end // BILLION}.{end % BILLION:09}"
 
 
-def tcpdump_agrees(name, ends):
-    lines, complaint = ask(["tcpdump", "-nn", "-q", "-tt", "--nano", "-r", "-"], name)
-    stamps = [line.split(" ", 1)[0] for line in lines]
-    return complaint or (None if stamps == [stamp_text(e) for e in ends] else "its stamps are not the ends of the fates")
+def first_fault(lines, sent, is_told):
+    """What is wrong with the lines that a tool prints, one for each packet, where it is not what was sent."""
+    if len(lines) != len(sent):
+        return f"it reads {len(lines)} packets, not {len(sent)}"
+    wrong = next(((n, line) for n, (line, one) in enumerate(zip(lines, sent), 1) if not is_told(line, one)), None)
+    return wrong and f"what it says of packet {wrong[0]} is not what the fates tell: {wrong[1]}"
 
 
-def capinfos_agrees(name, ends):
-    lines, complaint = ask(["capinfos", "-M", "-c", name], name)
-    counts = [int(n) for line in lines if line.startswith("Number of packets") for n in re.findall(r"\d+", line)]
-    return complaint or (None if counts == [len(ends)] else f"it counts {counts}, not {len(ends)}")
+def tcpdump_tells(line, one):
+    found = re.match(r"(\S+) .*?, length (\d+)", line)
+    if not one.has_type:  # then the length is another one, and nothing is told of a frame without captured bytes
+        return one.captured == 0 or line.startswith(stamp_text(one.end) + " ")
+    return found is not None and found.groups() == (stamp_text(one.end), str(one.length))
 
 
-def tshark_agrees(name, ends):
-    lines, complaint = ask(["tshark", "-n", "-r", "-", "-T", "fields", "-e", "frame.number"], name)
-    numbers = [str(n) for n in range(1, len(ends) + 1)]
-    return complaint or (None if lines == numbers else f"it reads {len(lines)} packets, not {len(ends)}")
+def tcpdump_fault(name, sent):
+    lines, complaint = ask(["tcpdump", "-nn", "-q", "-e", "-tt", "--nano", "-r", "-"], name)
+    return complaint or first_fault(lines, sent, tcpdump_tells)
 
 
-def ask_tools(name, ends):
+def capinfos_fault(name, sent):
+    lines, complaint = ask(["capinfos", "-M", "-c", "-d", name], name)
+    told = dict(re.findall(r"^(Number of packets|Data size): +(\d+)", "\n".join(lines), re.MULTILINE))
+    wanted = {"Number of packets": str(len(sent)), "Data size": str(sum(one.length for one in sent))}
+    return complaint or (None if told == wanted else f"it counts {told}, not {wanted}")
+
+
+def tshark_fault(name, sent):
+    fields = ["frame.time_epoch", "frame.len", "frame.cap_len"]
+    lines, complaint = ask(["tshark", "-n", "-r", "-", "-T", "fields"] + [word for f in fields for word in ("-e", f)], name)
+    return complaint or first_fault(lines, sent, lambda line, one: line == f"{stamp_text(one.end)}\t{one.length}\t{one.captured}")
+
+
+# Each tool, what it is asked, and what its answer shows where that is right.
+TOOLS = [("tcpdump", tcpdump_fault, "the stamps and lengths are those of the fates"),
+         ("capinfos", capinfos_fault, "the sum of their lengths is that of the fates"),
+         ("tshark", tshark_fault, "the stamps and lengths are those of the fates")]
+
+
+def ask_tools(name, sent):
     """Whether each tool that is installed reads the departures without a complaint, and as they should be read."""
     right = True
-    for tool, agrees in [("tcpdump", tcpdump_agrees), ("capinfos", capinfos_agrees), ("tshark", tshark_agrees)]:
+    for tool, fault_of, shows in TOOLS:
         if shutil.which(tool) is None:
             print(f"--    {tool} was not found on this machine: not asked")
             continue
-        fault = agrees(name, ends)
-        print(f"ok    {tool} reads {len(ends)} packets, without a warning" if fault is None else f"WRONG {tool}: {fault}")
+        fault = fault_of(name, sent)
+        print(f"ok    {tool} reads {len(sent)} packets without a warning; {shows}" if fault is None else f"WRONG {tool}: {fault}")
         right = right and fault is None
     return right
 
@@ -226,11 +255,11 @@ def main(words):
         return 2
     config, arrivals_name, departures_name, fates_name = words
     try:
-        right, ends = compare(rate_of(config), arrivals_name, departures_name, fates_name)
+        right, sent = compare(rate_of(config), arrivals_name, departures_name, fates_name)
     except (CannotJudge, OSError) as fault:
         print(f"check.py: cannot judge: {fault}", file=sys.stderr)
         return 2
-    right = ask_tools(departures_name, ends) and right
+    right = ask_tools(departures_name, sent) and right
     print("Both files are as the definition says." if right else "Something is not as the definition says.")
     return 0 if right else 1
 
