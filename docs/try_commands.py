@@ -88,7 +88,8 @@ def make_room(room):
     for name in ("example", "docs", os.path.join("crates", "altqplay", "data")):
         shutil.copytree(os.path.join(ROOT, name), os.path.join(room, name), ignore=shutil.ignore_patterns("out", "__pycache__"))
     os.makedirs(os.path.join(room, os.path.dirname(PROGRAM)))
-    shutil.copy(os.path.join(ROOT, PROGRAM), os.path.join(room, PROGRAM))
+    shutil.copyfile(os.path.join(ROOT, PROGRAM), os.path.join(room, PROGRAM))
+    os.chmod(os.path.join(room, PROGRAM), 0o755)
 
 
 def printed(todo):
@@ -145,7 +146,7 @@ def main(words):
     if set(options) - {"--quiet", "--slow"}:
         print("usage: try_commands.py [--quiet] [--slow] [PAGE ..]", file=sys.stderr)
         return 2
-    lacking = [what for what, is_there in [("bash", shutil.which("bash")), (PROGRAM, os.access(os.path.join(ROOT, PROGRAM), os.X_OK))] if not is_there]
+    lacking = [what for what, is_there in [("bash", shutil.which("bash")), (PROGRAM, os.path.isfile(os.path.join(ROOT, PROGRAM)))] if not is_there]
     if lacking:
         if "--quiet" not in options:
             print(f"try_commands.py: nothing was run, since there is no {' and no '.join(lacking)}")
