@@ -1,10 +1,8 @@
 #!/usr/bin/env python3
 """Runs the commands that the pages show, and compares what comes out with what the pages show.
 
-Takes names of pages; without them all pages of docs/ and README.md are looked at. Before them may stand
-
-    --quiet    says nothing but what does not come out as shown
-    --slow     also runs the blocks that are marked slow (some minutes, and 1 GB of memory and of disk)
+Takes names of pages; without them all pages of docs/ and README.md are looked at. With --quiet before them it says
+nothing but what does not come out as shown. It takes seconds, 100 MB of disk and 200 MB of memory.
 
 A block of a page that is marked `console` holds commands and what they print, on standard output and standard
 error together. A line that begins with `$ ` is a command, lines that begin with `> ` continue it, and a line `...`
@@ -35,24 +33,22 @@ MARK = "\x01end of a command\x01"
 Command = namedtuple("Command", "text shown line")
 
 
-def blocks(page, slow):
-    """The blocks of a page that are to be run: each a list of (number, line)."""
-    found, inside = [], None
+def console_lines(page):
+    """The lines of a page that stand in its blocks of commands, each with its number."""
+    found, is_inside = [], False
     with open(page, encoding="utf-8") as file:
         for number, line in enumerate(file.read().split("\n"), 1):
             if line.startswith("```"):
-                mark = line[3:].split()
-                inside = None if inside is not None or mark[:1] != ["console"] or ("slow" in mark and not slow) else []
-                found += [inside] if inside is not None else []
-            elif inside is not None:
-                inside.append((number, line))
+                is_inside = line == "```console"
+            elif is_inside:
+                found.append((number, line))
     return found
 
 
-def commands(page, slow):
+def commands(page):
     """The commands of a page, in order."""
     found = []
-    for number, line in (one for block in blocks(page, slow) for one in block):
+    for number, line in console_lines(page):
         if line.startswith("$ "):
             found.append(Command([line[2:]], [], number))
         elif line.startswith("> ") and found and not found[-1].shown:
@@ -125,9 +121,9 @@ def faults(todo):
     return found
 
 
-def judge(page, slow, quiet):
+def judge(page, quiet):
     """Runs a page's commands, says what came out, and returns whether all is as shown."""
-    found = commands(page, slow)
+    found = commands(page)
     todo = [one for one in found if missing_tool(one) is None]
     wrong = faults(todo) if todo else []
     name = os.path.relpath(page, ROOT)
@@ -143,8 +139,8 @@ def judge(page, slow, quiet):
 def main(words):
     options = [word for word in words if word.startswith("-")]
     pages = [os.path.abspath(word) for word in words if not word.startswith("-")]
-    if set(options) - {"--quiet", "--slow"}:
-        print("usage: try_commands.py [--quiet] [--slow] [PAGE ..]", file=sys.stderr)
+    if set(options) - {"--quiet"}:
+        print("usage: try_commands.py [--quiet] [PAGE ..]", file=sys.stderr)
         return 2
     lacking = [what for what, is_there in [("bash", shutil.which("bash")), (PROGRAM, os.path.isfile(os.path.join(ROOT, PROGRAM)))] if not is_there]
     if lacking:
@@ -153,7 +149,7 @@ def main(words):
         return 0
     docs = os.path.join(ROOT, "docs")
     pages = pages or [os.path.join(ROOT, "README.md")] + sorted(os.path.join(docs, name) for name in os.listdir(docs) if name.endswith(".md"))
-    done = [judge(page, "--slow" in options, "--quiet" in options) for page in pages]
+    done = [judge(page, "--quiet" in options) for page in pages]
     return 0 if all(done) else 1
 
 
