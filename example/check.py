@@ -23,10 +23,12 @@ It shares no code with the program, and no arithmetic but whole numbers. What it
   - Fates and departures come in the order of what happened: a drop at its arrival, a sending at its start.
 
 Then it has the departures read by tcpdump, capinfos and tshark, those that this machine has, and compares
-what they say: from tcpdump the stamp of each packet and its length, from tshark these and how many of its bytes
-were captured, from capinfos the count of packets and of their bytes. None of them may give a warning.
+what they say: tcpdump is to write what it read, of which the stamps, the lengths and the captured bytes are
+compared; tshark is asked for the stamp and both lengths of each packet, capinfos for the count of packets and
+the sum of their lengths. None of them may give a warning.
 """
 
+import io
 import os
 import re
 import shutil
@@ -45,9 +47,8 @@ FATES_HEAD = b"number,arrival,length,class,fate,start,end\n"
 DEPARTURES_HEAD = struct.pack("<IHHiIII", 0xA1B23C4D, 2, 4, 0, 0, 262144, 1)
 
 
-# What a record of the departures should tell: the end in nanoseconds, the length and the captured bytes' count, and whether
-# tcpdump tells that length, as it does of a frame with a type in its head (IEEE 802.3: a number of 1,536 or more).
-Sent = namedtuple("Sent", "end length captured has_type")
+# What a record of the departures should tell: the end in nanoseconds, the length, and how many bytes were captured.
+Sent = namedtuple("Sent", "end length captured")
 
 
 class CannotJudge(Exception):
@@ -68,31 +69,30 @@ def rate_of(config):
     return rate
 
 
-def arrivals(name):
+def arrivals(file, name):
     """The packets of a capture in its order, each (number, arrival, length, captured bytes)."""
     magics = {b"\xa1\xb2\xc3\xd4": (">", 1000), b"\xd4\xc3\xb2\xa1": ("<", 1000),
               b"\xa1\xb2\x3c\x4d": (">", 1), b"\x4d\x3c\xb2\xa1": ("<", 1)}
-    with open(name, "rb") as file:
-        head = file.read(24)
-        if len(head) < 24 or head[:4] not in magics:
-            raise CannotJudge(f"{name}: not a capture of the classic form")
-        order, unit = magics[head[:4]]
-        version, link = struct.unpack(order + "HH", head[4:8]), struct.unpack(order + "I", head[20:])[0]
-        if version != (2, 4) or link % 2**16 != 1:
-            raise CannotJudge(f"{name}: not version 2.4, or not of Ethernet")
-        number, latest, place = 0, 0, 24
-        while prefix := file.read(16):
-            if len(prefix) < 16:
-                raise CannotJudge(f"{name}: damaged at byte {place}")
-            seconds, fraction, captured, original = struct.unpack(order + "IIII", prefix)
-            data = file.read(captured) if captured <= LONGEST else b""
-            if len(data) < captured or original > LONGEST or captured == original == 0:
-                raise CannotJudge(f"{name}: damaged at byte {place}")
-            number, place = number + 1, place + 16 + captured
-            if number > MOST_RECORDS or place > MOST_BYTES:
-                raise CannotJudge(f"{name}: past the limits of a capture")
-            latest = max(latest, seconds * BILLION + fraction * unit)
-            yield number, latest, max(original, captured), data
+    head = file.read(24)
+    if len(head) < 24 or head[:4] not in magics:
+        raise CannotJudge(f"{name}: not a capture of the classic form")
+    order, unit = magics[head[:4]]
+    version, link = struct.unpack(order + "HH", head[4:8]), struct.unpack(order + "I", head[20:])[0]
+    if version != (2, 4) or link % 2**16 != 1:
+        raise CannotJudge(f"{name}: not version 2.4, or not of Ethernet")
+    number, latest, place = 0, 0, 24
+    while prefix := file.read(16):
+        if len(prefix) < 16:
+            raise CannotJudge(f"{name}: damaged at byte {place}")
+        seconds, fraction, captured, original = struct.unpack(order + "IIII", prefix)
+        data = file.read(captured) if captured <= LONGEST else b""
+        if len(data) < captured or original > LONGEST or captured == original == 0:
+            raise CannotJudge(f"{name}: damaged at byte {place}")
+        number, place = number + 1, place + 16 + captured
+        if number > MOST_RECORDS or place > MOST_BYTES:
+            raise CannotJudge(f"{name}: past the limits of a capture")
+        latest = max(latest, seconds * BILLION + fraction * unit)
+        yield number, latest, max(original, captured), data
 
 
 def play(rate, packets):
@@ -161,12 +161,13 @@ def compare(rate, arrivals_name, departures_name, fates_name):
     departures.expect(DEPARTURES_HEAD, "its head")
     fates.expect(FATES_HEAD, "its head")
     sent, dropped = [], 0
-    for (number, at, length, data), start, end in play(rate, arrivals(arrivals_name)):
-        if start is None:
-            dropped += 1
-            fates.expect(f"{number},{at},{length},default,full,,\n".encode(), f"the row of packet {number}")
-        else:
-            sent.append(Sent(end, length, len(data), len(data) >= 14 and data[12:14] >= b"\x06\x00"))
+    with open(arrivals_name, "rb") as file:
+        for (number, at, length, data), start, end in play(rate, arrivals(file, arrivals_name)):
+            if start is None:
+                dropped += 1
+                fates.expect(f"{number},{at},{length},default,full,,\n".encode(), f"the row of packet {number}")
+                continue
+            sent.append(Sent(end, length, len(data)))
             fates.expect(f"{number},{at},{length},default,share,{start},{end}\n".encode(), f"the row of packet {number}")
             head = struct.pack("<IIII", end // BILLION, end % BILLION, len(data), length)
             departures.expect(head + data, f"the record of packet {number}")
@@ -180,49 +181,45 @@ HARMLESS = ("reading from file", "dropped privs", "Running as user")
 
 
 def ask(words, name):
-    """The lines that a tool prints of a capture on its standard input, and its complaint, if it has one."""
+    """What a tool prints of a capture on its standard input, and its complaint, if it has one."""
     with open(name, "rb") as file:
-        done = subprocess.run(words, stdin=file, capture_output=True, text=True, errors="replace", check=False)
-    said = [line for line in done.stderr.splitlines() if line.strip() and not any(h in line for h in HARMLESS)]
+        done = subprocess.run(words, stdin=file, capture_output=True, check=False)
+    said = [line for line in done.stderr.decode(errors="replace").splitlines() if line.strip() and not any(h in line for h in HARMLESS)]
     complaint = said[0] if said else f"status {done.returncode}"
-    return done.stdout.splitlines(), complaint if said or done.returncode else None
+    return done.stdout, complaint if said or done.returncode else None
 
 
-def stamp_text(end):
-    return f"{end // BILLION}.{end % BILLION:09}"
-
-
-def first_fault(lines, sent, is_told):
-    """What is wrong with the lines that a tool prints, one for each packet, where it is not what was sent."""
-    if len(lines) != len(sent):
-        return f"it reads {len(lines)} packets, not {len(sent)}"
-    wrong = next(((n, line) for n, (line, one) in enumerate(zip(lines, sent), 1) if not is_told(line, one)), None)
-    return wrong and f"what it says of packet {wrong[0]} is not what the fates tell: {wrong[1]}"
-
-
-def tcpdump_tells(line, one):
-    found = re.match(r"(\S+) .*?, length (\d+)", line)
-    if not one.has_type:  # then the length is another one, and nothing is told of a frame without captured bytes
-        return one.captured == 0 or line.startswith(stamp_text(one.end) + " ")
-    return found is not None and found.groups() == (stamp_text(one.end), str(one.length))
+def first_fault(read, sent):
+    """What is wrong with the packets that a tool read, where they are not those that were sent."""
+    if len(read) != len(sent):
+        return f"it reads {len(read)} packets, not {len(sent)}"
+    return next((f"it reads {one} as packet {n}, where the fates tell {wanted}" for n, (one, wanted) in enumerate(zip(read, sent), 1) if one != wanted), None)
 
 
 def tcpdump_fault(name, sent):
-    lines, complaint = ask(["tcpdump", "-nn", "-q", "-e", "-tt", "--nano", "-r", "-"], name)
-    return complaint or first_fault(lines, sent, tcpdump_tells)
+    written, complaint = ask(["tcpdump", "--nano", "-r", "-", "-w", "-"], name)
+    if complaint:
+        return complaint
+    try:
+        return first_fault([Sent(at, length, len(data)) for _n, at, length, data in arrivals(io.BytesIO(written), "what it writes")], sent)
+    except CannotJudge as fault:
+        return str(fault)
 
 
 def capinfos_fault(name, sent):
-    lines, complaint = ask(["capinfos", "-M", "-c", "-d", name], name)
-    told = dict(re.findall(r"^(Number of packets|Data size): +(\d+)", "\n".join(lines), re.MULTILINE))
+    printed, complaint = ask(["capinfos", "-M", "-c", "-d", name], name)
+    told = dict(re.findall(r"^(Number of packets|Data size): +(\d+)", printed.decode(errors="replace"), re.MULTILINE))
     wanted = {"Number of packets": str(len(sent)), "Data size": str(sum(one.length for one in sent))}
     return complaint or (None if told == wanted else f"it counts {told}, not {wanted}")
 
 
 def tshark_fault(name, sent):
     fields = ["frame.time_epoch", "frame.len", "frame.cap_len"]
-    lines, complaint = ask(["tshark", "-n", "-r", "-", "-T", "fields"] + [word for f in fields for word in ("-e", f)], name)
-    return complaint or first_fault(lines, sent, lambda line, one: line == f"{stamp_text(one.end)}\t{one.length}\t{one.captured}")
+    printed, complaint = ask(["tshark", "-n", "-r", "-", "-T", "fields"] + [word for f in fields for word in ("-e", f)], name)
+    if complaint:
+        return complaint
+    told = [re.fullmatch(r"(\d+)\.(\d{9})\t(\d+)\t(\d+)", line) for line in printed.decode(errors="replace").splitlines()]
+    return first_fault([m and Sent(int(m[1] + m[2]), int(m[3]), int(m[4])) for m in told], sent)
 
 
 # Each tool, what it is asked, and what its answer shows where that is right.
