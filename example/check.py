@@ -23,16 +23,19 @@ It shares no code with the program, and no arithmetic but whole numbers. What it
   - Fates and departures come in the order of what happened: a drop at its arrival, a sending at its start.
 
 Then it has the departures read by tcpdump, capinfos and tshark, those that this machine has, and compares
-what they say: the count of packets, and from tcpdump the stamp of each.
+what they say: tcpdump is to write what it read, of which the stamps, the lengths and the captured bytes are
+compared; tshark is asked for the stamp and both lengths of each packet, capinfos for the count of packets and
+the sum of their lengths. None of them may give a warning.
 """
 
+import io
 import os
 import re
 import shutil
 import struct
 import subprocess
 import sys
-from collections import deque
+from collections import deque, namedtuple
 
 LIMIT = 50
 BILLION = 10**9
@@ -42,6 +45,10 @@ MOST_BYTES = 2**30
 LONGEST = 262_144
 FATES_HEAD = b"number,arrival,length,class,fate,start,end\n"
 DEPARTURES_HEAD = struct.pack("<IHHiIII", 0xA1B23C4D, 2, 4, 0, 0, 262144, 1)
+
+
+# What a record of the departures should tell: the end in nanoseconds, the length, and how many bytes were captured.
+Sent = namedtuple("Sent", "end length captured")
 
 
 class CannotJudge(Exception):
@@ -62,31 +69,30 @@ def rate_of(config):
     return rate
 
 
-def arrivals(name):
+def arrivals(file, name):
     """The packets of a capture in its order, each (number, arrival, length, captured bytes)."""
     magics = {b"\xa1\xb2\xc3\xd4": (">", 1000), b"\xd4\xc3\xb2\xa1": ("<", 1000),
               b"\xa1\xb2\x3c\x4d": (">", 1), b"\x4d\x3c\xb2\xa1": ("<", 1)}
-    with open(name, "rb") as file:
-        head = file.read(24)
-        if len(head) < 24 or head[:4] not in magics:
-            raise CannotJudge(f"{name}: not a capture of the classic form")
-        order, unit = magics[head[:4]]
-        version, link = struct.unpack(order + "HH", head[4:8]), struct.unpack(order + "I", head[20:])[0]
-        if version != (2, 4) or link % 2**16 != 1:
-            raise CannotJudge(f"{name}: not version 2.4, or not of Ethernet")
-        number, latest, place = 0, 0, 24
-        while prefix := file.read(16):
-            if len(prefix) < 16:
-                raise CannotJudge(f"{name}: damaged at byte {place}")
-            seconds, fraction, captured, original = struct.unpack(order + "IIII", prefix)
-            data = file.read(captured) if captured <= LONGEST else b""
-            if len(data) < captured or original > LONGEST or captured == original == 0:
-                raise CannotJudge(f"{name}: damaged at byte {place}")
-            number, place = number + 1, place + 16 + captured
-            if number > MOST_RECORDS or place > MOST_BYTES:
-                raise CannotJudge(f"{name}: past the limits of a capture")
-            latest = max(latest, seconds * BILLION + fraction * unit)
-            yield number, latest, max(original, captured), data
+    head = file.read(24)
+    if len(head) < 24 or head[:4] not in magics:
+        raise CannotJudge(f"{name}: not a capture of the classic form")
+    order, unit = magics[head[:4]]
+    version, link = struct.unpack(order + "HH", head[4:8]), struct.unpack(order + "I", head[20:])[0]
+    if version != (2, 4) or link % 2**16 != 1:
+        raise CannotJudge(f"{name}: not version 2.4, or not of Ethernet")
+    number, latest, place = 0, 0, 24
+    while prefix := file.read(16):
+        if len(prefix) < 16:
+            raise CannotJudge(f"{name}: damaged at byte {place}")
+        seconds, fraction, captured, original = struct.unpack(order + "IIII", prefix)
+        data = file.read(captured) if captured <= LONGEST else b""
+        if len(data) < captured or original > LONGEST or captured == original == 0:
+            raise CannotJudge(f"{name}: damaged at byte {place}")
+        number, place = number + 1, place + 16 + captured
+        if number > MOST_RECORDS or place > MOST_BYTES:
+            raise CannotJudge(f"{name}: past the limits of a capture")
+        latest = max(latest, seconds * BILLION + fraction * unit)
+        yield number, latest, max(original, captured), data
 
 
 def play(rate, packets):
@@ -132,7 +138,9 @@ class Written:
     def expect(self, piece, what):
         if self.fault is None:
             found = self.file.read(len(piece))
-            if found != piece:
+            if found != piece and piece.startswith(found):
+                self.fault = f"ends at byte {self.place + len(found)}, in {what}"
+            elif found != piece:
                 self.fault = f"differs in {what}, at or after byte {self.place}\n    should be  {shown(piece)}\n    is         {shown(found)}"
             self.place += len(piece)
 
@@ -148,23 +156,24 @@ class Written:
 
 
 def compare(rate, arrivals_name, departures_name, fates_name):
-    """Whether both files are right, and the ends of what was sent."""
+    """Whether both files are right, and what was sent."""
     departures, fates = Written(departures_name), Written(fates_name)
     departures.expect(DEPARTURES_HEAD, "its head")
     fates.expect(FATES_HEAD, "its head")
-    ends, dropped = [], 0
-    for (number, at, length, data), start, end in play(rate, arrivals(arrivals_name)):
-        if start is None:
-            dropped += 1
-            fates.expect(f"{number},{at},{length},default,full,,\n".encode(), f"the row of packet {number}")
-        else:
-            ends.append(end)
+    sent, dropped = [], 0
+    with open(arrivals_name, "rb") as file:
+        for (number, at, length, data), start, end in play(rate, arrivals(file, arrivals_name)):
+            if start is None:
+                dropped += 1
+                fates.expect(f"{number},{at},{length},default,full,,\n".encode(), f"the row of packet {number}")
+                continue
+            sent.append(Sent(end, length, len(data)))
             fates.expect(f"{number},{at},{length},default,share,{start},{end}\n".encode(), f"the row of packet {number}")
             head = struct.pack("<IIII", end // BILLION, end % BILLION, len(data), length)
             departures.expect(head + data, f"the record of packet {number}")
-    print(f"played {len(ends) + dropped} packets at {rate} bits per second: {len(ends)} sent, {dropped} dropped")
+    print(f"played {len(sent) + dropped} packets at {rate} bits per second: {len(sent)} sent, {dropped} dropped")
     right = [fates.finish(), departures.finish()]
-    return all(right), ends
+    return all(right), sent
 
 
 # What tools may say on standard error without meaning a fault.
@@ -172,45 +181,62 @@ HARMLESS = ("reading from file", "dropped privs", "Running as user")
 
 
 def ask(words, name):
-    """The lines that a tool prints of a capture on its standard input, and its complaint, if it has one."""
+    """What a tool prints of a capture on its standard input, and its complaint, if it has one."""
     with open(name, "rb") as file:
-        done = subprocess.run(words, stdin=file, capture_output=True, text=True, check=False)
-    said = [line for line in done.stderr.splitlines() if line.strip() and not any(h in line for h in HARMLESS)]
-    complaint = f"status {done.returncode}" if done.returncode else (said[0] if said else None)
-    return done.stdout.splitlines(), complaint
+        done = subprocess.run(words, stdin=file, capture_output=True, check=False)
+    said = [line for line in done.stderr.decode(errors="replace").splitlines() if line.strip() and not any(h in line for h in HARMLESS)]
+    complaint = said[0] if said else f"status {done.returncode}"
+    return done.stdout, complaint if said or done.returncode else None
 
 
-def stamp_text(end):
-    return f"{end // BILLION}.{end % BILLION:09}"
+def first_fault(read, sent):
+    """What is wrong with the packets that a tool read, where they are not those that were sent."""
+    if len(read) != len(sent):
+        return f"it reads {len(read)} packets, not {len(sent)}"
+    return next((f"it reads {one} as packet {n}, where the fates tell {wanted}" for n, (one, wanted) in enumerate(zip(read, sent), 1) if one != wanted), None)
 
 
-def tcpdump_agrees(name, ends):
-    lines, complaint = ask(["tcpdump", "-nn", "-q", "-tt", "--nano", "-r", "-"], name)
-    stamps = [line.split(" ", 1)[0] for line in lines]
-    return complaint or (None if stamps == [stamp_text(e) for e in ends] else "its stamps are not the ends of the fates")
+def tcpdump_fault(name, sent):
+    written, complaint = ask(["tcpdump", "--nano", "-r", "-", "-w", "-"], name)
+    if complaint:
+        return complaint
+    try:
+        return first_fault([Sent(at, length, len(data)) for _n, at, length, data in arrivals(io.BytesIO(written), "what it writes")], sent)
+    except CannotJudge as fault:
+        return str(fault)
 
 
-def capinfos_agrees(name, ends):
-    lines, complaint = ask(["capinfos", "-M", "-c", name], name)
-    counts = [int(n) for line in lines if line.startswith("Number of packets") for n in re.findall(r"\d+", line)]
-    return complaint or (None if counts == [len(ends)] else f"it counts {counts}, not {len(ends)}")
+def capinfos_fault(name, sent):
+    printed, complaint = ask(["capinfos", "-M", "-c", "-d", name], name)
+    told = dict(re.findall(r"^(Number of packets|Data size): +(\d+)", printed.decode(errors="replace"), re.MULTILINE))
+    wanted = {"Number of packets": str(len(sent)), "Data size": str(sum(one.length for one in sent))}
+    return complaint or (None if told == wanted else f"it counts {told}, not {wanted}")
 
 
-def tshark_agrees(name, ends):
-    lines, complaint = ask(["tshark", "-n", "-r", "-", "-T", "fields", "-e", "frame.number"], name)
-    numbers = [str(n) for n in range(1, len(ends) + 1)]
-    return complaint or (None if lines == numbers else f"it reads {len(lines)} packets, not {len(ends)}")
+def tshark_fault(name, sent):
+    fields = ["frame.time_epoch", "frame.len", "frame.cap_len"]
+    printed, complaint = ask(["tshark", "-n", "-r", "-", "-T", "fields"] + [word for f in fields for word in ("-e", f)], name)
+    if complaint:
+        return complaint
+    told = [re.fullmatch(r"(\d+)\.(\d{9})\t(\d+)\t(\d+)", line) for line in printed.decode(errors="replace").splitlines()]
+    return first_fault([m and Sent(int(m[1] + m[2]), int(m[3]), int(m[4])) for m in told], sent)
 
 
-def ask_tools(name, ends):
+# Each tool, what it is asked, and what its answer shows where that is right.
+TOOLS = [("tcpdump", tcpdump_fault, "the stamps and lengths are those of the fates"),
+         ("capinfos", capinfos_fault, "the sum of their lengths is that of the fates"),
+         ("tshark", tshark_fault, "the stamps and lengths are those of the fates")]
+
+
+def ask_tools(name, sent):
     """Whether each tool that is installed reads the departures without a complaint, and as they should be read."""
     right = True
-    for tool, agrees in [("tcpdump", tcpdump_agrees), ("capinfos", capinfos_agrees), ("tshark", tshark_agrees)]:
+    for tool, fault_of, shows in TOOLS:
         if shutil.which(tool) is None:
             print(f"--    {tool} was not found on this machine: not asked")
             continue
-        fault = agrees(name, ends)
-        print(f"ok    {tool} reads {len(ends)} packets, without a warning" if fault is None else f"WRONG {tool}: {fault}")
+        fault = fault_of(name, sent)
+        print(f"ok    {tool} reads {len(sent)} packets without a warning; {shows}" if fault is None else f"WRONG {tool}: {fault}")
         right = right and fault is None
     return right
 
@@ -226,11 +252,11 @@ def main(words):
         return 2
     config, arrivals_name, departures_name, fates_name = words
     try:
-        right, ends = compare(rate_of(config), arrivals_name, departures_name, fates_name)
+        right, sent = compare(rate_of(config), arrivals_name, departures_name, fates_name)
     except (CannotJudge, OSError) as fault:
         print(f"check.py: cannot judge: {fault}", file=sys.stderr)
         return 2
-    right = ask_tools(departures_name, ends) and right
+    right = ask_tools(departures_name, sent) and right
     print("Both files are as the definition says." if right else "Something is not as the definition says.")
     return 0 if right else 1
 

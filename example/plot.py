@@ -1,94 +1,159 @@
 #!/usr/bin/env python3
-"""Draws a play from its fates: how many packets wait over time, and the delay of each packet.
+"""Draws a play from its fates: how many packets wait over time, the drops, and the delay of each packet.
 
-Takes the name of the fates, and then the name of the picture to write (its ending says the format, as .png or
-.svg). Without words they are example/out/fates.csv and example/out/play.png. It needs matplotlib. Where that is
-not installed it says so, draws nothing and ends with status 1.
+Takes two words, FATES and PICTURE, the name of the fates and that of the picture to write; its ending, .svg or .png,
+says the format. Without words they are example/out/fates.csv and example/out/play.png, beside this script. It needs
+gnuplot. Where that is not installed it says so, draws nothing and ends with status 1.
 
-The upper half is the backlog: the packets that wait in the queue, without the one that is being sent. The lower
-half has a point for each packet that was sent, at its arrival, as high as its delay (its end minus its arrival),
-and a cross at the foot for each packet that was dropped. Times are in milliseconds after the first arrival. They
-are fractions for the eye only: what has to be exact stands in the fates.
+The upper half is the backlog: the packets that wait, without the one that is being sent. Above it stands a stroke for
+each packet that was dropped, at its arrival. The lower half has a point for each packet that was sent, at its arrival,
+as high as its delay, its end minus its arrival. Strokes and points have a colour for each length. Times are in
+milliseconds after the first arrival.
 """
 
 import csv
 import os
+import shutil
+import subprocess
 import sys
+from collections import Counter, namedtuple
 
-MILLISECOND = 10**6
+# Tellable apart by the colour-blind (Okabe and Ito). The commonest length has the first.
+COLOURS = ["#0072b2", "#009e73", "#d55e00", "#cc79a7", "#e69f00", "#56b4e9"]
+TERMINALS = {".svg": "svg size 1000,620 dynamic font 'sans-serif,14' background '#ffffff'",
+             ".png": "pngcairo size 1000,620 font 'sans-serif,11' background '#ffffff'"}
+
+# Times in nanoseconds, the length in bytes; start and end are None where the packet was dropped.
+Fate = namedtuple("Fate", "arrival length start end")
+
+PICTURE = """\
+set multiplot title "{title}"
+set border 3
+set tics nomirror out
+set grid ytics linecolor '#e4e4e4' linetype 1
+set style fill solid
+set lmargin 10
+set rmargin 3
+set xrange [0:{last}]
+
+set size 1,0.5
+set origin 0,0.46
+set format x ''
+set ylabel 'packets that wait'
+{lane}
+set yrange [0:{high} * 1.16]
+plot {upper}
+
+set size 1,0.5
+set origin 0,0
+set format x '%g'
+set xlabel 'ms after the first arrival'
+set ylabel 'delay, ms'
+set ytics autofreq
+set yrange [0:*]
+set key above reverse Left samplen 1
+plot {lower}
+unset multiplot
+"""
 
 
-def rows_of(name):
-    """The rows of fates: (arrival, length, start, end) in nanoseconds, start and end None where it was dropped."""
-    with open(name, newline="", encoding="ascii") as file:
-        return [
-            (int(row["arrival"]), int(row["length"]), int(row["start"]) if row["start"] else None, int(row["end"]) if row["end"] else None)
-            for row in csv.DictReader(file)
-        ]
+def fates(name):
+    """The fates of a file, in its order."""
+    with open(name, newline="", encoding="ascii", errors="replace") as file:
+        return [Fate(int(row["arrival"]), int(row["length"]), *(int(row[k]) if row[k] else None for k in ("start", "end")))
+                for row in csv.DictReader(file)]
 
 
-def backlog(rows):
-    """How many packets wait after each moment at which that changes: (moments, counts)."""
-    changes = {}
-    for at, _length, start, _end in rows:
-        if start is not None:
-            changes[at] = changes.get(at, 0) + 1
-            changes[start] = changes.get(start, 0) - 1
-    moments, counts, waiting = [], [], 0
+def milliseconds(time):
+    """A time in nanoseconds, written in milliseconds without loss."""
+    return f"{time // 10**6}.{time % 10**6:06}"
+
+
+def backlog(sent):
+    """How many packets wait, as the corners of a line: (moment, count), two where the count changes."""
+    changes = Counter()
+    for fate in sent:
+        changes[fate.arrival] += 1
+        changes[fate.start] -= 1
+    waiting, corners = 0, []
     for moment in sorted(changes):
+        corners.append((moment, waiting))
         waiting += changes[moment]
-        moments.append(moment)
-        counts.append(waiting)
-    return moments, counts
+        if changes[moment]:
+            corners.append((moment, waiting))
+    return corners
 
 
-def draw(rows, picture, pyplot):
-    first = min(row[0] for row in rows)
-    figure, (upper, lower) = pyplot.subplots(2, 1, sharex=True, figsize=(10, 6))
+def block(name, rows):
+    """Data for gnuplot under a name."""
+    return "\n".join([f"${name} << END", *rows, "END", ""])
 
-    moments, counts = backlog(rows)
-    upper.step([(m - first) / MILLISECOND for m in moments], counts, where="post", linewidth=1)
-    upper.set_ylabel("packets that wait")
-    upper.set_ylim(bottom=0)
 
-    lengths = sorted({row[1] for row in rows})
-    shown = lengths if len(lengths) <= 8 else [None]
-    for length in shown:
-        sent = [r for r in rows if r[3] is not None and length in (None, r[1])]
-        name = "packets" if length is None else f"{length} bytes"
-        lower.plot([(r[0] - first) / MILLISECOND for r in sent], [(r[3] - r[0]) / MILLISECOND for r in sent], ".", markersize=4, label=name)
-    dropped = [r for r in rows if r[3] is None]
-    if dropped:
-        lower.plot([(r[0] - first) / MILLISECOND for r in dropped], [0] * len(dropped), "x", color="black", markersize=4, label="dropped")
-    lower.set_ylabel("delay, ms")
-    lower.set_xlabel("ms after the first arrival")
-    lower.legend(loc="upper right", fontsize="small")
+def names_of(rows):
+    """A name for the length of each packet, by length; where there are more lengths than colours, the rarest share one."""
+    common = [length for length, _count in Counter(fate.length for fate in rows).most_common()]
+    own = len(COLOURS) if len(common) <= len(COLOURS) else len(COLOURS) - 1
+    return {length: f"{length:,} bytes" if n < own else "other lengths" for n, length in enumerate(common)}
 
-    figure.tight_layout()
-    figure.savefig(picture, dpi=120)
+
+def lengths_drawn(rows, first, lane):
+    """The packets of each name: data for gnuplot, the strokes of what was dropped, and the points of what was sent."""
+    names, data, strokes, points = names_of(rows), [], [], []
+    for n, name in enumerate(dict.fromkeys(names.values())):
+        own = [fate for fate in rows if names[fate.length] == name]
+        sent = [f"{milliseconds(f.arrival - first)} {milliseconds(f.end - f.arrival)}" for f in own if f.end is not None]
+        lost = [f"{milliseconds(f.arrival - first)} {lane}" for f in own if f.end is None]
+        if lost:
+            data.append(block(f"lost{n}", lost))
+            strokes.append(f"$lost{n} using 1:($2*0.97):(0):($2*0.06) with vectors nohead linecolor '{COLOURS[n]}' notitle")
+        data.append(block(f"sent{n}", sent or ["NaN NaN"]))
+        points.append(f"$sent{n} with points pointtype 7 pointsize 0.6 linecolor '{COLOURS[n]}' title '{name}'")
+    return data, strokes, points
+
+
+def drawing(rows):
+    """The commands for gnuplot that draw these fates, but for the format and the name of the picture."""
+    first = min(fate.arrival for fate in rows)
+    last = max(fate.end or fate.arrival for fate in rows) - first
+    sent = [fate for fate in rows if fate.end is not None]
+    corners = backlog(sent)
+    high = max([count for _moment, count in corners] + [1])
+    data, strokes, points = lengths_drawn(rows, first, high * 1.1)
+    data.append(block("backlog", [f"{milliseconds(moment - first)} {count}" for moment, count in corners] or ["0 0"]))
+    waiting = ["$backlog with filledcurves y1=0 linecolor '#dfe7ee' notitle", "$backlog with lines linecolor '#445566' notitle"]
+    join = ", \\\n    ".join
+    return "".join(data) + PICTURE.format(
+        title=f"{len(sent):,} packets sent, {len(rows) - len(sent):,} dropped", last=milliseconds(last), high=high,
+        lane=f"set ytics add ('dropped' {high * 1.1})" if strokes else "", upper=join(waiting + strokes), lower=join(points))
 
 
 def main(words):
     out = os.path.join(os.path.dirname(os.path.abspath(__file__)), "out")
-    words = words or [os.path.join(out, "fates.csv"), os.path.join(out, "play.png")]
-    if len(words) != 2 or words[0].startswith("-"):
-        print("usage: plot.py [FATES PICTURE]", file=sys.stderr)
+    words = words or [os.path.relpath(os.path.join(out, name)) for name in ("fates.csv", "play.png")]
+    if len(words) != 2 or words[0].startswith("-") or os.path.splitext(words[1])[1] not in TERMINALS:
+        print("usage: plot.py [FATES PICTURE], the picture being NAME.svg or NAME.png", file=sys.stderr)
         return 2
+    name, picture = words
+    if shutil.which("gnuplot") is None:
+        print("plot.py: gnuplot was not found on this machine, so nothing was drawn", file=sys.stderr)
+        return 1
     try:
-        import matplotlib
-    except ImportError:
-        print("plot.py: matplotlib is not installed for this Python, so nothing was drawn", file=sys.stderr)
+        rows = fates(name)
+    except OSError as fault:
+        print(f"plot.py: {fault}", file=sys.stderr)
         return 1
-    matplotlib.use("Agg")
-    from matplotlib import pyplot
-
-    rows = rows_of(words[0])
+    except (csv.Error, KeyError, TypeError, ValueError):
+        print(f"plot.py: {name} is no file of fates, so nothing was drawn", file=sys.stderr)
+        return 1
     if not rows:
-        print(f"plot.py: {words[0]} has no packets, so nothing was drawn", file=sys.stderr)
+        print(f"plot.py: {name} has no packets, so nothing was drawn", file=sys.stderr)
         return 1
-    draw(rows, words[1], pyplot)
-    print(f"{len(rows)} packets drawn in {words[1]}")
-    return 0
+    terminal = f"set terminal {TERMINALS[os.path.splitext(picture)[1]]}\n"
+    with open(picture, "wb") as file:
+        done = subprocess.run(["gnuplot", "-"], input=(terminal + drawing(rows)).encode(), stdout=file, check=False)
+    if done.returncode == 0:
+        print(f"{len(rows)} packets drawn in {picture}")
+    return done.returncode
 
 
 if __name__ == "__main__":

@@ -1,0 +1,157 @@
+#!/usr/bin/env python3
+"""Runs the commands that the pages show, and compares what comes out with what the pages show.
+
+Takes names of pages; without them all pages of docs/ and README.md are looked at. With --quiet before them it says
+nothing but what does not come out as shown. It takes seconds, 100 MB of disk and 200 MB of memory.
+
+A block of a page that is marked `console` holds commands and what they print, on standard output and standard
+error together. A line that begins with `$ ` is a command, lines that begin with `> ` continue it, and a line `...`
+stands for any lines. The commands of a page are given to one bash, one after the other, in a new folder that
+holds example/ and docs/ of this repository, the built program and its data. So they change nothing here.
+
+The program must be built: crates/altqplay/out/altqplay, which example/run and `rt ci` build. Where that, bash
+or a tool of TOOLS is missing, what needs it is left out. The exit status is 0 where what was run came out as
+shown, else 1, and 2 for other words.
+"""
+
+import os
+import re
+import shutil
+import signal
+import subprocess
+import sys
+import tempfile
+from collections import namedtuple
+
+ROOT = os.path.dirname(os.path.dirname(os.path.abspath(__file__)))
+PROGRAM = os.path.join("crates", "altqplay", "out", "altqplay")
+TOOLS = ["tcpdump", "tshark", "capinfos", "editcap", "gnuplot"]
+SECONDS = 600
+MARK = "\x01end of a command\x01"
+
+# A command of a page, what it should print, and the number of its line.
+Command = namedtuple("Command", "text shown line")
+
+
+def console_lines(page):
+    """The lines of a page that stand in its blocks of commands, each with its number."""
+    found, is_inside = [], False
+    with open(page, encoding="utf-8") as file:
+        for number, line in enumerate(file.read().split("\n"), 1):
+            if line.startswith("```"):
+                is_inside = line == "```console"
+            elif is_inside:
+                found.append((number, line))
+    return found
+
+
+def commands(page):
+    """The commands of a page, in order."""
+    found = []
+    for number, line in console_lines(page):
+        if line.startswith("$ "):
+            found.append(Command([line[2:]], [], number))
+        elif line.startswith("> ") and found and not found[-1].shown:
+            found[-1].text.append(line[2:])
+        elif found:
+            found[-1].shown.append(line)
+    return found
+
+
+def missing_tool(command):
+    """The tool that a command begins with, where this machine has it not."""
+    words = " ".join(command.text).split()
+    return next((tool for tool in TOOLS if words[:1] == [tool] and shutil.which(tool) is None), None)
+
+
+def is_same(line, shown):
+    """Whether a line that was printed is the one shown, or says that the tool for it is missing."""
+    absent = re.search(r"(\w+) was not found on this machine", line)
+    return line == shown or (absent is not None and absent[1] in TOOLS and shutil.which(absent[1]) is None)
+
+
+def are_same(lines, shown):
+    """Whether the lines that were printed are those shown, `...` standing for any."""
+    if not shown:
+        return not lines
+    if shown[0] == "...":
+        return any(are_same(lines[n:], shown[1:]) for n in range(len(lines) + 1))
+    return bool(lines) and is_same(lines[0], shown[0]) and are_same(lines[1:], shown[1:])
+
+
+def make_room(room):
+    """Fills a new folder with what the commands of a page need."""
+    for name in ("example", "docs", os.path.join("crates", "altqplay", "data")):
+        shutil.copytree(os.path.join(ROOT, name), os.path.join(room, name), ignore=shutil.ignore_patterns("out", "__pycache__"))
+    os.makedirs(os.path.join(room, os.path.dirname(PROGRAM)))
+    shutil.copyfile(os.path.join(ROOT, PROGRAM), os.path.join(room, PROGRAM))
+    os.chmod(os.path.join(room, PROGRAM), 0o755)
+
+
+def printed(todo):
+    """What each of the commands prints, as a list of lines; None where it never ended."""
+    text = "".join("\n".join(one.text) + f"\nprintf '%s\\n' '{MARK}'\n" for one in todo)
+    with tempfile.TemporaryDirectory(prefix="altqplay-docs-") as top, tempfile.TemporaryFile() as output:
+        room, script = os.path.join(top, "altqplay"), os.path.join(top, "script")
+        make_room(room)
+        with open(script, "w", encoding="utf-8") as file:
+            file.write(text)
+        environment = {**os.environ, "LC_ALL": "C.UTF-8", "PYTHONDONTWRITEBYTECODE": "1"}
+        shell = subprocess.Popen(["bash", script], cwd=room, env=environment, stdin=subprocess.DEVNULL,
+                                 stdout=output, stderr=subprocess.STDOUT, start_new_session=True)
+        try:
+            shell.wait(SECONDS)
+        except subprocess.TimeoutExpired:
+            os.killpg(shell.pid, signal.SIGKILL)
+            shell.wait()
+        output.seek(0)
+        parts = output.read().decode(errors="replace").split(MARK + "\n")[:-1]
+    return [part.splitlines() for part in parts] + [None] * (len(todo) - len(parts))
+
+
+def faults(todo):
+    """What is wrong with each command that does not print what is shown."""
+    found = []
+    for command, lines in zip(todo, printed(todo)):
+        if lines is None:
+            found.append(f"line {command.line}: it did not end, or a command before it did not\n    $ {command.text[0]}")
+        elif not are_same(lines, command.shown):
+            told = [f"    {line}" for part in (["$ " + command.text[0]], ["-- shown"], command.shown, ["-- printed"], lines) for line in part]
+            found.append("\n".join([f"line {command.line}: it does not print what is shown", *told]))
+    return found
+
+
+def judge(page, quiet):
+    """Runs a page's commands, says what came out, and returns whether all is as shown."""
+    found = commands(page)
+    todo = [one for one in found if missing_tool(one) is None]
+    wrong = faults(todo) if todo else []
+    name = os.path.relpath(page, ROOT)
+    for one in wrong:
+        print(f"{name}, {one}")
+    if found and not quiet:
+        absent = sorted({missing_tool(one) for one in found} - {None})
+        left_out = f"; left out {len(found) - len(todo)}, since {', '.join(absent)} was not found" if absent else ""
+        print(f"{name}: {len(todo) - len(wrong)} of {len(todo)} commands print what is shown{left_out}")
+    return not wrong
+
+
+def main(words):
+    options = [word for word in words if word.startswith("-")]
+    pages = [os.path.abspath(word) for word in words if not word.startswith("-")]
+    if set(options) - {"--quiet"}:
+        print("usage: try_commands.py [--quiet] [PAGE ..]", file=sys.stderr)
+        return 2
+    lacking = [what for what, is_there in [("bash", shutil.which("bash")), (PROGRAM, os.path.isfile(os.path.join(ROOT, PROGRAM)))] if not is_there]
+    if lacking:
+        if "--quiet" not in options:
+            print(f"try_commands.py: nothing was run, since there is no {' and no '.join(lacking)}")
+        return 0
+    docs = os.path.join(ROOT, "docs")
+    pages = pages or [os.path.join(ROOT, "README.md")] + sorted(os.path.join(docs, name) for name in os.listdir(docs) if name.endswith(".md"))
+    done = [judge(page, "--quiet" in options) for page in pages]
+    return 0 if all(done) else 1
+
+
+if __name__ == "__main__":
+    sys.exit(main(sys.argv[1:]))
