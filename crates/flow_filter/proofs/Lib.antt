@@ -1,0 +1,4 @@
+pub mod AddressSteps
+pub mod Best
+pub mod Places
+pub mod Running
