@@ -1,4 +1,6 @@
 pub mod AddressSteps
 pub mod Best
+pub mod Everywhere
+pub mod Found
 pub mod Places
 pub mod Running

@@ -1,9 +1,11 @@
 -- What holds of every class of a flow, in words that name no order of looking.
-use Rattle.std.specs.Prelude.{◌≡◌, ◌<◌, ◌≤◌, ◌⊎◌, ℕ, List, IsTrue, All, Some, slice_get, not}
+use Rattle.std.specs.Prelude.{◌≡◌, ◌<◌, ◌≤◌, ◌⊎◌, ◌==◌, ℕ, Bool, false, List, [], ◌∷◌, length, IsTrue, All, Some, slice_get, not}
+use Rattle.std.specs.List.{list_any}
 use Rattle.conf_tree.specs.declared.filter.Filter.{Filter}
-use Rattle.packet_heads.specs.Flow.{Flow}
+use Rattle.conf_tree.specs.declared.interface.Interface.{Interface}
+use Rattle.packet_heads.specs.Flow.{Flow, V4, V6, Other}
 use Rattle.flow_filter.specs.Matches.{matches}
-use Rattle.flow_filter.specs.Rules.{Rules}
+use Rattle.flow_filter.specs.Rules.{Rules, rules_of, filters_of_control}
 use Rattle.flow_filter.specs.Winner.{class_of}
 
 -- the filter at a place matches, and each other one that does has a lesser rule number, or the same and stands behind it
@@ -30,3 +32,33 @@ DefaultTakesTheRest =
 abbrev pub OneWinsOrNoneMatches : Type 0
 OneWinsOrNoneMatches =
     (filters : List Filter) (flow : Flow) → ((place : ℕ) × (f : Filter) × Wins filters flow place f) ⊎ NoneMatches filters flow
+
+-- a flow of one of the protocols of control: ICMP, IGMP and RSVP over IPv4, ICMP over IPv6
+abbrev pub is_control : Flow → Bool
+is_control (V4 heads) = list_any (λ p. p == heads.protocol) (1 ∷ 2 ∷ 46 ∷ [])
+is_control (V6 heads) = 58 == heads.protocol
+is_control Other = false
+
+-- bytes, so many
+pub record IsAddress (count : ℕ) (address : List ℕ) : Type 0 where
+  pub whole : length address ≡ count
+  pub bytes : All (λ byte. byte < 256) address
+
+-- as those of each flow of a frame are
+abbrev pub HasWholeAddresses : Flow → Type 0
+HasWholeAddresses (V4 heads) = IsAddress 4 heads.source × IsAddress 4 heads.target
+HasWholeAddresses (V6 heads) = IsAddress 16 heads.source × IsAddress 16 heads.target
+HasWholeAddresses Other = Unit {0}
+
+-- what a class with `control` adds matches exactly those flows
+abbrev pub ControlTakesItsProtocols : Type 0
+ControlTakesItsProtocols =
+    (class : ℕ) (flow : Flow) → HasWholeAddresses flow
+    → list_any (λ f. matches f flow) (filters_of_control class) ≡ is_control flow
+
+-- the class is one of the interface's, if those of its filters are
+abbrev pub ClassIsThere : Type 0
+ClassIsThere =
+    (interface : Interface) (flow : Flow) → 0 < length interface.classes
+    → All (λ f. f.class < length interface.classes) interface.filters
+    → class_of (rules_of interface) flow < length interface.classes

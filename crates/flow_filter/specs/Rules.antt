@@ -8,6 +8,7 @@ use Rattle.conf_tree.specs.declared.filter.Addresses.TheVariants.{V4, V6}
 use Rattle.conf_tree.specs.declared.filter.Filter.{Filter}
 use Rattle.conf_tree.specs.declared.interface.Interface.{Interface}
 
+-- the filters in the order in which they stand, and the class of what none matches
 pub record Rules : Type 0 where
   pub filters : List Filter
   pub otherwise : ℕ
@@ -41,7 +42,7 @@ abbrev pub control_filters : List Class → List Filter
 control_filters classes =
     flat_map (λ numbered. filters_of_control numbered.0) (filter (λ numbered. numbered.1.control) (enumerate_from 0 classes))
 
--- the number of the first class that is the default class; that of the root, if there were none
+-- the number of the first class that is the default class; 0, the root's, if there were none
 abbrev pub default_class : List Class → ℕ
 default_class classes = unwrap_or (position (λ c. c.first) classes) 0
 

@@ -45,9 +45,9 @@ impl Filters {
     }
 
     /// The number of the class of a flow: that of the filter that wins among those that match, or the default class where
-    /// none does, as for every `Other`. An address of a flow that is shorter than the filter's agrees with none; of a longer
-    /// one in IPv4 the first four bytes count, and in IPv6 it agrees with none. Takes no memory, and time linear in the
-    /// filters. See altq.conf(5).
+    /// none does, as for every `Other`. The flow of a frame has addresses of four or sixteen bytes; of a shorter one in IPv4,
+    /// and of one of another length in IPv6, no filter matches, and of a longer one in IPv4 the first four bytes count. Takes
+    /// no memory, and time linear in the filters. See altq.conf(5).
     pub fn class(&self, heads: &FlowHeads) -> u32
         ensures { result ≡ class_of self.now (flow_of heads.now) }
     {

@@ -12,7 +12,7 @@ mod matching;
 mod winner;
 
 pub use filters::Filters;
-pub use laws::greatest_rule_wins;
+pub use laws::{class_is_there, control_takes_its_protocols, greatest_rule_wins};
 
 #[cfg(test)]
 mod tests;

@@ -114,6 +114,7 @@ fn control_takes_icmp(rt: HostRuntime) -> Result<(), Fail> {
     assert_eq!(rt; filters.class(&flow(&ICMPV6)), 1);
     assert_eq!(rt; filters.class(&flow(&GENERATED)), 2);
     assert_eq!(rt; filters.class(&flow(&OVER_IPV6)), 2);
+    assert_eq!(rt; filters.class(&flow(&ARP)), 2);
     let text = format!(in rt.alloc();
         "{AFTER_THE_MANUAL}filter if0 def_class 10.0.0.2 0 0 0 icmp\n"
     )?;

@@ -1,10 +1,9 @@
-use Rattle.std.proofs.Common.{◌≡◌, ◌⊎◌, inl, inr, ℕ, List, [], Some, None, ◌∙◌, ap}
+use Rattle.std.proofs.Common.{◌≡◌, ◌⊎◌, inl, inr, ℕ, List, Some, ap}
 use Rattle.std.specs.Option.{option_map_or}
 use Rattle.conf_tree.specs.declared.filter.Filter.{Filter}
 use Rattle.packet_heads.specs.Flow.{Flow}
 use Rattle.flow_filter.specs.Laws.{Wins, NoneMatches}
 use Rattle.flow_filter.specs.Matches.{matches}
-use Rattle.flow_filter.specs.Rules.{Rules}
 use Rattle.flow_filter.specs.Winner.{winner, matching}
 use Rattle.flow_filter.proofs.Best.{best_is}
 use Rattle.flow_filter.proofs.Places.{Leads, LeadsOrNone, leads_is, none_left, leads_or_none}

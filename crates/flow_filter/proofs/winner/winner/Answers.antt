@@ -1,4 +1,4 @@
-use Rattle.std.proofs.Common.{ℕ, Bool, arith, option_copied, take, length, ◌∙◌, sym}
+use Rattle.std.proofs.Common.{ℕ, Bool, arith, option_copied, ◌∙◌, sym}
 use Rattle.std.proofs.lemmas.List.{take_all}
 use Rattle.conf_tree.specs.declared.filter.Filter.{Filter}
 use Rattle.packet_heads.specs.Heads.{flow_of}
@@ -16,14 +16,18 @@ loop-filter-preserved c =
     let rule : Filter → ℕ = λ f. f.ruleno in
     let within = c.loop-filter-test.true in
     let so_far = c.loop-filter.invariant in
-    elim c.if-matches.branch [ then-matches+then-passes w ↦ rw w.best-is (takes rule test filters c.loop-filter.filter-index _ (option_copied c.loop-filter.best) within so_far
-        (sym c.matches.ensures ∙ w.if-matches.true) (sym w.passes.ensures ∙ w.if-passes.true))
-    | else-matches w ↦ rw w.best-is (elim w.else-matches.branch [ else-matches-via-then-matches+else-passes v ↦
-        stays rule test filters c.loop-filter.filter-index _ (option_copied c.loop-filter.best) within so_far
+    elim c.if-matches.branch [
+      | then-matches+then-passes w ↦ rw w.best-is (takes rule test filters c.loop-filter.filter-index _ (option_copied c.loop-filter.best) within so_far
+          (sym c.matches.ensures ∙ w.if-matches.true) (sym w.passes.ensures ∙ w.if-passes.true))
+      | else-matches w ↦ rw w.best-is (elim w.else-matches.branch [
+        | else-matches-via-then-matches+else-passes v ↦
+            stays rule test filters c.loop-filter.filter-index _ (option_copied c.loop-filter.best) within so_far
             (sym c.matches.ensures ∙ v.if-matches.true) (sym v.passes.ensures ∙ v.if-passes.false)
-    | else-matches-via-else-matches v ↦
-        skips rule test filters c.loop-filter.filter-index _ (option_copied c.loop-filter.best) within so_far
-            (sym c.matches.ensures ∙ v.if-matches.false) ]) ]
+        | else-matches-via-else-matches v ↦
+            skips rule test filters c.loop-filter.filter-index _ (option_copied c.loop-filter.best) within so_far
+            (sym c.matches.ensures ∙ v.if-matches.false)
+      ])
+    ]
 
 pub returns : goal.returns
 returns c =
