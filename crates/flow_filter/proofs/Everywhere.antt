@@ -8,7 +8,8 @@ use Rattle.conf_tree.specs.Masks.{upper}
 use Rattle.std.specs.List.{list_any}
 use Rattle.conf_tree.specs.declared.filter.Addresses.{Addresses}
 use Rattle.packet_heads.specs.Flow.{Flow, Heads, V4, V6, Other}
-use Rattle.flow_filter.specs.Laws.{IsAddress, HasWholeAddresses, is_control}
+use Rattle.flow_filter.specs.Laws.{is_control}
+use Rattle.flow_filter.proofs.Frames.{IsAddress, HasWholeAddresses}
 use Rattle.flow_filter.specs.Matches.{agrees_under, agrees_within, ports_agree, matches}
 use Rattle.flow_filter.specs.Rules.{every_4, every_6, protocol_filter, filters_of_control}
 

@@ -3,7 +3,7 @@ use Rattle.std.specs.Prelude.{◌≡◌, ◌<◌, ◌≤◌, ◌⊎◌, ◌==◌
 use Rattle.std.specs.List.{list_any}
 use Rattle.conf_tree.specs.declared.filter.Filter.{Filter}
 use Rattle.conf_tree.specs.declared.interface.Interface.{Interface}
-use Rattle.packet_heads.specs.Flow.{Flow, V4, V6, Other}
+use Rattle.packet_heads.specs.Flow.{Flow, V4, V6, Other, flow}
 use Rattle.flow_filter.specs.Matches.{matches}
 use Rattle.flow_filter.specs.Rules.{Rules, rules_of, filters_of_control}
 use Rattle.flow_filter.specs.Winner.{class_of}
@@ -39,22 +39,11 @@ is_control (V4 heads) = list_any (λ p. p == heads.protocol) (1 ∷ 2 ∷ 46 ∷
 is_control (V6 heads) = 58 == heads.protocol
 is_control Other = false
 
--- bytes, so many
-pub record IsAddress (count : ℕ) (address : List ℕ) : Type 0 where
-  pub whole : length address ≡ count
-  pub bytes : All (λ byte. byte < 256) address
-
--- as those of each flow of a frame are
-abbrev pub HasWholeAddresses : Flow → Type 0
-HasWholeAddresses (V4 heads) = IsAddress 4 heads.source × IsAddress 4 heads.target
-HasWholeAddresses (V6 heads) = IsAddress 16 heads.source × IsAddress 16 heads.target
-HasWholeAddresses Other = Unit {0}
-
--- what a class with `control` adds matches exactly those flows
+-- of the frames those of these flows are exactly what the filters of a class with `control` match
 abbrev pub ControlTakesItsProtocols : Type 0
 ControlTakesItsProtocols =
-    (class : ℕ) (flow : Flow) → HasWholeAddresses flow
-    → list_any (λ f. matches f flow) (filters_of_control class) ≡ is_control flow
+    (class : ℕ) (frame : List ℕ) → All (λ byte. byte < 256) frame
+    → list_any (λ f. matches f (flow frame)) (filters_of_control class) ≡ is_control (flow frame)
 
 -- the class is one of the interface's, if those of its filters are
 abbrev pub ClassIsThere : Type 0

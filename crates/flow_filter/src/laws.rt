@@ -10,8 +10,8 @@ pub fn greatest_rule_wins()
     ensures either { OneWinsOrNoneMatches }
 {}
 
-/// The filters that a class with `control` adds match exactly the flows of ICMP, IGMP and RSVP over IPv4 and of ICMP over
-/// IPv6.
+/// The filters that a class with `control` adds match, of all frames, exactly those of ICMP, IGMP and RSVP over IPv4 and of
+/// ICMP over IPv6.
 pub fn control_takes_its_protocols()
     ensures { ControlTakesItsProtocols }
 {}
