@@ -1,0 +1,92 @@
+-- The first of a list whose number is the greatest.
+use Rattle.std.proofs.Common.{◌≡◌, ℕ, ◌<◌, ◌≤◌, ◌==◌, max, Bool, true, false, cond, List, [], ◌∷◌, ◌++◌, map, Option, Some, None, refl, ap, ◌∙◌, arith}
+use Rattle.std.specs.Prelude.{All, find, fold}
+use Rattle.std.proofs.lemmas.Bool.Decides.{nat_tests}
+use Rattle.std.proofs.lemmas.List.Elements.{All-nil, All-cons, All-head, All-tail, All-push, All-weaker}
+use Rattle.std.proofs.lemmas.List.Folds.{find-append}
+
+-- a fold by max
+pub max_grows : {X : Type 0} (rule : X → ℕ) (a : ℕ) (xs : List X) → a ≤ fold max a (map rule xs)
+max_grows rule a [] = omega arith
+max_grows rule a (x ∷ xs) = omega (arith, max_grows rule (max a (rule x)) xs)
+
+pub max_bounded : {X : Type 0} (rule : X → ℕ) (r a : ℕ) (xs : List X) → a ≤ r → All (λ x. rule x ≤ r) xs → fold max a (map rule xs) ≤ r
+max_bounded rule r a [] h all = h
+max_bounded rule r a (x ∷ xs) h all =
+    let here : rule x ≤ r = All-head (λ x. rule x ≤ r) x xs all in
+    max_bounded rule r (max a (rule x)) xs (omega arith) (All-tail (λ x. rule x ≤ r) x xs all)
+
+max_found_step : {X : Type 0} (b : Bool) (x y : X) (n r m : ℕ) (rest : Option X) → (b ≡ true → n ≡ r) → n ≤ m → (rest ≡ Some y → r ≤ m)
+    → cond b (Some x) rest ≡ Some y → r ≤ m
+max_found_step true x y n r m rest e h k found = let same : n ≡ r = e refl in omega arith
+max_found_step false x y n r m rest e h k found = k found
+
+same_number : (m n : ℕ) → (m == n) ≡ true → m ≡ n
+same_number m n h = grind (arith, nat_tests)
+
+pub max_found : {X : Type 0} (rule : X → ℕ) (r a : ℕ) (xs : List X) (y : X) → find (λ x. rule x == r) xs ≡ Some y → r ≤ fold max a (map rule xs)
+max_found rule r a [] y h = cc
+max_found rule r a (x ∷ xs) y h =
+    let most = fold max (max a (rule x)) (map rule xs) in
+    let grows : max a (rule x) ≤ most = max_grows rule (max a (rule x)) xs in
+    max_found_step (rule x == r) x y (rule x) r most (find (λ x. rule x == r) xs) (same_number (rule x) r) (omega arith)
+    (max_found rule r (max a (rule x)) xs y) h
+
+-- the first whose number is the greatest
+abbrev pub best : {X : Type 0} → (X → ℕ) → List X → Option X
+best rule xs = find (λ x. rule x == fold max 0 (map rule xs)) xs
+
+-- the same, said of one
+pub record IsFirstGreatest {X : Type 0} (rule : X → ℕ) (xs : List X) (b : X) : Type 0 where
+  pub found : find (λ x. rule x == rule b) xs ≡ Some b
+  pub most : All (λ x. rule x ≤ rule b) xs
+
+pub best_is : {X : Type 0} (rule : X → ℕ) (xs : List X) (b : X) → IsFirstGreatest rule xs b → best rule xs ≡ Some b
+best_is rule xs b h =
+    let low : rule b ≤ fold max 0 (map rule xs) = max_found rule (rule b) 0 xs b h.found in
+    let high : fold max 0 (map rule xs) ≤ rule b = max_bounded rule (rule b) 0 xs (omega arith) h.most in
+    let same : fold max 0 (map rule xs) ≡ rule b = omega arith in
+    ap (λ n. find (λ x. rule x == n) xs) same ∙ h.found
+
+-- what an optional one is: the first greatest, where there is any
+abbrev pub IsBest : {X : Type 0} → (X → ℕ) → List X → Option X → Type 0
+IsBest rule xs None = xs ≡ []
+IsBest rule xs (Some b) = IsFirstGreatest rule xs b
+
+pub is_best : {X : Type 0} (rule : X → ℕ) (xs : List X) (o : Option X) → IsBest rule xs o → o ≡ best rule xs
+is_best rule xs None h = let found : best rule xs ≡ best rule [] = ap (best rule) h in cc
+is_best rule xs (Some b) h = let found : best rule xs ≡ Some b = best_is rule xs b h in cc
+
+-- one more stands behind
+pub itself : (m : ℕ) → (m == m) ≡ true
+itself m = grind (arith, nat_tests)
+
+pub differs : (m n : ℕ) → m < n → (m == n) ≡ false
+differs m n h = grind (arith, nat_tests)
+
+none_below : {X : Type 0} (rule : X → ℕ) (n : ℕ) (xs : List X) → All (λ x. rule x < n) xs → find (λ x. rule x == n) xs ≡ None
+none_below rule n [] all = refl
+none_below rule n (x ∷ xs) all =
+    let here : (rule x == n) ≡ false = differs (rule x) n (All-head (λ x. rule x < n) x xs all) in
+    rw here (none_below rule n xs (All-tail (λ x. rule x < n) x xs all))
+
+pub best_begins : {X : Type 0} (rule : X → ℕ) (y : X) → IsFirstGreatest rule (y ∷ []) y
+best_begins rule y = record {
+  found = rw (itself (rule y)) refl;
+  most = All-cons (λ x. rule x ≤ rule y) y [] (omega arith) (All-nil (λ x. rule x ≤ rule y));
+}
+
+pub best_takes : {X : Type 0} (rule : X → ℕ) (xs : List X) (b y : X) → IsFirstGreatest rule xs b → rule b < rule y → IsFirstGreatest rule (xs ++ y ∷ []) y
+best_takes rule xs b y h less =
+    let below : All (λ x. rule x < rule y) xs = All-weaker (λ x. rule x ≤ rule b) (λ x. rule x < rule y) (λ x le. omega arith) xs h.most in
+    let none : find (λ x. rule x == rule y) xs ≡ None = none_below rule (rule y) xs below in
+    record {
+      found = rw (find-append (λ x. rule x == rule y) xs (y ∷ []), none, itself (rule y)) refl;
+      most = All-push (λ x. rule x ≤ rule y) xs y (All-weaker (λ x. rule x < rule y) (λ x. rule x ≤ rule y) (λ x lt. omega arith) xs below) (omega arith);
+    }
+
+pub best_stays : {X : Type 0} (rule : X → ℕ) (xs : List X) (b y : X) → IsFirstGreatest rule xs b → rule y ≤ rule b → IsFirstGreatest rule (xs ++ y ∷ []) b
+best_stays rule xs b y h le = record {
+  found = rw (find-append (λ x. rule x == rule b) xs (y ∷ []), h.found) refl;
+  most = All-push (λ x. rule x ≤ rule b) xs y h.most le;
+}

@@ -1,0 +1,4 @@
+pub mod Matches
+pub mod Rules
+pub mod Winner
+pub mod Laws

@@ -1,0 +1,59 @@
+//! The filters of an interface.
+ghost use Rattle.std.specs.Prelude.{◌≡◌, IfOk};
+ghost use Rattle.flow_filter.specs.Rules.{rules_of};
+ghost use Rattle.flow_filter.specs.Winner.{class_of};
+ghost use Rattle.packet_heads.specs.Heads.{flow_of};
+
+use crate::control::{default_class, push_control};
+use crate::winner::winner;
+use conf_tree::{Filter, Interface};
+use packet_heads::FlowHeads;
+use play_base::NoMemory;
+use std::alloc::Global;
+use std::marker::Model;
+
+/// The filters of an interface, those that `control` adds among them, and its default class. Contracts see the `Rules` of
+/// the interface.
+#[derive(Debug, Drop)]
+pub struct Filters {
+    filters: Vec<Filter>,
+    otherwise: u32,
+}
+
+impl Model for Filters {
+    ghost use Rattle.flow_filter.specs.Rules.{Rules};
+
+    ghost Value = { Rules };
+
+    ghost view = { λ f. record { filters = f.filters.items; otherwise = f.otherwise } };
+}
+
+impl Filters {
+    /// The filters of an interface: those of the text, in its order, and behind them those of each class with `control`, in
+    /// the order of the classes.
+    ///
+    /// Answers `NoMemory` where there was none, or where the default class or one with `control` has a number of 2^32 or
+    /// more, which no configuration has. Takes time and memory linear in the filters and classes. See altq.conf(5).
+    pub fn build(alloc: Global, interface: &Interface) -> Result<Filters, NoMemory>
+        ensures { IfOk result (λ filters. filters ≡ rules_of interface.now) }
+    {
+        let mut filters = Vec::new(alloc);
+        filters.extend_from_slice(interface.filters.as_slice())?;
+        push_control(&mut filters, interface.classes.as_slice())?;
+        let otherwise = default_class(interface.classes.as_slice())?;
+        Ok(Filters { filters, otherwise })
+    }
+
+    /// The number of the class of a flow: that of the filter that wins among those that match, or the default class where
+    /// none does, as for every `Other`. The flow of a frame has addresses of four or sixteen bytes; of a shorter one in IPv4,
+    /// and of one of another length in IPv6, no filter matches, and of a longer one in IPv4 the first four bytes count. Takes
+    /// no memory, and time linear in the filters. See altq.conf(5).
+    pub fn class(&self, heads: &FlowHeads) -> u32
+        ensures { result ≡ class_of self.now (flow_of heads.now) }
+    {
+        match winner(self.filters.as_slice(), heads) {
+            Some(filter) => filter.class,
+            None => self.otherwise,
+        }
+    }
+}

@@ -1,0 +1,18 @@
+//! The class of a flow: which filter of an interface wins, after altq.conf(5).
+//!
+//! A filter matches a flow where its addresses under their masks, its ports, its protocol and its type of service agree
+//! with the flow's. Of those that match the one with the greatest rule number wins, and of those with that number the first;
+//! where none matches, the packet goes to the default class.
+#![tactic(auto)]
+
+mod control;
+mod filters;
+mod laws;
+mod matching;
+mod winner;
+
+pub use filters::Filters;
+pub use laws::{class_is_there, control_takes_its_protocols, greatest_rule_wins};
+
+#[cfg(test)]
+mod tests;
