@@ -1,22 +1,18 @@
 -- From what is read of a configuration to what it says, and how a check ends.
-use Rattle.std.proofs.Common.{◌≡◌, ◌≤◌, ◌∙◌, ◌⊎◌, ℕ, suc, Bool, true, false, cond, Option, List, [], ◌∷◌, None, Some, Result, Ok, Err, ap, sym, refl, inl, inr, arith}
+use Rattle.std.proofs.Common.{◌≡◌, ◌≤◌, ◌∙◌, ℕ, suc, Bool, true, false, cond, Option, List, [], ◌∷◌, Some, Ok, Err, ap, arith}
 use Rattle.std.specs.Prelude.{IsTrue, bytes_eq, find, slice_get}
 use Rattle.conf_laws.specs.Fit.{AreFit}
 use Rattle.conf_tree.specs.Settings.{most_rate}
 use Rattle.conf_lines.specs.declared.fault.ConfPlace.{ConfPlace}
 use Rattle.conf_tree.specs.declared.interface.Interface.{Interface}
-use Rattle.play_base.specs.View.{View, Any, Keeps, Rose}
-use Rattle.play_cli.specs.Causes.{CheckCauses, CheckConfigCauses, ConfigCauses, config_status, status_of, ended}
-use Rattle.play_cli.specs.Checked.{HasChecked, IsCheckable}
-use Rattle.play_cli.specs.Configuration.{Configuration, Refused, Said, Says, TooLong, absent, asked_of, interface_of}
-use Rattle.play_cli.specs.Ending.{CheckEnds, Tells, TellsPlace}
+use Rattle.play_base.specs.View.{View}
+use Rattle.play_cli.specs.Causes.{CheckCauses}
+use Rattle.play_cli.specs.Configuration.{Refused, Said, Says, TooLong, asked_of, interface_of}
 use Rattle.play_cli.specs.Input.{InputCauses, IsLonger, IsRead, RateCauses}
-use Rattle.play_cli.specs.Run.{IsQuiet}
-use Rattle.play_cli.specs.declared.fault.ConfigFault.{ConfigFault}
 use Rattle.play_cli.specs.declared.fault.ConfigFault.TheVariants as conf
 use Rattle.play_cli.specs.declared.fault.RunFault.{RunFault}
 use Rattle.play_cli.specs.declared.fault.RunFault.TheVariants as fault
-use Rattle.play_cli.proofs.ConfLemmas.{long_says, one_says, short_says, told_long, told_place}
+use Rattle.play_cli.proofs.ConfLemmas.{long_says, short_says}
 
 -- what is read with a fault is refused
 pub read_refused : (u : View) (config interface : List ℕ) (place : ConfPlace) → IsRead u config (Err place) → IsTrue u.tells → Says u config interface (Refused place)

@@ -1,19 +1,14 @@
 -- How a play ends, and how a check ends, by what was done or by the fault.
-use Rattle.std.proofs.Common.{◌≡◌, ◌≢◌, ◌⊎◌, ℕ, List, refl, sym, inl, inr, arith}
+use Rattle.std.proofs.Common.{◌≡◌, ℕ, List, refl, arith}
 use Rattle.std.specs.Prelude.{IsTrue}
-use Rattle.conf_lines.specs.declared.fault.ConfPlace.{ConfPlace}
-use Rattle.play_base.specs.View.{View, Any, Keeps, IsAbsent, Rose}
-use Rattle.play_cli.specs.Causes.{Causes, CheckCauses, ConfigCauses, IsAfterConfigFault, config_status, status_of, ended}
-use Rattle.play_cli.specs.Checked.{HasChecked, IsCheckable}
-use Rattle.play_cli.specs.Configuration.{Refused, Said, Says, TooLong}
-use Rattle.play_cli.specs.Ending.{CheckEnds, IsStatus, PlayEnds, Tells, TellsPlace}
+use Rattle.play_base.specs.View.{View, IsAbsent}
+use Rattle.play_cli.specs.Causes.{Causes, IsAfterConfigFault, status_of, ended}
+use Rattle.play_cli.specs.Ending.{PlayEnds}
 use Rattle.play_cli.specs.Opening.{Accepts, AcceptsNone, KeepsOthers}
-use Rattle.play_cli.specs.Run.{Names, HasPlayed, Fronts, IsQuiet}
+use Rattle.play_cli.specs.Run.{Names, HasPlayed, Fronts}
 use Rattle.play_cli.specs.declared.fault.ConfigFault.{ConfigFault}
-use Rattle.play_cli.specs.declared.fault.ConfigFault.TheVariants as conf
 use Rattle.play_cli.specs.declared.fault.RunFault.{RunFault}
 use Rattle.play_cli.specs.declared.fault.RunFault.TheVariants as fault
-use Rattle.play_cli.proofs.ConfLemmas.{one_says, told_long, told_place, unread_not}
 use Rattle.play_cli.proofs.RunLemmas.{done_comes, done_is_status, fault_comes, is_status}
 use Rattle.play_cli.proofs.ToldLemmas.{done_is_told, fault_is_told}
 

@@ -1,5 +1,5 @@
 -- What the text of a configuration says is one thing.
-use Rattle.std.proofs.Common.{◌≡◌, ◌≤◌, ◌∙◌, ℕ, Bool, true, false, length, List, None, Some, Result, Ok, Err, ap, sym, refl, subst, inl, inr, arith}
+use Rattle.std.proofs.Common.{◌≡◌, ◌≤◌, ◌∙◌, ℕ, Bool, true, false, length, List, None, Some, Result, ap, sym, refl, inl, inr, arith}
 use Rattle.std.specs.Prelude.{IsSome, IsTrue, nat_lt, if◌then◌else◌}
 use Rattle.std.specs.declared.option.Option.{Option}
 use Rattle.conf_lines.specs.declared.fault.ConfPlace.{ConfPlace}

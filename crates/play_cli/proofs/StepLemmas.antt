@@ -1,10 +1,9 @@
 -- From the files of a play to the names of the words.
-use Rattle.std.proofs.Common.{◌≡◌, ◌≢◌, ◌≤◌, ◌<◌, ◌-◌, ◌+◌, ◌++◌, ◌∙◌, ◌⊎◌, ℕ, length, List, [], ◌∷◌, None, Some, ap, sym, refl, subst, inl, inr, arith}
+use Rattle.std.proofs.Common.{◌≡◌, ◌≢◌, ◌≤◌, ◌+◌, ◌++◌, ◌∙◌, ◌⊎◌, ℕ, List, [], ◌∷◌, Some, ap, sym, refl, subst, inl, inr, arith}
 use Rattle.std.specs.Prelude.{IsSome, IsTrue}
-use Rattle.std.specs.declared.option.Option.{Option}
 use Rattle.altq_model.specs.declared.Rule.TheVariants.{Share}
 use Rattle.altq_model.specs.Arrivals.{comings}
-use Rattle.altq_model.specs.Capture.{Record, Step}
+use Rattle.altq_model.specs.Capture.{Record}
 use Rattle.altq_model.specs.History.{Entry}
 use Rattle.altq_model.specs.Laws.{IsBusy, KeepsLaws}
 use Rattle.altq_model.specs.Policies.{one_queue, tail}

@@ -1,21 +1,19 @@
 -- What must be told is told, unless a count of faults rose or memory was wanting.
-use Rattle.std.proofs.Common.{◌≡◌, ◌≢◌, ◌≤◌, ◌+◌, ◌∙◌, ◌⊎◌, ℕ, List, None, Some, ap, sym, refl, subst, inl, inr, arith}
+use Rattle.std.proofs.Common.{◌≡◌, ◌+◌, ◌∙◌, ◌⊎◌, ℕ, List, Some, ap, sym, refl, subst, inl, inr}
 use Rattle.std.specs.Prelude.{IsTrue}
 use Rattle.altq_model.specs.declared.capture.Damage.{Damage}
-use Rattle.altq_model.specs.Capture.{Record, Step, End, Fault, Limit, Reads}
+use Rattle.altq_model.specs.Capture.{Record, End, Fault, Limit, Reads}
 use Rattle.altq_model.specs.Numbers.{damage_number}
 use Rattle.conf_lines.specs.declared.fault.ConfPlace.{ConfPlace}
-use Rattle.pcap_files.specs.ReadingLaws.{IsLast, one_reading}
-use Rattle.play_base.specs.View.{View, Rose}
+use Rattle.pcap_files.specs.ReadingLaws.{one_reading}
+use Rattle.play_base.specs.View.{View}
 use Rattle.play_loop.specs.OneQueue.{one_setup}
 use Rattle.play_loop.specs.Setup.{IsCutOf}
-use Rattle.play_cli.specs.Causes.{Causes, ConfigCauses, IsAfterConfig, IsAfterConfigFault, config_status, status_of, ended}
+use Rattle.play_cli.specs.Causes.{Causes, IsAfterConfigFault, status_of, ended}
 use Rattle.play_cli.specs.Configuration.{IsOneQueue, IsUnbuilt, Refused, Says, TooLong}
-use Rattle.play_cli.specs.Ending.{IsStatus, PlayComes, PlayIsTold, Tells, TellsDamage, TellsPlace}
+use Rattle.play_cli.specs.Ending.{PlayIsTold, Tells, TellsDamage, TellsPlace}
 use Rattle.play_cli.specs.Opening.{Accepts}
-use Rattle.play_cli.specs.Run.{Names, HasPlayed, EndsWith, EndsLate, IsCode, IsPlayable, IsQuiet}
-use Rattle.play_cli.specs.declared.fault.ConfigFault.{ConfigFault}
-use Rattle.play_cli.specs.declared.fault.ConfigFault.TheVariants as conf
+use Rattle.play_cli.specs.Run.{Names, HasPlayed, EndsWith, EndsLate, IsPlayable, IsQuiet}
 use Rattle.play_cli.specs.declared.fault.RunFault.{RunFault}
 use Rattle.play_cli.specs.declared.fault.RunFault.TheVariants as fault
 use Rattle.play_cli.proofs.ConfLemmas.{config_not, long_not, no_bytes, one_rate, refused_not, same_some, told_long, told_place, told_unbuilt, unbuilt_not}

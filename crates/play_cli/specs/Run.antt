@@ -1,5 +1,5 @@
 -- What a run of the program leaves, and when each of its statuses comes.
-use Rattle.std.specs.Prelude.{◌≡◌, ◌<◌, ◌⊎◌, ◌^◌, ℕ, List, [], ◌++◌, length, Some, IsTrue}
+use Rattle.std.specs.Prelude.{◌≡◌, ◌⊎◌, ℕ, List, [], ◌++◌, Some, IsTrue}
 use Rattle.altq_model.specs.declared.capture.Damage.{Damage}
 use Rattle.altq_model.specs.Arrivals.{comings}
 use Rattle.altq_model.specs.Capture.{Record, Step, Fault, Limit, Reads, IsCapture}

@@ -1,5 +1,5 @@
 -- The configuration has the interface, and its text was said.
-use Rattle.std.proofs.Common.{◌≡◌, ◌++◌, ◌∙◌, ℕ, List, ap, sym, subst}
+use Rattle.std.proofs.Common.{◌++◌, ◌∙◌, ℕ, List, ap, sym}
 use Rattle.conf_tree.specs.Canonical.{canonical_text}
 use Rattle.play_cli.proofs.CheckLemmas.{read_found}
 use Rattle.play_cli.proofs.checking.check_files.Goals as goal

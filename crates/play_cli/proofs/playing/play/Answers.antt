@@ -1,4 +1,4 @@
-use Rattle.std.proofs.Common.{ℕ, Err, ap, sym, subst}
+use Rattle.std.proofs.Common.{Err, ap, sym, subst}
 use Rattle.std.specs.Prelude.{Result}
 use Rattle.play_text.specs.declared.status.Status.{Status}
 use Rattle.play_cli.specs.Causes.{names_read}

@@ -1,5 +1,5 @@
 -- A run ends at its configuration, at one of its files, or at its play.
-use Rattle.std.proofs.Common.{ℕ, Err, ap, sym, subst}
+use Rattle.std.proofs.Common.{Err, ap, sym, subst}
 use Rattle.std.specs.Prelude.{Result}
 use Rattle.play_loop.specs.declared.fault.Opened.{Opened}
 use Rattle.play_cli.specs.Causes.{Causes, names_read}
