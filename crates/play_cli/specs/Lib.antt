@@ -1,5 +1,6 @@
 pub mod Causes
 pub mod Checked
+pub mod Classified
 pub mod Configuration
 pub mod Ending
 pub mod Input

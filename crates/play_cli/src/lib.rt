@@ -2,6 +2,7 @@
 #![tactic(auto)]
 
 mod checking;
+mod classifier;
 mod fault;
 mod input;
 mod one;
@@ -10,6 +11,7 @@ mod playing;
 mod program;
 mod status;
 
+pub use classifier::Classifier;
 pub use fault::{ConfigFault, RunFault};
 pub use play_text::Status;
 pub use program::{run, run_steady};

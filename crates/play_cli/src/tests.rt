@@ -1,5 +1,13 @@
-use crate::{Status, run, run_steady};
-use play_base::{Call, MemoryFiles, NoMemory, SteadyFiles};
+use crate::{Classifier, Status, run, run_steady};
+use altq_model::Rule;
+use conf_lines::statements;
+use conf_tree::Conf;
+use discipline::Strict;
+use flow_filter::Filters;
+use leaf_queue::{Tail, Words};
+use play_base::{Call, Files, MemoryFiles, NoMemory, SteadyFiles};
+use play_loop::{Opened, play};
+use play_text::Names;
 use std::alloc::Global;
 use std::test::Fail;
 
@@ -381,5 +389,89 @@ fn text_is_not_said(rt: HostRuntime) -> Result<(), Fail> {
     let status = checked(rt.alloc(), &mut files, IMPLIED)?;
     assert_eq!(rt; status, ended(6, 0, 10));
     assert!(rt; files.said().is_empty());
+    Ok(())
+}
+
+// A UDP datagram over IPv4 from 10.0.0.1, port 1027, to 10.0.0.2.
+fn datagram(port: [u8; 2]) -> [u8; 42] {
+    [
+        2, 0, 0, 0, 0, 2, 2, 0, 0, 0, 0, 1, 8, 0, 0x45, 0x28, 3, 0xda, 0, 0, 0, 0, 0x40, 0x11, 0,
+        0, 10, 0, 0, 1, 10, 0, 0, 2, 4, 3, port[0], port[1], 3, 0xc6, 0, 0,
+    ]
+}
+
+// A capture of frames of length 1000 at 0.
+fn frames(alloc: Global, ports: &[[u8; 2]]) -> Result<Vec<u8>, NoMemory> {
+    let mut bytes = Vec::from_slice(alloc, &HEAD)?;
+    for port in ports {
+        bytes.extend_from_slice(&[0, 0, 0, 0, 0, 0, 0, 0, 42, 0, 0, 0, 0xe8, 3, 0, 0])?;
+        bytes.extend_from_slice(&datagram(*port))?;
+    }
+    Ok(bytes)
+}
+
+// The files of a play.
+fn opened(files: &mut MemoryFiles) -> Result<Opened, Fail> {
+    let (Ok(arrivals), Ok(departures), Ok(fates), Ok(stats)) = (
+        files.open(2, "in"),
+        files.create(3, "out"),
+        files.create(4, "fates"),
+        files.create(5, "stats"),
+    ) else {
+        return Err(Fail::new("not opened"));
+    };
+    Ok(Opened {
+        arrivals,
+        departures,
+        fates,
+        stats,
+    })
+}
+
+// The classifier of an interface.
+fn classifier(alloc: Global, config: &str, name: &str) -> Result<Classifier, Fail> {
+    let found = statements(alloc, config.as_bytes())?;
+    let Ok(conf) = Conf::build(alloc, found.as_slice()) else {
+        return Err(Fail::new("refused"));
+    };
+    let Some(interface) = conf.interface(name) else {
+        return Err(Fail::new("absent"));
+    };
+    Ok(Classifier {
+        filters: Filters::build(alloc, interface)?,
+    })
+}
+
+#[test]
+fn filters_over_strict(rt: HostRuntime) -> Result<(), Fail> {
+    let mut files = MemoryFiles::new(rt.alloc());
+    let arrivals = frames(rt.alloc(), &[[0x13, 0x89], [0x13, 0x8c]])?;
+    files.put("in", arrivals.as_slice())?;
+    let opened = opened(&mut files)?;
+    let classifier = classifier(rt.alloc(), VOICE_AND_DATA, "if0")?;
+    let mut queues = Vec::new(rt.alloc());
+    queues.push(Tail { limit: 50 })?;
+    queues.push(Tail { limit: 50 })?;
+    let Ok(mut strict) = Strict::build(rt.alloc(), 1, Rule::Share, queues) else {
+        return Err(Fail::new("no memory"));
+    };
+    let mut names = Names::make(rt.alloc());
+    names.add(1, "voice")?;
+    names.add(2, "data")?;
+    let mut words = Words::new(42);
+    let played = play(
+        rt.alloc(),
+        &mut strict,
+        &classifier,
+        &names,
+        8_000_000,
+        &mut words,
+        &opened,
+        &mut files,
+    );
+    assert!(rt; played.is_ok());
+    let rows =
+        b"number,arrival,length,class,fate,start,end\n2,0,1000,voice,share,0,1000000\n1,0,1000,data,share,1000000,2000000\n";
+    assert!(rt; files.get("fates").unwrap_or_default() == rows.as_slice());
     Ok(())
 }
