@@ -218,6 +218,16 @@ fn second_write_fails(rt: HostRuntime) -> Result<(), Fail> {
 }
 
 #[test]
+fn write_fails_in_the_middle(rt: HostRuntime) -> Result<(), Fail> {
+    let mut files = MemoryFiles::new(rt.alloc());
+    files.fail_at(Call::Write, 2)?;
+    let arrivals = capture(rt.alloc(), 2_500, 5, 0, 1000)?;
+    let status = played(rt.alloc(), &mut files, IMPLIED, &arrivals)?;
+    assert_eq!(rt; status, ended(6, 0, 2));
+    Ok(())
+}
+
+#[test]
 fn refused_words_and_names(rt: HostRuntime) -> Result<(), Fail> {
     let arrivals = capture(rt.alloc(), 1, 5, 0, 1000)?;
     for (place, word, code, kind) in [

@@ -53,7 +53,10 @@ fn words_of_check(rt: HostRuntime) -> Result<(), Fail> {
     assert_eq!(rt; read.interface, "if0");
     let words = words_of(rt.alloc(), &["check", "--config", "c"])?;
     assert_eq!(rt; read_words(&words).err(), Some(WordsFault::Options));
-    let words = words_of(rt.alloc(), &["Check", "--config", "c", "--interface", "if0"])?;
+    let words = words_of(
+        rt.alloc(),
+        &["Check", "--config", "c", "--interface", "if0"],
+    )?;
     assert_eq!(rt; read_words(&words).err(), Some(WordsFault::NoCommand));
     Ok(())
 }
