@@ -1,13 +1,14 @@
+ghost use Rattle.std.specs.Prelude.{◌≡◌, ◌≤◌};
+
 use crate::{Classifier, Status, run, run_steady};
-use altq_model::Rule;
+use altq_model::{Fate, Mark, Rule};
 use conf_lines::statements;
 use conf_tree::Conf;
-use discipline::Strict;
+use discipline::{Classify, Strict};
 use flow_filter::Filters;
 use leaf_queue::{Tail, Words};
-use play_base::{Call, Files, MemoryFiles, NoMemory, SteadyFiles};
-use play_loop::{Opened, play};
-use play_text::Names;
+use play_base::{Bytes, Call, MemoryFiles, NoMemory, SteadyFiles};
+use play_core::{Arrived, Decisions, decide};
 use std::alloc::Global;
 use std::test::Fail;
 
@@ -410,32 +411,34 @@ fn datagram(port: [u8; 2]) -> [u8; 42] {
     ]
 }
 
-// A capture of frames of length 1000 at 0.
-fn frames(alloc: Global, ports: &[[u8; 2]]) -> Result<Vec<u8>, NoMemory> {
-    let mut bytes = Vec::from_slice(alloc, &HEAD)?;
-    for port in ports {
-        bytes.extend_from_slice(&[0, 0, 0, 0, 0, 0, 0, 0, 42, 0, 0, 0, 0xe8, 3, 0, 0])?;
-        bytes.extend_from_slice(&datagram(*port))?;
+// A packet of length 1000 that arrives at 0.
+fn packet(alloc: Global, mark: Mark) -> Arrived
+    ensures at { result.at ≡ 0 }
+    ensures mark { result.mark ≡ mark }
+{
+    Arrived {
+        at: 0,
+        len: 1_000,
+        raised: false,
+        mark,
+        bytes: Bytes::of(Vec::new(alloc)),
     }
-    Ok(bytes)
 }
 
-// The files of a play.
-fn opened(files: &mut MemoryFiles) -> Result<Opened, Fail> {
-    let (Ok(arrivals), Ok(departures), Ok(fates), Ok(stats)) = (
-        files.open(2, "in"),
-        files.create(3, "out"),
-        files.create(4, "fates"),
-        files.create(5, "stats"),
-    ) else {
-        return Err(Fail::new("not opened"));
-    };
-    Ok(Opened {
-        arrivals,
-        departures,
-        fates,
-        stats,
-    })
+// What is decided of two packets that arrive at 0, where class 1 goes before class 2.
+fn decided(alloc: Global, first: Mark, second: Mark) -> Result<Decisions, NoMemory>
+    requires first { first.class ≡ 2 }
+    requires second { second.class ≡ 1 }
+    requires first_prec { first.prec ≤ 2 }
+    requires second_prec { second.prec ≤ 2 }
+{
+    let mut queues = Vec::new(alloc);
+    queues.push(Tail { limit: 50 })?;
+    queues.push(Tail { limit: 50 })?;
+    let mut strict = Strict::build(alloc, 1, Rule::Share, queues)?;
+    let mut words = Words::new(42);
+    let arrived = [packet(alloc, first), packet(alloc, second)];
+    decide(alloc, &mut strict, &mut words, 8_000_000, &arrived)
 }
 
 // The classifier of an interface.
@@ -452,36 +455,29 @@ fn classifier(alloc: Global, config: &str, name: &str) -> Result<Classifier, Fai
     })
 }
 
+fn sent(start: u64, end: u64) -> Fate {
+    Fate::Sent {
+        start,
+        end,
+        rule: Rule::Share,
+    }
+}
+
 #[test]
 fn filters_over_strict(rt: HostRuntime) -> Result<(), Fail> {
-    let mut files = MemoryFiles::new(rt.alloc());
-    let arrivals = frames(rt.alloc(), &[[0x13, 0x89], [0x13, 0x8c]])?;
-    files.put("in", arrivals.as_slice())?;
-    let opened = opened(&mut files)?;
     let classifier = classifier(rt.alloc(), VOICE_AND_DATA, "if0")?;
-    let mut queues = Vec::new(rt.alloc());
-    queues.push(Tail { limit: 50 })?;
-    queues.push(Tail { limit: 50 })?;
-    let Ok(mut strict) = Strict::build(rt.alloc(), 1, Rule::Share, queues) else {
-        return Err(Fail::new("no memory"));
+    let data = classifier.class(&datagram([0x13, 0x89]));
+    let voice = classifier.class(&datagram([0x13, 0x8c]));
+    if data.class != 2 || voice.class != 1 || data.prec > 2 || voice.prec > 2 {
+        return Err(Fail::new("another class"));
+    }
+    let decisions = decided(rt.alloc(), data, voice)?;
+    let [first, second] = decisions.list.as_slice() else {
+        return Err(Fail::new("two packets are sent"));
     };
-    let mut names = Names::make(rt.alloc());
-    names.add(1, "voice")?;
-    names.add(2, "data")?;
-    let mut words = Words::new(42);
-    let played = play(
-        rt.alloc(),
-        &mut strict,
-        &classifier,
-        &names,
-        8_000_000,
-        &mut words,
-        &opened,
-        &mut files,
-    );
-    assert!(rt; played.is_ok());
-    let rows =
-        b"number,arrival,length,class,fate,start,end\n2,0,1000,voice,share,0,1000000\n1,0,1000,data,share,1000000,2000000\n";
-    assert!(rt; files.get("fates").unwrap_or_default() == rows.as_slice());
+    assert_eq!(rt; first.number, 2);
+    assert_eq!(rt; first.fate, sent(0, 1_000_000));
+    assert_eq!(rt; second.number, 1);
+    assert_eq!(rt; second.fate, sent(1_000_000, 2_000_000));
     Ok(())
 }
