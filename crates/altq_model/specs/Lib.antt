@@ -1,5 +1,6 @@
 pub mod Arrivals
 pub mod History
+pub mod Lawful
 pub mod Laws
 pub mod Link
 pub mod Play

@@ -3,7 +3,7 @@ use Rattle.std.specs.Prelude.{◌≡◌, ◌≤◌, ◌<◌, ℕ, List, [], ◌�
 use Rattle.altq_model.specs.History.{Event, Offered, Sent, Transmission}
 use Rattle.altq_model.specs.Link.{link}
 use Rattle.altq_model.specs.Play.{Policy}
-use Rattle.play_laws.specs.Lawful.{latest, first_at}
+use Rattle.altq_model.specs.Lawful.{latest, first_at}
 use Rattle.link_clock.specs.Clock.{Clock}
 
 -- each start is before this moment
