@@ -1,5 +1,9 @@
 pub mod Arrivals
+pub mod Busy
+pub mod Counts
+pub mod Departures
 pub mod History
+pub mod Idle
 pub mod Lawful
 pub mod Laws
 pub mod Link

@@ -47,3 +47,18 @@ pub struct Placed {
     pub class: u32,
     pub prec: u8,
 }
+
+/// What the statistics say of a class, or of all of them. Bytes are sums of lengths.
+#[derive(Clone, Copy, Debug, PartialEq, Eq)]
+pub struct Counts {
+    pub arrived: u64,
+    pub arrived_bytes: u64,
+    /// The arrivals whose own stamp is less than the moment at which they arrive.
+    pub raised: u64,
+    pub sent: u64,
+    pub sent_bytes: u64,
+    /// The drops, by their reason.
+    pub full: u64,
+    pub early: u64,
+    pub forced: u64,
+}

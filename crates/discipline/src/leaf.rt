@@ -37,7 +37,7 @@ pub fn offer_to<Q: QueueRule>(
     let waiting = lists.waiting(place);
     let verdict = queue.offer(now, waiting, entry.prec, words);
     match verdict {
-        Verdict::Keep => lists.push(place, entry),
+        Verdict::Keep | Verdict::Mark => lists.push(place, entry),
         Verdict::Drop(_) => {}
     }
     verdict

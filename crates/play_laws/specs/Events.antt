@@ -1,7 +1,7 @@
 -- What the events of a play are: an offer of the next arrival, or a sending at the least moment at which one may be.
 use Rattle.std.specs.Prelude.{◌≡◌, ◌≤◌, ◌<◌, ◌⊎◌, ◌+◌, ◌-◌, ℕ, List, [], ◌∷◌, length, Some, slice_get, if◌then◌else◌, nat_lt, nat_le, ◌&&◌}
 use Rattle.altq_model.specs.History.{Coming, Transmission, Event, Offered, Sent, Happened, bare, offered, head, waiting, labels, journal}
-use Rattle.altq_model.specs.Laws.{occurs, numbers, IsOrdered, IsNotBefore}
+use Rattle.altq_model.specs.Laws.{occurs, numbers, IsOrdered, IsNotBefore, IsPrompt}
 use Rattle.altq_model.specs.Link.{link, end_of, HasLinkEnds}
 use Rattle.altq_model.specs.Play.{Policy, first_start, offer_of}
 use Rattle.altq_model.specs.Lawful.{MaySend}
@@ -68,6 +68,7 @@ pub record HasLaws (p : Policy) (rate seed : ℕ) (arrived : List Coming) (g : L
   pub once : IsDecidedOnce g
   pub ordered : IsOrdered g
   pub not_before : IsNotBefore arrived g
+  pub prompt : IsPrompt (bare g)
   pub ends : HasLinkEnds rate (bare g)
 
 -- every arrival was offered, and nothing waits in any class
