@@ -5,6 +5,7 @@ pub mod CountLemmas
 pub mod DueLemmas
 pub mod EndLemmas
 pub mod FewLemmas
+pub mod IdleLemmas
 pub mod LawfulLemmas
 pub mod LinkLemmas
 pub mod OneLemmas
