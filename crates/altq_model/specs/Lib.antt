@@ -4,6 +4,7 @@ pub mod Counts
 pub mod Departures
 pub mod History
 pub mod Idle
+pub mod Lawful
 pub mod Laws
 pub mod Link
 pub mod Play

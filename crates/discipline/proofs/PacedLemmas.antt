@@ -12,7 +12,7 @@ use Rattle.altq_model.specs.declared.Verdict.TheVariants.{Keep, Drop}
 use Rattle.altq_model.specs.History.{Coming, DrawnWords, Answer, Event, Offered, Sent, Happened, bare, waiting, with_offer, without_head, Transmission}
 use Rattle.altq_model.specs.Play.{Policy, Choice, lesser}
 use Rattle.altq_model.specs.Policies.{Answering}
-use Rattle.play_laws.specs.Lawful.{first_at}
+use Rattle.altq_model.specs.Lawful.{first_at}
 use Rattle.play_base.specs.declared.packet.Ticket.{Ticket}
 use Rattle.link_clock.specs.Clock.{Clock}
 use Rattle.leaf_queue.specs.declared.node.Entry.{Entry}
@@ -20,12 +20,12 @@ use Rattle.leaf_queue.specs.Lists.{Listed, list_of}
 use Rattle.leaf_queue.specs.Words.{Drew}
 use Rattle.leaf_queue.specs.Queue.{QueueEvent, Asked, Saying, by_queue, told_of, waiting_of, precs_of}
 use Rattle.leaf_queue.specs.Lists.{precs_in}
-use Rattle.discipline.specs.declared.pick.Pick.{Pick}
-use Rattle.discipline.specs.declared.pick.Pick.TheVariants.{Send, Wait}
-use Rattle.discipline.specs.declared.pick.Sending.{Sending}
-use Rattle.discipline.specs.Laws.{Shows, seen, seen_of, IsLeast, Sends, IsAnswer, entry, coming, offer_of, sent_of}
+use Rattle.discipline_laws.specs.declared.pick.Pick.{Pick}
+use Rattle.discipline_laws.specs.declared.pick.Pick.TheVariants.{Send, Wait}
+use Rattle.discipline_laws.specs.declared.pick.Sending.{Sending}
+use Rattle.discipline_laws.specs.Laws.{Shows, seen, seen_of, IsLeast, Sends, IsAnswer, entry, coming, offer_of, sent_of}
 use Rattle.discipline.specs.Leaf.{after_verdict, HasPrecs, gone}
-use Rattle.discipline.specs.Moments.{IsOffer, IsChoice, IsOrderly, WasDue}
+use Rattle.discipline_laws.specs.Moments.{IsOffer, IsChoice, IsOrderly, WasDue}
 use Rattle.discipline.specs.Paced.{multiple_from, paced, Held, IsHeld, Stands, only, due_at, paced_due}
 use Rattle.link_clock.proofs.Rounded.{le_ceil, ceil_le}
 use Rattle.std.specs.Int.{div_ceil}

@@ -13,9 +13,9 @@ use Rattle.leaf_queue.specs.declared.node.Entry.{Entry}
 use Rattle.leaf_queue.specs.Lists.{Listed, list_of, precs_in}
 use Rattle.leaf_queue.specs.Words.{Drew}
 use Rattle.leaf_queue.specs.Queue.{QueueEvent, Asked, Saying, waiting_of}
-use Rattle.discipline.specs.declared.pick.Pick.TheVariants.{Send}
-use Rattle.discipline.specs.declared.pick.Sending.{Sending}
-use Rattle.discipline.specs.Laws.{after_offer, after_sent, coming, entry}
+use Rattle.discipline_laws.specs.declared.pick.Pick.TheVariants.{Send}
+use Rattle.discipline_laws.specs.declared.pick.Sending.{Sending}
+use Rattle.discipline_laws.specs.Laws.{after_offer, after_sent, coming, entry}
 use Rattle.discipline.specs.Leaf.{after_verdict, gone}
 use Rattle.discipline.specs.Strict.{Row, IsRow, list_at, limit_at, first_pick, strict_of}
 use Rattle.discipline.proofs.StrictLemmas.{list_at-here, limit_here, map_kept, after_is, IsPlace, fit_length}

@@ -11,19 +11,19 @@ use Rattle.altq_model.specs.declared.Verdict.TheVariants.{Keep, Drop}
 use Rattle.altq_model.specs.History.{Coming, DrawnWords, Answer, Event, Offered, Sent, Happened, Transmission, bare, waiting, with_offer, without_head}
 use Rattle.altq_model.specs.Play.{Policy, Choice, lesser}
 use Rattle.altq_model.specs.Policies.{Answering, strict, first_waiting}
-use Rattle.play_laws.specs.Lawful.{first_at}
+use Rattle.altq_model.specs.Lawful.{first_at}
 use Rattle.link_clock.specs.Clock.{Clock}
 use Rattle.play_base.specs.declared.packet.Ticket.{Ticket}
 use Rattle.leaf_queue.specs.declared.node.Entry.{Entry}
 use Rattle.leaf_queue.specs.Lists.{Listed, list_of, precs_in}
 use Rattle.leaf_queue.specs.Words.{Drew}
 use Rattle.leaf_queue.specs.Queue.{QueueEvent, Asked, Saying, by_queue, by_queues, queue_at, told_of, waiting_of, precs_of}
-use Rattle.discipline.specs.declared.pick.Pick.{Pick}
-use Rattle.discipline.specs.declared.pick.Pick.TheVariants.{Send, Wait, Empty}
-use Rattle.discipline.specs.declared.pick.Sending.{Sending}
-use Rattle.discipline.specs.Laws.{seen, seen_of, after_offer, after_sent, IsAnswer, entry, coming, offer_of, sent_of, IsDue, NamesHead, Waits}
+use Rattle.discipline_laws.specs.declared.pick.Pick.{Pick}
+use Rattle.discipline_laws.specs.declared.pick.Pick.TheVariants.{Send, Wait, Empty}
+use Rattle.discipline_laws.specs.declared.pick.Sending.{Sending}
+use Rattle.discipline_laws.specs.Laws.{seen, seen_of, after_offer, after_sent, IsAnswer, entry, coming, offer_of, sent_of, IsDue, NamesHead, Waits}
 use Rattle.discipline.specs.Leaf.{after_verdict, gone}
-use Rattle.discipline.specs.Moments.{IsOffer, IsChoice, IsOrderly, WasDue}
+use Rattle.discipline_laws.specs.Moments.{IsOffer, IsChoice, IsOrderly, WasDue}
 use Rattle.discipline.specs.Strict.{classes_from, list_at, pick_head, first_pick, Row, strict_of, RowsStand, Stands}
 use Rattle.discipline.proofs.ShowsLemmas.{shows_offered, shows_sent, seen_precs, told_here, told_there, gone_here, gone_there, seen-offer, seen-sent}
 use Rattle.discipline.proofs.StrictLemmas.{list_at-here, list_at-set, map_kept, after_is}

@@ -7,11 +7,11 @@ use Rattle.altq_model.specs.Play.{Policy}
 use Rattle.leaf_queue.specs.declared.node.Entry.{Entry}
 use Rattle.leaf_queue.specs.Lists.{Listed}
 use Rattle.leaf_queue.specs.Queue.{QueueEvent, Saying, by_queues, told_of}
-use Rattle.discipline.specs.declared.pick.Pick.{Pick}
-use Rattle.discipline.specs.declared.pick.Pick.TheVariants.{Send, Empty}
-use Rattle.discipline.specs.Laws.{Shows, seen, seen_of}
+use Rattle.discipline_laws.specs.declared.pick.Pick.{Pick}
+use Rattle.discipline_laws.specs.declared.pick.Pick.TheVariants.{Send, Empty}
+use Rattle.discipline_laws.specs.Laws.{Shows, seen, seen_of}
 use Rattle.discipline.specs.Leaf.{HasPrecs}
-use Rattle.discipline.specs.Moments.{IsOrderly}
+use Rattle.discipline_laws.specs.Moments.{IsOrderly}
 
 -- so many classes from one on
 abbrev pub classes_from : (c count : ℕ) → List ℕ

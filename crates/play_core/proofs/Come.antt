@@ -7,14 +7,14 @@ use Rattle.altq_model.specs.History.{Coming, DrawnWords, Answer, Offered, Sent, 
 use Rattle.altq_model.specs.Laws.{clock_end}
 use Rattle.altq_model.specs.Link.{Link, link, after_sending, end_of}
 use Rattle.altq_model.specs.Play.{Policy, Choice, due, due_from, first_start, offer_of, sent_at, head_sent}
-use Rattle.play_laws.specs.Lawful.{IsLawful, IsSteady, AreRising, first_at, latest}
+use Rattle.altq_model.specs.Lawful.{IsLawful, IsSteady, AreRising, first_at, latest}
 use Rattle.play_laws.proofs.LinkLemmas.{end_later}
 use Rattle.play_laws.proofs.TimeLemmas.{one_moment, next_later, rising_at}
 use Rattle.link_clock.specs.Clock.{Clock}
-use Rattle.discipline.specs.declared.pick.Sending.{Sending}
-use Rattle.discipline.specs.Laws.{sent_of}
-use Rattle.discipline.specs.Laws as discipline
-use Rattle.discipline.specs.Moments.{IsChoice, StartsBy, StartsBefore}
+use Rattle.discipline_laws.specs.declared.pick.Sending.{Sending}
+use Rattle.discipline_laws.specs.Laws.{sent_of}
+use Rattle.discipline_laws.specs.Laws as discipline
+use Rattle.discipline_laws.specs.Moments.{IsChoice, StartsBy, StartsBefore}
 use Rattle.play_core.specs.declared.decided.Decided.{Decided}
 use Rattle.play_core.specs.declared.turn.Turn.{Turn}
 use Rattle.play_core.specs.declared.turn.Turn.TheVariants.{Send}

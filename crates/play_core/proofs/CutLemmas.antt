@@ -8,12 +8,12 @@ use Rattle.altq_model.specs.Laws.{IsLate, clock_end}
 use Rattle.altq_model.specs.Link.{Link, link, end_of}
 use Rattle.altq_model.specs.Play.{Policy, due, first_start}
 use Rattle.play_laws.specs.Events.{IsOffer, IsSending}
-use Rattle.play_laws.specs.Lawful.{first_at, latest}
+use Rattle.altq_model.specs.Lawful.{first_at, latest}
 use Rattle.play_laws.proofs.AllLaws.{due_laws}
 use Rattle.play_laws.proofs.EndLemmas.{is_over}
 use Rattle.play_laws.proofs.TimeLemmas.{one_moment}
-use Rattle.discipline.specs.declared.pick.Sending.{Sending}
-use Rattle.discipline.specs.Laws.{sent_of}
+use Rattle.discipline_laws.specs.declared.pick.Sending.{Sending}
+use Rattle.discipline_laws.specs.Laws.{sent_of}
 use Rattle.play_core.specs.declared.turn.Turn.TheVariants.{Late}
 use Rattle.play_core.specs.declared.decided.Decided.{Decided}
 use Rattle.play_core.specs.declared.decided.Decisions.{Decisions}

@@ -5,7 +5,7 @@ use Rattle.altq_model.specs.declared.Fate.TheVariants.{Dropped, Sent}
 use Rattle.altq_model.specs.History.{Coming, Decision, DrawnWords, Happened, bare, dropped_by, journal}
 use Rattle.altq_model.specs.Play.{Policy}
 use Rattle.leaf_queue.specs.Words.{Drew}
-use Rattle.discipline.specs.Laws.{offer_of}
+use Rattle.discipline_laws.specs.Laws.{offer_of}
 use Rattle.play_core.specs.declared.decided.Decided.{Decided}
 use Rattle.play_core.specs.declared.decided.Decisions.{Decisions}
 use Rattle.play_core.specs.Arrived.{decisions_of}

@@ -6,10 +6,10 @@ use Rattle.altq_model.specs.History.{Coming, Happened, bare, head, labels}
 use Rattle.altq_model.specs.Laws.{clock_end}
 use Rattle.altq_model.specs.Link.{end_of}
 use Rattle.altq_model.specs.Play.{Policy}
-use Rattle.play_laws.specs.Lawful.{first_at}
+use Rattle.altq_model.specs.Lawful.{first_at}
 use Rattle.play_base.specs.declared.packet.Ticket.{Ticket}
 use Rattle.link_clock.specs.Clock.{Clock}
-use Rattle.discipline.specs.declared.pick.Sending.{Sending}
+use Rattle.discipline_laws.specs.declared.pick.Sending.{Sending}
 use Rattle.play_core.specs.declared.turn.Turn.{Turn}
 use Rattle.play_core.specs.declared.turn.Turn.TheVariants.{End, Offer, Send, Late}
 

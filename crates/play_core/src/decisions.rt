@@ -1,9 +1,9 @@
 // The decisions of a play.
 ghost use Rattle.std.specs.Prelude.{◌≡◌, ◌≤◌, ◌<◌, ◌+◌, ◌-◌, ◌^◌, ◌∷◌, [], List, ℕ, IfOk, IfSome, OnOk, None, Some, slice_get, option_map, length};
 ghost use Rattle.altq_model.specs.History.{Coming, Happened, bare};
-ghost use Rattle.play_laws.specs.Lawful.{AreHeld, AreRising, IsOneOf};
-ghost use Rattle.discipline.specs.Laws.{HasRate};
-ghost use Rattle.discipline.specs.Moments.{IsOffer};
+ghost use Rattle.altq_model.specs.Lawful.{AreHeld, AreRising, IsOneOf};
+ghost use Rattle.discipline_laws.specs.Laws.{HasRate};
+ghost use Rattle.discipline_laws.specs.Moments.{IsOffer};
 ghost use Rattle.play_core.specs.Arrived.{HavePrecs, coming_of, comings_held, decisions_of};
 ghost use Rattle.play_core.specs.Decided.{AreSound, IsAnswered, IsDecided};
 

@@ -2,8 +2,8 @@
 ghost use Rattle.std.specs.Prelude.{◌≡◌, ◌≤◌, ◌<◌, ◌*◌, ◌^◌, IsSome, List};
 ghost use Rattle.altq_model.specs.History.{Happened, bare};
 ghost use Rattle.altq_model.specs.Link.{end_of};
-ghost use Rattle.discipline.specs.Laws.{HasRate, Sends};
-ghost use Rattle.discipline.specs.Moments.{IsChoice};
+ghost use Rattle.discipline_laws.specs.Laws.{HasRate, Sends};
+ghost use Rattle.discipline_laws.specs.Moments.{IsChoice};
 ghost use Rattle.play_core.specs.Turns.{IsSentAt, IsTurn, comes_by, turn_at};
 
 use altq_model::Rule;

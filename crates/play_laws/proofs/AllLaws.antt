@@ -3,7 +3,7 @@ use Rattle.std.proofs.Common.{◌<◌, ℕ, List, arith}
 use Rattle.altq_model.specs.History.{Coming, Happened}
 use Rattle.altq_model.specs.Laws.{KeepsLaws}
 use Rattle.altq_model.specs.Play.{Policy, AreDue, IsPlay}
-use Rattle.play_laws.specs.Lawful.{IsLawful, AreRising, AreHeld}
+use Rattle.altq_model.specs.Lawful.{IsLawful, AreRising, AreHeld}
 use Rattle.play_laws.specs.Events.{HasLaws, IsWhole}
 use Rattle.play_laws.proofs.TimeLemmas.{each_follows}
 use Rattle.play_laws.proofs.OrderLemmas.{of_arrivals, ordered, not_before, link_ends}

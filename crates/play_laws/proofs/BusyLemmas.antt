@@ -5,10 +5,10 @@ use Rattle.std.proofs.lemmas.Bool.{ltb-true, ltb-false}
 use Rattle.std.proofs.lemmas.Option.{slice_get_within}
 use Rattle.altq_model.specs.History.{Coming, Answer, DrawnWords, Event, Offered, Sent, Transmission, Happened, bare, offered, drawn}
 use Rattle.altq_model.specs.Link.{link}
-use Rattle.altq_model.specs.Laws.{StartedBefore, IsPrompt}
+use Rattle.altq_model.specs.Laws.{StartsBefore, IsPrompt}
 use Rattle.altq_model.specs.Busy.{as_of, SomeMaySend, IsLeastStart, IsBusy}
 use Rattle.altq_model.specs.Play.{Policy, first_start, class_start, AreDue}
-use Rattle.play_laws.specs.Lawful.{IsHead, IsLawful, IsSteady, AreRising, latest}
+use Rattle.altq_model.specs.Lawful.{IsHead, IsLawful, IsSteady, AreRising, latest}
 use Rattle.play_laws.specs.Events.{IsOffer, IsSending, EachFollows}
 use Rattle.play_laws.proofs.Starts.{least_of, start_of}
 use Rattle.play_laws.proofs.DueLemmas.{offer_event}
@@ -18,13 +18,13 @@ use Rattle.play_laws.proofs.OrderLemmas.{starts_late}
 
 -- what is offered from a place on arrived after the start of each sending before
 started_before : (p : Policy) (rate seed : ℕ) (arrived : List Coming) (g : List Happened) (k : ℕ) (a : Coming) → AreRising arrived → EachFollows p rate seed arrived g
-    → offered (bare g) ≤ k → slice_get arrived k ≡ Some a → StartedBefore a.at (bare g)
+    → offered (bare g) ≤ k → slice_get arrived k ≡ Some a → StartsBefore a.at (bare g)
 started_before p rate seed arrived [] k a rise f l e = tt
 started_before p rate seed arrived (o ∷ g) k a rise (inl x, f) l e =
-    let P : Event → Type 0 = λ z. offered (z ∷ bare g) ≤ k → StartedBefore a.at (z ∷ bare g) in
+    let P : Event → Type 0 = λ z. offered (z ∷ bare g) ≤ k → StartsBefore a.at (z ∷ bare g) in
     subst P (sym (offer_event p rate seed arrived g o x)) (λ m. started_before p rate seed arrived g k a rise f (omega (arith, m)) e) l
 started_before p rate seed arrived (o ∷ g) k a rise (inr y, f) l e =
-    let P : Event → Type 0 = λ z. offered (z ∷ bare g) ≤ k → StartedBefore a.at (z ∷ bare g) in
+    let P : Event → Type 0 = λ z. offered (z ∷ bare g) ≤ k → StartsBefore a.at (z ∷ bare g) in
     subst P (sym y.event) (λ m.
     let b = there_at arrived (offered (bare g)) (omega (arith, m, slice_get_within arrived k a e)) in
     let r = rising_at 0 arrived (offered (bare g)) k b.0 a rise b.1 e m in

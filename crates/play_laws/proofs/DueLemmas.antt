@@ -6,7 +6,7 @@ use Rattle.std.proofs.lemmas.Bool.{leb-true, leb-false}
 use Rattle.altq_model.specs.History.{Coming, Sent, Happened, bare, offered, head, labels}
 use Rattle.altq_model.specs.Link.{link, end_of}
 use Rattle.altq_model.specs.Play.{Policy, Choice, first_start, offer_of, head_sent, sent_at, due_from, due}
-use Rattle.play_laws.specs.Lawful.{IsLawful, HaveArrived, MaySend}
+use Rattle.altq_model.specs.Lawful.{IsLawful, HaveArrived, MaySend}
 use Rattle.play_laws.specs.Events.{IsOffer, IsSending}
 
 -- the least moment at which a class may send after a history

@@ -9,7 +9,7 @@ use Rattle.altq_model.specs.History.{Coming, DrawnWords, Event, Happened, bare, 
 use Rattle.altq_model.specs.Link.{link}
 use Rattle.altq_model.specs.Laws.{IsConserved, occurs}
 use Rattle.altq_model.specs.Play.{Policy, Choice, offer_of, head_sent, sent_at, due_from, due, AreDue}
-use Rattle.play_laws.specs.Lawful.{IsOneOf, IsLawful, MaySend, AreHeld, AreRising}
+use Rattle.altq_model.specs.Lawful.{IsOneOf, IsLawful, MaySend, AreHeld, AreRising}
 use Rattle.play_laws.specs.Events.{IsOffer, IsSending, EachFollows}
 use Rattle.play_laws.proofs.Starts.{head_of, none_waits}
 use Rattle.play_laws.proofs.DueLemmas.{first_after, next_after}

@@ -13,7 +13,7 @@ use Rattle.altq_model.specs.Link.{link}
 use Rattle.altq_model.specs.Laws.{occurs, numbers}
 use Rattle.altq_model.specs.Idle.{dropped, dropped_of, sent, sent_of, IsLeft, StartsAtOnce, FollowsAtOnce, AllAtOnce, NeverIdles}
 use Rattle.altq_model.specs.Play.{Policy, class_start, AreDue}
-use Rattle.play_laws.specs.Lawful.{IsOneOf, IsLawful, NeverWaits, AreHeld, AreRising}
+use Rattle.altq_model.specs.Lawful.{IsOneOf, IsLawful, NeverWaits, AreHeld, AreRising}
 use Rattle.play_laws.specs.Events.{IsOffer, IsSending, EachFollows}
 use Rattle.play_laws.proofs.Starts.{least_is, start_of}
 use Rattle.play_laws.proofs.DueLemmas.{offer_event}

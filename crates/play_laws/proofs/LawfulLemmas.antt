@@ -2,7 +2,7 @@
 use Rattle.std.proofs.Common.{◌≡◌, ◌≤◌, ◌∙◌, ℕ, max, List, ◌∷◌, Some, ap, subst, arith}
 use Rattle.altq_model.specs.History.{Coming, Answer, DrawnWords, Event, Offered}
 use Rattle.altq_model.specs.Play.{Policy, first_start}
-use Rattle.play_laws.specs.Lawful.{IsHead, IsLawful, IsSteady, HaveArrived, MaySend, SendsWhen}
+use Rattle.altq_model.specs.Lawful.{IsHead, IsLawful, IsSteady, HaveArrived, MaySend, SendsWhen}
 use Rattle.play_laws.proofs.TimeLemmas.{head_stays}
 use Rattle.play_laws.proofs.Starts.{first_of, least_is, head_of, start_of}
 

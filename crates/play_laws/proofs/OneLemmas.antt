@@ -7,7 +7,7 @@ use Rattle.altq_model.specs.declared.Verdict.{Verdict}
 use Rattle.altq_model.specs.History.{Coming, DrawnWords, Event, Offered, Sent, Happened, bare, offered, drawn, waiting, is_kept}
 use Rattle.altq_model.specs.Link.{link}
 use Rattle.altq_model.specs.Play.{Policy, class_start, first_start, lesser, due, due_from, AreDue, IsPlay, play_on, play}
-use Rattle.play_laws.specs.Lawful.{IsLawful, AreRising}
+use Rattle.altq_model.specs.Lawful.{IsLawful, AreRising}
 use Rattle.play_laws.specs.Events.{IsOffer, IsSending, EachFollows}
 use Rattle.play_laws.proofs.DueLemmas.{first_after, next_after}
 use Rattle.play_laws.proofs.TimeLemmas.{on_time, follows, each_follows}

@@ -9,7 +9,7 @@ use Rattle.altq_model.specs.History.{Offered, Sent, Coming, DrawnWords, Event, H
 use Rattle.altq_model.specs.Link.{link, HasLinkEnds}
 use Rattle.altq_model.specs.Laws.{AllBelow, sent_in, FollowsInOrder, IsOrdered, at_of, StartsAfter, IsNotBefore}
 use Rattle.altq_model.specs.Play.{Policy}
-use Rattle.play_laws.specs.Lawful.{IsLawful}
+use Rattle.altq_model.specs.Lawful.{IsLawful}
 use Rattle.play_laws.specs.Events.{IsOffer, IsSending, EachFollows, IsOfArrival, AreOfArrivals}
 use Rattle.play_laws.proofs.Starts.{head_of}
 use Rattle.play_laws.proofs.DueLemmas.{offer_event}

@@ -8,7 +8,7 @@ use Rattle.altq_model.specs.Arrivals.{arrivals_of, comings}
 use Rattle.altq_model.specs.History.{Coming, Event, head, waiting}
 use Rattle.altq_model.specs.Play.{Policy, class_start, first_start, lesser}
 use Rattle.altq_model.specs.Policies.{Answering, strict, one_queue, first_waiting}
-use Rattle.play_laws.specs.Lawful.{IsOneOf, IsLawful, HaveArrived, MaySend, NeverWaits, IsSteady, AreHeld}
+use Rattle.altq_model.specs.Lawful.{IsOneOf, IsLawful, HaveArrived, MaySend, NeverWaits, IsSteady, AreHeld}
 use Rattle.play_laws.proofs.Starts.{first_of, least_is, head_of, start_of}
 use Rattle.play_laws.proofs.ArrivalLemmas.{arrivals_held}
 

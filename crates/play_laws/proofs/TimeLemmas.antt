@@ -6,7 +6,7 @@ use Rattle.altq_model.specs.declared.Verdict.{Verdict}
 use Rattle.altq_model.specs.History.{Coming, Answer, DrawnWords, Event, Offered, Sent, Transmission, Happened, bare, offered, drawn, head, waiting, is_kept, with_offer, without_head}
 use Rattle.altq_model.specs.Link.{link, end_of}
 use Rattle.altq_model.specs.Play.{Policy, lesser, class_start, first_start, due, AreDue}
-use Rattle.play_laws.specs.Lawful.{IsOneOf, IsHead, IsLawful, HaveArrived, RiseFrom, AreRising, IsSteady, latest, start_at, first_at}
+use Rattle.altq_model.specs.Lawful.{IsOneOf, IsHead, IsLawful, HaveArrived, RiseFrom, AreRising, IsSteady, latest, start_at, first_at}
 use Rattle.play_laws.specs.Events.{IsOffer, IsSending, EachFollows}
 use Rattle.play_laws.proofs.Starts.{first_of, least_of, head_of, start_of}
 use Rattle.play_laws.proofs.LinkLemmas.{end_later}

@@ -4,7 +4,7 @@ use Rattle.altq_model.specs.History.{Coming, Transmission, Event, Offered, Sent,
 use Rattle.altq_model.specs.Laws.{occurs, numbers, IsOrdered, IsNotBefore, IsPrompt}
 use Rattle.altq_model.specs.Link.{link, end_of, HasLinkEnds}
 use Rattle.altq_model.specs.Play.{Policy, first_start, offer_of}
-use Rattle.play_laws.specs.Lawful.{MaySend}
+use Rattle.altq_model.specs.Lawful.{MaySend}
 
 -- after a history this event is the offer of the next arrival, whose number is its place among the arrivals; no class may send
 -- before that arrival

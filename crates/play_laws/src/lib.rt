@@ -16,7 +16,7 @@ ghost use Rattle.altq_model.specs.Play.{AreDue, IsPlay, Policy, first_start, pla
 ghost use Rattle.altq_model.specs.Policies.{Answering, one_queue, strict};
 ghost use Rattle.altq_model.specs.Texts.{Naming, fate_rows, fates};
 ghost use Rattle.play_laws.specs.Events.{HasLaws, IsWhole};
-ghost use Rattle.play_laws.specs.Lawful.{AreHeld, AreRising, IsLawful, IsOneOf, IsSteady, NeverWaits, SendsWhen, first_at, greatest, latest};
+ghost use Rattle.altq_model.specs.Lawful.{AreHeld, AreRising, IsLawful, IsOneOf, IsSteady, NeverWaits, SendsWhen, first_at, greatest, latest};
 ghost use Rattle.play_laws.specs.Runs.{AreRunEnds, sendings};
 
 /// The arrivals of a capture rise, there is one for each record, those of more records begin with those of the fewer, and a play

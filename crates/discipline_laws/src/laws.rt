@@ -1,15 +1,16 @@
 // The laws of a discipline.
-ghost use Rattle.std.specs.Prelude.{◌≡◌, ◌≤◌, ◌<◌, ◌+◌, ◌-◌, ◌^◌, ◌↔◌, ◌∷◌, [], ℕ, List, length, Ok, IfOk, OnOk};
-ghost use Rattle.play_laws.specs.Lawful.{IsLawful, IsOneOf, IsSteady};
+ghost use Rattle.std.specs.Prelude.{◌≡◌, ◌≤◌, ◌<◌, ◌-◌, ◌^◌, ◌↔◌, ◌∷◌, [], ℕ, List, length};
+ghost use Rattle.altq_model.specs.Lawful.{IsLawful, IsOneOf, IsSteady, latest};
 ghost use Rattle.altq_model.specs.History.{bare, offered};
-ghost use Rattle.altq_model.specs.Link.{end_of};
+ghost use Rattle.altq_model.specs.Link.{end_of, link};
 ghost use Rattle.leaf_queue.specs.Words.{Drew};
-ghost use Rattle.discipline.specs.Moments.{IsChoice, IsOffer, IsOrderly};
+ghost use Rattle.discipline_laws.specs.Moments.{IsChoice, IsOffer, IsOrderly, StartsBy};
 
 use crate::{Pick, Sending};
-use leaf_queue::{Verdict, Words};
+use altq_model::Verdict;
+use leaf_queue::Words;
 use link_clock::LinkClock;
-use play_base::{NoMemory, Ticket};
+use play_base::Ticket;
 
 /// A discipline holds the packets that wait for a link, each in the list of its class, and tells which is sent when. Its laws are
 /// the clauses of its methods. They speak of the lists, and of the histories that the value stands for: what was offered and sent,
@@ -22,8 +23,8 @@ pub trait Discipline {
     ghost use Rattle.leaf_queue.specs.declared.node.Entry.{Entry};
     ghost use Rattle.link_clock.specs.Clock.{Clock};
     ghost use Rattle.std.specs.declared.option.Option.{Option};
-    ghost use Rattle.discipline.specs.declared.pick.Pick.{Pick};
-    ghost use Rattle.discipline.specs.Laws.{AreDistinct, HasRate, IsAnswer, IsDue, NamesHead, Waits, after_offer, after_sent, coming, entry, held_in, offer_of, room_of, sent_of, Shows};
+    ghost use Rattle.discipline_laws.specs.declared.pick.Pick.{Pick};
+    ghost use Rattle.discipline_laws.specs.Laws.{AreDistinct, HasRate, IsAnswer, IsDue, NamesHead, Waits, after_offer, after_sent, coming, entry, held_in, offer_of, room_of, sent_of, Shows};
 
     /// The entries that wait in each class, the head in front.
     ghost lists: { Self → ℕ → List Entry };
@@ -46,6 +47,11 @@ pub trait Discipline {
     /// How many offers it has counted, where it counts them; else 0.
     ghost given: { Self → ℕ };
 
+    /// The moment of the latest event that it keeps in mind, and the end of its latest sending, in nanoseconds: 0 where it keeps
+    /// none.
+    ghost moment: { Self → ℕ };
+    ghost ended: { Self → ℕ };
+
     /// The most packets that may wait in all classes together: the sum of the limits of the queue classes, 2,560,000 at most. It
     /// never changes, and no more wait. Takes no memory.
     fn room(&self) -> u32
@@ -54,11 +60,9 @@ pub trait Discipline {
         ensures within { held_in (lists self.now) (policy self.now).classes ≤ result };
 
     /// Offers a packet of a queue class, 1 to 262,144 bytes long, with a precedence of 0, 1 or 2, under a ticket. The verdict is
-    /// that of the class's queue: `Drop(Full)` exactly where as many wait in the class as may. A packet that is kept comes to the
-    /// end of its class's list, and one that is dropped changes no list. Its moment is no earlier than any before it, and later
-    /// than each start. No more than 4,000,000 packets are offered.
-    ///
-    /// `NoMemory` comes only for want of memory. After it the value is not to be used again.
+    /// that of the class's queue: `Drop(Full)` exactly where as many wait in the class as may. A packet that is kept, marked or
+    /// not, comes to the end of its class's list, and one that is dropped changes no list. Its moment, before 2^63, is no earlier
+    /// than any before it, and later than each start. No more than 4,000,000 packets are offered. Takes no memory.
     fn offer(
         &mut self,
         ticket: Ticket,
@@ -67,26 +71,27 @@ pub trait Discipline {
         prec: u8,
         now: u64,
         words: &mut Words,
-    ) -> Result<Verdict, NoMemory>
+    ) -> Verdict
         requires class { IsOneOf class (policy self.old).classes }
         requires prec { prec ≤ 2 }
         requires least { 1 ≤ len }
         requires most { len ≤ 262144 }
         requires few { given self.old < 4000000 }
+        requires later { moment self.old ≤ now }
+        requires early { now < 2 ^ 63 }
 
-        ensures lists { IfOk result (λ v. (c : ℕ) → lists self.new c ≡ after_offer v class (entry ticket len prec) (lists self.old) c) }
-        ensures full { (result ≡ Ok (Verdict.Drop Reason.Full)) → length (lists self.old class) ≡ limits self.old class }
-        ensures at_limit { IfOk result (λ v. length (lists self.old class) ≡ limits self.old class → v ≡ Verdict.Drop Reason.Full) }
+        ensures lists { (c : ℕ) → lists self.new c ≡ after_offer result class (entry ticket len prec) (lists self.old) c }
+        ensures full { (result ≡ Verdict.Drop Reason.Full) ↔ (length (lists self.old class) ≡ limits self.old class) }
 
         // after a history that it stood for: the verdict, the words drawn, and the history with this offer
-        ensures history { IfOk result (λ v. (h : List Happened) → stands self.old h → IsOffer now (bare h) → words.old.drawn < 2 ^ 64 - 1
-            → IsAnswer (policy self.old) (bare h) words.old (coming class len prec now) v words.new
-            × stands self.new (offer_of (policy self.old) h ticket words.old (coming class len prec now) ∷ h)) }
+        ensures history { (h : List Happened) → stands self.old h → IsOffer now (bare h) → words.old.drawn < 2 ^ 64 - 1
+            → IsAnswer (policy self.old) (bare h) words.old (coming class len prec now) result words.new
+            × stands self.new (offer_of (policy self.old) h ticket words.old (coming class len prec now) ∷ h) }
 
-        ensures within { OnOk result (held_in (lists self.new) (policy self.new).classes ≤ room_of (limits self.new) (policy self.new).classes) }
-        ensures policy { OnOk result (policy self.new ≡ policy self.old) }
-        ensures limits { OnOk result (limits self.new ≡ limits self.old) }
-        ensures rate { OnOk result (link_rate self.new ≡ link_rate self.old) };
+        ensures within { held_in (lists self.new) (policy self.new).classes ≤ room_of (limits self.new) (policy self.new).classes }
+        ensures policy { policy self.new ≡ policy self.old }
+        ensures limits { limits self.new ≡ limits self.old }
+        ensures rate { link_rate self.new ≡ link_rate self.old };
 
     /// What is due at a moment, no earlier than the last end and before 2^63, under the link's clock. It is `Empty` exactly where
     /// every list is empty, and a `Send` of the head of its class's list where a class may send then. Otherwise it is `Wait` till
@@ -95,6 +100,8 @@ pub trait Discipline {
         requires free { clock.now.link.free ≤ now }
         requires early { now < 2 ^ 63 }
         requires rate { HasRate (link_rate self.old) clock.now.rate }
+        requires later { moment self.old ≤ now }
+        requires after { ended self.old ≤ clock.now.link.free }
 
         ensures due { result ≡ due self.old clock.now now }
         ensures empty { (result ≡ Pick.Empty) ↔ ((c : ℕ) → lists self.old c ≡ []) }
@@ -109,7 +116,9 @@ pub trait Discipline {
         ensures dues_kept { (clock : Clock) (now : ℕ) → due self.new clock now ≡ due self.old clock now }
         ensures policy_kept { policy self.new ≡ policy self.old }
         ensures limits_kept { limits self.new ≡ limits self.old }
-        ensures rate_kept { link_rate self.new ≡ link_rate self.old };
+        ensures rate_kept { link_rate self.new ≡ link_rate self.old }
+        ensures moment_kept { moment self.new ≡ moment self.old }
+        ensures ended_kept { ended self.new ≡ ended self.old };
 
     /// Tells it of a sending, which is the one due at its start under the link's clock as it is before this sending, and whose end
     /// is that clock's. Its packet, the head of its class's list, leaves it, and nothing else does. Takes no memory.
@@ -117,6 +126,8 @@ pub trait Discipline {
         requires free { clock.now.link.free ≤ sending.start }
         requires early { sending.start < 2 ^ 63 }
         requires rate { HasRate (link_rate self.old) clock.now.rate }
+        requires later { moment self.old ≤ sending.start }
+        requires after { ended self.old ≤ clock.now.link.free }
         requires due { due self.old clock.now sending.start ≡ Pick.Send sending.ticket sending.class sending.len sending.rule }
         requires end { sending.end ≡ end_of clock.now.rate clock.now.link sending.start sending.len }
 
@@ -135,6 +146,11 @@ pub trait Discipline {
 
     /// It has counted no more offers than there were.
     ghost counts: { (d : Self) (h : List Happened) → stands d h → given d ≤ offered (bare h) };
+
+    /// The moment that it keeps is no later than the events of each such history, and the end that it keeps is no later than the
+    /// link is free after it.
+    ghost moments: { (d : Self) (h : List Happened) → stands d h → (t : ℕ) → latest (bare h) ≤ t → StartsBy t (bare h) → moment d ≤ t };
+    ghost ends: { (d : Self) (h : List Happened) → stands d h → (rate : ℕ) → HasRate (link_rate d) rate → ended d ≤ (link rate (bare h)).free };
 
     /// No class is twice among the queue classes.
     ghost distinct: { (d : Self) (h : List Happened) → stands d h → AreDistinct (policy d).classes };

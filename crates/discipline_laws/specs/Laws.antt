@@ -6,12 +6,12 @@ use Rattle.altq_model.specs.declared.Verdict.{Verdict}
 use Rattle.altq_model.specs.History.{Coming, DrawnWords, Event, Offered, Sent, Happened, bare, labels, waiting, with_offer, without_head}
 use Rattle.altq_model.specs.Laws.{occurs}
 use Rattle.altq_model.specs.Play.{Policy}
-use Rattle.play_laws.specs.Lawful.{first_at}
+use Rattle.altq_model.specs.Lawful.{first_at}
 use Rattle.leaf_queue.specs.declared.node.Entry.{Entry}
 use Rattle.leaf_queue.specs.Words.{Drew}
-use Rattle.discipline.specs.declared.pick.Pick.{Pick}
-use Rattle.discipline.specs.declared.pick.Pick.TheVariants.{Send, Wait, Empty}
-use Rattle.discipline.specs.declared.pick.Sending.{Sending}
+use Rattle.discipline_laws.specs.declared.pick.Pick.{Pick}
+use Rattle.discipline_laws.specs.declared.pick.Pick.TheVariants.{Send, Wait, Empty}
+use Rattle.discipline_laws.specs.declared.pick.Sending.{Sending}
 
 abbrev pub entry : Ticket → (len prec : ℕ) → Entry
 entry ticket len prec = record { ticket = ticket; len = len; prec = prec }
