@@ -2,6 +2,7 @@ pub mod AllLaws
 pub mod ArrivalLemmas
 pub mod BusyLemmas
 pub mod CountLemmas
+pub mod DepartureLemmas
 pub mod DueLemmas
 pub mod EndLemmas
 pub mod FewLemmas

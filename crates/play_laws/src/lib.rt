@@ -9,13 +9,15 @@ ghost use Rattle.altq_model.specs.Arrivals.{Arrival, arrival, arrivals_from, arr
 ghost use Rattle.capture_model.specs.Capture.{Record};
 ghost use Rattle.altq_model.specs.History.{Coming, Decision, Happened, Event, bare, journal, offered};
 ghost use Rattle.altq_model.specs.Laws.{KeepsLaws, at_of};
+ghost use Rattle.capture_model.specs.Written.{record_texts, written};
 ghost use Rattle.altq_model.specs.Busy.{IsBusy};
+ghost use Rattle.altq_model.specs.Departures.{Dressing, departed, departures};
 ghost use Rattle.altq_model.specs.Idle.{NeverIdles};
 ghost use Rattle.altq_model.specs.Link.{HasLinkEnds, link};
 ghost use Rattle.altq_model.specs.Play.{AreDue, IsPlay, Policy, first_start, play};
 ghost use Rattle.altq_model.specs.Policies.{Answering, one_queue, strict};
 ghost use Rattle.altq_model.specs.Texts.{Naming, fate_rows, fates};
-ghost use Rattle.play_laws.specs.Events.{HasLaws, IsWhole};
+ghost use Rattle.play_laws.specs.Events.{AreOfArrivals, HasLaws, IsWhole};
 ghost use Rattle.altq_model.specs.Lawful.{AreHeld, AreRising, IsLawful, IsOneOf, IsSteady, NeverWaits, SendsWhen, first_at, greatest, latest};
 ghost use Rattle.play_laws.specs.Runs.{AreRunEnds, sendings};
 
@@ -118,11 +120,20 @@ pub fn the_play_is_one()
 {}
 
 /// The journal of more events begins with that of the older ones, as do the records of their departures; the text of more decisions or
-/// records begins with that of the first of them.
+/// records begins with that of the first of them. What is decided of packets that arrived keeps its texts, whatever arrives later.
 pub fn texts_extend()
     ensures journal { (es g : List Happened) → journal (es ++ g) ≡ journal g ++ journal es }
     ensures fates { (names : Naming) (arrived : List Arrival) (xs ys : List Decision)
         → fates names arrived (xs ++ ys) ≡ fates names arrived xs ++ fate_rows names arrived ys }
     ensures rows { (names : Naming) (arrived : List Arrival) (xs ys : List Decision)
         → fate_rows names arrived (xs ++ ys) ≡ fate_rows names arrived xs ++ fate_rows names arrived ys }
+    ensures records { (xs ys : List Record) → written (xs ++ ys) ≡ written xs ++ record_texts ys }
+    ensures departed { (dress : Dressing) (arrived : List Arrival) (es g : List Happened)
+        → (more : List Record) × (departed dress arrived (es ++ g) ≡ departed dress arrived g ++ more) }
+    ensures departures { (dress : Dressing) (arrived : List Arrival) (es g : List Happened)
+        → (more : List Record) × (departures dress arrived (es ++ g) ≡ departures dress arrived g ++ record_texts more) }
+    ensures rows_stay { (names : Naming) (arrived more : List Arrival) (g : List Happened) → AreOfArrivals (comings arrived) g
+        → fate_rows names (arrived ++ more) (journal g) ≡ fate_rows names arrived (journal g) }
+    ensures departed_stay { (dress : Dressing) (arrived more : List Arrival) (g : List Happened) → AreOfArrivals (comings arrived) g
+        → departed dress (arrived ++ more) g ≡ departed dress arrived g }
 {}
