@@ -8,7 +8,7 @@ use Rattle.play_laws.specs.Events.{HasLaws, IsWhole}
 use Rattle.play_laws.proofs.TimeLemmas.{each_follows}
 use Rattle.play_laws.proofs.OrderLemmas.{of_arrivals, ordered, not_before, link_ends}
 use Rattle.play_laws.proofs.BusyLemmas.{prompt}
-use Rattle.play_laws.proofs.CountLemmas.{balanced}
+use Rattle.play_laws.proofs.CountLemmas.{balanced, waits_once}
 use Rattle.play_laws.proofs.FewLemmas.{few_decided}
 use Rattle.play_laws.proofs.EndLemmas.{is_over, all_offered, offered_within, no_places, nothing_waits, conserved}
 
@@ -22,6 +22,7 @@ due_laws p rate seed arrived g pos law rise due =
       came = offered_within p rate seed arrived g f;
       few = few_decided p rate seed arrived g f;
       once = λ n. omega (arith, (balanced p rate seed arrived g n f).once);
+      waits_once = waits_once p rate seed arrived g f;
       ordered = ordered p rate seed arrived g f;
       not_before = not_before p rate seed arrived g law f;
       prompt = prompt p rate seed arrived g rise f;

@@ -17,7 +17,7 @@ use Rattle.play_laws.proofs.TimeLemmas.{IsOnTime, on_time, follows, head_latest,
 use Rattle.play_laws.proofs.OrderLemmas.{starts_late}
 
 -- what is offered from a place on arrived after the start of each sending before
-started_before : (p : Policy) (rate seed : ℕ) (arrived : List Coming) (g : List Happened) (k : ℕ) (a : Coming) → AreRising arrived → EachFollows p rate seed arrived g
+pub started_before : (p : Policy) (rate seed : ℕ) (arrived : List Coming) (g : List Happened) (k : ℕ) (a : Coming) → AreRising arrived → EachFollows p rate seed arrived g
     → offered (bare g) ≤ k → slice_get arrived k ≡ Some a → StartsBefore a.at (bare g)
 started_before p rate seed arrived [] k a rise f l e = tt
 started_before p rate seed arrived (o ∷ g) k a rise (inl x, f) l e =

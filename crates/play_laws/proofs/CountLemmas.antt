@@ -1,5 +1,5 @@
 -- Each number has one fate, or waits.
-use Rattle.std.proofs.Common.{◌≡◌, ◌+◌, ◌∙◌, ◌⊎◌, inl, inr, ℕ, Bool, true, false, cond, List, [], ◌∷◌, ◌++◌, Some, drop, refl, ap, sym, subst, arith}
+use Rattle.std.proofs.Common.{◌≡◌, ◌≤◌, ◌+◌, ◌∙◌, ◌⊎◌, inl, inr, ℕ, Bool, true, false, cond, List, [], ◌∷◌, ◌++◌, Some, drop, refl, ap, sym, subst, arith}
 use Rattle.std.specs.Prelude.{slice_get, if◌then◌else◌, ◌==◌, ◌&&◌, nat_lt, nat_le}
 use Rattle.std.proofs.lemmas.Bool.{eqb-true, eq-eqb}
 use Rattle.std.proofs.lemmas.Grind.{common_steps}
@@ -8,7 +8,7 @@ use Rattle.altq_model.specs.declared.Verdict.TheVariants.{Keep, Mark, Drop}
 use Rattle.altq_model.specs.History.{Coming, DrawnWords, Event, Offered, Sent, Happened, bare, offered, drawn, labels, labels_after, is_kept, with_offer, without_head, Decision, dropped_by, decided, journal}
 use Rattle.altq_model.specs.Laws.{occurs, numbers}
 use Rattle.altq_model.specs.Play.{Policy}
-use Rattle.play_laws.specs.Events.{IsOffer, IsSending, EachFollows}
+use Rattle.play_laws.specs.Events.{IsOffer, IsSending, EachFollows, WaitsOnce}
 
 -- the class and the label of a packet that waits
 abbrev pub Place : Type 0
@@ -165,3 +165,17 @@ balanced_step p rate seed arrived g e n x (inr y) =
 pub balanced : (p : Policy) (rate seed : ℕ) (arrived : List Coming) (g : List Happened) (n : ℕ) → EachFollows p rate seed arrived g → IsBalanced n g
 balanced p rate seed arrived [] n f = record { once = start n }
 balanced p rate seed arrived (e ∷ g) n f = balanced_step p rate seed arrived g e n (balanced p rate seed arrived g n f.1) f.0
+
+class_case : (n c : ℕ) (x : Place) (xs : List Place) (b : Bool) → occurs n (of_class c xs) ≤ occurs n (all_labels xs)
+    → occurs n (cond b (x.1 ∷ of_class c xs) (of_class c xs)) ≤ occurs n (all_labels (x ∷ xs))
+class_case n c x xs true h = omega (arith, h)
+class_case n c x xs false h = omega (arith, h)
+
+class_occurs : (n c : ℕ) (xs : List Place) → occurs n (of_class c xs) ≤ occurs n (all_labels xs)
+class_occurs n c [] = omega arith
+class_occurs n c (x ∷ xs) = class_case n c x xs (x.0 == c) (class_occurs n c xs)
+
+-- what waits has no fate yet
+pub waits_once : (p : Policy) (rate seed : ℕ) (arrived : List Coming) (g : List Happened) → EachFollows p rate seed arrived g → WaitsOnce g
+waits_once p rate seed arrived g f = λ n c.
+    omega (arith, (balanced p rate seed arrived g n f).once, class_occurs n c (places g), ap (occurs n) (of_class_labels c g))
