@@ -4,7 +4,7 @@ use Rattle.std.specs.Prelude.{◌≡◌, ℕ, Bool, List, [], ◌∷◌, ◌++�
 use Rattle.capture_model.specs.Capture.{Record}
 use Rattle.capture_model.specs.Written.{written}
 use Rattle.altq_model.specs.Arrivals.{Arrival, arrival}
-use Rattle.altq_model.specs.History.{Event, Offered, Sent, Happened, is_marked}
+use Rattle.altq_model.specs.History.{Event, Offered, Sent, Happened, was_marked}
 
 -- the bytes with which a class's packet leaves, by those with which it came and by whether it is marked
 abbrev pub Dressing : Type 0
@@ -21,7 +21,7 @@ departure dress a marked end = record { stamp = end; captured = dress a.class ma
 -- what an event adds, after a history
 abbrev pub departed_by : Dressing → List Arrival → (n : ℕ) → Event → List Happened → List Record
 departed_by dress arrived n (Offered a w v) g = []
-departed_by dress arrived n (Sent s) g = departure dress (arrival arrived n) (is_marked n g) s.end ∷ []
+departed_by dress arrived n (Sent s) g = departure dress (arrival arrived n) (was_marked n g) s.end ∷ []
 
 -- the records of a history's sendings
 abbrev pub departed : Dressing → List Arrival → List Happened → List Record

@@ -102,9 +102,9 @@ abbrev pub marked_after : (n label : ℕ) → Event → Bool → Bool
 marked_after n label (Offered a w v) before = if label == n then is_mark v.verdict else before
 marked_after n label (Sent s) before = before
 
-abbrev pub is_marked : (n : ℕ) → List Happened → Bool
-is_marked n [] = false
-is_marked n (e ∷ g) = marked_after n e.label e.what (is_marked n g)
+abbrev pub was_marked : (n : ℕ) → List Happened → Bool
+was_marked n [] = false
+was_marked n (e ∷ g) = marked_after n e.label e.what (was_marked n g)
 
 -- a decision: the number of a packet, and its fate
 abbrev pub Decision : Type 0

@@ -1,6 +1,6 @@
 -- When a policy is lawful, and when arrivals suit it. A law is asked after every history, also after one that holds packets of
 -- classes that are none of the policy's: of the policy's own classes that wait it is asked alone.
-use Rattle.std.specs.Prelude.{◌≡◌, ◌≤◌, ◌⊎◌, ◌↔◌, ℕ, max, List, [], ◌∷◌, None, Some, option_map}
+use Rattle.std.specs.Prelude.{◌≡◌, ◌≤◌, ◌↔◌, ℕ, max, List, [], ◌∷◌, None, Some, option_map}
 use Rattle.std.specs.declared.option.Option.{Option}
 use Rattle.capture_model.specs.Capture.{Record}
 use Rattle.altq_model.specs.History.{Coming, Answer, DrawnWords, Event, Offered, Sent, head}

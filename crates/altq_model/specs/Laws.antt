@@ -55,16 +55,16 @@ abbrev pub IsNotBefore : List Coming → List Happened → Type 0
 IsNotBefore arrived [] = Unit {0}
 IsNotBefore arrived (e ∷ g) = StartsAfter arrived e.label e.what × IsNotBefore arrived g
 
--- each sending of a history started before this moment
-abbrev pub StartedBefore : (t : ℕ) → List Event → Type 0
-StartedBefore t [] = Unit {0}
-StartedBefore t (Offered a w v ∷ h) = StartedBefore t h
-StartedBefore t (Sent s ∷ h) = (s.start < t) × StartedBefore t h
+-- each start of a history is before this moment
+abbrev pub StartsBefore : (t : ℕ) → List Event → Type 0
+StartsBefore t [] = Unit {0}
+StartsBefore t (Offered a w v ∷ h) = StartsBefore t h
+StartsBefore t (Sent s ∷ h) = (s.start < t) × StartsBefore t h
 
 -- what is offered after a sending arrived after its start: every arrival up to a start is offered before that sending
 abbrev pub IsPrompt : List Event → Type 0
 IsPrompt [] = Unit {0}
-IsPrompt (Offered a w v ∷ h) = StartedBefore a.at h × IsPrompt h
+IsPrompt (Offered a w v ∷ h) = StartsBefore a.at h × IsPrompt h
 IsPrompt (Sent s ∷ h) = IsPrompt h
 
 -- what holds of every play, whatever its policy

@@ -1,16 +1,11 @@
 -- When a discipline may be asked and told, and which of its histories are in order.
-use Rattle.std.specs.Prelude.{◌≡◌, ◌≤◌, ◌<◌, ℕ, List, [], ◌∷◌, Some}
+use Rattle.std.specs.Prelude.{◌≡◌, ◌≤◌, ℕ, List, [], ◌∷◌, Some}
 use Rattle.altq_model.specs.History.{Event, Offered, Sent, Transmission}
 use Rattle.altq_model.specs.Link.{link}
 use Rattle.altq_model.specs.Play.{Policy}
 use Rattle.altq_model.specs.Lawful.{latest, first_at}
+pub use Rattle.altq_model.specs.Laws.{StartsBefore}
 use Rattle.link_clock.specs.Clock.{Clock}
-
--- each start is before this moment
-abbrev pub StartsBefore : (t : ℕ) → List Event → Type 0
-StartsBefore t [] = Unit {0}
-StartsBefore t (Offered a w v ∷ h) = StartsBefore t h
-StartsBefore t (Sent s ∷ h) = (s.start < t) × StartsBefore t h
 
 -- no start is after it
 abbrev pub StartsBy : (t : ℕ) → List Event → Type 0

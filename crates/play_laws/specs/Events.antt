@@ -58,6 +58,10 @@ AreOfArrivals arrived (e ∷ g) = IsOfArrival arrived e.label e.what × AreOfArr
 abbrev pub IsDecidedOnce : List Happened → Type 0
 IsDecidedOnce g = (n : ℕ) → occurs n (numbers (journal g)) ≤ (if nat_lt 0 n && nat_le n (offered (bare g)) then 1 else 0)
 
+-- what waits has no fate yet, and each number waits in one place
+abbrev pub WaitsOnce : List Happened → Type 0
+WaitsOnce g = (n c : ℕ) → occurs n (labels c g) + occurs n (numbers (journal g)) ≤ (if nat_lt 0 n && nat_le n (offered (bare g)) then 1 else 0)
+
 -- what holds of the first events of a play
 pub record HasLaws (p : Policy) (rate seed : ℕ) (arrived : List Coming) (g : List Happened) : Type 0 where
   pub each : EachFollows p rate seed arrived g
@@ -66,6 +70,7 @@ pub record HasLaws (p : Policy) (rate seed : ℕ) (arrived : List Coming) (g : L
   pub came : offered (bare g) ≤ length arrived
   pub few : length (journal g) ≤ offered (bare g)
   pub once : IsDecidedOnce g
+  pub waits_once : WaitsOnce g
   pub ordered : IsOrdered g
   pub not_before : IsNotBefore arrived g
   pub prompt : IsPrompt (bare g)
