@@ -236,7 +236,6 @@ module _ {Q : Type 0} (stands : Q → List QueueEvent → Type 0) (says : Q → 
         sum = i.sum ∙ sym (ap limits_sum (limits_kept most d.queues d.holds k p q e m));
         there = omega (arith, i.there, same);
         bound = i.bound;
-        first_bound = i.first_bound;
         count_bound = omega (arith, length-set d.queues k q, i.count_bound);
       }
 

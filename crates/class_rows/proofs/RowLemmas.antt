@@ -79,6 +79,16 @@ pub some_place : (c : ℕ) (lists : List (List Entry)) (class : ℕ) → 0 < len
 some_place c [] class l = absurd (omega arith)
 some_place c (xs ∷ lists) class l = some_case c xs lists class (eqb c class) refl l (λ m. some_place (c + 1) lists class m)
 
+-- any other has an empty list
+nothing_else : (c : ℕ) (lists : List (List Entry)) (class : ℕ) (xs : List Entry) → list_at c lists class ≡ xs
+    → (c ≤ class → class < c + length lists → ⊥) → list_at c lists class ≡ []
+nothing_else c lists class [] e o = e
+nothing_else c lists class (x ∷ xs) e o =
+    let p = some_place c lists class (omega (arith, ap length e)) in absurd (o p.0 p.1)
+
+pub others_empty : (c : ℕ) (lists : List (List Entry)) (class : ℕ) → (c ≤ class → class < c + length lists → ⊥) → list_at c lists class ≡ []
+others_empty c lists class o = nothing_else c lists class (list_at c lists class) refl o
+
 -- what all classes hold
 held_same : (c : ℕ) (xs : List Entry) (lists : List (List Entry)) (d : ℕ) (hs : List Bool) → c < d
     → held_in (list_at c (xs ∷ lists)) (holding d hs) ≡ held_in (list_at (c + 1) lists) (holding d hs)

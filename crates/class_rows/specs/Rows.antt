@@ -1,6 +1,6 @@
 -- The classes of a discipline in a row, each with its queue and the list of its packets. Those that may hold packets are the
 -- queue classes.
-use Rattle.std.specs.Prelude.{◌≡◌, ◌≤◌, ◌==◌, ◌+◌, ℕ, Bool, List, [], ◌∷◌, length, map, if◌then◌else◌}
+use Rattle.std.specs.Prelude.{◌≡◌, ◌≤◌, ◌<◌, ◌==◌, ◌+◌, ℕ, Bool, List, [], ◌∷◌, length, map, if◌then◌else◌}
 use Rattle.altq_model.specs.declared.Verdict.{Verdict}
 use Rattle.altq_model.specs.History.{DrawnWords, Event, Offered, Happened, bare, waiting}
 use Rattle.altq_model.specs.Policies.{Answering}
@@ -59,6 +59,10 @@ limit_in most d = limit_at d.first (limits_of most d.queues d.holds)
 abbrev pub classes_in : {Q : Type 0} → Rowed Q → List ℕ
 classes_in d = holding d.first d.holds
 
+-- a number that is none of the classes'
+abbrev pub IsOther : {Q : Type 0} → Rowed Q → (class : ℕ) → Type 0
+IsOther d class = d.first ≤ class → class < d.first + length d.queues → ⊥
+
 -- what the queues answer, after a history
 abbrev pub answering : {Q : Type 0} → (Q → Saying) → Rowed Q → Answering
 answering says d = by_queues d.first (map says d.queues)
@@ -72,13 +76,12 @@ Fit most (q ∷ queues) [] lists = ⊥
 Fit most (q ∷ queues) (h ∷ hs) [] = ⊥
 Fit most (q ∷ queues) (h ∷ hs) (xs ∷ lists) = (length xs ≤ most_of most q h) × HasPrecs xs × Fit most queues hs lists
 
--- there is room for as many as the limits of the queue classes allow, and the classes fit 32 bits
+-- there is room for as many as the limits of the queue classes allow
 pub record IsRow {Q : Type 0} (most : Q → ℕ) (first room : ℕ) (queues : List Q) (holds : List Bool) (l : Listed) : Type 0 where
   pub fit : Fit most queues holds l.lists
   pub sum : room ≡ limits_sum (limits_of most queues holds)
   pub there : room ≤ l.room
   pub bound : room ≤ 2560000
-  pub first_bound : first ≤ 1000000
   pub count_bound : length queues ≤ 256
 
 -- each list, of the classes from one on, is what waits in its class, and each queue was told what the history tells it

@@ -4,7 +4,7 @@ ghost use Rattle.altq_model.specs.declared.Reason.{Reason};
 ghost use Rattle.altq_model.specs.Lawful.{IsOneOf};
 ghost use Rattle.altq_model.specs.History.{Happened, Sent, Transmission};
 ghost use Rattle.discipline_laws.specs.Laws.{after_offer, after_sent, held_in, room_of};
-ghost use Rattle.class_rows.specs.Rows.{Answers, IsNew, IsRow, Rowed, SameRow, Told, classes_in, holding, limit_in, limits_of, limits_sum, list_in, most_of};
+ghost use Rattle.class_rows.specs.Rows.{Answers, IsNew, IsOther, IsRow, Rowed, SameRow, Told, classes_in, holding, limit_in, limits_of, limits_sum, list_in, most_of};
 
 use crate::leaf::{offer_to, take_from};
 use leaf_queue::{Entry, Lists, QueueRule, Verdict, Words};
@@ -54,16 +54,15 @@ fn sum_of<Q: QueueRule>(queues: &[Q], holds: &[bool]) -> u32
 }
 
 impl<Q: QueueRule + Drop> Rows<Q> {
-    /// The classes `first`, at most 1,000,000, `first` + 1 and so on, one for each of 1 to 256 queues, which stand for nothing
-    /// asked or told yet and hold 1 to 10,000 packets; those for which `holds` are queue classes, one word for each. Takes all the
-    /// memory that it will ever take; `NoMemory` comes only for want of it.
+    /// The classes `first`, `first` + 1 and so on, one for each of at most 256 queues, which stand for nothing asked or told yet and
+    /// hold 1 to 10,000 packets; those for which `holds` are queue classes, one word for each. Takes all the memory that it will
+    /// ever take; `NoMemory` comes only for want of it.
     pub fn build(
         alloc: Global,
         first: u32,
         queues: Vec<Q>,
         holds: Vec<bool>,
     ) -> Result<Rows<Q>, NoMemory>
-        requires first { first ≤ 1000000 }
         requires most { length queues.items ≤ 256 }
         requires one_each { length holds.items ≡ length queues.items }
         requires queues { All (IsNew Q.stands Q.most) queues.items }
@@ -90,6 +89,21 @@ impl<Q: QueueRule + Drop> Rows<Q> {
         ensures within { held_in (list_in self.now) (classes_in self.now) ≤ result }
     {
         self.room
+    }
+
+    /// The number of the first class. Every other class than these has an empty list. Takes no memory.
+    pub fn first(&self) -> u32
+        ensures first { result ≡ self.now.first }
+        ensures others { (c : ℕ) → IsOther self.now c → list_in self.now c ≡ [] }
+    {
+        self.first
+    }
+
+    /// How many classes there are. Takes no memory.
+    pub fn count(&self) -> u32
+        ensures { result ≡ length self.now.queues }
+    {
+        self.queues.len() as u32
     }
 
     /// The head of a class's list: `None` exactly where that is empty. Takes no memory.

@@ -15,7 +15,6 @@ invariant_of-result g c =
           ∙ ap (λ hs. limits_sum (limits_of g.Q.QueueRule.most c.args.queues.items hs)) c.deref-2.ensures.value;
       there = omega (arith, c.in_ok-lists.ensures.room);
       bound = c.sum_of-room.ensures.bound;
-      first_bound = c.requires.first;
       count_bound = c.requires.most;
     }
 
