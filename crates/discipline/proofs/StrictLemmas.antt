@@ -8,12 +8,12 @@ use Rattle.altq_model.specs.declared.Reason.TheVariants.{Full}
 use Rattle.altq_model.specs.declared.Verdict.{Verdict}
 use Rattle.altq_model.specs.declared.Verdict.TheVariants.{Keep, Drop}
 use Rattle.altq_model.specs.History.{with_offer}
-use Rattle.play_laws.specs.Lawful.{IsOneOf}
+use Rattle.altq_model.specs.Lawful.{IsOneOf}
 use Rattle.leaf_queue.specs.declared.node.Entry.{Entry}
 use Rattle.leaf_queue.specs.Lists.{Listed, list_of, total_of}
 use Rattle.leaf_queue.specs.Queue.{QueueEvent}
-use Rattle.discipline.specs.Laws.{Shows, tickets, seen, held_in, room_of}
-use Rattle.discipline.specs.Leaf.{after_verdict, HasPrecs}
+use Rattle.discipline_laws.specs.Laws.{Shows, tickets, seen, held_in, room_of}
+use Rattle.class_rows.specs.Leaf.{after_verdict, HasPrecs}
 use Rattle.discipline.specs.Strict.{classes_from, list_at, limit_at, limits_sum, Fit, IsRow, RowsStand}
 use Rattle.discipline.proofs.PacedLemmas.{precs_after}
 

@@ -1,6 +1,4 @@
-pub mod Laws
 pub mod Leaf
-pub mod Moments
 pub mod Paced
 pub mod PacedLaws
 pub mod Strict

@@ -1,18 +1,18 @@
 -- One class whose packets start at the multiples of a gap: its policy, and what it holds.
 use Rattle.std.specs.Prelude.{◌≡◌, ◌≤◌, ◌==◌, ◌*◌, ℕ, Bool, List, [], ◌∷◌, length, if◌then◌else◌}
 use Rattle.altq_model.specs.declared.Rule.TheVariants.{Own}
-use Rattle.altq_model.specs.History.{Entry as Happened, bare}
+use Rattle.altq_model.specs.History.{Happened, bare}
 use Rattle.altq_model.specs.Policies.{Answering}
 use Rattle.altq_model.specs.Play.{Policy}
-use Rattle.altq_model.specs.Units.{ceil_div}
+use Rattle.play_base.specs.Units.{ceil_div}
 use Rattle.leaf_queue.specs.declared.node.Entry.{Entry}
 use Rattle.leaf_queue.specs.Lists.{Listed, list_of}
 use Rattle.leaf_queue.specs.Queue.{QueueEvent, Saying, by_queue, told_of}
-use Rattle.discipline.specs.declared.pick.Pick.{Pick}
-use Rattle.discipline.specs.declared.pick.Pick.TheVariants.{Send, Wait, Empty}
-use Rattle.discipline.specs.Laws.{Shows}
-use Rattle.discipline.specs.Leaf.{HasPrecs}
-use Rattle.discipline.specs.Moments.{IsOrderly}
+use Rattle.discipline_laws.specs.declared.pick.Pick.{Pick}
+use Rattle.discipline_laws.specs.declared.pick.Pick.TheVariants.{Send, Wait, Empty}
+use Rattle.discipline_laws.specs.Laws.{Shows}
+use Rattle.class_rows.specs.Leaf.{HasPrecs}
+use Rattle.discipline_laws.specs.Moments.{IsOrderly}
 
 -- the least multiple of a gap from a moment on
 abbrev pub multiple_from : (gap t : ℕ) → ℕ

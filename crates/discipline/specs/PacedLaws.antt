@@ -3,12 +3,12 @@ use Rattle.std.proofs.Common.{◌≡◌, ◌≤◌, ◌*◌, ◌∙◌, inl, inr
 use Rattle.std.specs.declared.option.Option.{Option}
 use Rattle.altq_model.specs.Play.{class_start, lesser}
 use Rattle.altq_model.specs.Policies.{Answering}
-use Rattle.altq_model.specs.Units.{ceil_div}
-use Rattle.play_laws.specs.Lawful.{IsLawful, IsSteady}
+use Rattle.play_base.specs.Units.{ceil_div}
+use Rattle.altq_model.specs.Lawful.{IsLawful, IsSteady}
 use Rattle.link_clock.proofs.Rounded.{le_ceil, ceil_le}
 use Rattle.std.proofs.lemmas.Bool.{cases_eq}
 use Rattle.leaf_queue.proofs.Linking.{once_same, once_other}
-use Rattle.discipline.specs.Laws.{AreDistinct}
+use Rattle.discipline_laws.specs.Laws.{AreDistinct}
 use Rattle.discipline.specs.Paced.{multiple_from, paced}
 
 pub multiple_later : (gap t : ℕ) → 1 ≤ gap → t ≤ multiple_from gap t

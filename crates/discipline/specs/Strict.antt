@@ -1,17 +1,17 @@
 -- Classes in a row, of which the first that is not empty is sent: what it holds, and the histories that it stands for.
 use Rattle.std.specs.Prelude.{◌≡◌, ◌≤◌, ◌==◌, ◌+◌, ℕ, zero, suc, List, [], ◌∷◌, length, map, if◌then◌else◌}
 use Rattle.altq_model.specs.declared.Rule.{Rule}
-use Rattle.altq_model.specs.History.{Event, Entry as Happened, bare, waiting}
+use Rattle.altq_model.specs.History.{Event, Happened, bare, waiting}
 use Rattle.altq_model.specs.Policies.{strict}
 use Rattle.altq_model.specs.Play.{Policy}
 use Rattle.leaf_queue.specs.declared.node.Entry.{Entry}
 use Rattle.leaf_queue.specs.Lists.{Listed}
 use Rattle.leaf_queue.specs.Queue.{QueueEvent, Saying, by_queues, told_of}
-use Rattle.discipline.specs.declared.pick.Pick.{Pick}
-use Rattle.discipline.specs.declared.pick.Pick.TheVariants.{Send, Empty}
-use Rattle.discipline.specs.Laws.{Shows, seen, seen_of}
-use Rattle.discipline.specs.Leaf.{HasPrecs}
-use Rattle.discipline.specs.Moments.{IsOrderly}
+use Rattle.discipline_laws.specs.declared.pick.Pick.{Pick}
+use Rattle.discipline_laws.specs.declared.pick.Pick.TheVariants.{Send, Empty}
+use Rattle.discipline_laws.specs.Laws.{Shows, seen, seen_of}
+use Rattle.class_rows.specs.Leaf.{HasPrecs}
+use Rattle.discipline_laws.specs.Moments.{IsOrderly}
 
 -- so many classes from one on
 abbrev pub classes_from : (c count : ℕ) → List ℕ

@@ -3,7 +3,7 @@ use Rattle.std.proofs.Common.{◌≡◌, ◌<◌, ◌+◌, inl, inr, ℕ, zero, 
 use Rattle.std.proofs.lemmas.Bool.{cases_eq}
 use Rattle.altq_model.specs.Laws.{occurs}
 use Rattle.leaf_queue.proofs.Linking.{once_same, once_other}
-use Rattle.discipline.specs.Laws.{AreDistinct}
+use Rattle.discipline_laws.specs.Laws.{AreDistinct}
 use Rattle.discipline.specs.Strict.{classes_from}
 
 none_below : (c d n : ℕ) → c < d → occurs c (classes_from d n) ≡ 0

@@ -1,5 +1,5 @@
 ghost use Rattle.std.specs.Prelude.{◌≡◌, ◌≤◌, ◌<◌, ◌^◌};
-ghost use Rattle.discipline.specs.Laws.{HasRate};
+ghost use Rattle.discipline_laws.specs.Laws.{HasRate};
 
 use super::*;
 use leaf_queue::{Tail, Words};

@@ -5,7 +5,7 @@ use Rattle.altq_model.specs.declared.Verdict.{Verdict}
 use Rattle.altq_model.specs.declared.Verdict.TheVariants.{Keep, Drop}
 use Rattle.altq_model.specs.declared.Fate.TheVariants as fate
 use Rattle.altq_model.specs.History.{Coming, Decision, dropped_by}
-use Rattle.play_laws.specs.Lawful.{AreHeld, IsOneOf}
+use Rattle.altq_model.specs.Lawful.{AreHeld, IsOneOf}
 use Rattle.altq_model.specs.Play.{Policy}
 use Rattle.play_core.specs.declared.arrived.Arrived.{Arrived}
 use Rattle.play_core.specs.declared.decided.Decided.{Decided}

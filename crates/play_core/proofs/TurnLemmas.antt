@@ -3,7 +3,7 @@ use Rattle.std.proofs.Common.{◌≡◌, ◌≤◌, ◌<◌, ◌∙◌, ℕ, Boo
 use Rattle.std.specs.Prelude.{slice_get, nat_le}
 use Rattle.std.specs.declared.option.Option.{Option}
 use Rattle.altq_model.specs.declared.Rule.{Rule}
-use Rattle.altq_model.specs.History.{Coming, Event, Offered, Sent, Entry as Happened, bare, head, labels, waiting}
+use Rattle.altq_model.specs.History.{Coming, Event, Offered, Sent, Happened, bare, head, labels, waiting}
 use Rattle.altq_model.specs.Laws.{clock_end}
 use Rattle.altq_model.specs.Link.{Link, link, end_of}
 use Rattle.altq_model.specs.Play.{Policy, Choice}
@@ -11,8 +11,8 @@ use Rattle.play_laws.proofs.LinkLemmas.{end_later}
 use Rattle.play_base.specs.declared.packet.Ticket.{Ticket}
 use Rattle.leaf_queue.specs.declared.node.Entry.{Entry}
 use Rattle.link_clock.specs.Clock.{Clock}
-use Rattle.discipline.specs.Laws.{Shows, entry, seen, seen_of}
-use Rattle.discipline.specs.Moments.{IsChoice, StartsBy}
+use Rattle.discipline_laws.specs.Laws.{Shows, entry, seen, seen_of}
+use Rattle.discipline_laws.specs.Moments.{IsChoice, StartsBy}
 use Rattle.play_core.specs.declared.turn.Turn.{Turn}
 use Rattle.play_core.specs.declared.turn.Turn.TheVariants.{End, Offer, Send, Late}
 use Rattle.play_core.specs.Turns.{IsSentAt, IsTurn, SendsFirst, turn_at}

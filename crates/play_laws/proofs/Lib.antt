@@ -2,9 +2,11 @@ pub mod AllLaws
 pub mod ArrivalLemmas
 pub mod BusyLemmas
 pub mod CountLemmas
+pub mod DepartureLemmas
 pub mod DueLemmas
 pub mod EndLemmas
 pub mod FewLemmas
+pub mod IdleLemmas
 pub mod LawfulLemmas
 pub mod LinkLemmas
 pub mod OneLemmas

@@ -1,11 +1,11 @@
 // The packets of a capture, all read before the first event of a play.
 ghost use Rattle.std.specs.Prelude.{◌≡◌, ◌≢◌, ◌≤◌, ◌<◌, ◌^◌, max, nat_lt, length, IsSome, IfOk, IfErr, IsErrOf};
 ghost use Rattle.play_base.specs.View.{Any, Keeps, ReadFault};
-ghost use Rattle.play_laws.specs.Lawful.{AreRising};
+ghost use Rattle.altq_model.specs.Lawful.{AreRising};
 ghost use Rattle.play_core.specs.Arrived.{comings_held};
 ghost use Rattle.play_loop.specs.Reading.{AreMarked, HasRead, HasFault};
 
-use altq_model::Mark;
+use altq_model::Placed;
 use discipline::Classify;
 use pcap_files::{CaptureFault, Reader, Record};
 use play_base::Files;
@@ -13,7 +13,7 @@ use play_core::Arrived;
 use std::alloc::Global;
 
 // The arrival of a record, where this was the greatest stamp before it.
-fn arrived_of(arrival: Record, latest: u64, mark: Mark) -> Arrived
+fn arrived_of(arrival: Record, latest: u64, mark: Placed) -> Arrived
     requires { latest < 2 ^ 62 }
     ensures at { result.at ≡ max latest arrival.stamp }
     ensures len { result.len ≡ arrival.len }

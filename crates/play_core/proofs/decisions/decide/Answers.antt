@@ -7,12 +7,12 @@ use Rattle.altq_model.specs.declared.Fate.TheVariants.{Sent}
 use Rattle.altq_model.specs.History.{Coming, Decision, bare}
 use Rattle.altq_model.specs.Link.{Link, after_sending, end_of}
 use Rattle.altq_model.specs.Play.{Policy}
-use Rattle.play_laws.specs.Lawful.{IsOneOf}
+use Rattle.altq_model.specs.Lawful.{IsOneOf}
 use Rattle.play_laws.proofs.TimeLemmas.{next_later}
 use Rattle.link_clock.specs.Clock.{Clock}
-use Rattle.discipline.specs.declared.pick.Sending.{Sending}
-use Rattle.discipline.specs.Laws.{sent_of}
-use Rattle.discipline.specs.Moments.{IsChoice}
+use Rattle.discipline_laws.specs.declared.pick.Sending.{Sending}
+use Rattle.discipline_laws.specs.Laws.{sent_of}
+use Rattle.discipline_laws.specs.Moments.{IsChoice}
 use Rattle.play_core.specs.declared.decided.Decided.{Decided}
 use Rattle.play_core.specs.declared.turn.Turn.TheVariants.{End, Offer, Send, Late}
 use Rattle.play_core.specs.Arrived.{coming_of, comings_held, decisions_of}

@@ -1,5 +1,5 @@
 use Rattle.std.proofs.Common.{◌≡◌, ◌∙◌, ap, subst, inl, inr}
-use Rattle.discipline.specs.Laws.{coming}
+use Rattle.discipline_laws.specs.Laws.{coming}
 use Rattle.discipline.specs.Paced.{Held}
 use Rattle.discipline.proofs.PacedLemmas.{held_after, with_queue, OffersWell, offers_well}
 use Rattle.discipline.proofs.paced.PacedDiscipline.offer.Goals as goal

@@ -1,9 +1,9 @@
 use Rattle.std.proofs.Common.{◌≡◌, ◌∙◌, ℕ, [], ap, sym, subst, arith}
 use Rattle.std.specs.Prelude.{◌↔◌}
 use Rattle.altq_model.specs.History.{bare}
-use Rattle.discipline.specs.declared.pick.Pick.{Pick}
-use Rattle.discipline.specs.declared.pick.Pick.TheVariants.{Empty}
-use Rattle.discipline.specs.Laws.{IsDue, NamesHead, Waits}
+use Rattle.discipline_laws.specs.declared.pick.Pick.{Pick}
+use Rattle.discipline_laws.specs.declared.pick.Pick.TheVariants.{Empty}
+use Rattle.discipline_laws.specs.Laws.{IsDue, NamesHead, Waits}
 use Rattle.discipline.specs.Strict.{Row, first_pick, list_at, strict_of}
 use Rattle.discipline.proofs.StrictLemmas.{fit_length}
 use Rattle.discipline.proofs.StrictHistory.{due_row, empty_is, names_head, waits_never, due_of_policy}

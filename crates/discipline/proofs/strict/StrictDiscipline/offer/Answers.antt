@@ -1,5 +1,5 @@
 use Rattle.std.proofs.Common.{◌-◌, sym, subst, arith, length}
-use Rattle.play_laws.specs.Lawful.{IsOneOf}
+use Rattle.altq_model.specs.Lawful.{IsOneOf}
 use Rattle.discipline.specs.Strict.{Row, classes_from}
 use Rattle.discipline.proofs.StrictLemmas.{place_of, fit_at, fit_less, row_offered, bounded_row}
 use Rattle.discipline.proofs.StrictHistory.{with_row}

@@ -1,5 +1,5 @@
 use Rattle.std.proofs.Common.{◌≡◌, ◌≤◌, subst, length, map}
-use Rattle.discipline.specs.Laws.{held_in, room_of}
+use Rattle.discipline_laws.specs.Laws.{held_in, room_of}
 use Rattle.discipline.specs.Strict.{Row, classes_from, limit_at, list_at}
 use Rattle.discipline.proofs.StrictLemmas.{within_row, room_row}
 use Rattle.discipline.proofs.strict.StrictDiscipline.room.Goals as goal
