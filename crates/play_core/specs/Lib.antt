@@ -1,5 +1,5 @@
-pub mod Arrived
-pub mod Decided
 pub mod Ended
+pub mod Going
+pub mod Steps
 pub mod Totals
 pub mod Turns

@@ -1,9 +1,9 @@
-use Rattle.std.proofs.Common.{sym, subst}
+use Rattle.std.proofs.Common.{◌∙◌, sym, subst}
 use Rattle.altq_model.specs.History.{bare}
-use Rattle.play_core.specs.declared.turn.Turn.{Turn}
-use Rattle.play_core.specs.Turns.{IsSentAt}
-use Rattle.play_core.proofs.TurnLemmas.{late_end, sends_then}
-use Rattle.play_core.proofs.turn.what_is_sent.Goals as goal
+use Rattle.play_core.specs.declared.step.Step.{Step}
+use Rattle.play_core.specs.Steps.{IsSentAt}
+use Rattle.play_core.proofs.StepLemmas.{late_end, sends_then, ticket_then}
+use Rattle.play_core.proofs.step.what_is_sent.Goals as goal
 
 pub returns-then-till-ge-CLOCK_END-clause-sent : goal.returns-then-till-ge-CLOCK_END-clause-sent
 returns-then-till-ge-CLOCK_END-clause-sent g c = λ h s x packet f.
@@ -12,7 +12,12 @@ returns-then-till-ge-CLOCK_END-clause-sent g c = λ h s x packet f.
 pub returns-clause-sent : goal.returns-clause-sent
 returns-clause-sent g c = λ h s x.
     let due = c.in-Send.ensures.policy h s x in
-    let P : Turn → Type 0 = λ t. IsSentAt (g.D.Discipline.policy c.args.discipline.now) c.args.clock.now c.args.till h t in
+    let P : Step → Type 0 = λ t. IsSentAt (g.D.Discipline.policy c.args.discipline.now) c.args.clock.now c.args.till (bare h) t in
     subst P (sym c.send_at.ensures)
     (sends_then _ c.args.clock.now h _ c.in-Send.ticket c.in-Send.class c.in-Send.len _ c.in-Send.rule c.args.till
     (g.met.D.Discipline.shows c.args.discipline.now h s c.in-Send.class) c.in-Send.ensures.head.1 due.1)
+
+pub returns-clause-ticket : goal.returns-clause-ticket
+returns-clause-ticket g c = λ h s r e.
+    ticket_then h _ c.in-Send.ticket c.in-Send.class c.in-Send.len _ c.in-Send.rule c.args.till _ r
+    (g.met.D.Discipline.shows c.args.discipline.now h s c.in-Send.class) c.in-Send.ensures.head.1 (sym c.send_at.ensures ∙ e)
