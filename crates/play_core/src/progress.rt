@@ -1,5 +1,5 @@
 // The next event of a play.
-ghost use Rattle.std.specs.Prelude.{◌≡◌, ◌≢◌, ◌≤◌, ◌<◌, ◌*◌, ◌+◌, ◌^◌, ◌∷◌, [], ℕ, true, false, List, IfOk, IsSome, Some, length};
+ghost use Rattle.std.specs.Prelude.{◌≡◌, ◌≢◌, ◌≤◌, ◌<◌, ◌*◌, ◌+◌, ◌^◌, ◌∷◌, [], ℕ, true, false, List, IfOk, IsSome, Some, is_some, length, if◌then◌else◌};
 ghost use Rattle.altq_model.specs.Arrivals.{Arrival, coming_of, comings};
 ghost use Rattle.altq_model.specs.History.{DrawnWords, Happened, bare, is_kept, is_mark};
 ghost use Rattle.altq_model.specs.Lawful.{AreRising, IsOneOf};
@@ -9,8 +9,8 @@ ghost use Rattle.leaf_queue.specs.Pool.{count_of, is_marked, packet_of};
 ghost use Rattle.play_core.specs.Going.{IsGoing, one_kept};
 ghost use Rattle.play_core.specs.Turns.{ComesNext, Offers, arrives, handed_back, turned};
 
-use crate::step::{Step, next_step};
 use crate::state::Progress;
+use crate::step::{Step, next_step};
 use crate::{Departure, Dropped, Totals, Turn};
 use altq_model::{Placed, Verdict};
 use discipline_laws::Discipline;
@@ -78,7 +78,7 @@ impl Progress {
             → IsGoing (D.policy discipline.old) (D.stands discipline.old) (D.lists discipline.old) (D.limits discipline.old) (D.link_rate discipline.old) arrived words.old self.old g
             → Offers (D.policy discipline.old) self.old.clock.rate words.old.seed arrived g a packet placed
             → IsGoing (D.policy discipline.new) (D.stands discipline.new) (D.lists discipline.new) (D.limits discipline.new) (D.link_rate discipline.new) arrived words.new self.new
-                (offer_of (D.policy discipline.old) words.old.seed g (coming_of a) ∷ g) }
+            (offer_of (D.policy discipline.old) words.old.seed g (coming_of a) ∷ g) }
         ensures told { (arrived : List Arrival) (g : List Happened) (a : Arrival)
             → IsGoing (D.policy discipline.old) (D.stands discipline.old) (D.lists discipline.old) (D.limits discipline.old) (D.link_rate discipline.old) arrived words.old self.old g
             → Offers (D.policy discipline.old) self.old.clock.rate words.old.seed arrived g a packet placed
@@ -96,7 +96,7 @@ impl Progress {
         let dropped = settle(&mut self.pool, ticket, verdict);
         self.latest = at;
         self.totals.arrived += 1;
-        self.totals.dropped += u64::from(dropped.is_some());
+        self.totals.dropped += lost(&dropped);
         dropped
     }
 
@@ -105,15 +105,12 @@ impl Progress {
     /// memory, and one division.
     pub fn turn<D: Discipline>(&mut self, discipline: &mut D, arrival: Option<u64>) -> Turn
         requires going { (arrived : List Arrival) × (w : DrawnWords) × (g : List Happened) × IsGoing (D.policy discipline.old) (D.stands discipline.old) (D.lists discipline.old) (D.limits discipline.old) (D.link_rate discipline.old) arrived w self.old g }
-        ensures next { (arrived : List Arrival) (w : DrawnWords) (g : List Happened)
+        ensures turned { (arrived : List Arrival) (w : DrawnWords) (g : List Happened)
             → IsGoing (D.policy discipline.old) (D.stands discipline.old) (D.lists discipline.old) (D.limits discipline.old) (D.link_rate discipline.old) arrived w self.old g → arrival ≡ arrives arrived g
-            → ComesNext (D.policy discipline.old) self.old.clock.rate w.seed arrived g result }
-        ensures going { (arrived : List Arrival) (w : DrawnWords) (g : List Happened)
-            → IsGoing (D.policy discipline.old) (D.stands discipline.old) (D.lists discipline.old) (D.limits discipline.old) (D.link_rate discipline.old) arrived w self.old g → arrival ≡ arrives arrived g
-            → IsGoing (D.policy discipline.new) (D.stands discipline.new) (D.lists discipline.new) (D.limits discipline.new) (D.link_rate discipline.new) arrived w self.new (turned result g) }
+            → ComesNext (D.policy discipline.old) self.old.clock.rate w.seed arrived g result
+            × IsGoing (D.policy discipline.new) (D.stands discipline.new) (D.lists discipline.new) (D.limits discipline.new) (D.link_rate discipline.new) arrived w self.new (turned result g) }
         ensures offers { result ≡ Turn.Offer → IsSome arrival }
-        ensures number { (d : Departure) → result ≡ Turn.Send d → 1 ≤ d.packet.number }
-        ensures last { (d : Departure) → result ≡ Turn.Send d → d.packet.number ≤ self.new.totals.arrived }
+        ensures number { (d : Departure) → result ≡ Turn.Send d → (1 ≤ d.packet.number) × (d.packet.number ≤ self.new.totals.arrived) }
         ensures in_time { (d : Departure) → result ≡ Turn.Send d → d.end < 2 ^ 32 * 10 ^ 9 }
         ensures rate { self.new.clock.rate ≡ self.old.clock.rate }
         ensures policy { D.policy discipline.new ≡ D.policy discipline.old }
@@ -139,6 +136,16 @@ impl Progress {
             start: sending.start,
             end: sending.end,
         })
+    }
+}
+
+// How many packets came back: one or none.
+fn lost(dropped: &Option<Dropped>) -> u64
+    ensures { result ≡ (if is_some dropped.now then 1 else 0) }
+{
+    match dropped {
+        Some(_) => 1,
+        None => 0,
     }
 }
 
