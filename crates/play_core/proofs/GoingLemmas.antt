@@ -199,7 +199,7 @@ holds_sent : (p : Policy) (stood stood' : List Happened → Type 0) (lists lists
     → WaitsOnce (sent_as n s ∷ g) → (c : ℕ) → HoldEach arrived (sent_as n s ∷ g) x'.pool (labels c (sent_of s ∷ y.told)) (labels c (sent_as n s ∷ g))
 holds_sent p stood stood' lists lists' limits rate arrived w x x' g s d y z n held once c =
     let k : List Happened = sent_as n s ∷ g in
-    each_moves arrived g k x.pool x'.pool (labels c (sent_of s ∷ y.told)) (labels c k)
+    each_moves arrived arrived g k x.pool x'.pool (labels c (sent_of s ∷ y.told)) (labels c k)
     (λ t m o h.
     let differ : m ≡ n → ⊥ = λ q. (let e = sent_counts n g s in let W : ℕ → Type 0 = λ i. 0 < occurs i (numbers (journal k)) in
     let f = subst W (sym q) e in let l = once m c in absurd (omega (arith, o, f, l, count_most m (offered (bare k))))) in

@@ -5,5 +5,6 @@ pub mod HeldLemmas
 pub mod Moves
 pub mod OfferLemmas
 pub mod PoolLemmas
+pub mod ReadLemmas
 pub mod StepLemmas
 pub mod TotalLemmas

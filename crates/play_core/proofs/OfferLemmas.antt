@@ -141,7 +141,7 @@ holds_offered : (arrived : List Arrival) (g : List Happened) (e : Happened) (poo
     → HoldEach arrived (e ∷ g) after (with_offer b u ticket ts) (with_offer b v n ns)
 holds_offered arrived g e pool after ts ns ticket n b v u q w l pos h free others marks kept mark =
     let P : Verdict → Type 0 = λ z. HoldEach arrived (e ∷ g) after (with_offer b z ticket ts) (with_offer b v n ns) in
-    let old = each_moves arrived g (e ∷ g) pool after ts ns (λ t m o y.
+    let old = each_moves arrived arrived g (e ∷ g) pool after ts ns (λ t m o y.
     let apart = not_free pool t ticket (numbered m (arrival arrived m)) y.packet free in
     let off : (n == m) ≡ false = ne_eqb n m (λ i. absurd (let k = l m o in omega (arith, k, i, pos))) in
     record {

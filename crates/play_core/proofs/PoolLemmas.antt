@@ -17,13 +17,13 @@ later_occurs : (m n : ℕ) (ns : List ℕ) → 0 < occurs m ns → 0 < occurs m 
 later_occurs m n ns l = omega (arith, l)
 
 -- each pair is moved
-pub each_moves : (arrived : List Arrival) (g k : List Happened) (pool after : Held) (ts ns : List ℕ)
-    → ((t n : ℕ) → 0 < occurs n ns → Holds arrived g pool t n → Holds arrived k after t n) → HoldEach arrived g pool ts ns → HoldEach arrived k after ts ns
-each_moves arrived g k pool after [] [] f h = tt
-each_moves arrived g k pool after [] (n ∷ ns) f h = h
-each_moves arrived g k pool after (t ∷ ts) [] f h = h
-each_moves arrived g k pool after (t ∷ ts) (n ∷ ns) f h =
-    (f t n (first_occurs n ns) h.0, each_moves arrived g k pool after ts ns (λ u m o x. f u m (later_occurs m n ns o) x) h.1)
+pub each_moves : (arrived later : List Arrival) (g k : List Happened) (pool after : Held) (ts ns : List ℕ)
+    → ((t n : ℕ) → 0 < occurs n ns → Holds arrived g pool t n → Holds later k after t n) → HoldEach arrived g pool ts ns → HoldEach later k after ts ns
+each_moves arrived later g k pool after [] [] f h = tt
+each_moves arrived later g k pool after [] (n ∷ ns) f h = h
+each_moves arrived later g k pool after (t ∷ ts) [] f h = h
+each_moves arrived later g k pool after (t ∷ ts) (n ∷ ns) f h =
+    (f t n (first_occurs n ns) h.0, each_moves arrived later g k pool after ts ns (λ u m o x. f u m (later_occurs m n ns o) x) h.1)
 
 each_push : (arrived : List Arrival) (g : List Happened) (pool : Held) (ts ns : List ℕ) (t n : ℕ) → HoldEach arrived g pool ts ns → Holds arrived g pool t n
     → HoldEach arrived g pool (ts ++ t ∷ []) (ns ++ n ∷ [])

@@ -1,4 +1,5 @@
 pub mod Ended
+pub mod Finished
 pub mod Going
 pub mod Steps
 pub mod Totals

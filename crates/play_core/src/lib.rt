@@ -2,12 +2,14 @@
 //! discipline by its laws; it knows no file, and takes no memory once it has begun.
 #![tactic(auto)]
 
+mod laws;
 mod progress;
 mod state;
 mod step;
 mod totals;
 mod turn;
 
+pub use laws::plays_go_on;
 pub use state::Progress;
 pub use totals::Totals;
 pub use turn::{Departure, Dropped, Turn};
