@@ -1,6 +1,9 @@
 //! The definitions that the crates above cite, in specs/, and the plain enums that they speak of.
 #![tactic(auto)]
 
+ghost use Rattle.std.specs.Prelude.{◌≡◌};
+ghost use Rattle.altq_model.specs.History.{is_kept};
+
 mod rows;
 
 pub use rows::worked_examples;
@@ -32,6 +35,18 @@ pub enum Verdict {
     /// It is kept, and marked as having met congestion (RFC 3168), where the rule would have dropped it early.
     Mark,
     Drop(Reason),
+}
+
+impl Verdict {
+    /// Whether a packet with this verdict waits until it is sent.
+    pub fn is_kept(self) -> bool
+        ensures { result ≡ is_kept self }
+    {
+        match self {
+            Verdict::Keep | Verdict::Mark => true,
+            Verdict::Drop(_) => false,
+        }
+    }
 }
 
 /// What became of a packet. Times are in nanoseconds.

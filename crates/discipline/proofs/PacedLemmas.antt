@@ -24,7 +24,7 @@ use Rattle.discipline_laws.specs.declared.pick.Pick.{Pick}
 use Rattle.discipline_laws.specs.declared.pick.Pick.TheVariants.{Send, Wait}
 use Rattle.discipline_laws.specs.declared.pick.Sending.{Sending}
 use Rattle.discipline_laws.specs.Laws.{Shows, seen, seen_of, IsLeast, Sends, IsAnswer, entry, coming, offer_of, sent_of}
-use Rattle.discipline.specs.Leaf.{after_verdict, HasPrecs, gone}
+use Rattle.class_rows.specs.Leaf.{after_verdict, HasPrecs, gone}
 use Rattle.discipline_laws.specs.Moments.{IsOffer, IsChoice, IsOrderly, WasDue}
 use Rattle.discipline.specs.Paced.{multiple_from, paced, Held, IsHeld, Stands, only, due_at, paced_due}
 use Rattle.link_clock.proofs.Rounded.{le_ceil, ceil_le}
@@ -33,7 +33,7 @@ use Rattle.std.proofs.Common.{◌/◌, ◌%◌}
 use Rattle.std.proofs.Math.Nat.{mul-le-mul_left}
 use Rattle.play_base.specs.Units.{ceil_div}
 use Rattle.discipline.specs.PacedLaws.{multiple_later, multiple_same}
-use Rattle.discipline.proofs.ShowsLemmas.{shows_offered, shows_sent, seen_precs, told_here, gone_here}
+use Rattle.class_rows.proofs.ShowsLemmas.{shows_offered, shows_sent, seen_precs, told_here, gone_here}
 
 abbrev pub choice : ℕ → Rule → Choice
 choice class r = record { class = class; rule = r }

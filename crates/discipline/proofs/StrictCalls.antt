@@ -16,7 +16,7 @@ use Rattle.leaf_queue.specs.Queue.{QueueEvent, Asked, Saying, waiting_of}
 use Rattle.discipline_laws.specs.declared.pick.Pick.TheVariants.{Send}
 use Rattle.discipline_laws.specs.declared.pick.Sending.{Sending}
 use Rattle.discipline_laws.specs.Laws.{after_offer, after_sent, coming, entry}
-use Rattle.discipline.specs.Leaf.{after_verdict, gone}
+use Rattle.class_rows.specs.Leaf.{after_verdict, gone}
 use Rattle.discipline.specs.Strict.{Row, IsRow, list_at, limit_at, first_pick, strict_of}
 use Rattle.discipline.proofs.StrictLemmas.{list_at-here, limit_here, map_kept, after_is, IsPlace, fit_length}
 use Rattle.discipline.proofs.StrictHistory.{found, has_front, lists_offered, lists_sent, with_row, policy_kept, OffersWell, offers_well, SendsWell, sends_well}

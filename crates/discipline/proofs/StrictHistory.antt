@@ -22,10 +22,10 @@ use Rattle.discipline_laws.specs.declared.pick.Pick.{Pick}
 use Rattle.discipline_laws.specs.declared.pick.Pick.TheVariants.{Send, Wait, Empty}
 use Rattle.discipline_laws.specs.declared.pick.Sending.{Sending}
 use Rattle.discipline_laws.specs.Laws.{seen, seen_of, after_offer, after_sent, IsAnswer, entry, coming, offer_of, sent_of, IsDue, NamesHead, Waits}
-use Rattle.discipline.specs.Leaf.{after_verdict, gone}
+use Rattle.class_rows.specs.Leaf.{after_verdict, gone}
 use Rattle.discipline_laws.specs.Moments.{IsOffer, IsChoice, IsOrderly, WasDue}
 use Rattle.discipline.specs.Strict.{classes_from, list_at, pick_head, first_pick, Row, strict_of, RowsStand, Stands}
-use Rattle.discipline.proofs.ShowsLemmas.{shows_offered, shows_sent, seen_precs, told_here, told_there, gone_here, gone_there, seen-offer, seen-sent}
+use Rattle.class_rows.proofs.ShowsLemmas.{shows_offered, shows_sent, seen_precs, told_here, told_there, gone_here, gone_there, seen-offer, seen-sent}
 use Rattle.discipline.proofs.StrictLemmas.{list_at-here, list_at-set, map_kept, after_is}
 
 -- the pick is the head of the first list that is not empty

@@ -13,7 +13,7 @@ use Rattle.leaf_queue.specs.declared.node.Entry.{Entry}
 use Rattle.leaf_queue.specs.Lists.{Listed, list_of, total_of}
 use Rattle.leaf_queue.specs.Queue.{QueueEvent}
 use Rattle.discipline_laws.specs.Laws.{Shows, tickets, seen, held_in, room_of}
-use Rattle.discipline.specs.Leaf.{after_verdict, HasPrecs}
+use Rattle.class_rows.specs.Leaf.{after_verdict, HasPrecs}
 use Rattle.discipline.specs.Strict.{classes_from, list_at, limit_at, limits_sum, Fit, IsRow, RowsStand}
 use Rattle.discipline.proofs.PacedLemmas.{precs_after}
 

@@ -11,7 +11,7 @@ use Rattle.leaf_queue.specs.Queue.{QueueEvent, Saying, by_queue, told_of}
 use Rattle.discipline_laws.specs.declared.pick.Pick.{Pick}
 use Rattle.discipline_laws.specs.declared.pick.Pick.TheVariants.{Send, Wait, Empty}
 use Rattle.discipline_laws.specs.Laws.{Shows}
-use Rattle.discipline.specs.Leaf.{HasPrecs}
+use Rattle.class_rows.specs.Leaf.{HasPrecs}
 use Rattle.discipline_laws.specs.Moments.{IsOrderly}
 
 -- the least multiple of a gap from a moment on

@@ -10,7 +10,7 @@ use Rattle.leaf_queue.specs.Queue.{QueueEvent, Saying, by_queues, told_of}
 use Rattle.discipline_laws.specs.declared.pick.Pick.{Pick}
 use Rattle.discipline_laws.specs.declared.pick.Pick.TheVariants.{Send, Empty}
 use Rattle.discipline_laws.specs.Laws.{Shows, seen, seen_of}
-use Rattle.discipline.specs.Leaf.{HasPrecs}
+use Rattle.class_rows.specs.Leaf.{HasPrecs}
 use Rattle.discipline_laws.specs.Moments.{IsOrderly}
 
 -- so many classes from one on

@@ -55,6 +55,7 @@ impl<Q: QueueRule + Drop> Paced<Q> {
 impl<Q: QueueRule + Drop> Discipline for Paced<Q> {
     ghost use Rattle.std.specs.Prelude.{None, if◌then◌else◌, ◌==◌};
     ghost use Rattle.altq_model.specs.History.{bare, offered};
+    ghost use Rattle.altq_model.specs.Link.{link};
     ghost use Rattle.discipline.specs.PacedLaws.{counts_none, one_distinct, paced_lawful, paced_steady};
 
     ghost lists = { λ p. only p.class (list_of p.listed.lists 0) };
@@ -71,6 +72,10 @@ impl<Q: QueueRule + Drop> Discipline for Paced<Q> {
 
     ghost given = { λ p. 0 };
 
+    ghost moment = { λ p. 0 };
+
+    ghost ended = { λ p. 0 };
+
     fn room(&self) -> u32 {
         self.queue.limit()
     }
@@ -83,9 +88,9 @@ impl<Q: QueueRule + Drop> Discipline for Paced<Q> {
         prec: u8,
         now: u64,
         words: &mut Words,
-    ) -> Result<Verdict, NoMemory> {
+    ) -> Verdict {
         let entry = Entry { ticket, len, prec };
-        Ok(offer_to(&mut self.queue, &mut self.lists, 0, entry, now, words))
+        offer_to(&mut self.queue, &mut self.lists, 0, entry, now, words)
     }
 
     fn next(&mut self, now: u64, _clock: &LinkClock) -> Pick {
@@ -111,6 +116,10 @@ impl<Q: QueueRule + Drop> Discipline for Paced<Q> {
     ghost shows = { λ p h s. s.shown };
 
     ghost counts = { λ p h s. counts_none (offered (bare h)) };
+
+    ghost moments = { λ p h s t l b. counts_none t };
+
+    ghost ends = { λ p h s r l. counts_none (link r (bare h)).free };
 
     ghost distinct = { λ p h s. one_distinct p.class };
 

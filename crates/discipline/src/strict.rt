@@ -99,6 +99,7 @@ impl<Q: QueueRule + Drop> Strict<Q> {
 impl<Q: QueueRule + Drop> Discipline for Strict<Q> {
     ghost use Rattle.std.specs.Prelude.{None};
     ghost use Rattle.altq_model.specs.History.{bare, offered};
+    ghost use Rattle.altq_model.specs.Link.{link};
     ghost use Rattle.play_laws.proofs.StrictLemmas.{steady, strict_lawful, strict_never_waits};
     ghost use Rattle.discipline.specs.PacedLaws.{counts_none};
     ghost use Rattle.discipline.specs.StrictLaws.{row_distinct};
@@ -117,6 +118,10 @@ impl<Q: QueueRule + Drop> Discipline for Strict<Q> {
 
     ghost given = { λ s. 0 };
 
+    ghost moment = { λ s. 0 };
+
+    ghost ended = { λ s. 0 };
+
     fn room(&self) -> u32 {
         self.room
     }
@@ -129,11 +134,11 @@ impl<Q: QueueRule + Drop> Discipline for Strict<Q> {
         prec: u8,
         now: u64,
         words: &mut Words,
-    ) -> Result<Verdict, NoMemory> {
+    ) -> Verdict {
         let place = class - self.first;
         let entry = Entry { ticket, len, prec };
         let queue = &mut self.queues[place as usize];
-        Ok(offer_to(queue, &mut self.lists, place, entry, now, words))
+        offer_to(queue, &mut self.lists, place, entry, now, words)
     }
 
     fn next(&mut self, _now: u64, _clock: &LinkClock) -> Pick {
@@ -149,6 +154,10 @@ impl<Q: QueueRule + Drop> Discipline for Strict<Q> {
     ghost shows = { λ s h k. k.shown };
 
     ghost counts = { λ s h k. counts_none (offered (bare h)) };
+
+    ghost moments = { λ s h k t l b. counts_none t };
+
+    ghost ends = { λ s h k r l. counts_none (link r (bare h)).free };
 
     ghost distinct = { λ s h k. row_distinct s.first (length s.queues) };
 

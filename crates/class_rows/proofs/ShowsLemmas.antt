@@ -3,13 +3,13 @@ use Rattle.std.proofs.Common.{◌≡◌, ◌∙◌, ℕ, Bool, true, false, cond
 use Rattle.std.specs.Prelude.{◌==◌}
 use Rattle.std.proofs.lemmas.Bool.{eq-eqb, ne_eqb}
 use Rattle.altq_model.specs.declared.Verdict.{Verdict}
-use Rattle.altq_model.specs.declared.Verdict.TheVariants.{Keep, Drop}
+use Rattle.altq_model.specs.declared.Verdict.TheVariants.{Keep, Mark, Drop}
 use Rattle.altq_model.specs.History.{Coming, DrawnWords, Answer, Event, Offered, Sent, Happened, Transmission, bare, waiting, with_offer, without_head}
 use Rattle.leaf_queue.specs.declared.node.Entry.{Entry}
 use Rattle.leaf_queue.specs.Lists.{precs_in}
 use Rattle.leaf_queue.specs.Queue.{QueueEvent, Asked, Gone, waiting_of, precs_of, told_of, head_gone}
 use Rattle.discipline_laws.specs.Laws.{Shows, tickets, seen, seen_of, after_offer, after_sent}
-use Rattle.discipline.specs.Leaf.{gone}
+use Rattle.class_rows.specs.Leaf.{gone}
 
 tickets-append : (xs : List Entry) (x : Entry) → tickets (xs ++ x ∷ []) ≡ tickets xs ++ x.ticket.0 ∷ []
 tickets-append [] x = refl
@@ -26,14 +26,22 @@ seen_of-append (b ∷ ws) a = ap (λ (ns : List (ℕ × ℕ)). (b.len, b.prec) �
 tickets-offer : (mine : Bool) (v : Verdict) (x : Entry) (xs : List Entry) → tickets (with_offer mine v x xs) ≡ with_offer mine v x.ticket.0 (tickets xs)
 tickets-offer true Keep x xs = tickets-append xs x
 tickets-offer false Keep x xs = refl
+tickets-offer true Mark x xs = tickets-append xs x
+tickets-offer false Mark x xs = refl
 tickets-offer mine (Drop r) x xs = refl
+
+seen-more : (x : Entry) (xs : List Entry) (a : Coming) (ws : List Coming) → x.len ≡ a.len → x.prec ≡ a.prec
+    → seen xs ≡ seen_of ws → seen (xs ++ x ∷ []) ≡ seen_of (ws ++ a ∷ [])
+seen-more x xs a ws l p e =
+    sym (seen-append xs x) ∙ ap (λ (ns : List (ℕ × ℕ)). ns ++ (x.len, x.prec) ∷ []) e
+    ∙ ap (λ (n : ℕ). seen_of ws ++ (n, x.prec) ∷ []) l ∙ ap (λ (n : ℕ). seen_of ws ++ (a.len, n) ∷ []) p ∙ seen_of-append ws a
 
 pub seen-offer : (mine : Bool) (v : Verdict) (x : Entry) (xs : List Entry) (a : Coming) (ws : List Coming) → x.len ≡ a.len → x.prec ≡ a.prec
     → seen xs ≡ seen_of ws → seen (with_offer mine v x xs) ≡ seen_of (with_offer mine v a ws)
-seen-offer true Keep x xs a ws l p e =
-    sym (seen-append xs x) ∙ ap (λ (ns : List (ℕ × ℕ)). ns ++ (x.len, x.prec) ∷ []) e
-    ∙ ap (λ (n : ℕ). seen_of ws ++ (n, x.prec) ∷ []) l ∙ ap (λ (n : ℕ). seen_of ws ++ (a.len, n) ∷ []) p ∙ seen_of-append ws a
+seen-offer true Keep x xs a ws l p e = seen-more x xs a ws l p e
 seen-offer false Keep x xs a ws l p e = e
+seen-offer true Mark x xs a ws l p e = seen-more x xs a ws l p e
+seen-offer false Mark x xs a ws l p e = e
 seen-offer mine (Drop r) x xs a ws l p e = e
 
 tickets-drop : (xs : List Entry) → tickets (drop 1 xs) ≡ drop 1 (tickets xs)

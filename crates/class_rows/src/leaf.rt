@@ -4,7 +4,7 @@ ghost use Rattle.altq_model.specs.declared.Reason.{Reason};
 ghost use Rattle.leaf_queue.specs.Lists.{list_of, total_of, precs_in};
 ghost use Rattle.leaf_queue.specs.Queue.{QueueEvent, Asked, waiting_of};
 ghost use Rattle.leaf_queue.specs.Words.{Drew};
-ghost use Rattle.discipline.specs.Leaf.{after_verdict, gone, HasPrecs};
+ghost use Rattle.class_rows.specs.Leaf.{after_verdict, gone, HasPrecs};
 
 use leaf_queue::{Entry, Lists, QueueRule, Verdict, Words};
 
@@ -36,9 +36,8 @@ pub fn offer_to<Q: QueueRule>(
 {
     let waiting = lists.waiting(place);
     let verdict = queue.offer(now, waiting, entry.prec, words);
-    match verdict {
-        Verdict::Keep => lists.push(place, entry),
-        Verdict::Drop(_) => {}
+    if verdict.is_kept() {
+        lists.push(place, entry);
     }
     verdict
 }
