@@ -1,11 +1,8 @@
 pub mod Arrivals
-pub mod Capture
 pub mod History
 pub mod Laws
 pub mod Link
-pub mod Numbers
 pub mod Play
 pub mod Policies
 pub mod Rows
 pub mod Texts
-pub mod Units

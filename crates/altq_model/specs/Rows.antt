@@ -1,19 +1,16 @@
 -- Worked examples.
 use Rattle.std.specs.Prelude.{ℕ, List, [], ◌∷◌, ◌++◌, replicate, codes}
-use Rattle.altq_model.specs.declared.Mark.{Mark}
-use Rattle.altq_model.specs.Capture.{Record}
+use Rattle.altq_model.specs.declared.Placed.{Placed}
+use Rattle.capture_model.specs.Capture.{Record}
 use Rattle.altq_model.specs.Arrivals.{arrivals_of, comings}
 use Rattle.altq_model.specs.History.{Decision, journal}
 use Rattle.altq_model.specs.Play.{play}
 use Rattle.altq_model.specs.Policies.{one_queue}
-use Rattle.altq_model.specs.Texts.{fate_rows, departures, capture_head}
-
--- a record of 60 zero bytes
-abbrev pub plain : (stamp original : ℕ) → Record
-plain stamp original = record { stamp = stamp; captured = replicate 60 0; original = original }
+use Rattle.altq_model.specs.Texts.{fate_rows, departures}
+use Rattle.capture_model.specs.Rows.{plain}
 
 -- every frame is of the one class
-abbrev pub one_mark : List ℕ → Mark
+abbrev pub one_mark : List ℕ → Placed
 one_mark frame = record { class = 1; prec = 0 }
 
 abbrev pub default_name : ℕ → List ℕ
@@ -45,10 +42,3 @@ many_packets = replicate 51 (plain 0 100)
 -- a row of the fates
 abbrev pub line : List ℕ → List ℕ
 line text = text ++ 10 ∷ []
-
--- a record at 0 of length 100, of which 60 bytes are captured
-abbrev pub record_at_zero : List ℕ
-record_at_zero = replicate 8 0 ++ (60 ∷ 0 ∷ 0 ∷ 0 ∷ 100 ∷ 0 ∷ 0 ∷ 0 ∷ []) ++ replicate 60 0
-
-abbrev pub two_records : List ℕ
-two_records = capture_head ++ record_at_zero ++ record_at_zero

@@ -3,7 +3,7 @@
 use Rattle.std.specs.Prelude.{ℕ, ◌/◌, ◌%◌, ◌^◌, List, [], ◌∷◌, ◌++◌, length, codes}
 use Rattle.std.specs.Fmt.{decimal}
 use Rattle.csv.specs.Writing.{row_text, default_writer}
-use Rattle.byteorder.specs.Endian.{little_bytes}
+use Rattle.capture_model.specs.Header.{capture_header, record_header}
 use Rattle.altq_model.specs.declared.Fate.{Fate}
 use Rattle.altq_model.specs.declared.Fate.TheVariants.{Dropped, Sent}
 use Rattle.altq_model.specs.declared.Reason.{Reason}
@@ -46,27 +46,17 @@ abbrev pub fate_rows : Naming → List Arrival → List Decision → List ℕ
 fate_rows names arrived [] = []
 fate_rows names arrived (d ∷ js) = fate_row names arrived d ++ fate_rows names arrived js
 
-abbrev pub fates_head : List ℕ
-fates_head = codes "number,arrival,length,class,fate,start,end" ++ 10 ∷ []
+abbrev pub fates_header : List ℕ
+fates_header = codes "number,arrival,length,class,fate,start,end" ++ 10 ∷ []
 
 -- the fates of a journal
 abbrev pub fates : Naming → List Arrival → List Decision → List ℕ
-fates names arrived js = fates_head ++ fate_rows names arrived js
-
--- the head of a record: a packet of this length that ends then, of which so many bytes were captured
-abbrev pub record_head : (end captured len : ℕ) → List ℕ
-record_head end captured len =
-    little_bytes 4 (end / 10 ^ 9) ++ little_bytes 4 (end % 10 ^ 9) ++ little_bytes 4 captured ++ little_bytes 4 len
-
--- the head of a little-endian nanosecond capture of Ethernet frames with a snap length of 262,144
-abbrev pub capture_head : List ℕ
-capture_head =
-    77 ∷ 60 ∷ 178 ∷ 161 ∷ 2 ∷ 0 ∷ 4 ∷ 0 ∷ 0 ∷ 0 ∷ 0 ∷ 0 ∷ 0 ∷ 0 ∷ 0 ∷ 0 ∷ 0 ∷ 0 ∷ 4 ∷ 0 ∷ 1 ∷ 0 ∷ 0 ∷ 0 ∷ []
+fates names arrived js = fates_header ++ fate_rows names arrived js
 
 -- a sending is stamped with its end and has the captured bytes of its packet unchanged; a drop leaves no record
 abbrev pub departure_record : Arrival → Fate → List ℕ
 departure_record a (Dropped reason) = []
-departure_record a (Sent start end rule) = record_head end (length a.bytes) a.len ++ a.bytes
+departure_record a (Sent start end rule) = record_header end (length a.bytes) a.len ++ a.bytes
 
 abbrev pub departure_records : List Arrival → List Decision → List ℕ
 departure_records arrived [] = []
@@ -74,4 +64,4 @@ departure_records arrived (d ∷ js) = departure_record (arrival arrived d.0) d.
 
 -- the departures of a journal
 abbrev pub departures : List Arrival → List Decision → List ℕ
-departures arrived js = capture_head ++ departure_records arrived js
+departures arrived js = capture_header ++ departure_records arrived js

@@ -1,10 +1,8 @@
 //! The definitions that the crates above cite, in specs/, and the plain enums that they speak of.
 #![tactic(auto)]
 
-mod capture;
 mod rows;
 
-pub use capture::{Damage, DamageKind};
 pub use rows::worked_examples;
 
 /// By which rule a packet was sent.
@@ -31,6 +29,8 @@ pub enum Reason {
 #[derive(Clone, Copy, Debug, PartialEq, Eq)]
 pub enum Verdict {
     Keep,
+    /// It is kept, and marked as having met congestion (RFC 3168), where the rule would have dropped it early.
+    Mark,
     Drop(Reason),
 }
 
@@ -43,7 +43,7 @@ pub enum Fate {
 
 /// The class that a frame belongs to, and its precedence in a queue with several: 0, 1 or 2.
 #[derive(Clone, Copy, Debug, PartialEq, Eq)]
-pub struct Mark {
+pub struct Placed {
     pub class: u32,
     pub prec: u8,
 }

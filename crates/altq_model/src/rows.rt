@@ -1,14 +1,13 @@
 // Examples that are computed from the definitions.
 ghost use Rattle.std.specs.Prelude.{◌≡◌, ◌∷◌, ◌++◌, [], take, drop, codes, List, ℕ};
-ghost use Rattle.altq_model.specs.Capture.{Fault, End, damage, outcome};
-ghost use Rattle.altq_model.specs.Texts.{capture_head};
-ghost use Rattle.altq_model.specs.Rows.{plain, journal_of, rows_of, departures_of, line, one_packet, three_packets, many_packets, two_records};
+ghost use Rattle.capture_model.specs.Header.{capture_header};
+ghost use Rattle.altq_model.specs.Rows.{journal_of, rows_of, departures_of, line, one_packet, three_packets, many_packets};
 
-use crate::{DamageKind, Fate, Reason, Rule};
+use crate::{Fate, Reason, Rule};
 
 /// Worked examples of one queue of 50 packets: what the definitions make of them.
 pub fn worked_examples()
-    ensures empty_capture { departures_of 8000000 [] ≡ capture_head }
+    ensures empty_capture { departures_of 8000000 [] ≡ capture_header }
     ensures empty_fates { rows_of 8000000 [] ≡ [] }
     ensures one_packet_at_five_seconds { rows_of 8000000 one_packet
         ≡ line (codes "1,5000000000,1000,default,share,5000000000,5001000000") }
@@ -19,8 +18,4 @@ pub fn worked_examples()
         ∷ (3, Fate.Sent 533334 800000 Rule.Share) ∷ [] }
     ensures fifty_first_packet_is_dropped { take 2 (journal_of 8000000 many_packets)
         ≡ (51, Fate.Dropped Reason.Full) ∷ (1, Fate.Sent 0 100000 Rule.Share) ∷ [] }
-    ensures whole_capture { outcome two_records ≡ record { records = plain 0 100 ∷ plain 0 100 ∷ []; last = End } }
-    ensures last_record_cut_by_one_byte { outcome (take 175 two_records)
-        ≡ record { records = plain 0 100 ∷ []; last = Fault (damage 100 DamageKind.ShortRecord) } }
-    ensures empty_file_is_no_capture { outcome [] ≡ record { records = []; last = Fault (damage 0 DamageKind.ShortHead) } }
 {}

@@ -4,7 +4,7 @@ use Rattle.std.proofs.Common.{FitsSigned, to_z, of_z, w64}
 use Rattle.std.specs.Prelude.{ℤ, pos, ◌-ℤ◌, int_lt, int_le, ◌||◌, nat_eq, List}
 use Rattle.std.proofs.lemmas.Int.{ints, to_z-of_z}
 use Rattle.std.proofs.lemmas.Bool.Decides.{nat_tests}
-use Rattle.altq_model.specs.Units.{time_of}
+use Rattle.play_base.specs.Units.{time_of}
 use Rattle.altq_model.specs.Link.{Link, end_of}
 use Rattle.cbq_estimator.specs.Average.{Pace, Ended, average, last_end}
 use Rattle.cbq_estimator.specs.Starts.{enough, wanted, allows, IsLeastStart}

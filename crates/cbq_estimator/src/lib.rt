@@ -8,7 +8,7 @@
 
 ghost use Rattle.std.specs.Prelude.{◌≡◌, ◌<◌, ◌≤◌, ◌+◌, ◌*◌, ◌^◌, ◌-◌, ℤ, pos, negsuc, ◌≤ℤ◌, ◌+ℤ◌, ◌-ℤ◌, ◌∷◌, [], List, unwrap_or, unsigned_abs};
 ghost use Rattle.std.specs.Int.{int_min};
-ghost use Rattle.altq_model.specs.Units.{time_of};
+ghost use Rattle.play_base.specs.Units.{time_of};
 ghost use Rattle.altq_model.specs.Link.{end_of};
 ghost use Rattle.cbq_estimator.specs.Average.{Ended, cap_of, decayed, average};
 ghost use Rattle.cbq_estimator.specs.Starts.{enough, wanted, IsLeastStart};

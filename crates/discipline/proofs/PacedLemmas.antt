@@ -9,7 +9,7 @@ use Rattle.altq_model.specs.declared.Rule.TheVariants.{Own}
 use Rattle.altq_model.specs.declared.Reason.TheVariants.{Full}
 use Rattle.altq_model.specs.declared.Verdict.{Verdict}
 use Rattle.altq_model.specs.declared.Verdict.TheVariants.{Keep, Drop}
-use Rattle.altq_model.specs.History.{Coming, Words, Answer, Event, Offered, Sent, Entry as Happened, bare, waiting, with_offer, without_head, Sending as Departed}
+use Rattle.altq_model.specs.History.{Coming, DrawnWords, Answer, Event, Offered, Sent, Happened, bare, waiting, with_offer, without_head, Transmission}
 use Rattle.altq_model.specs.Play.{Policy, Choice, lesser}
 use Rattle.altq_model.specs.Policies.{Answering}
 use Rattle.play_laws.specs.Lawful.{first_at}
@@ -31,7 +31,7 @@ use Rattle.link_clock.proofs.Rounded.{le_ceil, ceil_le}
 use Rattle.std.specs.Int.{div_ceil}
 use Rattle.std.proofs.Common.{◌/◌, ◌%◌}
 use Rattle.std.proofs.Math.Nat.{mul-le-mul_left}
-use Rattle.altq_model.specs.Units.{ceil_div}
+use Rattle.play_base.specs.Units.{ceil_div}
 use Rattle.discipline.specs.PacedLaws.{multiple_later, multiple_same}
 use Rattle.discipline.proofs.ShowsLemmas.{shows_offered, shows_sent, seen_precs, told_here, gone_here}
 
@@ -259,11 +259,11 @@ module _ {Q : Type 0} (stands : Q → List QueueEvent → Type 0) (says : Q → 
   with_queue d q l = record { class = d.class; gap = d.gap; queue = q; listed = l }
 
   -- what an offer does to the histories that it stands for
-  abbrev pub OffersWell : (old new : Held Q) → Ticket → (w z : Words) → Coming → Verdict → Type 0
+  abbrev pub OffersWell : (old new : Held Q) → Ticket → (w z : DrawnWords) → Coming → Verdict → Type 0
   OffersWell d e ticket w z a v = (h : List Happened) → Stands stands says d h → IsOffer a.at (bare h) → w.drawn < 2 ^ 64 - 1
       → IsAnswer (policy_of d) (bare h) w a v z × Stands stands says e (offer_of (policy_of d) h ticket w a ∷ h)
 
-  offers_here : (d : Held Q) (q : Q) (l : Listed) (ticket : Ticket) (len prec now : ℕ) (w z : Words) (v : Verdict)
+  offers_here : (d : Held Q) (q : Q) (l : Listed) (ticket : Ticket) (len prec now : ℕ) (w z : DrawnWords) (v : Verdict)
       → length d.listed.lists ≡ 1 → l.lists ≡ after_verdict v 0 (entry ticket len prec) d.listed.lists → says q ≡ says d.queue
       → ((t : List QueueEvent) → stands d.queue t → w.drawn < 2 ^ 64 - 1
       → (v ≡ (says d.queue t now (waiting_of (precs_in (list_of d.listed.lists 0))) prec w).verdict)
@@ -296,7 +296,7 @@ module _ {Q : Type 0} (stands : Q → List QueueEvent → Type 0) (says : Q → 
         },
       )
 
-  pub offers_well : (d : Held Q) (q : Q) (l : Listed) (ticket : Ticket) (class len prec now : ℕ) (w z : Words) (v : Verdict) → d.class ≡ class
+  pub offers_well : (d : Held Q) (q : Q) (l : Listed) (ticket : Ticket) (class len prec now : ℕ) (w z : DrawnWords) (v : Verdict) → d.class ≡ class
       → length d.listed.lists ≡ 1 → l.lists ≡ after_verdict v 0 (entry ticket len prec) d.listed.lists → says q ≡ says d.queue
       → ((t : List QueueEvent) → stands d.queue t → w.drawn < 2 ^ 64 - 1
       → (v ≡ (says d.queue t now (waiting_of (precs_in (list_of d.listed.lists 0))) prec w).verdict)
@@ -320,7 +320,7 @@ module _ {Q : Type 0} (stands : Q → List QueueEvent → Type 0) (says : Q → 
       let b : List Event = bare h in
       let xs : List Entry = list_of d.listed.lists 0 in
       let x = sends_head d.class d.gap xs s.start s.class s.len s.ticket s.rule due in
-      let u : Departed = record { class = s.class; len = s.len; rule = s.rule; start = s.start; end = s.end } in
+      let u : Transmission = record { class = s.class; len = s.len; rule = s.rule; start = s.start; end = s.end } in
       let list : list_of l.lists 0 ≡ drop 1 xs =
       ap (λ (ls : List (List Entry)). list_of ls 0) e ∙ get_or-set_same d.listed.lists 0 (drop 1 xs) [] (omega (arith, one)) in
       let S : List QueueEvent → Type 0 = λ t. stands q t in

@@ -4,7 +4,7 @@ use Rattle.std.specs.Prelude.{◌==◌}
 use Rattle.std.proofs.lemmas.Bool.{eq-eqb, ne_eqb}
 use Rattle.altq_model.specs.declared.Verdict.{Verdict}
 use Rattle.altq_model.specs.declared.Verdict.TheVariants.{Keep, Drop}
-use Rattle.altq_model.specs.History.{Coming, Words, Answer, Event, Offered, Sent, Entry as Happened, Sending as Departed, bare, waiting, with_offer, without_head}
+use Rattle.altq_model.specs.History.{Coming, DrawnWords, Answer, Event, Offered, Sent, Happened, Transmission, bare, waiting, with_offer, without_head}
 use Rattle.leaf_queue.specs.declared.node.Entry.{Entry}
 use Rattle.leaf_queue.specs.Lists.{precs_in}
 use Rattle.leaf_queue.specs.Queue.{QueueEvent, Asked, Gone, waiting_of, precs_of, told_of, head_gone}
@@ -57,7 +57,7 @@ seen-sent true xs ws e = seen-drop xs ∙ ap (drop 1) e ∙ sym (seen_of-drop ws
 seen-sent false xs ws e = e
 
 -- every list after an offer
-pub shows_offered : (lists new : ℕ → List Entry) (h : List Happened) (x : Entry) (a : Coming) (w : Words) (s : Answer) (v : Verdict)
+pub shows_offered : (lists new : ℕ → List Entry) (h : List Happened) (x : Entry) (a : Coming) (w : DrawnWords) (s : Answer) (v : Verdict)
     → ((c : ℕ) → Shows c (lists c) h) → v ≡ s.verdict → x.len ≡ a.len → x.prec ≡ a.prec
     → ((c : ℕ) → new c ≡ after_offer v a.class x lists c)
     → (c : ℕ) → Shows c (new c) ((record { label = x.ticket.0; what = Offered a w s }) ∷ h)
@@ -70,7 +70,7 @@ shows_offered lists new h x a w s v k e l p n c =
     }
 
 -- every list after a sending
-pub shows_sent : (lists new : ℕ → List Entry) (h : List Happened) (n : ℕ) (s : Departed)
+pub shows_sent : (lists new : ℕ → List Entry) (h : List Happened) (n : ℕ) (s : Transmission)
     → ((c : ℕ) → Shows c (lists c) h) → ((c : ℕ) → new c ≡ after_sent s.class lists c)
     → (c : ℕ) → Shows c (new c) ((record { label = n; what = Sent s }) ∷ h)
 shows_sent lists new h n s k e c =
@@ -100,14 +100,14 @@ seen_precs (x ∷ xs) (a ∷ ws) e =
     ap (λ (n : ℕ). n ∷ precs_in xs) p ∙ ap (λ (ns : List ℕ). a.prec ∷ ns) (seen_precs xs ws t)
 
 -- what the queue of a class is told of an offer and of a sending
-pub told_here : (c : ℕ) (b : List Event) (a : Coming) (w : Words) (s : Answer) → a.class ≡ c
+pub told_here : (c : ℕ) (b : List Event) (a : Coming) (w : DrawnWords) (s : Answer) → a.class ≡ c
     → told_of c (Offered a w s ∷ b) ≡ Asked a.at (waiting_of (precs_of (waiting c b))) a.prec w s ∷ told_of c b
 told_here c b a w s e = ap (λ (t : Bool). cond t (Asked a.at (waiting_of (precs_of (waiting c b))) a.prec w s ∷ told_of c b) (told_of c b)) (eq-eqb a.class c e)
 
-pub told_there : (c : ℕ) (b : List Event) (a : Coming) (w : Words) (s : Answer) → (a.class ≡ c → ⊥) → told_of c (Offered a w s ∷ b) ≡ told_of c b
+pub told_there : (c : ℕ) (b : List Event) (a : Coming) (w : DrawnWords) (s : Answer) → (a.class ≡ c → ⊥) → told_of c (Offered a w s ∷ b) ≡ told_of c b
 told_there c b a w s n = ap (λ (t : Bool). cond t (Asked a.at (waiting_of (precs_of (waiting c b))) a.prec w s ∷ told_of c b) (told_of c b)) (ne_eqb a.class c n)
 
-pub gone_there : (c : ℕ) (b : List Event) (s : Departed) → (s.class ≡ c → ⊥) → told_of c (Sent s ∷ b) ≡ told_of c b
+pub gone_there : (c : ℕ) (b : List Event) (s : Transmission) → (s.class ≡ c → ⊥) → told_of c (Sent s ∷ b) ≡ told_of c b
 gone_there c b s n = ap (λ (t : Bool). cond t (head_gone s.start (waiting c b) (told_of c b)) (told_of c b)) (ne_eqb s.class c n)
 
 gone_same : (now : ℕ) (xs : List Entry) (ws : List Coming) (q : List QueueEvent) → seen xs ≡ seen_of ws → gone now xs q ≡ head_gone now ws q
@@ -120,7 +120,7 @@ gone_same now (x ∷ xs) (a ∷ ws) q e =
     let p : x.prec ≡ a.prec = ap (λ (n : ℕ × ℕ). n.1) both in
     ap (λ (n : ℕ). Gone now n (waiting_of (precs_in xs)) ∷ q) p ∙ ap (λ (ns : List ℕ). Gone now a.prec (waiting_of ns) ∷ q) (seen_precs xs ws t)
 
-pub gone_here : (c : ℕ) (b : List Event) (s : Departed) (xs : List Entry) → s.class ≡ c → seen xs ≡ seen_of (waiting c b)
+pub gone_here : (c : ℕ) (b : List Event) (s : Transmission) (xs : List Entry) → s.class ≡ c → seen xs ≡ seen_of (waiting c b)
     → told_of c (Sent s ∷ b) ≡ gone s.start xs (told_of c b)
 gone_here c b s xs e k =
     ap (λ (t : Bool). cond t (head_gone s.start (waiting c b) (told_of c b)) (told_of c b)) (eq-eqb s.class c e)

@@ -6,7 +6,7 @@ use Rattle.altq_model.specs.declared.Reason.TheVariants.{Full}
 use Rattle.altq_model.specs.declared.Rule.{Rule}
 use Rattle.altq_model.specs.declared.Verdict.{Verdict}
 use Rattle.altq_model.specs.declared.Verdict.TheVariants.{Drop}
-use Rattle.altq_model.specs.History.{Words}
+use Rattle.altq_model.specs.History.{DrawnWords}
 use Rattle.link_clock.specs.Clock.{Clock}
 use Rattle.play_base.specs.declared.packet.Ticket.{Ticket}
 use Rattle.leaf_queue.specs.declared.node.Entry.{Entry}
@@ -48,7 +48,7 @@ head_place most room d t class len r i e =
 
 module _ {Q : Type 0} (stands : Q → List QueueEvent → Type 0) (says : Q → Saying) (most : Q → ℕ) where
   -- all that an offer does
-  pub record Offers (d e : Row Q) (ticket : Ticket) (class len prec now : ℕ) (w z : Words) (v : Verdict) : Type 0 where
+  pub record Offers (d e : Row Q) (ticket : Ticket) (class len prec now : ℕ) (w z : DrawnWords) (v : Verdict) : Type 0 where
     pub lists : (c : ℕ) → list_at e.first e.listed.lists c ≡ after_offer v class (entry ticket len prec) (list_at d.first d.listed.lists) c
     pub full : v ≡ Drop Full → length (list_at d.first d.listed.lists class) ≡ limit_at d.first (map most d.queues) class
     pub at_limit : length (list_at d.first d.listed.lists class) ≡ limit_at d.first (map most d.queues) class → v ≡ Drop Full
@@ -56,7 +56,7 @@ module _ {Q : Type 0} (stands : Q → List QueueEvent → Type 0) (says : Q → 
     pub policy : strict_of says e ≡ strict_of says d
     pub limits : limit_at e.first (map most e.queues) ≡ limit_at d.first (map most d.queues)
 
-  pub offers : (d : Row Q) (p q : Q) (l : Listed) (ticket : Ticket) (class len prec now : ℕ) (w z : Words) (v : Verdict)
+  pub offers : (d : Row Q) (p q : Q) (l : Listed) (ticket : Ticket) (class len prec now : ℕ) (w z : DrawnWords) (v : Verdict)
       → IsPlace d.first class d.queues d.listed.lists → slice_get d.queues (class - d.first) ≡ Some p
       → l.lists ≡ after_verdict v (class - d.first) (entry ticket len prec) d.listed.lists → says q ≡ says p → most q ≡ most p
       → ((v ≡ Drop Full) ↔ (length (list_of d.listed.lists (class - d.first)) ≡ most p))

@@ -8,7 +8,7 @@ use Rattle.std.proofs.lemmas.Option.{slice_get-map}
 use Rattle.altq_model.specs.declared.Rule.{Rule}
 use Rattle.altq_model.specs.declared.Verdict.{Verdict}
 use Rattle.altq_model.specs.declared.Verdict.TheVariants.{Keep, Drop}
-use Rattle.altq_model.specs.History.{Coming, Words, Answer, Event, Offered, Sent, Entry as Happened, Sending as Departed, bare, waiting, with_offer, without_head}
+use Rattle.altq_model.specs.History.{Coming, DrawnWords, Answer, Event, Offered, Sent, Happened, Transmission, bare, waiting, with_offer, without_head}
 use Rattle.altq_model.specs.Play.{Policy, Choice, lesser}
 use Rattle.altq_model.specs.Policies.{Answering, strict, first_waiting}
 use Rattle.play_laws.specs.Lawful.{first_at}
@@ -268,13 +268,13 @@ offer_stays : (v : Verdict) (x : Coming) (xs : List Coming) (m : Bool) → m ≡
 offer_stays Keep x xs m e = ap (λ (b : Bool). cond b (xs ++ x ∷ []) xs) e
 offer_stays (Drop r) x xs m e = refl
 
-pub others_offered : (a : Coming) (w : Words) (s : Answer) (b : List Event) → Others a.class (Offered a w s) b
+pub others_offered : (a : Coming) (w : DrawnWords) (s : Answer) (b : List Event) → Others a.class (Offered a w s) b
 others_offered a w s b = record {
   waits = λ c n. offer_stays s.verdict a (waiting c b) (eqb a.class c) (ne_eqb a.class c n);
   told = λ c n. told_there c b a w s n;
 }
 
-pub others_sent : (s : Departed) (b : List Event) → Others s.class (Sent s) b
+pub others_sent : (s : Transmission) (b : List Event) → Others s.class (Sent s) b
 others_sent s b = record {
   waits = λ c n. ap (λ (m : Bool). without_head m (waiting c b)) (ne_eqb s.class c n);
   told = λ c n. gone_there c b s n;
@@ -307,13 +307,13 @@ lists_sent c lists k class d l e =
     ∙ drop_or (list_at c lists d) (list_of lists k) (eqb class d)
     (λ t. list_at-here c lists k d l (e ∙ eqb-true class d t))
 
-mine_offered : (v : Verdict) (x : Entry) (xs : List Entry) (a : Coming) (c : ℕ) (b : List Event) (w : Words) (s : Answer) → v ≡ s.verdict → a.class ≡ c
+mine_offered : (v : Verdict) (x : Entry) (xs : List Entry) (a : Coming) (c : ℕ) (b : List Event) (w : DrawnWords) (s : Answer) → v ≡ s.verdict → a.class ≡ c
     → x.len ≡ a.len → x.prec ≡ a.prec → seen xs ≡ seen_of (waiting c b) → seen (with_offer true v x xs) ≡ seen_of (waiting c (Offered a w s ∷ b))
 mine_offered v x xs a c b w s e m l p h =
     ap (λ (u : Verdict). seen (with_offer true u x xs)) e ∙ seen-offer true s.verdict x xs a (waiting c b) l p h
     ∙ ap (λ (t : Bool). seen_of (with_offer t s.verdict a (waiting c b))) (sym (eq-eqb a.class c m))
 
-mine_sent : (xs : List Entry) (s : Departed) (c : ℕ) (b : List Event) → s.class ≡ c → seen xs ≡ seen_of (waiting c b)
+mine_sent : (xs : List Entry) (s : Transmission) (c : ℕ) (b : List Event) → s.class ≡ c → seen xs ≡ seen_of (waiting c b)
     → seen (drop 1 xs) ≡ seen_of (waiting c (Sent s ∷ b))
 mine_sent xs s c b m h =
     seen-sent true xs (waiting c b) h ∙ ap (λ (t : Bool). seen_of (without_head t (waiting c b))) (sym (eq-eqb s.class c m))
@@ -327,11 +327,11 @@ module _ {Q : Type 0} (stands : Q → List QueueEvent → Type 0) (says : Q → 
       ap (λ (n : ℕ). strict (classes_from d.first n) d.rule (by_queues d.first (map says (set d.queues k q)))) (length-set d.queues k q)
       ∙ ap (λ (ss : List Saying). strict (classes_from d.first (length d.queues)) d.rule (by_queues d.first ss)) (map_kept says d.queues k p q e s)
 
-  abbrev pub OffersWell : (old new : Row Q) → Ticket → (w z : Words) → Coming → Verdict → Type 0
+  abbrev pub OffersWell : (old new : Row Q) → Ticket → (w z : DrawnWords) → Coming → Verdict → Type 0
   OffersWell d e ticket w z a v = (h : List Happened) → Stands stands says d h → IsOffer a.at (bare h) → w.drawn < 2 ^ 64 - 1
       → IsAnswer (strict_of says d) (bare h) w a v z × Stands stands says e (offer_of (strict_of says d) h ticket w a ∷ h)
 
-  pub offers_well : (d : Row Q) (k : ℕ) (p q : Q) (l : Listed) (ticket : Ticket) (class len prec now : ℕ) (w z : Words) (v : Verdict)
+  pub offers_well : (d : Row Q) (k : ℕ) (p q : Q) (l : Listed) (ticket : Ticket) (class len prec now : ℕ) (w z : DrawnWords) (v : Verdict)
       → slice_get d.queues k ≡ Some p → d.first + k ≡ class → k < length d.listed.lists
       → l.lists ≡ after_verdict v k (entry ticket len prec) d.listed.lists → says q ≡ says p
       → ((t : List QueueEvent) → stands p t → w.drawn < 2 ^ 64 - 1
@@ -384,7 +384,7 @@ module _ {Q : Type 0} (stands : Q → List QueueEvent → Type 0) (says : Q → 
   sends_well d k p q l clock s there place within due lists same goes h y o =
       let b : List Event = bare h in
       let xs : List Entry = list_of d.listed.lists k in
-      let u : Departed = record { class = s.class; len = s.len; rule = s.rule; start = s.start; end = s.end } in
+      let u : Transmission = record { class = s.class; len = s.len; rule = s.rule; start = s.start; end = s.end } in
       let row = rows_at stands d.first d.queues d.listed.lists b k s.class p y.rows there place in
       let cs : List ℕ = classes_from d.first (length d.queues) in
       let D : Pick → Type 0 = λ z. DueIs d.rule s.start (first_at (strict_of says d) s.start b cs) (first_waiting cs b) z in

@@ -3,7 +3,7 @@ use Rattle.std.specs.Prelude.{◌≡◌, ◌≤◌, ◌<◌, ◌==◌, ◌+◌, 
 use Rattle.std.specs.declared.option.Option.{Option}
 use Rattle.play_base.specs.declared.packet.Ticket.{Ticket}
 use Rattle.altq_model.specs.declared.Verdict.{Verdict}
-use Rattle.altq_model.specs.History.{Coming, Words, Event, Offered, Sent, Entry as Happened, bare, labels, waiting, with_offer, without_head}
+use Rattle.altq_model.specs.History.{Coming, DrawnWords, Event, Offered, Sent, Happened, bare, labels, waiting, with_offer, without_head}
 use Rattle.altq_model.specs.Laws.{occurs}
 use Rattle.altq_model.specs.Play.{Policy}
 use Rattle.play_laws.specs.Lawful.{first_at}
@@ -42,12 +42,12 @@ abbrev pub AreDistinct : List ℕ → Type 0
 AreDistinct cs = (c : ℕ) → occurs c cs ≤ 1
 
 -- a packet is answered by the policy, and so many words are drawn for it
-pub record IsAnswer (p : Policy) (h : List Event) (old : Words) (a : Coming) (v : Verdict) (new : Words) : Type 0 where
+pub record IsAnswer (p : Policy) (h : List Event) (old : DrawnWords) (a : Coming) (v : Verdict) (new : DrawnWords) : Type 0 where
   pub verdict : v ≡ (p.answer h old a).verdict
   pub words : Drew old new (p.answer h old a).took
 
 -- the offer of a packet under a ticket, as a history has it
-abbrev pub offer_of : Policy → List Happened → Ticket → Words → Coming → Happened
+abbrev pub offer_of : Policy → List Happened → Ticket → DrawnWords → Coming → Happened
 offer_of p h ticket w a = record { label = ticket.0; what = Offered a w (p.answer (bare h) w a) }
 
 -- a sending, as a history has it

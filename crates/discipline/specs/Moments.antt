@@ -1,6 +1,6 @@
 -- When a discipline may be asked and told, and which of its histories are in order.
 use Rattle.std.specs.Prelude.{◌≡◌, ◌≤◌, ◌<◌, ℕ, List, [], ◌∷◌, Some}
-use Rattle.altq_model.specs.History.{Event, Offered, Sent, Sending}
+use Rattle.altq_model.specs.History.{Event, Offered, Sent, Transmission}
 use Rattle.altq_model.specs.Link.{link}
 use Rattle.altq_model.specs.Play.{Policy}
 use Rattle.play_laws.specs.Lawful.{latest, first_at}
@@ -31,7 +31,7 @@ pub record IsChoice (now : ℕ) (clock : Clock) (h : List Event) : Type 0 where
 
 -- a sending was the one due: its start was the least moment at which a class might send, its class and rule were the pick's, and no
 -- event before it was later
-pub record WasDue (p : Policy) (h : List Event) (s : Sending) : Type 0 where
+pub record WasDue (p : Policy) (h : List Event) (s : Transmission) : Type 0 where
   pub arrived : latest h ≤ s.start
   pub started : StartsBy s.start h
   pub first : first_at p s.start h p.classes ≡ Some s.start

@@ -1,10 +1,10 @@
 -- One class whose packets start at the multiples of a gap: its policy, and what it holds.
 use Rattle.std.specs.Prelude.{◌≡◌, ◌≤◌, ◌==◌, ◌*◌, ℕ, Bool, List, [], ◌∷◌, length, if◌then◌else◌}
 use Rattle.altq_model.specs.declared.Rule.TheVariants.{Own}
-use Rattle.altq_model.specs.History.{Entry as Happened, bare}
+use Rattle.altq_model.specs.History.{Happened, bare}
 use Rattle.altq_model.specs.Policies.{Answering}
 use Rattle.altq_model.specs.Play.{Policy}
-use Rattle.altq_model.specs.Units.{ceil_div}
+use Rattle.play_base.specs.Units.{ceil_div}
 use Rattle.leaf_queue.specs.declared.node.Entry.{Entry}
 use Rattle.leaf_queue.specs.Lists.{Listed, list_of}
 use Rattle.leaf_queue.specs.Queue.{QueueEvent, Saying, by_queue, told_of}

@@ -3,7 +3,7 @@ use Rattle.std.proofs.Common.{◌≡◌, ◌≤◌, ◌*◌, ◌∙◌, inl, inr
 use Rattle.std.specs.declared.option.Option.{Option}
 use Rattle.altq_model.specs.Play.{class_start, lesser}
 use Rattle.altq_model.specs.Policies.{Answering}
-use Rattle.altq_model.specs.Units.{ceil_div}
+use Rattle.play_base.specs.Units.{ceil_div}
 use Rattle.play_laws.specs.Lawful.{IsLawful, IsSteady}
 use Rattle.link_clock.proofs.Rounded.{le_ceil, ceil_le}
 use Rattle.std.proofs.lemmas.Bool.{cases_eq}

@@ -1,7 +1,7 @@
 -- Classes in a row, of which the first that is not empty is sent: what it holds, and the histories that it stands for.
 use Rattle.std.specs.Prelude.{◌≡◌, ◌≤◌, ◌==◌, ◌+◌, ℕ, zero, suc, List, [], ◌∷◌, length, map, if◌then◌else◌}
 use Rattle.altq_model.specs.declared.Rule.{Rule}
-use Rattle.altq_model.specs.History.{Event, Entry as Happened, bare, waiting}
+use Rattle.altq_model.specs.History.{Event, Happened, bare, waiting}
 use Rattle.altq_model.specs.Policies.{strict}
 use Rattle.altq_model.specs.Play.{Policy}
 use Rattle.leaf_queue.specs.declared.node.Entry.{Entry}

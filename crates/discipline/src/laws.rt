@@ -16,7 +16,7 @@ use play_base::{NoMemory, Ticket};
 /// the newest first, each with its ticket. After every such history its answers are those of one policy, which never changes.
 /// Moments are in nanoseconds, lengths in bytes.
 pub trait Discipline {
-    ghost use Rattle.altq_model.specs.History.{Entry as Happened};
+    ghost use Rattle.altq_model.specs.History.{Happened};
     ghost use Rattle.altq_model.specs.Play.{Policy};
     ghost use Rattle.altq_model.specs.declared.Reason.{Reason};
     ghost use Rattle.leaf_queue.specs.declared.node.Entry.{Entry};

@@ -9,7 +9,7 @@ mod paced;
 mod pick;
 mod strict;
 
-pub use altq_model::{Fate, Mark, Rule};
+pub use altq_model::{Fate, Placed, Rule};
 pub use classify::Classify;
 pub use laws::Discipline;
 pub use leaf_queue::{Reason, Verdict};

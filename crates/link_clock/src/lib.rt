@@ -6,7 +6,7 @@
 #![tactic(auto)]
 
 ghost use Rattle.std.specs.Prelude.{◌≡◌, ◌+◌, ◌*◌, ◌/◌, ◌<◌, ◌≤◌, ◌^◌};
-ghost use Rattle.altq_model.specs.Units.{units, ceil_div};
+ghost use Rattle.play_base.specs.Units.{units, ceil_div};
 ghost use Rattle.altq_model.specs.Link.{after_sending, end_of, idle_link};
 ghost use Rattle.link_clock.specs.Clock.{Clock, IsRunning};
 

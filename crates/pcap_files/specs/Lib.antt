@@ -2,6 +2,5 @@ pub mod Ahead
 pub mod Faults
 pub mod Forms
 pub mod Reading
-pub mod ReadingLaws
 pub mod Stand
 pub mod Written

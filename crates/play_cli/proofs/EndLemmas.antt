@@ -1,14 +1,15 @@
 -- What no play that ended in time is: damaged, limited or cut off.
 use Rattle.std.proofs.Common.{◌≡◌, ◌≤◌, ◌<◌, ◌-◌, ◌∙◌, ◌⊎◌, ℕ, zero, suc, length, drop, List, [], ◌∷◌, None, Some, ap, sym, subst, inl, inr, arith}
-use Rattle.altq_model.specs.declared.capture.Damage.{Damage}
+use Rattle.capture_model.specs.declared.damage.Damage.{Damage}
 use Rattle.altq_model.specs.Arrivals.{comings}
-use Rattle.altq_model.specs.Capture.{Record, Step, End, Fault, Limit, Reads, IsCapture}
-use Rattle.altq_model.specs.History.{Entry, Event, Offered, Sent, Coming}
+use Rattle.capture_model.specs.Capture.{Record, Step, End, Fault, Limit, Reads, IsCapture}
+use Rattle.altq_model.specs.History.{Happened, Event, Offered, Sent, Coming}
 use Rattle.altq_model.specs.Laws.{IsInTime, EndsInTime}
 use Rattle.altq_model.specs.Laws.{IsLate as IsLate_}
 use Rattle.altq_model.specs.Play.{Policy, AreDue, due}
 use Rattle.altq_model.specs.Policies.{one_queue}
-use Rattle.pcap_files.specs.ReadingLaws.{IsLast, one_reading}
+use Rattle.pcap_files.proofs.ReadingLaws.{one_reading}
+use Rattle.capture_model.specs.Capture.{IsLast}
 use Rattle.play_base.specs.View.{View}
 use Rattle.play_core.specs.Ended.{IsPlayed, IsCutOff}
 use Rattle.play_laws.proofs.OneLemmas.{one_play}
@@ -51,23 +52,23 @@ pub limited_not : (u v : View) (n : Names) (seed : ℕ) → EndsWith u n Limit �
 limited_not u v n seed x p = limit_end (last_same u n x.bytes p.bytes x.records p.records Limit End tt tt x.arrivals p.arrivals x.reads p.capture)
 
 -- each of the older events is in time too
-in_time_drop : (n : ℕ) (g : List Entry) → IsInTime g → IsInTime (drop n g)
+in_time_drop : (n : ℕ) (g : List Happened) → IsInTime g → IsInTime (drop n g)
 in_time_drop zero g h = h
 in_time_drop (suc n) [] h = h
 in_time_drop (suc n) (e ∷ g) h = in_time_drop n g h.1
 
-late_not : (e : Entry) → IsLate_ e.what → EndsInTime e.what → ⊥
+late_not : (e : Happened) → IsLate_ e.what → EndsInTime e.what → ⊥
 late_not e l h = late_event e.what l h
   where
     late_event : (x : Event) → IsLate_ x → EndsInTime x → ⊥
     late_event (Offered a w v) l h = l
     late_event (Sent s) l h = omega (arith, l, h)
 
-none_some : (e : Entry) → None ≡ Some e → ⊥
+none_some : (e : Happened) → None ≡ Some e → ⊥
 none_some e h = cc
 
-due_drop_next : (p : Policy) (rate seed : ℕ) (arrived : List Coming) (k : List Entry) (m : ℕ) → AreDue p rate seed arrived k → m < length k
-    → (e : Entry) × (due p rate seed arrived (drop (suc m) k) ≡ Some e)
+due_drop_next : (p : Policy) (rate seed : ℕ) (arrived : List Coming) (k : List Happened) (m : ℕ) → AreDue p rate seed arrived k → m < length k
+    → (e : Happened) × (due p rate seed arrived (drop (suc m) k) ≡ Some e)
 due_drop_next p rate seed arrived [] m d l = absurd (omega (arith, l))
 due_drop_next p rate seed arrived (e ∷ k) zero d l = (e, d.0)
 due_drop_next p rate seed arrived (e ∷ k) (suc m) d l = due_drop_next p rate seed arrived k m d.1 (omega (arith, l))
@@ -79,17 +80,17 @@ short_or_long : (n m : ℕ) → (n < m) ⊎ (m ≤ n)
 short_or_long n m = grind arith
 
 -- no play that ended in time is cut off
-not_cut : (p : Policy) (rate seed : ℕ) (arrived : List Coming) (g k : List Entry) → IsPlayed p rate seed arrived g → (c : IsCutOff p rate seed arrived k)
+not_cut : (p : Policy) (rate seed : ℕ) (arrived : List Coming) (g k : List Happened) → IsPlayed p rate seed arrived g → (c : IsCutOff p rate seed arrived k)
     → (length g < length (c.next ∷ k)) ⊎ (length (c.next ∷ k) ≤ length g) → ⊥
 not_cut p rate seed arrived g k x c (inl l) =
-    let late : List Entry = c.next ∷ k in
+    let late : List Happened = c.next ∷ k in
     let d : AreDue p rate seed arrived late = (c.is_due, c.begun.events) in
     let m : ℕ = length late - length g in
     let y = due_drop_next p rate seed arrived late (m - 1) d (omega (arith, l)) in
     let same : drop (suc (m - 1)) late ≡ g = ap (λ (i : ℕ). drop i late) (suc_pred m (omega (arith, l))) ∙ one_play p rate seed arrived g late x.begun.events d (omega (arith, l)) in
     none_some y.0 (sym x.done ∙ ap (due p rate seed arrived) (sym same) ∙ y.1)
 not_cut p rate seed arrived g k x c (inr l) =
-    let late : List Entry = c.next ∷ k in
+    let late : List Happened = c.next ∷ k in
     let d : AreDue p rate seed arrived late = (c.is_due, c.begun.events) in
     let same : drop (length g - length late) g ≡ late = one_play p rate seed arrived late g d x.begun.events l in
     let h : IsInTime late = subst IsInTime same (in_time_drop (length g - length late) g x.begun.in_time) in

@@ -1,7 +1,7 @@
 -- What the status of a fault tells, and that it is told.
 use Rattle.std.proofs.Common.{◌≡◌, ◌≢◌, ◌⊎◌, ℕ, refl, inl, inr, arith}
 use Rattle.std.specs.Prelude.{IsTrue}
-use Rattle.altq_model.specs.Numbers.{damage_number}
+use Rattle.capture_model.specs.Numbers.{damage_number}
 use Rattle.play_base.specs.View.{View}
 use Rattle.play_cli.specs.Causes.{Causes, ConfigCauses, IsAfterConfig, IsAfterConfigFault, config_status, status_of, ended}
 use Rattle.play_cli.specs.Ending.{IsStatus, PlayComes}

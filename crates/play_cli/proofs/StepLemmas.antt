@@ -3,12 +3,12 @@ use Rattle.std.proofs.Common.{◌≡◌, ◌≢◌, ◌≤◌, ◌+◌, ◌++◌
 use Rattle.std.specs.Prelude.{IsSome, IsTrue}
 use Rattle.altq_model.specs.declared.Rule.TheVariants.{Share}
 use Rattle.altq_model.specs.Arrivals.{comings}
-use Rattle.altq_model.specs.Capture.{Record}
-use Rattle.altq_model.specs.History.{Entry}
+use Rattle.capture_model.specs.Capture.{Record}
+use Rattle.altq_model.specs.History.{Happened}
 use Rattle.altq_model.specs.Laws.{IsBusy, KeepsLaws}
 use Rattle.altq_model.specs.Policies.{one_queue, tail}
 use Rattle.play_base.specs.View.{View, Keeps, Any, Rose}
-use Rattle.play_base.specs.ViewLaws.{keeps_trans, keeps_fewer, part_of_there, rose_later}
+use Rattle.play_base.proofs.ViewLaws.{keeps_trans, keeps_fewer, part_of_there, rose_later}
 use Rattle.play_base.specs.Holds.{HoldsAt}
 use Rattle.play_laws.proofs.AllLaws.{play_laws}
 use Rattle.play_laws.proofs.ArrivalLemmas.{arrivals_rise}
@@ -111,17 +111,17 @@ fates_held u a b c n rate o text s t h =
     (s.opened.fates_name (told_a u a b c n rate o s t)) (told_b u a b c n rate o s t) h
 
 -- the laws of the play
-laws_of : (rate seed : ℕ) (records : List Record) (g : List Entry) → 1000 ≤ rate → IsPlayOf (one_setup rate seed) records g → KeepsLaws rate (comings (arrivals_in (one_setup rate seed) records)) g
+laws_of : (rate seed : ℕ) (records : List Record) (g : List Happened) → 1000 ≤ rate → IsPlayOf (one_setup rate seed) records g → KeepsLaws rate (comings (arrivals_in (one_setup rate seed) records)) g
 laws_of rate seed records g l x =
     play_laws (one_queue 50) rate seed (comings (arrivals_in (one_setup rate seed) records)) g (omega arith) (strict_lawful (1 ∷ []) Share (tail 50)) (arrivals_rise one_mark records)
     (one_queue_holds 50 one_mark records (λ b. refl)) (record { events = x.begun.events; done = x.done })
 
-busy_of : (rate seed : ℕ) (records : List Record) (g : List Entry) → 1000 ≤ rate → IsPlayOf (one_setup rate seed) records g → IsBusy rate (comings (arrivals_in (one_setup rate seed) records)) g
+busy_of : (rate seed : ℕ) (records : List Record) (g : List Happened) → 1000 ≤ rate → IsPlayOf (one_setup rate seed) records g → IsBusy rate (comings (arrivals_in (one_setup rate seed) records)) g
 busy_of rate seed records g l x =
     is_busy (one_queue 50) rate seed (comings (arrivals_in (one_setup rate seed) records)) g (omega arith) (strict_lawful (1 ∷ []) Share (tail 50)) (strict_never_waits (1 ∷ []) Share (tail 50)) (arrivals_rise one_mark records)
     (one_queue_holds 50 one_mark records (λ b. refl)) x.begun.events
 
-pub done_of : (u a b c : View) (n : Names) (rate : ℕ) (o : Opened) (seed : ℕ) → Steps u a b c n rate o → (stood : List Entry → Type 0) (totals : Totals) → Plays (one_setup rate seed) stood b c o totals
+pub done_of : (u a b c : View) (n : Names) (rate : ℕ) (o : Opened) (seed : ℕ) → Steps u a b c n rate o → (stood : List Happened → Type 0) (totals : Totals) → Plays (one_setup rate seed) stood b c o totals
     → IsTrue u.tells → HasPlayed u c n seed
 done_of u a b c n rate o seed s stood totals p t =
     let left = left_is u a b c n rate o s t in
@@ -169,7 +169,7 @@ fronts_of u a b c n rate o seed s f = λ t text bytes other records last at acce
 rose_since : (u a b c : View) (n : Names) (rate : ℕ) (o : Opened) (p : ℕ) → Steps u a b c n rate o → Rose (b.write_faults p) (c.write_faults p) → Rose (u.write_faults p) (c.write_faults p)
 rose_since u a b c n rate o p s x = rose_later _ _ _ (s.read.later.write p) (rose_later _ _ _ (s.others.later.write p) x)
 
-pub causes_of : (u a b c : View) (n : Names) (rate : ℕ) (o : Opened) (seed : ℕ) (stood : List Entry → Type 0) (f : PlayFault) → Steps u a b c n rate o
+pub causes_of : (u a b c : View) (n : Names) (rate : ℕ) (o : Opened) (seed : ℕ) (stood : List Happened → Type 0) (f : PlayFault) → Steps u a b c n rate o
     → Explains (one_setup rate seed) stood b c o f → Causes u c n seed (run_fault f)
 causes_of u a b c n rate o seed stood (play.Capture d) s x = λ t.
     let found = some_bytes (a.bytes n.arrivals) (s.opened.there (told_a u a b c n rate o s t)) in

@@ -1,11 +1,11 @@
 -- What must be told is told, unless a count of faults rose or memory was wanting.
 use Rattle.std.proofs.Common.{◌≡◌, ◌+◌, ◌∙◌, ◌⊎◌, ℕ, List, Some, ap, sym, refl, subst, inl, inr}
 use Rattle.std.specs.Prelude.{IsTrue}
-use Rattle.altq_model.specs.declared.capture.Damage.{Damage}
-use Rattle.altq_model.specs.Capture.{Record, End, Fault, Limit, Reads}
-use Rattle.altq_model.specs.Numbers.{damage_number}
+use Rattle.capture_model.specs.declared.damage.Damage.{Damage}
+use Rattle.capture_model.specs.Capture.{Record, End, Fault, Limit, Reads}
+use Rattle.capture_model.specs.Numbers.{damage_number}
 use Rattle.conf_lines.specs.declared.fault.ConfPlace.{ConfPlace}
-use Rattle.pcap_files.specs.ReadingLaws.{one_reading}
+use Rattle.pcap_files.proofs.ReadingLaws.{one_reading}
 use Rattle.play_base.specs.View.{View}
 use Rattle.play_loop.specs.OneQueue.{one_setup}
 use Rattle.play_loop.specs.Setup.{IsCutOf}

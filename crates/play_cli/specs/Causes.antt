@@ -1,6 +1,6 @@
 -- When each fault of a run comes, in the words of its names.
 use Rattle.std.specs.Prelude.{◌≡◌, ◌≢◌, ◌≤◌, ◌+◌, ◌⊎◌, ℕ, List, IsTrue}
-use Rattle.altq_model.specs.Numbers.{damage_number}
+use Rattle.capture_model.specs.Numbers.{damage_number}
 use Rattle.play_base.specs.View.{View, Rose}
 use Rattle.play_words.specs.Words.{Words, config_name, interface_name, arrivals_name, departures_name, fates_name, stats_name}
 use Rattle.play_words.specs.declared.words.PlayWords.{PlayWords}

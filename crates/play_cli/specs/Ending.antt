@@ -1,8 +1,8 @@
 -- How a play, or a check, of accepted words ends: what its status means, and what it leaves.
 use Rattle.std.specs.Prelude.{◌≡◌, ◌≢◌, ◌≤◌, ◌+◌, ◌⊎◌, ℕ, List, IsTrue}
-use Rattle.altq_model.specs.declared.capture.Damage.{Damage}
-use Rattle.altq_model.specs.Capture.{Fault, Limit}
-use Rattle.altq_model.specs.Numbers.{damage_number}
+use Rattle.capture_model.specs.declared.damage.Damage.{Damage}
+use Rattle.capture_model.specs.Capture.{Fault, Limit}
+use Rattle.capture_model.specs.Numbers.{damage_number}
 use Rattle.conf_lines.specs.declared.fault.ConfPlace.{ConfPlace}
 use Rattle.play_base.specs.View.{View, Any, Keeps, IsAbsent, Rose}
 use Rattle.play_text.specs.declared.status.Status.{Status}

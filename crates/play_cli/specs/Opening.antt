@@ -1,13 +1,13 @@
 -- The files of a play: which are opened and created, and what stands where one of these fails.
 use Rattle.std.specs.Prelude.{◌≡◌, ◌≢◌, ◌⊎◌, ℕ, List, [], Some, IsTrue, IsSome}
-use Rattle.altq_model.specs.History.{Entry}
+use Rattle.altq_model.specs.History.{Happened}
 use Rattle.play_base.specs.View.{View, Keeps, Rose, IsAbsent}
 use Rattle.play_loop.specs.declared.fault.Opened.{Opened}
 use Rattle.play_loop.specs.Played.{AreReady}
 use Rattle.play_cli.specs.Configuration.{IsOneQueue}
 
 -- nothing is told of what stands for a history
-abbrev pub Untold : List Entry → Type 0
+abbrev pub Untold : List Happened → Type 0
 Untold g = Unit {0}
 
 -- the count of read faults of the part rose, or the name is told not to be there

@@ -1,13 +1,13 @@
 -- What a run of the program leaves, and when each of its statuses comes.
 use Rattle.std.specs.Prelude.{◌≡◌, ◌⊎◌, ℕ, List, [], ◌++◌, Some, IsTrue}
-use Rattle.altq_model.specs.declared.capture.Damage.{Damage}
+use Rattle.capture_model.specs.declared.damage.Damage.{Damage}
 use Rattle.altq_model.specs.Arrivals.{comings}
-use Rattle.altq_model.specs.Capture.{Record, Step, Fault, Limit, Reads, IsCapture}
-use Rattle.altq_model.specs.History.{Entry}
+use Rattle.capture_model.specs.Capture.{Record, Step, Fault, Limit, Reads, IsCapture}
+use Rattle.altq_model.specs.History.{Happened}
 use Rattle.altq_model.specs.Laws.{IsBusy, IsInTime, KeepsLaws}
-use Rattle.altq_model.specs.Numbers.{damage_number}
+use Rattle.capture_model.specs.Numbers.{damage_number}
 use Rattle.play_base.specs.View.{View, Rose}
-use Rattle.pcap_files.specs.ReadingLaws.{IsLast}
+use Rattle.capture_model.specs.Capture.{IsLast}
 use Rattle.play_loop.specs.OneQueue.{one_setup}
 use Rattle.play_loop.specs.Setup.{IsPlayOf, IsFrontOf, IsCutOf, arrivals_in, departures_of, fates_of}
 use Rattle.play_cli.specs.Configuration.{IsOneQueue}
@@ -30,7 +30,7 @@ pub record HasPlayed (old new : View) (n : Names) (seed : ℕ) : Type 0 where
   pub rate : ℕ
   pub bytes : List ℕ
   pub records : List Record
-  pub history : List Entry
+  pub history : List Happened
   pub config : old.bytes n.config ≡ Some text
   pub accepted : IsOneQueue text n.interface rate
   pub arrivals : old.bytes n.arrivals ≡ Some bytes
@@ -50,7 +50,7 @@ IsFrontAt old new name text = (new.bytes name ≡ old.bytes name) ⊎ ((front : 
 -- where the configuration is accepted with this rate, and these are the complete records of the arrivals: the outputs hold fronts of
 -- the texts of the first events of their play
 pub record HasFronts (old new : View) (n : Names) (seed rate : ℕ) (records : List Record) : Type 0 where
-  pub history : List Entry
+  pub history : List Happened
   pub play : IsFrontOf (one_setup rate seed) records history
   pub departures : IsFrontAt old new n.departures (departures_of (one_setup rate seed) records history)
   pub fates : IsFrontAt old new n.fates (fates_of (one_setup rate seed) records history)
@@ -83,7 +83,7 @@ pub record IsLate (old new : View) (n : Names) (seed : ℕ) : Type 0 where
   pub rate : ℕ
   pub bytes : List ℕ
   pub records : List Record
-  pub history : List Entry
+  pub history : List Happened
   pub config : old.bytes n.config ≡ Some text
   pub accepted : IsOneQueue text n.interface rate
   pub arrivals : old.bytes n.arrivals ≡ Some bytes
@@ -106,7 +106,7 @@ pub record IsPlayable (old : View) (n : Names) (seed : ℕ) : Type 0 where
   pub accepted : IsOneQueue text n.interface rate
   pub arrivals : old.bytes n.arrivals ≡ Some bytes
   pub capture : IsCapture bytes records
-  pub in_time : (history : List Entry) → IsCutOf (one_setup rate seed) records history → ⊥
+  pub in_time : (history : List Happened) → IsCutOf (one_setup rate seed) records history → ⊥
 
 -- the statuses of this program
 abbrev pub IsCode : ℕ → Type 0
@@ -129,7 +129,7 @@ pub record EndsLate (old : View) (n : Names) (seed : ℕ) : Type 0 where
   pub rate : ℕ
   pub bytes : List ℕ
   pub records : List Record
-  pub history : List Entry
+  pub history : List Happened
   pub config : old.bytes n.config ≡ Some text
   pub accepted : IsOneQueue text n.interface rate
   pub arrivals : old.bytes n.arrivals ≡ Some bytes

@@ -1,5 +1,5 @@
 // Which class a frame is of.
-use altq_model::Mark;
+use altq_model::Placed;
 use discipline::Classify;
 use flow_filter::Filters;
 use packet_heads::{flow, precedence};
@@ -16,9 +16,9 @@ impl Classify for Classifier {
 
     ghost mark = { λ c. frame_mark c.filters };
 
-    fn class(&self, frame: &[u8]) -> Mark {
+    fn class(&self, frame: &[u8]) -> Placed {
         let heads = flow(frame);
-        Mark {
+        Placed {
             class: self.filters.class(&heads),
             prec: precedence(&heads),
         }

@@ -1,6 +1,6 @@
 // Why a run ends early.
 
-use altq_model::Damage;
+use capture_model::Damage;
 use conf_lines::ConfPlace;
 
 /// Why the configuration cannot be used.

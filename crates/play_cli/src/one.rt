@@ -6,7 +6,7 @@ ghost use Rattle.play_loop.specs.Played.{AreReady, Explains, Fronts, Plays};
 ghost use Rattle.play_loop.specs.Setup.{KeepsBut};
 ghost use Rattle.play_cli.specs.Opening.{Untold};
 
-use altq_model::{Mark, Rule};
+use altq_model::{Placed, Rule};
 use discipline::{Classify, Discipline, Strict, one_class_is_one_queue};
 use leaf_queue::{Tail, Words};
 use play_base::{Files, NoMemory};
@@ -25,8 +25,8 @@ impl Classify for OneClass {
 
     ghost mark = { λ c. one_mark };
 
-    fn class(&self, _frame: &[u8]) -> Mark {
-        Mark { class: 1, prec: 0 }
+    fn class(&self, _frame: &[u8]) -> Placed {
+        Placed { class: 1, prec: 0 }
     }
 }
 

@@ -1,7 +1,7 @@
 // The one public call: from the words of the command line to a status.
 ghost use Rattle.std.specs.Prelude.{◌≡◌, ◌≢◌, ◌≤◌, ◌+◌, ◌⊎◌, ℕ, List, None, Some, IsTrue};
-ghost use Rattle.altq_model.specs.declared.capture.Damage.{Damage};
-ghost use Rattle.altq_model.specs.Capture.{Fault, Limit};
+ghost use Rattle.capture_model.specs.declared.damage.Damage.{Damage};
+ghost use Rattle.capture_model.specs.Capture.{Fault, Limit};
 ghost use Rattle.conf_lines.specs.declared.fault.ConfPlace.{ConfPlace};
 ghost use Rattle.play_base.specs.Steady.{steady_view};
 ghost use Rattle.play_base.specs.View.{View, Any, IsAbsent, Keeps, Rose};

@@ -1,7 +1,7 @@
 ghost use Rattle.std.specs.Prelude.{◌≡◌, ◌≤◌};
 
 use crate::{Classifier, Status, run, run_steady};
-use altq_model::{Fate, Mark, Rule};
+use altq_model::{Fate, Placed, Rule};
 use conf_lines::statements;
 use conf_tree::Conf;
 use discipline::{Classify, Strict};
@@ -412,7 +412,7 @@ fn datagram(port: [u8; 2]) -> [u8; 42] {
 }
 
 // A packet of length 1000 that arrives at 0.
-fn packet(alloc: Global, mark: Mark) -> Arrived
+fn packet(alloc: Global, mark: Placed) -> Arrived
     ensures at { result.at ≡ 0 }
     ensures mark { result.mark ≡ mark }
 {
@@ -426,7 +426,7 @@ fn packet(alloc: Global, mark: Mark) -> Arrived
 }
 
 // What is decided of two packets that arrive at 0, where class 1 goes before class 2.
-fn decided(alloc: Global, first: Mark, second: Mark) -> Result<Decisions, NoMemory>
+fn decided(alloc: Global, first: Placed, second: Placed) -> Result<Decisions, NoMemory>
     requires first { first.class ≡ 2 }
     requires second { second.class ≡ 1 }
     requires first_prec { first.prec ≤ 2 }

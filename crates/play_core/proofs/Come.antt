@@ -3,7 +3,7 @@ use Rattle.std.proofs.Common.{◌≡◌, ◌≤◌, ◌<◌, ◌+◌, ◌∙◌,
 use Rattle.std.specs.Prelude.{slice_get, nat_le, option_map}
 use Rattle.std.specs.declared.option.Option.{Option}
 use Rattle.altq_model.specs.declared.Fate.TheVariants as fate
-use Rattle.altq_model.specs.History.{Coming, Words, Answer, Offered, Sent, Entry, Decision, bare, offered, drawn, dropped_by, head, journal}
+use Rattle.altq_model.specs.History.{Coming, DrawnWords, Answer, Offered, Sent, Happened, Decision, bare, offered, drawn, dropped_by, head, journal}
 use Rattle.altq_model.specs.Laws.{clock_end}
 use Rattle.altq_model.specs.Link.{Link, link, after_sending, end_of}
 use Rattle.altq_model.specs.Play.{Policy, Choice, due, due_from, first_start, offer_of, sent_at, head_sent}
@@ -33,7 +33,7 @@ pub record IsFair (p : Policy) (rate : ℕ) (arrived : List Coming) : Type 0 whe
   pub rising : AreRising arrived
 
 -- a play has come so far: its first events are g, and they leave this
-pub record HasCome (p : Policy) (rate seed : ℕ) (arrived : List Coming) (g : List Entry) (clock : Link) (last next taken : ℕ) (js : List Decision) : Type 0 where
+pub record HasCome (p : Policy) (rate seed : ℕ) (arrived : List Coming) (g : List Happened) (clock : Link) (last next taken : ℕ) (js : List Decision) : Type 0 where
   pub begun : IsBegun p rate seed arrived g
   pub linked : link rate (bare g) ≡ clock
   pub last_is : latest (bare g) ≡ last
@@ -48,7 +48,7 @@ pub come_first : (p : Policy) (rate seed : ℕ) (arrived : List Coming) (clock :
 come_first p rate seed arrived clock e =
     record { begun = record { events = tt; in_time = tt }; linked = e; last_is = refl; count = refl; drawn_is = refl; few = omega arith; decided = refl; started = tt; passed = λ a h. tt }
 
-pub choice : (p : Policy) (rate seed : ℕ) (arrived : List Coming) (g : List Entry) (clock : Link) (last next taken : ℕ) (js : List Decision)
+pub choice : (p : Policy) (rate seed : ℕ) (arrived : List Coming) (g : List Happened) (clock : Link) (last next taken : ℕ) (js : List Decision)
     → HasCome p rate seed arrived g clock last next taken js → IsChoice (max clock.free last) (record { rate = rate; link = clock }) (bare g)
 choice p rate seed arrived g clock last next taken js x = record { arrived = omega (arith, x.last_is); started = x.started; link = x.linked }
 
@@ -57,7 +57,7 @@ abbrev pub arrival_in : List Coming → (next : ℕ) → Option ℕ
 arrival_in arrived next = option_map (λ (a : Coming). a.at) (slice_get arrived next)
 
 -- a turn as the loop holds it is one of the play
-pub turn_of : (p q : Policy) (rate seed : ℕ) (arrived : List Coming) (g : List Entry) (clock : Clock) (last next taken : ℕ) (js : List Decision) (t : ℕ) (arrival : Option ℕ) (turn : Turn)
+pub turn_of : (p q : Policy) (rate seed : ℕ) (arrived : List Coming) (g : List Happened) (clock : Clock) (last next taken : ℕ) (js : List Decision) (t : ℕ) (arrival : Option ℕ) (turn : Turn)
     → HasCome p rate seed arrived g clock.link last next taken js → q ≡ p → clock.rate ≡ rate → t ≡ max clock.link.free last → arrival ≡ arrival_in arrived next
     → (IsChoice t clock (bare g) → IsTurn q clock t g arrival turn)
     → IsTurn p (record { rate = rate; link = clock.link }) (max clock.link.free last) g (arrival_in arrived next) turn
@@ -72,7 +72,7 @@ turn_of p q rate seed arrived g clock last next taken js t arrival turn x same e
     let S : Option ℕ → Type 0 = λ o. IsTurn p (record { rate = rate; link = clock.link }) (max clock.link.free last) g o turn in
     subst S n (subst R m (subst Q k (subst P same y)))
 
-pub due_at : (p : Policy) (rate seed : ℕ) (arrived : List Coming) (g : List Entry) (clock : Link) (last next taken : ℕ) (js : List Decision) → IsFair p rate arrived
+pub due_at : (p : Policy) (rate seed : ℕ) (arrived : List Coming) (g : List Happened) (clock : Link) (last next taken : ℕ) (js : List Decision) → IsFair p rate arrived
     → HasCome p rate seed arrived g clock last next taken js
     → due p rate seed arrived g ≡ due_from p rate seed g (slice_get arrived next) (first_at p (max clock.free last) (bare g) p.classes)
 due_at p rate seed arrived g clock last next taken js f x =
@@ -85,7 +85,7 @@ none_mapped : (o : Option Coming) → option_map (λ (a : Coming). a.at) o ≡ N
 none_mapped None h = refl
 none_mapped (Some a) h = absurd (cc)
 
-pub come_end : (p : Policy) (rate seed : ℕ) (arrived : List Coming) (g : List Entry) (clock : Link) (last next taken : ℕ) (js : List Decision) → IsFair p rate arrived
+pub come_end : (p : Policy) (rate seed : ℕ) (arrived : List Coming) (g : List Happened) (clock : Link) (last next taken : ℕ) (js : List Decision) → IsFair p rate arrived
     → HasCome p rate seed arrived g clock last next taken js → first_at p (max clock.free last) (bare g) p.classes ≡ None → arrival_in arrived next ≡ None
     → IsPlayed p rate seed arrived g
 come_end p rate seed arrived g clock last next taken js f x e n = record {
@@ -95,7 +95,7 @@ come_end p rate seed arrived g clock last next taken js f x e n = record {
       ∙ ap (λ (o : Option ℕ). due_from p rate seed g None o) e;
 }
 
-offered_first : (p : Policy) (rate seed : ℕ) (g : List Entry) (a : Coming) (o : Option ℕ) → ((s : ℕ) → o ≡ Some s → a.at ≤ s)
+offered_first : (p : Policy) (rate seed : ℕ) (g : List Happened) (a : Coming) (o : Option ℕ) → ((s : ℕ) → o ≡ Some s → a.at ≤ s)
     → due_from p rate seed g (Some a) o ≡ Some (offer_of p seed g a)
 offered_first p rate seed g a None h = refl
 offered_first p rate seed g a (Some s) h =
@@ -108,7 +108,7 @@ same_at o a at e h =
     let x : Some a.at ≡ Some at = ap (λ (q : Option Coming). option_map (λ (b : Coming). b.at) q) (sym e) ∙ h in
     let y : a.at ≡ at = cc in sym y
 
-pub due_offer : (p : Policy) (rate seed : ℕ) (arrived : List Coming) (g : List Entry) (clock : Link) (last next taken : ℕ) (js : List Decision) (a : Coming) → IsFair p rate arrived
+pub due_offer : (p : Policy) (rate seed : ℕ) (arrived : List Coming) (g : List Happened) (clock : Link) (last next taken : ℕ) (js : List Decision) (a : Coming) → IsFair p rate arrived
     → HasCome p rate seed arrived g clock last next taken js → OffersFirst p (max clock.free last) g (arrival_in arrived next) → slice_get arrived next ≡ Some a
     → due p rate seed arrived g ≡ Some (offer_of p seed g a)
 due_offer p rate seed arrived g clock last next taken js a f x o e =
@@ -118,28 +118,28 @@ due_offer p rate seed arrived g clock last next taken js a f x o e =
     (λ s h. omega (arith, o.first s h, same_at (slice_get arrived next) a o.at e o.next))
 
 -- the discipline's offer is the play's
-same_offer : (p : Policy) (seed taken number : ℕ) (g : List Entry) (w : Words) (a : Coming) → w ≡ record { seed = seed; drawn = taken } → drawn (bare g) ≡ taken
+same_offer : (p : Policy) (seed taken number : ℕ) (g : List Happened) (w : DrawnWords) (a : Coming) → w ≡ record { seed = seed; drawn = taken } → drawn (bare g) ≡ taken
     → number ≡ offered (bare g) + 1 → offer_of p seed g a ≡ discipline.offer_of p g (record { 0 = number }) w a
 same_offer p seed taken number g w a e d n =
     let v : w ≡ record { seed = seed; drawn = drawn (bare g) } = e ∙ ap (λ (k : ℕ). record { seed = seed; drawn = k }) (sym d) in
-    let L : ℕ → Words → Entry = λ k u. record { label = k; what = Offered a u (p.answer (bare g) u a) } in
-    ap (λ (u : Words). L (offered (bare g) + 1) u) (sym v) ∙ ap (λ (k : ℕ). L k w) (sym n)
+    let L : ℕ → DrawnWords → Happened = λ k u. record { label = k; what = Offered a u (p.answer (bare g) u a) } in
+    ap (λ (u : DrawnWords). L (offered (bare g) + 1) u) (sym v) ∙ ap (λ (k : ℕ). L k w) (sym n)
 
 -- what is left after an offer
-pub come_offered : (p : Policy) (rate seed : ℕ) (arrived : List Coming) (g : List Entry) (clock : Link) (last next taken number : ℕ) (before after : List Decided) (a : Coming)
-    (old new : Words) (stood : List Entry → Type 0) → IsFair p rate arrived
+pub come_offered : (p : Policy) (rate seed : ℕ) (arrived : List Coming) (g : List Happened) (clock : Link) (last next taken number : ℕ) (before after : List Decided) (a : Coming)
+    (old new : DrawnWords) (stood : List Happened → Type 0) → IsFair p rate arrived
     → HasCome p rate seed arrived g clock last next taken (decisions_of before) → OffersFirst p (max clock.free last) g (arrival_in arrived next)
     → slice_get arrived next ≡ Some a → old ≡ record { seed = seed; drawn = taken } → number ≡ next + 1
     → IsAnswered p stood g old new before after number a
-    → (h : List Entry) × HasCome p rate seed arrived h clock a.at (next + 1) new.drawn (decisions_of after) × stood h
+    → (h : List Happened) × HasCome p rate seed arrived h clock a.at (next + 1) new.drawn (decisions_of after) × stood h
 come_offered p rate seed arrived g clock last next taken number before after a old new stood f x o e w n y =
     let v : Answer = p.answer (bare g) old a in
-    let d : Entry = discipline.offer_of p g (record { 0 = number }) old a in
+    let d : Happened = discipline.offer_of p g (record { 0 = number }) old a in
     let l = next_later p rate seed arrived g f.positive f.lawful f.rising x.begun.events a (ap (λ (k : ℕ). slice_get arrived k) x.count ∙ e) in
     let due_is : due p rate seed arrived g ≡ Some d =
     due_offer p rate seed arrived g clock last next taken (decisions_of before) a f x o e
-    ∙ ap (λ (k : Entry). Some k) (same_offer p seed taken number g old a w x.drawn_is (omega (arith, n, x.count))) in
-    let drew : drawn (bare g) + v.took ≡ new.drawn = omega (arith, y.words.drawn, ap (λ (u : Words). u.drawn) w, x.drawn_is) in (
+    ∙ ap (λ (k : Happened). Some k) (same_offer p seed taken number g old a w x.drawn_is (omega (arith, n, x.count))) in
+    let drew : drawn (bare g) + v.took ≡ new.drawn = omega (arith, y.words.drawn, ap (λ (u : DrawnWords). u.drawn) w, x.drawn_is) in (
       d ∷ g,
       record {
         begun = record { events = (due_is, x.begun.events); in_time = (tt, x.begun.in_time) };
@@ -156,16 +156,16 @@ come_offered p rate seed arrived g clock last next taken number before after a o
     )
 
 -- a sending
-not_yet : (p : Policy) (rate seed : ℕ) (g : List Entry) (o : Option Coming) (s : ℕ) → comes_by (option_map (λ (a : Coming). a.at) o) s ≡ false
+not_yet : (p : Policy) (rate seed : ℕ) (g : List Happened) (o : Option Coming) (s : ℕ) → comes_by (option_map (λ (a : Coming). a.at) o) s ≡ false
     → due_from p rate seed g o (Some s) ≡ sent_at rate g s (p.pick (bare g) s)
 not_yet p rate seed g None s h = refl
 not_yet p rate seed g (Some a) s h = ap (λ b. cond b (Some (offer_of p seed g a)) (sent_at rate g s (p.pick (bare g) s))) h
 
-head_goes : (p : Policy) (rate : ℕ) (g : List Entry) (clock : Link) (s : Sending) → SendsHead p g s → link rate (bare g) ≡ clock
+head_goes : (p : Policy) (rate : ℕ) (g : List Happened) (clock : Link) (s : Sending) → SendsHead p g s → link rate (bare g) ≡ clock
     → s.end ≡ end_of rate clock s.start s.len → sent_at rate g s.start (p.pick (bare g) s.start) ≡ Some (sent_of s)
 head_goes p rate g clock s x l e =
     let C : Choice = record { class = s.class; rule = s.rule } in
-    let T : ℕ → ℕ → Entry = λ n t. record { label = s.ticket.0; what = Sent (record { class = s.class; len = n; rule = s.rule; start = s.start; end = t }) } in
+    let T : ℕ → ℕ → Happened = λ n t. record { label = s.ticket.0; what = Sent (record { class = s.class; len = n; rule = s.rule; start = s.start; end = t }) } in
     ap (λ (c : Choice). sent_at rate g s.start c) x.pick
     ∙ ap (λ (o : Option ℕ). head_sent rate g s.start C o (head s.class (bare g))) x.number
     ∙ ap (λ (o : Option Coming). head_sent rate g s.start C (Some s.ticket.0) o) x.front
@@ -173,7 +173,7 @@ head_goes p rate g clock s x l e =
     ∙ ap (λ (k : Link). Some (T s.len (end_of rate k s.start s.len))) l
     ∙ ap (λ (t : ℕ). Some (T s.len t)) (sym e)
 
-pub due_sending : (p : Policy) (rate seed : ℕ) (arrived : List Coming) (g : List Entry) (clock : Link) (last next taken : ℕ) (js : List Decision) (s : Sending) → IsFair p rate arrived
+pub due_sending : (p : Policy) (rate seed : ℕ) (arrived : List Coming) (g : List Happened) (clock : Link) (last next taken : ℕ) (js : List Decision) (s : Sending) → IsFair p rate arrived
     → HasCome p rate seed arrived g clock last next taken js
     → SendsFirst p (record { rate = rate; link = clock }) (max clock.free last) g (arrival_in arrived next) (Send s)
     → s.end ≡ end_of rate clock s.start s.len → due p rate seed arrived g ≡ Some (sent_of s)
@@ -190,7 +190,7 @@ comes_later o a t e h =
     let k : nat_le a.at t ≡ false = ap (λ (q : Option Coming). comes_by (option_map (λ (b : Coming). b.at) q) t) (sym e) ∙ h in
     grind (arith, k)
 
-pub come_sent : (p : Policy) (rate seed : ℕ) (arrived : List Coming) (g : List Entry) (clock clock' : Link) (last next taken : ℕ) (js js' : List Decision) (s : Sending) → IsFair p rate arrived
+pub come_sent : (p : Policy) (rate seed : ℕ) (arrived : List Coming) (g : List Happened) (clock clock' : Link) (last next taken : ℕ) (js js' : List Decision) (s : Sending) → IsFair p rate arrived
     → HasCome p rate seed arrived g clock last next taken js
     → SendsFirst p (record { rate = rate; link = clock }) (max clock.free last) g (arrival_in arrived next) (Send s)
     → max clock.free last ≤ s.start → s.end ≡ end_of rate clock s.start s.len → s.end < clock_end → clock' ≡ after_sending rate clock s.start s.len

@@ -3,7 +3,7 @@ use Rattle.std.proofs.Common.{◌≡◌, ◌≤◌, ◌-◌, ◌∙◌, ◌⊎�
 use Rattle.std.specs.Prelude.{slice_get, nat_le, option_map}
 use Rattle.std.specs.declared.option.Option.{Option}
 use Rattle.std.proofs.lemmas.Option.{slice_get_within}
-use Rattle.altq_model.specs.History.{Coming, Event, Entry, Decision, bare, offered, head, journal}
+use Rattle.altq_model.specs.History.{Coming, Event, Happened, Decision, bare, offered, head, journal}
 use Rattle.altq_model.specs.Laws.{IsLate, clock_end}
 use Rattle.altq_model.specs.Link.{Link, link, end_of}
 use Rattle.altq_model.specs.Play.{Policy, due, first_start}
@@ -36,7 +36,7 @@ not_passed o a t e l h =
     let m : nat_le a.at t ≡ true = grind (arith, l) in
     let x : true ≡ false = sym m ∙ k in (cc)
 
-late_case : (p : Policy) (rate seed : ℕ) (arrived : List Coming) (g : List Entry) (clock : Link) (last next taken : ℕ) (js : List Decision) (e : Entry) (start : ℕ)
+late_case : (p : Policy) (rate seed : ℕ) (arrived : List Coming) (g : List Happened) (clock : Link) (last next taken : ℕ) (js : List Decision) (e : Happened) (start : ℕ)
     → HasCome p rate seed arrived g clock last next taken js
     → first_start p (link rate (bare g)).free (bare g) p.classes ≡ Some start → comes_by (arrival_in arrived next) start ≡ false
     → ((packet : Coming) → head (p.pick (bare g) start).class (bare g) ≡ Some packet → clock_end ≤ end_of rate clock start packet.len)
@@ -53,7 +53,7 @@ late_case p rate seed arrived g clock last next taken js e start x first later l
     ∙ ap (λ (t : ℕ). end_of rate clock t y.sending.len) same ∙ ap (λ (n : ℕ). end_of rate clock start n) y.len in
     subst P (sym y.event) (omega (arith, E, late y.packet front))
 
-cut_case : (p : Policy) (rate seed : ℕ) (arrived : List Coming) (g : List Entry) (clock : Link) (last next taken : ℕ) (js : List Decision) (start : ℕ) (o : Option Entry)
+cut_case : (p : Policy) (rate seed : ℕ) (arrived : List Coming) (g : List Happened) (clock : Link) (last next taken : ℕ) (js : List Decision) (start : ℕ) (o : Option Happened)
     → IsFair p rate arrived → HasCome p rate seed arrived g clock last next taken js
     → first_start p (link rate (bare g)).free (bare g) p.classes ≡ Some start → comes_by (arrival_in arrived next) start ≡ false
     → ((packet : Coming) → head (p.pick (bare g) start).class (bare g) ≡ Some packet → clock_end ≤ end_of rate clock start packet.len)
@@ -68,7 +68,7 @@ cut_case p rate seed arrived g clock last next taken js start (Some e) f x first
       (due_laws p rate seed arrived (e ∷ g) f.positive f.lawful f.rising (q, x.begun.events)).each.0;
 }
 
-pub come_cut : (p : Policy) (rate seed : ℕ) (arrived : List Coming) (g : List Entry) (clock : Link) (last next taken : ℕ) (js : List Decision) → IsFair p rate arrived
+pub come_cut : (p : Policy) (rate seed : ℕ) (arrived : List Coming) (g : List Happened) (clock : Link) (last next taken : ℕ) (js : List Decision) → IsFair p rate arrived
     → HasCome p rate seed arrived g clock last next taken js
     → SendsFirst p (record { rate = rate; link = clock }) (max clock.free last) g (arrival_in arrived next) Late
     → IsCutOff p rate seed arrived g
@@ -85,7 +85,7 @@ pub record IsWithin (arrived : List Coming) (s : Sending) (js : List Decision) :
   pub most : s.ticket.0 ≤ length arrived
   pub few : length js ≤ length arrived
 
-pub sent_within : (p : Policy) (rate seed : ℕ) (arrived : List Coming) (g : List Entry) (clock : Link) (last next taken : ℕ) (js : List Decision) (s : Sending) → IsFair p rate arrived
+pub sent_within : (p : Policy) (rate seed : ℕ) (arrived : List Coming) (g : List Happened) (clock : Link) (last next taken : ℕ) (js : List Decision) (s : Sending) → IsFair p rate arrived
     → HasCome p rate seed arrived (sent_of s ∷ g) clock last next taken js → IsWithin arrived s js
 sent_within p rate seed arrived g clock last next taken js s f x =
     let laws = due_laws p rate seed arrived (sent_of s ∷ g) f.positive f.lawful f.rising x.begun.events in
@@ -95,14 +95,14 @@ sent_within p rate seed arrived g clock last next taken js s f x =
     record { first = omega (arith, one.from_one); most = omega (arith, inside, one.from_one); few = omega (arith, laws.few, laws.came, same) }
 
 -- no more decisions than packets came
-pub few_decided : (p : Policy) (rate seed : ℕ) (arrived : List Coming) (g : List Entry) (clock : Link) (last next taken : ℕ) (js : List Decision) → IsFair p rate arrived
+pub few_decided : (p : Policy) (rate seed : ℕ) (arrived : List Coming) (g : List Happened) (clock : Link) (last next taken : ℕ) (js : List Decision) → IsFair p rate arrived
     → HasCome p rate seed arrived g clock last next taken js → length js ≤ length arrived
 few_decided p rate seed arrived g clock last next taken js f x =
     let laws = due_laws p rate seed arrived g f.positive f.lawful f.rising x.begun.events in
     omega (arith, laws.few, laws.came, ap (λ (ks : List Decision). length ks) x.decided)
 
 -- what was decided, where the play ended or was cut off
-pub is_decided : (p : Policy) (rate seed : ℕ) (arrived : List Coming) (g : List Entry) (clock : Link) (last next taken free : ℕ) (list : List Decided) (stood : List Entry → Type 0) (cut : Bool)
+pub is_decided : (p : Policy) (rate seed : ℕ) (arrived : List Coming) (g : List Happened) (clock : Link) (last next taken free : ℕ) (list : List Decided) (stood : List Happened → Type 0) (cut : Bool)
     (d : Decisions) → HasCome p rate seed arrived g clock last next taken (decisions_of list) → HasEnded cut p rate seed arrived g → stood g
     → d.cut ≡ cut → d.list.items ≡ list → free ≡ clock.free → IsCounted (decisions_of list) next free d.totals → IsDecided p stood rate seed arrived d
 is_decided p rate seed arrived g clock last next taken free list stood cut d x e s c l m t =

@@ -3,7 +3,7 @@ use Rattle.std.proofs.Common.{◌≡◌, ◌≤◌, ◌<◌, ◌∙◌, ℕ, Boo
 use Rattle.std.specs.Prelude.{slice_get, nat_le}
 use Rattle.std.specs.declared.option.Option.{Option}
 use Rattle.altq_model.specs.declared.Rule.{Rule}
-use Rattle.altq_model.specs.History.{Coming, Event, Offered, Sent, Entry as Happened, bare, head, labels, waiting}
+use Rattle.altq_model.specs.History.{Coming, Event, Offered, Sent, Happened, bare, head, labels, waiting}
 use Rattle.altq_model.specs.Laws.{clock_end}
 use Rattle.altq_model.specs.Link.{Link, link, end_of}
 use Rattle.altq_model.specs.Play.{Policy, Choice}

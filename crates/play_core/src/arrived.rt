@@ -1,7 +1,7 @@
 // Packets that arrive.
 ghost use Rattle.std.specs.Prelude.{◌<◌, ◌≤◌, ◌^◌, length};
 
-use altq_model::Mark;
+use altq_model::Placed;
 use play_base::Bytes;
 
 /// A packet that arrives. Its number is its place in the capture, from 1.
@@ -14,7 +14,7 @@ pub struct Arrived {
     /// Its own stamp is less than `at`.
     pub raised: bool,
     /// Its class and its precedence.
-    pub mark: Mark,
+    pub mark: Placed,
     /// The captured bytes.
     pub bytes: Bytes,
     ghost early: { at < 2 ^ 62 },

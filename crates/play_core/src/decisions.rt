@@ -1,6 +1,6 @@
 // The decisions of a play.
 ghost use Rattle.std.specs.Prelude.{◌≡◌, ◌≤◌, ◌<◌, ◌+◌, ◌-◌, ◌^◌, ◌∷◌, [], List, ℕ, IfOk, IfSome, OnOk, None, Some, slice_get, option_map, length};
-ghost use Rattle.altq_model.specs.History.{Coming, Entry, bare};
+ghost use Rattle.altq_model.specs.History.{Coming, Happened, bare};
 ghost use Rattle.play_laws.specs.Lawful.{AreHeld, AreRising, IsOneOf};
 ghost use Rattle.discipline.specs.Laws.{HasRate};
 ghost use Rattle.discipline.specs.Moments.{IsOffer};
@@ -39,7 +39,7 @@ fn offer<D: Discipline>(
     requires class { IsOneOf packet.now.mark.class (D.policy discipline.old).classes }
     requires prec { packet.now.mark.prec ≤ 2 }
     requires few { D.given discipline.old < 4000000 }
-    ensures answered { OnOk result ((h : List Entry) → D.stands discipline.old h → IsOffer packet.now.at (bare h) → words.old.drawn < 2 ^ 64 - 1 →
+    ensures answered { OnOk result ((h : List Happened) → D.stands discipline.old h → IsOffer packet.now.at (bare h) → words.old.drawn < 2 ^ 64 - 1 →
         IsAnswered (D.policy discipline.old) (D.stands discipline.new) h words.old words.new list.old.items list.new.items number (coming_of packet.now)) }
     ensures grows { OnOk result (length list.old.items ≤ length list.new.items) }
     ensures by_one { OnOk result (length list.new.items ≤ length list.old.items + 1) }

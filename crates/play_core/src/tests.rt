@@ -1,7 +1,7 @@
 ghost use Rattle.std.specs.Prelude.{◌≡◌, ◌≤◌};
 
 use crate::{Arrived, Decisions, decide};
-use altq_model::{Fate, Mark, Rule};
+use altq_model::{Fate, Placed, Rule};
 use discipline::{Paced, Strict};
 use leaf_queue::{Tail, Words};
 use play_base::{Bytes, NoMemory};
@@ -18,7 +18,7 @@ fn packet(alloc: Global, class: u32, len: u32) -> Arrived
         at: 0,
         len,
         raised: false,
-        mark: Mark { class, prec: 0 },
+        mark: Placed { class, prec: 0 },
         bytes: Bytes::of(Vec::new(alloc)),
     }
 }

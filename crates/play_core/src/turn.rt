@@ -1,6 +1,6 @@
 // What comes next in a play.
 ghost use Rattle.std.specs.Prelude.{◌≡◌, ◌≤◌, ◌<◌, ◌*◌, ◌^◌, IsSome, List};
-ghost use Rattle.altq_model.specs.History.{Entry, bare};
+ghost use Rattle.altq_model.specs.History.{Happened, bare};
 ghost use Rattle.altq_model.specs.Link.{end_of};
 ghost use Rattle.discipline.specs.Laws.{HasRate, Sends};
 ghost use Rattle.discipline.specs.Moments.{IsChoice};
@@ -63,7 +63,7 @@ fn what_is_sent<D: Discipline>(discipline: &mut D, clock: &LinkClock, till: u64)
     requires positive { 0 < clock.now.rate }
     requires rate { HasRate (D.link_rate discipline.old) clock.now.rate }
     requires sends { Sends (D.due discipline.old clock.now till) }
-    ensures sent { (h : List Entry) → D.stands discipline.old h → IsChoice till clock.now (bare h) →
+    ensures sent { (h : List Happened) → D.stands discipline.old h → IsChoice till clock.now (bare h) →
         IsSentAt (D.policy discipline.old) clock.now till h result }
     ensures due { (s : Sending) → result ≡ Turn.Send s →
         D.due discipline.new clock.now s.start ≡ Pick.Send s.ticket s.class s.len s.rule }
@@ -72,7 +72,7 @@ fn what_is_sent<D: Discipline>(discipline: &mut D, clock: &LinkClock, till: u64)
     ensures soon { (s : Sending) → result ≡ Turn.Send s → s.start < 2 ^ 63 }
     ensures ends { (s : Sending) → result ≡ Turn.Send s → s.end ≡ end_of clock.now.rate clock.now.link s.start s.len }
     ensures early { (s : Sending) → result ≡ Turn.Send s → s.end < 2 ^ 32 * 10 ^ 9 }
-    ensures histories { (h : List Entry) → D.stands discipline.old h → D.stands discipline.new h }
+    ensures histories { (h : List Happened) → D.stands discipline.old h → D.stands discipline.new h }
     ensures policy { D.policy discipline.new ≡ D.policy discipline.old }
     ensures rate { D.link_rate discipline.new ≡ D.link_rate discipline.old }
 {
@@ -103,7 +103,7 @@ pub fn what_is_due<D: Discipline>(
     requires early { moment < 2 ^ 63 }
     requires positive { 0 < clock.now.rate }
     requires rate { HasRate (D.link_rate discipline.old) clock.now.rate }
-    ensures turn { (h : List Entry) → D.stands discipline.old h → IsChoice moment clock.now (bare h) →
+    ensures turn { (h : List Happened) → D.stands discipline.old h → IsChoice moment clock.now (bare h) →
         IsTurn (D.policy discipline.old) clock.now moment h arrival result }
     ensures due { (s : Sending) → result ≡ Turn.Send s →
         D.due discipline.new clock.now s.start ≡ Pick.Send s.ticket s.class s.len s.rule }
@@ -112,7 +112,7 @@ pub fn what_is_due<D: Discipline>(
     ensures soon { (s : Sending) → result ≡ Turn.Send s → s.start < 2 ^ 63 }
     ensures ends { (s : Sending) → result ≡ Turn.Send s → s.end ≡ end_of clock.now.rate clock.now.link s.start s.len }
     ensures early { (s : Sending) → result ≡ Turn.Send s → s.end < 2 ^ 32 * 10 ^ 9 }
-    ensures histories { (h : List Entry) → D.stands discipline.old h → D.stands discipline.new h }
+    ensures histories { (h : List Happened) → D.stands discipline.old h → D.stands discipline.new h }
     ensures policy { D.policy discipline.new ≡ D.policy discipline.old }
     ensures rate { D.link_rate discipline.new ≡ D.link_rate discipline.old }
 {

@@ -1,6 +1,6 @@
 -- The laws of the events that are due, and of every play.
 use Rattle.std.proofs.Common.{◌<◌, ℕ, List, arith}
-use Rattle.altq_model.specs.History.{Coming, Entry}
+use Rattle.altq_model.specs.History.{Coming, Happened}
 use Rattle.altq_model.specs.Laws.{KeepsLaws}
 use Rattle.altq_model.specs.Play.{Policy, AreDue, IsPlay}
 use Rattle.play_laws.specs.Lawful.{IsLawful, AreRising, AreHeld}
@@ -11,7 +11,7 @@ use Rattle.play_laws.proofs.CountLemmas.{balanced}
 use Rattle.play_laws.proofs.FewLemmas.{few_decided}
 use Rattle.play_laws.proofs.EndLemmas.{is_over, all_offered, offered_within, no_places, nothing_waits, conserved}
 
-pub due_laws : (p : Policy) (rate seed : ℕ) (arrived : List Coming) (g : List Entry) → 0 < rate → IsLawful p → AreRising arrived
+pub due_laws : (p : Policy) (rate seed : ℕ) (arrived : List Coming) (g : List Happened) → 0 < rate → IsLawful p → AreRising arrived
     → AreDue p rate seed arrived g → HasLaws p rate seed arrived g
 due_laws p rate seed arrived g pos law rise due =
     let f = each_follows p rate seed arrived g pos law rise due in
@@ -26,7 +26,7 @@ due_laws p rate seed arrived g pos law rise due =
       ends = link_ends p rate seed arrived g law f;
     }
 
-pub play_laws : (p : Policy) (rate seed : ℕ) (arrived : List Coming) (g : List Entry) → 0 < rate → IsLawful p → AreRising arrived → AreHeld p arrived
+pub play_laws : (p : Policy) (rate seed : ℕ) (arrived : List Coming) (g : List Happened) → 0 < rate → IsLawful p → AreRising arrived → AreHeld p arrived
     → IsPlay p rate seed arrived g → KeepsLaws rate arrived g
 play_laws p rate seed arrived g pos law rise can x =
     let f = each_follows p rate seed arrived g pos law rise x.events in
@@ -38,7 +38,7 @@ play_laws p rate seed arrived g pos law rise can x =
       ends = link_ends p rate seed arrived g law f;
     }
 
-pub play_is_whole : (p : Policy) (rate seed : ℕ) (arrived : List Coming) (g : List Entry) → 0 < rate → IsLawful p → AreRising arrived → AreHeld p arrived
+pub play_is_whole : (p : Policy) (rate seed : ℕ) (arrived : List Coming) (g : List Happened) → 0 < rate → IsLawful p → AreRising arrived → AreHeld p arrived
     → IsPlay p rate seed arrived g → IsWhole arrived g
 play_is_whole p rate seed arrived g pos law rise can x =
     let f = each_follows p rate seed arrived g pos law rise x.events in

@@ -8,7 +8,7 @@ use Rattle.altq_model.specs.declared.Fate.{Fate}
 use Rattle.altq_model.specs.declared.Fate.TheVariants as fate
 use Rattle.altq_model.specs.declared.Verdict.{Verdict}
 use Rattle.altq_model.specs.declared.Verdict.TheVariants.{Keep, Drop}
-use Rattle.altq_model.specs.History.{Coming, Answer, Words, Event, Offered, Sent, Sending, Entry, bare, offered, drawn, head, waiting, labels, Decision, dropped_by, decided, journal}
+use Rattle.altq_model.specs.History.{Coming, Answer, DrawnWords, Event, Offered, Sent, Transmission, Happened, bare, offered, drawn, head, waiting, labels, Decision, dropped_by, decided, journal}
 use Rattle.altq_model.specs.Link.{link}
 use Rattle.altq_model.specs.Laws.{occurs, numbers, dropped, dropped_of, sent, sent_of, IsLeft, StartsBusy, FollowsBusy, AllBusy, IsBusy}
 use Rattle.altq_model.specs.Play.{Policy, class_start, AreDue}
@@ -39,14 +39,14 @@ event_split : (n m : ℕ) (e : Event) (ss : List ℕ) → occurs n (numbers (dec
 event_split n m (Offered a w v) ss = omega (arith, verdict_split n m v.verdict)
 event_split n m (Sent s) ss = omega arith
 
-split : (n : ℕ) (g : List Entry) → occurs n (numbers (journal g)) ≡ occurs n (dropped (journal g)) + occurs n (sent g)
+split : (n : ℕ) (g : List Happened) → occurs n (numbers (journal g)) ≡ occurs n (dropped (journal g)) + occurs n (sent g)
 split n [] = refl
 split n (e ∷ g) =
     let d : List Decision = decided e.label e.what in
     omega (arith, journal_occurs n (journal g) d, dropped_occurs n (journal g) d, event_split n e.label e.what (sent g), split n g)
 
 -- what a later event drops was not offered before
-KeepsDrops : List Decision → List Entry → Type 0
+KeepsDrops : List Decision → List Happened → Type 0
 KeepsDrops js g = (n : ℕ) → n ≤ offered (bare g) → occurs n (dropped js) ≡ occurs n (dropped (journal g))
 
 not_next : (n m : ℕ) → n < m → one m n ≡ 0
@@ -56,26 +56,26 @@ new_drop : (n m : ℕ) (v : Verdict) → n < m → occurs n (dropped (dropped_by
 new_drop n m Keep l = refl
 new_drop n m (Drop r) l = omega (arith, not_next n m l)
 
-keeps_offer : (js : List Decision) (g : List Entry) (a : Coming) (w : Words) (v : Answer)
-    → let e : Entry = record { label = offered (bare g) + 1; what = Offered a w v } in KeepsDrops js (e ∷ g) → KeepsDrops js g
+keeps_offer : (js : List Decision) (g : List Happened) (a : Coming) (w : DrawnWords) (v : Answer)
+    → let e : Happened = record { label = offered (bare g) + 1; what = Offered a w v } in KeepsDrops js (e ∷ g) → KeepsDrops js g
 unfolding KeepsDrops
 keeps_offer js g a w v k = λ n l.
     let d : List Decision = dropped_by v.verdict (offered (bare g) + 1) in
     omega (arith, k n (omega arith), dropped_occurs n (journal g) d, new_drop n (offered (bare g) + 1) v.verdict (omega arith))
 
-keeps_sent : (js : List Decision) (g : List Entry) (m : ℕ) (s : Sending)
-    → let e : Entry = record { label = m; what = Sent s } in KeepsDrops js (e ∷ g) → KeepsDrops js g
+keeps_sent : (js : List Decision) (g : List Happened) (m : ℕ) (s : Transmission)
+    → let e : Happened = record { label = m; what = Sent s } in KeepsDrops js (e ∷ g) → KeepsDrops js g
 unfolding KeepsDrops
 keeps_sent js g m s k = λ n l. omega (arith, k n l, dropped_occurs n (journal g) (decided m (Sent s)))
 
-keeps_step : (p : Policy) (rate seed : ℕ) (arrived : List Coming) (js : List Decision) (g : List Entry) (e : Entry) → KeepsDrops js (e ∷ g)
+keeps_step : (p : Policy) (rate seed : ℕ) (arrived : List Coming) (js : List Decision) (g : List Happened) (e : Happened) → KeepsDrops js (e ∷ g)
     → IsOffer p rate seed arrived g e ⊎ IsSending p rate arrived g e → KeepsDrops js g
 keeps_step p rate seed arrived js g e k (inl y) =
-    let P : Entry → Type 0 = λ z. KeepsDrops js (z ∷ g) in
-    let w : Words = record { seed = seed; drawn = drawn (bare g) } in
+    let P : Happened → Type 0 = λ z. KeepsDrops js (z ∷ g) in
+    let w : DrawnWords = record { seed = seed; drawn = drawn (bare g) } in
     keeps_offer js g y.packet w (p.answer (bare g) w y.packet) (subst P y.offer k)
 keeps_step p rate seed arrived js g e k (inr y) =
-    let P : Event → Type 0 = λ z. let f : Entry = record { label = e.label; what = z } in KeepsDrops js (f ∷ g) in
+    let P : Event → Type 0 = λ z. let f : Happened = record { label = e.label; what = z } in KeepsDrops js (f ∷ g) in
     keeps_sent js g e.label y.sending (subst P y.event k)
 
 -- what waits stands in order of number
@@ -98,17 +98,17 @@ rises_place high k Keep xs r =
     subst P (sym (labels_push xs (k, high + 1))) (rises_push 0 high (high + 1) (all_labels xs) (omega arith) r)
 rises_place high k (Drop q) xs r = rises_weaken 0 high (high + 1) (all_labels xs) (omega arith) r
 
-places_step : (p : Policy) (rate seed : ℕ) (arrived : List Coming) (g : List Entry) (e : Entry) → RisesTo 0 (offered (bare g)) (all_labels (places g))
+places_step : (p : Policy) (rate seed : ℕ) (arrived : List Coming) (g : List Happened) (e : Happened) → RisesTo 0 (offered (bare g)) (all_labels (places g))
     → IsOffer p rate seed arrived g e ⊎ IsSending p rate arrived g e → RisesTo 0 (offered (bare (e ∷ g))) (all_labels (places (e ∷ g)))
 places_step p rate seed arrived g e r (inl y) =
-    let P : Entry → Type 0 = λ z. RisesTo 0 (offered (bare (z ∷ g))) (all_labels (places (z ∷ g))) in
-    let w : Words = record { seed = seed; drawn = drawn (bare g) } in
+    let P : Happened → Type 0 = λ z. RisesTo 0 (offered (bare (z ∷ g))) (all_labels (places (z ∷ g))) in
+    let w : DrawnWords = record { seed = seed; drawn = drawn (bare g) } in
     subst P (sym y.offer) (rises_place (offered (bare g)) y.packet.class (p.answer (bare g) w y.packet).verdict (places g) r)
 places_step p rate seed arrived g e r (inr y) =
-    let P : Event → Type 0 = λ z. let f : Entry = record { label = e.label; what = z } in RisesTo 0 (offered (bare (f ∷ g))) (all_labels (places (f ∷ g))) in
+    let P : Event → Type 0 = λ z. let f : Happened = record { label = e.label; what = z } in RisesTo 0 (offered (bare (f ∷ g))) (all_labels (places (f ∷ g))) in
     subst P (sym y.event) (rises_take 0 (offered (bare g)) y.sending.class (places g) r)
 
-places_rise : (p : Policy) (rate seed : ℕ) (arrived : List Coming) (g : List Entry) → EachFollows p rate seed arrived g
+places_rise : (p : Policy) (rate seed : ℕ) (arrived : List Coming) (g : List Happened) → EachFollows p rate seed arrived g
     → RisesTo 0 (offered (bare g)) (all_labels (places g))
 places_rise p rate seed arrived [] f = omega arith
 places_rise p rate seed arrived (e ∷ g) f = places_step p rate seed arrived g e (places_rise p rate seed arrived g f.1) f.0
@@ -142,7 +142,7 @@ should_most : (n count : ℕ) → should n count ≤ 1
 should_most n count = grind (arith, common_steps)
 
 -- the first packet that waits
-record IsFirst (arrived : List Coming) (g : List Entry) (c n : ℕ) : Type 0 where
+record IsFirst (arrived : List Coming) (g : List Happened) (c n : ℕ) : Type 0 where
   packet : Coming
   front : head c (bare g) ≡ Some packet
   numbered : IsNumbered arrived n packet
@@ -152,13 +152,13 @@ has_packet arrived [] ws n x e = absurd (cc)
 has_packet arrived (m ∷ ns) [] n x e = absurd x
 has_packet arrived (m ∷ ns) (a ∷ ws) n x e = (a, refl)
 
-first_label : (g : List Entry) (x : Place) (xs : List Place) → places g ≡ x ∷ xs → slice_get (labels x.0 g) 0 ≡ Some x.1
+first_label : (g : List Happened) (x : Place) (xs : List Place) → places g ≡ x ∷ xs → slice_get (labels x.0 g) 0 ≡ Some x.1
 first_label g x xs e =
     let t : (x.0 == x.0) ≡ true = eq-eqb x.0 x.0 refl in
     let q : of_class x.0 (x ∷ xs) ≡ x.1 ∷ of_class x.0 xs = rw t refl in
     ap (λ (l : List ℕ). slice_get l 0) (sym (of_class_labels x.0 g) ∙ ap (of_class x.0) e ∙ q)
 
-is_first : (p : Policy) (rate seed : ℕ) (arrived : List Coming) (g : List Entry) (x : Place) (xs : List Place) → EachFollows p rate seed arrived g → places g ≡ x ∷ xs
+is_first : (p : Policy) (rate seed : ℕ) (arrived : List Coming) (g : List Happened) (x : Place) (xs : List Place) → EachFollows p rate seed arrived g → places g ≡ x ∷ xs
     → IsFirst arrived g x.0 x.1
 is_first p rate seed arrived g x xs f e =
     let l = first_label g x xs e in
@@ -174,7 +174,7 @@ decide : (n m : ℕ) → (n ≤ m) ⊎ (m < n)
 decide n m = grind arith
 
 -- what is left is not before the first that waits
-left_case : (p : Policy) (rate seed : ℕ) (arrived : List Coming) (js : List Decision) (g : List Entry) (x : Place) (xs : List Place) (n : ℕ)
+left_case : (p : Policy) (rate seed : ℕ) (arrived : List Coming) (js : List Decision) (g : List Happened) (x : Place) (xs : List Place) (n : ℕ)
     → EachFollows p rate seed arrived g → KeepsDrops js g → places g ≡ x ∷ xs → IsLeft arrived js g n
     → (n ≤ offered (bare g)) ⊎ (offered (bare g) < n) → x.1 ≤ n
 unfolding KeepsDrops
@@ -190,7 +190,7 @@ left_case p rate seed arrived js g x xs n f k e l (inr high) =
     (let P : List Place → Type 0 = λ ys. RisesTo 0 (offered (bare g)) (all_labels ys) in subst P e (places_rise p rate seed arrived g f)) in
     omega (arith, bounded x.1 (offered (bare g)) (all_labels xs) r.1)
 
-first_left : (p : Policy) (rate seed : ℕ) (arrived : List Coming) (js : List Decision) (g : List Entry) (x : Place) (xs : List Place)
+first_left : (p : Policy) (rate seed : ℕ) (arrived : List Coming) (js : List Decision) (g : List Happened) (x : Place) (xs : List Place)
     → EachFollows p rate seed arrived g → KeepsDrops js g → places g ≡ x ∷ xs → IsLeft arrived js g x.1
 unfolding KeepsDrops
 first_left p rate seed arrived js g x xs f k e =
@@ -210,7 +210,7 @@ first_left p rate seed arrived js g x xs f k e =
       unsent = omega (arith, b, q, o, m, split x.1 g);
     }
 
-never_waits_start : (p : Policy) (free : ℕ) (g : List Entry) (c s : ℕ) (a : Coming) → NeverWaits p → head c (bare g) ≡ Some a → class_start p free (bare g) c ≡ Some s
+never_waits_start : (p : Policy) (free : ℕ) (g : List Happened) (c s : ℕ) (a : Coming) → NeverWaits p → head c (bare g) ≡ Some a → class_start p free (bare g) c ≡ Some s
     → s ≡ max free a.at
 never_waits_start p free g c s a nw e f =
     let x = start_of p free (bare g) c a e in
@@ -218,7 +218,7 @@ never_waits_start p free g c s a nw e f =
     let r : p.start_from (bare g) c (max free a.at) ≡ s = cc in
     sym r ∙ nw (bare g) c (max free a.at)
 
-busy_at : (p : Policy) (rate seed : ℕ) (arrived : List Coming) (js : List Decision) (g : List Entry) (e : Entry) (y : IsSending p rate arrived g e) (xs : List Place)
+busy_at : (p : Policy) (rate seed : ℕ) (arrived : List Coming) (js : List Decision) (g : List Happened) (e : Happened) (y : IsSending p rate arrived g e) (xs : List Place)
     → NeverWaits p → AreRising arrived → AreHeld p arrived → EachFollows p rate seed arrived g → KeepsDrops js g → places g ≡ xs
     → StartsBusy rate arrived js g y.sending
 busy_at p rate seed arrived js g e y [] nw rise can f k q =
@@ -253,7 +253,7 @@ busy_at p rate seed arrived js g e y (x ∷ xs) nw rise can f k q =
       start = omega (arith, low, wait, own, order, at);
     }
 
-busy_step : (p : Policy) (rate seed : ℕ) (arrived : List Coming) (js : List Decision) (g : List Entry) (e : Entry)
+busy_step : (p : Policy) (rate seed : ℕ) (arrived : List Coming) (js : List Decision) (g : List Happened) (e : Happened)
     → NeverWaits p → AreRising arrived → AreHeld p arrived → EachFollows p rate seed arrived g → KeepsDrops js g
     → IsOffer p rate seed arrived g e ⊎ IsSending p rate arrived g e → FollowsBusy rate arrived js e.what g
 busy_step p rate seed arrived js g e nw rise can f k (inl y) =
@@ -262,18 +262,18 @@ busy_step p rate seed arrived js g e nw rise can f k (inr y) =
     let P : Event → Type 0 = λ z. FollowsBusy rate arrived js z g in
     subst P (sym y.event) (busy_at p rate seed arrived js g e y (places g) nw rise can f k refl)
 
-busy : (p : Policy) (rate seed : ℕ) (arrived : List Coming) (js : List Decision) (g : List Entry) → NeverWaits p → AreRising arrived → AreHeld p arrived
+busy : (p : Policy) (rate seed : ℕ) (arrived : List Coming) (js : List Decision) (g : List Happened) → NeverWaits p → AreRising arrived → AreHeld p arrived
     → EachFollows p rate seed arrived g → KeepsDrops js g → AllBusy rate arrived js g
 busy p rate seed arrived js [] nw rise can f k = tt
 busy p rate seed arrived js (e ∷ g) nw rise can f k =
     let l = keeps_step p rate seed arrived js g e k f.0 in
     (busy_step p rate seed arrived js g e nw rise can f.1 l f.0, busy p rate seed arrived js g nw rise can f.1 l)
 
-all_kept : (g : List Entry) → KeepsDrops (journal g) g
+all_kept : (g : List Happened) → KeepsDrops (journal g) g
 unfolding KeepsDrops
 all_kept g = λ n l. refl
 
-pub is_busy : (p : Policy) (rate seed : ℕ) (arrived : List Coming) (g : List Entry) → 0 < rate → IsLawful p → NeverWaits p → AreRising arrived → AreHeld p arrived
+pub is_busy : (p : Policy) (rate seed : ℕ) (arrived : List Coming) (g : List Happened) → 0 < rate → IsLawful p → NeverWaits p → AreRising arrived → AreHeld p arrived
     → AreDue p rate seed arrived g → IsBusy rate arrived g
 is_busy p rate seed arrived g pos law nw rise can d =
     busy p rate seed arrived (journal g) g nw rise can (each_follows p rate seed arrived g pos law rise d) (all_kept g)

@@ -2,8 +2,8 @@
 use Rattle.std.proofs.Common.{◌≡◌, ◌∙◌, inl, inr, ℕ, max, List, [], ◌∷◌, Some, refl, ap, sym, arith}
 use Rattle.std.specs.Prelude.{slice_get, option_map}
 use Rattle.altq_model.specs.declared.Rule.{Rule}
-use Rattle.altq_model.specs.declared.Mark.{Mark}
-use Rattle.altq_model.specs.Capture.{Record}
+use Rattle.altq_model.specs.declared.Placed.{Placed}
+use Rattle.capture_model.specs.Capture.{Record}
 use Rattle.altq_model.specs.Arrivals.{arrivals_of, comings}
 use Rattle.altq_model.specs.History.{Coming, Event, head, waiting}
 use Rattle.altq_model.specs.Play.{Policy, class_start, first_start, lesser}
@@ -55,6 +55,6 @@ strict_never_waits classes r answer = λ h c t. refl
 pub steady : (p : Policy) → NeverWaits p → IsSteady p
 steady p nw = λ h c t u b e l m. nw h c u ∙ (let q : u ≡ t = omega (arith, l, m, nw h c t) in q) ∙ sym (nw h c t)
 
-pub one_queue_holds : (limit : ℕ) (mark : List ℕ → Mark) (records : List Record) → ((bytes : List ℕ) → (mark bytes).class ≡ 1)
+pub one_queue_holds : (limit : ℕ) (mark : List ℕ → Placed) (records : List Record) → ((bytes : List ℕ) → (mark bytes).class ≡ 1)
     → AreHeld (one_queue limit) (comings (arrivals_of mark records))
 one_queue_holds limit mark records one = arrivals_held (one_queue limit) mark records (λ bytes. inl (sym (one bytes)))

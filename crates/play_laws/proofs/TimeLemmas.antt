@@ -4,7 +4,7 @@ use Rattle.std.specs.Prelude.{slice_get, ◌==◌}
 use Rattle.std.specs.declared.option.Option.{Option}
 use Rattle.altq_model.specs.declared.Verdict.{Verdict}
 use Rattle.altq_model.specs.declared.Verdict.TheVariants.{Keep, Drop}
-use Rattle.altq_model.specs.History.{Coming, Answer, Words, Event, Offered, Sent, Sending, Entry, bare, offered, drawn, head, waiting, with_offer, without_head}
+use Rattle.altq_model.specs.History.{Coming, Answer, DrawnWords, Event, Offered, Sent, Transmission, Happened, bare, offered, drawn, head, waiting, with_offer, without_head}
 use Rattle.altq_model.specs.Link.{link, end_of}
 use Rattle.altq_model.specs.Play.{Policy, lesser, class_start, first_start, due, AreDue}
 use Rattle.play_laws.specs.Lawful.{IsOneOf, IsLawful, HaveArrived, RiseFrom, AreRising, IsSteady, latest, start_at, first_at}
@@ -62,7 +62,7 @@ head_new true Keep x y (z ∷ xs) e f = absurd (cc)
 head_new false Keep x y xs e f = absurd (cc)
 head_new b (Drop r) x y xs e f = absurd (cc)
 
-pub head_stays : (c : ℕ) (h : List Event) (a : Coming) (w : Words) (v : Answer) (b : Coming) → head c h ≡ Some b → head c (Offered a w v ∷ h) ≡ Some b
+pub head_stays : (c : ℕ) (h : List Event) (a : Coming) (w : DrawnWords) (v : Answer) (b : Coming) → head c h ≡ Some b → head c (Offered a w v ∷ h) ≡ Some b
 head_stays c h a w v b e = head_kept (a.class == c) v.verdict a b (waiting c h) e
 
 -- arrivals by place
@@ -89,7 +89,7 @@ on_time_first : (p : Policy) (rate : ℕ) (arrived : List Coming) → IsOnTime p
 on_time_first p rate arrived = record { starts = λ c s i e. omega arith; comes = λ k a l e. omega arith }
 
 -- after an offer
-old_head : (p : Policy) (free : ℕ) (h : List Event) (a : Coming) (w : Words) (v : Answer) (c s t : ℕ) (b : Coming) → IsLawful p → IsOneOf c p.classes
+old_head : (p : Policy) (free : ℕ) (h : List Event) (a : Coming) (w : DrawnWords) (v : Answer) (c s t : ℕ) (b : Coming) → IsLawful p → IsOneOf c p.classes
     → head c h ≡ Some b → class_start p free (Offered a w v ∷ h) c ≡ Some s → ((u : ℕ) → first_start p free h p.classes ≡ Some u → t ≤ u) → t ≤ s
 old_head p free h a w v c s t b law i e f l =
     let x = start_of p free (Offered a w v ∷ h) c b (head_stays c h a w v b e) in
@@ -100,7 +100,7 @@ old_head p free h a w v c s t b law i e f l =
     let m = least_of p free h p.classes c (p.start_from h c (max free b.at)) i y in
     omega (arith, l m.start m.is, m.least, same, q)
 
-new_head : (p : Policy) (free : ℕ) (h : List Event) (a : Coming) (w : Words) (v : Answer) (c s : ℕ) → IsLawful p
+new_head : (p : Policy) (free : ℕ) (h : List Event) (a : Coming) (w : DrawnWords) (v : Answer) (c s : ℕ) → IsLawful p
     → head c h ≡ None → class_start p free (Offered a w v ∷ h) c ≡ Some s → a.at ≤ s
 new_head p free h a w v c s law e f =
     let x = head_of p free (Offered a w v ∷ h) c s f in
@@ -108,12 +108,12 @@ new_head p free h a w v c s law e f =
     let P : Coming → Type 0 = λ y. y.at ≤ s in
     subst P (sym same) (omega (arith, law.later (Offered a w v ∷ h) c (max free x.packet.at), x.start))
 
-any_head : (p : Policy) (free : ℕ) (h : List Event) (a : Coming) (w : Words) (v : Answer) (c s : ℕ) (o : Option Coming) → IsLawful p → IsOneOf c p.classes
+any_head : (p : Policy) (free : ℕ) (h : List Event) (a : Coming) (w : DrawnWords) (v : Answer) (c s : ℕ) (o : Option Coming) → IsLawful p → IsOneOf c p.classes
     → head c h ≡ o → class_start p free (Offered a w v ∷ h) c ≡ Some s → ((u : ℕ) → first_start p free h p.classes ≡ Some u → a.at ≤ u) → a.at ≤ s
 any_head p free h a w v c s None law i e f l = new_head p free h a w v c s law e f
 any_head p free h a w v c s (Some b) law i e f l = old_head p free h a w v c s a.at b law i e f l
 
-on_time_offer : (p : Policy) (rate : ℕ) (arrived : List Coming) (h : List Event) (a : Coming) (w : Words) (v : Answer) → IsLawful p → AreRising arrived
+on_time_offer : (p : Policy) (rate : ℕ) (arrived : List Coming) (h : List Event) (a : Coming) (w : DrawnWords) (v : Answer) → IsLawful p → AreRising arrived
     → slice_get arrived (offered h) ≡ Some a → ((u : ℕ) → first_start p (link rate h).free h p.classes ≡ Some u → a.at ≤ u)
     → IsOnTime p rate arrived h → IsOnTime p rate arrived (Offered a w v ∷ h)
 on_time_offer p rate arrived h a w v law rise n l t = record {
@@ -126,7 +126,7 @@ on_time_offer p rate arrived h a w v law rise n l t = record {
 }
 
 -- after a sending
-on_time_sent : (p : Policy) (rate : ℕ) (arrived : List Coming) (h : List Event) (s : Sending) → 0 < rate → IsLawful p → latest h ≤ s.start
+on_time_sent : (p : Policy) (rate : ℕ) (arrived : List Coming) (h : List Event) (s : Transmission) → 0 < rate → IsLawful p → latest h ≤ s.start
     → IsOnTime p rate arrived h → IsOnTime p rate arrived (Sent s ∷ h)
 on_time_sent p rate arrived h s pos law l t = record {
   starts = λ c u i e.
@@ -136,11 +136,11 @@ on_time_sent p rate arrived h s pos law l t = record {
   comes = t.comes;
 }
 
-on_time_step : (p : Policy) (rate seed : ℕ) (arrived : List Coming) (g : List Entry) (e : Entry) → 0 < rate → IsLawful p → AreRising arrived
+on_time_step : (p : Policy) (rate seed : ℕ) (arrived : List Coming) (g : List Happened) (e : Happened) → 0 < rate → IsLawful p → AreRising arrived
     → IsOnTime p rate arrived (bare g) → IsOffer p rate seed arrived g e ⊎ IsSending p rate arrived g e → IsOnTime p rate arrived (bare (e ∷ g))
 on_time_step p rate seed arrived g e pos law rise t (inl x) =
     let P : Event → Type 0 = λ y. IsOnTime p rate arrived (y ∷ bare g) in
-    let w : Words = record { seed = seed; drawn = drawn (bare g) } in
+    let w : DrawnWords = record { seed = seed; drawn = drawn (bare g) } in
     subst P (sym (offer_event p rate seed arrived g e x))
     (on_time_offer p rate arrived (bare g) x.packet w (p.answer (bare g) w x.packet) law rise x.next x.first t)
 on_time_step p rate seed arrived g e pos law rise t (inr x) =
@@ -154,18 +154,18 @@ have_arrived p rate arrived h s t f =
     let l : latest h ≤ s = t.starts x.class s x.one x.start in
     λ c a e. omega (arith, head_latest c h a e, l)
 
-pub follows : (p : Policy) (rate seed : ℕ) (arrived : List Coming) (g : List Entry) (e : Entry) → IsLawful p → IsOnTime p rate arrived (bare g)
+pub follows : (p : Policy) (rate seed : ℕ) (arrived : List Coming) (g : List Happened) (e : Happened) → IsLawful p → IsOnTime p rate arrived (bare g)
     → due p rate seed arrived g ≡ Some e → IsOffer p rate seed arrived g e ⊎ IsSending p rate arrived g e
 follows p rate seed arrived g e law t d = due_is p rate seed arrived g e law (λ s f. have_arrived p rate arrived (bare g) s t f) d
 
-pub on_time : (p : Policy) (rate seed : ℕ) (arrived : List Coming) (g : List Entry) → 0 < rate → IsLawful p → AreRising arrived
+pub on_time : (p : Policy) (rate seed : ℕ) (arrived : List Coming) (g : List Happened) → 0 < rate → IsLawful p → AreRising arrived
     → AreDue p rate seed arrived g → IsOnTime p rate arrived (bare g)
 on_time p rate seed arrived [] pos law rise d = on_time_first p rate arrived
 on_time p rate seed arrived (e ∷ g) pos law rise d =
     let t = on_time p rate seed arrived g pos law rise d.1 in
     on_time_step p rate seed arrived g e pos law rise t (follows p rate seed arrived g e law t d.0)
 
-pub each_follows : (p : Policy) (rate seed : ℕ) (arrived : List Coming) (g : List Entry) → 0 < rate → IsLawful p → AreRising arrived
+pub each_follows : (p : Policy) (rate seed : ℕ) (arrived : List Coming) (g : List Happened) → 0 < rate → IsLawful p → AreRising arrived
     → AreDue p rate seed arrived g → EachFollows p rate seed arrived g
 each_follows p rate seed arrived [] pos law rise d = tt
 each_follows p rate seed arrived (e ∷ g) pos law rise d =
@@ -194,19 +194,19 @@ same_firsts p rate arrived h (c ∷ cs) law s t i =
     ap (λ (o : Option ℕ). lesser o (first_start p (link rate h).free h cs)) x
     ∙ ap (λ (o : Option ℕ). lesser (start_at p (max (link rate h).free (latest h)) h c) o) y
 
-pub one_moment : (p : Policy) (rate seed : ℕ) (arrived : List Coming) (g : List Entry) → 0 < rate → IsLawful p → IsSteady p → AreRising arrived
+pub one_moment : (p : Policy) (rate seed : ℕ) (arrived : List Coming) (g : List Happened) → 0 < rate → IsLawful p → IsSteady p → AreRising arrived
     → AreDue p rate seed arrived g
     → first_start p (link rate (bare g)).free (bare g) p.classes ≡ first_at p (max (link rate (bare g)).free (latest (bare g))) (bare g) p.classes
 one_moment p rate seed arrived g pos law s rise d =
     same_firsts p rate arrived (bare g) p.classes law s (on_time p rate seed arrived g pos law rise d) (λ c i. i)
 
-pub all_arrived : (p : Policy) (rate seed : ℕ) (arrived : List Coming) (g : List Entry) → 0 < rate → IsLawful p → AreRising arrived
+pub all_arrived : (p : Policy) (rate seed : ℕ) (arrived : List Coming) (g : List Happened) → 0 < rate → IsLawful p → AreRising arrived
     → AreDue p rate seed arrived g → (s : ℕ) → first_start p (link rate (bare g)).free (bare g) p.classes ≡ Some s → latest (bare g) ≤ s
 all_arrived p rate seed arrived g pos law rise d = λ s f.
     let x = first_of p (link rate (bare g)).free (bare g) p.classes s f in
     (on_time p rate seed arrived g pos law rise d).starts x.class s x.one x.start
 
-pub next_later : (p : Policy) (rate seed : ℕ) (arrived : List Coming) (g : List Entry) → 0 < rate → IsLawful p → AreRising arrived
+pub next_later : (p : Policy) (rate seed : ℕ) (arrived : List Coming) (g : List Happened) → 0 < rate → IsLawful p → AreRising arrived
     → AreDue p rate seed arrived g → (a : Coming) → slice_get arrived (offered (bare g)) ≡ Some a → latest (bare g) ≤ a.at
 next_later p rate seed arrived g pos law rise d = λ a e.
     (on_time p rate seed arrived g pos law rise d).comes (offered (bare g)) a (omega arith) e

@@ -1,8 +1,8 @@
 -- When a policy is lawful, and when arrivals suit it. A law is asked after every history.
 use Rattle.std.specs.Prelude.{◌≡◌, ◌≤◌, ◌⊎◌, ◌↔◌, ℕ, max, List, [], ◌∷◌, None, Some, option_map}
 use Rattle.std.specs.declared.option.Option.{Option}
-use Rattle.altq_model.specs.Capture.{Record}
-use Rattle.altq_model.specs.History.{Coming, Answer, Words, Event, Offered, Sent, head}
+use Rattle.capture_model.specs.Capture.{Record}
+use Rattle.altq_model.specs.History.{Coming, Answer, DrawnWords, Event, Offered, Sent, head}
 use Rattle.altq_model.specs.Play.{Policy, class_start, first_start, lesser}
 
 -- a class is one of these
@@ -23,7 +23,7 @@ pub record IsLawful (p : Policy) : Type 0 where
   -- the least moment from t on is not before t
   pub later : (h : List Event) (c t : ℕ) → t ≤ p.start_from h c t
   -- an offer changes no moment of a class that waits
-  pub offers : (h : List Event) (a : Coming) (w : Words) (v : Answer) (c t : ℕ) (b : Coming) → head c h ≡ Some b
+  pub offers : (h : List Event) (a : Coming) (w : DrawnWords) (v : Answer) (c t : ℕ) (b : Coming) → head c h ≡ Some b
       → p.start_from (Offered a w v ∷ h) c t ≡ p.start_from h c t
   -- at the least moment at which some class may send, if every head has arrived by then, the pick is a class that may
   pub picks : (h : List Event) (free s : ℕ) → first_start p free h p.classes ≡ Some s → HaveArrived s h → MaySend p free h (p.pick h s).class s
@@ -50,7 +50,7 @@ pub record SendsWhen (allowed : List Event → (c t : ℕ) → Type 0) (p : Poli
   pub later : (h : List Event) (c t : ℕ) → t ≤ p.start_from h c t
   pub may : (h : List Event) (c t : ℕ) (b : Coming) → head c h ≡ Some b → allowed h c (p.start_from h c t)
   pub least : (h : List Event) (c t u : ℕ) (b : Coming) → head c h ≡ Some b → t ≤ u → allowed h c u → p.start_from h c t ≤ u
-  pub keeps : (h : List Event) (a : Coming) (w : Words) (v : Answer) (c t : ℕ) (b : Coming) → head c h ≡ Some b
+  pub keeps : (h : List Event) (a : Coming) (w : DrawnWords) (v : Answer) (c t : ℕ) (b : Coming) → head c h ≡ Some b
       → allowed (Offered a w v ∷ h) c t ↔ allowed h c t
   pub picks : (h : List Event) (s c : ℕ) → IsCandidate allowed p h s c → IsCandidate allowed p h s (p.pick h s).class
 

@@ -6,9 +6,10 @@ use Rattle.altq_model.specs.declared.Fate.{Fate}
 use Rattle.altq_model.specs.declared.Fate.TheVariants.{Sent}
 use Rattle.altq_model.specs.declared.Rule.{Rule}
 use Rattle.altq_model.specs.Arrivals.{Arrival}
-use Rattle.altq_model.specs.Texts.{departure_record, record_head}
+use Rattle.altq_model.specs.Texts.{departure_record}
+use Rattle.capture_model.specs.Header.{record_header}
 use Rattle.play_base.specs.View.{View, Wrote, WroteFront}
-use Rattle.play_base.specs.ViewLaws.{wrote_more_there}
+use Rattle.play_base.proofs.ViewLaws.{wrote_more_there}
 use Rattle.play_loop.specs.Gathered.{Grew, Stopped}
 
 pub take_drop : {X : Type 0} (k : ℕ) (xs : List X) → take k xs ++ drop k xs ≡ xs
@@ -75,9 +76,9 @@ stopped_longer u v file a xs ys x = record {
 
 -- the record of a packet that was sent
 pub departed : (a : Arrival) (f : Fate) (start end captured : ℕ) (rule : Rule) (head : List ℕ) → f ≡ Sent start end rule
-    → head ≡ record_head end captured a.len → captured ≡ length a.bytes → head ++ a.bytes ≡ departure_record a f
+    → head ≡ record_header end captured a.len → captured ≡ length a.bytes → head ++ a.bytes ≡ departure_record a f
 departed a f start end captured rule head e h n =
-    ap (λ (r : List ℕ). r ++ a.bytes) (h ∙ ap (λ k. record_head end k a.len) n) ∙ sym (ap (departure_record a) e)
+    ap (λ (r : List ℕ). r ++ a.bytes) (h ∙ ap (λ k. record_header end k a.len) n) ∙ sym (ap (departure_record a) e)
 
 -- a text that nothing was gathered before
 pub grew_whole : (u v : View) (file : ℕ) (bytes : List ℕ) → Wrote u v file bytes → Grew u v file [] [] bytes

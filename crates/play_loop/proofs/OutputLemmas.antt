@@ -4,10 +4,10 @@ use Rattle.std.proofs.lemmas.List.{append-nil}
 use Rattle.std.specs.Prelude.{IsSome}
 use Rattle.std.specs.declared.option.Option.{Option}
 use Rattle.play_base.specs.View.{View, Wrote, WroteFront}
-use Rattle.play_base.specs.ViewLaws.{keeps_trans, keeps_fewer, part_of_there}
-use Rattle.play_base.specs.HoldsLaws.{apart_kept, apart_sym}
+use Rattle.play_base.proofs.ViewLaws.{keeps_trans, keeps_fewer, part_of_there}
+use Rattle.play_base.proofs.HoldsLaws.{apart_kept, apart_sym}
 use Rattle.play_loop.specs.Gathered.{Grew, Stopped}
-use Rattle.play_loop.specs.GatheredLaws.{text_grew, text_stopped, text_beside, text_front, text_same, front_longer, front_same}
+use Rattle.play_loop.proofs.GatheredLaws.{text_grew, text_stopped, text_beside, text_front, text_same, front_longer, front_same}
 use Rattle.play_loop.specs.Setup.{KeepsBut}
 use Rattle.play_loop.specs.declared.outputs.Outputs.{Outputs}
 use Rattle.play_loop.specs.Outputs.{TextsAre, FrontsAre, SameFiles}

@@ -3,9 +3,9 @@ use Rattle.std.proofs.Common.{◌≡◌, ◌≢◌, ◌≤◌, ◌++◌, ◌∙�
 use Rattle.std.specs.Prelude.{nat_lt}
 use Rattle.std.specs.declared.option.Option.{Option}
 use Rattle.altq_model.specs.Arrivals.{Arrival}
-use Rattle.altq_model.specs.Capture.{Record, Head, Fault, ReadsFrom}
+use Rattle.capture_model.specs.Capture.{Record, Header, Fault, ReadsFrom}
 use Rattle.play_base.specs.View.{View, Keeps, Any, ReadFault}
-use Rattle.play_base.specs.ViewLaws.{keeps_trans, rose_later}
+use Rattle.play_base.proofs.ViewLaws.{keeps_trans, rose_later}
 use Rattle.pcap_files.specs.Ahead.{TookSome}
 use Rattle.pcap_files.specs.declared.fault.CaptureFault.{CaptureFault}
 use Rattle.pcap_files.specs.declared.fault.CaptureFault.TheVariants as fault
@@ -13,7 +13,7 @@ use Rattle.pcap_files.specs.declared.record.Record.{Record as Read}
 use Rattle.pcap_files.specs.Reading.{IsHeadFault, ReadsTo, Shows}
 use Rattle.play_laws.specs.Lawful.{greatest}
 use Rattle.play_laws.proofs.ArrivalLemmas.{arrivals_append}
-use Rattle.altq_model.specs.declared.Mark.{Mark}
+use Rattle.altq_model.specs.declared.Placed.{Placed}
 use Rattle.altq_model.specs.Arrivals.{arrivals_of}
 use Rattle.altq_model.specs.History.{Coming}
 use Rattle.play_laws.specs.Lawful.{AreRising, RiseFrom}
@@ -23,7 +23,7 @@ use Rattle.play_loop.specs.Reading.{AreMarked}
 
 -- a file with a bad head has no complete record
 pub head_fault : (f : CaptureFault) (bytes : List ℕ) → IsHeadFault f bytes → ReadsTo f bytes []
-head_fault (fault.Damage d) bytes h = let P : Head → Type 0 = λ x. ReadsFrom x bytes [] (Fault d) in subst P (sym h) (refl, refl)
+head_fault (fault.Damage d) bytes h = let P : Header → Type 0 = λ x. ReadsFrom x bytes [] (Fault d) in subst P (sym h) (refl, refl)
 head_fault fault.Limit bytes h = absurd h
 head_fault fault.Read bytes h = tt
 head_fault fault.NoMemory bytes h = tt
@@ -55,7 +55,7 @@ held-push [] a = refl
 held-push (x ∷ xs) a = ap (λ (r : List Arrival). arrival_of x ∷ r) (held-push xs a)
 
 -- one more record is one more arrival
-pub arrival_more : (mark : List ℕ → Mark) (records : List Record) (r : Record) (list : List Arrived) (latest count : ℕ) (answer : Read) (a : Arrived)
+pub arrival_more : (mark : List ℕ → Placed) (records : List Record) (r : Record) (list : List Arrived) (latest count : ℕ) (answer : Read) (a : Arrived)
     → arrivals_held list ≡ arrivals_of mark records → greatest 0 records ≡ latest → Shows answer count r
     → a.at ≡ max latest answer.stamp → a.len ≡ answer.len → a.mark ≡ mark a.bytes → a.bytes ≡ answer.bytes → a.raised ≡ nat_lt answer.stamp latest
     → (arrivals_held (list ++ a ∷ []) ≡ arrivals_of mark (records ++ r ∷ [])) × (greatest 0 (records ++ r ∷ []) ≡ max latest answer.stamp)
@@ -96,6 +96,6 @@ rises_more xs a latest r l m =
     let P : List Coming → Type 0 = λ cs. AreRising cs × (last_at 0 cs ≡ a.at) in
     subst P (sym (comings-push xs a)) (rises_on 0 (comings_held xs) (coming_of a) r (omega (arith, l, m)), last_push 0 (comings_held xs) (coming_of a))
 
-pub marked_more : (mark : List ℕ → Mark) (xs : List Arrived) (a : Arrived) → AreMarked mark xs → a.mark ≡ mark a.bytes → AreMarked mark (xs ++ a ∷ [])
+pub marked_more : (mark : List ℕ → Placed) (xs : List Arrived) (a : Arrived) → AreMarked mark xs → a.mark ≡ mark a.bytes → AreMarked mark (xs ++ a ∷ [])
 marked_more mark [] a m e = (e, tt)
 marked_more mark (x ∷ xs) a m e = (m.0, marked_more mark xs a m.1 e)

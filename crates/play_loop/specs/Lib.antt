@@ -1,5 +1,4 @@
 pub mod Gathered
-pub mod GatheredLaws
 pub mod OneQueue
 pub mod Outputs
 pub mod Played

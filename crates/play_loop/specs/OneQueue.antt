@@ -1,13 +1,13 @@
 -- The one queue of an interface without classes.
 use Rattle.std.specs.Prelude.{ℕ, List, [], ◌∷◌, codes}
-use Rattle.altq_model.specs.declared.Mark.{Mark}
+use Rattle.altq_model.specs.declared.Placed.{Placed}
 use Rattle.altq_model.specs.Policies.{one_queue}
 use Rattle.altq_model.specs.Texts.{Naming}
 use Rattle.play_text.specs.Names.{name_of}
 use Rattle.play_loop.specs.Setup.{Setup}
 
 -- every frame is of the one class
-abbrev pub one_mark : List ℕ → Mark
+abbrev pub one_mark : List ℕ → Placed
 one_mark frame = record { class = 1; prec = 0 }
 
 -- whose name is `default`

@@ -1,9 +1,9 @@
 -- What is played, and what a play of it leaves.
 use Rattle.std.specs.Prelude.{◌≢◌, ℕ, List}
-use Rattle.altq_model.specs.declared.Mark.{Mark}
+use Rattle.altq_model.specs.declared.Placed.{Placed}
 use Rattle.altq_model.specs.Arrivals.{Arrival, arrivals_of, comings}
-use Rattle.altq_model.specs.Capture.{Record}
-use Rattle.altq_model.specs.History.{Entry, journal}
+use Rattle.capture_model.specs.Capture.{Record}
+use Rattle.altq_model.specs.History.{Happened, journal}
 use Rattle.altq_model.specs.Play.{Policy}
 use Rattle.altq_model.specs.Texts.{Naming, departures, fates}
 use Rattle.play_base.specs.View.{View, Keeps}
@@ -15,12 +15,12 @@ use Rattle.play_loop.specs.Gathered.{HoldsFront}
 -- per second, and the seed of the words
 pub record Setup : Type 0 where
   pub policy : Policy
-  pub mark : List ℕ → Mark
+  pub mark : List ℕ → Placed
   pub names : Naming
   pub rate : ℕ
   pub seed : ℕ
 
-abbrev pub setup_of : Policy → (List ℕ → Mark) → Naming → (rate seed : ℕ) → Setup
+abbrev pub setup_of : Policy → (List ℕ → Placed) → Naming → (rate seed : ℕ) → Setup
 setup_of policy mark names rate seed = record { policy = policy; mark = mark; names = names; rate = rate; seed = seed }
 
 -- the arrivals of a capture's records
@@ -28,31 +28,31 @@ abbrev pub arrivals_in : Setup → List Record → List Arrival
 arrivals_in x records = arrivals_of x.mark records
 
 -- the departures and the fates of a history
-abbrev pub departures_of : Setup → List Record → List Entry → List ℕ
+abbrev pub departures_of : Setup → List Record → List Happened → List ℕ
 departures_of x records g = departures (arrivals_in x records) (journal g)
 
-abbrev pub fates_of : Setup → List Record → List Entry → List ℕ
+abbrev pub fates_of : Setup → List Record → List Happened → List ℕ
 fates_of x records g = fates x.names (arrivals_in x records) (journal g)
 
 -- the whole play of these records
-abbrev pub IsPlayOf : Setup → List Record → List Entry → Type 0
+abbrev pub IsPlayOf : Setup → List Record → List Happened → Type 0
 IsPlayOf x records g = IsPlayed x.policy x.rate x.seed (comings (arrivals_in x records)) g
 
 -- its first events
-abbrev pub IsFrontOf : Setup → List Record → List Entry → Type 0
+abbrev pub IsFrontOf : Setup → List Record → List Happened → Type 0
 IsFrontOf x records g = IsBegun x.policy x.rate x.seed (comings (arrivals_in x records)) g
 
 -- its events before a sending that would end too late
-abbrev pub IsCutOf : Setup → List Record → List Entry → Type 0
+abbrev pub IsCutOf : Setup → List Record → List Happened → Type 0
 IsCutOf x records g = IsCutOff x.policy x.rate x.seed (comings (arrivals_in x records)) g
 
 -- the files hold the departures and the fates of this history
-pub record HoldTexts (v : View) (dep fat : ℕ) (x : Setup) (records : List Record) (g : List Entry) : Type 0 where
+pub record HoldTexts (v : View) (dep fat : ℕ) (x : Setup) (records : List Record) (g : List Happened) : Type 0 where
   pub departures : HoldsAt v dep (departures_of x records g)
   pub fates : HoldsAt v fat (fates_of x records g)
 
 -- they hold a front of each
-pub record HoldFronts (v : View) (dep fat : ℕ) (x : Setup) (records : List Record) (g : List Entry) : Type 0 where
+pub record HoldFronts (v : View) (dep fat : ℕ) (x : Setup) (records : List Record) (g : List Happened) : Type 0 where
   pub departures : HoldsFront v dep (departures_of x records g)
   pub fates : HoldsFront v fat (fates_of x records g)
 

@@ -1,6 +1,6 @@
 // The files of a play, and why it ends early.
 
-use altq_model::Damage;
+use capture_model::Damage;
 
 /// The files of a play, each answered by the files that it is played over: the arrivals opened, the others created.
 #[derive(Clone, Copy)]

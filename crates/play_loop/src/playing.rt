@@ -1,9 +1,10 @@
 // The play of an interface, from a capture to departures and fates.
 ghost use Rattle.std.specs.Prelude.{◌≡◌, ◌≢◌, ◌≤◌, ◌^◌, [], ℕ, List, length, Some, IsSome, IfOk, IfErr, OnOk, OnErr, IsErrOf};
-ghost use Rattle.altq_model.specs.declared.Mark.{Mark};
+ghost use Rattle.altq_model.specs.declared.Placed.{Placed};
 ghost use Rattle.altq_model.specs.Arrivals.{arrivals_of};
-ghost use Rattle.altq_model.specs.Capture.{Record};
-ghost use Rattle.altq_model.specs.Texts.{capture_head, fates_head};
+ghost use Rattle.capture_model.specs.Capture.{Record};
+ghost use Rattle.altq_model.specs.Texts.{fates_header};
+ghost use Rattle.capture_model.specs.Header.{capture_header};
 ghost use Rattle.play_laws.specs.Lawful.{AreHeld, AreRising, IsOneOf};
 ghost use Rattle.play_base.specs.View.{WriteFault};
 ghost use Rattle.discipline.specs.Laws.{HasRate};
@@ -23,7 +24,7 @@ use leaf_queue::Words;
 use pcap_files::{CaptureFault, head_bytes};
 use play_base::{Files, Trouble};
 use play_core::{Arrived, Totals, decide};
-use play_text::{Names, fates_head};
+use play_text::{Names, fates_header};
 use std::alloc::Global;
 
 // Writes the head of the departures, and then the head row of the fates.
@@ -31,9 +32,9 @@ fn write_heads<F: Files>(files: &mut F, departures: u32, fates: u32) -> Result<(
     requires departures { IsSome ((F.view files.old).part departures) }
     requires fates { IsSome ((F.view files.old).part fates) }
     ensures wrote { OnOk result (AreEmpty (F.view files.old) departures fates →
-        TextsAre (F.view files.new) departures fates [] [] capture_head fates_head) }
+        TextsAre (F.view files.new) departures fates [] [] capture_header fates_header) }
     ensures stopped { OnErr result (AreEmpty (F.view files.old) departures fates →
-        FrontsAre (F.view files.new) departures fates capture_head fates_head) }
+        FrontsAre (F.view files.new) departures fates capture_header fates_header) }
     ensures left { (f p : ℕ) → (F.view files.old).part f ≡ Some p → (F.view files.old).name f ≢ (F.view files.old).name departures →
         (F.view files.old).name f ≢ (F.view files.old).name fates → (F.view files.new).left f ≡ (F.view files.old).left f }
     ensures keeps { KeepsBut departures fates (F.view files.old) (F.view files.new) }
@@ -46,7 +47,7 @@ fn write_heads<F: Files>(files: &mut F, departures: u32, fates: u32) -> Result<(
         Err(Trouble::Failed) => return Err(OutputFault::Departures),
         Err(Trouble::NoMemory) => return Err(OutputFault::NoMemory),
     }
-    match write_all(files, fates, fates_head()) {
+    match write_all(files, fates, fates_header()) {
         Ok(()) => Ok(()),
         Err(Trouble::Failed) => Err(OutputFault::Fates),
         Err(Trouble::NoMemory) => Err(OutputFault::NoMemory),
@@ -83,11 +84,11 @@ fn play_arrived<D: Discipline, F: Files>(
     requires named { AreNamed names.now arrived.now }
     requires departures { IsSome ((F.view files.old).part outputs.old.departures) }
     requires fates { IsSome ((F.view files.old).part outputs.old.fates) }
-    ensures played { IfOk result (λ e. (mark : List ℕ → Mark) (records : List Record) → arrivals_held arrived.now ≡ arrivals_of mark records →
-        HasTexts (F.view files.old) outputs.old capture_head fates_head →
+    ensures played { IfOk result (λ e. (mark : List ℕ → Placed) (records : List Record) → arrivals_held arrived.now ≡ arrivals_of mark records →
+        HasTexts (F.view files.old) outputs.old capture_header fates_header →
         HasPlayed e.cut (setup_of (D.policy discipline.old) mark (name_of names.now) rate words.old.seed) (D.stands discipline.new) (F.view files.new) outputs.old.departures outputs.old.fates records e.totals) }
-    ensures stopped { OnErr result ((mark : List ℕ → Mark) (records : List Record) → arrivals_held arrived.now ≡ arrivals_of mark records →
-        HasTexts (F.view files.old) outputs.old capture_head fates_head →
+    ensures stopped { OnErr result ((mark : List ℕ → Placed) (records : List Record) → arrivals_held arrived.now ≡ arrivals_of mark records →
+        HasTexts (F.view files.old) outputs.old capture_header fates_header →
         HasStopped (setup_of (D.policy discipline.old) mark (name_of names.now) rate words.old.seed) (F.view files.new) outputs.old.departures outputs.old.fates records) }
     ensures keeps { KeepsBut outputs.old.departures outputs.old.fates (F.view files.old) (F.view files.new) }
     ensures said { (F.view files.new).said ≡ (F.view files.old).said }

@@ -5,7 +5,7 @@ ghost use Rattle.play_laws.specs.Lawful.{AreRising};
 ghost use Rattle.play_core.specs.Arrived.{comings_held};
 ghost use Rattle.play_loop.specs.Reading.{AreMarked, HasRead, HasFault};
 
-use altq_model::Mark;
+use altq_model::Placed;
 use discipline::Classify;
 use pcap_files::{CaptureFault, Reader, Record};
 use play_base::Files;
@@ -13,7 +13,7 @@ use play_core::Arrived;
 use std::alloc::Global;
 
 // The arrival of a record, where this was the greatest stamp before it.
-fn arrived_of(arrival: Record, latest: u64, mark: Mark) -> Arrived
+fn arrived_of(arrival: Record, latest: u64, mark: Placed) -> Arrived
     requires { latest < 2 ^ 62 }
     ensures at { result.at ≡ max latest arrival.stamp }
     ensures len { result.len ≡ arrival.len }

@@ -6,7 +6,7 @@ mod rows;
 mod status;
 
 pub use names::Names;
-pub use rows::{fate_row, fates_head, named_row};
+pub use rows::{fate_row, fates_header, named_row};
 pub use status::{Status, Totals};
 
 #[cfg(test)]

@@ -1,7 +1,7 @@
 // The rows of the fates.
 ghost use Rattle.std.specs.Prelude.{◌≡◌, ◌∷◌, [], IfOk, map};
 ghost use Rattle.csv.specs.Writing.{default_writer, row_text};
-ghost use Rattle.altq_model.specs.Texts.{fate_text, fates_head, rule_word, reason_word};
+ghost use Rattle.altq_model.specs.Texts.{fate_text, fates_header, rule_word, reason_word};
 ghost use Rattle.play_text.specs.Names.{HasClass, name_of};
 
 use crate::names::Names;
@@ -127,8 +127,8 @@ pub fn named_row(
 }
 
 /// The head row of the fates.
-pub fn fates_head() -> &'static [u8]
-    ensures { result.now ≡ fates_head }
+pub fn fates_header() -> &'static [u8]
+    ensures { result.now ≡ fates_header }
 {
     b"number,arrival,length,class,fate,start,end\n"
 }

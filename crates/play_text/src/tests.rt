@@ -1,4 +1,4 @@
-use crate::{Names, fate_row, fates_head};
+use crate::{Names, fate_row, fates_header};
 use altq_model::{Fate, Reason, Rule};
 use std::test::Fail;
 
@@ -14,7 +14,7 @@ fn one_packet_at_five_seconds(rt: HostRuntime) -> Result<(), Fail> {
     let row = fate_row(rt.alloc(), &names, 1, 5_000_000_000, 1000, 1, &sent)?;
     let text = b"1,5000000000,1000,default,share,5000000000,5001000000\n";
     assert!(rt; row.as_slice() == text.as_slice());
-    assert_eq!(rt; fates_head().len(), 43);
+    assert_eq!(rt; fates_header().len(), 43);
     Ok(())
 }
 

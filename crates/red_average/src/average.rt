@@ -1,6 +1,6 @@
 // The moving average of the packets that wait, in packets times 2^21.
 ghost use Rattle.std.specs.Prelude.{◌≡◌, ◌≤◌, ◌^◌};
-ghost use Rattle.altq_model.specs.Units.{time_of};
+ghost use Rattle.play_base.specs.Units.{time_of};
 ghost use Rattle.red_average.specs.Average.{idled, moved};
 
 use play_base::time_of;

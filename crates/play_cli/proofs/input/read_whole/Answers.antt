@@ -1,7 +1,7 @@
 use Rattle.std.proofs.Common.{◌≡◌, ◌++◌, take, subst, arith, List, ℕ}
 use Rattle.std.proofs.lemmas.Grind.{common_steps}
 use Rattle.play_base.specs.View.{View, Took}
-use Rattle.play_base.specs.ViewLaws.{took_more, still_there}
+use Rattle.play_base.proofs.ViewLaws.{took_more, still_there}
 use Rattle.play_cli.proofs.input.read_whole.Goals as goal
 
 one_more : (a b c : View) (file : ℕ) (xs ys zs : List ℕ) → xs ++ ys ≡ zs → Took a b file xs → Took b c file ys → Took a c file zs

@@ -1,5 +1,5 @@
 use Rattle.std.proofs.Common.{◌≡◌, ◌≤◌, ◌<◌, ◌+◌, ◌-◌, ◌^◌, List, length}
-use Rattle.altq_model.specs.History.{Entry}
+use Rattle.altq_model.specs.History.{Happened}
 use Rattle.altq_model.specs.Laws.{clock_end}
 use Rattle.play_core.specs.Arrived.{comings_held, decisions_of}
 use Rattle.play_core.specs.Decided.{AreSound}
@@ -17,7 +17,7 @@ invariant-events g l = record {
   link_rate : g.D.Discipline.link_rate l.discipline ≡ g.D.Discipline.link_rate l.fn.discipline;
   few : length l.list.items ≤ length l.arrived;
   sound : AreSound (length l.arrived) (decisions_of l.list.items);
-  come : (h : List Entry) × HasCome (g.D.Discipline.policy l.fn.discipline) l.rate l.fn.words.seed (comings_held l.arrived) h l.clock.link l.latest l.next l.words.drawn
+  come : (h : List Happened) × HasCome (g.D.Discipline.policy l.fn.discipline) l.rate l.fn.words.seed (comings_held l.arrived) h l.clock.link l.latest l.next l.words.drawn
       (decisions_of l.list.items) × g.D.Discipline.stands l.discipline h;
 }
 

@@ -2,10 +2,10 @@
 use Rattle.std.proofs.Common.{◌∙◌, List, Bool, Err, ap, sym, refl, subst, inr}
 use Rattle.std.specs.Prelude.{Result, Vec}
 use Rattle.std.specs.declared.alloc.Global.{Global}
-use Rattle.altq_model.specs.Capture.{Record}
-use Rattle.play_base.specs.ViewLaws.{part_of_there}
+use Rattle.capture_model.specs.Capture.{Record}
+use Rattle.play_base.proofs.ViewLaws.{part_of_there}
 use Rattle.pcap_files.specs.declared.fault.CaptureFault.{CaptureFault}
-use Rattle.pcap_files.specs.ReadingLaws.{one_reading}
+use Rattle.pcap_files.proofs.ReadingLaws.{one_reading}
 use Rattle.play_core.specs.declared.arrived.Arrived.{Arrived}
 use Rattle.play_core.specs.Arrived.{HavePrecs, arrivals_held, comings_held}
 use Rattle.play_laws.specs.Lawful.{AreHeld}

@@ -1,6 +1,6 @@
 use Rattle.std.proofs.Common.{◌≡◌, ◌≢◌, ◌≤◌, ◌-◌, ◌<◌, ◌^◌, ℕ, List, length, None, Some}
 use Rattle.std.specs.Prelude.{IsSome}
-use Rattle.altq_model.specs.Capture.{Record}
+use Rattle.capture_model.specs.Capture.{Record}
 use Rattle.play_base.specs.View.{Any, Keeps}
 use Rattle.play_laws.specs.Lawful.{greatest}
 use Rattle.pcap_files.specs.Reading.{StandsFor, answered}

@@ -1,6 +1,6 @@
 -- Each turn adds the texts of one decision.
 use Rattle.std.proofs.Common.{◌∙◌, ◌+◌, arith}
-use Rattle.play_base.specs.ViewLaws.{still_there}
+use Rattle.play_base.proofs.ViewLaws.{still_there}
 use Rattle.play_core.specs.Arrived.{arrivals_held}
 use Rattle.play_text.specs.Names.{name_of}
 use Rattle.play_loop.proofs.DecisionLemmas.{sound_at, more_texts, fronts_of_all, texts_of_all}

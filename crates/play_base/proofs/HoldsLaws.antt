@@ -2,7 +2,7 @@
 use Rattle.std.specs.Prelude.{◌≡◌, ◌≢◌, ℕ, List, ◌++◌, [], IsTrue, IsSome}
 use Rattle.std.proofs.Common.{◌∙◌, ap, sym}
 use Rattle.play_base.specs.View.{View, Keeps, Any, Unchanged, Opened, Created, Took, Wrote, Said}
-use Rattle.play_base.specs.ViewLaws.{still_there, part_of_there, is_some_of}
+use Rattle.play_base.proofs.ViewLaws.{still_there, part_of_there, is_some_of}
 use Rattle.play_base.specs.Holds.{HoldsAt, Apart}
 
 -- a file that is there keeps its name

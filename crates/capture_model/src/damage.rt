@@ -1,6 +1,6 @@
 // What is wrong with a capture.
 ghost use Rattle.std.specs.Prelude.{◌≡◌};
-ghost use Rattle.altq_model.specs.Numbers.{damage_number};
+ghost use Rattle.capture_model.specs.Numbers.{damage_number};
 
 /// The kind of the first test that a capture fails, in the order of the tests of the head and then of a record.
 #[derive(Clone, Copy, Debug, PartialEq, Eq)]

@@ -1,7 +1,7 @@
 -- The numbers by which a status names what is wrong with a capture.
 use Rattle.std.specs.Prelude.{ℕ}
-use Rattle.altq_model.specs.declared.capture.DamageKind.{DamageKind}
-use Rattle.altq_model.specs.declared.capture.DamageKind.TheVariants.{ShortHead, BadMagic, BadVersion, BadLink, ShortRecord, EmptyRecord, LongRecord}
+use Rattle.capture_model.specs.declared.damage.DamageKind.{DamageKind}
+use Rattle.capture_model.specs.declared.damage.DamageKind.TheVariants.{ShortHead, BadMagic, BadVersion, BadLink, ShortRecord, EmptyRecord, LongRecord}
 
 abbrev pub damage_number : DamageKind → ℕ
 damage_number ShortHead = 1

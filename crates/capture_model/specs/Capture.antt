@@ -1,11 +1,11 @@
--- The reading of a capture in the classic capture format of version 2.4 (libpcap, pcap-savefile(5)): a head of 24 bytes,
--- then records, each a head of 16 bytes and the captured bytes.
+-- The reading of a capture in the classic capture format of version 2.4 (libpcap, pcap-savefile(5)): a header of 24 bytes,
+-- then records, each a header of 16 bytes and the captured bytes.
 use Rattle.std.specs.Prelude.{◌≡◌, ◌==◌, ◌||◌, ◌&&◌, ◌+◌, ◌*◌, ◌%◌, ◌^◌, ℕ, zero, suc, Bool, true, false, not, nat_lt, nat_le, List, [], ◌∷◌, length, take, drop, if◌then◌else◌, None, Some}
 use Rattle.std.specs.declared.option.Option.{Option}
 use Rattle.std.specs.Int.{w16, w32, from_be_bytes, from_le_bytes}
-use Rattle.altq_model.specs.declared.capture.Damage.{Damage}
-use Rattle.altq_model.specs.declared.capture.DamageKind.{DamageKind}
-use Rattle.altq_model.specs.declared.capture.DamageKind.TheVariants.{ShortHead, BadMagic, BadVersion, BadLink, ShortRecord, EmptyRecord, LongRecord}
+use Rattle.capture_model.specs.declared.damage.Damage.{Damage}
+use Rattle.capture_model.specs.declared.damage.DamageKind.{DamageKind}
+use Rattle.capture_model.specs.declared.damage.DamageKind.TheVariants.{ShortHead, BadMagic, BadVersion, BadLink, ShortRecord, EmptyRecord, LongRecord}
 
 -- the order of a file's bytes, and whether its fractions count nanoseconds or microseconds
 pub record Form : Type 0 where
@@ -49,27 +49,27 @@ form_of magic =
     else if magic == 0x4d3cb2a1 then Some (record { big = false; nanos = true })
     else None
 
--- what the head reads as: a form, or the first test that it fails
-pub data Head : Type 0 where
-  Formed : Form → Head
-  Unformed : Damage → Head
+-- what the header reads as: a form, or the first test that it fails
+pub data Header : Type 0 where
+  Formed : Form → Header
+  Unformed : Damage → Header
 
 -- a fault of this kind at this place
 abbrev pub damage : ℕ → DamageKind → Damage
 damage place kind = record { place = place; kind = kind }
 
 -- the version is 2.4 and the low 16 bits of the link type are Ethernet's; nothing else is looked at
-abbrev pub head_in : Option Form → List ℕ → Head
-head_in None bytes = Unformed (damage 0 BadMagic)
-head_in (Some form) bytes =
+abbrev pub header_in : Option Form → List ℕ → Header
+header_in None bytes = Unformed (damage 0 BadMagic)
+header_in (Some form) bytes =
     if not ((half form.big bytes 4 == 2) && (half form.big bytes 6 == 4)) then Unformed (damage 4 BadVersion)
     else if not (word form.big bytes 20 % 2 ^ 16 == 1) then Unformed (damage 20 BadLink)
     else Formed form
 
-abbrev pub head : List ℕ → Head
-head bytes =
+abbrev pub header : List ℕ → Header
+header bytes =
     if nat_lt (length bytes) 24 then Unformed (damage (length bytes) ShortHead)
-    else head_in (form_of (word true bytes 0)) bytes
+    else header_in (form_of (word true bytes 0)) bytes
 
 -- the stamp of the record at a place: a fraction of a second or more is carried
 abbrev pub stamp : Form → List ℕ → ℕ → ℕ
@@ -97,6 +97,13 @@ step form bytes count at =
     else if nat_lt (length bytes) (at + 16 + captured) then Fault (damage at ShortRecord)
     else Next (record { stamp = stamp form bytes at; captured = take captured (drop (at + 16) bytes); original = original }) (at + 16 + captured)
 
+-- what may stand after the complete records
+abbrev pub IsLast : Step → Type 0
+IsLast End = Unit {0}
+IsLast (Next r after) = ⊥
+IsLast (Fault found) = Unit {0}
+IsLast Limit = Unit {0}
+
 -- the place after these records
 abbrev pub place_after : ℕ → List Record → ℕ
 place_after at [] = at
@@ -113,13 +120,13 @@ pub record ReadsAs (form : Form) (bytes : List ℕ) (records : List Record) (las
   pub stand : Stand form bytes 0 24 records
   pub ended : step form bytes (length records) (place_after 24 records) ≡ last
 
-abbrev pub ReadsFrom : Head → List ℕ → List Record → Step → Type 0
+abbrev pub ReadsFrom : Header → List ℕ → List Record → Step → Type 0
 ReadsFrom (Formed form) bytes records last = ReadsAs form bytes records last
 ReadsFrom (Unformed fault) bytes records last = (records ≡ []) × (last ≡ Fault fault)
 
 -- these are the complete records of a file, and after them comes its end, its first fault or its limit
 abbrev pub Reads : List ℕ → List Record → Step → Type 0
-Reads bytes records last = ReadsFrom (head bytes) bytes records last
+Reads bytes records last = ReadsFrom (header bytes) bytes records last
 
 -- the bytes are a capture of these records
 abbrev pub IsCapture : List ℕ → List Record → Type 0
@@ -143,9 +150,9 @@ outcome_on (suc turns) form bytes count at =
       | Limit ↦ record { records = []; last = Limit }
     ]
 
-abbrev pub outcome_from : Head → List ℕ → Outcome
+abbrev pub outcome_from : Header → List ℕ → Outcome
 outcome_from (Formed form) bytes = outcome_on (length bytes) form bytes 0 24
 outcome_from (Unformed fault) bytes = record { records = []; last = Fault fault }
 
 abbrev pub outcome : List ℕ → Outcome
-outcome bytes = outcome_from (head bytes) bytes
+outcome bytes = outcome_from (header bytes) bytes

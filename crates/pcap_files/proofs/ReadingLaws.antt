@@ -2,8 +2,8 @@
 use Rattle.std.specs.Prelude.{◌≡◌, ◌≤◌, ◌+◌, ℕ, List, [], ◌∷◌, ◌++◌, length, None, Some, IsSome}
 use Rattle.std.proofs.Common.{◌∙◌, ap, sym, subst, refl, arith, append-nil, length-append, length-drop}
 use Rattle.play_base.specs.View.{View, Keeps}
-use Rattle.play_base.specs.ViewLaws.{still_there, part_of_there}
-use Rattle.altq_model.specs.Capture.{Form, Record, Step, End, Next, Fault, Limit, Head, step, Stand, place_after, ReadsAs, ReadsFrom, Reads, Unformed, Formed, head}
+use Rattle.play_base.proofs.ViewLaws.{still_there, part_of_there}
+use Rattle.capture_model.specs.Capture.{Form, Record, Step, End, Next, Fault, Limit, Header, step, Stand, place_after, IsLast, ReadsAs, ReadsFrom, Reads, Unformed, Formed, header}
 use Rattle.pcap_files.specs.Ahead.{TookSome}
 use Rattle.pcap_files.specs.Forms.{form}
 use Rattle.pcap_files.specs.Reading.{StandsFor}
@@ -41,13 +41,6 @@ taken v r bytes rest records s sound left =
     let same : x.rest.0 ≡ rest = same_some x.rest.0 rest (sym x.rest.1 ∙ left) in
     omega (arith, s.ahead sound, s.place, x.place, length-drop r.progress.place bytes, ap length x.rest.2, length-append r.ahead x.rest.0, ap length same)
 
--- what may stand after the complete records
-abbrev pub IsLast : Step → Type 0
-IsLast End = Unit {0}
-IsLast (Next r after) = ⊥
-IsLast (Fault found) = Unit {0}
-IsLast Limit = Unit {0}
-
 abbrev next_of : Record → Step → Record
 next_of other End = other
 next_of other (Next r after) = r
@@ -80,7 +73,7 @@ stand_front f bytes count at (x ∷ xs) (y ∷ ys) last a b e h =
 pub answered_front : (v : View) (r : Reader) (bytes : List ℕ) (records all : List Record) (last : Step) → StandsFor v r bytes records
     → Reads bytes all last → IsLast last → (rest : List Record) × (all ≡ records ++ rest)
 answered_front v r bytes records all last s x h =
-    let y : ReadsAs (form r.head) bytes all last = subst (λ (found : Head). ReadsFrom found bytes all last) s.formed x in
+    let y : ReadsAs (form r.head) bytes all last = subst (λ (found : Header). ReadsFrom found bytes all last) s.formed x in
     stand_front (form r.head) bytes 0 24 records all last s.stand y.stand
     (ap (λ (n : ℕ). step (form r.head) bytes n (place_after 24 all)) (omega arith) ∙ y.ended) h
 
@@ -88,7 +81,7 @@ empty : (rs : List Record) → length rs ≡ 0 → rs ≡ []
 empty [] h = refl
 empty (r ∷ rs) h = absurd (omega (arith, h))
 
-one_from : (h : Head) (bytes : List ℕ) (xs ys : List Record) (p q : Step) → ReadsFrom h bytes xs p → IsLast p → ReadsFrom h bytes ys q → IsLast q
+one_from : (h : Header) (bytes : List ℕ) (xs ys : List Record) (p q : Step) → ReadsFrom h bytes xs p → IsLast p → ReadsFrom h bytes ys q → IsLast q
     → (xs ≡ ys) × (p ≡ q)
 one_from (Unformed found) bytes xs ys p q a hp b hq = (a.0 ∙ sym b.0, a.1 ∙ sym b.1)
 one_from (Formed f) bytes xs ys p q a hp b hq =
@@ -104,4 +97,4 @@ one_from (Formed f) bytes xs ys p q a hp b hq =
 -- bytes have at most one reading
 pub one_reading : (bytes : List ℕ) (xs ys : List Record) (p q : Step) → Reads bytes xs p → IsLast p → Reads bytes ys q → IsLast q
     → (xs ≡ ys) × (p ≡ q)
-one_reading bytes xs ys p q a hp b hq = one_from (head bytes) bytes xs ys p q a hp b hq
+one_reading bytes xs ys p q a hp b hq = one_from (header bytes) bytes xs ys p q a hp b hq

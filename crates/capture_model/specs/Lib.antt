@@ -1,0 +1,4 @@
+pub mod Capture
+pub mod Header
+pub mod Numbers
+pub mod Rows
