@@ -1,7 +1,7 @@
 -- The choice by real time: the eligible head of least deadline, after Stoica, Zhang and Ng, "A Hierarchical Fair Service
 -- Curve Algorithm for Link-Sharing, Real-Time and Priority Services", SIGCOMM 1997. `curves` has the real-time curve of each
 -- class, where it has one.
-use Rattle.std.specs.Prelude.{◌≡◌, ◌≤◌, ◌==◌, ◌&&◌, ◌+◌, ℕ, nat_lt, Bool, true, false, List, [], ◌∷◌, length, slice_get, Option, None, Some, if◌then◌else◌}
+use Rattle.std.specs.Prelude.{◌≡◌, ◌≤◌, ◌==◌, ◌&&◌, ◌+◌, ℕ, nat_le, nat_lt, Bool, true, false, List, [], ◌∷◌, length, slice_get, Option, None, Some, if◌then◌else◌}
 use Rattle.std.specs.List.{filter, range_with_len}
 use Rattle.play_base.specs.Units.{units}
 use Rattle.service_curve.specs.declared.Curve.{Curve}
@@ -50,6 +50,11 @@ head_deadline (Some s) l = deadline_of s l l.waiting
 abbrev pub has_head : Option Curve → Leaf → Bool
 has_head None l = false
 has_head (Some s) l = is_waiting l.waiting
+
+-- a moment is not later than now, where `None` is never
+abbrev pub has_come : Option ℕ → ℕ → Bool
+has_come None now = false
+has_come (Some t) now = nat_le t now
 
 -- the first moment is before the second, where `None` is never
 abbrev pub is_earlier : Option ℕ → Option ℕ → Bool

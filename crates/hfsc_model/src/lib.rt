@@ -6,11 +6,12 @@
 //! altq.conf(5).
 #![tactic(auto)]
 
-ghost use Rattle.std.specs.Prelude.{◌≡◌, ◌∷◌, ◌++◌, [], Some, None};
+ghost use Rattle.std.specs.Prelude.{◌≡◌, ◌∷◌, ℕ, [], Option, Some, None};
+ghost use Rattle.service_curve.specs.declared.Curve.{Curve};
 ghost use Rattle.hfsc_model.specs.Event.{HfscHistory, Kept, Sent};
-ghost use Rattle.hfsc_model.specs.Leaf.{leaf};
+ghost use Rattle.hfsc_model.specs.Leaf.{Leaf, leaf};
 ghost use Rattle.hfsc_model.specs.Tree.{reals};
-ghost use Rattle.hfsc_model.specs.RealTime.{curve_of, head_deadline};
+ghost use Rattle.hfsc_model.specs.RealTime.{curve_of, head_deadline, has_come, is_eligible, soonest_of, IsOpenBy};
 ghost use Rattle.hfsc_model.specs.Choice.{by_real_time, by_share, choice, with_chosen};
 ghost use Rattle.hfsc_model.specs.Rows.{kept, starts, choices, sent_classes, times_of, voice_and_data, twins, quarters, filling, limited, limited_in_real_time, first_burst, second_burst};
 
@@ -24,6 +25,12 @@ pub struct HfscClass {
     pub share: Option<Curve>,
     pub limit: Option<Curve>,
 }
+
+/// While no opening lies ahead, a head is eligible exactly from its soonest moment on.
+#[tactic(auto, using(crate::proofs::Soonest::eligible_from_soonest))]
+pub fn heads_are_eligible_from_a_moment_on()
+    ensures { (o : Option Curve) (l : Leaf) (now : ℕ) → IsOpenBy l.openings now → is_eligible o l now ≡ has_come (soonest_of o l) now }
+{}
 
 /// Fifty packets of the data leaf wait from 0 on; one of the voice leaf that comes at 10 milliseconds goes at once.
 pub fn voice_overtakes_bulk_data()

@@ -1,5 +1,6 @@
 -- A ranking in the words of a key that is a function.
-use Rattle.std.proofs.Common.{◌≡◌, ◌<◌, ◌≤◌, ℕ, Bool, true, false, List, [], ◌∷◌, None, Some, refl, sym, ap, arith, ◌∙◌}
+use Rattle.std.proofs.Common.{◌≡◌, ◌<◌, ◌≤◌, ◌+◌, ◌⊎◌, inl, inr, ℕ, zero, suc, Bool, true, false, List, [], ◌∷◌, None, Some, take, length, get_or, refl, sym, ap, arith, ◌∙◌}
+use Rattle.std.proofs.lemmas.Bool.{cases_lt}
 use Rattle.std.specs.Prelude.{Option, ◌==◌, cond, if◌then◌else◌}
 use Rattle.std.specs.List.{find}
 use Rattle.std.proofs.lemmas.Bool.Decides.{nat_tests}
@@ -43,7 +44,7 @@ pub record IsFirstThat (key : ℕ → Option ℕ) (test : ℕ → Bool) (xs : Li
   pub there : is_in c xs ≡ true
   pub first : (d : ℕ) → is_in d xs ≡ true → test d ≡ true → (d ≡ c → ⊥) → goes_first (key c) c (key d) d ≡ true
 
-goes : (key : ℕ → Option ℕ) (c d : ℕ) (ds : List ℕ) → GoesBefore key c ds → is_in d ds ≡ true → goes_first (key c) c (key d) d ≡ true
+pub goes : (key : ℕ → Option ℕ) (c d : ℕ) (ds : List ℕ) → GoesBefore key c ds → is_in d ds ≡ true → goes_first (key c) c (key d) d ≡ true
 goes key c d [] r i = absurd cc
 goes key c d (x ∷ xs) r i = go (x == d) refl i (goes key c d xs r.1)
   where
@@ -51,7 +52,7 @@ goes key c d (x ∷ xs) r i = go (x == d) refl i (goes key c d xs r.1)
     go true e i rest = let same : x ≡ d = grind (arith, nat_tests, e) in ap (λ n. goes_first (key c) c (key n) n) (sym same) ∙ r.0
     go false e i rest = rest i
 
-behind : (x d : ℕ) (xs : List ℕ) → is_in d (x ∷ xs) ≡ true → (x ≡ d → ⊥) → is_in d xs ≡ true
+pub behind : (x d : ℕ) (xs : List ℕ) → is_in d (x ∷ xs) ≡ true → (x ≡ d → ⊥) → is_in d xs ≡ true
 behind x d xs i n = go (x == d) refl i
   where
     go : (b : Bool) → (x == d) ≡ b → (if b then true else is_in d xs) ≡ true → is_in d xs ≡ true
@@ -89,3 +90,52 @@ found_none test (x ∷ xs) d e i t = go (test x) refl e (found_none test xs d)
     go : (b : Bool) → test x ≡ b → cond b (Some x) (find test xs) ≡ None → (find test xs ≡ None → is_in d xs ≡ true → test d ≡ true → ⊥) → ⊥
     go true f e rest = cc
     go false f e rest = rest e (behind x d xs i (differs test x d f t)) t
+
+-- where no class of the list passes none is found
+pub find_none : (test : ℕ → Bool) (xs : List ℕ) → ((c : ℕ) → is_in c xs ≡ true → test c ≡ false) → find test xs ≡ None
+find_none test [] f = refl
+find_none test (x ∷ xs) f =
+    let fails : test x ≡ false = f x (rw (same_test x) refl) in
+    rw fails (find_none test xs (λ c i. f c (in_more x c xs i)))
+
+-- the look at one class more
+find_next : (test : ℕ → Bool) (xs : List ℕ) (k : ℕ) → find test (take k xs) ≡ None → k < length xs → test (get_or xs k 0) ≡ false → find test (take (suc k) xs) ≡ None
+find_next test [] k e h f = absurd (omega arith)
+find_next test (x ∷ xs) zero e h f = rw f refl
+find_next test (x ∷ xs) (suc k) e h f = go (test x) refl e (find_next test xs k)
+  where
+    go : (b : Bool) → test x ≡ b → cond b (Some x) (find test (take k xs)) ≡ None
+        → (find test (take k xs) ≡ None → k < length xs → test (get_or xs k 0) ≡ false → find test (take (suc k) xs) ≡ None)
+        → cond b (Some x) (find test (take (suc k) xs)) ≡ None
+    go true g e rest = e
+    go false g e rest = rest e (omega arith) f
+
+pub find_more : (test : ℕ → Bool) (xs : List ℕ) (k : ℕ) → find test (take k xs) ≡ None → k < length xs → test (get_or xs k 0) ≡ false → find test (take (k + 1) xs) ≡ None
+find_more test xs k e h f = let one : k + 1 ≡ suc k = omega arith in ap (λ n. find test (take n xs)) one ∙ find_next test xs k e h f
+
+pub find_hit : (test : ℕ → Bool) (xs : List ℕ) (k : ℕ) → find test (take k xs) ≡ None → k < length xs → test (get_or xs k 0) ≡ true → Some (get_or xs k 0) ≡ find test xs
+find_hit test [] k e h f = absurd (omega arith)
+find_hit test (x ∷ xs) zero e h f = rw f refl
+find_hit test (x ∷ xs) (suc k) e h f = go (test x) refl e (find_hit test xs k)
+  where
+    go : (b : Bool) → test x ≡ b → cond b (Some x) (find test (take k xs)) ≡ None
+        → (find test (take k xs) ≡ None → k < length xs → test (get_or xs k 0) ≡ true → Some (get_or xs k 0) ≡ find test xs)
+        → Some (get_or xs k 0) ≡ cond b (Some x) (find test xs)
+    go true g e rest = absurd cc
+    go false g e rest = rest e (omega arith) f
+
+-- each class of a list is below the count of its classes
+at_below : (n : ℕ) (xs : List ℕ) (k : ℕ) → AreBelow n xs → k < length xs → get_or xs k 0 < n
+at_below n [] k r h = absurd (omega arith)
+at_below n (x ∷ xs) zero r h = r.0
+at_below n (x ∷ xs) (suc k) r h = at_below n xs k r.1 (omega arith)
+
+pub item_below : (n : ℕ) (xs : List ℕ) (k : ℕ) → are_below n xs ≡ true → k < length xs → get_or xs k 0 < n
+item_below n xs k r h = at_below n xs k (below_true n xs r) h
+
+pub in_below : (n : ℕ) (c : ℕ) (xs : List ℕ) → are_below n xs ≡ true → is_in c xs ≡ true → c < n
+in_below n c xs r i = go (cases_lt c n)
+  where
+    go : (c < n) ⊎ (n ≤ c) → c < n
+    go (inl h) = h
+    go (inr h) = let no : is_in c xs ≡ false = outside n c xs r h in absurd cc
