@@ -161,7 +161,7 @@ opened_stands e new curves h class at len old x stands k empty is opened set =
     record {
       classes = ap (λ (xs : List Slot). length xs) set ∙ all.classes;
       each = λ c d n. subst (λ (xs : List Slot). SlotStands (get_or xs c d) (curve_of curves c) (leaf (Kept class at len ∷ h) c)) (sym set)
-        (all.each c d (subst (λ (xs : List Slot). c < length xs) set n));
+          (all.each c d (subst (λ (xs : List Slot). c < length xs) set n));
     }
 
 -- a packet kept in a class in which another waits changes nothing that is held

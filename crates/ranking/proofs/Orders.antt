@@ -13,9 +13,10 @@ goes_before : (keys : List (Option ℕ)) (key : ℕ → Option ℕ) (c : ℕ) (d
     → ((d : ℕ) → is_in d ds ≡ true → key_of keys d ≡ key d) → IsBeforeAll keys c ds → GoesBefore key c ds
 goes_before keys key c [] e f r = tt
 goes_before keys key c (d ∷ ds) e f r =
-    let one : key_of keys d ≡ key d = f d (rw (same_test d) refl) in
-    (sym (ap (λ (k : Option ℕ). goes_first k c (key_of keys d) d) e ∙ ap (λ (k : Option ℕ). goes_first (key c) c k d) one) ∙ r.0,
-    goes_before keys key c ds e (λ x i. f x (in_more d x ds i)) r.1)
+    let one : key_of keys d ≡ key d = f d (rw (same_test d) refl) in (
+      sym (ap (λ (k : Option ℕ). goes_first k c (key_of keys d) d) e ∙ ap (λ (k : Option ℕ). goes_first (key c) c k d) one) ∙ r.0,
+      goes_before keys key c ds e (λ x i. f x (in_more d x ds i)) r.1,
+    )
 
 in_order : (keys : List (Option ℕ)) (key : ℕ → Option ℕ) (cs : List ℕ) → ((d : ℕ) → is_in d cs ≡ true → key_of keys d ≡ key d) → IsRanked keys cs → AreInOrder key cs
 in_order keys key [] f r = tt

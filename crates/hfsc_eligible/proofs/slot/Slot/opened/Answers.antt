@@ -10,5 +10,5 @@ invariant_of-result c = record {
   last = begun_up_to (is_some c.args.self.real) (last_in c.begun.result) _ c.args.self.count c.begun.ensures.last;
   head_long = λ n e. let same : c.args.len ≡ n = cc in let long = c.requires.len in omega arith;
   «open» = λ n e r f. sym (ap is_some (ap last_in f)) ∙ begun_open (is_some c.args.self.real) (last_in c.begun.result) _ c.args.self.count c.begun.ensures.last
-    (sym c.begun.ensures.curve ∙ ap is_some f);
+      (sym c.begun.ensures.curve ∙ ap is_some f);
 }
