@@ -1,6 +1,6 @@
 -- A head is eligible from its soonest moment on.
-use Rattle.std.proofs.Common.{◌≡◌, ◌≤◌, ℕ, Bool, true, false, List, [], ◌∷◌, None, Some, refl, sym, arith}
-use Rattle.std.specs.Prelude.{Option, ◌&&◌, nat_le, if◌then◌else◌}
+use Rattle.std.proofs.Common.{◌≡◌, ℕ, Bool, true, false, List, [], ◌∷◌, None, Some, refl, sym, arith}
+use Rattle.std.specs.Prelude.{Option, ◌&&◌, if◌then◌else◌}
 use Rattle.std.proofs.lemmas.Bool.Decides.{nat_tests}
 use Rattle.service_curve.specs.declared.Curve.{Curve}
 use Rattle.service_curve.specs.Moment.{HasCome}

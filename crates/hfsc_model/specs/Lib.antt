@@ -5,4 +5,6 @@ pub mod Tree
 pub mod Share
 pub mod Limit
 pub mod Choice
+pub mod Link
+pub mod Timely
 pub mod Rows

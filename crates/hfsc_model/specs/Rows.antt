@@ -6,6 +6,8 @@ use Rattle.hfsc_model.specs.declared.HfscClass.{HfscClass}
 use Rattle.hfsc_model.specs.Event.{HfscHistory, Kept, Sent}
 use Rattle.hfsc_model.specs.Choice.{Choice, with_chosen}
 use Rattle.hfsc_model.specs.Share.{virtual_time}
+use Rattle.hfsc_model.specs.Timely.{opens, rows, units_of}
+use Rattle.runtime_curve.specs.Deadline.{deadline}
 
 abbrev pub root : HfscClass
 root = record { parent = None; real = None; share = None; limit = None }
@@ -79,3 +81,7 @@ first_burst = with_chosen filling (kept 150 1 0 100 []) (starts 150 0 100000)
 
 abbrev pub second_burst : ℕ → HfscHistory
 second_burst n = with_chosen filling (kept 100 2 16000000 100 (kept 100 1 16000000 100 first_burst)) (starts n 16000000 100000)
+
+-- the least moment that is due for the last packet sent of a class
+abbrev pub due_of : ℕ → Curve → HfscHistory → ℕ → Option ℕ
+due_of rate s h c = deadline s (opens (rows rate h c)) (units_of (rows rate h c))

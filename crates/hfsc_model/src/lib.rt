@@ -6,14 +6,15 @@
 //! altq.conf(5).
 #![tactic(auto)]
 
-ghost use Rattle.std.specs.Prelude.{◌≡◌, ◌∷◌, ℕ, [], Option, Some, None};
+ghost use Rattle.std.specs.Prelude.{◌≡◌, ◌∷◌, ℕ, [], Option, Some, None, true};
 ghost use Rattle.service_curve.specs.declared.Curve.{Curve};
 ghost use Rattle.hfsc_model.specs.Event.{HfscHistory, Kept, Sent};
 ghost use Rattle.hfsc_model.specs.Leaf.{Leaf, leaf};
 ghost use Rattle.hfsc_model.specs.Tree.{reals};
 ghost use Rattle.hfsc_model.specs.RealTime.{curve_of, head_deadline, has_come, is_eligible, soonest_of, IsOpenBy};
 ghost use Rattle.hfsc_model.specs.Choice.{by_real_time, by_share, choice, with_chosen};
-ghost use Rattle.hfsc_model.specs.Rows.{kept, starts, choices, sent_classes, times_of, voice_and_data, twins, quarters, filling, limited, limited_in_real_time, first_burst, second_burst};
+ghost use Rattle.hfsc_model.specs.Rows.{kept, starts, choices, sent_classes, times_of, voice_and_data, twins, quarters, filling, limited, limited_in_real_time, first_burst, second_burst, due_of};
+ghost use Rattle.service_curve.specs.Curve.{curve};
 
 use service_curve::Curve;
 
@@ -37,6 +38,7 @@ pub fn voice_overtakes_bulk_data()
     ensures first { choices (with_chosen voice_and_data (kept 50 2 0 1000 []) (0 ∷ 1000000 ∷ [])) ≡ by_real_time 2 ∷ by_share 2 ∷ [] }
     ensures voice { choice voice_and_data (Kept 1 10000000 200 ∷ with_chosen voice_and_data (kept 50 2 0 1000 []) (starts 10 0 1000000)) 10000000
         ≡ Some (by_real_time 1) }
+    ensures due { due_of 8000000 (curve 4000000 5000000 1000000) (Sent 1 200 true 10000000 ∷ Kept 1 10000000 200 ∷ []) 1 ≡ Some 10400000 }
 {}
 
 /// Two leaves of one curve, the packet of the second arriving first.
@@ -75,6 +77,7 @@ pub fn exact_fit_with_a_returning_burst()
     ensures burst { choice filling (second_burst 0) 16000000 ≡ Some (by_real_time 2) }
     ensures last { choice filling (second_burst 99) 25900000 ≡ Some (by_real_time 2) }
     ensures deadline { head_deadline (curve_of (reals filling) 2) (leaf (second_burst 99) 2) ≡ Some 26000000 }
+    ensures due { due_of 8000000 (curve 8000000 10000000 0) (second_burst 100) 2 ≡ Some 26000000 }
     ensures back { choice filling (second_burst 100) 26000000 ≡ Some (by_real_time 1) }
     ensures back_deadline { head_deadline (curve_of (reals filling) 1) (leaf (second_burst 100) 1) ≡ Some 26100000 }
 {}
