@@ -8,15 +8,15 @@ use Rattle.conf_lines.specs.Grammar.{end}
 use Rattle.conf_lines.specs.Slots.{is_text}
 use Rattle.conf_lines.proofs.GrammarPlaces.{at_option, at_interface_name, at_class_name, Tells}
 use Rattle.conf_lines.proofs.Steps.{begins_interface, begins_class, begins_hfsc, begins_cbq, tells_interface, tells_class, tells_parent, tells_bandwidth, tells_hfsc, tells_cbq, ends_at_option}
+use Rattle.conf_lines.specs.Options.{most_rate}
 use Rattle.conf_tree.specs.declared.class.Class.{Class}
 use Rattle.conf_tree.specs.declared.interface.Interface.{Interface}
 use Rattle.conf_tree.specs.declared.interface.Kind.{Kind}
 use Rattle.conf_tree.specs.declared.interface.Kind.TheVariants.{Hfsc, Cbq}
 use Rattle.conf_tree.specs.Canonical.{kind_word, interface_line, parent_word, class_line}
-use Rattle.conf_tree.specs.Settings.{most_rate}
 use Rattle.conf_laws.specs.Fit.{IsName, IsWithin, IsOfKind}
 use Rattle.conf_laws.specs.Statements.{kind_key, interface_whats, interface_statement, class_names, class_form, class_statement}
-use Rattle.conf_laws.proofs.OptionParts.{rt_part, settled_by, ls_part, qlimit_part, drop_part, default_part, borrow_part, control_part, cbq_rate_part, burst_part}
+use Rattle.conf_laws.proofs.OptionParts.{rt_part, settled_by, ls_part, ul_part, qlimit_part, drop_part, clear_part, default_part, borrow_part, control_part, cbq_rate_part, burst_part}
 use Rattle.conf_laws.proofs.Parts.{Part, ◌>>◌}
 use Rattle.conf_laws.proofs.Printed.{name_is_read}
 use Rattle.conf_laws.proofs.StatementLines.{Line, same_line, one_first, two_first}
@@ -91,9 +91,12 @@ class_is_line Hfsc interface all c is_interface is =
     (two_first (codes "class") (codes "hfsc") begins_class begins_hfsc (printed_by (codes "class") refl) (printed_by (codes "hfsc") refl)
     (names_part Hfsc interface all c is_interface is
     >> rt_part c.real is.own.real
-    >> (ls_part c.share is.own.share >> qlimit_part Hfsc c.limit is.limit)
+    >> ls_part c.share is.own.share
+    >> ul_part c.upper is.own.upper
+    >> qlimit_part Hfsc c.limit is.limit
     >> drop_part Hfsc c.drop
-    >> default_part Hfsc c.first)
+    >> clear_part Hfsc c.clear
+    >> default_part Hfsc c.is_default)
     (ends_hfsc all c is) (omega arith))
     (simp append_assoc)
 class_is_line Cbq interface all c is_interface is =
@@ -104,7 +107,8 @@ class_is_line Cbq interface all c is_interface is =
     >> borrow_part c.borrow
     >> (burst_part c is.own >> qlimit_part Cbq c.limit is.limit)
     >> drop_part Cbq c.drop
+    >> clear_part Cbq c.clear
     >> control_part c.control
-    >> default_part Cbq c.first)
+    >> default_part Cbq c.is_default)
     (ends_at_option form.ClassCbq) (omega arith))
     (simp append_assoc)

@@ -4,6 +4,7 @@ use Rattle.std.proofs.lemmas.Bool.Decides.{nat_tests}
 use Rattle.std.proofs.lemmas.List.{length-map}
 use Rattle.std.proofs.lemmas.Option.{slice_get-map, slice_get_within}
 use Rattle.conf_lines.specs.declared.statement.Statement.{Statement}
+use Rattle.conf_lines.specs.Options.{most_rate}
 use Rattle.conf_tree.specs.declared.class.Class.{Class}
 use Rattle.conf_tree.specs.declared.filter.Filter.{Filter}
 use Rattle.conf_tree.specs.declared.interface.Interface.{Interface}
@@ -13,7 +14,6 @@ use Rattle.conf_tree.specs.Canonical.{written_classes}
 use Rattle.conf_tree.specs.Items.{within}
 use Rattle.conf_tree.specs.Interfaces.{interface_kind, interface_rate}
 use Rattle.conf_tree.specs.Reading.{read_statement}
-use Rattle.conf_tree.specs.Settings.{most_rate}
 use Rattle.conf_tree.specs.Tree.{Begun, begun, add_class, add_filter}
 use Rattle.conf_tree.specs.Whole.{whole, undecided, is_empty, implied_classes, classes_of}
 use Rattle.conf_laws.specs.Fit.{IsTree, IsInterface, IsImplied, HasClasses}

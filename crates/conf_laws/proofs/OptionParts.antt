@@ -9,10 +9,10 @@ use Rattle.conf_lines.specs.declared.statement.Form.TheVariants as form
 use Rattle.conf_lines.specs.Grammar.{is_convex}
 use Rattle.conf_lines.specs.Options.{most_rate}
 use Rattle.conf_lines.proofs.GrammarPlaces.{at_option, at_first_slope}
-use Rattle.conf_lines.proofs.Steps.{tells_first_slope, tells_bend_time, tells_second_slope, tells_rt, tells_ls, tells_hfsc_qlimit, tells_hfsc_red, tells_hfsc_rio, tells_hfsc_default, tells_priority, tells_exactbandwidth, tells_borrow, tells_control, tells_maxburst, tells_packetsize, tells_cbq_qlimit, tells_cbq_red, tells_cbq_rio, tells_cbq_default}
+use Rattle.conf_lines.proofs.Steps.{tells_first_slope, tells_bend_time, tells_second_slope, tells_rt, tells_ls, tells_ul, tells_hfsc_qlimit, tells_hfsc_red, tells_hfsc_ecn, tells_hfsc_rio, tells_hfsc_cleardscp, tells_hfsc_default, tells_priority, tells_exactbandwidth, tells_borrow, tells_control, tells_maxburst, tells_packetsize, tells_cbq_qlimit, tells_cbq_red, tells_cbq_ecn, tells_cbq_rio, tells_cbq_cleardscp, tells_cbq_default}
 use Rattle.conf_tree.specs.declared.class.Class.{Class}
 use Rattle.conf_tree.specs.declared.class.DropRule.{DropRule}
-use Rattle.conf_tree.specs.declared.class.DropRule.TheVariants.{Tail, Red, Rio}
+use Rattle.conf_tree.specs.declared.class.DropRule.TheVariants.{Tail, Red, Ecn, Rio}
 use Rattle.conf_tree.specs.declared.interface.Kind.{Kind}
 use Rattle.conf_tree.specs.declared.interface.Kind.TheVariants.{Hfsc, Cbq}
 use Rattle.conf_tree.specs.Canonical.{word_where, drop_word, curve_words}
@@ -25,36 +25,41 @@ use Rattle.conf_laws.proofs.WordParts.{key_part, number_part, slope_part, rate_p
 not_convex : (m1 d m2 : ℕ) → (m1 ≡ 0) ⊎ (m2 ≤ m1) → is_convex m1 d m2 ≡ false
 not_convex m1 d m2 upward = grind (arith, nat_tests)
 
-bend_short : (least : ℕ) (s : Curve) → IsCurve least s → s.d / 10 ^ 6 ≤ 1000000
-bend_short least s is = let most = is.bend.1 in let e = is.bend.2 in omega arith
+bend_short : (low least : ℕ) (s : Curve) → IsCurve low least s → s.d / 10 ^ 6 ≤ 1000000
+bend_short low least s is = let most = is.bend.1 in let e = is.bend.2 in omega arith
 
 -- M1 D M2
-pub curve_part : {form : Form} {settled : Bool} (least : ℕ) (s : Curve) → IsCurve least s
-    → Part (at_first_slope least form settled) (at_option form settled)
+pub curve_part : {form : Form} {settled : Bool} (low least : ℕ) (s : Curve) → IsCurve low least s
+    → Part (at_first_slope low least form settled) (at_option form settled)
     (32 ∷ (decimal s.m1 ++ (32 ∷ (decimal (s.d / 10 ^ 6) ++ (32 ∷ decimal s.m2)))))
     (what.Rate s.m1 ∷ what.Whole (s.d / 10 ^ 6) ∷ what.Rate s.m2 ∷ []) 3
-curve_part {form} {settled} least s is =
+curve_part {form} {settled} low least s is =
     let first = is.first in
     let second = is.second in
-    let short = bend_short least s is in
-    slope_part {from = at_first_slope least form settled} (tells_first_slope (rate_printed 0 most_rate s.m1 (omega arith) first (omega arith))) (omega arith)
+    let short = bend_short low least s is in
+    slope_part {from = at_first_slope low least form settled} (tells_first_slope (rate_printed low most_rate s.m1 first.0 first.1 (omega arith))) (omega arith)
     >> number_part (tells_bend_time (whole_printed 0 1000000 (s.d / 10 ^ 6) (omega arith) short (omega arith))) (omega arith)
     >> slope_part (tells_second_slope (rate_printed least most_rate s.m2 second.0 second.1 (omega arith)) (not_convex s.m1 (s.d / 10 ^ 6) s.m2 is.upward)) (omega arith)
 
-pub rt_part : {settled : Bool} (o : Option Curve) → IsCurveIfAny 0 o
+pub rt_part : {settled : Bool} (o : Option Curve) → IsCurveIfAny 0 0 o
     → Part (at_option form.ClassHfsc settled) (at_option form.ClassHfsc settled) (curve_words (codes " rt ") o) (curve_whats key.Rt o) 4
 rt_part None is = nothing
-rt_part (Some s) is = key_part tells_rt refl >> curve_part 0 s is
+rt_part (Some s) is = key_part tells_rt refl >> curve_part 0 0 s is
 
 -- a link-sharing curve settles a class
 abbrev pub settled_by : Bool → Option Curve → Bool
 settled_by settled None = settled
 settled_by settled (Some s) = true
 
-pub ls_part : {settled : Bool} (o : Option Curve) → IsCurveIfAny 1 o
+pub ls_part : {settled : Bool} (o : Option Curve) → IsCurveIfAny 0 1 o
     → Part (at_option form.ClassHfsc settled) (at_option form.ClassHfsc (settled_by settled o)) (curve_words (codes " ls ") o) (curve_whats key.Ls o) 4
 ls_part None is = nothing
-ls_part (Some s) is = key_part tells_ls refl >> curve_part 1 s is
+ls_part (Some s) is = key_part tells_ls refl >> curve_part 0 1 s is
+
+pub ul_part : {settled : Bool} (o : Option Curve) → IsCurveIfAny 1000 1000 o
+    → Part (at_option form.ClassHfsc settled) (at_option form.ClassHfsc settled) (curve_words (codes " ul ") o) (curve_whats key.Ul o) 4
+ul_part None is = nothing
+ul_part (Some s) is = key_part tells_ul refl >> curve_part 1000 1000 s is
 
 pub qlimit_part : {settled : Bool} (kind : Kind) (limit : ℕ) → IsWithin 1 10000 limit
     → Part (at_option (class_form kind) settled) (at_option (class_form kind) settled) (codes " qlimit " ++ decimal limit)
@@ -66,9 +71,17 @@ pub drop_part : {settled : Bool} (kind : Kind) (drop : DropRule)
     → Part (at_option (class_form kind) settled) (at_option (class_form kind) settled) (drop_word drop) (drop_whats drop) 1
 drop_part kind Tail = nothing
 drop_part Hfsc Red = key_part tells_hfsc_red refl
+drop_part Hfsc Ecn = key_part tells_hfsc_ecn refl
 drop_part Hfsc Rio = key_part tells_hfsc_rio refl
 drop_part Cbq Red = key_part tells_cbq_red refl
+drop_part Cbq Ecn = key_part tells_cbq_ecn refl
 drop_part Cbq Rio = key_part tells_cbq_rio refl
+
+pub clear_part : {settled : Bool} (kind : Kind) (clear : Bool)
+    → Part (at_option (class_form kind) settled) (at_option (class_form kind) settled) (word_where (codes " cleardscp") clear) (key_where key.Cleardscp clear) 1
+clear_part kind false = nothing
+clear_part Hfsc true = key_part tells_hfsc_cleardscp refl
+clear_part Cbq true = key_part tells_cbq_cleardscp refl
 
 pub default_part : {settled : Bool} (kind : Kind) (first : Bool)
     → Part (at_option (class_form kind) settled) (at_option (class_form kind) settled) (word_where (codes " default") first) (key_where key.Default first) 1

@@ -26,8 +26,8 @@ abbrev pub at_whole : ℕ → ℕ → Form → Bool → Place
 at_whole low high form settled = record { form = form; next = next.Whole low high; settled = settled }
 
 -- where the three numbers of a curve stand
-abbrev pub at_first_slope : ℕ → Form → Bool → Place
-at_first_slope least form settled = record { form = form; next = next.Slope least; settled = settled }
+abbrev pub at_first_slope : ℕ → ℕ → Form → Bool → Place
+at_first_slope low least form settled = record { form = form; next = next.Slope low least; settled = settled }
 
 abbrev pub at_bend_time : ℕ → ℕ → Form → Bool → Place
 at_bend_time least m1 form settled = record { form = form; next = next.Bend least m1; settled = settled }

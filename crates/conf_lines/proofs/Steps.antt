@@ -86,13 +86,17 @@ unfolding interface_option is_text
 tells_cbq = now_settled (codes "cbq") key.Cbq next.Choice refl
 
 -- the options of an HFSC class
-pub tells_rt : {settled : Bool} → Tells (at_option form.ClassHfsc settled) (codes "rt") (what.Key key.Rt) (at_first_slope 0 form.ClassHfsc settled)
+pub tells_rt : {settled : Bool} → Tells (at_option form.ClassHfsc settled) (codes "rt") (what.Key key.Rt) (at_first_slope 0 0 form.ClassHfsc settled)
 unfolding hfsc_option is_text
-tells_rt = same_settled (codes "rt") key.Rt (next.Slope 0) refl
+tells_rt = same_settled (codes "rt") key.Rt (next.Slope 0 0) refl
 
-pub tells_ls : {settled : Bool} → Tells (at_option form.ClassHfsc settled) (codes "ls") (what.Key key.Ls) (at_first_slope 1 form.ClassHfsc true)
+pub tells_ls : {settled : Bool} → Tells (at_option form.ClassHfsc settled) (codes "ls") (what.Key key.Ls) (at_first_slope 0 1 form.ClassHfsc true)
 unfolding hfsc_option is_text
-tells_ls = now_settled (codes "ls") key.Ls (next.Slope 1) refl
+tells_ls = now_settled (codes "ls") key.Ls (next.Slope 0 1) refl
+
+pub tells_ul : {settled : Bool} → Tells (at_option form.ClassHfsc settled) (codes "ul") (what.Key key.Ul) (at_first_slope 1000 1000 form.ClassHfsc settled)
+unfolding hfsc_option is_text
+tells_ul = same_settled (codes "ul") key.Ul (next.Slope 1000 1000) refl
 
 pub tells_hfsc_qlimit : {settled : Bool} → Tells (at_option form.ClassHfsc settled) (codes "qlimit") (what.Key key.Qlimit) (at_whole 1 10000 form.ClassHfsc settled)
 unfolding hfsc_option class_option is_text
@@ -102,9 +106,17 @@ pub tells_hfsc_red : {settled : Bool} → Tells (at_option form.ClassHfsc settle
 unfolding hfsc_option class_option is_text
 tells_hfsc_red = same_settled (codes "red") key.Red next.Choice refl
 
+pub tells_hfsc_ecn : {settled : Bool} → Tells (at_option form.ClassHfsc settled) (codes "ecn") (what.Key key.Ecn) (at_option form.ClassHfsc settled)
+unfolding hfsc_option class_option is_text
+tells_hfsc_ecn = same_settled (codes "ecn") key.Ecn next.Choice refl
+
 pub tells_hfsc_rio : {settled : Bool} → Tells (at_option form.ClassHfsc settled) (codes "rio") (what.Key key.Rio) (at_option form.ClassHfsc settled)
 unfolding hfsc_option class_option is_text
 tells_hfsc_rio = same_settled (codes "rio") key.Rio next.Choice refl
+
+pub tells_hfsc_cleardscp : {settled : Bool} → Tells (at_option form.ClassHfsc settled) (codes "cleardscp") (what.Key key.Cleardscp) (at_option form.ClassHfsc settled)
+unfolding hfsc_option class_option is_text
+tells_hfsc_cleardscp = same_settled (codes "cleardscp") key.Cleardscp next.Choice refl
 
 pub tells_hfsc_default : {settled : Bool} → Tells (at_option form.ClassHfsc settled) (codes "default") (what.Key key.Default) (at_option form.ClassHfsc settled)
 unfolding hfsc_option class_option is_text
@@ -143,9 +155,17 @@ pub tells_cbq_red : {settled : Bool} → Tells (at_option form.ClassCbq settled)
 unfolding cbq_option class_option is_text
 tells_cbq_red = same_settled (codes "red") key.Red next.Choice refl
 
+pub tells_cbq_ecn : {settled : Bool} → Tells (at_option form.ClassCbq settled) (codes "ecn") (what.Key key.Ecn) (at_option form.ClassCbq settled)
+unfolding cbq_option class_option is_text
+tells_cbq_ecn = same_settled (codes "ecn") key.Ecn next.Choice refl
+
 pub tells_cbq_rio : {settled : Bool} → Tells (at_option form.ClassCbq settled) (codes "rio") (what.Key key.Rio) (at_option form.ClassCbq settled)
 unfolding cbq_option class_option is_text
 tells_cbq_rio = same_settled (codes "rio") key.Rio next.Choice refl
+
+pub tells_cbq_cleardscp : {settled : Bool} → Tells (at_option form.ClassCbq settled) (codes "cleardscp") (what.Key key.Cleardscp) (at_option form.ClassCbq settled)
+unfolding cbq_option class_option is_text
+tells_cbq_cleardscp = same_settled (codes "cleardscp") key.Cleardscp next.Choice refl
 
 pub tells_cbq_default : {settled : Bool} → Tells (at_option form.ClassCbq settled) (codes "default") (what.Key key.Default) (at_option form.ClassCbq settled)
 unfolding cbq_option class_option is_text
@@ -162,8 +182,8 @@ pub tells_whole : {low high n : ℕ} {form : Form} {settled : Bool} {word : List
 unfolding step
 tells_whole read = record { step = rw read refl }
 
-pub tells_first_slope : {least m1 : ℕ} {form : Form} {settled : Bool} {word : List ℕ} → rate_in 0 most_rate word ≡ Ok m1
-    → Tells (at_first_slope least form settled) word (what.Rate m1) (at_bend_time least m1 form settled)
+pub tells_first_slope : {low least m1 : ℕ} {form : Form} {settled : Bool} {word : List ℕ} → rate_in low most_rate word ≡ Ok m1
+    → Tells (at_first_slope low least form settled) word (what.Rate m1) (at_bend_time least m1 form settled)
 unfolding step
 tells_first_slope read = record { step = rw read refl }
 

@@ -32,23 +32,27 @@ interface_option word =
     else if is_text (codes "cbq-wrr") word then choice key.CbqWrr next.Choice
     else None
 
--- what both kinds of classes have: qlimit WHOLE | red | rio | admission WORD | default
+-- what both kinds of classes have: qlimit WHOLE | red | ecn | rio | cleardscp | admission WORD | default
 unfoldable pub class_option : List ℕ → Option Choice
 class_option word =
     if is_text (codes "qlimit") word then choice key.Qlimit (next.Whole 1 10000)
     else if is_text (codes "red") word then choice key.Red next.Choice
+    else if is_text (codes "ecn") word then choice key.Ecn next.Choice
     else if is_text (codes "rio") word then choice key.Rio next.Choice
+    else if is_text (codes "cleardscp") word then choice key.Cleardscp next.Choice
     else if is_text (codes "admission") word then choice key.Admission next.Skipped
     else if is_text (codes "default") word then choice key.Default next.Choice
     else None
 
--- class hfsc .. (sc RATE WHOLE RATE | rt RATE WHOLE RATE | ls RATE WHOLE RATE | pshare WHOLE | grate RATE)*; a class that is
--- not the root needs sc, ls or pshare. The second slope of sc and ls is at least 1.
+-- class hfsc .. (sc RATE WHOLE RATE | rt RATE WHOLE RATE | ls RATE WHOLE RATE | ul RATE WHOLE RATE | pshare WHOLE | grate
+-- RATE)*; a class that is not the root needs sc, ls or pshare. The second slope of sc and ls is at least 1, both slopes of ul
+-- are at least 1,000.
 unfoldable pub hfsc_option : List ℕ → Option Choice
 hfsc_option word =
-    if is_text (codes "sc") word then settling key.Sc (next.Slope 1)
-    else if is_text (codes "rt") word then choice key.Rt (next.Slope 0)
-    else if is_text (codes "ls") word then settling key.Ls (next.Slope 1)
+    if is_text (codes "sc") word then settling key.Sc (next.Slope 0 1)
+    else if is_text (codes "rt") word then choice key.Rt (next.Slope 0 0)
+    else if is_text (codes "ls") word then settling key.Ls (next.Slope 0 1)
+    else if is_text (codes "ul") word then choice key.Ul (next.Slope 1000 1000)
     else if is_text (codes "pshare") word then settling key.Pshare (next.Whole 1 100)
     else if is_text (codes "grate") word then choice key.Grate (next.Rate 0 most_rate)
     else class_option word

@@ -31,8 +31,8 @@ pub(crate) enum Next {
     Rate(u64, u64),
     /// A WHOLE in a range, and then an option or the end.
     Whole(u64, u64),
-    /// The first slope of a curve, whose second slope is at least a rate.
-    Slope(u64),
+    /// The first slope of a curve, which is at least a rate, as its second slope is at least another.
+    Slope(u64, u64),
     /// The time of its bend, behind its first slope.
     Bend(u64, u64),
     /// Its second slope, behind its first slope and the time of its bend.

@@ -8,7 +8,7 @@ use crate::slot::is_text;
 use crate::statement::Form;
 
 /// The greatest rate, in bits per second.
-pub(crate) const MOST_RATE: u64 = 1_000_000_000_000;
+pub const MOST_RATE: u64 = 1_000_000_000_000;
 
 /// The option of a statement that a word names.
 pub(crate) fn option_of(form: Form, word: &[u8]) -> Option<Choice>
@@ -71,8 +71,12 @@ fn class_option(word: &[u8]) -> Option<Choice>
         choice(Key::Qlimit, Next::Whole(1, 10_000))
     } else if is_text("red", word) {
         choice(Key::Red, Next::Choice)
+    } else if is_text("ecn", word) {
+        choice(Key::Ecn, Next::Choice)
     } else if is_text("rio", word) {
         choice(Key::Rio, Next::Choice)
+    } else if is_text("cleardscp", word) {
+        choice(Key::Cleardscp, Next::Choice)
     } else if is_text("admission", word) {
         choice(Key::Admission, Next::Skipped)
     } else if is_text("default", word) {
@@ -87,11 +91,13 @@ fn hfsc_option(word: &[u8]) -> Option<Choice>
     ensures { result ≡ hfsc_option word.now }
 {
     if is_text("sc", word) {
-        settling(Key::Sc, Next::Slope(1))
+        settling(Key::Sc, Next::Slope(0, 1))
     } else if is_text("rt", word) {
-        choice(Key::Rt, Next::Slope(0))
+        choice(Key::Rt, Next::Slope(0, 0))
     } else if is_text("ls", word) {
-        settling(Key::Ls, Next::Slope(1))
+        settling(Key::Ls, Next::Slope(0, 1))
+    } else if is_text("ul", word) {
+        choice(Key::Ul, Next::Slope(1000, 1000))
     } else if is_text("pshare", word) {
         settling(Key::Pshare, Next::Whole(1, 100))
     } else if is_text("grate", word) {

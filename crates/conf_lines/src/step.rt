@@ -150,10 +150,10 @@ fn at_choice(place: Place, word: &Word) -> Result<Step, u8>
     }
 }
 
-fn at_slope(least: u64, place: Place, word: &Word) -> Result<Step, u8>
-    ensures { result ≡ at_slope least (rate_in 0 most_rate word.now.parts.now) place }
+fn at_slope(low: u64, least: u64, place: Place, word: &Word) -> Result<Step, u8>
+    ensures { result ≡ at_slope least (rate_in low most_rate word.now.parts.now) place }
 {
-    match rate_in(0, MOST_RATE, word) {
+    match rate_in(low, MOST_RATE, word) {
         Ok(first) => Ok(says(What::Rate(first), place, Next::Bend(least, first))),
         Err(kind) => Err(kind),
     }
@@ -333,7 +333,7 @@ fn plain_step(place: Place, word: &Word) -> Result<Step, u8>
         Next::Skipped => reads(skipped_in(word), place, Next::Choice),
         Next::Rate(low, high) => flows(rate_in(low, high, word), place, Next::Choice),
         Next::Whole(low, high) => counts(whole_in(low, high, word), place, Next::Choice),
-        Next::Slope(least) => at_slope(least, place, word),
+        Next::Slope(low, least) => at_slope(low, least, place, word),
         Next::Bend(least, first) => at_bend(least, first, place, word),
         Next::LastSlope(least, first, time) => at_last_slope(least, first, time, place, word),
         _ => filter_step(place, word),

@@ -6,12 +6,13 @@ use Rattle.conf_lines.specs.declared.item.Key.{Key}
 use Rattle.conf_lines.specs.declared.item.Key.TheVariants as key
 use Rattle.conf_lines.specs.declared.item.What.{What}
 use Rattle.conf_lines.specs.declared.item.What.TheVariants as what
+use Rattle.conf_lines.specs.Options.{most_rate}
 use Rattle.conf_tree.specs.declared.interface.Kind.{Kind}
 use Rattle.conf_tree.specs.declared.interface.Kind.TheVariants.{Hfsc, Cbq}
 use Rattle.conf_tree.specs.declared.settings.Scope.{Scope}
 use Rattle.conf_tree.specs.declared.settings.Settings.{Settings}
 use Rattle.conf_tree.specs.Items.{number_at}
-use Rattle.conf_tree.specs.Settings.{most_rate, set_option}
+use Rattle.conf_tree.specs.Settings.{set_option}
 
 -- class: what one word sets, and what all of them do
 abbrev pub set_by_word : Scope → Settings → ℕ → What → List Item → Result Settings ConfPlace

@@ -8,15 +8,12 @@ use Rattle.conf_lines.specs.declared.item.Item.{Item}
 use Rattle.conf_lines.specs.declared.item.Key.{Key}
 use Rattle.conf_lines.specs.declared.item.Key.TheVariants as key
 use Rattle.conf_lines.specs.Grammar.{is_convex}
-use Rattle.conf_tree.specs.declared.class.DropRule.TheVariants.{Tail, Red, Rio}
+use Rattle.conf_lines.specs.Options.{most_rate}
+use Rattle.conf_tree.specs.declared.class.DropRule.TheVariants.{Tail, Red, Ecn, Rio}
 use Rattle.conf_tree.specs.declared.settings.Scope.{Scope}
 use Rattle.conf_tree.specs.declared.settings.Settings.{Settings}
 use Rattle.conf_tree.specs.Items.{number_at, word_at}
 use Rattle.conf_tree.specs.Kinds.{fault_at, rate_range, two_defaults}
-
--- the greatest rate: 10^12 bits per second
-abbrev pub most_rate : ℕ
-most_rate = 10 ^ 12
 
 -- before the first option
 abbrev pub unset : Settings
@@ -24,6 +21,7 @@ unset = record {
   real = None;
   fixed = false;
   share = None;
+  upper = None;
   rate = None;
   priority = 0;
   borrow = false;
@@ -32,7 +30,8 @@ unset = record {
   packetsize = 1500;
   limit = 50;
   drop = Tail;
-  first = false;
+  clear = false;
+  is_default = false;
 }
 
 -- the curve of m1, d in nanoseconds and m2: without a first piece, or with one slope, it is the line of slope m2
@@ -46,9 +45,9 @@ curve_of (Some m1) None m2 = None
 curve_of (Some m1) (Some d) None = None
 curve_of (Some m1) (Some d) (Some m2) = if is_convex m1 d m2 then None else Some (made m1 (d * 10 ^ 6) m2)
 
--- the curve of the three numbers at the front, whose m2 is at least a rate
-abbrev pub curve_in : ℕ → List Item → Option Curve
-curve_in least items = curve_of (number_at 0 most_rate items 0) (number_at 0 1000000 items 1) (number_at least most_rate items 2)
+-- the curve of the three numbers at the front, whose m1 is at least a rate, as its m2 is at least another
+abbrev pub curve_in : ℕ → ℕ → List Item → Option Curve
+curve_in low least items = curve_of (number_at low most_rate items 0) (number_at 0 1000000 items 1) (number_at least most_rate items 2)
 
 -- a part of a rate in percent, rounded down
 abbrev pub percent : ℕ → ℕ → ℕ
@@ -61,6 +60,10 @@ set_real s fixed (Some real) = record s { real = Some real; fixed = fixed }
 abbrev pub set_share : Settings → Option Curve → Settings
 set_share s None = s
 set_share s (Some share) = record s { share = Some share }
+
+abbrev pub set_upper : Settings → Option Curve → Settings
+set_upper s None = s
+set_upper s (Some upper) = record s { upper = Some upper }
 
 abbrev pub set_rate : Settings → Option ℕ → Settings
 set_rate s None = s
@@ -90,21 +93,24 @@ set_percent scope s word (Some n) =
     else Err (fault_at scope.line word rate_range)
 
 -- default: one on each interface
-abbrev pub set_first : Scope → Settings → ℕ → Result Settings ConfPlace
-set_first scope s word =
-    if scope.chosen || s.first then Err (fault_at scope.line word two_defaults) else Ok (record s { first = true })
+abbrev pub set_default : Scope → Settings → ℕ → Result Settings ConfPlace
+set_default scope s word =
+    if scope.chosen || s.is_default then Err (fault_at scope.line word two_defaults) else Ok (record s { is_default = true })
 
 -- what the option word at a word of the line sets, by the items behind it
 abbrev pub set_option : Scope → Settings → ℕ → Key → List Item → Result Settings ConfPlace
-set_option scope s word key.Sc items = Ok (set_share (set_real s false (curve_in 1 items)) (curve_in 1 items))
-set_option scope s word key.Rt items = Ok (set_real s true (curve_in 0 items))
-set_option scope s word key.Ls items = Ok (set_share s (curve_in 1 items))
+set_option scope s word key.Sc items = Ok (set_share (set_real s false (curve_in 0 1 items)) (curve_in 0 1 items))
+set_option scope s word key.Rt items = Ok (set_real s true (curve_in 0 0 items))
+set_option scope s word key.Ls items = Ok (set_share s (curve_in 0 1 items))
+set_option scope s word key.Ul items = Ok (set_upper s (curve_in 1000 1000 items))
 set_option scope s word key.Pshare items = Ok (set_share s (option_map (λ n. straight (percent scope.rate n)) (number_at 1 100 items 0)))
 set_option scope s word key.Grate items = Ok (set_real s true (option_map (λ n. straight n) (number_at 0 most_rate items 0)))
 set_option scope s word key.Qlimit items = Ok (set_limit s (number_at 1 10000 items 0))
 set_option scope s word key.Red items = Ok (record s { drop = Red })
+set_option scope s word key.Ecn items = Ok (record s { drop = Ecn })
 set_option scope s word key.Rio items = Ok (record s { drop = Rio })
-set_option scope s word key.Default items = set_first scope s word
+set_option scope s word key.Cleardscp items = Ok (record s { clear = true })
+set_option scope s word key.Default items = set_default scope s word
 set_option scope s word key.Priority items = Ok (set_priority s (number_at 0 7 items 0))
 set_option scope s word key.Pbandwidth items = set_percent scope s (word_at items 0) (number_at 0 100 items 0)
 set_option scope s word key.Exactbandwidth items = Ok (set_rate s (number_at 1000 most_rate items 0))

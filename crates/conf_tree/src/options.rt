@@ -4,8 +4,8 @@ ghost use Rattle.conf_tree.specs.Options.{set_by_word, set_options, rate_by_word
 
 use crate::interface::Kind;
 use crate::items::number_at;
-use crate::settings::{MOST_RATE, Scope, Settings, set_option};
-use conf_lines::{ConfPlace, Item, Key, What};
+use crate::settings::{Scope, Settings, set_option};
+use conf_lines::{ConfPlace, Item, Key, MOST_RATE, What};
 
 /// What a word of a class sets, by the items behind it.
 fn set_by_word(

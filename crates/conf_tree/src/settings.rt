@@ -2,12 +2,13 @@
 ghost use Rattle.std.specs.Prelude.{◌≡◌, ◌≤◌, IfSome, option_map};
 ghost use Rattle.service_curve.specs.Curve.{straight};
 ghost use Rattle.conf_tree.specs.Items.{number_at, word_at};
-ghost use Rattle.conf_tree.specs.Settings.{most_rate, unset, made, curve_in, percent, set_real, set_share, set_rate, set_priority, set_maxburst, set_packetsize, set_limit, set_percent, set_first, set_option};
+ghost use Rattle.conf_lines.specs.Options.{most_rate};
+ghost use Rattle.conf_tree.specs.Settings.{unset, made, curve_in, percent, set_real, set_share, set_upper, set_rate, set_priority, set_maxburst, set_packetsize, set_limit, set_percent, set_default, set_option};
 
 use crate::class::DropRule;
 use crate::items::{number_at, word_at};
 use crate::kinds::{RATE_RANGE, TWO_DEFAULTS, fault_at};
-use conf_lines::{ConfPlace, Item, Key};
+use conf_lines::{ConfPlace, Item, Key, MOST_RATE};
 use service_curve::Curve;
 
 /// What the options of a class have set so far; `None` and false where they have not.
@@ -17,6 +18,7 @@ pub(crate) struct Settings {
     /// Whether the real-time curve was set last by `rt` or `grate`.
     pub(crate) fixed: bool,
     pub(crate) share: Option<Curve>,
+    pub(crate) upper: Option<Curve>,
     pub(crate) rate: Option<u64>,
     pub(crate) priority: u8,
     pub(crate) borrow: bool,
@@ -25,7 +27,8 @@ pub(crate) struct Settings {
     pub(crate) packetsize: u32,
     pub(crate) limit: u32,
     pub(crate) drop: DropRule,
-    pub(crate) first: bool,
+    pub(crate) clear: bool,
+    pub(crate) is_default: bool,
 }
 
 /// What the options of a class are read under: its line, the bandwidth of its interface, and whether that has a default.
@@ -51,9 +54,6 @@ pub(crate) struct Shape {
     pub(crate) rate: u64,
 }
 
-/// The greatest rate, in bits per second.
-pub(crate) const MOST_RATE: u64 = 1_000_000_000_000;
-
 /// Before the first option.
 pub(crate) fn unset() -> Settings
     ensures { result ≡ unset }
@@ -62,6 +62,7 @@ pub(crate) fn unset() -> Settings
         real: None,
         fixed: false,
         share: None,
+        upper: None,
         rate: None,
         priority: 0,
         borrow: false,
@@ -70,7 +71,8 @@ pub(crate) fn unset() -> Settings
         packetsize: 1500,
         limit: 50,
         drop: DropRule::Tail,
-        first: false,
+        clear: false,
+        is_default: false,
     }
 }
 
@@ -81,11 +83,11 @@ fn made(m1: u64, d: u64, m2: u64) -> Curve
     Curve::make(m1, d, m2)
 }
 
-/// The curve of the three numbers at the front, whose m2 is at least a rate.
-fn curve_in(least: u64, items: &[Item]) -> Option<Curve>
-    ensures { result ≡ curve_in least items.now }
+/// The curve of the three numbers at the front, whose m1 is at least a rate, as its m2 is at least another.
+fn curve_in(low: u64, least: u64, items: &[Item]) -> Option<Curve>
+    ensures { result ≡ curve_in low least items.now }
 {
-    let Some(m1) = number_at(0, MOST_RATE, items, 0) else {
+    let Some(m1) = number_at(low, MOST_RATE, items, 0) else {
         return None;
     };
     let Some(d) = number_at(0, 1_000_000, items, 1) else {
@@ -152,6 +154,15 @@ fn set_share(settings: Settings, share: Option<Curve>) -> Settings
 {
     match share {
         Some(_) => Settings { share, ..settings },
+        None => settings,
+    }
+}
+
+fn set_upper(settings: Settings, upper: Option<Curve>) -> Settings
+    ensures { result ≡ set_upper settings upper }
+{
+    match upper {
+        Some(_) => Settings { upper, ..settings },
         None => settings,
     }
 }
@@ -239,14 +250,14 @@ fn set_percent(
 }
 
 /// `default`: one on each interface.
-fn set_first(scope: Scope, settings: Settings, word: u64) -> Result<Settings, ConfPlace>
-    ensures { result ≡ set_first scope settings word }
+fn set_default(scope: Scope, settings: Settings, word: u64) -> Result<Settings, ConfPlace>
+    ensures { result ≡ set_default scope settings word }
 {
-    if scope.chosen || settings.first {
+    if scope.chosen || settings.is_default {
         Err(fault_at(scope.line, word, TWO_DEFAULTS))
     } else {
         Ok(Settings {
-            first: true,
+            is_default: true,
             ..settings
         })
     }
@@ -264,17 +275,20 @@ pub(crate) fn set_option(
 {
     match key {
         Key::Sc => {
-            let curve = curve_in(1, items);
+            let curve = curve_in(0, 1, items);
             Ok(set_share(set_real(s, false, curve), curve))
         }
-        Key::Rt => Ok(set_real(s, true, curve_in(0, items))),
-        Key::Ls => Ok(set_share(s, curve_in(1, items))),
+        Key::Rt => Ok(set_real(s, true, curve_in(0, 0, items))),
+        Key::Ls => Ok(set_share(s, curve_in(0, 1, items))),
+        Key::Ul => Ok(set_upper(s, curve_in(1000, 1000, items))),
         Key::Pshare => Ok(set_share(s, part_of(scope.rate, items))),
         Key::Grate => Ok(set_real(s, true, line_in(items))),
         Key::Qlimit => Ok(set_limit(s, number_at(1, 10_000, items, 0))),
         Key::Red => Ok(with_drop(s, DropRule::Red)),
+        Key::Ecn => Ok(with_drop(s, DropRule::Ecn)),
         Key::Rio => Ok(with_drop(s, DropRule::Rio)),
-        Key::Default => set_first(scope, s, word),
+        Key::Cleardscp => Ok(Settings { clear: true, ..s }),
+        Key::Default => set_default(scope, s, word),
         Key::Priority => Ok(set_priority(s, number_at(0, 7, items, 0))),
         Key::Pbandwidth => set_percent(scope, s, word_at(items, 0), number_at(0, 100, items, 0)),
         Key::Exactbandwidth => Ok(set_rate(s, number_at(1000, MOST_RATE, items, 0))),
