@@ -10,7 +10,8 @@ use Rattle.conf_tree.specs.declared.interface.Kind.TheVariants.{Hfsc, Cbq}
 use Rattle.conf_tree.specs.Canonical.{parent_word, name_or_null}
 use Rattle.conf_tree.specs.Classes.{is_queue, spot_of, read_branch}
 use Rattle.conf_tree.specs.Tree.{Begun, as_parent, with_parent, add_class, class_number}
-use Rattle.conf_laws.specs.Fit.{IsOnLevel, IsParent, HasParent, IsClass, IsOfKind, IsTree}
+use Rattle.conf_tree.specs.Family.{IsOnLevel}
+use Rattle.conf_laws.specs.Fit.{IsParent, HasParent, IsClass, IsOfKind, IsTree}
 use Rattle.conf_laws.specs.Statements.{class_statement}
 use Rattle.conf_laws.proofs.BranchesRead.{branch, branch_read}
 use Rattle.conf_laws.proofs.ChangesRead.{IsChanged, length_changed, get_changed}

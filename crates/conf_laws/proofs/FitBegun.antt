@@ -10,7 +10,8 @@ use Rattle.conf_tree.specs.declared.filter.Filter.{Filter}
 use Rattle.conf_tree.specs.declared.interface.Kind.{Kind}
 use Rattle.conf_tree.specs.declared.interface.Kind.TheVariants.{Hfsc}
 use Rattle.conf_tree.specs.Tree.{Begun, class_number, as_parent, as_filtered, changed_to, changed, with_parent, add_class, add_filter}
-use Rattle.conf_laws.specs.Fit.{IsName, IsWithin, IsOnLevel, root, below, HasParent, IsOfKind, HasDefault}
+use Rattle.conf_tree.specs.Family.{IsOnLevel, root, below}
+use Rattle.conf_laws.specs.Fit.{IsName, IsWithin, HasParent, IsOfKind, HasDefault}
 use Rattle.conf_laws.proofs.FitBranches.{class_in, IsHeld, class_at, same_length, parent_held, IsMore, more_held, filter_held}
 use Rattle.conf_laws.proofs.FitClasses.{kept_name, level_on, without_real, less_back, less_default, less_unchosen, more_grows, more_default, first_default, more_unchosen}
 use Rattle.conf_laws.proofs.FitFilters.{HasParts}

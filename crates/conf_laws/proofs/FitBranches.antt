@@ -8,7 +8,8 @@ use Rattle.conf_tree.specs.declared.filter.Filter.{Filter}
 use Rattle.conf_tree.specs.declared.interface.Kind.{Kind}
 use Rattle.conf_tree.specs.declared.interface.Kind.TheVariants.{Hfsc}
 use Rattle.conf_tree.specs.Tree.{as_parent, as_filtered}
-use Rattle.conf_laws.specs.Fit.{IsOnLevel, HasParent, IsClass, IsFilter}
+use Rattle.conf_tree.specs.Family.{IsOnLevel}
+use Rattle.conf_laws.specs.Fit.{HasParent, IsClass, IsFilter}
 use Rattle.conf_laws.proofs.FitClasses.{kept_parent, level_on, AreClasses, without_real, less_grows, less_back, less_fit, more_grows, more_fit}
 use Rattle.conf_laws.proofs.FitFilters.{HasParts}
 use Rattle.conf_laws.proofs.Kept.{Branch}

@@ -5,7 +5,8 @@ use Rattle.conf_tree.specs.declared.class.Class.{Class}
 use Rattle.conf_tree.specs.declared.filter.Filter.{Filter}
 use Rattle.conf_tree.specs.declared.interface.Kind.{Kind}
 use Rattle.conf_tree.specs.declared.interface.Kind.TheVariants.{Hfsc, Cbq}
-use Rattle.conf_laws.specs.Fit.{IsOnLevel, root, below, IsParent, HasParent, IsOfKind, IsClass, IsFilter, HasDefault}
+use Rattle.conf_tree.specs.Family.{IsOnLevel, root, below}
+use Rattle.conf_laws.specs.Fit.{IsParent, HasParent, IsOfKind, IsClass, IsFilter, HasDefault}
 use Rattle.conf_laws.proofs.Places.{push_on, push_at, push_back, set_at, set_on, set_back, set_length, push_apart}
 
 -- a class that is as it was, or has lost its real-time curve

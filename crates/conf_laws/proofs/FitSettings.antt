@@ -35,7 +35,7 @@ pub number_fit : (low high : ℕ) (items : List Item) (i : ℕ) → IfSome (numb
 number_fit low high items i = within_fit low high (number_in (slice_get items i))
 
 -- a curve
-straight_fit : (low least m : ℕ) → low ≤ least → IsWithin least most_rate m → IsCurve low least (straight m)
+pub straight_fit : (low least m : ℕ) → low ≤ least → IsWithin least most_rate m → IsCurve low least (straight m)
 straight_fit low least m below h = record {
   first = (omega (arith, h.0), h.1);
   second = h;

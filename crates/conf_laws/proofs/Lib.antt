@@ -22,6 +22,7 @@ pub mod FitReading
 pub mod FitSettings
 pub mod FitWhole
 pub mod Groups
+pub mod ImpliedTree
 pub mod InterfacesRead
 pub mod Ip6
 pub mod Kept
@@ -38,6 +39,7 @@ pub mod OtherTexts
 pub mod Parts
 pub mod Places
 pub mod Printed
+pub mod Queues
 pub mod ReadLines
 pub mod SpotsRead
 pub mod StatementLines

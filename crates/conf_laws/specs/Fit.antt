@@ -1,5 +1,5 @@
 -- What the numbers, the names and the tree of a configuration keep to, after altq.conf(5): each configuration that a text has is so.
-use Rattle.std.specs.Prelude.{◌≡◌, ◌≢◌, ◌≤◌, ◌<◌, ◌+◌, ◌*◌, ◌^◌, ◌⊎◌, ℕ, Bool, true, false, List, [], length, All, Option, Some, None, slice_get, codes, bit_and}
+use Rattle.std.specs.Prelude.{◌≡◌, ◌≢◌, ◌≤◌, ◌<◌, ◌*◌, ◌^◌, ◌⊎◌, ℕ, true, false, List, [], length, All, Option, Some, None, slice_get, codes, bit_and}
 use Rattle.service_curve.specs.declared.Curve.{Curve}
 use Rattle.conf_lines.specs.Slots.{is_name}
 use Rattle.conf_lines.specs.Options.{most_rate}
@@ -10,6 +10,7 @@ use Rattle.conf_tree.specs.declared.filter.Filter.{Filter}
 use Rattle.conf_tree.specs.declared.interface.Interface.{Interface}
 use Rattle.conf_tree.specs.declared.interface.Kind.{Kind}
 use Rattle.conf_tree.specs.declared.interface.Kind.TheVariants.{Hfsc, Cbq}
+use Rattle.conf_tree.specs.Family.{IsOnLevel}
 use Rattle.conf_tree.specs.Masks.{masked, prefix}
 use Rattle.conf_tree.specs.Whole.{implied_classes}
 
@@ -33,12 +34,6 @@ pub record IsCurve (low least : ℕ) (s : Curve) : Type 0 where
 abbrev pub IsCurveIfAny : ℕ → ℕ → Option Curve → Type 0
 IsCurveIfAny low least None = Unit {0}
 IsCurveIfAny low least (Some s) = IsCurve low least s
-
--- a class is on a level: the root on the first, each other class below its parent
-pub data IsOnLevel (classes : List Class) : ℕ → ℕ → Type 0 where
-  root : (k : ℕ) (c : Class) → slice_get classes k ≡ Some c → c.parent ≡ None → IsOnLevel classes k 1
-  below : (k p level : ℕ) (c : Class) → slice_get classes k ≡ Some c → c.parent ≡ Some p → IsOnLevel classes p level
-      → IsOnLevel classes k (level + 1)
 
 -- A class that may be a parent: it is not named NULL, which means that there is no parent; it has no real-time curve, and in HFSC
 -- it is not the default class.
@@ -132,29 +127,25 @@ pub record HasDefault (classes : List Class) : Type 0 where
   pub is_default : class.is_default ≡ true
   pub one : (k : ℕ) (c : Class) → slice_get classes k ≡ Some c → c.is_default ≡ true → k ≡ number
 
--- the classes and filters that a text has of an interface
+-- the classes and filters of an interface, whether a text has them or they are implied
 pub record IsTree (kind : Kind) (classes : List Class) (filters : List Filter) : Type 0 where
   pub class : (k : ℕ) (c : Class) → slice_get classes k ≡ Some c → IsClass kind classes k c
   pub names : (j k : ℕ) (a b : Class) → slice_get classes j ≡ Some a → slice_get classes k ≡ Some b → a.name ≡ b.name → j ≡ k
   pub default : HasDefault classes
   pub filter : (k : ℕ) (f : Filter) → slice_get filters k ≡ Some f → IsFilter kind classes f
 
--- those that are implied, where the text has none
+-- the classes that are implied where the text has none
 pub record IsImplied (i : Interface) : Type 0 where
   pub classes : i.classes ≡ implied_classes i.kind i.rate
   pub filters : i.filters ≡ []
-
--- its tree as the text has it, or as it is implied
-abbrev pub HasClasses : Bool → Interface → Type 0
-HasClasses true i = IsImplied i
-HasClasses false i = IsTree i.kind i.classes i.filters
 
 pub record IsInterface (i : Interface) : Type 0 where
   pub name : IsName i.name
   pub rate : IsWithin 1000 most_rate i.rate
   pub classes : length i.classes ≤ 256
   pub filters : length i.filters ≤ 1024
-  pub tree : HasClasses i.implied i
+  pub tree : IsTree i.kind i.classes i.filters
+  pub implied : i.implied ≡ true → IsImplied i
 
 -- at most 16 interfaces, each with a name of its own
 pub record AreFit (interfaces : List Interface) : Type 0 where
