@@ -5,10 +5,12 @@ use Rattle.conf_lines.specs.declared.grammar.Next.TheVariants as next
 use Rattle.conf_lines.specs.declared.grammar.Place.{Place}
 use Rattle.conf_lines.specs.declared.grammar.Side.{Side}
 use Rattle.conf_lines.specs.declared.grammar.Side.TheVariants as side
+use Rattle.conf_lines.specs.declared.item.Key.{Key}
 use Rattle.conf_lines.specs.declared.item.What.{What}
 use Rattle.conf_lines.specs.declared.statement.Form.{Form}
 use Rattle.conf_lines.specs.declared.statement.Form.TheVariants as form
-use Rattle.conf_lines.specs.Grammar.{step, after_interface, after_port}
+use Rattle.conf_lines.specs.Grammar.{step, after_interface, after_port, behind_option}
+use Rattle.conf_lines.specs.Options.{slots_of}
 
 -- the type of the places
 abbrev pub GrammarPlace : Type 0
@@ -17,6 +19,10 @@ GrammarPlace = Place
 -- where an option may stand
 abbrev pub at_option : Form → Bool → Place
 at_option form settled = record { form = form; next = next.Choice; settled = settled }
+
+-- what is next behind the word of an option
+abbrev pub behind_key : Key → Form → Bool → Place
+behind_key key form settled = record { form = form; next = behind_option (slots_of key); settled = settled }
 
 -- where a number of an option stands
 abbrev pub at_rate : ℕ → ℕ → Form → Bool → Place

@@ -1,6 +1,6 @@
 //! What may stand where: the places of a statement.
 
-use crate::item::{Key, What};
+use crate::item::What;
 use crate::statement::Form;
 
 /// One of the two ends of a packet, in the order of a filter.
@@ -85,14 +85,6 @@ pub(crate) struct Place {
 pub(crate) struct Step {
     pub(crate) what: Option<What>,
     pub(crate) after: Place,
-}
-
-/// An option: its word, what follows it, and whether a statement has what it must have by it.
-#[derive(Clone, Copy, Debug)]
-pub(crate) struct Choice {
-    pub(crate) key: Key,
-    pub(crate) next: Next,
-    pub(crate) settles: bool,
 }
 
 /// Why a word leads nowhere.
