@@ -15,7 +15,7 @@ use Rattle.conf_laws.specs.Fit.{IsName, IsWithin, HasParent, IsOfKind, HasDefaul
 use Rattle.conf_laws.proofs.FitBranches.{class_in, IsHeld, class_at, same_length, parent_held, IsMore, more_held, filter_held}
 use Rattle.conf_laws.proofs.FitClasses.{kept_name, level_on, without_real, less_back, less_default, less_unchosen, more_grows, more_default, first_default, more_unchosen}
 use Rattle.conf_laws.proofs.FitFilters.{HasParts}
-use Rattle.conf_laws.proofs.Kept.{Branch}
+use Rattle.conf_laws.proofs.Types.{Branch}
 use Rattle.conf_laws.proofs.Places.{push_on, push_at, set_at, set_length, map_back, absent}
 
 -- there is a default class, or no class is one

@@ -24,7 +24,7 @@ use Rattle.conf_laws.specs.Fit.{IsName, IsWithin, IsOfKind, IsHfscClass, IsCbqCl
 use Rattle.conf_laws.proofs.FitBegun.{IsBegun, StandsAt, IsNew}
 use Rattle.conf_laws.proofs.FitFilters.{IsSoundIn, sound_at}
 use Rattle.conf_laws.proofs.FitSettings.{AreSet, AreSetIfOk, unset_fit, options_fit}
-use Rattle.conf_laws.proofs.Kept.{Branch, Settings, Spot, Shape}
+use Rattle.conf_laws.proofs.Types.{Branch, Settings, Spot, Shape}
 
 -- a name has its form
 name_of_fit : (says : What) → IsSound says → IfSome (name_of says) IsName

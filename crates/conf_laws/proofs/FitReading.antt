@@ -31,7 +31,7 @@ use Rattle.conf_laws.proofs.FitBegun.{IsBegun, class_added as with_class, filter
 use Rattle.conf_laws.proofs.FitClassStatements.{name_fit, none_by, IsNewIfOk, branch_fit}
 use Rattle.conf_laws.proofs.FitFilterStatements.{IsNewFilterIfOk, read_fit}
 use Rattle.conf_laws.proofs.FitSettings.{number_fit}
-use Rattle.conf_laws.proofs.Kept.{Branch}
+use Rattle.conf_laws.proofs.Types.{Branch}
 use Rattle.conf_laws.proofs.Places.{AreApart, push_apart, set_apart, push_back, set_back, set_length, absent}
 
 -- at most 16 interfaces, each with a name of its own

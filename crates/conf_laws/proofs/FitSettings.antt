@@ -1,8 +1,9 @@
 -- What the options of a class set is in its range.
-use Rattle.std.proofs.Common.{◌≡◌, ◌⊎◌, inr, ℕ, ◌*◌, ◌/◌, ◌^◌, ◌<◌, ◌≤◌, ◌==◌, ◌&&◌, ◌||◌, Bool, true, false, cond, List, [], ◌∷◌, Option, Some, None, Result, Ok, Err, IfSome, option_map, slice_get, refl, arith, nat_le, leb-true, le_refl, mul-le-mul, le-div_iff_mul-le}
+use Rattle.std.proofs.Common.{◌≡◌, ◌⊎◌, inr, ℕ, ◌*◌, ◌/◌, ◌^◌, ◌<◌, ◌≤◌, ◌==◌, ◌&&◌, ◌||◌, Bool, true, false, cond, List, [], ◌∷◌, Option, Some, None, Result, Ok, Err, IfSome, option_map, unwrap_or, slice_get, refl, arith, nat_le, leb-true, le_refl, mul-le-mul, le-div_iff_mul-le}
 use Rattle.std.proofs.lemmas.Bool.{and_parts, or_parts, cond_both, eqb-false}
 use Rattle.std.proofs.Math.Nat.{div-le_of_le-mul}
 use Rattle.std.proofs.lemmas.Bool.Decides.{nat_tests}
+use Rattle.std.specs.Option.{option_or}
 use Rattle.service_curve.specs.declared.Curve.{Curve}
 use Rattle.service_curve.specs.Curve.{curve, straight}
 use Rattle.conf_lines.specs.declared.fault.ConfPlace.{ConfPlace}
@@ -11,14 +12,15 @@ use Rattle.conf_lines.specs.declared.item.Key.{Key}
 use Rattle.conf_lines.specs.declared.item.Key.TheVariants as key
 use Rattle.conf_lines.specs.declared.item.What.{What}
 use Rattle.conf_lines.specs.declared.item.What.TheVariants as what
+use Rattle.conf_lines.specs.declared.options.Slots.TheVariants as slots
 use Rattle.conf_lines.specs.Grammar.{is_convex}
 use Rattle.conf_lines.specs.Options.{most_rate}
 use Rattle.conf_tree.specs.Items.{number_in, within, number_at, word_at}
 use Rattle.conf_tree.specs.Kinds.{fault_at, rate_range, two_defaults}
 use Rattle.conf_tree.specs.Options.{set_by_word, set_options}
-use Rattle.conf_tree.specs.Settings.{unset, made, curve_of, curve_in, percent, set_real, set_share, set_upper, set_rate, set_priority, set_maxburst, set_packetsize, set_limit, set_percent, set_default, set_option}
+use Rattle.conf_tree.specs.Settings.{unset, made, curve_of, curve_in_slots, percent, curve_behind, set_percent, set_default, set_option}
 use Rattle.conf_laws.specs.Fit.{IsWithin, IsCurve, IsCurveIfAny}
-use Rattle.conf_laws.proofs.Kept.{Settings, Scope}
+use Rattle.conf_laws.proofs.Types.{Settings, Scope}
 
 pub some_if : {A : Type 0} (P : A → Type 0) (b : Bool) (x : A) → (b ≡ true → P x) → IfSome (cond b (Some x) None) P
 some_if P true x k = k refl
@@ -76,7 +78,7 @@ curve_of_fit low least (Some m1) None m2 below h k l = tt
 curve_of_fit low least (Some m1) (Some d) None below h k l = tt
 curve_of_fit low least (Some m1) (Some d) (Some m2) below h k l = curve_if low least m1 d m2 (is_convex m1 d m2) below refl h k.1 l
 
-curve_fit : (low least : ℕ) (items : List Item) → low ≤ least → IsCurveIfAny low least (curve_in low least items)
+curve_fit : (low least : ℕ) (items : List Item) → low ≤ least → IsCurveIfAny low least (curve_in_slots (slots.Curve low least) items)
 curve_fit low least items below =
     curve_of_fit low least (number_at low most_rate items 0) (number_at 0 1000000 items 1) (number_at least most_rate items 2) below
     (number_fit low most_rate items 0) (number_fit 0 1000000 items 1) (number_fit least most_rate items 2)
@@ -140,35 +142,36 @@ unset_fit chosen = record {
   is_default = λ e. cc;
 }
 
-real_fit : (chosen : Bool) (s : Settings) (fixed : Bool) (o : Option Curve) → AreSet chosen s → IsCurveIfAny 0 0 o → AreSet chosen (set_real s fixed o)
-real_fit chosen s fixed None h k = h
+real_fit : (chosen : Bool) (s : Settings) (fixed : Bool) (o : Option Curve) → AreSet chosen s → IsCurveIfAny 0 0 o
+    → AreSet chosen (record s { real = option_or o s.real; fixed = fixed })
+real_fit chosen s fixed None h k = assumption h
 real_fit chosen s fixed (Some real) h k = assumption k
 
-share_fit : (chosen : Bool) (s : Settings) (o : Option Curve) → AreSet chosen s → IsCurveIfAny 0 1 o → AreSet chosen (set_share s o)
+share_fit : (chosen : Bool) (s : Settings) (o : Option Curve) → AreSet chosen s → IsCurveIfAny 0 1 o → AreSet chosen (record s { share = option_or o s.share })
 share_fit chosen s None h k = h
 share_fit chosen s (Some share) h k = assumption k
 
-upper_fit : (chosen : Bool) (s : Settings) (o : Option Curve) → AreSet chosen s → IsCurveIfAny 1000 1000 o → AreSet chosen (set_upper s o)
+upper_fit : (chosen : Bool) (s : Settings) (o : Option Curve) → AreSet chosen s → IsCurveIfAny 1000 1000 o → AreSet chosen (record s { upper = option_or o s.upper })
 upper_fit chosen s None h k = h
 upper_fit chosen s (Some upper) h k = assumption k
 
-rate_fit : (chosen : Bool) (s : Settings) (o : Option ℕ) → AreSet chosen s → IfSome o (IsWithin 1000 most_rate) → AreSet chosen (set_rate s o)
+rate_fit : (chosen : Bool) (s : Settings) (o : Option ℕ) → AreSet chosen s → IfSome o (IsWithin 1000 most_rate) → AreSet chosen (record s { rate = option_or o s.rate })
 rate_fit chosen s None h k = h
 rate_fit chosen s (Some n) h k = assumption k
 
-priority_fit : (chosen : Bool) (s : Settings) (o : Option ℕ) → AreSet chosen s → IfSome o (IsWithin 0 7) → AreSet chosen (set_priority s o)
+priority_fit : (chosen : Bool) (s : Settings) (o : Option ℕ) → AreSet chosen s → IfSome o (IsWithin 0 7) → AreSet chosen (record s { priority = unwrap_or o s.priority })
 priority_fit chosen s None h k = h
 priority_fit chosen s (Some n) h k = assumption k.1
 
-maxburst_fit : (chosen : Bool) (s : Settings) (o : Option ℕ) → AreSet chosen s → IfSome o (IsWithin 1 1000) → AreSet chosen (set_maxburst s o)
+maxburst_fit : (chosen : Bool) (s : Settings) (o : Option ℕ) → AreSet chosen s → IfSome o (IsWithin 1 1000) → AreSet chosen (record s { maxburst = unwrap_or o s.maxburst })
 maxburst_fit chosen s None h k = h
 maxburst_fit chosen s (Some n) h k = assumption k
 
-packetsize_fit : (chosen : Bool) (s : Settings) (o : Option ℕ) → AreSet chosen s → IfSome o (IsWithin 1 262144) → AreSet chosen (set_packetsize s o)
+packetsize_fit : (chosen : Bool) (s : Settings) (o : Option ℕ) → AreSet chosen s → IfSome o (IsWithin 1 262144) → AreSet chosen (record s { packetsize = unwrap_or o s.packetsize })
 packetsize_fit chosen s None h k = h
 packetsize_fit chosen s (Some n) h k = assumption k
 
-limit_fit : (chosen : Bool) (s : Settings) (o : Option ℕ) → AreSet chosen s → IfSome o (IsWithin 1 10000) → AreSet chosen (set_limit s o)
+limit_fit : (chosen : Bool) (s : Settings) (o : Option ℕ) → AreSet chosen s → IfSome o (IsWithin 1 10000) → AreSet chosen (record s { limit = unwrap_or o s.limit })
 limit_fit chosen s None h k = h
 limit_fit chosen s (Some n) h k = assumption k
 
@@ -176,7 +179,7 @@ percent_set : (scope : Scope) (s : Settings) (word : ℕ) (o : Option ℕ) → A
 percent_set scope s word None h = h
 percent_set scope s word (Some n) h =
     let rate = percent scope.rate n in
-    cond_both (nat_le 1000 rate && nat_le rate most_rate) (Ok (set_rate s (Some rate))) (Err (fault_at scope.line word rate_range)) (AreSetIfOk scope.chosen) (λ t.
+    cond_both (nat_le 1000 rate && nat_le rate most_rate) (Ok (record s { rate = Some rate })) (Err (fault_at scope.line word rate_range)) (AreSetIfOk scope.chosen) (λ t.
     let parts = and_parts (nat_le 1000 rate) (nat_le rate most_rate) t in
     rate_fit scope.chosen s (Some rate) h (leb-true 1000 rate parts.0, leb-true rate most_rate parts.1)) (λ t. tt)
 
@@ -190,11 +193,11 @@ option_fit : (scope : Scope) (s : Settings) (word : ℕ) (option : Key) (items :
     → AreSetIfOk scope.chosen (set_option scope s word option items)
 option_fit scope s word key.Sc items r h =
     let made = curve_fit 0 1 items (omega arith) in
-    share_fit scope.chosen (set_real s false (curve_in 0 1 items)) (curve_in 0 1 items)
-    (real_fit scope.chosen s false (curve_in 0 1 items) h (curve_less (curve_in 0 1 items) made)) made
-option_fit scope s word key.Rt items r h = real_fit scope.chosen s true (curve_in 0 0 items) h (curve_fit 0 0 items (omega arith))
-option_fit scope s word key.Ls items r h = share_fit scope.chosen s (curve_in 0 1 items) h (curve_fit 0 1 items (omega arith))
-option_fit scope s word key.Ul items r h = upper_fit scope.chosen s (curve_in 1000 1000 items) h (curve_fit 1000 1000 items (le_refl 1000))
+    share_fit scope.chosen (record s { real = option_or (curve_behind key.Sc items) s.real; fixed = false }) (curve_behind key.Sc items)
+    (real_fit scope.chosen s false (curve_behind key.Sc items) h (curve_less (curve_behind key.Sc items) made)) made
+option_fit scope s word key.Rt items r h = real_fit scope.chosen s true (curve_behind key.Rt items) h (curve_fit 0 0 items (omega arith))
+option_fit scope s word key.Ls items r h = share_fit scope.chosen s (curve_behind key.Ls items) h (curve_fit 0 1 items (omega arith))
+option_fit scope s word key.Ul items r h = upper_fit scope.chosen s (curve_behind key.Ul items) h (curve_fit 1000 1000 items (le_refl 1000))
 option_fit scope s word key.Pshare items r h =
     let o = number_at 1 100 items 0 in
     share_fit scope.chosen s (option_map (λ n. straight (percent scope.rate n)) o) h

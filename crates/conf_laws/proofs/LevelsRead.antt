@@ -3,7 +3,6 @@ use Rattle.std.proofs.Common.{◌≡◌, ℕ, ◌+◌, List, Some, None, slice_g
 use Rattle.conf_tree.specs.declared.class.Class.{Class}
 use Rattle.conf_tree.specs.Family.{IsOnLevel, root, below}
 
-
 pub level_of_root : (all : List Class) (k level : ℕ) → IsOnLevel all k level → (c : Class) → slice_get all k ≡ Some c → c.parent ≡ None → level ≡ 1
 level_of_root all k level (root j d e n) c h p = refl
 level_of_root all k level (below j i up d e n o) c h p =

@@ -25,7 +25,6 @@ pub mod Groups
 pub mod ImpliedTree
 pub mod InterfacesRead
 pub mod Ip6
-pub mod Kept
 pub mod LevelsRead
 pub mod Lines
 pub mod ListPlaces

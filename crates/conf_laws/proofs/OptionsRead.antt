@@ -1,5 +1,6 @@
 -- What the options of a class set, one after the other, as the canonical text has them.
-use Rattle.std.proofs.Common.{◌≡◌, ℕ, ◌+◌, Bool, true, false, cond, ◌||◌, is_some, List, [], ◌∷◌, ◌++◌, Option, Some, None, Ok, Err, Result, refl, ap, sym, ◌∙◌, append_assoc, append-nil, arith}
+use Rattle.std.proofs.Common.{◌≡◌, ℕ, ◌+◌, Bool, true, false, cond, ◌||◌, is_some, List, [], ◌∷◌, ◌++◌, Option, Some, None, Ok, Err, Result, unwrap_or, refl, ap, sym, ◌∙◌, append_assoc, append-nil, arith}
+use Rattle.std.specs.Option.{option_or}
 use Rattle.service_curve.specs.declared.Curve.{Curve}
 use Rattle.conf_lines.specs.declared.fault.ConfPlace.{ConfPlace}
 use Rattle.conf_lines.specs.declared.item.Item.{Item}
@@ -15,7 +16,7 @@ use Rattle.conf_tree.specs.declared.interface.Kind.TheVariants.{Hfsc, Cbq}
 use Rattle.conf_laws.proofs.Types.{Scope, Settings}
 use Rattle.conf_tree.specs.Kinds.{fault_at, two_defaults}
 use Rattle.conf_tree.specs.Options.{set_options}
-use Rattle.conf_tree.specs.Settings.{unset, set_real, set_share, set_upper, set_rate, set_priority, set_maxburst, set_packetsize, set_limit}
+use Rattle.conf_tree.specs.Settings.{unset}
 use Rattle.conf_laws.specs.Fit.{IsWithin, IsCurveIfAny, IsOfKind}
 use Rattle.conf_laws.specs.Statements.{numbered, key_where, drop_whats, curve_whats, class_options}
 use Rattle.conf_laws.proofs.CurvesRead.{within_is, curve_is}
@@ -38,19 +39,19 @@ then_sets {scope} {s} {t} {u} {p} {q} a b = record {
 
 -- one option after the other
 pub limit_sets : (scope : Scope) (s : Settings) (n : ℕ) → IsWithin 1 10000 n → Sets scope s (what.Key key.Qlimit ∷ what.Whole n ∷ []) (record s { limit = n })
-limit_sets scope s n h = record { on = λ at rest. (at + 1 + 1, ap (λ o. set_options scope (set_limit s o) (numbered (at + 1 + 1) rest)) (within_is 1 10000 n h)) }
+limit_sets scope s n h = record { on = λ at rest. (at + 1 + 1, ap (λ o. set_options scope (record s { limit = unwrap_or o s.limit }) (numbered (at + 1 + 1) rest)) (within_is 1 10000 n h)) }
 
 pub priority_sets : (scope : Scope) (s : Settings) (n : ℕ) → IsWithin 0 7 n → Sets scope s (what.Key key.Priority ∷ what.Whole n ∷ []) (record s { priority = n })
-priority_sets scope s n h = record { on = λ at rest. (at + 1 + 1, ap (λ o. set_options scope (set_priority s o) (numbered (at + 1 + 1) rest)) (within_is 0 7 n h)) }
+priority_sets scope s n h = record { on = λ at rest. (at + 1 + 1, ap (λ o. set_options scope (record s { priority = unwrap_or o s.priority }) (numbered (at + 1 + 1) rest)) (within_is 0 7 n h)) }
 
 pub maxburst_sets : (scope : Scope) (s : Settings) (n : ℕ) → IsWithin 1 1000 n → Sets scope s (what.Key key.Maxburst ∷ what.Whole n ∷ []) (record s { maxburst = n })
-maxburst_sets scope s n h = record { on = λ at rest. (at + 1 + 1, ap (λ o. set_options scope (set_maxburst s o) (numbered (at + 1 + 1) rest)) (within_is 1 1000 n h)) }
+maxburst_sets scope s n h = record { on = λ at rest. (at + 1 + 1, ap (λ o. set_options scope (record s { maxburst = unwrap_or o s.maxburst }) (numbered (at + 1 + 1) rest)) (within_is 1 1000 n h)) }
 
 pub packetsize_sets : (scope : Scope) (s : Settings) (n : ℕ) → IsWithin 1 262144 n → Sets scope s (what.Key key.Packetsize ∷ what.Whole n ∷ []) (record s { packetsize = n })
-packetsize_sets scope s n h = record { on = λ at rest. (at + 1 + 1, ap (λ o. set_options scope (set_packetsize s o) (numbered (at + 1 + 1) rest)) (within_is 1 262144 n h)) }
+packetsize_sets scope s n h = record { on = λ at rest. (at + 1 + 1, ap (λ o. set_options scope (record s { packetsize = unwrap_or o s.packetsize }) (numbered (at + 1 + 1) rest)) (within_is 1 262144 n h)) }
 
 pub rate_sets : (scope : Scope) (s : Settings) (n : ℕ) → IsWithin 1000 most_rate n → Sets scope s (what.Key key.Exactbandwidth ∷ what.Rate n ∷ []) (record s { rate = Some n })
-rate_sets scope s n h = record { on = λ at rest. (at + 1 + 1, ap (λ o. set_options scope (set_rate s o) (numbered (at + 1 + 1) rest)) (within_is 1000 most_rate n h)) }
+rate_sets scope s n h = record { on = λ at rest. (at + 1 + 1, ap (λ o. set_options scope (record s { rate = option_or o s.rate }) (numbered (at + 1 + 1) rest)) (within_is 1000 most_rate n h)) }
 
 -- settings that have a value already are those with this value
 same_sets : {scope : Scope} {s t : Settings} → s ≡ t → Sets scope s [] t
@@ -60,21 +61,21 @@ pub real_sets : (scope : Scope) (real : Option Curve) → IsCurveIfAny 0 0 real
     → Sets scope unset (curve_whats key.Rt real) (record unset { real = real; fixed = is_some real })
 real_sets scope None h = none_sets
 real_sets scope (Some c) h = record {
-  on = λ at rest. (at + 1 + 1 + 1 + 1, ap (λ o. set_options scope (set_real unset true o) (numbered (at + 1 + 1 + 1 + 1) rest)) (curve_is 0 0 c h));
+  on = λ at rest. (at + 1 + 1 + 1 + 1, ap (λ o. set_options scope (record unset { real = option_or o unset.real; fixed = true }) (numbered (at + 1 + 1 + 1 + 1) rest)) (curve_is 0 0 c h));
 }
 
 pub share_sets : (scope : Scope) (s : Settings) (share : Option Curve) → s.share ≡ None → IsCurveIfAny 0 1 share
     → Sets scope s (curve_whats key.Ls share) (record s { share = share })
 share_sets scope s None e h = same_sets (ap (λ x. record s { share = x }) e)
 share_sets scope s (Some c) e h = record {
-  on = λ at rest. (at + 1 + 1 + 1 + 1, ap (λ o. set_options scope (set_share s o) (numbered (at + 1 + 1 + 1 + 1) rest)) (curve_is 0 1 c h));
+  on = λ at rest. (at + 1 + 1 + 1 + 1, ap (λ o. set_options scope (record s { share = option_or o s.share }) (numbered (at + 1 + 1 + 1 + 1) rest)) (curve_is 0 1 c h));
 }
 
 pub upper_sets : (scope : Scope) (s : Settings) (upper : Option Curve) → s.upper ≡ None → IsCurveIfAny 1000 1000 upper
     → Sets scope s (curve_whats key.Ul upper) (record s { upper = upper })
 upper_sets scope s None e h = same_sets (ap (λ x. record s { upper = x }) e)
 upper_sets scope s (Some c) e h = record {
-  on = λ at rest. (at + 1 + 1 + 1 + 1, ap (λ o. set_options scope (set_upper s o) (numbered (at + 1 + 1 + 1 + 1) rest)) (curve_is 1000 1000 c h));
+  on = λ at rest. (at + 1 + 1 + 1 + 1, ap (λ o. set_options scope (record s { upper = option_or o s.upper }) (numbered (at + 1 + 1 + 1 + 1) rest)) (curve_is 1000 1000 c h));
 }
 
 pub drop_sets : (scope : Scope) (s : Settings) (drop : DropRule) → s.drop ≡ Tail → Sets scope s (drop_whats drop) (record s { drop = drop })

@@ -3,4 +3,7 @@
 
 mod laws;
 
-pub use laws::{configurations_fit, interfaces_have_queues, statements_are_read, text_has_its_statements, texts_read_back};
+pub use laws::{
+    configurations_fit, interfaces_have_queues, statements_are_read, text_has_its_statements,
+    texts_read_back,
+};
