@@ -5,3 +5,4 @@ pub mod OneLine
 pub mod SoundAddresses
 pub mod SoundItems
 pub mod Steps
+mod WholeOptions
