@@ -46,3 +46,4 @@ pub mod StatementsRead
 pub mod TextLines
 pub mod Types
 pub mod WordParts
+pub mod WorkedRows

@@ -252,33 +252,39 @@ unfolding at_parent
 parent_held place word = reads_held next.Parent next.Choice _ (name_in word) (λ items. tt) (name_plain word)
 
 slope_held : (low least : ℕ) (place : Place) (r : Result ℕ ℕ) → IsNumber low most_rate r → HeldIfOk (next.Slope low least) (at_slope least r place)
-slope_held low least place (Ok m1) is = λ word rest held. ((tt, held.0), record {
-  m1 = m1;
-  d = held.1.d;
-  m2 = held.1.m2;
-  first = refl;
-  bend = held.1.bend;
-  second = held.1.second;
-  first_least = is.0;
-  first_most = is.1;
-  bend_most = held.1.bend_most;
-  second_least = held.1.second_least;
-  second_most = held.1.second_most;
-  upward = held.1.upward;
-})
+slope_held low least place (Ok m1) is = λ word rest held. (
+  (tt, held.0),
+  record {
+    m1 = m1;
+    d = held.1.d;
+    m2 = held.1.m2;
+    first = refl;
+    bend = held.1.bend;
+    second = held.1.second;
+    first_least = is.0;
+    first_most = is.1;
+    bend_most = held.1.bend_most;
+    second_least = held.1.second_least;
+    second_most = held.1.second_most;
+    upward = held.1.upward;
+  },
+)
 slope_held low least place (Err kind) is = tt
 
 bend_held : (least m1 : ℕ) (place : Place) (r : Result ℕ ℕ) → IsNumber 0 most_bend r → HeldIfOk (next.Bend least m1) (at_bend least r place m1)
-bend_held least m1 place (Ok d) is = λ word rest held. ((tt, held.0), record {
-  d = d;
-  m2 = held.1.m2;
-  bend = refl;
-  second = held.1.second;
-  bend_most = is.1;
-  second_least = held.1.second_least;
-  second_most = held.1.second_most;
-  upward = held.1.upward;
-})
+bend_held least m1 place (Ok d) is = λ word rest held. (
+  (tt, held.0),
+  record {
+    d = d;
+    m2 = held.1.m2;
+    bend = refl;
+    second = held.1.second;
+    bend_most = is.1;
+    second_least = held.1.second_least;
+    second_most = held.1.second_most;
+    upward = held.1.upward;
+  },
+)
 bend_held least m1 place (Err kind) is = tt
 
 second_held : (least m1 d : ℕ) (place : Place) (r : Result ℕ ℕ) → IsNumber least most_rate r → HeldIfOk (next.LastSlope least m1 d) (at_last_slope m1 d r place)

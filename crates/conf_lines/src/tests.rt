@@ -212,6 +212,25 @@ fn line_of_4097_bytes(rt: HostRuntime) -> Result<(), Fail> {
 }
 
 #[test]
+fn long_lines_keep_their_words(rt: HostRuntime) -> Result<(), Fail> {
+    let mut text = String::from_str(rt.alloc(), "a")?;
+    for _ in 1..2000 {
+        text.push_str(" a")?;
+    }
+    let found = statements(rt.alloc(), text.as_str().as_bytes())?;
+    assert_eq!(rt; found[0].end, 2001);
+    assert_eq!(rt; first_fault(rt.alloc(), text.as_str())?, Some((1, 1, 1)));
+    let mut text = String::from_str(rt.alloc(), "class hfsc if0 a NULL")?;
+    for _ in 6..300 {
+        text.push_str(" red")?;
+    }
+    assert_eq!(rt; first_fault(rt.alloc(), text.as_str())?, None);
+    text.push_str(" quick red")?;
+    assert_eq!(rt; first_fault(rt.alloc(), text.as_str())?, Some((1, 300, 1)));
+    Ok(())
+}
+
+#[test]
 fn parts_are_given_back(rt: HostRuntime) -> Result<(), Fail> {
     let text = Text::of(String::from_str(rt.alloc(), "if0")?);
     assert_eq!(rt; text.as_str(), "if0");

@@ -190,6 +190,30 @@ fn classes_to_their_limits(rt: HostRuntime) -> Result<(), Fail> {
 }
 
 #[test]
+fn control_on_the_last_of_256(rt: HostRuntime) -> Result<(), Fail> {
+    let mut text = String::from_str(
+        rt.alloc(),
+        "interface if0 cbq\nclass cbq if0 c0 NULL default\n",
+    )?;
+    for i in 1..256u32 {
+        let control = if i == 255 { " control" } else { "" };
+        let line = format!(in rt.alloc(); "class cbq if0 c{i} c0 exactbandwidth 1k{control}\n")?;
+        text.push_str(line.as_str())?;
+    }
+    let conf = match built(rt.alloc(), text.as_str())? {
+        Ok(conf) => conf,
+        Err(_) => return Err(Fail::new("refused")),
+    };
+    let Some(interface) = conf.interface("if0") else {
+        return Err(Fail::new("no if0"));
+    };
+    assert_eq!(rt; interface.classes.as_slice().len(), 256);
+    assert!(rt; class_at(interface, 255)?.control);
+    assert!(rt; !class_at(interface, 254)?.control);
+    Ok(())
+}
+
+#[test]
 fn filter_1025(rt: HostRuntime) -> Result<(), Fail> {
     let mut text = String::from_str(
         rt.alloc(),
