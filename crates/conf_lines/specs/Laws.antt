@@ -1,16 +1,17 @@
 -- What the items of the statements of every text keep to, after altq.conf(5): each has its form, and an option in a statement
 -- without a fault has behind it what the table of options says.
-use Rattle.std.specs.Prelude.{◌≡◌, ◌<◌, ◌≤◌, ℕ, true, false, List, [], ◌∷◌, length, All, Option, Some, None, option_map, slice_get}
+use Rattle.std.specs.Prelude.{◌≡◌, ◌<◌, ◌≤◌, ℕ, true, false, List, [], ◌∷◌, ◌++◌, length, All, Option, Some, None, option_map, slice_get}
+use Rattle.conf_lines.specs.declared.fault.ConfPlace.{ConfPlace}
 use Rattle.conf_lines.specs.declared.item.Item.{Item}
 use Rattle.conf_lines.specs.declared.item.What.{What}
 use Rattle.conf_lines.specs.declared.item.What.TheVariants as what
 use Rattle.conf_lines.specs.declared.options.Slots.{Slots}
 use Rattle.conf_lines.specs.declared.options.Slots.TheVariants as slots
 use Rattle.conf_lines.specs.declared.statement.Statement.{Statement}
-use Rattle.conf_lines.specs.Grammar.{is_convex}
+use Rattle.conf_lines.specs.Grammar.{is_convex, start}
 use Rattle.conf_lines.specs.Options.{most_rate, most_bend, slots_of}
 use Rattle.conf_lines.specs.Slots.{is_name}
-use Rattle.conf_lines.specs.Texts.{statements_of}
+use Rattle.conf_lines.specs.Texts.{read_from, statements_of}
 
 -- so many bytes
 pub record AreBytes (n : ℕ) (list : List ℕ) : Type 0 where
@@ -90,3 +91,10 @@ AreAllWhole (s ∷ statements) = (s.fault ≡ None → AreWhole s.items) × AreA
 
 abbrev pub OptionsAreWhole : Type 0
 OptionsAreWhole = (text : List ℕ) → AreAllWhole (statements_of text)
+
+-- The fault that a line shows by itself stands at its word: lines that agree up to and with this word are read alike, so nothing
+-- that follows the word mends it.
+abbrev pub FaultsStandAtWords : Type 0
+FaultsStandAtWords =
+    (line : ℕ) (words more other : List (List ℕ)) (fault : ConfPlace) → (read_from line (words ++ more) start 1).fault ≡ Some fault
+    → fault.word ≤ length words → read_from line (words ++ other) start 1 ≡ read_from line (words ++ more) start 1

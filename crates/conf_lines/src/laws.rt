@@ -1,5 +1,5 @@
 //! Laws of the statements of every text.
-ghost use Rattle.conf_lines.specs.Laws.{ItemsAreSound, OptionsAreWhole};
+ghost use Rattle.conf_lines.specs.Laws.{FaultsStandAtWords, ItemsAreSound, OptionsAreWhole};
 
 /// In the statements of every text each name is a NAME, each IPv4 address has four bytes, and each IPv6 address has sixteen
 /// and a prefix length of at most 128.
@@ -11,4 +11,9 @@ pub fn items_are_sound()
 /// curve, its mask or its word.
 pub fn options_are_whole()
     ensures { OptionsAreWhole }
+{}
+
+/// The fault that a line shows by itself stands at its word: lines that agree up to and with this word are read alike.
+pub fn faults_stand_at_words()
+    ensures { FaultsStandAtWords }
 {}
