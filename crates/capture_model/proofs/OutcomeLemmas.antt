@@ -44,8 +44,8 @@ next_place form bytes count at x n h =
     let original : ℕ = word form.big bytes (at + 12) in
     let r : Record = record { stamp = stamp form bytes at; captured = take captured (drop (at + 16) bytes); original = original } in
     let both = next_case (nat_le (length bytes) at) (count == most_records) (nat_lt (length bytes) (at + 16)) (nat_lt longest captured || nat_lt longest original)
-        ((captured == 0) && (original == 0)) (nat_lt most_bytes (at + 16 + captured)) (nat_lt (length bytes) (at + 16 + captured))
-        (damage at ShortRecord) (damage at LongRecord) (damage at EmptyRecord) (damage at ShortRecord) (Next r (at + 16 + captured)) x n h in
+    ((captured == 0) && (original == 0)) (nat_lt most_bytes (at + 16 + captured)) (nat_lt (length bytes) (at + 16 + captured))
+    (damage at ShortRecord) (damage at LongRecord) (damage at EmptyRecord) (damage at ShortRecord) (Next r (at + 16 + captured)) x n h in
     let fits : at + 16 + captured ≤ length bytes = ltb-false (length bytes) (at + 16 + captured) both.1 in
     let place : at + 16 + captured ≡ n = ap after_of both.0 in
     let same : take captured (drop (at + 16) bytes) ≡ x.captured = ap captured_of both.0 in
