@@ -1,10 +1,10 @@
 -- The outcome of a file is a reading of it.
 use Rattle.std.specs.Prelude.{◌==◌, ◌&&◌, ◌||◌, nat_lt, nat_le, Bool, true, false, take, drop, if◌then◌else◌}
-use Rattle.std.proofs.Common.{◌≡◌, ◌≤◌, ◌<◌, ◌+◌, ◌-◌, ◌∙◌, ℕ, zero, suc, List, [], ◌∷◌, length, refl, ap, sym, subst, arith, length-take, length-drop}
+use Rattle.std.proofs.Common.{◌≡◌, ◌≤◌, ◌+◌, ◌∙◌, ℕ, zero, suc, List, [], length, refl, ap, sym, subst, arith, length-take, length-drop}
 use Rattle.std.proofs.lemmas.Bool.{ltb-false, le-leb}
 use Rattle.capture_model.specs.declared.damage.Damage.{Damage}
 use Rattle.capture_model.specs.declared.damage.DamageKind.TheVariants.{ShortRecord, EmptyRecord, LongRecord}
-use Rattle.capture_model.specs.Capture.{Form, Record, Step, End, Next, Fault, Limit, Header, Formed, Unformed, Outcome, IsLast, Stand, ReadsAs, ReadsFrom, header, more, outcome, outcome_from, outcome_on, Reads, place_after, step, word, longest, most_records, most_bytes, damage, stamp}
+use Rattle.capture_model.specs.Capture.{Form, Record, Step, End, Next, Fault, Limit, Header, Formed, Unformed, Outcome, IsLast, Stand, ReadsFrom, header, more, outcome, outcome_from, outcome_on, Reads, place_after, step, word, longest, most_records, most_bytes, damage, stamp}
 
 -- what a count of turns reads from a place on
 pub record IsRead (form : Form) (bytes : List ℕ) (count at : ℕ) (o : Outcome) : Type 0 where
