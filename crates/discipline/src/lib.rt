@@ -1,7 +1,6 @@
 //! Two plain queueing disciplines, which keep the laws of the trait.
 #![tactic(auto)]
 
-mod leaf;
 mod one_queue;
 mod paced;
 mod strict;
