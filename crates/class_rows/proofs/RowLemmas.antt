@@ -1,7 +1,7 @@
 -- Classes in a row: their lists, limits and queues.
 use Rattle.std.proofs.Common.{◌≡◌, ◌≤◌, ◌<◌, ◌+◌, ◌-◌, ◌∙◌, ◌⊎◌, inl, inr, ℕ, zero, suc, Bool, true, false, cond, List, [], ◌∷◌, Some, length, map, refl, ap, sym, subst, arith, drop, eqb, set, get_or, All, replicate, take}
 use Rattle.std.specs.Prelude.{slice_get, ◌↔◌}
-use Rattle.std.proofs.lemmas.Bool.{eq-eqb, ne_eqb, eqb-true}
+use Rattle.std.proofs.lemmas.Bool.{cases_eq, eq-eqb, ne_eqb, eqb-true}
 use Rattle.std.proofs.lemmas.List.{length-set, length-append, set-get_or, length-map}
 use Rattle.std.proofs.lemmas.Option.{slice_get-get_or}
 use Rattle.altq_model.specs.declared.Reason.TheVariants.{Full}
@@ -9,10 +9,12 @@ use Rattle.altq_model.specs.declared.Verdict.{Verdict}
 use Rattle.altq_model.specs.declared.Verdict.TheVariants.{Keep, Mark, Drop}
 use Rattle.altq_model.specs.History.{with_offer}
 use Rattle.altq_model.specs.Lawful.{IsOneOf}
+use Rattle.altq_model.specs.Laws.{occurs}
+use Rattle.leaf_queue.proofs.Linking.{once_same, once_other}
 use Rattle.leaf_queue.specs.declared.node.Entry.{Entry}
 use Rattle.leaf_queue.specs.Lists.{Listed, list_of, total_of}
 use Rattle.leaf_queue.specs.Queue.{QueueEvent}
-use Rattle.discipline_laws.specs.Laws.{Shows, tickets, seen, held_in, room_of}
+use Rattle.discipline_laws.specs.Laws.{AreDistinct, Shows, tickets, seen, held_in, room_of}
 use Rattle.class_rows.specs.Leaf.{after_verdict, HasPrecs}
 use Rattle.class_rows.specs.Rows.{Fit, IsRow, RowsStand, holding, limit_at, limits_of, limits_sum, list_at, most_of}
 
@@ -294,3 +296,26 @@ pub shown_none : (first n : ℕ) (lists : List (List Entry)) → lists ≡ repli
 shown_none first n lists e c =
     let none : list_at first lists c ≡ [] = ap (λ (ls : List (List Entry)). list_at first ls c) e ∙ none_at first n c in
     record { labels = ap tickets none; packets = ap seen none }
+
+-- no class is twice among the queue classes
+none_below : (c d : ℕ) (hs : List Bool) → c < d → occurs c (holding d hs) ≡ 0
+none_below c d [] l = refl
+none_below c d (true ∷ hs) l = omega (arith, once_other d c (λ e. omega arith), none_below c (d + 1) hs (omega arith))
+none_below c d (false ∷ hs) l = none_below c (d + 1) hs (omega arith)
+
+pub holding_distinct : (d : ℕ) (hs : List Bool) → AreDistinct (holding d hs)
+holding_distinct d [] c = omega arith
+holding_distinct d (true ∷ hs) c = elim (cases_eq d c) [
+  | inl e ↦ omega (arith, once_same d c e, none_below c (d + 1) hs (omega arith))
+  | inr m ↦ omega (arith, once_other d c m, holding_distinct (d + 1) hs c)
+]
+holding_distinct d (false ∷ hs) c = holding_distinct (d + 1) hs c
+
+-- where every class is a queue class
+pub all_limits : {Q : Type 0} (most : Q → ℕ) (queues : List Q) → limits_of most queues (replicate (length queues) true) ≡ map most queues
+all_limits most [] = refl
+all_limits most (q ∷ queues) = ap (λ (ns : List ℕ). most q ∷ ns) (all_limits most queues)
+
+-- what keeps no number in mind is past none
+pub none_is_least : (n : ℕ) → 0 ≤ n
+none_is_least n = omega arith

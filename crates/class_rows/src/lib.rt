@@ -6,3 +6,6 @@ mod leaf;
 mod rows;
 
 pub use rows::Rows;
+
+#[cfg(test)]
+mod tests;

@@ -1,8 +1,11 @@
 -- What holds of every configuration, and of its canonical text.
-use Rattle.std.specs.Prelude.{◌≡◌, List, ℕ, Ok}
+use Rattle.std.specs.Prelude.{◌≡◌, List, ℕ, true, Ok, Some, slice_get}
 use Rattle.conf_lines.specs.Texts.{statements_of}
+use Rattle.conf_tree.specs.declared.class.Class.{Class}
+use Rattle.conf_tree.specs.declared.filter.Filter.{Filter}
 use Rattle.conf_tree.specs.declared.interface.Interface.{Interface}
 use Rattle.conf_tree.specs.Canonical.{canonical_text}
+use Rattle.conf_tree.specs.Family.{default_class, is_queue_class}
 use Rattle.conf_tree.specs.Reading.{reading, IsConfiguration}
 use Rattle.conf_laws.specs.Fit.{AreFit}
 use Rattle.conf_laws.specs.Statements.{canonical_statements}
@@ -10,6 +13,18 @@ use Rattle.conf_laws.specs.Statements.{canonical_statements}
 -- the interfaces of a text keep to the ranges, the limits and the tree
 abbrev pub ConfigurationsFit : Type 0
 ConfigurationsFit = (text : List ℕ) (interfaces : List Interface) → IsConfiguration text interfaces → AreFit interfaces
+
+-- packets go to classes that hold packets: the default class is one, and so is the class of each filter and each class with
+-- control
+pub record HasQueues (i : Interface) : Type 0 where
+  pub default : is_queue_class i.kind i.classes (default_class i.classes) ≡ true
+  pub filter : (k : ℕ) (f : Filter) → slice_get i.filters k ≡ Some f → is_queue_class i.kind i.classes f.class ≡ true
+  pub control : (k : ℕ) (c : Class) → slice_get i.classes k ≡ Some c → c.control ≡ true → is_queue_class i.kind i.classes k ≡ true
+
+abbrev pub InterfacesHaveQueues : Type 0
+InterfacesHaveQueues =
+    (text : List ℕ) (interfaces : List Interface) → IsConfiguration text interfaces
+    → (k : ℕ) (i : Interface) → slice_get interfaces k ≡ Some i → HasQueues i
 
 -- the canonical text has one statement on each line, which says what the configuration says
 abbrev pub TextHasItsStatements : Type 0

@@ -5,3 +5,5 @@ pub mod OneLine
 pub mod SoundAddresses
 pub mod SoundItems
 pub mod Steps
+mod StandingWords
+mod WholeOptions

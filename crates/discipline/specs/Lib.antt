@@ -1,5 +1,3 @@
-pub mod Leaf
 pub mod Paced
-pub mod PacedLaws
+pub mod Plain
 pub mod Strict
-pub mod StrictLaws

@@ -41,7 +41,7 @@ event_split : (n m : ℕ) (e : Event) (ss : List ℕ) → occurs n (numbers (dec
 event_split n m (Offered a w v) ss = omega (arith, verdict_split n m v.verdict)
 event_split n m (Sent s) ss = omega arith
 
-split : (n : ℕ) (g : List Happened) → occurs n (numbers (journal g)) ≡ occurs n (dropped (journal g)) + occurs n (sent g)
+pub split : (n : ℕ) (g : List Happened) → occurs n (numbers (journal g)) ≡ occurs n (dropped (journal g)) + occurs n (sent g)
 split n [] = refl
 split n (e ∷ g) =
     let d : List Decision = decided e.label e.what in

@@ -2,6 +2,7 @@ pub mod AllLaws
 pub mod ArrivalLemmas
 pub mod BusyLemmas
 pub mod CountLemmas
+pub mod CountsLemmas
 pub mod DepartureLemmas
 pub mod DueLemmas
 pub mod EndLemmas
@@ -12,6 +13,7 @@ pub mod LinkLemmas
 pub mod OneLemmas
 pub mod OrderLemmas
 pub mod RunLemmas
+pub mod SizeLemmas
 pub mod Starts
 pub mod StrictLemmas
 pub mod TextLemmas

@@ -2,16 +2,18 @@
 //! nothing: each states its laws, and a caller that cites one calls nothing at run time.
 #![tactic(auto)]
 
-ghost use Rattle.std.specs.Prelude.{Bool, IsTrue, ◌≡◌, ◌≤◌, ◌<◌, ◌-◌, ◌++◌, ◌∷◌, ℕ, max, List, drop, length, Some, slice_get};
+ghost use Rattle.std.specs.Prelude.{Bool, IsTrue, ◌≡◌, ◌≤◌, ◌<◌, ◌+◌, ◌-◌, ◌++◌, ◌∷◌, ℕ, max, List, drop, length, Some, slice_get};
 ghost use Rattle.altq_model.specs.declared.Placed.{Placed};
 ghost use Rattle.altq_model.specs.declared.Rule.{Rule};
 ghost use Rattle.altq_model.specs.Arrivals.{Arrival, arrival, arrivals_from, arrivals_of, coming_of, comings};
-ghost use Rattle.capture_model.specs.Capture.{Record};
+ghost use Rattle.capture_model.specs.Capture.{Reads, Record, Step};
 ghost use Rattle.altq_model.specs.History.{Coming, Decision, Happened, Event, bare, journal, offered};
-ghost use Rattle.altq_model.specs.Laws.{KeepsLaws, at_of};
-ghost use Rattle.capture_model.specs.Written.{record_texts, written};
+ghost use Rattle.altq_model.specs.Laws.{IsInTime, KeepsLaws, at_of};
+ghost use Rattle.capture_model.specs.Written.{AreWithin, record_texts, written};
 ghost use Rattle.altq_model.specs.Busy.{IsBusy};
-ghost use Rattle.altq_model.specs.Departures.{Dressing, departed, departures};
+ghost use Rattle.altq_model.specs.declared.Fate.{Fate};
+ghost use Rattle.altq_model.specs.Counts.{of_arrivals, of_decisions};
+ghost use Rattle.altq_model.specs.Departures.{Dressing, KeepsLength, departed, departures};
 ghost use Rattle.altq_model.specs.Idle.{NeverIdles};
 ghost use Rattle.altq_model.specs.Link.{HasLinkEnds, link};
 ghost use Rattle.altq_model.specs.Play.{AreDue, IsPlay, Policy, first_start, play};
@@ -19,6 +21,7 @@ ghost use Rattle.altq_model.specs.Policies.{Answering, one_queue, strict};
 ghost use Rattle.altq_model.specs.Texts.{Naming, fate_rows, fates};
 ghost use Rattle.play_laws.specs.Events.{AreOfArrivals, HasLaws, IsWhole};
 ghost use Rattle.altq_model.specs.Lawful.{AreHeld, AreRising, IsLawful, IsOneOf, IsSteady, NeverWaits, SendsWhen, first_at, greatest, latest};
+ghost use Rattle.play_laws.specs.Sizes.{AreSized};
 ghost use Rattle.play_laws.specs.Runs.{AreRunEnds, sendings};
 
 /// The arrivals of a capture rise, there is one for each record, those of more records begin with those of the fewer, and a play
@@ -117,6 +120,27 @@ pub fn the_play_is_one()
         → IsPlay p rate seed arrived (play p rate seed arrived) }
     ensures later_arrivals { (p : Policy) (rate seed : ℕ) (arrived more : List Coming) (e : Happened) (g : List Happened) → offered (bare g) < length arrived
         → AreDue p rate seed arrived (e ∷ g) → AreDue p rate seed (arrived ++ more) (e ∷ g) }
+{}
+
+/// The records of a capture have the sizes that a capture may have, and the departures of a history of their play, each sending in
+/// time, are within the limits of one: so they read back as a capture of just these records, where frames keep their lengths.
+pub fn departures_are_within()
+    ensures sized { (bytes : List ℕ) (records : List Record) (last : Step) → Reads bytes records last → AreSized records }
+    ensures within { (dress : Dressing) (mark : List ℕ → Placed) (records : List Record) (p : Policy) (rate seed : ℕ) (g : List Happened)
+        → KeepsLength dress → AreSized records → HasLaws p rate seed (comings (arrivals_of mark records)) g → IsInTime g
+        → AreWithin (departed dress (arrivals_of mark records) g) }
+{}
+
+/// The counts of more arrivals, and of more decisions, are the sums of those of the fewer and of the rest; what was decided of packets
+/// that arrived counts the same, whatever arrives later.
+pub fn counts_add_up()
+    ensures arrivals { (meant : Arrival → Bool) (amount : Arrival → ℕ) (xs ys : List Arrival)
+        → of_arrivals meant amount (xs ++ ys) ≡ of_arrivals meant amount xs + of_arrivals meant amount ys }
+    ensures decisions { (meant : Arrival → Bool) (told : Fate → Bool) (amount : Arrival → ℕ) (arrived : List Arrival) (xs ys : List Decision)
+        → of_decisions meant told amount arrived (xs ++ ys) ≡ of_decisions meant told amount arrived xs + of_decisions meant told amount arrived ys }
+    ensures stay { (meant : Arrival → Bool) (told : Fate → Bool) (amount : Arrival → ℕ) (arrived more : List Arrival) (g : List Happened)
+        → AreOfArrivals (comings arrived) g
+        → of_decisions meant told amount (arrived ++ more) (journal g) ≡ of_decisions meant told amount arrived (journal g) }
 {}
 
 /// The journal of more events begins with that of the older ones, as do the records of their departures; the text of more decisions or

@@ -1,0 +1,9 @@
+use Rattle.hfsc_eligible.proofs.Lists.{opened_stands}
+use Rattle.hfsc_eligible.proofs.Eligible.open.Goals as goal
+
+pub returns : goal.returns
+returns c = record {
+  stands = λ curves h stands.
+      opened_stands c.args.self.now c.set.new.self curves h c.args.class c.args.at c.args.len c.index.result.now c.opened-slot.result stands
+      c.requires.class c.requires.empty c.index.ensures c.opened-slot.ensures.stands c.set.ensures;
+}

@@ -1,0 +1,3 @@
+pub mod Slots
+pub mod Lists
+pub mod Picks
