@@ -262,8 +262,7 @@ module _ {Q : Type 0} (stands : Q → List QueueEvent → Type 0) (says : Q → 
       × Stands stands says (record { gap = d.gap; rows = rows }) (offer_of (paced_of says d) h ticket w (coming class len prec now) ∷ h)
   offer_stands most d rows h ticket class len prec now w z v same k o a =
       let e : Pacing Q = record { gap = d.gap; rows = rows } in
-      let O : Policy → Type 0 = λ y. IsOrderly y (bare (offer_of (paced_of says d) h ticket w (coming class len prec now) ∷ h)) in
-      (
+      let O : Policy → Type 0 = λ y. IsOrderly y (bare (offer_of (paced_of says d) h ticket w (coming class len prec now) ∷ h)) in (
         record { verdict = a.verdict; words = a.words },
         record { gap = k.gap; told = a.told; orderly = subst O (sym (same_policy most d rows same)) (o, refl, k.orderly); plain = plain e k.gap },
       )

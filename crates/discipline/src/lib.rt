@@ -5,7 +5,9 @@ mod one_queue;
 mod paced;
 mod strict;
 
-pub use discipline_laws::{Classify, Discipline, Fate, Pick, Placed, Reason, Rule, Sending, Verdict};
+pub use discipline_laws::{
+    Classify, Discipline, Fate, Pick, Placed, Reason, Rule, Sending, Verdict,
+};
 pub use one_queue::one_class_is_one_queue;
 pub use paced::Paced;
 pub use strict::Strict;

@@ -50,6 +50,7 @@ pub trait Discipline {
     /// The moment of the latest event that it keeps in mind, and the end of its latest sending, in nanoseconds: 0 where it keeps
     /// none.
     ghost moment: { Self → ℕ };
+
     ghost ended: { Self → ℕ };
 
     /// The most packets that may wait in all classes together: the sum of the limits of the queue classes, 2,560,000 at most. It
@@ -150,6 +151,7 @@ pub trait Discipline {
     /// The moment that it keeps is no later than the events of each such history, and the end that it keeps is no later than the
     /// link is free after it.
     ghost moments: { (d : Self) (h : List Happened) → stands d h → (t : ℕ) → latest (bare h) ≤ t → StartsBy t (bare h) → moment d ≤ t };
+
     ghost ends: { (d : Self) (h : List Happened) → stands d h → (rate : ℕ) → HasRate (link_rate d) rate → ended d ≤ (link rate (bare h)).free };
 
     /// No class is twice among the queue classes.

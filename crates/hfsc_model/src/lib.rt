@@ -38,6 +38,10 @@ pub fn voice_overtakes_bulk_data()
     ensures first { choices (with_chosen voice_and_data (kept 50 2 0 1000 []) (0 ∷ 1000000 ∷ [])) ≡ by_real_time 2 ∷ by_share 2 ∷ [] }
     ensures voice { choice voice_and_data (Kept 1 10000000 200 ∷ with_chosen voice_and_data (kept 50 2 0 1000 []) (starts 10 0 1000000)) 10000000
         ≡ Some (by_real_time 1) }
+    ensures first_deadline { head_deadline (curve_of (reals voice_and_data) 2) (leaf (kept 50 2 0 1000 []) 2) ≡ Some 7000000 }
+    ensures voice_deadline { head_deadline (curve_of (reals voice_and_data) 1) (leaf (Kept 1 10000000 200 ∷ []) 1) ≡ Some 10400000 }
+    ensures data_deadline { head_deadline (curve_of (reals voice_and_data) 2) (leaf (with_chosen voice_and_data (kept 50 2 0 1000 []) (starts 10 0 1000000)) 2)
+        ≡ Some 17000000 }
     ensures due { due_of 8000000 (curve 4000000 5000000 1000000) (Sent 1 200 true 10000000 ∷ Kept 1 10000000 200 ∷ []) 1 ≡ Some 10400000 }
 {}
 
@@ -54,6 +58,8 @@ pub fn quarter_and_three_quarters()
         ≡ 1 ∷ 2 ∷ 2 ∷ 2 ∷ 1 ∷ 2 ∷ 2 ∷ 2 ∷ 1 ∷ [] }
     ensures times { times_of quarters 2 (with_chosen quarters (kept 6 2 0 1000 (kept 3 1 0 1000 [])) (starts 9 0 1000000))
         ≡ 1333334 ∷ 2666667 ∷ 4000000 ∷ 5333334 ∷ 6666667 ∷ 8000000 ∷ [] }
+    ensures times_of_a { times_of quarters 1 (with_chosen quarters (kept 6 2 0 1000 (kept 3 1 0 1000 [])) (starts 9 0 1000000))
+        ≡ 4000000 ∷ 8000000 ∷ 12000000 ∷ [] }
 {}
 
 /// A leaf without a real-time curve waits for its limit.

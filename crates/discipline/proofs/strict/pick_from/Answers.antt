@@ -16,10 +16,10 @@ returns-in-Some-clause-due g c =
     let front : slice_get (list_in d c.loop-class.class) 0 ≡ Some c.in-Some.head = sym c.head.ensures ∙ c.in-Some.is in
     let P : ℕ → Type 0 = λ n. slice_get (list_in d n) 0 ≡ Some c.in-Some.head in
     sym (ap (first_pick c.args.rule (list_in d)) (classes_are d c.requires.strict)
-        ∙ pick_found c.args.rule (list_in d) d.first (length d.queues) k c.in-Some.head
-        (omega (arith, place, c.loop-class-test.true, c.first-first.ensures.first, c.count.ensures))
-        (λ j l m. c.loop-class.invariant j l (omega (arith, place, m))) (subst P (sym place) front)
-        ∙ ap (λ (n : ℕ). Send c.in-Some.head.ticket n c.in-Some.head.len c.args.rule) place)
+    ∙ pick_found c.args.rule (list_in d) d.first (length d.queues) k c.in-Some.head
+    (omega (arith, place, c.loop-class-test.true, c.first-first.ensures.first, c.count.ensures))
+    (λ j l m. c.loop-class.invariant j l (omega (arith, place, m))) (subst P (sym place) front)
+    ∙ ap (λ (n : ℕ). Send c.in-Some.head.ticket n c.in-Some.head.len c.args.rule) place)
 
 pub loop-class-preserved : goal.loop-class-preserved
 loop-class-preserved g c = λ j l m. elim (cases_eq j c.loop-class.class) [
@@ -31,8 +31,8 @@ pub returns-clause-due : goal.returns-clause-due
 returns-clause-due g c =
     let d = c.args.rows.now in
     sym (ap (first_pick c.args.rule (list_in d)) (classes_are d c.requires.strict)
-        ∙ pick_none c.args.rule (list_in d) d.first (length d.queues)
-        (λ j l m. c.loop-class.invariant j l (omega (arith, m, c.loop-class-test.false, c.first-first.ensures.first, c.count.ensures))))
+    ∙ pick_none c.args.rule (list_in d) d.first (length d.queues)
+    (λ j l m. c.loop-class.invariant j l (omega (arith, m, c.loop-class-test.false, c.first-first.ensures.first, c.count.ensures))))
 
 pub returns-in-Some-clause-empty : goal.returns-in-Some-clause-empty
 returns-in-Some-clause-empty g c =
@@ -41,8 +41,7 @@ returns-in-Some-clause-empty g c =
 
 pub returns-clause-empty : goal.returns-clause-empty
 returns-clause-empty g c =
-    let d = c.args.rows.now in
-    (
+    let d = c.args.rows.now in (
       λ e j. within_or (list_in d) d.first (length d.queues) j (nat_le d.first j) (nat_lt j (d.first + length d.queues)) refl refl
           (λ i l m. c.loop-class.invariant i l (omega (arith, m, c.loop-class-test.false, c.first-first.ensures.first, c.count.ensures)))
           c.first-first.ensures.others,

@@ -31,8 +31,12 @@ pub offer_to-requires-clause-room : goal.offer_to-requires-clause-room
 offer_to-requires-clause-room g c = λ less.
     let P : Rowed g.row.Q.Denot → Type 0 = λ d. IsOneOf c.args.class (classes_in d) in
     let place = queue_place g.Q.QueueRule.most c.self.inside.room _ c.self.invariant c.args.class (subst P (sym c.self.view_is) c.requires.class) in
-    omega (arith, fit_less g.Q.QueueRule.most _ _ _ _ _ c.self.invariant.fit (queue_is _ c.args.class _ place.0 c.index_mut-queue.ensures.value) place.1 less,
-    c.self.invariant.sum, c.self.invariant.there)
+    omega (
+      arith,
+      fit_less g.Q.QueueRule.most _ _ _ _ _ c.self.invariant.fit (queue_is _ c.args.class _ place.0 c.index_mut-queue.ensures.value) place.1 less,
+      c.self.invariant.sum,
+      c.self.invariant.there,
+    )
 
 all : (g : Over) (c : goal.After-self-1 g)
     → Offers g.Q.QueueRule.stands g.Q.QueueRule.says g.Q.QueueRule.most c.self.inside.room

@@ -39,9 +39,10 @@ pub returns-then-till-now-clause-policy : goal.returns-then-till-now-clause-poli
 returns-then-till-now-clause-policy g c = λ h s _.
     let d = c.args.self.now in
     let front = front_of _ d c.first-class.result c.head.result c.self.view_is c.first-class.ensures.first c.head.ensures ∙ c.in-Some.is in
-    let till = till_is _ _ c.args.now _ c.self.invariant.gap_there (ap (λ (v : Pacing _). v.gap) c.self.view_is) c.div_ceil.ensures in
-    (first_some d.rows.first d.gap (answering g.Q.QueueRule.says d.rows) _ _ (bare h) c.args.now (packets_here g.Q.QueueRule.stands g.Q.QueueRule.says d h s) front ∙ ap Some (sym till),
-    c.if-till-now.true)
+    let till = till_is _ _ c.args.now _ c.self.invariant.gap_there (ap (λ (v : Pacing _). v.gap) c.self.view_is) c.div_ceil.ensures in (
+      first_some d.rows.first d.gap (answering g.Q.QueueRule.says d.rows) _ _ (bare h) c.args.now (packets_here g.Q.QueueRule.stands g.Q.QueueRule.says d h s) front ∙ ap Some (sym till),
+      c.if-till-now.true,
+    )
 
 pub returns-clause-due : goal.returns-clause-due
 returns-clause-due g c =
@@ -66,6 +67,7 @@ returns-clause-policy g c = λ h s _.
     let front = front_of _ d c.first-class.result c.head.result c.self.view_is c.first-class.ensures.first c.head.ensures ∙ c.in-Some.is in
     let gap = ap (λ (v : Pacing _). v.gap) c.self.view_is in
     let till = till_is _ _ c.args.now _ c.self.invariant.gap_there gap c.div_ceil.ensures in
-    let now = now_is _ c.args.now _ (omega (arith, gap, c.self.invariant.gap_there)) till c.if-till-now.false in
-    (first_some d.rows.first d.gap (answering g.Q.QueueRule.says d.rows) _ _ (bare h) c.args.now (packets_here g.Q.QueueRule.stands g.Q.QueueRule.says d h s) front ∙ ap Some now,
-    choice_is _ _ _ (c.first-class.ensures.first ∙ ap (λ (v : Pacing _). v.rows.first) c.self.view_is))
+    let now = now_is _ c.args.now _ (omega (arith, gap, c.self.invariant.gap_there)) till c.if-till-now.false in (
+      first_some d.rows.first d.gap (answering g.Q.QueueRule.says d.rows) _ _ (bare h) c.args.now (packets_here g.Q.QueueRule.stands g.Q.QueueRule.says d h s) front ∙ ap Some now,
+      choice_is _ _ _ (c.first-class.ensures.first ∙ ap (λ (v : Pacing _). v.rows.first) c.self.view_is),
+    )

@@ -27,7 +27,7 @@ returns-clause-policy g c =
     ∙ ap (λ (qs : List g.row.Q.Denot). strict (classes_from c.args.first n) c.args.rule (by_queues c.args.first (map g.Q.QueueRule.says qs))) c.in_ok-rows.ensures.queues
 
 pub returns-clause-limits : goal.returns-clause-limits
-returns-clause-limits g c = 
+returns-clause-limits g c =
     let r : Rowed g.row.Q.Denot = c.in_ok-rows.rows in
     let n : ℕ = length c.args.queues.items in
     let count : c.len.result ≡ n = omega arith in
