@@ -174,11 +174,11 @@ same_number : (b : Begun) (s t : Statement) (o : Option ℕ) → s.line ≡ t.li
 same_number b s t None e = ap (λ x. Err x) (same_place s t 5 12 e)
 same_number b s t (Some i) e = same_at b.kind s t i (slice_get b.classes i) e
 
-same_cond : {A : Type 0} (a : Bool) (x y z w : A) → x ≡ z → y ≡ w → cond a x y ≡ cond a z w
+pub same_cond : {A : Type 0} (a : Bool) (x y z w : A) → x ≡ z → y ≡ w → cond a x y ≡ cond a z w
 same_cond true x y z w p q = p
 same_cond false x y z w p q = q
 
-same_spot : (b : Begun) (s t : Statement) (parent : List ℕ) → s.line ≡ t.line → spot_of b s parent ≡ spot_of b t parent
+pub same_spot : (b : Begun) (s t : Statement) (parent : List ℕ) → s.line ≡ t.line → spot_of b s parent ≡ spot_of b t parent
 same_spot b s t parent e =
     same_cond (bytes_eq parent (codes "NULL")) _ _ _ _
     (same_cond b.rooted _ _ _ _ (ap (λ x. Err x) (same_place s t 5 13 e)) refl)
@@ -236,8 +236,10 @@ under_close m b common left right s t two few tests =
     let none : length common ≤ 2 = grind (arith, nat_tests) in
     let near : m ≤ 5 = omega arith in
     let all : length common ≤ 3 = omega arith in
-    inr (under_late m b s (name_at s.items 2) near two.left_behind (left_past m 3 common left right s t two all),
-    under_late m b t (name_at t.items 2) near two.right_behind (right_past m 3 common left right s t two all)))
+    inr (
+      under_late m b s (name_at s.items 2) near two.left_behind (left_past m 3 common left right s t two all),
+      under_late m b t (name_at t.items 2) near two.right_behind (right_past m 3 common left right s t two all),
+    ))
     tests
 
 either : (b : Bool) → (b ≡ true) ⊎ (b ≡ false)
@@ -291,8 +293,10 @@ branch_close m b common left right s t two few tests =
     let none : length common ≤ 1 = grind (arith, nat_tests) in
     let near : m ≤ 4 = omega arith in
     let all : length common ≤ 3 = omega arith in
-    inr (branch_late m b s (name_at s.items 1) near two.left_behind (left_past m 3 common left right s t two all),
-    branch_late m b t (name_at t.items 1) near two.right_behind (right_past m 3 common left right s t two all)))
+    inr (
+      branch_late m b s (name_at s.items 1) near two.left_behind (left_past m 3 common left right s t two all),
+      branch_late m b t (name_at t.items 1) near two.right_behind (right_past m 3 common left right s t two all),
+    ))
     tests
 
 read_close : (m : ℕ) (b : Begun) (kind : Kind) (common left right : List Item) (s t : Statement) → Two m common left right s t → Few m 3 common
@@ -335,8 +339,10 @@ class_close m before kind common left right s t two few tests =
     let none : length common ≤ 0 = grind (arith, nat_tests) in
     let near : m ≤ 3 = omega arith in
     let all : length common ≤ 3 = omega arith in
-    inr (class_late m before kind s (name_at s.items 0) near two.left_behind (left_past m 3 common left right s t two all),
-    class_late m before kind t (name_at t.items 0) near two.right_behind (right_past m 3 common left right s t two all)))
+    inr (
+      class_late m before kind s (name_at s.items 0) near two.left_behind (left_past m 3 common left right s t two all),
+      class_late m before kind t (name_at t.items 0) near two.right_behind (right_past m 3 common left right s t two all),
+    ))
     tests
 
 -- A FILTER
@@ -416,8 +422,10 @@ begin_close : (m : ℕ) (before : List Begun) (s t : Statement) (name : List ℕ
     (begin_by before t name (cond a (Err (at_word t 2 interface_twice)) (kind_unless t t.fault)))
 begin_close m before s t name true line h k = inl (ap (λ x. Err x) (same_place s t 2 interface_twice line))
 begin_close m before s t name false line h k =
-    inr (begin_late m before s name (kind_unless s s.fault) (kind_unless_late m s s.fault h.fault h.end),
-    begin_late m before t name (kind_unless t t.fault) (kind_unless_late m t t.fault k.fault k.end))
+    inr (
+      begin_late m before s name (kind_unless s s.fault) (kind_unless_late m s s.fault h.fault h.end),
+      begin_late m before t name (kind_unless t t.fault) (kind_unless_late m t t.fault k.fault k.end),
+    )
 
 full_begin : (m : ℕ) (s t : Statement) (a d : Bool) → s.line ≡ t.line → IsBehind m s → IsBehind m t → a ≡ d
     → Close {A = List Begun} m (cond a (Err (at_word s 2 too_many_interfaces)) (Err (own_fault s))) (cond d (Err (at_word t 2 too_many_interfaces)) (Err (own_fault t)))

@@ -49,3 +49,4 @@ pub mod TextLines
 pub mod Types
 pub mod WordParts
 pub mod WorkedRows
+pub mod WordFaults

@@ -337,6 +337,8 @@ pub record Unknown (m : ℕ) (r t : Reading) : Type 0 where
 -- both stop before it is known
 pub record Refused (r t : Reading) : Type 0 where
   pub same : t ≡ r
+  pub fault : ConfPlace
+  pub is : r.fault ≡ Some fault
   pub of_form : r.form ≡ form.Unread
 
 abbrev pub AgreeInForm : ℕ → Reading → Reading → Type 0
@@ -359,7 +361,7 @@ discipline_agree m line words more other word place e n =
     (inr (inr (form.ClassHfsc, agree_from m line words more other (record { form = form.ClassHfsc; next = next.Interface; settled = false }) 3 tt n)))
     (pick P (is_text (codes "cbq") word) (begins form.ClassCbq next.Interface) (refused word)
     (inr (inr (form.ClassCbq, agree_from m line words more other (record { form = form.ClassCbq; next = next.Interface; settled = false }) 3 tt n)))
-    (pick P (are_plain word) (Err unknown_word) (Err bad_byte) (inr (inl (record { same = refl; of_form = e }))) (inr (inl (record { same = refl; of_form = e })))))
+    (pick P (are_plain word) (Err unknown_word) (Err bad_byte) (inr (inl (record { same = refl; fault = record { line = line; word = 2; kind = unknown_word }; is = refl; of_form = e }))) (inr (inl (record { same = refl; fault = record { line = line; word = 2; kind = bad_byte }; is = refl; of_form = e })))))
 
 is_discipline : (place : Place) (word : List ℕ) → place.next ≡ next.Discipline → step place word ≡ at_discipline word
 unfolding step
@@ -393,7 +395,7 @@ statement_agree m line words more other word n =
     (after_class m line words more other (record { form = form.Unread; next = next.Discipline; settled = false }) refl refl n)
     (pick P (is_text (codes "filter") word) (begins form.Filter next.Interface) last (inr (inr (form.Filter, agree_from m line words more other (record { form = form.Filter; next = next.Interface; settled = false }) 2 tt n)))
     (pick P (is_text (codes "filter6") word) (begins form.Filter6 next.Interface) (refused word) (inr (inr (form.Filter6, agree_from m line words more other (record { form = form.Filter6; next = next.Interface; settled = false }) 2 tt n)))
-    (pick P (are_plain word) (Err unknown_word) (Err bad_byte) (inr (inl (record { same = refl; of_form = refl }))) (inr (inl (record { same = refl; of_form = refl })))))))
+    (pick P (are_plain word) (Err unknown_word) (Err bad_byte) (inr (inl (record { same = refl; fault = record { line = line; word = 1; kind = unknown_word }; is = refl; of_form = refl }))) (inr (inl (record { same = refl; fault = record { line = line; word = 1; kind = bad_byte }; is = refl; of_form = refl })))))))
 
 is_statement : (word : List ℕ) → step start word ≡ at_statement word
 unfolding step
