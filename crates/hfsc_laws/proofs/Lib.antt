@@ -8,3 +8,5 @@ pub mod Anchor
 pub mod Rows
 pub mod Law
 pub mod Timing
+pub mod Tree
+pub mod Activity
