@@ -10,3 +10,4 @@ pub mod Law
 pub mod Timing
 pub mod Tree
 pub mod Activity
+pub mod Picking

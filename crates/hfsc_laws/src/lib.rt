@@ -21,8 +21,10 @@ pub fn packets_are_timely()
         → IsBusy rate curves h → AreChosen curves h → FitLink rate curves → IsTimely rate curves h }
 {}
 
+mod pick;
 mod share;
 
+pub use pick::computed_picks_are_picks;
 pub use share::{
     activity_is_that_of_children, classes_begin_at_their_activation, packets_make_their_path_active,
 };
