@@ -5,7 +5,7 @@ use Rattle.altq_model.specs.declared.Rule.{Rule}
 use Rattle.altq_model.specs.declared.Verdict.{Verdict}
 use Rattle.altq_model.specs.declared.Verdict.TheVariants.{Keep, Mark, Drop}
 use Rattle.altq_model.specs.declared.Fate.{Fate}
-use Rattle.altq_model.specs.declared.Fate.TheVariants as fate
+use Rattle.altq_model.specs.declared.Fate.TheVariants
 
 -- a packet that comes to its class: its length in bytes, its precedence, its arrival in nanoseconds
 pub record Coming : Type 0 where
@@ -65,6 +65,12 @@ is_kept Keep = true
 is_kept Mark = true
 is_kept (Drop r) = false
 
+-- it leaves marked
+abbrev pub is_mark : Verdict → Bool
+is_mark Keep = false
+is_mark Mark = true
+is_mark (Drop r) = false
+
 -- a class's waiting packets after one more was offered, or after a sending
 abbrev pub with_offer : {X : Type 0} → Bool → Verdict → X → List X → List X
 with_offer mine v x xs = if is_kept v && mine then xs ++ x ∷ [] else xs
@@ -91,6 +97,15 @@ abbrev pub labels : (c : ℕ) → List Happened → List ℕ
 labels c [] = []
 labels c (e ∷ g) = labels_after c e.label e.what (labels c g)
 
+-- the newest offer under this label was marked
+abbrev pub marked_after : (n label : ℕ) → Event → Bool → Bool
+marked_after n label (Offered a w v) before = if label == n then is_mark v.verdict else before
+marked_after n label (Sent s) before = before
+
+abbrev pub was_marked : (n : ℕ) → List Happened → Bool
+was_marked n [] = false
+was_marked n (e ∷ g) = marked_after n e.label e.what (was_marked n g)
+
 -- a decision: the number of a packet, and its fate
 abbrev pub Decision : Type 0
 Decision = ℕ × Fate
@@ -99,11 +114,11 @@ Decision = ℕ × Fate
 abbrev pub dropped_by : Verdict → ℕ → List Decision
 dropped_by Keep n = []
 dropped_by Mark n = []
-dropped_by (Drop r) n = (n, fate.Dropped r) ∷ []
+dropped_by (Drop r) n = (n, TheVariants.Dropped r) ∷ []
 
 abbrev pub decided : (n : ℕ) → Event → List Decision
 decided n (Offered a w v) = dropped_by v.verdict n
-decided n (Sent s) = (n, fate.Sent s.start s.end s.rule) ∷ []
+decided n (Sent s) = (n, TheVariants.Sent s.start s.end s.rule) ∷ []
 
 -- the journal: the decisions in their order, a drop at its offer and a sending at its start
 abbrev pub journal : List Happened → List Decision

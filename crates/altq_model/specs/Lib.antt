@@ -1,5 +1,10 @@
 pub mod Arrivals
+pub mod Busy
+pub mod Counts
+pub mod Departures
 pub mod History
+pub mod Idle
+pub mod Lawful
 pub mod Laws
 pub mod Link
 pub mod Play

@@ -1,6 +1,6 @@
 -- The play of an interface: the history in which each event is a function of those before it. It is the same for every
 -- discipline and every queue rule; these enter as a policy.
-use Rattle.std.specs.Prelude.{◌≡◌, ◌+◌, ◌*◌, ℕ, zero, suc, min, max, nat_le, List, [], ◌∷◌, length, if◌then◌else◌, None, Some, slice_get, option_map}
+use Rattle.std.specs.Prelude.{◌≡◌, ◌⊎◌, ◌+◌, ◌*◌, ℕ, zero, suc, min, max, nat_le, List, [], ◌∷◌, length, if◌then◌else◌, None, Some, slice_get, option_map}
 use Rattle.std.specs.declared.option.Option.{Option}
 use Rattle.altq_model.specs.declared.Rule.{Rule}
 use Rattle.altq_model.specs.History.{Coming, Answer, DrawnWords, Event, Offered, Sent, Happened, bare, offered, drawn, head, labels}
@@ -11,7 +11,7 @@ pub record Choice : Type 0 where
   pub class : ℕ
   pub rule : Rule
 
--- what a play is a play of
+-- what a play is a play of. Only its classes send: a history may hold packets of others, and no start and no pick is theirs
 pub record Policy : Type 0 where
   -- the queue classes, in the order of the file
   pub classes : List ℕ
@@ -21,6 +21,11 @@ pub record Policy : Type 0 where
   pub start_from : List Event → (c t : ℕ) → ℕ
   -- after a history, the class that sends at a moment at which one may
   pub pick : List Event → (t : ℕ) → Choice
+
+-- a class is one of these
+abbrev pub IsOneOf : (c : ℕ) → List ℕ → Type 0
+IsOneOf c [] = ⊥
+IsOneOf c (d ∷ ds) = (d ≡ c) ⊎ IsOneOf c ds
 
 -- the least moment, not before the last end nor before its head's arrival, at which a class may send; None if it is empty
 abbrev pub class_start : Policy → (free : ℕ) → List Event → (c : ℕ) → Option ℕ

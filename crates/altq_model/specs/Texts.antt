@@ -1,9 +1,7 @@
--- The texts of a play: the fates as rows of comma-separated values (RFC 4180, with line feeds), and the departures as a capture
--- of the classic format with little-endian nanosecond stamps. Rows and records stand in the order of the journal.
-use Rattle.std.specs.Prelude.{ℕ, ◌/◌, ◌%◌, ◌^◌, List, [], ◌∷◌, ◌++◌, length, codes}
+-- The fates of a play as rows of comma-separated values (RFC 4180, with line feeds), in the order of the journal.
+use Rattle.std.specs.Prelude.{ℕ, List, [], ◌∷◌, ◌++◌, codes}
 use Rattle.std.specs.Fmt.{decimal}
 use Rattle.csv.specs.Writing.{row_text, default_writer}
-use Rattle.capture_model.specs.Header.{capture_header, record_header}
 use Rattle.altq_model.specs.declared.Fate.{Fate}
 use Rattle.altq_model.specs.declared.Fate.TheVariants.{Dropped, Sent}
 use Rattle.altq_model.specs.declared.Reason.{Reason}
@@ -52,16 +50,3 @@ fates_header = codes "number,arrival,length,class,fate,start,end" ++ 10 ∷ []
 -- the fates of a journal
 abbrev pub fates : Naming → List Arrival → List Decision → List ℕ
 fates names arrived js = fates_header ++ fate_rows names arrived js
-
--- a sending is stamped with its end and has the captured bytes of its packet unchanged; a drop leaves no record
-abbrev pub departure_record : Arrival → Fate → List ℕ
-departure_record a (Dropped reason) = []
-departure_record a (Sent start end rule) = record_header end (length a.bytes) a.len ++ a.bytes
-
-abbrev pub departure_records : List Arrival → List Decision → List ℕ
-departure_records arrived [] = []
-departure_records arrived (d ∷ js) = departure_record (arrival arrived d.0) d.1 ++ departure_records arrived js
-
--- the departures of a journal
-abbrev pub departures : List Arrival → List Decision → List ℕ
-departures arrived js = capture_header ++ departure_records arrived js

@@ -1,6 +1,9 @@
 //! The definitions that the crates above cite, in specs/, and the plain enums that they speak of.
 #![tactic(auto)]
 
+ghost use Rattle.std.specs.Prelude.{◌≡◌};
+ghost use Rattle.altq_model.specs.History.{is_kept};
+
 mod rows;
 
 pub use rows::worked_examples;
@@ -34,6 +37,18 @@ pub enum Verdict {
     Drop(Reason),
 }
 
+impl Verdict {
+    /// Whether a packet with this verdict waits until it is sent.
+    pub fn is_kept(self) -> bool
+        ensures { result ≡ is_kept self }
+    {
+        match self {
+            Verdict::Keep | Verdict::Mark => true,
+            Verdict::Drop(_) => false,
+        }
+    }
+}
+
 /// What became of a packet. Times are in nanoseconds.
 #[derive(Clone, Copy, Debug, PartialEq, Eq)]
 pub enum Fate {
@@ -46,4 +61,19 @@ pub enum Fate {
 pub struct Placed {
     pub class: u32,
     pub prec: u8,
+}
+
+/// What the statistics say of a class, or of all of them. Bytes are sums of lengths.
+#[derive(Clone, Copy, Debug, PartialEq, Eq)]
+pub struct Counts {
+    pub arrived: u64,
+    pub arrived_bytes: u64,
+    /// The arrivals whose own stamp is less than the moment at which they arrive.
+    pub raised: u64,
+    pub sent: u64,
+    pub sent_bytes: u64,
+    /// The drops, by their reason.
+    pub full: u64,
+    pub early: u64,
+    pub forced: u64,
 }

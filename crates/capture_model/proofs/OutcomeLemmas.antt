@@ -1,10 +1,10 @@
 -- The outcome of a file is a reading of it.
 use Rattle.std.specs.Prelude.{◌==◌, ◌&&◌, ◌||◌, nat_lt, nat_le, Bool, true, false, take, drop, if◌then◌else◌}
-use Rattle.std.proofs.Common.{◌≡◌, ◌≤◌, ◌<◌, ◌+◌, ◌-◌, ◌∙◌, ℕ, zero, suc, List, [], ◌∷◌, length, refl, ap, sym, subst, arith, length-take, length-drop}
+use Rattle.std.proofs.Common.{◌≡◌, ◌≤◌, ◌+◌, ◌∙◌, ℕ, zero, suc, List, [], length, refl, ap, sym, subst, arith, length-take, length-drop}
 use Rattle.std.proofs.lemmas.Bool.{ltb-false, le-leb}
 use Rattle.capture_model.specs.declared.damage.Damage.{Damage}
 use Rattle.capture_model.specs.declared.damage.DamageKind.TheVariants.{ShortRecord, EmptyRecord, LongRecord}
-use Rattle.capture_model.specs.Capture.{Form, Record, Step, End, Next, Fault, Limit, Header, Formed, Unformed, Outcome, IsLast, Stand, ReadsAs, ReadsFrom, header, more, outcome, outcome_from, outcome_on, Reads, place_after, step, word, longest, most_records, most_bytes, damage, stamp}
+use Rattle.capture_model.specs.Capture.{Form, Record, Step, End, Next, Fault, Limit, Header, Formed, Unformed, Outcome, IsLast, Stand, ReadsFrom, header, more, outcome, outcome_from, outcome_on, Reads, place_after, step, word, longest, most_records, most_bytes, damage, stamp}
 
 -- what a count of turns reads from a place on
 pub record IsRead (form : Form) (bytes : List ℕ) (count at : ℕ) (o : Outcome) : Type 0 where
@@ -44,8 +44,8 @@ next_place form bytes count at x n h =
     let original : ℕ = word form.big bytes (at + 12) in
     let r : Record = record { stamp = stamp form bytes at; captured = take captured (drop (at + 16) bytes); original = original } in
     let both = next_case (nat_le (length bytes) at) (count == most_records) (nat_lt (length bytes) (at + 16)) (nat_lt longest captured || nat_lt longest original)
-        ((captured == 0) && (original == 0)) (nat_lt most_bytes (at + 16 + captured)) (nat_lt (length bytes) (at + 16 + captured))
-        (damage at ShortRecord) (damage at LongRecord) (damage at EmptyRecord) (damage at ShortRecord) (Next r (at + 16 + captured)) x n h in
+    ((captured == 0) && (original == 0)) (nat_lt most_bytes (at + 16 + captured)) (nat_lt (length bytes) (at + 16 + captured))
+    (damage at ShortRecord) (damage at LongRecord) (damage at EmptyRecord) (damage at ShortRecord) (Next r (at + 16 + captured)) x n h in
     let fits : at + 16 + captured ≤ length bytes = ltb-false (length bytes) (at + 16 + captured) both.1 in
     let place : at + 16 + captured ≡ n = ap after_of both.0 in
     let same : take captured (drop (at + 16) bytes) ≡ x.captured = ap captured_of both.0 in

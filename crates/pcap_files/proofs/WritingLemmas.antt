@@ -5,7 +5,7 @@ use Rattle.std.proofs.lemmas.Nat.{from_le_bytes-to_le_bytes_4}
 use Rattle.capture_model.specs.Capture.{Form, Record, Next, End, Stand, word, stamp, step, place_after, longest, most_records, most_bytes, IsCapture}
 use Rattle.capture_model.specs.Header.{capture_header, record_header}
 use Rattle.pcap_files.specs.Stand.{stand_at, step_of}
-use Rattle.pcap_files.specs.Written.{record_text, record_texts, written, IsWithin, AreWithin}
+use Rattle.capture_model.specs.Written.{record_text, record_texts, written, IsWithin, AreWithin}
 use Rattle.pcap_files.specs.declared.stand.Stand.TheVariants.{Headed}
 use Rattle.pcap_files.proofs.PlaceLemmas.{step_here}
 use Rattle.pcap_files.proofs.ReaderLemmas.{head_seen, reads_formed}

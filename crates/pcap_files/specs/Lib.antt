@@ -3,4 +3,3 @@ pub mod Faults
 pub mod Forms
 pub mod Reading
 pub mod Stand
-pub mod Written

@@ -2,7 +2,7 @@
 ghost use Rattle.std.specs.Prelude.{◌≡◌, ℕ, List};
 ghost use Rattle.capture_model.specs.Capture.{Record, Step, Reads, IsCapture};
 ghost use Rattle.capture_model.specs.Capture.{IsLast};
-ghost use Rattle.pcap_files.specs.Written.{AreWithin, written};
+ghost use Rattle.capture_model.specs.Written.{AreWithin, written};
 
 /// What the two heads write, with the captured bytes after each record's head, is a capture of the records that were given,
 /// while lengths, count and size are within the limits. It does nothing.

@@ -51,7 +51,7 @@ keeps_refl N F v = record {
 }
 
 pub took_nothing : (a : View) (file : ℕ) → Took a a file []
-took_nothing a file = record { left = λ all h. (all, refl, h); keeps = keeps_refl Any (λ f. f ≢ file) a; said = refl }
+took_nothing a file = record { left = λ all h. (all, refl, h); keeps = keeps_refl Any (λ f. f ≢ file) a; none = λ f h. h; said = refl }
 
 pub took_more : (a b c : View) (file : ℕ) (xs ys : List ℕ) → Took a b file xs → Took b c file ys → Took a c file (xs ++ ys)
 took_more a b c file xs ys x y = record {
@@ -60,6 +60,7 @@ took_more a b c file xs ys x y = record {
       let two = y.left one.0 one.2 in
       (two.0, one.1 ∙ ap (λ r. xs ++ r) two.1 ∙ sym (append_assoc xs ys two.0), two.2);
   keeps = keeps_trans Any (λ f. f ≢ file) a b c x.keeps y.keeps;
+  none = λ f h. y.none f (x.none f h);
   said = y.said ∙ x.said;
 }
 
@@ -67,6 +68,7 @@ pub wrote_nothing : (a : View) (file : ℕ) → Wrote a a file []
 wrote_nothing a file = record {
   grown = λ _ all h. h ∙ ap Some (sym (append-nil all));
   keeps = keeps_refl (λ n. n ≢ a.name file) (λ f. a.name f ≢ a.name file) a;
+  none = λ f h. h;
   said = refl;
 }
 
@@ -86,6 +88,7 @@ wrote_more a b c file p xs ys at x y =
         name = λ f q h. y.keeps.name f q (x.keeps.part f q h) ∙ x.keeps.name f q h;
         later = later_trans a b c x.keeps.later y.keeps.later;
       };
+      none = λ f h. y.none f (x.none f h);
       said = y.said ∙ x.said;
     }
 
@@ -114,6 +117,7 @@ wrote_unchanged a b c file xs there x y =
     let none : Wrote b c file [] = record {
       grown = λ t all h. y.keeps.bytes (b.name file) tt ∙ h ∙ ap Some (sym (append-nil all));
       keeps = keeps_fewer Any (λ n. n ≢ b.name file) Any (λ f. b.name f ≢ b.name file) b c (λ n _. tt) (λ f _. tt) y.keeps;
+      none = y.none;
       said = y.said;
     } in
     let P : List ℕ → Type 0 = λ ys. Wrote a c file ys in

@@ -2,7 +2,7 @@
 use Rattle.std.proofs.Common.{◌≡◌, ◌≤◌, ◌∙◌, ℕ, suc, Bool, true, false, cond, Option, List, [], ◌∷◌, Some, Ok, Err, ap, arith}
 use Rattle.std.specs.Prelude.{IsTrue, bytes_eq, find, slice_get}
 use Rattle.conf_laws.specs.Fit.{AreFit}
-use Rattle.conf_tree.specs.Settings.{most_rate}
+use Rattle.conf_lines.specs.Options.{most_rate}
 use Rattle.conf_lines.specs.declared.fault.ConfPlace.{ConfPlace}
 use Rattle.conf_tree.specs.declared.interface.Interface.{Interface}
 use Rattle.play_base.specs.View.{View}

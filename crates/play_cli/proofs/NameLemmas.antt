@@ -2,7 +2,7 @@
 use Rattle.std.proofs.Common.{◌≡◌, ◌∙◌, ◌⊎◌, ℕ, List, Some, ap, subst, inl, inr}
 use Rattle.std.specs.Prelude.{IsTrue}
 use Rattle.play_base.specs.View.{View}
-use Rattle.play_text.specs.declared.status.Status.{Status}
+use Rattle.play_cli.specs.declared.status.Status.{Status}
 use Rattle.play_words.specs.Read.{Reads, ReadsPlay, ReadsCheck}
 use Rattle.play_words.specs.declared.words.Command.{Command}
 use Rattle.play_words.specs.declared.words.Command.TheVariants as asks

@@ -13,7 +13,7 @@ use Rattle.leaf_queue.specs.declared.rule.Tail.{Tail}
 use Rattle.leaf_queue.specs.Queue.{Saying, by_queues, tail_says}
 use Rattle.discipline.specs.Strict.{classes_from}
 use Rattle.play_text.specs.Names.{NameList, name_of}
-use Rattle.play_text.specs.declared.status.Totals.{Totals}
+use Rattle.play_core.specs.declared.totals.Totals.{Totals}
 use Rattle.play_loop.specs.declared.fault.Opened.{Opened}
 use Rattle.play_loop.specs.declared.fault.PlayFault.{PlayFault}
 use Rattle.play_loop.specs.declared.fault.PlayFault.TheVariants as play

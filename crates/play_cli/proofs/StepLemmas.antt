@@ -19,7 +19,7 @@ use Rattle.play_loop.specs.declared.fault.PlayFault.{PlayFault}
 use Rattle.play_loop.specs.declared.fault.PlayFault.TheVariants as play
 use Rattle.play_loop.specs.OneQueue.{one_mark, one_setup}
 use Rattle.play_loop.specs.Setup.{KeepsBut, IsPlayOf, arrivals_in}
-use Rattle.play_text.specs.declared.status.Totals.{Totals}
+use Rattle.play_core.specs.declared.totals.Totals.{Totals}
 use Rattle.play_loop.specs.Played.{Plays, Explains}
 use Rattle.play_loop.specs.Played as loop
 use Rattle.play_cli.specs.Configuration.{IsOneQueue}

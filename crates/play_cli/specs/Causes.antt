@@ -9,7 +9,7 @@ use Rattle.play_loop.specs.declared.fault.PlayFault.TheVariants as play
 use Rattle.play_cli.specs.Configuration.{Refused, TooLong, Says, IsUnbuilt}
 use Rattle.play_cli.specs.Opening.{CannotRead}
 use Rattle.play_cli.specs.Run.{Names, IsDamagedAt, IsLimited, IsLate}
-use Rattle.play_text.specs.declared.status.Status.{Status}
+use Rattle.play_cli.specs.declared.status.Status.{Status}
 use Rattle.play_cli.specs.declared.opening.OpenFault.{OpenFault}
 use Rattle.play_cli.specs.declared.opening.OpenFault.TheVariants as open_
 use Rattle.play_cli.specs.declared.fault.ConfigFault.{ConfigFault}

@@ -5,7 +5,7 @@ use Rattle.capture_model.specs.Capture.{Fault, Limit}
 use Rattle.capture_model.specs.Numbers.{damage_number}
 use Rattle.conf_lines.specs.declared.fault.ConfPlace.{ConfPlace}
 use Rattle.play_base.specs.View.{View, Any, Keeps, IsAbsent, Rose}
-use Rattle.play_text.specs.declared.status.Status.{Status}
+use Rattle.play_cli.specs.declared.status.Status.{Status}
 use Rattle.play_cli.specs.Causes.{IsAfterConfig}
 use Rattle.play_cli.specs.Checked.{HasChecked, IsCheckable}
 use Rattle.play_cli.specs.Configuration.{IsUnbuilt, Refused, Says, TooLong}

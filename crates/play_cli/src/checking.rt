@@ -9,7 +9,7 @@ use crate::input::{absent, read_conf};
 use crate::status::{ended, status_of};
 use crate::{ConfigFault, RunFault};
 use play_base::{Files, NoMemory, Trouble};
-use play_text::Status;
+use crate::Status;
 use play_words::CheckWords;
 use std::alloc::Global;
 

@@ -13,7 +13,7 @@ mod status;
 
 pub use classifier::Classifier;
 pub use fault::{ConfigFault, RunFault};
-pub use play_text::Status;
+pub use status::Status;
 pub use program::{run, run_steady};
 
 #[cfg(test)]

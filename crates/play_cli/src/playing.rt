@@ -15,7 +15,7 @@ use crate::opening::{OpenFault, open_files};
 use crate::status::{ended, status_of};
 use play_base::Files;
 use play_loop::PlayFault;
-use play_text::Status;
+use crate::Status;
 use play_words::PlayWords;
 use std::alloc::Global;
 

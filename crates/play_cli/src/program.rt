@@ -17,7 +17,7 @@ use crate::checking::check;
 use crate::playing::play;
 use crate::status::ended;
 use play_base::{Files, SteadyFiles};
-use play_text::Status;
+use crate::Status;
 use play_words::{Command, read_words};
 use std::alloc::Global;
 

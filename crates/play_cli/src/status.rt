@@ -3,7 +3,21 @@ ghost use Rattle.std.specs.Prelude.{◌≡◌};
 ghost use Rattle.play_cli.specs.Causes.{config_status, ended, status_of};
 
 use crate::{ConfigFault, RunFault};
-use play_text::Status;
+
+/// How a run ended. Fields that a code does not use are 0.
+#[derive(Clone, Copy, Debug, PartialEq, Eq)]
+pub struct Status {
+    /// 0 done, 2 words refused, 4 capture damaged, 5 read fault, 6 write fault, 7 limit, 8 no memory, 9 not built yet.
+    pub code: u8,
+    /// The line of a configuration's fault, from 1.
+    pub line: u64,
+    /// The word of a configuration's fault in its line, from 1.
+    pub word: u64,
+    /// The byte of a capture's fault, from 0.
+    pub place: u64,
+    /// What it was, by the numbers of the code's own table.
+    pub kind: u8,
+}
 
 // A status without a place.
 pub(crate) fn ended(code: u8, kind: u8) -> Status

@@ -4,7 +4,7 @@ use Rattle.altq_model.specs.declared.Fate.{Fate}
 use Rattle.altq_model.specs.declared.Fate.TheVariants.{Dropped, Sent}
 use Rattle.altq_model.specs.History.{Decision, Happened, bare, offered, journal}
 use Rattle.altq_model.specs.Link.{link}
-use Rattle.play_text.specs.declared.status.Totals.{Totals}
+use Rattle.play_core.specs.declared.totals.Totals.{Totals}
 
 abbrev pub one_sent : Fate → ℕ
 one_sent (Dropped reason) = 0

@@ -3,11 +3,12 @@ use Rattle.std.proofs.Common.{◌<◌, ℕ, List, arith}
 use Rattle.altq_model.specs.History.{Coming, Happened}
 use Rattle.altq_model.specs.Laws.{KeepsLaws}
 use Rattle.altq_model.specs.Play.{Policy, AreDue, IsPlay}
-use Rattle.play_laws.specs.Lawful.{IsLawful, AreRising, AreHeld}
+use Rattle.altq_model.specs.Lawful.{IsLawful, AreRising, AreHeld}
 use Rattle.play_laws.specs.Events.{HasLaws, IsWhole}
 use Rattle.play_laws.proofs.TimeLemmas.{each_follows}
 use Rattle.play_laws.proofs.OrderLemmas.{of_arrivals, ordered, not_before, link_ends}
-use Rattle.play_laws.proofs.CountLemmas.{balanced}
+use Rattle.play_laws.proofs.BusyLemmas.{prompt}
+use Rattle.play_laws.proofs.CountLemmas.{balanced, waits_once}
 use Rattle.play_laws.proofs.FewLemmas.{few_decided}
 use Rattle.play_laws.proofs.EndLemmas.{is_over, all_offered, offered_within, no_places, nothing_waits, conserved}
 
@@ -21,8 +22,10 @@ due_laws p rate seed arrived g pos law rise due =
       came = offered_within p rate seed arrived g f;
       few = few_decided p rate seed arrived g f;
       once = λ n. omega (arith, (balanced p rate seed arrived g n f).once);
+      waits_once = waits_once p rate seed arrived g f;
       ordered = ordered p rate seed arrived g f;
       not_before = not_before p rate seed arrived g law f;
+      prompt = prompt p rate seed arrived g rise f;
       ends = link_ends p rate seed arrived g law f;
     }
 
@@ -35,6 +38,7 @@ play_laws p rate seed arrived g pos law rise can x =
       conserved = conserved p rate seed arrived g f o.all_came (no_places p rate seed arrived g can f o.none_sends);
       ordered = ordered p rate seed arrived g f;
       not_before = not_before p rate seed arrived g law f;
+      prompt = prompt p rate seed arrived g rise f;
       ends = link_ends p rate seed arrived g law f;
     }
 

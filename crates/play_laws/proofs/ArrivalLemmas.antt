@@ -8,7 +8,7 @@ use Rattle.altq_model.specs.Arrivals.{Arrival, arrivals_from, arrivals_of, arriv
 use Rattle.altq_model.specs.History.{Coming}
 use Rattle.altq_model.specs.Laws.{at_of}
 use Rattle.altq_model.specs.Play.{Policy}
-use Rattle.play_laws.specs.Lawful.{IsOneOf, RiseFrom, AreRising, AreHeld, greatest}
+use Rattle.altq_model.specs.Lawful.{IsOneOf, RiseFrom, AreRising, AreHeld, greatest}
 
 rise_from : (mark : List ℕ → Placed) (latest : ℕ) (records : List Record) → RiseFrom latest (comings (arrivals_from mark latest records))
 rise_from mark latest [] = tt

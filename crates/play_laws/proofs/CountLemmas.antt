@@ -1,14 +1,14 @@
 -- Each number has one fate, or waits.
-use Rattle.std.proofs.Common.{◌≡◌, ◌+◌, ◌∙◌, ◌⊎◌, inl, inr, ℕ, Bool, true, false, cond, List, [], ◌∷◌, ◌++◌, Some, drop, refl, ap, sym, subst, arith}
+use Rattle.std.proofs.Common.{◌≡◌, ◌≤◌, ◌+◌, ◌∙◌, ◌⊎◌, inl, inr, ℕ, Bool, true, false, cond, List, [], ◌∷◌, ◌++◌, Some, drop, refl, ap, sym, subst, arith}
 use Rattle.std.specs.Prelude.{slice_get, if◌then◌else◌, ◌==◌, ◌&&◌, nat_lt, nat_le}
 use Rattle.std.proofs.lemmas.Bool.{eqb-true, eq-eqb}
 use Rattle.std.proofs.lemmas.Grind.{common_steps}
 use Rattle.altq_model.specs.declared.Verdict.{Verdict}
-use Rattle.altq_model.specs.declared.Verdict.TheVariants.{Keep, Drop}
-use Rattle.altq_model.specs.History.{Coming, DrawnWords, Event, Offered, Sent, Happened, bare, offered, drawn, labels, labels_after, with_offer, without_head, Decision, dropped_by, decided, journal}
+use Rattle.altq_model.specs.declared.Verdict.TheVariants.{Keep, Mark, Drop}
+use Rattle.altq_model.specs.History.{Coming, DrawnWords, Event, Offered, Sent, Happened, bare, offered, drawn, labels, labels_after, is_kept, with_offer, without_head, Decision, dropped_by, decided, journal}
 use Rattle.altq_model.specs.Laws.{occurs, numbers}
 use Rattle.altq_model.specs.Play.{Policy}
-use Rattle.play_laws.specs.Events.{IsOffer, IsSending, EachFollows}
+use Rattle.play_laws.specs.Events.{IsOffer, IsSending, EachFollows, WaitsOnce}
 
 -- the class and the label of a packet that waits
 abbrev pub Place : Type 0
@@ -19,8 +19,7 @@ without_first c [] = []
 without_first c (x ∷ xs) = if x.0 == c then xs else x ∷ without_first c xs
 
 abbrev pub with_place : Verdict → Place → List Place → List Place
-with_place Keep x xs = xs ++ x ∷ []
-with_place (Drop r) x xs = xs
+with_place v x xs = if is_kept v then xs ++ x ∷ [] else xs
 
 abbrev pub places_after : (label : ℕ) → Event → List Place → List Place
 places_after label (Offered a w v) xs = with_place v.verdict (a.class, label) xs
@@ -50,9 +49,13 @@ class_push : (c : ℕ) (xs : List Place) (k n : ℕ) → of_class c (xs ++ (k, n
 class_push c [] k n = refl
 class_push c (x ∷ xs) k n = push_case (x.0 == c) (k == c) x.1 n (of_class c xs) (of_class c (xs ++ (k, n) ∷ [])) (class_push c xs k n)
 
+class_if : (c : ℕ) (xs : List Place) (q n : ℕ) (k : Bool)
+    → of_class c (cond k (xs ++ (q, n) ∷ []) xs) ≡ cond (k && (q == c)) (of_class c xs ++ n ∷ []) (of_class c xs)
+class_if c xs q n true = class_push c xs q n
+class_if c xs q n false = refl
+
 class_offer : (c : ℕ) (xs : List Place) (k n : ℕ) (v : Verdict) → of_class c (with_place v (k, n) xs) ≡ with_offer (k == c) v n (of_class c xs)
-class_offer c xs k n Keep = class_push c xs k n
-class_offer c xs k n (Drop r) = refl
+class_offer c xs k n v = class_if c xs k n (is_kept v)
 
 nothing : (b : Bool) → [] ≡ without_head {X = ℕ} b []
 nothing true = refl
@@ -140,6 +143,7 @@ start n = grind (arith, common_steps)
 verdict_occurs : (n m k : ℕ) (xs : List Place) (v : Verdict)
     → occurs n (numbers (dropped_by v m)) + occurs n (all_labels (with_place v (k, m) xs)) ≡ occurs n (all_labels xs) + one m n
 verdict_occurs n m k xs Keep = let q = places_occurs n xs (k, m) in omega (arith, q)
+verdict_occurs n m k xs Mark = let q = places_occurs n xs (k, m) in omega (arith, q)
 verdict_occurs n m k xs (Drop r) = omega arith
 
 balanced_step : (p : Policy) (rate seed : ℕ) (arrived : List Coming) (g : List Happened) (e : Happened) (n : ℕ) → IsBalanced n g
@@ -161,3 +165,17 @@ balanced_step p rate seed arrived g e n x (inr y) =
 pub balanced : (p : Policy) (rate seed : ℕ) (arrived : List Coming) (g : List Happened) (n : ℕ) → EachFollows p rate seed arrived g → IsBalanced n g
 balanced p rate seed arrived [] n f = record { once = start n }
 balanced p rate seed arrived (e ∷ g) n f = balanced_step p rate seed arrived g e n (balanced p rate seed arrived g n f.1) f.0
+
+class_case : (n c : ℕ) (x : Place) (xs : List Place) (b : Bool) → occurs n (of_class c xs) ≤ occurs n (all_labels xs)
+    → occurs n (cond b (x.1 ∷ of_class c xs) (of_class c xs)) ≤ occurs n (all_labels (x ∷ xs))
+class_case n c x xs true h = omega (arith, h)
+class_case n c x xs false h = omega (arith, h)
+
+class_occurs : (n c : ℕ) (xs : List Place) → occurs n (of_class c xs) ≤ occurs n (all_labels xs)
+class_occurs n c [] = omega arith
+class_occurs n c (x ∷ xs) = class_case n c x xs (x.0 == c) (class_occurs n c xs)
+
+-- what waits has no fate yet
+pub waits_once : (p : Policy) (rate seed : ℕ) (arrived : List Coming) (g : List Happened) → EachFollows p rate seed arrived g → WaitsOnce g
+waits_once p rate seed arrived g f = λ n c.
+    omega (arith, (balanced p rate seed arrived g n f).once, class_occurs n c (places g), ap (occurs n) (of_class_labels c g))

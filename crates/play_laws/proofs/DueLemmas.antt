@@ -6,7 +6,7 @@ use Rattle.std.proofs.lemmas.Bool.{leb-true, leb-false}
 use Rattle.altq_model.specs.History.{Coming, Sent, Happened, bare, offered, head, labels}
 use Rattle.altq_model.specs.Link.{link, end_of}
 use Rattle.altq_model.specs.Play.{Policy, Choice, first_start, offer_of, head_sent, sent_at, due_from, due}
-use Rattle.play_laws.specs.Lawful.{IsLawful, HaveArrived, MaySend}
+use Rattle.altq_model.specs.Lawful.{IsLawful, HaveArrived, MaySend}
 use Rattle.play_laws.specs.Events.{IsOffer, IsSending}
 
 -- the least moment at which a class may send after a history
@@ -82,7 +82,7 @@ by_test p rate seed arrived g a s false e t n f m h =
     let P : Coming → Type 0 = λ y. s < y.at in subst P same l) h)
 
 shape : (p : Policy) (rate seed : ℕ) (arrived : List Coming) (g : List Happened) (o : Option Coming) (f : Option ℕ) (e : Happened) → IsLawful p
-    → next_after arrived g ≡ o → first_after p rate g ≡ f → ((s : ℕ) → f ≡ Some s → HaveArrived s (bare g))
+    → next_after arrived g ≡ o → first_after p rate g ≡ f → ((s : ℕ) → f ≡ Some s → HaveArrived p s (bare g))
     → due_from p rate seed g o f ≡ Some e → IsOffer p rate seed arrived g e ⊎ IsSending p rate arrived g e
 shape p rate seed arrived g None None e law n f t h = absurd (cc)
 shape p rate seed arrived g (Some a) None e law n f t h =
@@ -95,7 +95,7 @@ shape p rate seed arrived g (Some a) (Some s) e law n f t h =
 
 -- an event that is due is the offer of the next arrival or a sending, where every head has arrived by the moment of a sending
 pub due_is : (p : Policy) (rate seed : ℕ) (arrived : List Coming) (g : List Happened) (e : Happened) → IsLawful p
-    → ((s : ℕ) → first_after p rate g ≡ Some s → HaveArrived s (bare g))
+    → ((s : ℕ) → first_after p rate g ≡ Some s → HaveArrived p s (bare g))
     → due p rate seed arrived g ≡ Some e → IsOffer p rate seed arrived g e ⊎ IsSending p rate arrived g e
 due_is p rate seed arrived g e law t h = shape p rate seed arrived g (next_after arrived g) (first_after p rate g) e law refl refl t h
 

@@ -5,12 +5,11 @@ use Rattle.std.specs.declared.option.Option.{Option}
 use Rattle.std.proofs.lemmas.Bool.{eq-eqb}
 use Rattle.std.proofs.lemmas.Option.{slice_get_within}
 use Rattle.altq_model.specs.declared.Verdict.{Verdict}
-use Rattle.altq_model.specs.declared.Verdict.TheVariants.{Keep, Drop}
-use Rattle.altq_model.specs.History.{Coming, DrawnWords, Event, Happened, bare, offered, drawn, waiting, labels, journal}
+use Rattle.altq_model.specs.History.{Coming, DrawnWords, Event, Happened, bare, offered, drawn, waiting, labels, is_kept, journal}
 use Rattle.altq_model.specs.Link.{link}
 use Rattle.altq_model.specs.Laws.{IsConserved, occurs}
 use Rattle.altq_model.specs.Play.{Policy, Choice, offer_of, head_sent, sent_at, due_from, due, AreDue}
-use Rattle.play_laws.specs.Lawful.{IsOneOf, IsLawful, MaySend, AreHeld, AreRising}
+use Rattle.altq_model.specs.Lawful.{IsOneOf, IsLawful, MaySend, AreHeld, AreRising}
 use Rattle.play_laws.specs.Events.{IsOffer, IsSending, EachFollows}
 use Rattle.play_laws.proofs.Starts.{head_of, none_waits}
 use Rattle.play_laws.proofs.DueLemmas.{first_after, next_after}
@@ -95,9 +94,12 @@ held_push : (cs : List ℕ) (xs : List Place) (x : Place) → AllOneOf cs xs →
 held_push cs [] x h i = (i, tt)
 held_push cs (y ∷ xs) x h i = (h.0, held_push cs xs x h.1 i)
 
+held_if : (cs : List ℕ) (k : Bool) (x : Place) (xs : List Place) → AllOneOf cs xs → IsOneOf x.0 cs → AllOneOf cs (cond k (xs ++ x ∷ []) xs)
+held_if cs true x xs h i = held_push cs xs x h i
+held_if cs false x xs h i = h
+
 held_offer : (cs : List ℕ) (v : Verdict) (x : Place) (xs : List Place) → AllOneOf cs xs → IsOneOf x.0 cs → AllOneOf cs (with_place v x xs)
-held_offer cs Keep x xs h i = held_push cs xs x h i
-held_offer cs (Drop r) x xs h i = h
+held_offer cs v x xs h i = held_if cs (is_kept v) x xs h i
 
 held_case : (cs : List ℕ) (x : Place) (xs us : List Place) (b : Bool) → IsOneOf x.0 cs → AllOneOf cs xs → AllOneOf cs us → AllOneOf cs (cond b xs (x ∷ us))
 held_case cs x xs us true i h u = h

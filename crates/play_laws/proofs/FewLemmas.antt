@@ -1,11 +1,11 @@
 -- No more packets are decided than offered.
-use Rattle.std.proofs.Common.{◌≡◌, ◌≤◌, ◌+◌, ◌⊎◌, ◌∙◌, inl, inr, ℕ, Bool, true, false, cond, List, [], ◌∷◌, ◌++◌, length, length-append, Some, ap, sym, subst, arith}
+use Rattle.std.proofs.Common.{◌≡◌, ◌≤◌, ◌+◌, ◌∙◌, inl, inr, ℕ, Bool, true, false, cond, List, [], ◌∷◌, ◌++◌, length, length-append, Some, ap, sym, subst, arith}
 use Rattle.std.specs.Prelude.{slice_get, ◌==◌}
 use Rattle.altq_model.specs.declared.Verdict.{Verdict}
-use Rattle.altq_model.specs.declared.Verdict.TheVariants.{Keep, Drop}
-use Rattle.altq_model.specs.History.{Coming, DrawnWords, Event, Offered, Sent, Happened, bare, offered, drawn, dropped_by, decided, journal}
+use Rattle.altq_model.specs.declared.Verdict.TheVariants.{Keep, Mark, Drop}
+use Rattle.altq_model.specs.History.{Coming, DrawnWords, Event, Sent, Happened, bare, offered, drawn, dropped_by, decided, journal}
 use Rattle.altq_model.specs.Play.{Policy}
-use Rattle.play_laws.specs.Events.{IsOffer, IsSending, EachFollows}
+use Rattle.play_laws.specs.Events.{EachFollows}
 use Rattle.play_laws.proofs.CountLemmas.{Place, places, with_place, without_first, of_class, of_class_labels}
 
 out_case : (d m : ℕ) (x : Place) (xs : List Place) (b : Bool) → slice_get (cond b (x.1 ∷ of_class d xs) (of_class d xs)) 0 ≡ Some m
@@ -23,6 +23,7 @@ one_less d m (x ∷ xs) h = let q = out_case d m x xs (x.0 == d) h (one_less d m
 placed_offer : (v : Verdict) (n c : ℕ) (g : List Happened) (m : ℕ) → length (journal g) + length (places g) ≡ m
     → length (journal g ++ dropped_by v n) + length (with_place v (c, n) (places g)) ≡ m + 1
 placed_offer Keep n c g m h = omega (arith, h, length-append (journal g) (dropped_by Keep n), length-append (places g) ((c, n) ∷ []))
+placed_offer Mark n c g m h = omega (arith, h, length-append (journal g) (dropped_by Mark n), length-append (places g) ((c, n) ∷ []))
 placed_offer (Drop r) n c g m h = omega (arith, h, length-append (journal g) (dropped_by (Drop r) n))
 
 placed : (p : Policy) (rate seed : ℕ) (arrived : List Coming) (g : List Happened) → EachFollows p rate seed arrived g

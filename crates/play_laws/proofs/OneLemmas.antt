@@ -1,18 +1,17 @@
 -- The play is one, and it exists.
 use Rattle.std.proofs.Common.{◌≡◌, ◌≤◌, ◌<◌, ◌+◌, ◌-◌, ◌*◌, ◌∙◌, ◌⊎◌, inl, inr, ℕ, zero, suc, Bool, true, false, cond, List, [], ◌∷◌, ◌++◌, length, length-append, None, Some, drop, refl, ap, sym, subst, arith}
-use Rattle.std.specs.Prelude.{slice_get, ◌==◌}
+use Rattle.std.specs.Prelude.{slice_get}
 use Rattle.std.specs.declared.option.Option.{Option}
 use Rattle.std.proofs.lemmas.Option.{slice_get_past, slice_get_within}
 use Rattle.altq_model.specs.declared.Verdict.{Verdict}
-use Rattle.altq_model.specs.declared.Verdict.TheVariants.{Keep, Drop}
-use Rattle.altq_model.specs.History.{Coming, DrawnWords, Event, Offered, Sent, Happened, bare, offered, drawn, waiting}
+use Rattle.altq_model.specs.History.{Coming, DrawnWords, Event, Offered, Sent, Happened, bare, offered, drawn, waiting, is_kept}
 use Rattle.altq_model.specs.Link.{link}
 use Rattle.altq_model.specs.Play.{Policy, class_start, first_start, lesser, due, due_from, AreDue, IsPlay, play_on, play}
-use Rattle.play_laws.specs.Lawful.{IsLawful, AreRising}
+use Rattle.altq_model.specs.Lawful.{IsLawful, AreRising}
 use Rattle.play_laws.specs.Events.{IsOffer, IsSending, EachFollows}
 use Rattle.play_laws.proofs.DueLemmas.{first_after, next_after}
 use Rattle.play_laws.proofs.TimeLemmas.{on_time, follows, each_follows}
-use Rattle.play_laws.proofs.CountLemmas.{Place, places, with_place, without_first, of_class, of_class_labels}
+use Rattle.play_laws.proofs.CountLemmas.{Place, places, with_place, of_class_labels}
 use Rattle.play_laws.proofs.EndLemmas.{nothing_waits}
 use Rattle.play_laws.proofs.FewLemmas.{one_less}
 
@@ -83,9 +82,12 @@ one_whole p rate seed arrived g k x y = one_whole_case p rate seed arrived g k x
 abbrev left : List Coming → List Happened → ℕ
 left arrived g = 2 * (length arrived - offered (bare g)) + length (places g)
 
+length_if : (k : Bool) (x : Place) (xs : List Place) → length (cond k (xs ++ x ∷ []) xs) ≤ length xs + 1
+length_if true x xs = omega (arith, length-append xs (x ∷ []))
+length_if false x xs = omega arith
+
 kept_length : (v : Verdict) (x : Place) (xs : List Place) → length (with_place v x xs) ≤ length xs + 1
-kept_length Keep x xs = omega (arith, length-append xs (x ∷ []))
-kept_length (Drop r) x xs = omega arith
+kept_length v x xs = length_if (is_kept v) x xs
 
 fewer : (p : Policy) (rate seed : ℕ) (arrived : List Coming) (g : List Happened) (e : Happened) → IsOffer p rate seed arrived g e ⊎ IsSending p rate arrived g e
     → left arrived (e ∷ g) < left arrived g

@@ -1,16 +1,15 @@
 -- Each class departs in order of number, no packet before it arrives, each with the link's end.
 use Rattle.std.proofs.Common.{◌≡◌, ◌≤◌, ◌<◌, ◌+◌, ◌-◌, ◌∙◌, ◌⊎◌, inl, inr, ℕ, max, Bool, true, false, cond, List, [], ◌∷◌, ◌++◌, Some, refl, ap, sym, subst, arith}
-use Rattle.std.specs.Prelude.{slice_get, ◌==◌}
+use Rattle.std.specs.Prelude.{slice_get, ◌==◌, ◌&&◌}
 use Rattle.std.specs.Option.{option_map_or}
 use Rattle.std.specs.declared.option.Option.{Option}
 use Rattle.std.proofs.lemmas.Bool.{eqb-true}
 use Rattle.altq_model.specs.declared.Verdict.{Verdict}
-use Rattle.altq_model.specs.declared.Verdict.TheVariants.{Keep, Drop}
-use Rattle.altq_model.specs.History.{Offered, Sent, Coming, DrawnWords, Event, Happened, bare, offered, drawn, head, waiting, labels, with_offer, without_head}
+use Rattle.altq_model.specs.History.{Offered, Sent, Coming, DrawnWords, Event, Happened, bare, offered, drawn, head, waiting, labels, is_kept, with_offer, without_head}
 use Rattle.altq_model.specs.Link.{link, HasLinkEnds}
 use Rattle.altq_model.specs.Laws.{AllBelow, sent_in, FollowsInOrder, IsOrdered, at_of, StartsAfter, IsNotBefore}
 use Rattle.altq_model.specs.Play.{Policy}
-use Rattle.play_laws.specs.Lawful.{IsLawful}
+use Rattle.altq_model.specs.Lawful.{IsLawful}
 use Rattle.play_laws.specs.Events.{IsOffer, IsSending, EachFollows, IsOfArrival, AreOfArrivals}
 use Rattle.play_laws.proofs.Starts.{head_of}
 use Rattle.play_laws.proofs.DueLemmas.{offer_event}
@@ -28,10 +27,12 @@ pub rises_weaken : (low high n : ℕ) (ns : List ℕ) → high ≤ n → RisesTo
 rises_weaken low high n [] l r = omega arith
 rises_weaken low high n (m ∷ ns) l r = (r.0, rises_weaken m high n ns l r.1)
 
+rises_if : (low high : ℕ) (k : Bool) (ns : List ℕ) → RisesTo low high ns → RisesTo low (high + 1) (cond k (ns ++ (high + 1) ∷ []) ns)
+rises_if low high true ns r = rises_push low high (high + 1) ns (omega arith) r
+rises_if low high false ns r = rises_weaken low high (high + 1) ns (omega arith) r
+
 pub rises_offer : (low high : ℕ) (b : Bool) (v : Verdict) (ns : List ℕ) → RisesTo low high ns → RisesTo low (high + 1) (with_offer b v (high + 1) ns)
-rises_offer low high true Keep ns r = rises_push low high (high + 1) ns (omega arith) r
-rises_offer low high false Keep ns r = rises_weaken low high (high + 1) ns (omega arith) r
-rises_offer low high b (Drop q) ns r = rises_weaken low high (high + 1) ns (omega arith) r
+rises_offer low high b v ns r = rises_if low high (is_kept v && b) ns r
 
 below_weaken : (m n : ℕ) (ns : List ℕ) → m ≤ n → AllBelow m ns → AllBelow n ns
 below_weaken m n [] l b = tt
@@ -119,11 +120,14 @@ of_push arrived n a [] (b ∷ ws) x l e = absurd x
 of_push arrived n a (m ∷ ns) [] x l e = absurd x
 of_push arrived n a (m ∷ ns) (b ∷ ws) x l e = (x.0, x.1, of_push arrived n a ns ws x.2 l e)
 
+of_if : (arrived : List Coming) (n : ℕ) (a : Coming) (k : Bool) (ns : List ℕ) (ws : List Coming) → AreOf arrived ns ws → 0 < n
+    → slice_get arrived (n - 1) ≡ Some a → AreOf arrived (cond k (ns ++ n ∷ []) ns) (cond k (ws ++ a ∷ []) ws)
+of_if arrived n a true ns ws x l e = of_push arrived n a ns ws x l e
+of_if arrived n a false ns ws x l e = x
+
 of_offer : (arrived : List Coming) (n : ℕ) (a : Coming) (b : Bool) (v : Verdict) (ns : List ℕ) (ws : List Coming) → AreOf arrived ns ws → 0 < n
     → slice_get arrived (n - 1) ≡ Some a → AreOf arrived (with_offer b v n ns) (with_offer b v a ws)
-of_offer arrived n a true Keep ns ws x l e = of_push arrived n a ns ws x l e
-of_offer arrived n a false Keep ns ws x l e = x
-of_offer arrived n a b (Drop r) ns ws x l e = x
+of_offer arrived n a b v ns ws x l e = of_if arrived n a (is_kept v && b) ns ws x l e
 
 of_rest : (arrived : List Coming) (b : Bool) (ns : List ℕ) (ws : List Coming) → AreOf arrived ns ws → AreOf arrived (without_head b ns) (without_head b ws)
 of_rest arrived false ns ws x = x
@@ -180,10 +184,13 @@ class_push : (c : ℕ) (a : Coming) (ws : List Coming) → AllOfClass c ws → a
 class_push c a [] x e = (e, tt)
 class_push c a (b ∷ ws) x e = (x.0, class_push c a ws x.1 e)
 
+class_if : (c : ℕ) (a : Coming) (k b : Bool) (ws : List Coming) → (a.class == c) ≡ b → AllOfClass c ws → AllOfClass c (cond (k && b) (ws ++ a ∷ []) ws)
+class_if c a true true ws t x = class_push c a ws x (eqb-true a.class c t)
+class_if c a true false ws t x = x
+class_if c a false b ws t x = x
+
 class_offer : (c : ℕ) (a : Coming) (b : Bool) (v : Verdict) (ws : List Coming) → (a.class == c) ≡ b → AllOfClass c ws → AllOfClass c (with_offer b v a ws)
-class_offer c a true Keep ws t x = class_push c a ws x (eqb-true a.class c t)
-class_offer c a false Keep ws t x = x
-class_offer c a b (Drop r) ws t x = x
+class_offer c a b v ws t x = class_if c a (is_kept v) b ws t x
 
 class_rest : (c : ℕ) (b : Bool) (ws : List Coming) → AllOfClass c ws → AllOfClass c (without_head b ws)
 class_rest c false ws x = x
@@ -233,7 +240,7 @@ starts_late p rate arrived g e law y =
     let x = head_of p f (bare g) y.sending.class y.sending.start y.may.start in
     let j : Some x.packet ≡ Some y.packet = sym x.front ∙ y.front in
     let same : x.packet ≡ y.packet = cc in
-    let l = law.later (bare g) y.sending.class (max f x.packet.at) in
+    let l = law.later (bare g) y.sending.class (max f x.packet.at) x.packet (record { held = y.may.held; front = x.front }) in
     let P : Coming → Type 0 = λ a. StartsLate f a.at y.sending.start in
     subst P same (record { after_free = omega (arith, l, x.start); after_at = omega (arith, l, x.start) })
 

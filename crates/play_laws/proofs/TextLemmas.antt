@@ -1,10 +1,9 @@
 -- The texts of a longer journal begin with those of its front.
 use Rattle.std.proofs.Common.{◌≡◌, ◌∙◌, List, [], ◌∷◌, ◌++◌, ℕ, refl, ap, sym, append_assoc}
 use Rattle.std.proofs.lemmas.List.{append-nil}
-use Rattle.altq_model.specs.Arrivals.{Arrival, arrival}
+use Rattle.altq_model.specs.Arrivals.{Arrival}
 use Rattle.altq_model.specs.History.{Happened, Decision, decided, journal}
-use Rattle.altq_model.specs.Texts.{Naming, fate_row, fate_rows, fates, fates_header, departure_record, departure_records, departures}
-use Rattle.capture_model.specs.Header.{capture_header}
+use Rattle.altq_model.specs.Texts.{Naming, fate_row, fate_rows, fates, fates_header}
 
 pub fate_rows-append : (names : Naming) (arrived : List Arrival) (xs ys : List Decision)
     → fate_rows names arrived (xs ++ ys) ≡ fate_rows names arrived xs ++ fate_rows names arrived ys
@@ -18,19 +17,6 @@ pub fates-append : (names : Naming) (arrived : List Arrival) (xs ys : List Decis
 fates-append names arrived xs ys =
     ap (λ (t : List ℕ). fates_header ++ t) (fate_rows-append names arrived xs ys)
     ∙ sym (append_assoc fates_header (fate_rows names arrived xs) (fate_rows names arrived ys))
-
-pub departure_records-append : (arrived : List Arrival) (xs ys : List Decision)
-    → departure_records arrived (xs ++ ys) ≡ departure_records arrived xs ++ departure_records arrived ys
-departure_records-append arrived [] ys = refl
-departure_records-append arrived (d ∷ xs) ys =
-    ap (λ (t : List ℕ). departure_record (arrival arrived d.0) d.1 ++ t) (departure_records-append arrived xs ys)
-    ∙ sym (append_assoc (departure_record (arrival arrived d.0) d.1) (departure_records arrived xs) (departure_records arrived ys))
-
-pub departures-append : (arrived : List Arrival) (xs ys : List Decision)
-    → departures arrived (xs ++ ys) ≡ departures arrived xs ++ departure_records arrived ys
-departures-append arrived xs ys =
-    ap (λ (t : List ℕ). capture_header ++ t) (departure_records-append arrived xs ys)
-    ∙ sym (append_assoc capture_header (departure_records arrived xs) (departure_records arrived ys))
 
 -- a journal of more events begins with that of the older ones
 pub journal-append : (es g : List Happened) → journal (es ++ g) ≡ journal g ++ journal es

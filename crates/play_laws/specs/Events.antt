@@ -1,10 +1,10 @@
 -- What the events of a play are: an offer of the next arrival, or a sending at the least moment at which one may be.
 use Rattle.std.specs.Prelude.{◌≡◌, ◌≤◌, ◌<◌, ◌⊎◌, ◌+◌, ◌-◌, ℕ, List, [], ◌∷◌, length, Some, slice_get, if◌then◌else◌, nat_lt, nat_le, ◌&&◌}
 use Rattle.altq_model.specs.History.{Coming, Transmission, Event, Offered, Sent, Happened, bare, offered, head, waiting, labels, journal}
-use Rattle.altq_model.specs.Laws.{occurs, numbers, IsOrdered, IsNotBefore}
+use Rattle.altq_model.specs.Laws.{occurs, numbers, IsOrdered, IsNotBefore, IsPrompt}
 use Rattle.altq_model.specs.Link.{link, end_of, HasLinkEnds}
 use Rattle.altq_model.specs.Play.{Policy, first_start, offer_of}
-use Rattle.play_laws.specs.Lawful.{MaySend}
+use Rattle.altq_model.specs.Lawful.{MaySend}
 
 -- after a history this event is the offer of the next arrival, whose number is its place among the arrivals; no class may send
 -- before that arrival
@@ -58,6 +58,10 @@ AreOfArrivals arrived (e ∷ g) = IsOfArrival arrived e.label e.what × AreOfArr
 abbrev pub IsDecidedOnce : List Happened → Type 0
 IsDecidedOnce g = (n : ℕ) → occurs n (numbers (journal g)) ≤ (if nat_lt 0 n && nat_le n (offered (bare g)) then 1 else 0)
 
+-- what waits has no fate yet, and each number waits in one place
+abbrev pub WaitsOnce : List Happened → Type 0
+WaitsOnce g = (n c : ℕ) → occurs n (labels c g) + occurs n (numbers (journal g)) ≤ (if nat_lt 0 n && nat_le n (offered (bare g)) then 1 else 0)
+
 -- what holds of the first events of a play
 pub record HasLaws (p : Policy) (rate seed : ℕ) (arrived : List Coming) (g : List Happened) : Type 0 where
   pub each : EachFollows p rate seed arrived g
@@ -66,8 +70,10 @@ pub record HasLaws (p : Policy) (rate seed : ℕ) (arrived : List Coming) (g : L
   pub came : offered (bare g) ≤ length arrived
   pub few : length (journal g) ≤ offered (bare g)
   pub once : IsDecidedOnce g
+  pub waits_once : WaitsOnce g
   pub ordered : IsOrdered g
   pub not_before : IsNotBefore arrived g
+  pub prompt : IsPrompt (bare g)
   pub ends : HasLinkEnds rate (bare g)
 
 -- every arrival was offered, and nothing waits in any class

@@ -2,19 +2,26 @@
 //! nothing: each states its laws, and a caller that cites one calls nothing at run time.
 #![tactic(auto)]
 
-ghost use Rattle.std.specs.Prelude.{Bool, IsTrue, ◌≡◌, ◌≤◌, ◌<◌, ◌-◌, ◌++◌, ◌∷◌, ℕ, max, List, drop, length, Some, slice_get};
+ghost use Rattle.std.specs.Prelude.{Bool, IsTrue, ◌≡◌, ◌≤◌, ◌<◌, ◌+◌, ◌-◌, ◌++◌, ◌∷◌, ℕ, max, List, drop, length, Some, slice_get};
 ghost use Rattle.altq_model.specs.declared.Placed.{Placed};
 ghost use Rattle.altq_model.specs.declared.Rule.{Rule};
 ghost use Rattle.altq_model.specs.Arrivals.{Arrival, arrival, arrivals_from, arrivals_of, coming_of, comings};
-ghost use Rattle.capture_model.specs.Capture.{Record};
+ghost use Rattle.capture_model.specs.Capture.{Reads, Record, Step};
 ghost use Rattle.altq_model.specs.History.{Coming, Decision, Happened, Event, bare, journal, offered};
-ghost use Rattle.altq_model.specs.Laws.{IsBusy, KeepsLaws, at_of};
+ghost use Rattle.altq_model.specs.Laws.{IsInTime, KeepsLaws, at_of};
+ghost use Rattle.capture_model.specs.Written.{AreWithin, record_texts, written};
+ghost use Rattle.altq_model.specs.Busy.{IsBusy};
+ghost use Rattle.altq_model.specs.declared.Fate.{Fate};
+ghost use Rattle.altq_model.specs.Counts.{of_arrivals, of_decisions};
+ghost use Rattle.altq_model.specs.Departures.{Dressing, KeepsLength, departed, departures};
+ghost use Rattle.altq_model.specs.Idle.{NeverIdles};
 ghost use Rattle.altq_model.specs.Link.{HasLinkEnds, link};
 ghost use Rattle.altq_model.specs.Play.{AreDue, IsPlay, Policy, first_start, play};
 ghost use Rattle.altq_model.specs.Policies.{Answering, one_queue, strict};
-ghost use Rattle.altq_model.specs.Texts.{Naming, departure_records, departures, fate_rows, fates};
-ghost use Rattle.play_laws.specs.Events.{HasLaws, IsWhole};
-ghost use Rattle.play_laws.specs.Lawful.{AreHeld, AreRising, IsLawful, IsOneOf, IsSteady, NeverWaits, SendsWhen, first_at, greatest, latest};
+ghost use Rattle.altq_model.specs.Texts.{Naming, fate_rows, fates};
+ghost use Rattle.play_laws.specs.Events.{AreOfArrivals, HasLaws, IsWhole};
+ghost use Rattle.altq_model.specs.Lawful.{AreHeld, AreRising, IsLawful, IsOneOf, IsSteady, NeverWaits, SendsWhen, first_at, greatest, latest};
+ghost use Rattle.play_laws.specs.Sizes.{AreSized};
 ghost use Rattle.play_laws.specs.Runs.{AreRunEnds, sendings};
 
 /// The arrivals of a capture rise, there is one for each record, those of more records begin with those of the fewer, and a play
@@ -74,11 +81,18 @@ pub fn ends_are_those_of_the_runs()
     ensures ends { (rate : ℕ) (h : List Event) → HasLinkEnds rate h → AreRunEnds rate (sendings h) }
 {}
 
-/// Where any class may send at any moment, the link is busy: each sending starts at the greater of the last end and the least
-/// arrival of those that are left. It holds of the first events of a play, however many.
+/// The link is busy: each sending starts at the least moment, not before the last end, such that after the offers of all arrivals up
+/// to it some waiting class may send at it. It holds of the first events of a play of a steady policy, however many.
 pub fn link_is_busy()
-    ensures busy { (p : Policy) (rate seed : ℕ) (arrived : List Coming) (g : List Happened) → 0 < rate → IsLawful p → NeverWaits p → AreRising arrived
-        → AreHeld p arrived → AreDue p rate seed arrived g → IsBusy rate arrived g }
+    ensures busy { (p : Policy) (rate seed : ℕ) (arrived : List Coming) (g : List Happened) → 0 < rate → IsLawful p → IsSteady p → AreRising arrived
+        → AreDue p rate seed arrived g → IsBusy p rate (bare g) }
+{}
+
+/// Where any class may send at any moment, the link never idles: each sending starts at the greater of the last end and the least
+/// arrival of those that are left. It holds of the first events of a play, however many.
+pub fn link_never_idles()
+    ensures never_idles { (p : Policy) (rate seed : ℕ) (arrived : List Coming) (g : List Happened) → 0 < rate → IsLawful p → NeverWaits p → AreRising arrived
+        → AreHeld p arrived → AreDue p rate seed arrived g → NeverIdles rate arrived g }
 {}
 
 /// In a play a steady policy may be asked from one moment for all classes: the greater of the last end and the greatest arrival of
@@ -108,15 +122,42 @@ pub fn the_play_is_one()
         → AreDue p rate seed arrived (e ∷ g) → AreDue p rate seed (arrived ++ more) (e ∷ g) }
 {}
 
-/// The journal of more events begins with that of the older ones, and the texts of a longer journal begin with those of its front.
+/// The records of a capture have the sizes that a capture may have, and the departures of a history of their play, each sending in
+/// time, are within the limits of one: so they read back as a capture of just these records, where frames keep their lengths.
+pub fn departures_are_within()
+    ensures sized { (bytes : List ℕ) (records : List Record) (last : Step) → Reads bytes records last → AreSized records }
+    ensures within { (dress : Dressing) (mark : List ℕ → Placed) (records : List Record) (p : Policy) (rate seed : ℕ) (g : List Happened)
+        → KeepsLength dress → AreSized records → HasLaws p rate seed (comings (arrivals_of mark records)) g → IsInTime g
+        → AreWithin (departed dress (arrivals_of mark records) g) }
+{}
+
+/// The counts of more arrivals, and of more decisions, are the sums of those of the fewer and of the rest; what was decided of packets
+/// that arrived counts the same, whatever arrives later.
+pub fn counts_add_up()
+    ensures arrivals { (meant : Arrival → Bool) (amount : Arrival → ℕ) (xs ys : List Arrival)
+        → of_arrivals meant amount (xs ++ ys) ≡ of_arrivals meant amount xs + of_arrivals meant amount ys }
+    ensures decisions { (meant : Arrival → Bool) (told : Fate → Bool) (amount : Arrival → ℕ) (arrived : List Arrival) (xs ys : List Decision)
+        → of_decisions meant told amount arrived (xs ++ ys) ≡ of_decisions meant told amount arrived xs + of_decisions meant told amount arrived ys }
+    ensures stay { (meant : Arrival → Bool) (told : Fate → Bool) (amount : Arrival → ℕ) (arrived more : List Arrival) (g : List Happened)
+        → AreOfArrivals (comings arrived) g
+        → of_decisions meant told amount (arrived ++ more) (journal g) ≡ of_decisions meant told amount arrived (journal g) }
+{}
+
+/// The journal of more events begins with that of the older ones, as do the records of their departures; the text of more decisions or
+/// records begins with that of the first of them. What is decided of packets that arrived keeps its texts, whatever arrives later.
 pub fn texts_extend()
     ensures journal { (es g : List Happened) → journal (es ++ g) ≡ journal g ++ journal es }
     ensures fates { (names : Naming) (arrived : List Arrival) (xs ys : List Decision)
         → fates names arrived (xs ++ ys) ≡ fates names arrived xs ++ fate_rows names arrived ys }
     ensures rows { (names : Naming) (arrived : List Arrival) (xs ys : List Decision)
         → fate_rows names arrived (xs ++ ys) ≡ fate_rows names arrived xs ++ fate_rows names arrived ys }
-    ensures departures { (arrived : List Arrival) (xs ys : List Decision)
-        → departures arrived (xs ++ ys) ≡ departures arrived xs ++ departure_records arrived ys }
-    ensures records { (arrived : List Arrival) (xs ys : List Decision)
-        → departure_records arrived (xs ++ ys) ≡ departure_records arrived xs ++ departure_records arrived ys }
+    ensures records { (xs ys : List Record) → written (xs ++ ys) ≡ written xs ++ record_texts ys }
+    ensures departed { (dress : Dressing) (arrived : List Arrival) (es g : List Happened)
+        → (more : List Record) × (departed dress arrived (es ++ g) ≡ departed dress arrived g ++ more) }
+    ensures departures { (dress : Dressing) (arrived : List Arrival) (es g : List Happened)
+        → (more : List Record) × (departures dress arrived (es ++ g) ≡ departures dress arrived g ++ record_texts more) }
+    ensures rows_stay { (names : Naming) (arrived more : List Arrival) (g : List Happened) → AreOfArrivals (comings arrived) g
+        → fate_rows names (arrived ++ more) (journal g) ≡ fate_rows names arrived (journal g) }
+    ensures departed_stay { (dress : Dressing) (arrived more : List Arrival) (g : List Happened) → AreOfArrivals (comings arrived) g
+        → departed dress (arrived ++ more) g ≡ departed dress arrived g }
 {}

@@ -30,8 +30,8 @@ use Rattle.play_loop.specs.Setup.{Setup, KeepsBut, IsFrontOf, arrivals_in, depar
 use Rattle.play_loop.specs.Played.{AreEmpty, EndsAs, HasPlayed, HasStopped, Explains, capture_fault, output_fault}
 use Rattle.play_loop.specs.Reading.{AreMarked, HasFault}
 use Rattle.play_text.specs.Names.{NameList, HasClass}
-use Rattle.play_text.specs.declared.status.Totals.{Totals}
-use Rattle.play_laws.specs.Lawful.{AreHeld, IsOneOf}
+use Rattle.play_core.specs.declared.totals.Totals.{Totals}
+use Rattle.altq_model.specs.Lawful.{AreHeld, IsOneOf}
 use Rattle.altq_model.specs.declared.Placed.{Placed}
 use Rattle.play_loop.proofs.GatherLemmas.{grew_whole, stopped_whole}
 use Rattle.play_loop.proofs.OutputLemmas.{texts_departed, texts_rowed, fronts_departed, fronts_rowed}

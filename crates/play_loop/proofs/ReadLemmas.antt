@@ -11,12 +11,12 @@ use Rattle.pcap_files.specs.declared.fault.CaptureFault.{CaptureFault}
 use Rattle.pcap_files.specs.declared.fault.CaptureFault.TheVariants as fault
 use Rattle.pcap_files.specs.declared.record.Record.{Record as Read}
 use Rattle.pcap_files.specs.Reading.{IsHeadFault, ReadsTo, Shows}
-use Rattle.play_laws.specs.Lawful.{greatest}
+use Rattle.altq_model.specs.Lawful.{greatest}
 use Rattle.play_laws.proofs.ArrivalLemmas.{arrivals_append}
 use Rattle.altq_model.specs.declared.Placed.{Placed}
 use Rattle.altq_model.specs.Arrivals.{arrivals_of}
 use Rattle.altq_model.specs.History.{Coming}
-use Rattle.play_laws.specs.Lawful.{AreRising, RiseFrom}
+use Rattle.altq_model.specs.Lawful.{AreRising, RiseFrom}
 use Rattle.play_core.specs.declared.arrived.Arrived.{Arrived}
 use Rattle.play_core.specs.Arrived.{arrival_of, arrivals_held, coming_of, comings_held}
 use Rattle.play_loop.specs.Reading.{AreMarked}

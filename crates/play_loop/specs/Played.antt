@@ -15,7 +15,7 @@ use Rattle.play_loop.specs.declared.outputs.OutputFault.{OutputFault}
 use Rattle.play_loop.specs.declared.outputs.OutputFault.TheVariants as output
 use Rattle.play_core.specs.Totals.{AreTotals}
 use Rattle.play_loop.specs.Setup.{Setup, IsPlayOf, IsFrontOf, IsCutOf, HoldTexts, HoldFronts}
-use Rattle.play_text.specs.declared.status.Totals.{Totals}
+use Rattle.play_core.specs.declared.totals.Totals.{Totals}
 
 -- two files of different names, to which nothing was written
 pub record AreEmpty (v : View) (dep fat : ℕ) : Type 0 where

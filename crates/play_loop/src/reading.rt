@@ -1,7 +1,7 @@
 // The packets of a capture, all read before the first event of a play.
 ghost use Rattle.std.specs.Prelude.{◌≡◌, ◌≢◌, ◌≤◌, ◌<◌, ◌^◌, max, nat_lt, length, IsSome, IfOk, IfErr, IsErrOf};
 ghost use Rattle.play_base.specs.View.{Any, Keeps, ReadFault};
-ghost use Rattle.play_laws.specs.Lawful.{AreRising};
+ghost use Rattle.altq_model.specs.Lawful.{AreRising};
 ghost use Rattle.play_core.specs.Arrived.{comings_held};
 ghost use Rattle.play_loop.specs.Reading.{AreMarked, HasRead, HasFault};
 

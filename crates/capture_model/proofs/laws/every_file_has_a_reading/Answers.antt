@@ -1,5 +1,3 @@
-use Rattle.std.proofs.Common.{rules, List, ℕ}
-use Rattle.capture_model.specs.Capture.{IsLast, Reads, outcome}
 use Rattle.capture_model.proofs.OutcomeLemmas.{reads_outcome, outcome_ends}
 use Rattle.capture_model.proofs.laws.every_file_has_a_reading.Goals as goal
 

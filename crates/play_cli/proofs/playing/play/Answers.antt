@@ -1,6 +1,6 @@
 use Rattle.std.proofs.Common.{Err, ap, sym, subst}
 use Rattle.std.specs.Prelude.{Result}
-use Rattle.play_text.specs.declared.status.Status.{Status}
+use Rattle.play_cli.specs.declared.status.Status.{Status}
 use Rattle.play_cli.specs.Causes.{names_read}
 use Rattle.play_cli.specs.Ending.{PlayEnds}
 use Rattle.play_cli.specs.declared.fault.RunFault.{RunFault}

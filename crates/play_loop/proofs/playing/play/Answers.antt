@@ -8,7 +8,7 @@ use Rattle.pcap_files.specs.declared.fault.CaptureFault.{CaptureFault}
 use Rattle.pcap_files.proofs.ReadingLaws.{one_reading}
 use Rattle.play_core.specs.declared.arrived.Arrived.{Arrived}
 use Rattle.play_core.specs.Arrived.{HavePrecs, arrivals_held, comings_held}
-use Rattle.play_laws.specs.Lawful.{AreHeld}
+use Rattle.altq_model.specs.Lawful.{AreHeld}
 use Rattle.play_text.specs.Names.{name_of}
 use Rattle.play_loop.specs.declared.fault.PlayFault.{PlayFault}
 use Rattle.play_loop.specs.Outputs.{AreNamed}

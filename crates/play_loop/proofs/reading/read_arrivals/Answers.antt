@@ -7,7 +7,7 @@ use Rattle.std.proofs.lemmas.Grind.{common_steps}
 use Rattle.pcap_files.specs.declared.record.Record.{Record}
 use Rattle.pcap_files.specs.Reading.{Answers, Counts}
 use Rattle.play_base.proofs.ViewLaws.{still_there}
-use Rattle.play_laws.specs.Lawful.{AreRising}
+use Rattle.altq_model.specs.Lawful.{AreRising}
 use Rattle.play_core.specs.declared.arrived.Arrived.{Arrived}
 use Rattle.play_core.specs.Arrived.{arrivals_held, comings_held}
 use Rattle.play_loop.specs.Reading.{AreMarked}

@@ -2,10 +2,10 @@ use Rattle.std.proofs.Common.{◌≡◌, ◌≢◌, ◌≤◌, ◌-◌, ◌<◌,
 use Rattle.std.specs.Prelude.{IsSome}
 use Rattle.capture_model.specs.Capture.{Record}
 use Rattle.play_base.specs.View.{Any, Keeps}
-use Rattle.play_laws.specs.Lawful.{greatest}
+use Rattle.altq_model.specs.Lawful.{greatest}
 use Rattle.pcap_files.specs.Reading.{StandsFor, answered}
 use Rattle.altq_model.specs.Arrivals.{arrivals_of}
-use Rattle.play_laws.specs.Lawful.{AreRising}
+use Rattle.altq_model.specs.Lawful.{AreRising}
 use Rattle.play_core.specs.Arrived.{arrivals_held, comings_held}
 use Rattle.play_loop.specs.Reading.{AreMarked}
 use Rattle.play_loop.proofs.ReadLemmas.{last_at}
