@@ -7,9 +7,8 @@ ghost use Rattle.play_cli.specs.Ending.{CheckEnds};
 
 use crate::input::{absent, read_conf};
 use crate::status::{ended, status_of};
-use crate::{ConfigFault, RunFault};
+use crate::{ConfigFault, RunFault, Status};
 use play_base::{Files, NoMemory, Trouble};
-use crate::Status;
 use play_words::CheckWords;
 use std::alloc::Global;
 

@@ -13,8 +13,8 @@ mod status;
 
 pub use classifier::Classifier;
 pub use fault::{ConfigFault, RunFault};
-pub use status::Status;
 pub use program::{run, run_steady};
+pub use status::Status;
 
 #[cfg(test)]
 mod tests;

@@ -8,14 +8,13 @@ ghost use Rattle.play_cli.specs.Opening.{Accepts, AcceptsNone, KeepsOthers};
 ghost use Rattle.play_cli.specs.Run.{HasPlayed, Fronts};
 ghost use Rattle.play_cli.specs.declared.fault.ConfigFault.{ConfigFault};
 
-use crate::RunFault;
 use crate::input::config_rate;
 use crate::one::play_one;
 use crate::opening::{OpenFault, open_files};
 use crate::status::{ended, status_of};
+use crate::{RunFault, Status};
 use play_base::Files;
 use play_loop::PlayFault;
-use crate::Status;
 use play_words::PlayWords;
 use std::alloc::Global;
 

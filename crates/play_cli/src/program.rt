@@ -13,11 +13,11 @@ ghost use Rattle.play_cli.specs.Ending.{Tells, TellsDamage, TellsPlace, place_of
 ghost use Rattle.play_cli.specs.Opening.{Accepts, AcceptsNone, CannotRead, KeepsOthers};
 ghost use Rattle.play_cli.specs.Run.{HasPlayed, Fronts, IsDamagedAt, IsLimited, IsLate, IsPlayable, EndsWith, EndsLate, IsQuiet, IsCode};
 
+use crate::Status;
 use crate::checking::check;
 use crate::playing::play;
 use crate::status::ended;
 use play_base::{Files, SteadyFiles};
-use crate::Status;
 use play_words::{Command, read_words};
 use std::alloc::Global;
 
