@@ -1,0 +1,4 @@
+pub mod Handlings
+pub mod Laws
+pub mod Placing
+pub mod Rows
