@@ -3,7 +3,7 @@ use Rattle.std.specs.Prelude.{◌≡◌, ◌≤◌, ℕ, Bool, true, List, lengt
 use Rattle.conf_tree.specs.declared.interface.Interface.{Interface}
 use Rattle.conf_tree.specs.Family.{is_queue_class}
 use Rattle.conf_tree.specs.Reading.{IsConfiguration}
-use Rattle.frame_classes.specs.Placing.{place_in, dress_in}
+use Rattle.frame_classes.specs.Frames.{place_in, dress_in}
 
 -- the class of each frame is one that holds packets
 abbrev pub FramesHaveQueues : Type 0

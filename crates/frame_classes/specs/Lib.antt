@@ -1,4 +1,4 @@
+pub mod Frames
 pub mod Handlings
 pub mod Laws
-pub mod Placing
 pub mod Rows

@@ -3,7 +3,7 @@
 use Rattle.std.specs.Prelude.{ℕ, ◌+◌, List, [], ◌∷◌, true, false}
 use Rattle.flow_filter.specs.Rows.{to_5004}
 use Rattle.packet_heads.specs.Rows.{ethernet}
-use Rattle.frame_classes.specs.Placing.{Classes}
+use Rattle.frame_classes.specs.Frames.{Classes}
 
 abbrev pub three_classes : Classes
 three_classes = record {

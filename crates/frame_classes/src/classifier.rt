@@ -1,6 +1,6 @@
 // Where an interface puts its frames.
 ghost use Rattle.std.specs.Prelude.{◌≡◌, IfOk};
-ghost use Rattle.frame_classes.specs.Placing.{classes_of, is_capable, placed_flow, precedence_in};
+ghost use Rattle.frame_classes.specs.Frames.{classes_of, dress_in, is_capable, place_in, placed_flow, precedence_in};
 ghost use Rattle.packet_heads.specs.Heads.{flow_of};
 
 use crate::handling::{Handling, handling_at, handlings};
@@ -22,7 +22,7 @@ pub struct Classifier {
 }
 
 impl Model for Classifier {
-    ghost use Rattle.frame_classes.specs.Placing.{Classes};
+    ghost use Rattle.frame_classes.specs.Frames.{Classes};
 
     ghost Value = { Classes };
 
@@ -33,7 +33,9 @@ impl Classifier {
     /// The classifier of an interface. Answers `NoMemory` where there was none, or where it has 2^32 filters or classes, which no
     /// configuration has. Takes time for sorting the filters.
     pub fn build(alloc: Global, interface: &Interface) -> Result<Classifier, NoMemory>
-        ensures { IfOk result (λ c. c ≡ classes_of interface.now) }
+        ensures kept { IfOk result (λ c. c ≡ classes_of interface.now) }
+        ensures placed { IfOk result (λ c. ⟦<Classifier as Classify>⟧.placed c ≡ place_in interface.now) }
+        ensures dressed { IfOk result (λ c. ⟦<Classifier as Classify>⟧.dressed c ≡ dress_in interface.now) }
     {
         let filters = Filters::build(alloc, interface)?;
         let handlings = handlings(alloc, interface.classes.as_slice())?;
@@ -76,7 +78,7 @@ fn precedence_in(marks: bool, heads: &FlowHeads) -> u8
 }
 
 impl Classify for Classifier {
-    ghost use Rattle.frame_classes.specs.Placing.{dressed_by, placed_by};
+    ghost use Rattle.frame_classes.specs.Frames.{dressed_by, placed_by};
     ghost use Rattle.frame_classes.specs.Handlings.{handling_at};
     ghost use Rattle.packet_heads.proofs.Lengths.{length-departing};
 

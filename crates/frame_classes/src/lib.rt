@@ -11,7 +11,7 @@ mod rows;
 
 pub use classifier::Classifier;
 pub use handling::Handling;
-pub use laws::frames_have_their_place;
+pub use laws::frames_have_classes;
 pub use rows::worked_examples;
 
 #[cfg(test)]

@@ -1,7 +1,7 @@
 // Examples that are computed from the definitions.
 ghost use Rattle.std.specs.Prelude.{◌≡◌, true, false, take};
 ghost use Rattle.frame_classes.specs.Handlings.{is_ecn};
-ghost use Rattle.frame_classes.specs.Placing.{dressed_by, placed_by};
+ghost use Rattle.frame_classes.specs.Frames.{dressed_by, placed_by};
 ghost use Rattle.frame_classes.specs.Rows.{datagram_to, three_classes};
 ghost use Rattle.packet_heads.specs.Rows.{datagram, ethernet};
 

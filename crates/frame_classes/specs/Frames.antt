@@ -1,6 +1,7 @@
 -- Where an interface puts a frame, and the bytes with which it departs.
 use Rattle.std.specs.Prelude.{ℕ, ◌%◌, ◌==◌, Bool, false, not, if◌then◌else◌, List, map}
 use Rattle.altq_model.specs.declared.Placed.{Placed}
+use Rattle.altq_model.specs.Departures.{Dressing}
 use Rattle.conf_tree.specs.declared.interface.Interface.{Interface}
 use Rattle.flow_filter.specs.Rules.{Rules, rules_of}
 use Rattle.flow_filter.specs.Winner.{class_of}
@@ -35,12 +36,12 @@ placed_flow c f = record { class = class_of c.rules f; prec = precedence_in (han
 abbrev pub placed_by : Classes → (frame : List ℕ) → Placed
 placed_by c frame = placed_flow c (flow frame)
 
-abbrev pub dressed_by : Classes → (class : ℕ) → (marked : Bool) → (frame : List ℕ) → List ℕ
+abbrev pub dressed_by : Classes → Dressing
 dressed_by c class marked frame = departing (handling_at c.handlings class).clears marked frame
 
 -- the same of an interface
 abbrev pub place_in : Interface → (frame : List ℕ) → Placed
 place_in i = placed_by (classes_of i)
 
-abbrev pub dress_in : Interface → (class : ℕ) → (marked : Bool) → (frame : List ℕ) → List ℕ
+abbrev pub dress_in : Interface → Dressing
 dress_in i = dressed_by (classes_of i)
