@@ -218,6 +218,7 @@ fn long_lines_keep_their_words(rt: HostRuntime) -> Result<(), Fail> {
         text.push_str(" a")?;
     }
     let found = statements(rt.alloc(), text.as_str().as_bytes())?;
+    assert_eq!(rt; found.len(), 1);
     assert_eq!(rt; found[0].end, 2001);
     assert_eq!(rt; first_fault(rt.alloc(), text.as_str())?, Some((1, 1, 1)));
     let mut text = String::from_str(rt.alloc(), "class hfsc if0 a NULL")?;
