@@ -1,3 +1,6 @@
 pub mod GatherLemmas
 pub mod GatheredLaws
+pub mod HeadLemmas
+pub mod KeptLemmas
 pub mod OutputLemmas
+pub mod SentLemmas

@@ -13,22 +13,22 @@ pub struct Arriving {
 }
 
 // The arrival of a record under this number, where this was the greatest stamp before it.
-pub fn arriving_of(record: Record, number: u64, latest: u64) -> Arriving
+pub fn arriving_of(read: Record, number: u64, latest: u64) -> Arriving
     requires { latest < 2 ^ 62 }
-    ensures at { result.packet.at ≡ max latest record.stamp }
+    ensures at { result.packet.at ≡ max latest read.stamp }
     ensures number { result.packet.number ≡ number }
-    ensures len { result.packet.len ≡ record.len }
-    ensures bytes { result.packet.bytes ≡ record.bytes }
-    ensures raised { result.raised ≡ nat_lt record.stamp latest }
+    ensures len { result.packet.len ≡ read.len }
+    ensures bytes { result.packet.bytes ≡ read.bytes }
+    ensures raised { result.raised ≡ nat_lt read.stamp latest }
     ensures within { IsWithin result }
 {
-    let raised = record.stamp < latest;
+    let raised = read.stamp < latest;
     Arriving {
         packet: Packet {
             number,
-            at: latest.max(record.stamp),
-            len: record.len,
-            bytes: record.bytes,
+            at: latest.max(read.stamp),
+            len: read.len,
+            bytes: read.bytes,
         },
         raised,
     }
