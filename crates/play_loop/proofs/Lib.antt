@@ -4,3 +4,5 @@ pub mod HeadLemmas
 pub mod KeptLemmas
 pub mod OutputLemmas
 pub mod SentLemmas
+pub mod TextLemmas
+pub mod TurnLemmas
