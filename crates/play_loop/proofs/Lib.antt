@@ -3,6 +3,7 @@ pub mod GatheredLaws
 pub mod HeadLemmas
 pub mod KeptLemmas
 pub mod OutputLemmas
+pub mod PacketLemmas
 pub mod SentLemmas
 pub mod TextLemmas
 pub mod TurnLemmas
