@@ -6,13 +6,18 @@ use Rattle.std.specs.declared.option.Option.{Option}
 use Rattle.altq_model.specs.declared.Placed.{Placed}
 use Rattle.altq_model.specs.Arrivals.{Arrival, coming_of, comings}
 use Rattle.altq_model.specs.History.{Coming, DrawnWords, Happened, bare, drawn, offered, journal}
+use Rattle.altq_model.specs.Lawful.{latest}
 use Rattle.altq_model.specs.Play.{Policy, AreDue, offer_of}
 use Rattle.altq_model.specs.Texts.{Naming, fates}
 use Rattle.play_base.specs.declared.packet.Packet.{Packet}
 use Rattle.play_laws.proofs.ArrivalLemmas.{comings_length}
 use Rattle.play_core.specs.declared.turn.Dropped.{Dropped}
 use Rattle.play_core.specs.Ended.{IsBegun}
-use Rattle.play_core.specs.Going.{numbered}
+use Rattle.play_core.specs.Going.{IsGoing, numbered}
+use Rattle.play_core.specs.declared.state.Progress.{Progress}
+use Rattle.leaf_queue.specs.declared.node.Entry.{Entry}
+use Rattle.play_laws.proofs.TimeLemmas.{next_later}
+use Rattle.play_core.proofs.GoingLemmas.{IsPromised}
 use Rattle.play_core.specs.Turns.{IsNext, Offers, arrives, handed_back}
 use Rattle.play_core.proofs.OfferLemmas.{is_coming}
 use Rattle.play_loop.specs.declared.arriving.Arriving.{Arriving}
@@ -77,3 +82,9 @@ with_stays place p q rate seed w arrived g x a h d =
 
 pub same_seed : (p : Policy) (rate seed s : ℕ) (cs : List Coming) (g : List Happened) → seed ≡ s → IsBegun p rate seed cs g → IsBegun p rate s cs g
 same_seed p rate seed s cs g e x = let P : ℕ → Type 0 = λ k. IsBegun p rate k cs g in subst P e x
+
+-- nothing that was offered arrived later
+pub not_earlier : (place : List ℕ → Placed) (p : Policy) (stood : List Happened → Type 0) (lists : ℕ → List Entry) (limits : ℕ → ℕ) (rate : Option ℕ) (arrived : List Arrival) (w : DrawnWords)
+    (x : Progress) (g : List Happened) (a : Arriving) → IsPromised p x.clock.rate → IsGoing p stood lists limits rate arrived w x g → IsHeld place arrived g a → latest (bare g) ≤ a.packet.at
+not_earlier place p stood lists limits rate arrived w x g a m y h =
+    next_later p x.clock.rate w.seed (comings arrived) g m.positive m.lawful y.rising y.begun.events (coming_of (arrival_of place a)) (is_coming arrived g (arrival_of place a) h.there).seen

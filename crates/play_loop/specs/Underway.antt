@@ -5,6 +5,7 @@ use Rattle.altq_model.specs.declared.Placed.{Placed}
 use Rattle.altq_model.specs.Arrivals.{Arrival, comings}
 use Rattle.altq_model.specs.Departures.{Dressing, departures}
 use Rattle.altq_model.specs.History.{Coming, DrawnWords, Happened, bare, offered, journal}
+use Rattle.altq_model.specs.Lawful.{latest}
 use Rattle.altq_model.specs.Play.{Policy, AreDue, due}
 use Rattle.altq_model.specs.Texts.{Naming, fates}
 use Rattle.leaf_queue.specs.declared.node.Entry.{Entry}
@@ -55,7 +56,11 @@ pub record IsHeld (place : List ℕ → Placed) (arrived : List Arrival) (g : Li
   pub there : slice_get arrived (offered (bare g)) ≡ Some (arrival_of place p)
   pub packet_is : p.packet ≡ numbered (offered (bare g) + 1) (arrival_of place p)
 
--- it was offered, or the next sending would end too late
-abbrev pub OfferedIs : Due → Policy → (rate seed : ℕ) → List Arrival → (before after : List Happened) → Type 0
-OfferedIs Made p rate seed arrived g k = EndsWithOffer k × (offered (bare k) ≡ offered (bare g) + 1)
-OfferedIs Late p rate seed arrived g k = IsCutOff p rate seed (comings arrived) k × (offered (bare k) ≡ offered (bare g))
+-- as many packets were offered, and none later
+abbrev pub SameOffers : (before after : List Happened) → Type 0
+SameOffers g k = (offered (bare k) ≡ offered (bare g)) × (latest (bare k) ≡ latest (bare g))
+
+-- it was offered at this moment, or the next sending would end too late
+abbrev pub OfferedIs : Due → Policy → (rate seed : ℕ) → List Arrival → (at : ℕ) → (before after : List Happened) → Type 0
+OfferedIs Made p rate seed arrived at g k = EndsWithOffer k × (offered (bare k) ≡ offered (bare g) + 1) × (latest (bare k) ≡ at)
+OfferedIs Late p rate seed arrived at g k = IsCutOff p rate seed (comings arrived) k × SameOffers g k

@@ -1,14 +1,14 @@
 // The turns of a play: the sendings that are due before an arrival, and then its offer.
 ghost use Rattle.std.specs.Prelude.{◌≡◌, ◌≤◌, ℕ, List, Some, IfErr, IfOk, OnErr};
 ghost use Rattle.altq_model.specs.Arrivals.{Arrival};
-ghost use Rattle.altq_model.specs.History.{DrawnWords, Happened, bare, offered};
+ghost use Rattle.altq_model.specs.History.{DrawnWords, Happened};
 ghost use Rattle.altq_model.specs.Lawful.{IsOneOf};
 ghost use Rattle.play_core.specs.Turns.{arrives};
 ghost use Rattle.play_text.specs.Names.{HasClass, name_of};
 ghost use Rattle.play_loop.specs.Kept.{OnlyWrote};
 ghost use Rattle.play_loop.specs.Outputs.{IsWriteCause, SameFiles};
 ghost use Rattle.play_loop.specs.Reading.{IsWithin};
-ghost use Rattle.play_loop.specs.Underway.{DueIs, IsBroken, IsHeld, IsUnderway, OfferedIs, StayDue};
+ghost use Rattle.play_loop.specs.Underway.{DueIs, IsBroken, IsHeld, IsUnderway, OfferedIs, SameOffers, StayDue};
 
 use crate::PlayFault;
 use crate::arriving::Arriving;
@@ -42,12 +42,12 @@ pub fn send_due<D: Discipline, C: Classify, F: Files>(
         → IsUnderway (C.placed classify.now) (C.dressed classify.now) (name_of names.now) (D.policy discipline.old) (D.stands discipline.old) (D.lists discipline.old) (D.limits discipline.old) (D.link_rate discipline.old) (F.view files.old) outputs.old progress.old arrived w g
         → arrival ≡ arrives arrived g → (k : List Happened)
         × IsUnderway (C.placed classify.now) (C.dressed classify.now) (name_of names.now) (D.policy discipline.new) (D.stands discipline.new) (D.lists discipline.new) (D.limits discipline.new) (D.link_rate discipline.new) (F.view files.new) outputs.new progress.new arrived w k
-        × (offered (bare k) ≡ offered (bare g)) × DueIs due (D.policy discipline.old) progress.old.clock.rate w.seed arrived k arrival) }
+        × SameOffers g k × DueIs due (D.policy discipline.old) progress.old.clock.rate w.seed arrived k arrival) }
     ensures broken { OnErr result ((arrived : List Arrival) (w : DrawnWords) (g : List Happened)
         → IsUnderway (C.placed classify.now) (C.dressed classify.now) (name_of names.now) (D.policy discipline.old) (D.stands discipline.old) (D.lists discipline.old) (D.limits discipline.old) (D.link_rate discipline.old) (F.view files.old) outputs.old progress.old arrived w g
         → arrival ≡ arrives arrived g → (k : List Happened)
         × IsBroken (C.dressed classify.now) (name_of names.now) (D.policy discipline.old) progress.old.clock.rate w.seed (F.view files.new) outputs.old arrived k
-        × (offered (bare k) ≡ offered (bare g))) }
+        × SameOffers g k) }
     ensures same { SameFiles outputs.old outputs.new }
     ensures others { OnlyWrote outputs.old.departures outputs.old.fates (F.view files.old) (F.view files.new) }
     ensures why { IfErr result (IsWriteCause outputs.old.departures outputs.old.fates (F.view files.old) (F.view files.new)) }
@@ -91,7 +91,7 @@ pub fn play_packet<D: Discipline, C: Classify, F: Files>(
         → IsUnderway (C.placed classify.now) (C.dressed classify.now) (name_of names.now) (D.policy discipline.old) (D.stands discipline.old) (D.lists discipline.old) (D.limits discipline.old) (D.link_rate discipline.old) (F.view files.old) outputs.old progress.old arrived words.old g
         → IsHeld (C.placed classify.now) arrived g arriving → (k : List Happened)
         × IsUnderway (C.placed classify.now) (C.dressed classify.now) (name_of names.now) (D.policy discipline.new) (D.stands discipline.new) (D.lists discipline.new) (D.limits discipline.new) (D.link_rate discipline.new) (F.view files.new) outputs.new progress.new arrived words.new k
-        × OfferedIs due (D.policy discipline.old) progress.old.clock.rate words.old.seed arrived g k) }
+        × OfferedIs due (D.policy discipline.old) progress.old.clock.rate words.old.seed arrived arriving.packet.at g k) }
     ensures broken { OnErr result ((arrived : List Arrival) (g : List Happened)
         → IsUnderway (C.placed classify.now) (C.dressed classify.now) (name_of names.now) (D.policy discipline.old) (D.stands discipline.old) (D.lists discipline.old) (D.limits discipline.old) (D.link_rate discipline.old) (F.view files.old) outputs.old progress.old arrived words.old g
         → IsHeld (C.placed classify.now) arrived g arriving → (k : List Happened)

@@ -17,13 +17,13 @@ pub turn-requires : goal.turn-requires
 turn-requires g c =
     let r = c.requires.under in
     let k = c.turns.invariant.under r.0 r.1 r.2 r.3 r.4 in
-    let a : c.args.arrival ≡ arrives r.0 k.0 = r.4 ∙ arrives_same r.0 r.2 k.0 k.2 in
+    let a : c.args.arrival ≡ arrives r.0 k.0 = r.4 ∙ arrives_same r.0 r.2 k.0 k.2.0 in
     record { going = (r.0, r.1, k.0, k.1.going) }
 
 pub returns-in-Offer-clause-due : goal.returns-in-Offer-clause-due
 returns-in-Offer-clause-due g c = λ arrived w g' u e.
     let k = c.turns.invariant.under arrived w g' u e in
-    let a : c.args.arrival ≡ arrives arrived k.0 = e ∙ arrives_same arrived g' k.0 k.2 in
+    let a : c.args.arrival ≡ arrives arrived k.0 = e ∙ arrives_same arrived g' k.0 k.2.0 in
     let y = k.1.going in
     let m : IsPromised (g.D.Discipline.policy c.turns.discipline) c.turns.progress.clock.rate = record {
       positive = omega (arith, c.turns.progress.least);
@@ -43,7 +43,7 @@ returns-in-Offer-clause-due g c = λ arrived w g' u e.
 pub returns-in-Late-clause-due : goal.returns-in-Late-clause-due
 returns-in-Late-clause-due g c = λ arrived w g' u e.
     let k = c.turns.invariant.under arrived w g' u e in
-    let a : c.args.arrival ≡ arrives arrived k.0 = e ∙ arrives_same arrived g' k.0 k.2 in
+    let a : c.args.arrival ≡ arrives arrived k.0 = e ∙ arrives_same arrived g' k.0 k.2.0 in
     let t = c.in-Late.ensures.turned arrived w k.0 k.1.going a in (
       k.0,
       record { going = t.1; given = k.1.given; fit = k.1.fit },
@@ -55,7 +55,7 @@ pub add_sent-requires-clause-named : goal.add_sent-requires-clause-named
 add_sent-requires-clause-named g c =
     let r = c.requires.under in
     let k = c.turns.invariant.under r.0 r.1 r.2 r.3 r.4 in
-    let a : c.args.arrival ≡ arrives r.0 k.0 = r.4 ∙ arrives_same r.0 r.2 k.0 k.2 in
+    let a : c.args.arrival ≡ arrives r.0 k.0 = r.4 ∙ arrives_same r.0 r.2 k.0 k.2.0 in
     let t = c.in-Send.ensures.turned r.0 r.1 k.0 k.1.going a in
     let m : IsPromised (g.D.Discipline.policy c.turn.new.discipline) c.turn.new.self.clock.rate = record {
       positive = omega (arith, c.turn.new.self.least);
@@ -71,7 +71,7 @@ pub add_sent-requires-clause-within : goal.add_sent-requires-clause-within
 add_sent-requires-clause-within g c =
     let r = c.requires.under in
     let k = c.turns.invariant.under r.0 r.1 r.2 r.3 r.4 in
-    let a : c.args.arrival ≡ arrives r.0 k.0 = r.4 ∙ arrives_same r.0 r.2 k.0 k.2 in
+    let a : c.args.arrival ≡ arrives r.0 k.0 = r.4 ∙ arrives_same r.0 r.2 k.0 k.2.0 in
     let t = c.in-Send.ensures.turned r.0 r.1 k.0 k.1.going a in
     let m : IsPromised (g.D.Discipline.policy c.turn.new.discipline) c.turn.new.self.clock.rate = record {
       positive = omega (arith, c.turn.new.self.least);
@@ -86,7 +86,7 @@ pub turns-smaller : goal.turns-smaller
 turns-smaller g c =
     let r = c.requires.under in
     let k = c.turns.invariant.under r.0 r.1 r.2 r.3 r.4 in
-    let a : c.args.arrival ≡ arrives r.0 k.0 = r.4 ∙ arrives_same r.0 r.2 k.0 k.2 in
+    let a : c.args.arrival ≡ arrives r.0 k.0 = r.4 ∙ arrives_same r.0 r.2 k.0 k.2.0 in
     let t = c.in-Send.ensures.turned r.0 r.1 k.0 k.1.going a in
     let m : IsPromised (g.D.Discipline.policy c.turn.new.discipline) c.turn.new.self.clock.rate = record {
       positive = omega (arith, c.turn.new.self.least);
@@ -106,7 +106,7 @@ turns-preserved g c = record {
   rate = c.turn.ensures.rate ∙ c.turns.invariant.rate;
   under = λ arrived w g' u e.
       let k = c.turns.invariant.under arrived w g' u e in
-      let a : c.args.arrival ≡ arrives arrived k.0 = e ∙ arrives_same arrived g' k.0 k.2 in
+      let a : c.args.arrival ≡ arrives arrived k.0 = e ∙ arrives_same arrived g' k.0 k.2.0 in
       let t = c.in-Send.ensures.turned arrived w k.0 k.1.going a in
       let m : IsPromised (g.D.Discipline.policy c.turn.new.discipline) c.turn.new.self.clock.rate = record {
         positive = omega (arith, c.turn.new.self.least);
@@ -129,7 +129,7 @@ turns-preserved g c = record {
 pub returns-in-Err-clause-broken : goal.returns-in-Err-clause-broken
 returns-in-Err-clause-broken g c = λ arrived w g' u e.
     let k = c.turns.invariant.under arrived w g' u e in
-    let a : c.args.arrival ≡ arrives arrived k.0 = e ∙ arrives_same arrived g' k.0 k.2 in
+    let a : c.args.arrival ≡ arrives arrived k.0 = e ∙ arrives_same arrived g' k.0 k.2.0 in
     let t = c.in-Send.ensures.turned arrived w k.0 k.1.going a in
     let m : IsPromised (g.D.Discipline.policy c.turn.new.discipline) c.turn.new.self.clock.rate = record {
       positive = omega (arith, c.turn.new.self.least);
