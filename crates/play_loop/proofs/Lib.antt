@@ -4,6 +4,7 @@ pub mod HeadLemmas
 pub mod KeptLemmas
 pub mod OutputLemmas
 pub mod PacketLemmas
+pub mod RecordLemmas
 pub mod SentLemmas
 pub mod TextLemmas
 pub mod TurnLemmas

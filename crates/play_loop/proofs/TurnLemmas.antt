@@ -132,3 +132,11 @@ made_of p rate seed arrived g arrival t pos law rise d (inr e) s n =
 pub still_of : (g : List Happened) (t : Turn) → (t ≡ turn.Offer) ⊎ (t ≡ turn.End) → turned t g ≡ g
 still_of g t (inl e) = ap (λ (k : Turn). turned k g) e
 still_of g t (inr e) = ap (λ (k : Turn). turned k g) e
+
+-- under other names of the same policy, rate and seed
+pub same_play : (P : Policy → ℕ → ℕ → Type 0) (p q : Policy) (r s a b : ℕ) → p ≡ q → r ≡ s → a ≡ b → P p r a → P q s b
+same_play P p q r s a b e f h x =
+    let Q : Policy → Type 0 = λ k. P k r a in
+    let R : ℕ → Type 0 = λ k. P q k a in
+    let S : ℕ → Type 0 = λ k. P q s k in
+    subst S h (subst R f (subst Q e x))
