@@ -117,7 +117,7 @@ under_more F place dress names p stood lists limits rate v v' o x w told r top a
           (ap written (sym (records_stay dress arrived more g laws.of_arrivals)))
           (ap (λ (t : List ℕ). fates_header ++ t) (sym (rows_stay names arrived more g laws.of_arrivals)))
           (texts_kept F v v' _ _ _ _ _ _ u.under.given k);
-      fit = fit_push place arrived b u.under.fit (record { class = refl; fits = i.fits });
+      fit = fit_push place arrived b u.under.fit (record { class = refl; some = i.some; short = i.short; fits = i.fits });
     }
 
 pub held_more : (place : List ℕ → Placed) (arrived : List Arrival) (g : List Happened) (a : Arriving) → offered (bare g) ≡ length arrived → a.packet.number ≡ offered (bare g) + 1

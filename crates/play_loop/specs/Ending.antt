@@ -5,7 +5,7 @@ use Rattle.altq_model.specs.Arrivals.{Arrival, arrivals_of, comings}
 use Rattle.altq_model.specs.History.{Happened, bare, offered}
 use Rattle.altq_model.specs.Lawful.{greatest}
 use Rattle.altq_model.specs.Play.{Policy, AreDue, due}
-use Rattle.capture_model.specs.Capture.{Record, Step, Reads, IsLast, IsCapture}
+use Rattle.capture_model.specs.Capture.{Record, Step, Reads, IsLast, IsCapture, place_after, most_bytes}
 use Rattle.pcap_files.specs.declared.fault.CaptureFault.{CaptureFault}
 use Rattle.pcap_files.specs.declared.fault.CaptureFault.TheVariants as capture
 use Rattle.pcap_files.specs.declared.reader.Reader.{Reader}
@@ -32,6 +32,12 @@ pub record IsAll (place : List ℕ → Placed) (bytes : List ℕ) (arrived : Lis
   pub records : List Record
   pub arrivals : arrived ≡ arrivals_of place records
   pub reads : IsCapture bytes records
+  pub size : place_after 24 records ≤ most_bytes
+
+-- and none of them comes after this moment
+pub record IsPast (place : List ℕ → Placed) (bytes : List ℕ) (arrived : List Arrival) (moment : ℕ) : Type 0 where
+  pub all : IsAll place bytes arrived
+  pub passed : greatest 0 all.records ≤ moment
 
 -- they are the arrivals of all records before a fault
 pub record IsFaulty (place : List ℕ → Placed) (bytes : List ℕ) (arrived : List Arrival) (fault : CaptureFault) : Type 0 where
@@ -63,7 +69,7 @@ pub record IsStuck (place : List ℕ → Placed) (told : List ℕ → Type 0) (a
 -- the next sending would end too late, and starts before the last arrival that was read, or no more arrive
 pub record IsOverdue (place : List ℕ → Placed) (p : Policy) (rate seed : ℕ) (told : List ℕ → Type 0) (v : View) (r : Reader) (arrived : List Arrival) (g : List Happened) : Type 0 where
   pub cut : IsCutOff p rate seed (comings arrived) g
-  pub ahead : (bytes : List ℕ) → told bytes → IsAll place bytes arrived ⊎ IsAhead place v r bytes arrived (start_of cut.next.what)
+  pub ahead : (bytes : List ℕ) → told bytes → IsPast place bytes arrived (start_of cut.next.what) ⊎ IsAhead place v r bytes arrived (start_of cut.next.what)
 
 abbrev pub EndsAs : Ending → (place : List ℕ → Placed) → Policy → (rate seed : ℕ) → (told : List ℕ → Type 0) → View → Reader → List Arrival → List Happened → Type 0
 EndsAs Whole place p rate seed told v r arrived g = IsDone place p rate seed told arrived g

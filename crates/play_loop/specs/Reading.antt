@@ -34,9 +34,11 @@ pub record HasRead (place : List ℕ → Placed) (v : View) (r : Reader) (bytes 
   pub arrivals : arrived ≡ arrivals_of place records
   pub latest_is : greatest 0 records ≡ latest
 
--- each arrival has the class of its bytes, and is no shorter than they are
+-- an arrival has the class of its bytes, is within the lengths of a capture, and no shorter than its bytes
 pub record IsFit (place : List ℕ → Placed) (a : Arrival) : Type 0 where
   pub class : a.class ≡ (place a.bytes).class
+  pub some : 1 ≤ a.len
+  pub short : a.len ≤ 262144
   pub fits : length a.bytes ≤ a.len
 
 abbrev pub AreFit : (List ℕ → Placed) → List Arrival → Type 0

@@ -111,7 +111,7 @@ pub fn play<D: Discipline, C: Classify, F: Files>(
         records: Vec::new(alloc),
         rows: Vec::new(alloc),
     };
-    let played = play_records(
+    let ending = match play_records(
         alloc,
         &mut reader,
         &mut progress,
@@ -121,8 +121,7 @@ pub fn play<D: Discipline, C: Classify, F: Files>(
         words,
         &mut outputs,
         files,
-    );
-    let ending = match played {
+    ) {
         Ok(ending) => ending,
         Err(fault) => return Err(fault),
     };
@@ -160,7 +159,8 @@ fn play_records<D: Discipline, C: Classify, F: Files>(
     ensures ended { IfOk result (λ ending. (arrived : List Arrival) × (g : List Happened)
         × IsUnderway (C.placed classify.now) (C.dressed classify.now) (name_of names.now) (D.policy discipline.new) (D.stands discipline.new) (D.lists discipline.new) (D.limits discipline.new) (D.link_rate discipline.new) (F.view files.new) outputs.new progress.new arrived words.new g
         × EndsAs ending (C.placed classify.now) (D.policy discipline.old) progress.old.clock.rate words.old.seed (λ bytes. IsTrue (F.view files.old).tells × StandsFor (F.view files.old) reader.old bytes [])
-        (F.view files.new) reader.new arrived g) }
+        (F.view files.new) reader.new arrived g
+        × AreFirst (C.placed classify.now) (D.policy discipline.old) progress.old.clock.rate words.old.seed (λ bytes. IsTrue (F.view files.old).tells × StandsFor (F.view files.old) reader.old bytes []) arrived g) }
     ensures broken { OnErr result ((arrived : List Arrival) × (g : List Happened)
         × IsBroken (C.dressed classify.now) (name_of names.now) (D.policy discipline.old) progress.old.clock.rate words.old.seed (F.view files.new) outputs.old arrived g
         × AreFirst (C.placed classify.now) (D.policy discipline.old) progress.old.clock.rate words.old.seed (λ bytes. IsTrue (F.view files.old).tells × StandsFor (F.view files.old) reader.old bytes []) arrived g) }

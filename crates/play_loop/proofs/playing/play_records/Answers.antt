@@ -13,6 +13,7 @@ use Rattle.pcap_files.specs.declared.record.Record.{Record as Read}
 use Rattle.pcap_files.specs.Reading.{Answers, Counts, IsWhole, StandsFor}
 use Rattle.play_base.specs.View.{ReadFault}
 use Rattle.play_base.proofs.ViewLaws.{still_there}
+use Rattle.play_laws.proofs.ArrivalLemmas.{comings_length}
 use Rattle.play_core.specs.declared.totals.Totals.{Totals}
 use Rattle.play_core.specs.Ended.{IsBegun, IsCutOff}
 use Rattle.play_core.proofs.GoingLemmas.{IsPromised}
@@ -28,9 +29,9 @@ use Rattle.play_loop.specs.Reading.{HasRead, arrival_of}
 use Rattle.play_loop.specs.Underway.{DueIs, OfferedIs}
 use Rattle.play_loop.proofs.KeptLemmas.{played_nothing, then_took, then_wrote}
 use Rattle.play_loop.proofs.OutputLemmas.{fronts_files, same_trans, there_same}
-use Rattle.play_loop.proofs.PacketLemmas.{held_same}
+use Rattle.play_loop.proofs.PacketLemmas.{before_stays, held_same}
 use Rattle.play_loop.proofs.RecordLemmas.{IsRead, ahead_of, apart_played, cause_since, cut_starts, first_of_all, first_of_read, held_more, last_more, none_arrives, other_same, read_kept, read_record, read_since, under_kept, under_more}
-use Rattle.play_loop.proofs.TurnLemmas.{same_play}
+use Rattle.play_loop.proofs.TurnLemmas.{offered_stays, same_begun, same_play}
 use Rattle.play_loop.proofs.playing.play_records.Goals as goal
 
 pub records-init : goal.records-init
@@ -56,7 +57,10 @@ records-init g c = record {
 
 pub returns-in-Err-clause-ended : goal.returns-in-Err-clause-ended
 returns-in-Err-clause-ended g c =
-    let z = c.records.invariant.reading in (
+    let z = c.records.invariant.reading in
+    let stay = offered_stays (g.D.Discipline.policy c.records.discipline) c.records.progress.clock.rate c.records.words.seed z.0 z.1 (omega (arith, z.2.offers, comings_length z.0)) z.2.last z.2.under.going.begun.events in
+    let x : AreFirst (g.C.Classify.placed c.args.classify.now) (g.D.Discipline.policy c.records.discipline) c.records.progress.clock.rate c.records.words.seed (λ bytes. IsTrue (g.F.Files.view c.args.files.now).tells × StandsFor (g.F.Files.view c.args.files.now) c.args.reader.now bytes []) z.0 z.1 = λ bytes t every last y l. (let h = z.2.read bytes t in
+    first_of_read (g.C.Classify.placed c.args.classify.now) (g.D.Discipline.policy c.records.discipline) c.records.progress.clock.rate c.records.words.seed (g.F.Files.view c.records.files) c.records.reader bytes z.0 c.records.latest z.1 h stay every last y l) in (
       z.0,
       z.1,
       under_kept _ _ _ _ _ _ _ _ _ _ _ _ _ _ _ _ z.2.under c.next.ensures.some.1.keeps,
@@ -65,6 +69,7 @@ returns-in-Err-clause-ended g c =
         last = z.2.last;
         faulty = λ bytes t. (let h = z.2.read bytes t in record { records = h.records; arrivals = h.arrivals; reads = c.in-Err.ensures.fault bytes h.records h.stands });
       },
+      same_play (λ (p : Policy) (k l : ℕ). AreFirst (g.C.Classify.placed c.args.classify.now) p k l (λ bytes. IsTrue (g.F.Files.view c.args.files.now).tells × StandsFor (g.F.Files.view c.args.files.now) c.args.reader.now bytes []) z.0 z.1) _ _ _ _ _ _ c.records.invariant.policy c.records.invariant.rate c.records.invariant.seed x,
     )
 
 pub returns-in-Err-clause-others : goal.returns-in-Err-clause-others
@@ -81,12 +86,15 @@ returns-in-Ok-Made-clause-ended g c =
     let W : Option Read → Type 0 = λ o. IfNone o (IsWhole (g.F.Files.view c.records.files) c.records.reader) in
     let whole : IsWhole (g.F.Files.view c.records.files) c.records.reader = subst W c.in_default.is c.in-Ok.ensures.end in
     let all : (bytes : List ℕ) → IsTrue (g.F.Files.view c.args.files.now).tells × StandsFor (g.F.Files.view c.args.files.now) c.args.reader.now bytes [] → IsAll (g.C.Classify.placed c.args.classify.now) bytes z.0 =
-    λ bytes t. (let h = z.2.read bytes t in record { records = h.records; arrivals = h.arrivals; reads = whole bytes h.records h.stands }) in
+    λ bytes t. (let h = z.2.read bytes t in record { records = h.records; arrivals = h.arrivals; reads = whole bytes h.records h.stands; size = omega (arith, h.stands.place, c.records.reader.progress.placed) }) in
     let d = c.in-Ok-Made.ensures.due z.0 c.records.words z.1 (under_kept _ _ _ _ _ _ _ _ _ _ _ _ _ _ _ _ z.2.under c.next.ensures.some.1.keeps) (none_arrives z.0 z.1 z.2.offers) in
     let Q : Due → Type 0 = λ k. DueIs k (g.D.Discipline.policy c.records.discipline) c.records.progress.clock.rate c.records.words.seed z.0 d.0 None in
     let made = subst Q c.in-Ok-Made.field-0-is d.3 in
     let x : IsDone (g.C.Classify.placed c.args.classify.now) (g.D.Discipline.policy c.records.discipline) c.records.progress.clock.rate c.records.words.seed (λ bytes. IsTrue (g.F.Files.view c.args.files.now).tells × StandsFor (g.F.Files.view c.args.files.now) c.args.reader.now bytes []) z.0 d.0 = record { done = made.all refl; all = all } in
-    (z.0, d.0, d.1, same_play (λ (p : Policy) (k l : ℕ). IsDone (g.C.Classify.placed c.args.classify.now) p k l (λ bytes. IsTrue (g.F.Files.view c.args.files.now).tells × StandsFor (g.F.Files.view c.args.files.now) c.args.reader.now bytes []) z.0 d.0) _ _ _ _ _ _ c.records.invariant.policy c.records.invariant.rate c.records.invariant.seed x)
+    let f : AreFirst (g.C.Classify.placed c.args.classify.now) (g.D.Discipline.policy c.records.discipline) c.records.progress.clock.rate c.records.words.seed (λ bytes. IsTrue (g.F.Files.view c.args.files.now).tells × StandsFor (g.F.Files.view c.args.files.now) c.args.reader.now bytes []) z.0 d.0 =
+    λ bytes t every last y l. first_of_all (g.C.Classify.placed c.args.classify.now) (g.D.Discipline.policy c.records.discipline) c.records.progress.clock.rate c.records.words.seed bytes z.0 d.0 (all bytes t) (same_begun _ _ _ _ c.records.words.seed (comings z.0) d.0 c.in-Ok-Made.ensures.policy c.in-Ok-Made.ensures.rate d.1.going.begun).events every last y l in
+    (z.0, d.0, d.1, same_play (λ (p : Policy) (k l : ℕ). IsDone (g.C.Classify.placed c.args.classify.now) p k l (λ bytes. IsTrue (g.F.Files.view c.args.files.now).tells × StandsFor (g.F.Files.view c.args.files.now) c.args.reader.now bytes []) z.0 d.0) _ _ _ _ _ _ c.records.invariant.policy c.records.invariant.rate c.records.invariant.seed x,
+    same_play (λ (p : Policy) (k l : ℕ). AreFirst (g.C.Classify.placed c.args.classify.now) p k l (λ bytes. IsTrue (g.F.Files.view c.args.files.now).tells × StandsFor (g.F.Files.view c.args.files.now) c.args.reader.now bytes []) z.0 d.0) _ _ _ _ _ _ c.records.invariant.policy c.records.invariant.rate c.records.invariant.seed f)
 
 pub returns-in-Ok-Late-clause-ended : goal.returns-in-Ok-Late-clause-ended
 returns-in-Ok-Late-clause-ended g c =
@@ -94,13 +102,23 @@ returns-in-Ok-Late-clause-ended g c =
     let W : Option Read → Type 0 = λ o. IfNone o (IsWhole (g.F.Files.view c.records.files) c.records.reader) in
     let whole : IsWhole (g.F.Files.view c.records.files) c.records.reader = subst W c.in_default.is c.in-Ok.ensures.end in
     let all : (bytes : List ℕ) → IsTrue (g.F.Files.view c.args.files.now).tells × StandsFor (g.F.Files.view c.args.files.now) c.args.reader.now bytes [] → IsAll (g.C.Classify.placed c.args.classify.now) bytes z.0 =
-    λ bytes t. (let h = z.2.read bytes t in record { records = h.records; arrivals = h.arrivals; reads = whole bytes h.records h.stands }) in
+    λ bytes t. (let h = z.2.read bytes t in record { records = h.records; arrivals = h.arrivals; reads = whole bytes h.records h.stands; size = omega (arith, h.stands.place, c.records.reader.progress.placed) }) in
     let d = c.in-Ok-Late.ensures.due z.0 c.records.words z.1 (under_kept _ _ _ _ _ _ _ _ _ _ _ _ _ _ _ _ z.2.under c.next.ensures.some.1.keeps) (none_arrives z.0 z.1 z.2.offers) in
     let Q : Due → Type 0 = λ k. DueIs k (g.D.Discipline.policy c.records.discipline) c.records.progress.clock.rate c.records.words.seed z.0 d.0 None in
     let cut : IsCutOff (g.D.Discipline.policy c.records.discipline) c.records.progress.clock.rate c.records.words.seed (comings z.0) d.0 = subst Q c.in-Ok-Late.field-0-is d.3 in
+    let m : IsPromised (g.D.Discipline.policy c.records.discipline) c.records.progress.clock.rate = record {
+      positive = omega (arith, c.records.progress.least);
+      lawful = g.met.D.Discipline.lawful c.records.discipline z.2.under.going.told z.2.under.going.stands;
+      steady = g.met.D.Discipline.steady c.records.discipline z.2.under.going.told z.2.under.going.stands;
+      distinct = g.met.D.Discipline.distinct c.records.discipline z.2.under.going.told z.2.under.going.stands;
+    } in
+    let starts = cut_starts (g.D.Discipline.policy c.records.discipline) c.records.progress.clock.rate c.records.words.seed (comings z.0) d.0 m d.1.going.rising cut in
+    let f : AreFirst (g.C.Classify.placed c.args.classify.now) (g.D.Discipline.policy c.records.discipline) c.records.progress.clock.rate c.records.words.seed (λ bytes. IsTrue (g.F.Files.view c.args.files.now).tells × StandsFor (g.F.Files.view c.args.files.now) c.args.reader.now bytes []) z.0 d.0 =
+    λ bytes t every last y l. first_of_all (g.C.Classify.placed c.args.classify.now) (g.D.Discipline.policy c.records.discipline) c.records.progress.clock.rate c.records.words.seed bytes z.0 d.0 (all bytes t) cut.begun.events every last y l in
     let x : IsOverdue (g.C.Classify.placed c.args.classify.now) (g.D.Discipline.policy c.records.discipline) c.records.progress.clock.rate c.records.words.seed (λ bytes. IsTrue (g.F.Files.view c.args.files.now).tells × StandsFor (g.F.Files.view c.args.files.now) c.args.reader.now bytes []) (g.F.Files.view c.send_due.new.files) c.next.new.self z.0 d.0 =
-    record { cut = cut; ahead = λ bytes t. inl (all bytes t) } in
-    (z.0, d.0, d.1, same_play (λ (p : Policy) (k l : ℕ). IsOverdue (g.C.Classify.placed c.args.classify.now) p k l (λ bytes. IsTrue (g.F.Files.view c.args.files.now).tells × StandsFor (g.F.Files.view c.args.files.now) c.args.reader.now bytes []) (g.F.Files.view c.send_due.new.files) c.next.new.self z.0 d.0) _ _ _ _ _ _ c.records.invariant.policy c.records.invariant.rate c.records.invariant.seed x)
+    record { cut = cut; ahead = λ bytes t. (let h = z.2.read bytes t in inl (record { all = all bytes t; passed = omega (arith, h.latest_is, z.2.newest, d.2.1, starts.after) })) } in
+    (z.0, d.0, d.1, same_play (λ (p : Policy) (k l : ℕ). IsOverdue (g.C.Classify.placed c.args.classify.now) p k l (λ bytes. IsTrue (g.F.Files.view c.args.files.now).tells × StandsFor (g.F.Files.view c.args.files.now) c.args.reader.now bytes []) (g.F.Files.view c.send_due.new.files) c.next.new.self z.0 d.0) _ _ _ _ _ _ c.records.invariant.policy c.records.invariant.rate c.records.invariant.seed x,
+    same_play (λ (p : Policy) (k l : ℕ). AreFirst (g.C.Classify.placed c.args.classify.now) p k l (λ bytes. IsTrue (g.F.Files.view c.args.files.now).tells × StandsFor (g.F.Files.view c.args.files.now) c.args.reader.now bytes []) z.0 d.0) _ _ _ _ _ _ c.records.invariant.policy c.records.invariant.rate c.records.invariant.seed f)
 
 pub returns-in-Ok-Made-clause-others : goal.returns-in-Ok-Made-clause-others
 returns-in-Ok-Made-clause-others g c = then_wrote _ _ _ c.args.reader.now.file c.args.outputs.now.departures c.args.outputs.now.fates c.records.outputs.departures c.records.outputs.fates c.requires.under.given.departures.holds.there c.requires.under.given.fates.holds.there c.records.invariant.same.departures c.records.invariant.same.fates (then_took _ _ _ c.args.reader.now.file c.args.outputs.now.departures c.args.outputs.now.fates c.records.reader.file c.requires.under.given.departures.holds.there c.requires.under.given.fates.holds.there c.records.invariant.file c.records.invariant.others c.next.ensures.some) c.in-Ok-Made.ensures.others
@@ -114,7 +132,7 @@ returns-in-Err-send_due-clause-broken g c =
     let W : Option Read → Type 0 = λ o. IfNone o (IsWhole (g.F.Files.view c.records.files) c.records.reader) in
     let whole : IsWhole (g.F.Files.view c.records.files) c.records.reader = subst W c.in_default.is c.in-Ok.ensures.end in
     let all : (bytes : List ℕ) → IsTrue (g.F.Files.view c.args.files.now).tells × StandsFor (g.F.Files.view c.args.files.now) c.args.reader.now bytes [] → IsAll (g.C.Classify.placed c.args.classify.now) bytes z.0 =
-    λ bytes t. (let h = z.2.read bytes t in record { records = h.records; arrivals = h.arrivals; reads = whole bytes h.records h.stands }) in
+    λ bytes t. (let h = z.2.read bytes t in record { records = h.records; arrivals = h.arrivals; reads = whole bytes h.records h.stands; size = omega (arith, h.stands.place, c.records.reader.progress.placed) }) in
     let b = c.in-Err-send_due.ensures.broken z.0 c.records.words z.1 (under_kept _ _ _ _ _ _ _ _ _ _ _ _ _ _ _ _ z.2.under c.next.ensures.some.1.keeps) (none_arrives z.0 z.1 z.2.offers) in
     let x : AreFirst (g.C.Classify.placed c.args.classify.now) (g.D.Discipline.policy c.records.discipline) c.records.progress.clock.rate c.records.words.seed (λ bytes. IsTrue (g.F.Files.view c.args.files.now).tells × StandsFor (g.F.Files.view c.args.files.now) c.args.reader.now bytes []) z.0 b.0 =
     λ bytes t every last y l. first_of_all (g.C.Classify.placed c.args.classify.now) (g.D.Discipline.policy c.records.discipline) c.records.progress.clock.rate c.records.words.seed bytes z.0 b.0 (all bytes t) b.1.begun.events every last y l in (
@@ -264,7 +282,12 @@ returns-in-Ok-Late-play_packet-clause-ended g c =
           (start_of cut.next.what) is h (answer bytes h.records h.stands) c.in-Ok.ensures.sound there (other t.0) c.in-Ok-Late-play_packet.ensures.others
           (omega (arith, z.2.newest, o.1.1, starts.after)) high));
     } in
-    (more, d.0, d.1, same_play (λ (p : Policy) (k l : ℕ). IsOverdue (g.C.Classify.placed c.args.classify.now) p k l (λ bytes. IsTrue (g.F.Files.view c.args.files.now).tells × StandsFor (g.F.Files.view c.args.files.now) c.args.reader.now bytes []) (g.F.Files.view c.play_packet.new.files) c.next.new.self more d.0) _ _ _ _ _ _ c.records.invariant.policy c.records.invariant.rate c.records.invariant.seed x)
+    let stay = before_stays (g.C.Classify.placed c.args.classify.now) (g.D.Discipline.policy c.records.discipline) c.records.progress.clock.rate c.records.words.seed more z.1 d.0 c.arriving_of-arriving.result held o.1.0 cut.begun.events in
+    let f : AreFirst (g.C.Classify.placed c.args.classify.now) (g.D.Discipline.policy c.records.discipline) c.records.progress.clock.rate c.records.words.seed (λ bytes. IsTrue (g.F.Files.view c.args.files.now).tells × StandsFor (g.F.Files.view c.args.files.now) c.args.reader.now bytes []) more d.0 = λ bytes t every last y l. (let h = z.2.read bytes t in
+    first_of_read (g.C.Classify.placed c.args.classify.now) (g.D.Discipline.policy c.records.discipline) c.records.progress.clock.rate c.records.words.seed (g.F.Files.view c.next.new.files) c.next.new.self bytes more c.arriving_of-arriving.result.packet.at d.0
+    (read_record (g.C.Classify.placed c.args.classify.now) (g.F.Files.view c.records.files) (g.F.Files.view c.next.new.files) c.records.reader c.next.new.self bytes z.0 c.records.latest c.in-Some.record c.arriving_of-arriving.result is h (answer bytes h.records h.stands)) stay every last y l) in
+    (more, d.0, d.1, same_play (λ (p : Policy) (k l : ℕ). IsOverdue (g.C.Classify.placed c.args.classify.now) p k l (λ bytes. IsTrue (g.F.Files.view c.args.files.now).tells × StandsFor (g.F.Files.view c.args.files.now) c.args.reader.now bytes []) (g.F.Files.view c.play_packet.new.files) c.next.new.self more d.0) _ _ _ _ _ _ c.records.invariant.policy c.records.invariant.rate c.records.invariant.seed x,
+    same_play (λ (p : Policy) (k l : ℕ). AreFirst (g.C.Classify.placed c.args.classify.now) p k l (λ bytes. IsTrue (g.F.Files.view c.args.files.now).tells × StandsFor (g.F.Files.view c.args.files.now) c.args.reader.now bytes []) more d.0) _ _ _ _ _ _ c.records.invariant.policy c.records.invariant.rate c.records.invariant.seed f)
 
 pub returns-in-Ok-Late-play_packet-clause-others : goal.returns-in-Ok-Late-play_packet-clause-others
 returns-in-Ok-Late-play_packet-clause-others g c = then_wrote _ _ _ c.args.reader.now.file c.args.outputs.now.departures c.args.outputs.now.fates c.records.outputs.departures c.records.outputs.fates c.requires.under.given.departures.holds.there c.requires.under.given.fates.holds.there c.records.invariant.same.departures c.records.invariant.same.fates (then_took _ _ _ c.args.reader.now.file c.args.outputs.now.departures c.args.outputs.now.fates c.records.reader.file c.requires.under.given.departures.holds.there c.requires.under.given.fates.holds.there c.records.invariant.file c.records.invariant.others c.next.ensures.some) c.in-Ok-Late-play_packet.ensures.others
