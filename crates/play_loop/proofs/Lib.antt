@@ -4,7 +4,9 @@ pub mod HeadLemmas
 pub mod KeptLemmas
 pub mod OutputLemmas
 pub mod PacketLemmas
+pub mod PlayLemmas
 pub mod RecordLemmas
 pub mod SentLemmas
 pub mod TextLemmas
 pub mod TurnLemmas
+pub mod WeightLemmas

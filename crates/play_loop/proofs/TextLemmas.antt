@@ -27,7 +27,7 @@ use Rattle.play_core.specs.Turns.{Departs, departs, handed_back}
 use Rattle.play_loop.specs.Outputs.{record_of, sent_row, dropped_row}
 use Rattle.play_loop.specs.Reading.{IsFit, AreFit}
 
-fit_in : (place : List ℕ → Placed) (xs : List Arrival) (k : ℕ) (b : Coming) → AreFit place xs → slice_get (comings xs) k ≡ Some b
+pub fit_in : (place : List ℕ → Placed) (xs : List Arrival) (k : ℕ) (b : Coming) → AreFit place xs → slice_get (comings xs) k ≡ Some b
     → IsFit place (unwrap_or (slice_get xs k) no_arrival)
 fit_in place [] k b f e = absurd (cc)
 fit_in place (x ∷ xs) zero b f e = f.0

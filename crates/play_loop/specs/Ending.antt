@@ -55,6 +55,11 @@ pub record IsAhead (place : List ℕ → Placed) (v : View) (r : Reader) (bytes 
   pub passed : greatest 0 before ≤ moment
   pub later : moment < greatest 0 (before ++ last ∷ [])
 
+-- of all complete records they are the first arrivals, and these are the first events of the play
+abbrev pub AreFirst : (place : List ℕ → Placed) → Policy → (rate seed : ℕ) → (told : List ℕ → Type 0) → List Arrival → List Happened → Type 0
+AreFirst place p rate seed told arrived g = (bytes : List ℕ) → told bytes → (all : List Record) (last : Step) → Reads bytes all last → IsLast last
+    → (more : List Arrival) × (arrivals_of place all ≡ arrived ++ more) × AreDue p rate seed (comings (arrived ++ more)) g
+
 -- every event was made
 pub record IsDone (place : List ℕ → Placed) (p : Policy) (rate seed : ℕ) (told : List ℕ → Type 0) (arrived : List Arrival) (g : List Happened) : Type 0 where
   pub done : due p rate seed (comings arrived) g ≡ None
@@ -69,14 +74,10 @@ pub record IsStuck (place : List ℕ → Placed) (told : List ℕ → Type 0) (a
 -- the next sending would end too late, and starts before the last arrival that was read, or no more arrive
 pub record IsOverdue (place : List ℕ → Placed) (p : Policy) (rate seed : ℕ) (told : List ℕ → Type 0) (v : View) (r : Reader) (arrived : List Arrival) (g : List Happened) : Type 0 where
   pub cut : IsCutOff p rate seed (comings arrived) g
+  pub first : AreFirst place p rate seed told arrived (cut.next ∷ g)
   pub ahead : (bytes : List ℕ) → told bytes → IsPast place bytes arrived (start_of cut.next.what) ⊎ IsAhead place v r bytes arrived (start_of cut.next.what)
 
 abbrev pub EndsAs : Ending → (place : List ℕ → Placed) → Policy → (rate seed : ℕ) → (told : List ℕ → Type 0) → View → Reader → List Arrival → List Happened → Type 0
 EndsAs Whole place p rate seed told v r arrived g = IsDone place p rate seed told arrived g
 EndsAs (Cut fault) place p rate seed told v r arrived g = IsStuck place told arrived g fault
 EndsAs Late place p rate seed told v r arrived g = IsOverdue place p rate seed told v r arrived g
-
--- of all complete records they are the first arrivals, and these are the first events of the play
-abbrev pub AreFirst : (place : List ℕ → Placed) → Policy → (rate seed : ℕ) → (told : List ℕ → Type 0) → List Arrival → List Happened → Type 0
-AreFirst place p rate seed told arrived g = (bytes : List ℕ) → told bytes → (all : List Record) (last : Step) → Reads bytes all last → IsLast last
-    → (more : List Arrival) × (arrivals_of place all ≡ arrived ++ more) × AreDue p rate seed (comings (arrived ++ more)) g

@@ -14,6 +14,7 @@ use Rattle.pcap_files.specs.Reading.{Answers, Counts, IsWhole, StandsFor}
 use Rattle.play_base.specs.View.{ReadFault}
 use Rattle.play_base.proofs.ViewLaws.{still_there}
 use Rattle.play_laws.proofs.ArrivalLemmas.{comings_length}
+use Rattle.play_laws.proofs.OneLemmas.{later_arrivals}
 use Rattle.play_core.specs.declared.totals.Totals.{Totals}
 use Rattle.play_core.specs.Ended.{IsBegun, IsCutOff}
 use Rattle.play_core.proofs.GoingLemmas.{IsPromised}
@@ -26,7 +27,7 @@ use Rattle.play_loop.specs.Ending.{AreFirst, IsAll, IsAhead, IsDone, IsOverdue}
 use Rattle.play_loop.specs.Kept.{IsOther}
 use Rattle.play_loop.specs.Played.{start_of}
 use Rattle.play_loop.specs.Reading.{HasRead, arrival_of}
-use Rattle.play_loop.specs.Underway.{DueIs, OfferedIs}
+use Rattle.play_loop.specs.Underway.{DueIs, OfferedIs, StayDue}
 use Rattle.play_loop.proofs.KeptLemmas.{played_nothing, then_took, then_wrote}
 use Rattle.play_loop.proofs.OutputLemmas.{fronts_files, same_trans, there_same}
 use Rattle.play_loop.proofs.PacketLemmas.{before_stays, held_same}
@@ -116,7 +117,10 @@ returns-in-Ok-Late-clause-ended g c =
     let f : AreFirst (g.C.Classify.placed c.args.classify.now) (g.D.Discipline.policy c.records.discipline) c.records.progress.clock.rate c.records.words.seed (λ bytes. IsTrue (g.F.Files.view c.args.files.now).tells × StandsFor (g.F.Files.view c.args.files.now) c.args.reader.now bytes []) z.0 d.0 =
     λ bytes t every last y l. first_of_all (g.C.Classify.placed c.args.classify.now) (g.D.Discipline.policy c.records.discipline) c.records.progress.clock.rate c.records.words.seed bytes z.0 d.0 (all bytes t) cut.begun.events every last y l in
     let x : IsOverdue (g.C.Classify.placed c.args.classify.now) (g.D.Discipline.policy c.records.discipline) c.records.progress.clock.rate c.records.words.seed (λ bytes. IsTrue (g.F.Files.view c.args.files.now).tells × StandsFor (g.F.Files.view c.args.files.now) c.args.reader.now bytes []) (g.F.Files.view c.send_due.new.files) c.next.new.self z.0 d.0 =
-    record { cut = cut; ahead = λ bytes t. (let h = z.2.read bytes t in inl (record { all = all bytes t; passed = omega (arith, h.latest_is, z.2.newest, d.2.1, starts.after) })) } in
+    record {
+      cut = cut;
+      first = λ bytes t every last y l. first_of_all (g.C.Classify.placed c.args.classify.now) (g.D.Discipline.policy c.records.discipline) c.records.progress.clock.rate c.records.words.seed bytes z.0 (cut.next ∷ d.0) (all bytes t) (cut.is_due, cut.begun.events) every last y l;
+      ahead = λ bytes t. (let h = z.2.read bytes t in inl (record { all = all bytes t; passed = omega (arith, h.latest_is, z.2.newest, d.2.1, starts.after) })) } in
     (z.0, d.0, d.1, same_play (λ (p : Policy) (k l : ℕ). IsOverdue (g.C.Classify.placed c.args.classify.now) p k l (λ bytes. IsTrue (g.F.Files.view c.args.files.now).tells × StandsFor (g.F.Files.view c.args.files.now) c.args.reader.now bytes []) (g.F.Files.view c.send_due.new.files) c.next.new.self z.0 d.0) _ _ _ _ _ _ c.records.invariant.policy c.records.invariant.rate c.records.invariant.seed x,
     same_play (λ (p : Policy) (k l : ℕ). AreFirst (g.C.Classify.placed c.args.classify.now) p k l (λ bytes. IsTrue (g.F.Files.view c.args.files.now).tells × StandsFor (g.F.Files.view c.args.files.now) c.args.reader.now bytes []) z.0 d.0) _ _ _ _ _ _ c.records.invariant.policy c.records.invariant.rate c.records.invariant.seed f)
 
@@ -275,8 +279,14 @@ returns-in-Ok-Late-play_packet-clause-ended g c =
     let starts = cut_starts (g.D.Discipline.policy c.records.discipline) c.records.progress.clock.rate c.records.words.seed (comings more) d.0 m d.1.going.rising cut in
     let still = held_same (g.C.Classify.placed c.args.classify.now) more z.1 d.0 c.arriving_of-arriving.result o.1.0 held in
     let high = starts.before (coming_of (arrival_of (g.C.Classify.placed c.args.classify.now) c.arriving_of-arriving.result)) (is_coming more d.0 (arrival_of (g.C.Classify.placed c.args.classify.now) c.arriving_of-arriving.result) still.there).seen in
+    let inside = (is_coming more d.0 (arrival_of (g.C.Classify.placed c.args.classify.now) c.arriving_of-arriving.result) still.there).inside in
+    let staying : StayDue (g.D.Discipline.policy c.records.discipline) c.records.progress.clock.rate c.records.words.seed more (cut.next ∷ d.0) =
+    λ others. later_arrivals (g.D.Discipline.policy c.records.discipline) c.records.progress.clock.rate c.records.words.seed (comings more) others cut.next d.0 (omega (arith, inside, comings_length more)) (cut.is_due, cut.begun.events) in
     let x : IsOverdue (g.C.Classify.placed c.args.classify.now) (g.D.Discipline.policy c.records.discipline) c.records.progress.clock.rate c.records.words.seed (λ bytes. IsTrue (g.F.Files.view c.args.files.now).tells × StandsFor (g.F.Files.view c.args.files.now) c.args.reader.now bytes []) (g.F.Files.view c.play_packet.new.files) c.next.new.self more d.0 = record {
       cut = cut;
+      first = λ bytes t every last y l. (let h = z.2.read bytes t in
+          first_of_read (g.C.Classify.placed c.args.classify.now) (g.D.Discipline.policy c.records.discipline) c.records.progress.clock.rate c.records.words.seed (g.F.Files.view c.next.new.files) c.next.new.self bytes more c.arriving_of-arriving.result.packet.at (cut.next ∷ d.0)
+          (read_record (g.C.Classify.placed c.args.classify.now) (g.F.Files.view c.records.files) (g.F.Files.view c.next.new.files) c.records.reader c.next.new.self bytes z.0 c.records.latest c.in-Some.record c.arriving_of-arriving.result is h (answer bytes h.records h.stands)) staying every last y l);
       ahead = λ bytes t. (let h = z.2.read bytes t in
           inr (ahead_of (g.C.Classify.placed c.args.classify.now) (g.F.Files.view c.records.files) (g.F.Files.view c.next.new.files) (g.F.Files.view c.play_packet.new.files) c.records.reader c.next.new.self c.records.outputs.departures c.records.outputs.fates bytes z.0 c.records.latest c.in-Some.record c.arriving_of-arriving.result
           (start_of cut.next.what) is h (answer bytes h.records h.stands) c.in-Ok.ensures.sound there (other t.0) c.in-Ok-Late-play_packet.ensures.others

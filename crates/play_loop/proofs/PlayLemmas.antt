@@ -1,0 +1,233 @@
+-- From what was read, decided and written to the play.
+use Rattle.std.proofs.Common.{◌≡◌, ◌≤◌, ◌<◌, ◌++◌, ◌∙◌, ◌+◌, ◌⊎◌, inl, inr, ℕ, max, List, [], ◌∷◌, length, Some, refl, ap, sym, subst, arith, append_assoc, append-nil}
+use Rattle.std.specs.Prelude.{slice_get, IsSome, IsTrue}
+use Rattle.altq_model.specs.declared.Placed.{Placed}
+use Rattle.altq_model.specs.Arrivals.{Arrival, arrivals_from, arrivals_of, comings}
+use Rattle.altq_model.specs.Departures.{departed, departures}
+use Rattle.altq_model.specs.History.{Coming, Happened, bare, offered, journal}
+use Rattle.altq_model.specs.Lawful.{IsLawful, IsSteady, AreRising, RiseFrom, greatest}
+use Rattle.altq_model.specs.Play.{Policy, AreDue}
+use Rattle.altq_model.specs.Texts.{fates, fates_header, fate_rows}
+use Rattle.capture_model.specs.Capture.{Record, Step, End, Fault, Header, Reads, ReadsFrom, IsCapture, IsLast, place_after}
+use Rattle.capture_model.specs.Header.{capture_header}
+use Rattle.capture_model.specs.Written.{written}
+use Rattle.pcap_files.specs.declared.fault.CaptureFault.{CaptureFault}
+use Rattle.pcap_files.specs.declared.fault.CaptureFault.TheVariants as capture
+use Rattle.pcap_files.specs.declared.reader.Reader.{Reader}
+use Rattle.pcap_files.specs.Reading.{IsHeadFault, ReadsTo, StandsFor}
+use Rattle.pcap_files.proofs.ReadingLaws.{answered_front, one_reading, taken}
+use Rattle.play_base.specs.View.{View, Keeps, ReadFault}
+use Rattle.play_base.specs.Holds.{Apart, HoldsAt}
+use Rattle.play_base.proofs.ViewLaws.{part_of_there, rose_before}
+use Rattle.play_laws.specs.Events.{HasLaws}
+use Rattle.play_laws.proofs.AllLaws.{due_laws}
+use Rattle.play_laws.proofs.ArrivalLemmas.{arrivals_append, arrivals_length, arrivals_rise, comings_append, comings_length}
+use Rattle.play_laws.proofs.BusyLemmas.{is_busy}
+use Rattle.play_laws.proofs.DepartureLemmas.{records_stay, rows_stay}
+use Rattle.play_core.specs.declared.totals.Totals.{Totals}
+use Rattle.play_core.specs.Ended.{IsBegun, IsCutOff}
+use Rattle.play_core.specs.Finished.{EndsWithOffer, IsStopped}
+use Rattle.play_core.specs.Totals.{AreTotals}
+use Rattle.play_loop.specs.declared.fault.Opened.{Opened}
+use Rattle.play_loop.specs.declared.fault.PlayFault.{PlayFault}
+use Rattle.play_loop.specs.Ending.{IsAhead, IsAll, IsPast, capture_fault}
+use Rattle.play_loop.specs.Kept.{OnlyWrote}
+use Rattle.play_loop.specs.Outputs.{FrontsAre, TextsAre}
+use Rattle.play_loop.specs.Played.{Explains, HasOffered, HasStopped, HoldTexts, IsStanding, OfArrivals, Streams, TookUpTo, WasCutOff, start_of}
+use Rattle.play_loop.specs.Setup.{Setup, arrivals_in, departures_of, fates_of}
+use Rattle.play_loop.proofs.GatheredLaws.{front_same}
+use Rattle.play_loop.proofs.OutputLemmas.{fronts_of_texts}
+
+-- a setup whose policy and rate a discipline and a link promise
+pub record IsSound (x : Setup) : Type 0 where
+  pub positive : 0 < x.rate
+  pub lawful : IsLawful x.policy
+  pub steady : IsSteady x.policy
+
+-- before any event only fronts of the heads stand
+pub stopped_heads : (x : Setup) (v : View) (o : Opened) (records : List Record) → FrontsAre v o.departures o.fates capture_header fates_header → HasStopped x v o records
+stopped_heads x v o records h = record {
+  history = [];
+  begun = record { events = tt; in_time = tt };
+  texts = record {
+    departures = front_same v o.departures capture_header (capture_header ++ []) (sym (append-nil capture_header)) h.departures;
+    fates = front_same v o.fates fates_header (fates_header ++ []) (sym (append-nil fates_header)) h.fates;
+  };
+}
+
+rise_front : (t : ℕ) (xs ys : List Coming) → RiseFrom t (xs ++ ys) → RiseFrom t xs
+rise_front t [] ys r = tt
+rise_front t (x ∷ xs) ys r = (r.0, rise_front x.at xs ys r.1)
+
+-- the first arrivals of a capture rise
+first_rise : (x : Setup) (records : List Record) (arrived more : List Arrival) → arrivals_in x records ≡ arrived ++ more → AreRising (comings arrived)
+first_rise x records arrived more e =
+    let P : List Coming → Type 0 = λ cs. AreRising cs in
+    rise_front 0 (comings arrived) (comings more)
+    (subst P (ap (λ (l : List Arrival). comings l) e ∙ comings_append arrived more) (arrivals_rise x.place records))
+
+-- the texts of the first arrivals are those of all
+pub record SameTexts (x : Setup) (records : List Record) (arrived : List Arrival) (g : List Happened) : Type 0 where
+  pub departures_are : departures x.dress arrived g ≡ departures_of x (arrivals_in x records) g
+  pub fates_are : fates x.names arrived (journal g) ≡ fates_of x (arrivals_in x records) g
+
+same_texts : (x : Setup) (records : List Record) (arrived more : List Arrival) (g : List Happened) → IsSound x → arrivals_in x records ≡ arrived ++ more
+    → AreDue x.policy x.rate x.seed (comings arrived) g → SameTexts x records arrived g
+same_texts x records arrived more g m e d =
+    let laws = due_laws x.policy x.rate x.seed (comings arrived) g m.positive m.lawful (first_rise x records arrived more e) d in
+    record {
+      departures_are = ap written (sym (records_stay x.dress arrived more g laws.of_arrivals)) ∙ ap (λ (l : List Arrival). departures x.dress l g) (sym e);
+      fates_are = ap (λ (t : List ℕ). fates_header ++ t) (sym (rows_stay x.names arrived more g laws.of_arrivals)) ∙ ap (λ (l : List Arrival). fates x.names l (journal g)) (sym e);
+    }
+
+-- events of the first arrivals that are due of all
+pub stopped : (x : Setup) (v : View) (o : Opened) (records : List Record) (arrived more : List Arrival) (g : List Happened) → IsSound x → arrivals_in x records ≡ arrived ++ more
+    → AreDue x.policy x.rate x.seed (comings (arrived ++ more)) g → IsBegun x.policy x.rate x.seed (comings arrived) g
+    → FrontsAre v o.departures o.fates (departures x.dress arrived g) (fates x.names arrived (journal g)) → HasStopped x v o records
+stopped x v o records arrived more g m e d b h =
+    let same = same_texts x records arrived more g m e b.events in
+    let P : List Arrival → Type 0 = λ l. AreDue x.policy x.rate x.seed (comings l) g in
+    record {
+      history = g;
+      begun = record { events = subst P (sym e) d; in_time = b.in_time };
+      texts = record {
+        departures = front_same v o.departures _ _ same.departures_are h.departures;
+        fates = front_same v o.fates _ _ same.fates_are h.fates;
+      };
+    }
+
+-- whole texts of the first arrivals are those of all
+pub hold_all : (x : Setup) (v : View) (o : Opened) (records : List Record) (arrived more : List Arrival) (g : List Happened) → IsSound x → arrivals_in x records ≡ arrived ++ more
+    → AreDue x.policy x.rate x.seed (comings arrived) g → HoldsAt v o.departures (departures x.dress arrived g) → HoldsAt v o.fates (fates x.names arrived (journal g))
+    → HoldTexts v o x (arrivals_in x records) g
+hold_all x v o records arrived more g m e d y z =
+    let same = same_texts x records arrived more g m e d in
+    let P : List ℕ → Type 0 = λ t. HoldsAt v o.departures t in
+    let Q : List ℕ → Type 0 = λ t. HoldsAt v o.fates t in
+    record { departures = subst P same.departures_are y; fates = subst Q same.fates_are z }
+
+-- the events up to the offer of the last complete record
+pub offered_all : (x : Setup) (stood : List Happened → Type 0) (v : View) (o : Opened) (records : List Record) (arrived : List Arrival) (g : List Happened) → arrived ≡ arrivals_in x records
+    → IsBegun x.policy x.rate x.seed (comings arrived) g → offered (bare g) ≡ length arrived → EndsWithOffer g
+    → HoldsAt v o.departures (departures x.dress arrived g) → HoldsAt v o.fates (fates x.names arrived (journal g)) → IsStanding stood g → HasOffered x stood v o records
+offered_all x stood v o records arrived g e b n l y z s =
+    let B : List Arrival → Type 0 = λ a. IsBegun x.policy x.rate x.seed (comings a) g in
+    let P : List Arrival → Type 0 = λ a. HoldsAt v o.departures (departures x.dress a g) in
+    let Q : List Arrival → Type 0 = λ a. HoldsAt v o.fates (fates x.names a (journal g)) in
+    record {
+      history = g;
+      begun = subst B e b;
+      all = n ∙ ap (λ (a : List Arrival). length a) e ∙ sym (comings_length (arrivals_in x records)) ∙ arrivals_length x.place records;
+      last = l;
+      texts = record { departures = subst P e y; fates = subst Q e z };
+      stands = s;
+    }
+
+-- when a fault of the capture comes
+abbrev pub Offered : Setup → (List Happened → Type 0) → View → View → Opened → CaptureFault → Type 0
+Offered x stood old new o f = OfArrivals old o (λ bytes. (records : List Record) × ReadsTo f bytes records × HasOffered x stood new o records)
+
+pub explains_capture : (x : Setup) (stood : List Happened → Type 0) (u w : View) (o : Opened) (f : CaptureFault) → Offered x stood u w o f
+    → (f ≡ capture.Read → ReadFault u w o.arrivals) → Explains x stood u w o (capture_fault f)
+explains_capture x stood u w o (capture.Damage d) h r = h
+explains_capture x stood u w o capture.Limit h r = h
+explains_capture x stood u w o capture.Read h r = r refl
+explains_capture x stood u w o capture.NoMemory h r = tt
+
+-- a file with a bad head has no complete record
+pub head_fault : (f : CaptureFault) (bytes : List ℕ) → IsHeadFault f bytes → ReadsTo f bytes []
+head_fault (capture.Damage d) bytes h = let P : Header → Type 0 = λ k. ReadsFrom k bytes [] (Fault d) in subst P (sym h) (refl, refl)
+head_fault capture.Limit bytes h = absurd h
+head_fault capture.Read bytes h = tt
+head_fault capture.NoMemory bytes h = tt
+
+-- what writes to files of other names leave
+pub left_kept : (u v : View) (arr dep fat : ℕ) → IsSome (u.part arr) → Apart u arr dep → Apart u arr fat → IsTrue u.tells → OnlyWrote dep fat u v → v.left arr ≡ u.left arr
+left_kept u v arr dep fat there d f t k = let p = part_of_there (u.part arr) there in k.keeps.left arr p.0 p.1 (d t, f t)
+
+pub read_before : (dep fat file : ℕ) (u v w : View) → OnlyWrote dep fat v w → ReadFault u v file → ReadFault u w file
+read_before dep fat file u v w k x = λ p at. rose_before _ _ _ (x p at) (k.keeps.later.read p)
+
+-- greatest stamps
+grows : (t : ℕ) (rs : List Record) → t ≤ greatest t rs
+grows t [] = omega arith
+grows t (r ∷ rs) = omega (arith, grows (max t r.stamp) rs)
+
+greatest_append : (t : ℕ) (xs ys : List Record) → greatest t (xs ++ ys) ≡ greatest (greatest t xs) ys
+greatest_append t [] ys = refl
+greatest_append t (x ∷ xs) ys = greatest_append (max t x.stamp) xs ys
+
+pub front_greatest : (t : ℕ) (xs ys : List Record) → greatest t xs ≤ greatest t (xs ++ ys)
+front_greatest t xs ys = omega (arith, greatest_append t xs ys, grows (greatest t xs) ys)
+
+same_head : (a b : Record) (xs ys : List Record) → a ∷ xs ≡ b ∷ ys → (a ≡ b) × (xs ≡ ys)
+same_head a b xs ys e = (cc, cc)
+
+-- the first record that arrives after a moment is one
+pub first_later : (s t : ℕ) (xs ys : List Record) (x y : Record) (more other : List Record) → xs ++ x ∷ more ≡ ys ++ y ∷ other
+    → greatest t xs ≤ s → s < greatest t (xs ++ x ∷ []) → greatest t ys ≤ s → s < greatest t (ys ++ y ∷ []) → xs ++ x ∷ [] ≡ ys ++ y ∷ []
+first_later s t [] [] x y more other e a b c d = ap (λ (r : Record). r ∷ []) (same_head x y more other e).0
+first_later s t [] (z ∷ ys) x y more other e a b c d =
+    let h = same_head x z more (ys ++ y ∷ other) e in
+    absurd (omega (arith, ap (λ (r : Record). r.stamp) h.0, b, c, grows (max t z.stamp) ys))
+first_later s t (z ∷ xs) [] x y more other e a b c d =
+    let h = same_head z y (xs ++ x ∷ more) other e in
+    absurd (omega (arith, ap (λ (r : Record). r.stamp) h.0, d, a, grows (max t z.stamp) xs))
+first_later s t (w ∷ xs) (z ∷ ys) x y more other e a b c d =
+    let h = same_head w z (xs ++ x ∷ more) (ys ++ y ∷ other) e in
+    let C : ℕ → Type 0 = λ n. greatest n ys ≤ s in
+    let D : ℕ → Type 0 = λ n. s < greatest n (ys ++ y ∷ []) in
+    let same : max t z.stamp ≡ max t w.stamp = ap (λ (r : Record). max t r.stamp) (sym h.0) in
+    ap (λ (r : Record). r ∷ (xs ++ x ∷ [])) h.0
+    ∙ ap (λ (rs : List Record). z ∷ rs) (first_later s (max t w.stamp) xs ys x y more other h.1 a b (subst C same c) (subst D same d))
+
+-- no record arrives after the moment
+pub none_later : (v : View) (file : ℕ) (bytes : List ℕ) (records : List Record) (moment : ℕ) → greatest 0 records ≤ moment → Streams v file bytes records moment
+none_later v file bytes records moment l = λ before r after e low high.
+    absurd (omega (arith, l, high, front_greatest 0 (before ++ r ∷ []) after,
+    ap (λ (rs : List Record). greatest 0 rs) (e ∙ sym (append_assoc before (r ∷ []) after))))
+
+-- the bytes that were taken end soon after the last record that was read
+pub took_ahead : (place : List ℕ → Placed) (v w : View) (r : Reader) (file : ℕ) (bytes : List ℕ) (all rest : List Record) (arrived : List Arrival) (moment : ℕ)
+    → (h : IsAhead place v r bytes arrived moment) → all ≡ (h.before ++ h.last ∷ []) ++ rest → w.left file ≡ v.left r.file → Streams w file bytes all moment
+took_ahead place v w r file bytes all rest arrived moment h e left = λ before s after q low high.
+    let y = h.stands.pending h.sound in
+    let same = first_later moment 0 h.before before h.last s rest after (sym (append_assoc h.before (h.last ∷ []) rest) ∙ sym e ∙ q) h.passed h.later low high in
+    let size = taken v r bytes y.rest.0 (h.before ++ h.last ∷ []) h.stands h.sound y.rest.1 in
+    record { rest = y.rest.0; left = left ∙ y.rest.1; within = omega (arith, size, ap (λ (rs : List Record). place_after 24 rs) same) }
+
+-- a play that was cut off, over all arrivals
+pub cut_all : (x : Setup) (records : List Record) (arrived more : List Arrival) (g : List Happened) (t : Totals) → IsSound x → (c : IsCutOff x.policy x.rate x.seed (comings arrived) g)
+    → arrivals_in x records ≡ arrived ++ more → AreDue x.policy x.rate x.seed (comings (arrived ++ more)) (c.next ∷ g) → AreTotals x.rate g t
+    → IsStopped x.policy x.rate x.seed (arrivals_in x records) g t
+cut_all x records arrived more g t m c e d total =
+    let P : List Arrival → Type 0 = λ l. AreDue x.policy x.rate x.seed (comings l) (c.next ∷ g) in
+    let due = subst P (sym e) d in
+    let rise = arrivals_rise x.place records in
+    record {
+      cut = record { begun = record { events = due.1; in_time = c.begun.in_time }; next = c.next; is_due = due.0; late = c.late };
+      laws = due_laws x.policy x.rate x.seed (comings (arrivals_in x records)) g m.positive m.lawful rise due.1;
+      busy = is_busy x.policy x.rate x.seed (comings (arrivals_in x records)) g m.positive m.lawful m.steady rise due.1;
+      totals = total;
+    }
+
+-- where it was, and how far was read
+pub record IsFound (bytes : List ℕ) (records : List Record) (last : Step) (w : View) (file start : ℕ) : Type 0 where
+  pub before : (last ≡ End) ⊎ (start < greatest 0 records)
+  pub streams : Streams w file bytes records start
+
+pub found : (place : List ℕ → Placed) (v w : View) (r : Reader) (file : ℕ) (bytes : List ℕ) (records : List Record) (last : Step) (arrived : List Arrival) (start : ℕ)
+    → Reads bytes records last → IsLast last → w.left file ≡ v.left r.file → IsPast place bytes arrived start ⊎ IsAhead place v r bytes arrived start
+    → IsFound bytes records last w file start
+found place v w r file bytes records last arrived start h l left (inl y) =
+    let one = one_reading bytes records y.all.records last End h l y.all.reads tt in
+    record {
+      before = inl one.1;
+      streams = none_later w file bytes records start (omega (arith, ap (λ (rs : List Record). greatest 0 rs) one.0, y.passed));
+    }
+found place v w r file bytes records last arrived start h l left (inr y) =
+    let f = answered_front v r bytes (y.before ++ y.last ∷ []) records last y.stands h l in
+    record {
+      before = inr (omega (arith, y.later, front_greatest 0 (y.before ++ y.last ∷ []) f.0, ap (λ (rs : List Record). greatest 0 rs) f.1));
+      streams = took_ahead place v w r file bytes records f.0 arrived start y f.1 left;
+    }
