@@ -3,11 +3,11 @@ use Rattle.std.proofs.Common.{◌≡◌, ◌≤◌, ◌<◌, ◌++◌, ◌∙◌
 use Rattle.std.specs.Prelude.{slice_get, IsSome, IsTrue}
 use Rattle.altq_model.specs.declared.Placed.{Placed}
 use Rattle.altq_model.specs.Arrivals.{Arrival, arrivals_from, arrivals_of, comings}
-use Rattle.altq_model.specs.Departures.{departed, departures}
+use Rattle.altq_model.specs.Departures.{Dressing, departures}
 use Rattle.altq_model.specs.History.{Coming, Happened, bare, offered, journal}
 use Rattle.altq_model.specs.Lawful.{IsLawful, IsSteady, AreRising, RiseFrom, greatest}
 use Rattle.altq_model.specs.Play.{Policy, AreDue}
-use Rattle.altq_model.specs.Texts.{fates, fates_header, fate_rows}
+use Rattle.altq_model.specs.Texts.{Naming, fates, fates_header}
 use Rattle.capture_model.specs.Capture.{Record, Step, End, Fault, Header, Reads, ReadsFrom, IsCapture, IsLast, place_after}
 use Rattle.capture_model.specs.Header.{capture_header}
 use Rattle.capture_model.specs.Written.{written}
@@ -32,11 +32,14 @@ use Rattle.play_loop.specs.declared.fault.Opened.{Opened}
 use Rattle.play_loop.specs.declared.fault.PlayFault.{PlayFault}
 use Rattle.play_loop.specs.Ending.{IsAhead, IsAll, IsPast, capture_fault}
 use Rattle.play_loop.specs.Kept.{OnlyWrote}
-use Rattle.play_loop.specs.Outputs.{FrontsAre, TextsAre}
+use Rattle.play_loop.specs.declared.fault.Output.TheVariants as output
+use Rattle.play_loop.specs.declared.fault.PlayFault.TheVariants as play
+use Rattle.play_loop.specs.Gathered.{HoldsFront}
+use Rattle.play_loop.specs.Outputs.{FrontsAre, IsWriteCause, TextsAre}
 use Rattle.play_loop.specs.Played.{Explains, HasOffered, HasStopped, HoldTexts, IsStanding, OfArrivals, Streams, TookUpTo, WasCutOff, start_of}
 use Rattle.play_loop.specs.Setup.{Setup, arrivals_in, departures_of, fates_of}
-use Rattle.play_loop.proofs.GatheredLaws.{front_same}
-use Rattle.play_loop.proofs.OutputLemmas.{fronts_of_texts}
+use Rattle.play_loop.proofs.GatheredLaws.{front_same, text_whole}
+use Rattle.play_loop.proofs.OutputLemmas.{texts_same}
 
 -- a setup whose policy and rate a discipline and a link promise
 pub record IsSound (x : Setup) : Type 0 where
@@ -231,3 +234,57 @@ found place v w r file bytes records last arrived start h l left (inr y) =
       before = inr (omega (arith, y.later, front_greatest 0 (y.before ++ y.last ∷ []) f.0, ap (λ (rs : List Record). greatest 0 rs) f.1));
       streams = took_ahead place v w r file bytes records f.0 arrived start y f.1 left;
     }
+
+pub was_cut : (x : Setup) (stood : List Happened → Type 0) (place : List ℕ → Placed) (v w : View) (o : Opened) (r : Reader) (bytes : List ℕ) (records : List Record) (last : Step)
+    (arrived more : List Arrival) (g : List Happened) (t : Totals) → IsSound x → (c : IsCutOff x.policy x.rate x.seed (comings arrived) g) → arrivals_in x records ≡ arrived ++ more
+    → AreDue x.policy x.rate x.seed (comings (arrived ++ more)) (c.next ∷ g) → AreTotals x.rate g t → Reads bytes records last → IsLast last → w.left o.arrivals ≡ v.left r.file
+    → IsPast place bytes arrived (start_of c.next.what) ⊎ IsAhead place v r bytes arrived (start_of c.next.what)
+    → HoldsAt w o.departures (departures x.dress arrived g) → HoldsAt w o.fates (fates x.names arrived (journal g)) → IsStanding stood g
+    → WasCutOff x stood w o bytes records last
+unfolding cut_all
+was_cut x stood place v w o r bytes records last arrived more g t m c e d total h l left a y z s =
+    let f = found place v w r o.arrivals bytes records last arrived (start_of c.next.what) h l left a in
+    record {
+      history = g;
+      totals = t;
+      play = cut_all x records arrived more g t m c e d total;
+      texts = hold_all x w o records arrived more g m e c.begun.events y z;
+      stands = s;
+      before = f.before;
+      streams = f.streams;
+    }
+
+-- whole texts are fronts
+whole_front : (v : View) (file : ℕ) (text : List ℕ) → HoldsAt v file text → HoldsFront v file text
+whole_front v file text h = record { written = text; rest = []; holds = h; split = append-nil text }
+
+pub whole_fronts : (v : View) (dep fat : ℕ) (ds ts : List ℕ) → HoldsAt v dep ds → HoldsAt v fat ts → FrontsAre v dep fat ds ts
+whole_fronts v dep fat ds ts y z = record { departures = whole_front v dep ds y; fates = whole_front v fat ts z }
+
+pub held_by : (v : View) (file other : ℕ) (text : List ℕ) → other ≡ file → HoldsAt v other text → HoldsAt v file text
+held_by v file other text e h = let P : ℕ → Type 0 = λ n. HoldsAt v n text in subst P e h
+
+-- the heads are the texts of no event
+pub head_records : (dress : Dressing) (v : View) (dep fat : ℕ) → TextsAre v dep fat [] [] capture_header fates_header → HoldsAt v dep (departures dress [] [])
+head_records dress v dep fat h =
+    let P : List ℕ → Type 0 = λ t. HoldsAt v dep t in subst P (sym (append-nil capture_header)) (text_whole v dep capture_header h.departures)
+
+pub head_rows : (names : Naming) (v : View) (dep fat : ℕ) → TextsAre v dep fat [] [] capture_header fates_header → HoldsAt v fat (fates names [] [])
+head_rows names v dep fat h =
+    let P : List ℕ → Type 0 = λ t. HoldsAt v fat t in subst P (sym (append-nil fates_header)) (text_whole v fat fates_header h.fates)
+
+pub head_texts : (dress : Dressing) (names : Naming) (v : View) (dep fat : ℕ) (recs rows : List ℕ) → recs ≡ [] → rows ≡ [] → TextsAre v dep fat [] [] capture_header fates_header
+    → TextsAre v dep fat recs rows (departures dress [] []) (fates names [] [])
+head_texts dress names v dep fat recs rows r s h =
+    let P : List ℕ → Type 0 = λ xs. TextsAre v dep fat xs [] (departures dress [] []) (fates names [] []) in
+    let Q : List ℕ → Type 0 = λ xs. TextsAre v dep fat recs xs (departures dress [] []) (fates names [] []) in
+    subst Q (sym s) (subst P (sym r) (texts_same v dep fat [] [] _ _ _ _ (sym (append-nil capture_header)) (sym (append-nil fates_header)) h))
+
+pub explains_write : (x : Setup) (stood : List Happened → Type 0) (u v : View) (o : Opened) (f : PlayFault) → IsWriteCause o.departures o.fates u v f → Explains x stood u v o f
+explains_write x stood u v o (play.Write output.Departures) h = h
+explains_write x stood u v o (play.Write output.Fates) h = h
+explains_write x stood u v o (play.Write output.Statistics) h = h
+explains_write x stood u v o play.NoMemory h = tt
+explains_write x stood u v o (play.Capture damage) h = absurd h
+explains_write x stood u v o play.Read h = absurd h
+explains_write x stood u v o (play.Limit limit) h = absurd h

@@ -1,5 +1,5 @@
 -- The departures of a play are a capture: they are no larger than its arrivals.
-use Rattle.std.proofs.Common.{◌≡◌, ◌≤◌, ◌<◌, ◌++◌, ◌∙◌, ◌+◌, ◌*◌, ◌-◌, ℕ, zero, suc, Bool, true, false, max, List, [], ◌∷◌, length, length-append, sum, Some, refl, ap, sym, subst, arith}
+use Rattle.std.proofs.Common.{◌≡◌, ◌≤◌, ◌<◌, ◌++◌, ◌∙◌, ◌+◌, ◌*◌, ◌-◌, ℕ, zero, suc, Bool, true, false, max, List, [], ◌∷◌, length, length-append, Some, refl, ap, sym, subst, arith}
 use Rattle.std.specs.Prelude.{◌==◌, ◌&&◌, slice_get, unwrap_or, All, nat_lt, nat_le, if◌then◌else◌}
 use Rattle.std.proofs.lemmas.List.Elements.{All-append, All-cons, All-nil}
 use Rattle.altq_model.specs.declared.Placed.{Placed}
@@ -47,14 +47,18 @@ at_most (suc (suc n)) w h = absurd (omega arith)
 
 weigh_none : (k : ℕ) (ns : List ℕ) → weigh k [] ns ≡ 0
 weigh_none k [] = refl
-weigh_none k (n ∷ ns) = weigh_none k ns
+weigh_none k (n ∷ ns) = omega (arith, weigh_none k ns)
 
-bounded : (k : ℕ) (ws ns : List ℕ) → ((n : ℕ) → occurs n ns ≤ 1) → weigh k ws ns ≤ sum ws
+abbrev added : List ℕ → ℕ
+added [] = 0
+added (w ∷ ws) = w + added ws
+
+bounded : (k : ℕ) (ws ns : List ℕ) → ((n : ℕ) → occurs n ns ≤ 1) → weigh k ws ns ≤ added ws
 bounded k [] ns h = omega (arith, weigh_none k ns)
 bounded k (w ∷ ws) ns h = omega (arith, split k w ws ns, bounded (k + 1) ws ns h, at_most (occurs (k + 1) ns) w (h (k + 1)))
 
 weigh_append : (k : ℕ) (ws xs ys : List ℕ) → weigh k ws (xs ++ ys) ≡ weigh k ws xs + weigh k ws ys
-weigh_append k ws [] ys = refl
+weigh_append k ws [] ys = omega arith
 weigh_append k ws (x ∷ xs) ys = omega (arith, weigh_append k ws xs ys)
 
 -- a record's head and its bytes
@@ -150,7 +154,7 @@ at_most_one : (b : Bool) → (if b then 1 else 0) ≤ 1
 at_most_one true = omega arith
 at_most_one false = omega arith
 
-sum_from : (place : List ℕ → Placed) (top at : ℕ) (rs : List Record) → place_after at rs ≡ at + sum (sizes (arrivals_from place top rs))
+sum_from : (place : List ℕ → Placed) (top at : ℕ) (rs : List Record) → place_after at rs ≡ at + added (sizes (arrivals_from place top rs))
 sum_from place top at [] = omega arith
 sum_from place top at (r ∷ rs) = omega (arith, sum_from place (max top r.stamp) (at + 16 + length r.captured) rs)
 

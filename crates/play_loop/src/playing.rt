@@ -24,6 +24,7 @@ use crate::outputs::{Outputs, output_fault};
 use crate::sending::{play_packet, send_due};
 use crate::writing::finish;
 use crate::{Limit, Opened, Output, PlayFault};
+use capture_model::every_file_has_a_reading;
 use discipline_laws::{Classify, Discipline};
 use leaf_queue::Words;
 use pcap_files::{CaptureFault, Reader, head_bytes};
@@ -132,7 +133,11 @@ pub fn play<D: Discipline, C: Classify, F: Files>(
     match ending {
         Ending::Whole => Ok(progress.totals()),
         Ending::Cut(fault) => Err(capture_fault(fault)),
-        Ending::Late => Err(PlayFault::Limit(Limit::Clock)),
+        Ending::Late => {
+            // A law, which the proof cites: it does nothing.
+            every_file_has_a_reading();
+            Err(PlayFault::Limit(Limit::Clock))
+        }
     }
 }
 
