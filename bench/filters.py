@@ -6,7 +6,8 @@ Takes no word. It makes a program of its own in a new folder under bench/out, ov
 interface may have at most, and each flow asked for has the port of one of them, or of none. For each count of filters it
 prints the nanoseconds of one call of `class`, and how many times those of one filter they are.
 
-Each is run three times, and the shortest time counts; the time of a run that asks for nothing is taken off.
+Each is run three times, and the least processor time counts; that of a run that asks for nothing is taken off. `rt try` runs the
+program with its own checks on, some hundred times slower than a built one: what is of use here is how the times compare.
 """
 
 import os
@@ -14,13 +15,12 @@ import shutil
 import subprocess
 import sys
 import tempfile
-import time
 
 sys.dont_write_bytecode = True
 HERE = os.path.dirname(os.path.abspath(__file__))
 ROOT = os.path.dirname(HERE)
 COUNTS = [1, 16, 256, 1024]
-CALLS = 4_000_000
+CALLS = 2_000_000
 RUNS = 3
 
 PROGRAM = """//! Asks for the class of flows, again and again.
@@ -94,8 +94,6 @@ fn main(rt: HostRuntime) -> anyhow::Result<()> {
 }
 """
 
-CRATES = ["play_base", "line_text", "conf_lines", "service_curve", "conf_tree", "packet_heads", "flow_filter"]
-
 
 def workspace(folder):
     """The crates below flow_filter, and the program."""
@@ -119,3 +117,33 @@ def workspace(folder):
     with open(os.path.join(folder, "crates.txt"), "w") as file:
         file.write("\n".join(kept[name] for name in needed) + "\nclasses: flow_filter conf_tree conf_lines packet_heads anyhow\n")
     return program
+
+
+def spent(program, side, count, calls):
+    """The processor seconds of one run: of making the program too, which is the same for each."""
+    before = os.times()
+    done = subprocess.run(["rt", "try", "--", str(side), str(count), str(calls)], cwd=program, capture_output=True, check=False)
+    if done.returncode != 0:
+        sys.exit(f"filters.py: the program did not end:\n{done.stdout.decode()[-2000:]}")
+    after = os.times()
+    return after.children_user - before.children_user
+
+
+def main():
+    os.makedirs(os.path.join(HERE, "out"), exist_ok=True)
+    folder = tempfile.mkdtemp(dir=os.path.join(HERE, "out"))
+    try:
+        program = workspace(folder)
+        nothing = min(spent(program, 0, 1, 0) for _ in range(RUNS))
+        for side, name in ((0, "target's port"), (1, "source's port")):
+            one = None
+            for count in COUNTS:
+                seconds = min(spent(program, side, count, CALLS) for _ in range(RUNS)) - nothing
+                one = one or seconds
+                print(f"{name}, {count:5} filters: {seconds / CALLS * 1e9:8.0f} ns a call, {seconds / one:.2f} times one filter", flush=True)
+    finally:
+        shutil.rmtree(folder)
+
+
+if __name__ == "__main__":
+    main()

@@ -1,5 +1,5 @@
 -- Classes in a row: what an offer and a leaving do to the histories that they stand for.
-use Rattle.std.proofs.Common.{◌≡◌, ◌≤◌, ◌<◌, ◌+◌, ◌-◌, ◌^◌, ◌∙◌, ◌⊎◌, inl, inr, ℕ, zero, suc, Bool, true, false, cond, List, [], ◌∷◌, ◌++◌, None, Some, length, map, refl, ap, sym, subst, arith, drop, eqb, set, get_or}
+use Rattle.std.proofs.Common.{◌≡◌, ◌≤◌, ◌<◌, ◌+◌, ◌-◌, ◌^◌, ◌∙◌, ◌⊎◌, inl, inr, ℕ, zero, suc, Bool, true, false, cond, List, [], ◌∷◌, ◌++◌, Some, length, map, refl, ap, sym, subst, arith, drop, eqb, set, get_or}
 use Rattle.std.specs.declared.option.Option.{Option}
 use Rattle.std.specs.Prelude.{slice_get, option_map, unwrap_or, ◌↔◌}
 use Rattle.std.proofs.lemmas.Bool.{eq-eqb, ne_eqb, eqb-true}
@@ -11,14 +11,14 @@ use Rattle.altq_model.specs.declared.Verdict.TheVariants.{Keep, Mark, Drop}
 use Rattle.altq_model.specs.History.{Coming, DrawnWords, Answer, Event, Offered, Sent, Happened, Transmission, bare, waiting, with_offer, without_head}
 use Rattle.altq_model.specs.Lawful.{IsOneOf}
 use Rattle.leaf_queue.specs.declared.node.Entry.{Entry}
-use Rattle.leaf_queue.specs.Lists.{Listed, list_of, precs_in, total_of}
+use Rattle.leaf_queue.specs.Lists.{Listed, list_of, precs_in}
 use Rattle.leaf_queue.specs.Words.{Drew}
 use Rattle.leaf_queue.specs.Queue.{QueueEvent, Asked, Saying, by_queue, by_queues, queue_at, told_of, waiting_of, precs_of}
-use Rattle.discipline_laws.specs.Laws.{Shows, seen, seen_of, after_offer, after_sent, coming, held_in, room_of}
+use Rattle.discipline_laws.specs.Laws.{seen, seen_of, after_offer, after_sent, coming, held_in, room_of}
 use Rattle.class_rows.specs.Leaf.{after_verdict, gone, HasPrecs}
-use Rattle.class_rows.specs.Rows.{Answers, Fit, IsRow, Rowed, RowsStand, SameRow, Told, answering, classes_in, holding, limit_at, limit_in, limits_of, limits_sum, list_at, list_in}
+use Rattle.class_rows.specs.Rows.{Answers, Fit, IsRow, Rowed, RowsStand, SameRow, Told, answering, classes_in, limit_at, limit_in, limits_sum, list_at, list_in}
 use Rattle.class_rows.proofs.ShowsLemmas.{shows_offered, shows_sent, seen_precs, told_here, told_there, gone_here, gone_there, seen-offer, seen-sent}
-use Rattle.class_rows.proofs.RowLemmas.{IsHeld, after_is, fit_at, fit_length, fit_less, fit_set, fit_total, held_is, limit_here, limits_kept, list_at-here, list_at-set, map_kept, one_of, room_is, some_place}
+use Rattle.class_rows.proofs.RowLemmas.{after_is, fit_at, fit_length, fit_set, fit_total, held_is, limit_here, limits_kept, list_at-here, list_at-set, map_kept, one_of, room_is, some_place}
 
 -- an event changes what waits in one class, and what its queue was told, alone
 pub record Others (class : ℕ) (e : Event) (b : List Event) : Type 0 where

@@ -1,10 +1,8 @@
 -- Classes in a row: their lists, limits and queues.
-use Rattle.std.proofs.Common.{◌≡◌, ◌≤◌, ◌<◌, ◌+◌, ◌-◌, ◌∙◌, ◌⊎◌, inl, inr, ℕ, zero, suc, Bool, true, false, cond, List, [], ◌∷◌, Some, length, map, refl, ap, sym, subst, arith, drop, eqb, set, get_or, All, replicate, take}
-use Rattle.std.specs.Prelude.{slice_get, ◌↔◌}
+use Rattle.std.proofs.Common.{◌≡◌, ◌≤◌, ◌<◌, ◌+◌, ◌-◌, ◌∙◌, ◌⊎◌, inl, inr, ℕ, zero, suc, Bool, true, false, cond, List, [], ◌∷◌, Some, length, map, refl, ap, sym, subst, arith, eqb, set, All, replicate, take}
+use Rattle.std.specs.Prelude.{slice_get}
 use Rattle.std.proofs.lemmas.Bool.{cases_eq, eq-eqb, ne_eqb, eqb-true}
-use Rattle.std.proofs.lemmas.List.{length-set, length-append, set-get_or, length-map}
-use Rattle.std.proofs.lemmas.Option.{slice_get-get_or}
-use Rattle.altq_model.specs.declared.Reason.TheVariants.{Full}
+use Rattle.std.proofs.lemmas.List.{set-get_or}
 use Rattle.altq_model.specs.declared.Verdict.{Verdict}
 use Rattle.altq_model.specs.declared.Verdict.TheVariants.{Keep, Mark, Drop}
 use Rattle.altq_model.specs.History.{with_offer}
@@ -12,11 +10,11 @@ use Rattle.altq_model.specs.Lawful.{IsOneOf}
 use Rattle.altq_model.specs.Laws.{occurs}
 use Rattle.leaf_queue.proofs.Linking.{once_same, once_other}
 use Rattle.leaf_queue.specs.declared.node.Entry.{Entry}
-use Rattle.leaf_queue.specs.Lists.{Listed, list_of, total_of}
+use Rattle.leaf_queue.specs.Lists.{list_of, total_of}
 use Rattle.leaf_queue.specs.Queue.{QueueEvent}
 use Rattle.discipline_laws.specs.Laws.{AreDistinct, Shows, tickets, seen, held_in, room_of}
 use Rattle.class_rows.specs.Leaf.{after_verdict, HasPrecs}
-use Rattle.class_rows.specs.Rows.{Fit, IsRow, RowsStand, holding, limit_at, limits_of, limits_sum, list_at, most_of}
+use Rattle.class_rows.specs.Rows.{Fit, RowsStand, holding, limit_at, limits_of, limits_sum, list_at, most_of}
 
 -- which classes there are
 pub record IsHeld (class c : ℕ) (hs : List Bool) : Type 0 where

@@ -24,6 +24,8 @@ pub mod FitWhole
 pub mod Groups
 pub mod ImpliedTree
 pub mod InterfacesRead
+pub mod LateFaults
+pub mod CloseFaults
 pub mod Ip6
 pub mod LevelsRead
 pub mod Lines
@@ -47,3 +49,4 @@ pub mod TextLines
 pub mod Types
 pub mod WordParts
 pub mod WorkedRows
+pub mod WordFaults

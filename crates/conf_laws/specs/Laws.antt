@@ -1,6 +1,9 @@
 -- What holds of every configuration, and of its canonical text.
-use Rattle.std.specs.Prelude.{◌≡◌, List, ℕ, true, Ok, Some, slice_get}
-use Rattle.conf_lines.specs.Texts.{statements_of}
+use Rattle.std.specs.Prelude.{◌≡◌, ◌+◌, ◌≤◌, List, [], ◌∷◌, ◌++◌, ℕ, length, true, Ok, Err, Some, slice_get}
+use Rattle.conf_lines.specs.declared.fault.ConfPlace.{ConfPlace}
+use Rattle.conf_lines.specs.declared.statement.Statement.{Statement}
+use Rattle.conf_lines.specs.Grammar.{start}
+use Rattle.conf_lines.specs.Texts.{read_from, as_statement, statements_of}
 use Rattle.conf_tree.specs.declared.class.Class.{Class}
 use Rattle.conf_tree.specs.declared.filter.Filter.{Filter}
 use Rattle.conf_tree.specs.declared.interface.Interface.{Interface}
@@ -39,3 +42,15 @@ StatementsAreRead = (interfaces : List Interface) → AreFit interfaces → read
 abbrev pub TextsReadBack : Type 0
 TextsReadBack = (text : List ℕ) (interfaces : List Interface) → IsConfiguration text interfaces
     → IsConfiguration (canonical_text interfaces) interfaces
+
+-- the statement of the words of a line
+abbrev pub line_of_words : ℕ → List (List ℕ) → Statement
+line_of_words line words = as_statement line (length words + 1) (read_from line words start 1)
+
+-- THE FAULT STANDS AT ITS WORD: behind the same statements, two lines that agree up to and with the word of a fault have the same
+-- fault, whatever follows on the line or behind it. So nothing that follows the word mends it.
+abbrev pub FaultsStandAtWords : Type 0
+FaultsStandAtWords =
+    (statements rest : List Statement) (line : ℕ) (words more other : List (List ℕ)) (fault : ConfPlace) → 1 ≤ fault.word → fault.word ≤ length words
+    → reading (statements ++ line_of_words line (words ++ more) ∷ []) ≡ Err fault
+    → reading (statements ++ line_of_words line (words ++ other) ∷ rest) ≡ Err fault

@@ -94,7 +94,7 @@ OptionsAreWhole = (text : List ℕ) → AreAllWhole (statements_of text)
 
 -- The fault that a line shows by itself stands at its word: lines that agree up to and with this word are read alike, so nothing
 -- that follows the word mends it.
-abbrev pub FaultsStandAtWords : Type 0
-FaultsStandAtWords =
+abbrev pub LineFaultsStand : Type 0
+LineFaultsStand =
     (line : ℕ) (words more other : List (List ℕ)) (fault : ConfPlace) → (read_from line (words ++ more) start 1).fault ≡ Some fault
     → fault.word ≤ length words → read_from line (words ++ other) start 1 ≡ read_from line (words ++ more) start 1

@@ -1,5 +1,5 @@
 //! Laws of the statements of every text.
-ghost use Rattle.conf_lines.specs.Laws.{FaultsStandAtWords, ItemsAreSound, OptionsAreWhole};
+ghost use Rattle.conf_lines.specs.Laws.{LineFaultsStand, ItemsAreSound, OptionsAreWhole};
 
 /// In the statements of every text each name is a NAME, each IPv4 address has four bytes, and each IPv6 address has sixteen
 /// and a prefix length of at most 128.
@@ -14,6 +14,6 @@ pub fn options_are_whole()
 {}
 
 /// The fault that a line shows by itself stands at its word: lines that agree up to and with this word are read alike.
-pub fn faults_stand_at_words()
-    ensures { FaultsStandAtWords }
+pub fn line_faults_stand()
+    ensures { LineFaultsStand }
 {}

@@ -1,5 +1,5 @@
 -- The multiples of a gap, and the class that starts at them.
-use Rattle.std.proofs.Common.{◌≡◌, ◌≤◌, ◌<◌, ◌+◌, ◌-◌, ◌*◌, ◌∙◌, ◌/◌, ◌%◌, inl, inr, ℕ, Bool, true, false, List, [], ◌∷◌, None, Some, length, refl, ap, sym, subst, arith, drop, eqb}
+use Rattle.std.proofs.Common.{◌≡◌, ◌≤◌, ◌<◌, ◌+◌, ◌*◌, ◌∙◌, ◌/◌, ◌%◌, inl, inr, ℕ, Bool, true, false, List, [], ◌∷◌, None, Some, length, refl, ap, sym, subst, arith, drop, eqb}
 use Rattle.std.specs.declared.option.Option.{Option}
 use Rattle.std.specs.Prelude.{slice_get, option_map, nat_le, nat_lt}
 use Rattle.std.specs.Int.{div_ceil}
@@ -8,7 +8,7 @@ use Rattle.std.proofs.lemmas.Bool.{cases_eq, eq-eqb, ne_eqb, eqb-true, le-leb, l
 use Rattle.altq_model.specs.declared.Rule.{Rule}
 use Rattle.altq_model.specs.declared.Rule.TheVariants.{Own}
 use Rattle.altq_model.specs.declared.Verdict.{Verdict}
-use Rattle.altq_model.specs.History.{Coming, DrawnWords, Event, Happened, Transmission, bare, waiting}
+use Rattle.altq_model.specs.History.{Coming, DrawnWords, Event, Happened, bare, waiting}
 use Rattle.altq_model.specs.Play.{Policy, Choice, class_start, lesser}
 use Rattle.altq_model.specs.Policies.{Answering}
 use Rattle.altq_model.specs.Lawful.{IsLawful, IsSteady, first_at}

@@ -1,14 +1,14 @@
 -- Classes in a row, of which the first that is not empty is sent: what is due.
-use Rattle.std.proofs.Common.{◌≡◌, ◌≤◌, ◌<◌, ◌+◌, ◌-◌, ◌∙◌, ◌⊎◌, inl, inr, ℕ, zero, suc, min, Bool, true, false, cond, List, [], ◌∷◌, None, Some, length, replicate, refl, ap, sym, subst, arith}
+use Rattle.std.proofs.Common.{◌≡◌, ◌≤◌, ◌<◌, ◌+◌, ◌∙◌, ◌⊎◌, inl, inr, ℕ, zero, suc, min, Bool, true, false, List, [], ◌∷◌, None, Some, length, replicate, refl, ap, sym, subst, arith}
 use Rattle.std.specs.declared.option.Option.{Option}
-use Rattle.std.specs.Prelude.{slice_get, option_map, nat_le, nat_lt, ◌↔◌}
-use Rattle.std.proofs.lemmas.Bool.{cases_eq, le-leb, leb-true, lt-ltb, ltb-true}
+use Rattle.std.specs.Prelude.{slice_get, option_map, nat_le, nat_lt}
+use Rattle.std.proofs.lemmas.Bool.{le-leb, leb-true, lt-ltb, ltb-true}
 use Rattle.altq_model.specs.declared.Rule.{Rule}
 use Rattle.altq_model.specs.declared.Verdict.{Verdict}
-use Rattle.altq_model.specs.History.{Coming, DrawnWords, Event, Happened, Sent, Transmission, bare, waiting}
+use Rattle.altq_model.specs.History.{Coming, DrawnWords, Event, Happened, bare, waiting}
 use Rattle.altq_model.specs.Play.{Choice, Policy, lesser}
 use Rattle.altq_model.specs.Policies.{Answering, strict, first_waiting}
-use Rattle.altq_model.specs.Lawful.{IsOneOf, first_at}
+use Rattle.altq_model.specs.Lawful.{first_at}
 use Rattle.link_clock.specs.Clock.{Clock}
 use Rattle.play_base.specs.declared.packet.Ticket.{Ticket}
 use Rattle.play_laws.proofs.StrictLemmas.{steady, strict_lawful, strict_never_waits}

@@ -1,5 +1,5 @@
 -- Classes in a row, of which the first that is not empty is sent: what it holds, and the histories that it stands for.
-use Rattle.std.specs.Prelude.{◌≡◌, ◌≤◌, ◌+◌, ℕ, zero, suc, Bool, true, List, [], ◌∷◌, length, replicate}
+use Rattle.std.specs.Prelude.{◌≡◌, ◌≤◌, ◌+◌, ℕ, zero, suc, true, List, [], ◌∷◌, length, replicate}
 use Rattle.altq_model.specs.declared.Rule.{Rule}
 use Rattle.altq_model.specs.History.{Happened, bare}
 use Rattle.altq_model.specs.Policies.{strict}

@@ -1,9 +1,9 @@
 -- The lists of the heads after one class changed, and what they say of the classes.
-use Rattle.std.proofs.Common.{◌≡◌, ◌≤◌, ◌<◌, ◌⊎◌, inl, inr, ℕ, zero, suc, Bool, true, false, List, [], ◌∷◌, ◌++◌, None, Some, length, refl, sym, ap, subst, arith, ◌∙◌, get_or}
+use Rattle.std.proofs.Common.{◌≡◌, ◌≤◌, ◌<◌, ◌⊎◌, inl, inr, ℕ, zero, suc, Bool, true, false, List, [], ◌∷◌, ◌++◌, None, length, refl, sym, ap, subst, arith, ◌∙◌, get_or}
 use Rattle.std.specs.Prelude.{Option, ◌==◌, slice_get, slice_set, if◌then◌else◌}
 use Rattle.std.proofs.lemmas.Bool.{cases_lt}
 use Rattle.std.proofs.lemmas.Bool.Decides.{nat_tests}
-use Rattle.std.proofs.lemmas.List.{length-set, get_or-set_same, get_or-set_other, get_or_past}
+use Rattle.std.proofs.lemmas.List.{length-set, get_or-set_same, get_or-set_other}
 use Rattle.service_curve.specs.declared.Curve.{Curve}
 use Rattle.ranking.specs.declared.Ranking.{Ranking}
 use Rattle.ranking.specs.Order.{is_in, key_of, IsOrderOf}
@@ -12,7 +12,7 @@ use Rattle.ranking.proofs.Orders.{is_order, outside}
 use Rattle.hfsc_model.specs.Event.{HfscHistory}
 use Rattle.hfsc_model.specs.Event.{Kept}
 use Rattle.hfsc_model.specs.Leaf.{Leaf, Waiting, leaf, head_len, is_waiting, opened, after_kept}
-use Rattle.hfsc_model.specs.RealTime.{curve_of, curve_in, has_head, head_deadline, soonest_of}
+use Rattle.hfsc_model.specs.RealTime.{curve_of, has_head}
 use Rattle.hfsc_eligible.specs.declared.slot.Slot.{Slot}
 use Rattle.hfsc_eligible.specs.declared.Eligible.{Eligible}
 use Rattle.hfsc_eligible.specs.Real.{RealStands}
@@ -20,9 +20,9 @@ use Rattle.hfsc_eligible.specs.Eligible.{StandsFor, head_at, head_in}
 use Rattle.runtime_curve.specs.declared.Opening.{Opening}
 use Rattle.ranking.proofs.Ranks.{same_test}
 use Rattle.std.proofs.lemmas.Option.{slice_get-get_or}
-use Rattle.hfsc_eligible.specs.Slot.{head_of, SlotStands, slot_has_head, slot_deadline, slot_soonest}
+use Rattle.hfsc_eligible.specs.Slot.{head_of, SlotStands, slot_has_head}
 use Rattle.hfsc_eligible.specs.Heads.{Holds, IsReplaced}
-use Rattle.hfsc_eligible.proofs.Slots.{slot_deadline_is, slot_soonest_is, slot_head_is}
+use Rattle.hfsc_eligible.proofs.Slots.{slot_head_is}
 
 holds_changed : (f : Slot → Option ℕ) (slots : List Slot) (class : ℕ) (x : Slot) (old new : Ranking) → Holds f slots old → class < length slots
     → IsReplaced class (slot_has_head x) (f x) old new → Holds f (slice_set slots class x) new

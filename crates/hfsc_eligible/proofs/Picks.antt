@@ -1,25 +1,22 @@
 -- The picks and the least moment, from the lists.
 use Rattle.std.proofs.Common.{◌≡◌, ◌≤◌, ◌<◌, ℕ, Bool, true, false, List, [], ◌∷◌, None, Some, length, refl, sym, ap, arith, ◌∙◌}
-use Rattle.std.specs.Prelude.{Option, ◌==◌, nat_le, MatchOption, if◌then◌else◌}
+use Rattle.std.specs.Prelude.{Option, ◌==◌, MatchOption}
 use Rattle.std.specs.List.{find}
 use Rattle.std.proofs.lemmas.Bool.Decides.{nat_tests}
 use Rattle.service_curve.specs.declared.Curve.{Curve}
-use Rattle.ranking.specs.declared.Ranking.{Ranking}
-use Rattle.ranking.specs.Order.{is_in, is_ranked, key_of, GoesBefore, AreInOrder, IsOrderOf}
+use Rattle.ranking.specs.Order.{is_in, key_of, GoesBefore, AreInOrder, IsOrderOf}
 use Rattle.ranking.specs.Ranking.{keys_of, order_of}
-use Rattle.ranking.proofs.Ranks.{same_test, in_more}
-use Rattle.ranking.proofs.Orders.{goes, behind, found_first, found_none, find_none, IsFirstThat, in_below, is_order}
+use Rattle.ranking.proofs.Ranks.{same_test}
+use Rattle.ranking.proofs.Orders.{goes, behind, found_first, found_none, find_none, in_below, is_order}
 use Rattle.hfsc_model.specs.Event.{HfscHistory}
 use Rattle.hfsc_model.specs.Leaf.{Leaf, leaf, is_waiting}
 use Rattle.hfsc_model.specs.RealTime.{curve_of, has_come, has_head, head_deadline, soonest_of, is_eligible, goes_first, IsRealPick, NoneIsEligible, AreOpenBy}
 use Rattle.hfsc_model.proofs.Soonest.{eligible_from_soonest}
-use Rattle.hfsc_eligible.specs.declared.slot.Slot.{Slot}
 use Rattle.hfsc_eligible.specs.declared.Eligible.{Eligible}
-use Rattle.hfsc_eligible.specs.Slot.{slot_has_head, slot_deadline, slot_soonest}
-use Rattle.hfsc_eligible.specs.Heads.{Holds}
-use Rattle.hfsc_eligible.specs.Eligible.{StandsFor, IsLeastKey, IsLeastOf, IsLeastSoonest, first_key, pick_now, soonest_now}
+use Rattle.hfsc_eligible.specs.Slot.{slot_deadline, slot_soonest}
+use Rattle.hfsc_eligible.specs.Eligible.{StandsFor, IsLeastOf, IsLeastSoonest, first_key, pick_now, soonest_now}
 use Rattle.hfsc_eligible.proofs.Slots.{slot_deadline_is, slot_soonest_is}
-use Rattle.hfsc_eligible.proofs.Lists.{AllStand, ordered, key_is, listed, no_slot}
+use Rattle.hfsc_eligible.proofs.Lists.{AllStand, ordered, key_is, no_slot}
 
 -- the first of a list in the order of a key has the least of the keys
 first_none : (key : ℕ → Option ℕ) (x c u : ℕ) (xs : List ℕ) → key x ≡ None → GoesBefore key x xs → is_in c (x ∷ xs) ≡ true → key c ≡ Some u → ⊥

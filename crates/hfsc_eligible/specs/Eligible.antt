@@ -31,6 +31,17 @@ opening_in (Some x) = last_opening x
 abbrev pub opening_at : Eligible → ℕ → Option Opening
 opening_at e c = opening_in (slice_get e.slots.items c)
 
+-- nothing waits in any class, and none has opened
+pub record IsNew (e : Eligible) : Type 0 where
+  pub empty : (c : ℕ) → head_at e c ≡ None
+  pub closed : (c : ℕ) → opening_at e c ≡ None
+
+-- the classes but one are as they were
+pub record IsSameBut (class : ℕ) (old new : Eligible) : Type 0 where
+  pub classes : classes_of new ≡ classes_of old
+  pub heads : (c : ℕ) → (c ≡ class → ⊥) → head_at new c ≡ head_at old c
+  pub openings : (c : ℕ) → (c ≡ class → ⊥) → opening_at new c ≡ opening_at old c
+
 -- each class has the openings, the count and the head that it has after the history
 pub record StandsFor (e : Eligible) (curves : List (Option Curve)) (h : HfscHistory) : Type 0 where
   pub classes : length e.slots.items ≡ length curves

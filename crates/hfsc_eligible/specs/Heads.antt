@@ -7,7 +7,7 @@ use Rattle.ranking.specs.Ranking.{keys_of, order_of}
 use Rattle.hfsc_model.specs.Leaf.{new_leaf}
 use Rattle.hfsc_model.specs.RealTime.{curve_of}
 use Rattle.hfsc_eligible.specs.declared.slot.Slot.{Slot}
-use Rattle.hfsc_eligible.specs.Slot.{SlotStands, slot_has_head}
+use Rattle.hfsc_eligible.specs.Slot.{SlotStands, last_opening, slot_has_head}
 
 -- exactly the classes with a curve and a head stand in a list, each with its key
 pub record Holds (key : Slot → Option ℕ) (slots : List Slot) (ranking : Ranking) : Type 0 where
@@ -27,3 +27,4 @@ pub record IsReplaced (class : ℕ) (is : Bool) (key : Option ℕ) (old new : Ra
 pub record AreNew (curves : List (Option Curve)) (slots : List Slot) : Type 0 where
   pub each : (c : ℕ) (d : Slot) → c < length slots → SlotStands (slice_index_or slots c d) (curve_of curves c) new_leaf
   pub none : (c : ℕ) (d : Slot) → c < length slots → slot_has_head (slice_index_or slots c d) ≡ false
+  pub closed : (c : ℕ) (d : Slot) → c < length slots → last_opening (slice_index_or slots c d) ≡ None

@@ -46,14 +46,17 @@ pub struct Eligible {
 }
 
 impl Eligible {
-    ghost use Rattle.hfsc_eligible.specs.Eligible.{StandsFor, IsLeastSoonest, classes_of, head_at, opening_at, pick_now, soonest_now};
+    ghost use Rattle.hfsc_eligible.specs.Eligible.{StandsFor, IsLeastSoonest, IsNew, IsSameBut, classes_of, head_at, opening_at, pick_now, soonest_now};
 
     /// The classes of these real-time curves, without a packet. A curve that is 0 everywhere counts as none. There are at
     /// most 256; a curve whose slope rises has to rise from 0.
+    #[tactic(auto, using(crate::proofs::Same::new_is))]
     pub fn build(alloc: Global, curves: &[Option<Curve>]) -> Result<Eligible, NoMemory>
         requires classes { length curves.now ≤ 256 }
         requires curves { All CanCarry curves.now }
         ensures stands { IfOk result (λ e. StandsFor e curves.now []) }
+        ensures classes { IfOk result (λ e. classes_of e ≡ length curves.now) }
+        ensures new { IfOk result IsNew }
     {
         let slots = slots_of(alloc, curves)?;
         let classes = slots.len() as u32;
@@ -75,6 +78,9 @@ impl Eligible {
         requires later { ForSome (opening_at self.old class) (λ last. last.at ≤ at) }
         ensures stands { (curves : List (Option Curve)) (h : HfscHistory) → StandsFor self.old curves h
             → StandsFor self.new curves (Kept class at len ∷ h) }
+        ensures head { head_at self.new class ≡ Some len }
+        ensures opening { ForSome (opening_at self.new class) (λ last. last.at ≡ at) }
+        ensures others { IsSameBut class self.old self.new }
     {
         let slot = self.slots[class as usize].opened(at, len);
         self.set(class, slot);
@@ -91,6 +97,9 @@ impl Eligible {
             → head_len (leaf (Sent class len counted start ∷ h) class).waiting ≡ head
             → (leaf (Sent class len counted start ∷ h) class).count ≤ 2 ^ 99
             → StandsFor self.new curves (Sent class len counted start ∷ h) }
+        ensures next { head_at self.new class ≡ head }
+        ensures opening { opening_at self.new class ≡ opening_at self.old class }
+        ensures others { IsSameBut class self.old self.new }
     {
         let slot = self.slots[class as usize].sent(len, counted, head);
         self.set(class, slot);

@@ -35,6 +35,7 @@ impl Slot {
     pub fn new(curve: Option<Curve>) -> Slot
         requires { CanCarry curve }
         ensures stands { SlotStands result (unless_zero curve) new_leaf }
+        ensures closed { last_opening result ≡ None }
     {
         Slot {
             real: running_of(curve),
@@ -49,6 +50,7 @@ impl Slot {
         requires later { ForSome (last_opening self) (λ last. last.at ≤ at) }
         ensures stands { (o : Option Curve) (l : Leaf) → SlotStands self o l → l.waiting ≡ [] → SlotStands result o (after_kept at len l) }
         ensures last { IsOpenedAt at result }
+        ensures head { head_of result ≡ Some len }
     {
         Slot {
             real: begun(self.real, u128::from(at), self.count),
@@ -64,6 +66,7 @@ impl Slot {
         ensures stands { (o : Option Curve) (l : Leaf) → SlotStands self o l → head_len (drop 1 l.waiting) ≡ head
             → (after_sent len counted l).count ≤ 2 ^ 99 → SlotStands result o (after_sent len counted l) }
         ensures last { last_opening result ≡ last_opening self }
+        ensures next { head_of result ≡ head }
     {
         let count = if counted {
             (self.count + units(u64::from(len))).min(MOST)

@@ -8,3 +8,6 @@ pub mod Anchor
 pub mod Rows
 pub mod Law
 pub mod Timing
+pub mod Tree
+pub mod Activity
+pub mod Picking

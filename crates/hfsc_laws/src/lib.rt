@@ -20,3 +20,11 @@ pub fn packets_are_timely()
     ensures { (rate : ℕ) (curves : List (Option Curve)) (h : HfscHistory) → 0 < rate → AreInOrder h → AreOneByOne rate h
         → IsBusy rate curves h → AreChosen curves h → FitLink rate curves → IsTimely rate curves h }
 {}
+
+mod pick;
+mod share;
+
+pub use pick::computed_picks_are_picks;
+pub use share::{
+    activity_is_that_of_children, classes_begin_at_their_activation, packets_make_their_path_active,
+};

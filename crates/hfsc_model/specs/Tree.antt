@@ -1,5 +1,5 @@
 -- The tree of the classes. Exactly the first class has no parent, and every other parent stands earlier in the file.
-use Rattle.std.specs.Prelude.{◌==◌, ◌&&◌, ℕ, zero, suc, not, nat_lt, Bool, false, List, [], ◌∷◌, length, map, get_or, Option, None, Some}
+use Rattle.std.specs.Prelude.{◌≡◌, ◌<◌, ◌==◌, ◌&&◌, ℕ, zero, suc, not, nat_lt, Bool, false, List, [], ◌∷◌, length, map, get_or, Option, None, Some}
 use Rattle.std.specs.List.{list_any, range_with_len}
 use Rattle.service_curve.specs.declared.Curve.{Curve}
 use Rattle.hfsc_model.specs.declared.HfscClass.{HfscClass}
@@ -46,3 +46,9 @@ is_under cs c d = list_any (λ x. x == c) (path cs d)
 -- the real-time curve of each class
 abbrev pub reals : List HfscClass → List (Option Curve)
 reals cs = map (λ (k : HfscClass). k.real) cs
+
+-- the first class is the root, every other parent stands earlier in the file, and no class is deeper than 8 levels
+pub record IsTree (cs : List HfscClass) : Type 0 where
+  pub root : (class_of cs 0).parent ≡ None
+  pub earlier : (c p : ℕ) → (class_of cs c).parent ≡ Some p → p < c
+  pub levels : (c : ℕ) → path_up 9 cs (Some c) ≡ path cs c

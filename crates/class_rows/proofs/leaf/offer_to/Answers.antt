@@ -1,6 +1,4 @@
 use Rattle.std.proofs.Common.{◌≡◌, ◌∙◌, ap, arith, length, sym}
-use Rattle.std.specs.Prelude.{Bool}
-use Rattle.altq_model.specs.declared.Verdict.{Verdict}
 use Rattle.altq_model.specs.History.{is_kept}
 use Rattle.leaf_queue.specs.Lists.{list_of}
 use Rattle.class_rows.proofs.LeafLemmas.{all_wait}

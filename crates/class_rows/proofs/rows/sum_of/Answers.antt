@@ -1,8 +1,8 @@
-use Rattle.std.proofs.Common.{◌≡◌, ◌≤◌, ◌<◌, ◌∙◌, ℕ, Bool, true, false, Some, length, take, ap, arith, sym}
+use Rattle.std.proofs.Common.{◌≡◌, ◌≤◌, ◌<◌, ◌∙◌, ℕ, Bool, false, Some, length, take, ap, arith, sym}
 use Rattle.std.specs.Prelude.{slice_get, slice_index_or}
 use Rattle.std.proofs.lemmas.List.Elements.{All-get_or}
 use Rattle.std.proofs.lemmas.Option.{slice_get-get_or}
-use Rattle.class_rows.specs.Rows.{limits_of, limits_sum, most_of}
+use Rattle.class_rows.specs.Rows.{limits_of, limits_sum}
 use Rattle.class_rows.proofs.RowLemmas.{all_sum, most_small, sum_next}
 use Rattle.class_rows.proofs.rows.sum_of.Goals as goal
 

@@ -1,7 +1,6 @@
-use Rattle.std.proofs.Common.{◌≡◌, ◌∙◌, ◌-◌, ◌+◌, ℕ, List, [], Some, ap, arith, inl, inr, length, refl, subst, sym}
+use Rattle.std.proofs.Common.{◌≡◌, ◌∙◌, ◌-◌, ◌+◌, ℕ, Some, ap, arith, inl, inr, length, refl, subst, sym}
 use Rattle.std.specs.Prelude.{nat_le, nat_lt, slice_get}
 use Rattle.std.proofs.lemmas.Bool.{cases_eq}
-use Rattle.leaf_queue.specs.declared.node.Entry.{Entry}
 use Rattle.discipline_laws.specs.declared.pick.Pick.TheVariants.{Send}
 use Rattle.class_rows.specs.Rows.{list_in}
 use Rattle.discipline.specs.Strict.{first_pick}

@@ -1,6 +1,5 @@
-use Rattle.std.proofs.Common.{◌≡◌, ◌<◌, ◌∙◌, List, ℕ, Bool, None, Some, true, false, take, length, get_or, ap, sym, subst, arith}
+use Rattle.std.proofs.Common.{◌≡◌, ◌∙◌, List, ℕ, Some, true, false, length, get_or, ap, sym, arith}
 use Rattle.std.specs.Prelude.{Option}
-use Rattle.std.specs.List.{find}
 use Rattle.ranking.specs.Order.{key_of}
 use Rattle.ranking.specs.Ranking.{keys_of, order_of}
 use Rattle.ranking.proofs.Orders.{find_more, find_hit, item_below}

@@ -1,7 +1,7 @@
 use Rattle.std.proofs.Common.{◌∙◌, ap, sym, List, ℕ, Bool}
 use Rattle.std.specs.Prelude.{◌==◌, if◌then◌else◌}
 use Rattle.ranking.specs.Order.{is_in}
-use Rattle.ranking.specs.Ranking.{keys_of, order_of}
+use Rattle.ranking.specs.Ranking.{order_of}
 use Rattle.ranking.proofs.Ranks.{with_in}
 use Rattle.hfsc_eligible.proofs.heads.put_if.Goals as goal
 

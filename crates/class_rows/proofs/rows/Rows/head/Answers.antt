@@ -1,8 +1,7 @@
-use Rattle.std.proofs.Common.{◌≡◌, ◌≤◌, ◌<◌, ◌+◌, ◌∙◌, subst, sym, arith, length}
+use Rattle.std.proofs.Common.{◌≡◌, ◌≤◌, ◌<◌, ◌+◌, ◌∙◌, subst, sym, length}
 use Rattle.std.specs.Prelude.{slice_get}
 use Rattle.class_rows.specs.Rows.{Rowed, list_in}
-use Rattle.class_rows.proofs.RowHistory.{IsPlace, head_is, known_place}
-use Rattle.class_rows.proofs.rows.Rows.head.Given.{Over}
+use Rattle.class_rows.proofs.RowHistory.{head_is, known_place}
 use Rattle.class_rows.proofs.rows.Rows.head.Goals as goal
 
 pub head-requires : goal.head-requires

@@ -1,5 +1,5 @@
-use Rattle.std.proofs.Common.{◌≡◌, ◌∙◌, ap, arith, sym, refl}
-use Rattle.std.specs.Prelude.{Some, None, slice_get}
+use Rattle.std.proofs.Common.{◌∙◌, ap, arith, sym, refl}
+use Rattle.std.specs.Prelude.{Some, slice_get}
 use Rattle.altq_model.specs.History.{bare}
 use Rattle.class_rows.specs.Rows.{answering, list_in}
 use Rattle.discipline.specs.Paced.{Pacing}

@@ -1,10 +1,10 @@
 use Rattle.std.proofs.Common.{◌≡◌, ◌∙◌, ℕ, Bool, List, ap, arith, length, map, replicate}
 use Rattle.std.specs.Prelude.{true}
-use Rattle.altq_model.specs.Policies.{Answering, strict}
+use Rattle.altq_model.specs.Policies.{strict}
 use Rattle.leaf_queue.specs.Queue.{by_queues}
-use Rattle.class_rows.specs.Rows.{Rowed, answering, holding, limit_at, limits_of}
+use Rattle.class_rows.specs.Rows.{Rowed, holding, limit_at, limits_of}
 use Rattle.class_rows.proofs.RowLemmas.{all_limits}
-use Rattle.discipline.specs.Strict.{Ordered, classes_from}
+use Rattle.discipline.specs.Strict.{classes_from}
 use Rattle.discipline.proofs.StrictLemmas.{all_hold, plain}
 use Rattle.discipline.proofs.strict.Strict.build.Goals as goal
 

@@ -5,7 +5,7 @@ use Rattle.discipline_laws.specs.declared.pick.Pick.{Pick}
 use Rattle.discipline_laws.specs.declared.pick.Pick.TheVariants.{Empty}
 use Rattle.discipline_laws.specs.Laws.{IsDue, NamesHead, Waits}
 use Rattle.class_rows.specs.Rows.{classes_in, list_in}
-use Rattle.discipline.specs.Strict.{Ordered, first_pick, strict_due, strict_of}
+use Rattle.discipline.specs.Strict.{Ordered, strict_due, strict_of}
 use Rattle.discipline.proofs.StrictLemmas.{due_of_policy, names_head, waits_never}
 use Rattle.discipline.proofs.strict.StrictDiscipline.next.Goals as goal
 

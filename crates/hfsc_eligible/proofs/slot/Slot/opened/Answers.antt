@@ -1,4 +1,4 @@
-use Rattle.std.proofs.Common.{◌≡◌, ◌≤◌, ◌∙◌, Some, ap, sym, arith}
+use Rattle.std.proofs.Common.{◌≡◌, ◌∙◌, ap, sym, arith}
 use Rattle.std.specs.Prelude.{is_some}
 use Rattle.hfsc_eligible.specs.Real.{last_in}
 use Rattle.hfsc_eligible.proofs.Slots.{begun_up_to, begun_open}
