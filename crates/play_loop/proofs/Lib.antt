@@ -1,6 +1,9 @@
-pub mod DecisionLemmas
 pub mod GatherLemmas
 pub mod GatheredLaws
+pub mod HeadLemmas
+pub mod KeptLemmas
 pub mod OutputLemmas
-pub mod PlayLemmas
-pub mod ReadLemmas
+pub mod PacketLemmas
+pub mod SentLemmas
+pub mod TextLemmas
+pub mod TurnLemmas
