@@ -15,4 +15,6 @@ pub use program::{run, run_steady};
 pub use status::Status;
 
 #[cfg(test)]
+mod over_strict;
+#[cfg(test)]
 mod tests;

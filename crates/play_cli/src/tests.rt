@@ -24,7 +24,7 @@ const WORDS: [&str; 15] = [
 const IMPLIED: &str = "interface if0 bandwidth 8M hfsc";
 
 // The head of a capture in little-endian nanoseconds.
-const HEAD: [u8; 24] = [
+pub const HEAD: [u8; 24] = [
     0x4d, 0x3c, 0xb2, 0xa1, 2, 0, 4, 0, 0, 0, 0, 0, 0, 0, 0, 0, 0, 0, 4, 0, 1, 0, 0, 0,
 ];
 
@@ -34,7 +34,7 @@ const BIG_HEAD: [u8; 24] = [
 ];
 
 // The words of a play, but for one.
-fn words_but(alloc: Global, place: usize, word: &str) -> Result<Vec<String>, NoMemory> {
+pub fn words_but(alloc: Global, place: usize, word: &str) -> Result<Vec<String>, NoMemory> {
     let mut words = Vec::new(alloc);
     for (i, text) in WORDS.iter().enumerate() {
         let text = if i == place { word } else { *text };
