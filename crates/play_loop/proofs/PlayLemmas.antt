@@ -187,8 +187,13 @@ first_later s t (w ∷ xs) (z ∷ ys) x y more other e a b c d =
 -- no record arrives after the moment
 pub none_later : (v : View) (file : ℕ) (bytes : List ℕ) (records : List Record) (moment : ℕ) → greatest 0 records ≤ moment → Streams v file bytes records moment
 none_later v file bytes records moment l = λ before r after e low high.
-    absurd (omega (arith, l, high, front_greatest 0 (before ++ r ∷ []) after,
-    ap (λ (rs : List Record). greatest 0 rs) (e ∙ sym (append_assoc before (r ∷ []) after))))
+    absurd (omega (
+      arith,
+      l,
+      high,
+      front_greatest 0 (before ++ r ∷ []) after,
+      ap (λ (rs : List Record). greatest 0 rs) (e ∙ sym (append_assoc before (r ∷ []) after)),
+    ))
 
 -- the bytes that were taken end soon after the last record that was read
 pub took_ahead : (place : List ℕ → Placed) (v w : View) (r : Reader) (file : ℕ) (bytes : List ℕ) (all rest : List Record) (arrived : List Arrival) (moment : ℕ)

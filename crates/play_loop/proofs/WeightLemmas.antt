@@ -109,9 +109,15 @@ departed_size dress xs (e ∷ g) k o =
     let more : List Record = departed_by dress xs e.label e.what g in
     let js : List Decision = journal g in
     let d : List Decision = decided e.label e.what in
-    omega (arith, ap (λ (t : List ℕ). length t) (texts-append rs more), length-append (record_texts rs) (record_texts more),
-    ap (λ (ns : List ℕ). weigh 0 (sizes xs) ns) (numbers_append js d), weigh_append 0 (sizes xs) (numbers js) (numbers d),
-    departed_size dress xs g k o.1, event_size dress xs e.label e.what g k o.0)
+    omega (
+      arith,
+      ap (λ (t : List ℕ). length t) (texts-append rs more),
+      length-append (record_texts rs) (record_texts more),
+      ap (λ (ns : List ℕ). weigh 0 (sizes xs) ns) (numbers_append js d),
+      weigh_append 0 (sizes xs) (numbers js) (numbers d),
+      departed_size dress xs g k o.1,
+      event_size dress xs e.label e.what g k o.0,
+    )
 
 event_count : (dress : Dressing) (xs : List Arrival) (n : ℕ) (e : Event) (g : List Happened) → length (departed_by dress xs n e g) ≤ length (decided n e)
 event_count dress xs n (Offered a w v) g = omega arith
@@ -120,8 +126,13 @@ event_count dress xs n (Sent s) g = omega arith
 departed_count : (dress : Dressing) (xs : List Arrival) (g : List Happened) → length (departed dress xs g) ≤ length (journal g)
 departed_count dress xs [] = omega arith
 departed_count dress xs (e ∷ g) =
-    omega (arith, length-append (departed dress xs g) (departed_by dress xs e.label e.what g), length-append (journal g) (decided e.label e.what), departed_count dress xs g,
-    event_count dress xs e.label e.what g)
+    omega (
+      arith,
+      length-append (departed dress xs g) (departed_by dress xs e.label e.what g),
+      length-append (journal g) (decided e.label e.what),
+      departed_count dress xs g,
+      event_count dress xs e.label e.what g,
+    )
 
 none_within : All IsWithin []
 none_within = All-nil IsWithin

@@ -185,7 +185,9 @@ fn play_records<D: Discipline, C: Classify, F: Files>(
             Err(fault) => return Ok(Ending::Cut(fault)),
         };
         let Some(record) = found else {
-            return match send_due(alloc, progress, discipline, classify, names, None, outputs, files) {
+            return match send_due(
+                alloc, progress, discipline, classify, names, None, outputs, files,
+            ) {
                 Ok(Due::Made) => Ok(Ending::Whole),
                 Ok(Due::Late) => Ok(Ending::Late),
                 Err(fault) => Err(fault),

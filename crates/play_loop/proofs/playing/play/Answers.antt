@@ -303,9 +303,13 @@ returns-clause-why g c =
     let f = d.first bytes (told bytes t l) (outcome bytes).records (outcome bytes).last found last in
     let left = left_kept (g.F.Files.view c.play_records.new.files) (g.F.Files.view c.finish.new.files) c.args.opened.now.arrivals c.play_records.new.outputs.departures c.play_records.new.outputs.fates (still_there _ _ _ _ _ k.keeps c.requires.ready.arrivals) from_departures from_fates (k.keeps.tells ∙ t) c.in-Ok-finish.ensures.others in (
       (outcome bytes).records,
-      ((outcome bytes).last, found, last,
-      was_cut x (g.D.Discipline.stands c.play_records.new.discipline) (g.C.Classify.placed c.args.classify.now) (g.F.Files.view c.play_records.new.files) (g.F.Files.view c.finish.new.files) c.args.opened.now c.play_records.new.reader bytes (outcome bytes).records (outcome bytes).last e.0 f.0 e.1 c.play_records.new.progress.totals m d.cut f.1 f.2 totals
-      found last (left ∙ ap (λ (n : ℕ). (g.F.Files.view c.play_records.new.files).left n) (sym file)) (d.ahead bytes (told bytes t l)) y z (e.2.going.told, e.2.going.stands, e.2.going.same)),
+      (
+        (outcome bytes).last,
+        found,
+        last,
+        was_cut x (g.D.Discipline.stands c.play_records.new.discipline) (g.C.Classify.placed c.args.classify.now) (g.F.Files.view c.play_records.new.files) (g.F.Files.view c.finish.new.files) c.args.opened.now c.play_records.new.reader bytes (outcome bytes).records (outcome bytes).last e.0 f.0 e.1 c.play_records.new.progress.totals m d.cut f.1 f.2 totals
+            found last (left ∙ ap (λ (n : ℕ). (g.F.Files.view c.play_records.new.files).left n) (sym file)) (d.ahead bytes (told bytes t l)) y z (e.2.going.told, e.2.going.stands, e.2.going.same),
+      ),
     ))
 
 pub returns-clause-front : goal.returns-clause-front

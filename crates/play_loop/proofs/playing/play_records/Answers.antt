@@ -45,15 +45,19 @@ records-init g c = record {
   rate = refl;
   seed = refl;
   early = omega arith;
-  reading = ([], [], record {
-    under = c.requires.under;
-    offers = refl;
-    last = tt;
-    newest = refl;
-    last_is = refl;
-    counted = omega arith;
-    read = λ bytes t. record { records = []; stands = t.1; arrivals = refl; latest_is = refl };
-  });
+  reading = (
+    [],
+    [],
+    record {
+      under = c.requires.under;
+      offers = refl;
+      last = tt;
+      newest = refl;
+      last_is = refl;
+      counted = omega arith;
+      read = λ bytes t. record { records = []; stands = t.1; arrivals = refl; latest_is = refl };
+    },
+  );
 }
 
 pub returns-in-Err-clause-ended : goal.returns-in-Err-clause-ended
@@ -93,9 +97,13 @@ returns-in-Ok-Made-clause-ended g c =
     let made = subst Q c.in-Ok-Made.field-0-is d.3 in
     let x : IsDone (g.C.Classify.placed c.args.classify.now) (g.D.Discipline.policy c.records.discipline) c.records.progress.clock.rate c.records.words.seed (λ bytes. IsTrue (g.F.Files.view c.args.files.now).tells × StandsFor (g.F.Files.view c.args.files.now) c.args.reader.now bytes []) z.0 d.0 = record { done = made.all refl; all = all } in
     let f : AreFirst (g.C.Classify.placed c.args.classify.now) (g.D.Discipline.policy c.records.discipline) c.records.progress.clock.rate c.records.words.seed (λ bytes. IsTrue (g.F.Files.view c.args.files.now).tells × StandsFor (g.F.Files.view c.args.files.now) c.args.reader.now bytes []) z.0 d.0 =
-    λ bytes t every last y l. first_of_all (g.C.Classify.placed c.args.classify.now) (g.D.Discipline.policy c.records.discipline) c.records.progress.clock.rate c.records.words.seed bytes z.0 d.0 (all bytes t) (same_begun _ _ _ _ c.records.words.seed (comings z.0) d.0 c.in-Ok-Made.ensures.policy c.in-Ok-Made.ensures.rate d.1.going.begun).events every last y l in
-    (z.0, d.0, d.1, same_play (λ (p : Policy) (k l : ℕ). IsDone (g.C.Classify.placed c.args.classify.now) p k l (λ bytes. IsTrue (g.F.Files.view c.args.files.now).tells × StandsFor (g.F.Files.view c.args.files.now) c.args.reader.now bytes []) z.0 d.0) _ _ _ _ _ _ c.records.invariant.policy c.records.invariant.rate c.records.invariant.seed x,
-    same_play (λ (p : Policy) (k l : ℕ). AreFirst (g.C.Classify.placed c.args.classify.now) p k l (λ bytes. IsTrue (g.F.Files.view c.args.files.now).tells × StandsFor (g.F.Files.view c.args.files.now) c.args.reader.now bytes []) z.0 d.0) _ _ _ _ _ _ c.records.invariant.policy c.records.invariant.rate c.records.invariant.seed f)
+    λ bytes t every last y l. first_of_all (g.C.Classify.placed c.args.classify.now) (g.D.Discipline.policy c.records.discipline) c.records.progress.clock.rate c.records.words.seed bytes z.0 d.0 (all bytes t) (same_begun _ _ _ _ c.records.words.seed (comings z.0) d.0 c.in-Ok-Made.ensures.policy c.in-Ok-Made.ensures.rate d.1.going.begun).events every last y l in (
+      z.0,
+      d.0,
+      d.1,
+      same_play (λ (p : Policy) (k l : ℕ). IsDone (g.C.Classify.placed c.args.classify.now) p k l (λ bytes. IsTrue (g.F.Files.view c.args.files.now).tells × StandsFor (g.F.Files.view c.args.files.now) c.args.reader.now bytes []) z.0 d.0) _ _ _ _ _ _ c.records.invariant.policy c.records.invariant.rate c.records.invariant.seed x,
+      same_play (λ (p : Policy) (k l : ℕ). AreFirst (g.C.Classify.placed c.args.classify.now) p k l (λ bytes. IsTrue (g.F.Files.view c.args.files.now).tells × StandsFor (g.F.Files.view c.args.files.now) c.args.reader.now bytes []) z.0 d.0) _ _ _ _ _ _ c.records.invariant.policy c.records.invariant.rate c.records.invariant.seed f,
+    )
 
 pub returns-in-Ok-Late-clause-ended : goal.returns-in-Ok-Late-clause-ended
 returns-in-Ok-Late-clause-ended g c =
@@ -120,9 +128,14 @@ returns-in-Ok-Late-clause-ended g c =
     record {
       cut = cut;
       first = λ bytes t every last y l. first_of_all (g.C.Classify.placed c.args.classify.now) (g.D.Discipline.policy c.records.discipline) c.records.progress.clock.rate c.records.words.seed bytes z.0 (cut.next ∷ d.0) (all bytes t) (cut.is_due, cut.begun.events) every last y l;
-      ahead = λ bytes t. (let h = z.2.read bytes t in inl (record { all = all bytes t; passed = omega (arith, h.latest_is, z.2.newest, d.2.1, starts.after) })) } in
-    (z.0, d.0, d.1, same_play (λ (p : Policy) (k l : ℕ). IsOverdue (g.C.Classify.placed c.args.classify.now) p k l (λ bytes. IsTrue (g.F.Files.view c.args.files.now).tells × StandsFor (g.F.Files.view c.args.files.now) c.args.reader.now bytes []) (g.F.Files.view c.send_due.new.files) c.next.new.self z.0 d.0) _ _ _ _ _ _ c.records.invariant.policy c.records.invariant.rate c.records.invariant.seed x,
-    same_play (λ (p : Policy) (k l : ℕ). AreFirst (g.C.Classify.placed c.args.classify.now) p k l (λ bytes. IsTrue (g.F.Files.view c.args.files.now).tells × StandsFor (g.F.Files.view c.args.files.now) c.args.reader.now bytes []) z.0 d.0) _ _ _ _ _ _ c.records.invariant.policy c.records.invariant.rate c.records.invariant.seed f)
+      ahead = λ bytes t. (let h = z.2.read bytes t in inl (record { all = all bytes t; passed = omega (arith, h.latest_is, z.2.newest, d.2.1, starts.after) }));
+    } in (
+      z.0,
+      d.0,
+      d.1,
+      same_play (λ (p : Policy) (k l : ℕ). IsOverdue (g.C.Classify.placed c.args.classify.now) p k l (λ bytes. IsTrue (g.F.Files.view c.args.files.now).tells × StandsFor (g.F.Files.view c.args.files.now) c.args.reader.now bytes []) (g.F.Files.view c.send_due.new.files) c.next.new.self z.0 d.0) _ _ _ _ _ _ c.records.invariant.policy c.records.invariant.rate c.records.invariant.seed x,
+      same_play (λ (p : Policy) (k l : ℕ). AreFirst (g.C.Classify.placed c.args.classify.now) p k l (λ bytes. IsTrue (g.F.Files.view c.args.files.now).tells × StandsFor (g.F.Files.view c.args.files.now) c.args.reader.now bytes []) z.0 d.0) _ _ _ _ _ _ c.records.invariant.policy c.records.invariant.rate c.records.invariant.seed f,
+    )
 
 pub returns-in-Ok-Made-clause-others : goal.returns-in-Ok-Made-clause-others
 returns-in-Ok-Made-clause-others g c = then_wrote _ _ _ c.args.reader.now.file c.args.outputs.now.departures c.args.outputs.now.fates c.records.outputs.departures c.records.outputs.fates c.requires.under.given.departures.holds.there c.requires.under.given.fates.holds.there c.records.invariant.same.departures c.records.invariant.same.fates (then_took _ _ _ c.args.reader.now.file c.args.outputs.now.departures c.args.outputs.now.fates c.records.reader.file c.requires.under.given.departures.holds.there c.requires.under.given.fates.holds.there c.records.invariant.file c.records.invariant.others c.next.ensures.some) c.in-Ok-Made.ensures.others
@@ -225,18 +238,22 @@ records-preserved g c =
       rate = c.in-Ok-Made-play_packet.ensures.rate ∙ c.records.invariant.rate;
       seed = c.in-Ok-Made-play_packet.ensures.seed ∙ c.records.invariant.seed;
       early = c.arriving_of-arriving.ensures.within.early;
-      reading = (more, d.0, record {
-        under = d.1;
-        offers = omega (arith, o.1, z.2.offers, size);
-        last = o.0;
-        newest = o.2;
-        last_is = last_more (g.C.Classify.placed c.args.classify.now) z.0 c.arriving_of-arriving.result;
-        counted = omega (arith, size, z.2.counted, count);
-        read = λ bytes t. (let h = z.2.read bytes t in
-            read_kept (g.C.Classify.placed c.args.classify.now) (g.F.Files.view c.next.new.files) (g.F.Files.view c.play_packet.new.files) c.next.new.self c.records.outputs.departures c.records.outputs.fates bytes more c.arriving_of-arriving.result.packet.at
-            (read_record (g.C.Classify.placed c.args.classify.now) (g.F.Files.view c.records.files) (g.F.Files.view c.next.new.files) c.records.reader c.next.new.self bytes z.0 c.records.latest c.in-Some.record c.arriving_of-arriving.result is h (answer bytes h.records h.stands))
-            there (other t.0) c.in-Ok-Made-play_packet.ensures.others);
-      });
+      reading = (
+        more,
+        d.0,
+        record {
+          under = d.1;
+          offers = omega (arith, o.1, z.2.offers, size);
+          last = o.0;
+          newest = o.2;
+          last_is = last_more (g.C.Classify.placed c.args.classify.now) z.0 c.arriving_of-arriving.result;
+          counted = omega (arith, size, z.2.counted, count);
+          read = λ bytes t. (let h = z.2.read bytes t in
+              read_kept (g.C.Classify.placed c.args.classify.now) (g.F.Files.view c.next.new.files) (g.F.Files.view c.play_packet.new.files) c.next.new.self c.records.outputs.departures c.records.outputs.fates bytes more c.arriving_of-arriving.result.packet.at
+              (read_record (g.C.Classify.placed c.args.classify.now) (g.F.Files.view c.records.files) (g.F.Files.view c.next.new.files) c.records.reader c.next.new.self bytes z.0 c.records.latest c.in-Some.record c.arriving_of-arriving.result is h (answer bytes h.records h.stands))
+              there (other t.0) c.in-Ok-Made-play_packet.ensures.others);
+        },
+      );
     }
 
 pub returns-in-Ok-Late-play_packet-clause-ended : goal.returns-in-Ok-Late-play_packet-clause-ended
@@ -295,9 +312,13 @@ returns-in-Ok-Late-play_packet-clause-ended g c =
     let stay = before_stays (g.C.Classify.placed c.args.classify.now) (g.D.Discipline.policy c.records.discipline) c.records.progress.clock.rate c.records.words.seed more z.1 d.0 c.arriving_of-arriving.result held o.1.0 cut.begun.events in
     let f : AreFirst (g.C.Classify.placed c.args.classify.now) (g.D.Discipline.policy c.records.discipline) c.records.progress.clock.rate c.records.words.seed (λ bytes. IsTrue (g.F.Files.view c.args.files.now).tells × StandsFor (g.F.Files.view c.args.files.now) c.args.reader.now bytes []) more d.0 = λ bytes t every last y l. (let h = z.2.read bytes t in
     first_of_read (g.C.Classify.placed c.args.classify.now) (g.D.Discipline.policy c.records.discipline) c.records.progress.clock.rate c.records.words.seed (g.F.Files.view c.next.new.files) c.next.new.self bytes more c.arriving_of-arriving.result.packet.at d.0
-    (read_record (g.C.Classify.placed c.args.classify.now) (g.F.Files.view c.records.files) (g.F.Files.view c.next.new.files) c.records.reader c.next.new.self bytes z.0 c.records.latest c.in-Some.record c.arriving_of-arriving.result is h (answer bytes h.records h.stands)) stay every last y l) in
-    (more, d.0, d.1, same_play (λ (p : Policy) (k l : ℕ). IsOverdue (g.C.Classify.placed c.args.classify.now) p k l (λ bytes. IsTrue (g.F.Files.view c.args.files.now).tells × StandsFor (g.F.Files.view c.args.files.now) c.args.reader.now bytes []) (g.F.Files.view c.play_packet.new.files) c.next.new.self more d.0) _ _ _ _ _ _ c.records.invariant.policy c.records.invariant.rate c.records.invariant.seed x,
-    same_play (λ (p : Policy) (k l : ℕ). AreFirst (g.C.Classify.placed c.args.classify.now) p k l (λ bytes. IsTrue (g.F.Files.view c.args.files.now).tells × StandsFor (g.F.Files.view c.args.files.now) c.args.reader.now bytes []) more d.0) _ _ _ _ _ _ c.records.invariant.policy c.records.invariant.rate c.records.invariant.seed f)
+    (read_record (g.C.Classify.placed c.args.classify.now) (g.F.Files.view c.records.files) (g.F.Files.view c.next.new.files) c.records.reader c.next.new.self bytes z.0 c.records.latest c.in-Some.record c.arriving_of-arriving.result is h (answer bytes h.records h.stands)) stay every last y l) in (
+      more,
+      d.0,
+      d.1,
+      same_play (λ (p : Policy) (k l : ℕ). IsOverdue (g.C.Classify.placed c.args.classify.now) p k l (λ bytes. IsTrue (g.F.Files.view c.args.files.now).tells × StandsFor (g.F.Files.view c.args.files.now) c.args.reader.now bytes []) (g.F.Files.view c.play_packet.new.files) c.next.new.self more d.0) _ _ _ _ _ _ c.records.invariant.policy c.records.invariant.rate c.records.invariant.seed x,
+      same_play (λ (p : Policy) (k l : ℕ). AreFirst (g.C.Classify.placed c.args.classify.now) p k l (λ bytes. IsTrue (g.F.Files.view c.args.files.now).tells × StandsFor (g.F.Files.view c.args.files.now) c.args.reader.now bytes []) more d.0) _ _ _ _ _ _ c.records.invariant.policy c.records.invariant.rate c.records.invariant.seed f,
+    )
 
 pub returns-in-Ok-Late-play_packet-clause-others : goal.returns-in-Ok-Late-play_packet-clause-others
 returns-in-Ok-Late-play_packet-clause-others g c = then_wrote _ _ _ c.args.reader.now.file c.args.outputs.now.departures c.args.outputs.now.fates c.records.outputs.departures c.records.outputs.fates c.requires.under.given.departures.holds.there c.requires.under.given.fates.holds.there c.records.invariant.same.departures c.records.invariant.same.fates (then_took _ _ _ c.args.reader.now.file c.args.outputs.now.departures c.args.outputs.now.fates c.records.reader.file c.requires.under.given.departures.holds.there c.requires.under.given.fates.holds.there c.records.invariant.file c.records.invariant.others c.next.ensures.some) c.in-Ok-Late-play_packet.ensures.others
