@@ -1,7 +1,7 @@
 -- The packets of a capture as they arrive at the interface.
 use Rattle.std.specs.Prelude.{ℕ, ◌-◌, max, nat_lt, Bool, false, List, [], ◌∷◌, length, slice_get, unwrap_or}
-use Rattle.altq_model.specs.declared.Mark.{Mark}
-use Rattle.altq_model.specs.Capture.{Record}
+use Rattle.altq_model.specs.declared.Placed.{Placed}
+use Rattle.capture_model.specs.Capture.{Record}
 use Rattle.altq_model.specs.History.{Coming}
 
 -- a packet that arrives; its number is its place in the capture, from 1
@@ -19,7 +19,7 @@ pub record Arrival : Type 0 where
   pub raised : Bool
 
 -- the arrivals of records before which this was the greatest stamp, classified by their captured bytes
-abbrev pub arrivals_from : (List ℕ → Mark) → (latest : ℕ) → List Record → List Arrival
+abbrev pub arrivals_from : (List ℕ → Placed) → (latest : ℕ) → List Record → List Arrival
 arrivals_from mark latest [] = []
 arrivals_from mark latest (r ∷ rs) =
     record {
@@ -32,7 +32,7 @@ arrivals_from mark latest (r ∷ rs) =
     } ∷ arrivals_from mark (max latest r.stamp) rs
 
 -- the arrivals of a capture's records
-abbrev pub arrivals_of : (List ℕ → Mark) → List Record → List Arrival
+abbrev pub arrivals_of : (List ℕ → Placed) → List Record → List Arrival
 arrivals_of mark records = arrivals_from mark 0 records
 
 -- what a play sees of an arrival

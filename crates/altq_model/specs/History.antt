@@ -1,11 +1,11 @@
 -- What happened in a play. A history is a list of events, the newest first: `e ∷ h` is "h, and then e".
-use Rattle.std.specs.Prelude.{◌==◌, ◌+◌, ℕ, Bool, List, [], ◌∷◌, ◌++◌, drop, slice_get, if◌then◌else◌}
+use Rattle.std.specs.Prelude.{◌==◌, ◌&&◌, ◌+◌, ℕ, Bool, true, false, List, [], ◌∷◌, ◌++◌, drop, slice_get, if◌then◌else◌}
 use Rattle.std.specs.declared.option.Option.{Option}
 use Rattle.altq_model.specs.declared.Rule.{Rule}
 use Rattle.altq_model.specs.declared.Verdict.{Verdict}
-use Rattle.altq_model.specs.declared.Verdict.TheVariants.{Keep, Drop}
+use Rattle.altq_model.specs.declared.Verdict.TheVariants.{Keep, Mark, Drop}
 use Rattle.altq_model.specs.declared.Fate.{Fate}
-use Rattle.altq_model.specs.declared.Fate.TheVariants as fate
+use Rattle.altq_model.specs.declared.Fate.TheVariants
 
 -- a packet that comes to its class: its length in bytes, its precedence, its arrival in nanoseconds
 pub record Coming : Type 0 where
@@ -15,7 +15,7 @@ pub record Coming : Type 0 where
   pub at : ℕ
 
 -- the words of a seed, of which so many were drawn
-pub record Words : Type 0 where
+pub record DrawnWords : Type 0 where
   pub seed : ℕ
   pub drawn : ℕ
 
@@ -25,7 +25,7 @@ pub record Answer : Type 0 where
   pub took : ℕ
 
 -- the sending of a class's head
-pub record Sending : Type 0 where
+pub record Transmission : Type 0 where
   pub class : ℕ
   pub len : ℕ
   pub rule : Rule
@@ -34,16 +34,16 @@ pub record Sending : Type 0 where
 
 -- an offer of a packet to its class's queue, with the words as they were before it, or a sending
 pub data Event : Type 0 where
-  Offered : Coming → Words → Answer → Event
-  Sent : Sending → Event
+  Offered : Coming → DrawnWords → Answer → Event
+  Sent : Transmission → Event
 
 -- an event and the label of its packet: its number in a play, its ticket in a discipline. No rule reads labels
-pub record Entry : Type 0 where
+pub record Happened : Type 0 where
   pub label : ℕ
   pub what : Event
 
 -- the events, whatever their labels are
-abbrev pub bare : List Entry → List Event
+abbrev pub bare : List Happened → List Event
 bare [] = []
 bare (e ∷ g) = e.what ∷ bare g
 
@@ -59,10 +59,21 @@ drawn [] = 0
 drawn (Offered a w v ∷ h) = drawn h + v.took
 drawn (Sent s ∷ h) = drawn h
 
+-- a packet with this verdict waits until it is sent
+abbrev pub is_kept : Verdict → Bool
+is_kept Keep = true
+is_kept Mark = true
+is_kept (Drop r) = false
+
+-- it leaves marked
+abbrev pub is_mark : Verdict → Bool
+is_mark Keep = false
+is_mark Mark = true
+is_mark (Drop r) = false
+
 -- a class's waiting packets after one more was offered, or after a sending
 abbrev pub with_offer : {X : Type 0} → Bool → Verdict → X → List X → List X
-with_offer mine Keep x xs = if mine then xs ++ x ∷ [] else xs
-with_offer mine (Drop r) x xs = xs
+with_offer mine v x xs = if is_kept v && mine then xs ++ x ∷ [] else xs
 
 abbrev pub without_head : {X : Type 0} → Bool → List X → List X
 without_head mine xs = if mine then drop 1 xs else xs
@@ -82,9 +93,18 @@ abbrev pub labels_after : (c label : ℕ) → Event → List ℕ → List ℕ
 labels_after c label (Offered a w v) ns = with_offer (a.class == c) v.verdict label ns
 labels_after c label (Sent s) ns = without_head (s.class == c) ns
 
-abbrev pub labels : (c : ℕ) → List Entry → List ℕ
+abbrev pub labels : (c : ℕ) → List Happened → List ℕ
 labels c [] = []
 labels c (e ∷ g) = labels_after c e.label e.what (labels c g)
+
+-- the newest offer under this label was marked
+abbrev pub marked_after : (n label : ℕ) → Event → Bool → Bool
+marked_after n label (Offered a w v) before = if label == n then is_mark v.verdict else before
+marked_after n label (Sent s) before = before
+
+abbrev pub was_marked : (n : ℕ) → List Happened → Bool
+was_marked n [] = false
+was_marked n (e ∷ g) = marked_after n e.label e.what (was_marked n g)
 
 -- a decision: the number of a packet, and its fate
 abbrev pub Decision : Type 0
@@ -93,13 +113,14 @@ Decision = ℕ × Fate
 -- what an offer with this verdict decides of a packet: a drop, or nothing yet
 abbrev pub dropped_by : Verdict → ℕ → List Decision
 dropped_by Keep n = []
-dropped_by (Drop r) n = (n, fate.Dropped r) ∷ []
+dropped_by Mark n = []
+dropped_by (Drop r) n = (n, TheVariants.Dropped r) ∷ []
 
 abbrev pub decided : (n : ℕ) → Event → List Decision
 decided n (Offered a w v) = dropped_by v.verdict n
-decided n (Sent s) = (n, fate.Sent s.start s.end s.rule) ∷ []
+decided n (Sent s) = (n, TheVariants.Sent s.start s.end s.rule) ∷ []
 
 -- the journal: the decisions in their order, a drop at its offer and a sending at its start
-abbrev pub journal : List Entry → List Decision
+abbrev pub journal : List Happened → List Decision
 journal [] = []
 journal (e ∷ g) = journal g ++ decided e.label e.what

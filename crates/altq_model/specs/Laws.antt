@@ -1,11 +1,8 @@
 -- What holds of every play, in words that name no rule.
-use Rattle.std.specs.Prelude.{◌≡◌, ◌≤◌, ◌<◌, ◌==◌, ◌&&◌, ◌+◌, ◌-◌, ◌^◌, ◌*◌, ℕ, max, nat_lt, nat_le, List, [], ◌∷◌, length, if◌then◌else◌, slice_get}
+use Rattle.std.specs.Prelude.{◌≡◌, ◌≤◌, ◌<◌, ◌==◌, ◌&&◌, ◌+◌, ◌-◌, ◌^◌, ◌*◌, ℕ, nat_lt, nat_le, List, [], ◌∷◌, length, if◌then◌else◌, slice_get}
 use Rattle.std.specs.Option.{option_map_or}
-use Rattle.altq_model.specs.declared.Fate.{Fate}
-use Rattle.altq_model.specs.declared.Fate.TheVariants.{Dropped}
-use Rattle.altq_model.specs.declared.Fate.TheVariants as fate
-use Rattle.altq_model.specs.History.{Coming, Event, Offered, Sent, Sending, Entry, bare, Decision, journal}
-use Rattle.altq_model.specs.Link.{link, HasLinkEnds}
+use Rattle.altq_model.specs.History.{Coming, Event, Offered, Sent, Happened, bare, Decision, journal}
+use Rattle.altq_model.specs.Link.{HasLinkEnds}
 
 -- how often a number occurs in a list
 abbrev pub occurs : (n : ℕ) → List ℕ → ℕ
@@ -26,7 +23,7 @@ abbrev pub sent_by : (c n : ℕ) → Event → List ℕ → List ℕ
 sent_by c n (Offered a w v) ns = ns
 sent_by c n (Sent s) ns = if s.class == c then n ∷ ns else ns
 
-abbrev pub sent_in : (c : ℕ) → List Entry → List ℕ
+abbrev pub sent_in : (c : ℕ) → List Happened → List ℕ
 sent_in c [] = []
 sent_in c (e ∷ g) = sent_by c e.label e.what (sent_in c g)
 
@@ -36,12 +33,12 @@ AllBelow m [] = Unit {0}
 AllBelow m (n ∷ ns) = (n < m) × AllBelow m ns
 
 -- this event follows in order: what it sends has a greater number than all that its class sent before
-abbrev pub FollowsInOrder : (n : ℕ) → Event → List Entry → Type 0
+abbrev pub FollowsInOrder : (n : ℕ) → Event → List Happened → Type 0
 FollowsInOrder n (Offered a w v) g = Unit {0}
 FollowsInOrder n (Sent s) g = AllBelow n (sent_in s.class g)
 
 -- in each class the numbers of the sendings rise
-abbrev pub IsOrdered : List Entry → Type 0
+abbrev pub IsOrdered : List Happened → Type 0
 IsOrdered [] = Unit {0}
 IsOrdered (e ∷ g) = FollowsInOrder e.label e.what g × IsOrdered g
 
@@ -54,59 +51,28 @@ StartsAfter arrived n (Offered a w v) = Unit {0}
 StartsAfter arrived n (Sent s) = at_of arrived n ≤ s.start
 
 -- no packet starts before it arrives
-abbrev pub IsNotBefore : List Coming → List Entry → Type 0
+abbrev pub IsNotBefore : List Coming → List Happened → Type 0
 IsNotBefore arrived [] = Unit {0}
 IsNotBefore arrived (e ∷ g) = StartsAfter arrived e.label e.what × IsNotBefore arrived g
 
--- the numbers that a journal drops
-abbrev pub dropped_of : (n : ℕ) → Fate → List ℕ → List ℕ
-dropped_of n (Dropped r) ns = n ∷ ns
-dropped_of n (fate.Sent start end rule) ns = ns
+-- each start of a history is before this moment
+abbrev pub StartsBefore : (t : ℕ) → List Event → Type 0
+StartsBefore t [] = Unit {0}
+StartsBefore t (Offered a w v ∷ h) = StartsBefore t h
+StartsBefore t (Sent s ∷ h) = (s.start < t) × StartsBefore t h
 
-abbrev pub dropped : List Decision → List ℕ
-dropped [] = []
-dropped (d ∷ js) = dropped_of d.0 d.1 (dropped js)
-
--- the numbers that were sent, of whatever class
-abbrev pub sent_of : (n : ℕ) → Event → List ℕ → List ℕ
-sent_of n (Offered a w v) ns = ns
-sent_of n (Sent s) ns = n ∷ ns
-
-abbrev pub sent : List Entry → List ℕ
-sent [] = []
-sent (e ∷ g) = sent_of e.label e.what (sent g)
-
--- an arrival that the journal does not drop and that has not been sent
-pub record IsLeft (arrived : List Coming) (js : List Decision) (g : List Entry) (n : ℕ) : Type 0 where
-  pub from_one : 0 < n
-  pub there : n ≤ length arrived
-  pub kept : occurs n (dropped js) ≡ 0
-  pub unsent : occurs n (sent g) ≡ 0
-
--- a sending starts at the greater of the last end and the least arrival of those that are left
-pub record StartsBusy (rate : ℕ) (arrived : List Coming) (js : List Decision) (g : List Entry) (s : Sending) : Type 0 where
-  pub first : ℕ
-  pub left : IsLeft arrived js g first
-  pub least : (n : ℕ) → IsLeft arrived js g n → at_of arrived first ≤ at_of arrived n
-  pub start : s.start ≡ max (link rate (bare g)).free (at_of arrived first)
-
-abbrev pub FollowsBusy : (rate : ℕ) → List Coming → List Decision → Event → List Entry → Type 0
-FollowsBusy rate arrived js (Offered a w v) g = Unit {0}
-FollowsBusy rate arrived js (Sent s) g = StartsBusy rate arrived js g s
-
-abbrev pub AllBusy : (rate : ℕ) → List Coming → List Decision → List Entry → Type 0
-AllBusy rate arrived js [] = Unit {0}
-AllBusy rate arrived js (e ∷ g) = FollowsBusy rate arrived js e.what g × AllBusy rate arrived js g
-
--- the link never idles while a packet waits that is not dropped
-abbrev pub IsBusy : (rate : ℕ) → List Coming → List Entry → Type 0
-IsBusy rate arrived g = AllBusy rate arrived (journal g) g
+-- what is offered after a sending arrived after its start: every arrival up to a start is offered before that sending
+abbrev pub IsPrompt : List Event → Type 0
+IsPrompt [] = Unit {0}
+IsPrompt (Offered a w v ∷ h) = StartsBefore a.at h × IsPrompt h
+IsPrompt (Sent s ∷ h) = IsPrompt h
 
 -- what holds of every play, whatever its policy
-pub record KeepsLaws (rate : ℕ) (arrived : List Coming) (g : List Entry) : Type 0 where
+pub record KeepsLaws (rate : ℕ) (arrived : List Coming) (g : List Happened) : Type 0 where
   pub conserved : IsConserved (length arrived) (journal g)
   pub ordered : IsOrdered g
   pub not_before : IsNotBefore arrived g
+  pub prompt : IsPrompt (bare g)
   pub ends : HasLinkEnds rate (bare g)
 
 -- the clock ends here: no packet may end at 2^32 seconds or later
@@ -118,7 +84,7 @@ EndsInTime (Offered a w v) = Unit {0}
 EndsInTime (Sent s) = s.end < clock_end
 
 -- each sending ends before the clock does
-abbrev pub IsInTime : List Entry → Type 0
+abbrev pub IsInTime : List Happened → Type 0
 IsInTime [] = Unit {0}
 IsInTime (e ∷ g) = EndsInTime e.what × IsInTime g
 

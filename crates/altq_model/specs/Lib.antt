@@ -1,11 +1,13 @@
 pub mod Arrivals
-pub mod Capture
+pub mod Busy
+pub mod Counts
+pub mod Departures
 pub mod History
+pub mod Idle
+pub mod Lawful
 pub mod Laws
 pub mod Link
-pub mod Numbers
 pub mod Play
 pub mod Policies
 pub mod Rows
 pub mod Texts
-pub mod Units

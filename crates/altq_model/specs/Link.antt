@@ -1,7 +1,7 @@
 -- The link sends one packet at a time, and carries the fraction of a nanosecond within a run: a longest sequence of
 -- sendings in which each starts at the end of the one before it.
 use Rattle.std.specs.Prelude.{◌≡◌, ◌≤◌, ◌==◌, ◌+◌, ℕ, List, [], ◌∷◌, if◌then◌else◌}
-use Rattle.altq_model.specs.Units.{units, ceil_div}
+use Rattle.play_base.specs.Units.{units, ceil_div}
 use Rattle.altq_model.specs.History.{Event, Offered, Sent}
 
 -- the last end, 0 at first, and of the run that ended there its start and the units of its packets

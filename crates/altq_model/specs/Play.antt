@@ -1,9 +1,9 @@
 -- The play of an interface: the history in which each event is a function of those before it. It is the same for every
 -- discipline and every queue rule; these enter as a policy.
-use Rattle.std.specs.Prelude.{◌≡◌, ◌+◌, ◌*◌, ℕ, zero, suc, min, max, nat_le, List, [], ◌∷◌, length, if◌then◌else◌, None, Some, slice_get, option_map}
+use Rattle.std.specs.Prelude.{◌≡◌, ◌⊎◌, ◌+◌, ◌*◌, ℕ, zero, suc, min, max, nat_le, List, [], ◌∷◌, length, if◌then◌else◌, None, Some, slice_get, option_map}
 use Rattle.std.specs.declared.option.Option.{Option}
 use Rattle.altq_model.specs.declared.Rule.{Rule}
-use Rattle.altq_model.specs.History.{Coming, Answer, Words, Event, Offered, Sent, Entry, bare, offered, drawn, head, labels}
+use Rattle.altq_model.specs.History.{Coming, Answer, DrawnWords, Event, Offered, Sent, Happened, bare, offered, drawn, head, labels}
 use Rattle.altq_model.specs.Link.{link, end_of}
 
 -- which class sends, and by which rule
@@ -11,16 +11,21 @@ pub record Choice : Type 0 where
   pub class : ℕ
   pub rule : Rule
 
--- what a play is a play of
+-- what a play is a play of. Only its classes send: a history may hold packets of others, and no start and no pick is theirs
 pub record Policy : Type 0 where
   -- the queue classes, in the order of the file
   pub classes : List ℕ
   -- after a history, what the queue of its class says of a packet, by these words
-  pub answer : List Event → Words → Coming → Answer
+  pub answer : List Event → DrawnWords → Coming → Answer
   -- after a history, the least moment from t on at which a class may send its head
   pub start_from : List Event → (c t : ℕ) → ℕ
   -- after a history, the class that sends at a moment at which one may
   pub pick : List Event → (t : ℕ) → Choice
+
+-- a class is one of these
+abbrev pub IsOneOf : (c : ℕ) → List ℕ → Type 0
+IsOneOf c [] = ⊥
+IsOneOf c (d ∷ ds) = (d ≡ c) ⊎ IsOneOf c ds
 
 -- the least moment, not before the last end nor before its head's arrival, at which a class may send; None if it is empty
 abbrev pub class_start : Policy → (free : ℕ) → List Event → (c : ℕ) → Option ℕ
@@ -38,13 +43,13 @@ first_start p free h [] = None
 first_start p free h (c ∷ cs) = lesser (class_start p free h c) (first_start p free h cs)
 
 -- the offer of a packet: its number is its place among the offers
-abbrev pub offer_of : Policy → (seed : ℕ) → List Entry → Coming → Entry
+abbrev pub offer_of : Policy → (seed : ℕ) → List Happened → Coming → Happened
 offer_of p seed g a =
-    let w : Words = record { seed = seed; drawn = drawn (bare g) } in
+    let w : DrawnWords = record { seed = seed; drawn = drawn (bare g) } in
     record { label = offered (bare g) + 1; what = Offered a w (p.answer (bare g) w a) }
 
 -- the sending of a class's head, whose number and packet these are
-abbrev pub head_sent : (rate : ℕ) → List Entry → (s : ℕ) → Choice → Option ℕ → Option Coming → Option Entry
+abbrev pub head_sent : (rate : ℕ) → List Happened → (s : ℕ) → Choice → Option ℕ → Option Coming → Option Happened
 head_sent rate g s c (Some n) (Some a) = Some (record {
   label = n;
   what = Sent (record { class = c.class; len = a.len; rule = c.rule; start = s; end = end_of rate (link rate (bare g)) s a.len });
@@ -52,12 +57,12 @@ head_sent rate g s c (Some n) (Some a) = Some (record {
 head_sent rate g s c None a = None
 head_sent rate g s c (Some n) None = None
 
-abbrev pub sent_at : (rate : ℕ) → List Entry → (s : ℕ) → Choice → Option Entry
+abbrev pub sent_at : (rate : ℕ) → List Happened → (s : ℕ) → Choice → Option Happened
 sent_at rate g s c = head_sent rate g s c (slice_get (labels c.class g) 0) (head c.class (bare g))
 
 -- what comes next, where this is the next arrival, and this the least moment at which something may be sent: an arrival up to
 -- that moment is offered first
-abbrev pub due_from : Policy → (rate seed : ℕ) → List Entry → Option Coming → Option ℕ → Option Entry
+abbrev pub due_from : Policy → (rate seed : ℕ) → List Happened → Option Coming → Option ℕ → Option Happened
 due_from p rate seed g None None = None
 due_from p rate seed g (Some a) None = Some (offer_of p seed g a)
 due_from p rate seed g None (Some s) = sent_at rate g s (p.pick (bare g) s)
@@ -65,26 +70,26 @@ due_from p rate seed g (Some a) (Some s) =
     if nat_le a.at s then Some (offer_of p seed g a) else sent_at rate g s (p.pick (bare g) s)
 
 -- the event that follows a history, or None at the end
-abbrev pub due : Policy → (rate seed : ℕ) → List Coming → List Entry → Option Entry
+abbrev pub due : Policy → (rate seed : ℕ) → List Coming → List Happened → Option Happened
 due p rate seed arrived g =
     due_from p rate seed g (slice_get arrived (offered (bare g)))
     (first_start p (link rate (bare g)).free (bare g) p.classes)
 
 -- each event is the one that was due: these are the first events of the play
-abbrev pub AreDue : Policy → (rate seed : ℕ) → List Coming → List Entry → Type 0
+abbrev pub AreDue : Policy → (rate seed : ℕ) → List Coming → List Happened → Type 0
 AreDue p rate seed arrived [] = Unit {0}
 AreDue p rate seed arrived (e ∷ g) = (due p rate seed arrived g ≡ Some e) × AreDue p rate seed arrived g
 
 -- the play of these arrivals: each event was due, and none is due after the last
-pub record IsPlay (p : Policy) (rate seed : ℕ) (arrived : List Coming) (g : List Entry) : Type 0 where
+pub record IsPlay (p : Policy) (rate seed : ℕ) (arrived : List Coming) (g : List Happened) : Type 0 where
   pub events : AreDue p rate seed arrived g
   pub done : due p rate seed arrived g ≡ None
 
 -- the same as a function, over at most so many events
-abbrev pub play_on : (turns : ℕ) → Policy → (rate seed : ℕ) → List Coming → List Entry → List Entry
+abbrev pub play_on : (turns : ℕ) → Policy → (rate seed : ℕ) → List Coming → List Happened → List Happened
 play_on zero p rate seed arrived g = g
 play_on (suc turns) p rate seed arrived g =
     elim (due p rate seed arrived g) [ None ↦ g | Some e ↦ play_on turns p rate seed arrived (e ∷ g) ]
 
-abbrev pub play : Policy → (rate seed : ℕ) → List Coming → List Entry
+abbrev pub play : Policy → (rate seed : ℕ) → List Coming → List Happened
 play p rate seed arrived = play_on (2 * length arrived) p rate seed arrived []

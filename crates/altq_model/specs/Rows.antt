@@ -1,34 +1,54 @@
 -- Worked examples.
-use Rattle.std.specs.Prelude.{ℕ, List, [], ◌∷◌, ◌++◌, replicate, codes}
-use Rattle.altq_model.specs.declared.Mark.{Mark}
-use Rattle.altq_model.specs.Capture.{Record}
+use Rattle.std.specs.Prelude.{ℕ, List, [], ◌∷◌, ◌++◌, drop, replicate, codes, if◌then◌else◌}
+use Rattle.altq_model.specs.declared.Placed.{Placed}
+use Rattle.altq_model.specs.declared.Counts.{Counts}
+use Rattle.altq_model.specs.declared.Rule.TheVariants.{Share}
+use Rattle.altq_model.specs.declared.Verdict.TheVariants.{Mark}
+use Rattle.capture_model.specs.Capture.{Record}
 use Rattle.altq_model.specs.Arrivals.{arrivals_of, comings}
-use Rattle.altq_model.specs.History.{Decision, journal}
-use Rattle.altq_model.specs.Play.{play}
-use Rattle.altq_model.specs.Policies.{one_queue}
-use Rattle.altq_model.specs.Texts.{fate_rows, departures, capture_head}
-
--- a record of 60 zero bytes
-abbrev pub plain : (stamp original : ℕ) → Record
-plain stamp original = record { stamp = stamp; captured = replicate 60 0; original = original }
+use Rattle.altq_model.specs.Counts.{counts_of_all}
+use Rattle.altq_model.specs.Departures.{Dressing, departures}
+use Rattle.altq_model.specs.History.{Decision, Happened, journal}
+use Rattle.altq_model.specs.Play.{Policy, play}
+use Rattle.altq_model.specs.Policies.{one_queue, strict}
+use Rattle.altq_model.specs.Texts.{fate_rows}
+use Rattle.capture_model.specs.Rows.{plain}
 
 -- every frame is of the one class
-abbrev pub one_mark : List ℕ → Mark
+abbrev pub one_mark : List ℕ → Placed
 one_mark frame = record { class = 1; prec = 0 }
 
 abbrev pub default_name : ℕ → List ℕ
 default_name class = codes "default"
 
+abbrev pub play_of : Policy → (rate : ℕ) → List Record → List Happened
+play_of p rate records = play p rate 42 (comings (arrivals_of one_mark records))
+
 -- the journal of these records, played through one queue of 50
 abbrev pub journal_of : (rate : ℕ) → List Record → List Decision
-journal_of rate records = journal (play (one_queue 50) rate 42 (comings (arrivals_of one_mark records)))
+journal_of rate records = journal (play_of (one_queue 50) rate records)
 
 -- the rows of its fates, without their head
 abbrev pub rows_of : (rate : ℕ) → List Record → List ℕ
 rows_of rate records = fate_rows default_name (arrivals_of one_mark records) (journal_of rate records)
 
-abbrev pub departures_of : (rate : ℕ) → List Record → List ℕ
-departures_of rate records = departures (arrivals_of one_mark records) (journal_of rate records)
+abbrev pub counts_in : (rate : ℕ) → List Record → Counts
+counts_in rate records = counts_of_all (arrivals_of one_mark records) (journal_of rate records)
+
+-- a marked packet leaves with both low bits of its second byte, which was 2 before (RFC 3168: of ECT(0) comes CE)
+abbrev pub congested : Dressing
+congested class marked bytes = if marked then 69 ∷ 3 ∷ drop 2 bytes else bytes
+
+abbrev pub departures_of : Policy → (rate : ℕ) → List Record → List ℕ
+departures_of p rate records = departures congested (arrivals_of one_mark records) (play_of p rate records)
+
+-- one queue that marks every packet
+abbrev pub marking : Policy
+marking = strict (1 ∷ []) Share (λ h w a. record { verdict = Mark; took = 0 })
+
+-- a packet of four bytes at 0, the second of which is 2
+abbrev pub capable_packet : List Record
+capable_packet = record { stamp = 0; captured = 69 ∷ 2 ∷ 0 ∷ 40 ∷ []; original = 1000 } ∷ []
 
 -- one packet of length 1000 at 5 s
 abbrev pub one_packet : List Record
@@ -45,10 +65,3 @@ many_packets = replicate 51 (plain 0 100)
 -- a row of the fates
 abbrev pub line : List ℕ → List ℕ
 line text = text ++ 10 ∷ []
-
--- a record at 0 of length 100, of which 60 bytes are captured
-abbrev pub record_at_zero : List ℕ
-record_at_zero = replicate 8 0 ++ (60 ∷ 0 ∷ 0 ∷ 0 ∷ 100 ∷ 0 ∷ 0 ∷ 0 ∷ []) ++ replicate 60 0
-
-abbrev pub two_records : List ℕ
-two_records = capture_head ++ record_at_zero ++ record_at_zero

@@ -1,9 +1,7 @@
--- The texts of a play: the fates as rows of comma-separated values (RFC 4180, with line feeds), and the departures as a capture
--- of the classic format with little-endian nanosecond stamps. Rows and records stand in the order of the journal.
-use Rattle.std.specs.Prelude.{ℕ, ◌/◌, ◌%◌, ◌^◌, List, [], ◌∷◌, ◌++◌, length, codes}
+-- The fates of a play as rows of comma-separated values (RFC 4180, with line feeds), in the order of the journal.
+use Rattle.std.specs.Prelude.{ℕ, List, [], ◌∷◌, ◌++◌, codes}
 use Rattle.std.specs.Fmt.{decimal}
 use Rattle.csv.specs.Writing.{row_text, default_writer}
-use Rattle.byteorder.specs.Endian.{little_bytes}
 use Rattle.altq_model.specs.declared.Fate.{Fate}
 use Rattle.altq_model.specs.declared.Fate.TheVariants.{Dropped, Sent}
 use Rattle.altq_model.specs.declared.Reason.{Reason}
@@ -46,32 +44,9 @@ abbrev pub fate_rows : Naming → List Arrival → List Decision → List ℕ
 fate_rows names arrived [] = []
 fate_rows names arrived (d ∷ js) = fate_row names arrived d ++ fate_rows names arrived js
 
-abbrev pub fates_head : List ℕ
-fates_head = codes "number,arrival,length,class,fate,start,end" ++ 10 ∷ []
+abbrev pub fates_header : List ℕ
+fates_header = codes "number,arrival,length,class,fate,start,end" ++ 10 ∷ []
 
 -- the fates of a journal
 abbrev pub fates : Naming → List Arrival → List Decision → List ℕ
-fates names arrived js = fates_head ++ fate_rows names arrived js
-
--- the head of a record: a packet of this length that ends then, of which so many bytes were captured
-abbrev pub record_head : (end captured len : ℕ) → List ℕ
-record_head end captured len =
-    little_bytes 4 (end / 10 ^ 9) ++ little_bytes 4 (end % 10 ^ 9) ++ little_bytes 4 captured ++ little_bytes 4 len
-
--- the head of a little-endian nanosecond capture of Ethernet frames with a snap length of 262,144
-abbrev pub capture_head : List ℕ
-capture_head =
-    77 ∷ 60 ∷ 178 ∷ 161 ∷ 2 ∷ 0 ∷ 4 ∷ 0 ∷ 0 ∷ 0 ∷ 0 ∷ 0 ∷ 0 ∷ 0 ∷ 0 ∷ 0 ∷ 0 ∷ 0 ∷ 4 ∷ 0 ∷ 1 ∷ 0 ∷ 0 ∷ 0 ∷ []
-
--- a sending is stamped with its end and has the captured bytes of its packet unchanged; a drop leaves no record
-abbrev pub departure_record : Arrival → Fate → List ℕ
-departure_record a (Dropped reason) = []
-departure_record a (Sent start end rule) = record_head end (length a.bytes) a.len ++ a.bytes
-
-abbrev pub departure_records : List Arrival → List Decision → List ℕ
-departure_records arrived [] = []
-departure_records arrived (d ∷ js) = departure_record (arrival arrived d.0) d.1 ++ departure_records arrived js
-
--- the departures of a journal
-abbrev pub departures : List Arrival → List Decision → List ℕ
-departures arrived js = capture_head ++ departure_records arrived js
+fates names arrived js = fates_header ++ fate_rows names arrived js

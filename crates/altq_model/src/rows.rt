@@ -1,26 +1,27 @@
 // Examples that are computed from the definitions.
 ghost use Rattle.std.specs.Prelude.{◌≡◌, ◌∷◌, ◌++◌, [], take, drop, codes, List, ℕ};
-ghost use Rattle.altq_model.specs.Capture.{Fault, End, damage, outcome};
-ghost use Rattle.altq_model.specs.Texts.{capture_head};
-ghost use Rattle.altq_model.specs.Rows.{plain, journal_of, rows_of, departures_of, line, one_packet, three_packets, many_packets, two_records};
+ghost use Rattle.capture_model.specs.Header.{capture_header};
+ghost use Rattle.altq_model.specs.Policies.{one_queue};
+ghost use Rattle.altq_model.specs.Rows.{journal_of, rows_of, counts_in, departures_of, marking, line, one_packet, three_packets, many_packets, capable_packet};
 
-use crate::{DamageKind, Fate, Reason, Rule};
+use crate::{Counts, Fate, Reason, Rule};
 
 /// Worked examples of one queue of 50 packets: what the definitions make of them.
 pub fn worked_examples()
-    ensures empty_capture { departures_of 8000000 [] ≡ capture_head }
+    ensures empty_capture { departures_of (one_queue 50) 8000000 [] ≡ capture_header }
     ensures empty_fates { rows_of 8000000 [] ≡ [] }
     ensures one_packet_at_five_seconds { rows_of 8000000 one_packet
         ≡ line (codes "1,5000000000,1000,default,share,5000000000,5001000000") }
-    ensures one_departure { take 16 (drop 24 (departures_of 8000000 one_packet))
+    ensures one_departure { take 16 (drop 24 (departures_of (one_queue 50) 8000000 one_packet))
         ≡ 5 ∷ 0 ∷ 0 ∷ 0 ∷ 64 ∷ 66 ∷ 15 ∷ 0 ∷ 60 ∷ 0 ∷ 0 ∷ 0 ∷ 232 ∷ 3 ∷ 0 ∷ 0 ∷ [] }
     ensures fraction_is_carried_in_a_run { journal_of 3000000 three_packets
         ≡ (1, Fate.Sent 0 266667 Rule.Share) ∷ (2, Fate.Sent 266667 533334 Rule.Share)
         ∷ (3, Fate.Sent 533334 800000 Rule.Share) ∷ [] }
     ensures fifty_first_packet_is_dropped { take 2 (journal_of 8000000 many_packets)
         ≡ (51, Fate.Dropped Reason.Full) ∷ (1, Fate.Sent 0 100000 Rule.Share) ∷ [] }
-    ensures whole_capture { outcome two_records ≡ record { records = plain 0 100 ∷ plain 0 100 ∷ []; last = End } }
-    ensures last_record_cut_by_one_byte { outcome (take 175 two_records)
-        ≡ record { records = plain 0 100 ∷ []; last = Fault (damage 100 DamageKind.ShortRecord) } }
-    ensures empty_file_is_no_capture { outcome [] ≡ record { records = []; last = Fault (damage 0 DamageKind.ShortHead) } }
+    ensures marked_packet_leaves_dressed { drop 24 (departures_of marking 8000000 capable_packet)
+        ≡ 0 ∷ 0 ∷ 0 ∷ 0 ∷ 64 ∷ 66 ∷ 15 ∷ 0 ∷ 4 ∷ 0 ∷ 0 ∷ 0 ∷ 232 ∷ 3 ∷ 0 ∷ 0 ∷ 69 ∷ 3 ∷ 0 ∷ 40 ∷ [] }
+    ensures kept_packet_leaves_as_it_came { drop 40 (departures_of (one_queue 50) 8000000 capable_packet) ≡ 69 ∷ 2 ∷ 0 ∷ 40 ∷ [] }
+    ensures full_queue_is_counted { counts_in 8000000 many_packets
+        ≡ record { arrived = 51; arrived_bytes = 5100; raised = 0; sent = 50; sent_bytes = 5000; full = 1; early = 0; forced = 0 } }
 {}

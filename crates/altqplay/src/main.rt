@@ -8,12 +8,30 @@ use real::RealFiles;
 use std::process::ExitCode;
 use std::{env, io};
 
-fn main(rt: HostRuntime) -> io::Result<ExitCode> {
-    let alloc = rt.alloc();
-    let mut words = Vec::new(alloc);
-    for word in env::args(&rt)?.skip(1) {
+/// The code of words that are refused: also where one is no UTF-8.
+const REFUSED: u8 = 2;
+
+/// The code of want of memory.
+const NO_MEMORY: u8 = 8;
+
+// The words behind the program's name.
+fn words_of(rt: &HostRuntime) -> io::Result<Vec<String>> {
+    let mut words = Vec::new(rt.alloc());
+    for word in env::args(rt)?.skip(1) {
         words.push(word)?;
     }
+    Ok(words)
+}
+
+fn main(rt: HostRuntime) -> io::Result<ExitCode> {
+    let words = match words_of(&rt) {
+        Ok(words) => words,
+        Err(error) if error.kind() == io::ErrorKind::OutOfMemory => {
+            return Ok(ExitCode::from(NO_MEMORY));
+        }
+        Err(_) => return Ok(ExitCode::from(REFUSED)),
+    };
+    let alloc = rt.alloc();
     let mut files = RealFiles::new(alloc, &rt);
     let status = run(alloc, &words, &mut files);
     Ok(ExitCode::from(status.code))

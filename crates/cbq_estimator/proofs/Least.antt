@@ -2,7 +2,7 @@
 use Rattle.std.proofs.Common.{◌≡◌, ◌≤◌, ◌<◌, ◌+◌, ◌-◌, ℕ, Bool, true, false, refl, sym, subst, max, arith}
 use Rattle.std.specs.Prelude.{pos, int_lt, nat_eq, nat_le, if◌then◌else◌, List, IsTrue}
 use Rattle.std.proofs.lemmas.Bool.Decides.{nat_tests}
-use Rattle.altq_model.specs.Units.{time_of}
+use Rattle.play_base.specs.Units.{time_of}
 use Rattle.altq_model.specs.Link.{Link, end_of}
 use Rattle.cbq_estimator.specs.Average.{Pace, Ended, average}
 use Rattle.cbq_estimator.specs.Starts.{wanted, allows, allows_start, least_start, EndsItsRun, IsLeastStart}

@@ -3,3 +3,4 @@ pub mod LinkEnds
 pub mod Rises
 pub mod Starting
 pub mod Times
+pub mod Now

@@ -3,7 +3,7 @@ use Rattle.std.proofs.Common.{◌≡◌, ◌≤◌, ◌<◌, ◌+◌, ◌-◌, �
 use Rattle.std.specs.Prelude.{nat_eq, nat_le, if◌then◌else◌}
 use Rattle.std.proofs.lemmas.Nat.{mul-le, div_below}
 use Rattle.std.proofs.lemmas.Bool.Decides.{nat_tests}
-use Rattle.altq_model.specs.Units.{units, ceil_div, time_of}
+use Rattle.play_base.specs.Units.{units, ceil_div, time_of}
 use Rattle.altq_model.specs.History.{Event, Offered, Sent}
 use Rattle.altq_model.specs.Link.{Link, end_of, link, run_on}
 use Rattle.link_clock.proofs.Rounded.{le_ceil, ceil_sum}

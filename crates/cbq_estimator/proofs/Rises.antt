@@ -4,7 +4,7 @@ use Rattle.std.specs.Prelude.{ℤ, pos, negsuc, ◌+ℤ◌, ◌-ℤ◌, ◌*ℤ�
 use Rattle.std.specs.Int.{int_min}
 use Rattle.std.proofs.lemmas.Nat.{mul-le}
 use Rattle.std.proofs.lemmas.Int.{ints, clamps}
-use Rattle.altq_model.specs.Units.{units, ceil_div, time_of}
+use Rattle.play_base.specs.Units.{units, ceil_div, time_of}
 use Rattle.link_clock.proofs.Rounded.{le_ceil, ceil_le}
 use Rattle.cbq_estimator.specs.Average.{Pace, Ended, average, decayed, idle, last_end, IsInOrder}
 use Rattle.cbq_estimator.specs.Starts.{enough, allows}

@@ -4,26 +4,26 @@ use Rattle.std.proofs.Common.{FitsSigned, to_z, of_z, w64}
 use Rattle.std.specs.Prelude.{ℤ, pos, ◌-ℤ◌, int_lt, int_le, ◌||◌, nat_eq, List}
 use Rattle.std.proofs.lemmas.Int.{ints, to_z-of_z}
 use Rattle.std.proofs.lemmas.Bool.Decides.{nat_tests}
-use Rattle.altq_model.specs.Units.{time_of}
+use Rattle.play_base.specs.Units.{time_of}
 use Rattle.altq_model.specs.Link.{Link, end_of}
 use Rattle.cbq_estimator.specs.Average.{Pace, Ended, average, last_end}
 use Rattle.cbq_estimator.specs.Starts.{enough, wanted, allows, IsLeastStart}
 
-late_enough : (e l o w : ℕ) → l + o + w ≤ e → int_le (pos w) ((pos e -ℤ pos l) -ℤ pos o) ≡ true
+pub late_enough : (e l o w : ℕ) → l + o + w ≤ e → int_le (pos w) ((pos e -ℤ pos l) -ℤ pos o) ≡ true
 late_enough e l o w h = grind (arith, ints)
 
-too_early : (e l o w : ℕ) → e < l + o + w → int_le (pos w) ((pos e -ℤ pos l) -ℤ pos o) ≡ false
+pub too_early : (e l o w : ℕ) → e < l + o + w → int_le (pos w) ((pos e -ℤ pos l) -ℤ pos o) ≡ false
 too_early e l o w h = grind (arith, ints)
 
-or_true : (a b : Bool) → b ≡ true → (a || b) ≡ true
+pub or_true : (a b : Bool) → b ≡ true → (a || b) ≡ true
 or_true true b h = refl
 or_true false b h = h
 
-left_one : (a b : Bool) → a ≡ true → (a || b) ≡ true
+pub left_one : (a b : Bool) → a ≡ true → (a || b) ≡ true
 left_one true b h = refl
 left_one false b h = absurd (cc)
 
-or_false : (a b : Bool) → a ≡ false → b ≡ false → (a || b) ≡ false
+pub or_false : (a b : Bool) → a ≡ false → b ≡ false → (a || b) ≡ false
 or_false true b h k = absurd (cc)
 or_false false b h k = k
 
@@ -61,11 +61,11 @@ not_above a fits h =
     subst P (to_z-of_z w64 a fits) h
 
 -- a start after the last end begins a run
-later_end : (rate : ℕ) (l : Link) (t len : ℕ) → l.free < t → end_of rate l t len ≡ t + time_of len rate
+pub later_end : (rate : ℕ) (l : Link) (t len : ℕ) → l.free < t → end_of rate l t len ≡ t + time_of len rate
 later_end rate l t len h = grind (arith, nat_tests)
 
 -- no earlier moment than the answer ends the packet late enough
-early_end : (rate : ℕ) (l : Link) (now len u want : ℕ) (b : Bool) → nat_eq u now ≡ b → l.free ≤ now → now ≤ u
+pub early_end : (rate : ℕ) (l : Link) (now len u want : ℕ) (b : Bool) → nat_eq u now ≡ b → l.free ≤ now → now ≤ u
     → u < now + 1 + (want - end_of rate l (now + 1) len) → end_of rate l now len < want → end_of rate l u len < want
 early_end rate l now len u want true e free from below short =
     let same : u ≡ now = grind (arith, nat_tests) in

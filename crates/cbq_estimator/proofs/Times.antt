@@ -1,7 +1,7 @@
 -- The time of a packet at its class's rate.
 use Rattle.std.proofs.Common.{◌≤◌, ◌*◌, ◌^◌, ℕ, arith}
 use Rattle.std.proofs.lemmas.Nat.{mul-le}
-use Rattle.altq_model.specs.Units.{units, time_of}
+use Rattle.play_base.specs.Units.{units, time_of}
 use Rattle.link_clock.proofs.Rounded.{ceil_le}
 
 -- a packet of the greatest length takes less than 2^41 ns at the least rate

@@ -3,7 +3,7 @@
 -- number. A history is the list of the ends of the packets of the class and of the classes below it, the newest first.
 use Rattle.std.specs.Prelude.{ℕ, ◌≤◌, ◌*◌, ℤ, pos, ◌+ℤ◌, ◌-ℤ◌, int_div, List, [], ◌∷◌, Option, Some, None, unwrap_or}
 use Rattle.std.specs.Int.{int_min}
-use Rattle.altq_model.specs.Units.{time_of}
+use Rattle.play_base.specs.Units.{time_of}
 
 -- a class's rate in bits per second, and the greatest value of its average
 pub record Pace : Type 0 where

@@ -1,6 +1,6 @@
 -- What a class that keeps to its own average may send: no more than its rate carries in the time, a burst ahead.
 use Rattle.std.specs.Prelude.{ℕ, ◌≤◌, ◌+◌, ◌-◌, ◌*◌, ◌++◌, pos, ◌+ℤ◌, ◌-ℤ◌, ◌*ℤ◌, ◌≤ℤ◌, IsTrue, List, [], ◌∷◌}
-use Rattle.altq_model.specs.Units.{units, time_of}
+use Rattle.play_base.specs.Units.{units, time_of}
 use Rattle.cbq_estimator.specs.Average.{Pace, Ended, average, idle, IsInOrder}
 use Rattle.cbq_estimator.specs.Starts.{allows}
 

@@ -1,6 +1,6 @@
 -- When a class of CBQ may send: while its average is above 0, and else where the idle time makes up for the average.
 use Rattle.std.specs.Prelude.{ℕ, ◌≡◌, ◌<◌, ◌≤◌, ◌+◌, ◌-◌, ◌*◌, max, nat_le, if◌then◌else◌, ℤ, pos, int_lt, int_le, unsigned_abs, Bool, ◌||◌, IsTrue, IsFalse, List}
-use Rattle.altq_model.specs.Units.{ceil_div, time_of}
+use Rattle.play_base.specs.Units.{ceil_div, time_of}
 use Rattle.altq_model.specs.Link.{Link, end_of}
 use Rattle.cbq_estimator.specs.Average.{Pace, Ended, average, idle, last_end}
 

@@ -1,10 +1,12 @@
 // Laws of the estimator's histories. The functions do nothing: each states its laws.
-ghost use Rattle.std.specs.Prelude.{◌≡◌, ◌≤◌, ◌<◌, ℕ, List, IsTrue};
+ghost use Rattle.std.specs.Prelude.{◌≡◌, ◌≤◌, ◌<◌, ◌∷◌, ℕ, List, IsTrue};
 ghost use Rattle.altq_model.specs.History.{Event};
 ghost use Rattle.altq_model.specs.Link.{Link, link};
 ghost use Rattle.cbq_estimator.specs.Average.{Pace, Ended};
+ghost use Rattle.cbq_estimator.specs.Estimate.{Estimate, StandsFor};
+ghost use Rattle.cbq_estimator.specs.Now.{IsLeastStartNow, after_end, allows_now, estimate_of, start_now};
 ghost use Rattle.cbq_estimator.specs.Capped.{RisesByIdleTime, KeepsItsRate};
-ghost use Rattle.cbq_estimator.specs.Starts.{allows_start, least_start, EndsItsRun, IsLeastStart};
+ghost use Rattle.cbq_estimator.specs.Starts.{allows, allows_start, least_start, EndsItsRun, IsLeastStart};
 
 /// There is a least moment at which a packet is allowed to start, from each moment on, and one alone. From it on the packet
 /// is allowed at each moment. The link is one after some sendings.
@@ -24,4 +26,14 @@ pub fn allowed_packets_keep_the_rate()
     ensures rise { (p : Pace) (e b : Ended) (h : List Ended) → RisesByIdleTime p e b h }
     ensures rate { (p : Pace) (longest : ℕ) (e : Ended) (es : List Ended) (b : Ended) (h : List Ended) → 0 < p.rate
         → KeepsItsRate p longest e es b h }
+{}
+
+/// What an estimator answers by what it keeps is what its histories say: it keeps their pace, average and last end, and so one
+/// packet more, what is allowed, and the least start are functions of what it keeps.
+pub fn answers_are_those_of_the_history()
+    ensures kept { (e : Estimate) (h : List Ended) → StandsFor e h → e ≡ estimate_of e.pace h }
+    ensures ended { (p : Pace) (h : List Ended) (e : Ended) → after_end (estimate_of p h) e ≡ estimate_of p (e ∷ h) }
+    ensures allowed { (p : Pace) (h : List Ended) (end len : ℕ) → allows_now (estimate_of p h) end len ≡ allows p h end len }
+    ensures least { (e : Estimate) (rate : ℕ) (l : Link) (now len : ℕ) → l.free ≤ now
+        → IsLeastStartNow e rate l now len (start_now e rate l now len) }
 {}

@@ -8,17 +8,22 @@
 
 ghost use Rattle.std.specs.Prelude.{◌≡◌, ◌<◌, ◌≤◌, ◌+◌, ◌*◌, ◌^◌, ◌-◌, ℤ, pos, negsuc, ◌≤ℤ◌, ◌+ℤ◌, ◌-ℤ◌, ◌∷◌, [], List, unwrap_or, unsigned_abs};
 ghost use Rattle.std.specs.Int.{int_min};
-ghost use Rattle.altq_model.specs.Units.{time_of};
+ghost use Rattle.play_base.specs.Units.{time_of};
 ghost use Rattle.altq_model.specs.Link.{end_of};
 ghost use Rattle.cbq_estimator.specs.Average.{Ended, cap_of, decayed, average};
 ghost use Rattle.cbq_estimator.specs.Starts.{enough, wanted, IsLeastStart};
 ghost use Rattle.cbq_estimator.specs.Estimate.{Estimate, StandsFor};
+ghost use Rattle.cbq_estimator.specs.Now.{after_end, start_now, wanted_now};
 
 mod laws;
+mod rows;
 
-pub use laws::{allowed_packets_keep_the_rate, least_starts_are_told};
+pub use laws::{
+    allowed_packets_keep_the_rate, answers_are_those_of_the_history, least_starts_are_told,
+};
 use link_clock::LinkClock;
 use play_base::time_of;
+pub use rows::worked_examples;
 use std::marker::Model;
 
 #[cfg(test)]
@@ -108,6 +113,8 @@ impl Estimator {
         requires some_bytes { 1 ≤ packetsize }
         requires few_bytes { packetsize ≤ 262144 }
         ensures pace { result.pace ≡ record { rate = rate; cap = cap_of rate maxburst packetsize } }
+        ensures average { result.average ≡ pos (cap_of rate maxburst packetsize) }
+        ensures last { result.last ≡ None }
         ensures history { StandsFor result [] }
     {
         let cap = u64::from(maxburst) * time_of(u64::from(packetsize), rate);
@@ -122,7 +129,8 @@ impl Estimator {
     // The end from which on a packet is allowed at an average of 0 or less.
     fn wanted(&self, len: u32) -> u64
         requires { len ≤ 262144 }
-        ensures { (h : List Ended) → StandsFor self.now h → result ≡ wanted self.now.pace h len }
+        ensures value { result ≡ wanted_now self.now len }
+        ensures history { (h : List Ended) → StandsFor self.now h → result ≡ wanted self.now.pace h len }
     {
         self.last.unwrap_or(0) + time_of(u64::from(len), self.rate) + enough(self.average)
     }
@@ -144,6 +152,7 @@ impl Estimator {
         requires early { now < 2 ^ 63 }
         requires some_bytes { 1 ≤ len }
         requires few_bytes { len ≤ 262144 }
+        ensures value { result ≡ start_now self.now clock.now.rate clock.now.link now len }
         ensures history { (h : List Ended) → StandsFor self.now h
             → IsLeastStart self.now.pace h clock.now.rate clock.now.link now len result }
     {
@@ -165,6 +174,7 @@ impl Estimator {
         requires early { end < 2 ^ 63 + 2 ^ 62 }
         requires some_bytes { 1 ≤ len }
         requires few_bytes { len ≤ 262144 }
+        ensures value { self.new ≡ after_end self.old (record { end = end; len = len }) }
         ensures pace { self.new.pace ≡ self.old.pace }
         ensures last { self.new.last ≡ Some end }
         ensures history { (h : List Ended) → StandsFor self.old h → StandsFor self.new (record { end = end; len = len } ∷ h) }

@@ -52,18 +52,19 @@ hfsc_is : (c : Class) (rate priority : ℕ) (borrow control : Bool) (maxburst pa
     → record c { rate = rate; priority = priority; borrow = borrow; control = control; maxburst = maxburst; packetsize = packetsize } ≡ c
 hfsc_is c rate priority borrow control maxburst packetsize p q r s t u = rw (p, q, r, s, t, u) refl
 
-cbq_is : (c : Class) (real share : Option Curve) → real ≡ c.real → share ≡ c.share → record c { real = real; share = share } ≡ c
-cbq_is c real share p q = rw (p, q) refl
+cbq_is : (c : Class) (real share upper : Option Curve) → real ≡ c.real → share ≡ c.share → upper ≡ c.upper
+    → record c { real = real; share = share; upper = upper } ≡ c
+cbq_is c real share upper p q r = rw (p, q, r) refl
 
 branch_is : (kind : Kind) (c : Class) (level : ℕ) → IsOfKind kind c → branch_of kind c.name (shape kind c level) ≡ branch c level (is_some c.real)
 branch_is Hfsc c level h =
     ap (λ x. branch x level (is_some c.real))
     (hfsc_is c 0 0 false false 0 0 (sym h.rate) (sym h.priority) (sym h.borrow) (sym h.control) (sym h.maxburst) (sym h.packetsize))
-branch_is Cbq c level h = ap (λ x. branch x level false) (cbq_is c None None (sym h.real) (sym h.share)) ∙ ap (λ o. branch c level (is_some o)) (sym h.real)
+branch_is Cbq c level h = ap (λ x. branch x level false) (cbq_is c None None None (sym h.real) (sym h.share) (sym h.upper)) ∙ ap (λ o. branch c level (is_some o)) (sym h.real)
 
 -- the class of a statement, by what is known of where it stands
 pub branch_read : (b : Begun) (line : ℕ) (interface : List ℕ) (all : List Class) (c : Class) (level : ℕ) → length b.classes < 256
-    → class_number c.name b.classes ≡ None → (c.first ≡ true → b.chosen ≡ false) → IsWithin 1 10000 c.limit → IsOfKind b.kind c
+    → class_number c.name b.classes ≡ None → (c.is_default ≡ true → b.chosen ≡ false) → IsWithin 1 10000 c.limit → IsOfKind b.kind c
     → spot_of b (class_statement line b.kind interface all c) (parent_word all c.parent) ≡ Ok (spot c.parent level)
     → read_branch b b.kind (class_statement line b.kind interface all c) ≡ Ok (branch c level (is_some c.real))
 branch_read b line interface all c level room new first limit own place =

@@ -6,7 +6,7 @@ use Rattle.conf_tree.specs.declared.filter.Filter.{Filter}
 use Rattle.conf_tree.specs.declared.interface.Interface.{Interface}
 use Rattle.conf_tree.specs.declared.interface.Kind.{Kind}
 use Rattle.conf_tree.specs.Canonical.{parent_word, class_lines, filter_lines, written_classes, interface_lines, canonical_text}
-use Rattle.conf_laws.specs.Fit.{IsName, HasParent, IsClass, IsFilter, IsTree, HasClasses, IsInterface, AreFit}
+use Rattle.conf_laws.specs.Fit.{IsName, HasParent, IsClass, IsFilter, IsTree, IsInterface, AreFit}
 use Rattle.conf_laws.specs.Statements.{class_statements, filter_statements, interface_statements, canonical_statements}
 use Rattle.conf_laws.proofs.ClassLines.{interface_is_line, class_is_line}
 use Rattle.conf_laws.proofs.ClassLines as class
@@ -46,14 +46,13 @@ filter_is_written kind classes names f is =
 names_of : (kind : Kind) (classes : List Class) (filters : List Filter) → IsTree kind classes filters → Each (λ c. IsName c.name) classes
 names_of kind classes filters tree = λ k c at. (tree.class k c at).name
 
-classes_are_written : (i : Interface) (implied : Bool) → HasClasses implied i
+classes_are_written : (i : Interface) (implied : Bool) → IsTree i.kind i.classes i.filters
     → Each (class.IsWritten i.kind i.classes) (if implied then [] else i.classes)
 classes_are_written i true is = of_none (class.IsWritten i.kind i.classes)
 classes_are_written i false is = λ k c at. class_is_written i.kind i.classes (names_of i.kind i.classes i.filters is) k c (is.class k c at)
 
-filters_are_written : (i : Interface) (implied : Bool) → HasClasses implied i → Each (filter.IsWritten i.classes) i.filters
-filters_are_written i true is = rw is.filters (of_none (filter.IsWritten i.classes))
-filters_are_written i false is = λ k f at. filter_is_written i.kind i.classes (names_of i.kind i.classes i.filters is) f (is.filter k f at)
+filters_are_written : (i : Interface) → IsTree i.kind i.classes i.filters → Each (filter.IsWritten i.classes) i.filters
+filters_are_written i is = λ k f at. filter_is_written i.kind i.classes (names_of i.kind i.classes i.filters is) f (is.filter k f at)
 
 -- the lines of classes and of filters
 classes_are_lines : (kind : Kind) (interface : List ℕ) (all classes : List Class) → IsName interface → Each (class.IsWritten kind all) classes
@@ -79,7 +78,7 @@ interface_is_lines : (i : Interface) → IsInterface i
 interface_is_lines i is =
     join (one_line (interface_is_line i is.name is.rate))
     (join (classes_are_lines i.kind i.name i.classes (written_classes i) is.name (classes_are_written i i.implied is.tree))
-    (filters_are_lines i.name i.classes i.filters is.name (filters_are_written i i.implied is.tree)))
+    (filters_are_lines i.name i.classes i.filters is.name (filters_are_written i is.tree)))
 
 -- the lines of a configuration
 abbrev pub count_of : List Interface → ℕ

@@ -1,38 +1,41 @@
 -- The lines of interfaces and of classes.
 use Rattle.std.proofs.Common.{◌≡◌, ◌≢◌, ℕ, Bool, true, false, List, [], ◌∷◌, ◌++◌, Option, Some, None, codes, decimal, refl, arith, append_assoc}
 use Rattle.service_curve.specs.declared.Curve.{Curve}
+use Rattle.conf_lines.specs.declared.item.Key.TheVariants as key
 use Rattle.conf_lines.specs.declared.item.What.TheVariants as what
 use Rattle.conf_lines.specs.declared.statement.Form.{Form}
 use Rattle.conf_lines.specs.declared.statement.Form.TheVariants as form
 use Rattle.conf_lines.specs.Grammar.{end}
 use Rattle.conf_lines.specs.Slots.{is_text}
 use Rattle.conf_lines.proofs.GrammarPlaces.{at_option, at_interface_name, at_class_name, Tells}
-use Rattle.conf_lines.proofs.Steps.{begins_interface, begins_class, begins_hfsc, begins_cbq, tells_interface, tells_class, tells_parent, tells_bandwidth, tells_hfsc, tells_cbq, ends_at_option}
+use Rattle.conf_lines.proofs.Steps.{begins_interface, begins_class, begins_hfsc, begins_cbq, tells_interface, tells_class, tells_parent, ends_at_option}
+use Rattle.conf_lines.specs.Options.{most_rate}
 use Rattle.conf_tree.specs.declared.class.Class.{Class}
 use Rattle.conf_tree.specs.declared.interface.Interface.{Interface}
 use Rattle.conf_tree.specs.declared.interface.Kind.{Kind}
 use Rattle.conf_tree.specs.declared.interface.Kind.TheVariants.{Hfsc, Cbq}
 use Rattle.conf_tree.specs.Canonical.{kind_word, interface_line, parent_word, class_line}
-use Rattle.conf_tree.specs.Settings.{most_rate}
 use Rattle.conf_laws.specs.Fit.{IsName, IsWithin, IsOfKind}
 use Rattle.conf_laws.specs.Statements.{kind_key, interface_whats, interface_statement, class_names, class_form, class_statement}
-use Rattle.conf_laws.proofs.OptionParts.{rt_part, settled_by, ls_part, qlimit_part, drop_part, default_part, borrow_part, control_part, cbq_rate_part, burst_part}
+use Rattle.conf_laws.proofs.OptionParts.{option_part, settling_part, rt_part, settled_by, ls_part, ul_part, qlimit_part, drop_part, clear_part, default_part, borrow_part, control_part, cbq_rate_part, burst_part}
 use Rattle.conf_laws.proofs.Parts.{Part, ◌>>◌}
 use Rattle.conf_laws.proofs.Printed.{name_is_read}
 use Rattle.conf_laws.proofs.StatementLines.{Line, same_line, one_first, two_first}
-use Rattle.conf_laws.proofs.WordParts.{printed_by, key_part, name_part, rate_part}
+use Rattle.conf_laws.proofs.WordParts.{printed_by, name_part, rate_part}
 
 kind_part : (kind : Kind) → Part (at_option form.Interface false) (at_option form.Interface true) (32 ∷ kind_word kind) (what.Key (kind_key kind) ∷ []) 1
-kind_part Hfsc = key_part tells_hfsc refl
-kind_part Cbq = key_part tells_cbq refl
+unfolding is_text
+kind_part Hfsc = settling_part key.Hfsc refl refl refl
+kind_part Cbq = settling_part key.Cbq refl refl refl
 
 -- NAME bandwidth R hfsc, or cbq
 interface_part : (i : Interface) → IsName i.name → IsWithin 1000 most_rate i.rate
     → Part (at_interface_name form.Interface) (at_option form.Interface true)
     (32 ∷ (i.name ++ (codes " bandwidth " ++ (decimal i.rate ++ (32 ∷ kind_word i.kind))))) (interface_whats i) 4
+unfolding is_text
 interface_part i is_name is_rate =
     name_part {from = at_interface_name form.Interface} (tells_interface (name_is_read i.name is_name)) is_name
-    >> key_part tells_bandwidth refl
+    >> option_part key.Bandwidth refl refl refl
     >> rate_part is_rate.0 is_rate.1 (omega arith)
     >> kind_part i.kind
 
@@ -91,9 +94,12 @@ class_is_line Hfsc interface all c is_interface is =
     (two_first (codes "class") (codes "hfsc") begins_class begins_hfsc (printed_by (codes "class") refl) (printed_by (codes "hfsc") refl)
     (names_part Hfsc interface all c is_interface is
     >> rt_part c.real is.own.real
-    >> (ls_part c.share is.own.share >> qlimit_part Hfsc c.limit is.limit)
+    >> ls_part c.share is.own.share
+    >> ul_part c.upper is.own.upper
+    >> qlimit_part Hfsc c.limit is.limit
     >> drop_part Hfsc c.drop
-    >> default_part Hfsc c.first)
+    >> clear_part Hfsc c.clear
+    >> default_part Hfsc c.is_default)
     (ends_hfsc all c is) (omega arith))
     (simp append_assoc)
 class_is_line Cbq interface all c is_interface is =
@@ -104,7 +110,8 @@ class_is_line Cbq interface all c is_interface is =
     >> borrow_part c.borrow
     >> (burst_part c is.own >> qlimit_part Cbq c.limit is.limit)
     >> drop_part Cbq c.drop
+    >> clear_part Cbq c.clear
     >> control_part c.control
-    >> default_part Cbq c.first)
+    >> default_part Cbq c.is_default)
     (ends_at_option form.ClassCbq) (omega arith))
     (simp append_assoc)

@@ -10,7 +10,8 @@ use Rattle.conf_tree.specs.declared.interface.Kind.TheVariants.{Hfsc, Cbq}
 use Rattle.conf_tree.specs.Canonical.{parent_word, name_or_null}
 use Rattle.conf_tree.specs.Classes.{is_queue, spot_of, read_branch}
 use Rattle.conf_tree.specs.Tree.{Begun, as_parent, with_parent, add_class, class_number}
-use Rattle.conf_laws.specs.Fit.{IsOnLevel, IsParent, HasParent, IsClass, IsOfKind, IsTree}
+use Rattle.conf_tree.specs.Family.{IsOnLevel}
+use Rattle.conf_laws.specs.Fit.{IsParent, HasParent, IsClass, IsOfKind, IsTree}
 use Rattle.conf_laws.specs.Statements.{class_statement}
 use Rattle.conf_laws.proofs.BranchesRead.{branch, branch_read}
 use Rattle.conf_laws.proofs.ChangesRead.{IsChanged, length_changed, get_changed}
@@ -52,7 +53,7 @@ record Stands (i : Interface) (b : Begun) (s : Statement) (k : ℕ) (parent : Op
   place : spot_of b s (parent_word i.classes parent) ≡ Ok (spot parent level)
   is : (other : ℕ) → IsOnLevel i.classes k other → level ≡ other
 
-no_queue : (kind : Kind) (c : Branch) → (kind ≡ Hfsc → c.class.first ≡ false) → c.filtered ≡ false → is_queue kind c ≡ false
+no_queue : (kind : Kind) (c : Branch) → (kind ≡ Hfsc → c.class.is_default ≡ false) → c.filtered ≡ false → is_queue kind c ≡ false
 no_queue Hfsc c h e = rw (h refl, e) refl
 no_queue Cbq c h e = refl
 
@@ -70,7 +71,7 @@ below_parent i number k b s c p q r tree at class e early q_at h =
     let word : parent_word i.classes (Some p) ≡ parent.class.name = ap (λ o. name_or_null o) read.here in
     let named : parent.class.name ≢ codes "NULL" = λ n. h.named (ap (λ x. x.name) (sym same) ∙ n) in
     let real : parent.class.real ≡ None = ap (λ x. x.real) same ∙ h.real in
-    let outer : b.kind ≡ Hfsc → parent.class.first ≡ false = λ k_is. ap (λ x. x.first) same ∙ h.inner (sym r.kind ∙ k_is) in
+    let outer : b.kind ≡ Hfsc → parent.class.is_default ≡ false = λ k_is. ap (λ x. x.is_default) same ∙ h.inner (sym r.kind ∙ k_is) in
     let number_is : class_number parent.class.name b.classes ≡ Some p =
     class_is parent.class.name b.classes p parent found.1 refl
     (λ j a g t. tree.names j p a.class parent.class (r.class j a g).here read.here (sym t)) in
@@ -153,12 +154,12 @@ next_class i k b c line tree small at r =
     class_is_new c.name b.classes (λ j a g t.
     let same : j ≡ k = tree.names j k a.class c (r.class j a g).here at (sym t) in
     omega (arith, r.count, slice_get_within b.classes j a g)) in
-    let default_is : c.first ≡ true → k ≡ one.number = one.one k c at in
-    let is_default : k ≡ one.number → c.first ≡ true = λ e.
+    let default_is : c.is_default ≡ true → k ≡ one.number = one.one k c at in
+    let is_default : k ≡ one.number → c.is_default ≡ true = λ e.
     let some : Some c ≡ Some one.class = sym at ∙ (ap (λ n. slice_get i.classes n) e ∙ one.at) in
     let same : c ≡ one.class = cc in
-    ap (λ x. x.first) same ∙ one.first in
-    let open_yet : c.first ≡ true → b.chosen ≡ false = λ t.
+    ap (λ x. x.is_default) same ∙ one.is_default in
+    let open_yet : c.is_default ≡ true → b.chosen ≡ false = λ t.
     let e = default_is t in
     let later : nat_lt one.number k ≡ false = grind (arith, nat_tests) in
     r.chosen ∙ later in
@@ -170,7 +171,7 @@ next_class i k b c line tree small at r =
       rate = r.rate;
       kind = r.kind;
       rooted = λ e. absurd (omega arith);
-      chosen = chosen_more one.number k b.chosen c.first r.chosen default_is is_default;
+      chosen = chosen_more one.number k b.chosen c.is_default r.chosen default_is is_default;
       filters = r.filters;
       count = length-append (with_parent b.classes c.parent) (made ∷ []) ∙ ap (λ n. n + 1) (length_with_parent b.classes c.parent ∙ r.count);
       class = λ j a g. ⊎_elim

@@ -11,7 +11,8 @@ use Rattle.conf_lines.proofs.FilterSteps.{tells_filter_class, tells_ruleno, tell
 use Rattle.conf_tree.specs.Canonical.{ip6_word, end4_words, tos_words, tclass_words}
 use Rattle.conf_laws.specs.Fit.{IsName, AreBytes, IsTos}
 use Rattle.conf_laws.specs.Statements.{filter_names, end4_whats, end6_whats, tos_whats}
-use Rattle.conf_laws.proofs.Parts.{key_word, Part, nothing, ◌>>◌}
+use Rattle.conf_lines.specs.Options.{word_of_key}
+use Rattle.conf_laws.proofs.Parts.{Part, nothing, ◌>>◌}
 use Rattle.conf_laws.proofs.Printed.{whole_printed, protocol_printed, name_is_read, address_printed, mask_printed, prefix_printed}
 use Rattle.conf_laws.proofs.WordParts.{is_printed, key_part, name_part, number_part, ip4_part, ip6_part}
 
@@ -67,11 +68,11 @@ byte_small : (n : ℕ) → n ≤ 255 → n < 2 ^ 64
 byte_small n most = omega arith
 
 -- a type of service and its mask, each behind its key word
-masked_part : {form : Form} {k mask_key : Key} (tos mask : ℕ) → Tells (behind_protocol form) (key_word k) (what.Key k) (at_tos form)
-    → Tells (behind_tos form) (key_word mask_key) (what.Key mask_key) (at_tos_mask form)
-    → is_printed (key_word k) ≡ true → is_printed (key_word mask_key) ≡ true → tos ≤ 255 → mask ≤ 255
+masked_part : {form : Form} {k mask_key : Key} (tos mask : ℕ) → Tells (behind_protocol form) (word_of_key k) (what.Key k) (at_tos form)
+    → Tells (behind_tos form) (word_of_key mask_key) (what.Key mask_key) (at_tos_mask form)
+    → is_printed (word_of_key k) ≡ true → is_printed (word_of_key mask_key) ≡ true → tos ≤ 255 → mask ≤ 255
     → Part (behind_protocol form) (at_end form)
-    ((32 ∷ key_word k) ++ (32 ∷ (decimal tos ++ (32 ∷ (key_word mask_key ++ (32 ∷ decimal mask))))))
+    ((32 ∷ word_of_key k) ++ (32 ∷ (decimal tos ++ (32 ∷ (word_of_key mask_key ++ (32 ∷ decimal mask))))))
     (what.Key k ∷ what.Whole tos ∷ what.Key mask_key ∷ what.Whole mask ∷ []) 4
 masked_part tos mask tells tells_mask printed mask_printed most most_mask =
     key_part tells printed

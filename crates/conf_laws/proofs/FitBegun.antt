@@ -4,23 +4,24 @@ use Rattle.std.proofs.Common.{◌≡◌, ◌≢◌, ℕ, ◌+◌, ◌<◌, ◌�
 use Rattle.std.proofs.lemmas.Bool.{or_parts, both_ways}
 use Rattle.std.proofs.lemmas.Option.{slice_get_within}
 use Rattle.std.proofs.lemmas.Slice.Eq.{bytes_eq-Decides}
+use Rattle.conf_lines.specs.Options.{most_rate}
 use Rattle.conf_tree.specs.declared.class.Class.{Class}
 use Rattle.conf_tree.specs.declared.filter.Filter.{Filter}
 use Rattle.conf_tree.specs.declared.interface.Kind.{Kind}
 use Rattle.conf_tree.specs.declared.interface.Kind.TheVariants.{Hfsc}
-use Rattle.conf_tree.specs.Settings.{most_rate}
 use Rattle.conf_tree.specs.Tree.{Begun, class_number, as_parent, as_filtered, changed_to, changed, with_parent, add_class, add_filter}
-use Rattle.conf_laws.specs.Fit.{IsName, IsWithin, IsOnLevel, root, below, HasParent, IsOfKind, HasDefault}
+use Rattle.conf_tree.specs.Family.{IsOnLevel, root, below}
+use Rattle.conf_laws.specs.Fit.{IsName, IsWithin, HasParent, IsOfKind, HasDefault}
 use Rattle.conf_laws.proofs.FitBranches.{class_in, IsHeld, class_at, same_length, parent_held, IsMore, more_held, filter_held}
 use Rattle.conf_laws.proofs.FitClasses.{kept_name, level_on, without_real, less_back, less_default, less_unchosen, more_grows, more_default, first_default, more_unchosen}
 use Rattle.conf_laws.proofs.FitFilters.{HasParts}
-use Rattle.conf_laws.proofs.Kept.{Branch}
+use Rattle.conf_laws.proofs.Types.{Branch}
 use Rattle.conf_laws.proofs.Places.{push_on, push_at, set_at, set_length, map_back, absent}
 
 -- there is a default class, or no class is one
 pub record IsChosen (chosen : Bool) (classes : List Class) : Type 0 where
   pub default : chosen ≡ true → HasDefault classes
-  pub none : chosen ≡ false → (k : ℕ) (c : Class) → slice_get classes k ≡ Some c → c.first ≡ false
+  pub none : chosen ≡ false → (k : ℕ) (c : Class) → slice_get classes k ≡ Some c → c.is_default ≡ false
 
 chosen_less : (chosen : Bool) (xs : List Class) (p : ℕ) (q : Class) → slice_get xs p ≡ Some q → IsChosen chosen xs → IsChosen chosen (without_real xs p q)
 chosen_less chosen xs p q at h = record {
@@ -28,7 +29,7 @@ chosen_less chosen xs p q at h = record {
   none = λ e. less_unchosen xs p q at (h.none e);
 }
 
-chosen_more : (chosen first : Bool) (xs : List Class) (c : Class) → c.first ≡ first → (first ≡ true → chosen ≡ false) → IsChosen chosen xs
+chosen_more : (chosen first : Bool) (xs : List Class) (c : Class) → c.is_default ≡ first → (first ≡ true → chosen ≡ false) → IsChosen chosen xs
     → IsChosen (chosen || first) (xs ++ c ∷ [])
 chosen_more true true xs c e k h = absurd (true≢false (k refl))
 chosen_more true false xs c e k h = record { default = λ t. more_default xs c e (h.default refl); none = λ t. cc }
@@ -53,7 +54,7 @@ pub record IsBelow (kind : Kind) (classes : List Branch) (level p : ℕ) : Type 
   pub named : parent.class.name ≢ codes "NULL"
   pub deep : parent.level < 8
   pub next : level ≡ parent.level + 1
-  pub plain : kind ≡ Hfsc → parent.class.first ≡ false
+  pub plain : kind ≡ Hfsc → parent.class.is_default ≡ false
   pub free : kind ≡ Hfsc → parent.filtered ≡ false
 
 abbrev pub StandsAt : Begun → ℕ → Option ℕ → Type 0
@@ -66,7 +67,7 @@ pub record IsNew (b : Begun) (c : Branch) : Type 0 where
   pub new : class_number c.class.name b.classes ≡ None
   pub room : length b.classes < 256
   pub stands : StandsAt b c.level c.class.parent
-  pub first : c.class.first ≡ true → b.chosen ≡ false
+  pub is_default : c.class.is_default ≡ true → b.chosen ≡ false
   pub limit : IsWithin 1 10000 c.class.limit
   pub own : IsOfKind b.kind c.class
 
@@ -82,7 +83,7 @@ new_name b c h n k d at same_name =
 pub record AreAdded (b : Begun) (c : Branch) (classes : List Branch) : Type 0 where
   pub are : List Class
   pub held : IsHeld b.kind classes are b.filters
-  pub chosen : IsChosen (b.chosen || c.class.first) are
+  pub chosen : IsChosen (b.chosen || c.class.is_default) are
   pub length : length classes ≡ length b.classes + 1
   pub rooted : (b.rooted || is_none c.class.parent) ≡ false → classes ≡ []
 
@@ -122,7 +123,7 @@ root_added : (b : Begun) (c : Branch) → IsBegun b → IsNew b c → c.class.pa
 root_added b c h n top free level = record {
   are = h.are ++ c.class ∷ [];
   held = more_held b.kind b.classes h.are b.filters c h.held (root_is b c h n top free level);
-  chosen = chosen_more b.chosen c.class.first h.are c.class refl n.first h.chosen;
+  chosen = chosen_more b.chosen c.class.is_default h.are c.class refl n.is_default h.chosen;
   length = added_length b.classes c;
   rooted = λ e. let no : is_none c.class.parent ≡ false = (or_parts b.rooted (is_none c.class.parent) e).1 in
       let yes : is_none c.class.parent ≡ true = ap is_none top in absurd (both_ways (is_none c.class.parent) no yes);
@@ -188,7 +189,7 @@ below_added b c h n p up s =
     record {
       are = xs ++ c.class ∷ [];
       held = more_held b.kind ys xs b.filters c (parent_held b.kind b.classes h.are b.filters p s.parent s.at h.held) (below_is b c h n p up s);
-      chosen = chosen_more b.chosen c.class.first xs c.class refl n.first (chosen_less b.chosen h.are p s.parent.class at h.chosen);
+      chosen = chosen_more b.chosen c.class.is_default xs c.class refl n.is_default (chosen_less b.chosen h.are p s.parent.class at h.chosen);
       length = added_length ys c ∙ ap (λ k. k + 1) (set_length b.classes p (as_parent s.parent));
       rooted = λ e.
           let none : b.classes ≡ [] = h.rooted (or_parts b.rooted (is_none c.class.parent) e).0 in

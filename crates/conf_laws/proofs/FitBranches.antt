@@ -8,10 +8,11 @@ use Rattle.conf_tree.specs.declared.filter.Filter.{Filter}
 use Rattle.conf_tree.specs.declared.interface.Kind.{Kind}
 use Rattle.conf_tree.specs.declared.interface.Kind.TheVariants.{Hfsc}
 use Rattle.conf_tree.specs.Tree.{as_parent, as_filtered}
-use Rattle.conf_laws.specs.Fit.{IsOnLevel, HasParent, IsClass, IsFilter}
+use Rattle.conf_tree.specs.Family.{IsOnLevel}
+use Rattle.conf_laws.specs.Fit.{HasParent, IsClass, IsFilter}
 use Rattle.conf_laws.proofs.FitClasses.{kept_parent, level_on, AreClasses, without_real, less_grows, less_back, less_fit, more_grows, more_fit}
 use Rattle.conf_laws.proofs.FitFilters.{HasParts}
-use Rattle.conf_laws.proofs.Kept.{Branch}
+use Rattle.conf_laws.proofs.Types.{Branch}
 use Rattle.conf_laws.proofs.Places.{push_back, set_back, set_same, map_on}
 
 abbrev pub class_in : Branch → Class

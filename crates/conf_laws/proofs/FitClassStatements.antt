@@ -11,19 +11,20 @@ use Rattle.conf_lines.specs.declared.item.What.{What}
 use Rattle.conf_lines.specs.declared.item.What.TheVariants as what
 use Rattle.conf_lines.specs.declared.statement.Statement.{Statement}
 use Rattle.conf_lines.specs.Laws.{IsSound, AreSound}
+use Rattle.conf_lines.specs.Options.{most_rate}
 use Rattle.conf_tree.specs.declared.interface.Kind.{Kind}
 use Rattle.conf_tree.specs.declared.interface.Kind.TheVariants.{Hfsc, Cbq}
 use Rattle.conf_tree.specs.Classes.{same_kind, is_queue, below, below_at, below_number, spot_of, cbq_shape, shape_of_kind, shape_unless, shape_by, scope_of, shape_at, shape_under, shape_named, branch_of, branch_by, is_full, branch_named, read_branch}
 use Rattle.conf_tree.specs.Items.{name_of, name_in, name_at}
 use Rattle.conf_tree.specs.Kinds.{at_word, own_fault, missing_word, wrong_discipline, name_taken, two_roots, too_deep, too_many_classes, no_share, real_time_inside, inner_queue}
 use Rattle.conf_tree.specs.Options.{set_options}
-use Rattle.conf_tree.specs.Settings.{most_rate, unset}
+use Rattle.conf_tree.specs.Settings.{unset}
 use Rattle.conf_tree.specs.Tree.{Begun, class_number}
 use Rattle.conf_laws.specs.Fit.{IsName, IsWithin, IsOfKind, IsHfscClass, IsCbqClass}
 use Rattle.conf_laws.proofs.FitBegun.{IsBegun, StandsAt, IsNew}
 use Rattle.conf_laws.proofs.FitFilters.{IsSoundIn, sound_at}
 use Rattle.conf_laws.proofs.FitSettings.{AreSet, AreSetIfOk, unset_fit, options_fit}
-use Rattle.conf_laws.proofs.Kept.{Branch, Settings, Spot, Shape}
+use Rattle.conf_laws.proofs.Types.{Branch, Settings, Spot, Shape}
 
 -- a name has its form
 name_of_fit : (says : What) → IsSound says → IfSome (name_of says) IsName
@@ -46,8 +47,8 @@ abbrev IsSpotIfOk : Begun → Result Spot ConfPlace → Type 0
 IsSpotIfOk b (Ok spot) = StandsAt b spot.level spot.parent
 IsSpotIfOk b (Err fault) = Unit {0}
 
-queue_parts : (kind : Kind) (c : Branch) → is_queue kind c ≡ false → kind ≡ Hfsc → (c.class.first ≡ false) × (c.filtered ≡ false)
-queue_parts Hfsc c h e = or_parts c.class.first c.filtered h
+queue_parts : (kind : Kind) (c : Branch) → is_queue kind c ≡ false → kind ≡ Hfsc → (c.class.is_default ≡ false) × (c.filtered ≡ false)
+queue_parts Hfsc c h e = or_parts c.class.is_default c.filtered h
 queue_parts Cbq c h e = cc
 
 below_fit : (b : Begun) (s : Statement) (i : ℕ) (c : Branch) → slice_get b.classes i ≡ Some c → c.class.name ≢ codes "NULL" → IsSpotIfOk b (below b.kind s i c)
@@ -154,6 +155,7 @@ new_fit Hfsc b name shape e named new room h =
     let own : IsHfscClass (branch_of Hfsc name shape).class = record {
       real = set.real;
       share = set.share;
+      upper = set.upper;
       shared = h.own;
       rate = refl;
       priority = refl;
@@ -162,19 +164,20 @@ new_fit Hfsc b name shape e named new room h =
       maxburst = refl;
       packetsize = refl;
     } in
-    record { name = named; new = new; room = room; stands = h.spot; first = set.first; limit = set.limit; own = subst P (sym e) own }
+    record { name = named; new = new; room = room; stands = h.spot; is_default = set.is_default; limit = set.limit; own = subst P (sym e) own }
 new_fit Cbq b name shape e named new room h =
     let set = h.settings in
     let P : Kind → Type 0 = λ kind. IsOfKind kind (branch_of Cbq name shape).class in
     let own : IsCbqClass (branch_of Cbq name shape).class = record {
       real = refl;
       share = refl;
+      upper = refl;
       rate = h.own;
       priority = set.priority;
       maxburst = set.maxburst;
       packetsize = set.packetsize;
     } in
-    record { name = named; new = new; room = room; stands = h.spot; first = set.first; limit = set.limit; own = subst P (sym e) own }
+    record { name = named; new = new; room = room; stands = h.spot; is_default = set.is_default; limit = set.limit; own = subst P (sym e) own }
 
 abbrev pub IsNewIfOk : Begun → Result Branch ConfPlace → Type 0
 IsNewIfOk b (Ok c) = IsNew b c

@@ -5,7 +5,8 @@ use Rattle.conf_tree.specs.declared.class.Class.{Class}
 use Rattle.conf_tree.specs.declared.filter.Filter.{Filter}
 use Rattle.conf_tree.specs.declared.interface.Kind.{Kind}
 use Rattle.conf_tree.specs.declared.interface.Kind.TheVariants.{Hfsc, Cbq}
-use Rattle.conf_laws.specs.Fit.{IsOnLevel, root, below, IsParent, HasParent, IsOfKind, IsClass, IsFilter, HasDefault}
+use Rattle.conf_tree.specs.Family.{IsOnLevel, root, below}
+use Rattle.conf_laws.specs.Fit.{IsParent, HasParent, IsOfKind, IsClass, IsFilter, HasDefault}
 use Rattle.conf_laws.proofs.Places.{push_on, push_at, push_back, set_at, set_on, set_back, set_length, push_apart}
 
 -- a class that is as it was, or has lost its real-time curve
@@ -21,9 +22,9 @@ pub kept_parent : (c d : Class) → IsKept c d → d.parent ≡ c.parent
 kept_parent c d same = refl
 kept_parent c d less = refl
 
-kept_first : (c d : Class) → IsKept c d → d.first ≡ c.first
-kept_first c d same = refl
-kept_first c d less = refl
+kept_default : (c d : Class) → IsKept c d → d.is_default ≡ c.is_default
+kept_default c d same = refl
+kept_default c d less = refl
 
 kept_is_parent : (kind : Kind) (c d : Class) → IsKept c d → IsParent kind c → IsParent kind d
 kept_is_parent kind c d same h = h
@@ -33,6 +34,7 @@ less_own : (kind : Kind) (c : Class) → IsOfKind kind c → IsOfKind kind (reco
 less_own Hfsc c h = record {
   real = tt;
   share = h.share;
+  upper = h.upper;
   shared = h.shared;
   rate = h.rate;
   priority = h.priority;
@@ -44,6 +46,7 @@ less_own Hfsc c h = record {
 less_own Cbq c h = record {
   real = refl;
   share = h.share;
+  upper = h.upper;
   rate = h.rate;
   priority = h.priority;
   maxburst = h.maxburst;
@@ -151,13 +154,13 @@ less_default xs p q h a =
       number = a.number;
       class = s.0;
       at = s.1;
-      first = kept_first a.class s.0 s.2 ∙ a.first;
-      one = λ k d at chosen. let t = less_back xs p q h k d at in a.one k t.0 t.1 (sym (kept_first t.0 d t.2) ∙ chosen);
+      is_default = kept_default a.class s.0 s.2 ∙ a.is_default;
+      one = λ k d at chosen. let t = less_back xs p q h k d at in a.one k t.0 t.1 (sym (kept_default t.0 d t.2) ∙ chosen);
     }
 
 pub less_unchosen : (xs : List Class) (p : ℕ) (q : Class) → slice_get xs p ≡ Some q
-    → ((k : ℕ) (c : Class) → slice_get xs k ≡ Some c → c.first ≡ false) → (k : ℕ) (d : Class) → slice_get (without_real xs p q) k ≡ Some d → d.first ≡ false
-less_unchosen xs p q h a k d at = let t = less_back xs p q h k d at in kept_first t.0 d t.2 ∙ a k t.0 t.1
+    → ((k : ℕ) (c : Class) → slice_get xs k ≡ Some c → c.is_default ≡ false) → (k : ℕ) (d : Class) → slice_get (without_real xs p q) k ≡ Some d → d.is_default ≡ false
+less_unchosen xs p q h a k d at = let t = less_back xs p q h k d at in kept_default t.0 d t.2 ∙ a k t.0 t.1
 
 -- ONE MORE
 pub more_grows : (xs : List Class) (c : Class) → Grows xs (xs ++ c ∷ [])
@@ -192,25 +195,25 @@ more_fit kind xs filters c a own new childless = record {
 }
 
 -- the default class stays, and a first one is the only one
-pub more_default : (xs : List Class) (c : Class) → c.first ≡ false → HasDefault xs → HasDefault (xs ++ c ∷ [])
+pub more_default : (xs : List Class) (c : Class) → c.is_default ≡ false → HasDefault xs → HasDefault (xs ++ c ∷ [])
 more_default xs c plain a = record {
   number = a.number;
   class = a.class;
   at = push_on xs (c ∷ []) a.number a.class a.at;
-  first = a.first;
+  is_default = a.is_default;
   one = λ k d at chosen.
-      ⊎_elim (λ e. a.one k d e chosen) (λ e. let no : d.first ≡ false = ap (λ x. x.first) (sym e.1) ∙ plain in cc) (push_back xs c k d at);
+      ⊎_elim (λ e. a.one k d e chosen) (λ e. let no : d.is_default ≡ false = ap (λ x. x.is_default) (sym e.1) ∙ plain in cc) (push_back xs c k d at);
 }
 
-pub first_default : (xs : List Class) (c : Class) → c.first ≡ true → ((k : ℕ) (d : Class) → slice_get xs k ≡ Some d → d.first ≡ false) → HasDefault (xs ++ c ∷ [])
+pub first_default : (xs : List Class) (c : Class) → c.is_default ≡ true → ((k : ℕ) (d : Class) → slice_get xs k ≡ Some d → d.is_default ≡ false) → HasDefault (xs ++ c ∷ [])
 first_default xs c chosen none = record {
   number = length xs;
   class = c;
   at = push_at xs c;
-  first = chosen;
-  one = λ k d at is. ⊎_elim (λ e. let no : d.first ≡ false = none k d e in cc) (λ e. e.0) (push_back xs c k d at);
+  is_default = chosen;
+  one = λ k d at is. ⊎_elim (λ e. let no : d.is_default ≡ false = none k d e in cc) (λ e. e.0) (push_back xs c k d at);
 }
 
-pub more_unchosen : (xs : List Class) (c : Class) → c.first ≡ false → ((k : ℕ) (d : Class) → slice_get xs k ≡ Some d → d.first ≡ false)
-    → (k : ℕ) (d : Class) → slice_get (xs ++ c ∷ []) k ≡ Some d → d.first ≡ false
-more_unchosen xs c plain none k d at = ⊎_elim (λ e. none k d e) (λ e. ap (λ x. x.first) (sym e.1) ∙ plain) (push_back xs c k d at)
+pub more_unchosen : (xs : List Class) (c : Class) → c.is_default ≡ false → ((k : ℕ) (d : Class) → slice_get xs k ≡ Some d → d.is_default ≡ false)
+    → (k : ℕ) (d : Class) → slice_get (xs ++ c ∷ []) k ≡ Some d → d.is_default ≡ false
+more_unchosen xs c plain none k d at = ⊎_elim (λ e. none k d e) (λ e. ap (λ x. x.is_default) (sym e.1) ∙ plain) (push_back xs c k d at)

@@ -13,7 +13,7 @@ use Rattle.conf_tree.specs.Items.{name_at}
 use Rattle.conf_tree.specs.Kinds.{at_word, too_many_filters, inner_queue}
 use Rattle.conf_tree.specs.Tree.{Begun, class_number}
 use Rattle.conf_laws.proofs.FitFilters.{HasParts, filter_fit, sound_drop}
-use Rattle.conf_laws.proofs.Kept.{Branch}
+use Rattle.conf_laws.proofs.Types.{Branch}
 
 -- a filter that may be added
 pub record IsNewFilter (b : Begun) (f : Filter) : Type 0 where

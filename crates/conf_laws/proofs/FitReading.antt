@@ -12,6 +12,7 @@ use Rattle.conf_lines.specs.declared.statement.Form.{Form}
 use Rattle.conf_lines.specs.declared.statement.Form.TheVariants as form
 use Rattle.conf_lines.specs.declared.statement.Statement.{Statement}
 use Rattle.conf_lines.specs.Laws.{AreSound, AreAllSound}
+use Rattle.conf_lines.specs.Options.{most_rate}
 use Rattle.conf_tree.specs.declared.filter.Filter.{Filter}
 use Rattle.conf_tree.specs.declared.interface.Interface.{Interface}
 use Rattle.conf_tree.specs.declared.interface.Kind.{Kind}
@@ -23,7 +24,6 @@ use Rattle.conf_tree.specs.Items.{number_at, name_at}
 use Rattle.conf_tree.specs.Kinds.{at_word, own_fault, interface_twice, too_many_interfaces}
 use Rattle.conf_tree.specs.Options.{rate_by_key, rate_by_word, rate_by_options}
 use Rattle.conf_tree.specs.Reading.{read_form, read_statement, reading_from}
-use Rattle.conf_tree.specs.Settings.{most_rate}
 use Rattle.conf_tree.specs.Tree.{Begun, begun, interface_name, interface_number, add_class, add_filter}
 use Rattle.conf_tree.specs.Whole.{finished}
 use Rattle.conf_laws.specs.Fit.{IsName, IsWithin}
@@ -31,7 +31,7 @@ use Rattle.conf_laws.proofs.FitBegun.{IsBegun, class_added as with_class, filter
 use Rattle.conf_laws.proofs.FitClassStatements.{name_fit, none_by, IsNewIfOk, branch_fit}
 use Rattle.conf_laws.proofs.FitFilterStatements.{IsNewFilterIfOk, read_fit}
 use Rattle.conf_laws.proofs.FitSettings.{number_fit}
-use Rattle.conf_laws.proofs.Kept.{Branch}
+use Rattle.conf_laws.proofs.Types.{Branch}
 use Rattle.conf_laws.proofs.Places.{AreApart, push_apart, set_apart, push_back, set_back, set_length, absent}
 
 -- at most 16 interfaces, each with a name of its own

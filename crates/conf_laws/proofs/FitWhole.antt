@@ -17,6 +17,7 @@ use Rattle.conf_laws.specs.Fit.{IsTree, IsInterface, AreFit}
 use Rattle.conf_laws.proofs.FitBegun.{IsBegun}
 use Rattle.conf_laws.proofs.FitBranches.{class_in, same_length}
 use Rattle.conf_laws.proofs.FitReading.{AreBegun, none_begun, reading_fit}
+use Rattle.conf_laws.proofs.ImpliedTree.{implied_tree}
 use Rattle.conf_laws.proofs.Places.{map_back}
 
 -- an interface whose classes are implied, or not
@@ -39,19 +40,20 @@ empty_by [] h = refl
 empty_by (x ∷ xs) h = absurd (h 0 x refl)
 
 implied_fit : (b : Begun) → IsBegun b → is_empty b.classes ≡ true → IsInterface (whole_by b true)
-implied_fit b h empty = record {
-  name = h.name;
-  rate = h.rate;
-  classes = implied_length b.kind b.rate;
-  filters = h.few;
-  tree = record {
-    classes = refl;
-    filters = empty_by b.filters (λ k f at.
-        let own = (h.held.tree.filter k f at).class in
-        let none = eqb-true (length b.classes) 0 empty in
-        let same = same_length b.classes h.are h.held.are in absurd (omega arith));
-  };
-}
+implied_fit b h empty =
+    let none : b.filters ≡ [] =
+    empty_by b.filters (λ k f at.
+    let own = (h.held.tree.filter k f at).class in
+    let bare = eqb-true (length b.classes) 0 empty in
+    let same = same_length b.classes h.are h.held.are in absurd (omega arith)) in
+    record {
+      name = h.name;
+      rate = h.rate;
+      classes = implied_length b.kind b.rate;
+      filters = h.few;
+      tree = subst (λ fs. IsTree b.kind (implied_classes b.kind b.rate) fs) (sym none) (implied_tree b.kind b.rate h.rate);
+      implied = λ e. record { classes = refl; filters = none };
+    }
 
 written_fit : (b : Begun) → IsBegun b → b.chosen ≡ true → IsInterface (whole_by b false)
 written_fit b h chosen = record {
@@ -66,6 +68,7 @@ written_fit b h chosen = record {
         default = h.chosen.default chosen;
         filter = h.held.tree.filter;
       });
+  implied = λ e. cc;
 }
 
 by_fit : (b : Begun) (empty : Bool) → is_empty b.classes ≡ empty → IsBegun b → (not empty && not b.chosen) ≡ false → IsInterface (whole_by b empty)

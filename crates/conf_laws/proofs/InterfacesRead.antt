@@ -4,6 +4,7 @@ use Rattle.std.proofs.lemmas.Bool.Decides.{nat_tests}
 use Rattle.std.proofs.lemmas.List.{length-map}
 use Rattle.std.proofs.lemmas.Option.{slice_get-map, slice_get_within}
 use Rattle.conf_lines.specs.declared.statement.Statement.{Statement}
+use Rattle.conf_lines.specs.Options.{most_rate}
 use Rattle.conf_tree.specs.declared.class.Class.{Class}
 use Rattle.conf_tree.specs.declared.filter.Filter.{Filter}
 use Rattle.conf_tree.specs.declared.interface.Interface.{Interface}
@@ -13,10 +14,9 @@ use Rattle.conf_tree.specs.Canonical.{written_classes}
 use Rattle.conf_tree.specs.Items.{within}
 use Rattle.conf_tree.specs.Interfaces.{interface_kind, interface_rate}
 use Rattle.conf_tree.specs.Reading.{read_statement}
-use Rattle.conf_tree.specs.Settings.{most_rate}
 use Rattle.conf_tree.specs.Tree.{Begun, begun, add_class, add_filter}
 use Rattle.conf_tree.specs.Whole.{whole, undecided, is_empty, implied_classes, classes_of}
-use Rattle.conf_laws.specs.Fit.{IsTree, IsInterface, IsImplied, HasClasses}
+use Rattle.conf_laws.specs.Fit.{IsTree, IsInterface, IsImplied}
 use Rattle.conf_laws.specs.Statements.{interface_statement, class_statement, class_statements, filter_statement, filter_statements, interface_statements}
 use Rattle.conf_laws.proofs.ClassesRead.{HasRead, next_class}
 use Rattle.conf_laws.proofs.CurvesRead.{within_is}
@@ -205,10 +205,10 @@ tree_is_read before line i h new room e tree =
     }
 
 by_implied : (before : List Begun) (line : ℕ) (i : Interface) (implied : Bool) → IsInterface i → IsNew i.name before → length before < 16
-    → i.implied ≡ implied → HasClasses implied i → IsReadWhole i before (interface_statements line i)
-by_implied before line i true h new room e tree = implied_is_read before line i h new room e tree
-by_implied before line i false h new room e tree = tree_is_read before line i h new room e tree
+    → i.implied ≡ implied → IsReadWhole i before (interface_statements line i)
+by_implied before line i true h new room e = implied_is_read before line i h new room e (h.implied e)
+by_implied before line i false h new room e = tree_is_read before line i h new room e h.tree
 
 pub interface_is_read : (before : List Begun) (line : ℕ) (i : Interface) → IsInterface i → IsNew i.name before → length before < 16
     → IsReadWhole i before (interface_statements line i)
-interface_is_read before line i h new room = by_implied before line i i.implied h new room refl h.tree
+interface_is_read before line i h new room = by_implied before line i i.implied h new room refl

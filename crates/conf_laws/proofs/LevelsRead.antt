@@ -1,7 +1,7 @@
 -- The level of a class, by its parent's.
 use Rattle.std.proofs.Common.{◌≡◌, ℕ, ◌+◌, List, Some, None, slice_get, refl, subst, sym, ◌∙◌}
 use Rattle.conf_tree.specs.declared.class.Class.{Class}
-use Rattle.conf_laws.specs.Fit.{IsOnLevel, root, below}
+use Rattle.conf_tree.specs.Family.{IsOnLevel, root, below}
 
 pub level_of_root : (all : List Class) (k level : ℕ) → IsOnLevel all k level → (c : Class) → slice_get all k ≡ Some c → c.parent ≡ None → level ≡ 1
 level_of_root all k level (root j d e n) c h p = refl

@@ -22,9 +22,11 @@ pub mod FitReading
 pub mod FitSettings
 pub mod FitWhole
 pub mod Groups
+pub mod ImpliedTree
 pub mod InterfacesRead
+pub mod LateFaults
+pub mod CloseFaults
 pub mod Ip6
-pub mod Kept
 pub mod LevelsRead
 pub mod Lines
 pub mod ListPlaces
@@ -38,6 +40,7 @@ pub mod OtherTexts
 pub mod Parts
 pub mod Places
 pub mod Printed
+pub mod Queues
 pub mod ReadLines
 pub mod SpotsRead
 pub mod StatementLines
@@ -45,3 +48,5 @@ pub mod StatementsRead
 pub mod TextLines
 pub mod Types
 pub mod WordParts
+pub mod WorkedRows
+pub mod WordFaults

@@ -2,54 +2,20 @@
 use Rattle.std.proofs.Common.{◌≡◌, ℕ, ◌+◌, ◌*◌, ◌≤◌, List, [], ◌∷◌, ◌++◌, map, length, All, None, codes, decimal, refl, ap, sym, ◌∙◌, arith, append_assoc, append-nil, length-append}
 use Rattle.std.proofs.lemmas.List.{map-append}
 use Rattle.std.proofs.lemmas.List.Elements.{All-nil, All-cons}
-use Rattle.conf_lines.specs.declared.item.Key.{Key}
-use Rattle.conf_lines.specs.declared.item.Key.TheVariants as key
 use Rattle.conf_lines.specs.declared.item.What.{What}
 use Rattle.conf_lines.specs.declared.item.What.TheVariants as what
 use Rattle.conf_lines.specs.Grammar.{end}
+use Rattle.conf_lines.specs.Options.{word_of_key}
 use Rattle.conf_lines.specs.Texts.{read_from, behind}
 use Rattle.conf_lines.proofs.GrammarPlaces.{GrammarPlace, Tells}
 use Rattle.conf_tree.specs.Canonical.{ip4_word, ip6_word}
 use Rattle.conf_laws.specs.Statements.{numbered}
 use Rattle.conf_laws.proofs.Lines.{IsWord, rest_of}
 
--- the word of an option
-abbrev pub key_word : Key → List ℕ
-key_word key.Bandwidth = codes "bandwidth"
-key_word key.Tbrsize = codes "tbrsize"
-key_word key.Hfsc = codes "hfsc"
-key_word key.Cbq = codes "cbq"
-key_word key.Efficient = codes "efficient"
-key_word key.CbqWrr = codes "cbq-wrr"
-key_word key.Sc = codes "sc"
-key_word key.Rt = codes "rt"
-key_word key.Ls = codes "ls"
-key_word key.Pshare = codes "pshare"
-key_word key.Grate = codes "grate"
-key_word key.Qlimit = codes "qlimit"
-key_word key.Red = codes "red"
-key_word key.Rio = codes "rio"
-key_word key.Admission = codes "admission"
-key_word key.Default = codes "default"
-key_word key.Priority = codes "priority"
-key_word key.Pbandwidth = codes "pbandwidth"
-key_word key.Exactbandwidth = codes "exactbandwidth"
-key_word key.Borrow = codes "borrow"
-key_word key.Control = codes "control"
-key_word key.Maxburst = codes "maxburst"
-key_word key.Packetsize = codes "packetsize"
-key_word key.Name = codes "name"
-key_word key.Ruleno = codes "ruleno"
-key_word key.Netmask = codes "netmask"
-key_word key.Tos = codes "tos"
-key_word key.Tosmask = codes "tosmask"
-key_word key.Tclass = codes "tclass"
-key_word key.Tclassmask = codes "tclassmask"
-
 -- the word that says this
 abbrev pub word_of : What → List ℕ
 word_of (what.Name name) = name
-word_of (what.Key key) = key_word key
+word_of (what.Key key) = word_of_key key
 word_of (what.Rate n) = decimal n
 word_of (what.Whole n) = decimal n
 word_of (what.Ip4 a) = ip4_word a

@@ -10,7 +10,8 @@ use Rattle.conf_lines.proofs.Steps.{tells_rate, tells_whole}
 use Rattle.conf_tree.specs.Canonical.{ip4_word, ip6_word}
 use Rattle.conf_laws.specs.Fit.{AreBytes, IsName}
 use Rattle.conf_laws.proofs.Lines.{is_word}
-use Rattle.conf_laws.proofs.Parts.{key_word, IsPrinted, Part, one_word}
+use Rattle.conf_lines.specs.Options.{word_of_key}
+use Rattle.conf_laws.proofs.Parts.{IsPrinted, Part, one_word}
 use Rattle.conf_laws.proofs.Printed.{whole_printed, rate_printed, decimal_is_word, decimal_len, name_is_word, name_len, ip4_is_word, ip4_len, prefix_is_word, prefix_len}
 
 -- a test that computes
@@ -26,9 +27,9 @@ printed_by word h =
     let len = at_least_one (length word) parts.0 in
     record { word = record { some = len.0; bytes = parts.1 }; short = len.1 }
 
-pub key_part : {from to : GrammarPlace} {k : Key} → Tells from (key_word k) (what.Key k) to → is_printed (key_word k) ≡ true
-    → Part from to (32 ∷ key_word k) (what.Key k ∷ []) 1
-key_part {from} {to} {k} tells printed = one_word (record { tells = tells; printed = printed_by (key_word k) printed })
+pub key_part : {from to : GrammarPlace} {k : Key} → Tells from (word_of_key k) (what.Key k) to → is_printed (word_of_key k) ≡ true
+    → Part from to (32 ∷ word_of_key k) (what.Key k ∷ []) 1
+key_part {from} {to} {k} tells printed = one_word (record { tells = tells; printed = printed_by (word_of_key k) printed })
 
 pub name_part : {from to : GrammarPlace} {name : List ℕ} → Tells from name (what.Name name) to → IsName name → Part from to (32 ∷ name) (what.Name name ∷ []) 1
 name_part {name} tells is =

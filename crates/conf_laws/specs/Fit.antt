@@ -1,7 +1,8 @@
 -- What the numbers, the names and the tree of a configuration keep to, after altq.conf(5): each configuration that a text has is so.
-use Rattle.std.specs.Prelude.{◌≡◌, ◌≢◌, ◌≤◌, ◌<◌, ◌+◌, ◌*◌, ◌^◌, ◌⊎◌, ℕ, Bool, true, false, List, [], length, All, Option, Some, None, slice_get, codes, bit_and}
+use Rattle.std.specs.Prelude.{◌≡◌, ◌≢◌, ◌≤◌, ◌<◌, ◌*◌, ◌^◌, ◌⊎◌, ℕ, true, false, List, [], length, All, Option, Some, None, slice_get, codes, bit_and}
 use Rattle.service_curve.specs.declared.Curve.{Curve}
 use Rattle.conf_lines.specs.Slots.{is_name}
+use Rattle.conf_lines.specs.Options.{most_rate}
 use Rattle.conf_tree.specs.declared.class.Class.{Class}
 use Rattle.conf_tree.specs.declared.filter.Addresses.{Addresses}
 use Rattle.conf_tree.specs.declared.filter.Addresses.TheVariants.{V4, V6}
@@ -9,8 +10,8 @@ use Rattle.conf_tree.specs.declared.filter.Filter.{Filter}
 use Rattle.conf_tree.specs.declared.interface.Interface.{Interface}
 use Rattle.conf_tree.specs.declared.interface.Kind.{Kind}
 use Rattle.conf_tree.specs.declared.interface.Kind.TheVariants.{Hfsc, Cbq}
+use Rattle.conf_tree.specs.Family.{IsOnLevel}
 use Rattle.conf_tree.specs.Masks.{masked, prefix}
-use Rattle.conf_tree.specs.Settings.{most_rate}
 use Rattle.conf_tree.specs.Whole.{implied_classes}
 
 -- a NAME: 1 to 64 letters, digits and a few signs
@@ -20,32 +21,26 @@ IsName name = is_name name ≡ true
 abbrev pub IsWithin : ℕ → ℕ → ℕ → Type 0
 IsWithin low high n = (low ≤ n) × (n ≤ high)
 
--- A curve that may be set: slopes of at most 10^12, the second at least so much; a bend in whole milliseconds, at most 10^6 of
+-- A curve that may be set: slopes of at most 10^12, each at least so much; a bend in whole milliseconds, at most 10^6 of
 -- them; none that bends upwards from more than 0. It has a bend where its slopes differ, and there alone.
-pub record IsCurve (least : ℕ) (s : Curve) : Type 0 where
-  pub first : s.m1 ≤ most_rate
+pub record IsCurve (low least : ℕ) (s : Curve) : Type 0 where
+  pub first : IsWithin low most_rate s.m1
   pub second : IsWithin least most_rate s.m2
   pub bend : (d : ℕ) × (d ≤ 1000000) × (s.d ≡ d * 10 ^ 6)
   pub upward : (s.m1 ≡ 0) ⊎ (s.m2 ≤ s.m1)
   pub one_slope : s.d ≡ 0 → s.m1 ≡ s.m2
   pub two_slopes : s.m1 ≡ s.m2 → s.d ≡ 0
 
-abbrev pub IsCurveIfAny : ℕ → Option Curve → Type 0
-IsCurveIfAny least None = Unit {0}
-IsCurveIfAny least (Some s) = IsCurve least s
-
--- a class is on a level: the root on the first, each other class below its parent
-pub data IsOnLevel (classes : List Class) : ℕ → ℕ → Type 0 where
-  root : (k : ℕ) (c : Class) → slice_get classes k ≡ Some c → c.parent ≡ None → IsOnLevel classes k 1
-  below : (k p level : ℕ) (c : Class) → slice_get classes k ≡ Some c → c.parent ≡ Some p → IsOnLevel classes p level
-      → IsOnLevel classes k (level + 1)
+abbrev pub IsCurveIfAny : ℕ → ℕ → Option Curve → Type 0
+IsCurveIfAny low least None = Unit {0}
+IsCurveIfAny low least (Some s) = IsCurve low least s
 
 -- A class that may be a parent: it is not named NULL, which means that there is no parent; it has no real-time curve, and in HFSC
 -- it is not the default class.
 pub record IsParent (kind : Kind) (c : Class) : Type 0 where
   pub named : c.name ≢ codes "NULL"
   pub real : c.real ≡ None
-  pub inner : kind ≡ Hfsc → c.first ≡ false
+  pub inner : kind ≡ Hfsc → c.is_default ≡ false
 
 -- the first class is the root, which has no parent; each other class has a parent that stands before it
 abbrev pub HasParent : Kind → List Class → ℕ → Option ℕ → Type 0
@@ -54,8 +49,9 @@ HasParent kind classes k (Some p) = (p < k) × (q : Class) × (slice_get classes
 
 -- what a class of each kind has; what the other kind has is 0
 pub record IsHfscClass (c : Class) : Type 0 where
-  pub real : IsCurveIfAny 0 c.real
-  pub share : IsCurveIfAny 1 c.share
+  pub real : IsCurveIfAny 0 0 c.real
+  pub share : IsCurveIfAny 0 1 c.share
+  pub upper : IsCurveIfAny 1000 1000 c.upper
   pub shared : c.parent ≢ None → c.share ≢ None
   pub rate : c.rate ≡ 0
   pub priority : c.priority ≡ 0
@@ -67,6 +63,7 @@ pub record IsHfscClass (c : Class) : Type 0 where
 pub record IsCbqClass (c : Class) : Type 0 where
   pub real : c.real ≡ None
   pub share : c.share ≡ None
+  pub upper : c.upper ≡ None
   pub rate : IsWithin 1000 most_rate c.rate
   pub priority : c.priority ≤ 7
   pub maxburst : IsWithin 1 1000 c.maxburst
@@ -127,32 +124,28 @@ pub record HasDefault (classes : List Class) : Type 0 where
   pub number : ℕ
   pub class : Class
   pub at : slice_get classes number ≡ Some class
-  pub first : class.first ≡ true
-  pub one : (k : ℕ) (c : Class) → slice_get classes k ≡ Some c → c.first ≡ true → k ≡ number
+  pub is_default : class.is_default ≡ true
+  pub one : (k : ℕ) (c : Class) → slice_get classes k ≡ Some c → c.is_default ≡ true → k ≡ number
 
--- the classes and filters that a text has of an interface
+-- the classes and filters of an interface, whether a text has them or they are implied
 pub record IsTree (kind : Kind) (classes : List Class) (filters : List Filter) : Type 0 where
   pub class : (k : ℕ) (c : Class) → slice_get classes k ≡ Some c → IsClass kind classes k c
   pub names : (j k : ℕ) (a b : Class) → slice_get classes j ≡ Some a → slice_get classes k ≡ Some b → a.name ≡ b.name → j ≡ k
   pub default : HasDefault classes
   pub filter : (k : ℕ) (f : Filter) → slice_get filters k ≡ Some f → IsFilter kind classes f
 
--- those that are implied, where the text has none
+-- the classes that are implied where the text has none
 pub record IsImplied (i : Interface) : Type 0 where
   pub classes : i.classes ≡ implied_classes i.kind i.rate
   pub filters : i.filters ≡ []
-
--- its tree as the text has it, or as it is implied
-abbrev pub HasClasses : Bool → Interface → Type 0
-HasClasses true i = IsImplied i
-HasClasses false i = IsTree i.kind i.classes i.filters
 
 pub record IsInterface (i : Interface) : Type 0 where
   pub name : IsName i.name
   pub rate : IsWithin 1000 most_rate i.rate
   pub classes : length i.classes ≤ 256
   pub filters : length i.filters ≤ 1024
-  pub tree : HasClasses i.implied i
+  pub tree : IsTree i.kind i.classes i.filters
+  pub implied : i.implied ≡ true → IsImplied i
 
 -- at most 16 interfaces, each with a name of its own
 pub record AreFit (interfaces : List Interface) : Type 0 where

@@ -1,8 +1,14 @@
 -- What holds of every configuration, and of its canonical text.
-use Rattle.std.specs.Prelude.{◌≡◌, List, ℕ, Ok}
-use Rattle.conf_lines.specs.Texts.{statements_of}
+use Rattle.std.specs.Prelude.{◌≡◌, ◌+◌, ◌≤◌, List, [], ◌∷◌, ◌++◌, ℕ, length, true, Ok, Err, Some, slice_get}
+use Rattle.conf_lines.specs.declared.fault.ConfPlace.{ConfPlace}
+use Rattle.conf_lines.specs.declared.statement.Statement.{Statement}
+use Rattle.conf_lines.specs.Grammar.{start}
+use Rattle.conf_lines.specs.Texts.{read_from, as_statement, statements_of}
+use Rattle.conf_tree.specs.declared.class.Class.{Class}
+use Rattle.conf_tree.specs.declared.filter.Filter.{Filter}
 use Rattle.conf_tree.specs.declared.interface.Interface.{Interface}
 use Rattle.conf_tree.specs.Canonical.{canonical_text}
+use Rattle.conf_tree.specs.Family.{default_class, is_queue_class}
 use Rattle.conf_tree.specs.Reading.{reading, IsConfiguration}
 use Rattle.conf_laws.specs.Fit.{AreFit}
 use Rattle.conf_laws.specs.Statements.{canonical_statements}
@@ -10,6 +16,18 @@ use Rattle.conf_laws.specs.Statements.{canonical_statements}
 -- the interfaces of a text keep to the ranges, the limits and the tree
 abbrev pub ConfigurationsFit : Type 0
 ConfigurationsFit = (text : List ℕ) (interfaces : List Interface) → IsConfiguration text interfaces → AreFit interfaces
+
+-- packets go to classes that hold packets: the default class is one, and so is the class of each filter and each class with
+-- control
+pub record HasQueues (i : Interface) : Type 0 where
+  pub default : is_queue_class i.kind i.classes (default_class i.classes) ≡ true
+  pub filter : (k : ℕ) (f : Filter) → slice_get i.filters k ≡ Some f → is_queue_class i.kind i.classes f.class ≡ true
+  pub control : (k : ℕ) (c : Class) → slice_get i.classes k ≡ Some c → c.control ≡ true → is_queue_class i.kind i.classes k ≡ true
+
+abbrev pub InterfacesHaveQueues : Type 0
+InterfacesHaveQueues =
+    (text : List ℕ) (interfaces : List Interface) → IsConfiguration text interfaces
+    → (k : ℕ) (i : Interface) → slice_get interfaces k ≡ Some i → HasQueues i
 
 -- the canonical text has one statement on each line, which says what the configuration says
 abbrev pub TextHasItsStatements : Type 0
@@ -24,3 +42,15 @@ StatementsAreRead = (interfaces : List Interface) → AreFit interfaces → read
 abbrev pub TextsReadBack : Type 0
 TextsReadBack = (text : List ℕ) (interfaces : List Interface) → IsConfiguration text interfaces
     → IsConfiguration (canonical_text interfaces) interfaces
+
+-- the statement of the words of a line
+abbrev pub line_of_words : ℕ → List (List ℕ) → Statement
+line_of_words line words = as_statement line (length words + 1) (read_from line words start 1)
+
+-- THE FAULT STANDS AT ITS WORD: behind the same statements, two lines that agree up to and with the word of a fault have the same
+-- fault, whatever follows on the line or behind it. So nothing that follows the word mends it.
+abbrev pub FaultsStandAtWords : Type 0
+FaultsStandAtWords =
+    (statements rest : List Statement) (line : ℕ) (words more other : List (List ℕ)) (fault : ConfPlace) → 1 ≤ fault.word → fault.word ≤ length words
+    → reading (statements ++ line_of_words line (words ++ more) ∷ []) ≡ Err fault
+    → reading (statements ++ line_of_words line (words ++ other) ∷ rest) ≡ Err fault

@@ -11,7 +11,7 @@ use Rattle.conf_lines.specs.declared.statement.Form.TheVariants as form
 use Rattle.conf_lines.specs.declared.statement.Statement.{Statement}
 use Rattle.conf_tree.specs.declared.class.Class.{Class}
 use Rattle.conf_tree.specs.declared.class.DropRule.{DropRule}
-use Rattle.conf_tree.specs.declared.class.DropRule.TheVariants.{Tail, Red, Rio}
+use Rattle.conf_tree.specs.declared.class.DropRule.TheVariants.{Tail, Red, Ecn, Rio}
 use Rattle.conf_tree.specs.declared.filter.Addresses.{Addresses}
 use Rattle.conf_tree.specs.declared.filter.Addresses.TheVariants.{V4, V6}
 use Rattle.conf_tree.specs.declared.filter.Filter.{Filter}
@@ -46,29 +46,32 @@ key_where key false = []
 abbrev pub drop_whats : DropRule → List What
 drop_whats Tail = []
 drop_whats Red = what.Key key.Red ∷ []
+drop_whats Ecn = what.Key key.Ecn ∷ []
 drop_whats Rio = what.Key key.Rio ∷ []
 
 abbrev pub curve_whats : Key → Option Curve → List What
 curve_whats key None = []
 curve_whats key (Some s) = what.Key key ∷ what.Rate s.m1 ∷ what.Whole (s.d / 10 ^ 6) ∷ what.Rate s.m2 ∷ []
 
--- class hfsc IF NAME PARENT [rt M1 D M2] [ls M1 D M2] qlimit N [red | rio] [default]
+-- class hfsc IF NAME PARENT [rt M1 D M2] [ls M1 D M2] [ul M1 D M2] qlimit N [red | ecn | rio] [cleardscp] [default]
 abbrev pub class_names : List ℕ → List Class → Class → List What
 class_names interface classes c = what.Name interface ∷ what.Name c.name ∷ what.Name (parent_word classes c.parent) ∷ []
 
 abbrev pub hfsc_options : Class → List What
 hfsc_options c =
-    curve_whats key.Rt c.real ++ (curve_whats key.Ls c.share ++ (what.Key key.Qlimit ∷ what.Whole c.limit ∷ [])
-    ++ (drop_whats c.drop ++ key_where key.Default c.first))
+    curve_whats key.Rt c.real ++ (curve_whats key.Ls c.share ++ (curve_whats key.Ul c.upper ++ ((what.Key key.Qlimit ∷ what.Whole c.limit ∷ [])
+    ++ (drop_whats c.drop ++ (key_where key.Cleardscp c.clear ++ key_where key.Default c.is_default)))))
 
--- class cbq IF NAME PARENT priority P exactbandwidth R [borrow] maxburst N packetsize N qlimit N [red | rio] [control] [default]
+-- class cbq IF NAME PARENT priority P exactbandwidth R [borrow] maxburst N packetsize N qlimit N [red | ecn | rio]
+-- [cleardscp] [control] [default]
 abbrev pub cbq_options : Class → List What
 cbq_options c =
     (what.Key key.Priority ∷ what.Whole c.priority ∷ what.Key key.Exactbandwidth ∷ what.Rate c.rate ∷ [])
     ++ (key_where key.Borrow c.borrow
     ++ ((what.Key key.Maxburst ∷ what.Whole c.maxburst ∷ what.Key key.Packetsize ∷ what.Whole c.packetsize
     ∷ what.Key key.Qlimit ∷ what.Whole c.limit ∷ [])
-    ++ (drop_whats c.drop ++ (key_where key.Control c.control ++ key_where key.Default c.first))))
+    ++ (drop_whats c.drop ++ (key_where key.Cleardscp c.clear
+    ++ (key_where key.Control c.control ++ key_where key.Default c.is_default)))))
 
 abbrev pub class_options : Kind → Class → List What
 class_options Hfsc c = hfsc_options c

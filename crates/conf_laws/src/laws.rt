@@ -1,5 +1,5 @@
 //! Laws of configurations and of their canonical text.
-ghost use Rattle.conf_laws.specs.Laws.{ConfigurationsFit, StatementsAreRead, TextHasItsStatements, TextsReadBack};
+ghost use Rattle.conf_laws.specs.Laws.{ConfigurationsFit, FaultsStandAtWords, InterfacesHaveQueues, StatementsAreRead, TextHasItsStatements, TextsReadBack};
 
 use conf_lines::items_are_sound;
 
@@ -8,6 +8,14 @@ pub fn configurations_fit()
     ensures { ConfigurationsFit }
 {
     items_are_sound();
+}
+
+/// In each interface of every text the default class, the class of each filter and each class with `control` hold packets: in
+/// HFSC they are leaves.
+pub fn interfaces_have_queues()
+    ensures { InterfacesHaveQueues }
+{
+    configurations_fit();
 }
 
 /// The canonical text has one statement on each line, which says what the configuration says.
@@ -28,3 +36,9 @@ pub fn texts_read_back()
     text_has_its_statements();
     statements_are_read();
 }
+
+/// The first fault of a text stands at its word: two lines behind the same statements that agree up to and with this word have
+/// the same fault, whatever follows.
+pub fn faults_stand_at_words()
+    ensures { FaultsStandAtWords }
+{}

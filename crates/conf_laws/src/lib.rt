@@ -2,5 +2,10 @@
 #![tactic(auto)]
 
 mod laws;
+mod rows;
 
-pub use laws::{configurations_fit, statements_are_read, text_has_its_statements, texts_read_back};
+pub use laws::{
+    configurations_fit, faults_stand_at_words, interfaces_have_queues, statements_are_read,
+    text_has_its_statements, texts_read_back,
+};
+pub use rows::worked_rows;

@@ -5,10 +5,12 @@ use Rattle.conf_lines.specs.declared.grammar.Next.TheVariants as next
 use Rattle.conf_lines.specs.declared.grammar.Place.{Place}
 use Rattle.conf_lines.specs.declared.grammar.Side.{Side}
 use Rattle.conf_lines.specs.declared.grammar.Side.TheVariants as side
+use Rattle.conf_lines.specs.declared.item.Key.{Key}
 use Rattle.conf_lines.specs.declared.item.What.{What}
 use Rattle.conf_lines.specs.declared.statement.Form.{Form}
 use Rattle.conf_lines.specs.declared.statement.Form.TheVariants as form
-use Rattle.conf_lines.specs.Grammar.{step, after_interface, after_port}
+use Rattle.conf_lines.specs.Grammar.{step, after_interface, after_port, behind_option}
+use Rattle.conf_lines.specs.Options.{slots_of}
 
 -- the type of the places
 abbrev pub GrammarPlace : Type 0
@@ -18,6 +20,10 @@ GrammarPlace = Place
 abbrev pub at_option : Form → Bool → Place
 at_option form settled = record { form = form; next = next.Choice; settled = settled }
 
+-- what is next behind the word of an option
+abbrev pub behind_key : Key → Form → Bool → Place
+behind_key key form settled = record { form = form; next = behind_option (slots_of key); settled = settled }
+
 -- where a number of an option stands
 abbrev pub at_rate : ℕ → ℕ → Form → Bool → Place
 at_rate low high form settled = record { form = form; next = next.Rate low high; settled = settled }
@@ -26,8 +32,8 @@ abbrev pub at_whole : ℕ → ℕ → Form → Bool → Place
 at_whole low high form settled = record { form = form; next = next.Whole low high; settled = settled }
 
 -- where the three numbers of a curve stand
-abbrev pub at_first_slope : ℕ → Form → Bool → Place
-at_first_slope least form settled = record { form = form; next = next.Slope least; settled = settled }
+abbrev pub at_first_slope : ℕ → ℕ → Form → Bool → Place
+at_first_slope low least form settled = record { form = form; next = next.Slope low least; settled = settled }
 
 abbrev pub at_bend_time : ℕ → ℕ → Form → Bool → Place
 at_bend_time least m1 form settled = record { form = form; next = next.Bend least m1; settled = settled }

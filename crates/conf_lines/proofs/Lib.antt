@@ -5,3 +5,6 @@ pub mod OneLine
 pub mod SoundAddresses
 pub mod SoundItems
 pub mod Steps
+pub mod LineSplit
+mod StandingWords
+mod WholeOptions

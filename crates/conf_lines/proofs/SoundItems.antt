@@ -1,11 +1,10 @@
 -- What the items of a text's statements say: each name is a NAME, each address has its bytes.
-use Rattle.std.proofs.Common.{ℕ, zero, suc, ◌+◌, ◌-◌, ◌^◌, Bool, true, false, cond, List, [], ◌∷◌, ◌++◌, length, take, drop, Option, Some, None, Result, Ok, Err, IfSome, nat_le, nat_lt, leb-true, codes}
+use Rattle.std.proofs.Common.{ℕ, zero, suc, ◌+◌, Bool, true, false, cond, List, [], ◌∷◌, ◌++◌, length, take, drop, Option, Some, None, Result, Ok, Err, IfSome, nat_le, nat_lt, leb-true, codes}
 use Rattle.std.proofs.lemmas.Bool.{cond_both}
 use Rattle.line_text.specs.Addresses.{ip4_of, ip6_of}
 use Rattle.line_text.specs.Lines.{line_len, joined, longest_line}
 use Rattle.line_text.specs.Numbers.{number, cut}
 use Rattle.line_text.specs.Words.{words_of}
-use Rattle.conf_lines.specs.declared.grammar.Choice.{Choice}
 use Rattle.conf_lines.specs.declared.grammar.Next.{Next}
 use Rattle.conf_lines.specs.declared.grammar.Next.TheVariants as next
 use Rattle.conf_lines.specs.declared.grammar.Place.{Place}
@@ -21,7 +20,7 @@ use Rattle.conf_lines.specs.declared.statement.Form.{Form}
 use Rattle.conf_lines.specs.declared.statement.Form.TheVariants as form
 use Rattle.conf_lines.specs.declared.statement.Statement.{Statement}
 use Rattle.conf_lines.specs.Grammar.{says, reads, counts, refused, begins, at_statement, at_discipline, after_interface, at_parent, chosen, is_convex, at_bend, at_slope, at_last_slope, keyword, address_of, then_address, at_address, after_port, at_port, at_ruleno_or_address, at_name_or_address, at_mask_or_port, tos_word, mask_word, word_or_end, step_from, step, start}
-use Rattle.conf_lines.specs.Options.{most_rate, option_of}
+use Rattle.conf_lines.specs.Options.{most_rate, most_bend, most_ruleno, most_port, most_tos, word_of_key, option_of}
 use Rattle.conf_lines.specs.Slots.{is_text, are_plain, is_name, rate_in, whole_in, skipped_in, name_in, protocol_in, found_in, as_ip4, mask_in, address_in, as_ip6, prefix_in, address6_in, unknown_word, bad_byte, convex_first}
 use Rattle.conf_lines.specs.Texts.{Reading, fault_at, stops, item_of, behind, read_from, by_words, line_too_long, statement_of, line_feeds, before, statements_in, statements_of}
 use Rattle.conf_lines.specs.Laws.{AreBytes, IsSound, AreSound, AreAllSound}
@@ -118,9 +117,9 @@ parent_step : (place : Place) (word : List ℕ) → IsSoundStep (at_parent place
 unfolding at_parent
 parent_step place word = reads_step (name_in word) _ next.Choice (name_read word)
 
-chosen_step : (place : Place) (word : List ℕ) (o : Option Choice) → IsSoundStep (chosen place word o)
+chosen_step : (place : Place) (word : List ℕ) (o : Option Key) → IsSoundStep (chosen place word o)
 chosen_step place word None = refused_step word
-chosen_step place word (Some choice) = tt
+chosen_step place word (Some key) = tt
 
 bend_step : (least : ℕ) (r : Result ℕ ℕ) (place : Place) (m1 : ℕ) → IsSoundStep (at_bend least r place m1)
 bend_step least (Ok d) place m1 = tt
@@ -148,19 +147,19 @@ address_step place side word = then_step (address_of place.form word) place side
 
 port_step : (place : Place) (side : Side) (word : List ℕ) → IsSoundStep (at_port place side word)
 unfolding at_port
-port_step place side word = whole_step (whole_in 0 65535 word) place (after_port side)
+port_step place side word = whole_step (whole_in 0 most_port word) place (after_port side)
 
 ruleno_step : (place : Place) (word : List ℕ) → IsSoundStep (at_ruleno_or_address place word)
 unfolding at_ruleno_or_address
-ruleno_step place word = pick IsSoundStep (is_text (codes "ruleno") word) (keyword key.Ruleno place next.Ruleno) (at_address place Target word) tt (address_step place Target word)
+ruleno_step place word = pick IsSoundStep (is_text (word_of_key key.Ruleno) word) (keyword key.Ruleno place next.Ruleno) (at_address place Target word) tt (address_step place Target word)
 
 name_step : (place : Place) (word : List ℕ) → IsSoundStep (at_name_or_address place word)
 unfolding at_name_or_address
-name_step place word = pick IsSoundStep (is_text (codes "name") word) (keyword key.Name place next.NameWord) (at_ruleno_or_address place word) tt (ruleno_step place word)
+name_step place word = pick IsSoundStep (is_text (word_of_key key.Name) word) (keyword key.Name place next.NameWord) (at_ruleno_or_address place word) tt (ruleno_step place word)
 
 mask_step : (place : Place) (side : Side) (word : List ℕ) → IsSoundStep (at_mask_or_port place side word)
 unfolding at_mask_or_port
-mask_step place side word = pick IsSoundStep (is_text (codes "netmask") word) (keyword key.Netmask place (next.Mask side)) (at_port place side word) tt (port_step place side word)
+mask_step place side word = pick IsSoundStep (is_text (word_of_key key.Netmask) word) (keyword key.Netmask place (next.Mask side)) (at_port place side word) tt (port_step place side word)
 
 end_step : (o : Option Key) (place : Place) (to : Next) (word : List ℕ) → IsSoundStep (word_or_end o place to word)
 end_step None place to word = refused_step word
@@ -176,23 +175,23 @@ from_step next.Choice place word = chosen_step place word (option_of place.form 
 from_step next.Skipped place word = reads_step (skipped_in word) place next.Choice (skipped_read word)
 from_step (next.Rate low high) place word = rate_step (rate_in low high word) place next.Choice
 from_step (next.Whole low high) place word = whole_step (whole_in low high word) place next.Choice
-from_step (next.Slope least) place word = slope_step least (rate_in 0 most_rate word) place
-from_step (next.Bend least m1) place word = bend_step least (whole_in 0 1000000 word) place m1
+from_step (next.Slope low least) place word = slope_step least (rate_in low most_rate word) place
+from_step (next.Bend least m1) place word = bend_step least (whole_in 0 most_bend word) place m1
 from_step (next.LastSlope least m1 d) place word = last_slope_step m1 d (rate_in least most_rate word) place
 from_step next.FilterClass place word = reads_step (name_in word) place next.NameOrAddress (name_read word)
 from_step next.NameOrAddress place word = name_step place word
 from_step next.NameWord place word = reads_step (skipped_in word) place next.RulenoOrAddress (skipped_read word)
 from_step next.RulenoOrAddress place word = ruleno_step place word
-from_step next.Ruleno place word = whole_step (whole_in 0 (2 ^ 32 - 1) word) place (next.Address Target)
+from_step next.Ruleno place word = whole_step (whole_in 0 most_ruleno word) place (next.Address Target)
 from_step (next.Address side) place word = address_step place side word
 from_step (next.MaskOrPort side) place word = mask_step place side word
 from_step (next.Mask side) place word = reads_step (mask_in word) place (next.Port side) (mask_read word)
 from_step (next.Port side) place word = port_step place side word
 from_step next.Protocol place word = whole_step (protocol_in word) place next.TosOrEnd
 from_step next.TosOrEnd place word = end_step (tos_word place.form word) place next.Tos word
-from_step next.Tos place word = whole_step (whole_in 0 255 word) place next.TosMaskOrEnd
+from_step next.Tos place word = whole_step (whole_in 0 most_tos word) place next.TosMaskOrEnd
 from_step next.TosMaskOrEnd place word = end_step (mask_word place.form word) place next.TosMask word
-from_step next.TosMask place word = whole_step (whole_in 0 255 word) place next.End
+from_step next.TosMask place word = whole_step (whole_in 0 most_tos word) place next.End
 from_step next.End place word = refused_step word
 
 sound_step : (place : Place) (word : List ℕ) → IsSoundStep (step place word)

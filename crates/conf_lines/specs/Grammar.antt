@@ -1,7 +1,6 @@
 -- The statements as what may stand where: from a place, a word leads to another place, or it is the first fault of the
 -- statement. Places are named by what the next word is.
-use Rattle.std.specs.Prelude.{◌≡◌, ℕ, ◌-◌, ◌^◌, ◌&&◌, ◌||◌, Bool, false, List, nat_lt, if◌then◌else◌, Option, Some, None, Result, Ok, Err, codes}
-use Rattle.conf_lines.specs.declared.grammar.Choice.{Choice}
+use Rattle.std.specs.Prelude.{◌≡◌, ℕ, ◌&&◌, ◌||◌, Bool, false, List, nat_lt, if◌then◌else◌, Option, Some, None, Result, Ok, Err, codes}
 use Rattle.conf_lines.specs.declared.grammar.Next.{Next}
 use Rattle.conf_lines.specs.declared.grammar.Next.TheVariants as next
 use Rattle.conf_lines.specs.declared.grammar.Place.{Place}
@@ -14,9 +13,11 @@ use Rattle.conf_lines.specs.declared.item.Key.{Key}
 use Rattle.conf_lines.specs.declared.item.Key.TheVariants as key
 use Rattle.conf_lines.specs.declared.item.What.{What}
 use Rattle.conf_lines.specs.declared.item.What.TheVariants as what
+use Rattle.conf_lines.specs.declared.options.Slots.{Slots}
+use Rattle.conf_lines.specs.declared.options.Slots.TheVariants as slots
 use Rattle.conf_lines.specs.declared.statement.Form.{Form}
 use Rattle.conf_lines.specs.declared.statement.Form.TheVariants as form
-use Rattle.conf_lines.specs.Options.{most_rate, option_of}
+use Rattle.conf_lines.specs.Options.{most_rate, most_bend, most_ruleno, most_port, most_tos, word_of_key, slots_of, settles, option_of}
 use Rattle.conf_lines.specs.Slots.{is_text, are_plain, rate_in, whole_in, skipped_in, name_in, protocol_in, mask_in, address_in, address6_in, unknown_word, missing_word, bad_byte, convex_first, no_share}
 
 -- the place of the same statement where another word is next
@@ -74,10 +75,18 @@ at_parent place word =
     reads (name_in word) (record place { settled = place.settled || is_text (codes "NULL") word }) next.Choice
 
 -- an option, or a word that the statement does not have
-abbrev pub chosen : Place → List ℕ → Option Choice → Result Step ℕ
+abbrev pub behind_option : Slots → Next
+behind_option slots.Nothing = next.Choice
+behind_option slots.Word = next.Skipped
+behind_option (slots.Rate low high) = next.Rate low high
+behind_option (slots.Whole low high) = next.Whole low high
+behind_option (slots.Curve low least) = next.Slope low least
+behind_option slots.Mask = next.Mask Target
+
+abbrev pub chosen : Place → List ℕ → Option Key → Result Step ℕ
 chosen place word None = refused word
-chosen place word (Some choice) =
-    says (what.Key choice.key) (record place { settled = place.settled || choice.settles }) choice.next
+chosen place word (Some key) =
+    says (what.Key key) (record place { settled = place.settled || settles key }) (behind_option (slots_of key))
 
 -- a curve: RATE WHOLE RATE are its first slope m1, the time d of its bend in milliseconds, and its second slope m2. A curve
 -- that bends upwards from m1 > 0 is ConvexFirst, at m2.
@@ -121,28 +130,28 @@ after_port Target = next.Address Source
 after_port Source = next.Protocol
 
 unfoldable pub at_port : Place → Side → List ℕ → Result Step ℕ
-at_port place side word = counts what.Whole (whole_in 0 65535 word) place (after_port side)
+at_port place side word = counts what.Whole (whole_in 0 most_port word) place (after_port side)
 
 -- filter .. [name WORD] [ruleno WHOLE] DST DPORT SRC SPORT PROTO [tos WHOLE [tosmask WHOLE]], and filter6 with tclass
 unfoldable pub at_ruleno_or_address : Place → List ℕ → Result Step ℕ
 at_ruleno_or_address place word =
-    if is_text (codes "ruleno") word then keyword key.Ruleno place next.Ruleno else at_address place Target word
+    if is_text (word_of_key key.Ruleno) word then keyword key.Ruleno place next.Ruleno else at_address place Target word
 
 unfoldable pub at_name_or_address : Place → List ℕ → Result Step ℕ
 at_name_or_address place word =
-    if is_text (codes "name") word then keyword key.Name place next.NameWord else at_ruleno_or_address place word
+    if is_text (word_of_key key.Name) word then keyword key.Name place next.NameWord else at_ruleno_or_address place word
 
 unfoldable pub at_mask_or_port : Place → Side → List ℕ → Result Step ℕ
 at_mask_or_port place side word =
-    if is_text (codes "netmask") word then keyword key.Netmask place (next.Mask side) else at_port place side word
+    if is_text (word_of_key key.Netmask) word then keyword key.Netmask place (next.Mask side) else at_port place side word
 
 abbrev pub tos_word : Form → List ℕ → Option Key
-tos_word form.Filter word = if is_text (codes "tos") word then Some key.Tos else None
-tos_word _ word = if is_text (codes "tclass") word then Some key.Tclass else None
+tos_word form.Filter word = if is_text (word_of_key key.Tos) word then Some key.Tos else None
+tos_word _ word = if is_text (word_of_key key.Tclass) word then Some key.Tclass else None
 
 abbrev pub mask_word : Form → List ℕ → Option Key
-mask_word form.Filter word = if is_text (codes "tosmask") word then Some key.Tosmask else None
-mask_word _ word = if is_text (codes "tclassmask") word then Some key.Tclassmask else None
+mask_word form.Filter word = if is_text (word_of_key key.Tosmask) word then Some key.Tosmask else None
+mask_word _ word = if is_text (word_of_key key.Tclassmask) word then Some key.Tclassmask else None
 
 abbrev pub word_or_end : Option Key → Place → Next → List ℕ → Result Step ℕ
 word_or_end None place next word = refused word
@@ -159,23 +168,23 @@ step_from next.Choice place word = chosen place word (option_of place.form word)
 step_from next.Skipped place word = reads (skipped_in word) place next.Choice
 step_from (next.Rate low high) place word = counts what.Rate (rate_in low high word) place next.Choice
 step_from (next.Whole low high) place word = counts what.Whole (whole_in low high word) place next.Choice
-step_from (next.Slope least) place word = at_slope least (rate_in 0 most_rate word) place
-step_from (next.Bend least m1) place word = at_bend least (whole_in 0 1000000 word) place m1
+step_from (next.Slope low least) place word = at_slope least (rate_in low most_rate word) place
+step_from (next.Bend least m1) place word = at_bend least (whole_in 0 most_bend word) place m1
 step_from (next.LastSlope least m1 d) place word = at_last_slope m1 d (rate_in least most_rate word) place
 step_from next.FilterClass place word = reads (name_in word) place next.NameOrAddress
 step_from next.NameOrAddress place word = at_name_or_address place word
 step_from next.NameWord place word = reads (skipped_in word) place next.RulenoOrAddress
 step_from next.RulenoOrAddress place word = at_ruleno_or_address place word
-step_from next.Ruleno place word = counts what.Whole (whole_in 0 (2 ^ 32 - 1) word) place (next.Address Target)
+step_from next.Ruleno place word = counts what.Whole (whole_in 0 most_ruleno word) place (next.Address Target)
 step_from (next.Address side) place word = at_address place side word
 step_from (next.MaskOrPort side) place word = at_mask_or_port place side word
 step_from (next.Mask side) place word = reads (mask_in word) place (next.Port side)
 step_from (next.Port side) place word = at_port place side word
 step_from next.Protocol place word = counts what.Whole (protocol_in word) place next.TosOrEnd
 step_from next.TosOrEnd place word = word_or_end (tos_word place.form word) place next.Tos word
-step_from next.Tos place word = counts what.Whole (whole_in 0 255 word) place next.TosMaskOrEnd
+step_from next.Tos place word = counts what.Whole (whole_in 0 most_tos word) place next.TosMaskOrEnd
 step_from next.TosMaskOrEnd place word = word_or_end (mask_word place.form word) place next.TosMask word
-step_from next.TosMask place word = counts what.Whole (whole_in 0 255 word) place next.End
+step_from next.TosMask place word = counts what.Whole (whole_in 0 most_tos word) place next.End
 step_from next.End place word = refused word
 
 unfoldable pub step : Place → List ℕ → Result Step ℕ

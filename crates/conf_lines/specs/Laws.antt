@@ -1,11 +1,17 @@
--- What the items of the statements of every text keep to, after altq.conf(5).
-use Rattle.std.specs.Prelude.{◌≡◌, ◌<◌, ◌≤◌, ℕ, true, List, [], ◌∷◌, length, All}
+-- What the items of the statements of every text keep to, after altq.conf(5): each has its form, and an option in a statement
+-- without a fault has behind it what the table of options says.
+use Rattle.std.specs.Prelude.{◌≡◌, ◌<◌, ◌≤◌, ℕ, true, false, List, [], ◌∷◌, ◌++◌, length, All, Option, Some, None, option_map, slice_get}
+use Rattle.conf_lines.specs.declared.fault.ConfPlace.{ConfPlace}
 use Rattle.conf_lines.specs.declared.item.Item.{Item}
 use Rattle.conf_lines.specs.declared.item.What.{What}
 use Rattle.conf_lines.specs.declared.item.What.TheVariants as what
+use Rattle.conf_lines.specs.declared.options.Slots.{Slots}
+use Rattle.conf_lines.specs.declared.options.Slots.TheVariants as slots
 use Rattle.conf_lines.specs.declared.statement.Statement.{Statement}
+use Rattle.conf_lines.specs.Grammar.{is_convex, start}
+use Rattle.conf_lines.specs.Options.{most_rate, most_bend, slots_of}
 use Rattle.conf_lines.specs.Slots.{is_name}
-use Rattle.conf_lines.specs.Texts.{statements_of}
+use Rattle.conf_lines.specs.Texts.{read_from, statements_of}
 
 -- so many bytes
 pub record AreBytes (n : ℕ) (list : List ℕ) : Type 0 where
@@ -30,3 +36,65 @@ AreAllSound (s ∷ statements) = AreSound s.items × AreAllSound statements
 -- the items of each statement of a text
 abbrev pub ItemsAreSound : Type 0
 ItemsAreSound = (text : List ℕ) → AreAllSound (statements_of text)
+
+-- what the item at a place says, counted from 0
+abbrev pub says_at : ℕ → List Item → Option What
+says_at i items = option_map (λ item. item.what) (slice_get items i)
+
+-- a number of a range stands first
+pub record HasNumber (as_what : ℕ → What) (low high : ℕ) (items : List Item) : Type 0 where
+  pub number : ℕ
+  pub says : says_at 0 items ≡ Some (as_what number)
+  pub least : low ≤ number
+  pub most : number ≤ high
+
+-- a curve does: its first slope, its bend and its second slope
+pub record HasCurve (low least : ℕ) (items : List Item) : Type 0 where
+  pub m1 : ℕ
+  pub d : ℕ
+  pub m2 : ℕ
+  pub first : says_at 0 items ≡ Some (what.Rate m1)
+  pub bend : says_at 1 items ≡ Some (what.Whole d)
+  pub second : says_at 2 items ≡ Some (what.Rate m2)
+  pub first_least : low ≤ m1
+  pub first_most : m1 ≤ most_rate
+  pub bend_most : d ≤ most_bend
+  pub second_least : least ≤ m2
+  pub second_most : m2 ≤ most_rate
+  pub upward : is_convex m1 d m2 ≡ false
+
+pub record HasMask (items : List Item) : Type 0 where
+  pub mask : List ℕ
+  pub says : says_at 0 items ≡ Some (what.Ip4 mask)
+
+-- what an option asks for stands first
+abbrev pub HasSlots : Slots → List Item → Type 0
+HasSlots slots.Nothing items = Unit {0}
+HasSlots slots.Word items = says_at 0 items ≡ Some what.Skipped
+HasSlots (slots.Rate low high) items = HasNumber what.Rate low high items
+HasSlots (slots.Whole low high) items = HasNumber what.Whole low high items
+HasSlots (slots.Curve low least) items = HasCurve low least items
+HasSlots slots.Mask items = HasMask items
+
+-- each option has it
+abbrev pub IsWhole : What → List Item → Type 0
+IsWhole (what.Key key) items = HasSlots (slots_of key) items
+IsWhole _ items = Unit {0}
+
+abbrev pub AreWhole : List Item → Type 0
+AreWhole [] = Unit {0}
+AreWhole (item ∷ items) = IsWhole item.what items × AreWhole items
+
+abbrev pub AreAllWhole : List Statement → Type 0
+AreAllWhole [] = Unit {0}
+AreAllWhole (s ∷ statements) = (s.fault ≡ None → AreWhole s.items) × AreAllWhole statements
+
+abbrev pub OptionsAreWhole : Type 0
+OptionsAreWhole = (text : List ℕ) → AreAllWhole (statements_of text)
+
+-- The fault that a line shows by itself stands at its word: lines that agree up to and with this word are read alike, so nothing
+-- that follows the word mends it.
+abbrev pub LineFaultsStand : Type 0
+LineFaultsStand =
+    (line : ℕ) (words more other : List (List ℕ)) (fault : ConfPlace) → (read_from line (words ++ more) start 1).fault ≡ Some fault
+    → fault.word ≤ length words → read_from line (words ++ other) start 1 ≡ read_from line (words ++ more) start 1

@@ -1,74 +1,105 @@
--- The options of the statements: the word of each, what stands behind it, and whether a statement has by it what it must
--- have at its end.
-use Rattle.std.specs.Prelude.{ℕ, ◌^◌, true, false, List, if◌then◌else◌, Option, Some, None, codes}
-use Rattle.conf_lines.specs.declared.grammar.Choice.{Choice}
-use Rattle.conf_lines.specs.declared.grammar.Next.{Next}
-use Rattle.conf_lines.specs.declared.grammar.Next.TheVariants as next
+-- The options of the statements, as one table: the word of each, what stands behind it, and whether a statement has by it
+-- what it must have at its end. See altq.conf(5).
+use Rattle.std.specs.Prelude.{ℕ, ◌-◌, ◌^◌, Bool, true, false, List, [], ◌∷◌, find, Option, codes}
 use Rattle.conf_lines.specs.declared.item.Key.{Key}
 use Rattle.conf_lines.specs.declared.item.Key.TheVariants as key
+use Rattle.conf_lines.specs.declared.options.Slots.{Slots}
+use Rattle.conf_lines.specs.declared.options.Slots.TheVariants.{Nothing, Word, Rate, Whole, Curve, Mask}
 use Rattle.conf_lines.specs.declared.statement.Form.{Form}
 use Rattle.conf_lines.specs.declared.statement.Form.TheVariants as form
 use Rattle.conf_lines.specs.Slots.{is_text}
 
--- the greatest rate: 10^12 bits per second
+-- the greatest rate, 10^12 bits per second; the greatest bend of a curve, in milliseconds
 abbrev pub most_rate : ℕ
 most_rate = 10 ^ 12
 
--- an option, and one by which the statement has what it must have
-abbrev pub choice : Key → Next → Option Choice
-choice key next = Some (record { key = key; next = next; settles = false })
+abbrev pub most_bend : ℕ
+most_bend = 1000000
 
-abbrev pub settling : Key → Next → Option Choice
-settling key next = Some (record { key = key; next = next; settles = true })
+-- the greatest numbers of a filter
+abbrev pub most_ruleno : ℕ
+most_ruleno = 2 ^ 32 - 1
 
--- interface NAME (bandwidth RATE | tbrsize WORD | hfsc | cbq | efficient | cbq-wrr)*; one of hfsc and cbq is needed
-unfoldable pub interface_option : List ℕ → Option Choice
-interface_option word =
-    if is_text (codes "bandwidth") word then choice key.Bandwidth (next.Rate 1000 most_rate)
-    else if is_text (codes "tbrsize") word then choice key.Tbrsize next.Skipped
-    else if is_text (codes "hfsc") word then settling key.Hfsc next.Choice
-    else if is_text (codes "cbq") word then settling key.Cbq next.Choice
-    else if is_text (codes "efficient") word then choice key.Efficient next.Choice
-    else if is_text (codes "cbq-wrr") word then choice key.CbqWrr next.Choice
-    else None
+abbrev pub most_port : ℕ
+most_port = 65535
 
--- what both kinds of classes have: qlimit WHOLE | red | rio | admission WORD | default
-unfoldable pub class_option : List ℕ → Option Choice
-class_option word =
-    if is_text (codes "qlimit") word then choice key.Qlimit (next.Whole 1 10000)
-    else if is_text (codes "red") word then choice key.Red next.Choice
-    else if is_text (codes "rio") word then choice key.Rio next.Choice
-    else if is_text (codes "admission") word then choice key.Admission next.Skipped
-    else if is_text (codes "default") word then choice key.Default next.Choice
-    else None
+abbrev pub most_protocol : ℕ
+most_protocol = 255
 
--- class hfsc .. (sc RATE WHOLE RATE | rt RATE WHOLE RATE | ls RATE WHOLE RATE | pshare WHOLE | grate RATE)*; a class that is
--- not the root needs sc, ls or pshare. The second slope of sc and ls is at least 1.
-unfoldable pub hfsc_option : List ℕ → Option Choice
-hfsc_option word =
-    if is_text (codes "sc") word then settling key.Sc (next.Slope 1)
-    else if is_text (codes "rt") word then choice key.Rt (next.Slope 0)
-    else if is_text (codes "ls") word then settling key.Ls (next.Slope 1)
-    else if is_text (codes "pshare") word then settling key.Pshare (next.Whole 1 100)
-    else if is_text (codes "grate") word then choice key.Grate (next.Rate 0 most_rate)
-    else class_option word
+abbrev pub most_tos : ℕ
+most_tos = 255
 
--- class cbq .. (priority WHOLE | pbandwidth WHOLE | exactbandwidth RATE | borrow | control | maxburst WHOLE | packetsize
--- WHOLE)*; a class that is not the root needs pbandwidth or exactbandwidth
-unfoldable pub cbq_option : List ℕ → Option Choice
-cbq_option word =
-    if is_text (codes "priority") word then choice key.Priority (next.Whole 0 7)
-    else if is_text (codes "pbandwidth") word then settling key.Pbandwidth (next.Whole 0 100)
-    else if is_text (codes "exactbandwidth") word then settling key.Exactbandwidth (next.Rate 1000 most_rate)
-    else if is_text (codes "borrow") word then choice key.Borrow next.Choice
-    else if is_text (codes "control") word then choice key.Control next.Choice
-    else if is_text (codes "maxburst") word then choice key.Maxburst (next.Whole 1 1000)
-    else if is_text (codes "packetsize") word then choice key.Packetsize (next.Whole 1 262144)
-    else class_option word
+-- one option
+pub record Row : Type 0 where
+  pub word : List ℕ
+  pub slots : Slots
+  pub settles : Bool
 
--- the option of a statement
-abbrev pub option_of : Form → List ℕ → Option Choice
-option_of form.Interface word = interface_option word
-option_of form.ClassHfsc word = hfsc_option word
-option_of form.ClassCbq word = cbq_option word
-option_of _ word = None
+abbrev pub row : List ℕ → Slots → Bool → Row
+row word slots settles = record { word = word; slots = slots; settles = settles }
+
+-- THE TABLE: RATE and WHOLE with their least and greatest numbers; a curve, RATE WHOLE RATE, with the least of its first and of
+-- its second slope
+abbrev pub row_of : Key → Row
+-- of an interface
+row_of key.Bandwidth = row (codes "bandwidth") (Rate 1000 most_rate) false
+row_of key.Tbrsize = row (codes "tbrsize") Word false
+row_of key.Hfsc = row (codes "hfsc") Nothing true
+row_of key.Cbq = row (codes "cbq") Nothing true
+row_of key.Efficient = row (codes "efficient") Nothing false
+row_of key.CbqWrr = row (codes "cbq-wrr") Nothing false
+-- of a class of HFSC
+row_of key.Sc = row (codes "sc") (Curve 0 1) true
+row_of key.Rt = row (codes "rt") (Curve 0 0) false
+row_of key.Ls = row (codes "ls") (Curve 0 1) true
+row_of key.Ul = row (codes "ul") (Curve 1000 1000) false
+row_of key.Pshare = row (codes "pshare") (Whole 1 100) true
+row_of key.Grate = row (codes "grate") (Rate 0 most_rate) false
+-- of a class of CBQ
+row_of key.Priority = row (codes "priority") (Whole 0 7) false
+row_of key.Pbandwidth = row (codes "pbandwidth") (Whole 0 100) true
+row_of key.Exactbandwidth = row (codes "exactbandwidth") (Rate 1000 most_rate) true
+row_of key.Borrow = row (codes "borrow") Nothing false
+row_of key.Control = row (codes "control") Nothing false
+row_of key.Maxburst = row (codes "maxburst") (Whole 1 1000) false
+row_of key.Packetsize = row (codes "packetsize") (Whole 1 262144) false
+-- of both kinds of classes
+row_of key.Qlimit = row (codes "qlimit") (Whole 1 10000) false
+row_of key.Red = row (codes "red") Nothing false
+row_of key.Ecn = row (codes "ecn") Nothing false
+row_of key.Rio = row (codes "rio") Nothing false
+row_of key.Cleardscp = row (codes "cleardscp") Nothing false
+row_of key.Admission = row (codes "admission") Word false
+row_of key.Default = row (codes "default") Nothing false
+-- of a filter
+row_of key.Name = row (codes "name") Word false
+row_of key.Ruleno = row (codes "ruleno") (Whole 0 most_ruleno) false
+row_of key.Netmask = row (codes "netmask") Mask false
+row_of key.Tos = row (codes "tos") (Whole 0 most_tos) false
+row_of key.Tosmask = row (codes "tosmask") (Whole 0 most_tos) false
+row_of key.Tclass = row (codes "tclass") (Whole 0 most_tos) false
+row_of key.Tclassmask = row (codes "tclassmask") (Whole 0 most_tos) false
+
+abbrev pub word_of_key : Key → List ℕ
+word_of_key key = (row_of key).word
+
+abbrev pub slots_of : Key → Slots
+slots_of key = (row_of key).slots
+
+abbrev pub settles : Key → Bool
+settles key = (row_of key).settles
+
+-- the options of a statement, in any order; a filter has its parts in one order
+abbrev pub class_options : List Key
+class_options = key.Qlimit ∷ key.Red ∷ key.Ecn ∷ key.Rio ∷ key.Cleardscp ∷ key.Admission ∷ key.Default ∷ []
+
+abbrev pub options_of : Form → List Key
+options_of form.Interface = key.Bandwidth ∷ key.Tbrsize ∷ key.Hfsc ∷ key.Cbq ∷ key.Efficient ∷ key.CbqWrr ∷ []
+options_of form.ClassHfsc = key.Sc ∷ key.Rt ∷ key.Ls ∷ key.Ul ∷ key.Pshare ∷ key.Grate ∷ class_options
+options_of form.ClassCbq =
+    key.Priority ∷ key.Pbandwidth ∷ key.Exactbandwidth ∷ key.Borrow ∷ key.Control ∷ key.Maxburst ∷ key.Packetsize ∷ class_options
+options_of _ = []
+
+-- the option that a word names
+abbrev pub option_of : Form → List ℕ → Option Key
+option_of form word = find (λ key. is_text (word_of_key key) word) (options_of form)

@@ -1,6 +1,6 @@
 //! What may stand where: the places of a statement.
 
-use crate::item::{Key, What};
+use crate::item::What;
 use crate::statement::Form;
 
 /// One of the two ends of a packet, in the order of a filter.
@@ -31,8 +31,8 @@ pub(crate) enum Next {
     Rate(u64, u64),
     /// A WHOLE in a range, and then an option or the end.
     Whole(u64, u64),
-    /// The first slope of a curve, whose second slope is at least a rate.
-    Slope(u64),
+    /// The first slope of a curve, which is at least a rate, as its second slope is at least another.
+    Slope(u64, u64),
     /// The time of its bend, behind its first slope.
     Bend(u64, u64),
     /// Its second slope, behind its first slope and the time of its bend.
@@ -85,14 +85,6 @@ pub(crate) struct Place {
 pub(crate) struct Step {
     pub(crate) what: Option<What>,
     pub(crate) after: Place,
-}
-
-/// An option: its word, what follows it, and whether a statement has what it must have by it.
-#[derive(Clone, Copy, Debug)]
-pub(crate) struct Choice {
-    pub(crate) key: Key,
-    pub(crate) next: Next,
-    pub(crate) settles: bool,
 }
 
 /// Why a word leads nowhere.

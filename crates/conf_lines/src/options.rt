@@ -1,125 +1,185 @@
-//! The options of the statements.
+//! The options of the statements, as one table.
 ghost use Rattle.std.specs.Prelude.{◌≡◌};
-ghost use Rattle.conf_lines.specs.Options.{interface_option, class_option, hfsc_option, cbq_option, option_of, choice, settling};
+ghost use Rattle.conf_lines.specs.Options.{most_rate, most_bend, most_ruleno, most_port, most_protocol, most_tos, word_of_key, slots_of, settles, options_of, option_of};
 
-use crate::grammar::{Choice, Next};
 use crate::item::Key;
 use crate::slot::is_text;
 use crate::statement::Form;
 
 /// The greatest rate, in bits per second.
-pub(crate) const MOST_RATE: u64 = 1_000_000_000_000;
+pub const MOST_RATE: u64 = 1_000_000_000_000;
 
-/// The option of a statement that a word names.
-pub(crate) fn option_of(form: Form, word: &[u8]) -> Option<Choice>
-    ensures { result ≡ option_of form word.now }
+/// The greatest bend of a curve, in milliseconds.
+pub const MOST_BEND: u64 = 1_000_000;
+
+/// The greatest rule number of a filter.
+pub const MOST_RULENO: u64 = 4_294_967_295;
+
+/// The greatest port.
+pub const MOST_PORT: u64 = 65_535;
+
+/// The greatest protocol number.
+pub const MOST_PROTOCOL: u64 = 255;
+
+/// The greatest type of service or traffic class, and mask of one.
+pub const MOST_TOS: u64 = 255;
+
+/// What stands behind the word of an option.
+#[derive(Clone, Copy, Debug, PartialEq, Eq)]
+pub enum Slots {
+    /// Nothing.
+    Nothing,
+    /// A WORD without effect.
+    Word,
+    /// A RATE of at least the first number and at most the second.
+    Rate(u64, u64),
+    /// A WHOLE of at least the first number and at most the second.
+    Whole(u64, u64),
+    /// A curve, RATE WHOLE RATE, with the least of its first and of its second slope.
+    Curve(u64, u64),
+    /// A mask of an IPv4 address.
+    Mask,
+}
+
+impl Key {
+    /// Its word in altq.conf(5).
+    pub fn word(self) -> &'static str
+        ensures { result.now ≡ word_of_key self }
+    {
+        match self {
+            Key::Bandwidth => "bandwidth",
+            Key::Tbrsize => "tbrsize",
+            Key::Hfsc => "hfsc",
+            Key::Cbq => "cbq",
+            Key::Efficient => "efficient",
+            Key::CbqWrr => "cbq-wrr",
+            Key::Sc => "sc",
+            Key::Rt => "rt",
+            Key::Ls => "ls",
+            Key::Ul => "ul",
+            Key::Pshare => "pshare",
+            Key::Grate => "grate",
+            Key::Priority => "priority",
+            Key::Pbandwidth => "pbandwidth",
+            Key::Exactbandwidth => "exactbandwidth",
+            Key::Borrow => "borrow",
+            Key::Control => "control",
+            Key::Maxburst => "maxburst",
+            Key::Packetsize => "packetsize",
+            Key::Qlimit => "qlimit",
+            Key::Red => "red",
+            Key::Ecn => "ecn",
+            Key::Rio => "rio",
+            Key::Cleardscp => "cleardscp",
+            Key::Admission => "admission",
+            Key::Default => "default",
+            Key::Name => "name",
+            Key::Ruleno => "ruleno",
+            Key::Netmask => "netmask",
+            Key::Tos => "tos",
+            Key::Tosmask => "tosmask",
+            Key::Tclass => "tclass",
+            Key::Tclassmask => "tclassmask",
+        }
+    }
+
+    /// What stands behind its word.
+    pub fn slots(self) -> Slots
+        ensures { result ≡ slots_of self }
+    {
+        match self {
+            Key::Bandwidth | Key::Exactbandwidth => Slots::Rate(1000, MOST_RATE),
+            Key::Tbrsize | Key::Admission | Key::Name => Slots::Word,
+            Key::Sc | Key::Ls => Slots::Curve(0, 1),
+            Key::Rt => Slots::Curve(0, 0),
+            Key::Ul => Slots::Curve(1000, 1000),
+            Key::Pshare => Slots::Whole(1, 100),
+            Key::Grate => Slots::Rate(0, MOST_RATE),
+            Key::Priority => Slots::Whole(0, 7),
+            Key::Pbandwidth => Slots::Whole(0, 100),
+            Key::Maxburst => Slots::Whole(1, 1000),
+            Key::Packetsize => Slots::Whole(1, 262_144),
+            Key::Qlimit => Slots::Whole(1, 10_000),
+            Key::Ruleno => Slots::Whole(0, MOST_RULENO),
+            Key::Netmask => Slots::Mask,
+            Key::Tos | Key::Tosmask | Key::Tclass | Key::Tclassmask => Slots::Whole(0, MOST_TOS),
+            _ => Slots::Nothing,
+        }
+    }
+
+    /// Whether a statement has by it what it must have at its end.
+    pub(crate) fn settles(self) -> bool
+        ensures { result ≡ settles self }
+    {
+        matches!(
+            self,
+            Key::Hfsc
+                | Key::Cbq
+                | Key::Sc
+                | Key::Ls
+                | Key::Pshare
+                | Key::Pbandwidth
+                | Key::Exactbandwidth
+        )
+    }
+}
+
+/// The options of a statement.
+fn options_of(form: Form) -> &'static [Key]
+    ensures { result.now ≡ options_of form }
 {
     match form {
-        Form::Interface => interface_option(word),
-        Form::ClassHfsc => hfsc_option(word),
-        Form::ClassCbq => cbq_option(word),
-        _ => None,
+        Form::Interface => &[
+            Key::Bandwidth,
+            Key::Tbrsize,
+            Key::Hfsc,
+            Key::Cbq,
+            Key::Efficient,
+            Key::CbqWrr,
+        ],
+        Form::ClassHfsc => &[
+            Key::Sc,
+            Key::Rt,
+            Key::Ls,
+            Key::Ul,
+            Key::Pshare,
+            Key::Grate,
+            Key::Qlimit,
+            Key::Red,
+            Key::Ecn,
+            Key::Rio,
+            Key::Cleardscp,
+            Key::Admission,
+            Key::Default,
+        ],
+        Form::ClassCbq => &[
+            Key::Priority,
+            Key::Pbandwidth,
+            Key::Exactbandwidth,
+            Key::Borrow,
+            Key::Control,
+            Key::Maxburst,
+            Key::Packetsize,
+            Key::Qlimit,
+            Key::Red,
+            Key::Ecn,
+            Key::Rio,
+            Key::Cleardscp,
+            Key::Admission,
+            Key::Default,
+        ],
+        _ => &[],
     }
 }
 
-fn choice(key: Key, next: Next) -> Option<Choice>
-    ensures { result ≡ choice key next }
+/// The option of a statement that a word names.
+pub(crate) fn option_of(form: Form, word: &[u8]) -> Option<Key>
+    ensures { result ≡ option_of form word.now }
 {
-    Some(Choice {
-        key,
-        next,
-        settles: false,
-    })
-}
-
-fn settling(key: Key, next: Next) -> Option<Choice>
-    ensures { result ≡ settling key next }
-{
-    Some(Choice {
-        key,
-        next,
-        settles: true,
-    })
-}
-
-#[tactic(auto, unfolding(crate::specs::Options::interface_option))]
-fn interface_option(word: &[u8]) -> Option<Choice>
-    ensures { result ≡ interface_option word.now }
-{
-    if is_text("bandwidth", word) {
-        choice(Key::Bandwidth, Next::Rate(1000, MOST_RATE))
-    } else if is_text("tbrsize", word) {
-        choice(Key::Tbrsize, Next::Skipped)
-    } else if is_text("hfsc", word) {
-        settling(Key::Hfsc, Next::Choice)
-    } else if is_text("cbq", word) {
-        settling(Key::Cbq, Next::Choice)
-    } else if is_text("efficient", word) {
-        choice(Key::Efficient, Next::Choice)
-    } else if is_text("cbq-wrr", word) {
-        choice(Key::CbqWrr, Next::Choice)
-    } else {
-        None
+    for key in options_of(form) {
+        if is_text(key.word(), word) {
+            return Some(*key);
+        }
     }
-}
-
-#[tactic(auto, unfolding(crate::specs::Options::class_option))]
-fn class_option(word: &[u8]) -> Option<Choice>
-    ensures { result ≡ class_option word.now }
-{
-    if is_text("qlimit", word) {
-        choice(Key::Qlimit, Next::Whole(1, 10_000))
-    } else if is_text("red", word) {
-        choice(Key::Red, Next::Choice)
-    } else if is_text("rio", word) {
-        choice(Key::Rio, Next::Choice)
-    } else if is_text("admission", word) {
-        choice(Key::Admission, Next::Skipped)
-    } else if is_text("default", word) {
-        choice(Key::Default, Next::Choice)
-    } else {
-        None
-    }
-}
-
-#[tactic(auto, unfolding(crate::specs::Options::hfsc_option))]
-fn hfsc_option(word: &[u8]) -> Option<Choice>
-    ensures { result ≡ hfsc_option word.now }
-{
-    if is_text("sc", word) {
-        settling(Key::Sc, Next::Slope(1))
-    } else if is_text("rt", word) {
-        choice(Key::Rt, Next::Slope(0))
-    } else if is_text("ls", word) {
-        settling(Key::Ls, Next::Slope(1))
-    } else if is_text("pshare", word) {
-        settling(Key::Pshare, Next::Whole(1, 100))
-    } else if is_text("grate", word) {
-        choice(Key::Grate, Next::Rate(0, MOST_RATE))
-    } else {
-        class_option(word)
-    }
-}
-
-#[tactic(auto, unfolding(crate::specs::Options::cbq_option))]
-fn cbq_option(word: &[u8]) -> Option<Choice>
-    ensures { result ≡ cbq_option word.now }
-{
-    if is_text("priority", word) {
-        choice(Key::Priority, Next::Whole(0, 7))
-    } else if is_text("pbandwidth", word) {
-        settling(Key::Pbandwidth, Next::Whole(0, 100))
-    } else if is_text("exactbandwidth", word) {
-        settling(Key::Exactbandwidth, Next::Rate(1000, MOST_RATE))
-    } else if is_text("borrow", word) {
-        choice(Key::Borrow, Next::Choice)
-    } else if is_text("control", word) {
-        choice(Key::Control, Next::Choice)
-    } else if is_text("maxburst", word) {
-        choice(Key::Maxburst, Next::Whole(1, 1000))
-    } else if is_text("packetsize", word) {
-        choice(Key::Packetsize, Next::Whole(1, 262_144))
-    } else {
-        class_option(word)
-    }
+    None
 }

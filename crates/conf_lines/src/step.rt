@@ -1,13 +1,13 @@
 //! What a word leads to from a place of a statement.
 ghost use Rattle.std.specs.Prelude.{◌≡◌, ◌||◌, IfOk, true};
-ghost use Rattle.conf_lines.specs.Grammar.{step, at_statement, at_discipline, after_interface, at_address, after_address, address_of, at_port, after_port, at_ruleno_or_address, at_name_or_address, at_mask_or_port, tos_word, mask_word, word_or_end, chosen, at_slope, at_bend, at_last_slope, refused, begins, says, reads, counts, keyword, moved, end, unsettled, Gives, Fails, IsPlain, IsOfFilter, at_parent};
-ghost use Rattle.conf_lines.specs.Options.{option_of, most_rate};
+ghost use Rattle.conf_lines.specs.Grammar.{step, at_statement, at_discipline, after_interface, at_address, after_address, address_of, at_port, after_port, at_ruleno_or_address, at_name_or_address, at_mask_or_port, tos_word, mask_word, word_or_end, chosen, at_slope, at_bend, at_last_slope, behind_option, refused, begins, says, reads, counts, keyword, moved, end, unsettled, Gives, Fails, IsPlain, IsOfFilter, at_parent};
+ghost use Rattle.conf_lines.specs.Options.{option_of, most_rate, most_bend};
 ghost use Rattle.conf_lines.specs.Slots.{rate_in, whole_in, skipped_in, name_in, protocol_in, mask_in, is_text, is_name};
 
 use crate::fault::{BAD_BYTE, CONVEX_FIRST, MISSING_WORD, NO_SHARE, UNKNOWN_WORD};
-use crate::grammar::{Choice, Next, Place, Refusal, Side, Step};
+use crate::grammar::{Next, Place, Refusal, Side, Step};
 use crate::item::{Key, Text, What};
-use crate::options::{MOST_RATE, option_of};
+use crate::options::{MOST_BEND, MOST_PORT, MOST_RATE, MOST_RULENO, MOST_TOS, Slots, option_of};
 use crate::slot::{
     address_in, address6_in, are_plain, is_name, is_text, mask_in, protocol_in, rate_in,
     skipped_in, whole_in,
@@ -132,37 +132,51 @@ fn after_interface(form: Form) -> Next
     }
 }
 
+/// What is next behind the word of an option.
+fn behind_option(slots: Slots) -> Next
+    ensures { result ≡ behind_option slots }
+{
+    match slots {
+        Slots::Nothing => Next::Choice,
+        Slots::Word => Next::Skipped,
+        Slots::Rate(low, high) => Next::Rate(low, high),
+        Slots::Whole(low, high) => Next::Whole(low, high),
+        Slots::Curve(low, least) => Next::Slope(low, least),
+        Slots::Mask => Next::Mask(Side::Target),
+    }
+}
+
 /// An option of the statement, or a word that it does not have.
 fn at_choice(place: Place, word: &Word) -> Result<Step, u8>
     ensures { result ≡ chosen place word.now.parts.now (option_of place.form word.now.parts.now) }
 {
     match option_of(place.form, word.parts) {
         None => refused(word),
-        Some(choice) => {
-            let settled = place.settled || choice.settles;
+        Some(key) => {
+            let settled = place.settled || key.settles();
             let place = Place {
                 form: place.form,
                 next: place.next,
                 settled,
             };
-            Ok(says(What::Key(choice.key), place, choice.next))
+            Ok(says(What::Key(key), place, behind_option(key.slots())))
         }
     }
 }
 
-fn at_slope(least: u64, place: Place, word: &Word) -> Result<Step, u8>
-    ensures { result ≡ at_slope least (rate_in 0 most_rate word.now.parts.now) place }
+fn at_slope(low: u64, least: u64, place: Place, word: &Word) -> Result<Step, u8>
+    ensures { result ≡ at_slope least (rate_in low most_rate word.now.parts.now) place }
 {
-    match rate_in(0, MOST_RATE, word) {
+    match rate_in(low, MOST_RATE, word) {
         Ok(first) => Ok(says(What::Rate(first), place, Next::Bend(least, first))),
         Err(kind) => Err(kind),
     }
 }
 
 fn at_bend(least: u64, first: u64, place: Place, word: &Word) -> Result<Step, u8>
-    ensures { result ≡ at_bend least (whole_in 0 1000000 word.now.parts.now) place first }
+    ensures { result ≡ at_bend least (whole_in 0 most_bend word.now.parts.now) place first }
 {
-    match whole_in(0, 1_000_000, word) {
+    match whole_in(0, MOST_BEND, word) {
         Ok(time) => Ok(says(
             What::Whole(time),
             place,
@@ -233,14 +247,14 @@ fn after_port(side: Side) -> Next
 fn at_port(place: Place, side: Side, word: &Word) -> Result<Step, u8>
     ensures { result ≡ at_port place side word.now.parts.now }
 {
-    counts(whole_in(0, 65_535, word), place, after_port(side))
+    counts(whole_in(0, MOST_PORT, word), place, after_port(side))
 }
 
 #[tactic(auto, unfolding(crate::specs::Grammar::at_ruleno_or_address))]
 fn at_ruleno_or_address(place: Place, word: &Word) -> Result<Step, u8>
     ensures { result ≡ at_ruleno_or_address place word.now.parts.now }
 {
-    if is_text("ruleno", word.parts) {
+    if is_text(Key::Ruleno.word(), word.parts) {
         keyword(Key::Ruleno, place, Next::Ruleno)
     } else {
         at_address(place, Side::Target, word)
@@ -251,7 +265,7 @@ fn at_ruleno_or_address(place: Place, word: &Word) -> Result<Step, u8>
 fn at_name_or_address(place: Place, word: &Word) -> Result<Step, u8>
     ensures { result ≡ at_name_or_address place word.now.parts.now }
 {
-    if is_text("name", word.parts) {
+    if is_text(Key::Name.word(), word.parts) {
         keyword(Key::Name, place, Next::NameWord)
     } else {
         at_ruleno_or_address(place, word)
@@ -262,7 +276,7 @@ fn at_name_or_address(place: Place, word: &Word) -> Result<Step, u8>
 fn at_mask_or_port(place: Place, side: Side, word: &Word) -> Result<Step, u8>
     ensures { result ≡ at_mask_or_port place side word.now.parts.now }
 {
-    if is_text("netmask", word.parts) {
+    if is_text(Key::Netmask.word(), word.parts) {
         keyword(Key::Netmask, place, Next::Mask(side))
     } else {
         at_port(place, side, word)
@@ -274,14 +288,14 @@ fn tos_word(form: Form, word: &Word) -> Option<Key>
 {
     match form {
         Form::Filter => {
-            if is_text("tos", word.parts) {
+            if is_text(Key::Tos.word(), word.parts) {
                 Some(Key::Tos)
             } else {
                 None
             }
         }
         _ => {
-            if is_text("tclass", word.parts) {
+            if is_text(Key::Tclass.word(), word.parts) {
                 Some(Key::Tclass)
             } else {
                 None
@@ -295,14 +309,14 @@ fn mask_word(form: Form, word: &Word) -> Option<Key>
 {
     match form {
         Form::Filter => {
-            if is_text("tosmask", word.parts) {
+            if is_text(Key::Tosmask.word(), word.parts) {
                 Some(Key::Tosmask)
             } else {
                 None
             }
         }
         _ => {
-            if is_text("tclassmask", word.parts) {
+            if is_text(Key::Tclassmask.word(), word.parts) {
                 Some(Key::Tclassmask)
             } else {
                 None
@@ -333,7 +347,7 @@ fn plain_step(place: Place, word: &Word) -> Result<Step, u8>
         Next::Skipped => reads(skipped_in(word), place, Next::Choice),
         Next::Rate(low, high) => flows(rate_in(low, high, word), place, Next::Choice),
         Next::Whole(low, high) => counts(whole_in(low, high, word), place, Next::Choice),
-        Next::Slope(least) => at_slope(least, place, word),
+        Next::Slope(low, least) => at_slope(low, least, place, word),
         Next::Bend(least, first) => at_bend(least, first, place, word),
         Next::LastSlope(least, first, time) => at_last_slope(least, first, time, place, word),
         _ => filter_step(place, word),
@@ -351,8 +365,11 @@ fn filter_step(place: Place, word: &Word) -> Result<Step, u8>
         Next::NameWord => reads(skipped_in(word), place, Next::RulenoOrAddress),
         Next::RulenoOrAddress => at_ruleno_or_address(place, word),
         Next::Ruleno => {
-            let most = u64::from(u32::MAX);
-            counts(whole_in(0, most, word), place, Next::Address(Side::Target))
+            counts(
+                whole_in(0, MOST_RULENO, word),
+                place,
+                Next::Address(Side::Target),
+            )
         }
         Next::Address(side) => at_address(place, side, word),
         Next::MaskOrPort(side) => at_mask_or_port(place, side, word),
@@ -360,9 +377,9 @@ fn filter_step(place: Place, word: &Word) -> Result<Step, u8>
         Next::Port(side) => at_port(place, side, word),
         Next::Protocol => counts(protocol_in(word), place, Next::TosOrEnd),
         Next::TosOrEnd => word_or_end(tos_word(place.form, word), place, Next::Tos, word),
-        Next::Tos => counts(whole_in(0, 255, word), place, Next::TosMaskOrEnd),
+        Next::Tos => counts(whole_in(0, MOST_TOS, word), place, Next::TosMaskOrEnd),
         Next::TosMaskOrEnd => word_or_end(mask_word(place.form, word), place, Next::TosMask, word),
-        Next::TosMask => counts(whole_in(0, 255, word), place, Next::End),
+        Next::TosMask => counts(whole_in(0, MOST_TOS, word), place, Next::End),
         _ => refused(word),
     }
 }

@@ -53,6 +53,16 @@ fn faults_at_their_words(rt: HostRuntime) -> Result<(), Fail> {
         ("class hfsc if0 a root rt 1M 10 0 ls 1M 10 1", None),
         ("class hfsc if0 a root sc 1M 1000001 1M", Some((1, 8, 3))),
         ("class hfsc if0 a root sc 1001G 10 1M", Some((1, 7, 4))),
+        ("class hfsc if0 root NULL ul 1K 0 1K", None),
+        ("class hfsc if0 root NULL ul 1000G 1000000 1000G", None),
+        ("class hfsc if0 root NULL ul 999 0 1K", Some((1, 7, 4))),
+        ("class hfsc if0 root NULL ul 1K 0 999", Some((1, 9, 4))),
+        ("class hfsc if0 root NULL ul 1M 1 1000001", Some((1, 9, 18))),
+        ("class hfsc if0 a root ul 1M 0 1M", Some((1, 10, 19))),
+        ("class cbq if0 root NULL ul 1M 0 1M", Some((1, 6, 1))),
+        ("class hfsc if0 root NULL ecn cleardscp", None),
+        ("class cbq if0 root NULL cleardscp ecn", None),
+        ("interface if0 hfsc ecn", Some((1, 4, 1))),
         ("class hfsc if0 a root pshare 101", Some((1, 7, 3))),
         ("class hfsc if0 a root pshare 0", Some((1, 7, 3))),
         (
@@ -120,6 +130,13 @@ fn faults_at_their_words(rt: HostRuntime) -> Result<(), Fail> {
     Ok(())
 }
 
+#[test]
+fn convex_limit_is_refused(rt: HostRuntime) -> Result<(), Fail> {
+    let fault = first_fault(rt.alloc(), "class hfsc if0 a root ls 1M 0 1M ul 1M 10 2M")?;
+    assert_eq!(rt; fault, Some((1, 13, 18)));
+    Ok(())
+}
+
 /// The statements of a text: form, number behind the last word, and the items, a bar behind each.
 fn shown(alloc: Global, text: &str) -> Result<String, Fail> {
     let found = statements(alloc, text.as_bytes())?;
@@ -149,6 +166,10 @@ fn items_of_statements(rt: HostRuntime) -> Result<(), Fail> {
         (
             "\nclass hfsc if0 a root sc 4M 0x5 1M \\\ngrate 1k red default",
             "2 ClassHfsc 14: 3 Name(Text { string: \"if0\" })| 4 Name(Text { string: \"a\" })| 5 Name(Text { string: \"root\" })| 6 Key(Sc)| 7 Rate(4000000)| 8 Whole(5)| 9 Rate(1000000)| 10 Key(Grate)| 11 Rate(1000)| 12 Key(Red)| 13 Key(Default)|\n",
+        ),
+        (
+            "class hfsc if0 a NULL ul 2M 10 1M ecn cleardscp",
+            "1 ClassHfsc 12: 3 Name(Text { string: \"if0\" })| 4 Name(Text { string: \"a\" })| 5 Name(Text { string: \"NULL\" })| 6 Key(Ul)| 7 Rate(2000000)| 8 Whole(10)| 9 Rate(1000000)| 10 Key(Ecn)| 11 Key(Cleardscp)|\n",
         ),
         (
             "class cbq if0 a NULL control borrow admission none qlimit 1 rio",
@@ -187,6 +208,26 @@ fn line_of_4097_bytes(rt: HostRuntime) -> Result<(), Fail> {
     assert_eq!(rt; found.len(), 2);
     assert_eq!(rt; faults, Some((3, 0, 7)));
     assert_eq!(rt; found[0].end, 2050);
+    Ok(())
+}
+
+#[test]
+fn long_lines_keep_their_words(rt: HostRuntime) -> Result<(), Fail> {
+    let mut text = String::from_str(rt.alloc(), "a")?;
+    for _ in 1..2000 {
+        text.push_str(" a")?;
+    }
+    let found = statements(rt.alloc(), text.as_str().as_bytes())?;
+    assert_eq!(rt; found.len(), 1);
+    assert_eq!(rt; found[0].end, 2001);
+    assert_eq!(rt; first_fault(rt.alloc(), text.as_str())?, Some((1, 1, 1)));
+    let mut text = String::from_str(rt.alloc(), "class hfsc if0 a NULL")?;
+    for _ in 6..300 {
+        text.push_str(" red")?;
+    }
+    assert_eq!(rt; first_fault(rt.alloc(), text.as_str())?, None);
+    text.push_str(" quick red")?;
+    assert_eq!(rt; first_fault(rt.alloc(), text.as_str())?, Some((1, 300, 1)));
     Ok(())
 }
 

@@ -5,7 +5,7 @@ use Rattle.std.specs.Fmt.{digits}
 use Rattle.service_curve.specs.declared.Curve.{Curve}
 use Rattle.conf_tree.specs.declared.class.Class.{Class}
 use Rattle.conf_tree.specs.declared.class.DropRule.{DropRule}
-use Rattle.conf_tree.specs.declared.class.DropRule.TheVariants.{Tail, Red, Rio}
+use Rattle.conf_tree.specs.declared.class.DropRule.TheVariants.{Tail, Red, Ecn, Rio}
 use Rattle.conf_tree.specs.declared.filter.Addresses.{Addresses}
 use Rattle.conf_tree.specs.declared.filter.Addresses.TheVariants.{V4, V6}
 use Rattle.conf_tree.specs.declared.filter.Filter.{Filter}
@@ -30,6 +30,7 @@ word_where word false = []
 abbrev pub drop_word : DropRule → List ℕ
 drop_word Tail = []
 drop_word Red = codes " red"
+drop_word Ecn = codes " ecn"
 drop_word Rio = codes " rio"
 
 -- the name of the class of a number; NULL where there is none
@@ -55,16 +56,19 @@ abbrev pub class_words : List ℕ → List ℕ → List Class → Class → List
 class_words word interface classes c =
     word ++ (interface ++ (codes " " ++ (c.name ++ (codes " " ++ parent_word classes c.parent))))
 
--- class hfsc IF NAME PARENT [rt M1 D M2] [ls M1 D M2] qlimit N [red | rio] [default]
+-- class hfsc IF NAME PARENT [rt M1 D M2] [ls M1 D M2] [ul M1 D M2] qlimit N [red | ecn | rio] [cleardscp] [default]
 abbrev pub hfsc_queue_words : Class → List ℕ
-hfsc_queue_words c = codes " qlimit " ++ (decimal c.limit ++ (drop_word c.drop ++ word_where (codes " default") c.first))
+hfsc_queue_words c =
+    codes " qlimit " ++ (decimal c.limit ++ (drop_word c.drop ++ (word_where (codes " cleardscp") c.clear ++ word_where (codes " default") c.is_default)))
 
 abbrev pub hfsc_line : List ℕ → List Class → Class → List ℕ
 hfsc_line interface classes c =
     class_words (codes "class hfsc ") interface classes c
-    ++ (curve_words (codes " rt ") c.real ++ (curve_words (codes " ls ") c.share ++ (hfsc_queue_words c ++ codes "\n")))
+    ++ (curve_words (codes " rt ") c.real ++ (curve_words (codes " ls ") c.share ++ (curve_words (codes " ul ") c.upper
+    ++ (hfsc_queue_words c ++ codes "\n"))))
 
--- class cbq IF NAME PARENT priority P exactbandwidth R [borrow] maxburst N packetsize N qlimit N [red | rio] [control] [default]
+-- class cbq IF NAME PARENT priority P exactbandwidth R [borrow] maxburst N packetsize N qlimit N [red | ecn | rio]
+-- [cleardscp] [control] [default]
 abbrev pub rate_words : Class → List ℕ
 rate_words c =
     codes " priority " ++ (decimal c.priority ++ (codes " exactbandwidth " ++ (decimal c.rate ++ word_where (codes " borrow") c.borrow)))
@@ -74,7 +78,8 @@ burst_words c = codes " maxburst " ++ (decimal c.maxburst ++ (codes " packetsize
 
 abbrev pub cbq_queue_words : Class → List ℕ
 cbq_queue_words c =
-    codes " qlimit " ++ (decimal c.limit ++ (drop_word c.drop ++ (word_where (codes " control") c.control ++ word_where (codes " default") c.first)))
+    codes " qlimit " ++ (decimal c.limit ++ (drop_word c.drop ++ (word_where (codes " cleardscp") c.clear
+    ++ (word_where (codes " control") c.control ++ word_where (codes " default") c.is_default))))
 
 abbrev pub cbq_line : List ℕ → List Class → Class → List ℕ
 cbq_line interface classes c =

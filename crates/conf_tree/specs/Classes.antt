@@ -26,7 +26,7 @@ same_kind _ _ = false
 
 -- in HFSC the default class, and one that a filter names, holds packets, so it is no parent
 abbrev pub is_queue : Kind → Branch → Bool
-is_queue kind c = is_hfsc kind && (c.class.first || c.filtered)
+is_queue kind c = is_hfsc kind && (c.class.is_default || c.filtered)
 
 -- below a class: on its level and 1, which is at most 8
 abbrev pub below : Kind → Statement → ℕ → Branch → Result Spot ConfPlace
@@ -103,6 +103,7 @@ branch_of Hfsc name shape = record {
     parent = shape.spot.parent;
     real = shape.settings.real;
     share = shape.settings.share;
+    upper = shape.settings.upper;
     rate = 0;
     priority = 0;
     borrow = false;
@@ -111,7 +112,8 @@ branch_of Hfsc name shape = record {
     packetsize = 0;
     limit = shape.settings.limit;
     drop = shape.settings.drop;
-    first = shape.settings.first;
+    clear = shape.settings.clear;
+    is_default = shape.settings.is_default;
   };
   level = shape.spot.level;
   fixed = shape.settings.fixed;
@@ -124,6 +126,7 @@ branch_of Cbq name shape = record {
     parent = shape.spot.parent;
     real = None;
     share = None;
+    upper = None;
     rate = shape.rate;
     priority = shape.settings.priority;
     borrow = shape.settings.borrow;
@@ -132,7 +135,8 @@ branch_of Cbq name shape = record {
     packetsize = shape.settings.packetsize;
     limit = shape.settings.limit;
     drop = shape.settings.drop;
-    first = shape.settings.first;
+    clear = shape.settings.clear;
+    is_default = shape.settings.is_default;
   };
   level = shape.spot.level;
   fixed = false;

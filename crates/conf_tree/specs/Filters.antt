@@ -1,12 +1,13 @@
 -- The parts of a filter behind its class: [name WORD] [ruleno WHOLE] DST DPORT SRC SPORT PROTO [tos WHOLE [tosmask WHOLE]],
 -- or tclass and tclassmask. The parts stand in this order, so the place of an option's word says which it is; `name` alone is
 -- followed by a WORD. A part that is absent is 0, which matches each packet.
-use Rattle.std.specs.Prelude.{ℕ, ◌-◌, ◌^◌, ◌&&◌, Bool, true, false, List, drop, if◌then◌else◌, Option, Some, None, slice_get, unwrap_or, bit_and, replicate}
+use Rattle.std.specs.Prelude.{ℕ, ◌&&◌, Bool, true, false, List, drop, if◌then◌else◌, Option, Some, None, slice_get, unwrap_or, bit_and, replicate}
 use Rattle.conf_lines.specs.declared.item.Item.{Item}
 use Rattle.conf_lines.specs.declared.item.What.{What}
 use Rattle.conf_lines.specs.declared.item.What.TheVariants as what
 use Rattle.conf_lines.specs.declared.statement.Form.{Form}
 use Rattle.conf_lines.specs.declared.statement.Form.TheVariants as form
+use Rattle.conf_lines.specs.Options.{most_ruleno, most_port, most_protocol, most_tos}
 use Rattle.conf_tree.specs.declared.filter.Addresses.{Addresses}
 use Rattle.conf_tree.specs.declared.filter.Addresses.TheVariants.{V4, V6}
 use Rattle.conf_tree.specs.declared.filter.Filter.{Filter}
@@ -100,7 +101,7 @@ under_mask None mask = None
 under_mask (Some tos) mask = Some (bit_and tos mask, mask)
 
 abbrev pub tos_in : List Item → Option (ℕ × ℕ)
-tos_in items = under_mask (option_number 255 items) (unwrap_or (option_number 255 (past_option items)) 255)
+tos_in items = under_mask (option_number most_tos items) (unwrap_or (option_number most_tos (past_option items)) 255)
 
 -- the filter of a class, by the items behind the class's name
 abbrev pub filter_of : Form → ℕ → List Item → Filter
@@ -113,10 +114,10 @@ filter_of form class items =
     let protocol = drop 1 source_port in
     record {
       class = class;
-      ruleno = unwrap_or (option_number (2 ^ 32 - 1) numbered) 0;
+      ruleno = unwrap_or (option_number most_ruleno numbered) 0;
       addresses = addresses form target source;
-      target_port = part 65535 target_port;
-      source_port = part 65535 source_port;
-      protocol = part 255 protocol;
+      target_port = part most_port target_port;
+      source_port = part most_port source_port;
+      protocol = part most_protocol protocol;
       tos = tos_in (drop 1 protocol);
     }

@@ -1,6 +1,7 @@
 pub mod Answers
 pub mod Canonical
 pub mod Classes
+pub mod Family
 pub mod FilterStatements
 pub mod Filters
 pub mod Fits

@@ -10,8 +10,8 @@ use Rattle.conf_tree.specs.declared.interface.Kind.{Kind}
 use Rattle.conf_tree.specs.declared.interface.Kind.TheVariants.{Hfsc, Cbq}
 use Rattle.conf_tree.specs.declared.settings.Scope.{Scope}
 use Rattle.conf_tree.specs.declared.settings.Settings.{Settings}
-use Rattle.conf_tree.specs.Items.{number_at}
-use Rattle.conf_tree.specs.Settings.{most_rate, set_option}
+use Rattle.conf_tree.specs.Items.{number_behind}
+use Rattle.conf_tree.specs.Settings.{set_option}
 
 -- class: what one word sets, and what all of them do
 abbrev pub set_by_word : Scope → Settings → ℕ → What → List Item → Result Settings ConfPlace
@@ -25,7 +25,7 @@ set_options scope s (item ∷ items) =
 
 -- interface: the bandwidth, of 1,000 to 10^12
 abbrev pub rate_by_key : ℕ → Key → List Item → ℕ
-rate_by_key rate key.Bandwidth items = unwrap_or (number_at 1000 most_rate items 0) rate
+rate_by_key rate key.Bandwidth items = unwrap_or (number_behind key.Bandwidth items) rate
 rate_by_key rate _ items = rate
 
 abbrev pub rate_by_word : ℕ → What → List Item → ℕ

@@ -1,6 +1,7 @@
--- What each option of a class sets, by the numbers behind its word. An option without its numbers, which no text has, sets
--- nothing.
-use Rattle.std.specs.Prelude.{ℕ, ◌==◌, ◌*◌, ◌/◌, ◌^◌, ◌&&◌, ◌||◌, Bool, true, false, List, nat_le, if◌then◌else◌, Option, Some, None, Result, Ok, Err, option_map}
+-- What each option of a class sets, by the numbers behind its word. An option without its numbers, which no text has, leaves
+-- what they would set.
+use Rattle.std.specs.Option.{option_or}
+use Rattle.std.specs.Prelude.{unwrap_or, ℕ, ◌==◌, ◌*◌, ◌/◌, ◌^◌, ◌&&◌, ◌||◌, true, false, List, nat_le, if◌then◌else◌, Option, Some, None, Result, Ok, Err, option_map}
 use Rattle.service_curve.specs.declared.Curve.{Curve}
 use Rattle.service_curve.specs.Curve.{curve, straight}
 use Rattle.conf_lines.specs.declared.fault.ConfPlace.{ConfPlace}
@@ -8,15 +9,14 @@ use Rattle.conf_lines.specs.declared.item.Item.{Item}
 use Rattle.conf_lines.specs.declared.item.Key.{Key}
 use Rattle.conf_lines.specs.declared.item.Key.TheVariants as key
 use Rattle.conf_lines.specs.Grammar.{is_convex}
-use Rattle.conf_tree.specs.declared.class.DropRule.TheVariants.{Tail, Red, Rio}
+use Rattle.conf_lines.specs.declared.options.Slots.{Slots}
+use Rattle.conf_lines.specs.declared.options.Slots.TheVariants as slots
+use Rattle.conf_lines.specs.Options.{most_rate, most_bend, slots_of}
+use Rattle.conf_tree.specs.declared.class.DropRule.TheVariants.{Tail, Red, Ecn, Rio}
 use Rattle.conf_tree.specs.declared.settings.Scope.{Scope}
 use Rattle.conf_tree.specs.declared.settings.Settings.{Settings}
-use Rattle.conf_tree.specs.Items.{number_at, word_at}
+use Rattle.conf_tree.specs.Items.{number_at, number_behind, word_at}
 use Rattle.conf_tree.specs.Kinds.{fault_at, rate_range, two_defaults}
-
--- the greatest rate: 10^12 bits per second
-abbrev pub most_rate : ℕ
-most_rate = 10 ^ 12
 
 -- before the first option
 abbrev pub unset : Settings
@@ -24,6 +24,7 @@ unset = record {
   real = None;
   fixed = false;
   share = None;
+  upper = None;
   rate = None;
   priority = 0;
   borrow = false;
@@ -32,7 +33,8 @@ unset = record {
   packetsize = 1500;
   limit = 50;
   drop = Tail;
-  first = false;
+  clear = false;
+  is_default = false;
 }
 
 -- the curve of m1, d in nanoseconds and m2: without a first piece, or with one slope, it is the line of slope m2
@@ -46,70 +48,62 @@ curve_of (Some m1) None m2 = None
 curve_of (Some m1) (Some d) None = None
 curve_of (Some m1) (Some d) (Some m2) = if is_convex m1 d m2 then None else Some (made m1 (d * 10 ^ 6) m2)
 
--- the curve of the three numbers at the front, whose m2 is at least a rate
-abbrev pub curve_in : ℕ → List Item → Option Curve
-curve_in least items = curve_of (number_at 0 most_rate items 0) (number_at 0 1000000 items 1) (number_at least most_rate items 2)
+-- the curve behind an option, whose slopes are at least what the table of options says
+abbrev pub curve_in_slots : Slots → List Item → Option Curve
+curve_in_slots (slots.Curve low least) items =
+    curve_of (number_at low most_rate items 0) (number_at 0 most_bend items 1) (number_at least most_rate items 2)
+curve_in_slots _ items = None
+
+abbrev pub curve_behind : Key → List Item → Option Curve
+curve_behind key items = curve_in_slots (slots_of key) items
 
 -- a part of a rate in percent, rounded down
 abbrev pub percent : ℕ → ℕ → ℕ
 percent rate n = n * rate / 100
 
-abbrev pub set_real : Settings → Bool → Option Curve → Settings
-set_real s fixed None = s
-set_real s fixed (Some real) = record s { real = Some real; fixed = fixed }
-
-abbrev pub set_share : Settings → Option Curve → Settings
-set_share s None = s
-set_share s (Some share) = record s { share = Some share }
-
-abbrev pub set_rate : Settings → Option ℕ → Settings
-set_rate s None = s
-set_rate s (Some rate) = record s { rate = Some rate }
-
-abbrev pub set_priority : Settings → Option ℕ → Settings
-set_priority s None = s
-set_priority s (Some n) = record s { priority = n }
-
-abbrev pub set_maxburst : Settings → Option ℕ → Settings
-set_maxburst s None = s
-set_maxburst s (Some n) = record s { maxburst = n }
-
-abbrev pub set_packetsize : Settings → Option ℕ → Settings
-set_packetsize s None = s
-set_packetsize s (Some n) = record s { packetsize = n }
-
-abbrev pub set_limit : Settings → Option ℕ → Settings
-set_limit s None = s
-set_limit s (Some n) = record s { limit = n }
-
 -- pbandwidth P: the rate is tested at the word of its number
 abbrev pub set_percent : Scope → Settings → ℕ → Option ℕ → Result Settings ConfPlace
 set_percent scope s word None = Ok s
 set_percent scope s word (Some n) =
-    if nat_le 1000 (percent scope.rate n) && nat_le (percent scope.rate n) most_rate then Ok (set_rate s (Some (percent scope.rate n)))
+    if nat_le 1000 (percent scope.rate n) && nat_le (percent scope.rate n) most_rate then Ok (record s { rate = Some (percent scope.rate n) })
     else Err (fault_at scope.line word rate_range)
 
 -- default: one on each interface
-abbrev pub set_first : Scope → Settings → ℕ → Result Settings ConfPlace
-set_first scope s word =
-    if scope.chosen || s.first then Err (fault_at scope.line word two_defaults) else Ok (record s { first = true })
+abbrev pub set_default : Scope → Settings → ℕ → Result Settings ConfPlace
+set_default scope s word =
+    if scope.chosen || s.is_default then Err (fault_at scope.line word two_defaults) else Ok (record s { is_default = true })
 
--- what the option word at a word of the line sets, by the items behind it
+-- What the option word at a word of the line sets, by the items behind it: an option of both kinds of classes
+abbrev pub set_queue : Scope → Settings → ℕ → Key → List Item → Result Settings ConfPlace
+set_queue scope s word key.Qlimit items = Ok (record s { limit = unwrap_or (number_behind key.Qlimit items) s.limit })
+set_queue scope s word key.Red items = Ok (record s { drop = Red })
+set_queue scope s word key.Ecn items = Ok (record s { drop = Ecn })
+set_queue scope s word key.Rio items = Ok (record s { drop = Rio })
+set_queue scope s word key.Cleardscp items = Ok (record s { clear = true })
+set_queue scope s word key.Default items = set_default scope s word
+set_queue scope s word _ items = Ok s
+
+-- an option of CBQ, or one of both
+abbrev pub set_cbq : Scope → Settings → ℕ → Key → List Item → Result Settings ConfPlace
+set_cbq scope s word key.Priority items = Ok (record s { priority = unwrap_or (number_behind key.Priority items) s.priority })
+set_cbq scope s word key.Pbandwidth items = set_percent scope s (word_at items 0) (number_behind key.Pbandwidth items)
+set_cbq scope s word key.Exactbandwidth items = Ok (record s { rate = option_or (number_behind key.Exactbandwidth items) s.rate })
+set_cbq scope s word key.Borrow items = Ok (record s { borrow = true })
+set_cbq scope s word key.Control items = Ok (record s { control = true })
+set_cbq scope s word key.Maxburst items = Ok (record s { maxburst = unwrap_or (number_behind key.Maxburst items) s.maxburst })
+set_cbq scope s word key.Packetsize items = Ok (record s { packetsize = unwrap_or (number_behind key.Packetsize items) s.packetsize })
+set_cbq scope s word key items = set_queue scope s word key items
+
+-- an option of HFSC, or another; sc sets both curves, and what rt or grate set last no child may take away
 abbrev pub set_option : Scope → Settings → ℕ → Key → List Item → Result Settings ConfPlace
-set_option scope s word key.Sc items = Ok (set_share (set_real s false (curve_in 1 items)) (curve_in 1 items))
-set_option scope s word key.Rt items = Ok (set_real s true (curve_in 0 items))
-set_option scope s word key.Ls items = Ok (set_share s (curve_in 1 items))
-set_option scope s word key.Pshare items = Ok (set_share s (option_map (λ n. straight (percent scope.rate n)) (number_at 1 100 items 0)))
-set_option scope s word key.Grate items = Ok (set_real s true (option_map (λ n. straight n) (number_at 0 most_rate items 0)))
-set_option scope s word key.Qlimit items = Ok (set_limit s (number_at 1 10000 items 0))
-set_option scope s word key.Red items = Ok (record s { drop = Red })
-set_option scope s word key.Rio items = Ok (record s { drop = Rio })
-set_option scope s word key.Default items = set_first scope s word
-set_option scope s word key.Priority items = Ok (set_priority s (number_at 0 7 items 0))
-set_option scope s word key.Pbandwidth items = set_percent scope s (word_at items 0) (number_at 0 100 items 0)
-set_option scope s word key.Exactbandwidth items = Ok (set_rate s (number_at 1000 most_rate items 0))
-set_option scope s word key.Borrow items = Ok (record s { borrow = true })
-set_option scope s word key.Control items = Ok (record s { control = true })
-set_option scope s word key.Maxburst items = Ok (set_maxburst s (number_at 1 1000 items 0))
-set_option scope s word key.Packetsize items = Ok (set_packetsize s (number_at 1 262144 items 0))
-set_option scope s word _ items = Ok s
+set_option scope s word key.Sc items =
+    let curve = curve_behind key.Sc items in
+    Ok (record s { real = option_or curve s.real; fixed = false; share = option_or curve s.share })
+set_option scope s word key.Rt items = Ok (record s { real = option_or (curve_behind key.Rt items) s.real; fixed = true })
+set_option scope s word key.Ls items = Ok (record s { share = option_or (curve_behind key.Ls items) s.share })
+set_option scope s word key.Ul items = Ok (record s { upper = option_or (curve_behind key.Ul items) s.upper })
+set_option scope s word key.Pshare items =
+    Ok (record s { share = option_or (option_map (λ n. straight (percent scope.rate n)) (number_behind key.Pshare items)) s.share })
+set_option scope s word key.Grate items =
+    Ok (record s { real = option_or (option_map (λ n. straight n) (number_behind key.Grate items)) s.real; fixed = true })
+set_option scope s word key items = set_cbq scope s word key items

@@ -56,7 +56,7 @@ with_parent classes (Some i) = changed classes i as_parent
 abbrev pub add_class : Begun → Branch → Begun
 add_class b c = record b {
   rooted = b.rooted || is_none c.class.parent;
-  chosen = b.chosen || c.class.first;
+  chosen = b.chosen || c.class.is_default;
   classes = with_parent b.classes c.class.parent ++ c ∷ [];
 }
 

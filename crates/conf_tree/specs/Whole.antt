@@ -19,6 +19,7 @@ implied_hfsc name parent share = record {
   parent = parent;
   real = None;
   share = share;
+  upper = None;
   rate = 0;
   priority = 0;
   borrow = false;
@@ -27,7 +28,8 @@ implied_hfsc name parent share = record {
   packetsize = 0;
   limit = 50;
   drop = Tail;
-  first = is_some parent;
+  clear = false;
+  is_default = is_some parent;
 }
 
 abbrev pub implied_cbq : List ℕ → Option ℕ → ℕ → Class
@@ -36,6 +38,7 @@ implied_cbq name parent rate = record {
   parent = parent;
   real = None;
   share = None;
+  upper = None;
   rate = rate;
   priority = 0;
   borrow = is_some parent;
@@ -44,7 +47,8 @@ implied_cbq name parent rate = record {
   packetsize = 1500;
   limit = 50;
   drop = Tail;
-  first = is_some parent;
+  clear = false;
+  is_default = is_some parent;
 }
 
 -- the implied classes: a root, and below it the default class with the whole bandwidth, which borrows in CBQ

@@ -43,6 +43,7 @@ fn hfsc_class(name: Text, shape: Shape) -> Branch
         parent: spot.parent,
         real: settings.real,
         share: settings.share,
+        upper: settings.upper,
         rate: 0,
         priority: 0,
         borrow: false,
@@ -51,7 +52,8 @@ fn hfsc_class(name: Text, shape: Shape) -> Branch
         packetsize: 0,
         limit: settings.limit,
         drop: settings.drop,
-        first: settings.first,
+        clear: settings.clear,
+        is_default: settings.is_default,
     };
     Branch {
         class,
@@ -76,6 +78,7 @@ fn cbq_class(name: Text, shape: Shape) -> Branch
         parent: spot.parent,
         real: None,
         share: None,
+        upper: None,
         rate,
         priority: settings.priority,
         borrow: settings.borrow,
@@ -84,7 +87,8 @@ fn cbq_class(name: Text, shape: Shape) -> Branch
         packetsize: settings.packetsize,
         limit: settings.limit,
         drop: settings.drop,
-        first: settings.first,
+        clear: settings.clear,
+        is_default: settings.is_default,
     };
     Branch {
         class,

@@ -10,12 +10,14 @@ pub enum DropRule {
     Tail,
     /// Random early detection, after Floyd and Jacobson, 1993.
     Red,
+    /// RED that marks an ECN-capable packet in place of an early drop, after RFC 3168.
+    Ecn,
     /// RED with in and out, after Clark and Fang, 1998.
     Rio,
 }
 
 /// A class of an interface. In an HFSC class `rate`, `priority`, `maxburst` and `packetsize` are 0, and `borrow` and
-/// `control` are false; in a CBQ class `real` and `share` are `None`.
+/// `control` are false; in a CBQ class `real`, `share` and `upper` are `None`.
 #[derive(Debug, Drop)]
 pub struct Class {
     /// Its name, which no other class of its interface has.
@@ -26,6 +28,8 @@ pub struct Class {
     pub real: Option<Curve>,
     /// Its link-sharing curve, which each HFSC class but the root has. That of the root has no effect.
     pub share: Option<Curve>,
+    /// Its upper limit, both slopes of which are at least 1,000.
+    pub upper: Option<Curve>,
     /// Its rate in bits per second, 1,000 to 10^12.
     pub rate: u64,
     /// Its priority, 0 to 7; the greatest goes first.
@@ -42,6 +46,8 @@ pub struct Class {
     pub limit: u32,
     /// How its queue drops.
     pub drop: DropRule,
+    /// Whether the code point of its departing packets is cleared.
+    pub clear: bool,
     /// Whether it is the default class, to which the packets go that no filter matches.
-    pub first: bool,
+    pub is_default: bool,
 }

@@ -43,7 +43,7 @@ fn same_kind(kind: Kind, other: Kind) -> bool
 fn is_queue(kind: Kind, branch: &Branch) -> bool
     ensures { result ≡ is_queue kind branch.now }
 {
-    is_hfsc(kind) && (branch.class.first || branch.filtered)
+    is_hfsc(kind) && (branch.class.is_default || branch.filtered)
 }
 
 /// Below the class of a number.

@@ -20,6 +20,7 @@ fn drop_word(rule: DropRule) -> &'static str
     match rule {
         DropRule::Tail => "",
         DropRule::Red => " red",
+        DropRule::Ecn => " ecn",
         DropRule::Rio => " rio",
     }
 }
@@ -78,8 +79,9 @@ fn hfsc_queue_words(alloc: Global, class: &Class) -> Result<String, AllocError>
 {
     let limit = class.limit;
     let rule = drop_word(class.drop);
-    let first = word_where(" default", class.first);
-    format!(in alloc; " qlimit {limit}{rule}{first}")
+    let clear = word_where(" cleardscp", class.clear);
+    let default = word_where(" default", class.is_default);
+    format!(in alloc; " qlimit {limit}{rule}{clear}{default}")
 }
 
 fn hfsc_line(
@@ -93,8 +95,9 @@ fn hfsc_line(
     let head = class_words(alloc, "class hfsc ", interface, classes, class)?;
     let real = curve_words(alloc, " rt ", class.real)?;
     let share = curve_words(alloc, " ls ", class.share)?;
+    let upper = curve_words(alloc, " ul ", class.upper)?;
     let queue = hfsc_queue_words(alloc, class)?;
-    format!(in alloc; "{head}{real}{share}{queue}\n")
+    format!(in alloc; "{head}{real}{share}{upper}{queue}\n")
 }
 
 fn rate_words(alloc: Global, class: &Class) -> Result<String, AllocError>
@@ -119,9 +122,10 @@ fn cbq_queue_words(alloc: Global, class: &Class) -> Result<String, AllocError>
 {
     let limit = class.limit;
     let rule = drop_word(class.drop);
+    let clear = word_where(" cleardscp", class.clear);
     let control = word_where(" control", class.control);
-    let first = word_where(" default", class.first);
-    format!(in alloc; " qlimit {limit}{rule}{control}{first}")
+    let default = word_where(" default", class.is_default);
+    format!(in alloc; " qlimit {limit}{rule}{clear}{control}{default}")
 }
 
 fn cbq_line(

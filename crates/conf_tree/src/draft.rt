@@ -106,14 +106,14 @@ impl<'a> Draft<'a> {
             return Err(NoMemory);
         };
         let parent = branch.class.parent;
-        let first = branch.class.first;
+        let is_default = branch.class.is_default;
         name_parent(&mut self.classes, parent);
         match self.names.add_with(name, &mut self.classes, branch) {
             Ok(()) => {}
             Err(NoMemory) => return Err(NoMemory),
         }
         self.rooted = self.rooted || parent.is_none();
-        self.chosen = self.chosen || first;
+        self.chosen = self.chosen || is_default;
         Ok(())
     }
 

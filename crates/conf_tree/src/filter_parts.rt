@@ -5,7 +5,7 @@ ghost use Rattle.conf_tree.specs.Filters.{is_key, is_skipped, has_option, has_na
 use crate::filter::{Addresses, Filter};
 use crate::items::{number_at, past};
 use crate::masks::{masked, prefix};
-use conf_lines::{Form, Item, What};
+use conf_lines::{Form, Item, MOST_PORT, MOST_PROTOCOL, MOST_RULENO, MOST_TOS, What};
 
 fn is_key(what: &What) -> bool
     ensures { result ≡ is_key what.now }
@@ -165,11 +165,11 @@ fn addresses(form: Form, target: &[Item], source: &[Item]) -> Addresses
 fn tos_in(items: &[Item]) -> Option<(u8, u8)>
     ensures { result ≡ tos_in items.now }
 {
-    let mask = match option_number(255, past_option(items)) {
+    let mask = match option_number(MOST_TOS, past_option(items)) {
         Some(mask) => mask as u8,
         None => 255,
     };
-    match option_number(255, items) {
+    match option_number(MOST_TOS, items) {
         Some(tos) => Some((tos as u8 & mask, mask)),
         None => None,
     }
@@ -185,7 +185,7 @@ pub(crate) fn filter_of(form: Form, class: u32, items: &[Item]) -> Filter
     let source = past(target_port, 1);
     let source_port = past_option(past(source, 1));
     let protocol = past(source_port, 1);
-    let ruleno = match option_number(u64::from(u32::MAX), numbered) {
+    let ruleno = match option_number(MOST_RULENO, numbered) {
         Some(ruleno) => ruleno as u32,
         None => 0,
     };
@@ -193,9 +193,9 @@ pub(crate) fn filter_of(form: Form, class: u32, items: &[Item]) -> Filter
         class,
         ruleno,
         addresses: addresses(form, target, source),
-        target_port: part(65_535, target_port) as u16,
-        source_port: part(65_535, source_port) as u16,
-        protocol: part(255, protocol) as u8,
+        target_port: part(MOST_PORT, target_port) as u16,
+        source_port: part(MOST_PORT, source_port) as u16,
+        protocol: part(MOST_PROTOCOL, protocol) as u8,
         tos: tos_in(past(protocol, 1)),
     }
 }

@@ -1,8 +1,9 @@
 //! What the items of a statement say.
-ghost use Rattle.std.specs.Prelude.{◌≡◌, ◌≤◌, IfSome, option_copied, drop};
-ghost use Rattle.conf_tree.specs.Items.{name_at, number_at, number_of, word_at};
+ghost use Rattle.std.specs.Prelude.{◌≡◌, ◌≤◌, ◌<◌, ◌^◌, IfSome, option_copied, drop};
+ghost use Rattle.conf_lines.specs.Options.{slots_of};
+ghost use Rattle.conf_tree.specs.Items.{name_at, number_at, number_of, number_behind, most_of, word_at};
 
-use conf_lines::{Item, Statement, What};
+use conf_lines::{Item, Key, Slots, Statement, What};
 
 /// The NAME that stands at a place, counted from 0.
 pub(crate) fn name_at<'a>(items: &'a [Item], at: usize) -> Option<&'a str>
@@ -39,6 +40,29 @@ pub(crate) fn number_at(low: u64, high: u64, items: &[Item], at: usize) -> Optio
             Some(n) => { if low <= n && n <= high { Some(n) } else { None } }
             None => None,
         },
+        None => None,
+    }
+}
+
+/// The number behind an option, of the range that the table of options gives it.
+pub(crate) fn number_behind(key: Key, items: &[Item]) -> Option<u64>
+    ensures value { result ≡ number_behind key items.now }
+    ensures high { IfSome result (λ n. n ≤ most_of (slots_of key)) }
+{
+    match key.slots() {
+        Slots::Rate(low, high) => number_at(low, high, items, 0),
+        Slots::Whole(low, high) => number_at(low, high, items, 0),
+        _ => None,
+    }
+}
+
+/// The same, where it is less than 2^32.
+pub(crate) fn count_behind(key: Key, items: &[Item]) -> Option<u32>
+    requires { most_of (slots_of key) < 2 ^ 32 }
+    ensures { result ≡ number_behind key items.now }
+{
+    match number_behind(key, items) {
+        Some(n) => Some(n as u32),
         None => None,
     }
 }

@@ -3,8 +3,8 @@ ghost use Rattle.std.specs.Prelude.{◌≡◌, ◌≤◌, ◌^◌};
 ghost use Rattle.conf_tree.specs.Options.{set_by_word, set_options, rate_by_word, rate_by_options, kind_by_word, kind_by_options};
 
 use crate::interface::Kind;
-use crate::items::number_at;
-use crate::settings::{MOST_RATE, Scope, Settings, set_option};
+use crate::items::number_behind;
+use crate::settings::{Scope, Settings, set_option};
 use conf_lines::{ConfPlace, Item, Key, What};
 
 /// What a word of a class sets, by the items behind it.
@@ -48,7 +48,7 @@ fn rate_by_word(rate: u64, what: &What, items: &[Item]) -> u64
 {
     match what {
         What::Key(key) => match key {
-            Key::Bandwidth => number_at(1000, MOST_RATE, items, 0).unwrap_or(rate),
+            Key::Bandwidth => number_behind(Key::Bandwidth, items).unwrap_or(rate),
             _ => rate,
         },
         _ => rate,

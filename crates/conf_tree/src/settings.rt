@@ -1,13 +1,14 @@
 //! What the options of a class set.
-ghost use Rattle.std.specs.Prelude.{◌≡◌, ◌≤◌, IfSome, option_map};
+ghost use Rattle.std.specs.Prelude.{◌≡◌, ◌≤◌, IfSome, option_map, unwrap_or};
 ghost use Rattle.service_curve.specs.Curve.{straight};
-ghost use Rattle.conf_tree.specs.Items.{number_at, word_at};
-ghost use Rattle.conf_tree.specs.Settings.{most_rate, unset, made, curve_in, percent, set_real, set_share, set_rate, set_priority, set_maxburst, set_packetsize, set_limit, set_percent, set_first, set_option};
+ghost use Rattle.conf_tree.specs.Items.{number_behind};
+ghost use Rattle.conf_tree.specs.Settings.{unset, made, curve_behind, percent, set_percent, set_default, set_queue, set_cbq, set_option, curve_in_slots};
+ghost use Rattle.std.specs.Option.{option_or};
 
 use crate::class::DropRule;
-use crate::items::{number_at, word_at};
+use crate::items::{count_behind, number_at, number_behind, word_at};
 use crate::kinds::{RATE_RANGE, TWO_DEFAULTS, fault_at};
-use conf_lines::{ConfPlace, Item, Key};
+use conf_lines::{ConfPlace, Item, Key, MOST_BEND, MOST_RATE, Slots};
 use service_curve::Curve;
 
 /// What the options of a class have set so far; `None` and false where they have not.
@@ -17,6 +18,7 @@ pub(crate) struct Settings {
     /// Whether the real-time curve was set last by `rt` or `grate`.
     pub(crate) fixed: bool,
     pub(crate) share: Option<Curve>,
+    pub(crate) upper: Option<Curve>,
     pub(crate) rate: Option<u64>,
     pub(crate) priority: u8,
     pub(crate) borrow: bool,
@@ -25,7 +27,8 @@ pub(crate) struct Settings {
     pub(crate) packetsize: u32,
     pub(crate) limit: u32,
     pub(crate) drop: DropRule,
-    pub(crate) first: bool,
+    pub(crate) clear: bool,
+    pub(crate) is_default: bool,
 }
 
 /// What the options of a class are read under: its line, the bandwidth of its interface, and whether that has a default.
@@ -51,9 +54,6 @@ pub(crate) struct Shape {
     pub(crate) rate: u64,
 }
 
-/// The greatest rate, in bits per second.
-pub(crate) const MOST_RATE: u64 = 1_000_000_000_000;
-
 /// Before the first option.
 pub(crate) fn unset() -> Settings
     ensures { result ≡ unset }
@@ -62,6 +62,7 @@ pub(crate) fn unset() -> Settings
         real: None,
         fixed: false,
         share: None,
+        upper: None,
         rate: None,
         priority: 0,
         borrow: false,
@@ -70,7 +71,8 @@ pub(crate) fn unset() -> Settings
         packetsize: 1500,
         limit: 50,
         drop: DropRule::Tail,
-        first: false,
+        clear: false,
+        is_default: false,
     }
 }
 
@@ -81,14 +83,14 @@ fn made(m1: u64, d: u64, m2: u64) -> Curve
     Curve::make(m1, d, m2)
 }
 
-/// The curve of the three numbers at the front, whose m2 is at least a rate.
-fn curve_in(least: u64, items: &[Item]) -> Option<Curve>
-    ensures { result ≡ curve_in least items.now }
+/// The curve of the three numbers at the front, whose slopes are at least what is said.
+fn curve_in(low: u64, least: u64, items: &[Item]) -> Option<Curve>
+    ensures { result ≡ curve_in_slots (Slots.Curve low least) items.now }
 {
-    let Some(m1) = number_at(0, MOST_RATE, items, 0) else {
+    let Some(m1) = number_at(low, MOST_RATE, items, 0) else {
         return None;
     };
-    let Some(d) = number_at(0, 1_000_000, items, 1) else {
+    let Some(d) = number_at(0, MOST_BEND, items, 1) else {
         return None;
     };
     let Some(m2) = number_at(least, MOST_RATE, items, 2) else {
@@ -98,6 +100,16 @@ fn curve_in(least: u64, items: &[Item]) -> Option<Curve>
         return None;
     }
     Some(made(m1, d * 1_000_000, m2))
+}
+
+/// The curve behind an option.
+fn curve_behind(key: Key, items: &[Item]) -> Option<Curve>
+    ensures { result ≡ curve_behind key items.now }
+{
+    match key.slots() {
+        Slots::Curve(low, least) => curve_in(low, least, items),
+        _ => None,
+    }
 }
 
 /// A part of a rate in percent, rounded down.
@@ -110,9 +122,9 @@ fn percent(rate: u64, n: u64) -> u64
 
 /// The line of `pshare`.
 fn part_of(rate: u64, items: &[Item]) -> Option<Curve>
-    ensures { result ≡ option_map (λ n. straight (percent rate n)) (number_at 1 100 items.now 0) }
+    ensures { result ≡ option_map (λ n. straight (percent rate n)) (number_behind Key.Pshare items.now) }
 {
-    match number_at(1, 100, items, 0) {
+    match number_behind(Key::Pshare, items) {
         Some(n) => Some(made(0, 0, percent(rate, n))),
         None => None,
     }
@@ -120,100 +132,21 @@ fn part_of(rate: u64, items: &[Item]) -> Option<Curve>
 
 /// The line of `grate`.
 fn line_in(items: &[Item]) -> Option<Curve>
-    ensures { result ≡ option_map (λ n. straight n) (number_at 0 most_rate items.now 0) }
+    ensures { result ≡ option_map (λ n. straight n) (number_behind Key.Grate items.now) }
 {
-    match number_at(0, MOST_RATE, items, 0) {
+    match number_behind(Key::Grate, items) {
         Some(n) => Some(made(0, 0, n)),
         None => None,
     }
 }
 
-fn with_drop(settings: Settings, drop: DropRule) -> Settings
-    ensures { result ≡ record settings { drop = drop } }
+/// The number of `priority`.
+fn priority_or(unset: u8, items: &[Item]) -> u8
+    ensures { result ≡ unwrap_or (number_behind Key.Priority items.now) unset }
 {
-    Settings { drop, ..settings }
-}
-
-fn set_real(settings: Settings, fixed: bool, real: Option<Curve>) -> Settings
-    ensures { result ≡ set_real settings fixed real }
-{
-    match real {
-        Some(_) => Settings {
-            real,
-            fixed,
-            ..settings
-        },
-        None => settings,
-    }
-}
-
-fn set_share(settings: Settings, share: Option<Curve>) -> Settings
-    ensures { result ≡ set_share settings share }
-{
-    match share {
-        Some(_) => Settings { share, ..settings },
-        None => settings,
-    }
-}
-
-fn set_rate(settings: Settings, rate: Option<u64>) -> Settings
-    ensures { result ≡ set_rate settings rate }
-{
-    match rate {
-        Some(_) => Settings { rate, ..settings },
-        None => settings,
-    }
-}
-
-fn set_priority(settings: Settings, n: Option<u64>) -> Settings
-    requires { IfSome n (λ n. n ≤ 7) }
-    ensures { result ≡ set_priority settings n }
-{
-    match n {
-        Some(n) => Settings {
-            priority: n as u8,
-            ..settings
-        },
-        None => settings,
-    }
-}
-
-fn set_maxburst(settings: Settings, n: Option<u64>) -> Settings
-    requires { IfSome n (λ n. n ≤ 1000) }
-    ensures { result ≡ set_maxburst settings n }
-{
-    match n {
-        Some(n) => Settings {
-            maxburst: n as u32,
-            ..settings
-        },
-        None => settings,
-    }
-}
-
-fn set_packetsize(settings: Settings, n: Option<u64>) -> Settings
-    requires { IfSome n (λ n. n ≤ 262144) }
-    ensures { result ≡ set_packetsize settings n }
-{
-    match n {
-        Some(n) => Settings {
-            packetsize: n as u32,
-            ..settings
-        },
-        None => settings,
-    }
-}
-
-fn set_limit(settings: Settings, n: Option<u64>) -> Settings
-    requires { IfSome n (λ n. n ≤ 10000) }
-    ensures { result ≡ set_limit settings n }
-{
-    match n {
-        Some(n) => Settings {
-            limit: n as u32,
-            ..settings
-        },
-        None => settings,
+    match number_behind(Key::Priority, items) {
+        Some(n) => n as u8,
+        None => unset,
     }
 }
 
@@ -232,23 +165,121 @@ fn set_percent(
     };
     let rate = percent(scope.rate, n);
     if rate >= 1000 && rate <= MOST_RATE {
-        Ok(set_rate(settings, Some(rate)))
+        Ok(Settings {
+            rate: Some(rate),
+            ..settings
+        })
     } else {
         Err(fault_at(scope.line, word, RATE_RANGE))
     }
 }
 
 /// `default`: one on each interface.
-fn set_first(scope: Scope, settings: Settings, word: u64) -> Result<Settings, ConfPlace>
-    ensures { result ≡ set_first scope settings word }
+fn set_default(scope: Scope, settings: Settings, word: u64) -> Result<Settings, ConfPlace>
+    ensures { result ≡ set_default scope settings word }
 {
-    if scope.chosen || settings.first {
+    if scope.chosen || settings.is_default {
         Err(fault_at(scope.line, word, TWO_DEFAULTS))
     } else {
         Ok(Settings {
-            first: true,
+            is_default: true,
             ..settings
         })
+    }
+}
+
+fn with_real(settings: Settings, real: Option<Curve>, fixed: bool) -> Settings
+    ensures { result ≡ record settings { real = option_or real settings.real; fixed = fixed } }
+{
+    Settings {
+        real: real.or(settings.real),
+        fixed,
+        ..settings
+    }
+}
+
+fn with_share(settings: Settings, share: Option<Curve>) -> Settings
+    ensures { result ≡ record settings { share = option_or share settings.share } }
+{
+    Settings {
+        share: share.or(settings.share),
+        ..settings
+    }
+}
+
+fn with_upper(settings: Settings, upper: Option<Curve>) -> Settings
+    ensures { result ≡ record settings { upper = option_or upper settings.upper } }
+{
+    Settings {
+        upper: upper.or(settings.upper),
+        ..settings
+    }
+}
+
+fn with_drop(settings: Settings, drop: DropRule) -> Settings
+    ensures { result ≡ record settings { drop = drop } }
+{
+    Settings { drop, ..settings }
+}
+
+/// What an option of both kinds of classes sets, and `default` tests.
+fn set_queue(
+    scope: Scope,
+    s: Settings,
+    word: u64,
+    key: Key,
+    items: &[Item],
+) -> Result<Settings, ConfPlace>
+    ensures { result ≡ set_queue scope s word key items.now }
+{
+    match key {
+        Key::Qlimit => {
+            let limit = count_behind(Key::Qlimit, items).unwrap_or(s.limit);
+            Ok(Settings { limit, ..s })
+        }
+        Key::Red => Ok(with_drop(s, DropRule::Red)),
+        Key::Ecn => Ok(with_drop(s, DropRule::Ecn)),
+        Key::Rio => Ok(with_drop(s, DropRule::Rio)),
+        Key::Cleardscp => Ok(Settings { clear: true, ..s }),
+        Key::Default => set_default(scope, s, word),
+        _ => Ok(s),
+    }
+}
+
+/// What an option of CBQ sets, or one of both kinds of classes.
+fn set_cbq(
+    scope: Scope,
+    s: Settings,
+    word: u64,
+    key: Key,
+    items: &[Item],
+) -> Result<Settings, ConfPlace>
+    ensures { result ≡ set_cbq scope s word key items.now }
+{
+    match key {
+        Key::Priority => {
+            let priority = priority_or(s.priority, items);
+            Ok(Settings { priority, ..s })
+        }
+        Key::Pbandwidth => {
+            let n = number_behind(Key::Pbandwidth, items);
+            set_percent(scope, s, word_at(items, 0), n)
+        }
+        Key::Exactbandwidth => {
+            let rate = number_behind(Key::Exactbandwidth, items).or(s.rate);
+            Ok(Settings { rate, ..s })
+        }
+        Key::Borrow => Ok(Settings { borrow: true, ..s }),
+        Key::Control => Ok(Settings { control: true, ..s }),
+        Key::Maxburst => {
+            let maxburst = count_behind(Key::Maxburst, items).unwrap_or(s.maxburst);
+            Ok(Settings { maxburst, ..s })
+        }
+        Key::Packetsize => {
+            let packetsize = count_behind(Key::Packetsize, items).unwrap_or(s.packetsize);
+            Ok(Settings { packetsize, ..s })
+        }
+        _ => set_queue(scope, s, word, key, items),
     }
 }
 
@@ -264,24 +295,14 @@ pub(crate) fn set_option(
 {
     match key {
         Key::Sc => {
-            let curve = curve_in(1, items);
-            Ok(set_share(set_real(s, false, curve), curve))
+            let curve = curve_behind(Key::Sc, items);
+            Ok(with_share(with_real(s, curve, false), curve))
         }
-        Key::Rt => Ok(set_real(s, true, curve_in(0, items))),
-        Key::Ls => Ok(set_share(s, curve_in(1, items))),
-        Key::Pshare => Ok(set_share(s, part_of(scope.rate, items))),
-        Key::Grate => Ok(set_real(s, true, line_in(items))),
-        Key::Qlimit => Ok(set_limit(s, number_at(1, 10_000, items, 0))),
-        Key::Red => Ok(with_drop(s, DropRule::Red)),
-        Key::Rio => Ok(with_drop(s, DropRule::Rio)),
-        Key::Default => set_first(scope, s, word),
-        Key::Priority => Ok(set_priority(s, number_at(0, 7, items, 0))),
-        Key::Pbandwidth => set_percent(scope, s, word_at(items, 0), number_at(0, 100, items, 0)),
-        Key::Exactbandwidth => Ok(set_rate(s, number_at(1000, MOST_RATE, items, 0))),
-        Key::Borrow => Ok(Settings { borrow: true, ..s }),
-        Key::Control => Ok(Settings { control: true, ..s }),
-        Key::Maxburst => Ok(set_maxburst(s, number_at(1, 1000, items, 0))),
-        Key::Packetsize => Ok(set_packetsize(s, number_at(1, 262_144, items, 0))),
-        _ => Ok(s),
+        Key::Rt => Ok(with_real(s, curve_behind(Key::Rt, items), true)),
+        Key::Ls => Ok(with_share(s, curve_behind(Key::Ls, items))),
+        Key::Ul => Ok(with_upper(s, curve_behind(Key::Ul, items))),
+        Key::Pshare => Ok(with_share(s, part_of(scope.rate, items))),
+        Key::Grate => Ok(with_real(s, line_in(items), true)),
+        _ => set_cbq(scope, s, word, key, items),
     }
 }

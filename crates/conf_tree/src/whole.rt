@@ -21,6 +21,7 @@ fn implied_hfsc(name: Text, parent: Option<u32>, share: Option<Curve>) -> Class
         parent,
         real: None,
         share,
+        upper: None,
         rate: 0,
         priority: 0,
         borrow: false,
@@ -29,7 +30,8 @@ fn implied_hfsc(name: Text, parent: Option<u32>, share: Option<Curve>) -> Class
         packetsize: 0,
         limit: 50,
         drop: DropRule::Tail,
-        first: parent.is_some(),
+        clear: false,
+        is_default: parent.is_some(),
     }
 }
 
@@ -42,6 +44,7 @@ fn implied_cbq(name: Text, parent: Option<u32>, rate: u64) -> Class
         parent,
         real: None,
         share: None,
+        upper: None,
         rate,
         priority: 0,
         borrow: parent.is_some(),
@@ -50,7 +53,8 @@ fn implied_cbq(name: Text, parent: Option<u32>, rate: u64) -> Class
         packetsize: 1500,
         limit: 50,
         drop: DropRule::Tail,
-        first: parent.is_some(),
+        clear: false,
+        is_default: parent.is_some(),
     }
 }
 

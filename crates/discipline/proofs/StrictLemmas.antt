@@ -1,267 +1,207 @@
--- Classes in a row: their lists, limits and queues.
-use Rattle.std.proofs.Common.{◌≡◌, ◌≤◌, ◌<◌, ◌+◌, ◌-◌, ◌∙◌, inl, inr, ℕ, zero, suc, Bool, true, false, cond, List, [], ◌∷◌, Some, length, map, refl, ap, sym, subst, arith, drop, eqb, set, get_or, All, replicate, take}
-use Rattle.std.specs.Prelude.{slice_get, ◌↔◌}
-use Rattle.std.proofs.lemmas.Bool.{eq-eqb, ne_eqb, eqb-true}
-use Rattle.std.proofs.lemmas.List.{length-set, length-append, set-get_or, length-map}
-use Rattle.std.proofs.lemmas.Option.{slice_get-get_or}
-use Rattle.altq_model.specs.declared.Reason.TheVariants.{Full}
+-- Classes in a row, of which the first that is not empty is sent: what is due.
+use Rattle.std.proofs.Common.{◌≡◌, ◌≤◌, ◌<◌, ◌+◌, ◌∙◌, ◌⊎◌, inl, inr, ℕ, zero, suc, min, Bool, true, false, List, [], ◌∷◌, None, Some, length, replicate, refl, ap, sym, subst, arith}
+use Rattle.std.specs.declared.option.Option.{Option}
+use Rattle.std.specs.Prelude.{slice_get, option_map, nat_le, nat_lt}
+use Rattle.std.proofs.lemmas.Bool.{le-leb, leb-true, lt-ltb, ltb-true}
+use Rattle.altq_model.specs.declared.Rule.{Rule}
 use Rattle.altq_model.specs.declared.Verdict.{Verdict}
-use Rattle.altq_model.specs.declared.Verdict.TheVariants.{Keep, Drop}
-use Rattle.altq_model.specs.History.{with_offer}
-use Rattle.play_laws.specs.Lawful.{IsOneOf}
+use Rattle.altq_model.specs.History.{Coming, DrawnWords, Event, Happened, bare, waiting}
+use Rattle.altq_model.specs.Play.{Choice, Policy, lesser}
+use Rattle.altq_model.specs.Policies.{Answering, strict, first_waiting}
+use Rattle.altq_model.specs.Lawful.{first_at}
+use Rattle.link_clock.specs.Clock.{Clock}
+use Rattle.play_base.specs.declared.packet.Ticket.{Ticket}
+use Rattle.play_laws.proofs.StrictLemmas.{steady, strict_lawful, strict_never_waits}
 use Rattle.leaf_queue.specs.declared.node.Entry.{Entry}
-use Rattle.leaf_queue.specs.Lists.{Listed, list_of, total_of}
-use Rattle.leaf_queue.specs.Queue.{QueueEvent}
-use Rattle.discipline.specs.Laws.{Shows, tickets, seen, held_in, room_of}
-use Rattle.discipline.specs.Leaf.{after_verdict, HasPrecs}
-use Rattle.discipline.specs.Strict.{classes_from, list_at, limit_at, limits_sum, Fit, IsRow, RowsStand}
-use Rattle.discipline.proofs.PacedLemmas.{precs_after}
+use Rattle.leaf_queue.specs.Queue.{QueueEvent, Saying}
+use Rattle.discipline_laws.specs.declared.pick.Pick.{Pick}
+use Rattle.discipline_laws.specs.declared.pick.Pick.TheVariants.{Send, Wait, Empty}
+use Rattle.discipline_laws.specs.declared.pick.Sending.{Sending}
+use Rattle.discipline_laws.specs.Laws.{IsAnswer, IsDue, NamesHead, Waits, coming, entry, offer_of, seen, seen_of, sent_of}
+use Rattle.discipline_laws.specs.Moments.{IsChoice, IsOffer, IsOrderly, WasDue}
+use Rattle.class_rows.specs.Rows.{Answers, Rowed, SameRow, Told, answering, classes_in, holding, list_in}
+use Rattle.class_rows.proofs.RowLemmas.{holding_distinct}
+use Rattle.discipline.specs.Plain.{IsPlain}
+use Rattle.discipline.specs.Strict.{IsStrict, Ordered, Stands, classes_from, first_pick, pick_head, strict_due, strict_of}
 
--- which classes there are
-pub one_of : (class c n : ℕ) → IsOneOf class (classes_from c n) → (c ≤ class) × (class < c + n)
-one_of class c zero o = absurd o
-one_of class c (suc n) (inl e) = (omega arith, omega arith)
-one_of class c (suc n) (inr o) = let p = one_of class (c + 1) n o in (omega (arith, p.0), omega (arith, p.1))
+-- the queue classes, where every class is one
+pub all_hold : (c n : ℕ) → holding c (replicate n true) ≡ classes_from c n
+all_hold c zero = refl
+all_hold c (suc n) = ap (λ (cs : List ℕ). c ∷ cs) (all_hold (c + 1) n)
 
--- the list of a class that has a place
-pub list_at-here : (c : ℕ) (lists : List (List Entry)) (k class : ℕ) → k < length lists → c + k ≡ class → list_at c lists class ≡ list_of lists k
-list_at-here c [] k class l e = absurd (omega arith)
-list_at-here c (xs ∷ lists) zero class l e = ap (λ (b : Bool). cond b xs (list_at (c + 1) lists class)) (eq-eqb c class (omega arith))
-list_at-here c (xs ∷ lists) (suc k) class l e =
-    ap (λ (b : Bool). cond b xs (list_at (c + 1) lists class)) (ne_eqb c class (λ q. omega arith))
-    ∙ list_at-here (c + 1) lists k class (omega arith) (omega arith)
+pub classes_are : {Q : Type 0} (d : Rowed Q) → IsStrict d → classes_in d ≡ classes_from d.first (length d.queues)
+classes_are d i = ap (holding d.first) i.holds ∙ all_hold d.first (length d.queues)
 
-pub list_at-below : (c : ℕ) (lists : List (List Entry)) (class : ℕ) → class < c → list_at c lists class ≡ []
-list_at-below c [] class l = refl
-list_at-below c (xs ∷ lists) class l =
-    ap (λ (b : Bool). cond b xs (list_at (c + 1) lists class)) (ne_eqb c class (λ q. omega arith))
-    ∙ list_at-below (c + 1) lists class (omega arith)
+-- the pick is the head of the first list that is not empty
+at_head : (c : ℕ) (rule : Rule) (xs : List Entry) (x : Entry) (other : Pick) → slice_get xs 0 ≡ Some x → pick_head c rule xs other ≡ Send x.ticket c x.len rule
+at_head c rule [] x other e = absurd (cc)
+at_head c rule (y ∷ ys) x other e = let same : y ≡ x = cc in ap (λ (z : Entry). Send z.ticket c z.len rule) same
 
-twice : {A : Type 0} (b t : Bool) (x y z : A) → (b ≡ true → t ≡ false) → cond b x (cond t y z) ≡ cond t y (cond b x z)
-twice true true x y z f = absurd (let q : true ≡ false = f refl in (cc))
-twice true false x y z f = refl
-twice false t x y z f = refl
-
-pub list_at-set : (c : ℕ) (lists : List (List Entry)) (k : ℕ) (ys : List Entry) (class : ℕ) → k < length lists
-    → list_at c (set lists k ys) class ≡ cond (eqb (c + k) class) ys (list_at c lists class)
-list_at-set c [] k ys class l = absurd (omega arith)
-list_at-set c (xs ∷ lists) zero ys class l =
+pub pick_found : (rule : Rule) (lists : ℕ → List Entry) (c n k : ℕ) (x : Entry) → k < n
+    → ((j : ℕ) → c ≤ j → j < c + k → lists j ≡ []) → slice_get (lists (c + k)) 0 ≡ Some x
+    → first_pick rule lists (classes_from c n) ≡ Send x.ticket (c + k) x.len rule
+pick_found rule lists c zero k x l f e = absurd (omega arith)
+pick_found rule lists c (suc n) zero x l f e =
     let same : c + 0 ≡ c = omega arith in
-    by_test (eqb c class) ∙ ap (λ (n : ℕ). cond (eqb n class) ys (cond (eqb c class) xs (list_at (c + 1) lists class))) (sym same)
-  where
-    by_test : (b : Bool) → cond b ys (list_at (c + 1) lists class) ≡ cond b ys (cond b xs (list_at (c + 1) lists class))
-    by_test true = refl
-    by_test false = refl
-list_at-set c (xs ∷ lists) (suc k) ys class l =
+    let P : ℕ → Type 0 = λ m. slice_get (lists m) 0 ≡ Some x in
+    at_head c rule (lists c) x (first_pick rule lists (classes_from (c + 1) n)) (subst P same e) ∙ ap (λ (m : ℕ). Send x.ticket m x.len rule) (sym same)
+pick_found rule lists c (suc n) (suc k) x l f e =
     let same : c + 1 + k ≡ c + suc k = omega arith in
-    ap (λ (zs : List Entry). cond (eqb c class) xs zs) (list_at-set (c + 1) lists k ys class (omega arith))
-    ∙ ap (λ (n : ℕ). cond (eqb c class) xs (cond (eqb n class) ys (list_at (c + 1) lists class))) same
-    ∙ twice (eqb c class) (eqb (c + suc k) class) xs ys (list_at (c + 1) lists class)
-    (λ t. ne_eqb (c + suc k) class (λ q. omega (arith, eqb-true c class t)))
+    let P : ℕ → Type 0 = λ m. slice_get (lists m) 0 ≡ Some x in
+    ap (λ (ys : List Entry). pick_head c rule ys (first_pick rule lists (classes_from (c + 1) n))) (f c (omega arith) (omega arith))
+    ∙ pick_found rule lists (c + 1) n k x (omega arith) (λ j a b. f j (omega arith) (omega arith)) (subst P (sym same) e)
+    ∙ ap (λ (m : ℕ). Send x.ticket m x.len rule) same
 
--- what all classes hold
-held_same : (c : ℕ) (xs : List Entry) (lists : List (List Entry)) (d n : ℕ) → c < d
-    → held_in (list_at c (xs ∷ lists)) (classes_from d n) ≡ held_in (list_at (c + 1) lists) (classes_from d n)
-held_same c xs lists d zero l = refl
-held_same c xs lists d (suc n) l =
-    let here : list_at c (xs ∷ lists) d ≡ list_at (c + 1) lists d =
-    ap (λ (b : Bool). cond b xs (list_at (c + 1) lists d)) (ne_eqb c d (λ q. omega arith)) in
-    omega (arith, ap length here, held_same c xs lists (d + 1) n (omega arith))
+pub pick_none : (rule : Rule) (lists : ℕ → List Entry) (c n : ℕ) → ((j : ℕ) → c ≤ j → j < c + n → lists j ≡ []) → first_pick rule lists (classes_from c n) ≡ Empty
+pick_none rule lists c zero f = refl
+pick_none rule lists c (suc n) f =
+    ap (λ (ys : List Entry). pick_head c rule ys (first_pick rule lists (classes_from (c + 1) n))) (f c (omega arith) (omega arith))
+    ∙ pick_none rule lists (c + 1) n (λ j a b. f j (omega arith) (omega arith))
 
-pub held_is : (c : ℕ) (lists : List (List Entry)) → held_in (list_at c lists) (classes_from c (length lists)) ≡ total_of lists
-held_is c [] = refl
-held_is c (xs ∷ lists) =
-    let here : list_at c (xs ∷ lists) c ≡ xs = ap (λ (b : Bool). cond b xs (list_at (c + 1) lists c)) (eq-eqb c c refl) in
-    omega (arith, ap length here, held_same c xs lists (c + 1) (length lists) (omega arith), held_is (c + 1) lists)
+has_front : (xs : List Entry) (x : Entry) → slice_get xs 0 ≡ Some x → 0 < length xs
+has_front [] x e = absurd (cc)
+has_front (y ∷ xs) x e = omega arith
 
-room_same : (c m : ℕ) (limits : List ℕ) (d n : ℕ) → c < d
-    → room_of (limit_at c (m ∷ limits)) (classes_from d n) ≡ room_of (limit_at (c + 1) limits) (classes_from d n)
-room_same c m limits d zero l = refl
-room_same c m limits d (suc n) l =
-    let here : limit_at c (m ∷ limits) d ≡ limit_at (c + 1) limits d =
-    ap (λ (b : Bool). cond b m (limit_at (c + 1) limits d)) (ne_eqb c d (λ q. omega arith)) in
-    omega (arith, here, room_same c m limits (d + 1) n (omega arith))
+pub no_head : (xs : List Entry) → slice_get xs 0 ≡ None → xs ≡ []
+no_head [] e = refl
+no_head (x ∷ xs) e = absurd (cc)
 
-pub room_is : (c : ℕ) (limits : List ℕ) → room_of (limit_at c limits) (classes_from c (length limits)) ≡ limits_sum limits
-room_is c [] = refl
-room_is c (m ∷ limits) =
-    let here : limit_at c (m ∷ limits) c ≡ m = ap (λ (b : Bool). cond b m (limit_at (c + 1) limits c)) (eq-eqb c c refl) in
-    omega (arith, here, room_same c m limits (c + 1) (length limits) (omega arith), room_is (c + 1) limits)
+-- what is said of a pick, where it is the first list that is not empty
+picked_case : (R : Pick → Type 0) (c : ℕ) (rule : Rule) (xs : List Entry) (other : Pick) → R other
+    → ((x : Entry) → slice_get xs 0 ≡ Some x → R (Send x.ticket c x.len rule)) → R (pick_head c rule xs other)
+picked_case R c rule [] other a b = a
+picked_case R c rule (x ∷ xs) other a b = b x refl
 
-pub limit_here : (c : ℕ) (limits : List ℕ) (k class m : ℕ) → slice_get limits k ≡ Some m → c + k ≡ class → limit_at c limits class ≡ m
-limit_here c [] k class m e i = absurd (cc)
-limit_here c (x ∷ limits) zero class m e i =
-    let same : x ≡ m = cc in
-    ap (λ (b : Bool). cond b x (limit_at (c + 1) limits class)) (eq-eqb c class (omega arith)) ∙ same
-limit_here c (x ∷ limits) (suc k) class m e i =
-    ap (λ (b : Bool). cond b x (limit_at (c + 1) limits class)) (ne_eqb c class (λ q. omega arith)) ∙ limit_here (c + 1) limits k class m e (omega arith)
+pub picked : (R : Pick → Type 0) (rule : Rule) (lists : ℕ → List Entry) (cs : List ℕ) → R Empty
+    → ((c : ℕ) (x : Entry) → slice_get (lists c) 0 ≡ Some x → R (Send x.ticket c x.len rule)) → R (first_pick rule lists cs)
+picked R rule lists [] a b = a
+picked R rule lists (c ∷ cs) a b = picked_case R c rule (lists c) (first_pick rule lists cs) (picked R rule lists cs a b) (λ x e. b c x e)
 
-module _ {Q : Type 0} (most : Q → ℕ) where
-  pub fit_length : (queues : List Q) (lists : List (List Entry)) → Fit most queues lists → length lists ≡ length queues
-  fit_length [] [] f = refl
-  fit_length [] (xs ∷ lists) f = absurd f
-  fit_length (q ∷ queues) [] f = absurd f
-  fit_length (q ∷ queues) (xs ∷ lists) f = omega (arith, fit_length queues lists f.2)
+pub names_head : (rule : Rule) (lists : ℕ → List Entry) (cs : List ℕ) → NamesHead lists (first_pick rule lists cs)
+names_head rule lists cs = picked (λ p. NamesHead lists p) rule lists cs tt (λ c x e. (x.prec, e))
 
-  pub fit_total : (queues : List Q) (lists : List (List Entry)) → Fit most queues lists → total_of lists ≤ limits_sum (map most queues)
-  fit_total [] [] f = omega arith
-  fit_total [] (xs ∷ lists) f = absurd f
-  fit_total (q ∷ queues) [] f = absurd f
-  fit_total (q ∷ queues) (xs ∷ lists) f = omega (arith, fit_total queues lists f.2, f.0)
+pub waits_never : (rule : Rule) (lists : ℕ → List Entry) (cs : List ℕ) (due : ℕ → Pick) (now : ℕ) → Waits due now (first_pick rule lists cs)
+waits_never rule lists cs due now = picked (λ p. Waits due now p) rule lists cs tt (λ c x e. tt)
 
-  pub fit_less : (queues : List Q) (lists : List (List Entry)) (k : ℕ) (q : Q) → Fit most queues lists → slice_get queues k ≡ Some q
-      → length (list_of lists k) < most q → total_of lists < limits_sum (map most queues)
-  fit_less [] lists k q f e l = absurd (cc)
-  fit_less (p ∷ queues) [] k q f e l = absurd f
-  fit_less (p ∷ queues) (xs ∷ lists) zero q f e l =
-      let same : p ≡ q = cc in
-      omega (arith, ap most same, fit_total queues lists f.2)
-  fit_less (p ∷ queues) (xs ∷ lists) (suc k) q f e l = omega (arith, fit_less queues lists k q f.2 e l, f.0)
+-- every list is empty, those of the classes and all others
+pub within_or : (lists : ℕ → List Entry) (c n j : ℕ) (b d : Bool) → nat_le c j ≡ b → nat_lt j (c + n) ≡ d
+    → ((i : ℕ) → c ≤ i → i < c + n → lists i ≡ []) → ((i : ℕ) → (c ≤ i → i < c + n → ⊥) → lists i ≡ []) → lists j ≡ []
+within_or lists c n j true true l m inside outside = inside j (leb-true c j l) (ltb-true j (c + n) m)
+within_or lists c n j false d l m inside outside = outside j (λ a b. let e = le-leb c j a in (cc))
+within_or lists c n j true false l m inside outside = outside j (λ a b. let e = lt-ltb j (c + n) b in (cc))
 
-  pub fit_at : (queues : List Q) (lists : List (List Entry)) (k : ℕ) (q : Q) → Fit most queues lists → slice_get queues k ≡ Some q
-      → (length (list_of lists k) ≤ most q) × HasPrecs (list_of lists k)
-  fit_at [] lists k q f e = absurd (cc)
-  fit_at (p ∷ queues) [] k q f e = absurd f
-  fit_at (p ∷ queues) (xs ∷ lists) zero q f e = let same : p ≡ q = cc in (omega (arith, ap most same, f.0), f.1)
-  fit_at (p ∷ queues) (xs ∷ lists) (suc k) q f e = fit_at queues lists k q f.2 e
+pub no_front : (xs : List Entry) (x : Entry) → slice_get xs 0 ≡ Some x → xs ≡ [] → ⊥
+no_front [] x e n = (cc)
+no_front (y ∷ xs) x e n = (cc)
 
-  pub fit_set : (queues : List Q) (lists : List (List Entry)) (k : ℕ) (q : Q) (ys : List Entry) → Fit most queues lists
-      → length ys ≤ most q → HasPrecs ys → Fit most (set queues k q) (set lists k ys)
-  fit_set [] [] k q ys f l h = f
-  fit_set [] (xs ∷ lists) k q ys f l h = absurd f
-  fit_set (p ∷ queues) [] k q ys f l h = absurd f
-  fit_set (p ∷ queues) (xs ∷ lists) zero q ys f l h = (l, h, f.2)
-  fit_set (p ∷ queues) (xs ∷ lists) (suc k) q ys f l h = (f.0, f.1, fit_set queues lists k q ys f.2 l h)
+-- what is due after a history, of strict order
+abbrev DueIs : (rule : Rule) (now : ℕ) → Option ℕ → (first : ℕ) → Pick → Type 0
+DueIs rule now o first (Send t class len r) = (o ≡ Some now) × (first ≡ class) × (rule ≡ r)
+DueIs rule now o first (Wait till) = ⊥
+DueIs rule now o first Empty = o ≡ None
 
--- a function of the queues that a changed queue keeps
-pub map_kept : {Q A : Type 0} (f : Q → A) (queues : List Q) (k : ℕ) (p q : Q) → slice_get queues k ≡ Some p → f q ≡ f p → map f (set queues k q) ≡ map f queues
-map_kept f [] k p q e s = refl
-map_kept f (x ∷ queues) zero p q e s = let same : x ≡ p = cc in ap (λ (y : _). y ∷ map f queues) (s ∙ sym (ap f same))
-map_kept f (x ∷ queues) (suc k) p q e s = ap (λ (ys : List _). f x ∷ ys) (map_kept f queues k p q e s)
+lesser_same : (now : ℕ) (o : Option ℕ) → (o ≡ None) ⊎ (o ≡ Some now) → lesser (Some now) o ≡ Some now
+lesser_same now o (inl e) = ap (lesser (Some now)) e
+lesser_same now o (inr e) = let n : min now now ≡ now = omega arith in ap (lesser (Some now)) e ∙ ap (λ (m : ℕ). Some m) n
 
--- the lists after an offer are these with one changed
-pub after_is : (v : Verdict) (k : ℕ) (x : Entry) (lists : List (List Entry))
-    → after_verdict v k x lists ≡ set lists k (with_offer true v x (list_of lists k))
-after_is Keep k x lists = refl
-after_is (Drop r) k x lists = sym (set-get_or lists k [])
+module _ (classes : List ℕ) (rule : Rule) (answer : Answering) (now : ℕ) (b : List Event) where
+  abbrev first_of : List ℕ → Option ℕ
+  first_of cs = first_at (strict classes rule answer) now b cs
 
--- the sum of one limit more
-sum_more : {Q : Type 0} (most : Q → ℕ) (queues : List Q) (k : ℕ) (q : Q) → slice_get queues k ≡ Some q
-    → limits_sum (map most (take (suc k) queues)) ≡ limits_sum (map most (take k queues)) + most q
-sum_more most [] k q e = absurd (cc)
-sum_more most (p ∷ queues) zero q e = let same : p ≡ q = cc in omega (arith, ap most same)
-sum_more most (p ∷ queues) (suc k) q e = omega (arith, sum_more most queues k q e)
+  front_case : (ws : List Coming) (o : Option ℕ) → (o ≡ None) ⊎ (o ≡ Some now)
+      → (lesser (option_map (λ (a : Coming). now) (slice_get ws 0)) o ≡ None) ⊎ (lesser (option_map (λ (a : Coming). now) (slice_get ws 0)) o ≡ Some now)
+  front_case [] o f = f
+  front_case (a ∷ ws) o f = inr (lesser_same now o f)
 
-pub sum_next : {Q : Type 0} (most : Q → ℕ) (queues : List Q) (k : ℕ) (q : Q) → k < length queues → q ≡ get_or queues k q
-    → limits_sum (map most (take (k + 1) queues)) ≡ limits_sum (map most (take k queues)) + most q
-sum_next most queues k q l e =
-    let n : k + 1 ≡ suc k = omega arith in
-    ap (λ (m : ℕ). limits_sum (map most (take m queues))) n ∙ sum_more most queues k q (slice_get-get_or queues k q l ∙ ap Some (sym e))
+  first_or_none : (cs : List ℕ) → (first_of cs ≡ None) ⊎ (first_of cs ≡ Some now)
+  first_or_none [] = inl refl
+  first_or_none (c ∷ cs) = front_case (waiting c b) (first_of cs) (first_or_none cs)
 
-pub room_row : {Q : Type 0} (most : Q → ℕ) (first room : ℕ) (queues : List Q) (l : Listed) → IsRow most first room queues l
-    → room ≡ room_of (limit_at first (map most queues)) (classes_from first (length queues))
-room_row most first room queues l i =
-    i.sum ∙ sym (room_is first (map most queues))
-    ∙ ap (λ (n : ℕ). room_of (limit_at first (map most queues)) (classes_from first n)) (length-map queues most)
+  due_case : (c : ℕ) (cs : List ℕ) (xs : List Entry) (ws : List Coming) (other : Pick) → seen xs ≡ seen_of ws → DueIs rule now (first_of cs) (first_waiting cs b) other
+      → DueIs rule now (lesser (option_map (λ (a : Coming). now) (slice_get ws 0)) (first_of cs)) (elim ws [ [] ↦ first_waiting cs b | a ∷ rest ↦ c ])
+      (pick_head c rule xs other)
+  due_case c cs [] [] other e d = d
+  due_case c cs [] (a ∷ ws) other e d = absurd (cc)
+  due_case c cs (x ∷ xs) [] other e d = absurd (cc)
+  due_case c cs (x ∷ xs) (a ∷ ws) other e d = (lesser_same now (first_of cs) (first_or_none cs), refl, refl)
 
-pub within_row : {Q : Type 0} (most : Q → ℕ) (first room : ℕ) (queues : List Q) (l : Listed) → IsRow most first room queues l
-    → held_in (list_at first l.lists) (classes_from first (length queues)) ≤ room
-within_row most first room queues l i =
-    let held : held_in (list_at first l.lists) (classes_from first (length queues)) ≡ total_of l.lists =
-    ap (λ (n : ℕ). held_in (list_at first l.lists) (classes_from first n)) (sym (fit_length most queues l.lists i.fit)) ∙ held_is first l.lists in
-    omega (arith, held, fit_total most queues l.lists i.fit, i.sum)
+  due_is : (lists : ℕ → List Entry) (cs : List ℕ) → ((c : ℕ) → seen (lists c) ≡ seen_of (waiting c b))
+      → DueIs rule now (first_of cs) (first_waiting cs b) (first_pick rule lists cs)
+  due_is lists [] s = refl
+  due_is lists (c ∷ cs) s = due_case c cs (lists c) (waiting c b) (first_pick rule lists cs) (s c) (due_is lists cs s)
 
-pub bounded_row : {Q : Type 0} (most : Q → ℕ) (first room : ℕ) (queues : List Q) (l : Listed) → IsRow most first room queues l
-    → held_in (list_at first l.lists) (classes_from first (length queues)) ≤ room_of (limit_at first (map most queues)) (classes_from first (length queues))
-bounded_row most first room queues l i = omega (arith, within_row most first room queues l i, room_row most first room queues l i)
+abbrev choice : ℕ → Rule → Choice
+choice class r = record { class = class; rule = r }
 
--- where every list is empty, all fit
-pub fit_none : {Q : Type 0} (most : Q → ℕ) (queues : List Q) → Fit most queues (replicate (length queues) [])
-fit_none most [] = tt
-fit_none most (q ∷ queues) = (omega arith, tt, fit_none most queues)
+choice_is : (c d : ℕ) (r s : Rule) → c ≡ d → r ≡ s → choice c r ≡ choice d s
+choice_is c d r s e f = ap (λ (n : ℕ). choice n r) e ∙ ap (λ (t : Rule). choice d t) f
 
-pub none_at : (c n class : ℕ) → list_at c (replicate n []) class ≡ []
-none_at c zero class = refl
-none_at c (suc n) class = by_test (eqb c class) (none_at (c + 1) n class)
-  where
-    by_test : (b : Bool) → list_at (c + 1) (replicate n []) class ≡ [] → cond b [] (list_at (c + 1) (replicate n []) class) ≡ []
-    by_test true e = refl
-    by_test false e = e
+due_by : (rule : Rule) (cs : List ℕ) (answer : Answering) (now : ℕ) (b : List Event) (p : Pick)
+    → DueIs rule now (first_at (strict cs rule answer) now b cs) (first_waiting cs b) p → IsDue (strict cs rule answer) b now p
+due_by rule cs answer now b (Send t class len r) d = (d.0, choice_is (first_waiting cs b) class rule r d.1 d.2)
+due_by rule cs answer now b (Wait till) d = absurd d
+due_by rule cs answer now b Empty d = d
 
-pub rows_none : {Q : Type 0} (stands : Q → List QueueEvent → Type 0) (c : ℕ) (queues : List Q) → All (λ q. stands q []) queues
-    → RowsStand stands c queues (replicate (length queues) []) []
-rows_none stands c [] a = tt
-rows_none stands c (q ∷ queues) a =
-    (refl, a 0 q (omega arith), rows_none stands (c + 1) queues (λ k d l. a (suc k) d (omega arith)))
+module _ {Q : Type 0} (stands : Q → List QueueEvent → Type 0) (says : Q → Saying) where
+  what_is : (d : Ordered Q) (h : List Happened) (now : ℕ) → Stands stands says d h
+      → DueIs d.rule now (first_at (strict_of says d) now (bare h) (classes_in d.rows)) (first_waiting (classes_in d.rows) (bare h)) (strict_due d)
+  what_is d h now s = due_is (classes_in d.rows) d.rule (answering says d.rows) now (bare h) (list_in d.rows) (classes_in d.rows) (λ c. (s.told.shown c).packets)
 
-pub shown_none : (first n : ℕ) (lists : List (List Entry)) → lists ≡ replicate n [] → (c : ℕ) → Shows c (list_at first lists c) []
-shown_none first n lists e c =
-    let none : list_at first lists c ≡ [] = ap (λ (ls : List (List Entry)). list_at first ls c) e ∙ none_at first n c in
-    record { labels = ap tickets none; packets = ap seen none }
+  -- what is due after a history is the policy's
+  pub due_of_policy : (d : Ordered Q) (h : List Happened) (now : ℕ) → Stands stands says d h → IsDue (strict_of says d) (bare h) now (strict_due d)
+  due_of_policy d h now s = due_by d.rule (classes_in d.rows) (answering says d.rows) now (bare h) (strict_due d) (what_is d h now s)
 
--- the place of a class
-pub record IsPlace {Q : Type 0} (first class : ℕ) (queues : List Q) (lists : List (List Entry)) : Type 0 where
-  pub low : first ≤ class
-  pub there : class - first < length queues
-  pub listed : class - first < length lists
-  pub is : first + (class - first) ≡ class
+  -- the policy of a row that answers alike
+  pub same_policy : (most : Q → ℕ) (d : Ordered Q) (rows : Rowed Q) → SameRow most says d.rows rows → strict_of says (record { rule = d.rule; rows = rows }) ≡ strict_of says d
+  same_policy most d rows s =
+      let first : holding rows.first rows.holds ≡ holding d.rows.first d.rows.holds = ap (λ (n : ℕ). holding n rows.holds) s.first ∙ ap (holding d.rows.first) s.holds in
+      ap (λ (cs : List ℕ). strict cs d.rule (answering says rows)) first
+      ∙ ap (λ (a : Answering). strict (classes_in d.rows) d.rule a) s.answers
 
-pub place_of : {Q : Type 0} (most : Q → ℕ) (first room : ℕ) (queues : List Q) (l : Listed) (class : ℕ) → IsRow most first room queues l
-    → IsOneOf class (classes_from first (length queues)) → IsPlace first class queues l.lists
-place_of most first room queues l class i o =
-    let p = one_of class first (length queues) o in
-    let low : first ≤ class = p.0 in
-    record {
-      low = low;
-      there = omega (arith, p.1);
-      listed = omega (arith, p.1, fit_length most queues l.lists i.fit);
-      is = omega arith;
-    }
+  pub plain : (d : Ordered Q) → IsPlain (strict_of says d)
+  plain d = record {
+    lawful = strict_lawful (classes_in d.rows) d.rule (answering says d.rows);
+    steady = steady (strict_of says d) (strict_never_waits (classes_in d.rows) d.rule (answering says d.rows));
+    distinct = holding_distinct d.rows.first d.rows.holds;
+  }
 
--- the list of a place, after an offer
-pub bounded_after : (v : Verdict) (x : Entry) (xs : List Entry) (most : ℕ) → length xs ≤ most → ((v ≡ Drop Full) ↔ (length xs ≡ most))
-    → length (with_offer true v x xs) ≤ most
-bounded_after Keep x xs most l f =
-    let less : length xs ≡ most → ⊥ = λ e. let full = f.1 e in (cc) in
-    omega (arith, length-append xs (x ∷ []))
-bounded_after (Drop r) x xs most l f = l
+  -- a sending of what is due
+  pub sent_stands : (most : Q → ℕ) (d : Ordered Q) (rows : Rowed Q) (h : List Happened) (clock : Clock) (s : Sending) → SameRow most says d.rows rows → Stands stands says d h
+      → Told stands rows (sent_of s ∷ h) → strict_due d ≡ Send s.ticket s.class s.len s.rule → IsChoice s.start clock (bare h)
+      → Stands stands says (record { rule = d.rule; rows = rows }) (sent_of s ∷ h)
+  sent_stands most d rows h clock s same k told due o =
+      let D : Pick → Type 0 = λ z. DueIs d.rule s.start (first_at (strict_of says d) s.start (bare h) (classes_in d.rows)) (first_waiting (classes_in d.rows) (bare h)) z in
+      let is = subst D due (what_is d h s.start k) in
+      let e : Ordered Q = record { rule = d.rule; rows = rows } in
+      let was : WasDue (strict_of says d) (bare h) (record { class = s.class; len = s.len; rule = s.rule; start = s.start; end = s.end }) = record {
+        arrived = o.arrived;
+        started = o.started;
+        first = is.0;
+        pick = choice_is (first_waiting (classes_in d.rows) (bare h)) s.class d.rule s.rule is.1 is.2;
+      } in
+      let O : Policy → Type 0 = λ y. IsOrderly y (bare (sent_of s ∷ h)) in
+      record { told = told; orderly = subst O (sym (same_policy most d rows same)) (was, k.orderly); plain = plain e }
 
-pub row_offered : {Q : Type 0} (most : Q → ℕ) (first room : ℕ) (queues : List Q) (l m : Listed) (k : ℕ) (p q : Q) (v : Verdict) (x : Entry) → IsRow most first room queues l
-    → slice_get queues k ≡ Some p → x.prec ≤ 2 → m.lists ≡ after_verdict v k x l.lists → m.room ≡ l.room
-    → ((v ≡ Drop Full) ↔ (length (list_of l.lists k) ≡ most p)) → most q ≡ most p → IsRow most first room (set queues k q) m
-row_offered {Q} most first room queues l m k p q v x i e small lists room_same f same =
-    let at = fit_at most queues l.lists k p i.fit e in
-    let P : List (List Entry) → Type 0 = λ ls. Fit most (set queues k q) ls in
-    record {
-      fit = subst P (sym (lists ∙ after_is v k x l.lists)) (fit_set most queues l.lists k q (with_offer true v x (list_of l.lists k)) i.fit
-          (omega (arith, bounded_after v x (list_of l.lists k) (most p) at.0 f)) (precs_after v (list_of l.lists k) x at.1 small));
-      sum = i.sum ∙ sym (ap limits_sum (map_kept most queues k p q e same));
-      there = omega (arith, i.there);
-      bound = i.bound;
-      first_bound = i.first_bound;
-      count_bound = omega (arith, length-set queues k q, i.count_bound);
-    }
+  -- an offer
+  pub offer_stands : (most : Q → ℕ) (d : Ordered Q) (rows : Rowed Q) (h : List Happened) (ticket : Ticket) (class len prec now : ℕ) (w z : DrawnWords) (v : Verdict)
+      → SameRow most says d.rows rows → Stands stands says d h → IsOffer now (bare h) → Answers stands says d.rows rows h class (entry ticket len prec) now w v z
+      → IsAnswer (strict_of says d) (bare h) w (coming class len prec now) v z
+      × Stands stands says (record { rule = d.rule; rows = rows }) (offer_of (strict_of says d) h ticket w (coming class len prec now) ∷ h)
+  offer_stands most d rows h ticket class len prec now w z v same k o a =
+      let e : Ordered Q = record { rule = d.rule; rows = rows } in
+      let O : Policy → Type 0 = λ y. IsOrderly y (bare (offer_of (strict_of says d) h ticket w (coming class len prec now) ∷ h)) in (
+        record { verdict = a.verdict; words = a.words },
+        record { told = a.told; orderly = subst O (sym (same_policy most d rows same)) (o, refl, k.orderly); plain = plain e },
+      )
 
-length_drop : (xs : List Entry) → length (drop 1 xs) ≤ length xs
-length_drop [] = omega arith
-length_drop (x ∷ xs) = omega arith
+-- what is due has a list that is not empty
+some_case : (lists : ℕ → List Entry) (p : Pick) → NamesHead lists p → (t : Ticket) (class len : ℕ) (r : Rule) → p ≡ Send t class len r → 0 < length (lists class)
+some_case lists (Send u d l q) n t class len r e =
+    let same : d ≡ class = cc in
+    let S : ℕ → Type 0 = λ c. 0 < length (lists c) in
+    subst S same (has_front (lists d) (entry u l n.0) n.1)
+some_case lists (Wait till) n t class len r e = absurd (cc)
+some_case lists Empty n t class len r e = absurd (cc)
 
-precs_drop : (xs : List Entry) → HasPrecs xs → HasPrecs (drop 1 xs)
-precs_drop [] h = tt
-precs_drop (x ∷ xs) h = h.1
-
-pub row_sent : {Q : Type 0} (most : Q → ℕ) (first room : ℕ) (queues : List Q) (l m : Listed) (k : ℕ) (p q : Q) → IsRow most first room queues l
-    → slice_get queues k ≡ Some p → m.lists ≡ set l.lists k (drop 1 (list_of l.lists k)) → m.room ≡ l.room → most q ≡ most p
-    → IsRow most first room (set queues k q) m
-row_sent {Q} most first room queues l m k p q i e lists room_same same =
-    let at = fit_at most queues l.lists k p i.fit e in
-    let P : List (List Entry) → Type 0 = λ ls. Fit most (set queues k q) ls in
-    record {
-      fit = subst P (sym lists) (fit_set most queues l.lists k q (drop 1 (list_of l.lists k)) i.fit
-          (omega (arith, at.0, length_drop (list_of l.lists k))) (precs_drop (list_of l.lists k) at.1));
-      sum = i.sum ∙ sym (ap limits_sum (map_kept most queues k p q e same));
-      there = omega (arith, i.there);
-      bound = i.bound;
-      first_bound = i.first_bound;
-      count_bound = omega (arith, length-set queues k q, i.count_bound);
-    }
+pub some_due : (rule : Rule) (lists : ℕ → List Entry) (cs : List ℕ) (t : Ticket) (class len : ℕ) (r : Rule) → first_pick rule lists cs ≡ Send t class len r → 0 < length (lists class)
+some_due rule lists cs t class len r e = some_case lists (first_pick rule lists cs) (names_head rule lists cs) t class len r e

@@ -1,7 +1,3 @@
-pub mod Laws
-pub mod Leaf
-pub mod Moments
 pub mod Paced
-pub mod PacedLaws
+pub mod Plain
 pub mod Strict
-pub mod StrictLaws

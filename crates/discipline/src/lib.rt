@@ -1,21 +1,15 @@
-//! A queueing discipline by its laws, and two plain ones.
+//! Two plain queueing disciplines, which keep the laws of the trait.
 #![tactic(auto)]
 
-mod classify;
-mod laws;
-mod leaf;
 mod one_queue;
 mod paced;
-mod pick;
 mod strict;
 
-pub use altq_model::{Fate, Mark, Rule};
-pub use classify::Classify;
-pub use laws::Discipline;
-pub use leaf_queue::{Reason, Verdict};
+pub use discipline_laws::{
+    Classify, Discipline, Fate, Pick, Placed, Reason, Rule, Sending, Verdict,
+};
 pub use one_queue::one_class_is_one_queue;
 pub use paced::Paced;
-pub use pick::{Pick, Sending};
 pub use strict::Strict;
 
 #[cfg(test)]

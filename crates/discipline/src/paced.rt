@@ -1,13 +1,12 @@
 // One class, whose packets start at the multiples of a gap.
-ghost use Rattle.std.specs.Prelude.{◌≡◌, ◌≤◌, ◌<◌, ◌^◌, [], IfOk};
-ghost use Rattle.leaf_queue.specs.Lists.{list_of};
-ghost use Rattle.leaf_queue.specs.Queue.{by_queue};
-ghost use Rattle.discipline.specs.Paced.{Held, IsHeld, Stands, only, paced, paced_due};
+ghost use Rattle.std.specs.Prelude.{◌≡◌, ◌≤◌, ◌<◌, ◌^◌, ◌∷◌, [], IfOk};
+ghost use Rattle.leaf_queue.specs.Queue.{by_queues};
+ghost use Rattle.discipline.specs.Paced.{IsPacing, Pacing, Stands, due_of, paced, paced_of};
 
-use crate::leaf::{offer_to, take_from};
 use crate::{Discipline, Pick, Sending};
-use altq_model::Rule;
-use leaf_queue::{Entry, Lists, QueueRule, Verdict, Words};
+use altq_model::{Rule, Verdict};
+use class_rows::Rows;
+use leaf_queue::{Entry, QueueRule, Words};
 use link_clock::LinkClock;
 use play_base::{NoMemory, Ticket};
 use std::alloc::Global;
@@ -16,18 +15,16 @@ use std::marker::Model;
 /// One class, whose packets start at the multiples of a gap, by the rule Own.
 #[derive(Drop)]
 pub struct Paced<Q: QueueRule + Drop> {
-    class: u32,
     gap: u64,
-    queue: Q,
-    lists: Lists,
+    rows: Rows<Q>,
 }
 
 impl<Q: QueueRule + Drop> Model for Paced<Q> {
-    ghost Value = { Held Q };
+    ghost Value = { Pacing Q };
 
-    ghost view = { λ p. record { class = p.class; gap = p.gap; queue = p.queue; listed = p.lists } };
+    ghost view = { λ p. record { gap = p.gap; rows = p.rows } };
 
-    ghost invariant = { λ p. IsHeld p.gap (Q.most p.queue) p.lists };
+    ghost invariant = { λ p. IsPacing p.gap p.rows };
 }
 
 impl<Q: QueueRule + Drop> Paced<Q> {
@@ -39,57 +36,62 @@ impl<Q: QueueRule + Drop> Paced<Q> {
         requires most { Q.most queue ≤ 10000 }
         requires queue { Q.stands queue [] }
         ensures empty { IfOk result (λ p. ⟦<Paced<Q> as Discipline>⟧.stands p []) }
-        ensures policy { IfOk result (λ p. ⟦<Paced<Q> as Discipline>⟧.policy p ≡ paced class gap (by_queue (Q.says queue))) }
+        ensures policy { IfOk result (λ p. ⟦<Paced<Q> as Discipline>⟧.policy p ≡ paced class gap (by_queues class (Q.says queue ∷ []))) }
         ensures limit { IfOk result (λ p. ⟦<Paced<Q> as Discipline>⟧.limits p class ≡ Q.most queue) }
     {
-        let lists = Lists::reserve(alloc, 1, queue.limit())?;
-        Ok(Paced {
-            class,
-            gap,
-            queue,
-            lists,
-        })
+        let mut queues = Vec::new(alloc);
+        queues.push(queue)?;
+        let holds = vec![in alloc; true; 1]?;
+        let rows = Rows::build(alloc, class, queues, holds)?;
+        Ok(Paced { gap, rows })
     }
 }
 
 impl<Q: QueueRule + Drop> Discipline for Paced<Q> {
-    ghost use Rattle.std.specs.Prelude.{None, if◌then◌else◌, ◌==◌};
+    ghost use Rattle.std.specs.Prelude.{None};
     ghost use Rattle.altq_model.specs.History.{bare, offered};
-    ghost use Rattle.discipline.specs.PacedLaws.{counts_none, one_distinct, paced_lawful, paced_steady};
+    ghost use Rattle.altq_model.specs.Link.{link};
+    ghost use Rattle.class_rows.specs.Rows.{limit_in, list_in};
+    ghost use Rattle.class_rows.proofs.RowLemmas.{none_is_least};
 
-    ghost lists = { λ p. only p.class (list_of p.listed.lists 0) };
+    ghost lists = { λ p. list_in p.rows };
 
-    ghost limits = { λ p c. if p.class == c then Q.most p.queue else 0 };
+    ghost limits = { λ p. limit_in Q.most p.rows };
 
     ghost stands = { λ p h. Stands Q.stands Q.says p h };
 
-    ghost due = { λ p clock now. paced_due p.class p.gap (list_of p.listed.lists 0) now };
+    ghost due = { λ p clock now. due_of p now };
 
-    ghost policy = { λ p. paced p.class p.gap (by_queue (Q.says p.queue)) };
+    ghost policy = { λ p. paced_of Q.says p };
 
     ghost link_rate = { λ p. None };
 
     ghost given = { λ p. 0 };
 
+    ghost moment = { λ p. 0 };
+
+    ghost ended = { λ p. 0 };
+
     fn room(&self) -> u32 {
-        self.queue.limit()
+        self.rows.room()
     }
 
     fn offer(
         &mut self,
         ticket: Ticket,
-        _class: u32,
+        class: u32,
         len: u32,
         prec: u8,
         now: u64,
         words: &mut Words,
-    ) -> Result<Verdict, NoMemory> {
+    ) -> Verdict {
         let entry = Entry { ticket, len, prec };
-        Ok(offer_to(&mut self.queue, &mut self.lists, 0, entry, now, words))
+        self.rows.offer(class, entry, now, words)
     }
 
     fn next(&mut self, now: u64, _clock: &LinkClock) -> Pick {
-        let Some(head) = self.lists.head(0) else {
+        let class = self.rows.first();
+        let Some(head) = self.rows.head(class) else {
             return Pick::Empty;
         };
         let till = now.div_ceil(self.gap) * self.gap;
@@ -98,25 +100,29 @@ impl<Q: QueueRule + Drop> Discipline for Paced<Q> {
         }
         Pick::Send {
             ticket: head.ticket,
-            class: self.class,
+            class,
             len: head.len,
             rule: Rule::Own,
         }
     }
 
     fn sent(&mut self, sending: Sending, _clock: &LinkClock) {
-        take_from(&mut self.queue, &mut self.lists, 0, sending.start);
+        self.rows.take(sending.class, sending.start);
     }
 
-    ghost shows = { λ p h s. s.shown };
+    ghost shows = { λ p h s. s.told.shown };
 
-    ghost counts = { λ p h s. counts_none (offered (bare h)) };
+    ghost counts = { λ p h s. none_is_least (offered (bare h)) };
 
-    ghost distinct = { λ p h s. one_distinct p.class };
+    ghost moments = { λ p h s t l b. none_is_least t };
+
+    ghost ends = { λ p h s r l. none_is_least (link r (bare h)).free };
+
+    ghost distinct = { λ p h s. s.plain.distinct };
 
     ghost orderly = { λ p h s. s.orderly };
 
-    ghost lawful = { λ p h s. paced_lawful p.class p.gap (by_queue (Q.says p.queue)) s.gap };
+    ghost lawful = { λ p h s. s.plain.lawful };
 
-    ghost steady = { λ p h s. paced_steady p.class p.gap (by_queue (Q.says p.queue)) s.gap };
+    ghost steady = { λ p h s. s.plain.steady };
 }

@@ -1,13 +1,14 @@
 // Classes in a row, of which the first that is not empty is sent.
-ghost use Rattle.std.specs.Prelude.{◌≡◌, ◌≤◌, ◌<◌, ◌+◌, ◌^◌, [], All, IfOk, length, map};
+ghost use Rattle.std.specs.Prelude.{◌≡◌, ◌≤◌, ◌<◌, ◌+◌, ◌^◌, ◌↔◌, [], ℕ, All, IfOk, length, map};
 ghost use Rattle.leaf_queue.specs.Queue.{by_queues};
 ghost use Rattle.altq_model.specs.Policies.{strict};
-ghost use Rattle.discipline.specs.Strict.{IsNew, IsRow, Row, Stands, classes_from, first_pick, limit_at, limits_sum, list_at, strict_of};
+ghost use Rattle.class_rows.specs.Rows.{IsNew, classes_in, limit_at, list_in};
+ghost use Rattle.discipline.specs.Strict.{IsStrict, Ordered, Stands, classes_from, first_pick, strict_due, strict_of};
 
-use crate::leaf::{offer_to, take_from};
 use crate::{Discipline, Pick, Sending};
-use altq_model::Rule;
-use leaf_queue::{Entry, Lists, QueueRule, Verdict, Words};
+use altq_model::{Rule, Verdict};
+use class_rows::Rows;
+use leaf_queue::{Entry, QueueRule, Words};
 use link_clock::LinkClock;
 use play_base::{NoMemory, Ticket};
 use std::alloc::Global;
@@ -16,47 +17,30 @@ use std::marker::Model;
 /// Classes in a row: the head of the first that is not empty is sent, by one rule. It never waits.
 #[derive(Drop)]
 pub struct Strict<Q: QueueRule + Drop> {
-    first: u32,
     rule: Rule,
-    queues: Vec<Q>,
-    lists: Lists,
-    room: u32,
+    rows: Rows<Q>,
 }
 
 impl<Q: QueueRule + Drop> Model for Strict<Q> {
-    ghost Value = { Row Q };
+    ghost Value = { Ordered Q };
 
-    ghost view = { λ s. record { first = s.first; rule = s.rule; queues = s.queues.items; listed = s.lists } };
+    ghost view = { λ s. record { rule = s.rule; rows = s.rows } };
 
-    ghost invariant = { λ s. IsRow Q.most s.first s.room s.queues.items s.lists };
+    ghost invariant = { λ s. IsStrict s.rows };
 }
 
-// The sum of the limits.
-fn sum_of<Q: QueueRule>(queues: &[Q]) -> u32
-    requires limits { All (λ q. Q.most q ≤ 10000) queues.now }
-    requires count { length queues.now ≤ 256 }
-    ensures sum { result ≡ limits_sum (map Q.most queues.now) }
-    ensures bound { result ≤ 2560000 }
+// The head of the first list that is not empty.
+fn pick_from<Q: QueueRule + Drop>(rule: Rule, rows: &Rows<Q>) -> Pick
+    requires strict { IsStrict rows.now }
+    ensures due { result ≡ first_pick rule (list_in rows.now) (classes_in rows.now) }
+    ensures empty { (result ≡ Pick.Empty) ↔ ((c : ℕ) → list_in rows.now c ≡ []) }
 {
-    let mut sum = 0;
-    for queue in queues {
-        sum += queue.limit();
-    }
-    sum
-}
-
-// The head of the first list that is not empty, of so many.
-fn pick_from(first: u32, rule: Rule, lists: &Lists, count: u32) -> Pick
-    requires first { first ≤ 1000000 }
-    requires count { length lists.now.lists ≡ count }
-    requires bound { count ≤ 256 }
-    ensures { result ≡ first_pick first rule lists.now.lists }
-{
-    for place in 0..count {
-        if let Some(head) = lists.head(place) {
+    let first = rows.first();
+    for class in first..first + rows.count() {
+        if let Some(head) = rows.head(class) {
             return Pick::Send {
                 ticket: head.ticket,
-                class: first + place,
+                class,
                 len: head.len,
                 rule,
             };
@@ -84,32 +68,26 @@ impl<Q: QueueRule + Drop> Strict<Q> {
             ≡ strict (classes_from first (length queues.items)) rule (by_queues first (map Q.says queues.items))) }
         ensures limits { IfOk result (λ s. ⟦<Strict<Q> as Discipline>⟧.limits s ≡ limit_at first (map Q.most queues.items)) }
     {
-        let room = sum_of(&queues);
-        let lists = Lists::reserve(alloc, queues.len() as u32, room)?;
-        Ok(Strict {
-            first,
-            rule,
-            queues,
-            lists,
-            room,
-        })
+        let holds = vec![in alloc; true; queues.len()]?;
+        let rows = Rows::build(alloc, first, queues, holds)?;
+        Ok(Strict { rule, rows })
     }
 }
 
 impl<Q: QueueRule + Drop> Discipline for Strict<Q> {
     ghost use Rattle.std.specs.Prelude.{None};
     ghost use Rattle.altq_model.specs.History.{bare, offered};
-    ghost use Rattle.play_laws.proofs.StrictLemmas.{steady, strict_lawful, strict_never_waits};
-    ghost use Rattle.discipline.specs.PacedLaws.{counts_none};
-    ghost use Rattle.discipline.specs.StrictLaws.{row_distinct};
+    ghost use Rattle.altq_model.specs.Link.{link};
+    ghost use Rattle.class_rows.specs.Rows.{limit_in, list_in};
+    ghost use Rattle.class_rows.proofs.RowLemmas.{none_is_least};
 
-    ghost lists = { λ s. list_at s.first s.listed.lists };
+    ghost lists = { λ s. list_in s.rows };
 
-    ghost limits = { λ s. limit_at s.first (map Q.most s.queues) };
+    ghost limits = { λ s. limit_in Q.most s.rows };
 
     ghost stands = { λ s h. Stands Q.stands Q.says s h };
 
-    ghost due = { λ s clock now. first_pick s.first s.rule s.listed.lists };
+    ghost due = { λ s clock now. strict_due s };
 
     ghost policy = { λ s. strict_of Q.says s };
 
@@ -117,8 +95,12 @@ impl<Q: QueueRule + Drop> Discipline for Strict<Q> {
 
     ghost given = { λ s. 0 };
 
+    ghost moment = { λ s. 0 };
+
+    ghost ended = { λ s. 0 };
+
     fn room(&self) -> u32 {
-        self.room
+        self.rows.room()
     }
 
     fn offer(
@@ -129,33 +111,32 @@ impl<Q: QueueRule + Drop> Discipline for Strict<Q> {
         prec: u8,
         now: u64,
         words: &mut Words,
-    ) -> Result<Verdict, NoMemory> {
-        let place = class - self.first;
+    ) -> Verdict {
         let entry = Entry { ticket, len, prec };
-        let queue = &mut self.queues[place as usize];
-        Ok(offer_to(queue, &mut self.lists, place, entry, now, words))
+        self.rows.offer(class, entry, now, words)
     }
 
     fn next(&mut self, _now: u64, _clock: &LinkClock) -> Pick {
-        pick_from(self.first, self.rule, &self.lists, self.queues.len() as u32)
+        pick_from(self.rule, &self.rows)
     }
 
     fn sent(&mut self, sending: Sending, _clock: &LinkClock) {
-        let place = sending.class - self.first;
-        let queue = &mut self.queues[place as usize];
-        take_from(queue, &mut self.lists, place, sending.start);
+        self.rows.take(sending.class, sending.start);
     }
 
-    ghost shows = { λ s h k. k.shown };
+    ghost shows = { λ s h k. k.told.shown };
 
-    ghost counts = { λ s h k. counts_none (offered (bare h)) };
+    ghost counts = { λ s h k. none_is_least (offered (bare h)) };
 
-    ghost distinct = { λ s h k. row_distinct s.first (length s.queues) };
+    ghost moments = { λ s h k t l b. none_is_least t };
+
+    ghost ends = { λ s h k r l. none_is_least (link r (bare h)).free };
+
+    ghost distinct = { λ s h k. k.plain.distinct };
 
     ghost orderly = { λ s h k. k.orderly };
 
-    ghost lawful = { λ s h k. strict_lawful (classes_from s.first (length s.queues)) s.rule (by_queues s.first (map Q.says s.queues)) };
+    ghost lawful = { λ s h k. k.plain.lawful };
 
-    ghost steady = { λ s h k. steady (strict_of Q.says s)
-        (strict_never_waits (classes_from s.first (length s.queues)) s.rule (by_queues s.first (map Q.says s.queues))) };
+    ghost steady = { λ s h k. k.plain.steady };
 }

@@ -1,5 +1,5 @@
 ghost use Rattle.std.specs.Prelude.{◌≡◌, ◌≤◌, ◌<◌, ◌^◌};
-ghost use Rattle.discipline.specs.Laws.{HasRate};
+ghost use Rattle.discipline_laws.specs.Laws.{HasRate};
 
 use super::*;
 use leaf_queue::{Tail, Words};
@@ -16,6 +16,8 @@ fn sent_at<D: Discipline>(
     requires free { clock.old.link.free ≤ now }
     requires early { now < 2 ^ 63 }
     requires rate { HasRate (D.link_rate discipline.old) clock.old.rate }
+    requires later { D.moment discipline.old ≤ now }
+    requires after { D.ended discipline.old ≤ clock.old.link.free }
     ensures policy { D.policy discipline.new ≡ D.policy discipline.old }
     ensures rate { D.link_rate discipline.new ≡ D.link_rate discipline.old }
 {
@@ -50,7 +52,7 @@ fn paced_waits_for_its_gap(rt: HostRuntime) -> Result<(), Fail> {
     let built = Paced::build(rt.alloc(), 7, 1_000_000, Tail { limit: 50 });
     let mut paced = built.ok().ok_or("no memory")?;
     assert_eq!(rt; paced.room(), 50);
-    let kept = Ok(Verdict::Keep);
+    let kept = Verdict::Keep;
     assert_eq!(rt; paced.offer(Ticket(0), 7, 100, 0, 0, &mut words), kept);
     assert_eq!(rt; paced.offer(Ticket(1), 7, 100, 0, 0, &mut words), kept);
     assert_eq!(rt;
@@ -76,7 +78,7 @@ fn strict_sends_the_first_class(rt: HostRuntime) -> Result<(), Fail> {
     let built = Strict::build(rt.alloc(), 1, Rule::Share, queues);
     let mut strict = built.ok().ok_or("no memory")?;
     assert_eq!(rt; strict.room(), 100);
-    let kept = Ok(Verdict::Keep);
+    let kept = Verdict::Keep;
     assert_eq!(rt; strict.offer(Ticket(1), 2, 1000, 0, 0, &mut words), kept);
     assert_eq!(rt; strict.offer(Ticket(2), 1, 1000, 0, 0, &mut words), kept);
     assert_eq!(rt;

@@ -1,9 +1,8 @@
 -- The first of a list whose number is the greatest.
-use Rattle.std.proofs.Common.{◌≡◌, ℕ, ◌<◌, ◌≤◌, ◌==◌, max, Bool, true, false, cond, List, [], ◌∷◌, ◌++◌, map, Option, Some, None, refl, ap, ◌∙◌, arith}
+use Rattle.std.proofs.Common.{◌≡◌, ℕ, ◌<◌, ◌≤◌, ◌==◌, max, Bool, true, false, cond, List, [], ◌∷◌, map, Option, Some, refl, ap, ◌∙◌, arith}
 use Rattle.std.specs.Prelude.{All, find, fold}
 use Rattle.std.proofs.lemmas.Bool.Decides.{nat_tests}
-use Rattle.std.proofs.lemmas.List.Elements.{All-nil, All-cons, All-head, All-tail, All-push, All-weaker}
-use Rattle.std.proofs.lemmas.List.Folds.{find-append}
+use Rattle.std.proofs.lemmas.List.Elements.{All-head, All-tail}
 
 -- a fold by max
 pub max_grows : {X : Type 0} (rule : X → ℕ) (a : ℕ) (xs : List X) → a ≤ fold max a (map rule xs)
@@ -48,45 +47,9 @@ best_is rule xs b h =
     let same : fold max 0 (map rule xs) ≡ rule b = omega arith in
     ap (λ n. find (λ x. rule x == n) xs) same ∙ h.found
 
--- what an optional one is: the first greatest, where there is any
-abbrev pub IsBest : {X : Type 0} → (X → ℕ) → List X → Option X → Type 0
-IsBest rule xs None = xs ≡ []
-IsBest rule xs (Some b) = IsFirstGreatest rule xs b
-
-pub is_best : {X : Type 0} (rule : X → ℕ) (xs : List X) (o : Option X) → IsBest rule xs o → o ≡ best rule xs
-is_best rule xs None h = let found : best rule xs ≡ best rule [] = ap (best rule) h in cc
-is_best rule xs (Some b) h = let found : best rule xs ≡ Some b = best_is rule xs b h in cc
-
--- one more stands behind
+-- a number and another one
 pub itself : (m : ℕ) → (m == m) ≡ true
 itself m = grind (arith, nat_tests)
 
 pub differs : (m n : ℕ) → m < n → (m == n) ≡ false
 differs m n h = grind (arith, nat_tests)
-
-none_below : {X : Type 0} (rule : X → ℕ) (n : ℕ) (xs : List X) → All (λ x. rule x < n) xs → find (λ x. rule x == n) xs ≡ None
-none_below rule n [] all = refl
-none_below rule n (x ∷ xs) all =
-    let here : (rule x == n) ≡ false = differs (rule x) n (All-head (λ x. rule x < n) x xs all) in
-    rw here (none_below rule n xs (All-tail (λ x. rule x < n) x xs all))
-
-pub best_begins : {X : Type 0} (rule : X → ℕ) (y : X) → IsFirstGreatest rule (y ∷ []) y
-best_begins rule y = record {
-  found = rw (itself (rule y)) refl;
-  most = All-cons (λ x. rule x ≤ rule y) y [] (omega arith) (All-nil (λ x. rule x ≤ rule y));
-}
-
-pub best_takes : {X : Type 0} (rule : X → ℕ) (xs : List X) (b y : X) → IsFirstGreatest rule xs b → rule b < rule y → IsFirstGreatest rule (xs ++ y ∷ []) y
-best_takes rule xs b y h less =
-    let below : All (λ x. rule x < rule y) xs = All-weaker (λ x. rule x ≤ rule b) (λ x. rule x < rule y) (λ x le. omega arith) xs h.most in
-    let none : find (λ x. rule x == rule y) xs ≡ None = none_below rule (rule y) xs below in
-    record {
-      found = rw (find-append (λ x. rule x == rule y) xs (y ∷ []), none, itself (rule y)) refl;
-      most = All-push (λ x. rule x ≤ rule y) xs y (All-weaker (λ x. rule x < rule y) (λ x. rule x ≤ rule y) (λ x lt. omega arith) xs below) (omega arith);
-    }
-
-pub best_stays : {X : Type 0} (rule : X → ℕ) (xs : List X) (b y : X) → IsFirstGreatest rule xs b → rule y ≤ rule b → IsFirstGreatest rule (xs ++ y ∷ []) b
-best_stays rule xs b y h le = record {
-  found = rw (find-append (λ x. rule x == rule b) xs (y ∷ []), h.found) refl;
-  most = All-push (λ x. rule x ≤ rule b) xs y h.most le;
-}

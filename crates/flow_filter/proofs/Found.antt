@@ -42,10 +42,10 @@ pub filters_below : (filters : List Filter) (classes : List Class) → All (λ f
 filters_below filters classes all =
     All-append (λ f. f.class < length classes) filters (control_filters classes) all (control_below (length classes) 0 classes (omega arith))
 
-placed : (classes : List Class) (o : Option ℕ) → position (λ c. c.first) classes ≡ o → 0 < length classes → unwrap_or o 0 < length classes
+placed : (classes : List Class) (o : Option ℕ) → position (λ c. c.is_default) classes ≡ o → 0 < length classes → unwrap_or o 0 < length classes
 placed classes None e h = h
-placed (c ∷ classes) (Some i) e h = (position-Some (λ c. c.first) (c ∷ classes) i c e).0
+placed (c ∷ classes) (Some i) e h = (position-Some (λ c. c.is_default) (c ∷ classes) i c e).0
 placed [] (Some i) e h = absurd (omega arith)
 
 pub default_below : (classes : List Class) → 0 < length classes → default_class classes < length classes
-default_below classes h = placed classes (position (λ c. c.first) classes) refl h
+default_below classes h = placed classes (position (λ c. c.is_default) classes) refl h

@@ -1,7 +1,10 @@
 pub mod AddressSteps
+pub mod Asked
 pub mod Best
 pub mod Everywhere
+pub mod Filings
 pub mod Found
 pub mod Frames
 pub mod Places
-pub mod Running
+pub mod Ranks
+pub mod Scans

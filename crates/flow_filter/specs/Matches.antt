@@ -53,3 +53,9 @@ matches f (V4 heads) =
 matches f (V6 heads) =
     addresses_agree_6 f.addresses heads.source heads.target && rest_agrees f heads.tos heads.protocol heads.ports
 matches f Other = false
+
+-- the ports of a flow that has any, the source's first
+abbrev pub ports_of : Flow → Option (ℕ × ℕ)
+ports_of (V4 heads) = heads.ports
+ports_of (V6 heads) = heads.ports
+ports_of Other = None

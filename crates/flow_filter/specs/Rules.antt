@@ -44,7 +44,7 @@ control_filters classes =
 
 -- the number of the first class that is the default class; 0, the root's, if there were none
 abbrev pub default_class : List Class → ℕ
-default_class classes = unwrap_or (position (λ c. c.first) classes) 0
+default_class classes = unwrap_or (position (λ c. c.is_default) classes) 0
 
 abbrev pub rules_of : Interface → Rules
 rules_of interface = record {

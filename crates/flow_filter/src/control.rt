@@ -75,7 +75,10 @@ pub(crate) fn push_control(filters: &mut Vec<Filter>, classes: &[Class]) -> Resu
 fn default_place(classes: &[Class]) -> usize
     ensures { result ≡ default_class classes.now }
 {
-    classes.iter().position(|class| class.first).unwrap_or(0)
+    classes
+        .iter()
+        .position(|class| class.is_default)
+        .unwrap_or(0)
 }
 
 /// The number of the default class.

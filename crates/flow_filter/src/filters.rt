@@ -1,10 +1,12 @@
 //! The filters of an interface.
 ghost use Rattle.std.specs.Prelude.{◌≡◌, IfOk};
+ghost use Rattle.flow_filter.specs.Ranked.{IsRanked};
 ghost use Rattle.flow_filter.specs.Rules.{rules_of};
 ghost use Rattle.flow_filter.specs.Winner.{class_of};
 ghost use Rattle.packet_heads.specs.Heads.{flow_of};
 
 use crate::control::{default_class, push_control};
+use crate::index::Index;
 use crate::winner::winner;
 use conf_tree::{Filter, Interface};
 use packet_heads::FlowHeads;
@@ -18,22 +20,28 @@ use std::marker::Model;
 pub struct Filters {
     filters: Vec<Filter>,
     otherwise: u32,
+    index: Index,
 }
 
 impl Model for Filters {
+    ghost use Rattle.flow_filter.specs.Index.{Indexes};
     ghost use Rattle.flow_filter.specs.Rules.{Rules};
 
     ghost Value = { Rules };
 
     ghost view = { λ f. record { filters = f.filters.items; otherwise = f.otherwise } };
+
+    ghost invariant = { λ f. Indexes f.filters.items f.index };
 }
 
 impl Filters {
     /// The filters of an interface: those of the text, in its order, and behind them those of each class with `control`, in
     /// the order of the classes.
     ///
-    /// Answers `NoMemory` where there was none, or where the default class or one with `control` has a number of 2^32 or
-    /// more, which no configuration has. Takes time and memory linear in the filters and classes. See altq.conf(5).
+    /// They are sorted here, by their rule numbers downwards and then by their places, so that `class` can ask them in that
+    /// order. Answers `NoMemory` where there was none, or where there are 2^32 filters or more, or the default class or one
+    /// with `control` has such a number, which no configuration has. Takes memory linear in the filters and classes, and time
+    /// for sorting them. See altq.conf(5).
     pub fn build(alloc: Global, interface: &Interface) -> Result<Filters, NoMemory>
         ensures { IfOk result (λ filters. filters ≡ rules_of interface.now) }
     {
@@ -41,19 +49,33 @@ impl Filters {
         filters.extend_from_slice(interface.filters.as_slice())?;
         push_control(&mut filters, interface.classes.as_slice())?;
         let otherwise = default_class(interface.classes.as_slice())?;
-        Ok(Filters { filters, otherwise })
+        let index = Index::build(alloc, filters.as_slice())?;
+        Ok(Filters {
+            filters,
+            otherwise,
+            index,
+        })
     }
 
     /// The number of the class of a flow: that of the filter that wins among those that match, or the default class where
     /// none does, as for every `Other`. The flow of a frame has addresses of four or sixteen bytes; of a shorter one in IPv4,
     /// and of one of another length in IPv6, no filter matches, and of a longer one in IPv4 the first four bytes count. Takes
-    /// no memory, and time linear in the filters. See altq.conf(5).
+    /// no memory. Of the filters that fix a port only those of the flow's ports are asked, up to the first that matches, and
+    /// they are found by bisection; those that fix none are asked likewise. See altq.conf(5).
     pub fn class(&self, heads: &FlowHeads) -> u32
         ensures { result ≡ class_of self.now (flow_of heads.now) }
     {
-        match winner(self.filters.as_slice(), heads) {
+        match winner(self.filters.as_slice(), &self.index, heads) {
             Some(filter) => filter.class,
             None => self.otherwise,
         }
+    }
+
+    /// The places of the filters, from 0, in the order in which they are asked: by their rule numbers downwards, and those of
+    /// one number by their places. Those of the text stand first, and behind them those of `control`. Constant time.
+    pub fn ranked(&self) -> &[u32]
+        ensures { IsRanked self.now.filters result.now }
+    {
+        self.index.places.as_slice()
     }
 }

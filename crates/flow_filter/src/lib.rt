@@ -2,17 +2,23 @@
 //!
 //! A filter matches a flow where its addresses under their masks, its ports, its protocol and its type of service agree
 //! with the flow's. Of those that match the one with the greatest rule number wins, and of those with that number the first;
-//! where none matches, the packet goes to the default class.
+//! where none matches, the packet goes to the default class. The filters are sorted once, and those of a port are found by
+//! bisection.
 #![tactic(auto)]
 
 mod control;
 mod filters;
+mod index;
 mod laws;
 mod matching;
+mod ports;
+mod ranking;
+mod rows;
 mod winner;
 
 pub use filters::Filters;
 pub use laws::{class_is_there, control_takes_its_protocols, greatest_rule_wins};
+pub use rows::worked_examples;
 
 #[cfg(test)]
 mod tests;

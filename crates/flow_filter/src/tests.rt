@@ -203,3 +203,27 @@ fn three_filters_and_four_frames(rt: HostRuntime) -> Result<(), Fail> {
     assert_eq!(rt; classes, [1, 2, 2, 4]);
     Ok(())
 }
+
+/// By the rule number downwards, then by the place; those of `control` have rule number 0 and stand behind those of the text.
+#[test]
+fn filters_stand_in_the_order_of_asking(rt: HostRuntime) -> Result<(), Fail> {
+    let text = format!(in rt.alloc();
+        "{THREE_LEAVES}filter if0 a 0 5004 0 0 17\nfilter if0 b ruleno 7 0 0 0 0 17\nfilter if0 a ruleno 9 0 80 0 0 6\nfilter if0 a ruleno 7 0 0 0 53 17\n"
+    )?;
+    let filters = built(rt.alloc(), text.as_str())?;
+    assert!(rt; filters.ranked() == [2, 1, 3, 0].as_slice());
+    let filters = built(rt.alloc(), AFTER_THE_MANUAL)?;
+    assert!(rt; filters.ranked() == [0, 1, 2, 3].as_slice());
+    Ok(())
+}
+
+/// Filters of the target's port, of the source's, and of none, in turn behind each other.
+#[test]
+fn first_that_matches_wins_whatever_port_it_has(rt: HostRuntime) -> Result<(), Fail> {
+    let text = format!(in rt.alloc();
+        "{THREE_LEAVES}filter if0 a 0 5004 0 0 17\nfilter if0 b ruleno 1 0 0 0 1027 17\nfilter if0 a 0 0 0 0 17\n"
+    )?;
+    let filters = built(rt.alloc(), text.as_str())?;
+    assert_eq!(rt; filters.class(&flow(&TO_5004)), 2);
+    Ok(())
+}

@@ -1,22 +1,28 @@
--- What contracts see of a pool: the packet or nothing at each ticket from 0 on, and the room that was reserved.
-use Rattle.std.specs.Prelude.{◌≤◌, ◌<◌, ◌^◌, ℕ, None, is_some, List, count_by, slice_index_or}
+-- What contracts see of a pool: the packet with its mark, or nothing, at each ticket from 0 on, and the room that was reserved.
+use Rattle.std.specs.Prelude.{◌≤◌, ◌<◌, ◌^◌, ℕ, Bool, false, None, is_some, List, count_by, option_map, slice_index_or}
+use Rattle.std.specs.Option.{option_map_or}
 use Rattle.std.specs.declared.option.Option.{Option}
 use Rattle.slab.specs.Slab.{Slab}
 use Rattle.play_base.specs.declared.packet.Packet.{Packet}
+use Rattle.leaf_queue.specs.declared.pool.Kept.{Kept}
 
 pub record Held : Type 0 where
-  pub slots : List (Option Packet)
+  pub slots : List (Option Kept)
   pub room : ℕ
 
 -- the packet of a ticket, None where the ticket is not held
 abbrev pub packet_of : Held → (ticket : ℕ) → Option Packet
-packet_of p t = slice_index_or p.slots t None
+packet_of p t = option_map (λ (k : Kept). k.packet) (slice_index_or p.slots t None)
+
+-- whether the packet of a ticket is marked
+abbrev pub is_marked : Held → (ticket : ℕ) → Bool
+is_marked p t = option_map_or (λ (k : Kept). k.marked) (slice_index_or p.slots t None) false
 
 -- how many tickets are held
 abbrev pub count_of : Held → ℕ
 count_of p = count_by is_some p.slots
 
 -- the room is there, and each ticket fits 32 bits
-pub record IsReserved (s : Slab Packet) (room : ℕ) : Type 0 where
+pub record IsReserved (s : Slab Kept) (room : ℕ) : Type 0 where
   pub there : room ≤ s.capacity
   pub small : s.capacity < 2 ^ 32

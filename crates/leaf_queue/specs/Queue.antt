@@ -2,20 +2,20 @@
 use Rattle.std.specs.Prelude.{◌==◌, ◌+◌, ◌-◌, ℕ, nat_le, Bool, List, [], ◌∷◌, length, if◌then◌else◌, slice_get, unwrap_or}
 use Rattle.altq_model.specs.declared.Reason.TheVariants.{Full}
 use Rattle.altq_model.specs.declared.Verdict.TheVariants.{Keep, Drop}
-use Rattle.altq_model.specs.History.{Coming, Answer, Words, Event, Offered, Sent, waiting}
+use Rattle.altq_model.specs.History.{Coming, Answer, DrawnWords, Event, Offered, Sent, waiting}
 use Rattle.altq_model.specs.Policies.{Answering}
 use Rattle.leaf_queue.specs.declared.rule.Waiting.{Waiting}
 
 -- it was asked of a packet at a moment, where so many waited and with the words as they were, and answered; or it was told that a
 -- packet left, after which so many wait
 pub data QueueEvent : Type 0 where
-  Asked : (now : ℕ) → Waiting → (prec : ℕ) → Words → Answer → QueueEvent
+  Asked : (now : ℕ) → Waiting → (prec : ℕ) → DrawnWords → Answer → QueueEvent
   Gone : (now prec : ℕ) → Waiting → QueueEvent
 
 -- what a queue says of a packet: after what it was asked and told, the newest first, at a moment, where so many wait, by its
 -- precedence and these words
 abbrev pub Saying : Type 0
-Saying = List QueueEvent → (now : ℕ) → Waiting → (prec : ℕ) → Words → Answer
+Saying = List QueueEvent → (now : ℕ) → Waiting → (prec : ℕ) → DrawnWords → Answer
 
 -- a queue without RED or RIO drops exactly where its waiting packets equal its limit
 abbrev pub tail_says : (limit : ℕ) → Saying
@@ -34,7 +34,7 @@ abbrev pub precs_of : List Coming → List ℕ
 precs_of [] = []
 precs_of (a ∷ ws) = a.prec ∷ precs_of ws
 
-abbrev pub after_asked : (mine : Bool) → Coming → Words → Answer → List Coming → List QueueEvent → List QueueEvent
+abbrev pub after_asked : (mine : Bool) → Coming → DrawnWords → Answer → List Coming → List QueueEvent → List QueueEvent
 after_asked mine a w v ws q = if mine then Asked a.at (waiting_of (precs_of ws)) a.prec w v ∷ q else q
 
 -- the head of these leaves

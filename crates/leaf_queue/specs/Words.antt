@@ -1,7 +1,7 @@
 -- The words of a seed: those of PCG XSH RR 64/32 (O'Neill, "PCG: a family of simple fast space-efficient statistically good
 -- algorithms for random number generation", 2014) on stream 54, in order.
 use Rattle.std.specs.Prelude.{◌≡◌, ◌≤◌, ◌<◌, ◌+◌, ◌-◌, ◌^◌, ℕ, zero, suc}
-use Rattle.altq_model.specs.History.{Words}
+use Rattle.altq_model.specs.History.{DrawnWords}
 use Rattle.rand_pcg.specs.Lcg.{Lcg, next, started, increment_of}
 use Rattle.rand_pcg.specs.Pcg.{multiplier_64, pcg32}
 
@@ -19,7 +19,7 @@ abbrev pub IsDrawn : (seed drawn : ℕ) → Lcg → Type 0
 IsDrawn seed drawn g = drawn < 2 ^ 64 - 1 → g ≡ generator seed drawn
 
 -- an offer drew so many words, one at most
-pub record Drew (old new : Words) (took : ℕ) : Type 0 where
+pub record Drew (old new : DrawnWords) (took : ℕ) : Type 0 where
   pub seed : new.seed ≡ old.seed
   pub drawn : new.drawn ≡ old.drawn + took
   pub one : took ≤ 1

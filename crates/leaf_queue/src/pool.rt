@@ -1,6 +1,6 @@
 // The packets that wait, by their tickets.
-ghost use Rattle.std.specs.Prelude.{◌≡◌, ◌≢◌, ◌<◌, ◌+◌, ◌^◌, ℕ, None, Some, IsSome, IfOk};
-ghost use Rattle.leaf_queue.specs.Pool.{Held, IsReserved, packet_of, count_of};
+ghost use Rattle.std.specs.Prelude.{◌≡◌, ◌≢◌, ◌<◌, ◌+◌, ◌^◌, ℕ, true, false, None, Some, IsSome, IfOk};
+ghost use Rattle.leaf_queue.specs.Pool.{Held, IsReserved, packet_of, is_marked, count_of};
 
 use crate::reserve::reserved;
 use play_base::{NoMemory, Packet, Ticket};
@@ -8,10 +8,18 @@ use slab::Slab;
 use std::alloc::Global;
 use std::marker::Model;
 
-/// The packets that wait. Contracts see a map from tickets to packets, and the room that was reserved.
+// A packet that waits, and whether its queue marked it.
+#[derive(Drop)]
+pub(crate) struct Kept {
+    packet: Packet,
+    marked: bool,
+}
+
+/// The packets that wait, some of them marked by their queue. Contracts see a map from tickets to packets and one from tickets to
+/// marks, and the room that was reserved.
 #[derive(Drop)]
 pub struct Pool {
-    held: Slab<Packet>,
+    held: Slab<Kept>,
     room: u32,
 }
 
@@ -35,16 +43,43 @@ impl Pool {
         Ok(Pool { held, room: n })
     }
 
-    /// Puts a packet where fewer are held than there is room, and answers its ticket, one that was not held. Constant time.
+    /// Puts a packet, not marked, where fewer are held than there is room, and answers its ticket, one that was not held. Constant
+    /// time.
     pub fn put(&mut self, packet: Packet) -> Ticket
         requires { count_of self.old < self.old.room }
         ensures fresh { packet_of self.old result.0 ≡ None }
         ensures put { packet_of self.new result.0 ≡ Some packet }
+        ensures plain { is_marked self.new result.0 ≡ false }
         ensures others { (t : ℕ) → t ≢ result.0 → packet_of self.new t ≡ packet_of self.old t }
+        ensures marks { (t : ℕ) → t ≢ result.0 → is_marked self.new t ≡ is_marked self.old t }
         ensures count { count_of self.new ≡ count_of self.old + 1 }
         ensures room { self.new.room ≡ self.old.room }
     {
-        Ticket(self.held.insert_reserved(packet) as u32)
+        let kept = Kept {
+            packet,
+            marked: false,
+        };
+        Ticket(self.held.insert_reserved(kept) as u32)
+    }
+
+    /// Marks the packet of a ticket that is held, and changes nothing else. Takes no memory. Constant time.
+    pub fn mark(&mut self, ticket: Ticket)
+        requires { IsSome (packet_of self.old ticket.0) }
+        ensures mark { is_marked self.new ticket.0 ≡ true }
+        ensures packets { (t : ℕ) → packet_of self.new t ≡ packet_of self.old t }
+        ensures marks { (t : ℕ) → t ≢ ticket.0 → is_marked self.new t ≡ is_marked self.old t }
+        ensures count { count_of self.new ≡ count_of self.old }
+        ensures room { self.new.room ≡ self.old.room }
+    {
+        self.held[ticket.0 as usize].marked = true;
+    }
+
+    /// Whether the packet of a ticket that is held was marked. Takes no memory. Constant time.
+    pub fn marked(&self, ticket: Ticket) -> bool
+        requires { IsSome (packet_of self.now ticket.0) }
+        ensures { result ≡ is_marked self.now ticket.0 }
+    {
+        self.held[ticket.0 as usize].marked
     }
 
     /// Takes out the packet of a ticket that is held, which is then free. Constant time.
@@ -53,9 +88,10 @@ impl Pool {
         ensures taken { packet_of self.old ticket.0 ≡ Some result }
         ensures free { packet_of self.new ticket.0 ≡ None }
         ensures others { (t : ℕ) → t ≢ ticket.0 → packet_of self.new t ≡ packet_of self.old t }
+        ensures marks { (t : ℕ) → t ≢ ticket.0 → is_marked self.new t ≡ is_marked self.old t }
         ensures count { count_of self.old ≡ count_of self.new + 1 }
         ensures room { self.new.room ≡ self.old.room }
     {
-        self.held.remove(ticket.0 as usize)
+        self.held.remove(ticket.0 as usize).packet
     }
 }

@@ -17,7 +17,7 @@ pub struct Waiting {
 /// its limit, the limit never changes, and each verdict is what it says after all that it was asked and told, by the seed's words.
 /// None of the calls takes memory.
 pub trait QueueRule {
-    ghost use Rattle.altq_model.specs.History.{Words as DrawnWords};
+    ghost use Rattle.altq_model.specs.History.{DrawnWords};
     ghost use Rattle.leaf_queue.specs.declared.rule.Waiting.{Waiting};
     ghost use Rattle.leaf_queue.specs.Queue.{QueueEvent, Asked, Gone, Saying};
 

@@ -26,6 +26,9 @@ fn packets_and_entries_come_back(rt: HostRuntime) -> Result<(), Fail> {
     let first = pool.put(packet(rt, 1));
     let second = pool.put(packet(rt, 2));
     assert_ne!(rt; first, second);
+    pool.mark(second);
+    assert!(rt; !pool.marked(first));
+    assert!(rt; pool.marked(second));
     assert_eq!(rt; pool.take(first).number, 1);
     assert_eq!(rt; pool.take(second).number, 2);
 

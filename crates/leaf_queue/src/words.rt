@@ -1,6 +1,6 @@
 // The words of a seed.
 ghost use Rattle.std.specs.Prelude.{◌≡◌, ◌<◌, ◌+◌, ◌-◌, ◌^◌, min};
-ghost use Rattle.altq_model.specs.History.{Words as DrawnWords};
+ghost use Rattle.altq_model.specs.History.{DrawnWords};
 ghost use Rattle.leaf_queue.specs.Words.{word, IsDrawn};
 
 use rand_pcg::Lcg64Xsh32;

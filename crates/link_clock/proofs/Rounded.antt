@@ -1,7 +1,7 @@
 -- Quotients rounded up.
 use Rattle.std.proofs.Common.{◌≡◌, ◌≤◌, ◌<◌, ◌+◌, ◌-◌, ◌*◌, ◌^◌, ℕ, arith}
 use Rattle.std.proofs.lemmas.Nat.{mul-le, div_below}
-use Rattle.altq_model.specs.Units.{ceil_div, units}
+use Rattle.play_base.specs.Units.{ceil_div, units}
 
 pub le_ceil : (amount rate : ℕ) → 0 < rate → amount ≤ rate * ceil_div amount rate
 le_ceil amount rate h = omega arith

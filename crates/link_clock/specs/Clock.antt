@@ -1,6 +1,6 @@
 -- What a clock of a link is: its rate, and the link after the sendings that it was told of.
 use Rattle.std.specs.Prelude.{ℕ, ◌≡◌, ◌≤◌, ◌+◌, ◌^◌}
-use Rattle.altq_model.specs.Units.{ceil_div}
+use Rattle.play_base.specs.Units.{ceil_div}
 use Rattle.altq_model.specs.Link.{Link}
 
 pub record Clock : Type 0 where

@@ -6,7 +6,7 @@
 #![tactic(auto)]
 
 ghost use Rattle.std.specs.Prelude.{◌≡◌, ◌+◌, ◌*◌, ◌/◌, ◌<◌, ◌≤◌, ◌^◌};
-ghost use Rattle.altq_model.specs.Units.{units, ceil_div};
+ghost use Rattle.play_base.specs.Units.{units, ceil_div};
 ghost use Rattle.altq_model.specs.Link.{after_sending, end_of, idle_link};
 ghost use Rattle.link_clock.specs.Clock.{Clock, IsRunning};
 
@@ -95,6 +95,19 @@ impl LinkClock {
         ensures link { self.new.link ≡ after_sending self.old.rate self.old.link now len }
     {
         let end = self.end_of(now, len);
+        self.sent(now, len, end);
+        end
+    }
+
+    /// Tells it of a packet of `len` bytes that was sent at `now` and has this end, which is that of `end_of`. No division;
+    /// takes no memory.
+    pub fn sent(&mut self, now: u64, len: u32, end: u64)
+        requires free { self.old.link.free ≤ now }
+        requires early { now < 2 ^ 63 }
+        requires end { end ≡ end_of self.old.rate self.old.link now len }
+        ensures rate { self.new.rate ≡ self.old.rate }
+        ensures link { self.new.link ≡ after_sending self.old.rate self.old.link now len }
+    {
         if now == self.free {
             self.sent += u128::from(len) * BYTE;
         } else {
@@ -102,7 +115,6 @@ impl LinkClock {
             self.sent = u128::from(len) * BYTE;
         }
         self.free = end;
-        end
     }
 }
 

@@ -55,6 +55,14 @@ pub fn flow(frame: &[u8]) -> FlowHeads<'_>
     flow_by_type(two_at(frame, place), &frame[place + 2..])
 }
 
+// Where the packet begins, behind the type.
+pub(crate) fn packet_place(frame: &[u8]) -> usize
+    ensures value { result ≡ packet_place frame.now }
+    ensures bound { result ≤ 22 }
+{
+    type_place(frame) + 2
+}
+
 // The flow of the packet that a frame of a type holds.
 fn flow_by_type(kind: u16, packet: &[u8]) -> FlowHeads<'_>
     ensures { flow_of result ≡ flow_by_type kind packet.now }
@@ -75,7 +83,7 @@ fn has_bytes(count: usize, bytes: &[u8], at: usize) -> bool
 }
 
 // The number in two bytes.
-fn two_at(bytes: &[u8], at: usize) -> u16
+pub(crate) fn two_at(bytes: &[u8], at: usize) -> u16
     requires { IsTrue (has_bytes 2 bytes.now at) }
     ensures { result ≡ two_at bytes.now at }
 {

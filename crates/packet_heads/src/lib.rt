@@ -5,10 +5,16 @@
 #![tactic(auto)]
 
 mod heads;
+mod laws;
+mod marking;
 mod points;
+mod rows;
 
 pub use heads::{FlowHeads, flow};
+pub use laws::tos_alone_changes;
+pub use marking::{dress, retag};
 pub use points::precedence;
+pub use rows::worked_examples;
 
 #[cfg(test)]
 mod tests;

@@ -1,4 +1,4 @@
-use crate::{FlowHeads, flow, precedence};
+use crate::{FlowHeads, dress, flow, precedence, retag};
 
 // A UDP datagram over IPv4, type of service 28 hex, 10.0.0.1 port 1027 to 10.0.0.2 port 5001.
 const GENERATED: [u8; 42] = [
@@ -87,4 +87,44 @@ fn flow_over_ipv6(rt: HostRuntime) {
             }
     );
     assert_eq!(rt; precedence(&found), 1);
+}
+
+#[test]
+fn code_point_is_cleared(rt: HostRuntime) {
+    let mut frame = GENERATED;
+    dress(&mut frame, true, false);
+    assert!(rt; frame[14..16] == [0x45, 0x00]);
+    assert!(rt; frame[24..26] == [0x00, 0x28]);
+    assert!(rt; frame[..14] == GENERATED[..14]);
+    assert!(rt; frame[16..24] == GENERATED[16..24]);
+    assert!(rt; frame[26..] == GENERATED[26..]);
+}
+
+#[test]
+fn checksum_follows_the_mark(rt: HostRuntime) {
+    let mut frame = GENERATED;
+    frame[15] = 0x02;
+    frame[24] = 0xb1;
+    frame[25] = 0xe6;
+    dress(&mut frame, false, true);
+    assert!(rt; frame[14..16] == [0x45, 0x03]);
+    assert!(rt; frame[24..26] == [0xb1, 0xe5]);
+    assert!(rt; frame[16..24] == GENERATED[16..24]);
+    assert!(rt; frame[26..] == GENERATED[26..]);
+}
+
+#[test]
+fn traffic_class_lies_across_two_bytes(rt: HostRuntime) {
+    let mut frame = OVER_IPV6;
+    frame[15] = 0x0a;
+    retag(&mut frame, 0xb8);
+    assert!(rt; frame[14..16] == [0x6b, 0x8a]);
+    assert!(rt; frame[16..] == OVER_IPV6[16..]);
+}
+
+#[test]
+fn short_frame_stays(rt: HostRuntime) {
+    let mut frame = GENERATED;
+    retag(&mut frame[..33], 0xff);
+    assert!(rt; frame == GENERATED);
 }

@@ -1,4 +1,5 @@
 pub mod PlaceLemmas
 pub mod ReaderLemmas
+pub mod ReadingLaws
 pub mod WordLemmas
 pub mod WritingLemmas

@@ -4,9 +4,9 @@ use Rattle.std.specs.Prelude.{◌==◌, ◌||◌, ◌&&◌, ◌⊎◌, Bool, tru
 use Rattle.std.specs.Int.{w32, from_be_bytes, from_le_bytes}
 use Rattle.std.proofs.lemmas.List.{take-append-le, drop-append-le, drop-drop}
 use Rattle.std.proofs.lemmas.Bool.{cases_lt}
-use Rattle.altq_model.specs.declared.capture.DamageKind.TheVariants.{ShortRecord, EmptyRecord, LongRecord}
-use Rattle.altq_model.specs.Capture.{Form, Step, Next, Fault, word, stamp, damage, most_records, most_bytes, longest, step}
-use Rattle.altq_model.specs.Capture as capture
+use Rattle.capture_model.specs.declared.damage.DamageKind.TheVariants.{ShortRecord, EmptyRecord, LongRecord}
+use Rattle.capture_model.specs.Capture.{Form, Step, Next, Fault, word, stamp, damage, most_records, most_bytes, longest, step}
+use Rattle.capture_model.specs.Capture as capture
 use Rattle.pcap_files.specs.Stand.{stand_at, step_of}
 use Rattle.pcap_files.specs.declared.stand.Stand.TheVariants.{End, Limit, Damaged, Headed}
 

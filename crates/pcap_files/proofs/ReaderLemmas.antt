@@ -5,10 +5,10 @@ use Rattle.std.specs.declared.option.Option.{Option}
 use Rattle.std.specs.Int.{w16, from_be_bytes, from_le_bytes}
 use Rattle.std.proofs.lemmas.List.{drop-append-le, drop-drop, length-take}
 use Rattle.play_base.specs.View.{View, IsAtEnd}
-use Rattle.play_base.specs.ViewLaws.{took_more}
-use Rattle.altq_model.specs.declared.capture.DamageKind.TheVariants.{ShortRecord}
-use Rattle.altq_model.specs.Capture.{Form, Step, Next, Fault, Stand, Formed, Unformed, Head, half, word, head, head_in, form_of, damage, step, place_after, Reads, ReadsFrom, ReadsAs}
-use Rattle.altq_model.specs.Capture as capture
+use Rattle.play_base.proofs.ViewLaws.{took_more}
+use Rattle.capture_model.specs.declared.damage.DamageKind.TheVariants.{ShortRecord}
+use Rattle.capture_model.specs.Capture.{Form, Step, Next, Fault, Stand, Formed, Unformed, Header, half, word, header, header_in, form_of, damage, step, place_after, Reads, ReadsFrom, ReadsAs}
+use Rattle.capture_model.specs.Capture as capture
 use Rattle.pcap_files.specs.Ahead.{Pending, TookInto, TookSome}
 use Rattle.pcap_files.specs.Forms.{form}
 use Rattle.pcap_files.specs.Reading.{StandsFor, Shows, IsTaken, IsCut, IsCause, ReadsTo}
@@ -29,13 +29,13 @@ half_seen : (big : Bool) (xs rest : List ℕ) (k : ℕ) → k + 2 ≤ length xs 
 half_seen true xs rest k h = ap (from_be_bytes w16) (seen 2 k xs rest h)
 half_seen false xs rest k h = ap (from_le_bytes w16) (seen 2 k xs rest h)
 
-head_in_seen : (named : Option Form) (xs rest : List ℕ) → 24 ≤ length xs → head_in named (xs ++ rest) ≡ head_in named xs
+head_in_seen : (named : Option Form) (xs rest : List ℕ) → 24 ≤ length xs → header_in named (xs ++ rest) ≡ header_in named xs
 head_in_seen None xs rest h = refl
 head_in_seen (Some f) xs rest h =
     rw (half_seen f.big xs rest 4 (omega (arith, h)), half_seen f.big xs rest 6 (omega (arith, h)), word_seen f.big xs rest 20 (omega (arith, h))) refl
 
-pub head_seen : (xs rest : List ℕ) → (24 ≤ length xs) ⊎ (length rest ≡ 0) → head (xs ++ rest) ≡ head xs
-head_seen xs [] h = ap head (append-nil xs)
+pub head_seen : (xs rest : List ℕ) → (24 ≤ length xs) ⊎ (length rest ≡ 0) → header (xs ++ rest) ≡ header xs
+head_seen xs [] h = ap header (append-nil xs)
 head_seen xs (y ∷ ys) (inr h) = absurd (omega arith)
 head_seen xs (y ∷ ys) (inl h) =
     let long : nat_lt (length (xs ++ y ∷ ys)) 24 ≡ false = grind (arith, length-append xs (y ∷ ys), h) in
@@ -102,9 +102,9 @@ place_after_more at [] r = refl
 place_after_more at (x ∷ rs) r = place_after_more (at + 16 + length x.captured) rs r
 
 -- a reading of bytes whose head has this form
-pub reads_formed : (f : Form) (bytes : List ℕ) (records : List capture.Record) (last : Step) → head bytes ≡ Formed f
+pub reads_formed : (f : Form) (bytes : List ℕ) (records : List capture.Record) (last : Step) → header bytes ≡ Formed f
     → ReadsAs f bytes records last → Reads bytes records last
-reads_formed f bytes records last e x = subst (λ (h : Head). ReadsFrom h bytes records last) (sym e) x
+reads_formed f bytes records last e x = subst (λ (h : Header). ReadsFrom h bytes records last) (sym e) x
 
 -- what stands after the records answered, by the bytes taken there
 pub stands_step : (v w : View) (r : Reader) (ahead bytes : List ℕ) (records : List capture.Record) → StandsFor v r bytes records
@@ -124,9 +124,9 @@ pub stands_reads : (v : View) (r : Reader) (bytes : List ℕ) (records : List ca
 stands_reads v r bytes records last s e = reads_formed (form r.head) bytes records last s.formed (record { stand = s.stand; ended = e })
 
 -- the same reading, as it was found
-reads_back : (f : Form) (bytes : List ℕ) (records : List capture.Record) (last : Step) → head bytes ≡ Formed f
+reads_back : (f : Form) (bytes : List ℕ) (records : List capture.Record) (last : Step) → header bytes ≡ Formed f
     → Reads bytes records last → ReadsAs f bytes records last
-reads_back f bytes records last e x = subst (λ (h : Head). ReadsFrom h bytes records last) e x
+reads_back f bytes records last e x = subst (λ (h : Header). ReadsFrom h bytes records last) e x
 
 pending_same : (v : View) (f f' at at' : ℕ) (ahead ahead' bytes : List ℕ) → f' ≡ f → at' ≡ at → ahead' ≡ ahead
     → Pending v f at ahead bytes → Pending v f' at' ahead' bytes
@@ -237,16 +237,16 @@ stands_at v w r ahead found bytes records q s sound t enough same value =
 
 -- the head of the file is told by the bytes that a start takes
 pub started_head : (v w : View) (file : ℕ) (none ahead found bytes : List ℕ) → none ≡ [] → v.left file ≡ Some bytes
-    → TookInto v w file none ahead → (24 ≤ length ahead) ⊎ IsAtEnd w file → found ≡ ahead → head bytes ≡ head found
+    → TookInto v w file none ahead → (24 ≤ length ahead) ⊎ IsAtEnd w file → found ≡ ahead → header bytes ≡ header found
 started_head v w file none ahead found bytes empty h t enough same =
     let start = pending_same v file file 0 0 [] none bytes refl refl empty (pending_start v file bytes h) in
     let p = pending_took v w file 0 none ahead bytes start t in
-    ap head p.rest.2 ∙ head_seen ahead p.rest.0 (none_left w file 0 24 ahead bytes p enough) ∙ ap head (sym same)
+    ap header p.rest.2 ∙ head_seen ahead p.rest.0 (none_left w file 0 24 ahead bytes p enough) ∙ ap header (sym same)
 
 -- a reader that has read the head and passed it
 pub started : (v w : View) (n : Reader) (none ahead bytes : List ℕ) → none ≡ [] → v.left n.file ≡ Some bytes
     → TookInto v w n.file none ahead → 24 ≤ length ahead → length ahead ≤ 65559 → n.ahead ≡ drop 24 ahead → n.progress.count ≡ 0
-    → n.progress.place ≡ 24 → n.fault ≡ None → head bytes ≡ Formed (form n.head) → StandsFor w n bytes []
+    → n.progress.place ≡ 24 → n.fault ≡ None → header bytes ≡ Formed (form n.head) → StandsFor w n bytes []
 started v w n none ahead bytes empty h t enough bound passed count place sound formed =
     let start = pending_same v n.file n.file 0 0 [] none bytes refl refl empty (pending_start v n.file bytes h) in
     let p = pending_took v w n.file 0 none ahead bytes start t in

@@ -3,7 +3,7 @@ use Rattle.std.proofs.Common.{◌≡◌, ℕ, List, [], ◌∷◌, take, drop, a
 use Rattle.std.specs.Prelude.{true, false}
 use Rattle.std.specs.Int.{w16, w32, from_be_bytes, from_le_bytes}
 use Rattle.byteorder.specs.Endian.{big_number, little_number}
-use Rattle.altq_model.specs.Capture.{word, half}
+use Rattle.capture_model.specs.Capture.{word, half}
 
 big4 : (xs : List ℕ) → big_number 4 xs ≡ from_be_bytes w32 (take 4 xs)
 big4 [] = omega arith

@@ -2,10 +2,10 @@
 use Rattle.std.proofs.Common.{◌≡◌, ◌≤◌, ◌<◌, ◌∙◌, ℕ, suc, ◌+◌, ◌*◌, ◌/◌, ◌%◌, ◌^◌, List, [], ◌∷◌, ◌++◌, length, take, drop, refl, sym, ap, subst, arith, inl, append_assoc, length-append}
 use Rattle.std.specs.Prelude.{◌==◌, ◌&&◌, true, false, nat_lt, nat_le, max, All}
 use Rattle.std.proofs.lemmas.Nat.{from_le_bytes-to_le_bytes_4}
-use Rattle.altq_model.specs.Capture.{Form, Record, Next, End, Stand, word, stamp, step, place_after, longest, most_records, most_bytes, IsCapture}
-use Rattle.altq_model.specs.Texts.{capture_head, record_head}
+use Rattle.capture_model.specs.Capture.{Form, Record, Next, End, Stand, word, stamp, step, place_after, longest, most_records, most_bytes, IsCapture}
+use Rattle.capture_model.specs.Header.{capture_header, record_header}
 use Rattle.pcap_files.specs.Stand.{stand_at, step_of}
-use Rattle.pcap_files.specs.Written.{record_text, record_texts, written, IsWithin, AreWithin}
+use Rattle.capture_model.specs.Written.{record_text, record_texts, written, IsWithin, AreWithin}
 use Rattle.pcap_files.specs.declared.stand.Stand.TheVariants.{Headed}
 use Rattle.pcap_files.proofs.PlaceLemmas.{step_here}
 use Rattle.pcap_files.proofs.ReaderLemmas.{head_seen, reads_formed}
@@ -20,14 +20,14 @@ stamp_by hd seconds fraction end w0 w4 e = let sum : word false hd 0 * 10 ^ 9 + 
 
 -- the numbers of a record's head
 head_words : (end captured original : ℕ) → end < 2 ^ 32 * 10 ^ 9 → captured ≤ longest → original ≤ longest
-    → (word false (record_head end captured original) 8 ≡ captured) × (word false (record_head end captured original) 12 ≡ original)
-    × (stamp written_form (record_head end captured original) 0 ≡ end)
+    → (word false (record_header end captured original) 8 ≡ captured) × (word false (record_header end captured original) 12 ≡ original)
+    × (stamp written_form (record_header end captured original) 0 ≡ end)
 head_words end captured original he hc ho =
     let seconds : end / 10 ^ 9 < 2 ^ 32 = omega (arith, he) in
     let fraction : end % 10 ^ 9 < 2 ^ 32 = omega arith in (
       from_le_bytes-to_le_bytes_4 captured (omega (arith, hc)),
       from_le_bytes-to_le_bytes_4 original (omega (arith, ho)),
-      stamp_by (record_head end captured original) (end / 10 ^ 9) (end % 10 ^ 9) end (from_le_bytes-to_le_bytes_4 (end / 10 ^ 9) seconds)
+      stamp_by (record_header end captured original) (end / 10 ^ 9) (end % 10 ^ 9) end (from_le_bytes-to_le_bytes_4 (end / 10 ^ 9) seconds)
           (from_le_bytes-to_le_bytes_4 (end % 10 ^ 9) fraction) (omega arith),
     )
 
@@ -86,7 +86,7 @@ at_end f bytes count at e = let none : nat_le (length bytes) at ≡ true = grind
 step_written : (pre rest : List ℕ) (r : Record) (count : ℕ) → IsWithin r → count < most_records → length pre + 16 + length r.captured ≤ most_bytes
     → step written_form (pre ++ (record_text r ++ rest)) count (length pre) ≡ Next r (length pre + 16 + length r.captured)
 step_written pre rest r count h hc room =
-    let hd = record_head r.stamp (length r.captured) r.original in
+    let hd = record_header r.stamp (length r.captured) r.original in
     let all = pre ++ (record_text r ++ rest) in
     let words = head_words r.stamp (length r.captured) r.original h.stamp h.captured h.original in
     let behind : drop (length pre) all ≡ hd ++ (r.captured ++ rest) = drop_front pre (record_text r ++ rest) ∙ append_assoc hd r.captured rest in
@@ -106,7 +106,7 @@ stand_written pre count (r ∷ rs) all hc room =
     let front = pre ++ record_text r in
     let same : front ++ rest ≡ pre ++ (record_text r ++ rest) = append_assoc pre (record_text r) rest in
     let size : length front ≡ length pre + 16 + length r.captured =
-    omega (arith, length-append pre (record_text r), length-append (record_head r.stamp (length r.captured) r.original) r.captured) in
+    omega (arith, length-append pre (record_text r), length-append (record_header r.stamp (length r.captured) r.original) r.captured) in
     let fits : length (front ++ rest) ≤ most_bytes = omega (arith, ap length same, room) in
     let after = stand_written front (count + 1) rs (λ k d h. all (suc k) d (omega (arith, h))) (omega (arith, hc)) fits in
     let first = step_written pre rest r count (all 0 r (omega arith)) (omega (arith, hc)) (omega (arith, size, length-append front rest, fits)) in
@@ -121,7 +121,7 @@ stand_written pre count (r ∷ rs) all hc room =
 
 pub reads_written : (records : List Record) → AreWithin records → IsCapture (written records) records
 reads_written records h =
-    let both = stand_written capture_head 0 records h.each (omega (arith, h.count)) h.size in
+    let both = stand_written capture_header 0 records h.each (omega (arith, h.count)) h.size in
     reads_formed written_form (written records) records End
-    (head_seen capture_head (record_texts records) (inl (omega arith)))
+    (head_seen capture_header (record_texts records) (inl (omega arith)))
     (record { stand = both.0; ended = ap (λ (n : ℕ). step written_form (written records) n (place_after 24 records)) (omega arith) ∙ both.1 })

@@ -1,5 +1,5 @@
 -- How the code's head shows the form of a capture.
-use Rattle.altq_model.specs.Capture.{Form}
+use Rattle.capture_model.specs.Capture.{Form}
 use Rattle.pcap_files.specs.declared.form.Head.{Head}
 
 -- the form that a head shows

@@ -2,6 +2,4 @@ pub mod Ahead
 pub mod Faults
 pub mod Forms
 pub mod Reading
-pub mod ReadingLaws
 pub mod Stand
-pub mod Written

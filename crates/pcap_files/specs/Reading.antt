@@ -2,9 +2,9 @@
 use Rattle.std.specs.Prelude.{◌≡◌, ◌≤◌, ◌<◌, ◌+◌, ℕ, max, List, [], ◌++◌, ◌∷◌, length, take, drop, None, Some}
 use Rattle.std.specs.declared.option.Option.{Option}
 use Rattle.play_base.specs.View.{View}
-use Rattle.altq_model.specs.declared.capture.DamageKind.TheVariants.{ShortRecord}
-use Rattle.altq_model.specs.Capture.{Step, End, Fault, damage, Limit, Formed, Unformed, head, step, Stand, place_after, Reads, IsCapture}
-use Rattle.altq_model.specs.Capture as capture
+use Rattle.capture_model.specs.declared.damage.DamageKind.TheVariants.{ShortRecord}
+use Rattle.capture_model.specs.Capture.{Step, End, Fault, damage, Limit, Formed, Unformed, header, step, Stand, place_after, Reads, IsCapture}
+use Rattle.capture_model.specs.Capture as capture
 use Rattle.pcap_files.specs.Ahead.{Pending}
 use Rattle.pcap_files.specs.Forms.{form}
 use Rattle.pcap_files.specs.declared.fault.CaptureFault.{CaptureFault}
@@ -29,7 +29,7 @@ IsCause (Some fault.NoMemory) stands = Unit {0}
 
 -- the reader's file had these bytes left at the start, and these records were answered, the first complete ones
 pub record StandsFor (v : View) (r : Reader) (bytes : List ℕ) (records : List capture.Record) : Type 0 where
-  pub formed : head bytes ≡ Formed (form r.head)
+  pub formed : header bytes ≡ Formed (form r.head)
   pub stand : Stand (form r.head) bytes 0 24 records
   pub count : r.progress.count ≡ length records
   pub place : r.progress.place ≡ place_after 24 records
@@ -70,7 +70,7 @@ ReadsTo fault.NoMemory bytes records = Unit {0}
 
 -- where the fault of a start is told by the bytes, it is the first test that their head fails
 abbrev pub IsHeadFault : CaptureFault → List ℕ → Type 0
-IsHeadFault (fault.Damage found) bytes = head bytes ≡ Unformed found
+IsHeadFault (fault.Damage found) bytes = header bytes ≡ Unformed found
 IsHeadFault fault.Limit bytes = ⊥
 IsHeadFault fault.Read bytes = Unit {0}
 IsHeadFault fault.NoMemory bytes = Unit {0}

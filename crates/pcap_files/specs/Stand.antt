@@ -1,8 +1,8 @@
 -- What stands at a place of a capture, told from the bytes that were taken there.
 use Rattle.std.specs.Prelude.{◌==◌, ◌||◌, ◌&&◌, ◌+◌, ℕ, nat_lt, List, length, take, drop, if◌then◌else◌}
-use Rattle.altq_model.specs.declared.capture.DamageKind.TheVariants.{ShortRecord, EmptyRecord, LongRecord}
-use Rattle.altq_model.specs.Capture.{Form, Step, Next, Fault, word, stamp, damage, most_records, most_bytes, longest}
-use Rattle.altq_model.specs.Capture as capture
+use Rattle.capture_model.specs.declared.damage.DamageKind.TheVariants.{ShortRecord, EmptyRecord, LongRecord}
+use Rattle.capture_model.specs.Capture.{Form, Step, Next, Fault, word, stamp, damage, most_records, most_bytes, longest}
+use Rattle.capture_model.specs.Capture as capture
 use Rattle.pcap_files.specs.declared.stand.Stand.{Stand}
 use Rattle.pcap_files.specs.declared.stand.Stand.TheVariants.{End, Limit, Damaged, Headed}
 

@@ -2,7 +2,7 @@
 ghost use Rattle.std.specs.Prelude.{◌≡◌};
 ghost use Rattle.pcap_files.specs.Faults.{fault_of};
 
-use altq_model::Damage;
+use capture_model::Damage;
 use play_base::Trouble;
 
 /// Why a capture, or a reader of one, can't be read on.

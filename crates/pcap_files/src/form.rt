@@ -1,10 +1,10 @@
 // The head of a capture.
 ghost use Rattle.std.specs.Prelude.{◌≡◌, ◌≤◌, IfOk, OnOk, IfErr, option_map, length};
-ghost use Rattle.altq_model.specs.Capture.{head, Formed, Unformed, form_of, damage};
+ghost use Rattle.capture_model.specs.Capture.{header, Formed, Unformed, form_of, damage};
 ghost use Rattle.pcap_files.specs.Forms.{form};
 
 use crate::numbers::{half, word};
-use altq_model::{Damage, DamageKind};
+use capture_model::{Damage, DamageKind};
 
 /// The form of a capture: whether its numbers stand with the greatest byte first, and whether the fractions of its stamps
 /// count nanoseconds, and not microseconds.
@@ -19,9 +19,9 @@ impl Head {
     /// bytes, no magic number of the classic format, another version than 2.4, or another link type than Ethernet in the
     /// low 16 bits; nothing else is looked at. Constant time.
     pub fn read(bytes: &[u8]) -> Result<Head, Damage>
-        ensures ok { IfOk result (λ answer. head bytes.now ≡ Formed (form answer)) }
+        ensures ok { IfOk result (λ answer. header bytes.now ≡ Formed (form answer)) }
         ensures long { OnOk result (24 ≤ length bytes.now) }
-        ensures err { IfErr result (λ damage. head bytes.now ≡ Unformed damage) }
+        ensures err { IfErr result (λ damage. header bytes.now ≡ Unformed damage) }
     {
         if bytes.len() < 24 {
             return Err(damage_at(bytes.len() as u64, DamageKind::ShortHead));

@@ -1,8 +1,8 @@
 // Laws of the reading of captures, told by functions that do nothing.
 ghost use Rattle.std.specs.Prelude.{◌≡◌, ℕ, List};
-ghost use Rattle.altq_model.specs.Capture.{Record, Step, Reads, IsCapture};
-ghost use Rattle.pcap_files.specs.ReadingLaws.{IsLast};
-ghost use Rattle.pcap_files.specs.Written.{AreWithin, written};
+ghost use Rattle.capture_model.specs.Capture.{Record, Step, Reads, IsCapture};
+ghost use Rattle.capture_model.specs.Capture.{IsLast};
+ghost use Rattle.capture_model.specs.Written.{AreWithin, written};
 
 /// What the two heads write, with the captured bytes after each record's head, is a capture of the records that were given,
 /// while lengths, count and size are within the limits. It does nothing.

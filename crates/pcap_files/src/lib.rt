@@ -13,7 +13,7 @@ mod record;
 mod stand;
 mod writing;
 
-pub use altq_model::{Damage, DamageKind};
+pub use capture_model::{Damage, DamageKind};
 pub use fault::CaptureFault;
 pub use form::Head;
 pub use laws::{bytes_read_one_way, written_captures_read_back};

@@ -1,6 +1,6 @@
 // The numbers in a capture, in either order of bytes.
 ghost use Rattle.std.specs.Prelude.{◌≡◌, ◌≤◌, ◌+◌, length};
-ghost use Rattle.altq_model.specs.Capture.{word, half};
+ghost use Rattle.capture_model.specs.Capture.{word, half};
 
 use byteorder::{BigEndian, ByteOrder, LittleEndian};
 

@@ -10,7 +10,7 @@ use crate::form::{Head, damage_at};
 use crate::progress::Progress;
 use crate::stand::{RECORD_HEAD, Stand, stand_at};
 use crate::{CaptureFault, Record};
-use altq_model::DamageKind;
+use capture_model::DamageKind;
 use play_base::{Bytes, Files};
 use std::alloc::Global;
 

@@ -1,13 +1,13 @@
 // The tests of a record that need no more than its head.
 ghost use Rattle.std.specs.Prelude.{◌≡◌, ◌+◌, ◌≤◌, ◌<◌, ◌^◌, ℕ, max, length};
-ghost use Rattle.altq_model.specs.Capture.{stamp};
+ghost use Rattle.capture_model.specs.Capture.{stamp};
 ghost use Rattle.pcap_files.specs.Forms.{form};
 ghost use Rattle.pcap_files.specs.Stand.{stand_at};
 
 use crate::form::Head;
 use crate::numbers::word;
 use crate::progress::Progress;
-use altq_model::DamageKind;
+use capture_model::DamageKind;
 
 // Bytes of a record's head.
 pub const RECORD_HEAD: usize = 16;

@@ -9,7 +9,7 @@ type Seen = (u64, u64, u32, usize);
 // The first record that a reader answers, the second, and the fault that ends it, if one does.
 type Told = (Option<Seen>, Option<Seen>, Option<CaptureFault>);
 
-#[tactic(auto, using(crate::specs::ReadingLaws::there_after))]
+#[tactic(auto, using(crate::proofs::ReadingLaws::there_after))]
 fn told(alloc: Global, files: &mut MemoryFiles) -> Told {
     let Ok(file) = files.open(2, "in") else {
         return (None, None, None);

@@ -1,12 +1,12 @@
 // The heads that a capture is written with.
 ghost use Rattle.std.specs.Prelude.{◌≡◌, ◌<◌, ◌*◌, ◌^◌};
-ghost use Rattle.altq_model.specs.Texts.{capture_head, record_head};
+ghost use Rattle.capture_model.specs.Header.{capture_header, record_header};
 
 use byteorder::{ByteOrder, LittleEndian};
 
 /// The head of a little-endian nanosecond capture of Ethernet frames with a snap length of 262,144 bytes.
 pub fn head_bytes() -> [u8; 24]
-    ensures { result ≡ capture_head }
+    ensures { result ≡ capture_header }
 {
     [
         0x4d, 0x3c, 0xb2, 0xa1, 2, 0, 4, 0, 0, 0, 0, 0, 0, 0, 0, 0, 0, 0, 4, 0, 1, 0, 0, 0,
@@ -17,7 +17,7 @@ pub fn head_bytes() -> [u8; 24]
 /// it, of a packet of `len` bytes.
 pub fn record_head(end: u64, captured: u32, len: u32) -> [u8; 16]
     requires { end < 2 ^ 32 * 10 ^ 9 }
-    ensures { result ≡ record_head end captured len }
+    ensures { result ≡ record_header end captured len }
 {
     let mut head = [0; 16];
     LittleEndian::write_u32(&mut head, (end / 1_000_000_000) as u32);

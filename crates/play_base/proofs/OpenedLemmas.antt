@@ -1,6 +1,6 @@
 -- What one more file does to the list of opened files, and what is found at a place of it.
-use Rattle.std.proofs.Common.{◌≡◌, ◌∙◌, ◌-◌, ℕ, zero, suc, List, [], ◌∷◌, ◌++◌, length, length-append, take, drop, Some, refl, arith, ap, sym, subst, get_or}
-use Rattle.std.specs.Prelude.{IsSome, slice_get, string_bytes, option_map}
+use Rattle.std.proofs.Common.{◌≡◌, ◌∙◌, ◌-◌, ℕ, zero, suc, List, [], ◌∷◌, ◌++◌, length, length-append, take, drop, None, Some, refl, arith, ap, sym, subst, get_or}
+use Rattle.std.specs.Prelude.{◌≢◌, IsSome, slice_get, string_bytes, option_map}
 use Rattle.std.specs.Option.{option_map_or}
 use Rattle.std.proofs.lemmas.Option.{slice_get_past}
 use Rattle.play_base.specs.declared.opened.OpenedFile.{OpenedFile}
@@ -27,6 +27,13 @@ part_at-append [] ys f p h = cc
 part_at-append (x ∷ xs) ys zero p h = (refl, refl, refl)
 part_at-append (x ∷ xs) ys (suc f) p h = part_at-append xs ys f p h
 
+-- no place but that of the new file comes to be one
+part_at-none : (xs : List OpenedFile) (o : OpenedFile) (f : ℕ) → f ≢ length xs → part_at xs f ≡ None → part_at (xs ++ o ∷ []) f ≡ None
+part_at-none [] o zero n h = absurd (n refl)
+part_at-none [] o (suc f) n h = refl
+part_at-none (x ∷ xs) o zero n h = h
+part_at-none (x ∷ xs) o (suc f) n h = part_at-none xs o f (λ e. n (ap suc e)) h
+
 pub added : (old : List OpenedFile) (o : OpenedFile) → Added old (old ++ o ∷ []) (length old) o.part (string_bytes o.name) (drop o.place o.bytes.items)
 added old o = record {
   fresh = ap (option_map (λ (x : OpenedFile). x.part)) (slice_get_past old (length old) (omega arith));
@@ -34,6 +41,7 @@ added old o = record {
   name = ap (λ r. option_map_or (λ (x : OpenedFile). string_bytes x.name) r []) (slice_get-push old o);
   left = ap (option_map (λ (x : OpenedFile). drop x.place x.bytes.items)) (slice_get-push old o);
   others = λ f p h. part_at-append old (o ∷ []) f p h;
+  none = λ f n h. part_at-none old o f n h;
   last = (o, refl);
 }
 

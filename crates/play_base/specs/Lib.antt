@@ -1,8 +1,7 @@
 pub mod Holds
-pub mod HoldsLaws
 pub mod Memory
 pub mod Overwritten
 pub mod Planned
 pub mod Steady
+pub mod Units
 pub mod View
-pub mod ViewLaws

@@ -1,6 +1,6 @@
 -- What files in memory mean: the names with their bytes, and the list of the files opened so far, in which a file's
 -- number is its place.
-use Rattle.std.specs.Prelude.{◌≡◌, ◌++◌, ◌∷◌, ℕ, List, [], option_map, string_bytes, slice_get, slice_index, true, None, Some, drop}
+use Rattle.std.specs.Prelude.{◌≡◌, ◌≢◌, ◌++◌, ◌∷◌, ℕ, List, [], option_map, string_bytes, slice_get, slice_index, true, None, Some, drop}
 use Rattle.std.specs.Option.{option_map_or}
 use Rattle.std.specs.declared.option.Option.{Option}
 use Rattle.std.specs.declared.alloc.Global.{Global}
@@ -48,6 +48,7 @@ pub record Added (old new : List OpenedFile) (file part_given : ℕ) (name_given
   pub name : name_at new file ≡ name_given
   pub left : left_at new file ≡ Some bytes_given
   pub others : AreThere old new
+  pub none : (f : ℕ) → f ≢ file → part_at old f ≡ None → part_at new f ≡ None
   pub last : (o : OpenedFile) × (new ≡ old ++ o ∷ [])
 
 -- a file that gave these bytes from the front of what it has left

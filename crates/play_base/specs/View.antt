@@ -57,9 +57,14 @@ OtherThan v name n = IsTrue v.tells × (n ≢ name)
 abbrev pub NotNamed : View → List ℕ → ℕ → Type 0
 NotNamed v name f = IsTrue v.tells × (v.name f ≢ name)
 
+-- no number that no call answered comes to be a file
+abbrev pub NoneAppears : View → View → Type 0
+NoneAppears old new = (f : ℕ) → old.part f ≡ None → new.part f ≡ None
+
 -- nothing changes but counts
 pub record Unchanged (old new : View) : Type 0 where
   pub keeps : Keeps Any Any old new
+  pub none : NoneAppears old new
   pub said : new.said ≡ old.said
 
 -- a file that the object did not have before, with this part and name
@@ -67,6 +72,7 @@ pub record IsNew (old new : View) (part_given : ℕ) (name_given : List ℕ) (fi
   pub fresh : old.part file ≡ None
   pub part : new.part file ≡ Some part_given
   pub name : IsTrue old.tells → new.name file ≡ name_given
+  pub none : (f : ℕ) → f ≢ file → old.part f ≡ None → new.part f ≡ None
   pub said : new.said ≡ old.said
 
 -- the new file has the bytes under the name left
@@ -85,12 +91,14 @@ pub record Created (old new : View) (part : ℕ) (name : List ℕ) (file : ℕ) 
 pub record Took (old new : View) (file : ℕ) (bytes : List ℕ) : Type 0 where
   pub left : (all : List ℕ) → old.left file ≡ Some all → (rest : List ℕ) × (all ≡ bytes ++ rest) × (new.left file ≡ Some rest)
   pub keeps : Keeps Any (λ f. f ≢ file) old new
+  pub none : NoneAppears old new
   pub said : new.said ≡ old.said
 
 -- The bytes under the file's name grow by these. What files of that name have left is open.
 pub record Wrote (old new : View) (file : ℕ) (bytes : List ℕ) : Type 0 where
   pub grown : IsTrue old.tells → (all : List ℕ) → old.bytes (old.name file) ≡ Some all → new.bytes (old.name file) ≡ Some (all ++ bytes)
   pub keeps : Keeps (λ n. n ≢ old.name file) (λ f. old.name f ≢ old.name file) old new
+  pub none : NoneAppears old new
   pub said : new.said ≡ old.said
 
 -- the bytes under the file's name grow by a front of these
@@ -101,6 +109,7 @@ WroteFront old new file bytes = (k : ℕ) × Wrote old new file (take k bytes)
 pub record Said (old new : View) (text : List ℕ) : Type 0 where
   pub grown : IsTrue old.tells → new.said ≡ old.said ++ text
   pub keeps : Keeps Any Any old new
+  pub none : NoneAppears old new
 
 -- the count of read faults of the file's part rose
 abbrev pub ReadFault : View → View → ℕ → Type 0

@@ -1,6 +1,6 @@
 // Amounts: a rate of R bits per second carries R units in a nanosecond, so a byte is 8·10^9 units.
 ghost use Rattle.std.specs.Prelude.{◌≡◌, ◌≤◌, ◌^◌};
-ghost use Rattle.altq_model.specs.Units.{units, time_of};
+ghost use Rattle.play_base.specs.Units.{units, time_of};
 
 const UNITS_OF_A_BYTE: u64 = 8_000_000_000;
 

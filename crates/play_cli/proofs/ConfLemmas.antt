@@ -1,5 +1,5 @@
 -- What the text of a configuration says is one thing.
-use Rattle.std.proofs.Common.{◌≡◌, ◌≤◌, ◌∙◌, ℕ, Bool, true, false, length, List, None, Some, Result, ap, sym, refl, inl, inr, arith}
+use Rattle.std.proofs.Common.{◌≡◌, ◌≤◌, ◌∙◌, ◌⊎◌, ℕ, Bool, true, false, length, List, None, Some, Result, ap, sym, refl, inl, inr, arith}
 use Rattle.std.specs.Prelude.{IsSome, IsTrue, nat_lt, if◌then◌else◌}
 use Rattle.std.specs.declared.option.Option.{Option}
 use Rattle.conf_lines.specs.declared.fault.ConfPlace.{ConfPlace}
@@ -8,9 +8,9 @@ use Rattle.conf_tree.specs.declared.interface.Interface.{Interface}
 use Rattle.conf_tree.specs.Reading.{reading}
 use Rattle.play_base.specs.View.{View}
 use Rattle.play_cli.specs.Causes.{ConfigCauses, config_status}
-use Rattle.play_cli.specs.Configuration.{Configuration, TooLong, Refused, Said, Says, IsOneQueue, IsUnbuilt, most_bytes, configuration, said_by, is_one_queue}
+use Rattle.play_cli.specs.Configuration.{Configuration, Configures, TooLong, Refused, Said, Says, IsUnbuilt, most_bytes, configuration, said_by, is_one_queue}
 use Rattle.play_cli.specs.Ending.{TellsPlace, Tells}
-use Rattle.play_cli.specs.Run.{IsQuiet}
+use Rattle.play_cli.specs.Run.{Accepted, IsQuiet, Names}
 use Rattle.play_cli.specs.declared.fault.ConfigFault.{ConfigFault}
 use Rattle.play_cli.specs.declared.fault.ConfigFault.TheVariants as conf
 
@@ -67,42 +67,37 @@ same_interface xs ys x y h = cc
 true_false : (b : Bool) → b ≡ true → b ≡ false → ⊥
 true_false b h k = cc
 
--- where the interface has one queue, the text says so
-pub says_one : (u : View) (config interface text : List ℕ) (rate : ℕ) → u.bytes config ≡ Some text → (x : IsOneQueue text interface rate)
-    → Says u config interface (Said x.interfaces x.interface)
-says_one u config interface text rate at x = record { text = text; at = at; says = x.says }
+-- one interface is configured
+pub one_interface : (u : View) (config interface : List ℕ) (x y : Interface) → Configures u config interface x → Configures u config interface y → x ≡ y
+one_interface u config interface x y a b =
+    same_interface a.interfaces b.interfaces x y (one_says u config interface (Said a.interfaces x) (Said b.interfaces y) a.says b.says)
 
--- a text gives an interface one rate
-pub one_rate : (text name : List ℕ) (a b : ℕ) → IsOneQueue text name a → IsOneQueue text name b → a ≡ b
-one_rate text name a b x y =
-    x.carries ∙ ap (λ (i : Interface). i.rate) (same_interface x.interfaces y.interfaces x.interface y.interface (sym x.says ∙ y.says)) ∙ sym y.carries
+pub one_accepted : (u : View) (n : Names) (x y : Accepted u n) → (x.interface ≡ y.interface) × (x.bytes ≡ y.bytes)
+one_accepted u n x y =
+    (one_interface u n.config n.interface x.interface y.interface x.configuration y.configuration, same_some x.bytes y.bytes (sym x.arrivals ∙ y.arrivals))
 
--- and then it has no fault, is not too long, and says of the interface nothing else
-pub refused_not : (u : View) (config interface text : List ℕ) (rate : ℕ) (p : ConfPlace) → u.bytes config ≡ Some text → IsOneQueue text interface rate
-    → Says u config interface (Refused p) → ⊥
-refused_not u config interface text rate p at x y =
-    refused_said p x.interfaces x.interface (one_says u config interface (Refused p) (Said x.interfaces x.interface) y (says_one u config interface text rate at x))
+-- and then the text has no fault, is not too long, and says of the interface nothing else
+pub refused_not : (u : View) (config interface : List ℕ) (i : Interface) (p : ConfPlace) → Configures u config interface i → Says u config interface (Refused p) → ⊥
+refused_not u config interface i p x y = refused_said p x.interfaces i (one_says u config interface (Refused p) (Said x.interfaces i) y x.says)
 
-pub long_not : (u : View) (config interface text : List ℕ) (rate : ℕ) → u.bytes config ≡ Some text → IsOneQueue text interface rate
-    → Says u config interface TooLong → ⊥
-long_not u config interface text rate at x y =
-    long_said x.interfaces x.interface (one_says u config interface TooLong (Said x.interfaces x.interface) y (says_one u config interface text rate at x))
+pub long_not : (u : View) (config interface : List ℕ) (i : Interface) → Configures u config interface i → Says u config interface TooLong → ⊥
+long_not u config interface i x y = long_said x.interfaces i (one_says u config interface TooLong (Said x.interfaces i) y x.says)
 
-pub unbuilt_not : (u : View) (config interface text : List ℕ) (rate : ℕ) → u.bytes config ≡ Some text → IsOneQueue text interface rate
-    → IsUnbuilt u config interface → ⊥
-unbuilt_not u config interface text rate at x y =
-    let same = same_interface x.interfaces y.interfaces x.interface y.found
-    (one_says u config interface (Said x.interfaces x.interface) (Said y.interfaces y.found) (says_one u config interface text rate at x) y.says) in
-    true_false (is_one_queue y.found) (ap is_one_queue (sym same) ∙ x.one) y.other
+pub unbuilt_not : (u : View) (config interface : List ℕ) (i : Interface) → Configures u config interface i → IsUnbuilt u config interface → ⊥
+unbuilt_not u config interface i x y =
+    let same = same_interface x.interfaces y.interfaces i y.found
+    (one_says u config interface (Said x.interfaces i) (Said y.interfaces y.found) x.says y.says) in
+    true_false (is_one_queue y.found) (ap is_one_queue (sym same) ∙ x.played) y.other
 
 -- a fault of the configuration is not one of an accepted one
-pub config_not : (u v : View) (config interface text : List ℕ) (rate : ℕ) (f : ConfigFault) → IsTrue u.tells → IsQuiet u v → u.bytes config ≡ Some text
-    → IsOneQueue text interface rate → ConfigCauses u v config interface f → ⊥
-config_not u v config interface text rate (conf.At place) t q at x c = refused_not u config interface text rate place at x (c t)
-config_not u v config interface text rate conf.TooLong t q at x c = long_not u config interface text rate at x (c t)
-config_not u v config interface text rate conf.Unbuilt t q at x c = unbuilt_not u config interface text rate at x (c t)
-config_not u v config interface text rate conf.Read t q at x (inl c) = (q 1).0 c
-config_not u v config interface text rate conf.Read t q at x (inr c) = no_bytes text (sym c.1 ∙ at)
+pub config_not : (u v : View) (config interface : List ℕ) (i : Interface) (f : ConfigFault) → IsTrue u.tells → IsQuiet u v
+    → Configures u config interface i → ConfigCauses u v config interface f → (config_status f).code ≡ 8
+config_not u v config interface i (conf.At place) t q x c = absurd (refused_not u config interface i place x (c t))
+config_not u v config interface i conf.TooLong t q x c = absurd (long_not u config interface i x (c t))
+config_not u v config interface i conf.Unbuilt t q x c = absurd (unbuilt_not u config interface i x (c t))
+config_not u v config interface i conf.Read t q x (inl c) = absurd ((q 1).0 c)
+config_not u v config interface i conf.Read t q x (inr c) = absurd (no_bytes x.says.text (sym c.1 ∙ x.says.at))
+config_not u v config interface i conf.NoMemory t q x c = refl
 
 -- it is told
 pub unread_not : (u v : View) (config interface : List ℕ) (x : Configuration) → IsQuiet u v → Says u config interface x → ConfigCauses u v config interface conf.Read → ⊥
@@ -118,31 +113,34 @@ tells_place p q e = record {
 }
 
 pub told_place : (u v : View) (config interface : List ℕ) (place : ConfPlace) (f : ConfigFault) → IsTrue u.tells → IsQuiet u v
-    → Says u config interface (Refused place) → ConfigCauses u v config interface f → TellsPlace (config_status f) place
+    → Says u config interface (Refused place) → ConfigCauses u v config interface f → TellsPlace (config_status f) place ⊎ ((config_status f).code ≡ 8)
 told_place u v config interface place (conf.At p) t q y c =
-    tells_place p place (same_place p place (one_says u config interface (Refused p) (Refused place) (c t) y))
+    inl (tells_place p place (same_place p place (one_says u config interface (Refused p) (Refused place) (c t) y)))
 told_place u v config interface place conf.TooLong t q y c =
     absurd (refused_long place (one_says u config interface (Refused place) TooLong y (c t)))
 told_place u v config interface place conf.Unbuilt t q y c =
     let x = c t in
     absurd (refused_said place x.interfaces x.found (one_says u config interface (Refused place) (Said x.interfaces x.found) y x.says))
 told_place u v config interface place conf.Read t q y c = absurd (unread_not u v config interface (Refused place) q y c)
+told_place u v config interface place conf.NoMemory t q y c = inr refl
 
 pub told_long : (u v : View) (config interface : List ℕ) (f : ConfigFault) → IsTrue u.tells → IsQuiet u v
-    → Says u config interface TooLong → ConfigCauses u v config interface f → Tells (config_status f) 7 3
+    → Says u config interface TooLong → ConfigCauses u v config interface f → Tells (config_status f) 7 3 ⊎ ((config_status f).code ≡ 8)
 told_long u v config interface (conf.At p) t q y c =
     absurd (refused_long p (one_says u config interface (Refused p) TooLong (c t) y))
-told_long u v config interface conf.TooLong t q y c = record { code = refl; kind = refl }
+told_long u v config interface conf.TooLong t q y c = inl (record { code = refl; kind = refl })
 told_long u v config interface conf.Unbuilt t q y c =
     let x = c t in
     absurd (long_said x.interfaces x.found (one_says u config interface TooLong (Said x.interfaces x.found) y x.says))
 told_long u v config interface conf.Read t q y c = absurd (unread_not u v config interface TooLong q y c)
+told_long u v config interface conf.NoMemory t q y c = inr refl
 
 pub told_unbuilt : (u v : View) (config interface : List ℕ) (f : ConfigFault) → IsTrue u.tells → IsQuiet u v
-    → IsUnbuilt u config interface → ConfigCauses u v config interface f → Tells (config_status f) 9 3
+    → IsUnbuilt u config interface → ConfigCauses u v config interface f → Tells (config_status f) 9 3 ⊎ ((config_status f).code ≡ 8)
 told_unbuilt u v config interface (conf.At p) t q y c =
     absurd (refused_said p y.interfaces y.found (one_says u config interface (Refused p) (Said y.interfaces y.found) (c t) y.says))
 told_unbuilt u v config interface conf.TooLong t q y c =
     absurd (long_said y.interfaces y.found (one_says u config interface TooLong (Said y.interfaces y.found) (c t) y.says))
-told_unbuilt u v config interface conf.Unbuilt t q y c = record { code = refl; kind = refl }
+told_unbuilt u v config interface conf.Unbuilt t q y c = inl (record { code = refl; kind = refl })
 told_unbuilt u v config interface conf.Read t q y c = absurd (unread_not u v config interface (Said y.interfaces y.found) q y.says c)
+told_unbuilt u v config interface conf.NoMemory t q y c = inr refl

@@ -1,22 +1,23 @@
--- What no play that ended in time is: damaged, limited or cut off.
-use Rattle.std.proofs.Common.{◌≡◌, ◌≤◌, ◌<◌, ◌-◌, ◌∙◌, ◌⊎◌, ℕ, zero, suc, length, drop, List, [], ◌∷◌, None, Some, ap, sym, subst, inl, inr, arith}
-use Rattle.altq_model.specs.declared.capture.Damage.{Damage}
+-- Which ends of a play exclude one another.
+use Rattle.std.proofs.Common.{◌≡◌, ◌<◌, ◌⊎◌, ℕ, List, ◌∷◌, [], sym, subst, inl, inr, arith}
+use Rattle.altq_model.specs.declared.Rule.TheVariants.{Share}
+use Rattle.altq_model.specs.History.{Happened}
+use Rattle.altq_model.specs.Lawful.{IsLawful}
+use Rattle.altq_model.specs.Policies.{tail}
 use Rattle.altq_model.specs.Arrivals.{comings}
-use Rattle.altq_model.specs.Capture.{Record, Step, End, Fault, Limit, Reads, IsCapture}
-use Rattle.altq_model.specs.History.{Entry, Event, Offered, Sent, Coming}
-use Rattle.altq_model.specs.Laws.{IsInTime, EndsInTime}
-use Rattle.altq_model.specs.Laws.{IsLate as IsLate_}
-use Rattle.altq_model.specs.Play.{Policy, AreDue, due}
-use Rattle.altq_model.specs.Policies.{one_queue}
-use Rattle.pcap_files.specs.ReadingLaws.{IsLast, one_reading}
+use Rattle.capture_model.specs.declared.damage.Damage.{Damage}
+use Rattle.capture_model.specs.Capture.{Record, Step, End, Fault, Limit, Reads, IsLast}
+use Rattle.conf_laws.specs.Laws.{ConfigurationsFit}
+use Rattle.conf_tree.specs.declared.interface.Interface.{Interface}
+use Rattle.pcap_files.proofs.ReadingLaws.{one_reading}
 use Rattle.play_base.specs.View.{View}
-use Rattle.play_core.specs.Ended.{IsPlayed, IsCutOff}
-use Rattle.play_laws.proofs.OneLemmas.{one_play}
-use Rattle.play_loop.specs.OneQueue.{one_setup}
-use Rattle.play_loop.specs.Setup.{IsCutOf, arrivals_in}
-use Rattle.play_cli.specs.Configuration.{IsOneQueue}
-use Rattle.play_cli.specs.Run.{Names, HasPlayed, EndsWith, EndsLate}
-use Rattle.play_cli.proofs.ConfLemmas.{one_rate, same_some}
+use Rattle.play_laws.proofs.StrictLemmas.{strict_lawful}
+use Rattle.play_loop.specs.Setup.{Setup, arrivals_in}
+use Rattle.play_cli.specs.InterfaceSetup.{default_limit, policy_of, setup_of}
+use Rattle.play_cli.specs.Run.{Accepted, EndsLate, EndsWith, HasPlayed, IsCutEarly, IsLate, IsOffered, Names}
+use Rattle.play_cli.proofs.CheckLemmas.{has_rate}
+use Rattle.play_cli.proofs.ConfLemmas.{one_accepted}
+use Rattle.play_cli.proofs.LateLemmas.{not_cut, offered_not_early}
 
 pub end_fault : (d : Damage) → End ≡ Fault d → ⊥
 end_fault d h = cc
@@ -36,79 +37,66 @@ limit_end h = cc
 pub fault_same : (d e : Damage) → Fault d ≡ Fault e → d ≡ e
 fault_same d e h = cc
 
--- bytes under one name read one way
-pub last_same : (u : View) (n : Names) (bytes other : List ℕ) (xs ys : List Record) (p q : Step) → IsLast p → IsLast q → u.bytes n.arrivals ≡ Some bytes
-    → u.bytes n.arrivals ≡ Some other → Reads bytes xs p → Reads other ys q → p ≡ q
-last_same u n bytes other xs ys p q hp hq a b r s =
+pub lawful : (i : Interface) → IsLawful (policy_of i)
+lawful i = strict_lawful (1 ∷ []) Share (tail (default_limit i))
+
+-- what is accepted reads one way
+pub one_reads : (u : View) (n : Names) (x y : Accepted u n) (xs ys : List Record) (p q : Step) → IsLast p → IsLast q → Reads x.bytes xs p → Reads y.bytes ys q
+    → (xs ≡ ys) × (p ≡ q)
+one_reads u n x y xs ys p q hp hq r s =
     let B : List ℕ → Type 0 = λ zs. Reads zs ys q in
-    (one_reading bytes xs ys p q r hp (subst B (same_some _ _ (sym b ∙ a)) s) hq).1
+    let same = one_reading x.bytes xs ys p q r hp (subst B (sym (one_accepted u n x y).1) s) hq in
+    (same.0, same.1)
+
+-- and is played one way
+pub one_cut : (u : View) (n : Names) (seed : ℕ) (x y : Accepted u n) (xs ys : List Record) (p q : Step) (g : List Happened) → xs ≡ ys → p ≡ q
+    → IsCutEarly (setup_of x.interface seed) xs p g → IsCutEarly (setup_of y.interface seed) ys q g
+one_cut u n seed x y xs ys p q g rs ls c =
+    let A : Interface → Type 0 = λ i. IsCutEarly (setup_of i seed) xs p g in
+    let B : List Record → Type 0 = λ zs. IsCutEarly (setup_of y.interface seed) zs p g in
+    let C : Step → Type 0 = λ l. IsCutEarly (setup_of y.interface seed) ys l g in
+    subst C ls (subst B rs (subst A (one_accepted u n x y).0 c))
 
 -- a capture with a damage or at a limit is not played
-pub damaged_not : (u v : View) (n : Names) (seed : ℕ) (d : Damage) → EndsWith u n (Fault d) → HasPlayed u v n seed → ⊥
-damaged_not u v n seed d x p = fault_end d (last_same u n x.bytes p.bytes x.records p.records (Fault d) End tt tt x.arrivals p.arrivals x.reads p.capture)
+pub damaged_not : (u v : View) (n : Names) (seed : ℕ) (d : Damage) → EndsWith u n seed (Fault d) → HasPlayed u v n seed → ⊥
+damaged_not u v n seed d x p =
+    fault_end d (one_reads u n x.accepted p.accepted x.records p.played.records (Fault d) End tt tt x.reads p.played.capture).1
 
-pub limited_not : (u v : View) (n : Names) (seed : ℕ) → EndsWith u n Limit → HasPlayed u v n seed → ⊥
-limited_not u v n seed x p = limit_end (last_same u n x.bytes p.bytes x.records p.records Limit End tt tt x.arrivals p.arrivals x.reads p.capture)
+pub limited_not : (u v : View) (n : Names) (seed : ℕ) → EndsWith u n seed Limit → HasPlayed u v n seed → ⊥
+limited_not u v n seed x p =
+    limit_end (one_reads u n x.accepted p.accepted x.records p.played.records Limit End tt tt x.reads p.played.capture).1
 
--- each of the older events is in time too
-in_time_drop : (n : ℕ) (g : List Entry) → IsInTime g → IsInTime (drop n g)
-in_time_drop zero g h = h
-in_time_drop (suc n) [] h = h
-in_time_drop (suc n) (e ∷ g) h = in_time_drop n g h.1
-
-late_not : (e : Entry) → IsLate_ e.what → EndsInTime e.what → ⊥
-late_not e l h = late_event e.what l h
-  where
-    late_event : (x : Event) → IsLate_ x → EndsInTime x → ⊥
-    late_event (Offered a w v) l h = l
-    late_event (Sent s) l h = omega (arith, l, h)
-
-none_some : (e : Entry) → None ≡ Some e → ⊥
-none_some e h = cc
-
-due_drop_next : (p : Policy) (rate seed : ℕ) (arrived : List Coming) (k : List Entry) (m : ℕ) → AreDue p rate seed arrived k → m < length k
-    → (e : Entry) × (due p rate seed arrived (drop (suc m) k) ≡ Some e)
-due_drop_next p rate seed arrived [] m d l = absurd (omega (arith, l))
-due_drop_next p rate seed arrived (e ∷ k) zero d l = (e, d.0)
-due_drop_next p rate seed arrived (e ∷ k) (suc m) d l = due_drop_next p rate seed arrived k m d.1 (omega (arith, l))
-
-suc_pred : (n : ℕ) → 0 < n → suc (n - 1) ≡ n
-suc_pred n l = omega (arith, l)
-
-short_or_long : (n m : ℕ) → (n < m) ⊎ (m ≤ n)
-short_or_long n m = grind arith
-
--- no play that ended in time is cut off
-not_cut : (p : Policy) (rate seed : ℕ) (arrived : List Coming) (g k : List Entry) → IsPlayed p rate seed arrived g → (c : IsCutOff p rate seed arrived k)
-    → (length g < length (c.next ∷ k)) ⊎ (length (c.next ∷ k) ≤ length g) → ⊥
-not_cut p rate seed arrived g k x c (inl l) =
-    let late : List Entry = c.next ∷ k in
-    let d : AreDue p rate seed arrived late = (c.is_due, c.begun.events) in
-    let m : ℕ = length late - length g in
-    let y = due_drop_next p rate seed arrived late (m - 1) d (omega (arith, l)) in
-    let same : drop (suc (m - 1)) late ≡ g = ap (λ (i : ℕ). drop i late) (suc_pred m (omega (arith, l))) ∙ one_play p rate seed arrived g late x.begun.events d (omega (arith, l)) in
-    none_some y.0 (sym x.done ∙ ap (due p rate seed arrived) (sym same) ∙ y.1)
-not_cut p rate seed arrived g k x c (inr l) =
-    let late : List Entry = c.next ∷ k in
-    let d : AreDue p rate seed arrived late = (c.is_due, c.begun.events) in
-    let same : drop (length g - length late) g ≡ late = one_play p rate seed arrived late g d x.begun.events l in
-    let h : IsInTime late = subst IsInTime same (in_time_drop (length g - length late) g x.begun.in_time) in
-    late_not c.next c.late h.0
-
--- the same arrivals under the same configuration
-late_cut : (u : View) (n : Names) (seed : ℕ) (x : EndsLate u n seed) (text bytes : List ℕ) (rate : ℕ) (records : List Record)
-    → u.bytes n.config ≡ Some text → IsOneQueue text n.interface rate → u.bytes n.arrivals ≡ Some bytes → IsCapture bytes records
-    → IsCutOf (one_setup rate seed) records x.history
-late_cut u n seed x text bytes rate records c a b r =
-    let B : List ℕ → Type 0 = λ xs. Reads xs records End in
-    let same = one_reading x.bytes x.records records End End x.capture tt (subst B (same_some _ _ (sym b ∙ x.arrivals)) r) tt in
-    let C : List ℕ → Type 0 = λ xs. IsOneQueue xs n.interface rate in
-    let one = one_rate x.text n.interface x.rate rate x.accepted (subst C (same_some _ _ (sym c ∙ x.config)) a) in
-    let R : List Record → Type 0 = λ rs. IsCutOf (one_setup x.rate seed) rs x.history in
-    let S : ℕ → Type 0 = λ v. IsCutOf (one_setup v seed) records x.history in
-    subst S one (subst R same.0 x.cut)
-
+-- what ends late is not played
 pub late_not_played : (u v : View) (n : Names) (seed : ℕ) → EndsLate u n seed → HasPlayed u v n seed → ⊥
 late_not_played u v n seed x p =
-    let c = late_cut u n seed x p.text p.bytes p.rate p.records p.config p.accepted p.arrivals p.capture in
-    not_cut (one_queue 50) p.rate seed (comings (arrivals_in (one_setup p.rate seed) p.records)) p.history x.history p.play c (short_or_long _ _)
+    let same = one_reads u n x.accepted p.accepted x.records p.played.records x.last End x.is_last tt x.reads p.played.capture in
+    let c = one_cut u n seed x.accepted p.accepted x.records p.played.records x.last End x.history same.0 same.1 x.early in
+    let s : Setup = setup_of p.accepted.interface seed in
+    not_cut s.policy s.rate seed (comings (arrivals_in s p.played.records)) p.played.history x.history
+    (record { events = p.played.play.play.events; in_time = p.played.play.in_time }) p.played.play.play.done c.cut
+
+-- nor is all of it offered and then a damage or a limit met
+early_only : (last : Step) (a b : ℕ) → (last ≡ End → ⊥) → (last ≡ End) ⊎ (a < b) → a < b
+early_only last a b n (inl e) = absurd (n e)
+early_only last a b n (inr l) = l
+
+pub offered_not_late : (u v : View) (n : Names) (seed : ℕ) (last : Step) → ConfigurationsFit → IsLast last → (last ≡ End → ⊥) → IsOffered u v n seed last
+    → EndsLate u n seed → ⊥
+offered_not_late u v n seed last fit h other x y =
+    let same = one_reads u n y.accepted x.accepted y.records x.records y.last last y.is_last h y.reads x.reads in
+    let c = one_cut u n seed y.accepted x.accepted y.records x.records y.last last y.history same.0 same.1 y.early in
+    let i : Interface = x.accepted.interface in
+    let s : Setup = setup_of i seed in
+    let all = x.decided.all in
+    offered_not_early s.policy s.rate seed s.place x.records x.decided.history y.history (has_rate u n.config n.interface i fit x.accepted.configuration)
+    (lawful i) x.decided.begun (omega (arith, all)) c.cut (early_only last _ _ other c.before)
+
+-- what is cut off ends late
+pub late_not_ended : (u v : View) (n : Names) (seed : ℕ) (last : Step) → IsLast last → EndsWith u n seed last → IsLate u v n seed → ⊥
+late_not_ended u v n seed last h p x =
+    let same = one_reads u n x.accepted p.accepted x.records p.records x.last last x.is_last h x.reads p.reads in
+    p.in_time x.history (one_cut u n seed x.accepted p.accepted x.records p.records x.last last x.history same.0 same.1 x.early)
+
+-- what reads to one end has no other
+pub one_end : (u v : View) (n : Names) (seed : ℕ) (last other : Step) → IsLast last → IsLast other → EndsWith u n seed last → IsOffered u v n seed other → last ≡ other
+one_end u v n seed last other hl ho p x = (one_reads u n p.accepted x.accepted p.records x.records last other hl ho p.reads x.reads).1

@@ -2,8 +2,11 @@ pub mod CheckLemmas
 pub mod ClosingLemmas
 pub mod ConfLemmas
 pub mod EndLemmas
+pub mod FilesLemmas
+pub mod LateLemmas
 pub mod NameLemmas
 pub mod OneLemmas
+pub mod OpeningLemmas
 pub mod RunLemmas
 pub mod StepLemmas
 pub mod ToldLemmas

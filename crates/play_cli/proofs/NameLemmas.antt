@@ -2,7 +2,7 @@
 use Rattle.std.proofs.Common.{◌≡◌, ◌∙◌, ◌⊎◌, ℕ, List, Some, ap, subst, inl, inr}
 use Rattle.std.specs.Prelude.{IsTrue}
 use Rattle.play_base.specs.View.{View}
-use Rattle.play_text.specs.declared.status.Status.{Status}
+use Rattle.play_cli.specs.declared.status.Status.{Status}
 use Rattle.play_words.specs.Read.{Reads, ReadsPlay, ReadsCheck}
 use Rattle.play_words.specs.declared.words.Command.{Command}
 use Rattle.play_words.specs.declared.words.Command.TheVariants as asks
@@ -29,6 +29,9 @@ names_same x y c i a d f s =
 pub play_read : (words : Words) (command : Command) (w : PlayWords) → command ≡ asks.Play w → Reads words command → ReadsPlay words w
 play_read words command w e r = let P : Command → Type 0 = λ c. Reads words c in subst P e r
 
+pub check_read : (words : Words) (command : Command) (w : CheckWords) → command ≡ asks.Check w → Reads words command → ReadsCheck words w
+check_read words command w e r = let P : Command → Type 0 = λ c. Reads words c in subst P e r
+
 -- a play of the words as they stand
 pub play_of_words : (u v : View) (words : Words) (w : PlayWords) (s : Status) → ReadsPlay words w → PlayEnds u v (names_read w) w.seed s
     → PlayEnds u v (names_of words) w.seed s
@@ -51,14 +54,24 @@ check_of_words u v words w s r x =
     subst Q r.interface (subst P r.config x)
 
 -- the limits in the words of the command line
-limits : (u v : View) (words : Words) (w : PlayWords) (kind : ℕ) → ReadsPlay words w
-    → ((kind ≡ 1) × (IsTrue u.tells → IsLimited u (names_of words)))
-    ⊎ ((kind ≡ 2) × (IsTrue u.tells → IsLate u v (names_of words) w.seed))
-    ⊎ ((kind ≡ 3) × (IsTrue u.tells → Says u (names_of words).config (names_of words).interface TooLong))
-    → ((kind ≡ 1) × IsPlay words × (IsTrue u.tells → IsLimited u (names_of words)))
+abbrev pub LimitOf : (u v : View) (words : Words) (kind : ℕ) → Type 0
+LimitOf u v words kind =
+    ((kind ≡ 1) × IsPlay words × (IsTrue u.tells → (seed : ℕ) → seed_of words ≡ Some seed → IsLimited u v (names_of words) seed))
     ⊎ ((kind ≡ 2) × IsPlay words × (IsTrue u.tells → (seed : ℕ) → seed_of words ≡ Some seed → IsLate u v (names_of words) seed))
     ⊎ ((kind ≡ 3) × (IsTrue u.tells → Says u (names_of words).config (names_of words).interface TooLong))
-limits u v words w kind r (inl x) = inl (x.0, r.command, x.1)
+
+limits : (u v : View) (words : Words) (w : PlayWords) (kind : ℕ) → ReadsPlay words w
+    → ((kind ≡ 1) × (IsTrue u.tells → IsLimited u v (names_of words) w.seed))
+    ⊎ ((kind ≡ 2) × (IsTrue u.tells → IsLate u v (names_of words) w.seed))
+    ⊎ ((kind ≡ 3) × (IsTrue u.tells → Says u (names_of words).config (names_of words).interface TooLong))
+    → LimitOf u v words kind
+limits u v words w kind r (inl x) = inl (
+  x.0,
+  r.command,
+  λ t seed is.
+      let P : ℕ → Type 0 = λ k. IsLimited u v (names_of words) k in
+      subst P (same_number (seed_of words) w.seed seed r.seed is) (x.1 t),
+)
 limits u v words w kind r (inr (inl x)) = inr (inl (
   x.0,
   r.command,
@@ -69,7 +82,5 @@ limits u v words w kind r (inr (inl x)) = inr (inl (
 limits u v words w kind r (inr (inr x)) = inr (inr x)
 
 pub limit_of_words : (u v : View) (words : Words) (w : PlayWords) (s : Status) → ReadsPlay words w → PlayEnds u v (names_read w) w.seed s → s.code ≡ 7
-    → ((s.kind ≡ 1) × IsPlay words × (IsTrue u.tells → IsLimited u (names_of words)))
-    ⊎ ((s.kind ≡ 2) × IsPlay words × (IsTrue u.tells → (seed : ℕ) → seed_of words ≡ Some seed → IsLate u v (names_of words) seed))
-    ⊎ ((s.kind ≡ 3) × (IsTrue u.tells → Says u (names_of words).config (names_of words).interface TooLong))
+    → LimitOf u v words s.kind
 limit_of_words u v words w s r x e = limits u v words w s.kind r ((play_of_words u v words w s r x).comes.limit e)

@@ -1,11 +1,21 @@
 -- What the status of a fault tells, and that it is told.
-use Rattle.std.proofs.Common.{◌≡◌, ◌≢◌, ◌⊎◌, ℕ, refl, inl, inr, arith}
+use Rattle.std.proofs.Common.{◌≡◌, ◌≢◌, ◌≤◌, ◌⊎◌, ℕ, refl, inl, inr, arith}
 use Rattle.std.specs.Prelude.{IsTrue}
-use Rattle.altq_model.specs.Numbers.{damage_number}
+use Rattle.capture_model.specs.Numbers.{damage_number}
 use Rattle.play_base.specs.View.{View}
-use Rattle.play_cli.specs.Causes.{Causes, ConfigCauses, IsAfterConfig, IsAfterConfigFault, config_status, status_of, ended}
+use Rattle.play_base.specs.declared.trouble.Trouble.{Trouble}
+use Rattle.play_base.specs.declared.trouble.Trouble.TheVariants as trouble
+use Rattle.conf_tree.specs.declared.interface.Interface.{Interface}
+use Rattle.play_loop.specs.declared.fault.Limit.{Limit}
+use Rattle.play_loop.specs.declared.fault.Limit.TheVariants as limit
+use Rattle.play_loop.specs.declared.fault.Output.{Output}
+use Rattle.play_loop.specs.declared.fault.Output.TheVariants as output
+use Rattle.play_loop.specs.declared.fault.PlayFault.{PlayFault}
+use Rattle.play_loop.specs.declared.fault.PlayFault.TheVariants as play
+use Rattle.play_cli.specs.Causes.{Causes, ConfigCauses, IsAfterConfig, IsAfterConfigFault, LimitCauses, PlayCauses, config_status, limit_number, play_status, say_status, status_of, ended}
+use Rattle.play_cli.specs.Configuration.{Accepts}
 use Rattle.play_cli.specs.Ending.{IsStatus, PlayComes}
-use Rattle.play_cli.specs.Opening.{Accepts}
+use Rattle.play_cli.specs.Opening.{output_number}
 use Rattle.play_cli.specs.Run.{Names, HasPlayed, IsCode}
 use Rattle.play_cli.specs.declared.fault.ConfigFault.{ConfigFault}
 use Rattle.play_cli.specs.declared.fault.ConfigFault.TheVariants as conf
@@ -63,12 +73,12 @@ config_is_status (conf.At place) = record {
 config_is_status conf.TooLong = with_kind 7 3 seven (λ e. omega (arith, e)) (λ e. omega (arith, e)) (λ e. omega (arith, e))
 config_is_status conf.Unbuilt = with_kind 9 3 nine (λ e. omega (arith, e)) (λ e. omega (arith, e)) (λ e. omega (arith, e))
 config_is_status conf.Read = with_kind 5 1 five (λ e. omega (arith, e)) (λ e. omega (arith, e)) (λ e. omega (arith, e))
+config_is_status conf.NoMemory = plain 8 0 eight (λ e. omega (arith, e)) (λ e. refl)
 
-pub is_status : (f : RunFault) → IsStatus (status_of f)
-is_status (fault.Config c) = config_is_status c
-is_status fault.Arrivals = with_kind 5 2 five (λ e. omega (arith, e)) (λ e. omega (arith, e)) (λ e. omega (arith, e))
-is_status (fault.Write kind) = with_kind 6 kind six (λ e. omega (arith, e)) (λ e. omega (arith, e)) (λ e. omega (arith, e))
-is_status (fault.Capture d) = record {
+play_is_status : (f : PlayFault) → IsStatus (play_status f)
+play_is_status play.Read = with_kind 5 2 five (λ e. omega (arith, e)) (λ e. omega (arith, e)) (λ e. omega (arith, e))
+play_is_status (play.Write output) = with_kind 6 (output_number output) six (λ e. omega (arith, e)) (λ e. omega (arith, e)) (λ e. omega (arith, e))
+play_is_status (play.Capture d) = record {
   code = four;
   accepted = λ e. omega (arith, e);
   no_line = λ n. refl;
@@ -76,8 +86,17 @@ is_status (fault.Capture d) = record {
   no_place = λ n. absurd (n refl);
   no_kind = not_zero_or_eight 4 (damage_number d.kind) (λ e. omega (arith, e)) (λ e. omega (arith, e));
 }
-is_status (fault.Limit kind) = with_kind 7 kind seven (λ e. omega (arith, e)) (λ e. omega (arith, e)) (λ e. omega (arith, e))
-is_status fault.NoMemory = plain 8 0 eight (λ e. omega (arith, e)) (λ e. refl)
+play_is_status (play.Limit limit) = with_kind 7 (limit_number limit) seven (λ e. omega (arith, e)) (λ e. omega (arith, e)) (λ e. omega (arith, e))
+play_is_status play.NoMemory = plain 8 0 eight (λ e. omega (arith, e)) (λ e. refl)
+
+say_is_status : (t : Trouble) → IsStatus (say_status t)
+say_is_status trouble.Failed = with_kind 6 10 six (λ e. omega (arith, e)) (λ e. omega (arith, e)) (λ e. omega (arith, e))
+say_is_status trouble.NoMemory = plain 8 0 eight (λ e. omega (arith, e)) (λ e. refl)
+
+pub is_status : (f : RunFault) → IsStatus (status_of f)
+is_status (fault.Config c) = config_is_status c
+is_status (fault.Play f) = play_is_status f
+is_status (fault.Say t) = say_is_status t
 
 pub done_is_status : IsStatus (ended 0 0)
 done_is_status = plain 0 0 (inl refl) (λ e. omega (arith, e)) (λ e. refl)
@@ -161,61 +180,7 @@ config_comes u v n seed conf.Read x = record {
   limit = λ e. absurd (omega (arith, e));
   accepted_first = λ e. after_read e;
 }
-
-pub fault_comes : (u v : View) (n : Names) (seed : ℕ) (f : RunFault) → Causes u v n seed f
-    → (IsAfterConfigFault f → (rate : ℕ) × Accepts u n.config n.interface rate) → PlayComes u v n seed (status_of f)
-fault_comes u v n seed (fault.Config c) x a = config_comes u v n seed c x
-fault_comes u v n seed fault.Arrivals x a = record {
-  done = λ e. absurd (omega (arith, e));
-  configuration = λ e. absurd (omega (arith, e));
-  unbuilt = λ e. absurd (omega (arith, e));
-  damaged = λ e. absurd (omega (arith, e));
-  read = λ e. inr (refl, x);
-  write = λ e. absurd (omega (arith, e));
-  limit = λ e. absurd (omega (arith, e));
-  accepted_first = λ e. a tt;
-}
-fault_comes u v n seed (fault.Write kind) x a = record {
-  done = λ e. absurd (omega (arith, e));
-  configuration = λ e. absurd (omega (arith, e));
-  unbuilt = λ e. absurd (omega (arith, e));
-  damaged = λ e. absurd (omega (arith, e));
-  read = λ e. absurd (omega (arith, e));
-  write = λ e. x;
-  limit = λ e. absurd (omega (arith, e));
-  accepted_first = λ e. a tt;
-}
-fault_comes u v n seed (fault.Capture d) x a = record {
-  done = λ e. absurd (omega (arith, e));
-  configuration = λ e. absurd (omega (arith, e));
-  unbuilt = λ e. absurd (omega (arith, e));
-  damaged = λ e. x;
-  read = λ e. absurd (omega (arith, e));
-  write = λ e. absurd (omega (arith, e));
-  limit = λ e. absurd (omega (arith, e));
-  accepted_first = λ e. a tt;
-}
-fault_comes u v n seed (fault.Limit kind) (inl x) a = record {
-  done = λ e. absurd (omega (arith, e));
-  configuration = λ e. absurd (omega (arith, e));
-  unbuilt = λ e. absurd (omega (arith, e));
-  damaged = λ e. absurd (omega (arith, e));
-  read = λ e. absurd (omega (arith, e));
-  write = λ e. absurd (omega (arith, e));
-  limit = λ e. inl x;
-  accepted_first = λ e. a tt;
-}
-fault_comes u v n seed (fault.Limit kind) (inr x) a = record {
-  done = λ e. absurd (omega (arith, e));
-  configuration = λ e. absurd (omega (arith, e));
-  unbuilt = λ e. absurd (omega (arith, e));
-  damaged = λ e. absurd (omega (arith, e));
-  read = λ e. absurd (omega (arith, e));
-  write = λ e. absurd (omega (arith, e));
-  limit = λ e. inr (inl x);
-  accepted_first = λ e. a tt;
-}
-fault_comes u v n seed fault.NoMemory x a = record {
+config_comes u v n seed conf.NoMemory x = record {
   done = λ e. absurd (omega (arith, e));
   configuration = λ e. absurd (omega (arith, e));
   unbuilt = λ e. absurd (omega (arith, e));
@@ -225,6 +190,84 @@ fault_comes u v n seed fault.NoMemory x a = record {
   limit = λ e. absurd (omega (arith, e));
   accepted_first = λ e. after_memory e;
 }
+
+output_bounds : (o : Output) → (1 ≤ output_number o) × (output_number o ≤ 3)
+output_bounds output.Departures = (omega arith, omega arith)
+output_bounds output.Fates = (omega arith, omega arith)
+output_bounds output.Statistics = (omega arith, omega arith)
+
+limit_comes : (u v : View) (n : Names) (seed : ℕ) (l : Limit) → LimitCauses u v n seed l → (found : Interface) × Accepts u n.config n.interface found
+    → PlayComes u v n seed (play_status (play.Limit l))
+limit_comes u v n seed limit.Capture x a = record {
+  done = λ e. absurd (omega (arith, e));
+  configuration = λ e. absurd (omega (arith, e));
+  unbuilt = λ e. absurd (omega (arith, e));
+  damaged = λ e. absurd (omega (arith, e));
+  read = λ e. absurd (omega (arith, e));
+  write = λ e. absurd (omega (arith, e));
+  limit = λ e. inl (refl, x);
+  accepted_first = λ e. a;
+}
+limit_comes u v n seed limit.Clock x a = record {
+  done = λ e. absurd (omega (arith, e));
+  configuration = λ e. absurd (omega (arith, e));
+  unbuilt = λ e. absurd (omega (arith, e));
+  damaged = λ e. absurd (omega (arith, e));
+  read = λ e. absurd (omega (arith, e));
+  write = λ e. absurd (omega (arith, e));
+  limit = λ e. inr (inl (refl, x));
+  accepted_first = λ e. a;
+}
+
+play_comes : (u v : View) (n : Names) (seed : ℕ) (f : PlayFault) → PlayCauses u v n seed f → (found : Interface) × Accepts u n.config n.interface found
+    → PlayComes u v n seed (play_status f)
+play_comes u v n seed play.Read x a = record {
+  done = λ e. absurd (omega (arith, e));
+  configuration = λ e. absurd (omega (arith, e));
+  unbuilt = λ e. absurd (omega (arith, e));
+  damaged = λ e. absurd (omega (arith, e));
+  read = λ e. inr (refl, x);
+  write = λ e. absurd (omega (arith, e));
+  limit = λ e. absurd (omega (arith, e));
+  accepted_first = λ e. a;
+}
+play_comes u v n seed (play.Write o) x a = record {
+  done = λ e. absurd (omega (arith, e));
+  configuration = λ e. absurd (omega (arith, e));
+  unbuilt = λ e. absurd (omega (arith, e));
+  damaged = λ e. absurd (omega (arith, e));
+  read = λ e. absurd (omega (arith, e));
+  write = λ e. let b = output_bounds o in (b.0, b.1, x);
+  limit = λ e. absurd (omega (arith, e));
+  accepted_first = λ e. a;
+}
+play_comes u v n seed (play.Capture d) x a = record {
+  done = λ e. absurd (omega (arith, e));
+  configuration = λ e. absurd (omega (arith, e));
+  unbuilt = λ e. absurd (omega (arith, e));
+  damaged = λ e. x;
+  read = λ e. absurd (omega (arith, e));
+  write = λ e. absurd (omega (arith, e));
+  limit = λ e. absurd (omega (arith, e));
+  accepted_first = λ e. a;
+}
+play_comes u v n seed (play.Limit l) x a = limit_comes u v n seed l x a
+play_comes u v n seed play.NoMemory x a = record {
+  done = λ e. absurd (omega (arith, e));
+  configuration = λ e. absurd (omega (arith, e));
+  unbuilt = λ e. absurd (omega (arith, e));
+  damaged = λ e. absurd (omega (arith, e));
+  read = λ e. absurd (omega (arith, e));
+  write = λ e. absurd (omega (arith, e));
+  limit = λ e. absurd (omega (arith, e));
+  accepted_first = λ e. a;
+}
+
+pub fault_comes : (u v : View) (n : Names) (seed : ℕ) (f : RunFault) → Causes u v n seed f
+    → (IsAfterConfigFault f → (found : Interface) × Accepts u n.config n.interface found) → PlayComes u v n seed (status_of f)
+fault_comes u v n seed (fault.Config c) x a = config_comes u v n seed c x
+fault_comes u v n seed (fault.Play f) x a = play_comes u v n seed f x (a tt)
+fault_comes u v n seed (fault.Say t) x a = absurd x
 
 pub done_comes : (u v : View) (n : Names) (seed : ℕ) → (IsTrue u.tells → HasPlayed u v n seed) → PlayComes u v n seed (ended 0 0)
 done_comes u v n seed x = record {

@@ -1,258 +1,343 @@
 -- From the files of a play to the names of the words.
-use Rattle.std.proofs.Common.{◌≡◌, ◌≢◌, ◌≤◌, ◌+◌, ◌++◌, ◌∙◌, ◌⊎◌, ℕ, List, [], ◌∷◌, Some, ap, sym, refl, subst, inl, inr, arith}
+use Rattle.std.proofs.Common.{◌≡◌, ◌≢◌, ◌≤◌, ◌<◌, ◌++◌, ◌∙◌, ◌⊎◌, ℕ, true, List, [], ◌∷◌, None, Some, Ok, ap, sym, refl, subst, inl, inr, arith}
 use Rattle.std.specs.Prelude.{IsSome, IsTrue}
+use Rattle.altq_model.specs.declared.Placed.{Placed}
 use Rattle.altq_model.specs.declared.Rule.TheVariants.{Share}
 use Rattle.altq_model.specs.Arrivals.{comings}
-use Rattle.altq_model.specs.Capture.{Record}
-use Rattle.altq_model.specs.History.{Entry}
-use Rattle.altq_model.specs.Laws.{IsBusy, KeepsLaws}
+use Rattle.altq_model.specs.History.{Happened}
+use Rattle.altq_model.specs.Idle.{NeverIdles}
 use Rattle.altq_model.specs.Policies.{one_queue, tail}
-use Rattle.play_base.specs.View.{View, Keeps, Any, Rose}
-use Rattle.play_base.specs.ViewLaws.{keeps_trans, keeps_fewer, part_of_there, rose_later}
+use Rattle.capture_model.specs.Capture.{Record, Step, Fault, Limit}
+use Rattle.conf_tree.specs.declared.interface.Interface.{Interface}
+use Rattle.play_base.specs.View.{View, Keeps, Any, NoneAppears, Rose}
+use Rattle.play_base.proofs.ViewLaws.{part_of_there, rose_later}
 use Rattle.play_base.specs.Holds.{HoldsAt}
-use Rattle.play_laws.proofs.AllLaws.{play_laws}
 use Rattle.play_laws.proofs.ArrivalLemmas.{arrivals_rise}
-use Rattle.play_laws.proofs.BusyLemmas.{is_busy}
+use Rattle.play_laws.proofs.IdleLemmas.{never_idles}
 use Rattle.play_laws.proofs.StrictLemmas.{strict_lawful, strict_never_waits, one_queue_holds}
+use Rattle.play_words.specs.Words.{AreDistinct}
+use Rattle.play_core.specs.declared.totals.Totals.{Totals}
+use Rattle.play_core.specs.Finished.{IsFinished}
+use Rattle.play_loop.specs.declared.fault.Limit.TheVariants as limit
 use Rattle.play_loop.specs.declared.fault.Opened.{Opened}
+use Rattle.play_loop.specs.declared.fault.Output.TheVariants as output
 use Rattle.play_loop.specs.declared.fault.PlayFault.{PlayFault}
 use Rattle.play_loop.specs.declared.fault.PlayFault.TheVariants as play
-use Rattle.play_loop.specs.OneQueue.{one_mark, one_setup}
-use Rattle.play_loop.specs.Setup.{KeepsBut, IsPlayOf, arrivals_in}
-use Rattle.play_text.specs.declared.status.Totals.{Totals}
-use Rattle.play_loop.specs.Played.{Plays, Explains}
+use Rattle.play_loop.specs.Kept.{KeepsBeside}
+use Rattle.play_loop.specs.Played.{Plays, Explains, Offers}
 use Rattle.play_loop.specs.Played as loop
-use Rattle.play_cli.specs.Configuration.{IsOneQueue}
-use Rattle.play_cli.specs.Opening.{AreOpened, Accepts, AcceptsNone, CannotRead, IsEmptied, KeepsOthers}
-use Rattle.play_cli.specs.Run.{Names, HasPlayed, HasFronts, Fronts, IsFrontAt}
-use Rattle.play_cli.specs.Causes.{Causes, IsAfterConfigFault, run_fault, open_fault}
-use Rattle.play_cli.specs.Input.{RateCauses}
-use Rattle.play_cli.specs.declared.fault.RunFault.{RunFault}
-use Rattle.play_cli.specs.declared.fault.RunFault.TheVariants as fault
-use Rattle.play_cli.specs.declared.opening.OpenFault.{OpenFault}
-use Rattle.play_cli.specs.declared.opening.OpenFault.TheVariants as open_
-use Rattle.play_cli.proofs.ConfLemmas.{one_rate, same_some, some_bytes}
+use Rattle.play_loop.specs.Setup.{Setup, arrivals_in}
+use Rattle.play_cli.specs.Causes.{PlayCauses}
+use Rattle.play_cli.specs.Configuration.{Accepts, AcceptsNone, interface_of, is_one_queue}
+use Rattle.play_cli.specs.Ending.{FilesEnd}
+use Rattle.play_cli.specs.Input.{IsRead, OnlyReads}
+use Rattle.play_cli.specs.InterfaceSetup.{default_limit, setup_of}
+use Rattle.play_cli.specs.Opening.{AreOpened, HaveParts, OpenCauses, OpenedFar, Untold}
+use Rattle.play_cli.specs.Run.{Accepted, Names, HasPlayed, HasFronts, HoldTexts, Fronts, IsFrontAt, IsOffered}
+use Rattle.play_cli.proofs.CheckLemmas.{read_found}
+use Rattle.play_cli.proofs.ConfLemmas.{one_accepted, some_bytes}
+use Rattle.play_cli.proofs.FilesLemmas.{Course, course_keeps, course_parts, files_played, untouched}
+use Rattle.play_cli.proofs.OpeningLemmas.{far_none, fresh_before, none_some, same_part, short_or_long}
 
 -- where the outputs were not created, or emptied
-pub front_kept : (u v : View) (name text : List ℕ) → v.bytes name ≡ u.bytes name → IsFrontAt u v name text
-front_kept u v name text e = inl e
+front_far : (u v : View) (end part : ℕ) (name text : List ℕ) → HaveParts u v end → (end ≤ part → v.bytes name ≡ u.bytes name)
+    → (part < end → v.bytes name ≡ Some []) → (part < end) ⊎ (end ≤ part) → IsFrontAt u v part name text
+front_far u v end part name text h kept empty (inl l) = inr ([], text, empty l, refl)
+front_far u v end part name text h kept empty (inr l) = inl (untouched u v end part h l, kept l)
 
-pub front_emptied : (u v : View) (name text : List ℕ) → (v.bytes name ≡ u.bytes name) ⊎ (v.bytes name ≡ Some []) → IsFrontAt u v name text
-front_emptied u v name text (inl e) = inl e
-front_emptied u v name text (inr e) = inr ([], text, e, refl)
-
-pub fronts_kept : (u v : View) (n : Names) (seed : ℕ) → ((name : List ℕ) → v.bytes name ≡ u.bytes name) → Fronts u v n seed
-fronts_kept u v n seed k = λ t text bytes rate records last c a b r l. record {
-  history = [];
-  play = record { events = tt; in_time = tt };
-  departures = inl (k n.departures);
-  fates = inl (k n.fates);
-  stats = inl (k n.stats);
-}
-
-pub fronts_emptied : (u a v : View) (n : Names) (seed : ℕ) → Keeps Any Any u a → IsEmptied a v n.departures → IsEmptied a v n.fates → IsEmptied a v n.stats → Fronts u v n seed
-fronts_emptied u a v n seed k d f s = λ t text bytes rate records last c x b r l.
-    let told : IsTrue a.tells = k.tells ∙ t in
+pub fronts_opened : (u a b : View) (n : Names) (seed : ℕ) → Course u a b b n → Fronts u b n seed
+fronts_opened u a b n seed s = λ t x records last r l.
+    let told : IsTrue a.tells = s.read.tells ∙ t in
+    let parts = course_parts u a b b n s in
+    let end : ℕ = s.far.end in
     record {
       history = [];
-      play = record { events = tt; in_time = tt };
-      departures = front_emptied u v n.departures _ (since n.departures (d told));
-      fates = front_emptied u v n.fates _ (since n.fates (f told));
-      stats = front_emptied u v n.stats _ (since n.stats (s told));
+      begun = record { events = tt; in_time = tt };
+      departures = front_far u b end 3 n.departures _ parts (λ m. s.far.departures_kept m ∙ s.read.bytes n.departures tt) (λ m. s.far.departures_empty m told) (short_or_long 3 end);
+      fates = front_far u b end 4 n.fates _ parts (λ m. s.far.fates_kept m ∙ s.read.bytes n.fates tt) (λ m. s.far.fates_empty m told) (short_or_long 4 end);
+      stats = front_far u b end 5 n.stats [] parts (λ m. s.far.stats_kept m ∙ s.read.bytes n.stats tt) (λ m. s.far.stats_empty m told) (short_or_long 5 end);
     }
-  where
-    since : (name : List ℕ) → (v.bytes name ≡ a.bytes name) ⊎ (v.bytes name ≡ Some []) → (v.bytes name ≡ u.bytes name) ⊎ (v.bytes name ≡ Some [])
-    since name (inl e) = inl (e ∙ k.bytes name tt)
-    since name (inr e) = inr e
+
+-- no file changed at all, while the words were refused
+pub fronts_kept : (u : View) (n : Names) (seed : ℕ) → Fronts u u n seed
+fronts_kept u n seed = λ t x records last r l. record {
+  history = [];
+  begun = record { events = tt; in_time = tt };
+  departures = inl ((λ f fresh e. none_some 3 (sym fresh ∙ e)), refl);
+  fates = inl ((λ f fresh e. none_some 4 (sym fresh ∙ e)), refl);
+  stats = inl ((λ f fresh e. none_some 5 (sym fresh ∙ e)), refl);
+}
+
+-- the course of a run that ends at its configuration, or at the opening of its files
+pub course_read : (u a : View) (n : Names) → Keeps Any Any u a → OnlyReads u a n.config → a.said ≡ u.said
+    → AreDistinct n.config n.arrivals n.departures n.fates n.stats → Course u a a a n
+course_read u a n k o s d = record {
+  read = k;
+  only = o;
+  told = s;
+  far = far_none a n.departures n.fates n.stats;
+  tells = refl;
+  none = λ f h. h;
+  part = λ f p h. h;
+  distinct = d;
+}
+
+pub course_opened : (u a b : View) (n : Names) → Keeps Any Any u a → OnlyReads u a n.config → a.said ≡ u.said
+    → AreDistinct n.config n.arrivals n.departures n.fates n.stats → OpenedFar a b n.departures n.fates n.stats → Course u a b b n
+course_opened u a b n k o s d far = record {
+  read = k;
+  only = o;
+  told = s;
+  far = far;
+  tells = refl;
+  none = λ f h. h;
+  part = λ f p h. h;
+  distinct = d;
+}
+
+-- the two steps before the play, and the play
+pub record Steps (u a b c : View) (n : Names) (i : Interface) (o : Opened) : Type 0 where
+  pub read : Keeps Any Any u a
+  pub only : OnlyReads u a n.config
+  pub told : a.said ≡ u.said
+  pub accepted : Accepts u n.config n.interface i
+  pub opened : AreOpened a b n.arrivals n.departures n.fates n.stats o
+  pub far : OpenedFar a b n.departures n.fates n.stats
+  pub played : KeepsBeside o.arrivals o.departures o.fates b c
+  pub none : NoneAppears b c
+  pub said : c.said ≡ b.said
+  pub distinct : AreDistinct n.config n.arrivals n.departures n.fates n.stats
+  pub rate : 0 < i.rate
+  pub place : (bytes : List ℕ) → ((setup_of i 0).place bytes).class ≡ 1
+
+course_of : (u a b c : View) (n : Names) (i : Interface) (o : Opened) → Steps u a b c n i o → Course u a b c n
+course_of u a b c n i o s = record {
+  read = s.read;
+  only = s.only;
+  told = s.told;
+  far = s.far;
+  tells = s.played.tells;
+  none = s.none;
+  part = s.played.part;
+  distinct = s.distinct;
+}
+
+-- all files came to be
+by_six : (a b : View) (dep fat stats : List ℕ) (f : OpenedFar a b dep fat stats) (file : ℕ) → a.part file ≡ None → b.part file ≡ Some 5 → f.end ≡ 6
+by_six a b dep fat stats f file fresh at =
+    let l = (f.parts.only file 5 fresh at).1 in
+    let m = f.parts.few in
+    omega (arith, l, m)
+
+six : (u a b c : View) (n : Names) (i : Interface) (o : Opened) (s : Steps u a b c n i o) → s.far.end ≡ 6
+six u a b c n i o s = by_six a b n.departures n.fates n.stats s.far o.stats s.opened.stats_new s.opened.stats_part
+
+told_a : (u a b c : View) (n : Names) (i : Interface) (o : Opened) → Steps u a b c n i o → IsTrue u.tells → IsTrue a.tells
+told_a u a b c n i o s t = s.read.tells ∙ t
+
+told_b : (u a b c : View) (n : Names) (i : Interface) (o : Opened) → Steps u a b c n i o → IsTrue u.tells → IsTrue b.tells
+told_b u a b c n i o s t = s.far.keeps.tells ∙ told_a u a b c n i o s t
+
+-- what is accepted, and what the arrivals had left
+pub accepted_of : (u a b c : View) (n : Names) (i : Interface) (o : Opened) → Steps u a b c n i o → IsTrue u.tells
+    → (x : Accepted u n) × (x.interface ≡ i) × (b.left o.arrivals ≡ Some x.bytes)
+accepted_of u a b c n i o s t =
+    let found = some_bytes (a.bytes n.arrivals) (s.opened.there (told_a u a b c n i o s t)) in (
+      record { interface = i; bytes = found.0; configuration = s.accepted t; arrivals = sym (s.read.bytes n.arrivals tt) ∙ found.1 },
+      refl,
+      s.opened.left (told_a u a b c n i o s t) ∙ found.1,
+    )
+
+-- a name that is none of the two outputs is kept
+beside : (u a b c : View) (n : Names) (i : Interface) (o : Opened) → Steps u a b c n i o → IsTrue u.tells → (m : List ℕ) → m ≢ n.departures → m ≢ n.fates
+    → c.bytes m ≡ b.bytes m
+beside u a b c n i o s t m d f =
+    let told = told_a u a b c n i o s t in
+    s.played.bytes m ((λ e. d (e ∙ s.opened.departures_name told)), (λ e. f (e ∙ s.opened.fates_name told)))
+
+stats_held : (u a b c : View) (n : Names) (i : Interface) (o : Opened) → Steps u a b c n i o → IsTrue u.tells → c.bytes n.stats ≡ Some []
+stats_held u a b c n i o s t =
+    beside u a b c n i o s t n.stats (λ e. s.distinct.departures_stats (sym e)) (λ e. s.distinct.fates_stats (sym e))
+    ∙ s.opened.stats_empty (told_a u a b c n i o s t)
 
 -- what a file of the play holds stands under its name
-held_at : (b c : View) (dep fat file : ℕ) (name text : List ℕ) → KeepsBut dep fat b c → IsSome (b.part file) → b.name file ≡ name → IsTrue b.tells
+held_at : (arr dep fat : ℕ) (b c : View) (file : ℕ) (name text : List ℕ) → KeepsBeside arr dep fat b c → IsSome (b.part file) → b.name file ≡ name → IsTrue b.tells
     → HoldsAt c file text → c.bytes name ≡ Some text
-held_at b c dep fat file name text k there e t h =
+held_at arr dep fat b c file name text k there e t h =
     let p = part_of_there (b.part file) there in
     ap c.bytes (sym (k.name file p.0 p.1 ∙ e)) ∙ h.bytes (k.tells ∙ t)
 
--- the two steps before the play, and the play
-pub record Steps (u a b c : View) (n : Names) (rate : ℕ) (o : Opened) : Type 0 where
-  pub read : Keeps Any Any u a
-  pub accepted : Accepts u n.config n.interface rate
-  pub opened : AreOpened a b n.arrivals n.departures n.fates n.stats o
-  pub others : KeepsOthers n.departures n.fates n.stats a b
-  pub played : KeepsBut o.departures o.fates b c
-  pub stats_departures : n.departures ≢ n.stats
-  pub stats_fates : n.fates ≢ n.stats
-  pub least : 1000 ≤ rate
-
-told_a : (u a b c : View) (n : Names) (rate : ℕ) (o : Opened) → Steps u a b c n rate o → IsTrue u.tells → IsTrue a.tells
-told_a u a b c n rate o s t = s.read.tells ∙ t
-
-told_b : (u a b c : View) (n : Names) (rate : ℕ) (o : Opened) → Steps u a b c n rate o → IsTrue u.tells → IsTrue b.tells
-told_b u a b c n rate o s t = s.others.tells ∙ told_a u a b c n rate o s t
-
-left_is : (u a b c : View) (n : Names) (rate : ℕ) (o : Opened) → Steps u a b c n rate o → IsTrue u.tells → b.left o.arrivals ≡ u.bytes n.arrivals
-left_is u a b c n rate o s t = s.opened.left (told_a u a b c n rate o s t) ∙ s.read.bytes n.arrivals tt
-
-stats_held : (u a b c : View) (n : Names) (rate : ℕ) (o : Opened) → Steps u a b c n rate o → IsTrue u.tells → c.bytes n.stats ≡ Some []
-stats_held u a b c n rate o s t =
-    let told = told_a u a b c n rate o s t in
-    s.played.bytes n.stats ((λ e. s.stats_departures (sym (e ∙ s.opened.departures_name told))), (λ e. s.stats_fates (sym (e ∙ s.opened.fates_name told))))
-    ∙ s.opened.stats_empty told
-
-departures_held : (u a b c : View) (n : Names) (rate : ℕ) (o : Opened) (text : List ℕ) → Steps u a b c n rate o → IsTrue u.tells
+departures_held : (u a b c : View) (n : Names) (i : Interface) (o : Opened) (text : List ℕ) → Steps u a b c n i o → IsTrue u.tells
     → HoldsAt c o.departures text → c.bytes n.departures ≡ Some text
-departures_held u a b c n rate o text s t h =
-    held_at b c o.departures o.fates o.departures n.departures text s.played s.opened.ready.empty.departures.there
-    (s.opened.departures_name (told_a u a b c n rate o s t)) (told_b u a b c n rate o s t) h
+departures_held u a b c n i o text s t h =
+    held_at o.arrivals o.departures o.fates b c o.departures n.departures text s.played s.opened.ready.empty.departures.there
+    (s.opened.departures_name (told_a u a b c n i o s t)) (told_b u a b c n i o s t) h
 
-fates_held : (u a b c : View) (n : Names) (rate : ℕ) (o : Opened) (text : List ℕ) → Steps u a b c n rate o → IsTrue u.tells
+fates_held : (u a b c : View) (n : Names) (i : Interface) (o : Opened) (text : List ℕ) → Steps u a b c n i o → IsTrue u.tells
     → HoldsAt c o.fates text → c.bytes n.fates ≡ Some text
-fates_held u a b c n rate o text s t h =
-    held_at b c o.departures o.fates o.fates n.fates text s.played s.opened.ready.empty.fates.there
-    (s.opened.fates_name (told_a u a b c n rate o s t)) (told_b u a b c n rate o s t) h
+fates_held u a b c n i o text s t h =
+    held_at o.arrivals o.departures o.fates b c o.fates n.fates text s.played s.opened.ready.empty.fates.there
+    (s.opened.fates_name (told_a u a b c n i o s t)) (told_b u a b c n i o s t) h
 
--- the laws of the play
-laws_of : (rate seed : ℕ) (records : List Record) (g : List Entry) → 1000 ≤ rate → IsPlayOf (one_setup rate seed) records g → KeepsLaws rate (comings (arrivals_in (one_setup rate seed) records)) g
-laws_of rate seed records g l x =
-    play_laws (one_queue 50) rate seed (comings (arrivals_in (one_setup rate seed) records)) g (omega arith) (strict_lawful (1 ∷ []) Share (tail 50)) (arrivals_rise one_mark records)
-    (one_queue_holds 50 one_mark records (λ b. refl)) (record { events = x.begun.events; done = x.done })
+texts_of : (u a b c : View) (n : Names) (i : Interface) (o : Opened) (x : Setup) (records : List Record) (g : List Happened) → Steps u a b c n i o → IsTrue u.tells
+    → loop.HoldTexts c o x (arrivals_in x records) g → HoldTexts c n x records g
+texts_of u a b c n i o x records g s t h = record {
+  departures = departures_held u a b c n i o _ s t h.departures;
+  fates = fates_held u a b c n i o _ s t h.fates;
+}
 
-busy_of : (rate seed : ℕ) (records : List Record) (g : List Entry) → 1000 ≤ rate → IsPlayOf (one_setup rate seed) records g → IsBusy rate (comings (arrivals_in (one_setup rate seed) records)) g
-busy_of rate seed records g l x =
-    is_busy (one_queue 50) rate seed (comings (arrivals_in (one_setup rate seed) records)) g (omega arith) (strict_lawful (1 ∷ []) Share (tail 50)) (strict_never_waits (1 ∷ []) Share (tail 50)) (arrivals_rise one_mark records)
-    (one_queue_holds 50 one_mark records (λ b. refl)) x.begun.events
+-- of one queue the link never idles
+idle_of : (u a b c : View) (n : Names) (i : Interface) (o : Opened) (seed : ℕ) (records : List Record) (g : List Happened) (t : Totals) → Steps u a b c n i o
+    → IsFinished (setup_of i seed).policy i.rate seed (arrivals_in (setup_of i seed) records) g t
+    → NeverIdles i.rate (comings (arrivals_in (setup_of i seed) records)) g
+idle_of u a b c n i o seed records g t s x =
+    let place : List ℕ → Placed = (setup_of i seed).place in
+    never_idles (one_queue (default_limit i)) i.rate seed (comings (arrivals_in (setup_of i seed) records)) g s.rate
+    (strict_lawful (1 ∷ []) Share (tail (default_limit i))) (strict_never_waits (1 ∷ []) Share (tail (default_limit i))) (arrivals_rise place records)
+    (one_queue_holds (default_limit i) place records s.place) x.play.events
 
-pub done_of : (u a b c : View) (n : Names) (rate : ℕ) (o : Opened) (seed : ℕ) → Steps u a b c n rate o → (stood : List Entry → Type 0) (totals : Totals) → Plays (one_setup rate seed) stood b c o totals
-    → IsTrue u.tells → HasPlayed u c n seed
-done_of u a b c n rate o seed s stood totals p t =
-    let left = left_is u a b c n rate o s t in
-    let found = some_bytes (a.bytes n.arrivals) (s.opened.there (told_a u a b c n rate o s t)) in
-    let x = p (told_b u a b c n rate o s t) found.0 (s.opened.left (told_a u a b c n rate o s t) ∙ found.1) in
-    let conf = s.accepted t in
+pub done_of : (u a b c : View) (n : Names) (i : Interface) (o : Opened) (seed : ℕ) → Steps u a b c n i o → (totals : Totals)
+    → Plays (setup_of i seed) Untold b c o totals → IsTrue u.tells → HasPlayed u c n seed
+unfolding accepted_of
+done_of u a b c n i o seed s totals p t =
+    let found = accepted_of u a b c n i o s t in
+    let x = p (told_b u a b c n i o s t) found.0.bytes found.2 in
     let y = x.2 in
     record {
-      text = conf.0;
-      rate = rate;
-      bytes = found.0;
-      records = x.0;
-      history = y.history;
-      config = conf.1;
-      accepted = conf.2;
-      arrivals = sym (s.read.bytes n.arrivals tt) ∙ found.1;
-      capture = x.1;
-      play = y.play;
-      departures = departures_held u a b c n rate o _ s t y.texts.departures;
-      fates = fates_held u a b c n rate o _ s t y.texts.fates;
-      stats = stats_held u a b c n rate o s t;
-      laws = laws_of rate seed x.0 y.history s.least y.play;
-      busy = busy_of rate seed x.0 y.history s.least y.play;
-      in_time = y.play.begun.in_time;
+      accepted = found.0;
+      played = record {
+        records = x.0;
+        history = y.history;
+        totals = totals;
+        capture = x.1;
+        play = y.play;
+        texts = texts_of u a b c n i o (setup_of i seed) x.0 y.history s t y.texts;
+        stats = stats_held u a b c n i o s t;
+        reads = y.reads;
+      };
+      never_idles = λ one. idle_of u a b c n i o seed x.0 y.history totals s y.play;
     }
 
-front_at : (u c : View) (name text : List ℕ) (written rest : List ℕ) → c.bytes name ≡ Some written → written ++ rest ≡ text → IsFrontAt u c name text
-front_at u c name text written rest e s = inr (written, rest, e, s)
+front_at : (u c : View) (part : ℕ) (name text : List ℕ) (written rest : List ℕ) → c.bytes name ≡ Some written → written ++ rest ≡ text → IsFrontAt u c part name text
+front_at u c part name text written rest e s = inr (written, rest, e, s)
 
-pub fronts_of : (u a b c : View) (n : Names) (rate : ℕ) (o : Opened) (seed : ℕ) → Steps u a b c n rate o → loop.Fronts (one_setup rate seed) b c o → Fronts u c n seed
-fronts_of u a b c n rate o seed s f = λ t text bytes other records last at accepted arrivals reads is_last.
-    let conf = s.accepted t in
-    let P : List ℕ → Type 0 = λ xs. IsOneQueue xs n.interface rate in
-    let same : rate ≡ other = one_rate text n.interface rate other (subst P (same_some _ _ (sym conf.1 ∙ at)) conf.2) accepted in
-    let x = f (told_b u a b c n rate o s t) bytes (left_is u a b c n rate o s t ∙ arrivals) records last reads is_last in
-    let R : ℕ → Type 0 = λ r. HasFronts u c n seed r records in
-    subst R same (record {
+pub fronts_of : (u a b c : View) (n : Names) (i : Interface) (o : Opened) (seed : ℕ) → Steps u a b c n i o → loop.Fronts (setup_of i seed) b c o → Fronts u c n seed
+unfolding accepted_of
+fronts_of u a b c n i o seed s f = λ t given records last reads is_last.
+    let found = accepted_of u a b c n i o s t in
+    let same = one_accepted u n found.0 given in
+    let left : b.left o.arrivals ≡ Some given.bytes = found.2 ∙ ap (λ (xs : List ℕ). Some xs) same.1 in
+    let x = f (told_b u a b c n i o s t) given.bytes left records last reads is_last in
+    let R : Interface → Type 0 = λ j. HasFronts u c n (setup_of j seed) records in
+    subst R same.0 (record {
       history = x.history;
-      play = x.play;
-      departures = front_at u c n.departures _ x.texts.departures.written x.texts.departures.rest (departures_held u a b c n rate o _ s t x.texts.departures.holds) x.texts.departures.split;
-      fates = front_at u c n.fates _ x.texts.fates.written x.texts.fates.rest (fates_held u a b c n rate o _ s t x.texts.fates.holds) x.texts.fates.split;
-      stats = front_at u c n.stats [] [] [] (stats_held u a b c n rate o s t) refl;
+      begun = x.begun;
+      departures = front_at u c 3 n.departures _ x.texts.departures.written x.texts.departures.rest (departures_held u a b c n i o _ s t x.texts.departures.holds) x.texts.departures.split;
+      fates = front_at u c 4 n.fates _ x.texts.fates.written x.texts.fates.rest (fates_held u a b c n i o _ s t x.texts.fates.holds) x.texts.fates.split;
+      stats = front_at u c 5 n.stats [] [] [] (stats_held u a b c n i o s t) refl;
     })
 
-rose_since : (u a b c : View) (n : Names) (rate : ℕ) (o : Opened) (p : ℕ) → Steps u a b c n rate o → Rose (b.write_faults p) (c.write_faults p) → Rose (u.write_faults p) (c.write_faults p)
-rose_since u a b c n rate o p s x = rose_later _ _ _ (s.read.later.write p) (rose_later _ _ _ (s.others.later.write p) x)
-
-pub causes_of : (u a b c : View) (n : Names) (rate : ℕ) (o : Opened) (seed : ℕ) (stood : List Entry → Type 0) (f : PlayFault) → Steps u a b c n rate o
-    → Explains (one_setup rate seed) stood b c o f → Causes u c n seed (run_fault f)
-causes_of u a b c n rate o seed stood (play.Capture d) s x = λ t.
-    let found = some_bytes (a.bytes n.arrivals) (s.opened.there (told_a u a b c n rate o s t)) in
-    let y = x (told_b u a b c n rate o s t) found.0 (s.opened.left (told_a u a b c n rate o s t) ∙ found.1) in
-    record { bytes = found.0; records = y.0; damage = d; arrivals = sym (s.read.bytes n.arrivals tt) ∙ found.1; reads = y.1; at = refl; what = refl }
-causes_of u a b c n rate o seed stood play.Read s x = inl (rose_later _ _ _ (s.read.later.read 2) (rose_later _ _ _ (s.others.later.read 2) (x 2 s.opened.arrivals_part)))
-causes_of u a b c n rate o seed stood (play.Write kind) s (inl x) =
-    let P : ℕ → Type 0 = λ k. (1 ≤ k) × (k ≤ 3) × Rose (u.write_faults (k + 2)) (c.write_faults (k + 2)) in
-    subst P (sym x.0) (omega arith, omega arith, rose_since u a b c n rate o 3 s (x.1 3 s.opened.departures_part))
-causes_of u a b c n rate o seed stood (play.Write kind) s (inr x) =
-    let P : ℕ → Type 0 = λ k. (1 ≤ k) × (k ≤ 3) × Rose (u.write_faults (k + 2)) (c.write_faults (k + 2)) in
-    subst P (sym x.0) (omega arith, omega arith, rose_since u a b c n rate o 4 s (x.1 4 s.opened.fates_part))
-causes_of u a b c n rate o seed stood (play.Limit kind) s (inl x) = inl (
-  x.0,
-  λ t.
-      let found = some_bytes (a.bytes n.arrivals) (s.opened.there (told_a u a b c n rate o s t)) in
-      let y = x.1 (told_b u a b c n rate o s t) found.0 (s.opened.left (told_a u a b c n rate o s t) ∙ found.1) in
-      record { bytes = found.0; records = y.0; arrivals = sym (s.read.bytes n.arrivals tt) ∙ found.1; reads = y.1 },
-)
-causes_of u a b c n rate o seed stood (play.Limit kind) s (inr x) = inr (
-  x.0,
-  λ t.
-      let found = some_bytes (a.bytes n.arrivals) (s.opened.there (told_a u a b c n rate o s t)) in
-      let y = x.1 (told_b u a b c n rate o s t) found.0 (s.opened.left (told_a u a b c n rate o s t) ∙ found.1) in
-      let conf = s.accepted t in
-      let z = y.2.1 in
-      record {
-        text = conf.0;
-        rate = rate;
-        bytes = found.0;
-        records = y.0;
+offered_of : (u a b c : View) (n : Names) (i : Interface) (o : Opened) (seed : ℕ) (last : Step) → Steps u a b c n i o → Offers (setup_of i seed) Untold b c o last
+    → IsTrue u.tells → IsOffered u c n seed last
+unfolding accepted_of
+offered_of u a b c n i o seed last s x t =
+    let found = accepted_of u a b c n i o s t in
+    let y = x (told_b u a b c n i o s t) found.0.bytes found.2 in
+    let z = y.2 in
+    record {
+      accepted = found.0;
+      records = y.0;
+      reads = y.1;
+      decided = record {
         history = z.history;
-        config = conf.1;
-        accepted = conf.2;
-        arrivals = sym (s.read.bytes n.arrivals tt) ∙ found.1;
-        capture = y.1;
-        cut = z.play;
-        departures = departures_held u a b c n rate o _ s t z.texts.departures;
-        fates = fates_held u a b c n rate o _ s t z.texts.fates;
-      },
-)
-causes_of u a b c n rate o seed stood play.NoMemory s x = tt
+        begun = z.begun;
+        all = z.all;
+        last = z.last;
+        texts = texts_of u a b c n i o (setup_of i seed) y.0 z.history s t z.texts;
+      };
+    }
+
+rose_since : (u a b c : View) (n : Names) (i : Interface) (o : Opened) (p : ℕ) → Steps u a b c n i o → Rose (b.write_faults p) (c.write_faults p) → Rose (u.write_faults p) (c.write_faults p)
+rose_since u a b c n i o p s x = rose_later _ _ _ (s.read.later.write p) (rose_later _ _ _ (s.far.keeps.later.write p) x)
+
+pub causes_of : (u a b c : View) (n : Names) (i : Interface) (o : Opened) (seed : ℕ) (f : PlayFault) → Steps u a b c n i o
+    → Explains (setup_of i seed) Untold b c o f → PlayCauses u c n seed f
+unfolding accepted_of
+causes_of u a b c n i o seed (play.Capture d) s x = λ t.
+    record { damage = d; decided = offered_of u a b c n i o seed (Fault d) s x t; at = refl; what = refl }
+causes_of u a b c n i o seed play.Read s x = inl (rose_later _ _ _ (s.read.later.read 2) (rose_later _ _ _ (s.far.keeps.later.read 2) (x 2 s.opened.arrivals_part)))
+causes_of u a b c n i o seed (play.Write output.Departures) s x = rose_since u a b c n i o 3 s (x 3 s.opened.departures_part)
+causes_of u a b c n i o seed (play.Write output.Fates) s x = rose_since u a b c n i o 4 s (x 4 s.opened.fates_part)
+causes_of u a b c n i o seed (play.Write output.Statistics) s x = absurd x
+causes_of u a b c n i o seed (play.Limit limit.Capture) s x = λ t. offered_of u a b c n i o seed Limit s x t
+causes_of u a b c n i o seed (play.Limit limit.Clock) s x = λ t.
+    let found = accepted_of u a b c n i o s t in
+    let y = x (told_b u a b c n i o s t) found.0.bytes found.2 in
+    let w = y.1 in
+    let z = w.3 in
+    record {
+      accepted = found.0;
+      records = y.0;
+      last = w.0;
+      history = z.history;
+      totals = z.totals;
+      reads = w.1;
+      is_last = w.2;
+      early = record { cut = z.play.cut; before = z.before };
+      play = z.play;
+      texts = texts_of u a b c n i o (setup_of i seed) y.0 z.history s t z.texts;
+      file = o.arrivals;
+      fresh = fresh_before u a o.arrivals s.read.part s.opened.arrivals_new;
+      part = s.played.part o.arrivals 2 s.opened.arrivals_part;
+      streams = z.streams;
+    }
+causes_of u a b c n i o seed play.NoMemory s x = tt
+
+-- what is read and found is accepted
+pub accepts_of : (u : View) (config interface : List ℕ) (interfaces : List Interface) (i : Interface) → IsRead u config (Ok interfaces)
+    → interface_of interface interfaces ≡ Some i → is_one_queue i ≡ true → Accepts u config interface i
+accepts_of u config interface interfaces i r e one = λ t.
+    record { interfaces = interfaces; says = read_found u config interface interfaces i r e t; played = one }
 
 -- where the configuration is accepted it is not refused
-pub accepted_not : (u v : View) (n : Names) (rate : ℕ) → Accepts u n.config n.interface rate → AcceptsNone u n.config n.interface → IsTrue u.tells
+pub accepted_not : (u v : View) (n : Names) (i : Interface) → Accepts u n.config n.interface i → AcceptsNone u n.config n.interface → IsTrue u.tells
     → (name : List ℕ) → v.bytes name ≡ u.bytes name
-accepted_not u v n rate x y t = let c = x t in absurd (y t c.0 c.1 rate c.2)
+accepted_not u v n i x y t = absurd (y t i (x t))
 
-pub keeps_others : (u a b c : View) (n : Names) (rate : ℕ) (o : Opened) → Steps u a b c n rate o → KeepsOthers n.departures n.fates n.stats u c
-keeps_others u a b c n rate o s =
-    let one : KeepsOthers n.departures n.fates n.stats u a = keeps_fewer Any _ Any (λ f. ⊥) u a (λ m h. tt) (λ f h. absurd h) s.read in
-    let two : KeepsOthers n.departures n.fates n.stats u b = keeps_trans _ _ u a b one (keeps_fewer _ _ _ _ a b (λ m h. (s.read.tells ∙ h.0, h.1, h.2, h.3)) (λ f h. h) s.others) in
-    keeps_trans _ _ u b c two (keeps_fewer _ _ _ _ b c
-    (λ m h. ((λ e. h.1 (e ∙ s.opened.departures_name (s.read.tells ∙ h.0))), (λ e. h.2 (e ∙ s.opened.fates_name (s.read.tells ∙ h.0))))) (λ f h. h) s.played)
+-- what becomes of the files
+not_arrivals : (b : View) (o : Opened) (f p : ℕ) → b.part f ≡ Some p → b.part o.arrivals ≡ Some 2 → (p ≢ 2) → f ≢ o.arrivals
+not_arrivals b o f p e at n = λ s. n (same_part p 2 (sym e ∙ ap b.part s ∙ at))
 
-pub keeps_opened : (u a b : View) (n : Names) → Keeps Any Any u a → KeepsOthers n.departures n.fates n.stats a b → KeepsOthers n.departures n.fates n.stats u b
-keeps_opened u a b n x y =
-    let one : KeepsOthers n.departures n.fates n.stats u a = keeps_fewer Any _ Any (λ f. ⊥) u a (λ m h. tt) (λ f h. absurd h) x in
-    keeps_trans _ _ u a b one (keeps_fewer _ _ _ _ a b (λ m h. (x.tells ∙ h.0, h.1, h.2, h.3)) (λ f h. h) y)
+pub files_of : (u a b c : View) (n : Names) (i : Interface) (o : Opened) → Steps u a b c n i o → FilesEnd u c n
+unfolding course_of
+files_of u a b c n i o s =
+    let course = course_of u a b c n i o s in
+    files_played u a b c n course (six u a b c n i o s)
+    (λ f e t named.
+    let told = told_a u a b c n i o s t in
+    s.played.left f 1 e (
+      not_arrivals b o f 1 e s.opened.arrivals_part (λ x. omega (arith, x)),
+      (
+        (λ x. s.distinct.config_departures (sym named ∙ x ∙ s.opened.departures_name told)),
+        (λ x. s.distinct.config_fates (sym named ∙ x ∙ s.opened.fates_name told)),
+      ),
+    ))
+    (course_keeps u a b c n course
+    (λ m h. beside u a b c n i o s h.0 m h.1 h.2)
+    (λ f p at e h.
+    let told = told_a u a b c n i o s h.0 in
+    s.played.left f p e (
+      (λ x. none_some p (sym s.opened.arrivals_new ∙ ap a.part (sym x) ∙ at)),
+      ((λ x. h.1 (x ∙ s.opened.departures_name told)), (λ x. h.2 (x ∙ s.opened.fates_name told))),
+    ))
+    (λ f p e. s.played.name f p e) s.played.later.read s.played.later.write)
+    s.said
 
-read_before : (u a v : View) (name : List ℕ) → Keeps Any Any u a → CannotRead a v 2 name → CannotRead u v 2 name
-read_before u a v name k (inl x) = inl (rose_later _ _ _ (k.later.read 2) x)
-read_before u a v name k (inr x) = inr (sym k.tells ∙ x.0, sym (k.bytes name tt) ∙ x.1)
-
-pub causes_open : (u a v : View) (n : Names) (seed : ℕ) (f : OpenFault) → Keeps Any Any u a → (f ≡ open_.Arrivals → CannotRead a v 2 n.arrivals)
-    → ((k : ℕ) → f ≡ open_.Write k → (1 ≤ k) × (k ≤ 3) × Rose (a.write_faults (k + 2)) (v.write_faults (k + 2))) → Causes u v n seed (open_fault f)
-causes_open u a v n seed open_.Arrivals k r w = read_before u a v n.arrivals k (r refl)
-causes_open u a v n seed (open_.Write kind) k r w = let x = w kind refl in (x.0, x.1, rose_later _ _ _ (k.later.write (kind + 2)) x.2)
-causes_open u a v n seed open_.NoMemory k r w = tt
-
--- why there is no interface to play, among the causes of the whole run
-pub causes_rate : (u v : View) (n : Names) (seed : ℕ) (f : RunFault) → RateCauses u v n.config n.interface f → Causes u v n seed f
-causes_rate u v n seed (fault.Config c) x = x
-causes_rate u v n seed fault.Arrivals x = absurd x
-causes_rate u v n seed (fault.Write kind) x = absurd x
-causes_rate u v n seed (fault.Capture d) x = absurd x
-causes_rate u v n seed (fault.Limit kind) x = absurd x
-causes_rate u v n seed fault.NoMemory x = tt
-
-pub rate_not_after : (u v : View) (config interface : List ℕ) (f : RunFault) {A : Type 0} → RateCauses u v config interface f → IsAfterConfigFault f → A
-rate_not_after u v config interface (fault.Config c) x a = absurd a
-rate_not_after u v config interface fault.Arrivals x a = absurd x
-rate_not_after u v config interface (fault.Write kind) x a = absurd x
-rate_not_after u v config interface (fault.Capture d) x a = absurd x
-rate_not_after u v config interface (fault.Limit kind) x a = absurd x
-rate_not_after u v config interface fault.NoMemory x a = absurd a
+-- why the files are not all there
+pub causes_open : (u a v : View) (n : Names) (seed : ℕ) (f : PlayFault) → Keeps Any Any u a → OpenCauses a v n.arrivals f → PlayCauses u v n seed f
+causes_open u a v n seed (play.Capture d) k x = absurd x
+causes_open u a v n seed play.Read k (inl x) = inl (rose_later _ _ _ (k.later.read 2) x)
+causes_open u a v n seed play.Read k (inr x) = inr (sym k.tells ∙ x.0, sym (k.bytes n.arrivals tt) ∙ x.1)
+causes_open u a v n seed (play.Write output) k x = rose_later _ _ _ (k.later.write _) x
+causes_open u a v n seed (play.Limit limit) k x = absurd x
+causes_open u a v n seed play.NoMemory k x = tt

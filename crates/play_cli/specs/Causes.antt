@@ -1,21 +1,23 @@
 -- When each fault of a run comes, in the words of its names.
-use Rattle.std.specs.Prelude.{◌≡◌, ◌≢◌, ◌≤◌, ◌+◌, ◌⊎◌, ℕ, List, IsTrue}
-use Rattle.altq_model.specs.Numbers.{damage_number}
+use Rattle.std.specs.Prelude.{◌≡◌, ◌≢◌, ◌+◌, ◌⊎◌, ℕ, List, IsTrue}
+use Rattle.capture_model.specs.Numbers.{damage_number}
+use Rattle.play_base.specs.declared.trouble.Trouble.{Trouble}
+use Rattle.play_base.specs.declared.trouble.Trouble.TheVariants as trouble
 use Rattle.play_base.specs.View.{View, Rose}
 use Rattle.play_words.specs.Words.{Words, config_name, interface_name, arrivals_name, departures_name, fates_name, stats_name}
 use Rattle.play_words.specs.declared.words.PlayWords.{PlayWords}
+use Rattle.play_loop.specs.declared.fault.Limit.{Limit}
+use Rattle.play_loop.specs.declared.fault.Limit.TheVariants as limit
 use Rattle.play_loop.specs.declared.fault.PlayFault.{PlayFault}
 use Rattle.play_loop.specs.declared.fault.PlayFault.TheVariants as play
 use Rattle.play_cli.specs.Configuration.{Refused, TooLong, Says, IsUnbuilt}
-use Rattle.play_cli.specs.Opening.{CannotRead}
+use Rattle.play_cli.specs.Opening.{CannotRead, output_number}
 use Rattle.play_cli.specs.Run.{Names, IsDamagedAt, IsLimited, IsLate}
-use Rattle.play_text.specs.declared.status.Status.{Status}
-use Rattle.play_cli.specs.declared.opening.OpenFault.{OpenFault}
-use Rattle.play_cli.specs.declared.opening.OpenFault.TheVariants as open_
+use Rattle.play_cli.specs.declared.status.Status.{Status}
 use Rattle.play_cli.specs.declared.fault.ConfigFault.{ConfigFault}
 use Rattle.play_cli.specs.declared.fault.ConfigFault.TheVariants as conf
 use Rattle.play_cli.specs.declared.fault.RunFault.{RunFault}
-use Rattle.play_cli.specs.declared.fault.RunFault.TheVariants.{Config, Arrivals, Write, Capture, Limit, NoMemory}
+use Rattle.play_cli.specs.declared.fault.RunFault.TheVariants.{Config, Play, Say}
 
 -- the names of the words, as they stand and as they were read
 abbrev pub names_of : Words → Names
@@ -44,39 +46,40 @@ ConfigCauses old new config interface (conf.At place) = IsTrue old.tells → Say
 ConfigCauses old new config interface conf.TooLong = IsTrue old.tells → Says old config interface TooLong
 ConfigCauses old new config interface conf.Unbuilt = IsTrue old.tells → IsUnbuilt old config interface
 ConfigCauses old new config interface conf.Read = CannotRead old new 1 config
+ConfigCauses old new config interface conf.NoMemory = Unit {0}
+
+-- why a limit ends a play
+abbrev pub LimitCauses : View → View → Names → (seed : ℕ) → Limit → Type 0
+LimitCauses old new n seed limit.Capture = IsTrue old.tells → IsLimited old new n seed
+LimitCauses old new n seed limit.Clock = IsTrue old.tells → IsLate old new n seed
+
+-- why a play of an accepted configuration ends early
+abbrev pub PlayCauses : View → View → Names → (seed : ℕ) → PlayFault → Type 0
+PlayCauses old new n seed (play.Capture damage) = IsTrue old.tells → IsDamagedAt old new n seed damage.place (damage_number damage.kind)
+PlayCauses old new n seed play.Read = CannotRead old new 2 n.arrivals
+PlayCauses old new n seed (play.Write output) = Rose (old.write_faults (output_number output + 2)) (new.write_faults (output_number output + 2))
+PlayCauses old new n seed (play.Limit limit) = LimitCauses old new n seed limit
+PlayCauses old new n seed play.NoMemory = Unit {0}
 
 -- why a play ends early
 abbrev pub Causes : View → View → Names → (seed : ℕ) → RunFault → Type 0
 Causes old new n seed (Config fault) = ConfigCauses old new n.config n.interface fault
-Causes old new n seed Arrivals = CannotRead old new 2 n.arrivals
-Causes old new n seed (Write kind) = (1 ≤ kind) × (kind ≤ 3) × Rose (old.write_faults (kind + 2)) (new.write_faults (kind + 2))
-Causes old new n seed (Capture damage) = IsTrue old.tells → IsDamagedAt old n damage.place (damage_number damage.kind)
-Causes old new n seed (Limit kind) = ((kind ≡ 1) × (IsTrue old.tells → IsLimited old n))
-    ⊎ ((kind ≡ 2) × (IsTrue old.tells → IsLate old new n seed))
-Causes old new n seed NoMemory = Unit {0}
+Causes old new n seed (Play fault) = PlayCauses old new n seed fault
+Causes old new n seed (Say trouble) = ⊥
 
 -- why a check ends early: it asks for no play
 abbrev pub CheckConfigCauses : View → View → (config interface : List ℕ) → ConfigFault → Type 0
 CheckConfigCauses old new config interface conf.Unbuilt = ⊥
 CheckConfigCauses old new config interface fault = ConfigCauses old new config interface fault
 
+abbrev pub SayCauses : View → View → Trouble → Type 0
+SayCauses old new trouble.Failed = Rose (old.write_faults 0) (new.write_faults 0)
+SayCauses old new trouble.NoMemory = Unit {0}
+
 abbrev pub CheckCauses : View → View → (config interface : List ℕ) → RunFault → Type 0
 CheckCauses old new config interface (Config fault) = CheckConfigCauses old new config interface fault
-CheckCauses old new config interface (Write kind) = (kind ≡ 10) × Rose (old.write_faults 0) (new.write_faults 0)
-CheckCauses old new config interface NoMemory = Unit {0}
-CheckCauses old new config interface _ = ⊥
-
-abbrev pub run_fault : PlayFault → RunFault
-run_fault (play.Capture damage) = Capture damage
-run_fault play.Read = Arrivals
-run_fault (play.Write kind) = Write kind
-run_fault (play.Limit kind) = Limit kind
-run_fault play.NoMemory = NoMemory
-
-abbrev pub open_fault : OpenFault → RunFault
-open_fault open_.Arrivals = Arrivals
-open_fault (open_.Write kind) = Write kind
-open_fault open_.NoMemory = NoMemory
+CheckCauses old new config interface (Play fault) = ⊥
+CheckCauses old new config interface (Say trouble) = SayCauses old new trouble
 
 -- the status of this code and kind
 abbrev pub ended : (code kind : ℕ) → Status
@@ -88,23 +91,33 @@ config_status (conf.At place) = record { code = 3; line = place.line; word = pla
 config_status conf.TooLong = ended 7 3
 config_status conf.Unbuilt = ended 9 3
 config_status conf.Read = ended 5 1
+config_status conf.NoMemory = ended 8 0
+
+abbrev pub limit_number : Limit → ℕ
+limit_number limit.Capture = 1
+limit_number limit.Clock = 2
+
+abbrev pub play_status : PlayFault → Status
+play_status (play.Capture damage) = record { code = 4; line = 0; word = 0; place = damage.place; kind = damage_number damage.kind }
+play_status play.Read = ended 5 2
+play_status (play.Write output) = ended 6 (output_number output)
+play_status (play.Limit limit) = ended 7 (limit_number limit)
+play_status play.NoMemory = ended 8 0
+
+abbrev pub say_status : Trouble → Status
+say_status trouble.Failed = ended 6 10
+say_status trouble.NoMemory = ended 8 0
 
 abbrev pub status_of : RunFault → Status
 status_of (Config fault) = config_status fault
-status_of Arrivals = ended 5 2
-status_of (Write kind) = ended 6 kind
-status_of (Capture damage) = record { code = 4; line = 0; word = 0; place = damage.place; kind = damage_number damage.kind }
-status_of (Limit kind) = ended 7 kind
-status_of NoMemory = ended 8 0
+status_of (Play fault) = play_status fault
+status_of (Say trouble) = say_status trouble
 
 -- the faults that come after the configuration is accepted, and their statuses
 abbrev pub IsAfterConfigFault : RunFault → Type 0
 IsAfterConfigFault (Config fault) = ⊥
-IsAfterConfigFault Arrivals = Unit {0}
-IsAfterConfigFault (Write kind) = Unit {0}
-IsAfterConfigFault (Capture damage) = Unit {0}
-IsAfterConfigFault (Limit kind) = Unit {0}
-IsAfterConfigFault NoMemory = ⊥
+IsAfterConfigFault (Play fault) = Unit {0}
+IsAfterConfigFault (Say trouble) = ⊥
 
 abbrev pub IsAfterConfig : (code kind : ℕ) → Type 0
 IsAfterConfig code kind = (code ≡ 4) ⊎ (code ≡ 6) ⊎ ((code ≡ 7) × (kind ≢ 3)) ⊎ ((code ≡ 5) × (kind ≡ 2))

@@ -1,11 +1,11 @@
 -- What the text of a configuration says to one who asks for an interface, after altq.conf(5).
-use Rattle.std.specs.Prelude.{◌≡◌, ◌^◌, ◌&&◌, ℕ, Bool, true, false, List, length, find, nat_lt, bytes_eq, if◌then◌else◌, Option, Some, None, Result, Ok, Err}
+use Rattle.std.specs.Prelude.{◌≡◌, ◌^◌, ◌&&◌, ℕ, Bool, true, false, List, length, find, nat_lt, bytes_eq, if◌then◌else◌, Option, Some, None, Result, Ok, Err, IsTrue, slice_get}
 use Rattle.conf_lines.specs.declared.fault.ConfPlace.{ConfPlace}
 use Rattle.conf_lines.specs.Texts.{statements_of}
 use Rattle.conf_tree.specs.declared.interface.Interface.{Interface}
 use Rattle.conf_tree.specs.Classes.{is_hfsc}
 use Rattle.conf_tree.specs.Kinds.{fault_at, no_interface}
-use Rattle.conf_tree.specs.Reading.{reading}
+use Rattle.conf_tree.specs.Reading.{IsConfiguration, reading}
 use Rattle.play_base.specs.View.{View}
 
 -- the text is longer than 2^20 bytes; it has this fault first; or it says this, and this is the interface asked for
@@ -45,13 +45,11 @@ pub record Says (v : View) (config interface : List ℕ) (said : Configuration) 
 abbrev pub is_one_queue : Interface → Bool
 is_one_queue i = i.implied && is_hfsc i.kind
 
--- the text says that the interface is such a one, with this rate in bits per second
-pub record IsOneQueue (text name : List ℕ) (rate : ℕ) : Type 0 where
+-- the text says that the interface asked for is this one, which is played
+pub record Configures (v : View) (config interface : List ℕ) (found : Interface) : Type 0 where
   pub interfaces : List Interface
-  pub interface : Interface
-  pub says : configuration name text ≡ Said interfaces interface
-  pub one : is_one_queue interface ≡ true
-  pub carries : rate ≡ interface.rate
+  pub says : Says v config interface (Said interfaces found)
+  pub played : is_one_queue found ≡ true
 
 -- the text says that the interface is another
 pub record IsUnbuilt (v : View) (config interface : List ℕ) : Type 0 where
@@ -59,3 +57,19 @@ pub record IsUnbuilt (v : View) (config interface : List ℕ) : Type 0 where
   pub found : Interface
   pub says : Says v config interface (Said interfaces found)
   pub other : is_one_queue found ≡ false
+
+-- the interface is one of those of a text
+pub record IsConfigured (found : Interface) : Type 0 where
+  pub text : List ℕ
+  pub interfaces : List Interface
+  pub read : IsConfiguration text interfaces
+  pub place : ℕ
+  pub at : slice_get interfaces place ≡ Some found
+
+-- where the object tells: this interface is configured and played
+abbrev pub Accepts : View → (config interface : List ℕ) → Interface → Type 0
+Accepts v config interface found = IsTrue v.tells → Configures v config interface found
+
+-- where it tells: none is
+abbrev pub AcceptsNone : View → (config interface : List ℕ) → Type 0
+AcceptsNone v config interface = IsTrue v.tells → (found : Interface) → Configures v config interface found → ⊥

@@ -1,15 +1,18 @@
 -- How a play, or a check, of accepted words ends: what its status means, and what it leaves.
 use Rattle.std.specs.Prelude.{◌≡◌, ◌≢◌, ◌≤◌, ◌+◌, ◌⊎◌, ℕ, List, IsTrue}
-use Rattle.altq_model.specs.declared.capture.Damage.{Damage}
-use Rattle.altq_model.specs.Capture.{Fault, Limit}
-use Rattle.altq_model.specs.Numbers.{damage_number}
+use Rattle.capture_model.specs.declared.damage.Damage.{Damage}
+use Rattle.capture_model.specs.Capture.{Fault, Limit}
+use Rattle.capture_model.specs.Numbers.{damage_number}
 use Rattle.conf_lines.specs.declared.fault.ConfPlace.{ConfPlace}
+use Rattle.conf_tree.specs.declared.interface.Interface.{Interface}
 use Rattle.play_base.specs.View.{View, Any, Keeps, IsAbsent, Rose}
-use Rattle.play_text.specs.declared.status.Status.{Status}
+use Rattle.play_cli.specs.declared.status.Status.{Status}
 use Rattle.play_cli.specs.Causes.{IsAfterConfig}
 use Rattle.play_cli.specs.Checked.{HasChecked, IsCheckable}
-use Rattle.play_cli.specs.Configuration.{IsUnbuilt, Refused, Says, TooLong}
-use Rattle.play_cli.specs.Opening.{Accepts, AcceptsNone, CannotRead, KeepsOthers}
+use Rattle.play_cli.specs.Configuration.{Accepts, AcceptsNone, IsUnbuilt, Refused, Says, TooLong}
+use Rattle.play_cli.specs.Input.{OnlyReads}
+use Rattle.play_cli.specs.Opening.{CannotRead, KeepsOthers}
+use Rattle.play_cli.specs.Order.{IsInOrder, KeepUncreated, TakesFew}
 use Rattle.play_cli.specs.Run.{Names, HasPlayed, Fronts, IsDamagedAt, IsLimited, IsLate, IsPlayable, EndsWith, EndsLate, IsQuiet, IsCode}
 
 -- the place and kind of a status of code 3
@@ -48,13 +51,13 @@ pub record PlayComes (old new : View) (n : Names) (seed : ℕ) (s : Status) : Ty
   pub done : s.code ≡ 0 → IsTrue old.tells → HasPlayed old new n seed
   pub configuration : s.code ≡ 3 → IsTrue old.tells → Says old n.config n.interface (Refused (place_of s))
   pub unbuilt : s.code ≡ 9 → (s.kind ≡ 3) × (IsTrue old.tells → IsUnbuilt old n.config n.interface)
-  pub damaged : s.code ≡ 4 → IsTrue old.tells → IsDamagedAt old n s.place s.kind
+  pub damaged : s.code ≡ 4 → IsTrue old.tells → IsDamagedAt old new n seed s.place s.kind
   pub read : s.code ≡ 5 → ((s.kind ≡ 1) × CannotRead old new 1 n.config) ⊎ ((s.kind ≡ 2) × CannotRead old new 2 n.arrivals)
   pub write : s.code ≡ 6 → (1 ≤ s.kind) × (s.kind ≤ 3) × Rose (old.write_faults (s.kind + 2)) (new.write_faults (s.kind + 2))
-  pub limit : s.code ≡ 7 → ((s.kind ≡ 1) × (IsTrue old.tells → IsLimited old n))
+  pub limit : s.code ≡ 7 → ((s.kind ≡ 1) × (IsTrue old.tells → IsLimited old new n seed))
       ⊎ ((s.kind ≡ 2) × (IsTrue old.tells → IsLate old new n seed))
       ⊎ ((s.kind ≡ 3) × (IsTrue old.tells → Says old n.config n.interface TooLong))
-  pub accepted_first : IsAfterConfig s.code s.kind → (rate : ℕ) × Accepts old n.config n.interface rate
+  pub accepted_first : IsAfterConfig s.code s.kind → (found : Interface) × Accepts old n.config n.interface found
 
 -- When it must come, where the files tell and no count of faults rises.
 pub record PlayIsTold (old : View) (n : Names) (seed : ℕ) (s : Status) : Type 0 where
@@ -62,9 +65,17 @@ pub record PlayIsTold (old : View) (n : Names) (seed : ℕ) (s : Status) : Type 
   pub configuration : (place : ConfPlace) → Says old n.config n.interface (Refused place) → TellsPlace s place ⊎ (s.code ≡ 8)
   pub long : Says old n.config n.interface TooLong → Tells s 7 3 ⊎ (s.code ≡ 8)
   pub unbuilt : IsUnbuilt old n.config n.interface → Tells s 9 3 ⊎ (s.code ≡ 8)
-  pub damage : (d : Damage) → EndsWith old n (Fault d) → TellsDamage s d ⊎ (s.code ≡ 8)
-  pub limit : EndsWith old n Limit → Tells s 7 1 ⊎ (s.code ≡ 8)
+  pub damage : (d : Damage) → EndsWith old n seed (Fault d) → TellsDamage s d ⊎ (s.code ≡ 8)
+  pub limit : EndsWith old n seed Limit → Tells s 7 1 ⊎ (s.code ≡ 8)
   pub late : EndsLate old n seed → Tells s 7 2 ⊎ (s.code ≡ 8)
+
+-- What becomes of the files of a play, however it ends.
+pub record FilesEnd (old new : View) (n : Names) : Type 0 where
+  pub order : IsInOrder old new
+  pub uncreated : KeepUncreated old new n.departures n.fates n.stats
+  pub few : TakesFew old new n.config
+  pub others : KeepsOthers n.departures n.fates n.stats old new
+  pub said : new.said ≡ old.said
 
 -- What a play leaves.
 pub record PlayLeaves (old new : View) (n : Names) (seed : ℕ) (s : Status) : Type 0 where
@@ -72,8 +83,7 @@ pub record PlayLeaves (old new : View) (n : Names) (seed : ℕ) (s : Status) : T
   pub nothing : IsTrue old.tells → AcceptsNone old n.config n.interface → (m : List ℕ) → new.bytes m ≡ old.bytes m
   pub unread : s.code ≡ 5 → s.kind ≡ 1 → (m : List ℕ) → new.bytes m ≡ old.bytes m
   pub absent : IsAbsent old n.arrivals → (m : List ℕ) → new.bytes m ≡ old.bytes m
-  pub others : KeepsOthers n.departures n.fates n.stats old new
-  pub said : new.said ≡ old.said
+  pub files : FilesEnd old new n
 
 pub record PlayEnds (old new : View) (n : Names) (seed : ℕ) (s : Status) : Type 0 where
   pub status : IsStatus s
@@ -96,4 +106,5 @@ pub record CheckEnds (old new : View) (config interface : List ℕ) (s : Status)
       → TellsPlace s place ⊎ (s.code ≡ 8)
   pub long_told : IsTrue old.tells → IsQuiet old new → Says old config interface TooLong → Tells s 7 3 ⊎ (s.code ≡ 8)
   pub keeps : Keeps Any Any old new
+  pub only : OnlyReads old new config
   pub silent : s.code ≢ 0 → new.said ≡ old.said

@@ -1,18 +1,14 @@
 -- What is read of a configuration.
-use Rattle.std.specs.Prelude.{◌≡◌, ◌≤◌, ◌<◌, ℕ, List, length, Some, Result, Err, IsTrue}
+use Rattle.std.specs.Prelude.{◌≡◌, ◌≤◌, ◌<◌, ◌+◌, ℕ, false, List, length, None, Some, Result, Err, IsTrue}
 use Rattle.conf_lines.specs.declared.fault.ConfPlace.{ConfPlace}
 use Rattle.conf_lines.specs.Texts.{statements_of}
 use Rattle.conf_tree.specs.declared.interface.Interface.{Interface}
 use Rattle.conf_tree.specs.Reading.{reading}
 use Rattle.play_base.specs.View.{View}
-use Rattle.play_cli.specs.Causes.{ConfigCauses}
-use Rattle.play_cli.specs.Configuration.{most_bytes}
+use Rattle.play_cli.specs.Configuration.{absent, interface_of, is_one_queue, most_bytes}
 use Rattle.play_cli.specs.Opening.{CannotRead}
+use Rattle.play_cli.specs.declared.fault.ConfigFault.{ConfigFault}
 use Rattle.play_cli.specs.declared.fault.ConfigFault.TheVariants as conf
-use Rattle.play_cli.specs.declared.fault.RunFault.{RunFault}
-use Rattle.play_cli.specs.declared.fault.RunFault.TheVariants.{Config, NoMemory}
-use Rattle.play_cli.specs.declared.input.InputFault.{InputFault}
-use Rattle.play_cli.specs.declared.input.InputFault.TheVariants as input
 
 -- these are all the bytes that the file had left
 abbrev pub HadLeft : View → ℕ → List ℕ → Type 0
@@ -21,6 +17,18 @@ HadLeft old file bytes = (all : List ℕ) → old.left file ≡ Some all → all
 -- the file had more left than a configuration may have
 abbrev pub HadMore : View → ℕ → Type 0
 HadMore old file = (all : List ℕ) → old.left file ≡ Some all → most_bytes < length all
+
+-- at most 2^20 + 1 bytes were taken of it
+abbrev pub TookFew : View → View → ℕ → Type 0
+TookFew old new file = (all : List ℕ) → old.left file ≡ Some all
+    → (rest : List ℕ) × (new.left file ≡ Some rest) × (length all ≤ most_bytes + 1 + length rest)
+
+-- one file at most came to be: of part 1 and, where the object tells, of this name, of which at most 2^20 + 1 bytes were taken
+pub record OnlyReads (old new : View) (config : List ℕ) : Type 0 where
+  pub part : (f p : ℕ) → old.part f ≡ None → new.part f ≡ Some p → p ≡ 1
+  pub name : IsTrue old.tells → (f p : ℕ) → old.part f ≡ None → new.part f ≡ Some p → new.name f ≡ config
+  pub few : IsTrue old.tells → (f p : ℕ) → old.part f ≡ None → new.part f ≡ Some p → (all : List ℕ) → old.bytes config ≡ Some all
+      → (rest : List ℕ) × (new.left f ≡ Some rest) × (length all ≤ most_bytes + 1 + length rest)
 
 -- a text of at most 2^20 bytes is read as this; where the files tell, it stands under the name
 pub record IsRead (old : View) (config : List ℕ) (read : Result (List Interface) ConfPlace) : Type 0 where
@@ -35,21 +43,34 @@ pub record IsLonger (old : View) (config : List ℕ) : Type 0 where
   pub at : old.bytes config ≡ Some text
   pub long : most_bytes < length text
 
--- why no configuration is read
-abbrev pub InputCauses : View → View → (config : List ℕ) → RunFault → Type 0
-InputCauses old new config (Config (conf.At place)) = IsRead old config (Err place)
-InputCauses old new config (Config conf.TooLong) = IsTrue old.tells → IsLonger old config
-InputCauses old new config (Config conf.Read) = CannotRead old new 1 config
-InputCauses old new config NoMemory = Unit {0}
-InputCauses old new config _ = ⊥
+-- why no bytes are read, and why no configuration is
+abbrev pub BytesCauses : View → View → (config : List ℕ) → ConfigFault → Type 0
+BytesCauses old new config (conf.At place) = ⊥
+BytesCauses old new config conf.TooLong = IsTrue old.tells → IsLonger old config
+BytesCauses old new config conf.Unbuilt = ⊥
+BytesCauses old new config conf.Read = CannotRead old new 1 config
+BytesCauses old new config conf.NoMemory = Unit {0}
 
--- why there is no interface to play
-abbrev pub RateCauses : View → View → (config interface : List ℕ) → RunFault → Type 0
-RateCauses old new config interface (Config fault) = ConfigCauses old new config interface fault
-RateCauses old new config interface NoMemory = Unit {0}
-RateCauses old new config interface _ = ⊥
+abbrev pub InputCauses : View → View → (config : List ℕ) → ConfigFault → Type 0
+InputCauses old new config (conf.At place) = IsRead old config (Err place)
+InputCauses old new config conf.TooLong = IsTrue old.tells → IsLonger old config
+InputCauses old new config conf.Unbuilt = ⊥
+InputCauses old new config conf.Read = CannotRead old new 1 config
+InputCauses old new config conf.NoMemory = Unit {0}
 
-abbrev pub input_fault : InputFault → RunFault
-input_fault input.TooLong = Config conf.TooLong
-input_fault input.Read = Config conf.Read
-input_fault input.NoMemory = NoMemory
+-- why a configuration has no interface to play
+abbrev pub IsMissing : (interface : List ℕ) → List Interface → ConfigFault → Type 0
+IsMissing interface interfaces (conf.At place) = (place ≡ absent) × (interface_of interface interfaces ≡ None)
+IsMissing interface interfaces conf.TooLong = ⊥
+IsMissing interface interfaces conf.Unbuilt =
+    (found : Interface) × (interface_of interface interfaces ≡ Some found) × (is_one_queue found ≡ false)
+IsMissing interface interfaces conf.Read = ⊥
+IsMissing interface interfaces conf.NoMemory = ⊥
+
+-- the faults that one file can show
+abbrev pub IsOfFile : ConfigFault → Type 0
+IsOfFile (conf.At place) = ⊥
+IsOfFile conf.TooLong = Unit {0}
+IsOfFile conf.Unbuilt = ⊥
+IsOfFile conf.Read = Unit {0}
+IsOfFile conf.NoMemory = Unit {0}

@@ -1,11 +1,12 @@
 pub mod Causes
 pub mod Checked
-pub mod Classified
 pub mod Configuration
 pub mod Ending
 pub mod Input
+pub mod InterfaceSetup
 pub mod Opening
+pub mod Order
 pub mod Run
 pub use Rattle.play_words.specs.Words
-pub use Rattle.play_loop.specs.OneQueue
+pub use Rattle.play_loop.specs.Played
 pub use Rattle.play_loop.specs.Setup

@@ -1,47 +1,88 @@
 -- The files of a play: which are opened and created, and what stands where one of these fails.
-use Rattle.std.specs.Prelude.{◌≡◌, ◌≢◌, ◌⊎◌, ℕ, List, [], Some, IsTrue, IsSome}
-use Rattle.altq_model.specs.History.{Entry}
+use Rattle.std.specs.Prelude.{◌≡◌, ◌≢◌, ◌≤◌, ◌<◌, ◌+◌, ◌⊎◌, ℕ, List, [], None, Some, IsTrue, IsSome}
+use Rattle.altq_model.specs.History.{Happened}
+use Rattle.play_base.specs.declared.trouble.Trouble.{Trouble}
+use Rattle.play_base.specs.declared.trouble.Trouble.TheVariants as trouble
 use Rattle.play_base.specs.View.{View, Keeps, Rose, IsAbsent}
 use Rattle.play_loop.specs.declared.fault.Opened.{Opened}
+use Rattle.play_loop.specs.declared.fault.Output.{Output}
+use Rattle.play_loop.specs.declared.fault.Output.TheVariants as output
+use Rattle.play_loop.specs.declared.fault.PlayFault.{PlayFault}
+use Rattle.play_loop.specs.declared.fault.PlayFault.TheVariants as play
 use Rattle.play_loop.specs.Played.{AreReady}
-use Rattle.play_cli.specs.Configuration.{IsOneQueue}
 
 -- nothing is told of what stands for a history
-abbrev pub Untold : List Entry → Type 0
+abbrev pub Untold : List Happened → Type 0
 Untold g = Unit {0}
 
 -- the count of read faults of the part rose, or the name is told not to be there
 abbrev pub CannotRead : View → View → (part : ℕ) → (name : List ℕ) → Type 0
 CannotRead old new part name = Rose (old.read_faults part) (new.read_faults part) ⊎ IsAbsent old name
 
--- where the files tell: the configuration says that the interface has one queue, and this rate
-abbrev pub Accepts : View → (config interface : List ℕ) → (rate : ℕ) → Type 0
-Accepts v config interface rate = IsTrue v.tells → (text : List ℕ) × (v.bytes config ≡ Some text) × IsOneQueue text interface rate
-
--- where the files tell: it says no such thing
-abbrev pub AcceptsNone : View → (config interface : List ℕ) → Type 0
-AcceptsNone v config interface = IsTrue v.tells → (text : List ℕ) → v.bytes config ≡ Some text → (rate : ℕ) → IsOneQueue text interface rate → ⊥
-
 -- where the object tells: every name but the three
 abbrev pub OtherThree : View → (dep fat stats : List ℕ) → List ℕ → Type 0
 OtherThree v dep fat stats n = IsTrue v.tells × (n ≢ dep) × (n ≢ fat) × (n ≢ stats)
 
--- every name keeps its bytes but the three
+-- every name keeps its bytes but the three, and every file of another name what it has left
 abbrev pub KeepsOthers : (dep fat stats : List ℕ) → View → View → Type 0
-KeepsOthers dep fat stats old new = Keeps (OtherThree old dep fat stats) (λ f. ⊥) old new
+KeepsOthers dep fat stats old new =
+    Keeps (OtherThree old dep fat stats) (λ f. OtherThree old dep fat stats (old.name f)) old new
 
--- where the object tells: the name holds what it held, or nothing
-abbrev pub IsEmptied : View → View → List ℕ → Type 0
-IsEmptied old new name = IsTrue old.tells → (new.bytes name ≡ old.bytes name) ⊎ (new.bytes name ≡ Some [])
+-- files of the parts from 2 on, up to but not with one, and none but these and some of part 1
+pub record HaveParts (old new : View) (end : ℕ) : Type 0 where
+  pub some : 2 ≤ end
+  pub few : end ≤ 6
+  pub kept : (f p : ℕ) → old.part f ≡ Some p → new.part f ≡ Some p
+  pub only : (f p : ℕ) → old.part f ≡ None → new.part f ≡ Some p → (1 ≤ p) × (p < end)
+  pub each : (p : ℕ) → 2 ≤ p → p < end → (f : ℕ) × (old.part f ≡ None) × (new.part f ≡ Some p)
 
--- the four files are there, under their parts and names; the arrivals have left what stands under their name
+-- of the arrivals, the departures, the fates and the statistics so many came to be, in this order, and nothing was written: an output
+-- that did not keeps its bytes, and one that did is empty where the object tells
+pub record OpenedFar (old new : View) (dep fat stats : List ℕ) : Type 0 where
+  pub end : ℕ
+  pub parts : HaveParts old new end
+  pub not_config : (f p : ℕ) → old.part f ≡ None → new.part f ≡ Some p → 2 ≤ p
+  pub departures_kept : end ≤ 3 → new.bytes dep ≡ old.bytes dep
+  pub fates_kept : end ≤ 4 → new.bytes fat ≡ old.bytes fat
+  pub stats_kept : end ≤ 5 → new.bytes stats ≡ old.bytes stats
+  pub departures_empty : 3 < end → IsTrue old.tells → new.bytes dep ≡ Some []
+  pub fates_empty : 4 < end → IsTrue old.tells → new.bytes fat ≡ Some []
+  pub stats_empty : 5 < end → IsTrue old.tells → new.bytes stats ≡ Some []
+  pub keeps : KeepsOthers dep fat stats old new
+  pub said : new.said ≡ old.said
+
+-- the number of an output
+abbrev pub output_number : Output → ℕ
+output_number output.Departures = 1
+output_number output.Fates = 2
+output_number output.Statistics = 3
+
+-- what trouble with the creation of an output means for the play
+abbrev pub create_fault : Output → Trouble → PlayFault
+create_fault output trouble.Failed = play.Write output
+create_fault output trouble.NoMemory = play.NoMemory
+
+-- why the files of a play are not all there
+abbrev pub OpenCauses : View → View → (arrivals : List ℕ) → PlayFault → Type 0
+OpenCauses old new arrivals (play.Capture damage) = ⊥
+OpenCauses old new arrivals play.Read = CannotRead old new 2 arrivals
+OpenCauses old new arrivals (play.Write output) = Rose (old.write_faults (output_number output + 2)) (new.write_faults (output_number output + 2))
+OpenCauses old new arrivals (play.Limit limit) = ⊥
+OpenCauses old new arrivals play.NoMemory = Unit {0}
+
+-- the four files are there, new, under their parts and names; the arrivals have left what stands under their name
 pub record AreOpened (old new : View) (arrivals departures fates stats : List ℕ) (o : Opened) : Type 0 where
   pub ready : AreReady new o
   pub there : IsTrue old.tells → IsSome (old.bytes arrivals)
   pub left : IsTrue old.tells → new.left o.arrivals ≡ old.bytes arrivals
   pub departures_name : IsTrue old.tells → new.name o.departures ≡ departures
   pub fates_name : IsTrue old.tells → new.name o.fates ≡ fates
+  pub arrivals_new : old.part o.arrivals ≡ None
+  pub departures_new : old.part o.departures ≡ None
+  pub fates_new : old.part o.fates ≡ None
+  pub stats_new : old.part o.stats ≡ None
   pub arrivals_part : new.part o.arrivals ≡ Some 2
   pub departures_part : new.part o.departures ≡ Some 3
   pub fates_part : new.part o.fates ≡ Some 4
+  pub stats_part : new.part o.stats ≡ Some 5
   pub stats_empty : IsTrue old.tells → new.bytes stats ≡ Some []

@@ -1,16 +1,23 @@
 -- What a run of the program leaves, and when each of its statuses comes.
-use Rattle.std.specs.Prelude.{◌≡◌, ◌⊎◌, ℕ, List, [], ◌++◌, Some, IsTrue}
-use Rattle.altq_model.specs.declared.capture.Damage.{Damage}
+use Rattle.std.specs.Prelude.{◌≡◌, ◌<◌, ◌⊎◌, ℕ, true, List, [], ◌++◌, length, None, Some, IsTrue}
 use Rattle.altq_model.specs.Arrivals.{comings}
-use Rattle.altq_model.specs.Capture.{Record, Step, Fault, Limit, Reads, IsCapture}
-use Rattle.altq_model.specs.History.{Entry}
-use Rattle.altq_model.specs.Laws.{IsBusy, IsInTime, KeepsLaws}
-use Rattle.altq_model.specs.Numbers.{damage_number}
+use Rattle.altq_model.specs.Departures.{departed}
+use Rattle.altq_model.specs.History.{Happened, bare, offered}
+use Rattle.altq_model.specs.Idle.{NeverIdles}
+use Rattle.altq_model.specs.Lawful.{greatest}
+use Rattle.capture_model.specs.declared.damage.Damage.{Damage}
+use Rattle.capture_model.specs.Capture.{Record, Step, End, Fault, Limit, Reads, IsCapture, IsLast}
+use Rattle.capture_model.specs.Numbers.{damage_number}
+use Rattle.conf_tree.specs.declared.interface.Interface.{Interface}
 use Rattle.play_base.specs.View.{View, Rose}
-use Rattle.pcap_files.specs.ReadingLaws.{IsLast}
-use Rattle.play_loop.specs.OneQueue.{one_setup}
-use Rattle.play_loop.specs.Setup.{IsPlayOf, IsFrontOf, IsCutOf, arrivals_in, departures_of, fates_of}
-use Rattle.play_cli.specs.Configuration.{IsOneQueue}
+use Rattle.play_core.specs.declared.totals.Totals.{Totals}
+use Rattle.play_core.specs.Ended.{IsBegun, IsCutOff}
+use Rattle.play_core.specs.Finished.{EndsWithOffer, IsFinished, IsStopped}
+use Rattle.play_loop.specs.Played.{Streams, start_of}
+use Rattle.play_loop.specs.Setup.{Setup, arrivals_in, departures_of, fates_of}
+use Rattle.play_cli.specs.Configuration.{Configures, is_one_queue}
+use Rattle.play_cli.specs.InterfaceSetup.{setup_of}
+use Rattle.play_cli.specs.Order.{Untouched}
 
 -- the names of the words
 pub record Names : Type 0 where
@@ -21,117 +28,138 @@ pub record Names : Type 0 where
   pub fates : List ℕ
   pub stats : List ℕ
 
--- THE HEADLINE for one queue. The configuration gives the interface one queue and this rate; the arrivals are a capture of these
--- records; this is the history of their play, for the seed of the words. The departures and the fates hold its texts, the
--- statistics nothing. In its journal each arrival has one fate, each class departs in the order of arrival, no packet starts before it
--- arrived, each end is that of its run, the link never idles while a packet waits, and every packet ends before the clock does.
-pub record HasPlayed (old new : View) (n : Names) (seed : ℕ) : Type 0 where
-  pub text : List ℕ
-  pub rate : ℕ
+-- what is accepted: the configuration says that the interface asked for is this one, which is played, and these are the bytes under
+-- the name of the arrivals
+pub record Accepted (v : View) (n : Names) : Type 0 where
+  pub interface : Interface
   pub bytes : List ℕ
+  pub configuration : Configures v n.config n.interface interface
+  pub arrivals : v.bytes n.arrivals ≡ Some bytes
+
+-- departures and fates hold exactly the texts of this history
+pub record HoldTexts (v : View) (n : Names) (x : Setup) (records : List Record) (g : List Happened) : Type 0 where
+  pub departures : v.bytes n.departures ≡ Some (departures_of x (arrivals_in x records) g)
+  pub fates : v.bytes n.fates ≡ Some (fates_of x (arrivals_in x records) g)
+
+-- These bytes are a capture of these records, and this is the history of their play. Departures and fates hold its texts,
+-- statistics nothing. Departures are a capture of the packets that were sent, in the order of decision.
+pub record WasPlayed (v : View) (n : Names) (x : Setup) (bytes : List ℕ) : Type 0 where
   pub records : List Record
-  pub history : List Entry
-  pub config : old.bytes n.config ≡ Some text
-  pub accepted : IsOneQueue text n.interface rate
-  pub arrivals : old.bytes n.arrivals ≡ Some bytes
+  pub history : List Happened
+  pub totals : Totals
   pub capture : IsCapture bytes records
-  pub play : IsPlayOf (one_setup rate seed) records history
-  pub departures : new.bytes n.departures ≡ Some (departures_of (one_setup rate seed) records history)
-  pub fates : new.bytes n.fates ≡ Some (fates_of (one_setup rate seed) records history)
-  pub stats : new.bytes n.stats ≡ Some []
-  pub laws : KeepsLaws rate (comings (arrivals_in (one_setup rate seed) records)) history
-  pub busy : IsBusy rate (comings (arrivals_in (one_setup rate seed) records)) history
-  pub in_time : IsInTime history
+  pub play : IsFinished x.policy x.rate x.seed (arrivals_in x records) history totals
+  pub texts : HoldTexts v n x records history
+  pub stats : v.bytes n.stats ≡ Some []
+  pub reads : IsCapture (departures_of x (arrivals_in x records) history) (departed x.dress (arrivals_in x records) history)
 
--- the name holds what it held before the run, or a front of this text
-abbrev pub IsFrontAt : View → View → List ℕ → List ℕ → Type 0
-IsFrontAt old new name text = (new.bytes name ≡ old.bytes name) ⊎ ((front : List ℕ) × (rest : List ℕ) × (new.bytes name ≡ Some front) × (front ++ rest ≡ text))
+-- THE HEADLINE. The configuration gives the interface, and the arrivals are a capture; this is the history of its play by the
+-- interface and the seed of the words. In it each arrival has one fate, each class departs in the order of arrival, no packet starts
+-- before it arrived, each end is that of its run, each event is the one that the policy makes due, each start is the least moment,
+-- not before the last end, at which a class may send, nothing waits at the end, and every packet ends before the clock does. Of one
+-- queue the link never idles while a packet waits.
+pub record HasPlayed (old new : View) (n : Names) (seed : ℕ) : Type 0 where
+  pub accepted : Accepted old n
+  pub played : WasPlayed new n (setup_of accepted.interface seed) accepted.bytes
+  pub never_idles : is_one_queue accepted.interface ≡ true
+      → NeverIdles accepted.interface.rate (comings (arrivals_in (setup_of accepted.interface seed) played.records)) played.history
 
--- where the configuration is accepted with this rate, and these are the complete records of the arrivals: the outputs hold fronts of
--- the texts of the first events of their play
-pub record HasFronts (old new : View) (n : Names) (seed rate : ℕ) (records : List Record) : Type 0 where
-  pub history : List Entry
-  pub play : IsFrontOf (one_setup rate seed) records history
-  pub departures : IsFrontAt old new n.departures (departures_of (one_setup rate seed) records history)
-  pub fates : IsFrontAt old new n.fates (fates_of (one_setup rate seed) records history)
-  pub stats : IsFrontAt old new n.stats []
+-- the name was not created and holds what it held before the run, or it holds a front of this text
+abbrev pub IsFrontAt : View → View → (part : ℕ) → (name text : List ℕ) → Type 0
+IsFrontAt old new part name text =
+    (Untouched old new part × (new.bytes name ≡ old.bytes name))
+    ⊎ ((front : List ℕ) × (rest : List ℕ) × (new.bytes name ≡ Some front) × (front ++ rest ≡ text))
 
+-- the outputs hold fronts of the texts of the first events of the play of these records
+pub record HasFronts (old new : View) (n : Names) (x : Setup) (records : List Record) : Type 0 where
+  pub history : List Happened
+  pub begun : IsBegun x.policy x.rate x.seed (comings (arrivals_in x records)) history
+  pub departures : IsFrontAt old new 3 n.departures (departures_of x (arrivals_in x records) history)
+  pub fates : IsFrontAt old new 4 n.fates (fates_of x (arrivals_in x records) history)
+  pub stats : IsFrontAt old new 5 n.stats []
+
+-- what is accepted and can be read: of its complete records
 abbrev pub Fronts : View → View → Names → (seed : ℕ) → Type 0
-Fronts old new n seed = IsTrue old.tells → (text bytes : List ℕ) (rate : ℕ) (records : List Record) (last : Step) → old.bytes n.config ≡ Some text
-    → IsOneQueue text n.interface rate → old.bytes n.arrivals ≡ Some bytes → Reads bytes records last → IsLast last → HasFronts old new n seed rate records
+Fronts old new n seed = IsTrue old.tells → (a : Accepted old n) (records : List Record) (last : Step)
+    → Reads a.bytes records last → IsLast last → HasFronts old new n (setup_of a.interface seed) records
+
+-- the first events of the play of these records, up to and with the offer of the last of them, each sending in time: departures and
+-- fates hold exactly their texts. These are all drops of these records, and all sendings that start before the last of them arrives
+pub record HasOffered (v : View) (n : Names) (x : Setup) (records : List Record) : Type 0 where
+  pub history : List Happened
+  pub begun : IsBegun x.policy x.rate x.seed (comings (arrivals_in x records)) history
+  pub all : offered (bare history) ≡ length records
+  pub last : EndsWithOffer history
+  pub texts : HoldTexts v n x records history
+
+-- what is accepted reads to this end, and its complete records were offered
+pub record IsOffered (old new : View) (n : Names) (seed : ℕ) (last : Step) : Type 0 where
+  pub accepted : Accepted old n
+  pub records : List Record
+  pub reads : Reads accepted.bytes records last
+  pub decided : HasOffered new n (setup_of accepted.interface seed) records
 
 -- this is the place and the kind of the first test that the arrivals fail
-pub record IsDamagedAt (old : View) (n : Names) (place kind : ℕ) : Type 0 where
-  pub bytes : List ℕ
-  pub records : List Record
+pub record IsDamagedAt (old new : View) (n : Names) (seed place kind : ℕ) : Type 0 where
   pub damage : Damage
-  pub arrivals : old.bytes n.arrivals ≡ Some bytes
-  pub reads : Reads bytes records (Fault damage)
+  pub decided : IsOffered old new n seed (Fault damage)
   pub at : place ≡ damage.place
   pub what : kind ≡ damage_number damage.kind
 
 -- the arrivals reach a limit of captures
-pub record IsLimited (old : View) (n : Names) : Type 0 where
-  pub bytes : List ℕ
-  pub records : List Record
-  pub arrivals : old.bytes n.arrivals ≡ Some bytes
-  pub reads : Reads bytes records Limit
+abbrev pub IsLimited : View → View → Names → (seed : ℕ) → Type 0
+IsLimited old new n seed = IsOffered old new n seed Limit
 
--- the play of the arrivals has a sending that would end too late, and the outputs hold the texts of the events before it
+-- a sending that is due next would end too late. It starts before the last of these records arrives, or these are a whole capture
+pub record IsCutEarly (x : Setup) (records : List Record) (last : Step) (g : List Happened) : Type 0 where
+  pub cut : IsCutOff x.policy x.rate x.seed (comings (arrivals_in x records)) g
+  pub before : (last ≡ End) ⊎ (start_of cut.next.what < greatest 0 records)
+
+-- the play of what is accepted is cut off so. Departures and fates hold exactly the texts of the events before that sending. If a
+-- complete record arrives later than it starts, the bytes that were taken of the arrivals end at most 65,536 bytes past the first such
+-- record
 pub record IsLate (old new : View) (n : Names) (seed : ℕ) : Type 0 where
-  pub text : List ℕ
-  pub rate : ℕ
-  pub bytes : List ℕ
+  pub accepted : Accepted old n
   pub records : List Record
-  pub history : List Entry
-  pub config : old.bytes n.config ≡ Some text
-  pub accepted : IsOneQueue text n.interface rate
-  pub arrivals : old.bytes n.arrivals ≡ Some bytes
-  pub capture : IsCapture bytes records
-  pub cut : IsCutOf (one_setup rate seed) records history
-  pub departures : new.bytes n.departures ≡ Some (departures_of (one_setup rate seed) records history)
-  pub fates : new.bytes n.fates ≡ Some (fates_of (one_setup rate seed) records history)
+  pub last : Step
+  pub history : List Happened
+  pub totals : Totals
+  pub reads : Reads accepted.bytes records last
+  pub is_last : IsLast last
+  pub early : IsCutEarly (setup_of accepted.interface seed) records last history
+  pub play : IsStopped (setup_of accepted.interface seed).policy accepted.interface.rate seed
+      (arrivals_in (setup_of accepted.interface seed) records) history totals
+  pub texts : HoldTexts new n (setup_of accepted.interface seed) records history
+  pub file : ℕ
+  pub fresh : old.part file ≡ None
+  pub part : new.part file ≡ Some 2
+  pub streams : Streams new file accepted.bytes records (start_of early.cut.next.what)
 
 -- no count of faults rose
 abbrev pub IsQuiet : View → View → Type 0
 IsQuiet old new = (part : ℕ) → (Rose (old.read_faults part) (new.read_faults part) → ⊥) × (Rose (old.write_faults part) (new.write_faults part) → ⊥)
 
--- the configuration is accepted, the arrivals are a capture, and every packet of its play ends in time
-pub record IsPlayable (old : View) (n : Names) (seed : ℕ) : Type 0 where
-  pub text : List ℕ
-  pub rate : ℕ
-  pub bytes : List ℕ
+-- what is accepted reads to this end, and no sending of its play comes before that and would end too late
+pub record EndsWith (old : View) (n : Names) (seed : ℕ) (last : Step) : Type 0 where
+  pub accepted : Accepted old n
   pub records : List Record
-  pub config : old.bytes n.config ≡ Some text
-  pub accepted : IsOneQueue text n.interface rate
-  pub arrivals : old.bytes n.arrivals ≡ Some bytes
-  pub capture : IsCapture bytes records
-  pub in_time : (history : List Entry) → IsCutOf (one_setup rate seed) records history → ⊥
+  pub reads : Reads accepted.bytes records last
+  pub in_time : (history : List Happened) → IsCutEarly (setup_of accepted.interface seed) records last history → ⊥
+
+-- the configuration is accepted, the arrivals are a capture, and every packet of its play ends in time
+abbrev pub IsPlayable : View → Names → (seed : ℕ) → Type 0
+IsPlayable old n seed = EndsWith old n seed End
 
 -- the statuses of this program
 abbrev pub IsCode : ℕ → Type 0
 IsCode c = (c ≡ 0) ⊎ (c ≡ 2) ⊎ (c ≡ 3) ⊎ (c ≡ 4) ⊎ (c ≡ 5) ⊎ (c ≡ 6) ⊎ (c ≡ 7) ⊎ (c ≡ 8) ⊎ (c ≡ 9)
 
--- the configuration is accepted, and the reading of the arrivals ends so
-pub record EndsWith (old : View) (n : Names) (last : Step) : Type 0 where
-  pub text : List ℕ
-  pub rate : ℕ
-  pub bytes : List ℕ
-  pub records : List Record
-  pub config : old.bytes n.config ≡ Some text
-  pub accepted : IsOneQueue text n.interface rate
-  pub arrivals : old.bytes n.arrivals ≡ Some bytes
-  pub reads : Reads bytes records last
-
--- the configuration is accepted, the arrivals are a capture, and a packet of its play would end too late
+-- one does
 pub record EndsLate (old : View) (n : Names) (seed : ℕ) : Type 0 where
-  pub text : List ℕ
-  pub rate : ℕ
-  pub bytes : List ℕ
+  pub accepted : Accepted old n
   pub records : List Record
-  pub history : List Entry
-  pub config : old.bytes n.config ≡ Some text
-  pub accepted : IsOneQueue text n.interface rate
-  pub arrivals : old.bytes n.arrivals ≡ Some bytes
-  pub capture : IsCapture bytes records
-  pub cut : IsCutOf (one_setup rate seed) records history
+  pub last : Step
+  pub history : List Happened
+  pub reads : Reads accepted.bytes records last
+  pub is_last : IsLast last
+  pub early : IsCutEarly (setup_of accepted.interface seed) records last history

@@ -1,7 +1,8 @@
 // Why a run ends early.
 
-use altq_model::Damage;
 use conf_lines::ConfPlace;
+use play_base::Trouble;
+use play_loop::PlayFault;
 
 /// Why the configuration cannot be used.
 #[derive(Clone, Copy, Debug, PartialEq, Eq)]
@@ -14,20 +15,17 @@ pub enum ConfigFault {
     Unbuilt,
     /// It could not be opened or read.
     Read,
+    /// No memory was left for it.
+    NoMemory,
 }
 
-/// Why a run whose words are accepted ends early. The numbers are the kinds of a status.
+/// Why a run whose words are accepted ends early.
 #[derive(Clone, Copy, Debug, PartialEq, Eq)]
 pub enum RunFault {
+    /// The configuration cannot be used.
     Config(ConfigFault),
-    /// The arrivals could not be opened or read.
-    Arrivals,
-    /// A file could not be created or written: the departures (1), the fates (2) or the statistics (3); or the result could
-    /// not be said (10).
-    Write(u8),
-    /// The arrivals fail this test of captures first.
-    Capture(Damage),
-    /// The arrivals have too many records or bytes (1), or a packet would end at 2^32 seconds or later (2).
-    Limit(u8),
-    NoMemory,
+    /// The play of an accepted configuration ended early, or one of its files could not be opened or created.
+    Play(PlayFault),
+    /// The result of a check could not be said.
+    Say(Trouble),
 }

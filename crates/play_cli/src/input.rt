@@ -1,15 +1,13 @@
 // Reading the configuration.
-ghost use Rattle.std.specs.Prelude.{◌≡◌, ◌≢◌, ◌≤◌, ◌<◌, ◌^◌, ℕ, List, length, vec_len, Some, Ok, IsTrue, IsSome, IsSomeAnd, IfOk, IfErr, IsErrOf};
+ghost use Rattle.std.specs.Prelude.{◌≡◌, ◌≢◌, ◌≤◌, ◌<◌, ◌+◌, ℕ, List, length, true, Some, Ok, IsTrue, IsSome, IfOk, IfErr, IsErrOf};
 ghost use Rattle.conf_lines.specs.Texts.{statements_of};
 ghost use Rattle.conf_tree.specs.Answers.{Fails};
 ghost use Rattle.conf_tree.specs.Reading.{reading};
-ghost use Rattle.play_base.specs.View.{View, ReadFault, Keeps, Any};
-ghost use Rattle.play_cli.specs.Configuration.{absent, is_one_queue, most_bytes};
-ghost use Rattle.play_cli.specs.Input.{HadLeft, HadMore, InputCauses, IsRead, RateCauses, input_fault};
-ghost use Rattle.play_cli.specs.Opening.{Accepts, CannotRead};
+ghost use Rattle.play_base.specs.View.{View, ReadFault, Keeps, Any, NoneAppears};
+ghost use Rattle.play_cli.specs.Configuration.{absent, interface_of, is_one_queue, most_bytes};
+ghost use Rattle.play_cli.specs.Input.{BytesCauses, HadLeft, HadMore, InputCauses, IsMissing, IsOfFile, IsRead, OnlyReads, TookFew};
 
-use crate::{ConfigFault, RunFault};
-use conf_laws::configurations_fit;
+use crate::ConfigFault;
 use conf_lines::{ConfFault, ConfPlace, statements};
 use conf_tree::{Conf, Interface, Kind};
 use play_base::{Files, Trouble};
@@ -21,67 +19,65 @@ const LIMIT: usize = 1 << 20;
 /// The number of the kind NoInterface.
 const NO_INTERFACE: u8 = 9;
 
-// How the reading of a file ended.
-#[derive(Clone, Copy, Debug, PartialEq, Eq)]
-pub enum InputFault {
-    TooLong,
-    Read,
-    NoMemory,
+// How many bytes to ask for next, where so many were taken: a piece, or as many as there may be and one more.
+fn wanted(taken: usize) -> usize
+    requires { taken ≤ most_bytes }
+    ensures some { 1 ≤ result }
+    ensures piece { result ≤ 4096 }
+    ensures most { taken + result ≤ most_bytes + 1 }
+{
+    if LIMIT - taken < 4096 {
+        LIMIT - taken + 1
+    } else {
+        4096
+    }
 }
 
-// All that a file has left, if that is at most 2^20 bytes.
-fn read_whole<F: Files>(alloc: Global, files: &mut F, file: u32) -> Result<Vec<u8>, InputFault>
+// All that a file has left, if that is at most 2^20 bytes. No more than one more is taken of it.
+fn read_whole<F: Files>(alloc: Global, files: &mut F, file: u32) -> Result<Vec<u8>, ConfigFault>
     requires { IsSome ((F.view files.old).part file) }
     ensures whole { IfOk result (λ all. HadLeft (F.view files.old) file all.items) }
     ensures short { IfOk result (λ all. length all.items ≤ most_bytes) }
-    ensures long { IsErrOf result InputFault.TooLong → HadMore (F.view files.old) file }
-    ensures failed { IsErrOf result InputFault.Read → ReadFault (F.view files.old) (F.view files.new) file }
+    ensures long { IsErrOf result ConfigFault.TooLong → HadMore (F.view files.old) file }
+    ensures failed { IsErrOf result ConfigFault.Read → ReadFault (F.view files.old) (F.view files.new) file }
+    ensures others { IfErr result IsOfFile }
+    ensures few { TookFew (F.view files.old) (F.view files.new) file }
     ensures keeps { Keeps Any (λ f. f ≢ file) (F.view files.old) (F.view files.new) }
+    ensures none { NoneAppears (F.view files.old) (F.view files.new) }
     ensures said { (F.view files.new).said ≡ (F.view files.old).said }
 {
     let mut all = Vec::new(alloc);
     let mut piece = [0u8; 4096];
     while all.len() <= LIMIT {
-        let count = match files.read(file, &mut piece) {
+        let most = wanted(all.len());
+        let count = match files.read(file, &mut piece[..most]) {
             Ok(count) => count,
-            Err(Trouble::Failed) => return Err(InputFault::Read),
-            Err(Trouble::NoMemory) => return Err(InputFault::NoMemory),
+            Err(Trouble::Failed) => return Err(ConfigFault::Read),
+            Err(Trouble::NoMemory) => return Err(ConfigFault::NoMemory),
         };
         if count == 0 {
             return Ok(all);
         }
         if all.extend_from_slice(&piece[..count]).is_err() {
-            return Err(InputFault::NoMemory);
+            return Err(ConfigFault::NoMemory);
         }
     }
-    Err(InputFault::TooLong)
+    Err(ConfigFault::TooLong)
 }
 
 // The bytes under a name, if there are at most 2^20.
-fn read_input<F: Files>(alloc: Global, files: &mut F, name: &str) -> Result<Vec<u8>, InputFault>
+fn read_input<F: Files>(alloc: Global, files: &mut F, name: &str) -> Result<Vec<u8>, ConfigFault>
     ensures whole { IfOk result (λ all. IsTrue (F.view files.old).tells → (F.view files.old).bytes name.now ≡ Some all.items) }
     ensures short { IfOk result (λ all. length all.items ≤ most_bytes) }
-    ensures long { IsErrOf result InputFault.TooLong → IsTrue (F.view files.old).tells →
-        IsSomeAnd ((F.view files.old).bytes name.now) (λ all. most_bytes < length all) }
-    ensures failed { IsErrOf result InputFault.Read → CannotRead (F.view files.old) (F.view files.new) 1 name.now }
+    ensures why { IfErr result (BytesCauses (F.view files.old) (F.view files.new) name.now) }
+    ensures only { OnlyReads (F.view files.old) (F.view files.new) name.now }
     ensures keeps { Keeps Any Any (F.view files.old) (F.view files.new) }
     ensures said { (F.view files.new).said ≡ (F.view files.old).said }
 {
     match files.open(1, name) {
         Ok(file) => read_whole(alloc, files, file),
-        Err(Trouble::Failed) => Err(InputFault::Read),
-        Err(Trouble::NoMemory) => Err(InputFault::NoMemory),
-    }
-}
-
-// Why there is no configuration.
-fn input_fault(fault: InputFault) -> RunFault
-    ensures { result ≡ input_fault fault }
-{
-    match fault {
-        InputFault::TooLong => RunFault::Config(ConfigFault::TooLong),
-        InputFault::Read => RunFault::Config(ConfigFault::Read),
-        InputFault::NoMemory => RunFault::NoMemory,
+        Err(Trouble::Failed) => Err(ConfigFault::Read),
+        Err(Trouble::NoMemory) => Err(ConfigFault::NoMemory),
     }
 }
 
@@ -97,20 +93,21 @@ fn conf_of(alloc: Global, text: &[u8]) -> Result<Conf, ConfFault>
 }
 
 /// The configuration under a name.
-pub fn read_conf<F: Files>(alloc: Global, files: &mut F, config: &str) -> Result<Conf, RunFault>
+pub fn read_conf<F: Files>(alloc: Global, files: &mut F, config: &str) -> Result<Conf, ConfigFault>
     ensures read { IfOk result (λ conf. IsRead (F.view files.old) config.now (Ok conf)) }
-    ensures why { IfErr result (λ fault. InputCauses (F.view files.old) (F.view files.new) config.now fault) }
+    ensures why { IfErr result (InputCauses (F.view files.old) (F.view files.new) config.now) }
+    ensures only { OnlyReads (F.view files.old) (F.view files.new) config.now }
     ensures keeps { Keeps Any Any (F.view files.old) (F.view files.new) }
     ensures said { (F.view files.new).said ≡ (F.view files.old).said }
 {
     let text = match read_input(alloc, files, config) {
         Ok(text) => text,
-        Err(fault) => return Err(input_fault(fault)),
+        Err(fault) => return Err(fault),
     };
     match conf_of(alloc, text.as_slice()) {
         Ok(conf) => Ok(conf),
-        Err(ConfFault::At(place)) => Err(RunFault::Config(ConfigFault::At(place))),
-        Err(ConfFault::NoMemory) => Err(RunFault::NoMemory),
+        Err(ConfFault::At(place)) => Err(ConfigFault::At(place)),
+        Err(ConfFault::NoMemory) => Err(ConfigFault::NoMemory),
     }
 }
 
@@ -132,30 +129,17 @@ fn is_one_queue(interface: &Interface) -> bool
     interface.implied && interface.kind == Kind::Hfsc
 }
 
-/// The rate of an interface that is played so far: one without class statements that shares its link by HFSC.
-pub fn config_rate<F: Files>(
-    alloc: Global,
-    files: &mut F,
-    config: &str,
-    interface: &str,
-) -> Result<u64, RunFault>
-    ensures least { IfOk result (λ rate. 1000 ≤ rate) }
-    ensures most { IfOk result (λ rate. rate ≤ 10 ^ 12) }
-    ensures accepted { IfOk result (λ rate. Accepts (F.view files.old) config.now interface.now rate) }
-    ensures why { IfErr result (λ fault. RateCauses (F.view files.old) (F.view files.new) config.now interface.now fault) }
-    ensures keeps { Keeps Any Any (F.view files.old) (F.view files.new) }
-    ensures said { (F.view files.new).said ≡ (F.view files.old).said }
+/// The interface of a name, where it is played so far: it has no class statement and shares its link by HFSC.
+pub fn played_interface<'a>(conf: &'a Conf, name: &str) -> Result<&'a Interface, ConfigFault>
+    ensures found { IfOk result (λ found. interface_of name.now conf.now ≡ Some found.now) }
+    ensures played { IfOk result (λ found. is_one_queue found.now ≡ true) }
+    ensures why { IfErr result (IsMissing name.now conf.now) }
 {
-    let conf = match read_conf(alloc, files, config) {
-        Ok(conf) => conf,
-        Err(fault) => return Err(fault),
+    let Some(found) = conf.interface(name) else {
+        return Err(ConfigFault::At(absent()));
     };
-    let Some(found) = conf.interface(interface) else {
-        return Err(RunFault::Config(ConfigFault::At(absent())));
-    };
-    configurations_fit();
     if !is_one_queue(found) {
-        return Err(RunFault::Config(ConfigFault::Unbuilt));
+        return Err(ConfigFault::Unbuilt);
     }
-    Ok(found.rate)
+    Ok(found)
 }

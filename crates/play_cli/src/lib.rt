@@ -2,7 +2,6 @@
 #![tactic(auto)]
 
 mod checking;
-mod classifier;
 mod fault;
 mod input;
 mod one;
@@ -11,10 +10,11 @@ mod playing;
 mod program;
 mod status;
 
-pub use classifier::Classifier;
 pub use fault::{ConfigFault, RunFault};
-pub use play_text::Status;
 pub use program::{run, run_steady};
+pub use status::Status;
 
+#[cfg(test)]
+mod over_strict;
 #[cfg(test)]
 mod tests;

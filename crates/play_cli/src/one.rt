@@ -1,13 +1,18 @@
-// The one queue of an interface without classes.
-ghost use Rattle.std.specs.Prelude.{◌≡◌, ◌≤◌, ◌^◌, ◌∷◌, [], ℕ, List, codes, IfOk, IfErr, OnErr};
+// The play of an interface without classes.
+ghost use Rattle.std.specs.Prelude.{◌≡◌, ◌∷◌, [], ℕ, List, true, codes, IfOk, IfErr, OnErr};
 ghost use Rattle.altq_model.specs.Policies.{one_queue};
-ghost use Rattle.play_loop.specs.OneQueue.{one_mark, one_setup};
+ghost use Rattle.play_base.specs.View.{NoneAppears};
+ghost use Rattle.play_loop.specs.Kept.{KeepsBeside};
 ghost use Rattle.play_loop.specs.Played.{AreReady, Explains, Fronts, Plays};
-ghost use Rattle.play_loop.specs.Setup.{KeepsBut};
+ghost use Rattle.play_cli.specs.Configuration.{IsConfigured, is_one_queue};
+ghost use Rattle.play_cli.specs.InterfaceSetup.{setup_of};
 ghost use Rattle.play_cli.specs.Opening.{Untold};
 
-use altq_model::{Mark, Rule};
-use discipline::{Classify, Discipline, Strict, one_class_is_one_queue};
+use altq_model::Rule;
+use conf_laws::configurations_fit;
+use conf_tree::Interface;
+use discipline::{Discipline, Strict, one_class_is_one_queue};
+use frame_classes::{Classifier, frames_have_classes};
 use leaf_queue::{Tail, Words};
 use play_base::{Files, NoMemory};
 use play_loop::{Opened, PlayFault, Totals, play};
@@ -16,19 +21,6 @@ use std::alloc::Global;
 
 /// How many packets the queue holds.
 const LIMIT: u32 = 50;
-
-/// Tells that every frame is of the one class, and has no precedence.
-struct OneClass;
-
-impl Classify for OneClass {
-    ghost use Rattle.play_loop.specs.OneQueue.{one_mark};
-
-    ghost mark = { λ c. one_mark };
-
-    fn class(&self, _frame: &[u8]) -> Mark {
-        Mark { class: 1, prec: 0 }
-    }
-}
 
 // The name of the one class.
 fn one_name(alloc: Global) -> Result<Names, NoMemory>
@@ -53,24 +45,30 @@ fn one_queue(alloc: Global) -> Result<Strict<Tail>, NoMemory>
     }
 }
 
-/// Plays the capture that the arrivals have left through one queue of 50 packets and a link of `rate` bits per second, 1,000 to
-/// 10^12, by the words of a seed. What each error means, and when it comes, `PlayFault` says.
-pub fn play_one<F: Files>(
+/// Plays the capture that the arrivals have left through the one queue of an interface without classes and a link of its rate, by
+/// the words of a seed. What each error means, and when it comes, `PlayFault` says.
+pub fn play_interface<F: Files>(
     alloc: Global,
     files: &mut F,
-    rate: u64,
+    interface: &Interface,
     seed: u64,
     opened: &Opened,
 ) -> Result<Totals, PlayFault>
+    requires configured { IsConfigured interface.now }
+    requires played { is_one_queue interface.now ≡ true }
     requires ready { AreReady (F.view files.old) opened.now }
-    requires least { 1000 ≤ rate }
-    requires most { rate ≤ 10 ^ 12 }
-    ensures done { IfOk result (Plays (one_setup rate seed) Untold (F.view files.old) (F.view files.new) opened.now) }
-    ensures why { IfErr result (Explains (one_setup rate seed) Untold (F.view files.old) (F.view files.new) opened.now) }
-    ensures front { OnErr result (Fronts (one_setup rate seed) (F.view files.old) (F.view files.new) opened.now) }
-    ensures keeps { KeepsBut opened.now.departures opened.now.fates (F.view files.old) (F.view files.new) }
+    ensures done { IfOk result (Plays (setup_of interface.now seed) Untold (F.view files.old) (F.view files.new) opened.now) }
+    ensures why { IfErr result (Explains (setup_of interface.now seed) Untold (F.view files.old) (F.view files.new) opened.now) }
+    ensures front { OnErr result (Fronts (setup_of interface.now seed) (F.view files.old) (F.view files.new) opened.now) }
+    ensures keeps { KeepsBeside opened.now.arrivals opened.now.departures opened.now.fates (F.view files.old) (F.view files.new) }
+    ensures none { NoneAppears (F.view files.old) (F.view files.new) }
     ensures said { (F.view files.new).said ≡ (F.view files.old).said }
 {
+    configurations_fit();
+    frames_have_classes();
+    let Ok(classifier) = Classifier::build(alloc, interface) else {
+        return Err(PlayFault::NoMemory);
+    };
     let Ok(names) = one_name(alloc) else {
         return Err(PlayFault::NoMemory);
     };
@@ -81,9 +79,9 @@ pub fn play_one<F: Files>(
     let played = play(
         alloc,
         &mut discipline,
-        &OneClass,
+        &classifier,
         &names,
-        rate,
+        interface.rate,
         &mut words,
         opened,
         files,

@@ -1,23 +1,25 @@
 // The one public call: from the words of the command line to a status.
 ghost use Rattle.std.specs.Prelude.{◌≡◌, ◌≢◌, ◌≤◌, ◌+◌, ◌⊎◌, ℕ, List, None, Some, IsTrue};
-ghost use Rattle.altq_model.specs.declared.capture.Damage.{Damage};
-ghost use Rattle.altq_model.specs.Capture.{Fault, Limit};
+ghost use Rattle.capture_model.specs.declared.damage.Damage.{Damage};
+ghost use Rattle.capture_model.specs.Capture.{Fault, Limit};
 ghost use Rattle.conf_lines.specs.declared.fault.ConfPlace.{ConfPlace};
+ghost use Rattle.conf_tree.specs.declared.interface.Interface.{Interface};
 ghost use Rattle.play_base.specs.Steady.{steady_view};
 ghost use Rattle.play_base.specs.View.{View, Any, IsAbsent, Keeps, Rose};
 ghost use Rattle.play_words.specs.Words.{IsCheck, IsPlay, refusal, seed_of};
 ghost use Rattle.play_cli.specs.Causes.{IsAfterConfig, names_of};
 ghost use Rattle.play_cli.specs.Checked.{HasChecked, IsCheckable};
-ghost use Rattle.play_cli.specs.Configuration.{IsUnbuilt, Refused, Says, TooLong};
+ghost use Rattle.play_cli.specs.Configuration.{Accepts, AcceptsNone, IsUnbuilt, Refused, Says, TooLong};
 ghost use Rattle.play_cli.specs.Ending.{Tells, TellsDamage, TellsPlace, place_of};
-ghost use Rattle.play_cli.specs.Opening.{Accepts, AcceptsNone, CannotRead, KeepsOthers};
+ghost use Rattle.play_cli.specs.Opening.{CannotRead, KeepsOthers};
+ghost use Rattle.play_cli.specs.Order.{IsInOrder, KeepUncreated, TakesFew};
 ghost use Rattle.play_cli.specs.Run.{HasPlayed, Fronts, IsDamagedAt, IsLimited, IsLate, IsPlayable, EndsWith, EndsLate, IsQuiet, IsCode};
 
+use crate::Status;
 use crate::checking::check;
 use crate::playing::play;
 use crate::status::ended;
 use play_base::{Files, SteadyFiles};
-use play_text::Status;
 use play_words::{Command, read_words};
 use std::alloc::Global;
 
@@ -26,7 +28,8 @@ use std::alloc::Global;
 /// `play --config C --interface I --arrivals A --departures D --fates T --stats Z --seed N` plays the capture A through the one
 /// queue of 50 packets that the configuration C gives the interface I, and a link of its rate, and writes the departures to D
 /// and the fates to T; Z is created and stays empty. Nothing is created before the configuration is accepted and the arrivals
-/// are open. `check --config C --interface I` says the canonical text of the configuration C, where it has the interface I.
+/// are open, and fates only behind departures, statistics only behind fates. Frames are placed by the filters of the interface. At
+/// most 2^20 + 1 bytes of C are read. `check --config C --interface I` says the canonical text of the configuration C, where it has the interface I.
 ///
 /// The status says how it ended, and each clause below when that comes and what it leaves. Where the files tell their bytes,
 /// status 0 means the headline of `HasPlayed`, or `HasChecked`. Status 8 comes where there was no memory, and nothing ties it
@@ -56,7 +59,8 @@ pub fn run<F: Files>(alloc: Global, words: &[String], files: &mut F) -> Status
     ensures unbuilt { result.code ≡ 9 → IsPlay words.now × (result.kind ≡ 3)
         × (IsTrue (F.view files.old).tells → IsUnbuilt (F.view files.old) (names_of words.now).config (names_of words.now).interface) }
     ensures damaged { result.code ≡ 4 → IsPlay words.now × (IsTrue (F.view files.old).tells →
-        IsDamagedAt (F.view files.old) (names_of words.now) result.place result.kind) }
+        (seed : ℕ) → seed_of words.now ≡ Some seed →
+        IsDamagedAt (F.view files.old) (F.view files.new) (names_of words.now) seed result.place result.kind) }
     ensures read { result.code ≡ 5 →
         ((result.kind ≡ 1) × CannotRead (F.view files.old) (F.view files.new) 1 (names_of words.now).config)
         ⊎ ((result.kind ≡ 2) × IsPlay words.now × CannotRead (F.view files.old) (F.view files.new) 2 (names_of words.now).arrivals) }
@@ -65,13 +69,14 @@ pub fn run<F: Files>(alloc: Global, words: &[String], files: &mut F) -> Status
     ensures unsaid { result.code ≡ 6 → IsCheck words.now → (result.kind ≡ 10)
         × Rose ((F.view files.old).write_faults 0) ((F.view files.new).write_faults 0) }
     ensures limit { result.code ≡ 7 →
-        ((result.kind ≡ 1) × IsPlay words.now × (IsTrue (F.view files.old).tells → IsLimited (F.view files.old) (names_of words.now)))
+        ((result.kind ≡ 1) × IsPlay words.now × (IsTrue (F.view files.old).tells → (seed : ℕ) → seed_of words.now ≡ Some seed →
+        IsLimited (F.view files.old) (F.view files.new) (names_of words.now) seed))
         ⊎ ((result.kind ≡ 2) × IsPlay words.now × (IsTrue (F.view files.old).tells → (seed : ℕ) → seed_of words.now ≡ Some seed →
         IsLate (F.view files.old) (F.view files.new) (names_of words.now) seed))
         ⊎ ((result.kind ≡ 3) × (IsTrue (F.view files.old).tells →
         Says (F.view files.old) (names_of words.now).config (names_of words.now).interface TooLong)) }
     ensures accepted_first { IsPlay words.now → IsAfterConfig result.code result.kind →
-        (rate : ℕ) × Accepts (F.view files.old) (names_of words.now).config (names_of words.now).interface rate }
+        (found : Interface) × Accepts (F.view files.old) (names_of words.now).config (names_of words.now).interface found }
 
     // What is playable is done, unless a fault or want of memory comes; so is what can be checked.
     ensures complete { IsTrue (F.view files.old).tells → refusal words.now ≡ None → IsPlay words.now →
@@ -92,12 +97,13 @@ pub fn run<F: Files>(alloc: Global, words: &[String], files: &mut F) -> Status
         IsUnbuilt (F.view files.old) (names_of words.now).config (names_of words.now).interface →
         IsQuiet (F.view files.old) (F.view files.new) → Tells result 9 3 ⊎ (result.code ≡ 8) }
 
-    // So is a damage told, a limit of the arrivals, or a packet that would end too late.
-    ensures damage_told { IsTrue (F.view files.old).tells → refusal words.now ≡ None → IsPlay words.now → (d : Damage) →
-        EndsWith (F.view files.old) (names_of words.now) (Fault d) → IsQuiet (F.view files.old) (F.view files.new) →
+    // So is a damage told, a limit of the arrivals, or a packet that would end too late: that comes in place of a damage or a limit
+    // exactly where its sending starts before the last complete record arrives.
+    ensures damage_told { IsTrue (F.view files.old).tells → refusal words.now ≡ None → IsPlay words.now →
+        (seed : ℕ) → seed_of words.now ≡ Some seed → (d : Damage) → EndsWith (F.view files.old) (names_of words.now) seed (Fault d) → IsQuiet (F.view files.old) (F.view files.new) →
         TellsDamage result d ⊎ (result.code ≡ 8) }
     ensures limit_told { IsTrue (F.view files.old).tells → refusal words.now ≡ None → IsPlay words.now →
-        EndsWith (F.view files.old) (names_of words.now) Limit → IsQuiet (F.view files.old) (F.view files.new) →
+        (seed : ℕ) → seed_of words.now ≡ Some seed → EndsWith (F.view files.old) (names_of words.now) seed Limit → IsQuiet (F.view files.old) (F.view files.new) →
         Tells result 7 1 ⊎ (result.code ≡ 8) }
     ensures late_told { IsTrue (F.view files.old).tells → refusal words.now ≡ None → IsPlay words.now →
         (seed : ℕ) → seed_of words.now ≡ Some seed →
@@ -114,9 +120,14 @@ pub fn run<F: Files>(alloc: Global, words: &[String], files: &mut F) -> Status
     ensures unread { result.code ≡ 5 → result.kind ≡ 1 → (n : List ℕ) → (F.view files.new).bytes n ≡ (F.view files.old).bytes n }
     ensures absent { IsAbsent (F.view files.old) (names_of words.now).arrivals → (n : List ℕ) →
         (F.view files.new).bytes n ≡ (F.view files.old).bytes n }
+    ensures order { IsPlay words.now → IsInOrder (F.view files.old) (F.view files.new) }
+    ensures uncreated { IsPlay words.now → KeepUncreated (F.view files.old) (F.view files.new)
+        (names_of words.now).departures (names_of words.now).fates (names_of words.now).stats }
+    ensures few { TakesFew (F.view files.old) (F.view files.new) (names_of words.now).config }
     ensures others { KeepsOthers (names_of words.now).departures (names_of words.now).fates (names_of words.now).stats
         (F.view files.old) (F.view files.new) }
     ensures check_keeps { IsCheck words.now → Keeps Any Any (F.view files.old) (F.view files.new) }
+    ensures check_parts { IsCheck words.now → (f p : ℕ) → (F.view files.old).part f ≡ None → (F.view files.new).part f ≡ Some p → p ≡ 1 }
     ensures said { IsPlay words.now → (F.view files.new).said ≡ (F.view files.old).said }
     ensures silent { IsCheck words.now → result.code ≢ 0 → (F.view files.new).said ≡ (F.view files.old).said }
 {

@@ -1,14 +1,5 @@
-ghost use Rattle.std.specs.Prelude.{◌≡◌, ◌≤◌};
-
-use crate::{Classifier, Status, run, run_steady};
-use altq_model::{Fate, Mark, Rule};
-use conf_lines::statements;
-use conf_tree::Conf;
-use discipline::{Classify, Strict};
-use flow_filter::Filters;
-use leaf_queue::{Tail, Words};
-use play_base::{Bytes, Call, MemoryFiles, NoMemory, SteadyFiles};
-use play_core::{Arrived, Decisions, decide};
+use crate::{Status, run, run_steady};
+use play_base::{Call, MemoryFiles, NoMemory, SteadyFiles};
 use std::alloc::Global;
 use std::test::Fail;
 
@@ -33,7 +24,7 @@ const WORDS: [&str; 15] = [
 const IMPLIED: &str = "interface if0 bandwidth 8M hfsc";
 
 // The head of a capture in little-endian nanoseconds.
-const HEAD: [u8; 24] = [
+pub const HEAD: [u8; 24] = [
     0x4d, 0x3c, 0xb2, 0xa1, 2, 0, 4, 0, 0, 0, 0, 0, 0, 0, 0, 0, 0, 0, 4, 0, 1, 0, 0, 0,
 ];
 
@@ -43,7 +34,7 @@ const BIG_HEAD: [u8; 24] = [
 ];
 
 // The words of a play, but for one.
-fn words_but(alloc: Global, place: usize, word: &str) -> Result<Vec<String>, NoMemory> {
+pub fn words_but(alloc: Global, place: usize, word: &str) -> Result<Vec<String>, NoMemory> {
     let mut words = Vec::new(alloc);
     for (i, text) in WORDS.iter().enumerate() {
         let text = if i == place { word } else { *text };
@@ -62,11 +53,7 @@ fn capture(
 ) -> Result<Vec<u8>, NoMemory> {
     let mut bytes = Vec::from_slice(alloc, &HEAD)?;
     for _ in 0..count {
-        bytes.extend_from_slice(&second.to_le_bytes())?;
-        bytes.extend_from_slice(&nanosecond.to_le_bytes())?;
-        bytes.extend_from_slice(&60u32.to_le_bytes())?;
-        bytes.extend_from_slice(&len.to_le_bytes())?;
-        bytes.extend_from_slice(&[0; 60])?;
+        push_record(&mut bytes, second, nanosecond, len)?;
     }
     Ok(bytes)
 }
@@ -403,81 +390,69 @@ fn text_is_not_said(rt: HostRuntime) -> Result<(), Fail> {
     Ok(())
 }
 
-// A UDP datagram over IPv4 from 10.0.0.1, port 1027, to 10.0.0.2.
-fn datagram(port: [u8; 2]) -> [u8; 42] {
-    [
-        2, 0, 0, 0, 0, 2, 2, 0, 0, 0, 0, 1, 8, 0, 0x45, 0x28, 3, 0xda, 0, 0, 0, 0, 0x40, 0x11, 0,
-        0, 10, 0, 0, 1, 10, 0, 0, 2, 4, 3, port[0], port[1], 3, 0xc6, 0, 0,
-    ]
-}
-
-// A packet of length 1000 that arrives at 0.
-fn packet(alloc: Global, mark: Mark) -> Arrived
-    ensures at { result.at ≡ 0 }
-    ensures mark { result.mark ≡ mark }
-{
-    Arrived {
-        at: 0,
-        len: 1_000,
-        raised: false,
-        mark,
-        bytes: Bytes::of(Vec::new(alloc)),
-    }
-}
-
-// What is decided of two packets that arrive at 0, where class 1 goes before class 2.
-fn decided(alloc: Global, first: Mark, second: Mark) -> Result<Decisions, NoMemory>
-    requires first { first.class ≡ 2 }
-    requires second { second.class ≡ 1 }
-    requires first_prec { first.prec ≤ 2 }
-    requires second_prec { second.prec ≤ 2 }
-{
-    let mut queues = Vec::new(alloc);
-    queues.push(Tail { limit: 50 })?;
-    queues.push(Tail { limit: 50 })?;
-    let mut strict = Strict::build(alloc, 1, Rule::Share, queues)?;
-    let mut words = Words::new(42);
-    let arrived = [packet(alloc, first), packet(alloc, second)];
-    decide(alloc, &mut strict, &mut words, 8_000_000, &arrived)
-}
-
-// The classifier of an interface.
-fn classifier(alloc: Global, config: &str, name: &str) -> Result<Classifier, Fail> {
-    let found = statements(alloc, config.as_bytes())?;
-    let Ok(conf) = Conf::build(alloc, found.as_slice()) else {
-        return Err(Fail::new("refused"));
-    };
-    let Some(interface) = conf.interface(name) else {
-        return Err(Fail::new("absent"));
-    };
-    Ok(Classifier {
-        filters: Filters::build(alloc, interface)?,
-    })
-}
-
-fn sent(start: u64, end: u64) -> Fate {
-    Fate::Sent {
-        start,
-        end,
-        rule: Rule::Share,
-    }
+// Adds a record of 60 captured bytes.
+fn push_record(
+    bytes: &mut Vec<u8>,
+    second: u32,
+    nanosecond: u32,
+    len: u32,
+) -> Result<(), NoMemory> {
+    bytes.extend_from_slice(&second.to_le_bytes())?;
+    bytes.extend_from_slice(&nanosecond.to_le_bytes())?;
+    bytes.extend_from_slice(&60u32.to_le_bytes())?;
+    bytes.extend_from_slice(&len.to_le_bytes())?;
+    bytes.extend_from_slice(&[0; 60])?;
+    Ok(())
 }
 
 #[test]
-fn filters_over_strict(rt: HostRuntime) -> Result<(), Fail> {
-    let classifier = classifier(rt.alloc(), VOICE_AND_DATA, "if0")?;
-    let data = classifier.class(&datagram([0x13, 0x89]));
-    let voice = classifier.class(&datagram([0x13, 0x8c]));
-    if data.class != 2 || voice.class != 1 || data.prec > 2 || voice.prec > 2 {
-        return Err(Fail::new("another class"));
+fn decided_before_the_cut(rt: HostRuntime) -> Result<(), Fail> {
+    let mut arrivals = capture(rt.alloc(), 2, 0, 0, 1000)?;
+    push_record(&mut arrivals, 0, 5_000_000, 1000)?;
+    arrivals.extend_from_slice(&[0; 8])?;
+    let mut files = MemoryFiles::new(rt.alloc());
+    let status = played(rt.alloc(), &mut files, IMPLIED, &arrivals)?;
+    assert_eq!(rt; status, ended(4, 252, 5));
+    let rows =
+        b"number,arrival,length,class,fate,start,end\n1,0,1000,default,share,0,1000000\n2,0,1000,default,share,1000000,2000000\n";
+    assert!(rt; files.get("fates").unwrap_or_default() == rows.as_slice());
+    Ok(())
+}
+
+// Each read moves at most 4,096 bytes, so more than 25 would take what is past the second record and 65,536 bytes more.
+#[test]
+fn reading_stops_at_the_late_sending(rt: HostRuntime) -> Result<(), Fail> {
+    let mut arrivals = capture(rt.alloc(), 1, 4_294_965_198, 848_000_000, 262_144)?;
+    for _ in 0..2_000 {
+        push_record(&mut arrivals, 4_294_965_198, 848_000_001, 100)?;
     }
-    let decisions = decided(rt.alloc(), data, voice)?;
-    let [first, second] = decisions.list.as_slice() else {
-        return Err(Fail::new("two packets are sent"));
-    };
-    assert_eq!(rt; first.number, 2);
-    assert_eq!(rt; first.fate, sent(0, 1_000_000));
-    assert_eq!(rt; second.number, 1);
-    assert_eq!(rt; second.fate, sent(1_000_000, 2_000_000));
+    assert_eq!(rt; arrivals.len(), 152_100);
+    let mut files = MemoryFiles::new(rt.alloc());
+    files.chunk(4_096);
+    files.fail_at(Call::Read, 25)?;
+    let config = "interface if0 bandwidth 1000 hfsc";
+    let status = played(rt.alloc(), &mut files, config, &arrivals)?;
+    assert_eq!(rt; status, ended(7, 0, 2));
+    assert!(rt; files.get("out").unwrap_or_default() == HEAD.as_slice());
+    assert!(rt; files.get("fates").unwrap_or_default() == FATES.as_bytes());
+    Ok(())
+}
+
+#[test]
+fn files_come_in_their_order(rt: HostRuntime) -> Result<(), Fail> {
+    let arrivals = capture(rt.alloc(), 1, 5, 0, 1000)?;
+    for (call, nth, out, fates, stats) in [
+        (Call::Open, 1, false, false, false),
+        (Call::Create, 0, false, false, false),
+        (Call::Create, 1, true, false, false),
+        (Call::Create, 2, true, true, false),
+    ] {
+        let mut files = MemoryFiles::new(rt.alloc());
+        files.fail_at(call, nth)?;
+        let _ = played(rt.alloc(), &mut files, IMPLIED, &arrivals)?;
+        assert_eq!(rt; files.get("out").is_some(), out);
+        assert_eq!(rt; files.get("fates").is_some(), fates);
+        assert_eq!(rt; files.get("stats").is_some(), stats);
+    }
     Ok(())
 }

@@ -1,57 +1,106 @@
--- What stands at a place of the lists of a loop.
-use Rattle.std.proofs.Common.{◌≡◌, ◌≤◌, ◌++◌, ℕ, zero, suc, List, [], ◌∷◌, None, Some, refl, ap, subst, length, arith}
-use Rattle.std.specs.Prelude.{slice_get}
+-- How many entries the lists of a discipline hold.
+use Rattle.std.proofs.Common.{◌≡◌, ◌≤◌, ◌<◌, ◌+◌, ◌∙◌, inl, inr, ℕ, Bool, true, false, cond, List, [], ◌∷◌, ◌++◌, length, length-append, refl, ap, sym, arith}
+use Rattle.std.specs.Prelude.{◌==◌, ◌&&◌, drop}
+use Rattle.std.proofs.lemmas.Bool.{eqb-true, eq-eqb, ne_eqb}
 use Rattle.altq_model.specs.declared.Verdict.{Verdict}
-use Rattle.altq_model.specs.declared.Verdict.TheVariants.{Keep, Drop}
-use Rattle.altq_model.specs.declared.Fate.TheVariants as fate
-use Rattle.altq_model.specs.History.{Coming, Decision, dropped_by}
-use Rattle.play_laws.specs.Lawful.{AreHeld, IsOneOf}
-use Rattle.altq_model.specs.Play.{Policy}
-use Rattle.play_core.specs.declared.arrived.Arrived.{Arrived}
-use Rattle.play_core.specs.declared.decided.Decided.{Decided}
-use Rattle.play_core.specs.Arrived.{HavePrecs, coming_of, comings_held, decision_of, decisions_of}
-use Rattle.play_core.specs.Decided.{AreSound, FateInTime}
+use Rattle.altq_model.specs.History.{is_kept}
+use Rattle.altq_model.specs.Lawful.{IsOneOf}
+use Rattle.altq_model.specs.Laws.{occurs}
+use Rattle.leaf_queue.specs.declared.node.Entry.{Entry}
+use Rattle.discipline_laws.specs.Laws.{AreDistinct, after_offer, after_sent, held_in}
+use Rattle.play_core.specs.Going.{one_kept}
 
-pub coming_at : (xs : List Arrived) (k : ℕ) (a : Arrived) → slice_get xs k ≡ Some a → slice_get (comings_held xs) k ≡ Some (coming_of a)
-coming_at [] k a h = cc
-coming_at (x ∷ xs) zero a h = let e : x ≡ a = cc in ap (λ (y : Arrived). Some (coming_of y)) e
-coming_at (x ∷ xs) (suc k) a h = coming_at xs k a h
+pub held_same : (old new : ℕ → List Entry) (cs : List ℕ) → ((c : ℕ) → new c ≡ old c) → held_in new cs ≡ held_in old cs
+held_same old new [] e = refl
+held_same old new (c ∷ cs) e = omega (arith, ap (λ (l : List Entry). length l) (e c), held_same old new cs e)
 
-pub no_coming_at : (xs : List Arrived) (k : ℕ) → slice_get xs k ≡ None → slice_get (comings_held xs) k ≡ None
-no_coming_at [] k h = refl
-no_coming_at (x ∷ xs) zero h = cc
-no_coming_at (x ∷ xs) (suc k) h = no_coming_at xs k h
+pub held_none : (lists : ℕ → List Entry) (cs : List ℕ) → ((c : ℕ) → lists c ≡ []) → held_in lists cs ≡ 0
+held_none lists [] e = refl
+held_none lists (c ∷ cs) e = omega (arith, ap (λ (l : List Entry). length l) (e c), held_none lists cs e)
 
-pub comings_length : (xs : List Arrived) → length (comings_held xs) ≡ length xs
-comings_length [] = refl
-comings_length (x ∷ xs) = ap suc (comings_length xs)
+-- where a class is not among these, its list does not count
+not_here : (class c : ℕ) (cs : List ℕ) → occurs class (c ∷ cs) ≤ 0 → (b : Bool) → (c == class) ≡ b → (c ≡ class) → ⊥
+not_here class c cs l true t e = let q : occurs class (c ∷ cs) ≡ 1 + occurs class cs = rw t refl in omega (arith, l, q)
+not_here class c cs l false t e = let q = eq-eqb c class e in let no : true ≡ false = sym q ∙ t in (cc)
 
-pub decisions_length : (xs : List Decided) → length (decisions_of xs) ≡ length xs
-decisions_length [] = refl
-decisions_length (x ∷ xs) = ap suc (decisions_length xs)
+others_count : (class : ℕ) (old new : ℕ → List Entry) (cs : List ℕ) → occurs class cs ≤ 0 → ((c : ℕ) → (class ≡ c → ⊥) → new c ≡ old c) → held_in new cs ≡ held_in old cs
+others_count class old new [] l e = refl
+others_count class old new (c ∷ cs) l e =
+    let here = e c (λ q. not_here class c cs l (c == class) refl (sym q)) in
+    let rest = others_count class old new cs (omega (arith, l)) e in
+    omega (arith, ap (λ (x : List Entry). length x) here, rest)
 
-pub decisions_push : (xs : List Decided) (d : Decided) → decisions_of (xs ++ d ∷ []) ≡ decisions_of xs ++ decision_of d ∷ []
-decisions_push [] d = refl
-decisions_push (x ∷ xs) d = ap (λ r. decision_of x ∷ r) (decisions_push xs d)
+here_once : (class c : ℕ) (cs : List ℕ) → occurs class (c ∷ cs) ≤ 1 → c ≡ class → occurs class cs ≤ 0
+here_once class c cs l e = let t = eq-eqb c class e in let q : occurs class (c ∷ cs) ≡ 1 + occurs class cs = rw t refl in omega (arith, l, q)
 
-pub prec_at : (xs : List Arrived) (k : ℕ) (a : Arrived) → HavePrecs xs → slice_get xs k ≡ Some a → a.mark.prec ≤ 2
-prec_at [] k a p h = absurd (cc)
-prec_at (x ∷ xs) zero a p h = let e : x ≡ a = cc in omega (arith, p.0, ap (λ (y : Arrived). y.mark.prec) e)
-prec_at (x ∷ xs) (suc k) a p h = prec_at xs k a p.1 h
+there_one : (class c : ℕ) (cs : List ℕ) → (c ≡ class → ⊥) → IsOneOf class (c ∷ cs) → IsOneOf class cs
+there_one class c cs d (inl e) = absurd (d e)
+there_one class c cs d (inr i) = i
 
-pub held_at : (p : Policy) (xs : List Coming) (k : ℕ) (a : Coming) → AreHeld p xs → slice_get xs k ≡ Some a → IsOneOf a.class p.classes
-held_at p [] k a q h = absurd (cc)
-held_at p (x ∷ xs) zero a q h = let e : x ≡ a = cc in let P : Coming → Type 0 = λ b. IsOneOf b.class p.classes in subst P e q.0
-held_at p (x ∷ xs) (suc k) a q h = held_at p xs k a q.1 h
+-- where one list grows by so much, the count does
+record Grows (class more less : ℕ) (old new : ℕ → List Entry) : Type 0 where
+  here : length (new class) + less ≡ length (old class) + more
+  other : (c : ℕ) → (class ≡ c → ⊥) → new c ≡ old c
 
-pub sound_push : (n : ℕ) (js : List Decision) (d : Decision) → AreSound n js → 1 ≤ d.0 → d.0 ≤ n → FateInTime d.1 → AreSound n (js ++ d ∷ [])
-sound_push n [] d s l m t = (l, m, t, tt)
-sound_push n (k ∷ js) d s l m t = (s.0, s.1, s.2, sound_push n js d s.3 l m t)
+count_case : (class more less : ℕ) (old new : ℕ → List Entry) (c : ℕ) (cs : List ℕ) (b : Bool) → (c == class) ≡ b → Grows class more less old new → IsOneOf class (c ∷ cs)
+    → occurs class (c ∷ cs) ≤ 1 → (IsOneOf class cs → occurs class cs ≤ 1 → held_in new cs + less ≡ held_in old cs + more)
+    → held_in new (c ∷ cs) + less ≡ held_in old (c ∷ cs) + more
+count_case class more less old new c cs true t x i l f =
+    let e : c ≡ class = eqb-true c class t in
+    let rest = others_count class old new cs (here_once class c cs l e) x.other in
+    omega (arith, rest, x.here, ap (λ (k : ℕ). length (new k)) e, ap (λ (k : ℕ). length (old k)) e)
+count_case class more less old new c cs false t x i l f =
+    let d : c ≡ class → ⊥ = λ q. (let y = eq-eqb c class q in let no : true ≡ false = sym y ∙ t in (cc)) in
+    let same = x.other c (λ q. d (sym q)) in
+    omega (arith, f (there_one class c cs d i) (omega (arith, l)), ap (λ (k : List Entry). length k) same)
 
-sound_nil : (n : ℕ) (js : List Decision) → AreSound n js → AreSound n (js ++ [])
-sound_nil n [] s = tt
-sound_nil n (k ∷ js) s = (s.0, s.1, s.2, sound_nil n js s.3)
+counts : (class more less : ℕ) (old new : ℕ → List Entry) (cs : List ℕ) → Grows class more less old new → IsOneOf class cs → occurs class cs ≤ 1
+    → held_in new cs + less ≡ held_in old cs + more
+counts class more less old new [] x i l = absurd i
+counts class more less old new (c ∷ cs) x i l = count_case class more less old new c cs (c == class) refl x i l (counts class more less old new cs x)
 
-pub sound_offer : (n : ℕ) (js : List Decision) (v : Verdict) (k : ℕ) → AreSound n js → 1 ≤ k → k ≤ n → AreSound n (js ++ dropped_by v k)
-sound_offer n js Keep k s l m = sound_nil n js s
-sound_offer n js (Drop r) k s l m = sound_push n js (k, fate.Dropped r) s l m tt
+offer_here : (k : Bool) (x : Entry) (xs : List Entry) → length (cond k (xs ++ x ∷ []) xs) ≡ length xs + cond k 1 0
+offer_here true x xs = omega (arith, length-append xs (x ∷ []))
+offer_here false x xs = omega arith
+
+off_if : (k b : Bool) (xs ys : List Entry) → b ≡ false → cond (k && b) ys xs ≡ xs
+off_if true true xs ys e = absurd (cc)
+off_if true false xs ys e = refl
+off_if false b xs ys e = refl
+
+on_if : (k b : Bool) (x : Entry) (xs : List Entry) → b ≡ true → length (cond (k && b) (xs ++ x ∷ []) xs) ≡ length xs + cond k 1 0
+on_if k true x xs e = on_case k x xs
+  where
+    on_case : (k : Bool) (x : Entry) (xs : List Entry) → length (cond (k && true) (xs ++ x ∷ []) xs) ≡ length xs + cond k 1 0
+    on_case true x xs = offer_here true x xs
+    on_case false x xs = offer_here false x xs
+on_if k false x xs e = absurd (cc)
+
+-- an offer that keeps adds one
+pub held_offered : (class : ℕ) (v : Verdict) (x : Entry) (old new : ℕ → List Entry) (cs : List ℕ) → IsOneOf class cs → AreDistinct cs
+    → ((c : ℕ) → new c ≡ after_offer v class x old c) → held_in new cs ≡ held_in old cs + one_kept v
+held_offered class v x old new cs i d e =
+    let y : Grows class (one_kept v) 0 old new = record {
+      here = omega (arith, ap (λ (l : List Entry). length l) (e class), on_if (is_kept v) (class == class) x (old class) (eq-eqb class class refl));
+      other = λ c n. e c ∙ off_if (is_kept v) (class == c) (old c) (old c ++ x ∷ []) (ne_eqb class c n);
+    } in
+    omega (arith, counts class (one_kept v) 0 old new cs y i (d class))
+
+rest_here : (b : Bool) (xs : List Entry) → b ≡ true → 0 < length xs → length (cond b (drop 1 xs) xs) + 1 ≡ length xs
+rest_here true [] e l = absurd (omega arith)
+rest_here true (x ∷ xs) e l = omega arith
+rest_here false xs e l = absurd (cc)
+
+rest_other : (b : Bool) (xs ys : List Entry) → b ≡ false → cond b ys xs ≡ xs
+rest_other true xs ys e = absurd (cc)
+rest_other false xs ys e = refl
+
+-- a sending takes one
+pub held_sent : (class : ℕ) (old new : ℕ → List Entry) (cs : List ℕ) → IsOneOf class cs → AreDistinct cs → 0 < length (old class)
+    → ((c : ℕ) → new c ≡ after_sent class old c) → held_in new cs + 1 ≡ held_in old cs
+held_sent class old new cs i d l e =
+    let y : Grows class 0 1 old new = record {
+      here = omega (arith, ap (λ (k : List Entry). length k) (e class), rest_here (class == class) (old class) (eq-eqb class class refl) l);
+      other = λ c n. e c ∙ rest_other (class == c) (old c) (drop 1 (old c)) (ne_eqb class c n);
+    } in
+    omega (arith, counts class 0 1 old new cs y i (d class))

@@ -1,6 +1,10 @@
 pub mod Come
 pub mod CutLemmas
+pub mod GoingLemmas
 pub mod HeldLemmas
 pub mod Moves
+pub mod OfferLemmas
+pub mod PoolLemmas
+pub mod ReadLemmas
+pub mod StepLemmas
 pub mod TotalLemmas
-pub mod TurnLemmas

@@ -1,38 +1,32 @@
 -- The counts of one decision more.
-use Rattle.std.proofs.Common.{◌≡◌, ◌<◌, ◌+◌, ◌∙◌, ◌++◌, ℕ, zero, suc, List, [], ◌∷◌, refl, ap, length, take, arith}
-use Rattle.std.specs.Prelude.{get_or}
-use Rattle.altq_model.specs.declared.Fate.{Fate}
-use Rattle.altq_model.specs.History.{Decision}
-use Rattle.play_core.specs.declared.decided.Decided.{Decided}
-use Rattle.play_core.specs.Arrived.{decision_of, decisions_of}
+use Rattle.std.proofs.Common.{◌≡◌, ◌+◌, ◌++◌, List, [], ◌∷◌, ℕ, ap, arith}
+use Rattle.std.proofs.lemmas.List.{append-nil}
+use Rattle.altq_model.specs.declared.Fate.TheVariants.{Dropped}
+use Rattle.altq_model.specs.declared.Verdict.{Verdict}
+use Rattle.altq_model.specs.declared.Verdict.TheVariants.{Keep, Mark, Drop}
+use Rattle.altq_model.specs.History.{Decision, dropped_by}
 use Rattle.play_core.specs.Totals.{one_sent, one_dropped, count_sent, count_dropped}
 
-take_suc : (ds : List Decided) (k : ℕ) (default : Decided) → k < length ds
-    → decisions_of (take (suc k) ds) ≡ decisions_of (take k ds) ++ decision_of (get_or ds k default) ∷ []
-take_suc [] k default l = absurd (omega arith)
-take_suc (d ∷ ds) zero default l = refl
-take_suc (d ∷ ds) (suc k) default l = ap (λ (r : List Decision). decision_of d ∷ r) (take_suc ds k default (omega arith))
-
-pub decisions_take : (ds : List Decided) (k : ℕ) (default : Decided) → k < length ds
-    → decisions_of (take (k + 1) ds) ≡ decisions_of (take k ds) ++ decision_of (get_or ds k default) ∷ []
-decisions_take ds k default l = let e : k + 1 ≡ suc k = omega arith in ap (λ n. decisions_of (take n ds)) e ∙ take_suc ds k default l
-
-sent_push : (js : List Decision) (d : Decision) → count_sent (js ++ d ∷ []) ≡ count_sent js + one_sent d.1
+pub sent_push : (js : List Decision) (d : Decision) → count_sent (js ++ d ∷ []) ≡ count_sent js + one_sent d.1
 sent_push [] d = omega arith
 sent_push (j ∷ js) d = omega (arith, sent_push js d)
 
-dropped_push : (js : List Decision) (d : Decision) → count_dropped (js ++ d ∷ []) ≡ count_dropped js + one_dropped d.1
+pub dropped_push : (js : List Decision) (d : Decision) → count_dropped (js ++ d ∷ []) ≡ count_dropped js + one_dropped d.1
 dropped_push [] d = omega arith
 dropped_push (j ∷ js) d = omega (arith, dropped_push js d)
 
-pub sent_take : (ds : List Decided) (k : ℕ) (default : Decided) (f : Fate) → k < length ds → (get_or ds k default).fate ≡ f
-    → count_sent (decisions_of (take (k + 1) ds)) ≡ count_sent (decisions_of (take k ds)) + one_sent f
-sent_take ds k default f l e =
-    ap count_sent (decisions_take ds k default l) ∙ sent_push (decisions_of (take k ds)) (decision_of (get_or ds k default))
-    ∙ ap (λ (x : Fate). count_sent (decisions_of (take k ds)) + one_sent x) e
+-- a verdict decides of no sending, and of a drop where it drops
+abbrev pub one_lost : Verdict → ℕ
+one_lost Keep = 0
+one_lost Mark = 0
+one_lost (Drop r) = 1
 
-pub dropped_take : (ds : List Decided) (k : ℕ) (default : Decided) (f : Fate) → k < length ds → (get_or ds k default).fate ≡ f
-    → count_dropped (decisions_of (take (k + 1) ds)) ≡ count_dropped (decisions_of (take k ds)) + one_dropped f
-dropped_take ds k default f l e =
-    ap count_dropped (decisions_take ds k default l) ∙ dropped_push (decisions_of (take k ds)) (decision_of (get_or ds k default))
-    ∙ ap (λ (x : Fate). count_dropped (decisions_of (take k ds)) + one_dropped x) e
+pub sent_offer : (js : List Decision) (v : Verdict) (n : ℕ) → count_sent (js ++ dropped_by v n) ≡ count_sent js
+sent_offer js Keep n = ap count_sent (append-nil js)
+sent_offer js Mark n = ap count_sent (append-nil js)
+sent_offer js (Drop r) n = let q = sent_push js (n, Dropped r) in omega (arith, q)
+
+pub dropped_offer : (js : List Decision) (v : Verdict) (n : ℕ) → count_dropped (js ++ dropped_by v n) ≡ count_dropped js + one_lost v
+dropped_offer js Keep n = let q = ap count_dropped (append-nil js) in omega (arith, q)
+dropped_offer js Mark n = let q = ap count_dropped (append-nil js) in omega (arith, q)
+dropped_offer js (Drop r) n = let q = dropped_push js (n, Dropped r) in omega (arith, q)

@@ -1,5 +1,6 @@
-pub mod Arrived
-pub mod Decided
 pub mod Ended
+pub mod Finished
+pub mod Going
+pub mod Steps
 pub mod Totals
 pub mod Turns

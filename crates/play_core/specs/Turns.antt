@@ -1,65 +1,64 @@
--- What comes next in a play, where the least moment at which a class may send is sought from one moment on for all classes.
-use Rattle.std.specs.Prelude.{◌≡◌, ◌≤◌, ℕ, Bool, false, nat_le, List, None, Some, slice_get, if◌then◌else◌}
+-- What the next event of a play is, and what is told of it.
+use Rattle.std.specs.Prelude.{◌≡◌, ◌+◌, ℕ, List, ◌∷◌, None, Some, option_map, slice_get}
 use Rattle.std.specs.declared.option.Option.{Option}
-use Rattle.altq_model.specs.declared.Rule.{Rule}
-use Rattle.altq_model.specs.History.{Coming, Entry, bare, head, labels}
-use Rattle.altq_model.specs.Laws.{clock_end}
-use Rattle.altq_model.specs.Link.{end_of}
-use Rattle.altq_model.specs.Play.{Policy}
-use Rattle.play_laws.specs.Lawful.{first_at}
-use Rattle.play_base.specs.declared.packet.Ticket.{Ticket}
-use Rattle.link_clock.specs.Clock.{Clock}
-use Rattle.discipline.specs.declared.pick.Sending.{Sending}
+use Rattle.altq_model.specs.declared.Placed.{Placed}
+use Rattle.altq_model.specs.declared.Verdict.{Verdict}
+use Rattle.altq_model.specs.declared.Verdict.TheVariants.{Keep, Mark, Drop}
+use Rattle.altq_model.specs.Arrivals.{Arrival, arrival, coming_of, comings}
+use Rattle.altq_model.specs.History.{Coming, Sent, Happened, bare, offered, was_marked}
+use Rattle.altq_model.specs.Play.{Policy, due, offer_of}
+use Rattle.play_base.specs.declared.packet.Packet.{Packet}
+use Rattle.play_core.specs.declared.turn.Dropped.{Dropped}
+use Rattle.play_core.specs.declared.turn.Departure.{Departure}
 use Rattle.play_core.specs.declared.turn.Turn.{Turn}
 use Rattle.play_core.specs.declared.turn.Turn.TheVariants.{End, Offer, Send, Late}
+use Rattle.play_core.specs.Ended.{IsCutOff}
+use Rattle.play_core.specs.Going.{numbered}
 
--- the next arrival, if any, comes by this moment
-abbrev pub comes_by : Option ℕ → (t : ℕ) → Bool
-comes_by None t = false
-comes_by (Some at) t = nat_le at t
+-- the offer of this arrival comes next
+pub record IsNext (p : Policy) (rate seed : ℕ) (arrived : List Arrival) (g : List Happened) (a : Arrival) : Type 0 where
+  pub there : slice_get arrived (offered (bare g)) ≡ Some a
+  pub is_due : due p rate seed (comings arrived) g ≡ Some (offer_of p seed g (coming_of a))
 
--- the sending of a packet that would end then
-abbrev pub turn_at : Ticket → (class len : ℕ) → Rule → (start end : ℕ) → Turn
-turn_at ticket class len rule start end =
-    if nat_le clock_end end then Late
-    else Send (record { ticket = ticket; class = class; len = len; rule = rule; start = start; end = end })
+-- it is of this packet, which was put there
+pub record Offers (p : Policy) (rate seed : ℕ) (arrived : List Arrival) (g : List Happened) (a : Arrival) (packet : Packet) (placed : Placed) : Type 0 where
+  pub next : IsNext p rate seed arrived g a
+  pub packet_is : packet ≡ numbered (offered (bare g) + 1) a
+  pub placed_is : placed ≡ record { class = a.class; prec = a.prec }
 
--- the next arrival comes before any class may send
-pub record OffersFirst (p : Policy) (t : ℕ) (g : List Entry) (arrival : Option ℕ) : Type 0 where
-  pub at : ℕ
-  pub next : arrival ≡ Some at
-  pub first : (s : ℕ) → first_at p t (bare g) p.classes ≡ Some s → at ≤ s
+-- what is handed back of a packet after a verdict
+abbrev pub handed_back : Verdict → Packet → Option Dropped
+handed_back Keep packet = None
+handed_back Mark packet = None
+handed_back (Drop reason) packet = Some (record { packet = packet; reason = reason })
 
--- this is the sending of the pick's head at a moment
-pub record SendsHead (p : Policy) (g : List Entry) (s : Sending) : Type 0 where
-  pub pick : p.pick (bare g) s.start ≡ record { class = s.class; rule = s.rule }
-  pub number : slice_get (labels s.class g) 0 ≡ Some s.ticket.0
-  pub packet : Coming
-  pub front : head s.class (bare g) ≡ Some packet
-  pub len : packet.len ≡ s.len
+-- a sending, as the play's history has it
+abbrev pub departs : Departure → Happened
+departs d = record {
+  label = d.packet.number;
+  what = Sent (record { class = d.class; len = d.packet.len; rule = d.rule; start = d.start; end = d.end });
+}
 
--- the pick's head would end too late
-abbrev pub WouldEndLate : Policy → Clock → (start : ℕ) → List Entry → Type 0
-WouldEndLate p clock start g = (packet : Coming) → head (p.pick (bare g) start).class (bare g) ≡ Some packet
-    → clock_end ≤ end_of clock.rate clock.link start packet.len
+-- the sending of this packet comes next: the arrival of its number, marked as it was
+pub record Departs (p : Policy) (rate seed : ℕ) (arrived : List Arrival) (g : List Happened) (d : Departure) : Type 0 where
+  pub is_due : due p rate seed (comings arrived) g ≡ Some (departs d)
+  pub packet_is : d.packet ≡ numbered d.packet.number (arrival arrived d.packet.number)
+  pub mark_is : d.marked ≡ was_marked d.packet.number g
 
--- what is sent at this moment
-abbrev pub IsSentAt : Policy → Clock → (start : ℕ) → List Entry → Turn → Type 0
-IsSentAt p clock start g End = ⊥
-IsSentAt p clock start g Offer = ⊥
-IsSentAt p clock start g (Send s) = (s.start ≡ start) × SendsHead p g s
-IsSentAt p clock start g Late = WouldEndLate p clock start g
+-- when the next arrival comes, if there is one
+abbrev pub arrives : List Arrival → List Happened → Option ℕ
+arrives arrived g = option_map (λ (a : Coming). a.at) (slice_get (comings arrived) (offered (bare g)))
 
--- the least moment at which a class may send is before the next arrival, and this is sent then
-pub record SendsFirst (p : Policy) (clock : Clock) (t : ℕ) (g : List Entry) (arrival : Option ℕ) (turn : Turn) : Type 0 where
-  pub start : ℕ
-  pub first : first_at p t (bare g) p.classes ≡ Some start
-  pub later : comes_by arrival start ≡ false
-  pub sent : IsSentAt p clock start g turn
+-- the next event is this, or none is
+abbrev pub ComesNext : Policy → (rate seed : ℕ) → List Arrival → List Happened → Turn → Type 0
+ComesNext p rate seed arrived g End = due p rate seed (comings arrived) g ≡ None
+ComesNext p rate seed arrived g Offer = (a : Arrival) → slice_get arrived (offered (bare g)) ≡ Some a → IsNext p rate seed arrived g a
+ComesNext p rate seed arrived g (Send d) = Departs p rate seed arrived g d
+ComesNext p rate seed arrived g Late = IsCutOff p rate seed (comings arrived) g
 
--- after a history this comes next, where this is the next arrival
-abbrev pub IsTurn : Policy → Clock → (t : ℕ) → List Entry → (arrival : Option ℕ) → Turn → Type 0
-IsTurn p clock t g arrival End = (first_at p t (bare g) p.classes ≡ None) × (arrival ≡ None)
-IsTurn p clock t g arrival Offer = OffersFirst p t g arrival
-IsTurn p clock t g arrival (Send s) = SendsFirst p clock t g arrival (Send s)
-IsTurn p clock t g arrival Late = SendsFirst p clock t g arrival Late
+-- the history after it: a sending is made
+abbrev pub turned : Turn → List Happened → List Happened
+turned End g = g
+turned Offer g = g
+turned (Send d) g = departs d ∷ g
+turned Late g = g

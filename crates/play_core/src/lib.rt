@@ -1,17 +1,15 @@
-//! The decisions of a play: which packet is dropped, which is sent, and when. It sees the arrivals and a discipline by its laws; no
-//! file, and no memory but for the list of decisions.
+//! The decisions of a play, one at a time: which packet is dropped, which is sent, and when. It sees the next arrival and a
+//! discipline by its laws; it knows no file, and takes no memory once it has begun.
 #![tactic(auto)]
 
-mod arrived;
-mod decided;
-mod decisions;
+mod laws;
+mod progress;
+mod state;
+mod step;
+mod totals;
 mod turn;
 
-pub use arrived::Arrived;
-pub use decided::{Decided, Decisions};
-pub use decisions::decide;
-pub use play_text::Totals;
-pub use turn::Turn;
-
-#[cfg(test)]
-mod tests;
+pub use laws::plays_go_on;
+pub use state::Progress;
+pub use totals::Totals;
+pub use turn::{Departure, Dropped, Turn};

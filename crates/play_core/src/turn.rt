@@ -1,142 +1,35 @@
-// What comes next in a play.
-ghost use Rattle.std.specs.Prelude.{◌≡◌, ◌≤◌, ◌<◌, ◌*◌, ◌^◌, IsSome, List};
-ghost use Rattle.altq_model.specs.History.{Entry, bare};
-ghost use Rattle.altq_model.specs.Link.{end_of};
-ghost use Rattle.discipline.specs.Laws.{HasRate, Sends};
-ghost use Rattle.discipline.specs.Moments.{IsChoice};
-ghost use Rattle.play_core.specs.Turns.{IsSentAt, IsTurn, comes_by, turn_at};
+// What is told of the packets of a play.
+use altq_model::{Reason, Rule};
+use play_base::Packet;
 
-use altq_model::Rule;
-use discipline::{Discipline, Pick, Sending};
-use link_clock::LinkClock;
-use play_base::Ticket;
+/// A packet that was dropped, and why.
+#[derive(Drop)]
+pub struct Dropped {
+    pub packet: Packet,
+    pub reason: Reason,
+}
 
-/// The clock ends at 2^32 seconds, in nanoseconds: no packet may end then or later.
-const CLOCK_END: u64 = 4_294_967_296_000_000_000;
+/// A packet that was sent: its class, whether its queue marked it, by which rule it was sent, and its start and its end in
+/// nanoseconds.
+#[derive(Drop)]
+pub struct Departure {
+    pub packet: Packet,
+    pub class: u32,
+    pub marked: bool,
+    pub rule: Rule,
+    pub start: u64,
+    pub end: u64,
+}
 
 /// What comes next in a play.
-#[derive(Clone, Copy)]
+#[derive(Drop)]
 pub enum Turn {
     /// Nothing: nothing waits, and no packet is left to offer.
     End,
     /// The offer of the next arrival.
     Offer,
-    /// This sending.
-    Send(Sending),
-    /// A sending that would end at 2^32 seconds or later.
+    /// This sending, which was made.
+    Send(Departure),
+    /// A sending that would end at 2^32 seconds or later, which was not made.
     Late,
-}
-
-// Whether the next arrival, if any, comes by a moment.
-fn comes_by(arrival: Option<u64>, moment: u64) -> bool
-    ensures { result ≡ comes_by arrival moment }
-{
-    match arrival {
-        Some(at) => at <= moment,
-        None => false,
-    }
-}
-
-// The sending of a packet at a moment, if it ends in time.
-fn send_at(clock: &LinkClock, start: u64, ticket: Ticket, class: u32, len: u32, rule: Rule) -> Turn
-    requires free { clock.now.link.free ≤ start }
-    requires early { start < 2 ^ 63 }
-    ensures { result ≡ turn_at ticket class len rule start (end_of clock.now.rate clock.now.link start len) }
-{
-    let end = clock.end_of(start, len);
-    if end >= CLOCK_END {
-        return Turn::Late;
-    }
-    Turn::Send(Sending {
-        ticket,
-        class,
-        len,
-        rule,
-        start,
-        end,
-    })
-}
-
-// The sending that is due at a moment at which one is.
-fn what_is_sent<D: Discipline>(discipline: &mut D, clock: &LinkClock, till: u64) -> Turn
-    requires free { clock.now.link.free ≤ till }
-    requires positive { 0 < clock.now.rate }
-    requires rate { HasRate (D.link_rate discipline.old) clock.now.rate }
-    requires sends { Sends (D.due discipline.old clock.now till) }
-    ensures sent { (h : List Entry) → D.stands discipline.old h → IsChoice till clock.now (bare h) →
-        IsSentAt (D.policy discipline.old) clock.now till h result }
-    ensures due { (s : Sending) → result ≡ Turn.Send s →
-        D.due discipline.new clock.now s.start ≡ Pick.Send s.ticket s.class s.len s.rule }
-    ensures offers_none { result ≡ Turn.Offer → ⊥ }
-    ensures starts { (s : Sending) → result ≡ Turn.Send s → s.start ≡ till }
-    ensures soon { (s : Sending) → result ≡ Turn.Send s → s.start < 2 ^ 63 }
-    ensures ends { (s : Sending) → result ≡ Turn.Send s → s.end ≡ end_of clock.now.rate clock.now.link s.start s.len }
-    ensures early { (s : Sending) → result ≡ Turn.Send s → s.end < 2 ^ 32 * 10 ^ 9 }
-    ensures histories { (h : List Entry) → D.stands discipline.old h → D.stands discipline.new h }
-    ensures policy { D.policy discipline.new ≡ D.policy discipline.old }
-    ensures rate { D.link_rate discipline.new ≡ D.link_rate discipline.old }
-{
-    if till >= CLOCK_END {
-        return Turn::Late;
-    }
-    match discipline.next(till, clock) {
-        Pick::Send {
-            ticket,
-            class,
-            len,
-            rule,
-        } => send_at(clock, till, ticket, class, len, rule),
-        Pick::Wait { .. } | Pick::Empty => unreachable!(),
-    }
-}
-
-/// What comes next, where `moment` is no earlier than the last end nor than any arrival that was offered, and this is the next
-/// arrival, in nanoseconds: an arrival up to the least moment at which a class may send is offered first. The discipline is asked
-/// again where it waits. Takes no memory.
-pub fn what_is_due<D: Discipline>(
-    discipline: &mut D,
-    clock: &LinkClock,
-    moment: u64,
-    arrival: Option<u64>,
-) -> Turn
-    requires free { clock.now.link.free ≤ moment }
-    requires early { moment < 2 ^ 63 }
-    requires positive { 0 < clock.now.rate }
-    requires rate { HasRate (D.link_rate discipline.old) clock.now.rate }
-    ensures turn { (h : List Entry) → D.stands discipline.old h → IsChoice moment clock.now (bare h) →
-        IsTurn (D.policy discipline.old) clock.now moment h arrival result }
-    ensures due { (s : Sending) → result ≡ Turn.Send s →
-        D.due discipline.new clock.now s.start ≡ Pick.Send s.ticket s.class s.len s.rule }
-    ensures offers { result ≡ Turn.Offer → IsSome arrival }
-    ensures starts { (s : Sending) → result ≡ Turn.Send s → moment ≤ s.start }
-    ensures soon { (s : Sending) → result ≡ Turn.Send s → s.start < 2 ^ 63 }
-    ensures ends { (s : Sending) → result ≡ Turn.Send s → s.end ≡ end_of clock.now.rate clock.now.link s.start s.len }
-    ensures early { (s : Sending) → result ≡ Turn.Send s → s.end < 2 ^ 32 * 10 ^ 9 }
-    ensures histories { (h : List Entry) → D.stands discipline.old h → D.stands discipline.new h }
-    ensures policy { D.policy discipline.new ≡ D.policy discipline.old }
-    ensures rate { D.link_rate discipline.new ≡ D.link_rate discipline.old }
-{
-    match discipline.next(moment, clock) {
-        Pick::Empty => match arrival {
-            Some(_) => Turn::Offer,
-            None => Turn::End,
-        },
-        Pick::Send {
-            ticket,
-            class,
-            len,
-            rule,
-        } => {
-            if comes_by(arrival, moment) {
-                return Turn::Offer;
-            }
-            send_at(clock, moment, ticket, class, len, rule)
-        }
-        Pick::Wait { till } => {
-            if comes_by(arrival, till) {
-                return Turn::Offer;
-            }
-            what_is_sent(discipline, clock, till)
-        }
-    }
 }

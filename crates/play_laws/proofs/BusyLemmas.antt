@@ -1,279 +1,161 @@
--- The link never idles while a packet waits that is not dropped.
-use Rattle.std.proofs.Common.{◌≡◌, ◌≤◌, ◌<◌, ◌+◌, ◌-◌, ◌∙◌, ◌⊎◌, inl, inr, ℕ, zero, suc, max, Bool, true, false, cond, List, [], ◌∷◌, ◌++◌, length, None, Some, refl, ap, sym, subst, arith}
-use Rattle.std.specs.Prelude.{slice_get, ◌==◌}
-use Rattle.std.proofs.lemmas.Bool.{eqb-true, eq-eqb}
-use Rattle.std.proofs.lemmas.Grind.{common_steps}
+-- Each sending of a play starts at the least moment at which one may.
+use Rattle.std.proofs.Common.{◌≡◌, ◌≤◌, ◌<◌, ◌∙◌, ◌⊎◌, inl, inr, ℕ, max, Bool, true, false, cond, List, [], ◌∷◌, Some, refl, sym, subst, arith}
+use Rattle.std.specs.Prelude.{slice_get, nat_lt}
+use Rattle.std.proofs.lemmas.Bool.{ltb-true, ltb-false}
 use Rattle.std.proofs.lemmas.Option.{slice_get_within}
-use Rattle.altq_model.specs.declared.Fate.{Fate}
-use Rattle.altq_model.specs.declared.Fate.TheVariants as fate
-use Rattle.altq_model.specs.declared.Verdict.{Verdict}
-use Rattle.altq_model.specs.declared.Verdict.TheVariants.{Keep, Drop}
-use Rattle.altq_model.specs.History.{Coming, Answer, Words, Event, Offered, Sent, Sending, Entry, bare, offered, drawn, head, waiting, labels, Decision, dropped_by, decided, journal}
+use Rattle.altq_model.specs.History.{Coming, Answer, DrawnWords, Event, Offered, Sent, Transmission, Happened, bare, offered, drawn}
 use Rattle.altq_model.specs.Link.{link}
-use Rattle.altq_model.specs.Laws.{occurs, numbers, dropped, dropped_of, sent, sent_of, IsLeft, StartsBusy, FollowsBusy, AllBusy, IsBusy}
-use Rattle.altq_model.specs.Play.{Policy, class_start, AreDue}
-use Rattle.play_laws.specs.Lawful.{IsOneOf, IsLawful, NeverWaits, AreHeld, AreRising}
+use Rattle.altq_model.specs.Laws.{StartsBefore, IsPrompt}
+use Rattle.altq_model.specs.Busy.{as_of, SomeMaySend, IsLeastStart, IsBusy}
+use Rattle.altq_model.specs.Play.{Policy, first_start, class_start, AreDue}
+use Rattle.altq_model.specs.Lawful.{IsHead, IsLawful, IsSteady, AreRising, latest}
 use Rattle.play_laws.specs.Events.{IsOffer, IsSending, EachFollows}
-use Rattle.play_laws.proofs.Starts.{least_is, start_of}
+use Rattle.play_laws.proofs.Starts.{least_of, start_of}
 use Rattle.play_laws.proofs.DueLemmas.{offer_event}
-use Rattle.play_laws.proofs.TimeLemmas.{each_follows, rising_at}
-use Rattle.play_laws.proofs.OrderLemmas.{RisesTo, rises_push, rises_weaken, AreOf, waiting_of, IsNumbered, head_numbered, at_numbered}
-use Rattle.play_laws.proofs.CountLemmas.{Place, places, with_place, without_first, all_labels, of_class, of_class_labels, labels_push, taken_out, one, should, journal_occurs, balanced}
-use Rattle.play_laws.proofs.EndLemmas.{AllOneOf, held}
+use Rattle.play_laws.proofs.LinkLemmas.{end_later}
+use Rattle.play_laws.proofs.TimeLemmas.{IsOnTime, on_time, follows, head_latest, rising_at, there_at}
+use Rattle.play_laws.proofs.OrderLemmas.{starts_late}
 
--- a decision is a drop or a sending
-drop_case : (n m : ℕ) (f : Fate) (xs ys zs : List ℕ) → occurs n xs ≡ occurs n ys + occurs n zs
-    → occurs n (dropped_of m f xs) ≡ occurs n (dropped_of m f ys) + occurs n zs
-drop_case n m (fate.Dropped r) xs ys zs e = omega (arith, e)
-drop_case n m (fate.Sent start end rule) xs ys zs e = e
+-- what is offered from a place on arrived after the start of each sending before
+pub started_before : (p : Policy) (rate seed : ℕ) (arrived : List Coming) (g : List Happened) (k : ℕ) (a : Coming) → AreRising arrived → EachFollows p rate seed arrived g
+    → offered (bare g) ≤ k → slice_get arrived k ≡ Some a → StartsBefore a.at (bare g)
+started_before p rate seed arrived [] k a rise f l e = tt
+started_before p rate seed arrived (o ∷ g) k a rise (inl x, f) l e =
+    let P : Event → Type 0 = λ z. offered (z ∷ bare g) ≤ k → StartsBefore a.at (z ∷ bare g) in
+    subst P (sym (offer_event p rate seed arrived g o x)) (λ m. started_before p rate seed arrived g k a rise f (omega (arith, m)) e) l
+started_before p rate seed arrived (o ∷ g) k a rise (inr y, f) l e =
+    let P : Event → Type 0 = λ z. offered (z ∷ bare g) ≤ k → StartsBefore a.at (z ∷ bare g) in
+    subst P (sym y.event) (λ m.
+    let b = there_at arrived (offered (bare g)) (omega (arith, m, slice_get_within arrived k a e)) in
+    let r = rising_at 0 arrived (offered (bare g)) k b.0 a rise b.1 e m in
+    (omega (arith, y.passed b.0 b.1, r), started_before p rate seed arrived g k a rise f m e)) l
 
-dropped_occurs : (n : ℕ) (xs ys : List Decision) → occurs n (dropped (xs ++ ys)) ≡ occurs n (dropped xs) + occurs n (dropped ys)
-dropped_occurs n [] ys = omega arith
-dropped_occurs n (d ∷ xs) ys = drop_case n d.0 d.1 (dropped (xs ++ ys)) (dropped xs) (dropped ys) (dropped_occurs n xs ys)
+pub prompt : (p : Policy) (rate seed : ℕ) (arrived : List Coming) (g : List Happened) → AreRising arrived → EachFollows p rate seed arrived g → IsPrompt (bare g)
+prompt p rate seed arrived [] rise f = tt
+prompt p rate seed arrived (o ∷ g) rise (inl x, f) =
+    let P : Event → Type 0 = λ z. IsPrompt (z ∷ bare g) in
+    subst P (sym (offer_event p rate seed arrived g o x))
+    (started_before p rate seed arrived g (offered (bare g)) x.packet rise f (omega arith) x.next, prompt p rate seed arrived g rise f)
+prompt p rate seed arrived (o ∷ g) rise (inr y, f) =
+    let P : Event → Type 0 = λ z. IsPrompt (z ∷ bare g) in subst P (sym y.event) (prompt p rate seed arrived g rise f)
 
-verdict_split : (n m : ℕ) (v : Verdict) → occurs n (numbers (dropped_by v m)) ≡ occurs n (dropped (dropped_by v m))
-verdict_split n m Keep = refl
-verdict_split n m (Drop r) = refl
+-- a class that waits and whose head has arrived may send at a moment, and not before the first start
+waits_on : (p : Policy) (free : ℕ) (h : List Event) (u : ℕ) → IsSteady p → latest h ≤ u → free ≤ u
+    → ((s : ℕ) → first_start p free h p.classes ≡ Some s → u < s) → SomeMaySend p h u → ⊥
+waits_on p free h u steady came after first m =
+    let t : ℕ = p.start_from h m.class (max free m.packet.at) in
+    let l = least_of p free h p.classes m.class t m.held (start_of p free h m.class m.packet m.front) in
+    let i : IsHead p h m.class m.packet = record { held = m.held; front = m.front } in
+    let b = head_latest m.class h m.packet m.front in
+    let f = first l.start l.is in
+    let same = steady h m.class (max free m.packet.at) u m.packet i (omega (arith, b, came, after)) (omega (arith, f, l.least)) in
+    omega (arith, same, m.may, f, l.least)
 
-event_split : (n m : ℕ) (e : Event) (ss : List ℕ) → occurs n (numbers (decided m e)) + occurs n ss ≡ occurs n (dropped (decided m e)) + occurs n (sent_of m e ss)
-event_split n m (Offered a w v) ss = omega (arith, verdict_split n m v.verdict)
-event_split n m (Sent s) ss = omega arith
+-- no class may send before the first start, whatever was offered up to then
+offer_none : (p : Policy) (free : ℕ) (h : List Event) (a : Coming) (w : DrawnWords) (v : Answer) (u : ℕ) (b : Bool) → nat_lt u a.at ≡ b → IsSteady p → latest h ≤ a.at → free ≤ u
+    → ((s : ℕ) → first_start p free (Offered a w v ∷ h) p.classes ≡ Some s → u < s) → (u < a.at → SomeMaySend p (as_of u h) u → ⊥)
+    → SomeMaySend p (cond b (as_of u h) (Offered a w v ∷ h)) u → ⊥
+offer_none p free h a w v u true t steady l after first rest m = rest (ltb-true u a.at t) m
+offer_none p free h a w v u false t steady l after first rest m =
+    let came = ltb-false u a.at t in
+    waits_on p free (Offered a w v ∷ h) u steady (omega (arith, came, l)) after first m
 
-split : (n : ℕ) (g : List Entry) → occurs n (numbers (journal g)) ≡ occurs n (dropped (journal g)) + occurs n (sent g)
-split n [] = refl
-split n (e ∷ g) =
-    let d : List Decision = decided e.label e.what in
-    omega (arith, journal_occurs n (journal g) d, dropped_occurs n (journal g) d, event_split n e.label e.what (sent g), split n g)
+none_offer : (p : Policy) (rate : ℕ) (arrived : List Coming) (h : List Event) (a : Coming) (w : DrawnWords) (v : Answer) (u : ℕ) → IsSteady p → IsOnTime p rate arrived h
+    → slice_get arrived (offered h) ≡ Some a → ((s : ℕ) → first_start p (link rate h).free h p.classes ≡ Some s → a.at ≤ s) → (link rate h).free ≤ u
+    → ((s : ℕ) → first_start p (link rate h).free (Offered a w v ∷ h) p.classes ≡ Some s → u < s)
+    → (((s : ℕ) → first_start p (link rate h).free h p.classes ≡ Some s → u < s) → SomeMaySend p (as_of u h) u → ⊥)
+    → SomeMaySend p (as_of u (Offered a w v ∷ h)) u → ⊥
+none_offer p rate arrived h a w v u steady t next before after first rest m =
+    offer_none p (link rate h).free h a w v u (nat_lt u a.at) refl steady (t.comes (offered h) a (omega arith) next) after first
+    (λ l. rest (λ s f. omega (arith, l, before s f))) m
 
--- what a later event drops was not offered before
-KeepsDrops : List Decision → List Entry → Type 0
-KeepsDrops js g = (n : ℕ) → n ≤ offered (bare g) → occurs n (dropped js) ≡ occurs n (dropped (journal g))
+none_sent : (p : Policy) (rate : ℕ) (h : List Event) (s : Transmission) (u : ℕ) → 0 < rate → IsSteady p → latest h ≤ s.start → (link rate (Sent s ∷ h)).free ≤ u
+    → ((t : ℕ) → first_start p (link rate (Sent s ∷ h)).free (Sent s ∷ h) p.classes ≡ Some t → u < t) → SomeMaySend p (Sent s ∷ h) u → ⊥
+none_sent p rate h s u pos steady l after first m =
+    waits_on p (link rate (Sent s ∷ h)).free (Sent s ∷ h) u steady (omega (arith, l, end_later rate h s.start s.len pos, after)) after first m
 
-not_next : (n m : ℕ) → n < m → one m n ≡ 0
-not_next n m l = grind (arith, common_steps)
+-- before the first start no class may send at a moment that is not before the last end
+abbrev NoneMay : Policy → (rate : ℕ) → List Event → (u : ℕ) → Type 0
+NoneMay p rate h u = (link rate h).free ≤ u → ((s : ℕ) → first_start p (link rate h).free h p.classes ≡ Some s → u < s) → SomeMaySend p (as_of u h) u → ⊥
 
-new_drop : (n m : ℕ) (v : Verdict) → n < m → occurs n (dropped (dropped_by v m)) ≡ 0
-new_drop n m Keep l = refl
-new_drop n m (Drop r) l = omega (arith, not_next n m l)
+none_step : (p : Policy) (rate seed : ℕ) (arrived : List Coming) (g : List Happened) (e : Happened) (u : ℕ) → 0 < rate → IsSteady p → IsOnTime p rate arrived (bare g)
+    → IsOffer p rate seed arrived g e ⊎ IsSending p rate arrived g e → NoneMay p rate (bare g) u → NoneMay p rate (bare (e ∷ g)) u
+none_step p rate seed arrived g e u pos steady t (inl x) rest =
+    let P : Event → Type 0 = λ z. NoneMay p rate (z ∷ bare g) u in
+    let w : DrawnWords = record { seed = seed; drawn = drawn (bare g) } in
+    subst P (sym (offer_event p rate seed arrived g e x)) (λ l f m.
+    none_offer p rate arrived (bare g) x.packet w (p.answer (bare g) w x.packet) u steady t x.next x.first l f (rest l) m)
+none_step p rate seed arrived g e u pos steady t (inr y) rest =
+    let P : Event → Type 0 = λ z. NoneMay p rate (z ∷ bare g) u in
+    subst P (sym y.event) (λ l f m.
+    none_sent p rate (bare g) y.sending u pos steady (t.starts y.sending.class y.sending.start y.may.held y.may.start) l f m)
 
-keeps_offer : (js : List Decision) (g : List Entry) (a : Coming) (w : Words) (v : Answer)
-    → let e : Entry = record { label = offered (bare g) + 1; what = Offered a w v } in KeepsDrops js (e ∷ g) → KeepsDrops js g
-unfolding KeepsDrops
-keeps_offer js g a w v k = λ n l.
-    let d : List Decision = dropped_by v.verdict (offered (bare g) + 1) in
-    omega (arith, k n (omega arith), dropped_occurs n (journal g) d, new_drop n (offered (bare g) + 1) v.verdict (omega arith))
+none_may : (p : Policy) (rate seed : ℕ) (arrived : List Coming) (g : List Happened) (u : ℕ) → 0 < rate → IsLawful p → IsSteady p → AreRising arrived
+    → AreDue p rate seed arrived g → NoneMay p rate (bare g) u
+none_may p rate seed arrived [] u pos law steady rise d = λ l f m. let e = m.front in cc
+none_may p rate seed arrived (e ∷ g) u pos law steady rise d =
+    let t = on_time p rate seed arrived g pos law rise d.1 in
+    none_step p rate seed arrived g e u pos steady t (follows p rate seed arrived g e law t d.0) (none_may p rate seed arrived g u pos law steady rise d.1)
 
-keeps_sent : (js : List Decision) (g : List Entry) (m : ℕ) (s : Sending)
-    → let e : Entry = record { label = m; what = Sent s } in KeepsDrops js (e ∷ g) → KeepsDrops js g
-unfolding KeepsDrops
-keeps_sent js g m s k = λ n l. omega (arith, k n l, dropped_occurs n (journal g) (decided m (Sent s)))
+-- all that was offered came up to a moment that is not before the latest of it
+as_case : (u : ℕ) (a : Coming) (w : DrawnWords) (v : Answer) (h : List Event) (b : Bool) → nat_lt u a.at ≡ b → a.at ≤ u
+    → cond b (as_of u h) (Offered a w v ∷ h) ≡ Offered a w v ∷ h
+as_case u a w v h true t l = let q = ltb-true u a.at t in absurd (omega arith)
+as_case u a w v h false t l = refl
 
-keeps_step : (p : Policy) (rate seed : ℕ) (arrived : List Coming) (js : List Decision) (g : List Entry) (e : Entry) → KeepsDrops js (e ∷ g)
-    → IsOffer p rate seed arrived g e ⊎ IsSending p rate arrived g e → KeepsDrops js g
-keeps_step p rate seed arrived js g e k (inl y) =
-    let P : Entry → Type 0 = λ z. KeepsDrops js (z ∷ g) in
-    let w : Words = record { seed = seed; drawn = drawn (bare g) } in
-    keeps_offer js g y.packet w (p.answer (bare g) w y.packet) (subst P y.offer k)
-keeps_step p rate seed arrived js g e k (inr y) =
-    let P : Event → Type 0 = λ z. let f : Entry = record { label = e.label; what = z } in KeepsDrops js (f ∷ g) in
-    keeps_sent js g e.label y.sending (subst P y.event k)
+pub as_of_all : (u : ℕ) (h : List Event) → latest h ≤ u → as_of u h ≡ h
+as_of_all u [] l = refl
+as_of_all u (Offered a w v ∷ h) l = as_case u a w v h (nat_lt u a.at) refl (omega (arith, l))
+as_of_all u (Sent s ∷ h) l = refl
 
--- what waits stands in order of number
-rises_lower : (m low high : ℕ) (ns : List ℕ) → m ≤ low → RisesTo low high ns → RisesTo m high ns
-rises_lower m low high [] l r = omega arith
-rises_lower m low high (n ∷ ns) l r = (omega (arith, r.0), r.1)
-
-rises_case : (low high c : ℕ) (x : Place) (xs : List Place) (b : Bool) → RisesTo low high (all_labels (x ∷ xs)) → RisesTo x.1 high (all_labels (without_first c xs))
-    → RisesTo low high (all_labels (cond b xs (x ∷ without_first c xs)))
-rises_case low high c x xs true r f = rises_lower low x.1 high (all_labels xs) (omega (arith, r.0)) r.1
-rises_case low high c x xs false r f = (r.0, f)
-
-rises_take : (low high c : ℕ) (xs : List Place) → RisesTo low high (all_labels xs) → RisesTo low high (all_labels (without_first c xs))
-rises_take low high c [] r = r
-rises_take low high c (x ∷ xs) r = rises_case low high c x xs (x.0 == c) r (rises_take x.1 high c xs r.1)
-
-rises_place : (high k : ℕ) (v : Verdict) (xs : List Place) → RisesTo 0 high (all_labels xs) → RisesTo 0 (high + 1) (all_labels (with_place v (k, high + 1) xs))
-rises_place high k Keep xs r =
-    let P : List ℕ → Type 0 = λ l. RisesTo 0 (high + 1) l in
-    subst P (sym (labels_push xs (k, high + 1))) (rises_push 0 high (high + 1) (all_labels xs) (omega arith) r)
-rises_place high k (Drop q) xs r = rises_weaken 0 high (high + 1) (all_labels xs) (omega arith) r
-
-places_step : (p : Policy) (rate seed : ℕ) (arrived : List Coming) (g : List Entry) (e : Entry) → RisesTo 0 (offered (bare g)) (all_labels (places g))
-    → IsOffer p rate seed arrived g e ⊎ IsSending p rate arrived g e → RisesTo 0 (offered (bare (e ∷ g))) (all_labels (places (e ∷ g)))
-places_step p rate seed arrived g e r (inl y) =
-    let P : Entry → Type 0 = λ z. RisesTo 0 (offered (bare (z ∷ g))) (all_labels (places (z ∷ g))) in
-    let w : Words = record { seed = seed; drawn = drawn (bare g) } in
-    subst P (sym y.offer) (rises_place (offered (bare g)) y.packet.class (p.answer (bare g) w y.packet).verdict (places g) r)
-places_step p rate seed arrived g e r (inr y) =
-    let P : Event → Type 0 = λ z. let f : Entry = record { label = e.label; what = z } in RisesTo 0 (offered (bare (f ∷ g))) (all_labels (places (f ∷ g))) in
-    subst P (sym y.event) (rises_take 0 (offered (bare g)) y.sending.class (places g) r)
-
-places_rise : (p : Policy) (rate seed : ℕ) (arrived : List Coming) (g : List Entry) → EachFollows p rate seed arrived g
-    → RisesTo 0 (offered (bare g)) (all_labels (places g))
-places_rise p rate seed arrived [] f = omega arith
-places_rise p rate seed arrived (e ∷ g) f = places_step p rate seed arrived g e (places_rise p rate seed arrived g f.1) f.0
-
-test_above : (low n m : ℕ) (ms : List ℕ) (b : Bool) → (m == n) ≡ b → low < m → (0 < occurs n ms → m < n) → 0 < cond b 1 0 + occurs n ms → low < n
-test_above low n m ms true e l f o = omega (arith, eqb-true m n e)
-test_above low n m ms false e l f o = omega (arith, f (omega arith))
-
-above : (low high n : ℕ) (ns : List ℕ) → RisesTo low high ns → 0 < occurs n ns → low < n
-above low high n [] r o = absurd (omega arith)
-above low high n (m ∷ ms) r o = test_above low n m ms (m == n) refl r.0 (above m high n ms r.1) o
-
-test_first : (n m : ℕ) (ms : List ℕ) (b : Bool) → (m == n) ≡ b → (0 < occurs n ms → m < n) → 0 < cond b 1 0 + occurs n ms → m ≤ n
-test_first n m ms true e f o = omega (arith, eqb-true m n e)
-test_first n m ms false e f o = omega (arith, f (omega arith))
-
-first_least : (low high n m : ℕ) (ms : List ℕ) → RisesTo low high (m ∷ ms) → 0 < occurs n (m ∷ ms) → m ≤ n
-first_least low high n m ms r o = test_first n m ms (m == n) refl (above m high n ms r.1) o
-
-bounded : (low high : ℕ) (ns : List ℕ) → RisesTo low high ns → low ≤ high
-bounded low high [] r = r
-bounded low high (n ∷ ns) r = omega (arith, r.0, bounded n high ns r.1)
-
-one_same : (n : ℕ) → one n n ≡ 1
-one_same n = grind (arith, common_steps)
-
-should_be : (n count : ℕ) → 0 < n → n ≤ count → should n count ≡ 1
-should_be n count a b = grind (arith, common_steps)
-
-should_most : (n count : ℕ) → should n count ≤ 1
-should_most n count = grind (arith, common_steps)
-
--- the first packet that waits
-record IsFirst (arrived : List Coming) (g : List Entry) (c n : ℕ) : Type 0 where
-  packet : Coming
-  front : head c (bare g) ≡ Some packet
-  numbered : IsNumbered arrived n packet
-
-has_packet : (arrived : List Coming) (ns : List ℕ) (ws : List Coming) (n : ℕ) → AreOf arrived ns ws → slice_get ns 0 ≡ Some n → (a : Coming) × (slice_get ws 0 ≡ Some a)
-has_packet arrived [] ws n x e = absurd (cc)
-has_packet arrived (m ∷ ns) [] n x e = absurd x
-has_packet arrived (m ∷ ns) (a ∷ ws) n x e = (a, refl)
-
-first_label : (g : List Entry) (x : Place) (xs : List Place) → places g ≡ x ∷ xs → slice_get (labels x.0 g) 0 ≡ Some x.1
-first_label g x xs e =
-    let t : (x.0 == x.0) ≡ true = eq-eqb x.0 x.0 refl in
-    let q : of_class x.0 (x ∷ xs) ≡ x.1 ∷ of_class x.0 xs = rw t refl in
-    ap (λ (l : List ℕ). slice_get l 0) (sym (of_class_labels x.0 g) ∙ ap (of_class x.0) e ∙ q)
-
-is_first : (p : Policy) (rate seed : ℕ) (arrived : List Coming) (g : List Entry) (x : Place) (xs : List Place) → EachFollows p rate seed arrived g → places g ≡ x ∷ xs
-    → IsFirst arrived g x.0 x.1
-is_first p rate seed arrived g x xs f e =
-    let l = first_label g x xs e in
-    let a = has_packet arrived (labels x.0 g) (waiting x.0 (bare g)) x.1 (waiting_of p rate seed arrived g x.0 f) l in
-    record { packet = a.0; front = a.1; numbered = head_numbered p rate seed arrived g x.0 x.1 a.0 f l a.1 }
-
-there_at : (arrived : List Coming) (k : ℕ) → k < length arrived → (a : Coming) × (slice_get arrived k ≡ Some a)
-there_at [] k l = absurd (omega arith)
-there_at (a ∷ rest) zero l = (a, refl)
-there_at (a ∷ rest) (suc k) l = there_at rest k (omega arith)
+may_start : (p : Policy) (free : ℕ) (h : List Event) (c s : ℕ) (a : Coming) → IsLawful p → IsSteady p → IsHead p h c a → class_start p free h c ≡ Some s → latest h ≤ s
+    → SomeMaySend p (as_of s h) s
+may_start p free h c s a law steady i e l =
+    let P : List Event → Type 0 = λ k. SomeMaySend p k s in
+    let q : Some (p.start_from h c (max free a.at)) ≡ Some s = sym (start_of p free h c a i.front) ∙ e in
+    let is : p.start_from h c (max free a.at) ≡ s = cc in
+    let from = law.later h c (max free a.at) a i in
+    subst P (sym (as_of_all s h l)) (record {
+      class = c;
+      held = i.held;
+      packet = a;
+      front = i.front;
+      may = steady h c (max free a.at) s a i (omega (arith, from, is)) (omega (arith, is)) ∙ is;
+    })
 
 decide : (n m : ℕ) → (n ≤ m) ⊎ (m < n)
 decide n m = grind arith
 
--- what is left is not before the first that waits
-left_case : (p : Policy) (rate seed : ℕ) (arrived : List Coming) (js : List Decision) (g : List Entry) (x : Place) (xs : List Place) (n : ℕ)
-    → EachFollows p rate seed arrived g → KeepsDrops js g → places g ≡ x ∷ xs → IsLeft arrived js g n
-    → (n ≤ offered (bare g)) ⊎ (offered (bare g) < n) → x.1 ≤ n
-unfolding KeepsDrops
-left_case p rate seed arrived js g x xs n f k e l (inl low) =
-    let r : RisesTo 0 (offered (bare g)) (all_labels (x ∷ xs)) =
-    (let P : List Place → Type 0 = λ ys. RisesTo 0 (offered (bare g)) (all_labels ys) in subst P e (places_rise p rate seed arrived g f)) in
-    let b = (balanced p rate seed arrived g n f).once in
-    let q = ap (λ (ys : List Place). occurs n (all_labels ys)) e in
-    first_least 0 (offered (bare g)) n x.1 (all_labels xs) r
-    (omega (arith, b, q, split n g, k n low, l.kept, l.unsent, should_be n (offered (bare g)) l.from_one low))
-left_case p rate seed arrived js g x xs n f k e l (inr high) =
-    let r : RisesTo 0 (offered (bare g)) (all_labels (x ∷ xs)) =
-    (let P : List Place → Type 0 = λ ys. RisesTo 0 (offered (bare g)) (all_labels ys) in subst P e (places_rise p rate seed arrived g f)) in
-    omega (arith, bounded x.1 (offered (bare g)) (all_labels xs) r.1)
+least_case : (p : Policy) (rate : ℕ) (h : List Event) (s u : ℕ) → first_start p (link rate h).free h p.classes ≡ Some s → NoneMay p rate h u → (link rate h).free ≤ u
+    → SomeMaySend p (as_of u h) u → (s ≤ u) ⊎ (u < s) → s ≤ u
+least_case p rate h s u e none after m (inl l) = l
+least_case p rate h s u e none after m (inr l) =
+    absurd (none after (λ t q. let o : Some s ≡ Some t = sym e ∙ q in let same : s ≡ t = cc in omega (arith, l, same)) m)
 
-first_left : (p : Policy) (rate seed : ℕ) (arrived : List Coming) (js : List Decision) (g : List Entry) (x : Place) (xs : List Place)
-    → EachFollows p rate seed arrived g → KeepsDrops js g → places g ≡ x ∷ xs → IsLeft arrived js g x.1
-unfolding KeepsDrops
-first_left p rate seed arrived js g x xs f k e =
-    let i = is_first p rate seed arrived g x xs f e in
-    let r : RisesTo 0 (offered (bare g)) (all_labels (x ∷ xs)) =
-    (let P : List Place → Type 0 = λ ys. RisesTo 0 (offered (bare g)) (all_labels ys) in subst P e (places_rise p rate seed arrived g f)) in
-    let b = (balanced p rate seed arrived g x.1 f).once in
-    let q : occurs x.1 (all_labels (places g)) ≡ one x.1 x.1 + occurs x.1 (all_labels xs) = ap (λ (ys : List Place). occurs x.1 (all_labels ys)) e in
-    let o = one_same x.1 in
-    let m = should_most x.1 (offered (bare g)) in
-    let low : x.1 ≤ offered (bare g) = bounded x.1 (offered (bare g)) (all_labels xs) r.1 in
-    let t = slice_get_within arrived (x.1 - 1) i.packet i.numbered.there in
-    record {
-      from_one = i.numbered.from_one;
-      there = omega (arith, t, i.numbered.from_one);
-      kept = omega (arith, b, q, o, m, split x.1 g, k x.1 low);
-      unsent = omega (arith, b, q, o, m, split x.1 g);
-    }
-
-never_waits_start : (p : Policy) (free : ℕ) (g : List Entry) (c s : ℕ) (a : Coming) → NeverWaits p → head c (bare g) ≡ Some a → class_start p free (bare g) c ≡ Some s
-    → s ≡ max free a.at
-never_waits_start p free g c s a nw e f =
-    let x = start_of p free (bare g) c a e in
-    let q : Some (p.start_from (bare g) c (max free a.at)) ≡ Some s = sym x ∙ f in
-    let r : p.start_from (bare g) c (max free a.at) ≡ s = cc in
-    sym r ∙ nw (bare g) c (max free a.at)
-
-busy_at : (p : Policy) (rate seed : ℕ) (arrived : List Coming) (js : List Decision) (g : List Entry) (e : Entry) (y : IsSending p rate arrived g e) (xs : List Place)
-    → NeverWaits p → AreRising arrived → AreHeld p arrived → EachFollows p rate seed arrived g → KeepsDrops js g → places g ≡ xs
-    → StartsBusy rate arrived js g y.sending
-busy_at p rate seed arrived js g e y [] nw rise can f k q =
-    let l = of_class_labels y.sending.class g in
-    let z : slice_get (labels y.sending.class g) 0 ≡ None = ap (λ (ns : List ℕ). slice_get ns 0) (sym l ∙ ap (of_class y.sending.class) q) in
-    let n = y.number in
-    absurd (cc)
-busy_at p rate seed arrived js g e y (x ∷ xs) nw rise can f k q =
+starts_least : (p : Policy) (rate seed : ℕ) (arrived : List Coming) (g : List Happened) (e : Happened) (y : IsSending p rate arrived g e) → 0 < rate → IsLawful p
+    → IsSteady p → AreRising arrived → AreDue p rate seed arrived g → IsLeastStart p (link rate (bare g)).free (bare g) y.sending.start
+starts_least p rate seed arrived g e y pos law steady rise d =
     let free : ℕ = (link rate (bare g)).free in
-    let i = is_first p rate seed arrived g x xs f q in
-    let b : Coming = i.packet in
-    let one_of : IsOneOf x.0 p.classes = (let P : List Place → Type 0 = λ ys. AllOneOf p.classes ys in subst P q (held p rate seed arrived g can f)).0 in
-    let first_start_is = start_of p free (bare g) x.0 b i.front in
-    let low = least_is p free (bare g) p.classes x.0 y.sending.start (p.start_from (bare g) x.0 (max free b.at)) y.least one_of first_start_is in
-    let wait = nw (bare g) x.0 (max free b.at) in
-    let own = never_waits_start p free g y.sending.class y.sending.start y.packet nw y.front y.may.start in
-    let num = head_numbered p rate seed arrived g y.sending.class e.label y.packet f y.number y.front in
-    let r : RisesTo 0 (offered (bare g)) (all_labels (x ∷ xs)) =
-    (let P : List Place → Type 0 = λ ys. RisesTo 0 (offered (bare g)) (all_labels ys) in subst P q (places_rise p rate seed arrived g f)) in
-    let out = taken_out e.label y.sending.class e.label (places g) (ap (λ (l : List ℕ). slice_get l 0) (of_class_labels y.sending.class g) ∙ y.number) in
-    let same = ap (λ (ys : List Place). occurs e.label (all_labels ys)) q in
-    let before : x.1 ≤ e.label = first_least 0 (offered (bare g)) e.label x.1 (all_labels xs) r (omega (arith, out, same, one_same e.label)) in
-    let order = rising_at 0 arrived (x.1 - 1) (e.label - 1) b y.packet rise i.numbered.there num.there (omega arith) in
-    let at = at_numbered arrived x.1 b i.numbered.there in
+    let s : ℕ = y.sending.start in
+    let t = on_time p rate seed arrived g pos law rise d in
     record {
-      first = x.1;
-      left = first_left p rate seed arrived js g x xs f k q;
-      least = λ n l.
-          let le = left_case p rate seed arrived js g x xs n f k q l (decide n (offered (bare g))) in
-          let a = there_at arrived (n - 1) (omega (arith, l.from_one, l.there)) in
-          omega (arith, rising_at 0 arrived (x.1 - 1) (n - 1) b a.0 rise i.numbered.there a.1 (omega arith), at, at_numbered arrived n a.0 a.1);
-      start = omega (arith, low, wait, own, order, at);
+      after_end = (starts_late p rate arrived g e law y).after_free;
+      may = may_start p free (bare g) y.sending.class s y.packet law steady (record { held = y.may.held; front = y.front }) y.may.start
+          (t.starts y.sending.class s y.may.held y.may.start);
+      least = λ u l m. least_case p rate (bare g) s u y.least (none_may p rate seed arrived g u pos law steady rise d) l m (decide s u);
     }
 
-busy_step : (p : Policy) (rate seed : ℕ) (arrived : List Coming) (js : List Decision) (g : List Entry) (e : Entry)
-    → NeverWaits p → AreRising arrived → AreHeld p arrived → EachFollows p rate seed arrived g → KeepsDrops js g
-    → IsOffer p rate seed arrived g e ⊎ IsSending p rate arrived g e → FollowsBusy rate arrived js e.what g
-busy_step p rate seed arrived js g e nw rise can f k (inl y) =
-    let P : Event → Type 0 = λ z. FollowsBusy rate arrived js z g in subst P (sym (offer_event p rate seed arrived g e y)) tt
-busy_step p rate seed arrived js g e nw rise can f k (inr y) =
-    let P : Event → Type 0 = λ z. FollowsBusy rate arrived js z g in
-    subst P (sym y.event) (busy_at p rate seed arrived js g e y (places g) nw rise can f k refl)
+busy_step : (p : Policy) (rate seed : ℕ) (arrived : List Coming) (g : List Happened) (e : Happened) → 0 < rate → IsLawful p → IsSteady p → AreRising arrived
+    → AreDue p rate seed arrived g → IsOffer p rate seed arrived g e ⊎ IsSending p rate arrived g e → IsBusy p rate (bare g) → IsBusy p rate (bare (e ∷ g))
+busy_step p rate seed arrived g e pos law steady rise d (inl x) b =
+    let P : Event → Type 0 = λ z. IsBusy p rate (z ∷ bare g) in subst P (sym (offer_event p rate seed arrived g e x)) b
+busy_step p rate seed arrived g e pos law steady rise d (inr y) b =
+    let P : Event → Type 0 = λ z. IsBusy p rate (z ∷ bare g) in
+    subst P (sym y.event) (starts_least p rate seed arrived g e y pos law steady rise d, b)
 
-busy : (p : Policy) (rate seed : ℕ) (arrived : List Coming) (js : List Decision) (g : List Entry) → NeverWaits p → AreRising arrived → AreHeld p arrived
-    → EachFollows p rate seed arrived g → KeepsDrops js g → AllBusy rate arrived js g
-busy p rate seed arrived js [] nw rise can f k = tt
-busy p rate seed arrived js (e ∷ g) nw rise can f k =
-    let l = keeps_step p rate seed arrived js g e k f.0 in
-    (busy_step p rate seed arrived js g e nw rise can f.1 l f.0, busy p rate seed arrived js g nw rise can f.1 l)
-
-all_kept : (g : List Entry) → KeepsDrops (journal g) g
-unfolding KeepsDrops
-all_kept g = λ n l. refl
-
-pub is_busy : (p : Policy) (rate seed : ℕ) (arrived : List Coming) (g : List Entry) → 0 < rate → IsLawful p → NeverWaits p → AreRising arrived → AreHeld p arrived
-    → AreDue p rate seed arrived g → IsBusy rate arrived g
-is_busy p rate seed arrived g pos law nw rise can d =
-    busy p rate seed arrived (journal g) g nw rise can (each_follows p rate seed arrived g pos law rise d) (all_kept g)
+pub is_busy : (p : Policy) (rate seed : ℕ) (arrived : List Coming) (g : List Happened) → 0 < rate → IsLawful p → IsSteady p → AreRising arrived
+    → AreDue p rate seed arrived g → IsBusy p rate (bare g)
+is_busy p rate seed arrived [] pos law steady rise d = tt
+is_busy p rate seed arrived (e ∷ g) pos law steady rise d =
+    busy_step p rate seed arrived g e pos law steady rise d.1
+    (follows p rate seed arrived g e law (on_time p rate seed arrived g pos law rise d.1) d.0) (is_busy p rate seed arrived g pos law steady rise d.1)

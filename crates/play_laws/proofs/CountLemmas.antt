@@ -1,14 +1,14 @@
 -- Each number has one fate, or waits.
-use Rattle.std.proofs.Common.{◌≡◌, ◌+◌, ◌∙◌, ◌⊎◌, inl, inr, ℕ, Bool, true, false, cond, List, [], ◌∷◌, ◌++◌, Some, drop, refl, ap, sym, subst, arith}
+use Rattle.std.proofs.Common.{◌≡◌, ◌≤◌, ◌+◌, ◌∙◌, ◌⊎◌, inl, inr, ℕ, Bool, true, false, cond, List, [], ◌∷◌, ◌++◌, Some, drop, refl, ap, sym, subst, arith}
 use Rattle.std.specs.Prelude.{slice_get, if◌then◌else◌, ◌==◌, ◌&&◌, nat_lt, nat_le}
 use Rattle.std.proofs.lemmas.Bool.{eqb-true, eq-eqb}
 use Rattle.std.proofs.lemmas.Grind.{common_steps}
 use Rattle.altq_model.specs.declared.Verdict.{Verdict}
-use Rattle.altq_model.specs.declared.Verdict.TheVariants.{Keep, Drop}
-use Rattle.altq_model.specs.History.{Coming, Words, Event, Offered, Sent, Entry, bare, offered, drawn, labels, labels_after, with_offer, without_head, Decision, dropped_by, decided, journal}
+use Rattle.altq_model.specs.declared.Verdict.TheVariants.{Keep, Mark, Drop}
+use Rattle.altq_model.specs.History.{Coming, DrawnWords, Event, Offered, Sent, Happened, bare, offered, drawn, labels, labels_after, is_kept, with_offer, without_head, Decision, dropped_by, decided, journal}
 use Rattle.altq_model.specs.Laws.{occurs, numbers}
 use Rattle.altq_model.specs.Play.{Policy}
-use Rattle.play_laws.specs.Events.{IsOffer, IsSending, EachFollows}
+use Rattle.play_laws.specs.Events.{IsOffer, IsSending, EachFollows, WaitsOnce}
 
 -- the class and the label of a packet that waits
 abbrev pub Place : Type 0
@@ -19,15 +19,14 @@ without_first c [] = []
 without_first c (x ∷ xs) = if x.0 == c then xs else x ∷ without_first c xs
 
 abbrev pub with_place : Verdict → Place → List Place → List Place
-with_place Keep x xs = xs ++ x ∷ []
-with_place (Drop r) x xs = xs
+with_place v x xs = if is_kept v then xs ++ x ∷ [] else xs
 
 abbrev pub places_after : (label : ℕ) → Event → List Place → List Place
 places_after label (Offered a w v) xs = with_place v.verdict (a.class, label) xs
 places_after label (Sent s) xs = without_first s.class xs
 
 -- all that waits, whatever its class, in the order of the offers
-abbrev pub places : List Entry → List Place
+abbrev pub places : List Happened → List Place
 places [] = []
 places (e ∷ g) = places_after e.label e.what (places g)
 
@@ -50,9 +49,13 @@ class_push : (c : ℕ) (xs : List Place) (k n : ℕ) → of_class c (xs ++ (k, n
 class_push c [] k n = refl
 class_push c (x ∷ xs) k n = push_case (x.0 == c) (k == c) x.1 n (of_class c xs) (of_class c (xs ++ (k, n) ∷ [])) (class_push c xs k n)
 
+class_if : (c : ℕ) (xs : List Place) (q n : ℕ) (k : Bool)
+    → of_class c (cond k (xs ++ (q, n) ∷ []) xs) ≡ cond (k && (q == c)) (of_class c xs ++ n ∷ []) (of_class c xs)
+class_if c xs q n true = class_push c xs q n
+class_if c xs q n false = refl
+
 class_offer : (c : ℕ) (xs : List Place) (k n : ℕ) (v : Verdict) → of_class c (with_place v (k, n) xs) ≡ with_offer (k == c) v n (of_class c xs)
-class_offer c xs k n Keep = class_push c xs k n
-class_offer c xs k n (Drop r) = refl
+class_offer c xs k n v = class_if c xs k n (is_kept v)
 
 nothing : (b : Bool) → [] ≡ without_head {X = ℕ} b []
 nothing true = refl
@@ -86,7 +89,7 @@ class_after c label (Offered a w v) xs ns h = class_offer c xs a.class label v.v
 class_after c label (Sent s) xs ns h = class_take c s.class xs ∙ ap (without_head (s.class == c)) h
 
 -- the labels of a class are its places
-pub of_class_labels : (c : ℕ) (g : List Entry) → of_class c (places g) ≡ labels c g
+pub of_class_labels : (c : ℕ) (g : List Happened) → of_class c (places g) ≡ labels c g
 of_class_labels c [] = refl
 of_class_labels c (e ∷ g) = class_after c e.label e.what (places g) (labels c g) (of_class_labels c g)
 
@@ -128,7 +131,7 @@ taken_out n d m [] h = absurd (cc)
 taken_out n d m (x ∷ xs) h = out_case n d m x xs (x.0 == d) h (taken_out n d m xs)
 
 -- each number up to the count of offers was decided once or waits once
-pub record IsBalanced (n : ℕ) (g : List Entry) : Type 0 where
+pub record IsBalanced (n : ℕ) (g : List Happened) : Type 0 where
   pub once : occurs n (numbers (journal g)) + occurs n (all_labels (places g)) ≡ should n (offered (bare g))
 
 one_more : (n m : ℕ) → should n (m + 1) ≡ should n m + one (m + 1) n
@@ -140,24 +143,39 @@ start n = grind (arith, common_steps)
 verdict_occurs : (n m k : ℕ) (xs : List Place) (v : Verdict)
     → occurs n (numbers (dropped_by v m)) + occurs n (all_labels (with_place v (k, m) xs)) ≡ occurs n (all_labels xs) + one m n
 verdict_occurs n m k xs Keep = let q = places_occurs n xs (k, m) in omega (arith, q)
+verdict_occurs n m k xs Mark = let q = places_occurs n xs (k, m) in omega (arith, q)
 verdict_occurs n m k xs (Drop r) = omega arith
 
-balanced_step : (p : Policy) (rate seed : ℕ) (arrived : List Coming) (g : List Entry) (e : Entry) (n : ℕ) → IsBalanced n g
+balanced_step : (p : Policy) (rate seed : ℕ) (arrived : List Coming) (g : List Happened) (e : Happened) (n : ℕ) → IsBalanced n g
     → IsOffer p rate seed arrived g e ⊎ IsSending p rate arrived g e → IsBalanced n (e ∷ g)
 balanced_step p rate seed arrived g e n x (inl y) =
-    let P : Entry → Type 0 = λ z. IsBalanced n (z ∷ g) in
-    let w : Words = record { seed = seed; drawn = drawn (bare g) } in
+    let P : Happened → Type 0 = λ z. IsBalanced n (z ∷ g) in
+    let w : DrawnWords = record { seed = seed; drawn = drawn (bare g) } in
     let v : Verdict = (p.answer (bare g) w y.packet).verdict in
     let m : ℕ = offered (bare g) + 1 in
     let j = journal_occurs n (journal g) (dropped_by v m) in
     let c = verdict_occurs n m y.packet.class (places g) v in
     subst P (sym y.offer) (record { once = omega (arith, x.once, j, c, one_more n (offered (bare g))) })
 balanced_step p rate seed arrived g e n x (inr y) =
-    let P : Event → Type 0 = λ z. let f : Entry = record { label = e.label; what = z } in IsBalanced n (f ∷ g) in
+    let P : Event → Type 0 = λ z. let f : Happened = record { label = e.label; what = z } in IsBalanced n (f ∷ g) in
     let j = journal_occurs n (journal g) (decided e.label (Sent y.sending)) in
     let c = taken_out n y.sending.class e.label (places g) (ap (λ (l : List ℕ). slice_get l 0) (of_class_labels y.sending.class g) ∙ y.number) in
     subst P (sym y.event) (record { once = omega (arith, x.once, j, c) })
 
-pub balanced : (p : Policy) (rate seed : ℕ) (arrived : List Coming) (g : List Entry) (n : ℕ) → EachFollows p rate seed arrived g → IsBalanced n g
+pub balanced : (p : Policy) (rate seed : ℕ) (arrived : List Coming) (g : List Happened) (n : ℕ) → EachFollows p rate seed arrived g → IsBalanced n g
 balanced p rate seed arrived [] n f = record { once = start n }
 balanced p rate seed arrived (e ∷ g) n f = balanced_step p rate seed arrived g e n (balanced p rate seed arrived g n f.1) f.0
+
+class_case : (n c : ℕ) (x : Place) (xs : List Place) (b : Bool) → occurs n (of_class c xs) ≤ occurs n (all_labels xs)
+    → occurs n (cond b (x.1 ∷ of_class c xs) (of_class c xs)) ≤ occurs n (all_labels (x ∷ xs))
+class_case n c x xs true h = omega (arith, h)
+class_case n c x xs false h = omega (arith, h)
+
+class_occurs : (n c : ℕ) (xs : List Place) → occurs n (of_class c xs) ≤ occurs n (all_labels xs)
+class_occurs n c [] = omega arith
+class_occurs n c (x ∷ xs) = class_case n c x xs (x.0 == c) (class_occurs n c xs)
+
+-- what waits has no fate yet
+pub waits_once : (p : Policy) (rate seed : ℕ) (arrived : List Coming) (g : List Happened) → EachFollows p rate seed arrived g → WaitsOnce g
+waits_once p rate seed arrived g f = λ n c.
+    omega (arith, (balanced p rate seed arrived g n f).once, class_occurs n c (places g), ap (occurs n) (of_class_labels c g))

@@ -5,7 +5,7 @@ use Rattle.std.proofs.lemmas.Bool.{eqb-true}
 use Rattle.std.proofs.lemmas.Nat.{le-div}
 use Rattle.std.proofs.Math.Nat.{div-mul-le_self, div-eq_of_lt}
 use Rattle.altq_model.specs.History.{Event, Offered, Sent}
-use Rattle.altq_model.specs.Units.{units, ceil_div}
+use Rattle.play_base.specs.Units.{units, ceil_div}
 use Rattle.altq_model.specs.Link.{Link, link, end_of, run_on}
 
 pub ceil_grows : (a b rate : ℕ) → 0 < rate → a ≤ b → ceil_div a rate ≤ ceil_div b rate

@@ -1,26 +1,25 @@
 -- The play is one, and it exists.
 use Rattle.std.proofs.Common.{◌≡◌, ◌≤◌, ◌<◌, ◌+◌, ◌-◌, ◌*◌, ◌∙◌, ◌⊎◌, inl, inr, ℕ, zero, suc, Bool, true, false, cond, List, [], ◌∷◌, ◌++◌, length, length-append, None, Some, drop, refl, ap, sym, subst, arith}
-use Rattle.std.specs.Prelude.{slice_get, ◌==◌}
+use Rattle.std.specs.Prelude.{slice_get}
 use Rattle.std.specs.declared.option.Option.{Option}
 use Rattle.std.proofs.lemmas.Option.{slice_get_past, slice_get_within}
 use Rattle.altq_model.specs.declared.Verdict.{Verdict}
-use Rattle.altq_model.specs.declared.Verdict.TheVariants.{Keep, Drop}
-use Rattle.altq_model.specs.History.{Coming, Words, Event, Offered, Sent, Entry, bare, offered, drawn, waiting}
+use Rattle.altq_model.specs.History.{Coming, DrawnWords, Event, Offered, Sent, Happened, bare, offered, drawn, waiting, is_kept}
 use Rattle.altq_model.specs.Link.{link}
 use Rattle.altq_model.specs.Play.{Policy, class_start, first_start, lesser, due, due_from, AreDue, IsPlay, play_on, play}
-use Rattle.play_laws.specs.Lawful.{IsLawful, AreRising}
+use Rattle.altq_model.specs.Lawful.{IsLawful, AreRising}
 use Rattle.play_laws.specs.Events.{IsOffer, IsSending, EachFollows}
 use Rattle.play_laws.proofs.DueLemmas.{first_after, next_after}
 use Rattle.play_laws.proofs.TimeLemmas.{on_time, follows, each_follows}
-use Rattle.play_laws.proofs.CountLemmas.{Place, places, with_place, without_first, of_class, of_class_labels}
+use Rattle.play_laws.proofs.CountLemmas.{Place, places, with_place, of_class_labels}
 use Rattle.play_laws.proofs.EndLemmas.{nothing_waits}
 use Rattle.play_laws.proofs.FewLemmas.{one_less}
 
-cons_same : (e f : Entry) (g k : List Entry) → e ≡ f → g ≡ k → e ∷ g ≡ f ∷ k
+cons_same : (e f : Happened) (g k : List Happened) → e ≡ f → g ≡ k → e ∷ g ≡ f ∷ k
 cons_same e f g k p q = cc
 
 -- as many events are the same events
-same_events : (p : Policy) (rate seed : ℕ) (arrived : List Coming) (g k : List Entry) → AreDue p rate seed arrived g → AreDue p rate seed arrived k
+same_events : (p : Policy) (rate seed : ℕ) (arrived : List Coming) (g k : List Happened) → AreDue p rate seed arrived g → AreDue p rate seed arrived k
     → length g ≡ length k → g ≡ k
 same_events p rate seed arrived [] [] d f l = refl
 same_events p rate seed arrived [] (x ∷ k) d f l = absurd (omega arith)
@@ -30,26 +29,26 @@ same_events p rate seed arrived (e ∷ g) (x ∷ k) d f l =
     let one : Some e ≡ Some x = sym d.0 ∙ ap (due p rate seed arrived) same ∙ f.0 in
     cons_same e x g k (cc) same
 
-due_drop : (p : Policy) (rate seed : ℕ) (arrived : List Coming) (g : List Entry) (n : ℕ) → AreDue p rate seed arrived g → AreDue p rate seed arrived (drop n g)
+due_drop : (p : Policy) (rate seed : ℕ) (arrived : List Coming) (g : List Happened) (n : ℕ) → AreDue p rate seed arrived g → AreDue p rate seed arrived (drop n g)
 due_drop p rate seed arrived g zero d = d
 due_drop p rate seed arrived [] (suc n) d = tt
 due_drop p rate seed arrived (e ∷ g) (suc n) d = due_drop p rate seed arrived g n d.1
 
-drop_length : (g : List Entry) (n : ℕ) → length (drop n g) ≡ length g - n
+drop_length : (g : List Happened) (n : ℕ) → length (drop n g) ≡ length g - n
 drop_length g zero = omega arith
 drop_length [] (suc n) = omega arith
 drop_length (e ∷ g) (suc n) = omega (arith, drop_length g n)
 
 -- the fewer events are the older of the more
-pub one_play : (p : Policy) (rate seed : ℕ) (arrived : List Coming) (g k : List Entry) → AreDue p rate seed arrived g → AreDue p rate seed arrived k
+pub one_play : (p : Policy) (rate seed : ℕ) (arrived : List Coming) (g k : List Happened) → AreDue p rate seed arrived g → AreDue p rate seed arrived k
     → length g ≤ length k → drop (length k - length g) k ≡ g
 one_play p rate seed arrived g k d f l =
     let n : ℕ = length k - length g in
     same_events p rate seed arrived (drop n k) g (due_drop p rate seed arrived k n f) d (omega (arith, drop_length k n))
 
 -- after the older of more events another was due
-went_on : (p : Policy) (rate seed : ℕ) (arrived : List Coming) (g : List Entry) (n : ℕ) → AreDue p rate seed arrived g → n < length g
-    → (e : Entry) × (due p rate seed arrived (drop (suc n) g) ≡ Some e)
+went_on : (p : Policy) (rate seed : ℕ) (arrived : List Coming) (g : List Happened) (n : ℕ) → AreDue p rate seed arrived g → n < length g
+    → (e : Happened) × (due p rate seed arrived (drop (suc n) g) ≡ Some e)
 went_on p rate seed arrived [] n d l = absurd (omega arith)
 went_on p rate seed arrived (e ∷ g) zero d l = (e, d.0)
 went_on p rate seed arrived (e ∷ g) (suc n) d l = went_on p rate seed arrived g n d.1 (omega arith)
@@ -57,7 +56,7 @@ went_on p rate seed arrived (e ∷ g) (suc n) d l = went_on p rate seed arrived 
 suc_pred : (n : ℕ) → 0 < n → suc (n - 1) ≡ n
 suc_pred n l = omega arith
 
-ended : (p : Policy) (rate seed : ℕ) (arrived : List Coming) (g k : List Entry) → AreDue p rate seed arrived g → due p rate seed arrived g ≡ None
+ended : (p : Policy) (rate seed : ℕ) (arrived : List Coming) (g k : List Happened) → AreDue p rate seed arrived g → due p rate seed arrived g ≡ None
     → AreDue p rate seed arrived k → length g < length k → ⊥
 ended p rate seed arrived g k d n f l =
     let m : ℕ = length k - length g in
@@ -70,33 +69,36 @@ ended p rate seed arrived g k d n f l =
 three : (n m : ℕ) → (n < m) ⊎ ((n ≡ m) ⊎ (m < n))
 three n m = grind arith
 
-one_whole_case : (p : Policy) (rate seed : ℕ) (arrived : List Coming) (g k : List Entry) → IsPlay p rate seed arrived g → IsPlay p rate seed arrived k
+one_whole_case : (p : Policy) (rate seed : ℕ) (arrived : List Coming) (g k : List Happened) → IsPlay p rate seed arrived g → IsPlay p rate seed arrived k
     → (length g < length k) ⊎ ((length g ≡ length k) ⊎ (length k < length g)) → g ≡ k
 one_whole_case p rate seed arrived g k x y (inl l) = absurd (ended p rate seed arrived g k x.events x.done y.events l)
 one_whole_case p rate seed arrived g k x y (inr (inl l)) = same_events p rate seed arrived g k x.events y.events l
 one_whole_case p rate seed arrived g k x y (inr (inr l)) = absurd (ended p rate seed arrived k g y.events y.done x.events l)
 
-pub one_whole : (p : Policy) (rate seed : ℕ) (arrived : List Coming) (g k : List Entry) → IsPlay p rate seed arrived g → IsPlay p rate seed arrived k → g ≡ k
+pub one_whole : (p : Policy) (rate seed : ℕ) (arrived : List Coming) (g k : List Happened) → IsPlay p rate seed arrived g → IsPlay p rate seed arrived k → g ≡ k
 one_whole p rate seed arrived g k x y = one_whole_case p rate seed arrived g k x y (three (length g) (length k))
 
 -- how many events may follow at most: two for each arrival that was not offered, and one for each packet that waits
-abbrev left : List Coming → List Entry → ℕ
+abbrev left : List Coming → List Happened → ℕ
 left arrived g = 2 * (length arrived - offered (bare g)) + length (places g)
 
-kept_length : (v : Verdict) (x : Place) (xs : List Place) → length (with_place v x xs) ≤ length xs + 1
-kept_length Keep x xs = omega (arith, length-append xs (x ∷ []))
-kept_length (Drop r) x xs = omega arith
+length_if : (k : Bool) (x : Place) (xs : List Place) → length (cond k (xs ++ x ∷ []) xs) ≤ length xs + 1
+length_if true x xs = omega (arith, length-append xs (x ∷ []))
+length_if false x xs = omega arith
 
-fewer : (p : Policy) (rate seed : ℕ) (arrived : List Coming) (g : List Entry) (e : Entry) → IsOffer p rate seed arrived g e ⊎ IsSending p rate arrived g e
+kept_length : (v : Verdict) (x : Place) (xs : List Place) → length (with_place v x xs) ≤ length xs + 1
+kept_length v x xs = length_if (is_kept v) x xs
+
+fewer : (p : Policy) (rate seed : ℕ) (arrived : List Coming) (g : List Happened) (e : Happened) → IsOffer p rate seed arrived g e ⊎ IsSending p rate arrived g e
     → left arrived (e ∷ g) < left arrived g
 fewer p rate seed arrived g e (inl y) =
-    let P : Entry → Type 0 = λ z. left arrived (z ∷ g) < left arrived g in
-    let w : Words = record { seed = seed; drawn = drawn (bare g) } in
+    let P : Happened → Type 0 = λ z. left arrived (z ∷ g) < left arrived g in
+    let w : DrawnWords = record { seed = seed; drawn = drawn (bare g) } in
     let i = slice_get_within arrived (offered (bare g)) y.packet y.next in
     let l = kept_length (p.answer (bare g) w y.packet).verdict (y.packet.class, offered (bare g) + 1) (places g) in
     subst P (sym y.offer) (omega (arith, i, l))
 fewer p rate seed arrived g e (inr y) =
-    let P : Event → Type 0 = λ z. let f : Entry = record { label = e.label; what = z } in left arrived (f ∷ g) < left arrived g in
+    let P : Event → Type 0 = λ z. let f : Happened = record { label = e.label; what = z } in left arrived (f ∷ g) < left arrived g in
     let l = one_less y.sending.class e.label (places g) (ap (λ (ns : List ℕ). slice_get ns 0) (of_class_labels y.sending.class g) ∙ y.number) in
     subst P (sym y.event) (omega (arith, l))
 
@@ -111,7 +113,7 @@ no_length : (xs : List Place) → length xs ≤ 0 → xs ≡ []
 no_length [] l = refl
 no_length (x ∷ xs) l = absurd (omega arith)
 
-nothing_due : (p : Policy) (rate seed : ℕ) (arrived : List Coming) (g : List Entry) → EachFollows p rate seed arrived g → left arrived g ≤ 0
+nothing_due : (p : Policy) (rate seed : ℕ) (arrived : List Coming) (g : List Happened) → EachFollows p rate seed arrived g → left arrived g ≤ 0
     → due p rate seed arrived g ≡ None
 nothing_due p rate seed arrived g f l =
     let e = no_length (places g) (omega arith) in
@@ -119,13 +121,13 @@ nothing_due p rate seed arrived g f l =
     let n = slice_get_past arrived (offered (bare g)) (omega arith) in
     ap (λ (o : Option Coming). due_from p rate seed g o (first_after p rate g)) n ∙ ap (λ (o : Option ℕ). due_from p rate seed g None o) s
 
-on_case : (turns : ℕ) (p : Policy) (rate seed : ℕ) (arrived : List Coming) (g : List Entry) (o : Option Entry) → AreDue p rate seed arrived g
-    → due p rate seed arrived g ≡ o → ((e : Entry) → due p rate seed arrived g ≡ Some e → IsPlay p rate seed arrived (play_on turns p rate seed arrived (e ∷ g)))
+on_case : (turns : ℕ) (p : Policy) (rate seed : ℕ) (arrived : List Coming) (g : List Happened) (o : Option Happened) → AreDue p rate seed arrived g
+    → due p rate seed arrived g ≡ o → ((e : Happened) → due p rate seed arrived g ≡ Some e → IsPlay p rate seed arrived (play_on turns p rate seed arrived (e ∷ g)))
     → IsPlay p rate seed arrived (elim o [ None ↦ g | Some e ↦ play_on turns p rate seed arrived (e ∷ g) ])
 on_case turns p rate seed arrived g None d q f = record { events = d; done = q }
 on_case turns p rate seed arrived g (Some e) d q f = f e q
 
-plays_on : (turns : ℕ) (p : Policy) (rate seed : ℕ) (arrived : List Coming) (g : List Entry) → 0 < rate → IsLawful p → AreRising arrived
+plays_on : (turns : ℕ) (p : Policy) (rate seed : ℕ) (arrived : List Coming) (g : List Happened) → 0 < rate → IsLawful p → AreRising arrived
     → AreDue p rate seed arrived g → left arrived g ≤ turns → IsPlay p rate seed arrived (play_on turns p rate seed arrived g)
 plays_on zero p rate seed arrived g pos law rise d l =
     record { events = d; done = nothing_due p rate seed arrived g (each_follows p rate seed arrived g pos law rise d) l }
@@ -142,17 +144,17 @@ play_is p rate seed arrived pos law rise = plays_on (2 * length arrived) p rate 
 abbrev Agree : (n : ℕ) → List Coming → List Coming → Type 0
 Agree n xs ys = (k : ℕ) → k ≤ n → slice_get xs k ≡ slice_get ys k
 
-same_due : (p : Policy) (rate seed : ℕ) (xs ys : List Coming) (g : List Entry) → next_after xs g ≡ next_after ys g → due p rate seed xs g ≡ due p rate seed ys g
+same_due : (p : Policy) (rate seed : ℕ) (xs ys : List Coming) (g : List Happened) → next_after xs g ≡ next_after ys g → due p rate seed xs g ≡ due p rate seed ys g
 same_due p rate seed xs ys g e = ap (λ (o : Option Coming). due_from p rate seed g o (first_after p rate g)) e
 
 grows_by : (e : Event) (h : List Event) → offered h ≤ offered (e ∷ h)
 grows_by (Offered a w v) h = omega arith
 grows_by (Sent s) h = omega arith
 
-grows : (e : Entry) (g : List Entry) → offered (bare g) ≤ offered (bare (e ∷ g))
+grows : (e : Happened) (g : List Happened) → offered (bare g) ≤ offered (bare (e ∷ g))
 grows e g = grows_by e.what (bare g)
 
-agree_due : (p : Policy) (rate seed : ℕ) (xs ys : List Coming) (n : ℕ) (e : Entry) (g : List Entry) → offered (bare g) ≤ n → Agree n xs ys
+agree_due : (p : Policy) (rate seed : ℕ) (xs ys : List Coming) (n : ℕ) (e : Happened) (g : List Happened) → offered (bare g) ≤ n → Agree n xs ys
     → AreDue p rate seed xs (e ∷ g) → AreDue p rate seed ys (e ∷ g)
 agree_due p rate seed xs ys n e [] l a d = (sym (same_due p rate seed xs ys [] (a 0 l)) ∙ d.0, tt)
 agree_due p rate seed xs ys n e (x ∷ g) l a d = (
@@ -165,7 +167,7 @@ front_agrees [] ys k l = absurd (omega arith)
 front_agrees (x ∷ xs) ys zero l = refl
 front_agrees (x ∷ xs) ys (suc k) l = front_agrees xs ys k (omega arith)
 
-pub later_arrivals : (p : Policy) (rate seed : ℕ) (arrived more : List Coming) (e : Entry) (g : List Entry) → offered (bare g) < length arrived
+pub later_arrivals : (p : Policy) (rate seed : ℕ) (arrived more : List Coming) (e : Happened) (g : List Happened) → offered (bare g) < length arrived
     → AreDue p rate seed arrived (e ∷ g) → AreDue p rate seed (arrived ++ more) (e ∷ g)
 later_arrivals p rate seed arrived more e g l d =
     agree_due p rate seed arrived (arrived ++ more) (offered (bare g)) e g (omega arith) (λ k m. front_agrees arrived more k (omega arith)) d

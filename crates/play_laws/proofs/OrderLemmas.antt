@@ -1,16 +1,15 @@
 -- Each class departs in order of number, no packet before it arrives, each with the link's end.
 use Rattle.std.proofs.Common.{◌≡◌, ◌≤◌, ◌<◌, ◌+◌, ◌-◌, ◌∙◌, ◌⊎◌, inl, inr, ℕ, max, Bool, true, false, cond, List, [], ◌∷◌, ◌++◌, Some, refl, ap, sym, subst, arith}
-use Rattle.std.specs.Prelude.{slice_get, ◌==◌}
+use Rattle.std.specs.Prelude.{slice_get, ◌==◌, ◌&&◌}
 use Rattle.std.specs.Option.{option_map_or}
 use Rattle.std.specs.declared.option.Option.{Option}
 use Rattle.std.proofs.lemmas.Bool.{eqb-true}
 use Rattle.altq_model.specs.declared.Verdict.{Verdict}
-use Rattle.altq_model.specs.declared.Verdict.TheVariants.{Keep, Drop}
-use Rattle.altq_model.specs.History.{Offered, Sent, Coming, Words, Event, Entry, bare, offered, drawn, head, waiting, labels, with_offer, without_head}
+use Rattle.altq_model.specs.History.{Offered, Sent, Coming, DrawnWords, Event, Happened, bare, offered, drawn, head, waiting, labels, is_kept, with_offer, without_head}
 use Rattle.altq_model.specs.Link.{link, HasLinkEnds}
 use Rattle.altq_model.specs.Laws.{AllBelow, sent_in, FollowsInOrder, IsOrdered, at_of, StartsAfter, IsNotBefore}
 use Rattle.altq_model.specs.Play.{Policy}
-use Rattle.play_laws.specs.Lawful.{IsLawful}
+use Rattle.altq_model.specs.Lawful.{IsLawful}
 use Rattle.play_laws.specs.Events.{IsOffer, IsSending, EachFollows, IsOfArrival, AreOfArrivals}
 use Rattle.play_laws.proofs.Starts.{head_of}
 use Rattle.play_laws.proofs.DueLemmas.{offer_event}
@@ -28,10 +27,12 @@ pub rises_weaken : (low high n : ℕ) (ns : List ℕ) → high ≤ n → RisesTo
 rises_weaken low high n [] l r = omega arith
 rises_weaken low high n (m ∷ ns) l r = (r.0, rises_weaken m high n ns l r.1)
 
+rises_if : (low high : ℕ) (k : Bool) (ns : List ℕ) → RisesTo low high ns → RisesTo low (high + 1) (cond k (ns ++ (high + 1) ∷ []) ns)
+rises_if low high true ns r = rises_push low high (high + 1) ns (omega arith) r
+rises_if low high false ns r = rises_weaken low high (high + 1) ns (omega arith) r
+
 pub rises_offer : (low high : ℕ) (b : Bool) (v : Verdict) (ns : List ℕ) → RisesTo low high ns → RisesTo low (high + 1) (with_offer b v (high + 1) ns)
-rises_offer low high true Keep ns r = rises_push low high (high + 1) ns (omega arith) r
-rises_offer low high false Keep ns r = rises_weaken low high (high + 1) ns (omega arith) r
-rises_offer low high b (Drop q) ns r = rises_weaken low high (high + 1) ns (omega arith) r
+rises_offer low high b v ns r = rises_if low high (is_kept v && b) ns r
 
 below_weaken : (m n : ℕ) (ns : List ℕ) → m ≤ n → AllBelow m ns → AllBelow n ns
 below_weaken m n [] l b = tt
@@ -68,31 +69,31 @@ next_above ss high n (m ∷ ns) x e =
     subst P same (below_weaken (last ss + 1) m ss (omega (arith, x.rises.0)) x.sent)
 
 -- the label of a class's head, where the sending is of that class
-pub own_label : (d c : ℕ) (g : List Entry) (n : ℕ) → slice_get (labels d g) 0 ≡ Some n → (d == c) ≡ true → slice_get (labels c g) 0 ≡ Some n
+pub own_label : (d c : ℕ) (g : List Happened) (n : ℕ) → slice_get (labels d g) 0 ≡ Some n → (d == c) ≡ true → slice_get (labels c g) 0 ≡ Some n
 own_label d c g n e t = let P : ℕ → Type 0 = λ k. slice_get (labels k g) 0 ≡ Some n in subst P (eqb-true d c t) e
 
-sorted_step : (p : Policy) (rate seed : ℕ) (arrived : List Coming) (g : List Entry) (e : Entry) (c : ℕ)
+sorted_step : (p : Policy) (rate seed : ℕ) (arrived : List Coming) (g : List Happened) (e : Happened) (c : ℕ)
     → IsSorted (sent_in c g) (offered (bare g)) (labels c g) → IsOffer p rate seed arrived g e ⊎ IsSending p rate arrived g e
     → IsSorted (sent_in c (e ∷ g)) (offered (bare (e ∷ g))) (labels c (e ∷ g))
 sorted_step p rate seed arrived g e c x (inl y) =
-    let P : Entry → Type 0 = λ z. IsSorted (sent_in c (z ∷ g)) (offered (bare (z ∷ g))) (labels c (z ∷ g)) in
-    let w : Words = record { seed = seed; drawn = drawn (bare g) } in
+    let P : Happened → Type 0 = λ z. IsSorted (sent_in c (z ∷ g)) (offered (bare (z ∷ g))) (labels c (z ∷ g)) in
+    let w : DrawnWords = record { seed = seed; drawn = drawn (bare g) } in
     subst P (sym y.offer) (record {
       sent = x.sent;
       rises = rises_offer (last (sent_in c g)) (offered (bare g)) (y.packet.class == c) (p.answer (bare g) w y.packet).verdict (labels c g) x.rises;
     })
 sorted_step p rate seed arrived g e c x (inr y) =
-    let P : Event → Type 0 = λ z. let f : Entry = record { label = e.label; what = z } in
+    let P : Event → Type 0 = λ z. let f : Happened = record { label = e.label; what = z } in
     IsSorted (sent_in c (f ∷ g)) (offered (bare (f ∷ g))) (labels c (f ∷ g)) in
     subst P (sym y.event) (sorted_sent (sent_in c g) (offered (bare g)) e.label (labels c g) (y.sending.class == c) x
     (λ t. own_label y.sending.class c g e.label y.number t))
 
-sorted : (p : Policy) (rate seed : ℕ) (arrived : List Coming) (g : List Entry) (c : ℕ) → EachFollows p rate seed arrived g
+sorted : (p : Policy) (rate seed : ℕ) (arrived : List Coming) (g : List Happened) (c : ℕ) → EachFollows p rate seed arrived g
     → IsSorted (sent_in c g) (offered (bare g)) (labels c g)
 sorted p rate seed arrived [] c f = record { sent = tt; rises = omega arith }
 sorted p rate seed arrived (e ∷ g) c f = sorted_step p rate seed arrived g e c (sorted p rate seed arrived g c f.1) f.0
 
-order_step : (p : Policy) (rate seed : ℕ) (arrived : List Coming) (g : List Entry) (e : Entry) → EachFollows p rate seed arrived g
+order_step : (p : Policy) (rate seed : ℕ) (arrived : List Coming) (g : List Happened) (e : Happened) → EachFollows p rate seed arrived g
     → IsOffer p rate seed arrived g e ⊎ IsSending p rate arrived g e → FollowsInOrder e.label e.what g
 order_step p rate seed arrived g e f (inl y) =
     let P : Event → Type 0 = λ z. FollowsInOrder e.label z g in subst P (sym (offer_event p rate seed arrived g e y)) tt
@@ -101,7 +102,7 @@ order_step p rate seed arrived g e f (inr y) =
     let c : ℕ = y.sending.class in
     subst P (sym y.event) (next_above (sent_in c g) (offered (bare g)) e.label (labels c g) (sorted p rate seed arrived g c f) y.number)
 
-pub ordered : (p : Policy) (rate seed : ℕ) (arrived : List Coming) (g : List Entry) → EachFollows p rate seed arrived g → IsOrdered g
+pub ordered : (p : Policy) (rate seed : ℕ) (arrived : List Coming) (g : List Happened) → EachFollows p rate seed arrived g → IsOrdered g
 ordered p rate seed arrived [] f = tt
 ordered p rate seed arrived (e ∷ g) f = (order_step p rate seed arrived g e f.1 f.0, ordered p rate seed arrived g f.1)
 
@@ -119,11 +120,14 @@ of_push arrived n a [] (b ∷ ws) x l e = absurd x
 of_push arrived n a (m ∷ ns) [] x l e = absurd x
 of_push arrived n a (m ∷ ns) (b ∷ ws) x l e = (x.0, x.1, of_push arrived n a ns ws x.2 l e)
 
+of_if : (arrived : List Coming) (n : ℕ) (a : Coming) (k : Bool) (ns : List ℕ) (ws : List Coming) → AreOf arrived ns ws → 0 < n
+    → slice_get arrived (n - 1) ≡ Some a → AreOf arrived (cond k (ns ++ n ∷ []) ns) (cond k (ws ++ a ∷ []) ws)
+of_if arrived n a true ns ws x l e = of_push arrived n a ns ws x l e
+of_if arrived n a false ns ws x l e = x
+
 of_offer : (arrived : List Coming) (n : ℕ) (a : Coming) (b : Bool) (v : Verdict) (ns : List ℕ) (ws : List Coming) → AreOf arrived ns ws → 0 < n
     → slice_get arrived (n - 1) ≡ Some a → AreOf arrived (with_offer b v n ns) (with_offer b v a ws)
-of_offer arrived n a true Keep ns ws x l e = of_push arrived n a ns ws x l e
-of_offer arrived n a false Keep ns ws x l e = x
-of_offer arrived n a b (Drop r) ns ws x l e = x
+of_offer arrived n a b v ns ws x l e = of_if arrived n a (is_kept v && b) ns ws x l e
 
 of_rest : (arrived : List Coming) (b : Bool) (ns : List ℕ) (ws : List Coming) → AreOf arrived ns ws → AreOf arrived (without_head b ns) (without_head b ws)
 of_rest arrived false ns ws x = x
@@ -132,19 +136,19 @@ of_rest arrived true [] (b ∷ ws) x = absurd x
 of_rest arrived true (m ∷ ns) [] x = absurd x
 of_rest arrived true (m ∷ ns) (b ∷ ws) x = x.2
 
-of_step : (p : Policy) (rate seed : ℕ) (arrived : List Coming) (g : List Entry) (e : Entry) (c : ℕ) → AreOf arrived (labels c g) (waiting c (bare g))
+of_step : (p : Policy) (rate seed : ℕ) (arrived : List Coming) (g : List Happened) (e : Happened) (c : ℕ) → AreOf arrived (labels c g) (waiting c (bare g))
     → IsOffer p rate seed arrived g e ⊎ IsSending p rate arrived g e → AreOf arrived (labels c (e ∷ g)) (waiting c (bare (e ∷ g)))
 of_step p rate seed arrived g e c x (inl y) =
-    let P : Entry → Type 0 = λ z. AreOf arrived (labels c (z ∷ g)) (waiting c (bare (z ∷ g))) in
-    let w : Words = record { seed = seed; drawn = drawn (bare g) } in
+    let P : Happened → Type 0 = λ z. AreOf arrived (labels c (z ∷ g)) (waiting c (bare (z ∷ g))) in
+    let w : DrawnWords = record { seed = seed; drawn = drawn (bare g) } in
     let k : offered (bare g) + 1 - 1 ≡ offered (bare g) = omega arith in
     subst P (sym y.offer) (of_offer arrived (offered (bare g) + 1) y.packet (y.packet.class == c) (p.answer (bare g) w y.packet).verdict
     (labels c g) (waiting c (bare g)) x (omega arith) (ap (slice_get arrived) k ∙ y.next))
 of_step p rate seed arrived g e c x (inr y) =
-    let P : Event → Type 0 = λ z. let f : Entry = record { label = e.label; what = z } in AreOf arrived (labels c (f ∷ g)) (waiting c (bare (f ∷ g))) in
+    let P : Event → Type 0 = λ z. let f : Happened = record { label = e.label; what = z } in AreOf arrived (labels c (f ∷ g)) (waiting c (bare (f ∷ g))) in
     subst P (sym y.event) (of_rest arrived (y.sending.class == c) (labels c g) (waiting c (bare g)) x)
 
-pub waiting_of : (p : Policy) (rate seed : ℕ) (arrived : List Coming) (g : List Entry) (c : ℕ) → EachFollows p rate seed arrived g
+pub waiting_of : (p : Policy) (rate seed : ℕ) (arrived : List Coming) (g : List Happened) (c : ℕ) → EachFollows p rate seed arrived g
     → AreOf arrived (labels c g) (waiting c (bare g))
 waiting_of p rate seed arrived [] c f = tt
 waiting_of p rate seed arrived (e ∷ g) c f = of_step p rate seed arrived g e c (waiting_of p rate seed arrived g c f.1) f.0
@@ -164,7 +168,7 @@ numbered arrived (m ∷ ns) (b ∷ ws) n a x e f =
     let P : ℕ → Type 0 = λ k. IsNumbered arrived k a in
     subst P s (record { from_one = x.0; there = x.1 ∙ ap (λ (y : Coming). Some y) t })
 
-pub head_numbered : (p : Policy) (rate seed : ℕ) (arrived : List Coming) (g : List Entry) (c n : ℕ) (a : Coming) → EachFollows p rate seed arrived g
+pub head_numbered : (p : Policy) (rate seed : ℕ) (arrived : List Coming) (g : List Happened) (c n : ℕ) (a : Coming) → EachFollows p rate seed arrived g
     → slice_get (labels c g) 0 ≡ Some n → head c (bare g) ≡ Some a → IsNumbered arrived n a
 head_numbered p rate seed arrived g c n a f e h = numbered arrived (labels c g) (waiting c (bare g)) n a (waiting_of p rate seed arrived g c f) e h
 
@@ -180,10 +184,13 @@ class_push : (c : ℕ) (a : Coming) (ws : List Coming) → AllOfClass c ws → a
 class_push c a [] x e = (e, tt)
 class_push c a (b ∷ ws) x e = (x.0, class_push c a ws x.1 e)
 
+class_if : (c : ℕ) (a : Coming) (k b : Bool) (ws : List Coming) → (a.class == c) ≡ b → AllOfClass c ws → AllOfClass c (cond (k && b) (ws ++ a ∷ []) ws)
+class_if c a true true ws t x = class_push c a ws x (eqb-true a.class c t)
+class_if c a true false ws t x = x
+class_if c a false b ws t x = x
+
 class_offer : (c : ℕ) (a : Coming) (b : Bool) (v : Verdict) (ws : List Coming) → (a.class == c) ≡ b → AllOfClass c ws → AllOfClass c (with_offer b v a ws)
-class_offer c a true Keep ws t x = class_push c a ws x (eqb-true a.class c t)
-class_offer c a false Keep ws t x = x
-class_offer c a b (Drop r) ws t x = x
+class_offer c a b v ws t x = class_if c a (is_kept v) b ws t x
 
 class_rest : (c : ℕ) (b : Bool) (ws : List Coming) → AllOfClass c ws → AllOfClass c (without_head b ws)
 class_rest c false ws x = x
@@ -199,10 +206,10 @@ first_class : (c : ℕ) (ws : List Coming) (a : Coming) → AllOfClass c ws → 
 first_class c [] a x e = absurd (cc)
 first_class c (b ∷ ws) a x e = let same : b ≡ a = cc in sym x.0 ∙ ap (λ (y : Coming). y.class) same
 
-arrival_step : (p : Policy) (rate seed : ℕ) (arrived : List Coming) (g : List Entry) (e : Entry) → EachFollows p rate seed arrived g
+arrival_step : (p : Policy) (rate seed : ℕ) (arrived : List Coming) (g : List Happened) (e : Happened) → EachFollows p rate seed arrived g
     → IsOffer p rate seed arrived g e ⊎ IsSending p rate arrived g e → IsOfArrival arrived e.label e.what
 arrival_step p rate seed arrived g e f (inl y) =
-    let P : Entry → Type 0 = λ z. IsOfArrival arrived z.label z.what in
+    let P : Happened → Type 0 = λ z. IsOfArrival arrived z.label z.what in
     let k : offered (bare g) + 1 - 1 ≡ offered (bare g) = omega arith in
     subst P (sym y.offer) (omega arith, ap (slice_get arrived) k ∙ y.next)
 arrival_step p rate seed arrived g e f (inr y) =
@@ -217,7 +224,7 @@ arrival_step p rate seed arrived g e f (inr y) =
       len = y.len;
     })
 
-pub of_arrivals : (p : Policy) (rate seed : ℕ) (arrived : List Coming) (g : List Entry) → EachFollows p rate seed arrived g → AreOfArrivals arrived g
+pub of_arrivals : (p : Policy) (rate seed : ℕ) (arrived : List Coming) (g : List Happened) → EachFollows p rate seed arrived g → AreOfArrivals arrived g
 of_arrivals p rate seed arrived [] f = tt
 of_arrivals p rate seed arrived (e ∷ g) f = (arrival_step p rate seed arrived g e f.1 f.0, of_arrivals p rate seed arrived g f.1)
 
@@ -226,18 +233,18 @@ pub record StartsLate (free at start : ℕ) : Type 0 where
   pub after_free : free ≤ start
   pub after_at : at ≤ start
 
-pub starts_late : (p : Policy) (rate : ℕ) (arrived : List Coming) (g : List Entry) (e : Entry) → IsLawful p → (y : IsSending p rate arrived g e)
+pub starts_late : (p : Policy) (rate : ℕ) (arrived : List Coming) (g : List Happened) (e : Happened) → IsLawful p → (y : IsSending p rate arrived g e)
     → StartsLate (link rate (bare g)).free y.packet.at y.sending.start
 starts_late p rate arrived g e law y =
     let f : ℕ = (link rate (bare g)).free in
     let x = head_of p f (bare g) y.sending.class y.sending.start y.may.start in
     let j : Some x.packet ≡ Some y.packet = sym x.front ∙ y.front in
     let same : x.packet ≡ y.packet = cc in
-    let l = law.later (bare g) y.sending.class (max f x.packet.at) in
+    let l = law.later (bare g) y.sending.class (max f x.packet.at) x.packet (record { held = y.may.held; front = x.front }) in
     let P : Coming → Type 0 = λ a. StartsLate f a.at y.sending.start in
     subst P same (record { after_free = omega (arith, l, x.start); after_at = omega (arith, l, x.start) })
 
-not_before_step : (p : Policy) (rate seed : ℕ) (arrived : List Coming) (g : List Entry) (e : Entry) → IsLawful p → EachFollows p rate seed arrived g
+not_before_step : (p : Policy) (rate seed : ℕ) (arrived : List Coming) (g : List Happened) (e : Happened) → IsLawful p → EachFollows p rate seed arrived g
     → IsOffer p rate seed arrived g e ⊎ IsSending p rate arrived g e → StartsAfter arrived e.label e.what
 not_before_step p rate seed arrived g e law f (inl y) =
     let P : Event → Type 0 = λ z. StartsAfter arrived e.label z in subst P (sym (offer_event p rate seed arrived g e y)) tt
@@ -247,11 +254,11 @@ not_before_step p rate seed arrived g e law f (inr y) =
     let l = starts_late p rate arrived g e law y in
     subst P (sym y.event) (omega (arith, at_numbered arrived e.label y.packet n.there, l.after_at))
 
-pub not_before : (p : Policy) (rate seed : ℕ) (arrived : List Coming) (g : List Entry) → IsLawful p → EachFollows p rate seed arrived g → IsNotBefore arrived g
+pub not_before : (p : Policy) (rate seed : ℕ) (arrived : List Coming) (g : List Happened) → IsLawful p → EachFollows p rate seed arrived g → IsNotBefore arrived g
 not_before p rate seed arrived [] law f = tt
 not_before p rate seed arrived (e ∷ g) law f = (not_before_step p rate seed arrived g e law f.1 f.0, not_before p rate seed arrived g law f.1)
 
-ends_step : (p : Policy) (rate seed : ℕ) (arrived : List Coming) (g : List Entry) (e : Entry) → IsLawful p → HasLinkEnds rate (bare g)
+ends_step : (p : Policy) (rate seed : ℕ) (arrived : List Coming) (g : List Happened) (e : Happened) → IsLawful p → HasLinkEnds rate (bare g)
     → IsOffer p rate seed arrived g e ⊎ IsSending p rate arrived g e → HasLinkEnds rate (bare (e ∷ g))
 ends_step p rate seed arrived g e law x (inl y) =
     let P : Event → Type 0 = λ z. HasLinkEnds rate (z ∷ bare g) in subst P (sym (offer_event p rate seed arrived g e y)) x
@@ -259,6 +266,6 @@ ends_step p rate seed arrived g e law x (inr y) =
     let P : Event → Type 0 = λ z. HasLinkEnds rate (z ∷ bare g) in
     subst P (sym y.event) ((starts_late p rate arrived g e law y).after_free, y.end, x)
 
-pub link_ends : (p : Policy) (rate seed : ℕ) (arrived : List Coming) (g : List Entry) → IsLawful p → EachFollows p rate seed arrived g → HasLinkEnds rate (bare g)
+pub link_ends : (p : Policy) (rate seed : ℕ) (arrived : List Coming) (g : List Happened) → IsLawful p → EachFollows p rate seed arrived g → HasLinkEnds rate (bare g)
 link_ends p rate seed arrived [] law f = tt
 link_ends p rate seed arrived (e ∷ g) law f = ends_step p rate seed arrived g e law (link_ends p rate seed arrived g law f.1) f.0

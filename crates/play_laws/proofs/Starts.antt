@@ -3,7 +3,7 @@ use Rattle.std.proofs.Common.{◌≡◌, ◌≤◌, ◌∙◌, ◌⊎◌, inl, i
 use Rattle.std.specs.declared.option.Option.{Option}
 use Rattle.altq_model.specs.History.{Coming, Event, head}
 use Rattle.altq_model.specs.Play.{Policy, class_start, first_start, lesser}
-use Rattle.play_laws.specs.Lawful.{IsOneOf}
+use Rattle.altq_model.specs.Lawful.{IsOneOf}
 
 -- of two, one is the lesser
 lesser_is : (o q : Option ℕ) (s : ℕ) → lesser o q ≡ Some s → (o ≡ Some s) ⊎ (q ≡ Some s)

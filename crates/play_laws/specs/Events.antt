@@ -1,14 +1,14 @@
 -- What the events of a play are: an offer of the next arrival, or a sending at the least moment at which one may be.
 use Rattle.std.specs.Prelude.{◌≡◌, ◌≤◌, ◌<◌, ◌⊎◌, ◌+◌, ◌-◌, ℕ, List, [], ◌∷◌, length, Some, slice_get, if◌then◌else◌, nat_lt, nat_le, ◌&&◌}
-use Rattle.altq_model.specs.History.{Coming, Sending, Event, Offered, Sent, Entry, bare, offered, head, waiting, labels, journal}
-use Rattle.altq_model.specs.Laws.{occurs, numbers, IsOrdered, IsNotBefore}
+use Rattle.altq_model.specs.History.{Coming, Transmission, Event, Offered, Sent, Happened, bare, offered, head, waiting, labels, journal}
+use Rattle.altq_model.specs.Laws.{occurs, numbers, IsOrdered, IsNotBefore, IsPrompt}
 use Rattle.altq_model.specs.Link.{link, end_of, HasLinkEnds}
 use Rattle.altq_model.specs.Play.{Policy, first_start, offer_of}
-use Rattle.play_laws.specs.Lawful.{MaySend}
+use Rattle.altq_model.specs.Lawful.{MaySend}
 
 -- after a history this event is the offer of the next arrival, whose number is its place among the arrivals; no class may send
 -- before that arrival
-pub record IsOffer (p : Policy) (rate seed : ℕ) (arrived : List Coming) (g : List Entry) (e : Entry) : Type 0 where
+pub record IsOffer (p : Policy) (rate seed : ℕ) (arrived : List Coming) (g : List Happened) (e : Happened) : Type 0 where
   pub packet : Coming
   pub next : slice_get arrived (offered (bare g)) ≡ Some packet
   pub offer : e ≡ offer_of p seed g packet
@@ -17,8 +17,8 @@ pub record IsOffer (p : Policy) (rate seed : ℕ) (arrived : List Coming) (g : L
 
 -- after a history this event is a sending of a class's head, with the link's end; it starts at the least moment at which a class
 -- may send, its class and rule are the pick's, and every arrival up to its start was offered before
-pub record IsSending (p : Policy) (rate : ℕ) (arrived : List Coming) (g : List Entry) (e : Entry) : Type 0 where
-  pub sending : Sending
+pub record IsSending (p : Policy) (rate : ℕ) (arrived : List Coming) (g : List Happened) (e : Happened) : Type 0 where
+  pub sending : Transmission
   pub packet : Coming
   pub event : e.what ≡ Sent sending
   pub number : slice_get (labels sending.class g) 0 ≡ Some e.label
@@ -32,13 +32,13 @@ pub record IsSending (p : Policy) (rate : ℕ) (arrived : List Coming) (g : List
   pub passed : (a : Coming) → slice_get arrived (offered (bare g)) ≡ Some a → sending.start < a.at
 
 -- each event of a history is one of the two
-abbrev pub EachFollows : Policy → (rate seed : ℕ) → List Coming → List Entry → Type 0
+abbrev pub EachFollows : Policy → (rate seed : ℕ) → List Coming → List Happened → Type 0
 EachFollows p rate seed arrived [] = Unit {0}
 EachFollows p rate seed arrived (e ∷ g) =
     (IsOffer p rate seed arrived g e ⊎ IsSending p rate arrived g e) × EachFollows p rate seed arrived g
 
 -- a sending is of the arrival of its number, and has its class and its length
-pub record SendsArrival (arrived : List Coming) (n : ℕ) (s : Sending) : Type 0 where
+pub record SendsArrival (arrived : List Coming) (n : ℕ) (s : Transmission) : Type 0 where
   pub packet : Coming
   pub from_one : 0 < n
   pub arrival : slice_get arrived (n - 1) ≡ Some packet
@@ -50,27 +50,33 @@ abbrev pub IsOfArrival : List Coming → (n : ℕ) → Event → Type 0
 IsOfArrival arrived n (Offered a w v) = (0 < n) × (slice_get arrived (n - 1) ≡ Some a)
 IsOfArrival arrived n (Sent s) = SendsArrival arrived n s
 
-abbrev pub AreOfArrivals : List Coming → List Entry → Type 0
+abbrev pub AreOfArrivals : List Coming → List Happened → Type 0
 AreOfArrivals arrived [] = Unit {0}
 AreOfArrivals arrived (e ∷ g) = IsOfArrival arrived e.label e.what × AreOfArrivals arrived g
 
 -- each number up to the count of offers has at most one fate, and no other number has one
-abbrev pub IsDecidedOnce : List Entry → Type 0
+abbrev pub IsDecidedOnce : List Happened → Type 0
 IsDecidedOnce g = (n : ℕ) → occurs n (numbers (journal g)) ≤ (if nat_lt 0 n && nat_le n (offered (bare g)) then 1 else 0)
 
+-- what waits has no fate yet, and each number waits in one place
+abbrev pub WaitsOnce : List Happened → Type 0
+WaitsOnce g = (n c : ℕ) → occurs n (labels c g) + occurs n (numbers (journal g)) ≤ (if nat_lt 0 n && nat_le n (offered (bare g)) then 1 else 0)
+
 -- what holds of the first events of a play
-pub record HasLaws (p : Policy) (rate seed : ℕ) (arrived : List Coming) (g : List Entry) : Type 0 where
+pub record HasLaws (p : Policy) (rate seed : ℕ) (arrived : List Coming) (g : List Happened) : Type 0 where
   pub each : EachFollows p rate seed arrived g
   pub of_arrivals : AreOfArrivals arrived g
   -- no more packets were offered than arrive, and no more have a fate than were offered
   pub came : offered (bare g) ≤ length arrived
   pub few : length (journal g) ≤ offered (bare g)
   pub once : IsDecidedOnce g
+  pub waits_once : WaitsOnce g
   pub ordered : IsOrdered g
   pub not_before : IsNotBefore arrived g
+  pub prompt : IsPrompt (bare g)
   pub ends : HasLinkEnds rate (bare g)
 
 -- every arrival was offered, and nothing waits in any class
-pub record IsWhole (arrived : List Coming) (g : List Entry) : Type 0 where
+pub record IsWhole (arrived : List Coming) (g : List Happened) : Type 0 where
   pub offers : offered (bare g) ≡ length arrived
   pub empty : (c : ℕ) → waiting c (bare g) ≡ []

@@ -1,3 +1,3 @@
 pub mod Events
-pub mod Lawful
 pub mod Runs
+pub mod Sizes

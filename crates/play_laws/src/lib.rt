@@ -2,32 +2,39 @@
 //! nothing: each states its laws, and a caller that cites one calls nothing at run time.
 #![tactic(auto)]
 
-ghost use Rattle.std.specs.Prelude.{Bool, IsTrue, ◌≡◌, ◌≤◌, ◌<◌, ◌-◌, ◌++◌, ◌∷◌, ℕ, max, List, drop, length, Some, slice_get};
-ghost use Rattle.altq_model.specs.declared.Mark.{Mark};
+ghost use Rattle.std.specs.Prelude.{Bool, IsTrue, ◌≡◌, ◌≤◌, ◌<◌, ◌+◌, ◌-◌, ◌++◌, ◌∷◌, ℕ, max, List, drop, length, Some, slice_get};
+ghost use Rattle.altq_model.specs.declared.Placed.{Placed};
 ghost use Rattle.altq_model.specs.declared.Rule.{Rule};
 ghost use Rattle.altq_model.specs.Arrivals.{Arrival, arrival, arrivals_from, arrivals_of, coming_of, comings};
-ghost use Rattle.altq_model.specs.Capture.{Record};
-ghost use Rattle.altq_model.specs.History.{Coming, Decision, Entry, Event, bare, journal, offered};
-ghost use Rattle.altq_model.specs.Laws.{IsBusy, KeepsLaws, at_of};
+ghost use Rattle.capture_model.specs.Capture.{Reads, Record, Step};
+ghost use Rattle.altq_model.specs.History.{Coming, Decision, Happened, Event, bare, journal, offered};
+ghost use Rattle.altq_model.specs.Laws.{IsInTime, KeepsLaws, at_of};
+ghost use Rattle.capture_model.specs.Written.{AreWithin, record_texts, written};
+ghost use Rattle.altq_model.specs.Busy.{IsBusy};
+ghost use Rattle.altq_model.specs.declared.Fate.{Fate};
+ghost use Rattle.altq_model.specs.Counts.{of_arrivals, of_decisions};
+ghost use Rattle.altq_model.specs.Departures.{Dressing, KeepsLength, departed, departures};
+ghost use Rattle.altq_model.specs.Idle.{NeverIdles};
 ghost use Rattle.altq_model.specs.Link.{HasLinkEnds, link};
 ghost use Rattle.altq_model.specs.Play.{AreDue, IsPlay, Policy, first_start, play};
 ghost use Rattle.altq_model.specs.Policies.{Answering, one_queue, strict};
-ghost use Rattle.altq_model.specs.Texts.{Naming, departure_records, departures, fate_rows, fates};
-ghost use Rattle.play_laws.specs.Events.{HasLaws, IsWhole};
-ghost use Rattle.play_laws.specs.Lawful.{AreHeld, AreRising, IsLawful, IsOneOf, IsSteady, NeverWaits, SendsWhen, first_at, greatest, latest};
+ghost use Rattle.altq_model.specs.Texts.{Naming, fate_rows, fates};
+ghost use Rattle.play_laws.specs.Events.{AreOfArrivals, HasLaws, IsWhole};
+ghost use Rattle.altq_model.specs.Lawful.{AreHeld, AreRising, IsLawful, IsOneOf, IsSteady, NeverWaits, SendsWhen, first_at, greatest, latest};
+ghost use Rattle.play_laws.specs.Sizes.{AreSized};
 ghost use Rattle.play_laws.specs.Runs.{AreRunEnds, sendings};
 
 /// The arrivals of a capture rise, there is one for each record, those of more records begin with those of the fewer, and a play
 /// sees each as it is. Where each mark is a class of the policy, the policy holds them all.
 pub fn arrivals_rise()
-    ensures rising { (mark : List ℕ → Mark) (records : List Record) → AreRising (comings (arrivals_of mark records)) }
-    ensures one_each { (mark : List ℕ → Mark) (records : List Record) → length (comings (arrivals_of mark records)) ≡ length records }
-    ensures extend { (mark : List ℕ → Mark) (xs ys : List Record)
+    ensures rising { (mark : List ℕ → Placed) (records : List Record) → AreRising (comings (arrivals_of mark records)) }
+    ensures one_each { (mark : List ℕ → Placed) (records : List Record) → length (comings (arrivals_of mark records)) ≡ length records }
+    ensures extend { (mark : List ℕ → Placed) (xs ys : List Record)
         → arrivals_of mark (xs ++ ys) ≡ arrivals_of mark xs ++ arrivals_from mark (greatest 0 xs) ys }
     ensures comings_extend { (xs ys : List Arrival) → comings (xs ++ ys) ≡ comings xs ++ comings ys }
     ensures at { (arrived : List Arrival) (n : ℕ) → (arrival arrived n).at ≡ at_of (comings arrived) n }
     ensures seen { (arrived : List Arrival) (n : ℕ) (a : Coming) → slice_get (comings arrived) (n - 1) ≡ Some a → coming_of (arrival arrived n) ≡ a }
-    ensures held { (p : Policy) (mark : List ℕ → Mark) (records : List Record) → ((bytes : List ℕ) → IsOneOf (mark bytes).class p.classes)
+    ensures held { (p : Policy) (mark : List ℕ → Placed) (records : List Record) → ((bytes : List ℕ) → IsOneOf (mark bytes).class p.classes)
         → AreHeld p (comings (arrivals_of mark records)) }
 {}
 
@@ -38,7 +45,7 @@ pub fn strict_order_is_lawful()
     ensures never_waits { (classes : List ℕ) (rule : Rule) (answer : Answering) → NeverWaits (strict classes rule answer) }
     ensures one_lawful { (limit : ℕ) → IsLawful (one_queue limit) }
     ensures one_never_waits { (limit : ℕ) → NeverWaits (one_queue limit) }
-    ensures one_holds { (limit : ℕ) (mark : List ℕ → Mark) (records : List Record) → ((bytes : List ℕ) → (mark bytes).class ≡ 1)
+    ensures one_holds { (limit : ℕ) (mark : List ℕ → Placed) (records : List Record) → ((bytes : List ℕ) → (mark bytes).class ≡ 1)
         → AreHeld (one_queue limit) (comings (arrivals_of mark records)) }
     ensures steady { (p : Policy) → NeverWaits p → IsSteady p }
 {}
@@ -54,7 +61,7 @@ pub fn policies_by_moments_are_lawful()
 /// sending at the least moment at which a class may send, before every arrival that was not offered; each is of the arrival of its number, with its class and length; no number has two fates; each
 /// class departs in order of number, no packet starts before it arrives, and each end is that of its run.
 pub fn due_events_keep_the_laws()
-    ensures laws { (p : Policy) (rate seed : ℕ) (arrived : List Coming) (g : List Entry) → 0 < rate → IsLawful p → AreRising arrived
+    ensures laws { (p : Policy) (rate seed : ℕ) (arrived : List Coming) (g : List Happened) → 0 < rate → IsLawful p → AreRising arrived
         → AreDue p rate seed arrived g → HasLaws p rate seed arrived g }
 {}
 
@@ -62,9 +69,9 @@ pub fn due_events_keep_the_laws()
 /// departs in order of number, no packet starts before it arrives, and each end is that of its run. At the end every arrival was
 /// offered, and nothing waits.
 pub fn plays_keep_the_laws()
-    ensures laws { (p : Policy) (rate seed : ℕ) (arrived : List Coming) (g : List Entry) → 0 < rate → IsLawful p → AreRising arrived
+    ensures laws { (p : Policy) (rate seed : ℕ) (arrived : List Coming) (g : List Happened) → 0 < rate → IsLawful p → AreRising arrived
         → AreHeld p arrived → IsPlay p rate seed arrived g → KeepsLaws rate arrived g }
-    ensures whole { (p : Policy) (rate seed : ℕ) (arrived : List Coming) (g : List Entry) → 0 < rate → IsLawful p → AreRising arrived
+    ensures whole { (p : Policy) (rate seed : ℕ) (arrived : List Coming) (g : List Happened) → 0 < rate → IsLawful p → AreRising arrived
         → AreHeld p arrived → IsPlay p rate seed arrived g → IsWhole arrived g }
 {}
 
@@ -74,23 +81,30 @@ pub fn ends_are_those_of_the_runs()
     ensures ends { (rate : ℕ) (h : List Event) → HasLinkEnds rate h → AreRunEnds rate (sendings h) }
 {}
 
-/// Where any class may send at any moment, the link is busy: each sending starts at the greater of the last end and the least
-/// arrival of those that are left. It holds of the first events of a play, however many.
+/// The link is busy: each sending starts at the least moment, not before the last end, such that after the offers of all arrivals up
+/// to it some waiting class may send at it. It holds of the first events of a play of a steady policy, however many.
 pub fn link_is_busy()
-    ensures busy { (p : Policy) (rate seed : ℕ) (arrived : List Coming) (g : List Entry) → 0 < rate → IsLawful p → NeverWaits p → AreRising arrived
-        → AreHeld p arrived → AreDue p rate seed arrived g → IsBusy rate arrived g }
+    ensures busy { (p : Policy) (rate seed : ℕ) (arrived : List Coming) (g : List Happened) → 0 < rate → IsLawful p → IsSteady p → AreRising arrived
+        → AreDue p rate seed arrived g → IsBusy p rate (bare g) }
+{}
+
+/// Where any class may send at any moment, the link never idles: each sending starts at the greater of the last end and the least
+/// arrival of those that are left. It holds of the first events of a play, however many.
+pub fn link_never_idles()
+    ensures never_idles { (p : Policy) (rate seed : ℕ) (arrived : List Coming) (g : List Happened) → 0 < rate → IsLawful p → NeverWaits p → AreRising arrived
+        → AreHeld p arrived → AreDue p rate seed arrived g → NeverIdles rate arrived g }
 {}
 
 /// In a play a steady policy may be asked from one moment for all classes: the greater of the last end and the greatest arrival of
 /// what was offered. No class may send before that arrival, and what comes next is no earlier.
 pub fn one_moment_serves_all_classes()
-    ensures moment { (p : Policy) (rate seed : ℕ) (arrived : List Coming) (g : List Entry) → 0 < rate → IsLawful p → IsSteady p → AreRising arrived
+    ensures moment { (p : Policy) (rate seed : ℕ) (arrived : List Coming) (g : List Happened) → 0 < rate → IsLawful p → IsSteady p → AreRising arrived
         → AreDue p rate seed arrived g
         → first_start p (link rate (bare g)).free (bare g) p.classes
         ≡ first_at p (max (link rate (bare g)).free (latest (bare g))) (bare g) p.classes }
-    ensures arrived { (p : Policy) (rate seed : ℕ) (arrived : List Coming) (g : List Entry) → 0 < rate → IsLawful p → AreRising arrived
+    ensures arrived { (p : Policy) (rate seed : ℕ) (arrived : List Coming) (g : List Happened) → 0 < rate → IsLawful p → AreRising arrived
         → AreDue p rate seed arrived g → (s : ℕ) → first_start p (link rate (bare g)).free (bare g) p.classes ≡ Some s → latest (bare g) ≤ s }
-    ensures next { (p : Policy) (rate seed : ℕ) (arrived : List Coming) (g : List Entry) → 0 < rate → IsLawful p → AreRising arrived
+    ensures next { (p : Policy) (rate seed : ℕ) (arrived : List Coming) (g : List Happened) → 0 < rate → IsLawful p → AreRising arrived
         → AreDue p rate seed arrived g → (a : Coming) → slice_get arrived (offered (bare g)) ≡ Some a → latest (bare g) ≤ a.at }
 {}
 
@@ -98,25 +112,52 @@ pub fn one_moment_serves_all_classes()
 /// rate, seed and arrivals are the same; for a lawful policy there is one, which `play` computes. Events before the offer of the
 /// last known arrival, and that offer, are the same whatever comes later.
 pub fn the_play_is_one()
-    ensures older_part { (p : Policy) (rate seed : ℕ) (arrived : List Coming) (g k : List Entry) → AreDue p rate seed arrived g
+    ensures older_part { (p : Policy) (rate seed : ℕ) (arrived : List Coming) (g k : List Happened) → AreDue p rate seed arrived g
         → AreDue p rate seed arrived k → length g ≤ length k → drop (length k - length g) k ≡ g }
-    ensures one { (p : Policy) (rate seed : ℕ) (arrived : List Coming) (g k : List Entry) → IsPlay p rate seed arrived g
+    ensures one { (p : Policy) (rate seed : ℕ) (arrived : List Coming) (g k : List Happened) → IsPlay p rate seed arrived g
         → IsPlay p rate seed arrived k → g ≡ k }
     ensures exists { (p : Policy) (rate seed : ℕ) (arrived : List Coming) → 0 < rate → IsLawful p → AreRising arrived
         → IsPlay p rate seed arrived (play p rate seed arrived) }
-    ensures later_arrivals { (p : Policy) (rate seed : ℕ) (arrived more : List Coming) (e : Entry) (g : List Entry) → offered (bare g) < length arrived
+    ensures later_arrivals { (p : Policy) (rate seed : ℕ) (arrived more : List Coming) (e : Happened) (g : List Happened) → offered (bare g) < length arrived
         → AreDue p rate seed arrived (e ∷ g) → AreDue p rate seed (arrived ++ more) (e ∷ g) }
 {}
 
-/// The journal of more events begins with that of the older ones, and the texts of a longer journal begin with those of its front.
+/// The records of a capture have the sizes that a capture may have, and the departures of a history of their play, each sending in
+/// time, are within the limits of one: so they read back as a capture of just these records, where frames keep their lengths.
+pub fn departures_are_within()
+    ensures sized { (bytes : List ℕ) (records : List Record) (last : Step) → Reads bytes records last → AreSized records }
+    ensures within { (dress : Dressing) (mark : List ℕ → Placed) (records : List Record) (p : Policy) (rate seed : ℕ) (g : List Happened)
+        → KeepsLength dress → AreSized records → HasLaws p rate seed (comings (arrivals_of mark records)) g → IsInTime g
+        → AreWithin (departed dress (arrivals_of mark records) g) }
+{}
+
+/// The counts of more arrivals, and of more decisions, are the sums of those of the fewer and of the rest; what was decided of packets
+/// that arrived counts the same, whatever arrives later.
+pub fn counts_add_up()
+    ensures arrivals { (meant : Arrival → Bool) (amount : Arrival → ℕ) (xs ys : List Arrival)
+        → of_arrivals meant amount (xs ++ ys) ≡ of_arrivals meant amount xs + of_arrivals meant amount ys }
+    ensures decisions { (meant : Arrival → Bool) (told : Fate → Bool) (amount : Arrival → ℕ) (arrived : List Arrival) (xs ys : List Decision)
+        → of_decisions meant told amount arrived (xs ++ ys) ≡ of_decisions meant told amount arrived xs + of_decisions meant told amount arrived ys }
+    ensures stay { (meant : Arrival → Bool) (told : Fate → Bool) (amount : Arrival → ℕ) (arrived more : List Arrival) (g : List Happened)
+        → AreOfArrivals (comings arrived) g
+        → of_decisions meant told amount (arrived ++ more) (journal g) ≡ of_decisions meant told amount arrived (journal g) }
+{}
+
+/// The journal of more events begins with that of the older ones, as do the records of their departures; the text of more decisions or
+/// records begins with that of the first of them. What is decided of packets that arrived keeps its texts, whatever arrives later.
 pub fn texts_extend()
-    ensures journal { (es g : List Entry) → journal (es ++ g) ≡ journal g ++ journal es }
+    ensures journal { (es g : List Happened) → journal (es ++ g) ≡ journal g ++ journal es }
     ensures fates { (names : Naming) (arrived : List Arrival) (xs ys : List Decision)
         → fates names arrived (xs ++ ys) ≡ fates names arrived xs ++ fate_rows names arrived ys }
     ensures rows { (names : Naming) (arrived : List Arrival) (xs ys : List Decision)
         → fate_rows names arrived (xs ++ ys) ≡ fate_rows names arrived xs ++ fate_rows names arrived ys }
-    ensures departures { (arrived : List Arrival) (xs ys : List Decision)
-        → departures arrived (xs ++ ys) ≡ departures arrived xs ++ departure_records arrived ys }
-    ensures records { (arrived : List Arrival) (xs ys : List Decision)
-        → departure_records arrived (xs ++ ys) ≡ departure_records arrived xs ++ departure_records arrived ys }
+    ensures records { (xs ys : List Record) → written (xs ++ ys) ≡ written xs ++ record_texts ys }
+    ensures departed { (dress : Dressing) (arrived : List Arrival) (es g : List Happened)
+        → (more : List Record) × (departed dress arrived (es ++ g) ≡ departed dress arrived g ++ more) }
+    ensures departures { (dress : Dressing) (arrived : List Arrival) (es g : List Happened)
+        → (more : List Record) × (departures dress arrived (es ++ g) ≡ departures dress arrived g ++ record_texts more) }
+    ensures rows_stay { (names : Naming) (arrived more : List Arrival) (g : List Happened) → AreOfArrivals (comings arrived) g
+        → fate_rows names (arrived ++ more) (journal g) ≡ fate_rows names arrived (journal g) }
+    ensures departed_stay { (dress : Dressing) (arrived more : List Arrival) (g : List Happened) → AreOfArrivals (comings arrived) g
+        → departed dress (arrived ++ more) g ≡ departed dress arrived g }
 {}

@@ -2,13 +2,8 @@
 use Rattle.std.proofs.Common.{◌≡◌, ◌++◌, ◌∙◌, ℕ, zero, suc, List, [], ◌∷◌, length, take, drop, refl, ap, sym, append_assoc}
 use Rattle.std.proofs.lemmas.List.{append-nil}
 use Rattle.std.specs.Prelude.{IsSome}
-use Rattle.altq_model.specs.declared.Fate.{Fate}
-use Rattle.altq_model.specs.declared.Fate.TheVariants.{Sent}
-use Rattle.altq_model.specs.declared.Rule.{Rule}
-use Rattle.altq_model.specs.Arrivals.{Arrival}
-use Rattle.altq_model.specs.Texts.{departure_record, record_head}
 use Rattle.play_base.specs.View.{View, Wrote, WroteFront}
-use Rattle.play_base.specs.ViewLaws.{wrote_more_there}
+use Rattle.play_base.proofs.ViewLaws.{wrote_more_there}
 use Rattle.play_loop.specs.Gathered.{Grew, Stopped}
 
 pub take_drop : {X : Type 0} (k : ℕ) (xs : List X) → take k xs ++ drop k xs ≡ xs
@@ -72,12 +67,6 @@ stopped_longer u v file a xs ys x = record {
   wrote = x.wrote;
   split = sym (append_assoc x.written x.rest ys) ∙ ap (λ (r : List ℕ). r ++ ys) x.split ∙ append_assoc a xs ys;
 }
-
--- the record of a packet that was sent
-pub departed : (a : Arrival) (f : Fate) (start end captured : ℕ) (rule : Rule) (head : List ℕ) → f ≡ Sent start end rule
-    → head ≡ record_head end captured a.len → captured ≡ length a.bytes → head ++ a.bytes ≡ departure_record a f
-departed a f start end captured rule head e h n =
-    ap (λ (r : List ℕ). r ++ a.bytes) (h ∙ ap (λ k. record_head end k a.len) n) ∙ sym (ap (departure_record a) e)
 
 -- a text that nothing was gathered before
 pub grew_whole : (u v : View) (file : ℕ) (bytes : List ℕ) → Wrote u v file bytes → Grew u v file [] [] bytes

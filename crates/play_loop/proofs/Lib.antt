@@ -1,5 +1,12 @@
-pub mod DecisionLemmas
 pub mod GatherLemmas
+pub mod GatheredLaws
+pub mod HeadLemmas
+pub mod KeptLemmas
 pub mod OutputLemmas
+pub mod PacketLemmas
 pub mod PlayLemmas
-pub mod ReadLemmas
+pub mod RecordLemmas
+pub mod SentLemmas
+pub mod TextLemmas
+pub mod TurnLemmas
+pub mod WeightLemmas

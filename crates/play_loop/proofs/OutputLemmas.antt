@@ -4,11 +4,10 @@ use Rattle.std.proofs.lemmas.List.{append-nil}
 use Rattle.std.specs.Prelude.{IsSome}
 use Rattle.std.specs.declared.option.Option.{Option}
 use Rattle.play_base.specs.View.{View, Wrote, WroteFront}
-use Rattle.play_base.specs.ViewLaws.{keeps_trans, keeps_fewer, part_of_there}
-use Rattle.play_base.specs.HoldsLaws.{apart_kept, apart_sym}
+use Rattle.play_base.proofs.ViewLaws.{keeps_trans, keeps_fewer, part_of_there}
+use Rattle.play_base.proofs.HoldsLaws.{apart_kept, apart_sym}
 use Rattle.play_loop.specs.Gathered.{Grew, Stopped}
-use Rattle.play_loop.specs.GatheredLaws.{text_grew, text_stopped, text_beside, text_front, text_same, front_longer, front_same}
-use Rattle.play_loop.specs.Setup.{KeepsBut}
+use Rattle.play_loop.proofs.GatheredLaws.{text_grew, text_stopped, text_beside, text_front, text_same, front_longer, front_same}
 use Rattle.play_loop.specs.declared.outputs.Outputs.{Outputs}
 use Rattle.play_loop.specs.Outputs.{TextsAre, FrontsAre, SameFiles}
 use Rattle.play_loop.proofs.GatherLemmas.{stopped_at_front}
@@ -68,17 +67,6 @@ flushed_second u v w dep fat recs rows ds ts h x y =
     let grew : Grew u v dep recs [] [] = record { written = recs; wrote = x; split = refl } in
     fronts_same w dep fat (ds ++ []) ds (ts ++ []) ts (append-nil ds) (append-nil ts)
     (fronts_rowed v w dep fat [] rows (ds ++ []) ts [] (texts_departed u v dep fat recs [] rows ds ts [] h grew) (stopped_at_front v w fat rows [] y))
-
--- what is kept beside the two files is kept over more calls on them
-pub keeps_but_trans : (u v w : View) (dep fat dep' fat' : ℕ) → IsSome (u.part dep) → IsSome (u.part fat) → dep' ≡ dep → fat' ≡ fat
-    → KeepsBut dep fat u v → KeepsBut dep' fat' v w → KeepsBut dep fat u w
-keeps_but_trans u v w dep fat dep' fat' is_dep is_fat d f x y =
-    let P : ℕ → Type 0 = λ n. KeepsBut n fat' v w in
-    let Q : ℕ → Type 0 = λ n. KeepsBut dep n v w in
-    let z : KeepsBut dep fat v w = subst Q f (subst P d y) in
-    let dname : v.name dep ≡ u.name dep = (let p = part_of_there (u.part dep) is_dep in x.name dep p.0 p.1) in
-    let fname : v.name fat ≡ u.name fat = (let p = part_of_there (u.part fat) is_fat in x.name fat p.0 p.1) in
-    keeps_trans _ _ u v w x (keeps_fewer _ _ _ _ v w (λ n h. ((λ e. h.0 (e ∙ dname)), (λ e. h.1 (e ∙ fname)))) (λ n h. h) z)
 
 pub same_trans : (a b c : Outputs) → SameFiles a b → SameFiles b c → SameFiles a c
 same_trans a b c x y = record { departures = y.departures ∙ x.departures; fates = y.fates ∙ x.fates }

@@ -1,211 +1,295 @@
--- From what was decided and written to the play.
-use Rattle.std.proofs.Common.{◌≡◌, ◌≤◌, ◌++◌, ◌∙◌, ℕ, Bool, true, false, List, [], ◌∷◌, Some, ap, sym, refl, subst, inl, inr}
-use Rattle.std.specs.Prelude.{IsTrue}
-use Rattle.std.proofs.lemmas.List.{append-nil}
-use Rattle.altq_model.specs.Arrivals.{Arrival, comings}
-use Rattle.altq_model.specs.Capture.{Record}
-use Rattle.altq_model.specs.History.{Coming, Decision, Entry, journal}
-use Rattle.altq_model.specs.Play.{Policy}
-use Rattle.altq_model.specs.Texts.{capture_head, departure_records, fates_head, fate_rows}
-use Rattle.play_base.specs.View.{View, Keeps, Any, Wrote, WroteFront, ReadFault, WriteFault}
-use Rattle.play_base.specs.ViewLaws.{keeps_trans, keeps_fewer, rose_later}
-use Rattle.play_base.specs.Holds.{HoldsAt}
-use Rattle.play_base.specs.HoldsLaws.{holds_kept, apart_kept}
+-- From what was read, decided and written to the play.
+use Rattle.std.proofs.Common.{◌≡◌, ◌≤◌, ◌<◌, ◌++◌, ◌∙◌, ◌+◌, ◌⊎◌, inl, inr, ℕ, max, List, [], ◌∷◌, length, Some, refl, ap, sym, subst, arith, append_assoc, append-nil}
+use Rattle.std.specs.Prelude.{slice_get, IsSome, IsTrue}
+use Rattle.altq_model.specs.declared.Placed.{Placed}
+use Rattle.altq_model.specs.Arrivals.{Arrival, arrivals_from, arrivals_of, comings}
+use Rattle.altq_model.specs.Departures.{Dressing, departures}
+use Rattle.altq_model.specs.History.{Coming, Happened, bare, offered, journal}
+use Rattle.altq_model.specs.Lawful.{IsLawful, IsSteady, AreRising, RiseFrom, greatest}
+use Rattle.altq_model.specs.Play.{Policy, AreDue}
+use Rattle.altq_model.specs.Texts.{Naming, fates, fates_header}
+use Rattle.capture_model.specs.Capture.{Record, Step, End, Fault, Header, Reads, ReadsFrom, IsCapture, IsLast, place_after}
+use Rattle.capture_model.specs.Header.{capture_header}
+use Rattle.capture_model.specs.Written.{written}
 use Rattle.pcap_files.specs.declared.fault.CaptureFault.{CaptureFault}
 use Rattle.pcap_files.specs.declared.fault.CaptureFault.TheVariants as capture
-use Rattle.play_core.specs.declared.arrived.Arrived.{Arrived}
-use Rattle.play_core.specs.declared.decided.Decided.{Decided}
-use Rattle.play_core.specs.declared.decided.Decisions.{Decisions}
-use Rattle.play_core.specs.Arrived.{HavePrecs, arrivals_held, coming_of, comings_held, decisions_of}
-use Rattle.play_core.specs.Decided.{IsDecided}
-use Rattle.play_core.specs.Ended.{HasEnded}
+use Rattle.pcap_files.specs.declared.reader.Reader.{Reader}
+use Rattle.pcap_files.specs.Reading.{IsHeadFault, ReadsTo, StandsFor}
+use Rattle.pcap_files.proofs.ReadingLaws.{answered_front, one_reading, taken}
+use Rattle.play_base.specs.View.{View, Keeps, ReadFault}
+use Rattle.play_base.specs.Holds.{Apart, HoldsAt}
+use Rattle.play_base.proofs.ViewLaws.{part_of_there, rose_before}
+use Rattle.play_laws.specs.Events.{HasLaws}
+use Rattle.play_laws.proofs.AllLaws.{due_laws}
+use Rattle.play_laws.proofs.ArrivalLemmas.{arrivals_append, arrivals_length, arrivals_rise, comings_append, comings_length}
+use Rattle.play_laws.proofs.BusyLemmas.{is_busy}
+use Rattle.play_laws.proofs.DepartureLemmas.{records_stay, rows_stay}
+use Rattle.play_core.specs.declared.totals.Totals.{Totals}
+use Rattle.play_core.specs.Ended.{IsBegun, IsCutOff}
+use Rattle.play_core.specs.Finished.{EndsWithOffer, IsStopped}
+use Rattle.play_core.specs.Totals.{AreTotals}
 use Rattle.play_loop.specs.declared.fault.Opened.{Opened}
-use Rattle.play_loop.specs.declared.outputs.OutputFault.{OutputFault}
-use Rattle.play_loop.specs.declared.outputs.OutputFault.TheVariants as output
+use Rattle.play_loop.specs.declared.fault.PlayFault.{PlayFault}
+use Rattle.play_loop.specs.Ending.{IsAhead, IsAll, IsPast, capture_fault}
+use Rattle.play_loop.specs.Kept.{OnlyWrote}
+use Rattle.play_loop.specs.declared.fault.Output.TheVariants as output
+use Rattle.play_loop.specs.declared.fault.PlayFault.TheVariants as play
 use Rattle.play_loop.specs.Gathered.{HoldsFront}
-use Rattle.play_loop.specs.GatheredLaws.{text_of_held, front_same}
-use Rattle.play_loop.specs.Outputs.{AreNamed, TextsAre, FrontsAre}
-use Rattle.play_loop.specs.Setup.{Setup, KeepsBut, IsFrontOf, arrivals_in, departures_of, fates_of}
-use Rattle.play_loop.specs.Played.{AreEmpty, EndsAs, HasPlayed, HasStopped, Explains, capture_fault, output_fault}
-use Rattle.play_loop.specs.Reading.{AreMarked, HasFault}
-use Rattle.play_text.specs.Names.{NameList, HasClass}
-use Rattle.play_text.specs.declared.status.Totals.{Totals}
-use Rattle.play_laws.specs.Lawful.{AreHeld, IsOneOf}
-use Rattle.altq_model.specs.declared.Mark.{Mark}
-use Rattle.play_loop.proofs.GatherLemmas.{grew_whole, stopped_whole}
-use Rattle.play_loop.proofs.OutputLemmas.{texts_departed, texts_rowed, fronts_departed, fronts_rowed}
+use Rattle.play_loop.specs.Outputs.{FrontsAre, IsWriteCause, TextsAre}
+use Rattle.play_loop.specs.Played.{Explains, HasOffered, HasStopped, HoldTexts, IsStanding, OfArrivals, Streams, TookUpTo, WasCutOff, start_of}
+use Rattle.play_loop.specs.Setup.{Setup, arrivals_in, departures_of, fates_of}
+use Rattle.play_loop.proofs.GatheredLaws.{front_same, text_whole}
+use Rattle.play_loop.proofs.OutputLemmas.{texts_same}
 
--- the heads
-texts_empty : (v : View) (dep fat : ℕ) → AreEmpty v dep fat → TextsAre v dep fat [] [] [] []
-texts_empty v dep fat h = record { departures = text_of_held v dep [] h.departures; fates = text_of_held v fat [] h.fates; apart = h.apart }
-
-pub heads_first : (u v : View) (dep fat : ℕ) (bytes : List ℕ) → bytes ≡ capture_head → AreEmpty u dep fat → WroteFront u v dep bytes
-    → FrontsAre v dep fat capture_head fates_head
-heads_first u v dep fat bytes e h x =
-    let P : List ℕ → Type 0 = λ xs. WroteFront u v dep xs in
-    fronts_departed u v dep fat [] [] [] [] capture_head fates_head (texts_empty u dep fat h) (stopped_whole u v dep capture_head (subst P e x))
-
-pub heads_second : (u v w : View) (dep fat : ℕ) (bytes row : List ℕ) → bytes ≡ capture_head → row ≡ fates_head → AreEmpty u dep fat
-    → Wrote u v dep bytes → WroteFront v w fat row → FrontsAre w dep fat capture_head fates_head
-heads_second u v w dep fat bytes row e f h x y =
-    let P : List ℕ → Type 0 = λ xs. Wrote u v dep xs in
-    let Q : List ℕ → Type 0 = λ xs. WroteFront v w fat xs in
-    fronts_rowed v w dep fat [] [] capture_head [] fates_head
-    (texts_departed u v dep fat [] [] [] [] [] capture_head (texts_empty u dep fat h) (grew_whole u v dep capture_head (subst P e x)))
-    (stopped_whole v w fat fates_head (subst Q f y))
-
-pub heads_whole : (u v w : View) (dep fat : ℕ) (bytes row : List ℕ) → bytes ≡ capture_head → row ≡ fates_head → AreEmpty u dep fat
-    → Wrote u v dep bytes → Wrote v w fat row → TextsAre w dep fat [] [] capture_head fates_head
-heads_whole u v w dep fat bytes row e f h x y =
-    let P : List ℕ → Type 0 = λ xs. Wrote u v dep xs in
-    let Q : List ℕ → Type 0 = λ xs. Wrote v w fat xs in
-    texts_rowed v w dep fat [] [] [] capture_head [] fates_head
-    (texts_departed u v dep fat [] [] [] [] [] capture_head (texts_empty u dep fat h) (grew_whole u v dep capture_head (subst P e x)))
-    (grew_whole v w fat fates_head (subst Q f y))
-
--- the play of the arrivals that were read
-comings_are : (xs : List Arrived) → comings_held xs ≡ comings (arrivals_held xs)
-comings_are [] = refl
-comings_are (x ∷ xs) = ap (λ (r : List Coming). coming_of x ∷ r) (comings_are xs)
-
-ends_as : (cut : Bool) (x : Setup) (records : List Record) (g : List Entry) → HasEnded cut x.policy x.rate x.seed (comings (arrivals_in x records)) g
-    → EndsAs cut x records g
-ends_as false x records g h = h
-ends_as true x records g h = h
-
-begun : (cut : Bool) (x : Setup) (records : List Record) (g : List Entry) → EndsAs cut x records g → IsFrontOf x records g
-begun false x records g h = h.begun
-begun true x records g h = h.begun
-
-ended : (cut : Bool) (x : Setup) (arrived : List Arrived) (records : List Record) (g : List Entry) → arrivals_held arrived ≡ arrivals_in x records
-    → HasEnded cut x.policy x.rate x.seed (comings_held arrived) g → EndsAs cut x records g
-ended cut x arrived records g e h =
-    let P : List Coming → Type 0 = λ cs. HasEnded cut x.policy x.rate x.seed cs g in
-    ends_as cut x records g (subst P (comings_are arrived ∙ ap comings e) h)
-
-records_are : (x : Setup) (arrived : List Arrived) (records : List Record) (list : List Decided) (g : List Entry) → arrivals_held arrived ≡ arrivals_in x records
-    → decisions_of list ≡ journal g → capture_head ++ departure_records (arrivals_held arrived) (decisions_of list) ≡ departures_of x records g
-records_are x arrived records list g e j =
-    ap (λ (l : List Arrival). capture_head ++ departure_records l (decisions_of list)) e
-    ∙ ap (λ (k : List Decision). capture_head ++ departure_records (arrivals_in x records) k) j
-
-rows_are : (x : Setup) (arrived : List Arrived) (records : List Record) (list : List Decided) (g : List Entry) → arrivals_held arrived ≡ arrivals_in x records
-    → decisions_of list ≡ journal g → fates_head ++ fate_rows x.names (arrivals_held arrived) (decisions_of list) ≡ fates_of x records g
-rows_are x arrived records list g e j =
-    ap (λ (l : List Arrival). fates_head ++ fate_rows x.names l (decisions_of list)) e
-    ∙ ap (λ (k : List Decision). fates_head ++ fate_rows x.names (arrivals_in x records) k) j
-
-pub played : (x : Setup) (stood : List Entry → Type 0) (v : View) (dep fat dep' fat' : ℕ) (arrived : List Arrived) (records : List Record) (list : List Decided) (d : Decisions)
-    → arrivals_held arrived ≡ arrivals_in x records → IsDecided x.policy stood x.rate x.seed (comings_held arrived) d → list ≡ d.list.items
-    → dep' ≡ dep → fat' ≡ fat
-    → HoldsAt v dep' (capture_head ++ departure_records (arrivals_held arrived) (decisions_of list))
-    → HoldsAt v fat' (fates_head ++ fate_rows x.names (arrivals_held arrived) (decisions_of list))
-    → HasPlayed d.cut x stood v dep fat records d.totals
-played x stood v dep fat dep' fat' arrived records list d e h l dd f y z =
-    let j : decisions_of list ≡ journal h.history = ap decisions_of l ∙ h.decided in
-    let P : List ℕ → Type 0 = λ xs. HoldsAt v dep' xs in
-    let Q : List ℕ → Type 0 = λ xs. HoldsAt v fat' xs in
-    let R : ℕ → Type 0 = λ n. HoldsAt v n (departures_of x records h.history) in
-    let S : ℕ → Type 0 = λ n. HoldsAt v n (fates_of x records h.history) in
-    record {
-      history = h.history;
-      play = ended d.cut x arrived records h.history e h.play;
-      texts = record {
-        departures = subst R dd (subst P (records_are x arrived records list h.history e j) y);
-        fates = subst S f (subst Q (rows_are x arrived records list h.history e j) z);
-      };
-      stands = h.stands;
-      totals = h.totals;
-    }
-
-pub stopped : (x : Setup) (stood : List Entry → Type 0) (v : View) (dep fat dep' fat' : ℕ) (arrived : List Arrived) (records : List Record) (list : List Decided) (d : Decisions)
-    → arrivals_held arrived ≡ arrivals_in x records → IsDecided x.policy stood x.rate x.seed (comings_held arrived) d → list ≡ d.list.items
-    → dep' ≡ dep → fat' ≡ fat
-    → FrontsAre v dep' fat' (capture_head ++ departure_records (arrivals_held arrived) (decisions_of list))
-    (fates_head ++ fate_rows x.names (arrivals_held arrived) (decisions_of list))
-    → HasStopped x v dep fat records
-stopped x stood v dep fat dep' fat' arrived records list d e h l dd f y =
-    let j : decisions_of list ≡ journal h.history = ap decisions_of l ∙ h.decided in
-    let R : ℕ → Type 0 = λ n. HoldsFront v n (departures_of x records h.history) in
-    let S : ℕ → Type 0 = λ n. HoldsFront v n (fates_of x records h.history) in
-    record {
-      history = h.history;
-      play = begun d.cut x records h.history (ended d.cut x arrived records h.history e h.play);
-      texts = record {
-        departures = subst R dd (front_same v dep' _ _ (records_are x arrived records list h.history e j) y.departures);
-        fates = subst S f (front_same v fat' _ _ (rows_are x arrived records list h.history e j) y.fates);
-      };
-    }
+-- a setup whose policy and rate a discipline and a link promise
+pub record IsSound (x : Setup) : Type 0 where
+  pub positive : 0 < x.rate
+  pub lawful : IsLawful x.policy
+  pub steady : IsSteady x.policy
 
 -- before any event only fronts of the heads stand
-pub stopped_heads : (x : Setup) (v : View) (dep fat : ℕ) (records : List Record) → FrontsAre v dep fat capture_head fates_head → HasStopped x v dep fat records
-stopped_heads x v dep fat records h = record {
+pub stopped_heads : (x : Setup) (v : View) (o : Opened) (records : List Record) → FrontsAre v o.departures o.fates capture_header fates_header → HasStopped x v o records
+stopped_heads x v o records h = record {
   history = [];
-  play = record { events = tt; in_time = tt };
+  begun = record { events = tt; in_time = tt };
   texts = record {
-    departures = front_same v dep capture_head (capture_head ++ []) (sym (append-nil capture_head)) h.departures;
-    fates = front_same v fat fates_head (fates_head ++ []) (sym (append-nil fates_head)) h.fates;
+    departures = front_same v o.departures capture_header (capture_header ++ []) (sym (append-nil capture_header)) h.departures;
+    fates = front_same v o.fates fates_header (fates_header ++ []) (sym (append-nil fates_header)) h.fates;
   };
 }
+
+rise_front : (t : ℕ) (xs ys : List Coming) → RiseFrom t (xs ++ ys) → RiseFrom t xs
+rise_front t [] ys r = tt
+rise_front t (x ∷ xs) ys r = (r.0, rise_front x.at xs ys r.1)
+
+-- the first arrivals of a capture rise
+first_rise : (x : Setup) (records : List Record) (arrived more : List Arrival) → arrivals_in x records ≡ arrived ++ more → AreRising (comings arrived)
+first_rise x records arrived more e =
+    let P : List Coming → Type 0 = λ cs. AreRising cs in
+    rise_front 0 (comings arrived) (comings more)
+    (subst P (ap (λ (l : List Arrival). comings l) e ∙ comings_append arrived more) (arrivals_rise x.place records))
+
+-- the texts of the first arrivals are those of all
+pub record SameTexts (x : Setup) (records : List Record) (arrived : List Arrival) (g : List Happened) : Type 0 where
+  pub departures_are : departures x.dress arrived g ≡ departures_of x (arrivals_in x records) g
+  pub fates_are : fates x.names arrived (journal g) ≡ fates_of x (arrivals_in x records) g
+
+same_texts : (x : Setup) (records : List Record) (arrived more : List Arrival) (g : List Happened) → IsSound x → arrivals_in x records ≡ arrived ++ more
+    → AreDue x.policy x.rate x.seed (comings arrived) g → SameTexts x records arrived g
+same_texts x records arrived more g m e d =
+    let laws = due_laws x.policy x.rate x.seed (comings arrived) g m.positive m.lawful (first_rise x records arrived more e) d in
+    record {
+      departures_are = ap written (sym (records_stay x.dress arrived more g laws.of_arrivals)) ∙ ap (λ (l : List Arrival). departures x.dress l g) (sym e);
+      fates_are = ap (λ (t : List ℕ). fates_header ++ t) (sym (rows_stay x.names arrived more g laws.of_arrivals)) ∙ ap (λ (l : List Arrival). fates x.names l (journal g)) (sym e);
+    }
+
+-- events of the first arrivals that are due of all
+pub stopped : (x : Setup) (v : View) (o : Opened) (records : List Record) (arrived more : List Arrival) (g : List Happened) → IsSound x → arrivals_in x records ≡ arrived ++ more
+    → AreDue x.policy x.rate x.seed (comings (arrived ++ more)) g → IsBegun x.policy x.rate x.seed (comings arrived) g
+    → FrontsAre v o.departures o.fates (departures x.dress arrived g) (fates x.names arrived (journal g)) → HasStopped x v o records
+stopped x v o records arrived more g m e d b h =
+    let same = same_texts x records arrived more g m e b.events in
+    let P : List Arrival → Type 0 = λ l. AreDue x.policy x.rate x.seed (comings l) g in
+    record {
+      history = g;
+      begun = record { events = subst P (sym e) d; in_time = b.in_time };
+      texts = record {
+        departures = front_same v o.departures _ _ same.departures_are h.departures;
+        fates = front_same v o.fates _ _ same.fates_are h.fates;
+      };
+    }
+
+-- whole texts of the first arrivals are those of all
+pub hold_all : (x : Setup) (v : View) (o : Opened) (records : List Record) (arrived more : List Arrival) (g : List Happened) → IsSound x → arrivals_in x records ≡ arrived ++ more
+    → AreDue x.policy x.rate x.seed (comings arrived) g → HoldsAt v o.departures (departures x.dress arrived g) → HoldsAt v o.fates (fates x.names arrived (journal g))
+    → HoldTexts v o x (arrivals_in x records) g
+hold_all x v o records arrived more g m e d y z =
+    let same = same_texts x records arrived more g m e d in
+    let P : List ℕ → Type 0 = λ t. HoldsAt v o.departures t in
+    let Q : List ℕ → Type 0 = λ t. HoldsAt v o.fates t in
+    record { departures = subst P same.departures_are y; fates = subst Q same.fates_are z }
+
+-- the events up to the offer of the last complete record
+pub offered_all : (x : Setup) (stood : List Happened → Type 0) (v : View) (o : Opened) (records : List Record) (arrived : List Arrival) (g : List Happened) → arrived ≡ arrivals_in x records
+    → IsBegun x.policy x.rate x.seed (comings arrived) g → offered (bare g) ≡ length arrived → EndsWithOffer g
+    → HoldsAt v o.departures (departures x.dress arrived g) → HoldsAt v o.fates (fates x.names arrived (journal g)) → IsStanding stood g → HasOffered x stood v o records
+offered_all x stood v o records arrived g e b n l y z s =
+    let B : List Arrival → Type 0 = λ a. IsBegun x.policy x.rate x.seed (comings a) g in
+    let P : List Arrival → Type 0 = λ a. HoldsAt v o.departures (departures x.dress a g) in
+    let Q : List Arrival → Type 0 = λ a. HoldsAt v o.fates (fates x.names a (journal g)) in
+    record {
+      history = g;
+      begun = subst B e b;
+      all = n ∙ ap (λ (a : List Arrival). length a) e ∙ sym (comings_length (arrivals_in x records)) ∙ arrivals_length x.place records;
+      last = l;
+      texts = record { departures = subst P e y; fates = subst Q e z };
+      stands = s;
+    }
+
+-- when a fault of the capture comes
+abbrev pub Offered : Setup → (List Happened → Type 0) → View → View → Opened → CaptureFault → Type 0
+Offered x stood old new o f = OfArrivals old o (λ bytes. (records : List Record) × ReadsTo f bytes records × HasOffered x stood new o records)
+
+pub explains_capture : (x : Setup) (stood : List Happened → Type 0) (u w : View) (o : Opened) (f : CaptureFault) → Offered x stood u w o f
+    → (f ≡ capture.Read → ReadFault u w o.arrivals) → Explains x stood u w o (capture_fault f)
+explains_capture x stood u w o (capture.Damage d) h r = h
+explains_capture x stood u w o capture.Limit h r = h
+explains_capture x stood u w o capture.Read h r = r refl
+explains_capture x stood u w o capture.NoMemory h r = tt
+
+-- a file with a bad head has no complete record
+pub head_fault : (f : CaptureFault) (bytes : List ℕ) → IsHeadFault f bytes → ReadsTo f bytes []
+head_fault (capture.Damage d) bytes h = let P : Header → Type 0 = λ k. ReadsFrom k bytes [] (Fault d) in subst P (sym h) (refl, refl)
+head_fault capture.Limit bytes h = absurd h
+head_fault capture.Read bytes h = tt
+head_fault capture.NoMemory bytes h = tt
+
+-- what writes to files of other names leave
+pub left_kept : (u v : View) (arr dep fat : ℕ) → IsSome (u.part arr) → Apart u arr dep → Apart u arr fat → IsTrue u.tells → OnlyWrote dep fat u v → v.left arr ≡ u.left arr
+left_kept u v arr dep fat there d f t k = let p = part_of_there (u.part arr) there in k.keeps.left arr p.0 p.1 (d t, f t)
+
+pub read_before : (dep fat file : ℕ) (u v w : View) → OnlyWrote dep fat v w → ReadFault u v file → ReadFault u w file
+read_before dep fat file u v w k x = λ p at. rose_before _ _ _ (x p at) (k.keeps.later.read p)
+
+-- greatest stamps
+grows : (t : ℕ) (rs : List Record) → t ≤ greatest t rs
+grows t [] = omega arith
+grows t (r ∷ rs) = omega (arith, grows (max t r.stamp) rs)
+
+greatest_append : (t : ℕ) (xs ys : List Record) → greatest t (xs ++ ys) ≡ greatest (greatest t xs) ys
+greatest_append t [] ys = refl
+greatest_append t (x ∷ xs) ys = greatest_append (max t x.stamp) xs ys
+
+pub front_greatest : (t : ℕ) (xs ys : List Record) → greatest t xs ≤ greatest t (xs ++ ys)
+front_greatest t xs ys = omega (arith, greatest_append t xs ys, grows (greatest t xs) ys)
+
+same_head : (a b : Record) (xs ys : List Record) → a ∷ xs ≡ b ∷ ys → (a ≡ b) × (xs ≡ ys)
+same_head a b xs ys e = (cc, cc)
+
+-- the first record that arrives after a moment is one
+pub first_later : (s t : ℕ) (xs ys : List Record) (x y : Record) (more other : List Record) → xs ++ x ∷ more ≡ ys ++ y ∷ other
+    → greatest t xs ≤ s → s < greatest t (xs ++ x ∷ []) → greatest t ys ≤ s → s < greatest t (ys ++ y ∷ []) → xs ++ x ∷ [] ≡ ys ++ y ∷ []
+first_later s t [] [] x y more other e a b c d = ap (λ (r : Record). r ∷ []) (same_head x y more other e).0
+first_later s t [] (z ∷ ys) x y more other e a b c d =
+    let h = same_head x z more (ys ++ y ∷ other) e in
+    absurd (omega (arith, ap (λ (r : Record). r.stamp) h.0, b, c, grows (max t z.stamp) ys))
+first_later s t (z ∷ xs) [] x y more other e a b c d =
+    let h = same_head z y (xs ++ x ∷ more) other e in
+    absurd (omega (arith, ap (λ (r : Record). r.stamp) h.0, d, a, grows (max t z.stamp) xs))
+first_later s t (w ∷ xs) (z ∷ ys) x y more other e a b c d =
+    let h = same_head w z (xs ++ x ∷ more) (ys ++ y ∷ other) e in
+    let C : ℕ → Type 0 = λ n. greatest n ys ≤ s in
+    let D : ℕ → Type 0 = λ n. s < greatest n (ys ++ y ∷ []) in
+    let same : max t z.stamp ≡ max t w.stamp = ap (λ (r : Record). max t r.stamp) (sym h.0) in
+    ap (λ (r : Record). r ∷ (xs ++ x ∷ [])) h.0
+    ∙ ap (λ (rs : List Record). z ∷ rs) (first_later s (max t w.stamp) xs ys x y more other h.1 a b (subst C same c) (subst D same d))
+
+-- no record arrives after the moment
+pub none_later : (v : View) (file : ℕ) (bytes : List ℕ) (records : List Record) (moment : ℕ) → greatest 0 records ≤ moment → Streams v file bytes records moment
+none_later v file bytes records moment l = λ before r after e low high.
+    absurd (omega (
+      arith,
+      l,
+      high,
+      front_greatest 0 (before ++ r ∷ []) after,
+      ap (λ (rs : List Record). greatest 0 rs) (e ∙ sym (append_assoc before (r ∷ []) after)),
+    ))
+
+-- the bytes that were taken end soon after the last record that was read
+pub took_ahead : (place : List ℕ → Placed) (v w : View) (r : Reader) (file : ℕ) (bytes : List ℕ) (all rest : List Record) (arrived : List Arrival) (moment : ℕ)
+    → (h : IsAhead place v r bytes arrived moment) → all ≡ (h.before ++ h.last ∷ []) ++ rest → w.left file ≡ v.left r.file → Streams w file bytes all moment
+took_ahead place v w r file bytes all rest arrived moment h e left = λ before s after q low high.
+    let y = h.stands.pending h.sound in
+    let same = first_later moment 0 h.before before h.last s rest after (sym (append_assoc h.before (h.last ∷ []) rest) ∙ sym e ∙ q) h.passed h.later low high in
+    let size = taken v r bytes y.rest.0 (h.before ++ h.last ∷ []) h.stands h.sound y.rest.1 in
+    record { rest = y.rest.0; left = left ∙ y.rest.1; within = omega (arith, size, ap (λ (rs : List Record). place_after 24 rs) same) }
+
+-- a play that was cut off, over all arrivals
+pub cut_all : (x : Setup) (records : List Record) (arrived more : List Arrival) (g : List Happened) (t : Totals) → IsSound x → (c : IsCutOff x.policy x.rate x.seed (comings arrived) g)
+    → arrivals_in x records ≡ arrived ++ more → AreDue x.policy x.rate x.seed (comings (arrived ++ more)) (c.next ∷ g) → AreTotals x.rate g t
+    → IsStopped x.policy x.rate x.seed (arrivals_in x records) g t
+cut_all x records arrived more g t m c e d total =
+    let P : List Arrival → Type 0 = λ l. AreDue x.policy x.rate x.seed (comings l) (c.next ∷ g) in
+    let due = subst P (sym e) d in
+    let rise = arrivals_rise x.place records in
+    record {
+      cut = record { begun = record { events = due.1; in_time = c.begun.in_time }; next = c.next; is_due = due.0; late = c.late };
+      laws = due_laws x.policy x.rate x.seed (comings (arrivals_in x records)) g m.positive m.lawful rise due.1;
+      busy = is_busy x.policy x.rate x.seed (comings (arrivals_in x records)) g m.positive m.lawful m.steady rise due.1;
+      totals = total;
+    }
+
+-- where it was, and how far was read
+pub record IsFound (bytes : List ℕ) (records : List Record) (last : Step) (w : View) (file start : ℕ) : Type 0 where
+  pub before : (last ≡ End) ⊎ (start < greatest 0 records)
+  pub streams : Streams w file bytes records start
+
+pub found : (place : List ℕ → Placed) (v w : View) (r : Reader) (file : ℕ) (bytes : List ℕ) (records : List Record) (last : Step) (arrived : List Arrival) (start : ℕ)
+    → Reads bytes records last → IsLast last → w.left file ≡ v.left r.file → IsPast place bytes arrived start ⊎ IsAhead place v r bytes arrived start
+    → IsFound bytes records last w file start
+found place v w r file bytes records last arrived start h l left (inl y) =
+    let one = one_reading bytes records y.all.records last End h l y.all.reads tt in
+    record {
+      before = inl one.1;
+      streams = none_later w file bytes records start (omega (arith, ap (λ (rs : List Record). greatest 0 rs) one.0, y.passed));
+    }
+found place v w r file bytes records last arrived start h l left (inr y) =
+    let f = answered_front v r bytes (y.before ++ y.last ∷ []) records last y.stands h l in
+    record {
+      before = inr (omega (arith, y.later, front_greatest 0 (y.before ++ y.last ∷ []) f.0, ap (λ (rs : List Record). greatest 0 rs) f.1));
+      streams = took_ahead place v w r file bytes records f.0 arrived start y f.1 left;
+    }
+
+pub was_cut : (x : Setup) (stood : List Happened → Type 0) (place : List ℕ → Placed) (v w : View) (o : Opened) (r : Reader) (bytes : List ℕ) (records : List Record) (last : Step)
+    (arrived more : List Arrival) (g : List Happened) (t : Totals) → IsSound x → (c : IsCutOff x.policy x.rate x.seed (comings arrived) g) → arrivals_in x records ≡ arrived ++ more
+    → AreDue x.policy x.rate x.seed (comings (arrived ++ more)) (c.next ∷ g) → AreTotals x.rate g t → Reads bytes records last → IsLast last → w.left o.arrivals ≡ v.left r.file
+    → IsPast place bytes arrived (start_of c.next.what) ⊎ IsAhead place v r bytes arrived (start_of c.next.what)
+    → HoldsAt w o.departures (departures x.dress arrived g) → HoldsAt w o.fates (fates x.names arrived (journal g)) → IsStanding stood g
+    → WasCutOff x stood w o bytes records last
+unfolding cut_all
+was_cut x stood place v w o r bytes records last arrived more g t m c e d total h l left a y z s =
+    let f = found place v w r o.arrivals bytes records last arrived (start_of c.next.what) h l left a in
+    record {
+      history = g;
+      totals = t;
+      play = cut_all x records arrived more g t m c e d total;
+      texts = hold_all x w o records arrived more g m e c.begun.events y z;
+      stands = s;
+      before = f.before;
+      streams = f.streams;
+    }
 
 -- whole texts are fronts
 whole_front : (v : View) (file : ℕ) (text : List ℕ) → HoldsAt v file text → HoldsFront v file text
 whole_front v file text h = record { written = text; rest = []; holds = h; split = append-nil text }
 
-pub cut_stopped : (x : Setup) (stood : List Entry → Type 0) (v : View) (dep fat : ℕ) (records : List Record) (t : Totals) → HasPlayed true x stood v dep fat records t
-    → HasStopped x v dep fat records
-cut_stopped x stood v dep fat records t h = record {
-  history = h.history;
-  play = begun true x records h.history h.play;
-  texts = record { departures = whole_front v dep _ h.texts.departures; fates = whole_front v fat _ h.texts.fates };
-}
+pub whole_fronts : (v : View) (dep fat : ℕ) (ds ts : List ℕ) → HoldsAt v dep ds → HoldsAt v fat ts → FrontsAre v dep fat ds ts
+whole_fronts v dep fat ds ts y z = record { departures = whole_front v dep ds y; fates = whole_front v fat ts z }
 
--- what is told of each frame is so of each packet
-pub all_held : (p : Policy) (mark : List ℕ → Mark) (xs : List Arrived) → ((frame : List ℕ) → IsOneOf (mark frame).class p.classes) → AreMarked mark xs → AreHeld p (comings_held xs)
-all_held p mark [] h m = tt
-all_held p mark (x ∷ xs) h m = let P : Mark → Type 0 = λ k. IsOneOf k.class p.classes in (subst P (sym m.0) (h x.bytes), all_held p mark xs h m.1)
+pub held_by : (v : View) (file other : ℕ) (text : List ℕ) → other ≡ file → HoldsAt v other text → HoldsAt v file text
+held_by v file other text e h = let P : ℕ → Type 0 = λ n. HoldsAt v n text in subst P e h
 
-pub all_precs : (mark : List ℕ → Mark) (xs : List Arrived) → ((frame : List ℕ) → (mark frame).prec ≤ 2) → AreMarked mark xs → HavePrecs xs
-all_precs mark [] h m = tt
-all_precs mark (x ∷ xs) h m = let P : Mark → Type 0 = λ k. k.prec ≤ 2 in (subst P (sym m.0) (h x.bytes), all_precs mark xs h m.1)
+-- the heads are the texts of no event
+pub head_records : (dress : Dressing) (v : View) (dep fat : ℕ) → TextsAre v dep fat [] [] capture_header fates_header → HoldsAt v dep (departures dress [] [])
+head_records dress v dep fat h =
+    let P : List ℕ → Type 0 = λ t. HoldsAt v dep t in subst P (sym (append-nil capture_header)) (text_whole v dep capture_header h.departures)
 
-pub all_named : (names : NameList) (mark : List ℕ → Mark) (xs : List Arrived) → ((frame : List ℕ) → HasClass names (mark frame).class) → AreMarked mark xs → AreNamed names xs
-all_named names mark [] h m = tt
-all_named names mark (x ∷ xs) h m = let P : Mark → Type 0 = λ k. HasClass names k.class in (subst P (sym m.0) (h x.bytes), all_named names mark xs h m.1)
+pub head_rows : (names : Naming) (v : View) (dep fat : ℕ) → TextsAre v dep fat [] [] capture_header fates_header → HoldsAt v fat (fates names [] [])
+head_rows names v dep fat h =
+    let P : List ℕ → Type 0 = λ t. HoldsAt v fat t in subst P (sym (append-nil fates_header)) (text_whole v fat fates_header h.fates)
 
--- what was read leaves what was written
-pub texts_kept : (F : ℕ → Type 0) (v w : View) (dep fat : ℕ) (recs rows ds ts : List ℕ) → TextsAre v dep fat recs rows ds ts → Keeps Any F v w
-    → TextsAre w dep fat recs rows ds ts
-texts_kept F v w dep fat recs rows ds ts h k = record {
-  departures = record { written = h.departures.written; holds = holds_kept F v w dep h.departures.written h.departures.holds k; split = h.departures.split };
-  fates = record { written = h.fates.written; holds = holds_kept F v w fat h.fates.written h.fates.holds k; split = h.fates.split };
-  apart = apart_kept Any F v w dep fat h.departures.holds.there h.fates.holds.there h.apart k;
-}
+pub head_texts : (dress : Dressing) (names : Naming) (v : View) (dep fat : ℕ) (recs rows : List ℕ) → recs ≡ [] → rows ≡ [] → TextsAre v dep fat [] [] capture_header fates_header
+    → TextsAre v dep fat recs rows (departures dress [] []) (fates names [] [])
+head_texts dress names v dep fat recs rows r s h =
+    let P : List ℕ → Type 0 = λ xs. TextsAre v dep fat xs [] (departures dress [] []) (fates names [] []) in
+    let Q : List ℕ → Type 0 = λ xs. TextsAre v dep fat recs xs (departures dress [] []) (fates names [] []) in
+    subst Q (sym s) (subst P (sym r) (texts_same v dep fat [] [] _ _ _ _ (sym (append-nil capture_header)) (sym (append-nil fates_header)) h))
 
-pub keeps_then_read : (u v w : View) (dep fat : ℕ) (F : ℕ → Type 0) → KeepsBut dep fat u v → Keeps Any F v w → KeepsBut dep fat u w
-keeps_then_read u v w dep fat F x y = keeps_trans _ _ u v w x (keeps_fewer Any _ F (λ f. ⊥) v w (λ n h. tt) (λ f h. absurd h) y)
-
-pub read_since : (N : List ℕ → Type 0) (F : ℕ → Type 0) (u v w : View) (file p : ℕ) → Keeps N F u v → u.part file ≡ Some p → ReadFault v w file → ReadFault u w file
-read_since N F u v w file p k there x = λ q at. rose_later _ _ _ (k.later.read q) (x q (k.part file q at))
-
-pub write_since : (N : List ℕ → Type 0) (F : ℕ → Type 0) (u v w : View) (file : ℕ) → Keeps N F u v → WriteFault v w file → WriteFault u w file
-write_since N F u v w file k x = λ q at. rose_later _ _ _ (k.later.write q) (x q (k.part file q at))
-
-pub explains_output : (x : Setup) (stood : List Entry → Type 0) (u v : View) (o : Opened) (f : OutputFault) → (f ≡ output.Departures → WriteFault u v o.departures)
-    → (f ≡ output.Fates → WriteFault u v o.fates) → Explains x stood u v o (output_fault f)
-explains_output x stood u v o output.Departures d t = inl (refl, d refl)
-explains_output x stood u v o output.Fates d t = inr (refl, t refl)
-explains_output x stood u v o output.NoMemory d t = tt
-
-pub explains_capture : (x : Setup) (stood : List Entry → Type 0) (u v w : View) (o : Opened) (f : CaptureFault) → (IsTrue u.tells → v.left o.arrivals ≡ u.left o.arrivals)
-    → HasFault v o.arrivals f → (f ≡ capture.Read → ReadFault u w o.arrivals) → Explains x stood u w o (capture_fault f)
-explains_capture x stood u v w o (capture.Damage d) left h r = λ t bytes e. h bytes (left t ∙ e)
-explains_capture x stood u v w o capture.Limit left h r = inl (refl, λ t bytes e. h bytes (left t ∙ e))
-explains_capture x stood u v w o capture.Read left h r = r refl
-explains_capture x stood u v w o capture.NoMemory left h r = tt
-
-pub texts_new : (v : View) (dep fat : ℕ) (recs rows ds ts : List ℕ) → recs ≡ [] → rows ≡ [] → TextsAre v dep fat [] [] ds ts → TextsAre v dep fat recs rows ds ts
-texts_new v dep fat recs rows ds ts r s h =
-    let P : List ℕ → Type 0 = λ xs. TextsAre v dep fat xs [] ds ts in
-    let Q : List ℕ → Type 0 = λ xs. TextsAre v dep fat recs xs ds ts in
-    subst Q (sym s) (subst P (sym r) h)
+pub explains_write : (x : Setup) (stood : List Happened → Type 0) (u v : View) (o : Opened) (f : PlayFault) → IsWriteCause o.departures o.fates u v f → Explains x stood u v o f
+explains_write x stood u v o (play.Write output.Departures) h = h
+explains_write x stood u v o (play.Write output.Fates) h = h
+explains_write x stood u v o (play.Write output.Statistics) h = h
+explains_write x stood u v o play.NoMemory h = tt
+explains_write x stood u v o (play.Capture damage) h = absurd h
+explains_write x stood u v o play.Read h = absurd h
+explains_write x stood u v o (play.Limit limit) h = absurd h

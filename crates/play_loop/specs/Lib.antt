@@ -1,8 +1,11 @@
+pub mod Ending
 pub mod Gathered
-pub mod GatheredLaws
+pub mod Kept
 pub mod OneQueue
 pub mod Outputs
 pub mod Played
 pub mod Reading
 pub mod Setup
+pub mod Underway
 pub use Rattle.play_core.specs.Ended
+pub use Rattle.play_core.specs.Finished

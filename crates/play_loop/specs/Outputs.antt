@@ -1,10 +1,20 @@
 -- The two output files of a play while their texts are gathered.
-use Rattle.std.specs.Prelude.{◌≡◌, ℕ, List, [], ◌∷◌}
-use Rattle.play_base.specs.View.{View}
-use Rattle.play_core.specs.declared.arrived.Arrived.{Arrived}
-use Rattle.play_text.specs.Names.{NameList, HasClass}
+use Rattle.std.specs.Prelude.{◌≡◌, ℕ, List}
+use Rattle.altq_model.specs.Departures.{Dressing}
+use Rattle.altq_model.specs.Texts.{Naming, fate_text}
+use Rattle.altq_model.specs.declared.Fate.TheVariants as fate
+use Rattle.capture_model.specs.Capture.{Record}
+use Rattle.play_base.specs.declared.trouble.Trouble.{Trouble}
+use Rattle.play_base.specs.declared.trouble.Trouble.TheVariants as trouble
+use Rattle.play_base.specs.View.{View, WriteFault}
 use Rattle.play_base.specs.Holds.{Apart}
+use Rattle.play_core.specs.declared.turn.Departure.{Departure}
+use Rattle.play_core.specs.declared.turn.Dropped.{Dropped}
 use Rattle.play_loop.specs.Gathered.{HasText, HoldsFront}
+use Rattle.play_loop.specs.declared.fault.Output.{Output}
+use Rattle.play_loop.specs.declared.fault.Output.TheVariants as output
+use Rattle.play_loop.specs.declared.fault.PlayFault.{PlayFault}
+use Rattle.play_loop.specs.declared.fault.PlayFault.TheVariants as play
 use Rattle.play_loop.specs.declared.outputs.Outputs.{Outputs}
 
 -- the departures' text and the fates' text so far, with what is gathered of each
@@ -29,7 +39,28 @@ pub record SameFiles (old new : Outputs) : Type 0 where
   pub departures : new.departures ≡ old.departures
   pub fates : new.fates ≡ old.fates
 
--- the class of each packet has a name
-abbrev pub AreNamed : NameList → List Arrived → Type 0
-AreNamed names [] = Unit {0}
-AreNamed names (a ∷ rest) = HasClass names a.mark.class × AreNamed names rest
+-- the record of a packet that was sent, and its row
+abbrev pub record_of : Dressing → Departure → Record
+record_of dress d = record { stamp = d.end; captured = dress d.class d.marked d.packet.bytes; original = d.packet.len }
+
+abbrev pub sent_row : Naming → Departure → List ℕ
+sent_row names d = fate_text d.packet.number d.packet.at d.packet.len (names d.class) (fate.Sent d.start d.end d.rule)
+
+-- the row of a packet that was dropped
+abbrev pub dropped_row : Naming → (class : ℕ) → Dropped → List ℕ
+dropped_row names class d = fate_text d.packet.number d.packet.at d.packet.len (names class) (fate.Dropped d.reason)
+
+-- what trouble with an output means for the play
+abbrev pub output_fault : Output → Trouble → PlayFault
+output_fault output trouble.Failed = play.Write output
+output_fault output trouble.NoMemory = play.NoMemory
+
+-- when a write of the two files ends a play
+abbrev pub IsWriteCause : (dep fat : ℕ) → View → View → PlayFault → Type 0
+IsWriteCause dep fat old new (play.Write output.Departures) = WriteFault old new dep
+IsWriteCause dep fat old new (play.Write output.Fates) = WriteFault old new fat
+IsWriteCause dep fat old new (play.Write output.Statistics) = ⊥
+IsWriteCause dep fat old new play.NoMemory = Unit {0}
+IsWriteCause dep fat old new (play.Capture damage) = ⊥
+IsWriteCause dep fat old new play.Read = ⊥
+IsWriteCause dep fat old new (play.Limit limit) = ⊥

@@ -1,21 +1,22 @@
 -- What a play over files leaves, and when each of its faults comes.
-use Rattle.std.specs.Prelude.{◌≡◌, ◌⊎◌, ℕ, Bool, true, false, List, [], Some, IsTrue, IsSome}
-use Rattle.altq_model.specs.declared.capture.Damage.{Damage}
-use Rattle.altq_model.specs.Capture.{Record, Step, Fault, Limit, Reads, IsCapture}
-use Rattle.altq_model.specs.History.{Entry}
+use Rattle.std.specs.Prelude.{◌≡◌, ◌≤◌, ◌<◌, ◌+◌, ◌⊎◌, ℕ, List, [], ◌∷◌, ◌++◌, length, Some, IsTrue, IsSome}
+use Rattle.altq_model.specs.Arrivals.{Arrival, comings}
+use Rattle.altq_model.specs.Departures.{departed}
+use Rattle.altq_model.specs.History.{Event, Offered, Sent, Happened, bare, offered}
+use Rattle.altq_model.specs.Lawful.{greatest}
+use Rattle.capture_model.specs.Capture.{Record, Step, End, Fault, Limit, Reads, IsCapture, IsLast, place_after}
 use Rattle.play_base.specs.View.{View, ReadFault, WriteFault}
 use Rattle.play_base.specs.Holds.{HoldsAt, Apart}
-use Rattle.pcap_files.specs.declared.fault.CaptureFault.{CaptureFault}
-use Rattle.pcap_files.specs.declared.fault.CaptureFault.TheVariants as capture
-use Rattle.pcap_files.specs.ReadingLaws.{IsLast}
+use Rattle.play_core.specs.declared.totals.Totals.{Totals}
+use Rattle.play_core.specs.Ended.{IsBegun}
+use Rattle.play_core.specs.Finished.{EndsWithOffer, IsFinished, IsStopped}
 use Rattle.play_loop.specs.declared.fault.Opened.{Opened}
+use Rattle.play_loop.specs.declared.fault.Limit.TheVariants as limit
+use Rattle.play_loop.specs.declared.fault.Output.TheVariants as output
 use Rattle.play_loop.specs.declared.fault.PlayFault.{PlayFault}
 use Rattle.play_loop.specs.declared.fault.PlayFault.TheVariants as play
-use Rattle.play_loop.specs.declared.outputs.OutputFault.{OutputFault}
-use Rattle.play_loop.specs.declared.outputs.OutputFault.TheVariants as output
-use Rattle.play_core.specs.Totals.{AreTotals}
-use Rattle.play_loop.specs.Setup.{Setup, IsPlayOf, IsFrontOf, IsCutOf, HoldTexts, HoldFronts}
-use Rattle.play_text.specs.declared.status.Totals.{Totals}
+use Rattle.play_loop.specs.Gathered.{HoldsFront}
+use Rattle.play_loop.specs.Setup.{Setup, arrivals_in, departures_of, fates_of}
 
 -- two files of different names, to which nothing was written
 pub record AreEmpty (v : View) (dep fat : ℕ) : Type 0 where
@@ -30,65 +31,101 @@ pub record AreReady (v : View) (o : Opened) : Type 0 where
   pub from_departures : Apart v o.arrivals o.departures
   pub from_fates : Apart v o.arrivals o.fates
 
--- the play ended or was cut off
-abbrev pub EndsAs : (cut : Bool) → Setup → List Record → List Entry → Type 0
-EndsAs false x records g = IsPlayOf x records g
-EndsAs true x records g = IsCutOf x records g
+-- the files hold the departures and the fates of this history
+pub record HoldTexts (v : View) (o : Opened) (x : Setup) (arrived : List Arrival) (g : List Happened) : Type 0 where
+  pub departures : HoldsAt v o.departures (departures_of x arrived g)
+  pub fates : HoldsAt v o.fates (fates_of x arrived g)
 
--- the play of these records ended or was cut off: the discipline stands for its history, the files hold its texts, and these are its
--- counts
-pub record HasPlayed (cut : Bool) (x : Setup) (stood : List Entry → Type 0) (v : View) (dep fat : ℕ) (records : List Record) (t : Totals) : Type 0 where
-  pub history : List Entry
-  pub play : EndsAs cut x records history
-  pub texts : HoldTexts v dep fat x records history
-  pub stands : stood history
-  pub totals : AreTotals x.rate history t
+-- they hold a front of each
+pub record HoldFronts (v : View) (o : Opened) (x : Setup) (arrived : List Arrival) (g : List Happened) : Type 0 where
+  pub departures : HoldsFront v o.departures (departures_of x arrived g)
+  pub fates : HoldsFront v o.fates (fates_of x arrived g)
+
+-- a discipline stands for a history of the same events
+abbrev pub IsStanding : (List Happened → Type 0) → List Happened → Type 0
+IsStanding stood g = (told : List Happened) × stood told × (bare told ≡ bare g)
+
+-- the whole play of these records: the files hold its texts, the departures are a capture of the packets that were sent, in the order
+-- of decision, and the discipline stands for it
+pub record HasPlayed (x : Setup) (stood : List Happened → Type 0) (v : View) (o : Opened) (records : List Record) (t : Totals) : Type 0 where
+  pub history : List Happened
+  pub play : IsFinished x.policy x.rate x.seed (arrivals_in x records) history t
+  pub texts : HoldTexts v o x (arrivals_in x records) history
+  pub reads : IsCapture (departures_of x (arrivals_in x records) history) (departed x.dress (arrivals_in x records) history)
+  pub stands : IsStanding stood history
+
+-- the first events of the play of these records, up to and with the offer of the last of them, each sending in time: the files hold
+-- exactly their texts. These are all drops of these records, and all sendings that start before the last of them arrives
+pub record HasOffered (x : Setup) (stood : List Happened → Type 0) (v : View) (o : Opened) (records : List Record) : Type 0 where
+  pub history : List Happened
+  pub begun : IsBegun x.policy x.rate x.seed (comings (arrivals_in x records)) history
+  pub all : offered (bare history) ≡ length records
+  pub last : EndsWithOffer history
+  pub texts : HoldTexts v o x (arrivals_in x records) history
+  pub stands : IsStanding stood history
+
+-- when a sending starts
+abbrev pub start_of : Event → ℕ
+start_of (Offered a w v) = 0
+start_of (Sent s) = s.start
+
+-- the bytes that were taken of these end at most 65,536 bytes past this place
+pub record TookUpTo (v : View) (file place : ℕ) (bytes : List ℕ) : Type 0 where
+  pub rest : List ℕ
+  pub left : v.left file ≡ Some rest
+  pub within : length bytes ≤ place + 65536 + length rest
+
+-- if a complete record arrives later than this moment, the bytes taken end at most 65,536 bytes past the first such record. A record
+-- arrives at the greatest stamp up to its own
+abbrev pub Streams : View → (file : ℕ) → List ℕ → List Record → (moment : ℕ) → Type 0
+Streams v file bytes records moment = (before : List Record) (r : Record) (after : List Record) → records ≡ before ++ r ∷ after
+    → greatest 0 before ≤ moment → moment < greatest 0 (before ++ r ∷ []) → TookUpTo v file (place_after 24 (before ++ r ∷ [])) bytes
+
+-- the play of these records up to a sending that is due next and would end too late: the files hold exactly the texts of the events
+-- before it. Where the records are not a whole capture, it starts before the last of them arrives
+pub record WasCutOff (x : Setup) (stood : List Happened → Type 0) (v : View) (o : Opened) (bytes : List ℕ) (records : List Record) (last : Step) : Type 0 where
+  pub history : List Happened
+  pub totals : Totals
+  pub play : IsStopped x.policy x.rate x.seed (arrivals_in x records) history totals
+  pub texts : HoldTexts v o x (arrivals_in x records) history
+  pub stands : IsStanding stood history
+  pub before : (last ≡ End) ⊎ (start_of play.cut.next.what < greatest 0 records)
+  pub streams : Streams v o.arrivals bytes records (start_of play.cut.next.what)
 
 -- the files hold fronts of the texts of the first events of the play
-pub record HasStopped (x : Setup) (v : View) (dep fat : ℕ) (records : List Record) : Type 0 where
-  pub history : List Entry
-  pub play : IsFrontOf x records history
-  pub texts : HoldFronts v dep fat x records history
+pub record HasStopped (x : Setup) (v : View) (o : Opened) (records : List Record) : Type 0 where
+  pub history : List Happened
+  pub begun : IsBegun x.policy x.rate x.seed (comings (arrivals_in x records)) history
+  pub texts : HoldFronts v o x (arrivals_in x records) history
 
--- where the files tell what the arrivals had left: that is a capture, and its play ended
-abbrev pub Plays : Setup → (List Entry → Type 0) → View → View → Opened → Totals → Type 0
-Plays x stood old new o t = IsTrue old.tells → (bytes : List ℕ) → old.left o.arrivals ≡ Some bytes
-    → (records : List Record) × IsCapture bytes records × HasPlayed false x stood new o.departures o.fates records t
+-- this holds of what the arrivals had left, where the files tell it
+abbrev pub OfArrivals : View → Opened → (List ℕ → Type 0) → Type 0
+OfArrivals old o P = IsTrue old.tells → (bytes : List ℕ) → old.left o.arrivals ≡ Some bytes → P bytes
+
+-- that is a capture, and its play ended
+abbrev pub Plays : Setup → (List Happened → Type 0) → View → View → Opened → Totals → Type 0
+Plays x stood old new o t = OfArrivals old o (λ bytes. (records : List Record) × IsCapture bytes records × HasPlayed x stood new o records t)
 
 -- the files hold fronts of the texts of the play of its complete records
 abbrev pub Fronts : Setup → View → View → Opened → Type 0
-Fronts x old new o = IsTrue old.tells → (bytes : List ℕ) → old.left o.arrivals ≡ Some bytes
-    → (records : List Record) (last : Step) → Reads bytes records last → IsLast last → HasStopped x new o.departures o.fates records
+Fronts x old new o = OfArrivals old o (λ bytes. (records : List Record) (last : Step) → Reads bytes records last → IsLast last → HasStopped x new o records)
 
--- this is the first test that it fails
-abbrev pub IsDamaged : View → Opened → Damage → Type 0
-IsDamaged old o damage = IsTrue old.tells → (bytes : List ℕ) → old.left o.arrivals ≡ Some bytes
-    → (records : List Record) × Reads bytes records (Fault damage)
+-- its complete records were offered, and then this stands
+abbrev pub Offers : Setup → (List Happened → Type 0) → View → View → Opened → Step → Type 0
+Offers x stood old new o last = OfArrivals old o (λ bytes. (records : List Record) × Reads bytes records last × HasOffered x stood new o records)
 
--- it reaches a limit
-abbrev pub IsLimited : View → Opened → Type 0
-IsLimited old o = IsTrue old.tells → (bytes : List ℕ) → old.left o.arrivals ≡ Some bytes → (records : List Record) × Reads bytes records Limit
-
--- it is a capture whose play has a sending that would end too late, and the files hold the texts of the events before it
-abbrev pub IsLate : Setup → (List Entry → Type 0) → View → View → Opened → Type 0
-IsLate x stood old new o = IsTrue old.tells → (bytes : List ℕ) → old.left o.arrivals ≡ Some bytes
-    → (records : List Record) × IsCapture bytes records × ((t : Totals) × HasPlayed true x stood new o.departures o.fates records t)
+-- the play of its complete records was cut off
+abbrev pub IsLate : Setup → (List Happened → Type 0) → View → View → Opened → Type 0
+IsLate x stood old new o = OfArrivals old o (λ bytes. (records : List Record) × ((last : Step) × Reads bytes records last × IsLast last
+    × WasCutOff x stood new o bytes records last))
 
 -- when each fault of a play comes
-abbrev pub Explains : Setup → (List Entry → Type 0) → View → View → Opened → PlayFault → Type 0
-Explains x stood old new o (play.Capture damage) = IsDamaged old o damage
+abbrev pub Explains : Setup → (List Happened → Type 0) → View → View → Opened → PlayFault → Type 0
+Explains x stood old new o (play.Capture damage) = Offers x stood old new o (Fault damage)
 Explains x stood old new o play.Read = ReadFault old new o.arrivals
-Explains x stood old new o (play.Write kind) = ((kind ≡ 1) × WriteFault old new o.departures) ⊎ ((kind ≡ 2) × WriteFault old new o.fates)
-Explains x stood old new o (play.Limit kind) = ((kind ≡ 1) × IsLimited old o) ⊎ ((kind ≡ 2) × IsLate x stood old new o)
+Explains x stood old new o (play.Write output.Departures) = WriteFault old new o.departures
+Explains x stood old new o (play.Write output.Fates) = WriteFault old new o.fates
+Explains x stood old new o (play.Write output.Statistics) = ⊥
+Explains x stood old new o (play.Limit limit.Capture) = Offers x stood old new o Limit
+Explains x stood old new o (play.Limit limit.Clock) = IsLate x stood old new o
 Explains x stood old new o play.NoMemory = Unit {0}
-
-abbrev pub capture_fault : CaptureFault → PlayFault
-capture_fault (capture.Damage damage) = play.Capture damage
-capture_fault capture.Limit = play.Limit 1
-capture_fault capture.Read = play.Read
-capture_fault capture.NoMemory = play.NoMemory
-
-abbrev pub output_fault : OutputFault → PlayFault
-output_fault output.Departures = play.Write 1
-output_fault output.Fates = play.Write 2
-output_fault output.NoMemory = play.NoMemory

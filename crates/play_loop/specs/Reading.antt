@@ -1,24 +1,46 @@
--- What was read of a capture.
-use Rattle.std.specs.Prelude.{◌≡◌, ℕ, List, [], ◌∷◌, Some}
-use Rattle.altq_model.specs.declared.Mark.{Mark}
-use Rattle.altq_model.specs.Arrivals.{arrivals_of}
-use Rattle.altq_model.specs.Capture.{Record, IsCapture}
-use Rattle.pcap_files.specs.declared.fault.CaptureFault.{CaptureFault}
-use Rattle.pcap_files.specs.Reading.{ReadsTo}
+-- The arrivals that were read of a capture.
+use Rattle.std.specs.Prelude.{◌≡◌, ◌≤◌, ◌<◌, ◌+◌, ◌^◌, ℕ, List, [], ◌∷◌, ◌++◌, length}
+use Rattle.altq_model.specs.declared.Placed.{Placed}
+use Rattle.altq_model.specs.Arrivals.{Arrival, arrivals_of}
+use Rattle.altq_model.specs.Lawful.{greatest}
+use Rattle.capture_model.specs.Capture.{Record}
+use Rattle.pcap_files.specs.declared.reader.Reader.{Reader}
+use Rattle.pcap_files.specs.Reading.{StandsFor}
 use Rattle.play_base.specs.View.{View}
-use Rattle.play_core.specs.declared.arrived.Arrived.{Arrived}
-use Rattle.play_core.specs.Arrived.{arrivals_held}
+use Rattle.play_loop.specs.declared.arriving.Arriving.{Arriving}
 
--- where the file tells what it had left: that was a capture, and the list holds its arrivals, marked so
-abbrev pub HasRead : (List ℕ → Mark) → View → ℕ → List Arrived → Type 0
-HasRead mark v file list = (bytes : List ℕ) → v.left file ≡ Some bytes
-    → (records : List Record) × IsCapture bytes records × (arrivals_held list ≡ arrivals_of mark records)
+-- the arrival of a packet that was read, where frames are placed so
+abbrev pub arrival_of : (List ℕ → Placed) → Arriving → Arrival
+arrival_of place p = record {
+  at = p.packet.at;
+  len = p.packet.len;
+  class = (place p.packet.bytes).class;
+  prec = (place p.packet.bytes).prec;
+  bytes = p.packet.bytes;
+  raised = p.raised;
+}
 
--- where the file tells what it had left: that reads to this fault
-abbrev pub HasFault : View → ℕ → CaptureFault → Type 0
-HasFault v file fault = (bytes : List ℕ) → v.left file ≡ Some bytes → (records : List Record) × ReadsTo fault bytes records
+-- the numbers of an arrival that was read
+pub record IsWithin (p : Arriving) : Type 0 where
+  pub early : p.packet.at < 2 ^ 62
+  pub some : 1 ≤ p.packet.len
+  pub short : p.packet.len ≤ 262144
+  pub fits : length p.packet.bytes ≤ p.packet.len
 
--- each has the class and the precedence of its bytes
-abbrev pub AreMarked : (List ℕ → Mark) → List Arrived → Type 0
-AreMarked mark [] = Unit {0}
-AreMarked mark (a ∷ rest) = (a.mark ≡ mark a.bytes) × AreMarked mark rest
+-- a reader answered these records, these are their arrivals, and this is the latest
+pub record HasRead (place : List ℕ → Placed) (v : View) (r : Reader) (bytes : List ℕ) (arrived : List Arrival) (latest : ℕ) : Type 0 where
+  pub records : List Record
+  pub stands : StandsFor v r bytes records
+  pub arrivals : arrived ≡ arrivals_of place records
+  pub latest_is : greatest 0 records ≡ latest
+
+-- an arrival has the class of its bytes, is within the lengths of a capture, and no shorter than its bytes
+pub record IsFit (place : List ℕ → Placed) (a : Arrival) : Type 0 where
+  pub class : a.class ≡ (place a.bytes).class
+  pub some : 1 ≤ a.len
+  pub short : a.len ≤ 262144
+  pub fits : length a.bytes ≤ a.len
+
+abbrev pub AreFit : (List ℕ → Placed) → List Arrival → Type 0
+AreFit place [] = Unit {0}
+AreFit place (a ∷ rest) = IsFit place a × AreFit place rest

@@ -1,6 +1,6 @@
 // The files of a play, and why it ends early.
 
-use altq_model::Damage;
+use capture_model::Damage;
 
 /// The files of a play, each answered by the files that it is played over: the arrivals opened, the others created.
 #[derive(Clone, Copy)]
@@ -11,17 +11,34 @@ pub struct Opened {
     pub stats: u32,
 }
 
-/// Why a play ends early. The numbers are the kinds of a status.
+/// A file that a play writes.
+#[derive(Clone, Copy, Debug, PartialEq, Eq)]
+pub enum Output {
+    Departures,
+    Fates,
+    Statistics,
+}
+
+/// A limit that ends a play.
+#[derive(Clone, Copy, Debug, PartialEq, Eq)]
+pub enum Limit {
+    /// The capture has bytes after 4,000,000 records, or a record would end past byte 2^30.
+    Capture,
+    /// The sending that is due next would end at 2^32 seconds or later.
+    Clock,
+}
+
+/// Why a play ends early.
 #[derive(Clone, Copy, Debug, PartialEq, Eq)]
 pub enum PlayFault {
     /// The capture fails this test first.
     Capture(Damage),
     /// A read of the arrivals failed.
     Read,
-    /// A write failed, of the departures (1) or of the fates (2).
-    Write(u8),
-    /// The capture has too many records or bytes (1), or a packet would end at 2^32 seconds or later (2).
-    Limit(u8),
+    /// A write of this file failed.
+    Write(Output),
+    /// A limit was reached.
+    Limit(Limit),
     /// No memory was left.
     NoMemory,
 }

@@ -1,14 +1,16 @@
-//! The play of an interface over files: reads the arrivals of a capture, decides what becomes of each, and writes departures and
-//! fates.
+//! The play of an interface over files: reads the arrivals of a capture one by one, decides what becomes of each, and writes
+//! departures and fates as they are decided.
 #![tactic(auto)]
 
+mod arriving;
+mod ending;
 mod fault;
 mod gathered;
 mod outputs;
 mod playing;
-mod reading;
+mod sending;
 mod writing;
 
-pub use fault::{Opened, PlayFault};
+pub use fault::{Limit, Opened, Output, PlayFault};
 pub use play_core::Totals;
 pub use playing::play;

@@ -1,4 +1,9 @@
 // The two output files of a play.
+ghost use Rattle.std.specs.Prelude.{◌≡◌};
+ghost use Rattle.play_loop.specs.Outputs.{output_fault};
+
+use crate::{Output, PlayFault};
+use play_base::Trouble;
 
 /// The numbers of the two files, and the bytes that are gathered for each.
 #[derive(Drop)]
@@ -9,10 +14,12 @@ pub struct Outputs {
     pub rows: Vec<u8>,
 }
 
-/// Why an output could not be written.
-#[derive(Clone, Copy, Debug, PartialEq, Eq)]
-pub enum OutputFault {
-    Departures,
-    Fates,
-    NoMemory,
+// What trouble with an output means for the play.
+pub fn output_fault(output: Output, trouble: Trouble) -> PlayFault
+    ensures { result ≡ output_fault output trouble }
+{
+    match trouble {
+        Trouble::Failed => PlayFault::Write(output),
+        Trouble::NoMemory => PlayFault::NoMemory,
+    }
 }

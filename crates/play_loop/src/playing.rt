@@ -1,146 +1,71 @@
 // The play of an interface, from a capture to departures and fates.
-ghost use Rattle.std.specs.Prelude.{◌≡◌, ◌≢◌, ◌≤◌, ◌^◌, [], ℕ, List, length, Some, IsSome, IfOk, IfErr, OnOk, OnErr, IsErrOf};
-ghost use Rattle.altq_model.specs.declared.Mark.{Mark};
-ghost use Rattle.altq_model.specs.Arrivals.{arrivals_of};
-ghost use Rattle.altq_model.specs.Capture.{Record};
-ghost use Rattle.altq_model.specs.Texts.{capture_head, fates_head};
-ghost use Rattle.play_laws.specs.Lawful.{AreHeld, AreRising, IsOneOf};
-ghost use Rattle.play_base.specs.View.{WriteFault};
-ghost use Rattle.discipline.specs.Laws.{HasRate};
-ghost use Rattle.play_core.specs.Arrived.{HavePrecs, arrivals_held, comings_held};
+ghost use Rattle.std.specs.Prelude.{◌≡◌, ◌≢◌, ◌≤◌, ◌^◌, [], ◌∷◌, ◌++◌, ℕ, List, None, Some, IsSome, IsTrue, IfOk, IfErr, IfSome, OnOk, OnErr, IsErrOf};
+ghost use Rattle.altq_model.specs.Texts.{fates_header};
+ghost use Rattle.capture_model.specs.Header.{capture_header};
+ghost use Rattle.altq_model.specs.Arrivals.{Arrival};
+ghost use Rattle.altq_model.specs.History.{Happened};
+ghost use Rattle.altq_model.specs.Lawful.{IsOneOf};
+ghost use Rattle.play_base.specs.Holds.{Apart};
+ghost use Rattle.play_base.specs.View.{NoneAppears, ReadFault, WriteFault};
+ghost use Rattle.discipline_laws.specs.Laws.{HasRate};
+ghost use Rattle.pcap_files.specs.Reading.{StandsFor, answered};
 ghost use Rattle.play_text.specs.Names.{HasClass, name_of};
-ghost use Rattle.play_loop.specs.Outputs.{AreNamed, FrontsAre, HasTexts, TextsAre};
-ghost use Rattle.play_loop.specs.Played.{AreEmpty, AreReady, Explains, Fronts, HasPlayed, HasStopped, Plays, capture_fault, output_fault};
-ghost use Rattle.play_loop.specs.Setup.{KeepsBut, setup_of};
+ghost use Rattle.play_loop.specs.Ending.{AreFirst, EndsAs};
+ghost use Rattle.play_loop.specs.Kept.{KeepsBeside, OnlyPlayed, OnlyWrote};
+ghost use Rattle.play_loop.specs.Outputs.{FrontsAre, IsWriteCause, SameFiles, TextsAre};
+ghost use Rattle.play_loop.specs.Played.{AreEmpty, AreReady, Explains, Fronts, Plays};
+ghost use Rattle.play_loop.specs.Setup.{setup_of};
+ghost use Rattle.play_loop.specs.Underway.{IsBroken, IsUnderway};
 
+use crate::arriving::{Arriving, arriving_of};
+use crate::ending::{Due, Ending, capture_fault};
 use crate::gathered::write_all;
-use crate::outputs::{OutputFault, Outputs};
-use crate::reading::read_arrivals;
-use crate::writing::{add_decisions, finish};
-use crate::{Opened, PlayFault};
-use discipline::{Classify, Discipline};
+use crate::outputs::{Outputs, output_fault};
+use crate::sending::{play_packet, send_due};
+use crate::writing::finish;
+use crate::{Limit, Opened, Output, PlayFault};
+use capture_model::every_file_has_a_reading;
+use discipline_laws::{Classify, Discipline};
 use leaf_queue::Words;
-use pcap_files::{CaptureFault, head_bytes};
-use play_base::{Files, Trouble};
-use play_core::{Arrived, Totals, decide};
-use play_text::{Names, fates_head};
+use pcap_files::{CaptureFault, Reader, head_bytes};
+use play_base::Files;
+use play_core::{Progress, Totals};
+use play_text::{Names, fates_header};
 use std::alloc::Global;
 
 // Writes the head of the departures, and then the head row of the fates.
-fn write_heads<F: Files>(files: &mut F, departures: u32, fates: u32) -> Result<(), OutputFault>
+fn write_heads<F: Files>(files: &mut F, departures: u32, fates: u32) -> Result<(), PlayFault>
     requires departures { IsSome ((F.view files.old).part departures) }
     requires fates { IsSome ((F.view files.old).part fates) }
     ensures wrote { OnOk result (AreEmpty (F.view files.old) departures fates →
-        TextsAre (F.view files.new) departures fates [] [] capture_head fates_head) }
+        TextsAre (F.view files.new) departures fates [] [] capture_header fates_header) }
     ensures stopped { OnErr result (AreEmpty (F.view files.old) departures fates →
-        FrontsAre (F.view files.new) departures fates capture_head fates_head) }
-    ensures left { (f p : ℕ) → (F.view files.old).part f ≡ Some p → (F.view files.old).name f ≢ (F.view files.old).name departures →
-        (F.view files.old).name f ≢ (F.view files.old).name fates → (F.view files.new).left f ≡ (F.view files.old).left f }
-    ensures keeps { KeepsBut departures fates (F.view files.old) (F.view files.new) }
-    ensures said { (F.view files.new).said ≡ (F.view files.old).said }
-    ensures departures { IsErrOf result OutputFault.Departures → WriteFault (F.view files.old) (F.view files.new) departures }
-    ensures fates { IsErrOf result OutputFault.Fates → WriteFault (F.view files.old) (F.view files.new) fates }
+        FrontsAre (F.view files.new) departures fates capture_header fates_header) }
+    ensures others { OnlyWrote departures fates (F.view files.old) (F.view files.new) }
+    ensures why { IfErr result (IsWriteCause departures fates (F.view files.old) (F.view files.new)) }
 {
     match write_all(files, departures, &head_bytes()) {
         Ok(()) => {}
-        Err(Trouble::Failed) => return Err(OutputFault::Departures),
-        Err(Trouble::NoMemory) => return Err(OutputFault::NoMemory),
+        Err(trouble) => return Err(output_fault(Output::Departures, trouble)),
     }
-    match write_all(files, fates, fates_head()) {
+    match write_all(files, fates, fates_header()) {
         Ok(()) => Ok(()),
-        Err(Trouble::Failed) => Err(OutputFault::Fates),
-        Err(Trouble::NoMemory) => Err(OutputFault::NoMemory),
-    }
-}
-
-// How a play ended: its counts, and whether it was cut off before a sending that would end too late.
-#[derive(Drop)]
-struct Ending {
-    totals: Totals,
-    cut: bool,
-}
-
-// Plays arrivals, and writes what was decided.
-fn play_arrived<D: Discipline, F: Files>(
-    alloc: Global,
-    discipline: &mut D,
-    names: &Names,
-    rate: u64,
-    words: &mut Words,
-    outputs: &mut Outputs,
-    arrived: &[Arrived],
-    files: &mut F,
-) -> Result<Ending, OutputFault>
-    requires least { 1000 ≤ rate }
-    requires most { rate ≤ 10 ^ 12 }
-    requires rate { HasRate (D.link_rate discipline.old) rate }
-    requires new { D.stands discipline.old [] }
-    requires fresh { words.old.drawn ≡ 0 }
-    requires count { length arrived.now ≤ 4000000 }
-    requires rising { AreRising (comings_held arrived.now) }
-    requires held { AreHeld (D.policy discipline.old) (comings_held arrived.now) }
-    requires precs { HavePrecs arrived.now }
-    requires named { AreNamed names.now arrived.now }
-    requires departures { IsSome ((F.view files.old).part outputs.old.departures) }
-    requires fates { IsSome ((F.view files.old).part outputs.old.fates) }
-    ensures played { IfOk result (λ e. (mark : List ℕ → Mark) (records : List Record) → arrivals_held arrived.now ≡ arrivals_of mark records →
-        HasTexts (F.view files.old) outputs.old capture_head fates_head →
-        HasPlayed e.cut (setup_of (D.policy discipline.old) mark (name_of names.now) rate words.old.seed) (D.stands discipline.new) (F.view files.new) outputs.old.departures outputs.old.fates records e.totals) }
-    ensures stopped { OnErr result ((mark : List ℕ → Mark) (records : List Record) → arrivals_held arrived.now ≡ arrivals_of mark records →
-        HasTexts (F.view files.old) outputs.old capture_head fates_head →
-        HasStopped (setup_of (D.policy discipline.old) mark (name_of names.now) rate words.old.seed) (F.view files.new) outputs.old.departures outputs.old.fates records) }
-    ensures keeps { KeepsBut outputs.old.departures outputs.old.fates (F.view files.old) (F.view files.new) }
-    ensures said { (F.view files.new).said ≡ (F.view files.old).said }
-    ensures departures { IsErrOf result OutputFault.Departures → WriteFault (F.view files.old) (F.view files.new) outputs.old.departures }
-    ensures fates { IsErrOf result OutputFault.Fates → WriteFault (F.view files.old) (F.view files.new) outputs.old.fates }
-{
-    let Ok(decisions) = decide(alloc, discipline, words, rate, arrived) else {
-        return Err(OutputFault::NoMemory);
-    };
-    match add_decisions(alloc, files, outputs, names, arrived, &decisions.list) {
-        Ok(()) => {}
-        Err(fault) => return Err(fault),
-    }
-    match finish(files, outputs) {
-        Ok(()) => Ok(Ending {
-            totals: decisions.totals,
-            cut: decisions.cut,
-        }),
-        Err(fault) => Err(fault),
-    }
-}
-
-// What a fault of the capture means for the play.
-fn capture_fault(fault: CaptureFault) -> PlayFault
-    ensures { result ≡ capture_fault fault }
-{
-    match fault {
-        CaptureFault::Damage(damage) => PlayFault::Capture(damage),
-        CaptureFault::Limit => PlayFault::Limit(1),
-        CaptureFault::Read => PlayFault::Read,
-        CaptureFault::NoMemory => PlayFault::NoMemory,
-    }
-}
-
-// What a fault of an output means for the play.
-fn output_fault(fault: OutputFault) -> PlayFault
-    ensures { result ≡ output_fault fault }
-{
-    match fault {
-        OutputFault::Departures => PlayFault::Write(1),
-        OutputFault::Fates => PlayFault::Write(2),
-        OutputFault::NoMemory => PlayFault::NoMemory,
+        Err(trouble) => Err(output_fault(Output::Fates, trouble)),
     }
 }
 
 /// Plays the capture that the arrivals have left through a discipline, of which nothing was asked yet, and a link of `rate` bits per
-/// second, 1,000 to 10^12: writes both heads, reads the whole capture, decides, and writes a record for each sending and a row
-/// for each fate. `classify` tells the class and the precedence of each frame, `names` has a name for each class that it tells,
-/// and of `words` none is drawn. The statistics stay empty.
+/// second, 1,000 to 10^12. It writes both heads, and then reads the records one by one: after each it makes every sending that
+/// starts before the record's packet arrives, and offers the packet; at the end of the capture it makes the rest. A record for each
+/// sending and a row for each fate are gathered as they are decided, up to 65,536 bytes for each file. `classify` tells the class and
+/// the precedence of each frame and the bytes with which it leaves, `names` has a name for each class that it tells, and of `words`
+/// none is drawn. The statistics stay empty.
 ///
-/// What each error means, and when it comes, `PlayFault` says; after an error departures and fates hold fronts of their texts,
-/// and after a sending that would end too late exactly the texts of what was decided before it. Costs a few steps and the bytes
-/// of each packet, and what the discipline and `classify` cost; holds all packets and decisions at once.
+/// What each error means, and when it comes, `PlayFault` says. After a fault or a limit of the capture, departures and fates hold
+/// exactly what was decided up to the offer of its last complete record, and after a sending that would end too late exactly what was
+/// decided before it; after any other error fronts of their texts. Holds one packet besides those that wait, a piece of 65,536 bytes
+/// of the capture, and what is gathered: nothing that grows with the capture. Costs a few steps and the bytes of each packet, and
+/// what the discipline and `classify` cost.
 pub fn play<D: Discipline, C: Classify, F: Files>(
     alloc: Global,
     discipline: &mut D,
@@ -157,25 +82,29 @@ pub fn play<D: Discipline, C: Classify, F: Files>(
     requires rate { HasRate (D.link_rate discipline.old) rate }
     requires new { D.stands discipline.old [] }
     requires fresh { words.old.drawn ≡ 0 }
-    requires held { (frame : List ℕ) → IsOneOf (C.mark classify.now frame).class (D.policy discipline.old).classes }
-    requires precs { (frame : List ℕ) → (C.mark classify.now frame).prec ≤ 2 }
-    requires named { (frame : List ℕ) → HasClass names.now (C.mark classify.now frame).class }
-    ensures done { IfOk result (Plays (setup_of (D.policy discipline.old) (C.mark classify.now) (name_of names.now) rate words.old.seed)
+    requires held { (frame : List ℕ) → IsOneOf (C.placed classify.now frame).class (D.policy discipline.old).classes }
+    requires precs { (frame : List ℕ) → (C.placed classify.now frame).prec ≤ 2 }
+    requires named { (frame : List ℕ) → HasClass names.now (C.placed classify.now frame).class }
+    ensures done { IfOk result (Plays (setup_of (D.policy discipline.old) (C.placed classify.now) (C.dressed classify.now) (name_of names.now) rate words.old.seed)
         (D.stands discipline.new) (F.view files.old) (F.view files.new) opened.now) }
-    ensures why { IfErr result (Explains (setup_of (D.policy discipline.old) (C.mark classify.now) (name_of names.now) rate words.old.seed)
+    ensures why { IfErr result (Explains (setup_of (D.policy discipline.old) (C.placed classify.now) (C.dressed classify.now) (name_of names.now) rate words.old.seed)
         (D.stands discipline.new) (F.view files.old) (F.view files.new) opened.now) }
-    ensures front { OnErr result (Fronts (setup_of (D.policy discipline.old) (C.mark classify.now) (name_of names.now) rate words.old.seed)
+    ensures front { OnErr result (Fronts (setup_of (D.policy discipline.old) (C.placed classify.now) (C.dressed classify.now) (name_of names.now) rate words.old.seed)
         (F.view files.old) (F.view files.new) opened.now) }
-    ensures keeps { KeepsBut opened.now.departures opened.now.fates (F.view files.old) (F.view files.new) }
+    ensures keeps { KeepsBeside opened.now.arrivals opened.now.departures opened.now.fates (F.view files.old) (F.view files.new) }
+    ensures none { NoneAppears (F.view files.old) (F.view files.new) }
     ensures said { (F.view files.new).said ≡ (F.view files.old).said }
 {
     match write_heads(files, opened.departures, opened.fates) {
         Ok(()) => {}
-        Err(fault) => return Err(output_fault(fault)),
+        Err(fault) => return Err(fault),
     }
-    let arrived = match read_arrivals(alloc, classify, files, opened.arrivals) {
-        Ok(arrived) => arrived,
+    let mut reader = match Reader::start(alloc, files, opened.arrivals) {
+        Ok(reader) => reader,
         Err(fault) => return Err(capture_fault(fault)),
+    };
+    let Ok(mut progress) = Progress::begin(alloc, discipline, rate) else {
+        return Err(PlayFault::NoMemory);
     };
     let mut outputs = Outputs {
         departures: opened.departures,
@@ -183,22 +112,95 @@ pub fn play<D: Discipline, C: Classify, F: Files>(
         records: Vec::new(alloc),
         rows: Vec::new(alloc),
     };
-    let played = play_arrived(
+    let ending = match play_records(
         alloc,
+        &mut reader,
+        &mut progress,
         discipline,
+        classify,
         names,
-        rate,
         words,
         &mut outputs,
-        &arrived,
         files,
-    );
-    let ending = match played {
+    ) {
         Ok(ending) => ending,
-        Err(fault) => return Err(output_fault(fault)),
+        Err(fault) => return Err(fault),
     };
-    if ending.cut {
-        return Err(PlayFault::Limit(2));
+    match finish(files, &mut outputs) {
+        Ok(()) => {}
+        Err(fault) => return Err(fault),
     }
-    Ok(ending.totals)
+    match ending {
+        Ending::Whole => Ok(progress.totals()),
+        Ending::Cut(fault) => Err(capture_fault(fault)),
+        Ending::Late => {
+            // A law, which the proof cites: it does nothing.
+            every_file_has_a_reading();
+            Err(PlayFault::Limit(Limit::Clock))
+        }
+    }
+}
+
+// Plays the records that a reader has not answered yet: each before the next is read, and at the end of the capture what is left.
+fn play_records<D: Discipline, C: Classify, F: Files>(
+    alloc: Global,
+    reader: &mut Reader,
+    progress: &mut Progress,
+    discipline: &mut D,
+    classify: &C,
+    names: &Names,
+    words: &mut Words,
+    outputs: &mut Outputs,
+    files: &mut F,
+) -> Result<Ending, PlayFault>
+    requires there { IsSome ((F.view files.old).part reader.old.file) }
+    requires sound { reader.old.fault ≡ None }
+    requires from_departures { Apart (F.view files.old) reader.old.file outputs.old.departures }
+    requires from_fates { Apart (F.view files.old) reader.old.file outputs.old.fates }
+    requires under { IsUnderway (C.placed classify.now) (C.dressed classify.now) (name_of names.now) (D.policy discipline.old) (D.stands discipline.old) (D.lists discipline.old) (D.limits discipline.old) (D.link_rate discipline.old) (F.view files.old) outputs.old progress.old [] words.old [] }
+    requires held { (frame : List ℕ) → IsOneOf (C.placed classify.now frame).class (D.policy discipline.old).classes }
+    requires precs { (frame : List ℕ) → (C.placed classify.now frame).prec ≤ 2 }
+    requires named { (frame : List ℕ) → HasClass names.now (C.placed classify.now frame).class }
+    ensures ended { IfOk result (λ ending. (arrived : List Arrival) × (g : List Happened)
+        × IsUnderway (C.placed classify.now) (C.dressed classify.now) (name_of names.now) (D.policy discipline.new) (D.stands discipline.new) (D.lists discipline.new) (D.limits discipline.new) (D.link_rate discipline.new) (F.view files.new) outputs.new progress.new arrived words.new g
+        × EndsAs ending (C.placed classify.now) (D.policy discipline.old) progress.old.clock.rate words.old.seed (λ bytes. IsTrue (F.view files.old).tells × StandsFor (F.view files.old) reader.old bytes [])
+        (F.view files.new) reader.new arrived g
+        × AreFirst (C.placed classify.now) (D.policy discipline.old) progress.old.clock.rate words.old.seed (λ bytes. IsTrue (F.view files.old).tells × StandsFor (F.view files.old) reader.old bytes []) arrived g) }
+    ensures broken { OnErr result ((arrived : List Arrival) × (g : List Happened)
+        × IsBroken (C.dressed classify.now) (name_of names.now) (D.policy discipline.old) progress.old.clock.rate words.old.seed (F.view files.new) outputs.old arrived g
+        × AreFirst (C.placed classify.now) (D.policy discipline.old) progress.old.clock.rate words.old.seed (λ bytes. IsTrue (F.view files.old).tells × StandsFor (F.view files.old) reader.old bytes []) arrived g) }
+    ensures read { IfOk result (λ ending. ending ≡ Ending.Cut CaptureFault.Read → ReadFault (F.view files.old) (F.view files.new) reader.old.file) }
+    ensures same { SameFiles outputs.old outputs.new }
+    ensures file { reader.new.file ≡ reader.old.file }
+    ensures others { OnlyPlayed reader.old.file outputs.old.departures outputs.old.fates (F.view files.old) (F.view files.new) }
+    ensures why { IfErr result (IsWriteCause outputs.old.departures outputs.old.fates (F.view files.old) (F.view files.new)) }
+    ensures policy { D.policy discipline.new ≡ D.policy discipline.old }
+    ensures rate { progress.new.clock.rate ≡ progress.old.clock.rate }
+    ensures seed { words.new.seed ≡ words.old.seed }
+{
+    let mut latest = 0;
+    'records: loop {
+        let found = match reader.next(files) {
+            Ok(found) => found,
+            Err(fault) => return Ok(Ending::Cut(fault)),
+        };
+        let Some(record) = found else {
+            return match send_due(
+                alloc, progress, discipline, classify, names, None, outputs, files,
+            ) {
+                Ok(Due::Made) => Ok(Ending::Whole),
+                Ok(Due::Late) => Ok(Ending::Late),
+                Err(fault) => Err(fault),
+            };
+        };
+        let arriving = arriving_of(record, progress.totals().arrived + 1, latest);
+        latest = arriving.packet.at;
+        match play_packet(
+            alloc, progress, discipline, classify, names, words, arriving, outputs, files,
+        ) {
+            Ok(Due::Made) => {}
+            Ok(Due::Late) => return Ok(Ending::Late),
+            Err(fault) => return Err(fault),
+        }
+    }
 }

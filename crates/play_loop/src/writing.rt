@@ -1,46 +1,46 @@
-// Writing the decisions of a play: a record for each sending, and a row for each fate.
-ghost use Rattle.std.specs.Prelude.{◌≡◌, ◌≤◌, ◌++◌, ℕ, List, [], length, IsSome, OnOk, OnErr, IsErrOf};
-ghost use Rattle.altq_model.specs.Texts.{departure_record, departure_records, fate_text, fate_rows};
-ghost use Rattle.altq_model.specs.Arrivals.{arrival};
+// Writing what was decided: a record for each sending, and a row for each fate.
+ghost use Rattle.std.specs.Prelude.{◌≡◌, ◌≤◌, ◌<◌, ◌*◌, ◌^◌, ◌++◌, ℕ, List, [], length, IsSome, IfErr, IfOk, IfSome, OnOk, OnErr, IsErrOf};
+ghost use Rattle.std.specs.Option.{option_map_or};
+ghost use Rattle.altq_model.specs.Texts.{fate_text};
+ghost use Rattle.capture_model.specs.Written.{record_text};
 ghost use Rattle.play_base.specs.View.{WriteFault};
 ghost use Rattle.play_base.specs.Holds.{HoldsAt};
+ghost use Rattle.play_text.specs.Names.{HasClass, name_of};
+ghost use Rattle.play_core.specs.declared.turn.Dropped.{Dropped};
 ghost use Rattle.play_loop.specs.Gathered.{Grew, Stopped};
-ghost use Rattle.play_core.specs.Arrived.{arrival_of, arrivals_held, decisions_of};
-ghost use Rattle.play_core.specs.Decided.{AreSound, FateInTime};
-ghost use Rattle.play_text.specs.Names.{HasClass, NameList, name_of};
-ghost use Rattle.play_loop.specs.Setup.{KeepsBut};
-ghost use Rattle.play_loop.specs.Outputs.{AreNamed, HasTexts, HasFronts, SameFiles};
+ghost use Rattle.play_loop.specs.Kept.{OnlyWrote};
+ghost use Rattle.play_loop.specs.Outputs.{HasFronts, HasTexts, IsWriteCause, SameFiles, dropped_row, record_of, sent_row};
 
 use crate::gathered::{flush, gather};
-use crate::outputs::{OutputFault, Outputs};
+use crate::outputs::{Outputs, output_fault};
+use crate::{Output, PlayFault};
 use altq_model::Fate;
+use discipline_laws::Classify;
 use pcap_files::record_head;
-use play_base::{Files, Trouble};
-use play_core::{Arrived, Decided};
+use play_base::{Files, Packet, Trouble};
+use play_core::{Departure, Dropped};
 use play_text::{Names, fate_row};
 use std::alloc::Global;
 
-// Adds the record of a packet that was sent.
-fn add_departure<F: Files>(
+// Adds the record of a packet of `len` bytes that was sent: its head, and then these bytes of it.
+fn add_record<F: Files>(
     files: &mut F,
     file: u32,
     pending: &mut Vec<u8>,
-    packet: &Arrived,
-    fate: Fate,
+    end: u64,
+    len: u32,
+    bytes: &[u8],
 ) -> Result<(), Trouble>
     requires there { IsSome ((F.view files.old).part file) }
-    requires early { FateInTime fate }
+    requires early { end < 2 ^ 32 * 10 ^ 9 }
+    requires within { length bytes.now ≤ len }
     ensures grew { OnOk result (Grew (F.view files.old) (F.view files.new) file pending.old.items pending.new.items
-        (departure_record (arrival_of packet.now) fate)) }
+        (record_text (record { stamp = end; captured = bytes.now; original = len }))) }
     ensures stopped { OnErr result (Stopped (F.view files.old) (F.view files.new) file pending.old.items
-        (departure_record (arrival_of packet.now) fate)) }
+        (record_text (record { stamp = end; captured = bytes.now; original = len }))) }
     ensures failed { IsErrOf result Trouble.Failed → WriteFault (F.view files.old) (F.view files.new) file }
 {
-    let Fate::Sent { end, .. } = fate else {
-        return Ok(());
-    };
-    let bytes = packet.bytes.as_slice();
-    let head = record_head(end, bytes.len() as u32, packet.len);
+    let head = record_head(end, bytes.len() as u32, len);
     match gather(files, file, pending, &head) {
         Ok(()) => {}
         Err(trouble) => return Err(trouble),
@@ -58,25 +58,26 @@ fn add_row<F: Files>(
     file: u32,
     pending: &mut Vec<u8>,
     names: &Names,
-    packet: &Arrived,
-    decided: Decided,
+    class: u32,
+    packet: &Packet,
+    fate: &Fate,
 ) -> Result<(), Trouble>
     requires there { IsSome ((F.view files.old).part file) }
-    requires named { HasClass names.now packet.now.mark.class }
+    requires named { HasClass names.now class }
     ensures grew { OnOk result (Grew (F.view files.old) (F.view files.new) file pending.old.items pending.new.items
-        (fate_text decided.number packet.now.at packet.now.len (name_of names.now packet.now.mark.class) decided.fate)) }
+        (fate_text packet.now.number packet.now.at packet.now.len (name_of names.now class) fate.now)) }
     ensures stopped { OnErr result (Stopped (F.view files.old) (F.view files.new) file pending.old.items
-        (fate_text decided.number packet.now.at packet.now.len (name_of names.now packet.now.mark.class) decided.fate)) }
+        (fate_text packet.now.number packet.now.at packet.now.len (name_of names.now class) fate.now)) }
     ensures failed { IsErrOf result Trouble.Failed → WriteFault (F.view files.old) (F.view files.new) file }
 {
     let Ok(row) = fate_row(
         alloc,
         names,
-        decided.number,
+        packet.number,
         packet.at,
         packet.len,
-        packet.mark.class,
-        &decided.fate,
+        class,
+        fate,
     ) else {
         return Err(Trouble::NoMemory);
     };
@@ -86,36 +87,61 @@ fn add_row<F: Files>(
     }
 }
 
-// Adds the texts of one decision.
-fn add_decision<F: Files>(
+// Gives the bytes of a packet that was sent those with which it leaves.
+fn dress_packet<C: Classify>(classify: &C, departure: &mut Departure)
+    ensures { departure.new ≡ record departure.old {
+      packet = record departure.old.packet {
+        bytes = C.dressed classify.now departure.old.class departure.old.marked departure.old.packet.bytes;
+      };
+    } }
+{
+    let class = departure.class;
+    let marked = departure.marked;
+    classify.dress(class, marked, departure.packet.bytes.as_mut_slice());
+}
+
+/// Adds the record of a packet that was sent, with the bytes with which it leaves, and then its row. After an error each file holds
+/// a front of its text.
+pub fn add_sent<C: Classify, F: Files>(
     alloc: Global,
     files: &mut F,
     outputs: &mut Outputs,
     names: &Names,
-    packet: &Arrived,
-    decided: Decided,
-) -> Result<(), OutputFault>
-    requires named { HasClass names.now packet.now.mark.class }
+    classify: &C,
+    mut departure: Departure,
+) -> Result<(), PlayFault>
+    requires named { HasClass names.now departure.class }
+    requires early { departure.end < 2 ^ 32 * 10 ^ 9 }
+    requires within { length departure.packet.bytes ≤ departure.packet.len }
     requires departures { IsSome ((F.view files.old).part outputs.old.departures) }
     requires fates { IsSome ((F.view files.old).part outputs.old.fates) }
-    requires early { FateInTime decided.fate }
     ensures wrote { OnOk result ((ds ts : List ℕ) → HasTexts (F.view files.old) outputs.old ds ts → HasTexts (F.view files.new) outputs.new
-        (ds ++ departure_record (arrival_of packet.now) decided.fate)
-        (ts ++ fate_text decided.number packet.now.at packet.now.len (name_of names.now packet.now.mark.class) decided.fate)) }
+        (ds ++ record_text (record_of (C.dressed classify.now) departure)) (ts ++ sent_row (name_of names.now) departure)) }
     ensures stopped { OnErr result ((ds ts : List ℕ) → HasTexts (F.view files.old) outputs.old ds ts → HasFronts (F.view files.new) outputs.old
-        (ds ++ departure_record (arrival_of packet.now) decided.fate)
-        (ts ++ fate_text decided.number packet.now.at packet.now.len (name_of names.now packet.now.mark.class) decided.fate)) }
+        (ds ++ record_text (record_of (C.dressed classify.now) departure)) (ts ++ sent_row (name_of names.now) departure)) }
     ensures same { SameFiles outputs.old outputs.new }
-    ensures keeps { KeepsBut outputs.old.departures outputs.old.fates (F.view files.old) (F.view files.new) }
-    ensures said { (F.view files.new).said ≡ (F.view files.old).said }
-    ensures departures { IsErrOf result OutputFault.Departures → WriteFault (F.view files.old) (F.view files.new) outputs.old.departures }
-    ensures fates { IsErrOf result OutputFault.Fates → WriteFault (F.view files.old) (F.view files.new) outputs.old.fates }
+    ensures others { OnlyWrote outputs.old.departures outputs.old.fates (F.view files.old) (F.view files.new) }
+    ensures why { IfErr result (IsWriteCause outputs.old.departures outputs.old.fates (F.view files.old) (F.view files.new)) }
 {
+    dress_packet(classify, &mut departure);
+    let fate = Fate::Sent {
+        start: departure.start,
+        end: departure.end,
+        rule: departure.rule,
+    };
+    let packet = &departure.packet;
     let file = outputs.departures;
-    match add_departure(files, file, &mut outputs.records, packet, decided.fate) {
+    let bytes = packet.bytes.as_slice();
+    match add_record(
+        files,
+        file,
+        &mut outputs.records,
+        departure.end,
+        packet.len,
+        bytes,
+    ) {
         Ok(()) => {}
-        Err(Trouble::Failed) => return Err(OutputFault::Departures),
-        Err(Trouble::NoMemory) => return Err(OutputFault::NoMemory),
+        Err(trouble) => return Err(output_fault(Output::Departures, trouble)),
     }
     let file = outputs.fates;
     match add_row(
@@ -124,62 +150,57 @@ fn add_decision<F: Files>(
         file,
         &mut outputs.rows,
         names,
+        departure.class,
         packet,
-        decided,
+        &fate,
     ) {
         Ok(()) => Ok(()),
-        Err(Trouble::Failed) => Err(OutputFault::Fates),
-        Err(Trouble::NoMemory) => Err(OutputFault::NoMemory),
+        Err(trouble) => Err(output_fault(Output::Fates, trouble)),
     }
 }
 
-/// Adds the texts of all decisions, in their order. After an error each file holds a front of its text.
-pub fn add_decisions<F: Files>(
+/// Adds the row of a packet that was offered to a class, if it was dropped. After an error each file holds a front of its text.
+pub fn add_dropped<F: Files>(
     alloc: Global,
     files: &mut F,
     outputs: &mut Outputs,
     names: &Names,
-    arrived: &[Arrived],
-    list: &[Decided],
-) -> Result<(), OutputFault>
-    requires named { AreNamed names.now arrived.now }
+    class: u32,
+    dropped: Option<Dropped>,
+) -> Result<(), PlayFault>
+    requires named { HasClass names.now class }
     requires departures { IsSome ((F.view files.old).part outputs.old.departures) }
     requires fates { IsSome ((F.view files.old).part outputs.old.fates) }
-    requires sound { AreSound (length arrived.now) (decisions_of list.now) }
     ensures wrote { OnOk result ((ds ts : List ℕ) → HasTexts (F.view files.old) outputs.old ds ts → HasTexts (F.view files.new) outputs.new
-        (ds ++ departure_records (arrivals_held arrived.now) (decisions_of list.now))
-        (ts ++ fate_rows (name_of names.now) (arrivals_held arrived.now) (decisions_of list.now))) }
+        ds (ts ++ option_map_or (dropped_row (name_of names.now) class) dropped [])) }
     ensures stopped { OnErr result ((ds ts : List ℕ) → HasTexts (F.view files.old) outputs.old ds ts → HasFronts (F.view files.new) outputs.old
-        (ds ++ departure_records (arrivals_held arrived.now) (decisions_of list.now))
-        (ts ++ fate_rows (name_of names.now) (arrivals_held arrived.now) (decisions_of list.now))) }
+        ds (ts ++ option_map_or (dropped_row (name_of names.now) class) dropped [])) }
     ensures same { SameFiles outputs.old outputs.new }
-    ensures keeps { KeepsBut outputs.old.departures outputs.old.fates (F.view files.old) (F.view files.new) }
-    ensures said { (F.view files.new).said ≡ (F.view files.old).said }
-    ensures departures { IsErrOf result OutputFault.Departures → WriteFault (F.view files.old) (F.view files.new) outputs.old.departures }
-    ensures fates { IsErrOf result OutputFault.Fates → WriteFault (F.view files.old) (F.view files.new) outputs.old.fates }
+    ensures others { OnlyWrote outputs.old.departures outputs.old.fates (F.view files.old) (F.view files.new) }
+    ensures why { IfErr result (IsWriteCause outputs.old.departures outputs.old.fates (F.view files.old) (F.view files.new)) }
 {
-    for decided in list {
-        let packet = packet_of(arrived, *decided);
-        match add_decision(alloc, files, outputs, names, packet, *decided) {
-            Ok(()) => {}
-            Err(fault) => return Err(fault),
-        }
+    let Some(Dropped { packet, reason }) = dropped else {
+        return Ok(());
+    };
+    let fate = Fate::Dropped(reason);
+    let file = outputs.fates;
+    match add_row(
+        alloc,
+        files,
+        file,
+        &mut outputs.rows,
+        names,
+        class,
+        &packet,
+        &fate,
+    ) {
+        Ok(()) => Ok(()),
+        Err(trouble) => Err(output_fault(Output::Fates, trouble)),
     }
-    Ok(())
-}
-
-// The packet of a decision.
-fn packet_of(arrived: &[Arrived], decided: Decided) -> &Arrived
-    requires first { 1 ≤ decided.number }
-    requires last { decided.number ≤ length arrived.now }
-    ensures arrival { arrival (arrivals_held arrived.now) decided.number ≡ arrival_of result.now }
-    ensures named { (names : NameList) → AreNamed names arrived.now → HasClass names result.now.mark.class }
-{
-    &arrived[decided.number as usize - 1]
 }
 
 /// Writes what is gathered, the departures first. After an error each file holds a front of its text.
-pub fn finish<F: Files>(files: &mut F, outputs: &mut Outputs) -> Result<(), OutputFault>
+pub fn finish<F: Files>(files: &mut F, outputs: &mut Outputs) -> Result<(), PlayFault>
     requires departures { IsSome ((F.view files.old).part outputs.old.departures) }
     requires fates { IsSome ((F.view files.old).part outputs.old.fates) }
     ensures departures_whole { OnOk result ((ds ts : List ℕ) → HasTexts (F.view files.old) outputs.old ds ts →
@@ -188,19 +209,15 @@ pub fn finish<F: Files>(files: &mut F, outputs: &mut Outputs) -> Result<(), Outp
         HoldsAt (F.view files.new) outputs.old.fates ts) }
     ensures stopped { OnErr result ((ds ts : List ℕ) → HasTexts (F.view files.old) outputs.old ds ts →
         HasFronts (F.view files.new) outputs.old ds ts) }
-    ensures keeps { KeepsBut outputs.old.departures outputs.old.fates (F.view files.old) (F.view files.new) }
-    ensures said { (F.view files.new).said ≡ (F.view files.old).said }
-    ensures departures { IsErrOf result OutputFault.Departures → WriteFault (F.view files.old) (F.view files.new) outputs.old.departures }
-    ensures fates { IsErrOf result OutputFault.Fates → WriteFault (F.view files.old) (F.view files.new) outputs.old.fates }
+    ensures others { OnlyWrote outputs.old.departures outputs.old.fates (F.view files.old) (F.view files.new) }
+    ensures why { IfErr result (IsWriteCause outputs.old.departures outputs.old.fates (F.view files.old) (F.view files.new)) }
 {
     match flush(files, outputs.departures, &mut outputs.records) {
         Ok(()) => {}
-        Err(Trouble::Failed) => return Err(OutputFault::Departures),
-        Err(Trouble::NoMemory) => return Err(OutputFault::NoMemory),
+        Err(trouble) => return Err(output_fault(Output::Departures, trouble)),
     }
     match flush(files, outputs.fates, &mut outputs.rows) {
         Ok(()) => Ok(()),
-        Err(Trouble::Failed) => Err(OutputFault::Fates),
-        Err(Trouble::NoMemory) => Err(OutputFault::NoMemory),
+        Err(trouble) => Err(output_fault(Output::Fates, trouble)),
     }
 }

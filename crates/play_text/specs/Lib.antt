@@ -1,2 +1,4 @@
-pub mod Names
 pub mod Named
+pub mod Names
+pub mod Ready
+pub mod Statistics

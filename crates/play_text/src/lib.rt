@@ -1,13 +1,14 @@
-//! The texts of a play: the names of its classes, the rows of its fates, and the status that it ends with.
+//! The texts of a play: the names of its classes, the rows of its fates, and its statistics.
 #![tactic(auto)]
 
 mod names;
 mod rows;
-mod status;
+mod stats;
 
+pub use altq_model::Counts;
 pub use names::Names;
-pub use rows::{fate_row, fates_head, named_row};
-pub use status::{Status, Totals};
+pub use rows::{Rows, fate_row, fates_header};
+pub use stats::stats_text;
 
 #[cfg(test)]
 mod tests;

@@ -1,5 +1,5 @@
 // The names of the queue classes.
-ghost use Rattle.std.specs.Prelude.{◌≡◌, ◌≢◌, ◌<◌, ◌++◌, ◌∷◌, [], length, All, IfSome, IsTrue, OnOk, OnErr};
+ghost use Rattle.std.specs.Prelude.{◌≡◌, ◌≢◌, ◌<◌, ◌++◌, ◌∷◌, [], length, All, IfSome, IsTrue, OnOk, OnErr, Some, option_map, slice_get};
 ghost use Rattle.play_text.specs.Names.{AreNames, HasClass, is_name, name_of, place_of};
 
 use play_base::NoMemory;
@@ -86,6 +86,14 @@ impl Names {
             Some(at) => self.entries[at].name.as_str(),
             None => "",
         }
+    }
+
+    // The name of the class at a place.
+    pub(crate) fn name_at(&self, place: usize) -> &str
+        requires { place < length self.now }
+        ensures { option_map (λ pair. pair.1) (slice_get self.now place) ≡ Some result.now }
+    {
+        self.entries[place].name.as_str()
     }
 
     // Where a class stands: the classes rise.

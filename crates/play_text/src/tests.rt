@@ -1,4 +1,4 @@
-use crate::{Names, fate_row, fates_head};
+use crate::{Counts, Names, Rows, fate_row, fates_header, stats_text};
 use altq_model::{Fate, Reason, Rule};
 use std::test::Fail;
 
@@ -11,10 +11,11 @@ fn one_packet_at_five_seconds(rt: HostRuntime) -> Result<(), Fail> {
         end: 5_001_000_000,
         rule: Rule::Share,
     };
-    let row = fate_row(rt.alloc(), &names, 1, 5_000_000_000, 1000, 1, &sent)?;
+    let mut rows = Rows::new(rt.alloc());
+    rows.add(&names, 1, 5_000_000_000, 1000, 1, &sent)?;
     let text = b"1,5000000000,1000,default,share,5000000000,5001000000\n";
-    assert!(rt; row.as_slice() == text.as_slice());
-    assert_eq!(rt; fates_head().len(), 43);
+    assert!(rt; rows.as_slice() == text.as_slice());
+    assert_eq!(rt; fates_header().len(), 43);
     Ok(())
 }
 
@@ -23,8 +24,9 @@ fn fifty_first_packet_is_dropped(rt: HostRuntime) -> Result<(), Fail> {
     let mut names = Names::make(rt.alloc());
     names.add(1, "default")?;
     let full = Fate::Dropped(Reason::Full);
-    let row = fate_row(rt.alloc(), &names, 51, 0, 100, 1, &full)?;
-    assert!(rt; row.as_slice() == b"51,0,100,default,full,,\n".as_slice());
+    let mut rows = Rows::new(rt.alloc());
+    rows.add(&names, 51, 0, 100, 1, &full)?;
+    assert!(rt; rows.as_slice() == b"51,0,100,default,full,,\n".as_slice());
     Ok(())
 }
 
@@ -42,7 +44,49 @@ fn voice_overtakes_bulk_data(rt: HostRuntime) -> Result<(), Fail> {
         end: 10_200_000,
         rule: Rule::RealTime,
     };
-    let row = fate_row(rt.alloc(), &names, 51, 10_000_000, 200, 1, &sent)?;
-    assert!(rt; row.as_slice() == b"51,10000000,200,voice,realtime,10000000,10200000\n".as_slice());
+    let mut rows = Rows::new(rt.alloc());
+    rows.add(&names, 51, 10_000_000, 200, 1, &sent)?;
+    assert!(rt;
+        rows.as_slice() == b"51,10000000,200,voice,realtime,10000000,10200000\n".as_slice()
+    );
+    Ok(())
+}
+
+#[test]
+fn empty_capture(rt: HostRuntime) -> Result<(), Fail> {
+    let mut names = Names::make(rt.alloc());
+    names.add(1, "default")?;
+    let none = Counts {
+        arrived: 0,
+        arrived_bytes: 0,
+        raised: 0,
+        sent: 0,
+        sent_bytes: 0,
+        full: 0,
+        early: 0,
+        forced: 0,
+    };
+    let text = stats_text(rt.alloc(), &names, &[none])?;
+    let head = "class,arrived,arrivedbytes,raised,sent,sentbytes,full,early,forced";
+    let rows = format!(in rt.alloc(); "{head}\ndefault,0,0,0,0,0,0,0,0\n*,0,0,0,0,0,0,0,0\n")?;
+    assert!(rt; text.as_slice() == rows.as_bytes());
+    Ok(())
+}
+
+#[test]
+fn rows_are_gathered_and_cleared(rt: HostRuntime) -> Result<(), Fail> {
+    let mut names = Names::make(rt.alloc());
+    names.add(1, "default")?;
+    let full = Fate::Dropped(Reason::Full);
+    let mut rows = Rows::new(rt.alloc());
+    rows.add(&names, 51, 0, 100, 1, &full)?;
+    rows.add(&names, 52, 0, 100, 1, &full)?;
+    assert!(rt;
+        rows.as_slice() == b"51,0,100,default,full,,\n52,0,100,default,full,,\n".as_slice()
+    );
+    rows.clear();
+    rows.add(&names, 53, 0, 100, 1, &full)?;
+    let row = fate_row(rt.alloc(), &names, 53, 0, 100, 1, &full)?;
+    assert!(rt; rows.as_slice() == row.as_slice());
     Ok(())
 }

@@ -1,3 +1,4 @@
 pub mod Idle
 pub mod Near
 pub mod Counting
+pub mod Steps

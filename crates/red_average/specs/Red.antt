@@ -1,7 +1,7 @@
 -- What RED says after what it was asked and told, the newest first. The average moves with every packet that is offered, dropped
 -- ones too.
 use Rattle.std.specs.Prelude.{◌≡◌, ℕ, ◌*◌, ◌^◌, ◌==◌, List, [], ◌∷◌, if◌then◌else◌, ℤ, negsuc}
-use Rattle.altq_model.specs.History.{Answer, Words}
+use Rattle.altq_model.specs.History.{Answer, DrawnWords}
 use Rattle.leaf_queue.specs.declared.rule.Waiting.{Waiting}
 use Rattle.leaf_queue.specs.Queue.{QueueEvent, Asked, Gone, Saying}
 use Rattle.leaf_queue.specs.Words.{word}
@@ -25,7 +25,7 @@ average_of step (Asked now waiting prec w v ∷ q) = moved step (idle_of q) now 
 average_of step (Gone now prec waiting ∷ q) = average_of step q
 
 -- what follows where so many wait, from the average and the count before, and by the next of these words
-abbrev pub ruling_at : (step limit idle average : ℕ) → (count : ℤ) → (now : ℕ) → Waiting → Words → Ruled
+abbrev pub ruling_at : (step limit idle average : ℕ) → (count : ℤ) → (now : ℕ) → Waiting → DrawnWords → Ruled
 ruling_at step limit idle a c now waiting w =
     ruled thresholds (waiting.all == limit) (moved step idle now waiting.all a) c (word w.seed w.drawn)
 

@@ -48,7 +48,8 @@ ruled t full a c word =
     else between t a c word
 
 -- Where a packet is kept at an average of x or more over the lower threshold, it is counted, and the count times x is below the
--- spacing. So of such packets in a row, spacing / x rounded up and one more, one is dropped.
+-- spacing. So of such packets in a row, spacing / x rounded up and one more, one is dropped, or, where drops become marks, dropped or
+-- marked.
 abbrev pub KeepsCount : Thresholds → (average : ℕ) → (count : ℤ) → Ruling → Type 0
 KeepsCount t a c r = (x : ℕ) → 1 ≤ x → t.low + x ≤ a → r.verdict ≡ Keep
     → (r.count ≡ c +ℤ pos 1) × ((r.count *ℤ pos x) <ℤ pos (spacing (t.high - t.low)))

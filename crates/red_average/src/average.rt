@@ -1,6 +1,6 @@
 // The moving average of the packets that wait, in packets times 2^21.
 ghost use Rattle.std.specs.Prelude.{◌≡◌, ◌≤◌, ◌^◌};
-ghost use Rattle.altq_model.specs.Units.{time_of};
+ghost use Rattle.play_base.specs.Units.{time_of};
 ghost use Rattle.red_average.specs.Average.{idled, moved};
 
 use play_base::time_of;
@@ -24,13 +24,16 @@ pub fn idle_step(rate: u64) -> u64
     time_of(TYPICAL_PACKET, rate)
 }
 
-// So many steps with nothing waiting. An average below 512 is its own next one, so the steps end there: after at most 16,250
-// from 2^54, and 9,261 from that of 10,000 waiting packets, however many are left.
+/// The most steps that the greatest average, 2^54, takes before it is below 512, where it is its own next one.
+const MOST_IDLE_STEPS: u64 = 16_250;
+
+// So many steps with nothing waiting, of which at most 16,250 are taken. They end before that where the average moves no more.
 fn idled(average: u64, steps: u64) -> u64
+    requires { average ≤ 2 ^ 54 }
     ensures value { result ≡ idled steps average }
     ensures most { result ≤ average }
 {
-    let mut left = steps;
+    let mut left = steps.min(MOST_IDLE_STEPS);
     let mut aged = average;
     while left > 0 && aged >= INVERSE_WEIGHT {
         aged -= aged / INVERSE_WEIGHT;

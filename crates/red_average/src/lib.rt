@@ -4,12 +4,16 @@
 #![tactic(auto)]
 
 mod average;
+mod laws;
 mod red;
+mod rows;
 mod ruling;
 mod share;
 
 pub use average::{idle_step, moved};
+pub use laws::idle_steps_are_few;
 pub use red::Red;
+pub use rows::worked_examples;
 pub use ruling::{Ruling, Thresholds, ruled};
 
 #[cfg(test)]

@@ -1,6 +1,6 @@
 // The queue rule RED.
 ghost use Rattle.std.specs.Prelude.{◌≡◌, ◌≤◌, ◌<◌, ◌-◌, ◌+◌, ◌*◌, ◌/◌, ◌^◌, ◌==◌, ◌↔◌, ℕ, ℤ, pos, negsuc, ◌≤ℤ◌, []};
-ghost use Rattle.altq_model.specs.Units.{time_of};
+ghost use Rattle.play_base.specs.Units.{time_of};
 ghost use Rattle.leaf_queue.specs.Words.{word, Drew};
 ghost use Rattle.red_average.specs.Average.{idle_steps, moved};
 ghost use Rattle.red_average.specs.Ruling.{ruled, KeepsCount};

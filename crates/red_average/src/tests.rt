@@ -91,3 +91,18 @@ fn red_is_a_queue_rule(rt: HostRuntime) {
     );
     assert_eq!(rt; red.average, 8_161);
 }
+
+// The longest time that a play can last without a packet, at once: the average of the limit's packets is gone.
+#[test]
+fn idle_gap_of_2_to_the_32_seconds(rt: HostRuntime) {
+    let mut red = Red::new(10_000, 1_000_000_000_000);
+    let mut words = Words::new(42);
+    assert_eq!(rt; red.step, 8);
+    red.average = 10_000 << 21;
+    red.count = 7;
+    assert_eq!(rt;
+        red.arrive(0, 4_294_967_296_000_000_000, &mut words),
+        Verdict::Keep
+    );
+    assert_eq!(rt; (red.average, red.count), (511, -1));
+}

@@ -5,7 +5,7 @@ use Rattle.std.proofs.lemmas.Bool.{cases_eq}
 use Rattle.std.proofs.lemmas.Bool.Decides.{nat_tests}
 use Rattle.std.proofs.lemmas.List.{length-set}
 use Rattle.std.specs.Prelude.{if◌then◌else◌}
-use Rattle.altq_model.specs.History.{Answer, Words}
+use Rattle.altq_model.specs.History.{Answer, DrawnWords}
 use Rattle.leaf_queue.specs.declared.rule.Waiting.{Waiting}
 use Rattle.leaf_queue.specs.Queue.{QueueEvent, Asked}
 use Rattle.rio_precedence.specs.Rio.{StandsFor, average_after, average_of, count_of, idle_of, ruling_at}
@@ -33,7 +33,7 @@ count_by xs p j z old false e there was =
     let other : j ≢ p = grind (arith, nat_tests) in
     get_or-set_other xs p j z (pos 0) other ∙ was
 
-pub offered : (step limit : ℕ) (a : List ℕ) (c : List ℤ) (i b : List ℕ) (q : List QueueEvent) (now : ℕ) (waiting : Waiting) (prec : ℕ) (w : Words)
+pub offered : (step limit : ℕ) (a : List ℕ) (c : List ℤ) (i b : List ℕ) (q : List QueueEvent) (now : ℕ) (waiting : Waiting) (prec : ℕ) (w : DrawnWords)
     (v : Answer) → StandsFor step limit a c i q → prec ≤ 2 → length c ≡ 3
     → ((j : ℕ) → j ≤ 2 → slice_index b j ≡ average_after step j prec now waiting (slice_index i j) (slice_index a j))
     → StandsFor step limit b (slice_set c prec (ruling_at limit prec (slice_index b prec) (slice_index_or c prec (pos 0)) waiting w).ruling.count) i
@@ -56,7 +56,7 @@ offered step limit a c i b q now waiting prec w v s small three moves =
 
 -- the same of what code holds afterwards
 pub stands_after : (step limit step' limit' : ℕ) (a : List ℕ) (c : List ℤ) (i a' : List ℕ) (c' : List ℤ) (i' : List ℕ) (q : List QueueEvent) (now : ℕ)
-    (waiting : Waiting) (prec : ℕ) (w : Words) (v : Answer) → StandsFor step limit a c i q → prec ≤ 2 → length c ≡ 3 → step' ≡ step → limit' ≡ limit
+    (waiting : Waiting) (prec : ℕ) (w : DrawnWords) (v : Answer) → StandsFor step limit a c i q → prec ≤ 2 → length c ≡ 3 → step' ≡ step → limit' ≡ limit
     → ((j : ℕ) → j ≤ 2 → slice_index a' j ≡ average_after step j prec now waiting (slice_index i j) (slice_index a j))
     → c' ≡ slice_set c prec (ruling_at limit prec (slice_index a' prec) (slice_index_or c prec (pos 0)) waiting w).ruling.count → i' ≡ i
     → StandsFor step' limit' a' c' i' (Asked now waiting prec w v ∷ q)

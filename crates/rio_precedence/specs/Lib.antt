@@ -1,3 +1,4 @@
 pub mod Precedence
 pub mod Rio
 pub mod Any
+pub mod Rows

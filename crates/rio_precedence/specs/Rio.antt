@@ -1,7 +1,7 @@
 -- What RIO says after what it was asked and told, the newest first (Clark and Fang 1998, "Explicit allocation of best-effort packet
 -- delivery service"). The average of precedence j is over the packets of precedence at most j; the count of a precedence is its own.
 use Rattle.std.specs.Prelude.{◌≡◌, ◌≤◌, ℕ, ◌==◌, nat_le, List, [], ◌∷◌, if◌then◌else◌, ℤ, pos, negsuc, slice_index, slice_index_or}
-use Rattle.altq_model.specs.History.{Words}
+use Rattle.altq_model.specs.History.{DrawnWords}
 use Rattle.leaf_queue.specs.declared.rule.Waiting.{Waiting}
 use Rattle.leaf_queue.specs.Queue.{QueueEvent, Asked, Gone, Saying}
 use Rattle.leaf_queue.specs.Words.{word}
@@ -31,7 +31,7 @@ average_of step j (Gone now prec waiting ∷ q) = average_of step j q
 
 -- what follows for a packet where so many wait, from the average and the count of its precedence, and by the next of these words: the
 -- queue is full by all that wait
-abbrev pub ruling_at : (limit prec average : ℕ) → (count : ℤ) → Waiting → Words → Ruled
+abbrev pub ruling_at : (limit prec average : ℕ) → (count : ℤ) → Waiting → DrawnWords → Ruled
 ruling_at limit prec a c waiting w = ruled (thresholds_of prec) (waiting.all == limit) a c (word w.seed w.drawn)
 
 -- the count after the last packet of this precedence that was offered, -1 at first

@@ -1,17 +1,32 @@
 // The rule of a queue whose kind is known only when it runs.
-ghost use Rattle.std.specs.Prelude.{◌≡◌};
+ghost use Rattle.std.specs.Prelude.{◌≡◌, ◌↔◌};
+ghost use Rattle.rio_precedence.specs.Any.{ecn_verdict};
 
 use crate::Rio;
-use leaf_queue::{QueueRule, Tail, Verdict, Waiting, Words};
+use leaf_queue::{QueueRule, Reason, Tail, Verdict, Waiting, Words};
 use red_average::Red;
 
-/// The rule that a class's file asks for: to drop at a limit alone, RED, or RIO. Each call takes no memory and does what the rule's
-/// own does.
+/// The rule that a class asks for: to drop at a limit alone, RED, RED that marks, or RIO. Each call takes no memory and does what
+/// the rule's own does. `Ecn` does what RED does, but answers `Mark` in place of an early drop to a packet of precedence 1, which
+/// says here that its transport is capable of explicit congestion notification (RFC 3168); so no word more is drawn, and the count
+/// begins anew as after the drop.
 #[derive(Clone, Copy, Debug, PartialEq, Eq)]
 pub enum AnyQueue {
     Tail(Tail),
     Red(Red),
+    Ecn(Red),
     Rio(Rio),
+}
+
+// What is said in place of a verdict of RED.
+fn marked(verdict: Verdict, prec: u8) -> Verdict
+    ensures value { result ≡ ecn_verdict prec verdict }
+    ensures full { (result ≡ Verdict.Drop Reason.Full) ↔ (verdict ≡ Verdict.Drop Reason.Full) }
+{
+    match verdict {
+        Verdict::Drop(Reason::Early) if prec == 1 => Verdict::Mark,
+        _ => verdict,
+    }
 }
 
 impl QueueRule for AnyQueue {
@@ -27,6 +42,7 @@ impl QueueRule for AnyQueue {
         match self {
             AnyQueue::Tail(tail) => tail.limit,
             AnyQueue::Red(red) => red.limit,
+            AnyQueue::Ecn(red) => red.limit,
             AnyQueue::Rio(rio) => rio.limit,
         }
     }
@@ -35,6 +51,7 @@ impl QueueRule for AnyQueue {
         match self {
             AnyQueue::Tail(tail) => tail.offer(now, waiting, prec, words),
             AnyQueue::Red(red) => red.offer(now, waiting, prec, words),
+            AnyQueue::Ecn(red) => marked(red.offer(now, waiting, prec, words), prec),
             AnyQueue::Rio(rio) => rio.offer(now, waiting, prec, words),
         }
     }
@@ -43,6 +60,7 @@ impl QueueRule for AnyQueue {
         match self {
             AnyQueue::Tail(tail) => tail.left(now, prec, waiting),
             AnyQueue::Red(red) => red.left(now, prec, waiting),
+            AnyQueue::Ecn(red) => red.left(now, prec, waiting),
             AnyQueue::Rio(rio) => rio.left(now, prec, waiting),
         }
     }

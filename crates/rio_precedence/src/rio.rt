@@ -1,6 +1,6 @@
 // The queue rule RIO.
 ghost use Rattle.std.specs.Prelude.{◌≡◌, ◌≢◌, ◌≤◌, ◌<◌, ◌-◌, ◌^◌, ◌==◌, ◌↔◌, ◌∷◌, [], ℕ, ℤ, pos, negsuc, ◌≤ℤ◌, EachIndex, slice_index, slice_index_or, slice_set};
-ghost use Rattle.altq_model.specs.Units.{time_of};
+ghost use Rattle.play_base.specs.Units.{time_of};
 ghost use Rattle.leaf_queue.specs.Words.{word, Drew};
 ghost use Rattle.red_average.specs.Ruling.{ruled};
 ghost use Rattle.rio_precedence.specs.Precedence.{thresholds_of};

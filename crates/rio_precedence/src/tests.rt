@@ -1,4 +1,4 @@
-ghost use Rattle.std.specs.Prelude.{◌≡◌};
+ghost use Rattle.std.specs.Prelude.{◌≡◌, ◌≤◌};
 
 use super::*;
 use leaf_queue::{QueueRule, Reason, Tail, Verdict, Waiting, Words};
@@ -70,6 +70,8 @@ fn any_queue_is_each_rule(rt: HostRuntime) {
     full_at_two(&rt, &mut tail);
     let mut red = AnyQueue::Red(Red::new(2, 8_000_000));
     full_at_two(&rt, &mut red);
+    let mut ecn = AnyQueue::Ecn(Red::new(2, 8_000_000));
+    full_at_two(&rt, &mut ecn);
     let mut rio = AnyQueue::Rio(Rio::new(2, 8_000_000));
     full_at_two(&rt, &mut rio);
     assert_eq!(rt; tail, AnyQueue::Tail(Tail { limit: 2 }));
@@ -81,4 +83,26 @@ fn any_queue_is_each_rule(rt: HostRuntime) {
         assert_eq!(rt; rio.count, [-1, -1, 0]);
         assert_eq!(rt; rio.idle, [0, 0, 5]);
     }
+}
+
+// RED at an average of ten packets and a count of 19, where the next packet is dropped early without a word, or marked.
+fn answers_at_ten(rt: &impl Abort, prec: u8, expected: Verdict)
+    requires { prec ≤ 2 }
+{
+    let mut red = Red::new(50, 8_000_000);
+    red.average = 20_971_520;
+    red.count = 19;
+    let mut ecn = AnyQueue::Ecn(red);
+    let mut words = Words::new(42);
+    assert_eq!(rt; ecn.offer(0, waits(10, 10, 10), prec, &mut words), expected);
+    assert_eq!(rt; words.drawn(), 0);
+    if let AnyQueue::Ecn(red) = ecn {
+        assert_eq!(rt; (red.average, red.count), (20_971_520, 0));
+    }
+}
+
+#[test]
+fn early_drop_becomes_a_mark(rt: HostRuntime) {
+    answers_at_ten(&rt, 1, Verdict::Mark);
+    answers_at_ten(&rt, 0, Verdict::Drop(Reason::Early));
 }

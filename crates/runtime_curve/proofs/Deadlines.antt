@@ -11,12 +11,12 @@ use Rattle.runtime_curve.specs.Opening.{line, least_over, IsAtLeast, Reaches}
 use Rattle.runtime_curve.specs.Deadline.{later_of, shifted, reached_at, deadline}
 use Rattle.runtime_curve.proofs.Reaching.{least_reaches, least_reached}
 
-later_comes : (a b : Option ℕ) (t : ℕ) → HasCome a t → HasCome b t → HasCome (later_of a b) t
+pub later_comes : (a b : Option ℕ) (t : ℕ) → HasCome a t → HasCome b t → HasCome (later_of a b) t
 later_comes None b t x y = absurd x
 later_comes (Some a) None t x y = absurd y
 later_comes (Some a) (Some b) t x y = omega arith
 
-later_came : (a b : Option ℕ) (t : ℕ) → HasCome (later_of a b) t → HasCome a t × HasCome b t
+pub later_came : (a b : Option ℕ) (t : ℕ) → HasCome (later_of a b) t → HasCome a t × HasCome b t
 later_came None b t x = absurd x
 later_came (Some a) None t x = absurd x
 later_came (Some a) (Some b) t x = (omega arith, omega arith)

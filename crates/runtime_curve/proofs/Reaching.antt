@@ -1,7 +1,6 @@
 -- When the least over all openings reaches a count: where each opening does, and where it is computed so.
-use Rattle.std.proofs.Common.{◌≡◌, ◌≤◌, ℕ, Bool, true, false, List, [], ◌∷◌, ◌++◌, take, drop, refl, ap, sym, subst, arith, ◌∙◌}
-use Rattle.std.specs.Prelude.{nat_le, if◌then◌else◌, reverse, IsTrue, ◌↔◌, Option, None, Some}
-use Rattle.std.proofs.lemmas.List.{take-append-drop, reverse-append}
+use Rattle.std.proofs.Common.{◌≡◌, ◌≤◌, ℕ, Bool, true, false, List, [], ◌∷◌, refl, arith}
+use Rattle.std.specs.Prelude.{nat_le, if◌then◌else◌, IsTrue, ◌↔◌, Option, None, Some}
 use Rattle.service_curve.specs.declared.Curve.{Curve}
 use Rattle.runtime_curve.specs.declared.Opening.{Opening}
 use Rattle.runtime_curve.specs.Opening.{line, least_of, least_over, IsAtLeast, Reaches}
@@ -46,22 +45,6 @@ true_reaches s (o ∷ os) t count r = go (nat_le count (line s t o)) refl (true_
     go : (b : Bool) → nat_le count (line s t o) ≡ b → reaches s os t count ≡ true → (if b then reaches s os t count else false) ≡ true
     go true f rest = rest
     go false f rest = absurd (grind (arith, f, r.0))
-
--- openings before others that do not reach the count do not make them reach it
-reaches_after : (s : Curve) (os ps : List Opening) (t count : ℕ) → reaches s ps t count ≡ false → reaches s (os ++ ps) t count ≡ false
-reaches_after s [] ps t count e = e
-reaches_after s (o ∷ os) ps t count e = go (nat_le count (line s t o)) (reaches_after s os ps t count e)
-  where
-    go : (b : Bool) → reaches s (os ++ ps) t count ≡ false → (if b then reaches s (os ++ ps) t count else false) ≡ false
-    go true rest = rest
-    go false rest = refl
-
-pub reaches_taken : (s : Curve) (xs : List Opening) (k t count : ℕ) → reaches s (reverse (take k xs)) t count ≡ false → reaches s (reverse xs) t count ≡ false
-reaches_taken s xs k t count e =
-    let halves : reverse xs ≡ reverse (drop k xs) ++ reverse (take k xs)
-    = ap (λ (ys : List Opening). reverse ys) (sym (take-append-drop k xs)) ∙ reverse-append (take k xs) (drop k xs) in
-    subst (λ (ys : List Opening). reaches s ys t count ≡ false) (sym halves)
-    (reaches_after s (reverse (drop k xs)) (reverse (take k xs)) t count e)
 
 -- computed over the openings of a running curve, it is what the least over them says
 pub reaches_least : (s : Curve) (os : List Opening) (t count : ℕ) → IsTrue (reaches s os t count) ↔ IsAtLeast (least_over s os t) count

@@ -4,7 +4,7 @@ use Rattle.std.specs.Prelude.{◌+◌, ◌-◌, ℕ, max, nat_le, Bool, true, fa
 use Rattle.service_curve.specs.declared.Curve.{Curve}
 use Rattle.service_curve.specs.Curve.{first}
 use Rattle.runtime_curve.specs.declared.Opening.{Opening}
-use Rattle.runtime_curve.specs.Opening.{line}
+use Rattle.runtime_curve.specs.Opening.{line, eligible_curve, newest}
 
 -- the later of two moments, where `None` is never
 abbrev pub later_of : Option ℕ → Option ℕ → Option ℕ
@@ -30,3 +30,14 @@ deadline s (o ∷ os) count = later_of (reached_at s o count) (deadline s os cou
 abbrev pub reaches : Curve → List Opening → ℕ → ℕ → Bool
 reaches s [] t count = true
 reaches s (o ∷ os) t count = if nat_le count (line s t o) then reaches s os t count else false
+
+-- the first moment, not before the last opening, at which all openings allow the count by the curve that makes eligible
+abbrev pub from_last : Option Opening → Option ℕ → Option ℕ
+from_last None t = t
+from_last (Some last) t = later_of t (Some last.at)
+
+abbrev pub soonest_from : Option Opening → Curve → List Opening → ℕ → Option ℕ
+soonest_from last s os count = from_last last (deadline (eligible_curve s) os count)
+
+abbrev pub soonest : Curve → List Opening → ℕ → Option ℕ
+soonest s os count = soonest_from (newest os) s os count

@@ -1,3 +1,4 @@
 pub mod Opening
 pub mod Deadline
+pub mod Held
 pub mod Running

@@ -46,3 +46,13 @@ RisesFromZero s = s.m1 < s.m2 → s.m1 ≡ 0
 pub record IsWithin (o : Opening) : Type 0 where
   pub at : o.at < 2 ^ 80
   pub count : o.count < 2 ^ 100
+
+-- the last opening
+abbrev pub newest : List Opening → Option Opening
+newest [] = None
+newest (o ∷ os) = Some o
+
+-- a moment is not before the last opening
+abbrev pub IsFrom : List Opening → ℕ → Type 0
+IsFrom [] t = Unit {0}
+IsFrom (o ∷ os) t = o.at ≤ t

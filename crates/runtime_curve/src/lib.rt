@@ -4,27 +4,28 @@
 //! what the class was sent before it. From each opening on the class is allowed its count and what its curve gives; of
 //! all openings the least counts. Moments are in nanoseconds, counts in units, of which a byte has 8,000,000,000.
 //!
-//! This keeps every opening, so an answer takes time and memory in proportion to their number. The source is Stoica,
-//! Zhang and Ng, "A Hierarchical Fair Service Curve Algorithm for Link-Sharing, Real-Time and Priority Services",
+//! Of all openings only three are kept, so nothing here takes memory and each call takes constant time. The source is
+//! Stoica, Zhang and Ng, "A Hierarchical Fair Service Curve Algorithm for Link-Sharing, Real-Time and Priority Services",
 //! SIGCOMM 1997: the deadline curve and the eligible curve.
 #![tactic(auto)]
 
-ghost use Rattle.std.specs.Prelude.{◌≡◌, ◌<◌, ◌≤◌, ◌^◌, ◌∷◌, ◌↔◌, [], All, List, ℕ, None, IsTrue, IsSomeAnd, OnOk, OnErr};
+ghost use Rattle.std.specs.Prelude.{◌≡◌, ◌<◌, ◌≤◌, ◌^◌, ◌∷◌, ◌↔◌, [], List, ℕ, None, Some, IsTrue, IsSome, IsSomeAnd};
 ghost use Rattle.std.specs.Option.{ForSome};
 ghost use Rattle.service_curve.specs.declared.Curve.{Curve};
 ghost use Rattle.service_curve.specs.Curve.{IsInRange, curve};
 ghost use Rattle.service_curve.specs.Moment.{IsFirst, HasCome};
 ghost use Rattle.runtime_curve.specs.declared.Opening.{Opening};
-ghost use Rattle.runtime_curve.specs.Opening.{IsWithin, opening, RisesFromZero, least_over, IsAtLeast, Reaches, eligible_curve};
-ghost use Rattle.runtime_curve.specs.Deadline.{deadline, reaches};
+ghost use Rattle.runtime_curve.specs.Opening.{opening, RisesFromZero, least_over, IsAtLeast, Reaches, eligible_curve, IsFrom};
+ghost use Rattle.runtime_curve.specs.Deadline.{deadline, reaches, soonest};
+ghost use Rattle.runtime_curve.specs.Held.{AreWithin, MayFollow};
 
-use play_base::NoMemory;
 use service_curve::Curve;
-use std::alloc::Global;
 
+mod held;
 mod lines;
 
-use lines::{all_allow, eligible_curve, latest};
+use held::{Held, with_opening};
+use lines::{both_allow, eligible_curve, later_of, latest_of};
 
 /// A moment at which a class opened, in nanoseconds, and the units that it had been sent by real time before it.
 #[derive(Clone, Copy, Debug, PartialEq, Eq)]
@@ -37,67 +38,61 @@ pub struct Opening {
 ///
 /// Contracts say for which curve and which openings a value stands. Of these the last one is the latest and has the
 /// greatest count, by the conditions of `begin`.
-#[derive(Debug, Drop)]
+#[derive(Clone, Copy, Debug, PartialEq, Eq)]
 pub struct Running {
     curve: Curve,
-    openings: Vec<Opening>,
+    held: Option<Held>,
     ghost in_range: { IsInRange curve },
     ghost slopes: { RisesFromZero curve },
-    ghost within: { All IsWithin openings.items },
+    ghost within: { AreWithin held },
 }
 
 impl Running {
-    ghost use Rattle.runtime_curve.specs.Running.{StandsFor, IsUnchanged, last_of};
+    ghost use Rattle.runtime_curve.specs.Running.{StandsFor, last_of, deadline_now, eligible_now, soonest_now};
 
-    /// The curve without an opening. If its slope rises, it has to rise from 0. This takes no memory.
-    pub fn new(alloc: Global, curve: Curve) -> Running
+    /// The curve without an opening. If its slope rises, it has to rise from 0.
+    pub fn new(curve: Curve) -> Running
         requires in_range { IsInRange curve }
         requires slopes { RisesFromZero curve }
         ensures none { StandsFor result curve [] }
         ensures empty { last_of result ≡ None }
     {
-        Running {
-            curve,
-            openings: Vec::new(alloc),
-        }
+        Running { curve, held: None }
     }
 
     /// Adds an opening at a moment before 2^80 with a count below 2^100, neither of which is less than in the opening
-    /// before it. It takes room for one opening more. `NoMemory` is the answer where there is none; then nothing has
-    /// changed.
-    pub fn begin(&mut self, at: u128, count: u128) -> Result<(), NoMemory>
+    /// before it.
+    pub fn begin(&mut self, at: u128, count: u128)
         requires at { at < 2 ^ 80 }
         requires count { count < 2 ^ 100 }
         requires later { ForSome (last_of self.old) (λ last. (last.at ≤ at) × (last.count ≤ count)) }
-        ensures opened { OnOk result ((s : Curve) (os : List Opening) → StandsFor self.old s os
-            → StandsFor self.new s (opening at count ∷ os)) }
-        ensures last { OnOk result (last_of self.new ≡ Some (opening at count)) }
-        ensures refused { OnErr result (IsUnchanged self.old self.new) }
+        ensures opened { (s : Curve) (os : List Opening) → StandsFor self.old s os
+            → StandsFor self.new s (opening at count ∷ os) }
+        ensures last { last_of self.new ≡ Some (opening at count) }
     {
-        match self.openings.push(Opening { at, count }) {
-            Ok(()) => Ok(()),
-            Err(_) => Err(NoMemory),
-        }
+        self.held = Some(with_opening(&self.curve, self.held, Opening { at, count }));
     }
 
     /// The first moment, in nanoseconds, up to which the class is allowed `count` units: the least over all openings of
     /// what they allow reaches it then. `None` comes exactly where there is no such moment. There is an opening; `count`
-    /// is greater than the last one's, and less than 2^100. This takes no memory, and time in proportion to the number of
-    /// openings.
+    /// is greater than the last one's, and less than 2^100.
     pub fn deadline(&self, count: u128) -> Option<u128>
         requires amount { count < 2 ^ 100 }
         requires opened { IsSomeAnd (last_of self.now) (λ last. last.count < count) }
         ensures first { (s : Curve) (os : List Opening) → StandsFor self.now s os
             → IsFirst (λ t. IsAtLeast (least_over s os t) count) result }
         ensures is { (s : Curve) (os : List Opening) → StandsFor self.now s os → result ≡ deadline s os count }
+        ensures now { result ≡ deadline_now self.now count }
     {
-        latest(&self.curve, &self.openings, count)
+        match self.held {
+            None => Some(0),
+            Some(held) => latest_of(&self.curve, held.steep, held.flat, count),
+        }
     }
 
     /// Whether a class that was sent `count` units may be sent more at `now`, a moment in nanoseconds: whether the least
     /// over all openings of what makes it eligible reaches the count. There is an opening, and none is later than `now`;
-    /// `now` is less than 2^80, and `count` less than 2^101. This takes no memory, and time in proportion to the number of
-    /// openings.
+    /// `now` is less than 2^80, and `count` less than 2^101.
     pub fn eligible(&self, now: u128, count: u128) -> bool
         requires now { now < 2 ^ 80 }
         requires amount { count < 2 ^ 101 }
@@ -106,9 +101,36 @@ impl Running {
             → (IsTrue result ↔ IsAtLeast (least_over (eligible_curve s) os now) count) }
         ensures is { (s : Curve) (os : List Opening) → StandsFor self.now s os
             → result ≡ reaches (eligible_curve s) os now count }
+        ensures now { result ≡ eligible_now self.now now count }
     {
-        let curve = eligible_curve(&self.curve);
-        all_allow(&curve, &self.openings, now, count)
+        match self.held {
+            None => true,
+            Some(held) => {
+                let curve = eligible_curve(&self.curve);
+                both_allow(&curve, held.steep, held.flat, now, count)
+            }
+        }
+    }
+
+    /// The first moment, in nanoseconds and not before the last opening, at which a class that was sent `count` units
+    /// may be sent more: the least over all openings of what makes it eligible reaches the count then. `None` comes
+    /// exactly where there is no such moment. There is an opening, and `count` is less than 2^100.
+    pub fn soonest(&self, count: u128) -> Option<u128>
+        requires amount { count < 2 ^ 100 }
+        requires opened { IsSome (last_of self.now) }
+        ensures first { (s : Curve) (os : List Opening) → StandsFor self.now s os
+            → IsFirst (λ t. IsFrom os t × IsAtLeast (least_over (eligible_curve s) os t) count) result }
+        ensures is { (s : Curve) (os : List Opening) → StandsFor self.now s os → result ≡ soonest s os count }
+        ensures now { result ≡ soonest_now self.now count }
+    {
+        match self.held {
+            None => Some(0),
+            Some(held) => {
+                let curve = eligible_curve(&self.curve);
+                let reached = latest_of(&curve, held.steep, held.flat, count);
+                later_of(reached, Some(held.last.at))
+            }
+        }
     }
 }
 
@@ -130,6 +152,11 @@ pub fn worked_openings()
     ensures before_an_opening { least_over (curve 8000000 10000000 0) (opening 16000000 7 ∷ []) 15999999 ≡ Some 7 }
     ensures early { least_over (eligible_curve (curve 0 20000000 4000000)) (opening 0 0 ∷ []) 5 ≡ Some 20000000 }
     ensures falling { eligible_curve (curve 8000000 10000000 0) ≡ curve 8000000 10000000 0 }
+    ensures first_is_last { deadline (curve 8000000 10000000 2000000)
+        (opening 1000000 24000000000000 ∷ opening 0 0 ∷ []) 32000000000000 ≡ Some 4000000 }
+    ensures soonest_after { soonest (curve 2000000 0 2000000) (opening 5 1000000 ∷ opening 0 0 ∷ []) 9000000 ≡ Some 9 }
+    ensures soonest_at_last { soonest (curve 2000000 0 2000000) (opening 5 1000000 ∷ opening 0 0 ∷ []) 1000000 ≡ Some 5 }
+    ensures soonest_never { soonest (curve 8000000 10 0) (opening 0 0 ∷ []) 80000001 ≡ None }
 {}
 
 #[cfg(test)]
@@ -138,12 +165,22 @@ mod tests {
 
     #[test]
     fn convex_curve_with_two_openings(rt: HostRuntime) {
-        let mut running = Running::new(rt.alloc(), Curve::make(0, 20000000, 4000000));
-        assert_eq!(rt; running.begin(0, 0), Ok(()));
+        let mut running = Running::new(Curve::make(0, 20000000, 4000000));
+        running.begin(0, 0);
         assert_eq!(rt; running.deadline(16000000000000), Some(24000000));
-        assert_eq!(rt; running.begin(10000001, 8000000000000), Ok(()));
+        running.begin(10000001, 8000000000000);
         assert_eq!(rt; running.deadline(16000000000000), Some(32000001));
         assert!(rt; running.eligible(10000001, 8000000000000));
         assert!(rt; !running.eligible(10000001, 8000000000001));
+        assert_eq!(rt; running.soonest(8000000000001), Some(10000002));
+    }
+
+    #[test]
+    fn two_lines_answer_as_all_openings(rt: HostRuntime) {
+        let mut running = Running::new(Curve::make(8000000, 10000000, 2000000));
+        running.begin(0, 0);
+        running.begin(1000000, 24000000000000);
+        assert_eq!(rt; running.deadline(32000000000000), Some(4000000));
+        assert_eq!(rt; running.soonest(8000000000000), Some(1000000));
     }
 }

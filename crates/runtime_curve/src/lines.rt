@@ -1,5 +1,5 @@
-//! What openings allow, one by one and all together.
-ghost use Rattle.std.specs.Prelude.{◌≡◌, ◌<◌, ◌≤◌, ◌^◌, nat_le, All, reverse};
+//! What openings allow, one by one and two together.
+ghost use Rattle.std.specs.Prelude.{◌≡◌, ◌<◌, ◌≤◌, ◌^◌, ◌∷◌, [], nat_le};
 ghost use Rattle.service_curve.specs.Curve.{IsInRange};
 ghost use Rattle.runtime_curve.specs.Opening.{IsWithin, line, eligible_curve};
 ghost use Rattle.runtime_curve.specs.Deadline.{later_of, reached_at, deadline, reaches};
@@ -8,7 +8,7 @@ use crate::Opening;
 use service_curve::Curve;
 
 /// The later of two moments, where `None` is never.
-fn later_of(a: Option<u128>, b: Option<u128>) -> Option<u128>
+pub fn later_of(a: Option<u128>, b: Option<u128>) -> Option<u128>
     ensures { result ≡ later_of a b }
 {
     match (a, b) {
@@ -33,18 +33,18 @@ fn reached_at(curve: &Curve, opening: Opening, count: u128) -> Option<u128>
     }
 }
 
-/// The first moment up to which all openings allow a count.
-pub fn latest(curve: &Curve, openings: &[Opening], count: u128) -> Option<u128>
+/// The first moment up to which two openings allow a count.
+pub fn latest_of(curve: &Curve, one: Opening, other: Opening, count: u128) -> Option<u128>
     requires in_range { IsInRange curve.now }
-    requires within { All IsWithin openings.now }
+    requires one { IsWithin one }
+    requires other { IsWithin other }
     requires amount { count < 2 ^ 100 }
-    ensures { result ≡ deadline curve.now (reverse openings.now) count }
+    ensures { result ≡ deadline curve.now (one ∷ other ∷ []) count }
 {
-    let mut latest = Some(0);
-    for opening in openings {
-        latest = later_of(reached_at(curve, *opening, count), latest);
-    }
-    latest
+    later_of(
+        reached_at(curve, one, count),
+        later_of(reached_at(curve, other, count), Some(0)),
+    )
 }
 
 /// The curve that makes a class eligible.
@@ -74,17 +74,13 @@ fn allows(curve: &Curve, opening: Opening, now: u128, count: u128) -> bool
     count <= opening.count + curve.amount(now.saturating_sub(opening.at))
 }
 
-/// Whether all openings allow a count up to a moment.
-pub fn all_allow(curve: &Curve, openings: &[Opening], now: u128, count: u128) -> bool
+/// Whether two openings allow a count up to a moment.
+pub fn both_allow(curve: &Curve, one: Opening, other: Opening, now: u128, count: u128) -> bool
     requires in_range { IsInRange curve.now }
-    requires within { All IsWithin openings.now }
+    requires one { IsWithin one }
+    requires other { IsWithin other }
     requires now { now < 2 ^ 80 }
-    ensures { result ≡ reaches curve.now (reverse openings.now) now count }
+    ensures { result ≡ reaches curve.now (one ∷ other ∷ []) now count }
 {
-    for opening in openings {
-        if !allows(curve, *opening, now, count) {
-            return false;
-        }
-    }
-    true
+    allows(curve, one, now, count) && allows(curve, other, now, count)
 }

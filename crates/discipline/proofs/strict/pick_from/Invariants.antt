@@ -1,6 +1,6 @@
-use Rattle.std.proofs.Common.{◌≡◌, ◌<◌, ℕ, []}
-use Rattle.leaf_queue.specs.Lists.{list_of}
+use Rattle.std.proofs.Common.{◌≡◌, ◌≤◌, ◌<◌, ℕ, []}
+use Rattle.class_rows.specs.Rows.{list_in}
 use Rattle.discipline.proofs.strict.pick_from.Given as goal
 
-abbrev pub invariant-loop-place : goal.invariant-loop-place
-invariant-loop-place l = (j : ℕ) → j < l.place → list_of l.lists.lists j ≡ []
+abbrev pub invariant-loop-class : goal.invariant-loop-class
+invariant-loop-class g l = (j : ℕ) → l.rows.first ≤ j → j < l.class → list_in l.rows j ≡ []

@@ -1,6 +1,6 @@
 -- One packet more takes a run's end less than 2^62 further.
 use Rattle.std.proofs.Common.{◌≡◌, ◌≤◌, ◌<◌, ◌+◌, ◌^◌, ℕ, arith, subst, sym}
-use Rattle.altq_model.specs.Units.{ceil_div, units}
+use Rattle.play_base.specs.Units.{ceil_div, units}
 use Rattle.link_clock.proofs.Rounded.{goes_on}
 use Rattle.link_clock.proofs.LinkClock.end_of.Goals as goal
 

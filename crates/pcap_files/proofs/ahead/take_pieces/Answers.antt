@@ -1,6 +1,6 @@
 use Rattle.std.proofs.Common.{◌≡◌, ◌++◌, ◌∙◌, ℕ, List, [], ap, sym, arith, take, append_assoc, append-nil}
 use Rattle.std.proofs.lemmas.Grind.{common_steps}
-use Rattle.play_base.specs.ViewLaws.{took_more, still_there}
+use Rattle.play_base.proofs.ViewLaws.{took_more, still_there}
 use Rattle.pcap_files.proofs.ahead.take_pieces.Goals as goal
 
 pub loop-files-preserved : goal.loop-files-preserved

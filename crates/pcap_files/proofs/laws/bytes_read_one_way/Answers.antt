@@ -1,4 +1,4 @@
-use Rattle.pcap_files.specs.ReadingLaws.{one_reading}
+use Rattle.pcap_files.proofs.ReadingLaws.{one_reading}
 use Rattle.pcap_files.proofs.laws.bytes_read_one_way.Goals as goal
 
 pub returns : goal.returns

@@ -2,6 +2,7 @@
 use Rattle.std.proofs.Common.{◌++◌, ◌∙◌, ℕ, List, ap, sym}
 use Rattle.conf_tree.specs.Canonical.{canonical_text}
 use Rattle.play_cli.proofs.CheckLemmas.{read_found}
+use Rattle.play_cli.proofs.FilesLemmas.{only_after}
 use Rattle.play_cli.proofs.checking.check_files.Goals as goal
 
 pub returns-in-Ok-say-clause-done : goal.returns-in-Ok-say-clause-done
@@ -14,3 +15,9 @@ returns-in-Ok-say-clause-done g c = λ t. record {
       ∙ ap (λ (text : List ℕ). (g.F.Files.view c.read_conf.new.files).said ++ text) (c.as_slice.ensures.value ∙ c.in-Ok-text.ensures)
       ∙ ap (λ (before : List ℕ). before ++ canonical_text c.in-Ok.conf) c.in-Ok.ensures.said;
 }
+
+pub returns-in-Ok-say-clause-only : goal.returns-in-Ok-say-clause-only
+returns-in-Ok-say-clause-only g c = only_after _ _ _ _ c.in-Ok.ensures.only c.in-Ok-say.ensures.said.none c.in-Ok-say.ensures.said.keeps
+
+pub returns-clause-only : goal.returns-clause-only
+returns-clause-only g c = only_after _ _ _ _ c.in-Ok.ensures.only c.in-Err-say.ensures.refused.none c.in-Err-say.ensures.refused.keeps

@@ -1,6 +1,6 @@
 use Rattle.std.proofs.Common.{Err, ap, sym, subst}
 use Rattle.std.specs.Prelude.{Result}
-use Rattle.play_text.specs.declared.status.Status.{Status}
+use Rattle.play_cli.specs.declared.status.Status.{Status}
 use Rattle.play_cli.specs.Causes.{names_read}
 use Rattle.play_cli.specs.Ending.{PlayEnds}
 use Rattle.play_cli.specs.declared.fault.RunFault.{RunFault}
@@ -11,12 +11,12 @@ pub returns-in-Ok : goal.returns-in-Ok
 returns-in-Ok g c =
     let P : Status → Type 0 = λ s. PlayEnds (g.F.Files.view c.args.files.now) (g.F.Files.view c.play_files.new.files) (names_read c.args.words.now) c.args.words.now.seed s in
     subst P (sym c.ended.ensures) (play_done (g.F.Files.view c.args.files.now) (g.F.Files.view c.play_files.new.files) (names_read c.args.words.now) c.args.words.now.seed
-    c.in-Ok.ensures.done c.in-Ok.ensures.nothing c.in-Ok.ensures.absent c.in-Ok.ensures.keeps c.in-Ok.ensures.said)
+    c.in-Ok.ensures.done c.in-Ok.ensures.nothing c.in-Ok.ensures.absent c.in-Ok.ensures.files)
 
 pub returns-in-Err : goal.returns-in-Err
 returns-in-Err g c =
     let P : Status → Type 0 = λ s. PlayEnds (g.F.Files.view c.args.files.now) (g.F.Files.view c.play_files.new.files) (names_read c.args.words.now) c.args.words.now.seed s in
     subst P (sym c.status_of.ensures) (play_failed (g.F.Files.view c.args.files.now) (g.F.Files.view c.play_files.new.files) (names_read c.args.words.now) c.args.words.now.seed
-    c.in-Err.fault c.in-Err.ensures.why c.in-Err.ensures.front
+    c.in-Err.fault c.configurations_fit.ensures c.in-Err.ensures.why c.in-Err.ensures.front
     (λ f e. c.in-Err.ensures.unread f (ap {B = Result (Unit {0}) RunFault} (λ (x : RunFault). Err x) e))
-    c.in-Err.ensures.absent c.in-Err.ensures.accepted c.in-Err.ensures.nothing c.in-Err.ensures.keeps c.in-Err.ensures.said)
+    c.in-Err.ensures.absent c.in-Err.ensures.accepted c.in-Err.ensures.nothing c.in-Err.ensures.files)

@@ -1,90 +1,180 @@
 -- A run ends at its configuration, at one of its files, or at its play.
-use Rattle.std.proofs.Common.{Err, ap, sym, subst}
-use Rattle.std.specs.Prelude.{Result}
-use Rattle.play_loop.specs.declared.fault.Opened.{Opened}
-use Rattle.play_cli.specs.Causes.{Causes, names_read}
-use Rattle.play_cli.specs.Opening.{Untold}
-use Rattle.play_cli.specs.declared.fault.RunFault.{RunFault}
-use Rattle.play_cli.specs.declared.opening.OpenFault.{OpenFault}
-use Rattle.play_cli.proofs.StepLemmas.{Steps, causes_rate, rate_not_after, causes_open, causes_of, done_of, fronts_of, fronts_kept, fronts_emptied, accepted_not}
+use Rattle.std.proofs.Common.{arith}
+use Rattle.play_cli.specs.Causes.{names_read}
+use Rattle.play_cli.proofs.CheckLemmas.{configured_of, fits}
+use Rattle.play_cli.proofs.FilesLemmas.{files_opened}
+use Rattle.play_cli.proofs.OneLemmas.{is_plain, plain_class}
+use Rattle.play_cli.proofs.StepLemmas.{Steps, accepted_not, accepts_of, causes_of, course_opened, course_read, done_of, files_of, fronts_of, fronts_opened}
 use Rattle.play_cli.proofs.playing.play_files.Goals as goal
 
-pub returns-in-Err-clause-why : goal.returns-in-Err-clause-why
-returns-in-Err-clause-why g c =
-    causes_rate (g.F.Files.view c.args.files.now) (g.F.Files.view c.config_rate.new.files) (names_read c.args.words.now) c.args.words.now.seed c.in-Err.fault c.in-Err.ensures.why
-
-pub returns-in-Err-clause-accepted : goal.returns-in-Err-clause-accepted
-returns-in-Err-clause-accepted g c = λ after. rate_not_after (g.F.Files.view c.args.files.now) (g.F.Files.view c.config_rate.new.files)
-    c.args.words.now.config.now c.args.words.now.interface.now c.in-Err.fault c.in-Err.ensures.why after
-
 pub returns-in-Err-clause-front : goal.returns-in-Err-clause-front
-returns-in-Err-clause-front g c = fronts_kept _ _ (names_read c.args.words.now) c.args.words.now.seed (λ name. c.in-Err.ensures.keeps.bytes name tt)
+returns-in-Err-clause-front g c = fronts_opened _ _ _ (names_read c.args.words.now) c.args.words.now.seed
+    (course_read _ _ (names_read c.args.words.now) c.in-Err.ensures.keeps c.in-Err.ensures.only c.in-Err.ensures.said c.requires)
 
-pub returns-in-Err-open_files-clause-why : goal.returns-in-Err-open_files-clause-why
-returns-in-Err-open_files-clause-why g c =
-    let P : RunFault → Type 0 = λ f. Causes (g.F.Files.view c.args.files.now) (g.F.Files.view c.open_files.new.files) (names_read c.args.words.now) c.args.words.now.seed f in
-    subst P (sym c.open_fault.ensures) (causes_open (g.F.Files.view c.args.files.now) (g.F.Files.view c.config_rate.new.files) (g.F.Files.view c.open_files.new.files)
-    (names_read c.args.words.now) c.args.words.now.seed c.in-Err-open_files.fault c.in-Ok.ensures.keeps
-    (λ e. c.in-Err-open_files.ensures.read (ap {B = Result Opened OpenFault} (λ (f : OpenFault). Err f) e))
-    (λ k e. c.in-Err-open_files.ensures.write k (ap {B = Result Opened OpenFault} (λ (f : OpenFault). Err f) e)))
+pub returns-in-Err-clause-files : goal.returns-in-Err-clause-files
+returns-in-Err-clause-files g c = files_opened _ _ _ (names_read c.args.words.now)
+    (course_read _ _ (names_read c.args.words.now) c.in-Err.ensures.keeps c.in-Err.ensures.only c.in-Err.ensures.said c.requires)
+
+pub returns-in-Err-played_interface-clause-files : goal.returns-in-Err-played_interface-clause-files
+returns-in-Err-played_interface-clause-files g c = files_opened _ _ _ (names_read c.args.words.now)
+    (course_read _ _ (names_read c.args.words.now) c.in-Ok.ensures.keeps c.in-Ok.ensures.only c.in-Ok.ensures.said c.requires)
 
 pub returns-in-Err-open_files-clause-front : goal.returns-in-Err-open_files-clause-front
-returns-in-Err-open_files-clause-front g c =
-    fronts_emptied _ _ _ (names_read c.args.words.now) c.args.words.now.seed c.in-Ok.ensures.keeps c.in-Err-open_files.ensures.departures c.in-Err-open_files.ensures.fates
-    c.in-Err-open_files.ensures.stats
+returns-in-Err-open_files-clause-front g c = fronts_opened _ _ _ (names_read c.args.words.now) c.args.words.now.seed
+    (course_opened _ _ _ (names_read c.args.words.now) c.in-Ok.ensures.keeps c.in-Ok.ensures.only c.in-Ok.ensures.said c.requires c.in-Err-open_files.ensures.far)
+
+pub returns-in-Err-open_files-clause-accepted : goal.returns-in-Err-open_files-clause-accepted
+returns-in-Err-open_files-clause-accepted g c = λ after. (
+  c.in-Ok-played_interface.found.now,
+  accepts_of _ _ _ c.in-Ok.conf c.in-Ok-played_interface.found.now
+      c.in-Ok.ensures.read c.in-Ok-played_interface.ensures.found c.in-Ok-played_interface.ensures.played,
+)
 
 pub returns-in-Err-open_files-clause-nothing : goal.returns-in-Err-open_files-clause-nothing
-returns-in-Err-open_files-clause-nothing g c = λ t x. accepted_not (g.F.Files.view c.args.files.now) (g.F.Files.view c.open_files.new.files) (names_read c.args.words.now) c.in-Ok.rate c.in-Ok.ensures.accepted x t
+returns-in-Err-open_files-clause-nothing g c = λ t x. accepted_not (g.F.Files.view c.args.files.now) (g.F.Files.view c.open_files.new.files) (names_read c.args.words.now) c.in-Ok-played_interface.found.now
+    (accepts_of _ _ _ c.in-Ok.conf c.in-Ok-played_interface.found.now c.in-Ok.ensures.read c.in-Ok-played_interface.ensures.found c.in-Ok-played_interface.ensures.played) x t
 
-pub returns-in-Ok-play_one-clause-done : goal.returns-in-Ok-play_one-clause-done
-returns-in-Ok-play_one-clause-done g c = λ t.
-    let steps : Steps (g.F.Files.view c.args.files.now) (g.F.Files.view c.config_rate.new.files) (g.F.Files.view c.open_files.new.files)
-    (g.F.Files.view c.play_one.new.files) (names_read c.args.words.now) c.in-Ok.rate c.in-Ok-open_files.opened = record {
+pub returns-in-Err-open_files-clause-files : goal.returns-in-Err-open_files-clause-files
+returns-in-Err-open_files-clause-files g c = files_opened _ _ _ (names_read c.args.words.now)
+    (course_opened _ _ _ (names_read c.args.words.now) c.in-Ok.ensures.keeps c.in-Ok.ensures.only c.in-Ok.ensures.said c.requires c.in-Err-open_files.ensures.far)
+
+pub play_interface-requires-clause-configured : goal.play_interface-requires-clause-configured
+play_interface-requires-clause-configured g c = configured_of c.args.words.now.interface.now c.in-Ok.ensures.read.text c.in-Ok.conf c.in-Ok-played_interface.found.now
+    c.in-Ok.ensures.read.reads c.in-Ok-played_interface.ensures.found
+
+pub returns-in-Ok-play_interface-clause-done : goal.returns-in-Ok-play_interface-clause-done
+returns-in-Ok-play_interface-clause-done g c = λ t.
+    let found = c.in-Ok-played_interface.found.now in
+    let at = configured_of c.args.words.now.interface.now c.in-Ok.ensures.read.text c.in-Ok.conf found c.in-Ok.ensures.read.reads c.in-Ok-played_interface.ensures.found in
+    let fit = fits found c.configurations_fit.ensures at in
+    let plain = is_plain found fit c.in-Ok-played_interface.ensures.played in
+    let least = fit.rate.0 in
+    let steps : Steps (g.F.Files.view c.args.files.now) (g.F.Files.view c.read_conf.new.files) (g.F.Files.view c.open_files.new.files)
+    (g.F.Files.view c.play_interface.new.files) (names_read c.args.words.now) found c.in-Ok-open_files.opened = record {
       read = c.in-Ok.ensures.keeps;
-      accepted = c.in-Ok.ensures.accepted;
+      only = c.in-Ok.ensures.only;
+      told = c.in-Ok.ensures.said;
+      accepted = accepts_of _ _ _ c.in-Ok.conf found c.in-Ok.ensures.read c.in-Ok-played_interface.ensures.found c.in-Ok-played_interface.ensures.played;
       opened = c.in-Ok-open_files.ensures.opened;
-      others = c.in-Ok-open_files.ensures.keeps;
-      played = c.in-Ok-play_one.ensures.keeps;
-      stats_departures = c.requires.departures_stats;
-      stats_fates = c.requires.fates_stats;
-      least = c.in-Ok.ensures.least;
+      far = c.in-Ok-open_files.ensures.far;
+      played = c.in-Ok-play_interface.ensures.keeps;
+      none = c.in-Ok-play_interface.ensures.none;
+      said = c.in-Ok-play_interface.ensures.said;
+      distinct = c.requires;
+      rate = omega (arith, least);
+      place = λ frame. plain_class found _ plain (c.frames_have_classes.ensures.class at.text at.interfaces at.read at.place found at.at frame);
     } in
-    done_of _ _ _ _ (names_read c.args.words.now) c.in-Ok.rate c.in-Ok-open_files.opened c.args.words.now.seed steps Untold c.in-Ok-play_one.field-0 c.in-Ok-play_one.ensures.done t
+    done_of _ _ _ _ (names_read c.args.words.now) c.in-Ok-played_interface.found.now c.in-Ok-open_files.opened c.args.words.now.seed steps c.in-Ok-play_interface.field-0
+    c.in-Ok-play_interface.ensures.done t
 
-pub returns-in-Ok-play_one-clause-nothing : goal.returns-in-Ok-play_one-clause-nothing
-returns-in-Ok-play_one-clause-nothing g c = λ t x. accepted_not (g.F.Files.view c.args.files.now) (g.F.Files.view c.play_one.new.files) (names_read c.args.words.now) c.in-Ok.rate c.in-Ok.ensures.accepted x t
+pub returns-in-Ok-play_interface-clause-nothing : goal.returns-in-Ok-play_interface-clause-nothing
+returns-in-Ok-play_interface-clause-nothing g c = λ t x. accepted_not (g.F.Files.view c.args.files.now) (g.F.Files.view c.play_interface.new.files) (names_read c.args.words.now) c.in-Ok-played_interface.found.now
+    (accepts_of _ _ _ c.in-Ok.conf c.in-Ok-played_interface.found.now c.in-Ok.ensures.read c.in-Ok-played_interface.ensures.found c.in-Ok-played_interface.ensures.played) x t
 
-pub returns-in-Err-play_one-clause-why : goal.returns-in-Err-play_one-clause-why
-returns-in-Err-play_one-clause-why g c =
-    let steps : Steps (g.F.Files.view c.args.files.now) (g.F.Files.view c.config_rate.new.files) (g.F.Files.view c.open_files.new.files)
-    (g.F.Files.view c.play_one.new.files) (names_read c.args.words.now) c.in-Ok.rate c.in-Ok-open_files.opened = record {
+pub returns-in-Ok-play_interface-clause-files : goal.returns-in-Ok-play_interface-clause-files
+returns-in-Ok-play_interface-clause-files g c =
+    let found = c.in-Ok-played_interface.found.now in
+    let at = configured_of c.args.words.now.interface.now c.in-Ok.ensures.read.text c.in-Ok.conf found c.in-Ok.ensures.read.reads c.in-Ok-played_interface.ensures.found in
+    let fit = fits found c.configurations_fit.ensures at in
+    let plain = is_plain found fit c.in-Ok-played_interface.ensures.played in
+    let least = fit.rate.0 in
+    let steps : Steps (g.F.Files.view c.args.files.now) (g.F.Files.view c.read_conf.new.files) (g.F.Files.view c.open_files.new.files)
+    (g.F.Files.view c.play_interface.new.files) (names_read c.args.words.now) found c.in-Ok-open_files.opened = record {
       read = c.in-Ok.ensures.keeps;
-      accepted = c.in-Ok.ensures.accepted;
+      only = c.in-Ok.ensures.only;
+      told = c.in-Ok.ensures.said;
+      accepted = accepts_of _ _ _ c.in-Ok.conf found c.in-Ok.ensures.read c.in-Ok-played_interface.ensures.found c.in-Ok-played_interface.ensures.played;
       opened = c.in-Ok-open_files.ensures.opened;
-      others = c.in-Ok-open_files.ensures.keeps;
-      played = c.in-Err-play_one.ensures.keeps;
-      stats_departures = c.requires.departures_stats;
-      stats_fates = c.requires.fates_stats;
-      least = c.in-Ok.ensures.least;
+      far = c.in-Ok-open_files.ensures.far;
+      played = c.in-Ok-play_interface.ensures.keeps;
+      none = c.in-Ok-play_interface.ensures.none;
+      said = c.in-Ok-play_interface.ensures.said;
+      distinct = c.requires;
+      rate = omega (arith, least);
+      place = λ frame. plain_class found _ plain (c.frames_have_classes.ensures.class at.text at.interfaces at.read at.place found at.at frame);
     } in
-    let P : RunFault → Type 0 = λ f. Causes (g.F.Files.view c.args.files.now) (g.F.Files.view c.play_one.new.files) (names_read c.args.words.now) c.args.words.now.seed f in
-    subst P (sym c.run_fault.ensures) (causes_of _ _ _ _ (names_read c.args.words.now) c.in-Ok.rate c.in-Ok-open_files.opened c.args.words.now.seed Untold c.in-Err-play_one.fault steps
-    c.in-Err-play_one.ensures.why)
+    files_of _ _ _ _ (names_read c.args.words.now) c.in-Ok-played_interface.found.now c.in-Ok-open_files.opened steps
 
-pub returns-in-Err-play_one-clause-front : goal.returns-in-Err-play_one-clause-front
-returns-in-Err-play_one-clause-front g c =
-    let steps : Steps (g.F.Files.view c.args.files.now) (g.F.Files.view c.config_rate.new.files) (g.F.Files.view c.open_files.new.files)
-    (g.F.Files.view c.play_one.new.files) (names_read c.args.words.now) c.in-Ok.rate c.in-Ok-open_files.opened = record {
+pub returns-clause-why : goal.returns-clause-why
+returns-clause-why g c =
+    let found = c.in-Ok-played_interface.found.now in
+    let at = configured_of c.args.words.now.interface.now c.in-Ok.ensures.read.text c.in-Ok.conf found c.in-Ok.ensures.read.reads c.in-Ok-played_interface.ensures.found in
+    let fit = fits found c.configurations_fit.ensures at in
+    let plain = is_plain found fit c.in-Ok-played_interface.ensures.played in
+    let least = fit.rate.0 in
+    let steps : Steps (g.F.Files.view c.args.files.now) (g.F.Files.view c.read_conf.new.files) (g.F.Files.view c.open_files.new.files)
+    (g.F.Files.view c.play_interface.new.files) (names_read c.args.words.now) found c.in-Ok-open_files.opened = record {
       read = c.in-Ok.ensures.keeps;
-      accepted = c.in-Ok.ensures.accepted;
+      only = c.in-Ok.ensures.only;
+      told = c.in-Ok.ensures.said;
+      accepted = accepts_of _ _ _ c.in-Ok.conf found c.in-Ok.ensures.read c.in-Ok-played_interface.ensures.found c.in-Ok-played_interface.ensures.played;
       opened = c.in-Ok-open_files.ensures.opened;
-      others = c.in-Ok-open_files.ensures.keeps;
-      played = c.in-Err-play_one.ensures.keeps;
-      stats_departures = c.requires.departures_stats;
-      stats_fates = c.requires.fates_stats;
-      least = c.in-Ok.ensures.least;
+      far = c.in-Ok-open_files.ensures.far;
+      played = c.in-Err-play_interface.ensures.keeps;
+      none = c.in-Err-play_interface.ensures.none;
+      said = c.in-Err-play_interface.ensures.said;
+      distinct = c.requires;
+      rate = omega (arith, least);
+      place = λ frame. plain_class found _ plain (c.frames_have_classes.ensures.class at.text at.interfaces at.read at.place found at.at frame);
     } in
-    fronts_of _ _ _ _ (names_read c.args.words.now) c.in-Ok.rate c.in-Ok-open_files.opened c.args.words.now.seed steps c.in-Err-play_one.ensures.front
+    causes_of _ _ _ _ (names_read c.args.words.now) c.in-Ok-played_interface.found.now c.in-Ok-open_files.opened c.args.words.now.seed c.in-Err-play_interface.fault steps
+    c.in-Err-play_interface.ensures.why
 
-pub returns-in-Err-play_one-clause-nothing : goal.returns-in-Err-play_one-clause-nothing
-returns-in-Err-play_one-clause-nothing g c = λ t x. accepted_not (g.F.Files.view c.args.files.now) (g.F.Files.view c.play_one.new.files) (names_read c.args.words.now) c.in-Ok.rate c.in-Ok.ensures.accepted x t
+pub returns-clause-front : goal.returns-clause-front
+returns-clause-front g c =
+    let found = c.in-Ok-played_interface.found.now in
+    let at = configured_of c.args.words.now.interface.now c.in-Ok.ensures.read.text c.in-Ok.conf found c.in-Ok.ensures.read.reads c.in-Ok-played_interface.ensures.found in
+    let fit = fits found c.configurations_fit.ensures at in
+    let plain = is_plain found fit c.in-Ok-played_interface.ensures.played in
+    let least = fit.rate.0 in
+    let steps : Steps (g.F.Files.view c.args.files.now) (g.F.Files.view c.read_conf.new.files) (g.F.Files.view c.open_files.new.files)
+    (g.F.Files.view c.play_interface.new.files) (names_read c.args.words.now) found c.in-Ok-open_files.opened = record {
+      read = c.in-Ok.ensures.keeps;
+      only = c.in-Ok.ensures.only;
+      told = c.in-Ok.ensures.said;
+      accepted = accepts_of _ _ _ c.in-Ok.conf found c.in-Ok.ensures.read c.in-Ok-played_interface.ensures.found c.in-Ok-played_interface.ensures.played;
+      opened = c.in-Ok-open_files.ensures.opened;
+      far = c.in-Ok-open_files.ensures.far;
+      played = c.in-Err-play_interface.ensures.keeps;
+      none = c.in-Err-play_interface.ensures.none;
+      said = c.in-Err-play_interface.ensures.said;
+      distinct = c.requires;
+      rate = omega (arith, least);
+      place = λ frame. plain_class found _ plain (c.frames_have_classes.ensures.class at.text at.interfaces at.read at.place found at.at frame);
+    } in
+    fronts_of _ _ _ _ (names_read c.args.words.now) c.in-Ok-played_interface.found.now c.in-Ok-open_files.opened c.args.words.now.seed steps c.in-Err-play_interface.ensures.front
+
+pub returns-clause-accepted : goal.returns-clause-accepted
+returns-clause-accepted g c = λ after. (
+  c.in-Ok-played_interface.found.now,
+  accepts_of _ _ _ c.in-Ok.conf c.in-Ok-played_interface.found.now
+      c.in-Ok.ensures.read c.in-Ok-played_interface.ensures.found c.in-Ok-played_interface.ensures.played,
+)
+
+pub returns-clause-nothing : goal.returns-clause-nothing
+returns-clause-nothing g c = λ t x. accepted_not (g.F.Files.view c.args.files.now) (g.F.Files.view c.play_interface.new.files) (names_read c.args.words.now) c.in-Ok-played_interface.found.now
+    (accepts_of _ _ _ c.in-Ok.conf c.in-Ok-played_interface.found.now c.in-Ok.ensures.read c.in-Ok-played_interface.ensures.found c.in-Ok-played_interface.ensures.played) x t
+
+pub returns-clause-files : goal.returns-clause-files
+returns-clause-files g c =
+    let found = c.in-Ok-played_interface.found.now in
+    let at = configured_of c.args.words.now.interface.now c.in-Ok.ensures.read.text c.in-Ok.conf found c.in-Ok.ensures.read.reads c.in-Ok-played_interface.ensures.found in
+    let fit = fits found c.configurations_fit.ensures at in
+    let plain = is_plain found fit c.in-Ok-played_interface.ensures.played in
+    let least = fit.rate.0 in
+    let steps : Steps (g.F.Files.view c.args.files.now) (g.F.Files.view c.read_conf.new.files) (g.F.Files.view c.open_files.new.files)
+    (g.F.Files.view c.play_interface.new.files) (names_read c.args.words.now) found c.in-Ok-open_files.opened = record {
+      read = c.in-Ok.ensures.keeps;
+      only = c.in-Ok.ensures.only;
+      told = c.in-Ok.ensures.said;
+      accepted = accepts_of _ _ _ c.in-Ok.conf found c.in-Ok.ensures.read c.in-Ok-played_interface.ensures.found c.in-Ok-played_interface.ensures.played;
+      opened = c.in-Ok-open_files.ensures.opened;
+      far = c.in-Ok-open_files.ensures.far;
+      played = c.in-Err-play_interface.ensures.keeps;
+      none = c.in-Err-play_interface.ensures.none;
+      said = c.in-Err-play_interface.ensures.said;
+      distinct = c.requires;
+      rate = omega (arith, least);
+      place = λ frame. plain_class found _ plain (c.frames_have_classes.ensures.class at.text at.interfaces at.read at.place found at.at frame);
+    } in
+    files_of _ _ _ _ (names_read c.args.words.now) c.in-Ok-played_interface.found.now c.in-Ok-open_files.opened steps

@@ -3,7 +3,7 @@ use Rattle.std.specs.Prelude.{IsSome}
 use Rattle.std.proofs.Math.Seq.{take-add}
 use Rattle.std.proofs.lemmas.Grind.{common_steps}
 use Rattle.play_base.specs.View.{View, Wrote}
-use Rattle.play_base.specs.ViewLaws.{wrote_unchanged, wrote_more_there, still_there}
+use Rattle.play_base.proofs.ViewLaws.{wrote_unchanged, wrote_more_there, still_there}
 use Rattle.play_loop.proofs.gathered.write_all.Goals as goal
 
 step : (i k : ℕ) (s : List ℕ) → take i s ++ take k (take (length s - i) (drop i s)) ≡ take (i + k) s

@@ -1,22 +1,18 @@
-use Rattle.std.proofs.Common.{◌≡◌, ◌∙◌, ap, subst, inl, inr}
-use Rattle.discipline.specs.Laws.{coming}
-use Rattle.discipline.specs.Paced.{Held}
-use Rattle.discipline.proofs.PacedLemmas.{held_after, with_queue, OffersWell, offers_well}
+use Rattle.std.proofs.Common.{◌<◌, ◌-◌, ◌^◌, List, ◌∷◌, subst}
+use Rattle.altq_model.specs.History.{Happened, bare}
+use Rattle.discipline_laws.specs.Laws.{IsAnswer, coming, offer_of}
+use Rattle.discipline_laws.specs.Moments.{IsOffer}
+use Rattle.discipline.specs.Paced.{Pacing, Stands, paced_of}
+use Rattle.discipline.proofs.PacedLemmas.{offer_stands}
 use Rattle.discipline.proofs.paced.PacedDiscipline.offer.Goals as goal
-
-pub invariant_of-self : goal.invariant_of-self
-invariant_of-self g c =
-    held_after _ _ _ _ _ _ _ c.self.invariant c.requires.prec c.offer_to.ensures.lists c.offer_to.ensures.room c.offer_to.ensures.full c.offer_to.ensures.limit
 
 pub returns-clause-history : goal.returns-clause-history
 returns-clause-history g c =
-    let d : Held g.row.Q.Denot =
-    record { class = c.self.inside.class; gap = c.self.inside.gap; queue = c.self.inside.queue; listed = c.self.inside.lists } in
-    let mine : c.args.self.now.class ≡ c.args._class = elim c.requires.class [ inl e ↦ e | inr n ↦ absurd n ] in
-    let P : Held g.row.Q.Denot → Type 0 = λ e. OffersWell g.Q.QueueRule.stands g.Q.QueueRule.says e
-    (with_queue g.Q.QueueRule.stands g.Q.QueueRule.says d c.offer_to.new.queue c.offer_to.new.lists) c.args.ticket c.args.words.now c.offer_to.new.words
-    (coming c.args._class c.args.len c.args.prec c.args.now) c.offer_to.result in
-    subst P c.self.view_is (offers_well g.Q.QueueRule.stands g.Q.QueueRule.says d c.offer_to.new.queue c.offer_to.new.lists c.args.ticket c.args._class c.args.len
-    c.args.prec c.args.now c.args.words.now c.offer_to.new.words c.offer_to.result (ap (λ (v : Held _). v.class) c.self.view_is ∙ mine)
-    c.self.invariant.one c.offer_to.ensures.lists c.offer_to.ensures.kind
-    (λ t k few. (c.offer_to.ensures.verdict t k few, c.offer_to.ensures.words t k few, c.offer_to.ensures.history t k few)))
+    let P : Pacing g.row.Q.Denot → Type 0 = λ d. (h : List Happened) → Stands g.Q.QueueRule.stands g.Q.QueueRule.says d h → IsOffer c.args.now (bare h)
+    → c.args.words.now.drawn < 2 ^ 64 - 1
+    → IsAnswer (paced_of g.Q.QueueRule.says d) (bare h) c.args.words.now (coming c.args.class c.args.len c.args.prec c.args.now) c.offer.result c.offer.new.words
+    × Stands g.Q.QueueRule.stands g.Q.QueueRule.says (record { gap = c.self.inside.gap; rows = c.offer.new.self })
+    (offer_of (paced_of g.Q.QueueRule.says d) h c.args.ticket c.args.words.now (coming c.args.class c.args.len c.args.prec c.args.now) ∷ h) in
+    subst P c.self.view_is (λ h s o few. offer_stands g.Q.QueueRule.stands g.Q.QueueRule.says g.Q.QueueRule.most
+    (record { gap = c.self.inside.gap; rows = c.self.inside.rows }) c.offer.new.self h c.args.ticket c.args.class c.args.len c.args.prec c.args.now
+    c.args.words.now c.offer.new.words c.offer.result c.offer.ensures.same s o (c.offer.ensures.told h s.told few))

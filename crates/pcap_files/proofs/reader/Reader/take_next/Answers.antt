@@ -1,5 +1,5 @@
 use Rattle.std.proofs.Common.{◌≡◌, ℕ, ◌∙◌, ap, sym, subst, refl, arith, length}
-use Rattle.altq_model.specs.Capture.{step, place_after, Fault, damage}
+use Rattle.capture_model.specs.Capture.{step, place_after, Fault, damage}
 use Rattle.pcap_files.specs.Forms.{form}
 use Rattle.pcap_files.specs.Reading.{IsCause}
 use Rattle.pcap_files.proofs.ReaderLemmas.{took_some, took_into, took_twice, pending_took, stands_at, stands_reads, stands_with, cut_reads, answered}

@@ -1,4 +1,4 @@
-use Rattle.std.proofs.Common.{◌<◌, ◌==◌, ◌^◌, ℕ, ℤ, pos, negsuc, ◌≤ℤ◌, length, slice_index, slice_index_or, sym, subst, w64, to_z, of_z, rules}
+use Rattle.std.proofs.Common.{◌≡◌, ◌∙◌, ◌<◌, ◌==◌, ◌^◌, ℕ, ℤ, pos, negsuc, ◌≤ℤ◌, length, slice_index, slice_index_or, slice_set, sym, ap, subst, w64, to_z, of_z, rules}
 use Rattle.std.proofs.lemmas.Int.{to_z-of_z}
 use Rattle.leaf_queue.specs.Words.{word, Drew}
 use Rattle.red_average.specs.declared.ruling.Thresholds.{Thresholds}
@@ -34,3 +34,18 @@ returns-clause-words c = λ d.
 
 pub returns-clause-full : goal.returns-clause-full
 returns-clause-full c = full_as c.args.waiting.all c.args.self.now.limit _ c.ruled-ruling.ensures.full
+
+pub returns-clause-count : goal.returns-clause-count
+returns-clause-count c = λ d.
+    let r = c.args.self.now in
+    let w = c.args.words.now in
+    let within : c.args.prec < length r.count = search rules in
+    let z : ℤ = slice_index_or r.count c.args.prec (pos 0) in
+    let same = to_z-of_z w64 z (fits_count z (r.least c.args.prec within) (r.most c.args.prec within)) in
+    let new : ℤ = c.ruled-ruling.result.count in
+    let kept = to_z-of_z w64 new (fits_count new c.ruled-ruling.ensures.least c.ruled-ruling.ensures.most) in
+    let a : ℕ = slice_index c.averages_after-self.result c.args.prec in
+    let P : Thresholds → Type 0 = λ t. c.ruled-ruling.result ≡ (ruled t (c.args.waiting.all == r.limit) a z (word w.seed w.drawn)).ruling in
+    let Q : ℤ → Type 0 = λ x. c.ruled-ruling.result ≡ (ruled c.thresholds_of.result (c.args.waiting.all == r.limit) a x (word w.seed w.drawn)).ruling in
+    let ruling = subst P c.thresholds_of.ensures.value (subst Q same (c.ruled-ruling.ensures.ruling d)) in
+    ap (λ x. slice_set r.count c.args.prec x) kept ∙ ap (λ x. slice_set r.count c.args.prec x.count) ruling

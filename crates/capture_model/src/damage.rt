@@ -1,0 +1,46 @@
+// What is wrong with a capture.
+ghost use Rattle.std.specs.Prelude.{◌≡◌};
+ghost use Rattle.capture_model.specs.Numbers.{damage_number};
+
+/// The kind of the first test that a capture fails, in the order of the tests of the head and then of a record.
+#[derive(Clone, Copy, Debug, PartialEq, Eq)]
+pub enum DamageKind {
+    /// The file has fewer than 24 bytes. The place is its length.
+    ShortHead,
+    /// The first four bytes are no magic number of the classic format. The place is 0.
+    BadMagic,
+    /// The version is not 2.4. The place is 4.
+    BadVersion,
+    /// The low 16 bits of the link type are not 1, Ethernet. The place is 20.
+    BadLink,
+    /// Fewer bytes stand at the record's place than its head or its captured length needs.
+    ShortRecord,
+    /// Both lengths of the record are 0.
+    EmptyRecord,
+    /// The captured or the original length is above 262,144.
+    LongRecord,
+}
+
+impl DamageKind {
+    /// The kind's number, from 1, as a status gives it.
+    pub fn number(self) -> u8
+        ensures { result ≡ damage_number self }
+    {
+        match self {
+            DamageKind::ShortHead => 1,
+            DamageKind::BadMagic => 2,
+            DamageKind::BadVersion => 3,
+            DamageKind::BadLink => 4,
+            DamageKind::ShortRecord => 5,
+            DamageKind::EmptyRecord => 6,
+            DamageKind::LongRecord => 7,
+        }
+    }
+}
+
+/// The first fault of a capture: the byte, counted from 0, at which the failed test looks, and its kind.
+#[derive(Clone, Copy, Debug, PartialEq, Eq)]
+pub struct Damage {
+    pub place: u64,
+    pub kind: DamageKind,
+}

@@ -1,0 +1,4 @@
+pub mod LeafLemmas
+pub mod RowHistory
+pub mod RowLemmas
+pub mod ShowsLemmas

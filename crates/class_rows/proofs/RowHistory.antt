@@ -1,0 +1,343 @@
+-- Classes in a row: what an offer and a leaving do to the histories that they stand for.
+use Rattle.std.proofs.Common.{◌≡◌, ◌≤◌, ◌<◌, ◌+◌, ◌-◌, ◌^◌, ◌∙◌, ◌⊎◌, inl, inr, ℕ, zero, suc, Bool, true, false, cond, List, [], ◌∷◌, ◌++◌, Some, length, map, refl, ap, sym, subst, arith, drop, eqb, set, get_or}
+use Rattle.std.specs.declared.option.Option.{Option}
+use Rattle.std.specs.Prelude.{slice_get, option_map, unwrap_or, ◌↔◌}
+use Rattle.std.proofs.lemmas.Bool.{eq-eqb, ne_eqb, eqb-true}
+use Rattle.std.proofs.lemmas.List.{length-set, length-append}
+use Rattle.std.proofs.lemmas.Option.{slice_get-map, slice_get-get_or}
+use Rattle.altq_model.specs.declared.Reason.TheVariants.{Full}
+use Rattle.altq_model.specs.declared.Verdict.{Verdict}
+use Rattle.altq_model.specs.declared.Verdict.TheVariants.{Keep, Mark, Drop}
+use Rattle.altq_model.specs.History.{Coming, DrawnWords, Answer, Event, Offered, Sent, Happened, Transmission, bare, waiting, with_offer, without_head}
+use Rattle.altq_model.specs.Lawful.{IsOneOf}
+use Rattle.leaf_queue.specs.declared.node.Entry.{Entry}
+use Rattle.leaf_queue.specs.Lists.{Listed, list_of, precs_in}
+use Rattle.leaf_queue.specs.Words.{Drew}
+use Rattle.leaf_queue.specs.Queue.{QueueEvent, Asked, Saying, by_queue, by_queues, queue_at, told_of, waiting_of, precs_of}
+use Rattle.discipline_laws.specs.Laws.{seen, seen_of, after_offer, after_sent, coming, held_in, room_of}
+use Rattle.class_rows.specs.Leaf.{after_verdict, gone, HasPrecs}
+use Rattle.class_rows.specs.Rows.{Answers, Fit, IsRow, Rowed, RowsStand, SameRow, Told, answering, classes_in, limit_at, limit_in, limits_sum, list_at, list_in}
+use Rattle.class_rows.proofs.ShowsLemmas.{shows_offered, shows_sent, seen_precs, told_here, told_there, gone_here, gone_there, seen-offer, seen-sent}
+use Rattle.class_rows.proofs.RowLemmas.{after_is, fit_at, fit_length, fit_set, fit_total, held_is, limit_here, limits_kept, list_at-here, list_at-set, map_kept, one_of, room_is, some_place}
+
+-- an event changes what waits in one class, and what its queue was told, alone
+pub record Others (class : ℕ) (e : Event) (b : List Event) : Type 0 where
+  pub waits : (c : ℕ) → (class ≡ c → ⊥) → waiting c (e ∷ b) ≡ waiting c b
+  pub told : (c : ℕ) → (class ≡ c → ⊥) → told_of c (e ∷ b) ≡ told_of c b
+
+-- the queue of a place
+queue_there : {Q : Type 0} (says : Q → Saying) (queues : List Q) (k : ℕ) (q : Q) → slice_get queues k ≡ Some q → queue_at (map says queues) k ≡ says q
+queue_there says [] k q e = absurd (cc)
+queue_there {Q} says (p ∷ queues) k q e =
+    ap (λ (o : Option Saying). unwrap_or o (says p)) (slice_get-map says (p ∷ queues) k ∙ ap (option_map says) e)
+
+module _ {Q : Type 0} (stands : Q → List QueueEvent → Type 0) where
+  rows_at : (c : ℕ) (queues : List Q) (lists : List (List Entry)) (b : List Event) (k class : ℕ) (q : Q) → RowsStand stands c queues lists b
+      → slice_get queues k ≡ Some q → c + k ≡ class → (seen (list_of lists k) ≡ seen_of (waiting class b)) × stands q (told_of class b)
+  rows_at c [] lists b k class q s e n = absurd (cc)
+  rows_at c (p ∷ queues) [] b k class q s e n = absurd s
+  rows_at c (p ∷ queues) (xs ∷ lists) b zero class q s e n =
+      let same : p ≡ q = cc in
+      let m : c ≡ class = omega arith in
+      let P : ℕ → Type 0 = λ d. seen xs ≡ seen_of (waiting d b) in
+      let R : ℕ → Type 0 = λ d. stands p (told_of d b) in
+      let S : Q → Type 0 = λ u. stands u (told_of class b) in
+      (subst P m s.0, subst S same (subst R m s.1))
+  rows_at c (p ∷ queues) (xs ∷ lists) b (suc k) class q s e n = rows_at (c + 1) queues lists b k class q s.2 e (omega arith)
+
+  row_kept : (c class : ℕ) (q : Q) (xs : List Entry) (e : Event) (b : List Event) → Others class e b → (class ≡ c → ⊥) → seen xs ≡ seen_of (waiting c b)
+      → stands q (told_of c b) → (seen xs ≡ seen_of (waiting c (e ∷ b))) × stands q (told_of c (e ∷ b))
+  row_kept c class q xs e b o n s t =
+      let P : List QueueEvent → Type 0 = λ k. stands q k in
+      (s ∙ ap seen_of (sym (o.waits c n)), subst P (sym (o.told c n)) t)
+
+  rows_kept : (c class : ℕ) (queues : List Q) (lists : List (List Entry)) (e : Event) (b : List Event) → Others class e b → class < c
+      → RowsStand stands c queues lists b → RowsStand stands c queues lists (e ∷ b)
+  rows_kept c class [] [] e b o l s = tt
+  rows_kept c class [] (xs ∷ lists) e b o l s = s
+  rows_kept c class (q ∷ queues) [] e b o l s = s
+  rows_kept c class (q ∷ queues) (xs ∷ lists) e b o l s =
+      let here = row_kept c class q xs e b o (λ n. omega arith) s.0 s.1 in
+      (here.0, here.1, rows_kept (c + 1) class queues lists e b o (omega arith) s.2)
+
+  -- one more event of the class at this place
+  rows_set : (c : ℕ) (queues : List Q) (lists : List (List Entry)) (e : Event) (b : List Event) (k class : ℕ) (q : Q) (ys : List Entry)
+      → Others class e b → c + k ≡ class → RowsStand stands c queues lists b
+      → seen ys ≡ seen_of (waiting class (e ∷ b)) → stands q (told_of class (e ∷ b)) → RowsStand stands c (set queues k q) (set lists k ys) (e ∷ b)
+  rows_set c [] [] e b k class q ys o n s w t = tt
+  rows_set c [] (xs ∷ lists) e b k class q ys o n s w t = absurd s
+  rows_set c (p ∷ queues) [] e b k class q ys o n s w t = absurd s
+  rows_set c (p ∷ queues) (xs ∷ lists) e b zero class q ys o n s w t =
+      let m : class ≡ c = omega arith in
+      let P : ℕ → Type 0 = λ d. seen ys ≡ seen_of (waiting d (e ∷ b)) in
+      let R : ℕ → Type 0 = λ d. stands q (told_of d (e ∷ b)) in
+      (subst P m w, subst R m t, rows_kept (c + 1) class queues lists e b o (omega arith) s.2)
+  rows_set c (p ∷ queues) (xs ∷ lists) e b (suc k) class q ys o n s w t =
+      let here = row_kept c class p xs e b o (λ d. omega arith) s.0 s.1 in
+      (here.0, here.1, rows_set (c + 1) queues lists e b k class q ys o (omega arith) s.2 w t)
+
+offer_stays : (v : Verdict) (x : Coming) (xs : List Coming) (m : Bool) → m ≡ false → with_offer m v x xs ≡ xs
+offer_stays Keep x xs m e = ap (λ (b : Bool). cond b (xs ++ x ∷ []) xs) e
+offer_stays Mark x xs m e = ap (λ (b : Bool). cond b (xs ++ x ∷ []) xs) e
+offer_stays (Drop r) x xs m e = refl
+
+others_offered : (a : Coming) (w : DrawnWords) (s : Answer) (b : List Event) → Others a.class (Offered a w s) b
+others_offered a w s b = record {
+  waits = λ c n. offer_stays s.verdict a (waiting c b) (eqb a.class c) (ne_eqb a.class c n);
+  told = λ c n. told_there c b a w s n;
+}
+
+others_sent : (s : Transmission) (b : List Event) → Others s.class (Sent s) b
+others_sent s b = record {
+  waits = λ c n. ap (λ (m : Bool). without_head m (waiting c b)) (ne_eqb s.class c n);
+  told = λ c n. gone_there c b s n;
+}
+
+-- the list of each class, where that of one has changed
+keep_or : {A : Type 0} (v : Verdict) (x : A) (xs ys : List A) (m : Bool) → (m ≡ true → xs ≡ ys)
+    → cond m (with_offer true v x ys) xs ≡ with_offer m v x xs
+keep_or v x xs ys true f = ap (with_offer true v x) (sym (f refl))
+keep_or Keep x xs ys false f = refl
+keep_or Mark x xs ys false f = refl
+keep_or (Drop r) x xs ys false f = refl
+
+drop_or : {A : Type 0} (xs ys : List A) (m : Bool) → (m ≡ true → xs ≡ ys) → cond m (drop 1 ys) xs ≡ without_head m xs
+drop_or xs ys true f = ap (drop 1) (sym (f refl))
+drop_or xs ys false f = refl
+
+lists_offered : (c : ℕ) (lists : List (List Entry)) (k class : ℕ) (v : Verdict) (x : Entry) (d : ℕ) → k < length lists → c + k ≡ class
+    → list_at c (set lists k (with_offer true v x (list_of lists k))) d ≡ after_offer v class x (list_at c lists) d
+lists_offered c lists k class v x d l e =
+    list_at-set c lists k (with_offer true v x (list_of lists k)) d l
+    ∙ ap (λ (n : ℕ). cond (eqb n d) (with_offer true v x (list_of lists k)) (list_at c lists d)) e
+    ∙ keep_or v x (list_at c lists d) (list_of lists k) (eqb class d)
+    (λ t. list_at-here c lists k d l (e ∙ eqb-true class d t))
+
+lists_sent : (c : ℕ) (lists : List (List Entry)) (k class d : ℕ) → k < length lists → c + k ≡ class
+    → list_at c (set lists k (drop 1 (list_of lists k))) d ≡ after_sent class (list_at c lists) d
+lists_sent c lists k class d l e =
+    list_at-set c lists k (drop 1 (list_of lists k)) d l
+    ∙ ap (λ (n : ℕ). cond (eqb n d) (drop 1 (list_of lists k)) (list_at c lists d)) e
+    ∙ drop_or (list_at c lists d) (list_of lists k) (eqb class d)
+    (λ t. list_at-here c lists k d l (e ∙ eqb-true class d t))
+
+mine_offered : (v : Verdict) (x : Entry) (xs : List Entry) (a : Coming) (c : ℕ) (b : List Event) (w : DrawnWords) (s : Answer) → v ≡ s.verdict → a.class ≡ c
+    → x.len ≡ a.len → x.prec ≡ a.prec → seen xs ≡ seen_of (waiting c b) → seen (with_offer true v x xs) ≡ seen_of (waiting c (Offered a w s ∷ b))
+mine_offered v x xs a c b w s e m l p h =
+    ap (λ (u : Verdict). seen (with_offer true u x xs)) e ∙ seen-offer true s.verdict x xs a (waiting c b) l p h
+    ∙ ap (λ (t : Bool). seen_of (with_offer t s.verdict a (waiting c b))) (sym (eq-eqb a.class c m))
+
+mine_sent : (xs : List Entry) (s : Transmission) (c : ℕ) (b : List Event) → s.class ≡ c → seen xs ≡ seen_of (waiting c b)
+    → seen (drop 1 xs) ≡ seen_of (waiting c (Sent s ∷ b))
+mine_sent xs s c b m h =
+    seen-sent true xs (waiting c b) h ∙ ap (λ (t : Bool). seen_of (without_head t (waiting c b))) (sym (eq-eqb s.class c m))
+
+-- the place of a class
+pub record IsPlace {Q : Type 0} (d : Rowed Q) (class : ℕ) : Type 0 where
+  pub low : d.first ≤ class
+  pub there : class - d.first < length d.queues
+  pub listed : class - d.first < length d.listed.lists
+  pub is : d.first + (class - d.first) ≡ class
+
+abbrev pub IsRowed : {Q : Type 0} → (Q → ℕ) → (room : ℕ) → Rowed Q → Type 0
+IsRowed most room d = IsRow most d.first room d.queues d.holds d.listed
+
+module _ {Q : Type 0} (most : Q → ℕ) (room : ℕ) (d : Rowed Q) (i : IsRowed most room d) where
+  place_of : (class : ℕ) → d.first ≤ class → class < d.first + length d.queues → IsPlace d class
+  place_of class low high = record {
+    low = low;
+    there = omega arith;
+    listed = omega (arith, (fit_length most d.queues d.holds d.listed.lists i.fit).0);
+    is = omega arith;
+  }
+
+  -- a queue class
+  pub queue_place : (class : ℕ) → IsOneOf class (classes_in d) → IsPlace d class × (slice_get d.holds (class - d.first) ≡ Some true)
+  queue_place class o =
+      let x = one_of class d.first d.holds o in
+      (place_of class x.low (omega (arith, x.high, (fit_length most d.queues d.holds d.listed.lists i.fit).1)), x.held)
+
+  -- a class in which something waits
+  pub waiting_place : (class : ℕ) → 0 < length (list_in d class) → IsPlace d class
+  waiting_place class l =
+      let x = some_place d.first d.listed.lists class l in
+      place_of class x.0 (omega (arith, x.1, (fit_length most d.queues d.holds d.listed.lists i.fit).0))
+
+  pub known_place : (class : ℕ) → d.first ≤ class → class < d.first + length d.queues → IsPlace d class
+  known_place = place_of
+
+  pub room_row : room ≡ room_of (limit_in most d) (classes_in d)
+  room_row = i.sum ∙ sym (room_is most d.first d.queues d.holds (fit_length most d.queues d.holds d.listed.lists i.fit).1)
+
+  pub within_row : held_in (list_in d) (classes_in d) ≤ room
+  within_row = omega (arith, held_is d.first d.listed.lists d.holds, fit_total most d.queues d.holds d.listed.lists i.fit, i.sum)
+
+  pub bounded_row : held_in (list_in d) (classes_in d) ≤ room_of (limit_in most d) (classes_in d)
+  bounded_row = omega (arith, within_row, room_row)
+
+-- the queue of a place
+pub queue_is : {Q : Type 0} (d : Rowed Q) (class : ℕ) (q : Q) → IsPlace d class → q ≡ get_or d.queues (class - d.first) q → slice_get d.queues (class - d.first) ≡ Some q
+queue_is d class q p e = slice_get-get_or d.queues (class - d.first) q p.there ∙ ap Some (sym e)
+
+-- the head of a class's list
+pub head_is : {Q : Type 0} (d : Rowed Q) (class : ℕ) → IsPlace d class → slice_get (list_of d.listed.lists (class - d.first)) 0 ≡ slice_get (list_in d class) 0
+head_is d class p = ap (λ (xs : List Entry). slice_get xs 0) (sym (list_at-here d.first d.listed.lists (class - d.first) class p.listed p.is))
+
+-- the list of a place, after an offer
+bounded_after : (v : Verdict) (x : Entry) (xs : List Entry) (most : ℕ) → length xs ≤ most → ((v ≡ Drop Full) ↔ (length xs ≡ most))
+    → length (with_offer true v x xs) ≤ most
+bounded_after Keep x xs most l f =
+    let less : length xs ≡ most → ⊥ = λ e. let full = f.1 e in (cc) in
+    omega (arith, less, length-append xs (x ∷ []))
+bounded_after Mark x xs most l f =
+    let less : length xs ≡ most → ⊥ = λ e. let full = f.1 e in (cc) in
+    omega (arith, less, length-append xs (x ∷ []))
+bounded_after (Drop r) x xs most l f = l
+
+precs_append : (xs : List Entry) (x : Entry) → HasPrecs xs → x.prec ≤ 2 → HasPrecs (xs ++ x ∷ [])
+precs_append [] x h l = (l, tt)
+precs_append (y ∷ xs) x h l = (h.0, precs_append xs x h.1 l)
+
+precs_after : (v : Verdict) (xs : List Entry) (x : Entry) → HasPrecs xs → x.prec ≤ 2 → HasPrecs (with_offer true v x xs)
+precs_after Keep xs x h l = precs_append xs x h l
+precs_after Mark xs x h l = precs_append xs x h l
+precs_after (Drop r) xs x h l = h
+
+length_drop : (xs : List Entry) → length (drop 1 xs) ≤ length xs
+length_drop [] = omega arith
+length_drop (x ∷ xs) = omega arith
+
+precs_drop : (xs : List Entry) → HasPrecs xs → HasPrecs (drop 1 xs)
+precs_drop [] h = tt
+precs_drop (x ∷ xs) h = h.1
+
+-- a row with another queue and other lists
+abbrev pub with_row : {Q : Type 0} → Rowed Q → (k : ℕ) → Q → Listed → Rowed Q
+with_row d k q l = record { first = d.first; queues = set d.queues k q; holds = d.holds; listed = l }
+
+module _ {Q : Type 0} (stands : Q → List QueueEvent → Type 0) (says : Q → Saying) (most : Q → ℕ) where
+  same_row : (d : Rowed Q) (k : ℕ) (p q : Q) (l : Listed) → slice_get d.queues k ≡ Some p → says q ≡ says p → most q ≡ most p → SameRow most says d (with_row d k q l)
+  same_row d k p q l e s m = record {
+    first = refl;
+    holds = refl;
+    count = length-set d.queues k q;
+    limits = ap (limit_at d.first) (limits_kept most d.queues d.holds k p q e m);
+    answers = ap (by_queues d.first) (map_kept says d.queues k p q e s);
+  }
+
+  row_set : (room : ℕ) (d : Rowed Q) (k : ℕ) (p q : Q) (ys : List Entry) (l : Listed) → IsRowed most room d → slice_get d.queues k ≡ Some p → most q ≡ most p
+      → l.lists ≡ set d.listed.lists k ys → l.room ≡ d.listed.room
+      → (length ys ≤ length (list_of d.listed.lists k)) ⊎ ((slice_get d.holds k ≡ Some true) × (length ys ≤ most p)) → HasPrecs ys
+      → IsRowed most room (with_row d k q l)
+  row_set room d k p q ys l i e m lists same long precs =
+      let P : List (List Entry) → Type 0 = λ ls. Fit most (set d.queues k q) d.holds ls in
+      record {
+        fit = subst P (sym lists) (fit_set most d.queues d.holds d.listed.lists k p q ys i.fit e m long precs);
+        sum = i.sum ∙ sym (ap limits_sum (limits_kept most d.queues d.holds k p q e m));
+        there = omega (arith, i.there, same);
+        bound = i.bound;
+        count_bound = omega (arith, length-set d.queues k q, i.count_bound);
+      }
+
+  -- what a queue answered of an offer, and what it stands for after it
+  abbrev pub Asks : (p q : Q) → (xs : List Entry) → (x : Entry) → (now : ℕ) → (w z : DrawnWords) → Verdict → Type 0
+  Asks p q xs x now w z v = (t : List QueueEvent) → stands p t → w.drawn < 2 ^ 64 - 1
+      → (v ≡ (says p t now (waiting_of (precs_in xs)) x.prec w).verdict)
+      × Drew w z (says p t now (waiting_of (precs_in xs)) x.prec w).took
+      × stands q (Asked now (waiting_of (precs_in xs)) x.prec w (says p t now (waiting_of (precs_in xs)) x.prec w) ∷ t)
+
+  -- all that an offer does
+  pub record Offers (room : ℕ) (d e : Rowed Q) (class : ℕ) (x : Entry) (now : ℕ) (w : DrawnWords) (v : Verdict) (z : DrawnWords) : Type 0 where
+    pub row : IsRowed most room e
+    pub lists : (c : ℕ) → list_in e c ≡ after_offer v class x (list_in d) c
+    pub full : (v ≡ Drop Full) ↔ (length (list_in d class) ≡ limit_in most d class)
+    pub told : (h : List Happened) → Told stands d h → w.drawn < 2 ^ 64 - 1 → Answers stands says d e h class x now w v z
+    pub same : SameRow most says d e
+
+  pub offers : (room : ℕ) (d : Rowed Q) (class : ℕ) (p q : Q) (l : Listed) (x : Entry) (now : ℕ) (w z : DrawnWords) (v : Verdict)
+      → IsRowed most room d → IsPlace d class → slice_get d.holds (class - d.first) ≡ Some true → slice_get d.queues (class - d.first) ≡ Some p → x.prec ≤ 2
+      → l.lists ≡ after_verdict v (class - d.first) x d.listed.lists → l.room ≡ d.listed.room → says q ≡ says p → most q ≡ most p
+      → ((v ≡ Drop Full) ↔ (length (list_of d.listed.lists (class - d.first)) ≡ most p))
+      → Asks p q (list_of d.listed.lists (class - d.first)) x now w z v → Offers room d (with_row d (class - d.first) q l) class x now w v z
+  offers room d class p q l x now w z v i place held there small lists same_room same limit full asks =
+      let k : ℕ = class - d.first in
+      let xs : List Entry = list_of d.listed.lists k in
+      let ys : List Entry = with_offer true v x xs in
+      let is : l.lists ≡ set d.listed.lists k ys = lists ∙ after_is v k x d.listed.lists in
+      let at = fit_at most d.queues d.holds d.listed.lists k p i.fit there in
+      let here : list_in d class ≡ xs = list_at-here d.first d.listed.lists k class place.listed place.is in
+      let most_is : limit_in most d class ≡ most p = limit_here most d.first d.queues d.holds k class p there held place.is in
+      let each : (c : ℕ) → list_in (with_row d k q l) c ≡ after_offer v class x (list_in d) c =
+      λ c. ap (λ (ls : List (List Entry)). list_at d.first ls c) is ∙ lists_offered d.first d.listed.lists k class v x c place.listed place.is in
+      record {
+        row = row_set room d k p q ys l i there limit is same_room (inr (held, bounded_after v x xs (most p) at.0 full)) (precs_after v xs x at.1 small);
+        lists = each;
+        full = (λ e. ap length here ∙ full.0 e ∙ sym most_is, λ e. full.1 (sym (ap length here) ∙ e ∙ most_is));
+        told = λ h s few.
+            let b : List Event = bare h in
+            let a : Coming = coming class x.len x.prec now in
+            let t : List QueueEvent = told_of class b in
+            let row = rows_at stands d.first d.queues d.listed.lists b k class p s.rows there place.is in
+            let answer : Answer = answering says d b w a in
+            let queue : queue_at (map says d.queues) k ≡ says p = queue_there says d.queues k p there in
+            let R : Answer → Type 0 = λ j. (v ≡ j.verdict) × Drew w z j.took × stands q (Asked now (waiting_of (precs_of (waiting class b))) x.prec w j ∷ t) in
+            let F : List ℕ → Type 0 = λ ps.
+            (v ≡ (says p t now (waiting_of ps) x.prec w).verdict) × Drew w z (says p t now (waiting_of ps) x.prec w).took
+            × stands q (Asked now (waiting_of ps) x.prec w (says p t now (waiting_of ps) x.prec w) ∷ t) in
+            let r0 = subst F (seen_precs xs (waiting class b) row.0) (asks t row.1 few) in
+            let S : Saying → Type 0 = λ y. R (by_queue y b w a) in
+            let r = subst S (sym queue) r0 in
+            let T : List QueueEvent → Type 0 = λ u. stands q u in
+            let L : List (List Entry) → Type 0 = λ ls. RowsStand stands d.first (set d.queues k q) ls (Offered a w answer ∷ b) in
+            record {
+              verdict = r.0;
+              words = r.1;
+              told = record {
+                shown = shows_offered (list_in d) (list_in (with_row d k q l)) h x a w answer v s.shown r.0 refl refl each;
+                rows = subst L (sym is) (rows_set stands d.first d.queues d.listed.lists (Offered a w answer) b k class q ys (others_offered a w answer b) place.is s.rows
+                    (mine_offered v x xs a class b w answer r.0 refl refl refl row.0)
+                    (subst T (sym (told_here class b a w answer refl)) r.2));
+              };
+            };
+        same = same_row d k p q l there same limit;
+      }
+
+  -- all that the leaving of a head does
+  pub record Leaves (room : ℕ) (d e : Rowed Q) (class now : ℕ) : Type 0 where
+    pub row : IsRowed most room e
+    pub lists : (c : ℕ) → list_in e c ≡ after_sent class (list_in d) c
+    pub told : (h : List Happened) → Told stands d h → (n : ℕ) (s : Transmission) → s.class ≡ class → s.start ≡ now
+        → Told stands e (record { label = n; what = Sent s } ∷ h)
+    pub same : SameRow most says d e
+
+  pub leaves : (room : ℕ) (d : Rowed Q) (class : ℕ) (p q : Q) (l : Listed) (now : ℕ) → IsRowed most room d → IsPlace d class
+      → slice_get d.queues (class - d.first) ≡ Some p
+      → l.lists ≡ set d.listed.lists (class - d.first) (drop 1 (list_of d.listed.lists (class - d.first))) → l.room ≡ d.listed.room
+      → says q ≡ says p → most q ≡ most p
+      → ((t : List QueueEvent) → stands p t → stands q (gone now (list_of d.listed.lists (class - d.first)) t))
+      → Leaves room d (with_row d (class - d.first) q l) class now
+  leaves room d class p q l now i place there lists same_room same limit goes =
+      let k : ℕ = class - d.first in
+      let xs : List Entry = list_of d.listed.lists k in
+      let at = fit_at most d.queues d.holds d.listed.lists k p i.fit there in
+      let each : (c : ℕ) → list_in (with_row d k q l) c ≡ after_sent class (list_in d) c =
+      λ c. ap (λ (ls : List (List Entry)). list_at d.first ls c) lists ∙ lists_sent d.first d.listed.lists k class c place.listed place.is in
+      record {
+        row = row_set room d k p q (drop 1 xs) l i there limit lists same_room (inl (length_drop xs)) (precs_drop xs at.1);
+        lists = each;
+        told = λ h y n s m start.
+            let b : List Event = bare h in
+            let row = rows_at stands d.first d.queues d.listed.lists b k class p y.rows there place.is in
+            let T : List QueueEvent → Type 0 = λ t. stands q t in
+            let N : ℕ → Type 0 = λ u. stands q (gone u xs (told_of class b)) in
+            let L : List (List Entry) → Type 0 = λ ls. RowsStand stands d.first (set d.queues k q) ls (Sent s ∷ b) in
+            let C : ℕ → Type 0 = λ c. Others c (Sent s) b in
+            record {
+              shown = shows_sent (list_in d) (list_in (with_row d k q l)) h n s y.shown
+                  (λ c. each c ∙ ap (λ (u : ℕ). after_sent u (list_in d) c) (sym m));
+              rows = subst L (sym lists) (rows_set stands d.first d.queues d.listed.lists (Sent s) b k class q (drop 1 xs) (subst C m (others_sent s b)) place.is y.rows
+                  (mine_sent xs s class b m row.0)
+                  (subst T (sym (gone_here class b s xs m row.0)) (subst N (sym start) (goes (told_of class b) row.1))));
+            };
+        same = same_row d k p q l there same limit;
+      }

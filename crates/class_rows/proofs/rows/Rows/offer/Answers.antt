@@ -1,0 +1,84 @@
+use Rattle.std.proofs.Common.{◌-◌, subst, sym, arith}
+use Rattle.altq_model.specs.Lawful.{IsOneOf}
+use Rattle.class_rows.specs.Rows.{Rowed, classes_in}
+use Rattle.class_rows.proofs.RowLemmas.{fit_at, fit_less}
+use Rattle.class_rows.proofs.RowHistory.{Offers, bounded_row, offers, queue_is, queue_place, with_row}
+use Rattle.class_rows.proofs.rows.Rows.offer.Given.{Over}
+use Rattle.class_rows.proofs.rows.Rows.offer.Goals as goal
+
+pub overflow_sub-place : goal.overflow_sub-place
+overflow_sub-place g c =
+    let P : Rowed g.row.Q.Denot → Type 0 = λ d. IsOneOf c.args.class (classes_in d) in
+    (queue_place g.Q.QueueRule.most c.self.inside.room _ c.self.invariant c.args.class (subst P (sym c.self.view_is) c.requires.class)).0.low
+
+pub index_mut-queue-requires : goal.index_mut-queue-requires
+index_mut-queue-requires g c =
+    let P : Rowed g.row.Q.Denot → Type 0 = λ d. IsOneOf c.args.class (classes_in d) in
+    omega (arith, (queue_place g.Q.QueueRule.most c.self.inside.room _ c.self.invariant c.args.class (subst P (sym c.self.view_is) c.requires.class)).0.there)
+
+pub offer_to-requires-clause-place : goal.offer_to-requires-clause-place
+offer_to-requires-clause-place g c =
+    let P : Rowed g.row.Q.Denot → Type 0 = λ d. IsOneOf c.args.class (classes_in d) in
+    (queue_place g.Q.QueueRule.most c.self.inside.room _ c.self.invariant c.args.class (subst P (sym c.self.view_is) c.requires.class)).0.listed
+
+pub offer_to-requires-clause-bounded : goal.offer_to-requires-clause-bounded
+offer_to-requires-clause-bounded g c =
+    let P : Rowed g.row.Q.Denot → Type 0 = λ d. IsOneOf c.args.class (classes_in d) in
+    let place = queue_place g.Q.QueueRule.most c.self.inside.room _ c.self.invariant c.args.class (subst P (sym c.self.view_is) c.requires.class) in
+    (fit_at g.Q.QueueRule.most _ _ _ _ _ c.self.invariant.fit (queue_is _ c.args.class _ place.0 c.index_mut-queue.ensures.value)).0
+
+pub offer_to-requires-clause-room : goal.offer_to-requires-clause-room
+offer_to-requires-clause-room g c = λ less.
+    let P : Rowed g.row.Q.Denot → Type 0 = λ d. IsOneOf c.args.class (classes_in d) in
+    let place = queue_place g.Q.QueueRule.most c.self.inside.room _ c.self.invariant c.args.class (subst P (sym c.self.view_is) c.requires.class) in
+    omega (
+      arith,
+      fit_less g.Q.QueueRule.most _ _ _ _ _ c.self.invariant.fit (queue_is _ c.args.class _ place.0 c.index_mut-queue.ensures.value) place.1 less,
+      c.self.invariant.sum,
+      c.self.invariant.there,
+    )
+
+all : (g : Over) (c : goal.After-self-1 g)
+    → Offers g.Q.QueueRule.stands g.Q.QueueRule.says g.Q.QueueRule.most c.self.inside.room
+    (record { first = c.self.inside.first; queues = c.self.inside.queues.items; holds = c.self.inside.holds.items; listed = c.self.inside.lists })
+    (with_row (record { first = c.self.inside.first; queues = c.self.inside.queues.items; holds = c.self.inside.holds.items; listed = c.self.inside.lists })
+    (c.args.class - c.self.inside.first) c.offer_to.new.queue c.offer_to.new.lists)
+    c.args.class c.args.entry c.args.now c.args.words.now c.offer_to.result c.offer_to.new.words
+all g c =
+    let P : Rowed g.row.Q.Denot → Type 0 = λ d. IsOneOf c.args.class (classes_in d) in
+    let place = queue_place g.Q.QueueRule.most c.self.inside.room _ c.self.invariant c.args.class (subst P (sym c.self.view_is) c.requires.class) in
+    offers g.Q.QueueRule.stands g.Q.QueueRule.says g.Q.QueueRule.most c.self.inside.room _ c.args.class c.index_mut-queue.result.now c.offer_to.new.queue
+    c.offer_to.new.lists c.args.entry c.args.now c.args.words.now c.offer_to.new.words c.offer_to.result c.self.invariant place.0 place.1
+    (queue_is _ c.args.class _ place.0 c.index_mut-queue.ensures.value) c.requires.prec c.offer_to.ensures.lists c.offer_to.ensures.room c.offer_to.ensures.kind
+    c.offer_to.ensures.limit c.offer_to.ensures.full
+    (λ t k few. (c.offer_to.ensures.verdict t k few, c.offer_to.ensures.words t k few, c.offer_to.ensures.history t k few))
+
+done : (g : Over) (c : goal.After-self-1 g)
+    → Offers g.Q.QueueRule.stands g.Q.QueueRule.says g.Q.QueueRule.most c.self.inside.room c.args.self.now
+    (with_row (record { first = c.self.inside.first; queues = c.self.inside.queues.items; holds = c.self.inside.holds.items; listed = c.self.inside.lists })
+    (c.args.class - c.self.inside.first) c.offer_to.new.queue c.offer_to.new.lists)
+    c.args.class c.args.entry c.args.now c.args.words.now c.offer_to.result c.offer_to.new.words
+done g c =
+    let R : Rowed g.row.Q.Denot → Type 0 = λ d. Offers g.Q.QueueRule.stands g.Q.QueueRule.says g.Q.QueueRule.most c.self.inside.room d
+    (with_row (record { first = c.self.inside.first; queues = c.self.inside.queues.items; holds = c.self.inside.holds.items; listed = c.self.inside.lists })
+    (c.args.class - c.self.inside.first) c.offer_to.new.queue c.offer_to.new.lists)
+    c.args.class c.args.entry c.args.now c.args.words.now c.offer_to.result c.offer_to.new.words in
+    subst R c.self.view_is (all g c)
+
+pub invariant_of-self : goal.invariant_of-self
+invariant_of-self g c = (all g c).row
+
+pub returns-clause-lists : goal.returns-clause-lists
+returns-clause-lists g c = (done g c).lists
+
+pub returns-clause-full : goal.returns-clause-full
+returns-clause-full g c = (done g c).full
+
+pub returns-clause-told : goal.returns-clause-told
+returns-clause-told g c = (done g c).told
+
+pub returns-clause-within : goal.returns-clause-within
+returns-clause-within g c = bounded_row g.Q.QueueRule.most c.self.inside.room _ (all g c).row
+
+pub returns-clause-same : goal.returns-clause-same
+returns-clause-same g c = (done g c).same

@@ -1,0 +1,11 @@
+//! The classes of a queueing discipline in a row: each has its queue and the list of its packets. What every discipline does with
+//! them is done and proved here: offers to a queue, the head of a list, and its leaving.
+#![tactic(auto)]
+
+mod leaf;
+mod rows;
+
+pub use rows::Rows;
+
+#[cfg(test)]
+mod tests;

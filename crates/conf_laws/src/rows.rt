@@ -1,0 +1,13 @@
+//! Worked rows of the configuration.
+ghost use Rattle.conf_laws.specs.Rows.{LinesAre, NamesAre, RangesAre, OrdersAre, LaterAre, FiltersAre, ImpliedAre};
+
+/// Worked rows, computed from the definitions: first faults with their places and kinds, and canonical texts.
+pub fn worked_rows()
+    ensures lines { LinesAre }
+    ensures names { NamesAre }
+    ensures ranges { RangesAre }
+    ensures orders { OrdersAre }
+    ensures later { LaterAre }
+    ensures filters { FiltersAre }
+    ensures implied { ImpliedAre }
+{}

@@ -1,0 +1,39 @@
+-- When a discipline may be asked and told, and which of its histories are in order.
+use Rattle.std.specs.Prelude.{◌≡◌, ◌≤◌, ℕ, List, [], ◌∷◌, Some}
+use Rattle.altq_model.specs.History.{Event, Offered, Sent, Transmission}
+use Rattle.altq_model.specs.Link.{link}
+use Rattle.altq_model.specs.Play.{Policy}
+use Rattle.altq_model.specs.Lawful.{latest, first_at}
+pub use Rattle.altq_model.specs.Laws.{StartsBefore}
+use Rattle.link_clock.specs.Clock.{Clock}
+
+-- no start is after it
+abbrev pub StartsBy : (t : ℕ) → List Event → Type 0
+StartsBy t [] = Unit {0}
+StartsBy t (Offered a w v ∷ h) = StartsBy t h
+StartsBy t (Sent s ∷ h) = (s.start ≤ t) × StartsBy t h
+
+-- a packet may be offered at this moment: no arrival was later, and each start was before it
+pub record IsOffer (now : ℕ) (h : List Event) : Type 0 where
+  pub arrived : latest h ≤ now
+  pub started : StartsBefore now h
+
+-- a choice may be made at this moment under this clock: no event was later, and the clock is the link's after the sendings so far
+pub record IsChoice (now : ℕ) (clock : Clock) (h : List Event) : Type 0 where
+  pub arrived : latest h ≤ now
+  pub started : StartsBy now h
+  pub link : link clock.rate h ≡ clock.link
+
+-- a sending was the one due: its start was the least moment at which a class might send, its class and rule were the pick's, and no
+-- event before it was later
+pub record WasDue (p : Policy) (h : List Event) (s : Transmission) : Type 0 where
+  pub arrived : latest h ≤ s.start
+  pub started : StartsBy s.start h
+  pub first : first_at p s.start h p.classes ≡ Some s.start
+  pub pick : p.pick h s.start ≡ record { class = s.class; rule = s.rule }
+
+-- a history in which each offer came at a moment for it and has the policy's answer, and each sending was the one due
+abbrev pub IsOrderly : Policy → List Event → Type 0
+IsOrderly p [] = Unit {0}
+IsOrderly p (Offered a w v ∷ h) = IsOffer a.at h × (v ≡ p.answer h w a) × IsOrderly p h
+IsOrderly p (Sent s ∷ h) = WasDue p h s × IsOrderly p h

@@ -1,0 +1,4 @@
+pub mod Frames
+pub mod Handlings
+pub mod Laws
+pub mod Rows

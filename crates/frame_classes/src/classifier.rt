@@ -1,0 +1,101 @@
+// Where an interface puts its frames.
+ghost use Rattle.std.specs.Prelude.{◌≡◌, IfOk};
+ghost use Rattle.frame_classes.specs.Frames.{classes_of, dress_in, is_capable, place_in, placed_flow, precedence_in};
+ghost use Rattle.packet_heads.specs.Heads.{flow_of};
+
+use crate::handling::{Handling, handling_at, handlings};
+use altq_model::Placed;
+use conf_tree::Interface;
+use discipline_laws::Classify;
+use flow_filter::Filters;
+use packet_heads::{FlowHeads, dress, flow, precedence};
+use play_base::NoMemory;
+use std::alloc::Global;
+use std::marker::Model;
+
+/// Tells of each frame the class of its flow by the filters of an interface, and its precedence in the class's queue; and leaves a
+/// frame as it departs. Contracts see what is kept of the interface.
+#[derive(Debug, Drop)]
+pub struct Classifier {
+    filters: Filters,
+    handlings: Vec<Handling>,
+}
+
+impl Model for Classifier {
+    ghost use Rattle.frame_classes.specs.Frames.{Classes};
+
+    ghost Value = { Classes };
+
+    ghost view = { λ c. record { rules = c.filters; handlings = c.handlings.items } };
+}
+
+impl Classifier {
+    /// The classifier of an interface. Answers `NoMemory` where there was none, or where it has 2^32 filters or classes, which no
+    /// configuration has. Takes time for sorting the filters.
+    pub fn build(alloc: Global, interface: &Interface) -> Result<Classifier, NoMemory>
+        ensures kept { IfOk result (λ c. c ≡ classes_of interface.now) }
+        ensures placed { IfOk result (λ c. ⟦<Classifier as Classify>⟧.placed c ≡ place_in interface.now) }
+        ensures dressed { IfOk result (λ c. ⟦<Classifier as Classify>⟧.dressed c ≡ dress_in interface.now) }
+    {
+        let filters = Filters::build(alloc, interface)?;
+        let handlings = handlings(alloc, interface.classes.as_slice())?;
+        Ok(Classifier { filters, handlings })
+    }
+
+    // Where a flow belongs.
+    fn place(&self, heads: &FlowHeads) -> Placed
+        ensures { result ≡ placed_flow self.now (flow_of heads.now) }
+    {
+        let class = self.filters.class(heads);
+        let handling = handling_at(self.handlings.as_slice(), class);
+        Placed {
+            class,
+            prec: precedence_in(handling.marks, heads),
+        }
+    }
+}
+
+// Whether the transport of a flow is capable of explicit congestion notification.
+fn is_capable(heads: &FlowHeads) -> bool
+    ensures { result ≡ is_capable (flow_of heads.now) }
+{
+    match heads {
+        FlowHeads::V4 { tos, .. } => *tos % 4 != 0,
+        FlowHeads::V6 { tos, .. } => *tos % 4 != 0,
+        FlowHeads::Other => false,
+    }
+}
+
+// The precedence of a flow in a class that marks, or not.
+fn precedence_in(marks: bool, heads: &FlowHeads) -> u8
+    ensures { result ≡ precedence_in marks (flow_of heads.now) }
+{
+    if marks {
+        u8::from(is_capable(heads))
+    } else {
+        precedence(heads)
+    }
+}
+
+impl Classify for Classifier {
+    ghost use Rattle.frame_classes.specs.Frames.{dressed_by, placed_by};
+    ghost use Rattle.frame_classes.specs.Handlings.{handling_at};
+    ghost use Rattle.packet_heads.proofs.Lengths.{length-departing};
+
+    ghost placed = { placed_by };
+
+    ghost dressed = { dressed_by };
+
+    /// Takes no memory. Of the filters that fix a port only those of the flow's ports are asked, and found by bisection.
+    fn class(&self, frame: &[u8]) -> Placed {
+        self.place(&flow(frame))
+    }
+
+    /// Clears the code point in a class that asks for it, and marks the packet where its queue did. Takes no memory; constant time.
+    fn dress(&self, class: u32, marked: bool, frame: &mut [u8]) {
+        let handling = handling_at(self.handlings.as_slice(), class);
+        dress(frame, handling.clears, marked);
+    }
+
+    ghost lengths = { λ c class marked frame. length-departing (handling_at c.handlings class).clears marked frame };
+}

@@ -1,0 +1,4 @@
+pub mod Real
+pub mod Slot
+pub mod Heads
+pub mod Eligible

@@ -1,0 +1,13 @@
+pub mod Timed
+pub mod Curves
+pub mod Openings
+pub mod Standing
+pub mod Past
+pub mod Sums
+pub mod Anchor
+pub mod Rows
+pub mod Law
+pub mod Timing
+pub mod Tree
+pub mod Activity
+pub mod Picking

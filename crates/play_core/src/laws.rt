@@ -1,0 +1,26 @@
+// What holds of a play that goes on, and of one that ended.
+ghost use Rattle.std.specs.Prelude.{◌≡◌, ◌≤◌, ◌++◌, List, length, None};
+ghost use Rattle.altq_model.specs.Arrivals.{Arrival, comings};
+ghost use Rattle.altq_model.specs.History.{DrawnWords, Happened};
+ghost use Rattle.altq_model.specs.Lawful.{AreHeld, AreRising};
+ghost use Rattle.altq_model.specs.Play.{due};
+ghost use Rattle.play_core.specs.Ended.{IsCutOff};
+ghost use Rattle.play_core.specs.Finished.{EndsWithOffer, IsFinished, IsStopped};
+ghost use Rattle.play_core.specs.Going.{IsGoing};
+
+use crate::Progress;
+use discipline_laws::Discipline;
+
+/// The laws of a play that goes on. It does nothing. `read`: where all that had arrived was offered last, the play goes on with what
+/// is read next. `finished`: where nothing is due, it is the whole play, with all its laws. `stopped`: where the next sending would
+/// end too late, it is cut off there.
+pub fn plays_go_on<D: Discipline>(discipline: &D, progress: &Progress)
+    ensures read { (arrived more : List Arrival) (w : DrawnWords) (g : List Happened) → EndsWithOffer g → AreRising (comings (arrived ++ more)) → length (arrived ++ more) ≤ 4000000
+        → IsGoing (D.policy discipline.now) (D.stands discipline.now) (D.lists discipline.now) (D.limits discipline.now) (D.link_rate discipline.now) arrived w progress.now g → IsGoing (D.policy discipline.now) (D.stands discipline.now) (D.lists discipline.now) (D.limits discipline.now) (D.link_rate discipline.now) (arrived ++ more) w progress.now g }
+    ensures finished { (arrived : List Arrival) (w : DrawnWords) (g : List Happened) → AreHeld (D.policy discipline.now) (comings arrived)
+        → due (D.policy discipline.now) progress.now.clock.rate w.seed (comings arrived) g ≡ None → IsGoing (D.policy discipline.now) (D.stands discipline.now) (D.lists discipline.now) (D.limits discipline.now) (D.link_rate discipline.now) arrived w progress.now g
+        → IsFinished (D.policy discipline.now) progress.now.clock.rate w.seed arrived g progress.now.totals }
+    ensures stopped { (arrived : List Arrival) (w : DrawnWords) (g : List Happened)
+        → IsCutOff (D.policy discipline.now) progress.now.clock.rate w.seed (comings arrived) g → IsGoing (D.policy discipline.now) (D.stands discipline.now) (D.lists discipline.now) (D.limits discipline.now) (D.link_rate discipline.now) arrived w progress.now g
+        → IsStopped (D.policy discipline.now) progress.now.clock.rate w.seed arrived g progress.now.totals }
+{}

@@ -1,0 +1,175 @@
+// The next event of a play.
+ghost use Rattle.std.specs.Prelude.{◌≡◌, ◌≢◌, ◌≤◌, ◌<◌, ◌*◌, ◌+◌, ◌^◌, ◌∷◌, [], ℕ, true, false, List, IfOk, IsSome, Some, is_some, length, if◌then◌else◌};
+ghost use Rattle.altq_model.specs.Arrivals.{Arrival, coming_of, comings};
+ghost use Rattle.altq_model.specs.History.{DrawnWords, Happened, bare, is_kept, is_mark};
+ghost use Rattle.altq_model.specs.Lawful.{AreRising, IsOneOf};
+ghost use Rattle.altq_model.specs.Play.{offer_of};
+ghost use Rattle.discipline_laws.specs.Laws.{HasRate};
+ghost use Rattle.leaf_queue.specs.Pool.{count_of, is_marked, packet_of};
+ghost use Rattle.play_core.specs.Going.{IsGoing, one_kept};
+ghost use Rattle.play_core.specs.Turns.{ComesNext, Offers, arrives, handed_back, turned};
+
+use crate::state::Progress;
+use crate::step::{Step, next_step};
+use crate::{Departure, Dropped, Totals, Turn};
+use altq_model::{Placed, Verdict};
+use discipline_laws::Discipline;
+use leaf_queue::{Pool, Words};
+use link_clock::LinkClock;
+use play_base::{NoMemory, Packet, Ticket};
+use std::alloc::Global;
+
+impl Progress {
+    /// Begins the play of a discipline that nothing was offered yet, over a link of `rate` bits per second, 1,000 to 10^12. Takes
+    /// all the memory that the play takes: a place for each packet that the discipline has room for, and one for the packet that
+    /// is offered. `NoMemory` comes only for want of it.
+    pub fn begin<D: Discipline>(
+        alloc: Global,
+        discipline: &D,
+        rate: u64,
+    ) -> Result<Progress, NoMemory>
+        requires least { 1000 ≤ rate }
+        requires most { rate ≤ 10 ^ 12 }
+        requires rate { HasRate (D.link_rate discipline.now) rate }
+        requires new { D.stands discipline.now [] }
+        ensures rate { IfOk result (λ x. x.clock.rate ≡ rate) }
+        ensures going { IfOk result (λ x. (arrived : List Arrival) (w : DrawnWords) → w.drawn ≡ 0 → AreRising (comings arrived) → length arrived ≤ 4000000 →
+            IsGoing (D.policy discipline.now) (D.stands discipline.now) (D.lists discipline.now) (D.limits discipline.now) (D.link_rate discipline.now) arrived w x []) }
+    {
+        let pool = Pool::reserve(alloc, discipline.room() + 1)?;
+        Ok(Progress {
+            clock: LinkClock::new(rate),
+            pool,
+            latest: 0,
+            totals: Totals {
+                arrived: 0,
+                sent: 0,
+                dropped: 0,
+                last_end: 0,
+            },
+        })
+    }
+
+    /// The counts so far.
+    pub fn totals(&self) -> Totals
+        ensures { result ≡ self.now.totals }
+    {
+        self.totals
+    }
+
+    /// Offers the next arrival, which is due: where it was placed, under the number that is one more than that of the one before.
+    /// It waits from then on, or comes back with the reason for which it was dropped. Takes no memory.
+    pub fn offer<D: Discipline>(
+        &mut self,
+        discipline: &mut D,
+        words: &mut Words,
+        packet: Packet,
+        placed: Placed,
+    ) -> Option<Dropped>
+        requires class { IsOneOf placed.class (D.policy discipline.old).classes }
+        requires prec { placed.prec ≤ 2 }
+        requires some { 1 ≤ packet.len }
+        requires short { packet.len ≤ 262144 }
+        requires early { packet.at < 2 ^ 62 }
+        requires next { (arrived : List Arrival) × (g : List Happened) × (a : Arrival)
+            × IsGoing (D.policy discipline.old) (D.stands discipline.old) (D.lists discipline.old) (D.limits discipline.old) (D.link_rate discipline.old) arrived words.old self.old g
+            × Offers (D.policy discipline.old) self.old.clock.rate words.old.seed arrived g a packet placed }
+        ensures offered { (arrived : List Arrival) (g : List Happened) (a : Arrival)
+            → IsGoing (D.policy discipline.old) (D.stands discipline.old) (D.lists discipline.old) (D.limits discipline.old) (D.link_rate discipline.old) arrived words.old self.old g
+            → Offers (D.policy discipline.old) self.old.clock.rate words.old.seed arrived g a packet placed
+            → IsGoing (D.policy discipline.new) (D.stands discipline.new) (D.lists discipline.new) (D.limits discipline.new) (D.link_rate discipline.new) arrived words.new self.new
+            (offer_of (D.policy discipline.old) words.old.seed g (coming_of a) ∷ g) }
+        ensures told { (arrived : List Arrival) (g : List Happened) (a : Arrival)
+            → IsGoing (D.policy discipline.old) (D.stands discipline.old) (D.lists discipline.old) (D.limits discipline.old) (D.link_rate discipline.old) arrived words.old self.old g
+            → Offers (D.policy discipline.old) self.old.clock.rate words.old.seed arrived g a packet placed
+            → result ≡ handed_back ((D.policy discipline.old).answer (bare g) words.old (coming_of a)).verdict packet }
+        ensures rate { self.new.clock.rate ≡ self.old.clock.rate }
+        ensures seed { words.new.seed ≡ words.old.seed }
+        ensures policy { D.policy discipline.new ≡ D.policy discipline.old }
+        ensures limits { D.limits discipline.new ≡ D.limits discipline.old }
+        ensures link_rate { D.link_rate discipline.new ≡ D.link_rate discipline.old }
+    {
+        let at = packet.at;
+        let len = packet.len;
+        let ticket = self.pool.put(packet);
+        let verdict = discipline.offer(ticket, placed.class, len, placed.prec, at, words);
+        let dropped = settle(&mut self.pool, ticket, verdict);
+        self.latest = at;
+        self.totals.arrived += 1;
+        self.totals.dropped += lost(&dropped);
+        dropped
+    }
+
+    /// What comes next, where the next arrival, if there is one, comes at this moment: the offer of that arrival where it comes up to
+    /// the least moment at which a class may send, else a sending then, which is made, if it ends before the clock does. Takes no
+    /// memory, and one division.
+    pub fn turn<D: Discipline>(&mut self, discipline: &mut D, arrival: Option<u64>) -> Turn
+        requires going { (arrived : List Arrival) × (w : DrawnWords) × (g : List Happened) × IsGoing (D.policy discipline.old) (D.stands discipline.old) (D.lists discipline.old) (D.limits discipline.old) (D.link_rate discipline.old) arrived w self.old g }
+        ensures turned { (arrived : List Arrival) (w : DrawnWords) (g : List Happened)
+            → IsGoing (D.policy discipline.old) (D.stands discipline.old) (D.lists discipline.old) (D.limits discipline.old) (D.link_rate discipline.old) arrived w self.old g → arrival ≡ arrives arrived g
+            → ComesNext (D.policy discipline.old) self.old.clock.rate w.seed arrived g result
+            × IsGoing (D.policy discipline.new) (D.stands discipline.new) (D.lists discipline.new) (D.limits discipline.new) (D.link_rate discipline.new) arrived w self.new (turned result g) }
+        ensures offers { result ≡ Turn.Offer → IsSome arrival }
+        ensures number { (d : Departure) → result ≡ Turn.Send d → (1 ≤ d.packet.number) × (d.packet.number ≤ self.new.totals.arrived) }
+        ensures in_time { (d : Departure) → result ≡ Turn.Send d → d.end < 2 ^ 32 * 10 ^ 9 }
+        ensures rate { self.new.clock.rate ≡ self.old.clock.rate }
+        ensures policy { D.policy discipline.new ≡ D.policy discipline.old }
+        ensures limits { D.limits discipline.new ≡ D.limits discipline.old }
+        ensures link_rate { D.link_rate discipline.new ≡ D.link_rate discipline.old }
+    {
+        let moment = self.clock.free().max(self.latest);
+        let sending = match next_step(discipline, &self.clock, moment, arrival) {
+            Step::End => return Turn::End,
+            Step::Offer => return Turn::Offer,
+            Step::Late => return Turn::Late,
+            Step::Send(sending) => sending,
+        };
+        discipline.sent(sending, &self.clock);
+        self.clock.sent(sending.start, sending.len, sending.end);
+        self.totals.sent += 1;
+        self.totals.last_end = sending.end;
+        Turn::Send(Departure {
+            class: sending.class,
+            marked: self.pool.marked(sending.ticket),
+            packet: self.pool.take(sending.ticket),
+            rule: sending.rule,
+            start: sending.start,
+            end: sending.end,
+        })
+    }
+}
+
+// How many packets came back: one or none.
+fn lost(dropped: &Option<Dropped>) -> u64
+    ensures { result ≡ (if is_some dropped.now then 1 else 0) }
+{
+    match dropped {
+        Some(_) => 1,
+        None => 0,
+    }
+}
+
+// Marks a packet of the pool, takes it out, or leaves it as it is, by its verdict.
+fn settle(pool: &mut Pool, ticket: Ticket, verdict: Verdict) -> Option<Dropped>
+    requires held { IsSome (packet_of pool.old ticket.0) }
+    requires plain { is_marked pool.old ticket.0 ≡ false }
+    ensures others { (t : ℕ) → t ≢ ticket.0 → packet_of pool.new t ≡ packet_of pool.old t }
+    ensures marks { (t : ℕ) → t ≢ ticket.0 → is_marked pool.new t ≡ is_marked pool.old t }
+    ensures kept { is_kept verdict ≡ true → packet_of pool.new ticket.0 ≡ packet_of pool.old ticket.0 }
+    ensures mark { is_kept verdict ≡ true → is_marked pool.new ticket.0 ≡ is_mark verdict }
+    ensures count { count_of pool.new + 1 ≡ count_of pool.old + one_kept verdict }
+    ensures room { pool.new.room ≡ pool.old.room }
+    ensures told { (packet : Packet) → packet_of pool.old ticket.0 ≡ Some packet → result ≡ handed_back verdict packet }
+{
+    match verdict {
+        Verdict::Keep => None,
+        Verdict::Mark => {
+            pool.mark(ticket);
+            None
+        }
+        Verdict::Drop(reason) => Some(Dropped {
+            packet: pool.take(ticket),
+            reason,
+        }),
+    }
+}

@@ -1,0 +1,92 @@
+-- The departures of more events begin with those of the older ones, and no text of what was decided changes with what is read later.
+use Rattle.std.proofs.Common.{◌≡◌, ◌-◌, ◌∙◌, ℕ, zero, suc, List, [], ◌∷◌, ◌++◌, Some, refl, ap, sym, append_assoc}
+use Rattle.std.specs.Prelude.{slice_get, unwrap_or}
+use Rattle.std.specs.declared.option.Option.{Option}
+use Rattle.std.proofs.lemmas.List.{append-nil}
+use Rattle.capture_model.specs.Capture.{Record}
+use Rattle.capture_model.specs.Header.{capture_header}
+use Rattle.capture_model.specs.Written.{record_text, record_texts, written}
+use Rattle.altq_model.specs.declared.Fate.{Fate}
+use Rattle.altq_model.specs.declared.Fate.TheVariants
+use Rattle.altq_model.specs.declared.Fate.TheVariants.{Dropped}
+use Rattle.altq_model.specs.declared.Verdict.{Verdict}
+use Rattle.altq_model.specs.declared.Verdict.TheVariants.{Keep, Mark, Drop}
+use Rattle.altq_model.specs.Arrivals.{Arrival, arrival, no_arrival, comings}
+use Rattle.altq_model.specs.Departures.{Dressing, departure, departed_by, departed, departures}
+use Rattle.altq_model.specs.History.{Coming, Event, Offered, Sent, Happened, was_marked, Decision, dropped_by, decided, journal}
+use Rattle.altq_model.specs.Texts.{Naming, fate_text, fate_rows}
+use Rattle.play_laws.specs.Events.{IsOfArrival, AreOfArrivals}
+use Rattle.play_laws.proofs.TextLemmas.{fate_rows-append}
+
+pub texts-append : (xs ys : List Record) → record_texts (xs ++ ys) ≡ record_texts xs ++ record_texts ys
+texts-append [] ys = refl
+texts-append (r ∷ xs) ys =
+    ap (λ (t : List ℕ). record_text r ++ t) (texts-append xs ys) ∙ sym (append_assoc (record_text r) (record_texts xs) (record_texts ys))
+
+pub written-append : (xs ys : List Record) → written (xs ++ ys) ≡ written xs ++ record_texts ys
+written-append xs ys =
+    ap (λ (t : List ℕ). capture_header ++ t) (texts-append xs ys) ∙ sym (append_assoc capture_header (record_texts xs) (record_texts ys))
+
+pub departed-append : (dress : Dressing) (arrived : List Arrival) (es g : List Happened)
+    → (more : List Record) × (departed dress arrived (es ++ g) ≡ departed dress arrived g ++ more)
+departed-append dress arrived [] g = ([], sym (append-nil (departed dress arrived g)))
+departed-append dress arrived (e ∷ es) g =
+    let x = departed-append dress arrived es g in
+    let d : List Record = departed_by dress arrived e.label e.what (es ++ g) in
+    (x.0 ++ d, ap (λ (rs : List Record). rs ++ d) x.1 ∙ append_assoc (departed dress arrived g) x.0 d)
+
+pub departures-append : (dress : Dressing) (arrived : List Arrival) (es g : List Happened)
+    → (more : List Record) × (departures dress arrived (es ++ g) ≡ departures dress arrived g ++ record_texts more)
+departures-append dress arrived es g =
+    let x = departed-append dress arrived es g in
+    (x.0, ap written x.1 ∙ written-append (departed dress arrived g) x.0)
+
+-- the arrival of a number that has one stays with more arrivals
+there_stays : (xs ys : List Arrival) (k : ℕ) (a : Coming) → slice_get (comings xs) k ≡ Some a → slice_get (xs ++ ys) k ≡ slice_get xs k
+there_stays [] ys k a e = absurd (cc)
+there_stays (x ∷ xs) ys zero a e = refl
+there_stays (x ∷ xs) ys (suc k) a e = there_stays xs ys k a e
+
+pub arrival_stays : (xs ys : List Arrival) (n : ℕ) (a : Coming) → slice_get (comings xs) (n - 1) ≡ Some a → arrival (xs ++ ys) n ≡ arrival xs n
+arrival_stays xs ys n a e = ap (λ (o : Option Arrival). unwrap_or o no_arrival) (there_stays xs ys (n - 1) a e)
+
+row_stays : (names : Naming) (xs ys : List Arrival) (n : ℕ) (a : Coming) (f : Fate) → slice_get (comings xs) (n - 1) ≡ Some a
+    → fate_rows names (xs ++ ys) ((n, f) ∷ []) ≡ fate_rows names xs ((n, f) ∷ [])
+row_stays names xs ys n a f e = ap (λ (b : Arrival). fate_text n b.at b.len (names b.class) f ++ []) (arrival_stays xs ys n a e)
+
+drop_stays : (names : Naming) (xs ys : List Arrival) (n : ℕ) (a : Coming) (v : Verdict) → slice_get (comings xs) (n - 1) ≡ Some a
+    → fate_rows names (xs ++ ys) (dropped_by v n) ≡ fate_rows names xs (dropped_by v n)
+drop_stays names xs ys n a Keep e = refl
+drop_stays names xs ys n a Mark e = refl
+drop_stays names xs ys n a (Drop r) e = row_stays names xs ys n a (Dropped r) e
+
+event_stays : (names : Naming) (xs ys : List Arrival) (n : ℕ) (e : Event) → IsOfArrival (comings xs) n e
+    → fate_rows names (xs ++ ys) (decided n e) ≡ fate_rows names xs (decided n e)
+event_stays names xs ys n (Offered a w v) x = drop_stays names xs ys n a v.verdict x.1
+event_stays names xs ys n (Sent s) x = row_stays names xs ys n x.packet (TheVariants.Sent s.start s.end s.rule) x.arrival
+
+both : (as' bs cs ds : List ℕ) → as' ≡ cs → bs ≡ ds → as' ++ bs ≡ cs ++ ds
+both as' bs cs ds e f = cc
+
+pub rows_stay : (names : Naming) (xs ys : List Arrival) (g : List Happened) → AreOfArrivals (comings xs) g
+    → fate_rows names (xs ++ ys) (journal g) ≡ fate_rows names xs (journal g)
+rows_stay names xs ys [] f = refl
+rows_stay names xs ys (e ∷ g) f =
+    let d : List Decision = decided e.label e.what in
+    fate_rows-append names (xs ++ ys) (journal g) d
+    ∙ both _ _ _ _ (rows_stay names xs ys g f.1) (event_stays names xs ys e.label e.what f.0)
+    ∙ sym (fate_rows-append names xs (journal g) d)
+
+record_stays : (dress : Dressing) (xs ys : List Arrival) (n : ℕ) (e : Event) (g : List Happened) → IsOfArrival (comings xs) n e
+    → departed_by dress (xs ++ ys) n e g ≡ departed_by dress xs n e g
+record_stays dress xs ys n (Offered a w v) g x = refl
+record_stays dress xs ys n (Sent s) g x =
+    ap (λ (b : Arrival). departure dress b (was_marked n g) s.end ∷ []) (arrival_stays xs ys n x.packet x.arrival)
+
+both_records : (as' bs cs ds : List Record) → as' ≡ cs → bs ≡ ds → as' ++ bs ≡ cs ++ ds
+both_records as' bs cs ds e f = cc
+
+pub records_stay : (dress : Dressing) (xs ys : List Arrival) (g : List Happened) → AreOfArrivals (comings xs) g → departed dress (xs ++ ys) g ≡ departed dress xs g
+records_stay dress xs ys [] f = refl
+records_stay dress xs ys (e ∷ g) f =
+    both_records _ _ _ _ (records_stay dress xs ys g f.1) (record_stays dress xs ys e.label e.what g f.0)

@@ -1,0 +1,83 @@
+-- How the reading and the events of a play ended, before what is gathered is written.
+use Rattle.std.specs.Prelude.{◌≡◌, ◌≤◌, ◌<◌, ◌⊎◌, ℕ, List, [], ◌∷◌, ◌++◌, length, None}
+use Rattle.altq_model.specs.declared.Placed.{Placed}
+use Rattle.altq_model.specs.Arrivals.{Arrival, arrivals_of, comings}
+use Rattle.altq_model.specs.History.{Happened, bare, offered}
+use Rattle.altq_model.specs.Lawful.{greatest}
+use Rattle.altq_model.specs.Play.{Policy, AreDue, due}
+use Rattle.capture_model.specs.Capture.{Record, Step, Reads, IsLast, IsCapture, place_after, most_bytes}
+use Rattle.pcap_files.specs.declared.fault.CaptureFault.{CaptureFault}
+use Rattle.pcap_files.specs.declared.fault.CaptureFault.TheVariants as capture
+use Rattle.pcap_files.specs.declared.reader.Reader.{Reader}
+use Rattle.pcap_files.specs.Reading.{ReadsTo, StandsFor}
+use Rattle.play_base.specs.View.{View}
+use Rattle.play_core.specs.Ended.{IsCutOff}
+use Rattle.play_core.specs.Finished.{EndsWithOffer}
+use Rattle.play_loop.specs.declared.ending.Ending.{Ending}
+use Rattle.play_loop.specs.declared.ending.Ending.TheVariants.{Whole, Cut, Late}
+use Rattle.play_loop.specs.declared.fault.Limit.TheVariants as limit
+use Rattle.play_loop.specs.declared.fault.PlayFault.{PlayFault}
+use Rattle.play_loop.specs.declared.fault.PlayFault.TheVariants as play
+use Rattle.play_loop.specs.Played.{start_of}
+
+-- what a fault of the capture means for the play
+abbrev pub capture_fault : CaptureFault → PlayFault
+capture_fault (capture.Damage damage) = play.Capture damage
+capture_fault capture.Limit = play.Limit limit.Capture
+capture_fault capture.Read = play.Read
+capture_fault capture.NoMemory = play.NoMemory
+
+-- these are all arrivals of a capture
+pub record IsAll (place : List ℕ → Placed) (bytes : List ℕ) (arrived : List Arrival) : Type 0 where
+  pub records : List Record
+  pub arrivals : arrived ≡ arrivals_of place records
+  pub reads : IsCapture bytes records
+  pub size : place_after 24 records ≤ most_bytes
+
+-- and none of them comes after this moment
+pub record IsPast (place : List ℕ → Placed) (bytes : List ℕ) (arrived : List Arrival) (moment : ℕ) : Type 0 where
+  pub all : IsAll place bytes arrived
+  pub passed : greatest 0 all.records ≤ moment
+
+-- they are the arrivals of all records before a fault
+pub record IsFaulty (place : List ℕ → Placed) (bytes : List ℕ) (arrived : List Arrival) (fault : CaptureFault) : Type 0 where
+  pub records : List Record
+  pub arrivals : arrived ≡ arrivals_of place records
+  pub reads : ReadsTo fault bytes records
+
+-- they are the arrivals of the records that a reader answered, and the last alone arrives after this moment
+pub record IsAhead (place : List ℕ → Placed) (v : View) (r : Reader) (bytes : List ℕ) (arrived : List Arrival) (moment : ℕ) : Type 0 where
+  pub before : List Record
+  pub last : Record
+  pub arrivals : arrived ≡ arrivals_of place (before ++ last ∷ [])
+  pub stands : StandsFor v r bytes (before ++ last ∷ [])
+  pub sound : r.fault ≡ None
+  pub passed : greatest 0 before ≤ moment
+  pub later : moment < greatest 0 (before ++ last ∷ [])
+
+-- of all complete records they are the first arrivals, and these are the first events of the play
+abbrev pub AreFirst : (place : List ℕ → Placed) → Policy → (rate seed : ℕ) → (told : List ℕ → Type 0) → List Arrival → List Happened → Type 0
+AreFirst place p rate seed told arrived g = (bytes : List ℕ) → told bytes → (all : List Record) (last : Step) → Reads bytes all last → IsLast last
+    → (more : List Arrival) × (arrivals_of place all ≡ arrived ++ more) × AreDue p rate seed (comings (arrived ++ more)) g
+
+-- every event was made
+pub record IsDone (place : List ℕ → Placed) (p : Policy) (rate seed : ℕ) (told : List ℕ → Type 0) (arrived : List Arrival) (g : List Happened) : Type 0 where
+  pub done : due p rate seed (comings arrived) g ≡ None
+  pub all : (bytes : List ℕ) → told bytes → IsAll place bytes arrived
+
+-- every complete record was offered, the last of them last
+pub record IsStuck (place : List ℕ → Placed) (told : List ℕ → Type 0) (arrived : List Arrival) (g : List Happened) (fault : CaptureFault) : Type 0 where
+  pub offers : offered (bare g) ≡ length arrived
+  pub last : EndsWithOffer g
+  pub faulty : (bytes : List ℕ) → told bytes → IsFaulty place bytes arrived fault
+
+-- the next sending would end too late, and starts before the last arrival that was read, or no more arrive
+pub record IsOverdue (place : List ℕ → Placed) (p : Policy) (rate seed : ℕ) (told : List ℕ → Type 0) (v : View) (r : Reader) (arrived : List Arrival) (g : List Happened) : Type 0 where
+  pub cut : IsCutOff p rate seed (comings arrived) g
+  pub first : AreFirst place p rate seed told arrived (cut.next ∷ g)
+  pub ahead : (bytes : List ℕ) → told bytes → IsPast place bytes arrived (start_of cut.next.what) ⊎ IsAhead place v r bytes arrived (start_of cut.next.what)
+
+abbrev pub EndsAs : Ending → (place : List ℕ → Placed) → Policy → (rate seed : ℕ) → (told : List ℕ → Type 0) → View → Reader → List Arrival → List Happened → Type 0
+EndsAs Whole place p rate seed told v r arrived g = IsDone place p rate seed told arrived g
+EndsAs (Cut fault) place p rate seed told v r arrived g = IsStuck place told arrived g fault
+EndsAs Late place p rate seed told v r arrived g = IsOverdue place p rate seed told v r arrived g

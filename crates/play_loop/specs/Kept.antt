@@ -1,0 +1,27 @@
+-- What a play leaves as it was.
+use Rattle.std.specs.Prelude.{◌≡◌, ◌≢◌, ℕ, List}
+use Rattle.play_base.specs.View.{View, Keeps, NoneAppears}
+
+-- the name is that of neither file
+abbrev pub IsOther : View → (dep fat : ℕ) → List ℕ → Type 0
+IsOther v dep fat n = (n ≢ v.name dep) × (n ≢ v.name fat)
+
+-- every name keeps its bytes but those of the two files, and every file of another name what it has left
+abbrev pub KeepsBut : (dep fat : ℕ) → View → View → Type 0
+KeepsBut dep fat old new = Keeps (IsOther old dep fat) (λ f. IsOther old dep fat (old.name f)) old new
+
+-- the same but for what one file has left
+abbrev pub KeepsBeside : (arr dep fat : ℕ) → View → View → Type 0
+KeepsBeside arr dep fat old new = Keeps (IsOther old dep fat) (λ f. (f ≢ arr) × IsOther old dep fat (old.name f)) old new
+
+-- nothing changed but what writes to the two files change
+pub record OnlyWrote (dep fat : ℕ) (old new : View) : Type 0 where
+  pub keeps : KeepsBut dep fat old new
+  pub none : NoneAppears old new
+  pub said : new.said ≡ old.said
+
+-- nothing changed but what writes to the two files and reads of one change
+pub record OnlyPlayed (arr dep fat : ℕ) (old new : View) : Type 0 where
+  pub keeps : KeepsBeside arr dep fat old new
+  pub none : NoneAppears old new
+  pub said : new.said ≡ old.said

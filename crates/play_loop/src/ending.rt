@@ -1,0 +1,38 @@
+// How the parts of a play end.
+ghost use Rattle.std.specs.Prelude.{◌≡◌};
+ghost use Rattle.play_loop.specs.Ending.{capture_fault};
+
+use crate::{Limit, PlayFault};
+use pcap_files::CaptureFault;
+
+/// What became of the sendings that are due before an arrival.
+#[derive(Clone, Copy, Debug, PartialEq, Eq)]
+pub enum Due {
+    /// They were made.
+    Made,
+    /// One would end too late.
+    Late,
+}
+
+/// How the events of a play ended.
+#[derive(Clone, Copy, Debug, PartialEq, Eq)]
+pub enum Ending {
+    /// All were made.
+    Whole,
+    /// The capture could not be read on.
+    Cut(CaptureFault),
+    /// A sending would end too late.
+    Late,
+}
+
+// What a fault of the capture means for the play.
+pub fn capture_fault(fault: CaptureFault) -> PlayFault
+    ensures { result ≡ capture_fault fault }
+{
+    match fault {
+        CaptureFault::Damage(damage) => PlayFault::Capture(damage),
+        CaptureFault::Limit => PlayFault::Limit(Limit::Capture),
+        CaptureFault::Read => PlayFault::Read,
+        CaptureFault::NoMemory => PlayFault::NoMemory,
+    }
+}

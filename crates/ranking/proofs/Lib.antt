@@ -1,0 +1,6 @@
+pub mod Ordered
+pub mod Placed
+pub mod Searched
+pub mod Ranks
+pub mod Kept
+pub mod Orders

@@ -1,0 +1,40 @@
+-- What a look at the middle adds to a search.
+use Rattle.std.proofs.Common.{◌≡◌, ◌<◌, ◌≤◌, ◌+◌, ◌⊎◌, inl, inr, ℕ, Bool, true, false, List, length, refl, sym, ap, arith, get_or, ◌∙◌}
+use Rattle.std.specs.Prelude.{Option}
+use Rattle.std.proofs.lemmas.Bool.{cases_lt}
+use Rattle.ranking.specs.Order.{is_before}
+use Rattle.ranking.specs.Search.{IsFound, IsRanked}
+use Rattle.ranking.proofs.Ordered.{before_trans, in_order}
+
+pub found_above : (keys : List (Option ℕ)) (xs : List ℕ) (c low mid high : ℕ) → IsRanked keys xs → IsFound keys xs c low high
+    → mid < high → is_before keys (get_or xs mid 0) c ≡ true → IsFound keys xs c (mid + 1) high
+found_above keys xs c low mid high r found h e = record {
+  in_order = omega arith;
+  within = found.within;
+  before = λ k a. go k (cases_lt k mid) a;
+  from = found.from;
+}
+  where
+    go : (k : ℕ) → (k < mid) ⊎ (mid ≤ k) → k < mid + 1 → is_before keys (get_or xs k 0) c ≡ true
+    go k (inl a) b =
+        before_trans keys (get_or xs k 0) (get_or xs mid 0) c (in_order keys xs k mid r a (let w : high ≤ length xs = found.within in omega arith)) e
+    go k (inr a) b = let same : k ≡ mid = omega arith in ap (λ n. is_before keys (get_or xs n 0) c) same ∙ e
+
+pub found_below : (keys : List (Option ℕ)) (xs : List ℕ) (c low mid high : ℕ) → IsRanked keys xs → IsFound keys xs c low high
+    → low ≤ mid → mid < high → is_before keys (get_or xs mid 0) c ≡ false → IsFound keys xs c low mid
+found_below keys xs c low mid high r found l h e = record {
+  in_order = l;
+  within = let w : high ≤ length xs = found.within in omega arith;
+  before = found.before;
+  from = λ k a b. go k (cases_lt mid k) a b;
+}
+  where
+    no : (b : Bool) (k : ℕ) → is_before keys (get_or xs k 0) c ≡ b → mid < k → k < length xs → b ≡ false
+    no false k f a s = refl
+    no true k f a s =
+        let yes : is_before keys (get_or xs mid 0) c ≡ true = before_trans keys (get_or xs mid 0) (get_or xs k 0) c (in_order keys xs mid k r a s) f in
+        sym yes ∙ e
+
+    go : (k : ℕ) → (mid < k) ⊎ (k ≤ mid) → mid ≤ k → k < length xs → is_before keys (get_or xs k 0) c ≡ false
+    go k (inl a) b s = no (is_before keys (get_or xs k 0) c) k refl a s
+    go k (inr a) b s = let same : k ≡ mid = omega arith in ap (λ n. is_before keys (get_or xs n 0) c) same ∙ e

@@ -1,0 +1,14 @@
+use Rattle.std.proofs.Common.{arith, rules}
+use Rattle.ranking.proofs.Ranks.{ranked_true}
+use Rattle.ranking.proofs.Searched.{found_above, found_below}
+use Rattle.ranking.proofs.search.place_of.Goals as goal
+
+pub loop-low-preserved-then-is_before : goal.loop-low-preserved-then-is_before
+loop-low-preserved-then-is_before c =
+    found_above c.args.keys.now c.args.order.now c.args.class c.loop-low.low _ c.loop-low.high (ranked_true _ _ c.requires) c.loop-low.invariant (omega arith)
+    (search rules)
+
+pub loop-low-preserved : goal.loop-low-preserved
+loop-low-preserved c =
+    found_below c.args.keys.now c.args.order.now c.args.class c.loop-low.low _ c.loop-low.high (ranked_true _ _ c.requires) c.loop-low.invariant (omega arith) (omega arith)
+    (search rules)

@@ -1,0 +1,100 @@
+//! Classes in the order of their keys.
+//!
+//! A key is a moment or a virtual time. One of `None` comes after all others, and of equal keys the class that stands
+//! earlier in the file goes first. Places are found by binary search, and `reserve` takes all memory.
+#![tactic(auto)]
+
+ghost use Rattle.std.specs.Prelude.{◌≡◌, ◌<◌, ◌≤◌, ◌^◌, ℕ, [], length, true, false, slice_set, None, IfOk};
+ghost use Rattle.std.specs.Vec.{vec_len, vec_capacity};
+ghost use Rattle.ranking.specs.Order.{is_ranked, are_below, is_in, key_of, with_class, without};
+
+use play_base::NoMemory;
+use std::alloc::Global;
+
+mod search;
+
+use search::place_of;
+
+/// Some of the classes from 0 on, in the order of their keys.
+///
+/// Contracts see the classes that are there, in their order, and the keys of all, also of those that are not there.
+#[derive(Debug, Drop)]
+pub struct Ranking {
+    keys: Vec<Option<u128>>,
+    order: Vec<u32>,
+    ghost ranked: { is_ranked keys.items order.items ≡ true },
+    ghost below: { are_below (length keys.items) order.items ≡ true },
+    ghost room: { length keys.items ≤ vec_capacity order },
+}
+
+impl Ranking {
+    ghost use Rattle.ranking.specs.Ranking.{keys_of, order_of};
+
+    /// An empty ranking of so many classes, with room for all of them.
+    pub fn reserve(alloc: Global, classes: u32) -> Result<Ranking, NoMemory>
+        ensures empty { IfOk result (λ r. order_of r ≡ []) }
+        ensures classes { IfOk result (λ r. length (keys_of r) ≡ classes) }
+    {
+        let order = Vec::with_capacity(alloc, classes as usize)?;
+        let keys = vec![in alloc; None; classes as usize]?;
+        Ok(Ranking { keys, order })
+    }
+
+    /// The classes that are there, in the order of their keys. Constant time.
+    pub fn as_slice(&self) -> &[u32]
+        ensures { result.now ≡ order_of self.now }
+    {
+        &self.order
+    }
+
+    /// The key that a class was put in with last. Constant time.
+    pub fn key(&self, class: u32) -> Option<u128>
+        requires { class < length (keys_of self.now) }
+        ensures { result ≡ key_of (keys_of self.now) class }
+    {
+        self.keys[class as usize]
+    }
+
+    /// Puts in a class that is not there, with its key. It takes the logarithm of the classes to find the place, and moves
+    /// those that stand behind it.
+    pub fn put(&mut self, class: u32, key: Option<u128>)
+        requires class { class < length (keys_of self.old) }
+        requires absent { is_in class (order_of self.old) ≡ false }
+        ensures keys { keys_of self.new ≡ slice_set (keys_of self.old) class key }
+        ensures order { order_of self.new ≡ with_class (keys_of self.new) (order_of self.old) class }
+    {
+        self.keys[class as usize] = key;
+        let place = place_of(&self.order, &self.keys, class);
+        let _ = self.order.insert(place, class);
+    }
+
+    /// Takes out a class that is there. It takes the logarithm of the classes to find it, and moves those that stand
+    /// behind it.
+    pub fn take(&mut self, class: u32)
+        requires { is_in class (order_of self.old) ≡ true }
+        ensures keys { keys_of self.new ≡ keys_of self.old }
+        ensures order { order_of self.new ≡ without (order_of self.old) class }
+    {
+        let place = place_of(&self.order, &self.keys, class);
+        let _ = self.order.remove(place);
+    }
+}
+
+#[cfg(test)]
+mod tests {
+    use super::*;
+
+    #[test]
+    fn classes_in_the_order_of_their_keys(rt: HostRuntime) -> Result<(), &'static str> {
+        let mut ranking = Ranking::reserve(rt.alloc(), 4).ok().ok_or("no memory")?;
+        ranking.put(2, Some(7));
+        ranking.put(3, None);
+        ranking.put(1, Some(7));
+        ranking.put(0, Some(9));
+        assert_eq!(rt; ranking.as_slice(), [1, 2, 0, 3].as_slice());
+        assert_eq!(rt; ranking.key(0), Some(9));
+        ranking.take(2);
+        assert_eq!(rt; ranking.as_slice(), [1, 0, 3].as_slice());
+        Ok(())
+    }
+}

@@ -1,0 +1,61 @@
+//! The place of a class in a list in the order of the keys.
+ghost use Rattle.std.specs.Prelude.{◌≡◌, true};
+ghost use Rattle.hfsc_model.specs.RealTime.{is_earlier};
+ghost use Rattle.ranking.specs.Order.{is_ranked, is_before, key_of};
+ghost use Rattle.ranking.specs.Search.{IsFound};
+
+/// Whether the first moment is before the second, where `None` is never.
+fn is_earlier(a: Option<u128>, b: Option<u128>) -> bool
+    ensures { result ≡ is_earlier a b }
+{
+    match a {
+        None => false,
+        Some(x) => match b {
+            None => true,
+            Some(y) => x < y,
+        },
+    }
+}
+
+/// The key of a class.
+fn key_of(keys: &[Option<u128>], class: u32) -> Option<u128>
+    ensures { result ≡ key_of keys.now class }
+{
+    match keys.get(class as usize) {
+        None => None,
+        Some(key) => *key,
+    }
+}
+
+/// Whether the first class goes before the second.
+fn is_before(keys: &[Option<u128>], one: u32, other: u32) -> bool
+    ensures { result ≡ is_before keys.now one other }
+{
+    let a = key_of(keys, one);
+    let b = key_of(keys, other);
+    if is_earlier(a, b) {
+        return true;
+    }
+    if is_earlier(b, a) {
+        return false;
+    }
+    one < other
+}
+
+/// How many classes of the list go before a class.
+pub fn place_of(order: &[u32], keys: &[Option<u128>], class: u32) -> usize
+    requires { is_ranked keys.now order.now ≡ true }
+    ensures { IsFound keys.now order.now class result result }
+{
+    let mut low = 0;
+    let mut high = order.len();
+    while low < high {
+        let middle = low + (high - low) / 2;
+        if is_before(keys, order[middle], class) {
+            low = middle + 1;
+        } else {
+            high = middle;
+        }
+    }
+    low
+}

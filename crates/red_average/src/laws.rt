@@ -1,0 +1,8 @@
+// A law of the average while nothing waits.
+ghost use Rattle.std.specs.Prelude.{◌≡◌, ◌≤◌, ◌^◌, ℕ, min};
+ghost use Rattle.red_average.specs.Average.{idled};
+
+/// However long nothing waited, 16,250 steps of the average are as good as all of them, from each average that there may be.
+pub fn idle_steps_are_few()
+    ensures { (steps a : ℕ) → a ≤ 2 ^ 54 → idled (min steps 16250) a ≡ idled steps a }
+{}

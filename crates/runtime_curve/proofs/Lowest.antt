@@ -1,0 +1,55 @@
+-- The lower of two lines, and the openings that stand for all after one more.
+use Rattle.std.proofs.Common.{◌≡◌, ◌≤◌, inl, inr, ℕ, List, [], ◌∷◌, Some, refl, sym, subst, arith}
+use Rattle.service_curve.specs.declared.Curve.{Curve}
+use Rattle.runtime_curve.specs.declared.Opening.{Opening}
+use Rattle.runtime_curve.specs.declared.held.Held.{Held}
+use Rattle.runtime_curve.specs.Held.{Lower, LowerThanAll, IsOneOf, IsUpTo, AreUpTo, StandFor}
+
+lower_trans : (m : ℕ) (a b c : Opening) → Lower m a b → Lower m b c → Lower m a c
+lower_trans m a b c x y = omega arith
+
+lower_all : (m : ℕ) (a b : Opening) (os : List Opening) → Lower m a b → LowerThanAll m b os → LowerThanAll m a os
+lower_all m a b [] x y = tt
+lower_all m a b (o ∷ os) x y = (lower_trans m a b o x y.0, lower_all m a b os x y.1)
+
+-- of two openings the lower one, r, is lower than all
+pub lower_low : (m : ℕ) (old new r : Opening) (os : List Opening) → Lower m r old → Lower m r new → LowerThanAll m old os → LowerThanAll m r (new ∷ os)
+lower_low m old new r os x y z = (y, lower_all m r old os x z)
+
+pub lower_in : (old new : Opening) (os : List Opening) → IsOneOf old os → IsOneOf old (new ∷ os)
+lower_in old new os x = inr x
+
+up_to_more : (a b : Opening) (os : List Opening) → IsUpTo b a → AreUpTo a os → AreUpTo b os
+up_to_more a b [] h x = tt
+up_to_more a b (o ∷ os) h x =
+    let one : o.at ≤ a.at = x.0.at in
+    let two : o.count ≤ a.count = x.0.count in
+    let three : a.at ≤ b.at = h.at in
+    let four : a.count ≤ b.count = h.count in
+    (record { at = omega arith; count = omega arith }, up_to_more a b os h x.1)
+
+abbrev pub held_one : Opening → Held
+held_one o = record { steep = o; flat = o; last = o }
+
+up_to_itself : (o : Opening) → IsUpTo o o
+up_to_itself o = record { at = omega arith; count = omega arith }
+
+pub first_stands : (s : Curve) (o : Opening) (os : List Opening) → os ≡ [] → StandFor s (held_one o) (o ∷ os)
+first_stands s o os e = subst (λ (l : List Opening). StandFor s (held_one o) (o ∷ l)) (sym e)
+    (record { steep_in = inl refl; flat_in = inl refl; steep_low = (omega arith, tt); flat_low = (omega arith, tt); last = refl; up_to = (up_to_itself o, tt) })
+
+-- what the choice of the lower of an old opening and a new one keeps
+pub record IsLower (m : ℕ) (old new r : Opening) : Type 0 where
+  pub low : (os : List Opening) → LowerThanAll m old os → LowerThanAll m r (new ∷ os)
+  pub one : (os : List Opening) → IsOneOf old os → IsOneOf r (new ∷ os)
+
+pub more_stand : (s : Curve) (h r : Held) (new : Opening) (os : List Opening) → StandFor s h os → IsUpTo new h.last → r.last ≡ new
+    → IsLower s.m1 h.steep new r.steep → IsLower s.m2 h.flat new r.flat → StandFor s r (new ∷ os)
+more_stand s h r new os x k e f g = record {
+  steep_in = f.one os x.steep_in;
+  flat_in = g.one os x.flat_in;
+  steep_low = f.low os x.steep_low;
+  flat_low = g.low os x.flat_low;
+  last = subst (λ (y : Opening). Some new ≡ Some y) (sym e) refl;
+  up_to = subst (λ (y : Opening). AreUpTo y (new ∷ os)) (sym e) (up_to_itself new, up_to_more h.last new os k x.up_to);
+}

@@ -1,0 +1,58 @@
+-- Openings that stand for all: the lowest by each slope, and the last. A line of slope m through an opening is its count
+-- at its moment, and rises and falls by m a nanosecond after and before it.
+use Rattle.std.specs.Prelude.{◌≡◌, ◌≤◌, ◌+◌, ◌*◌, ◌⊎◌, ℕ, List, [], ◌∷◌, Option, None, Some}
+use Rattle.service_curve.specs.declared.Curve.{Curve}
+use Rattle.runtime_curve.specs.declared.Opening.{Opening}
+use Rattle.runtime_curve.specs.declared.held.Held.{Held}
+use Rattle.runtime_curve.specs.Opening.{IsWithin, newest}
+
+-- the line of this slope through the first opening is nowhere above that through the second
+abbrev pub Lower : ℕ → Opening → Opening → Type 0
+Lower m p o = p.count + m * o.at ≤ o.count + m * p.at
+
+abbrev pub LowerThanAll : ℕ → Opening → List Opening → Type 0
+LowerThanAll m p [] = Unit {0}
+LowerThanAll m p (o ∷ os) = Lower m p o × LowerThanAll m p os
+
+abbrev pub IsOneOf : Opening → List Opening → Type 0
+IsOneOf p [] = ⊥
+IsOneOf p (o ∷ os) = (p ≡ o) ⊎ IsOneOf p os
+
+-- an opening is not later than another, and has no greater count
+pub record IsUpTo (last o : Opening) : Type 0 where
+  pub at : o.at ≤ last.at
+  pub count : o.count ≤ last.count
+
+abbrev pub AreUpTo : Opening → List Opening → Type 0
+AreUpTo last [] = Unit {0}
+AreUpTo last (o ∷ os) = IsUpTo last o × AreUpTo last os
+
+-- the lowest by each slope stand for all; the last is the newest, and no other is later or of greater count
+pub record StandFor (s : Curve) (h : Held) (os : List Opening) : Type 0 where
+  pub steep_in : IsOneOf h.steep os
+  pub flat_in : IsOneOf h.flat os
+  pub steep_low : LowerThanAll s.m1 h.steep os
+  pub flat_low : LowerThanAll s.m2 h.flat os
+  pub last : newest os ≡ Some h.last
+  pub up_to : AreUpTo h.last os
+
+-- where nothing is held there is no opening
+abbrev pub Stand : Curve → Option Held → List Opening → Type 0
+Stand s None os = os ≡ []
+Stand s (Some h) os = StandFor s h os
+
+abbrev pub last_held : Option Held → Option Opening
+last_held None = None
+last_held (Some h) = Some h.last
+
+-- the openings to which the questions are put
+abbrev pub both : Option Held → List Opening
+both None = []
+both (Some h) = h.steep ∷ h.flat ∷ []
+
+abbrev pub AreWithin : Option Held → Type 0
+AreWithin o = (h : Held) → o ≡ Some h → IsWithin h.steep × IsWithin h.flat
+
+-- an opening may follow those that are held
+abbrev pub MayFollow : Option Held → Opening → Type 0
+MayFollow o new = (h : Held) → o ≡ Some h → IsUpTo new h.last
