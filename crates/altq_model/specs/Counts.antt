@@ -35,11 +35,11 @@ is_forced (Dropped Early) = false
 is_forced (Dropped Forced) = true
 is_forced (Sent start end rule) = false
 
--- so many of the arrivals that are meant, and so much of each
+-- the sum of an amount over the arrivals that are meant
 abbrev pub of_arrivals : (meant : Arrival → Bool) → (amount : Arrival → ℕ) → List Arrival → ℕ
 of_arrivals meant amount arrived = total (λ a. if meant a then amount a else 0) arrived
 
--- so many of the decisions that are meant, and so much of the arrival of each
+-- the sum of an amount over the arrivals that are meant and whose fate is told
 abbrev pub of_decisions : (meant : Arrival → Bool) → (told : Fate → Bool) → (amount : Arrival → ℕ) → List Arrival → List Decision → ℕ
 of_decisions meant told amount arrived js =
     total (λ d. if meant (arrival arrived d.0) && told d.1 then amount (arrival arrived d.0) else 0) js

@@ -14,7 +14,7 @@ pub record Coming : Type 0 where
   pub prec : ℕ
   pub at : ℕ
 
--- the words of a seed, of which so many were drawn
+-- the words of a seed, and how many of them were drawn
 pub record DrawnWords : Type 0 where
   pub seed : ℕ
   pub drawn : ℕ

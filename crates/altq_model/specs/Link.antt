@@ -13,7 +13,7 @@ pub record Link : Type 0 where
 abbrev pub idle_link : Link
 idle_link = record { free = 0; run = 0; sent = 0 }
 
--- the link after so many units more in a run that began at a moment and had so many: in a run that began at r each end
+-- the link after `more` units in a run that began at `run` and had `sent` units before: in a run that began at r each end
 -- is r + ceil(U / rate), U being the units of the run's packets up to it
 abbrev pub run_on : (rate run sent more : ℕ) → Link
 run_on rate run sent more = record { free = run + ceil_div (sent + more) rate; run = run; sent = sent + more }

@@ -85,7 +85,7 @@ pub record IsPlay (p : Policy) (rate seed : ℕ) (arrived : List Coming) (g : Li
   pub events : AreDue p rate seed arrived g
   pub done : due p rate seed arrived g ≡ None
 
--- the same as a function, over at most so many events
+-- the same as a function, over at most `turns` events
 abbrev pub play_on : (turns : ℕ) → Policy → (rate seed : ℕ) → List Coming → List Happened → List Happened
 play_on zero p rate seed arrived g = g
 play_on (suc turns) p rate seed arrived g =

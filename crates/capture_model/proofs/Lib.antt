@@ -1,1 +1,1 @@
-mod OutcomeLemmas
+pub mod OutcomeLemmas

@@ -18,7 +18,7 @@ pub record Record : Type 0 where
   pub captured : List ℕ
   pub original : ℕ
 
--- a capture has at most so many records
+-- the most records that a capture has
 abbrev pub most_records : ℕ
 most_records = 4000000
 
@@ -76,7 +76,7 @@ abbrev pub stamp : Form → List ℕ → ℕ → ℕ
 stamp form bytes at =
     word form.big bytes at * 10 ^ 9 + word form.big bytes (at + 4) * (if form.nanos then 1 else 1000)
 
--- what stands at a place after so many records: the end of the capture, a record and the place after it, the first test
+-- what stands at a place after `count` records: the end of the capture, a record and the place after it, the first test
 -- that fails, or a limit
 pub data Step : Type 0 where
   End : Step
@@ -109,7 +109,7 @@ abbrev pub place_after : ℕ → List Record → ℕ
 place_after at [] = at
 place_after at (r ∷ rs) = place_after (at + 16 + length r.captured) rs
 
--- from a place on, after so many records, these records stand whole
+-- from a place on, after `count` records, these records stand whole
 abbrev pub Stand : Form → List ℕ → (count at : ℕ) → List Record → Type 0
 Stand form bytes count at [] = Unit {0}
 Stand form bytes count at (r ∷ rs) =
@@ -132,7 +132,7 @@ Reads bytes records last = ReadsFrom (header bytes) bytes records last
 abbrev pub IsCapture : List ℕ → List Record → Type 0
 IsCapture bytes records = Reads bytes records End
 
--- the same as a function, over at most so many records: the complete records, and what stands after them
+-- the same as a function, over at most as many records as are asked for: the complete records, and what stands after them
 pub record Outcome : Type 0 where
   pub records : List Record
   pub last : Step

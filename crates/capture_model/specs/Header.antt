@@ -3,7 +3,7 @@
 use Rattle.std.specs.Prelude.{ℕ, ◌/◌, ◌%◌, ◌^◌, List, [], ◌∷◌, ◌++◌}
 use Rattle.byteorder.specs.Endian.{little_bytes}
 
--- the head of a record: a packet of this length that ends then, of which so many bytes were captured
+-- the head of a record: a packet of `len` bytes that ends at `end`, of which `captured` bytes follow
 abbrev pub record_header : (end captured len : ℕ) → List ℕ
 record_header end captured len =
     little_bytes 4 (end / 10 ^ 9) ++ little_bytes 4 (end % 10 ^ 9) ++ little_bytes 4 captured ++ little_bytes 4 len

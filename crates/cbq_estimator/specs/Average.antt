@@ -10,7 +10,7 @@ pub record Pace : Type 0 where
   pub rate : ℕ
   pub cap : ℕ
 
--- the time of a burst of so many packets of a size
+-- the time of a burst of `maxburst` packets of a size
 abbrev pub cap_of : (rate maxburst packetsize : ℕ) → ℕ
 cap_of rate maxburst packetsize = maxburst * time_of packetsize rate
 

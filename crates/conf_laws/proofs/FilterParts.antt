@@ -9,7 +9,8 @@ use Rattle.conf_lines.specs.Grammar.{end}
 use Rattle.conf_lines.proofs.GrammarPlaces.{GrammarPlace, PacketSide, target_side, at_interface_name, at_filter_class, at_address_of, at_port_of, behind_port_of, at_protocol, behind_protocol, at_tos, behind_tos, at_tos_mask, at_end, Tells}
 use Rattle.conf_lines.proofs.FilterSteps.{tells_filter_class, tells_ruleno, tells_rule_number, tells_address, tells_netmask, tells_mask, tells_prefix, tells_port, tells_protocol, tells_tos, tells_tosmask, tells_tclass, tells_tclassmask, tells_tos_number, tells_tos_mask, ends_at_protocol, ends_at_end}
 use Rattle.conf_tree.specs.Canonical.{ip6_word, end4_words, tos_words, tclass_words}
-use Rattle.conf_laws.specs.Fit.{IsName, AreBytes, IsTos}
+use Rattle.conf_lines.specs.Laws.{AreBytes}
+use Rattle.conf_laws.specs.Fit.{IsName, IsTos}
 use Rattle.conf_laws.specs.Statements.{filter_names, end4_whats, end6_whats, tos_whats}
 use Rattle.conf_lines.specs.Options.{word_of_key}
 use Rattle.conf_laws.proofs.Parts.{Part, nothing, ◌>>◌}

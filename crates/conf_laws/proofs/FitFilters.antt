@@ -6,11 +6,11 @@ use Rattle.conf_lines.specs.declared.item.What.{What}
 use Rattle.conf_lines.specs.declared.item.What.TheVariants as what
 use Rattle.conf_lines.specs.declared.statement.Form.{Form}
 use Rattle.conf_lines.specs.declared.statement.Form.TheVariants as form
-use Rattle.conf_lines.specs.Laws.{AreBytes as HasBytes, IsSound, AreSound}
+use Rattle.conf_lines.specs.Laws.{AreBytes, IsSound, AreSound}
 use Rattle.conf_tree.specs.declared.filter.Filter.{Filter}
 use Rattle.conf_tree.specs.Filters.{has_option, has_name, past_option, past_name, option_number, as_ip4, ip4_in, mask_in, with_mask, address4_in, address4, with_length, address6_in, address6, addresses, under_mask, tos_in, filter_of}
 use Rattle.conf_tree.specs.Items.{number_at}
-use Rattle.conf_laws.specs.Fit.{IsWithin, AreBytes, IsMasked, IsPrefix, AreAddresses, IsTos}
+use Rattle.conf_laws.specs.Fit.{IsWithin, IsMasked, IsPrefix, AreAddresses, IsTos}
 use Rattle.conf_laws.proofs.FitMasks.{and_again, masked_fit, four_same, none_masked, prefix_fit, none_prefix}
 use Rattle.conf_laws.proofs.FitSettings.{number_fit}
 
@@ -61,11 +61,8 @@ tos_fit items =
     under_fit (option_number 255 items) (unwrap_or mask 255) (mask_number mask (option_fit 255 (past_option items)))
 
 -- addresses
-bytes_fit : (n : ℕ) (list : List ℕ) → HasBytes n list → AreBytes n list
-bytes_fit n list h = record { count = h.count; bytes = h.bytes }
-
 as_ip4_fit : (says : What) → IsSound says → AreBytes 4 (as_ip4 says)
-as_ip4_fit (what.Ip4 mask) h = bytes_fit 4 mask h
+as_ip4_fit (what.Ip4 mask) h = h
 as_ip4_fit _ h = four_same 255 (omega arith)
 
 ip4_fit : (o : Option Item) → IsSoundIn o → AreBytes 4 (ip4_in o)
@@ -78,7 +75,7 @@ mask_fit items h =
     (four_same 255 (omega arith))
 
 with_mask_fit : (says : What) (mask : List ℕ) → IsSound says → AreBytes 4 mask → IsMasked (with_mask says mask).0 (with_mask says mask).1
-with_mask_fit (what.Ip4 address) mask h k = masked_fit address mask (bytes_fit 4 address h) k
+with_mask_fit (what.Ip4 address) mask h k = masked_fit address mask h k
 with_mask_fit _ mask h k = none_masked
 
 in4_fit : (o : Option Item) (mask : List ℕ) → IsSoundIn o → AreBytes 4 mask → IsMasked (address4_in o mask).0 (address4_in o mask).1
@@ -89,7 +86,7 @@ address4_fit : (items : List Item) → AreSound items → IsMasked (address4 ite
 address4_fit items h = in4_fit (slice_get items 0) (mask_in (drop 1 items)) (sound_at items 0 h) (mask_fit (drop 1 items) (sound_drop 1 items h))
 
 with_length_fit : (says : What) → IsSound says → IsPrefix (with_length says).0 (with_length says).1
-with_length_fit (what.Ip6 address bits) h = prefix_fit address bits (bytes_fit 16 address h.0) h.1
+with_length_fit (what.Ip6 address bits) h = prefix_fit address bits h.0 h.1
 with_length_fit _ h = none_prefix
 
 in6_fit : (o : Option Item) → IsSoundIn o → IsPrefix (address6_in o).0 (address6_in o).1

@@ -5,7 +5,8 @@ use Rattle.std.proofs.lemmas.Nat.{and_le_l, and_assoc}
 use Rattle.std.proofs.Math.Nat.{mul-div_left}
 use Rattle.std.proofs.lemmas.List.Elements.{All-nil, All-cons, All-head, All-tail, All-replicate, All-from_recursion}
 use Rattle.conf_tree.specs.Masks.{masked, upper, prefix}
-use Rattle.conf_laws.specs.Fit.{AreBytes, IsMasked, IsPrefix}
+use Rattle.conf_lines.specs.Laws.{AreBytes}
+use Rattle.conf_laws.specs.Fit.{IsMasked, IsPrefix}
 
 abbrev AreSmall : List ℕ → Type 0
 AreSmall bytes = All (λ b. b < 256) bytes

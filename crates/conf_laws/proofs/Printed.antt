@@ -5,7 +5,8 @@ use Rattle.std.proofs.lemmas.List.{length-append}
 use Rattle.conf_lines.specs.declared.item.What.TheVariants.{Name, Ip4, Ip6}
 use Rattle.conf_lines.specs.Slots.{are_name_bytes, are_plain, rate_in, whole_in, name_in, protocol_in, mask_in, address_in, address6_in}
 use Rattle.conf_tree.specs.Canonical.{ip4_word, ip6_word}
-use Rattle.conf_laws.specs.Fit.{AreBytes, IsName}
+use Rattle.conf_lines.specs.Laws.{AreBytes}
+use Rattle.conf_laws.specs.Fit.{IsName}
 use Rattle.conf_laws.proofs.Dotted.{ip4_read, ip4_bytes, ip4_range}
 use Rattle.conf_laws.proofs.Ip6.{ip6_read, ip6_lacks, ip6_bytes, ip6_most}
 use Rattle.conf_laws.proofs.Lines.{IsWord}
@@ -78,7 +79,7 @@ prefix_printed a bits bytes most =
       le-leb bits 128 most,
     ) refl
 
--- each of them is a word of a line, of at most so many bytes
+-- each of them is a word of a line, of few enough bytes
 pub decimal_is_word : (n : ℕ) → n < 2 ^ 64 → IsWord (decimal n)
 decimal_is_word n small = name_bytes-word (decimal n) (decimal_is_IsNumeral n small).0.0 (decimal_bytes n small)
 

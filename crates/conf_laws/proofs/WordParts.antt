@@ -8,7 +8,8 @@ use Rattle.conf_lines.specs.declared.statement.Form.{Form}
 use Rattle.conf_lines.proofs.GrammarPlaces.{GrammarPlace, Tells, at_option, at_rate, at_whole}
 use Rattle.conf_lines.proofs.Steps.{tells_rate, tells_whole}
 use Rattle.conf_tree.specs.Canonical.{ip4_word, ip6_word}
-use Rattle.conf_laws.specs.Fit.{AreBytes, IsName}
+use Rattle.conf_lines.specs.Laws.{AreBytes}
+use Rattle.conf_laws.specs.Fit.{IsName}
 use Rattle.conf_laws.proofs.Lines.{is_word}
 use Rattle.conf_lines.specs.Options.{word_of_key}
 use Rattle.conf_laws.proofs.Parts.{IsPrinted, Part, one_word}

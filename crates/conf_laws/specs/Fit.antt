@@ -1,6 +1,7 @@
 -- What the numbers, the names and the tree of a configuration keep to, after altq.conf(5): each configuration that a text has is so.
 use Rattle.std.specs.Prelude.{◌≡◌, ◌≢◌, ◌≤◌, ◌<◌, ◌*◌, ◌^◌, ◌⊎◌, ℕ, true, false, List, [], length, All, Option, Some, None, slice_get, codes, bit_and}
 use Rattle.service_curve.specs.declared.Curve.{Curve}
+use Rattle.conf_lines.specs.Laws.{AreBytes}
 use Rattle.conf_lines.specs.Slots.{is_name}
 use Rattle.conf_lines.specs.Options.{most_rate}
 use Rattle.conf_tree.specs.declared.class.Class.{Class}
@@ -21,8 +22,9 @@ IsName name = is_name name ≡ true
 abbrev pub IsWithin : ℕ → ℕ → ℕ → Type 0
 IsWithin low high n = (low ≤ n) × (n ≤ high)
 
--- A curve that may be set: slopes of at most 10^12, each at least so much; a bend in whole milliseconds, at most 10^6 of
--- them; none that bends upwards from more than 0. It has a bend where its slopes differ, and there alone.
+-- A curve that may be set: slopes of at most 10^12, the first at least `low` and the second at least `least`; a bend in whole
+-- milliseconds, at most 10^6 of them; none that bends upwards from more than 0. It has a bend where its slopes differ, and there
+-- alone.
 pub record IsCurve (low least : ℕ) (s : Curve) : Type 0 where
   pub first : IsWithin low most_rate s.m1
   pub second : IsWithin least most_rate s.m2
@@ -82,11 +84,6 @@ pub record IsClass (kind : Kind) (classes : List Class) (k : ℕ) (c : Class) : 
   pub eight : level ≤ 8
   pub limit : IsWithin 1 10000 c.limit
   pub own : IsOfKind kind c
-
--- so many bytes
-pub record AreBytes (n : ℕ) (list : List ℕ) : Type 0 where
-  pub count : length list ≡ n
-  pub bytes : All (λ b. b < 256) list
 
 -- addresses under their masks
 pub record IsMasked (a m : List ℕ) : Type 0 where

@@ -13,7 +13,7 @@ use Rattle.conf_lines.specs.Options.{most_rate, most_bend, slots_of}
 use Rattle.conf_lines.specs.Slots.{is_name}
 use Rattle.conf_lines.specs.Texts.{read_from, statements_of}
 
--- so many bytes
+-- a list of `n` bytes
 pub record AreBytes (n : ℕ) (list : List ℕ) : Type 0 where
   pub count : length list ≡ n
   pub bytes : All (λ b. b < 256) list

@@ -74,7 +74,7 @@ abbrev pub before : Option Statement → List Statement → List Statement
 before None rest = rest
 before (Some statement) rest = statement ∷ rest
 
--- The statements of a text whose first line has this number, over at most so many logical lines.
+-- The statements of a text whose first line has the number `line`, over at most a number of logical lines.
 abbrev pub statements_in : ℕ → ℕ → List ℕ → List Statement
 statements_in zero line text = []
 statements_in (suc lines) line [] = []

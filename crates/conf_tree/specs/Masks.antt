@@ -7,11 +7,11 @@ masked [] mask = []
 masked (byte ∷ address) [] = []
 masked (byte ∷ address) (bits ∷ mask) = bit_and byte bits ∷ masked address mask
 
--- the upper bits of a byte, so many
+-- the upper `bits` bits of a byte; its other bits are 0
 abbrev pub upper : ℕ → ℕ → ℕ
 upper bits byte = byte / 2 ^ (8 - bits) * 2 ^ (8 - bits)
 
--- the first bits of an IPv6 address, so many; its other bits are 0
+-- the first `bits` bits of an IPv6 address; its other bits are 0
 abbrev pub prefix : ℕ → List ℕ → List ℕ
 prefix bits [] = []
 prefix bits (byte ∷ address) = upper (min bits 8) byte ∷ prefix (bits - 8) address

@@ -77,7 +77,7 @@ pub(crate) fn word_at(items: &[Item], at: usize) -> u64
     }
 }
 
-/// The items behind the first ones, so many.
+/// The items behind the first `count`.
 pub(crate) fn past(items: &[Item], count: usize) -> &[Item]
     ensures { result.now ≡ drop count items.now }
 {
@@ -88,7 +88,7 @@ pub(crate) fn past(items: &[Item], count: usize) -> &[Item]
     }
 }
 
-/// The items of a statement behind its first ones, so many.
+/// The items of a statement behind its first `count`.
 pub(crate) fn behind(statement: &Statement, count: usize) -> &[Item]
     ensures { result.now ≡ drop count statement.now.items }
 {

@@ -11,7 +11,7 @@ pub(crate) fn masked(address: [u8; 4], mask: [u8; 4]) -> [u8; 4]
     [a & e, b & f, c & g, d & h]
 }
 
-/// The upper bits of a byte, so many.
+/// The upper `bits` bits of a byte; its other bits are 0.
 fn upper(bits: u8, byte: u8) -> u8
     requires { bits ≤ 8 }
     ensures { result ≡ upper bits byte }
@@ -20,7 +20,7 @@ fn upper(bits: u8, byte: u8) -> u8
     (u16::from(byte) / lower * lower) as u8
 }
 
-/// The first bits of an IPv6 address, so many; its other bits are 0.
+/// The first `bits` bits of an IPv6 address; its other bits are 0.
 pub(crate) fn prefix(bits: u8, address: &[u8; 16]) -> [u8; 16]
     ensures { result ≡ prefix bits address.now }
 {

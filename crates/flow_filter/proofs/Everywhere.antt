@@ -13,7 +13,7 @@ use Rattle.flow_filter.proofs.Frames.{IsAddress, HasWholeAddresses}
 use Rattle.flow_filter.specs.Matches.{agrees_under, agrees_within, ports_agree, matches}
 use Rattle.flow_filter.specs.Rules.{every_4, every_6, protocol_filter, filters_of_control}
 
--- a mask of zeros, over so many bytes
+-- a mask of `count` zeros
 pub under_zero : (address : List ℕ) (count : ℕ) → length address ≡ count → agrees_under (replicate count 0) (replicate count 0) address ≡ true
 under_zero [] count h = let none : count ≡ 0 = omega arith in rw none refl
 under_zero (byte ∷ address) count h =

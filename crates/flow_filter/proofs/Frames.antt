@@ -6,7 +6,7 @@ use Rattle.std.proofs.lemmas.List.Elements.{All-take, All-drop}
 use Rattle.packet_heads.specs.Flow.{Flow, V4, V6, Other, StandsAt, HasAddresses, has_bytes, two_at, type_place, packet_place, flow_by_type, flow}
 use Rattle.packet_heads.proofs.Addresses.{addresses_of}
 
--- bytes, so many
+-- a list of `count` bytes
 pub record IsAddress (count : ℕ) (address : List ℕ) : Type 0 where
   pub whole : length address ≡ count
   pub bytes : All (λ byte. byte < 256) address

@@ -12,7 +12,7 @@ use Rattle.packet_heads.specs.Flow.{Flow, V4, V6, Other}
 abbrev pub agrees_under : (mask own address : List ℕ) → Bool
 agrees_under mask own address = bytes_eq (masked address mask) own
 
--- an address of IPv6 agrees where its first bits, so many, are the filter's; one of another length is another list
+-- an address of IPv6 agrees where its first `bits` bits are the filter's; one of another length is another list
 abbrev pub agrees_within : (bits : ℕ) → (own address : List ℕ) → Bool
 agrees_within bits own address = bytes_eq (prefix bits address) own
 

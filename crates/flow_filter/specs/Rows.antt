@@ -31,7 +31,7 @@ of_udp class ruleno = record (over class ruleno every_4) { protocol = 17 }
 abbrev pub to_4 : (target mask : List ℕ) → Filter
 to_4 target mask = over 1 0 (own.V4 (masked target mask) mask (replicate 4 0) (replicate 4 0))
 
--- to those of IPv6 whose first bits, so many, are those of this one
+-- to those of IPv6 whose first `bits` bits are those of this one
 abbrev pub to_6 : (target : List ℕ) → (bits : ℕ) → Filter
 to_6 target bits = over 1 0 (own.V6 (prefix bits target) bits (replicate 16 0) 0)
 

@@ -87,7 +87,7 @@ fn agrees_under(mask: &[u8; 4], own: &[u8; 4], address: &[u8]) -> bool
     true
 }
 
-/// The upper bits of a byte, so many.
+/// The upper `bits` bits of a byte; its other bits are 0.
 fn upper(bits: u8, byte: u8) -> u8
     requires { bits ≤ 8 }
     ensures { result ≡ upper bits byte }
@@ -96,7 +96,7 @@ fn upper(bits: u8, byte: u8) -> u8
     (u16::from(byte) / lower * lower) as u8
 }
 
-/// Whether the first bits of an address of IPv6, so many, are the filter's.
+/// Whether the first `bits` bits of an address of IPv6 are the filter's.
 fn agrees_within(bits: u8, own: &[u8; 16], address: &[u8]) -> bool
     ensures { result ≡ agrees_within bits own.now address.now }
 {

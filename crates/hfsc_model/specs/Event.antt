@@ -3,9 +3,9 @@
 use Rattle.std.specs.Prelude.{ℕ, Bool, List}
 
 pub data HfscEvent : Type 0 where
-  -- a packet of so many bytes arrived at a moment and was kept in a class
+  -- a packet of `len` bytes arrived at the moment `at` and was kept in a class
   Kept : (class at len : ℕ) → HfscEvent
-  -- the head of a class, of so many bytes, was sent from a start on, by real time or else by share
+  -- the head of a class, of `len` bytes, was sent from `start` on, by real time or else by share
   Sent : (class len : ℕ) (real : Bool) (start : ℕ) → HfscEvent
 
 -- the newest first

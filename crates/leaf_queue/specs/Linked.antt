@@ -33,12 +33,12 @@ no_node = record { entry = no_entry; next = slot_of 0 }
 abbrev pub node_at : Slab Node → (slot : ℕ) → Node
 node_at s slot = unwrap_or (get s slot) no_node
 
--- the places of so many entries from one on
+-- the places of `count` entries from one on
 abbrev pub chain : Slab Node → (slot count : ℕ) → List ℕ
 chain s slot zero = []
 chain s slot (suc k) = slot ∷ chain s (node_at s slot).next.0 k
 
--- the place after so many steps
+-- the place after `count` steps
 abbrev pub step : Slab Node → (slot count : ℕ) → ℕ
 step s slot zero = slot
 step s slot (suc k) = step s (node_at s slot).next.0 k

@@ -5,7 +5,7 @@ use play_base::NoMemory;
 use slab::Slab;
 use std::alloc::Global;
 
-// Room for so many values.
+// Room for `count` values.
 pub fn reserved<T: Drop>(alloc: Global, count: u32) -> Result<Slab<T>, NoMemory>
     ensures empty { IfOk result (λ s. s.slots ≡ []) }
     ensures room { IfOk result (λ s. count ≤ s.capacity) }

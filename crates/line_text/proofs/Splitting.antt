@@ -42,7 +42,7 @@ joint-other text h = rw h refl
 blank_is_other : (byte : ℕ) → is_blank byte ≡ true → eqb byte 92 ≡ false
 blank_is_other byte h = grind (arith, nat_tests)
 
--- a byte of a word stands at the front, or a blank of so many bytes
+-- a byte of a word stands at the front, or a blank of some bytes
 abbrev IsByte : List ℕ → ℕ → ℕ → Type 0
 IsByte line at n = (n ≡ 0) × (is_blank (get_or line at 0) ≡ false) × (joined (drop at line) ≡ get_or line at 0 ∷ joined (drop (at + 1) line))
 

@@ -15,7 +15,7 @@ abbrev pub through_line_feed : List ℕ → ℕ
 through_line_feed [] = 0
 through_line_feed (byte ∷ text) = if byte == 10 then 1 else 1 + through_line_feed text
 
--- How many bytes the logical line at the front of a text has, with its line end, where so many bytes of a continuation
+-- How many bytes the logical line at the front of a text has, with its line end, where `inside` bytes of a continuation
 -- come first. A line feed ends it, also behind a comment, and so does the end of the text.
 abbrev pub line_len_after : ℕ → List ℕ → ℕ
 line_len_after inside [] = 0
@@ -32,7 +32,7 @@ line_len text = line_len_after 0 text
 abbrev pub ends : ℕ → Bool
 ends byte = (byte == 10) || (byte == 35)
 
--- The joined line of a logical line, where so many bytes of a continuation come first: its bytes up to its line end or
+-- The joined line of a logical line, where `inside` bytes of a continuation come first: its bytes up to its line end or
 -- comment, each continuation as one blank.
 abbrev pub joined_after : ℕ → List ℕ → List ℕ
 joined_after inside [] = []

@@ -36,7 +36,7 @@ multiple_of byte =
     else if (byte == 71) || (byte == 103) then 10 ^ 9
     else 1
 
--- so many times the number that is written `whole` and, behind a point, `fraction`, if it is whole and below 2^64
+-- `multiple` times the number that is written `whole` and, behind a point, `fraction`, if that is whole and below 2^64
 abbrev pub scaled : ℕ → ℕ → ℕ → ℕ → Option ℕ
 scaled multiple places whole fraction =
     let amount = (whole * 10 ^ places + fraction) * multiple in

@@ -41,7 +41,7 @@ pub fn rate(word: &Word) -> Option<u64>
     }
 }
 
-/// So many times the number that digits write, or digits, a point and 1 to 9 digits.
+/// `multiple` times the number that digits write, or digits, a point and 1 to 9 digits.
 fn mantissa(multiple: u64, text: &[u8]) -> Option<u64>
     requires { multiple ≤ 10 ^ 9 }
     ensures { result ≡ mantissa multiple text.now (cut 46 text.now) }
@@ -59,7 +59,7 @@ fn mantissa(multiple: u64, text: &[u8]) -> Option<u64>
     }
 }
 
-/// So many times a number with so many digits behind its point, if that is whole and below 2^64.
+/// `multiple` times a number with `places` digits behind its point, if that is whole and below 2^64.
 fn scaled(multiple: u64, places: u32, whole: u64, fraction: u64) -> Option<u64>
     requires multiple { multiple ≤ 10 ^ 9 }
     requires places { places ≤ 9 }
@@ -74,7 +74,7 @@ fn scaled(multiple: u64, places: u32, whole: u64, fraction: u64) -> Option<u64>
     }
 }
 
-/// So many times ten with itself.
+/// 10 to the power `places`.
 fn power(places: u32) -> u128
     requires { places ≤ 9 }
     ensures value { result ≡ 10 ^ places }

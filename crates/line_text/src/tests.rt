@@ -188,7 +188,7 @@ fn addresses_of_sixteen_bytes(rt: HostRuntime) {
     }
 }
 
-/// A first line of so many bytes, and what stands behind it.
+/// A first line of `bytes` bytes, and what stands behind it.
 fn long_line(alloc: Global, bytes: u64, behind: &str) -> Result<Vec<u8>, Fail> {
     let mut text = Vec::new(alloc);
     for _ in 0..bytes {

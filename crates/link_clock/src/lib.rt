@@ -36,7 +36,7 @@ impl Model for LinkClock {
     ghost invariant = { λ c. IsRunning c.rate c.free c.run c.sent };
 }
 
-// The end of a run that began at a moment, with so many units up to it.
+// The end of a run that began at `run`, with `sent` units up to it.
 fn run_end(rate: u64, run: u64, sent: u128) -> u64
     requires rate { 0 < rate }
     requires fits { run + ceil_div sent rate < 2 ^ 64 }

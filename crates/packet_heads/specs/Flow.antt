@@ -16,7 +16,7 @@ pub data Flow : Type 0 where
   V6 : Heads → Flow
   Other : Flow
 
--- so many bytes stand from a place on
+-- `count` bytes stand from the place `at` on
 abbrev pub has_bytes : (count : ℕ) → List ℕ → (at : ℕ) → Bool
 has_bytes count bytes at = nat_le (at + count) (length bytes)
 
@@ -109,7 +109,7 @@ flow frame =
     then flow_by_type (two_at frame (type_place frame)) (drop (packet_place frame) frame)
     else Other
 
--- an address of so many bytes stands in a frame at a place
+-- an address of `count` bytes stands in a frame at a place
 pub record StandsAt (frame : List ℕ) (at count : ℕ) (address : List ℕ) : Type 0 where
   pub whole : length address ≡ count
   pub part : address ≡ slice_range frame at (at + count)

@@ -74,7 +74,7 @@ fn flow_by_type(kind: u16, packet: &[u8]) -> FlowHeads<'_>
     }
 }
 
-// Whether so many bytes stand from a place on.
+// Whether `count` bytes stand from the place `at` on.
 fn has_bytes(count: usize, bytes: &[u8], at: usize) -> bool
     requires { at + count ≤ 1000 }
     ensures { result ≡ has_bytes count bytes.now at }

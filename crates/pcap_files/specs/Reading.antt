@@ -12,7 +12,7 @@ use Rattle.pcap_files.specs.declared.fault.CaptureFault.TheVariants as fault
 use Rattle.pcap_files.specs.declared.reader.Reader.{Reader}
 use Rattle.pcap_files.specs.declared.record.Record.{Record}
 
--- the answer shows this record of the capture, the one after so many; its length is the greater of the two
+-- the answer shows this record of the capture, the one after `count` others; its length is the greater of the two
 pub record Shows (answer : Record) (count : ℕ) (r : capture.Record) : Type 0 where
   pub number : answer.number ≡ count + 1
   pub stamp : answer.stamp ≡ r.stamp

@@ -58,7 +58,7 @@ impl Ahead {
         self.from += count;
     }
 
-    // Takes bytes from the file until so many are there, or the file is at its end. What was passed is given up before
+    // Takes bytes from the file until `need` are there, or the file is at its end. What was passed is given up before
     // the first read, so that each byte is moved once for each time that it is waited for.
     pub fn fill<F: Files>(&mut self, files: &mut F, file: u32, need: usize) -> Result<(), Trouble>
         requires there { IsSome ((F.view files.old).part file) }
@@ -81,7 +81,7 @@ impl Ahead {
     }
 }
 
-// Moves the bytes behind the first so many to the front.
+// Drops the first `count` bytes: those behind them move to the front.
 fn drop_front(buffer: &mut Vec<u8>, count: usize)
     requires { count ≤ vec_len buffer.old }
     ensures { buffer.new.items ≡ drop count buffer.old.items }
@@ -91,7 +91,7 @@ fn drop_front(buffer: &mut Vec<u8>, count: usize)
     buffer.truncate(kept);
 }
 
-// Reads pieces into the buffer until it has so many bytes, or the file is at its end.
+// Reads pieces into the buffer until it has `need` bytes, or the file is at its end.
 fn take_pieces<F: Files>(
     files: &mut F,
     file: u32,

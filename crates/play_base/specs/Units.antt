@@ -2,7 +2,7 @@
 -- takes whole numbers.
 use Rattle.std.specs.Prelude.{ℕ, ◌+◌, ◌-◌, ◌*◌, ◌/◌, ◌^◌}
 
--- the units of so many bytes
+-- the units of a number of bytes
 abbrev pub units : ℕ → ℕ
 units bytes = bytes * (8 * 10 ^ 9)
 
@@ -10,6 +10,6 @@ units bytes = bytes * (8 * 10 ^ 9)
 abbrev pub ceil_div : ℕ → ℕ → ℕ
 ceil_div amount rate = (amount + (rate - 1)) / rate
 
--- the nanoseconds that so many bytes take at a rate, rounded up
+-- the nanoseconds that a number of bytes takes at a rate, rounded up
 abbrev pub time_of : ℕ → ℕ → ℕ
 time_of bytes rate = ceil_div (units bytes) rate

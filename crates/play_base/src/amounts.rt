@@ -4,7 +4,7 @@ ghost use Rattle.play_base.specs.Units.{units, time_of};
 
 const UNITS_OF_A_BYTE: u64 = 8_000_000_000;
 
-/// The units of so many bytes: `len` · 8·10^9. Never refuses; constant time.
+/// The units of `len` bytes: `len` · 8·10^9. Never refuses; constant time.
 pub fn units(len: u64) -> u128
     ensures { result ≡ units len }
 {

@@ -84,7 +84,7 @@ impl MemoryFiles {
         self.said.as_slice()
     }
 
-    /// Lets one `read` move at most so many bytes, at least 1.
+    /// Lets one `read` move at most `most` bytes, at least 1.
     pub fn chunk(&mut self, most: u32)
         requires { 1 ≤ most }
         ensures same { Unchanged (memory_view self.old) (memory_view self.new) }

@@ -74,7 +74,7 @@ impl SteadyFiles {
         self.said.as_slice()
     }
 
-    /// Lets one `read` move at most so many bytes, at least 1.
+    /// Lets one `read` move at most `most` bytes, at least 1.
     pub fn chunk(&mut self, most: u32)
         requires { 1 ≤ most }
         ensures same { Unchanged (steady_view self.old) (steady_view self.new) }

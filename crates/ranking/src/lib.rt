@@ -30,7 +30,7 @@ pub struct Ranking {
 impl Ranking {
     ghost use Rattle.ranking.specs.Ranking.{keys_of, order_of};
 
-    /// An empty ranking of so many classes, with room for all of them.
+    /// An empty ranking of `classes` classes, with room for all of them.
     pub fn reserve(alloc: Global, classes: u32) -> Result<Ranking, NoMemory>
         ensures empty { IfOk result (λ r. order_of r ≡ []) }
         ensures classes { IfOk result (λ r. length (keys_of r) ≡ classes) }
