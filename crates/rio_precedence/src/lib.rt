@@ -1,6 +1,7 @@
 //! RED with in and out (RIO): random early detection by the packets' precedences, so that those of a worse precedence are dropped
-//! sooner. It is RIO of Clark and Fang 1998 with three precedences, as ALTQ's altq_rio.c has it; docs/QUEUE-RULES.md has the rule
-//! and where each number comes from. The rule that a class's file asks for, of the four that there are, stands here too.
+//! sooner. It is RIO of Clark and Fang 1998 with three precedences, those of assured forwarding (RFC 2597);
+//! docs/QUEUE-RULES.md has the rule and where each number comes from. The rule that a class's file asks for, of the four that
+//! there are, stands here too.
 #![tactic(auto)]
 
 mod any;
