@@ -29,7 +29,7 @@ pub record FrontsAre (v : View) (dep fat : ℕ) (ds ts : List ℕ) : Type 0 wher
   pub fates : HoldsFront v fat ts
 
 abbrev pub HasTexts : View → Outputs → (ds ts : List ℕ) → Type 0
-HasTexts v o ds ts = TextsAre v o.departures o.fates o.records.items o.rows.items ds ts
+HasTexts v o ds ts = TextsAre v o.departures o.fates o.records.items o.rows ds ts
 
 abbrev pub HasFronts : View → Outputs → (ds ts : List ℕ) → Type 0
 HasFronts v o ds ts = FrontsAre v o.departures o.fates ds ts

@@ -4,6 +4,7 @@ ghost use Rattle.play_loop.specs.Outputs.{output_fault};
 
 use crate::{Output, PlayFault};
 use play_base::Trouble;
+use play_text::Rows;
 
 /// The numbers of the two files, and the bytes that are gathered for each.
 #[derive(Drop)]
@@ -11,7 +12,7 @@ pub struct Outputs {
     pub departures: u32,
     pub fates: u32,
     pub records: Vec<u8>,
-    pub rows: Vec<u8>,
+    pub rows: Rows,
 }
 
 // What trouble with an output means for the play.

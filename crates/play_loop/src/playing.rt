@@ -30,7 +30,7 @@ use leaf_queue::Words;
 use pcap_files::{CaptureFault, Reader, head_bytes};
 use play_base::Files;
 use play_core::{Progress, Totals};
-use play_text::{Names, fates_header};
+use play_text::{Names, Rows, fates_header};
 use std::alloc::Global;
 
 // Writes the head of the departures, and then the head row of the fates.
@@ -110,10 +110,9 @@ pub fn play<D: Discipline, C: Classify, F: Files>(
         departures: opened.departures,
         fates: opened.fates,
         records: Vec::new(alloc),
-        rows: Vec::new(alloc),
+        rows: Rows::new(alloc),
     };
     let ending = match play_records(
-        alloc,
         &mut reader,
         &mut progress,
         discipline,
@@ -143,7 +142,6 @@ pub fn play<D: Discipline, C: Classify, F: Files>(
 
 // Plays the records that a reader has not answered yet: each before the next is read, and at the end of the capture what is left.
 fn play_records<D: Discipline, C: Classify, F: Files>(
-    alloc: Global,
     reader: &mut Reader,
     progress: &mut Progress,
     discipline: &mut D,
@@ -185,9 +183,7 @@ fn play_records<D: Discipline, C: Classify, F: Files>(
             Err(fault) => return Ok(Ending::Cut(fault)),
         };
         let Some(record) = found else {
-            return match send_due(
-                alloc, progress, discipline, classify, names, None, outputs, files,
-            ) {
+            return match send_due(progress, discipline, classify, names, None, outputs, files) {
                 Ok(Due::Made) => Ok(Ending::Whole),
                 Ok(Due::Late) => Ok(Ending::Late),
                 Err(fault) => Err(fault),
@@ -196,7 +192,7 @@ fn play_records<D: Discipline, C: Classify, F: Files>(
         let arriving = arriving_of(record, progress.totals().arrived + 1, latest);
         latest = arriving.packet.at;
         match play_packet(
-            alloc, progress, discipline, classify, names, words, arriving, outputs, files,
+            progress, discipline, classify, names, words, arriving, outputs, files,
         ) {
             Ok(Due::Made) => {}
             Ok(Due::Late) => return Ok(Ending::Late),

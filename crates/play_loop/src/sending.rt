@@ -20,12 +20,10 @@ use leaf_queue::Words;
 use play_base::Files;
 use play_core::{Progress, Turn};
 use play_text::Names;
-use std::alloc::Global;
 
 /// Makes every sending that is due before an arrival, or all where none is to come, and adds their texts; stops before one that
 /// would end too late. After an error each file holds a front of its text.
 pub fn send_due<D: Discipline, C: Classify, F: Files>(
-    alloc: Global,
     progress: &mut Progress,
     discipline: &mut D,
     classify: &C,
@@ -60,7 +58,7 @@ pub fn send_due<D: Discipline, C: Classify, F: Files>(
             Turn::Late => return Ok(Due::Late),
             Turn::Send(departure) => departure,
         };
-        match add_sent(alloc, files, outputs, names, classify, departure) {
+        match add_sent(files, outputs, names, classify, departure) {
             Ok(()) => {}
             Err(fault) => return Err(fault),
         }
@@ -70,7 +68,6 @@ pub fn send_due<D: Discipline, C: Classify, F: Files>(
 /// Plays a packet that was read: makes every sending that is due before it, and offers it; stops before a sending that would end
 /// too late. After an error each file holds a front of its text.
 pub fn play_packet<D: Discipline, C: Classify, F: Files>(
-    alloc: Global,
     progress: &mut Progress,
     discipline: &mut D,
     classify: &C,
@@ -107,15 +104,13 @@ pub fn play_packet<D: Discipline, C: Classify, F: Files>(
     let packet = arriving.packet;
     let placed = classify.class(packet.bytes.as_slice());
     let at = Some(packet.at);
-    match send_due(
-        alloc, progress, discipline, classify, names, at, outputs, files,
-    ) {
+    match send_due(progress, discipline, classify, names, at, outputs, files) {
         Ok(Due::Made) => {}
         Ok(Due::Late) => return Ok(Due::Late),
         Err(fault) => return Err(fault),
     }
     let dropped = progress.offer(discipline, words, packet, placed);
-    match add_dropped(alloc, files, outputs, names, placed.class, dropped) {
+    match add_dropped(files, outputs, names, placed.class, dropped) {
         Ok(()) => Ok(Due::Made),
         Err(fault) => Err(fault),
     }

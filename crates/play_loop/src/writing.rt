@@ -11,7 +11,7 @@ ghost use Rattle.play_loop.specs.Gathered.{Grew, Stopped};
 ghost use Rattle.play_loop.specs.Kept.{OnlyWrote};
 ghost use Rattle.play_loop.specs.Outputs.{HasFronts, HasTexts, IsWriteCause, SameFiles, dropped_row, record_of, sent_row};
 
-use crate::gathered::{flush, gather};
+use crate::gathered::{flush, flush_rows, gather};
 use crate::outputs::{Outputs, output_fault};
 use crate::{Output, PlayFault};
 use altq_model::Fate;
@@ -19,8 +19,10 @@ use discipline_laws::Classify;
 use pcap_files::record_head;
 use play_base::{Files, Packet, Trouble};
 use play_core::{Departure, Dropped};
-use play_text::{Names, fate_row};
-use std::alloc::Global;
+use play_text::{Names, Rows};
+
+/// Rows are written once they have more bytes than this. A row has fewer than 256, so no more than 65,536 are gathered.
+const ROWS_BOUND: usize = 65_536 - 256;
 
 // Adds the record of a packet of `len` bytes that was sent: its head, and then these bytes of it.
 fn add_record<F: Files>(
@@ -51,12 +53,11 @@ fn add_record<F: Files>(
     }
 }
 
-// Adds the row of a packet's fate.
+// Adds the row of a packet's fate, and writes the rows once they are too many.
 fn add_row<F: Files>(
-    alloc: Global,
     files: &mut F,
     file: u32,
-    pending: &mut Vec<u8>,
+    rows: &mut Rows,
     names: &Names,
     class: u32,
     packet: &Packet,
@@ -64,24 +65,26 @@ fn add_row<F: Files>(
 ) -> Result<(), Trouble>
     requires there { IsSome ((F.view files.old).part file) }
     requires named { HasClass names.now class }
-    ensures grew { OnOk result (Grew (F.view files.old) (F.view files.new) file pending.old.items pending.new.items
+    ensures grew { OnOk result (Grew (F.view files.old) (F.view files.new) file rows.old rows.new
         (fate_text packet.now.number packet.now.at packet.now.len (name_of names.now class) fate.now)) }
-    ensures stopped { OnErr result (Stopped (F.view files.old) (F.view files.new) file pending.old.items
+    ensures bounded { OnOk result (length rows.new ≤ 65280) }
+    ensures stopped { OnErr result (Stopped (F.view files.old) (F.view files.new) file rows.old
         (fate_text packet.now.number packet.now.at packet.now.len (name_of names.now class) fate.now)) }
     ensures failed { IsErrOf result Trouble.Failed → WriteFault (F.view files.old) (F.view files.new) file }
 {
-    let Ok(row) = fate_row(
-        alloc,
-        names,
-        packet.number,
-        packet.at,
-        packet.len,
-        class,
-        fate,
-    ) else {
+    let Packet {
+        number,
+        at,
+        len,
+        ..
+    } = *packet;
+    let Ok(()) = rows.add(names, number, at, len, class, fate) else {
         return Err(Trouble::NoMemory);
     };
-    match gather(files, file, pending, &row) {
+    if rows.as_slice().len() <= ROWS_BOUND {
+        return Ok(());
+    }
+    match flush_rows(files, file, rows) {
         Ok(()) => Ok(()),
         Err(trouble) => Err(trouble),
     }
@@ -103,7 +106,6 @@ fn dress_packet<C: Classify>(classify: &C, departure: &mut Departure)
 /// Adds the record of a packet that was sent, with the bytes with which it leaves, and then its row. After an error each file holds
 /// a front of its text.
 pub fn add_sent<C: Classify, F: Files>(
-    alloc: Global,
     files: &mut F,
     outputs: &mut Outputs,
     names: &Names,
@@ -145,7 +147,6 @@ pub fn add_sent<C: Classify, F: Files>(
     }
     let file = outputs.fates;
     match add_row(
-        alloc,
         files,
         file,
         &mut outputs.rows,
@@ -161,7 +162,6 @@ pub fn add_sent<C: Classify, F: Files>(
 
 /// Adds the row of a packet that was offered to a class, if it was dropped. After an error each file holds a front of its text.
 pub fn add_dropped<F: Files>(
-    alloc: Global,
     files: &mut F,
     outputs: &mut Outputs,
     names: &Names,
@@ -184,16 +184,7 @@ pub fn add_dropped<F: Files>(
     };
     let fate = Fate::Dropped(reason);
     let file = outputs.fates;
-    match add_row(
-        alloc,
-        files,
-        file,
-        &mut outputs.rows,
-        names,
-        class,
-        &packet,
-        &fate,
-    ) {
+    match add_row(files, file, &mut outputs.rows, names, class, &packet, &fate) {
         Ok(()) => Ok(()),
         Err(trouble) => Err(output_fault(Output::Fates, trouble)),
     }
@@ -216,7 +207,7 @@ pub fn finish<F: Files>(files: &mut F, outputs: &mut Outputs) -> Result<(), Play
         Ok(()) => {}
         Err(trouble) => return Err(output_fault(Output::Departures, trouble)),
     }
-    match flush(files, outputs.fates, &mut outputs.rows) {
+    match flush_rows(files, outputs.fates, &mut outputs.rows) {
         Ok(()) => Ok(()),
         Err(trouble) => Err(output_fault(Output::Fates, trouble)),
     }

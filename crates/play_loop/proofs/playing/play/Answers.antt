@@ -94,7 +94,7 @@ play_records-requires-clause-under g c =
     let heads = texts_kept _ (g.F.Files.view c.write_heads.new.files) (g.F.Files.view c.start.new.files) c.args.opened.now.departures c.args.opened.now.fates _ _ _ _ (c.in-Ok.ensures.wrote c.requires.ready.empty) c.start.ensures.some.1.keeps in
     record {
       going = c.in-Ok-begin.ensures.going [] c.args.words.now c.requires.fresh tt (omega arith);
-      given = head_texts (g.C.Classify.dressed c.args.classify.now) (name_of c.args.names.now) (g.F.Files.view c.start.new.files) c.args.opened.now.departures c.args.opened.now.fates _ _ c.new.ensures.items c.new-2.ensures.items heads;
+      given = head_texts (g.C.Classify.dressed c.args.classify.now) (name_of c.args.names.now) (g.F.Files.view c.start.new.files) c.args.opened.now.departures c.args.opened.now.fates _ _ c.new.ensures.items c.new-2.ensures heads;
       fit = tt;
     }
 
