@@ -64,3 +64,13 @@ IsWriteCause dep fat old new play.NoMemory = Unit {0}
 IsWriteCause dep fat old new (play.Capture damage) = ⊥
 IsWriteCause dep fat old new play.Read = ⊥
 IsWriteCause dep fat old new (play.Limit limit) = ⊥
+
+-- when a write of the statistics ends a play
+abbrev pub IsStatsCause : (stats : ℕ) → View → View → PlayFault → Type 0
+IsStatsCause stats old new (play.Write output.Departures) = ⊥
+IsStatsCause stats old new (play.Write output.Fates) = ⊥
+IsStatsCause stats old new (play.Write output.Statistics) = WriteFault old new stats
+IsStatsCause stats old new play.NoMemory = Unit {0}
+IsStatsCause stats old new (play.Capture damage) = ⊥
+IsStatsCause stats old new play.Read = ⊥
+IsStatsCause stats old new (play.Limit limit) = ⊥

@@ -33,16 +33,16 @@ pub fn send_due<D: Discipline, C: Classify, F: Files>(
     files: &mut F,
 ) -> Result<Due, PlayFault>
     requires under { (arrived : List Arrival) × (w : DrawnWords) × (g : List Happened)
-        × IsUnderway (C.placed classify.now) (C.dressed classify.now) (name_of names.now) (D.policy discipline.old) (D.stands discipline.old) (D.lists discipline.old) (D.limits discipline.old) (D.link_rate discipline.old) (F.view files.old) outputs.old progress.old arrived w g
+        × IsUnderway (C.placed classify.now) (C.dressed classify.now) names.now (D.policy discipline.old) (D.stands discipline.old) (D.lists discipline.old) (D.limits discipline.old) (D.link_rate discipline.old) (F.view files.old) outputs.old progress.old arrived w g
         × (arrival ≡ arrives arrived g) }
     requires named { (frame : List ℕ) → HasClass names.now (C.placed classify.now frame).class }
     ensures due { IfOk result (λ due. (arrived : List Arrival) (w : DrawnWords) (g : List Happened)
-        → IsUnderway (C.placed classify.now) (C.dressed classify.now) (name_of names.now) (D.policy discipline.old) (D.stands discipline.old) (D.lists discipline.old) (D.limits discipline.old) (D.link_rate discipline.old) (F.view files.old) outputs.old progress.old arrived w g
+        → IsUnderway (C.placed classify.now) (C.dressed classify.now) names.now (D.policy discipline.old) (D.stands discipline.old) (D.lists discipline.old) (D.limits discipline.old) (D.link_rate discipline.old) (F.view files.old) outputs.old progress.old arrived w g
         → arrival ≡ arrives arrived g → (k : List Happened)
-        × IsUnderway (C.placed classify.now) (C.dressed classify.now) (name_of names.now) (D.policy discipline.new) (D.stands discipline.new) (D.lists discipline.new) (D.limits discipline.new) (D.link_rate discipline.new) (F.view files.new) outputs.new progress.new arrived w k
+        × IsUnderway (C.placed classify.now) (C.dressed classify.now) names.now (D.policy discipline.new) (D.stands discipline.new) (D.lists discipline.new) (D.limits discipline.new) (D.link_rate discipline.new) (F.view files.new) outputs.new progress.new arrived w k
         × SameOffers g k × DueIs due (D.policy discipline.old) progress.old.clock.rate w.seed arrived k arrival) }
     ensures broken { OnErr result ((arrived : List Arrival) (w : DrawnWords) (g : List Happened)
-        → IsUnderway (C.placed classify.now) (C.dressed classify.now) (name_of names.now) (D.policy discipline.old) (D.stands discipline.old) (D.lists discipline.old) (D.limits discipline.old) (D.link_rate discipline.old) (F.view files.old) outputs.old progress.old arrived w g
+        → IsUnderway (C.placed classify.now) (C.dressed classify.now) names.now (D.policy discipline.old) (D.stands discipline.old) (D.lists discipline.old) (D.limits discipline.old) (D.link_rate discipline.old) (F.view files.old) outputs.old progress.old arrived w g
         → arrival ≡ arrives arrived g → (k : List Happened)
         × IsBroken (C.dressed classify.now) (name_of names.now) (D.policy discipline.old) progress.old.clock.rate w.seed (F.view files.new) outputs.old arrived k
         × SameOffers g k) }
@@ -78,19 +78,19 @@ pub fn play_packet<D: Discipline, C: Classify, F: Files>(
     files: &mut F,
 ) -> Result<Due, PlayFault>
     requires under { (arrived : List Arrival) × (g : List Happened)
-        × IsUnderway (C.placed classify.now) (C.dressed classify.now) (name_of names.now) (D.policy discipline.old) (D.stands discipline.old) (D.lists discipline.old) (D.limits discipline.old) (D.link_rate discipline.old) (F.view files.old) outputs.old progress.old arrived words.old g
+        × IsUnderway (C.placed classify.now) (C.dressed classify.now) names.now (D.policy discipline.old) (D.stands discipline.old) (D.lists discipline.old) (D.limits discipline.old) (D.link_rate discipline.old) (F.view files.old) outputs.old progress.old arrived words.old g
         × IsHeld (C.placed classify.now) arrived g arriving }
     requires within { IsWithin arriving }
     requires held { (frame : List ℕ) → IsOneOf (C.placed classify.now frame).class (D.policy discipline.old).classes }
     requires precs { (frame : List ℕ) → (C.placed classify.now frame).prec ≤ 2 }
     requires named { (frame : List ℕ) → HasClass names.now (C.placed classify.now frame).class }
     ensures due { IfOk result (λ due. (arrived : List Arrival) (g : List Happened)
-        → IsUnderway (C.placed classify.now) (C.dressed classify.now) (name_of names.now) (D.policy discipline.old) (D.stands discipline.old) (D.lists discipline.old) (D.limits discipline.old) (D.link_rate discipline.old) (F.view files.old) outputs.old progress.old arrived words.old g
+        → IsUnderway (C.placed classify.now) (C.dressed classify.now) names.now (D.policy discipline.old) (D.stands discipline.old) (D.lists discipline.old) (D.limits discipline.old) (D.link_rate discipline.old) (F.view files.old) outputs.old progress.old arrived words.old g
         → IsHeld (C.placed classify.now) arrived g arriving → (k : List Happened)
-        × IsUnderway (C.placed classify.now) (C.dressed classify.now) (name_of names.now) (D.policy discipline.new) (D.stands discipline.new) (D.lists discipline.new) (D.limits discipline.new) (D.link_rate discipline.new) (F.view files.new) outputs.new progress.new arrived words.new k
+        × IsUnderway (C.placed classify.now) (C.dressed classify.now) names.now (D.policy discipline.new) (D.stands discipline.new) (D.lists discipline.new) (D.limits discipline.new) (D.link_rate discipline.new) (F.view files.new) outputs.new progress.new arrived words.new k
         × OfferedIs due (D.policy discipline.old) progress.old.clock.rate words.old.seed arrived arriving.packet.at g k) }
     ensures broken { OnErr result ((arrived : List Arrival) (g : List Happened)
-        → IsUnderway (C.placed classify.now) (C.dressed classify.now) (name_of names.now) (D.policy discipline.old) (D.stands discipline.old) (D.lists discipline.old) (D.limits discipline.old) (D.link_rate discipline.old) (F.view files.old) outputs.old progress.old arrived words.old g
+        → IsUnderway (C.placed classify.now) (C.dressed classify.now) names.now (D.policy discipline.old) (D.stands discipline.old) (D.lists discipline.old) (D.limits discipline.old) (D.link_rate discipline.old) (F.view files.old) outputs.old progress.old arrived words.old g
         → IsHeld (C.placed classify.now) arrived g arriving → (k : List Happened)
         × IsBroken (C.dressed classify.now) (name_of names.now) (D.policy discipline.old) progress.old.clock.rate words.old.seed (F.view files.new) outputs.old arrived k
         × StayDue (D.policy discipline.old) progress.old.clock.rate words.old.seed arrived k) }
@@ -102,7 +102,7 @@ pub fn play_packet<D: Discipline, C: Classify, F: Files>(
     ensures seed { words.new.seed ≡ words.old.seed }
 {
     let packet = arriving.packet;
-    let placed = classify.class(packet.bytes.as_slice());
+    let placed = arriving.placed;
     let at = Some(packet.at);
     match send_due(progress, discipline, classify, names, at, outputs, files) {
         Ok(Due::Made) => {}
