@@ -22,13 +22,13 @@ use Rattle.leaf_queue.specs.Queue.{Saying, by_queues, tail_says}
 use Rattle.discipline.specs.Strict.{classes_from}
 use Rattle.play_base.specs.View.{View}
 use Rattle.play_core.specs.declared.totals.Totals.{Totals}
-use Rattle.play_text.specs.Names.{HasClass, NameList, name_of}
+use Rattle.play_text.specs.Names.{HasClass, NameList}
 use Rattle.play_loop.specs.declared.fault.Limit.TheVariants as limit
 use Rattle.play_loop.specs.declared.fault.Opened.{Opened}
 use Rattle.play_loop.specs.declared.fault.Output.TheVariants as output
 use Rattle.play_loop.specs.declared.fault.PlayFault.{PlayFault}
 use Rattle.play_loop.specs.declared.fault.PlayFault.TheVariants as play
-use Rattle.play_loop.specs.Played.{AreReady, Explains, Fronts, HasOffered, HasStopped, IsStanding, Plays}
+use Rattle.play_loop.specs.Played.{Explains, Fronts, HasOffered, IsStanding, LeavesStats, Plays}
 use Rattle.play_loop.specs.Setup.{Setup}
 use Rattle.play_loop.specs.Setup as loop
 use Rattle.capture_model.specs.Capture.{Record}
@@ -88,24 +88,13 @@ plain_class i k x e =
 -- what is played of it
 pub setup_is : (i : Interface) (p : Policy) (place : List ℕ → Placed) (dress : Dressing) (names : NameList) (given seed : ℕ) → IsPlain i
     → p ≡ one_queue 50 → place ≡ place_in i → dress ≡ dress_in i → names ≡ (1, codes "default") ∷ [] → given ≡ seed
-    → loop.setup_of p place dress (name_of names) i.rate given ≡ setup_of i seed
+    → loop.setup_of p place dress names i.rate given ≡ setup_of i seed
 setup_is i p place dress names given seed x e pl dr n g =
-    ap (λ (k : ℕ). loop.setup_of p place dress (name_of names) i.rate k) g
-    ∙ ap (λ (q : Policy). loop.setup_of q place dress (name_of names) i.rate seed) (e ∙ sym (plain_policy i x))
-    ∙ ap (λ (f : List ℕ → Placed). loop.setup_of (policy_of i) f dress (name_of names) i.rate seed) pl
-    ∙ ap (λ (d : Dressing). loop.setup_of (policy_of i) (place_in i) d (name_of names) i.rate seed) dr
-    ∙ ap (λ (l : NameList). loop.setup_of (policy_of i) (place_in i) (dress_in i) (name_of l) i.rate seed) (n ∙ sym (plain_names i x))
-
--- before anything is written
-pub stopped_empty : (x : Setup) (v : View) (o : Opened) (records : List Record) → AreReady v o → HasStopped x v o records
-stopped_empty x v o records h = record {
-  history = [];
-  begun = record { events = tt; in_time = tt };
-  texts = record {
-    departures = record { written = []; rest = _; holds = h.empty.departures; split = refl };
-    fates = record { written = []; rest = _; holds = h.empty.fates; split = refl };
-  };
-}
+    ap (λ (k : ℕ). loop.setup_of p place dress names i.rate k) g
+    ∙ ap (λ (q : Policy). loop.setup_of q place dress names i.rate seed) (e ∙ sym (plain_policy i x))
+    ∙ ap (λ (f : List ℕ → Placed). loop.setup_of (policy_of i) f dress names i.rate seed) pl
+    ∙ ap (λ (d : Dressing). loop.setup_of (policy_of i) (place_in i) d names i.rate seed) dr
+    ∙ ap (λ (l : NameList). loop.setup_of (policy_of i) (place_in i) (dress_in i) l i.rate seed) (n ∙ sym (plain_names i x))
 
 -- where nothing is told of what stands for a history
 untold : (g : List Happened) → IsStanding Untold g
@@ -115,7 +104,7 @@ pub plays_untold : (x : Setup) (stood : List Happened → Type 0) (u v : View) (
 plays_untold x stood u v o t h = λ told bytes l.
     let y = h told bytes l in
     let z = y.2 in
-    (y.0, y.1, record { history = z.history; play = z.play; texts = z.texts; reads = z.reads; stands = untold z.history })
+    (y.0, y.1, record { history = z.history; play = z.play; texts = z.texts; stats = z.stats; reads = z.reads; stands = untold z.history })
 
 offered_untold : (x : Setup) (stood : List Happened → Type 0) (v : View) (o : Opened) (records : List Record) → HasOffered x stood v o records
     → HasOffered x Untold v o records
@@ -162,7 +151,7 @@ pub record IsBuilt (i : Interface) (p : Policy) (place : List ℕ → Placed) (d
   pub seed_is : given ≡ seed
 
 setup_of_built : (i : Interface) (p : Policy) (place : List ℕ → Placed) (dress : Dressing) (names : NameList) (given seed : ℕ)
-    → IsBuilt i p place dress names given seed → loop.setup_of p place dress (name_of names) i.rate given ≡ setup_of i seed
+    → IsBuilt i p place dress names given seed → loop.setup_of p place dress names i.rate given ≡ setup_of i seed
 setup_of_built i p place dress names given seed b =
     setup_is i p place dress names given seed b.plain b.policy b.placed b.dressed b.named b.seed_is
 
@@ -183,20 +172,34 @@ named_of i p place dress names given seed b frame =
 
 pub plays_one : (i : Interface) (p : Policy) (place : List ℕ → Placed) (dress : Dressing) (names : NameList) (given seed : ℕ)
     → IsBuilt i p place dress names given seed → (stood : List Happened → Type 0) (u v : View) (o : Opened) (t : Totals)
-    → Plays (loop.setup_of p place dress (name_of names) i.rate given) stood u v o t → Plays (setup_of i seed) Untold u v o t
+    → Plays (loop.setup_of p place dress names i.rate given) stood u v o t → Plays (setup_of i seed) Untold u v o t
 plays_one i p place dress names given seed b stood u v o t h =
     let P : Setup → Type 0 = λ x. Plays x stood u v o t in
     plays_untold (setup_of i seed) stood u v o t (subst P (setup_of_built i p place dress names given seed b) h)
 
 pub explains_one : (i : Interface) (p : Policy) (place : List ℕ → Placed) (dress : Dressing) (names : NameList) (given seed : ℕ)
     → IsBuilt i p place dress names given seed → (stood : List Happened → Type 0) (u v : View) (o : Opened) (f : PlayFault)
-    → Explains (loop.setup_of p place dress (name_of names) i.rate given) stood u v o f → Explains (setup_of i seed) Untold u v o f
+    → Explains (loop.setup_of p place dress names i.rate given) stood u v o f → Explains (setup_of i seed) Untold u v o f
 explains_one i p place dress names given seed b stood u v o f h =
     let P : Setup → Type 0 = λ x. Explains x stood u v o f in
     explains_untold (setup_of i seed) stood u v o f (subst P (setup_of_built i p place dress names given seed b) h)
 
 pub fronts_one : (i : Interface) (p : Policy) (place : List ℕ → Placed) (dress : Dressing) (names : NameList) (given seed : ℕ)
     → IsBuilt i p place dress names given seed → (u v : View) (o : Opened)
-    → Fronts (loop.setup_of p place dress (name_of names) i.rate given) u v o → Fronts (setup_of i seed) u v o
+    → Fronts (loop.setup_of p place dress names i.rate given) u v o → Fronts (setup_of i seed) u v o
 fronts_one i p place dress names given seed b u v o h =
     let P : Setup → Type 0 = λ x. Fronts x u v o in subst P (setup_of_built i p place dress names given seed b) h
+
+pub stats_one : (i : Interface) (p : Policy) (place : List ℕ → Placed) (dress : Dressing) (names : NameList) (given seed : ℕ)
+    → IsBuilt i p place dress names given seed → (u v : View) (o : Opened) (f : PlayFault)
+    → LeavesStats (loop.setup_of p place dress names i.rate given) u v o f → LeavesStats (setup_of i seed) u v o f
+stats_one i p place dress names given seed b u v o f h =
+    let P : Setup → Type 0 = λ x. LeavesStats x u v o f in subst P (setup_of_built i p place dress names given seed b) h
+
+-- the class of the one queue
+pub built : (i : Interface) (p : Policy) (place : List ℕ → Placed) (dress : Dressing) (names : NameList) (given seed : ℕ) → IsInterface i → is_one_queue i ≡ true
+    → ((frame : List ℕ) → is_queue_class i.kind i.classes (place_in i frame).class ≡ true) → p ≡ one_queue 50 → place ≡ place_in i → dress ≡ dress_in i
+    → names ≡ (1, codes "default") ∷ [] → given ≡ seed → IsBuilt i p place dress names given seed
+built i p place dress names given seed fit one class e f g h k =
+    let plain = is_plain i fit one in
+    record { plain = plain; class = λ frame. plain_class i _ plain (class frame); policy = e; placed = f; dressed = g; named = h; seed_is = k }

@@ -276,6 +276,7 @@ are_opened a b c d e config arr dep fat stats f g h k q x y z w =
     let ngd : IsTrue a.tells → d.name g ≡ dep = λ t. z.keeps.name g 3 y.is_new.part ∙ y.is_new.name (x.keeps.tells ∙ t) in
     let nge : IsTrue a.tells → e.name g ≡ dep = λ t. w.keeps.name g 3 gd ∙ ngd t in
     let nhe : IsTrue a.tells → e.name h ≡ fat = λ t. w.keeps.name h 4 z.is_new.part ∙ z.is_new.name (tc t) in
+    let nke : IsTrue a.tells → e.name k ≡ stats = λ t. w.is_new.name (td t) in
     let one : HoldsAt d g [] =
     holds_beside_created c d 4 fat h g [] (holds_created b c 3 dep g y)
     (λ t s. q.departures_fates (sym (y.is_new.name (sym y.keeps.tells ∙ t)) ∙ s)) z in
@@ -290,12 +291,16 @@ are_opened a b c d e config arr dep fat stats f g h k q x y z w =
         };
         from_departures = λ t s. q.arrivals_departures (sym (nfe (back t)) ∙ s ∙ nge (back t));
         from_fates = λ t s. q.arrivals_fates (sym (nfe (back t)) ∙ s ∙ nhe (back t));
+        stats = holds_created d e 5 stats k w;
+        departures_from_stats = λ t s. q.departures_stats (sym (nge (back t)) ∙ s ∙ nke (back t));
+        fates_from_stats = λ t s. q.fates_stats (sym (nhe (back t)) ∙ s ∙ nke (back t));
       };
       there = λ t. (x.left t).0;
       left = λ t. w.keeps.left f 2 fd (λ s. q.arrivals_stats (sym (nfd t) ∙ s)) ∙ z.keeps.left f 2 fc (λ s. q.arrivals_fates (sym (nfc t) ∙ s))
           ∙ y.keeps.left f 2 x.is_new.part (λ s. q.arrivals_departures (sym (nf t) ∙ s)) ∙ (x.left t).1;
       departures_name = λ t. nge t;
       fates_name = λ t. nhe t;
+      stats_name = λ t. nke t;
       arrivals_new = x.is_new.fresh;
       departures_new = fresh_before a b g x.keeps.part y.is_new.fresh;
       fates_new = fresh_before a b h x.keeps.part (fresh_before b c h y.keeps.part z.is_new.fresh);
@@ -304,5 +309,4 @@ are_opened a b c d e config arr dep fat stats f g h k q x y z w =
       departures_part = ge;
       fates_part = he;
       stats_part = w.is_new.part;
-      stats_empty = λ t. (w.empty (td t)).0;
     }

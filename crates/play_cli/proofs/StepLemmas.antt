@@ -7,9 +7,10 @@ use Rattle.altq_model.specs.Arrivals.{comings}
 use Rattle.altq_model.specs.History.{Happened}
 use Rattle.altq_model.specs.Idle.{NeverIdles}
 use Rattle.altq_model.specs.Policies.{one_queue, tail}
-use Rattle.capture_model.specs.Capture.{Record, Step, Fault, Limit}
+use Rattle.capture_model.specs.Capture.{Record, Step, End, Fault, Limit, Reads, IsLast}
 use Rattle.conf_tree.specs.declared.interface.Interface.{Interface}
 use Rattle.play_base.specs.View.{View, Keeps, Any, NoneAppears, Rose}
+use Rattle.pcap_files.proofs.ReadingLaws.{one_reading}
 use Rattle.play_base.proofs.ViewLaws.{part_of_there, rose_later}
 use Rattle.play_base.specs.Holds.{HoldsAt}
 use Rattle.play_laws.proofs.ArrivalLemmas.{arrivals_rise}
@@ -23,8 +24,8 @@ use Rattle.play_loop.specs.declared.fault.Opened.{Opened}
 use Rattle.play_loop.specs.declared.fault.Output.TheVariants as output
 use Rattle.play_loop.specs.declared.fault.PlayFault.{PlayFault}
 use Rattle.play_loop.specs.declared.fault.PlayFault.TheVariants as play
-use Rattle.play_loop.specs.Kept.{KeepsBeside}
-use Rattle.play_loop.specs.Played.{Plays, Explains, Offers}
+use Rattle.play_loop.specs.Kept.{KeepsPlayed}
+use Rattle.play_loop.specs.Played.{BeginsStats, Explains, LeavesStats, Offers, Plays}
 use Rattle.play_loop.specs.Played as loop
 use Rattle.play_loop.specs.Setup.{Setup, arrivals_in}
 use Rattle.play_cli.specs.Causes.{PlayCauses}
@@ -33,7 +34,7 @@ use Rattle.play_cli.specs.Ending.{FilesEnd}
 use Rattle.play_cli.specs.Input.{IsRead, OnlyReads}
 use Rattle.play_cli.specs.InterfaceSetup.{default_limit, setup_of}
 use Rattle.play_cli.specs.Opening.{AreOpened, HaveParts, OpenCauses, OpenedFar, Untold}
-use Rattle.play_cli.specs.Run.{Accepted, Names, HasPlayed, HasFronts, HoldTexts, Fronts, IsFrontAt, IsOffered}
+use Rattle.play_cli.specs.Run.{Accepted, Names, HasPlayed, HasFronts, HasStatsFront, HoldTexts, Fronts, IsFrontAt, IsOffered}
 use Rattle.play_cli.proofs.CheckLemmas.{read_found}
 use Rattle.play_cli.proofs.ConfLemmas.{one_accepted, some_bytes}
 use Rattle.play_cli.proofs.FilesLemmas.{Course, course_keeps, course_parts, files_played, untouched}
@@ -55,7 +56,7 @@ fronts_opened u a b n seed s = λ t x records last r l.
       begun = record { events = tt; in_time = tt };
       departures = front_far u b end 3 n.departures _ parts (λ m. s.far.departures_kept m ∙ s.read.bytes n.departures tt) (λ m. s.far.departures_empty m told) (short_or_long 3 end);
       fates = front_far u b end 4 n.fates _ parts (λ m. s.far.fates_kept m ∙ s.read.bytes n.fates tt) (λ m. s.far.fates_empty m told) (short_or_long 4 end);
-      stats = front_far u b end 5 n.stats [] parts (λ m. s.far.stats_kept m ∙ s.read.bytes n.stats tt) (λ m. s.far.stats_empty m told) (short_or_long 5 end);
+      stats = inl (front_far u b end 5 n.stats [] parts (λ m. s.far.stats_kept m ∙ s.read.bytes n.stats tt) (λ m. s.far.stats_empty m told) (short_or_long 5 end));
     }
 
 -- no file changed at all, while the words were refused
@@ -65,7 +66,7 @@ fronts_kept u n seed = λ t x records last r l. record {
   begun = record { events = tt; in_time = tt };
   departures = inl ((λ f fresh e. none_some 3 (sym fresh ∙ e)), refl);
   fates = inl ((λ f fresh e. none_some 4 (sym fresh ∙ e)), refl);
-  stats = inl ((λ f fresh e. none_some 5 (sym fresh ∙ e)), refl);
+  stats = inl (inl ((λ f fresh e. none_some 5 (sym fresh ∙ e)), refl));
 }
 
 -- the course of a run that ends at its configuration, or at the opening of its files
@@ -103,7 +104,7 @@ pub record Steps (u a b c : View) (n : Names) (i : Interface) (o : Opened) : Typ
   pub accepted : Accepts u n.config n.interface i
   pub opened : AreOpened a b n.arrivals n.departures n.fates n.stats o
   pub far : OpenedFar a b n.departures n.fates n.stats
-  pub played : KeepsBeside o.arrivals o.departures o.fates b c
+  pub played : KeepsPlayed o b c
   pub none : NoneAppears b c
   pub said : c.said ≡ b.said
   pub distinct : AreDistinct n.config n.arrivals n.departures n.fates n.stats
@@ -148,36 +149,37 @@ accepted_of u a b c n i o s t =
       s.opened.left (told_a u a b c n i o s t) ∙ found.1,
     )
 
--- a name that is none of the two outputs is kept
-beside : (u a b c : View) (n : Names) (i : Interface) (o : Opened) → Steps u a b c n i o → IsTrue u.tells → (m : List ℕ) → m ≢ n.departures → m ≢ n.fates
+-- a name that is none of the three outputs is kept
+beside : (u a b c : View) (n : Names) (i : Interface) (o : Opened) → Steps u a b c n i o → IsTrue u.tells → (m : List ℕ) → m ≢ n.departures → m ≢ n.fates → m ≢ n.stats
     → c.bytes m ≡ b.bytes m
-beside u a b c n i o s t m d f =
+beside u a b c n i o s t m d f z =
     let told = told_a u a b c n i o s t in
-    s.played.bytes m ((λ e. d (e ∙ s.opened.departures_name told)), (λ e. f (e ∙ s.opened.fates_name told)))
-
-stats_held : (u a b c : View) (n : Names) (i : Interface) (o : Opened) → Steps u a b c n i o → IsTrue u.tells → c.bytes n.stats ≡ Some []
-stats_held u a b c n i o s t =
-    beside u a b c n i o s t n.stats (λ e. s.distinct.departures_stats (sym e)) (λ e. s.distinct.fates_stats (sym e))
-    ∙ s.opened.stats_empty (told_a u a b c n i o s t)
+    s.played.bytes m ((λ e. d (e ∙ s.opened.departures_name told)), (λ e. f (e ∙ s.opened.fates_name told)), (λ e. z (e ∙ s.opened.stats_name told)))
 
 -- what a file of the play holds stands under its name
-held_at : (arr dep fat : ℕ) (b c : View) (file : ℕ) (name text : List ℕ) → KeepsBeside arr dep fat b c → IsSome (b.part file) → b.name file ≡ name → IsTrue b.tells
+held_at : (o : Opened) (b c : View) (file : ℕ) (name text : List ℕ) → KeepsPlayed o b c → IsSome (b.part file) → b.name file ≡ name → IsTrue b.tells
     → HoldsAt c file text → c.bytes name ≡ Some text
-held_at arr dep fat b c file name text k there e t h =
+held_at o b c file name text k there e t h =
     let p = part_of_there (b.part file) there in
     ap c.bytes (sym (k.name file p.0 p.1 ∙ e)) ∙ h.bytes (k.tells ∙ t)
 
 departures_held : (u a b c : View) (n : Names) (i : Interface) (o : Opened) (text : List ℕ) → Steps u a b c n i o → IsTrue u.tells
     → HoldsAt c o.departures text → c.bytes n.departures ≡ Some text
 departures_held u a b c n i o text s t h =
-    held_at o.arrivals o.departures o.fates b c o.departures n.departures text s.played s.opened.ready.empty.departures.there
+    held_at o b c o.departures n.departures text s.played s.opened.ready.empty.departures.there
     (s.opened.departures_name (told_a u a b c n i o s t)) (told_b u a b c n i o s t) h
 
 fates_held : (u a b c : View) (n : Names) (i : Interface) (o : Opened) (text : List ℕ) → Steps u a b c n i o → IsTrue u.tells
     → HoldsAt c o.fates text → c.bytes n.fates ≡ Some text
 fates_held u a b c n i o text s t h =
-    held_at o.arrivals o.departures o.fates b c o.fates n.fates text s.played s.opened.ready.empty.fates.there
+    held_at o b c o.fates n.fates text s.played s.opened.ready.empty.fates.there
     (s.opened.fates_name (told_a u a b c n i o s t)) (told_b u a b c n i o s t) h
+
+stats_held : (u a b c : View) (n : Names) (i : Interface) (o : Opened) (text : List ℕ) → Steps u a b c n i o → IsTrue u.tells
+    → HoldsAt c o.stats text → c.bytes n.stats ≡ Some text
+stats_held u a b c n i o text s t h =
+    held_at o b c o.stats n.stats text s.played s.opened.ready.stats.there
+    (s.opened.stats_name (told_a u a b c n i o s t)) (told_b u a b c n i o s t) h
 
 texts_of : (u a b c : View) (n : Names) (i : Interface) (o : Opened) (x : Setup) (records : List Record) (g : List Happened) → Steps u a b c n i o → IsTrue u.tells
     → loop.HoldTexts c o x (arrivals_in x records) g → HoldTexts c n x records g
@@ -212,7 +214,7 @@ done_of u a b c n i o seed s totals p t =
         capture = x.1;
         play = y.play;
         texts = texts_of u a b c n i o (setup_of i seed) x.0 y.history s t y.texts;
-        stats = stats_held u a b c n i o s t;
+        stats = stats_held u a b c n i o _ s t y.stats;
         reads = y.reads;
       };
       never_idles = λ one. idle_of u a b c n i o seed x.0 y.history totals s y.play;
@@ -221,9 +223,30 @@ done_of u a b c n i o seed s totals p t =
 front_at : (u c : View) (part : ℕ) (name text : List ℕ) (written rest : List ℕ) → c.bytes name ≡ Some written → written ++ rest ≡ text → IsFrontAt u c part name text
 front_at u c part name text written rest e s = inr (written, rest, e, s)
 
-pub fronts_of : (u a b c : View) (n : Names) (i : Interface) (o : Opened) (seed : ℕ) → Steps u a b c n i o → loop.Fronts (setup_of i seed) b c o → Fronts u c n seed
+-- the statistics after a fault are empty, or a front
+begins : (x : Setup) (u v : View) (o : Opened) (f : PlayFault) → LeavesStats x u v o f → BeginsStats x u v o
+begins x u v o (play.Write output.Departures) h = inl h
+begins x u v o (play.Write output.Fates) h = inl h
+begins x u v o (play.Write output.Statistics) h = h
+begins x u v o play.NoMemory h = h
+begins x u v o (play.Capture damage) h = inl h
+begins x u v o play.Read h = inl h
+begins x u v o (play.Limit limit) h = inl h
+
+stats_front : (u a b c : View) (n : Names) (i : Interface) (o : Opened) (x : Setup) (bytes : List ℕ) (records : List Record) (last : Step) → Steps u a b c n i o → IsTrue u.tells
+    → b.left o.arrivals ≡ Some bytes → Reads bytes records last → IsLast last → BeginsStats x b c o → HasStatsFront u c n x records
+stats_front u a b c n i o x bytes records last s t left reads is_last (inl h) = inl (front_at u c 5 n.stats [] [] [] (stats_held u a b c n i o [] s t h) refl)
+stats_front u a b c n i o x bytes records last s t left reads is_last (inr h) =
+    let y = h (told_b u a b c n i o s t) bytes left in
+    let z = y.2 in
+    let one = one_reading bytes y.0 records End last y.1 tt reads is_last in
+    let P : List Record → Type 0 = λ q. HasStatsFront u c n x q in
+    subst P one.0 (inr (z.history, z.play, front_at u c 5 n.stats _ z.stats.written z.stats.rest (stats_held u a b c n i o _ s t z.stats.holds) z.stats.split))
+
+pub fronts_of : (u a b c : View) (n : Names) (i : Interface) (o : Opened) (seed : ℕ) (fault : PlayFault) → Steps u a b c n i o → loop.Fronts (setup_of i seed) b c o
+    → LeavesStats (setup_of i seed) b c o fault → Fronts u c n seed
 unfolding accepted_of
-fronts_of u a b c n i o seed s f = λ t given records last reads is_last.
+fronts_of u a b c n i o seed fault s f q = λ t given records last reads is_last.
     let found = accepted_of u a b c n i o s t in
     let same = one_accepted u n found.0 given in
     let left : b.left o.arrivals ≡ Some given.bytes = found.2 ∙ ap (λ (xs : List ℕ). Some xs) same.1 in
@@ -234,13 +257,13 @@ fronts_of u a b c n i o seed s f = λ t given records last reads is_last.
       begun = x.begun;
       departures = front_at u c 3 n.departures _ x.texts.departures.written x.texts.departures.rest (departures_held u a b c n i o _ s t x.texts.departures.holds) x.texts.departures.split;
       fates = front_at u c 4 n.fates _ x.texts.fates.written x.texts.fates.rest (fates_held u a b c n i o _ s t x.texts.fates.holds) x.texts.fates.split;
-      stats = front_at u c 5 n.stats [] [] [] (stats_held u a b c n i o s t) refl;
+      stats = stats_front u a b c n i o (setup_of i seed) given.bytes records last s t left reads is_last (begins (setup_of i seed) b c o fault q);
     })
 
 offered_of : (u a b c : View) (n : Names) (i : Interface) (o : Opened) (seed : ℕ) (last : Step) → Steps u a b c n i o → Offers (setup_of i seed) Untold b c o last
-    → IsTrue u.tells → IsOffered u c n seed last
+    → HoldsAt c o.stats [] → IsTrue u.tells → IsOffered u c n seed last
 unfolding accepted_of
-offered_of u a b c n i o seed last s x t =
+offered_of u a b c n i o seed last s x q t =
     let found = accepted_of u a b c n i o s t in
     let y = x (told_b u a b c n i o s t) found.0.bytes found.2 in
     let z = y.2 in
@@ -254,6 +277,7 @@ offered_of u a b c n i o seed last s x t =
         all = z.all;
         last = z.last;
         texts = texts_of u a b c n i o (setup_of i seed) y.0 z.history s t z.texts;
+        stats = stats_held u a b c n i o [] s t q;
       };
     }
 
@@ -261,16 +285,16 @@ rose_since : (u a b c : View) (n : Names) (i : Interface) (o : Opened) (p : ℕ)
 rose_since u a b c n i o p s x = rose_later _ _ _ (s.read.later.write p) (rose_later _ _ _ (s.far.keeps.later.write p) x)
 
 pub causes_of : (u a b c : View) (n : Names) (i : Interface) (o : Opened) (seed : ℕ) (f : PlayFault) → Steps u a b c n i o
-    → Explains (setup_of i seed) Untold b c o f → PlayCauses u c n seed f
+    → Explains (setup_of i seed) Untold b c o f → LeavesStats (setup_of i seed) b c o f → PlayCauses u c n seed f
 unfolding accepted_of
-causes_of u a b c n i o seed (play.Capture d) s x = λ t.
-    record { damage = d; decided = offered_of u a b c n i o seed (Fault d) s x t; at = refl; what = refl }
-causes_of u a b c n i o seed play.Read s x = inl (rose_later _ _ _ (s.read.later.read 2) (rose_later _ _ _ (s.far.keeps.later.read 2) (x 2 s.opened.arrivals_part)))
-causes_of u a b c n i o seed (play.Write output.Departures) s x = rose_since u a b c n i o 3 s (x 3 s.opened.departures_part)
-causes_of u a b c n i o seed (play.Write output.Fates) s x = rose_since u a b c n i o 4 s (x 4 s.opened.fates_part)
-causes_of u a b c n i o seed (play.Write output.Statistics) s x = absurd x
-causes_of u a b c n i o seed (play.Limit limit.Capture) s x = λ t. offered_of u a b c n i o seed Limit s x t
-causes_of u a b c n i o seed (play.Limit limit.Clock) s x = λ t.
+causes_of u a b c n i o seed (play.Capture d) s x q = λ t.
+    record { damage = d; decided = offered_of u a b c n i o seed (Fault d) s x q t; at = refl; what = refl }
+causes_of u a b c n i o seed play.Read s x q = inl (rose_later _ _ _ (s.read.later.read 2) (rose_later _ _ _ (s.far.keeps.later.read 2) (x 2 s.opened.arrivals_part)))
+causes_of u a b c n i o seed (play.Write output.Departures) s x q = rose_since u a b c n i o 3 s (x 3 s.opened.departures_part)
+causes_of u a b c n i o seed (play.Write output.Fates) s x q = rose_since u a b c n i o 4 s (x 4 s.opened.fates_part)
+causes_of u a b c n i o seed (play.Write output.Statistics) s x q = rose_since u a b c n i o 5 s (x 5 s.opened.stats_part)
+causes_of u a b c n i o seed (play.Limit limit.Capture) s x q = λ t. offered_of u a b c n i o seed Limit s x q t
+causes_of u a b c n i o seed (play.Limit limit.Clock) s x q = λ t.
     let found = accepted_of u a b c n i o s t in
     let y = x (told_b u a b c n i o s t) found.0.bytes found.2 in
     let w = y.1 in
@@ -286,12 +310,13 @@ causes_of u a b c n i o seed (play.Limit limit.Clock) s x = λ t.
       early = record { cut = z.play.cut; before = z.before };
       play = z.play;
       texts = texts_of u a b c n i o (setup_of i seed) y.0 z.history s t z.texts;
+      stats = stats_held u a b c n i o [] s t q;
       file = o.arrivals;
       fresh = fresh_before u a o.arrivals s.read.part s.opened.arrivals_new;
       part = s.played.part o.arrivals 2 s.opened.arrivals_part;
       streams = z.streams;
     }
-causes_of u a b c n i o seed play.NoMemory s x = tt
+causes_of u a b c n i o seed play.NoMemory s x q = tt
 
 -- what is read and found is accepted
 pub accepts_of : (u : View) (config interface : List ℕ) (interfaces : List Interface) (i : Interface) → IsRead u config (Ok interfaces)
@@ -320,15 +345,16 @@ files_of u a b c n i o s =
       (
         (λ x. s.distinct.config_departures (sym named ∙ x ∙ s.opened.departures_name told)),
         (λ x. s.distinct.config_fates (sym named ∙ x ∙ s.opened.fates_name told)),
+        (λ x. s.distinct.config_stats (sym named ∙ x ∙ s.opened.stats_name told)),
       ),
     ))
     (course_keeps u a b c n course
-    (λ m h. beside u a b c n i o s h.0 m h.1 h.2)
+    (λ m h. beside u a b c n i o s h.0 m h.1 h.2 h.3)
     (λ f p at e h.
     let told = told_a u a b c n i o s h.0 in
     s.played.left f p e (
       (λ x. none_some p (sym s.opened.arrivals_new ∙ ap a.part (sym x) ∙ at)),
-      ((λ x. h.1 (x ∙ s.opened.departures_name told)), (λ x. h.2 (x ∙ s.opened.fates_name told))),
+      ((λ x. h.1 (x ∙ s.opened.departures_name told)), (λ x. h.2 (x ∙ s.opened.fates_name told)), (λ x. h.3 (x ∙ s.opened.stats_name told))),
     ))
     (λ f p e. s.played.name f p e) s.played.later.read s.played.later.write)
     s.said

@@ -7,7 +7,7 @@ use Rattle.altq_model.specs.Policies.{one_queue}
 use Rattle.conf_tree.specs.declared.interface.Interface.{Interface}
 use Rattle.conf_tree.specs.Family.{default_class, is_queue_class}
 use Rattle.frame_classes.specs.Frames.{dress_in, place_in}
-use Rattle.play_text.specs.Names.{NameList, name_of}
+use Rattle.play_text.specs.Names.{NameList}
 use Rattle.play_loop.specs.Setup.{Setup}
 
 -- how many packets the queue of the default class holds
@@ -29,7 +29,7 @@ setup_of i seed = record {
   policy = policy_of i;
   place = place_in i;
   dress = dress_in i;
-  names = name_of (queue_names i);
+  names = queue_names i;
   rate = i.rate;
   seed = seed;
 }

@@ -77,6 +77,7 @@ pub record AreOpened (old new : View) (arrivals departures fates stats : List �
   pub left : IsTrue old.tells → new.left o.arrivals ≡ old.bytes arrivals
   pub departures_name : IsTrue old.tells → new.name o.departures ≡ departures
   pub fates_name : IsTrue old.tells → new.name o.fates ≡ fates
+  pub stats_name : IsTrue old.tells → new.name o.stats ≡ stats
   pub arrivals_new : old.part o.arrivals ≡ None
   pub departures_new : old.part o.departures ≡ None
   pub fates_new : old.part o.fates ≡ None
@@ -85,4 +86,3 @@ pub record AreOpened (old new : View) (arrivals departures fates stats : List �
   pub departures_part : new.part o.departures ≡ Some 3
   pub fates_part : new.part o.fates ≡ Some 4
   pub stats_part : new.part o.stats ≡ Some 5
-  pub stats_empty : IsTrue old.tells → new.bytes stats ≡ Some []

@@ -5,6 +5,7 @@ use Rattle.altq_model.specs.Departures.{departed}
 use Rattle.altq_model.specs.History.{Happened, bare, offered}
 use Rattle.altq_model.specs.Idle.{NeverIdles}
 use Rattle.altq_model.specs.Lawful.{greatest}
+use Rattle.altq_model.specs.Play.{IsPlay}
 use Rattle.capture_model.specs.declared.damage.Damage.{Damage}
 use Rattle.capture_model.specs.Capture.{Record, Step, End, Fault, Limit, Reads, IsCapture, IsLast}
 use Rattle.capture_model.specs.Numbers.{damage_number}
@@ -14,7 +15,7 @@ use Rattle.play_core.specs.declared.totals.Totals.{Totals}
 use Rattle.play_core.specs.Ended.{IsBegun, IsCutOff}
 use Rattle.play_core.specs.Finished.{EndsWithOffer, IsFinished, IsStopped}
 use Rattle.play_loop.specs.Played.{Streams, start_of}
-use Rattle.play_loop.specs.Setup.{Setup, arrivals_in, departures_of, fates_of}
+use Rattle.play_loop.specs.Setup.{Setup, arrivals_in, departures_of, fates_of, statistics_of}
 use Rattle.play_cli.specs.Configuration.{Configures, is_one_queue}
 use Rattle.play_cli.specs.InterfaceSetup.{setup_of}
 use Rattle.play_cli.specs.Order.{Untouched}
@@ -41,8 +42,8 @@ pub record HoldTexts (v : View) (n : Names) (x : Setup) (records : List Record) 
   pub departures : v.bytes n.departures ≡ Some (departures_of x (arrivals_in x records) g)
   pub fates : v.bytes n.fates ≡ Some (fates_of x (arrivals_in x records) g)
 
--- These bytes are a capture of these records, and this is the history of their play. Departures and fates hold its texts,
--- statistics nothing. Departures are a capture of the packets that were sent, in the order of decision.
+-- These bytes are a capture of these records, and this is the history of their play. Departures, fates and statistics hold its texts.
+-- Departures are a capture of the packets that were sent, in the order of decision.
 pub record WasPlayed (v : View) (n : Names) (x : Setup) (bytes : List ℕ) : Type 0 where
   pub records : List Record
   pub history : List Happened
@@ -50,7 +51,7 @@ pub record WasPlayed (v : View) (n : Names) (x : Setup) (bytes : List ℕ) : Typ
   pub capture : IsCapture bytes records
   pub play : IsFinished x.policy x.rate x.seed (arrivals_in x records) history totals
   pub texts : HoldTexts v n x records history
-  pub stats : v.bytes n.stats ≡ Some []
+  pub stats : v.bytes n.stats ≡ Some (statistics_of x (arrivals_in x records) history)
   pub reads : IsCapture (departures_of x (arrivals_in x records) history) (departed x.dress (arrivals_in x records) history)
 
 -- THE HEADLINE. The configuration gives the interface, and the arrivals are a capture; this is the history of its play by the
@@ -70,13 +71,20 @@ IsFrontAt old new part name text =
     (Untouched old new part × (new.bytes name ≡ old.bytes name))
     ⊎ ((front : List ℕ) × (rest : List ℕ) × (new.bytes name ≡ Some front) × (front ++ rest ≡ text))
 
--- the outputs hold fronts of the texts of the first events of the play of these records
+-- the statistics hold nothing, or a front of those of the whole play of these records
+abbrev pub HasStatsFront : View → View → Names → Setup → List Record → Type 0
+HasStatsFront old new n x records =
+    IsFrontAt old new 5 n.stats []
+    ⊎ ((g : List Happened) × IsPlay x.policy x.rate x.seed (comings (arrivals_in x records)) g
+    × IsFrontAt old new 5 n.stats (statistics_of x (arrivals_in x records) g))
+
+-- departures and fates hold fronts of the texts of the first events of the play of these records
 pub record HasFronts (old new : View) (n : Names) (x : Setup) (records : List Record) : Type 0 where
   pub history : List Happened
   pub begun : IsBegun x.policy x.rate x.seed (comings (arrivals_in x records)) history
   pub departures : IsFrontAt old new 3 n.departures (departures_of x (arrivals_in x records) history)
   pub fates : IsFrontAt old new 4 n.fates (fates_of x (arrivals_in x records) history)
-  pub stats : IsFrontAt old new 5 n.stats []
+  pub stats : HasStatsFront old new n x records
 
 -- what is accepted and can be read: of its complete records
 abbrev pub Fronts : View → View → Names → (seed : ℕ) → Type 0
@@ -84,13 +92,15 @@ Fronts old new n seed = IsTrue old.tells → (a : Accepted old n) (records : Lis
     → Reads a.bytes records last → IsLast last → HasFronts old new n (setup_of a.interface seed) records
 
 -- the first events of the play of these records, up to and with the offer of the last of them, each sending in time: departures and
--- fates hold exactly their texts. These are all drops of these records, and all sendings that start before the last of them arrives
+-- fates hold exactly their texts, and the statistics nothing. These are all drops of these records, and all sendings that start before
+-- the last of them arrives
 pub record HasOffered (v : View) (n : Names) (x : Setup) (records : List Record) : Type 0 where
   pub history : List Happened
   pub begun : IsBegun x.policy x.rate x.seed (comings (arrivals_in x records)) history
   pub all : offered (bare history) ≡ length records
   pub last : EndsWithOffer history
   pub texts : HoldTexts v n x records history
+  pub stats : v.bytes n.stats ≡ Some []
 
 -- what is accepted reads to this end, and its complete records were offered
 pub record IsOffered (old new : View) (n : Names) (seed : ℕ) (last : Step) : Type 0 where
@@ -115,8 +125,8 @@ pub record IsCutEarly (x : Setup) (records : List Record) (last : Step) (g : Lis
   pub cut : IsCutOff x.policy x.rate x.seed (comings (arrivals_in x records)) g
   pub before : (last ≡ End) ⊎ (start_of cut.next.what < greatest 0 records)
 
--- the play of what is accepted is cut off so. Departures and fates hold exactly the texts of the events before that sending. If a
--- complete record arrives later than it starts, the bytes that were taken of the arrivals end at most 65,536 bytes past the first such
+-- the play of what is accepted is cut off so. Departures and fates hold exactly the texts of the events before that sending, and the
+-- statistics nothing. If a complete record arrives later than it starts, the bytes that were taken of the arrivals end at most 65,536 bytes past the first such
 -- record
 pub record IsLate (old new : View) (n : Names) (seed : ℕ) : Type 0 where
   pub accepted : Accepted old n
@@ -130,6 +140,7 @@ pub record IsLate (old new : View) (n : Names) (seed : ℕ) : Type 0 where
   pub play : IsStopped (setup_of accepted.interface seed).policy accepted.interface.rate seed
       (arrivals_in (setup_of accepted.interface seed) records) history totals
   pub texts : HoldTexts new n (setup_of accepted.interface seed) records history
+  pub stats : new.bytes n.stats ≡ Some []
   pub file : ℕ
   pub fresh : old.part file ≡ None
   pub part : new.part file ≡ Some 2

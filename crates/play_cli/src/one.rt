@@ -2,8 +2,8 @@
 ghost use Rattle.std.specs.Prelude.{◌≡◌, ◌∷◌, [], ℕ, List, true, codes, IfOk, IfErr, OnErr};
 ghost use Rattle.altq_model.specs.Policies.{one_queue};
 ghost use Rattle.play_base.specs.View.{NoneAppears};
-ghost use Rattle.play_loop.specs.Kept.{KeepsBeside};
-ghost use Rattle.play_loop.specs.Played.{AreReady, Explains, Fronts, Plays};
+ghost use Rattle.play_loop.specs.Kept.{KeepsPlayed};
+ghost use Rattle.play_loop.specs.Played.{AreReady, Explains, Fronts, LeavesStats, Plays};
 ghost use Rattle.play_cli.specs.Configuration.{IsConfigured, is_one_queue};
 ghost use Rattle.play_cli.specs.InterfaceSetup.{setup_of};
 ghost use Rattle.play_cli.specs.Opening.{Untold};
@@ -60,7 +60,8 @@ pub fn play_interface<F: Files>(
     ensures done { IfOk result (Plays (setup_of interface.now seed) Untold (F.view files.old) (F.view files.new) opened.now) }
     ensures why { IfErr result (Explains (setup_of interface.now seed) Untold (F.view files.old) (F.view files.new) opened.now) }
     ensures front { OnErr result (Fronts (setup_of interface.now seed) (F.view files.old) (F.view files.new) opened.now) }
-    ensures keeps { KeepsBeside opened.now.arrivals opened.now.departures opened.now.fates (F.view files.old) (F.view files.new) }
+    ensures stats { IfErr result (LeavesStats (setup_of interface.now seed) (F.view files.old) (F.view files.new) opened.now) }
+    ensures keeps { KeepsPlayed opened.now (F.view files.old) (F.view files.new) }
     ensures none { NoneAppears (F.view files.old) (F.view files.new) }
     ensures said { (F.view files.new).said ≡ (F.view files.old).said }
 {

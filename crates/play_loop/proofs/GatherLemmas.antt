@@ -74,3 +74,7 @@ grew_whole u v file bytes x = record { written = bytes; wrote = x; split = appen
 
 pub stopped_whole : (u v : View) (file : ℕ) (bytes : List ℕ) → WroteFront u v file bytes → Stopped u v file [] bytes
 stopped_whole u v file bytes x = record { written = take x.0 bytes; rest = drop x.0 bytes; wrote = x.1; split = take_drop x.0 bytes }
+
+-- a front of all that had been gathered was written
+pub stopped_flushed : (u v : View) (file : ℕ) (before all bytes : List ℕ) → all ≡ before ++ bytes → WroteFront u v file all → Stopped u v file before bytes
+stopped_flushed u v file before all bytes e x = record { written = take x.0 all; rest = drop x.0 all; wrote = x.1; split = take_drop x.0 all ∙ e }

@@ -1,3 +1,4 @@
+pub mod CountingLemmas
 pub mod GatherLemmas
 pub mod GatheredLaws
 pub mod HeadLemmas
@@ -7,6 +8,7 @@ pub mod PacketLemmas
 pub mod PlayLemmas
 pub mod RecordLemmas
 pub mod SentLemmas
+pub mod StatsLemmas
 pub mod TextLemmas
 pub mod TurnLemmas
 pub mod WeightLemmas

@@ -20,7 +20,12 @@ use Rattle.play_laws.proofs.TimeLemmas.{next_later}
 use Rattle.play_core.proofs.GoingLemmas.{IsPromised}
 use Rattle.play_core.specs.Turns.{IsNext, Offers, arrives, handed_back}
 use Rattle.play_core.proofs.OfferLemmas.{is_coming}
+use Rattle.altq_model.specs.declared.Counts.{Counts}
+use Rattle.play_text.specs.Names.{NameList}
 use Rattle.play_loop.specs.declared.arriving.Arriving.{Arriving}
+use Rattle.play_loop.specs.declared.counting.Counted.TheVariants as counted
+use Rattle.play_loop.specs.Counting.{HasCounted, count_at}
+use Rattle.play_loop.proofs.CountingLemmas.{counted_by}
 use Rattle.play_loop.specs.Outputs.{dropped_row}
 use Rattle.play_loop.specs.Reading.{arrival_of}
 use Rattle.play_loop.specs.Underway.{AreMade, IsHeld, StayDue}
@@ -38,6 +43,7 @@ pub held_same : (place : List ℕ → Placed) (arrived : List Arrival) (g k : Li
 held_same place arrived g k p e h = record {
   there = ap (λ (n : ℕ). slice_get arrived n) e ∙ h.there;
   packet_is = h.packet_is ∙ ap (λ (n : ℕ). numbered (n + 1) (arrival_of place p)) (sym e);
+  placed_is = h.placed_is;
 }
 
 -- its offer is due once every sending before it was made
@@ -68,6 +74,19 @@ fates_after place names p w arrived g x placed back h d b e =
     e ∙ ap (λ (k : DrawnWords). handed_back (p.answer (bare g) k (coming_of a)).verdict x.packet) (words_are w (drawn (bare g)) d) in
     ap (λ (o : Option Dropped). fates names arrived (journal g) ++ option_map_or (dropped_row names placed.class) o []) v
     ∙ fates_offered names p w.seed arrived g placed.class a x.packet (is_coming arrived g a h.there).numbered_is h.packet_is (ap (λ (k : Placed). k.class) b)
+
+-- and the counts with it
+pub counted_after : (place : List ℕ → Placed) (names : NameList) (p : Policy) (w : DrawnWords) (arrived : List Arrival) (g : List Happened) (x : Arriving) (back : Option Dropped) (ks ls : List Counts)
+    → IsHeld place arrived g x → w.drawn ≡ drawn (bare g) → back ≡ handed_back (p.answer (bare g) w (coming_of (arrival_of place x))).verdict x.packet
+    → HasCounted names arrived (journal g) ks → ls ≡ option_map_or (λ (d : Dropped). count_at names x.placed.class (counted.Dropped d.reason) ks) back ks
+    → HasCounted names arrived (journal (offer_of p w.seed g (coming_of (arrival_of place x)) ∷ g)) ls
+counted_after place names p w arrived g x back ks ls h d e k l =
+    let a : Arrival = arrival_of place x in
+    let v : back ≡ handed_back (p.answer (bare g) (record { seed = w.seed; drawn = drawn (bare g) }) (coming_of a)).verdict x.packet =
+    e ∙ ap (λ (q : DrawnWords). handed_back (p.answer (bare g) q (coming_of a)).verdict x.packet) (words_are w (drawn (bare g)) d) in
+    counted_by names arrived (journal g) (offered (bare g) + 1) x.placed.class (p.answer (bare g) (record { seed = w.seed; drawn = drawn (bare g) }) (coming_of a)).verdict x.packet ks ls k
+    (ap (λ (q : Placed). q.class) h.placed_is ∙ ap (λ (b : Arrival). b.class) (sym (is_coming arrived g a h.there).numbered_is))
+    (l ∙ ap (λ (o : Option Dropped). option_map_or (λ (z : Dropped). count_at names x.placed.class (counted.Dropped z.reason) ks) o ks) v)
 
 -- what was decided before and with its offer stays so, whatever arrives later
 pub before_stays : (place : List ℕ → Placed) (p : Policy) (rate seed : ℕ) (arrived : List Arrival) (g k : List Happened) (x : Arriving) → IsHeld place arrived g x

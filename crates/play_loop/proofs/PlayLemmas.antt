@@ -28,6 +28,7 @@ use Rattle.play_core.specs.declared.totals.Totals.{Totals}
 use Rattle.play_core.specs.Ended.{IsBegun, IsCutOff}
 use Rattle.play_core.specs.Finished.{EndsWithOffer, IsStopped}
 use Rattle.play_core.specs.Totals.{AreTotals}
+use Rattle.play_text.specs.Names.{name_of}
 use Rattle.play_loop.specs.declared.fault.Opened.{Opened}
 use Rattle.play_loop.specs.declared.fault.PlayFault.{PlayFault}
 use Rattle.play_loop.specs.Ending.{IsAhead, IsAll, IsPast, capture_fault}
@@ -36,7 +37,7 @@ use Rattle.play_loop.specs.declared.fault.Output.TheVariants as output
 use Rattle.play_loop.specs.declared.fault.PlayFault.TheVariants as play
 use Rattle.play_loop.specs.Gathered.{HoldsFront}
 use Rattle.play_loop.specs.Outputs.{FrontsAre, IsWriteCause, TextsAre}
-use Rattle.play_loop.specs.Played.{Explains, HasOffered, HasStopped, HoldTexts, IsStanding, OfArrivals, Streams, TookUpTo, WasCutOff, start_of}
+use Rattle.play_loop.specs.Played.{AreReady, Explains, HasOffered, HasStopped, HoldTexts, IsStanding, OfArrivals, Streams, TookUpTo, WasCutOff, start_of}
 use Rattle.play_loop.specs.Setup.{Setup, arrivals_in, departures_of, fates_of}
 use Rattle.play_loop.proofs.GatheredLaws.{front_same, text_whole}
 use Rattle.play_loop.proofs.OutputLemmas.{texts_same}
@@ -69,10 +70,21 @@ first_rise x records arrived more e =
     rise_front 0 (comings arrived) (comings more)
     (subst P (ap (λ (l : List Arrival). comings l) e ∙ comings_append arrived more) (arrivals_rise x.place records))
 
+-- before anything is written
+pub stopped_empty : (x : Setup) (v : View) (o : Opened) (records : List Record) → AreReady v o → HasStopped x v o records
+stopped_empty x v o records h = record {
+  history = [];
+  begun = record { events = tt; in_time = tt };
+  texts = record {
+    departures = record { written = []; rest = _; holds = h.empty.departures; split = refl };
+    fates = record { written = []; rest = _; holds = h.empty.fates; split = refl };
+  };
+}
+
 -- the texts of the first arrivals are those of all
 pub record SameTexts (x : Setup) (records : List Record) (arrived : List Arrival) (g : List Happened) : Type 0 where
   pub departures_are : departures x.dress arrived g ≡ departures_of x (arrivals_in x records) g
-  pub fates_are : fates x.names arrived (journal g) ≡ fates_of x (arrivals_in x records) g
+  pub fates_are : fates (name_of x.names) arrived (journal g) ≡ fates_of x (arrivals_in x records) g
 
 same_texts : (x : Setup) (records : List Record) (arrived more : List Arrival) (g : List Happened) → IsSound x → arrivals_in x records ≡ arrived ++ more
     → AreDue x.policy x.rate x.seed (comings arrived) g → SameTexts x records arrived g
@@ -80,13 +92,13 @@ same_texts x records arrived more g m e d =
     let laws = due_laws x.policy x.rate x.seed (comings arrived) g m.positive m.lawful (first_rise x records arrived more e) d in
     record {
       departures_are = ap written (sym (records_stay x.dress arrived more g laws.of_arrivals)) ∙ ap (λ (l : List Arrival). departures x.dress l g) (sym e);
-      fates_are = ap (λ (t : List ℕ). fates_header ++ t) (sym (rows_stay x.names arrived more g laws.of_arrivals)) ∙ ap (λ (l : List Arrival). fates x.names l (journal g)) (sym e);
+      fates_are = ap (λ (t : List ℕ). fates_header ++ t) (sym (rows_stay (name_of x.names) arrived more g laws.of_arrivals)) ∙ ap (λ (l : List Arrival). fates (name_of x.names) l (journal g)) (sym e);
     }
 
 -- events of the first arrivals that are due of all
 pub stopped : (x : Setup) (v : View) (o : Opened) (records : List Record) (arrived more : List Arrival) (g : List Happened) → IsSound x → arrivals_in x records ≡ arrived ++ more
     → AreDue x.policy x.rate x.seed (comings (arrived ++ more)) g → IsBegun x.policy x.rate x.seed (comings arrived) g
-    → FrontsAre v o.departures o.fates (departures x.dress arrived g) (fates x.names arrived (journal g)) → HasStopped x v o records
+    → FrontsAre v o.departures o.fates (departures x.dress arrived g) (fates (name_of x.names) arrived (journal g)) → HasStopped x v o records
 stopped x v o records arrived more g m e d b h =
     let same = same_texts x records arrived more g m e b.events in
     let P : List Arrival → Type 0 = λ l. AreDue x.policy x.rate x.seed (comings l) g in
@@ -101,7 +113,7 @@ stopped x v o records arrived more g m e d b h =
 
 -- whole texts of the first arrivals are those of all
 pub hold_all : (x : Setup) (v : View) (o : Opened) (records : List Record) (arrived more : List Arrival) (g : List Happened) → IsSound x → arrivals_in x records ≡ arrived ++ more
-    → AreDue x.policy x.rate x.seed (comings arrived) g → HoldsAt v o.departures (departures x.dress arrived g) → HoldsAt v o.fates (fates x.names arrived (journal g))
+    → AreDue x.policy x.rate x.seed (comings arrived) g → HoldsAt v o.departures (departures x.dress arrived g) → HoldsAt v o.fates (fates (name_of x.names) arrived (journal g))
     → HoldTexts v o x (arrivals_in x records) g
 hold_all x v o records arrived more g m e d y z =
     let same = same_texts x records arrived more g m e d in
@@ -112,11 +124,11 @@ hold_all x v o records arrived more g m e d y z =
 -- the events up to the offer of the last complete record
 pub offered_all : (x : Setup) (stood : List Happened → Type 0) (v : View) (o : Opened) (records : List Record) (arrived : List Arrival) (g : List Happened) → arrived ≡ arrivals_in x records
     → IsBegun x.policy x.rate x.seed (comings arrived) g → offered (bare g) ≡ length arrived → EndsWithOffer g
-    → HoldsAt v o.departures (departures x.dress arrived g) → HoldsAt v o.fates (fates x.names arrived (journal g)) → IsStanding stood g → HasOffered x stood v o records
+    → HoldsAt v o.departures (departures x.dress arrived g) → HoldsAt v o.fates (fates (name_of x.names) arrived (journal g)) → IsStanding stood g → HasOffered x stood v o records
 offered_all x stood v o records arrived g e b n l y z s =
     let B : List Arrival → Type 0 = λ a. IsBegun x.policy x.rate x.seed (comings a) g in
     let P : List Arrival → Type 0 = λ a. HoldsAt v o.departures (departures x.dress a g) in
-    let Q : List Arrival → Type 0 = λ a. HoldsAt v o.fates (fates x.names a (journal g)) in
+    let Q : List Arrival → Type 0 = λ a. HoldsAt v o.fates (fates (name_of x.names) a (journal g)) in
     record {
       history = g;
       begun = subst B e b;
@@ -244,7 +256,7 @@ pub was_cut : (x : Setup) (stood : List Happened → Type 0) (place : List ℕ �
     (arrived more : List Arrival) (g : List Happened) (t : Totals) → IsSound x → (c : IsCutOff x.policy x.rate x.seed (comings arrived) g) → arrivals_in x records ≡ arrived ++ more
     → AreDue x.policy x.rate x.seed (comings (arrived ++ more)) (c.next ∷ g) → AreTotals x.rate g t → Reads bytes records last → IsLast last → w.left o.arrivals ≡ v.left r.file
     → IsPast place bytes arrived (start_of c.next.what) ⊎ IsAhead place v r bytes arrived (start_of c.next.what)
-    → HoldsAt w o.departures (departures x.dress arrived g) → HoldsAt w o.fates (fates x.names arrived (journal g)) → IsStanding stood g
+    → HoldsAt w o.departures (departures x.dress arrived g) → HoldsAt w o.fates (fates (name_of x.names) arrived (journal g)) → IsStanding stood g
     → WasCutOff x stood w o bytes records last
 unfolding cut_all
 was_cut x stood place v w o r bytes records last arrived more g t m c e d total h l left a y z s =
@@ -260,7 +272,7 @@ was_cut x stood place v w o r bytes records last arrived more g t m c e d total 
     }
 
 -- whole texts are fronts
-whole_front : (v : View) (file : ℕ) (text : List ℕ) → HoldsAt v file text → HoldsFront v file text
+pub whole_front : (v : View) (file : ℕ) (text : List ℕ) → HoldsAt v file text → HoldsFront v file text
 whole_front v file text h = record { written = text; rest = []; holds = h; split = append-nil text }
 
 pub whole_fronts : (v : View) (dep fat : ℕ) (ds ts : List ℕ) → HoldsAt v dep ds → HoldsAt v fat ts → FrontsAre v dep fat ds ts
@@ -288,7 +300,7 @@ head_texts dress names v dep fat recs rows r s h =
 pub explains_write : (x : Setup) (stood : List Happened → Type 0) (u v : View) (o : Opened) (f : PlayFault) → IsWriteCause o.departures o.fates u v f → Explains x stood u v o f
 explains_write x stood u v o (play.Write output.Departures) h = h
 explains_write x stood u v o (play.Write output.Fates) h = h
-explains_write x stood u v o (play.Write output.Statistics) h = h
+explains_write x stood u v o (play.Write output.Statistics) h = absurd h
 explains_write x stood u v o play.NoMemory h = tt
 explains_write x stood u v o (play.Capture damage) h = absurd h
 explains_write x stood u v o play.Read h = absurd h

@@ -39,15 +39,19 @@ use Rattle.play_core.proofs.GoingLemmas.{IsPromised}
 use Rattle.play_core.proofs.ReadLemmas.{read_more}
 use Rattle.play_loop.specs.declared.arriving.Arriving.{Arriving}
 use Rattle.play_loop.specs.declared.outputs.Outputs.{Outputs}
+use Rattle.play_text.specs.Names.{NameList, name_of}
+use Rattle.play_loop.specs.declared.counting.Counted.TheVariants.{Arrived}
+use Rattle.play_loop.specs.Counting.{count_at}
 use Rattle.play_loop.specs.Ending.{AreFirst, IsAhead, IsAll}
 use Rattle.play_loop.specs.Kept.{IsOther, OnlyWrote, OnlyPlayed}
 use Rattle.play_loop.specs.declared.fault.Output.TheVariants as output
 use Rattle.play_loop.specs.declared.fault.PlayFault.{PlayFault}
 use Rattle.play_loop.specs.declared.fault.PlayFault.TheVariants as play
-use Rattle.play_loop.specs.Outputs.{IsWriteCause, TextsAre}
+use Rattle.play_loop.specs.Outputs.{HasTexts, IsWriteCause, TextsAre}
 use Rattle.play_loop.specs.Played.{start_of}
 use Rattle.play_loop.specs.Reading.{AreFit, HasRead, IsFit, IsWithin, arrival_of}
 use Rattle.play_loop.specs.Underway.{IsHeld, IsUnderway, SameOffers, StayDue}
+use Rattle.play_loop.proofs.CountingLemmas.{counted_read}
 use Rattle.play_loop.proofs.OutputLemmas.{texts_same}
 use Rattle.play_loop.proofs.TurnLemmas.{going_laws}
 
@@ -82,7 +86,7 @@ there_push [] a = refl
 there_push (x ∷ xs) a = there_push xs a
 
 -- a play in which every arrival that was read was offered, the last of them last
-pub record IsReading (place : List ℕ → Placed) (dress : Dressing) (names : Naming) (p : Policy) (stood : List Happened → Type 0) (lists : ℕ → List Entry) (limits : ℕ → ℕ)
+pub record IsReading (place : List ℕ → Placed) (dress : Dressing) (names : NameList) (p : Policy) (stood : List Happened → Type 0) (lists : ℕ → List Entry) (limits : ℕ → ℕ)
     (rate : Option ℕ) (v : View) (o : Outputs) (x : Progress) (w : DrawnWords) (told : List ℕ → Type 0) (r : Reader) (top : ℕ) (arrived : List Arrival) (g : List Happened) : Type 0 where
   pub under : IsUnderway place dress names p stood lists limits rate v o x arrived w g
   pub offers : offered (bare g) ≡ length arrived
@@ -92,39 +96,44 @@ pub record IsReading (place : List ℕ → Placed) (dress : Dressing) (names : N
   pub counted : length arrived ≤ answered r
   pub read : (bytes : List ℕ) → told bytes → HasRead place v r bytes arrived top
 
-pub under_kept : (F : ℕ → Type 0) (place : List ℕ → Placed) (dress : Dressing) (names : Naming) (p : Policy) (stood : List Happened → Type 0) (lists : ℕ → List Entry) (limits : ℕ → ℕ)
+pub under_kept : (F : ℕ → Type 0) (place : List ℕ → Placed) (dress : Dressing) (names : NameList) (p : Policy) (stood : List Happened → Type 0) (lists : ℕ → List Entry) (limits : ℕ → ℕ)
     (rate : Option ℕ) (v v' : View) (o : Outputs) (x : Progress) (arrived : List Arrival) (w : DrawnWords) (g : List Happened)
     → IsUnderway place dress names p stood lists limits rate v o x arrived w g → Keeps Any F v v' → IsUnderway place dress names p stood lists limits rate v' o x arrived w g
 under_kept F place dress names p stood lists limits rate v v' o x arrived w g u k =
-    record { going = u.going; given = texts_kept F v v' _ _ _ _ _ _ u.given k; fit = u.fit }
+    record { going = u.going; given = texts_kept F v v' _ _ _ _ _ _ u.given k; counted = u.counted; fit = u.fit }
 
 -- one more packet was read
-pub under_more : (F : ℕ → Type 0) (place : List ℕ → Placed) (dress : Dressing) (names : Naming) (p : Policy) (stood : List Happened → Type 0) (lists : ℕ → List Entry) (limits : ℕ → ℕ)
+pub under_more : (F : ℕ → Type 0) (place : List ℕ → Placed) (dress : Dressing) (names : NameList) (p : Policy) (stood : List Happened → Type 0) (lists : ℕ → List Entry) (limits : ℕ → ℕ)
     (rate : Option ℕ) (v v' : View) (o : Outputs) (x : Progress) (w : DrawnWords) (told : List ℕ → Type 0) (r : Reader) (top : ℕ) (arrived : List Arrival) (g : List Happened) (a : Arriving)
     → IsPromised p x.clock.rate → (u : IsReading place dress names p stood lists limits rate v o x w told r top arrived g) → Keeps Any F v v' → IsWithin a → top ≤ a.packet.at
-    → length arrived < most_records → IsUnderway place dress names p stood lists limits rate v' o x (arrived ++ arrival_of place a ∷ []) w g
-under_more F place dress names p stood lists limits rate v v' o x w told r top arrived g a m u k i l few =
+    → length arrived < most_records → (o' : Outputs) (class : ℕ) → o' ≡ record o { counts = o'.counts } → class ≡ (place a.packet.bytes).class
+    → o'.counts.items ≡ count_at names class (Arrived a.packet.len a.raised) o.counts.items → IsUnderway place dress names p stood lists limits rate v' o' x (arrived ++ arrival_of place a ∷ []) w g
+under_more F place dress names p stood lists limits rate v v' o x w told r top arrived g a m u k i l few o' class same is more_is =
     let b : Arrival = arrival_of place a in
     let more : List Arrival = b ∷ [] in
     let y = u.under.going in
     let laws = going_laws p stood lists limits rate arrived w x g m y in
     let R : List Coming → Type 0 = λ cs. AreRising cs in
+    let T : Outputs → Type 0 = λ z. HasTexts v' z (departures dress (arrived ++ more) g) (fates (name_of names) (arrived ++ more) (journal g)) in
     record {
       going = read_more p stood lists limits rate arrived more w x g m u.last
           (subst R (sym (comings_append arrived more)) (rises_on 0 (comings arrived) (coming_of b) y.rising (omega (arith, u.last_is, l))))
           (omega (arith, length-append arrived more, few)) y;
-      given = texts_same v' _ _ _ _ _ _ _ _
+      given = subst T (sym same) (texts_same v' _ _ _ _ _ _ _ _
           (ap written (sym (records_stay dress arrived more g laws.of_arrivals)))
-          (ap (λ (t : List ℕ). fates_header ++ t) (sym (rows_stay names arrived more g laws.of_arrivals)))
-          (texts_kept F v v' _ _ _ _ _ _ u.under.given k);
+          (ap (λ (t : List ℕ). fates_header ++ t) (sym (rows_stay (name_of names) arrived more g laws.of_arrivals)))
+          (texts_kept F v v' _ _ _ _ _ _ u.under.given k));
+      counted = counted_read names arrived b g o.counts.items o'.counts.items u.under.counted laws.of_arrivals
+          (more_is ∙ ap (λ (c : ℕ). count_at names c (Arrived a.packet.len a.raised) o.counts.items) is);
       fit = fit_push place arrived b u.under.fit (record { class = refl; some = i.some; short = i.short; fits = i.fits });
     }
 
 pub held_more : (place : List ℕ → Placed) (arrived : List Arrival) (g : List Happened) (a : Arriving) → offered (bare g) ≡ length arrived → a.packet.number ≡ offered (bare g) + 1
-    → IsHeld place (arrived ++ arrival_of place a ∷ []) g a
-held_more place arrived g a o n = record {
+    → a.placed ≡ place a.packet.bytes → IsHeld place (arrived ++ arrival_of place a ∷ []) g a
+held_more place arrived g a o n q = record {
   there = ap (λ (k : ℕ). slice_get (arrived ++ arrival_of place a ∷ []) k) o ∙ there_push arrived (arrival_of place a);
   packet_is = ap (λ (k : ℕ). numbered k (arrival_of place a)) n;
+  placed_is = q;
 }
 
 pub last_more : (place : List ℕ → Placed) (arrived : List Arrival) (a : Arriving) → last_at 0 (comings (arrived ++ arrival_of place a ∷ [])) ≡ a.packet.at

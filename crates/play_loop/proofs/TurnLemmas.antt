@@ -8,11 +8,11 @@ use Rattle.altq_model.specs.Departures.{Dressing}
 use Rattle.altq_model.specs.History.{Coming, Event, Offered, Sent, DrawnWords, Happened, bare, offered}
 use Rattle.altq_model.specs.Lawful.{IsLawful, AreRising}
 use Rattle.altq_model.specs.Play.{Policy, AreDue, due, offer_of}
-use Rattle.altq_model.specs.Texts.{Naming}
 use Rattle.leaf_queue.specs.declared.node.Entry.{Entry}
 use Rattle.play_base.specs.View.{View}
 use Rattle.play_laws.specs.Events.{HasLaws}
 use Rattle.play_laws.proofs.AllLaws.{due_laws}
+use Rattle.play_laws.proofs.ArrivalLemmas.{comings_length}
 use Rattle.play_laws.proofs.DueLemmas.{not_both}
 use Rattle.play_laws.proofs.EndLemmas.{is_over}
 use Rattle.play_laws.proofs.OneLemmas.{later_arrivals}
@@ -32,6 +32,9 @@ use Rattle.play_core.proofs.TotalLemmas.{sent_push}
 use Rattle.altq_model.specs.History.{Decision, journal}
 use Rattle.altq_model.specs.declared.Fate.TheVariants as fate
 use Rattle.play_loop.specs.declared.outputs.Outputs.{Outputs}
+use Rattle.play_text.specs.Names.{NameList}
+use Rattle.play_loop.specs.Counting.{AreCountable}
+use Rattle.play_loop.proofs.CountingLemmas.{counted_countable}
 use Rattle.play_loop.specs.Reading.{AreFit}
 use Rattle.play_loop.specs.Underway.{AreMade, IsUnderway, StayDue}
 use Rattle.play_loop.proofs.TextLemmas.{Leaves, leaves}
@@ -40,6 +43,15 @@ use Rattle.play_loop.proofs.TextLemmas.{Leaves, leaves}
 pub going_laws : (p : Policy) (stood : List Happened → Type 0) (lists : ℕ → List Entry) (limits : ℕ → ℕ) (rate : Option ℕ) (arrived : List Arrival) (w : DrawnWords) (x : Progress)
     (g : List Happened) → IsPromised p x.clock.rate → IsGoing p stood lists limits rate arrived w x g → HasLaws p x.clock.rate w.seed (comings arrived) g
 going_laws p stood lists limits rate arrived w x g m y = due_laws p x.clock.rate w.seed (comings arrived) g m.positive m.lawful y.rising y.begun.events
+
+-- its counts are small
+pub under_countable : (place : List ℕ → Placed) (dress : Dressing) (names : NameList) (p : Policy) (stood : List Happened → Type 0) (lists : ℕ → List Entry) (limits : ℕ → ℕ)
+    (rate : Option ℕ) (v : View) (o : Outputs) (x : Progress) (arrived : List Arrival) (w : DrawnWords) (g : List Happened) → IsPromised p x.clock.rate
+    → IsUnderway place dress names p stood lists limits rate v o x arrived w g → AreCountable names o.counts.items
+under_countable place dress names p stood lists limits rate v o x arrived w g m u =
+    let laws = going_laws p stood lists limits rate arrived w x g m u.going in
+    counted_countable place names arrived (journal g) o.counts.items u.counted u.fit u.going.few
+    (omega (arith, laws.few, laws.came, comings_length arrived, u.going.few))
 
 -- what leaves is an arrival, in a play that goes on after it
 pub leaves_now : (place : List ℕ → Placed) (p q : Policy) (stood : List Happened → Type 0) (lists : ℕ → List Entry) (limits : ℕ → ℕ) (rate : Option ℕ) (r : ℕ) (arrived : List Arrival)

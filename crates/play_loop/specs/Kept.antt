@@ -1,6 +1,7 @@
 -- What a play leaves as it was.
 use Rattle.std.specs.Prelude.{◌≡◌, ◌≢◌, ℕ, List}
 use Rattle.play_base.specs.View.{View, Keeps, NoneAppears}
+use Rattle.play_loop.specs.declared.fault.Opened.{Opened}
 
 -- the name is that of neither file
 abbrev pub IsOther : View → (dep fat : ℕ) → List ℕ → Type 0
@@ -25,3 +26,11 @@ pub record OnlyPlayed (arr dep fat : ℕ) (old new : View) : Type 0 where
   pub keeps : KeepsBeside arr dep fat old new
   pub none : NoneAppears old new
   pub said : new.said ≡ old.said
+
+-- the name is that of no output
+abbrev pub IsNoOutput : View → Opened → List ℕ → Type 0
+IsNoOutput v o n = (n ≢ v.name o.departures) × (n ≢ v.name o.fates) × (n ≢ v.name o.stats)
+
+-- every name keeps its bytes but those of the outputs, and every file of another name but the arrivals what it has left
+abbrev pub KeepsPlayed : Opened → View → View → Type 0
+KeepsPlayed o old new = Keeps (IsNoOutput old o) (λ f. (f ≢ o.arrivals) × IsNoOutput old o (old.name f)) old new

@@ -1,7 +1,7 @@
+pub mod Counting
 pub mod Ending
 pub mod Gathered
 pub mod Kept
-pub mod OneQueue
 pub mod Outputs
 pub mod Played
 pub mod Reading

@@ -29,7 +29,7 @@ pub record FrontsAre (v : View) (dep fat : ℕ) (ds ts : List ℕ) : Type 0 wher
   pub fates : HoldsFront v fat ts
 
 abbrev pub HasTexts : View → Outputs → (ds ts : List ℕ) → Type 0
-HasTexts v o ds ts = TextsAre v o.departures o.fates o.records.items o.rows.items ds ts
+HasTexts v o ds ts = TextsAre v o.departures o.fates o.records.items o.rows ds ts
 
 abbrev pub HasFronts : View → Outputs → (ds ts : List ℕ) → Type 0
 HasFronts v o ds ts = FrontsAre v o.departures o.fates ds ts
@@ -64,3 +64,13 @@ IsWriteCause dep fat old new play.NoMemory = Unit {0}
 IsWriteCause dep fat old new (play.Capture damage) = ⊥
 IsWriteCause dep fat old new play.Read = ⊥
 IsWriteCause dep fat old new (play.Limit limit) = ⊥
+
+-- when a write of the statistics ends a play
+abbrev pub IsStatsCause : (stats : ℕ) → View → View → PlayFault → Type 0
+IsStatsCause stats old new (play.Write output.Departures) = ⊥
+IsStatsCause stats old new (play.Write output.Fates) = ⊥
+IsStatsCause stats old new (play.Write output.Statistics) = WriteFault old new stats
+IsStatsCause stats old new play.NoMemory = Unit {0}
+IsStatsCause stats old new (play.Capture damage) = ⊥
+IsStatsCause stats old new play.Read = ⊥
+IsStatsCause stats old new (play.Limit limit) = ⊥

@@ -2,7 +2,7 @@
 use Rattle.std.specs.Prelude.{◌≡◌, ◌≤◌, ◌<◌, ◌+◌, ◌⊎◌, ℕ, List, [], ◌∷◌, ◌++◌, length, Some, IsTrue, IsSome}
 use Rattle.altq_model.specs.Arrivals.{Arrival, comings}
 use Rattle.altq_model.specs.Departures.{departed}
-use Rattle.altq_model.specs.History.{Event, Offered, Sent, Happened, bare, offered}
+use Rattle.altq_model.specs.History.{Event, Offered, Sent, Happened, bare, offered, journal}
 use Rattle.altq_model.specs.Lawful.{greatest}
 use Rattle.capture_model.specs.Capture.{Record, Step, End, Fault, Limit, Reads, IsCapture, IsLast, place_after}
 use Rattle.play_base.specs.View.{View, ReadFault, WriteFault}
@@ -15,8 +15,11 @@ use Rattle.play_loop.specs.declared.fault.Limit.TheVariants as limit
 use Rattle.play_loop.specs.declared.fault.Output.TheVariants as output
 use Rattle.play_loop.specs.declared.fault.PlayFault.{PlayFault}
 use Rattle.play_loop.specs.declared.fault.PlayFault.TheVariants as play
+use Rattle.altq_model.specs.Play.{IsPlay}
+use Rattle.play_loop.specs.declared.counting.Tally.{Tally}
+use Rattle.play_loop.specs.Counting.{HasCounted}
 use Rattle.play_loop.specs.Gathered.{HoldsFront}
-use Rattle.play_loop.specs.Setup.{Setup, arrivals_in, departures_of, fates_of}
+use Rattle.play_loop.specs.Setup.{Setup, arrivals_in, departures_of, fates_of, statistics_of}
 
 -- two files of different names, to which nothing was written
 pub record AreEmpty (v : View) (dep fat : ℕ) : Type 0 where
@@ -24,12 +27,16 @@ pub record AreEmpty (v : View) (dep fat : ℕ) : Type 0 where
   pub fates : HoldsAt v fat []
   pub apart : Apart v dep fat
 
--- the files of a play before it: the arrivals have another name than the two
+-- the files of a play before it: the arrivals have another name than departures and fates, and these another than the statistics, to
+-- which nothing was written either
 pub record AreReady (v : View) (o : Opened) : Type 0 where
   pub arrivals : IsSome (v.part o.arrivals)
   pub empty : AreEmpty v o.departures o.fates
   pub from_departures : Apart v o.arrivals o.departures
   pub from_fates : Apart v o.arrivals o.fates
+  pub stats : HoldsAt v o.stats []
+  pub departures_from_stats : Apart v o.departures o.stats
+  pub fates_from_stats : Apart v o.fates o.stats
 
 -- the files hold the departures and the fates of this history
 pub record HoldTexts (v : View) (o : Opened) (x : Setup) (arrived : List Arrival) (g : List Happened) : Type 0 where
@@ -45,12 +52,22 @@ pub record HoldFronts (v : View) (o : Opened) (x : Setup) (arrived : List Arriva
 abbrev pub IsStanding : (List Happened → Type 0) → List Happened → Type 0
 IsStanding stood g = (told : List Happened) × stood told × (bare told ≡ bare g)
 
--- the whole play of these records: the files hold its texts, the departures are a capture of the packets that were sent, in the order
--- of decision, and the discipline stands for it
+-- the whole play of these records: departures and fates hold its texts, and these are its counts. The departures are a capture of the
+-- packets that were sent, in the order of decision, and the discipline stands for it
+pub record WasWritten (x : Setup) (stood : List Happened → Type 0) (v : View) (o : Opened) (records : List Record) (t : Tally) : Type 0 where
+  pub history : List Happened
+  pub play : IsFinished x.policy x.rate x.seed (arrivals_in x records) history t.totals
+  pub texts : HoldTexts v o x (arrivals_in x records) history
+  pub counted : HasCounted x.names (arrivals_in x records) (journal history) t.counts.items
+  pub reads : IsCapture (departures_of x (arrivals_in x records) history) (departed x.dress (arrivals_in x records) history)
+  pub stands : IsStanding stood history
+
+-- and the statistics hold its statistics
 pub record HasPlayed (x : Setup) (stood : List Happened → Type 0) (v : View) (o : Opened) (records : List Record) (t : Totals) : Type 0 where
   pub history : List Happened
   pub play : IsFinished x.policy x.rate x.seed (arrivals_in x records) history t
   pub texts : HoldTexts v o x (arrivals_in x records) history
+  pub stats : HoldsAt v o.stats (statistics_of x (arrivals_in x records) history)
   pub reads : IsCapture (departures_of x (arrivals_in x records) history) (departed x.dress (arrivals_in x records) history)
   pub stands : IsStanding stood history
 
@@ -103,6 +120,9 @@ abbrev pub OfArrivals : View → Opened → (List ℕ → Type 0) → Type 0
 OfArrivals old o P = IsTrue old.tells → (bytes : List ℕ) → old.left o.arrivals ≡ Some bytes → P bytes
 
 -- that is a capture, and its play ended
+abbrev pub Writes : Setup → (List Happened → Type 0) → View → View → Opened → Tally → Type 0
+Writes x stood old new o t = OfArrivals old o (λ bytes. (records : List Record) × IsCapture bytes records × WasWritten x stood new o records t)
+
 abbrev pub Plays : Setup → (List Happened → Type 0) → View → View → Opened → Totals → Type 0
 Plays x stood old new o t = OfArrivals old o (λ bytes. (records : List Record) × IsCapture bytes records × HasPlayed x stood new o records t)
 
@@ -125,7 +145,28 @@ Explains x stood old new o (play.Capture damage) = Offers x stood old new o (Fau
 Explains x stood old new o play.Read = ReadFault old new o.arrivals
 Explains x stood old new o (play.Write output.Departures) = WriteFault old new o.departures
 Explains x stood old new o (play.Write output.Fates) = WriteFault old new o.fates
-Explains x stood old new o (play.Write output.Statistics) = ⊥
+Explains x stood old new o (play.Write output.Statistics) = WriteFault old new o.stats
 Explains x stood old new o (play.Limit limit.Capture) = Offers x stood old new o Limit
 Explains x stood old new o (play.Limit limit.Clock) = IsLate x stood old new o
 Explains x stood old new o play.NoMemory = Unit {0}
+
+-- this is the whole play of these records, and the statistics hold a front of its statistics
+pub record HasBegunStats (x : Setup) (v : View) (o : Opened) (records : List Record) : Type 0 where
+  pub history : List Happened
+  pub play : IsPlay x.policy x.rate x.seed (comings (arrivals_in x records)) history
+  pub stats : HoldsFront v o.stats (statistics_of x (arrivals_in x records) history)
+
+-- the statistics are empty, or the play ended and they hold a front of its statistics
+abbrev pub BeginsStats : Setup → View → View → Opened → Type 0
+BeginsStats x old new o =
+    HoldsAt new o.stats [] ⊎ OfArrivals old o (λ bytes. (records : List Record) × IsCapture bytes records × HasBegunStats x new o records)
+
+-- what the statistics hold after each fault: nothing, but where it may have come while they were written
+abbrev pub LeavesStats : Setup → View → View → Opened → PlayFault → Type 0
+LeavesStats x old new o (play.Capture damage) = HoldsAt new o.stats []
+LeavesStats x old new o play.Read = HoldsAt new o.stats []
+LeavesStats x old new o (play.Write output.Departures) = HoldsAt new o.stats []
+LeavesStats x old new o (play.Write output.Fates) = HoldsAt new o.stats []
+LeavesStats x old new o (play.Write output.Statistics) = BeginsStats x old new o
+LeavesStats x old new o (play.Limit limit) = HoldsAt new o.stats []
+LeavesStats x old new o play.NoMemory = BeginsStats x old new o

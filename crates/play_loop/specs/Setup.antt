@@ -5,20 +5,22 @@ use Rattle.altq_model.specs.Arrivals.{Arrival, arrivals_of}
 use Rattle.altq_model.specs.Departures.{Dressing, departures}
 use Rattle.altq_model.specs.History.{Happened, journal}
 use Rattle.altq_model.specs.Play.{Policy}
-use Rattle.altq_model.specs.Texts.{Naming, fates}
+use Rattle.altq_model.specs.Texts.{fates}
 use Rattle.capture_model.specs.Capture.{Record}
+use Rattle.play_text.specs.Names.{NameList, name_of}
+use Rattle.play_text.specs.Statistics.{statistics}
 
--- an interface and a seed: the policy of its queues, where each frame is placed, the bytes with which each leaves, the names of the
--- classes, the rate of its link in bits per second, and the seed of the words
+-- an interface and a seed: the policy of its queues, where each frame is placed, the bytes with which each leaves, its classes and
+-- their names, the rate of its link in bits per second, and the seed of the words
 pub record Setup : Type 0 where
   pub policy : Policy
   pub place : List ℕ → Placed
   pub dress : Dressing
-  pub names : Naming
+  pub names : NameList
   pub rate : ℕ
   pub seed : ℕ
 
-abbrev pub setup_of : Policy → (List ℕ → Placed) → Dressing → Naming → (rate seed : ℕ) → Setup
+abbrev pub setup_of : Policy → (List ℕ → Placed) → Dressing → NameList → (rate seed : ℕ) → Setup
 setup_of policy place dress names rate seed =
     record { policy = policy; place = place; dress = dress; names = names; rate = rate; seed = seed }
 
@@ -26,9 +28,12 @@ setup_of policy place dress names rate seed =
 abbrev pub arrivals_in : Setup → List Record → List Arrival
 arrivals_in x records = arrivals_of x.place records
 
--- the departures and the fates of a history of these arrivals
+-- the departures, the fates and the statistics of a history of these arrivals
 abbrev pub departures_of : Setup → List Arrival → List Happened → List ℕ
 departures_of x arrived g = departures x.dress arrived g
 
 abbrev pub fates_of : Setup → List Arrival → List Happened → List ℕ
-fates_of x arrived g = fates x.names arrived (journal g)
+fates_of x arrived g = fates (name_of x.names) arrived (journal g)
+
+abbrev pub statistics_of : Setup → List Arrival → List Happened → List ℕ
+statistics_of x arrived g = statistics x.names arrived (journal g)

@@ -8,6 +8,7 @@ use Rattle.altq_model.specs.History.{Coming, DrawnWords, Happened, bare, offered
 use Rattle.altq_model.specs.Lawful.{latest}
 use Rattle.altq_model.specs.Play.{Policy, AreDue, due}
 use Rattle.altq_model.specs.Texts.{Naming, fates}
+use Rattle.play_text.specs.Names.{NameList, name_of}
 use Rattle.leaf_queue.specs.declared.node.Entry.{Entry}
 use Rattle.play_base.specs.View.{View}
 use Rattle.play_core.specs.declared.state.Progress.{Progress}
@@ -19,6 +20,7 @@ use Rattle.play_loop.specs.declared.arriving.Arriving.{Arriving}
 use Rattle.play_loop.specs.declared.ending.Due.{Due}
 use Rattle.play_loop.specs.declared.ending.Due.TheVariants.{Made, Late}
 use Rattle.play_loop.specs.declared.outputs.Outputs.{Outputs}
+use Rattle.play_loop.specs.Counting.{HasCounted}
 use Rattle.play_loop.specs.Outputs.{HasTexts, HasFronts}
 use Rattle.play_loop.specs.Reading.{AreFit, arrival_of}
 
@@ -26,11 +28,12 @@ use Rattle.play_loop.specs.Reading.{AreFit, arrival_of}
 abbrev pub HasGiven : Dressing → Naming → View → Outputs → List Arrival → List Happened → Type 0
 HasGiven dress names v o arrived g = HasTexts v o (departures dress arrived g) (fates names arrived (journal g))
 
--- the first events of the play of what arrived so far, and their texts
-pub record IsUnderway (place : List ℕ → Placed) (dress : Dressing) (names : Naming) (p : Policy) (stood : List Happened → Type 0) (lists : ℕ → List Entry) (limits : ℕ → ℕ)
+-- the first events of the play of what arrived so far, their texts, and the counts of what arrived and was decided
+pub record IsUnderway (place : List ℕ → Placed) (dress : Dressing) (names : NameList) (p : Policy) (stood : List Happened → Type 0) (lists : ℕ → List Entry) (limits : ℕ → ℕ)
     (rate : Option ℕ) (v : View) (o : Outputs) (x : Progress) (arrived : List Arrival) (w : DrawnWords) (g : List Happened) : Type 0 where
   pub going : IsGoing p stood lists limits rate arrived w x g
-  pub given : HasGiven dress names v o arrived g
+  pub given : HasGiven dress (name_of names) v o arrived g
+  pub counted : HasCounted names arrived (journal g) o.counts.items
   pub fit : AreFit place arrived
 
 -- the outputs hold fronts of the texts of these first events of the play
@@ -51,10 +54,11 @@ abbrev pub DueIs : Due → Policy → (rate seed : ℕ) → List Arrival → Lis
 DueIs Made p rate seed arrived g arrival = AreMade p rate seed arrived g arrival
 DueIs Late p rate seed arrived g arrival = IsCutOff p rate seed (comings arrived) g
 
--- this arrival was read and is the next to be offered
+-- this arrival was read, is placed by its bytes and is the next to be offered
 pub record IsHeld (place : List ℕ → Placed) (arrived : List Arrival) (g : List Happened) (p : Arriving) : Type 0 where
   pub there : slice_get arrived (offered (bare g)) ≡ Some (arrival_of place p)
   pub packet_is : p.packet ≡ numbered (offered (bare g) + 1) (arrival_of place p)
+  pub placed_is : p.placed ≡ place p.packet.bytes
 
 -- as many packets were offered, and none later
 abbrev pub SameOffers : (before after : List Happened) → Type 0

@@ -4,7 +4,7 @@ ghost use Rattle.play_base.specs.View.{Wrote, WroteFront, WriteFault};
 ghost use Rattle.play_loop.specs.Gathered.{Grew, Stopped};
 
 use play_base::{Files, Trouble};
-use std::alloc::Global;
+use play_text::Rows;
 
 /// How many bytes are gathered at most.
 const BOUND: usize = 65_536;
@@ -78,6 +78,23 @@ pub fn flush<F: Files>(files: &mut F, file: u32, pending: &mut Vec<u8>) -> Resul
     match write_all(files, file, pending) {
         Ok(()) => {
             pending.clear();
+            Ok(())
+        }
+        Err(trouble) => Err(trouble),
+    }
+}
+
+/// Writes the rows that are gathered for a file, and takes them away. After an error a front of them was written.
+pub fn flush_rows<F: Files>(files: &mut F, file: u32, rows: &mut Rows) -> Result<(), Trouble>
+    requires { IsSome ((F.view files.old).part file) }
+    ensures wrote { OnOk result (Wrote (F.view files.old) (F.view files.new) file rows.old) }
+    ensures empty { OnOk result (rows.new ≡ []) }
+    ensures front { OnErr result (WroteFront (F.view files.old) (F.view files.new) file rows.old) }
+    ensures failed { IsErrOf result Trouble.Failed → WriteFault (F.view files.old) (F.view files.new) file }
+{
+    match write_all(files, file, rows.as_slice()) {
+        Ok(()) => {
+            rows.clear();
             Ok(())
         }
         Err(trouble) => Err(trouble),

@@ -3,6 +3,7 @@
 #![tactic(auto)]
 
 mod arriving;
+mod counting;
 mod ending;
 mod fault;
 mod gathered;

@@ -1,17 +1,20 @@
-// The two output files of a play.
+// The outputs of a play while it goes on.
 ghost use Rattle.std.specs.Prelude.{◌≡◌};
 ghost use Rattle.play_loop.specs.Outputs.{output_fault};
 
 use crate::{Output, PlayFault};
+use altq_model::Counts;
 use play_base::Trouble;
+use play_text::Rows;
 
-/// The numbers of the two files, and the bytes that are gathered for each.
+/// The numbers of departures and fates, the bytes that are gathered for each, and the counts so far of each class of the names.
 #[derive(Drop)]
 pub struct Outputs {
     pub departures: u32,
     pub fates: u32,
     pub records: Vec<u8>,
-    pub rows: Vec<u8>,
+    pub rows: Rows,
+    pub counts: Vec<Counts>,
 }
 
 // What trouble with an output means for the play.

@@ -10,27 +10,30 @@ ghost use Rattle.play_base.specs.View.{NoneAppears, ReadFault, WriteFault};
 ghost use Rattle.discipline_laws.specs.Laws.{HasRate};
 ghost use Rattle.pcap_files.specs.Reading.{StandsFor, answered};
 ghost use Rattle.play_text.specs.Names.{HasClass, name_of};
+ghost use Rattle.play_loop.specs.Counting.{AreCountable, HasCounted};
 ghost use Rattle.play_loop.specs.Ending.{AreFirst, EndsAs};
-ghost use Rattle.play_loop.specs.Kept.{KeepsBeside, OnlyPlayed, OnlyWrote};
+ghost use Rattle.play_loop.specs.Kept.{KeepsBeside, KeepsPlayed, OnlyPlayed, OnlyWrote};
 ghost use Rattle.play_loop.specs.Outputs.{FrontsAre, IsWriteCause, SameFiles, TextsAre};
-ghost use Rattle.play_loop.specs.Played.{AreEmpty, AreReady, Explains, Fronts, Plays};
+ghost use Rattle.play_loop.specs.Played.{AreEmpty, AreReady, Explains, Fronts, LeavesStats, Plays, Writes};
 ghost use Rattle.play_loop.specs.Setup.{setup_of};
 ghost use Rattle.play_loop.specs.Underway.{IsBroken, IsUnderway};
 
-use crate::arriving::{Arriving, arriving_of};
+use crate::arriving::arriving_of;
+use crate::counting::{Counted, Tally, count, no_counts};
 use crate::ending::{Due, Ending, capture_fault};
 use crate::gathered::write_all;
 use crate::outputs::{Outputs, output_fault};
 use crate::sending::{play_packet, send_due};
-use crate::writing::finish;
+use crate::writing::{finish, write_stats};
 use crate::{Limit, Opened, Output, PlayFault};
+use altq_model::Counts;
 use capture_model::every_file_has_a_reading;
 use discipline_laws::{Classify, Discipline};
 use leaf_queue::Words;
 use pcap_files::{CaptureFault, Reader, head_bytes};
 use play_base::Files;
 use play_core::{Progress, Totals};
-use play_text::{Names, fates_header};
+use play_text::{Names, Rows, fates_header};
 use std::alloc::Global;
 
 // Writes the head of the departures, and then the head row of the fates.
@@ -56,15 +59,16 @@ fn write_heads<F: Files>(files: &mut F, departures: u32, fates: u32) -> Result<(
 
 /// Plays the capture that the arrivals have left through a discipline, of which nothing was asked yet, and a link of `rate` bits per
 /// second, 1,000 to 10^12. It writes both heads, and then reads the records one by one: after each it makes every sending that
-/// starts before the record's packet arrives, and offers the packet; at the end of the capture it makes the rest. A record for each
-/// sending and a row for each fate are gathered as they are decided, up to 65,536 bytes for each file. `classify` tells the class and
-/// the precedence of each frame and the bytes with which it leaves, `names` has a name for each class that it tells, and of `words`
-/// none is drawn. The statistics stay empty.
+/// starts before the record's packet arrives, and offers the packet; at the end of the capture it makes the rest, and writes the
+/// statistics. A record for each sending and a row for each fate are gathered as they are decided, up to 65,536 bytes for each file.
+/// `classify` tells the class and the precedence of each frame and the bytes with which it leaves, `names` has a name for each class
+/// that it tells, and of `words` none is drawn.
 ///
 /// What each error means, and when it comes, `PlayFault` says. After a fault or a limit of the capture, departures and fates hold
 /// exactly what was decided up to the offer of its last complete record, and after a sending that would end too late exactly what was
-/// decided before it; after any other error fronts of their texts. Holds one packet besides those that wait, a piece of 65,536 bytes
-/// of the capture, and what is gathered: nothing that grows with the capture. Costs a few steps and the bytes of each packet, and
+/// decided before it; after any other error fronts of their texts. The statistics hold nothing then, but after a failed write of them,
+/// or want of memory, maybe a front. Holds one packet besides those that wait, a piece of 65,536 bytes of the capture, what is
+/// gathered, and the counts of each class: nothing that grows with the capture. Costs a few steps and the bytes of each packet, and
 /// what the discipline and `classify` cost.
 pub fn play<D: Discipline, C: Classify, F: Files>(
     alloc: Global,
@@ -85,11 +89,61 @@ pub fn play<D: Discipline, C: Classify, F: Files>(
     requires held { (frame : List ℕ) → IsOneOf (C.placed classify.now frame).class (D.policy discipline.old).classes }
     requires precs { (frame : List ℕ) → (C.placed classify.now frame).prec ≤ 2 }
     requires named { (frame : List ℕ) → HasClass names.now (C.placed classify.now frame).class }
-    ensures done { IfOk result (Plays (setup_of (D.policy discipline.old) (C.placed classify.now) (C.dressed classify.now) (name_of names.now) rate words.old.seed)
+    ensures done { IfOk result (Plays (setup_of (D.policy discipline.old) (C.placed classify.now) (C.dressed classify.now) names.now rate words.old.seed)
         (D.stands discipline.new) (F.view files.old) (F.view files.new) opened.now) }
-    ensures why { IfErr result (Explains (setup_of (D.policy discipline.old) (C.placed classify.now) (C.dressed classify.now) (name_of names.now) rate words.old.seed)
+    ensures why { IfErr result (Explains (setup_of (D.policy discipline.old) (C.placed classify.now) (C.dressed classify.now) names.now rate words.old.seed)
         (D.stands discipline.new) (F.view files.old) (F.view files.new) opened.now) }
-    ensures front { OnErr result (Fronts (setup_of (D.policy discipline.old) (C.placed classify.now) (C.dressed classify.now) (name_of names.now) rate words.old.seed)
+    ensures front { OnErr result (Fronts (setup_of (D.policy discipline.old) (C.placed classify.now) (C.dressed classify.now) names.now rate words.old.seed)
+        (F.view files.old) (F.view files.new) opened.now) }
+    ensures stats { IfErr result (LeavesStats (setup_of (D.policy discipline.old) (C.placed classify.now) (C.dressed classify.now) names.now rate words.old.seed)
+        (F.view files.old) (F.view files.new) opened.now) }
+    ensures keeps { KeepsPlayed opened.now (F.view files.old) (F.view files.new) }
+    ensures none { NoneAppears (F.view files.old) (F.view files.new) }
+    ensures said { (F.view files.new).said ≡ (F.view files.old).said }
+{
+    let Ok(counts) = no_counts(alloc, names) else {
+        return Err(PlayFault::NoMemory);
+    };
+    let tally = match play_capture(
+        alloc, discipline, classify, names, rate, words, opened, files, counts,
+    ) {
+        Ok(tally) => tally,
+        Err(fault) => return Err(fault),
+    };
+    match write_stats(alloc, files, opened.stats, names, tally.counts.as_slice()) {
+        Ok(()) => Ok(tally.totals),
+        Err(fault) => Err(fault),
+    }
+}
+
+// Plays a capture, and writes all but the statistics.
+fn play_capture<D: Discipline, C: Classify, F: Files>(
+    alloc: Global,
+    discipline: &mut D,
+    classify: &C,
+    names: &Names,
+    rate: u64,
+    words: &mut Words,
+    opened: &Opened,
+    files: &mut F,
+    counts: Vec<Counts>,
+) -> Result<Tally, PlayFault>
+    requires ready { AreReady (F.view files.old) opened.now }
+    requires least { 1000 ≤ rate }
+    requires most { rate ≤ 10 ^ 12 }
+    requires rate { HasRate (D.link_rate discipline.old) rate }
+    requires new { D.stands discipline.old [] }
+    requires fresh { words.old.drawn ≡ 0 }
+    requires held { (frame : List ℕ) → IsOneOf (C.placed classify.now frame).class (D.policy discipline.old).classes }
+    requires precs { (frame : List ℕ) → (C.placed classify.now frame).prec ≤ 2 }
+    requires named { (frame : List ℕ) → HasClass names.now (C.placed classify.now frame).class }
+    requires none { HasCounted names.now [] [] counts.items }
+    ensures done { IfOk result (Writes (setup_of (D.policy discipline.old) (C.placed classify.now) (C.dressed classify.now) names.now rate words.old.seed)
+        (D.stands discipline.new) (F.view files.old) (F.view files.new) opened.now) }
+    ensures countable { IfOk result (λ tally. AreCountable names.now tally.counts.items) }
+    ensures why { IfErr result (Explains (setup_of (D.policy discipline.old) (C.placed classify.now) (C.dressed classify.now) names.now rate words.old.seed)
+        (D.stands discipline.new) (F.view files.old) (F.view files.new) opened.now) }
+    ensures front { OnErr result (Fronts (setup_of (D.policy discipline.old) (C.placed classify.now) (C.dressed classify.now) names.now rate words.old.seed)
         (F.view files.old) (F.view files.new) opened.now) }
     ensures keeps { KeepsBeside opened.now.arrivals opened.now.departures opened.now.fates (F.view files.old) (F.view files.new) }
     ensures none { NoneAppears (F.view files.old) (F.view files.new) }
@@ -110,10 +164,10 @@ pub fn play<D: Discipline, C: Classify, F: Files>(
         departures: opened.departures,
         fates: opened.fates,
         records: Vec::new(alloc),
-        rows: Vec::new(alloc),
+        rows: Rows::new(alloc),
+        counts,
     };
     let ending = match play_records(
-        alloc,
         &mut reader,
         &mut progress,
         discipline,
@@ -131,7 +185,10 @@ pub fn play<D: Discipline, C: Classify, F: Files>(
         Err(fault) => return Err(fault),
     }
     match ending {
-        Ending::Whole => Ok(progress.totals()),
+        Ending::Whole => Ok(Tally {
+            totals: progress.totals(),
+            counts: outputs.counts,
+        }),
         Ending::Cut(fault) => Err(capture_fault(fault)),
         Ending::Late => {
             // A law, which the proof cites: it does nothing.
@@ -143,7 +200,6 @@ pub fn play<D: Discipline, C: Classify, F: Files>(
 
 // Plays the records that a reader has not answered yet: each before the next is read, and at the end of the capture what is left.
 fn play_records<D: Discipline, C: Classify, F: Files>(
-    alloc: Global,
     reader: &mut Reader,
     progress: &mut Progress,
     discipline: &mut D,
@@ -157,12 +213,12 @@ fn play_records<D: Discipline, C: Classify, F: Files>(
     requires sound { reader.old.fault ≡ None }
     requires from_departures { Apart (F.view files.old) reader.old.file outputs.old.departures }
     requires from_fates { Apart (F.view files.old) reader.old.file outputs.old.fates }
-    requires under { IsUnderway (C.placed classify.now) (C.dressed classify.now) (name_of names.now) (D.policy discipline.old) (D.stands discipline.old) (D.lists discipline.old) (D.limits discipline.old) (D.link_rate discipline.old) (F.view files.old) outputs.old progress.old [] words.old [] }
+    requires under { IsUnderway (C.placed classify.now) (C.dressed classify.now) names.now (D.policy discipline.old) (D.stands discipline.old) (D.lists discipline.old) (D.limits discipline.old) (D.link_rate discipline.old) (F.view files.old) outputs.old progress.old [] words.old [] }
     requires held { (frame : List ℕ) → IsOneOf (C.placed classify.now frame).class (D.policy discipline.old).classes }
     requires precs { (frame : List ℕ) → (C.placed classify.now frame).prec ≤ 2 }
     requires named { (frame : List ℕ) → HasClass names.now (C.placed classify.now frame).class }
     ensures ended { IfOk result (λ ending. (arrived : List Arrival) × (g : List Happened)
-        × IsUnderway (C.placed classify.now) (C.dressed classify.now) (name_of names.now) (D.policy discipline.new) (D.stands discipline.new) (D.lists discipline.new) (D.limits discipline.new) (D.link_rate discipline.new) (F.view files.new) outputs.new progress.new arrived words.new g
+        × IsUnderway (C.placed classify.now) (C.dressed classify.now) names.now (D.policy discipline.new) (D.stands discipline.new) (D.lists discipline.new) (D.limits discipline.new) (D.link_rate discipline.new) (F.view files.new) outputs.new progress.new arrived words.new g
         × EndsAs ending (C.placed classify.now) (D.policy discipline.old) progress.old.clock.rate words.old.seed (λ bytes. IsTrue (F.view files.old).tells × StandsFor (F.view files.old) reader.old bytes [])
         (F.view files.new) reader.new arrived g
         × AreFirst (C.placed classify.now) (D.policy discipline.old) progress.old.clock.rate words.old.seed (λ bytes. IsTrue (F.view files.old).tells × StandsFor (F.view files.old) reader.old bytes []) arrived g) }
@@ -185,18 +241,22 @@ fn play_records<D: Discipline, C: Classify, F: Files>(
             Err(fault) => return Ok(Ending::Cut(fault)),
         };
         let Some(record) = found else {
-            return match send_due(
-                alloc, progress, discipline, classify, names, None, outputs, files,
-            ) {
+            return match send_due(progress, discipline, classify, names, None, outputs, files) {
                 Ok(Due::Made) => Ok(Ending::Whole),
                 Ok(Due::Late) => Ok(Ending::Late),
                 Err(fault) => Err(fault),
             };
         };
-        let arriving = arriving_of(record, progress.totals().arrived + 1, latest);
+        let placed = classify.class(record.bytes.as_slice());
+        let arriving = arriving_of(record, placed, progress.totals().arrived + 1, latest);
         latest = arriving.packet.at;
+        let what = Counted::Arrived {
+            len: arriving.packet.len,
+            raised: arriving.raised,
+        };
+        count(&mut outputs.counts, names, placed.class, what);
         match play_packet(
-            alloc, progress, discipline, classify, names, words, arriving, outputs, files,
+            progress, discipline, classify, names, words, arriving, outputs, files,
         ) {
             Ok(Due::Made) => {}
             Ok(Due::Late) => return Ok(Ending::Late),

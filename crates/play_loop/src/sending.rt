@@ -20,12 +20,10 @@ use leaf_queue::Words;
 use play_base::Files;
 use play_core::{Progress, Turn};
 use play_text::Names;
-use std::alloc::Global;
 
 /// Makes every sending that is due before an arrival, or all where none is to come, and adds their texts; stops before one that
 /// would end too late. After an error each file holds a front of its text.
 pub fn send_due<D: Discipline, C: Classify, F: Files>(
-    alloc: Global,
     progress: &mut Progress,
     discipline: &mut D,
     classify: &C,
@@ -35,16 +33,16 @@ pub fn send_due<D: Discipline, C: Classify, F: Files>(
     files: &mut F,
 ) -> Result<Due, PlayFault>
     requires under { (arrived : List Arrival) × (w : DrawnWords) × (g : List Happened)
-        × IsUnderway (C.placed classify.now) (C.dressed classify.now) (name_of names.now) (D.policy discipline.old) (D.stands discipline.old) (D.lists discipline.old) (D.limits discipline.old) (D.link_rate discipline.old) (F.view files.old) outputs.old progress.old arrived w g
+        × IsUnderway (C.placed classify.now) (C.dressed classify.now) names.now (D.policy discipline.old) (D.stands discipline.old) (D.lists discipline.old) (D.limits discipline.old) (D.link_rate discipline.old) (F.view files.old) outputs.old progress.old arrived w g
         × (arrival ≡ arrives arrived g) }
     requires named { (frame : List ℕ) → HasClass names.now (C.placed classify.now frame).class }
     ensures due { IfOk result (λ due. (arrived : List Arrival) (w : DrawnWords) (g : List Happened)
-        → IsUnderway (C.placed classify.now) (C.dressed classify.now) (name_of names.now) (D.policy discipline.old) (D.stands discipline.old) (D.lists discipline.old) (D.limits discipline.old) (D.link_rate discipline.old) (F.view files.old) outputs.old progress.old arrived w g
+        → IsUnderway (C.placed classify.now) (C.dressed classify.now) names.now (D.policy discipline.old) (D.stands discipline.old) (D.lists discipline.old) (D.limits discipline.old) (D.link_rate discipline.old) (F.view files.old) outputs.old progress.old arrived w g
         → arrival ≡ arrives arrived g → (k : List Happened)
-        × IsUnderway (C.placed classify.now) (C.dressed classify.now) (name_of names.now) (D.policy discipline.new) (D.stands discipline.new) (D.lists discipline.new) (D.limits discipline.new) (D.link_rate discipline.new) (F.view files.new) outputs.new progress.new arrived w k
+        × IsUnderway (C.placed classify.now) (C.dressed classify.now) names.now (D.policy discipline.new) (D.stands discipline.new) (D.lists discipline.new) (D.limits discipline.new) (D.link_rate discipline.new) (F.view files.new) outputs.new progress.new arrived w k
         × SameOffers g k × DueIs due (D.policy discipline.old) progress.old.clock.rate w.seed arrived k arrival) }
     ensures broken { OnErr result ((arrived : List Arrival) (w : DrawnWords) (g : List Happened)
-        → IsUnderway (C.placed classify.now) (C.dressed classify.now) (name_of names.now) (D.policy discipline.old) (D.stands discipline.old) (D.lists discipline.old) (D.limits discipline.old) (D.link_rate discipline.old) (F.view files.old) outputs.old progress.old arrived w g
+        → IsUnderway (C.placed classify.now) (C.dressed classify.now) names.now (D.policy discipline.old) (D.stands discipline.old) (D.lists discipline.old) (D.limits discipline.old) (D.link_rate discipline.old) (F.view files.old) outputs.old progress.old arrived w g
         → arrival ≡ arrives arrived g → (k : List Happened)
         × IsBroken (C.dressed classify.now) (name_of names.now) (D.policy discipline.old) progress.old.clock.rate w.seed (F.view files.new) outputs.old arrived k
         × SameOffers g k) }
@@ -60,7 +58,7 @@ pub fn send_due<D: Discipline, C: Classify, F: Files>(
             Turn::Late => return Ok(Due::Late),
             Turn::Send(departure) => departure,
         };
-        match add_sent(alloc, files, outputs, names, classify, departure) {
+        match add_sent(files, outputs, names, classify, departure) {
             Ok(()) => {}
             Err(fault) => return Err(fault),
         }
@@ -70,7 +68,6 @@ pub fn send_due<D: Discipline, C: Classify, F: Files>(
 /// Plays a packet that was read: makes every sending that is due before it, and offers it; stops before a sending that would end
 /// too late. After an error each file holds a front of its text.
 pub fn play_packet<D: Discipline, C: Classify, F: Files>(
-    alloc: Global,
     progress: &mut Progress,
     discipline: &mut D,
     classify: &C,
@@ -81,19 +78,19 @@ pub fn play_packet<D: Discipline, C: Classify, F: Files>(
     files: &mut F,
 ) -> Result<Due, PlayFault>
     requires under { (arrived : List Arrival) × (g : List Happened)
-        × IsUnderway (C.placed classify.now) (C.dressed classify.now) (name_of names.now) (D.policy discipline.old) (D.stands discipline.old) (D.lists discipline.old) (D.limits discipline.old) (D.link_rate discipline.old) (F.view files.old) outputs.old progress.old arrived words.old g
+        × IsUnderway (C.placed classify.now) (C.dressed classify.now) names.now (D.policy discipline.old) (D.stands discipline.old) (D.lists discipline.old) (D.limits discipline.old) (D.link_rate discipline.old) (F.view files.old) outputs.old progress.old arrived words.old g
         × IsHeld (C.placed classify.now) arrived g arriving }
     requires within { IsWithin arriving }
     requires held { (frame : List ℕ) → IsOneOf (C.placed classify.now frame).class (D.policy discipline.old).classes }
     requires precs { (frame : List ℕ) → (C.placed classify.now frame).prec ≤ 2 }
     requires named { (frame : List ℕ) → HasClass names.now (C.placed classify.now frame).class }
     ensures due { IfOk result (λ due. (arrived : List Arrival) (g : List Happened)
-        → IsUnderway (C.placed classify.now) (C.dressed classify.now) (name_of names.now) (D.policy discipline.old) (D.stands discipline.old) (D.lists discipline.old) (D.limits discipline.old) (D.link_rate discipline.old) (F.view files.old) outputs.old progress.old arrived words.old g
+        → IsUnderway (C.placed classify.now) (C.dressed classify.now) names.now (D.policy discipline.old) (D.stands discipline.old) (D.lists discipline.old) (D.limits discipline.old) (D.link_rate discipline.old) (F.view files.old) outputs.old progress.old arrived words.old g
         → IsHeld (C.placed classify.now) arrived g arriving → (k : List Happened)
-        × IsUnderway (C.placed classify.now) (C.dressed classify.now) (name_of names.now) (D.policy discipline.new) (D.stands discipline.new) (D.lists discipline.new) (D.limits discipline.new) (D.link_rate discipline.new) (F.view files.new) outputs.new progress.new arrived words.new k
+        × IsUnderway (C.placed classify.now) (C.dressed classify.now) names.now (D.policy discipline.new) (D.stands discipline.new) (D.lists discipline.new) (D.limits discipline.new) (D.link_rate discipline.new) (F.view files.new) outputs.new progress.new arrived words.new k
         × OfferedIs due (D.policy discipline.old) progress.old.clock.rate words.old.seed arrived arriving.packet.at g k) }
     ensures broken { OnErr result ((arrived : List Arrival) (g : List Happened)
-        → IsUnderway (C.placed classify.now) (C.dressed classify.now) (name_of names.now) (D.policy discipline.old) (D.stands discipline.old) (D.lists discipline.old) (D.limits discipline.old) (D.link_rate discipline.old) (F.view files.old) outputs.old progress.old arrived words.old g
+        → IsUnderway (C.placed classify.now) (C.dressed classify.now) names.now (D.policy discipline.old) (D.stands discipline.old) (D.lists discipline.old) (D.limits discipline.old) (D.link_rate discipline.old) (F.view files.old) outputs.old progress.old arrived words.old g
         → IsHeld (C.placed classify.now) arrived g arriving → (k : List Happened)
         × IsBroken (C.dressed classify.now) (name_of names.now) (D.policy discipline.old) progress.old.clock.rate words.old.seed (F.view files.new) outputs.old arrived k
         × StayDue (D.policy discipline.old) progress.old.clock.rate words.old.seed arrived k) }
@@ -105,17 +102,15 @@ pub fn play_packet<D: Discipline, C: Classify, F: Files>(
     ensures seed { words.new.seed ≡ words.old.seed }
 {
     let packet = arriving.packet;
-    let placed = classify.class(packet.bytes.as_slice());
+    let placed = arriving.placed;
     let at = Some(packet.at);
-    match send_due(
-        alloc, progress, discipline, classify, names, at, outputs, files,
-    ) {
+    match send_due(progress, discipline, classify, names, at, outputs, files) {
         Ok(Due::Made) => {}
         Ok(Due::Late) => return Ok(Due::Late),
         Err(fault) => return Err(fault),
     }
     let dropped = progress.offer(discipline, words, packet, placed);
-    match add_dropped(alloc, files, outputs, names, placed.class, dropped) {
+    match add_dropped(files, outputs, names, placed.class, dropped) {
         Ok(()) => Ok(Due::Made),
         Err(fault) => Err(fault),
     }

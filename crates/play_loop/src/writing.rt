@@ -3,24 +3,30 @@ ghost use Rattle.std.specs.Prelude.{◌≡◌, ◌≤◌, ◌<◌, ◌*◌, ◌^
 ghost use Rattle.std.specs.Option.{option_map_or};
 ghost use Rattle.altq_model.specs.Texts.{fate_text};
 ghost use Rattle.capture_model.specs.Written.{record_text};
-ghost use Rattle.play_base.specs.View.{WriteFault};
+ghost use Rattle.play_base.specs.View.{WriteFault, Wrote, WroteFront};
 ghost use Rattle.play_base.specs.Holds.{HoldsAt};
 ghost use Rattle.play_text.specs.Names.{HasClass, name_of};
+ghost use Rattle.play_text.specs.Statistics.{stats_of};
 ghost use Rattle.play_core.specs.declared.turn.Dropped.{Dropped};
+ghost use Rattle.play_loop.specs.Counting.{AreCountable, count_at};
 ghost use Rattle.play_loop.specs.Gathered.{Grew, Stopped};
 ghost use Rattle.play_loop.specs.Kept.{OnlyWrote};
-ghost use Rattle.play_loop.specs.Outputs.{HasFronts, HasTexts, IsWriteCause, SameFiles, dropped_row, record_of, sent_row};
+ghost use Rattle.play_loop.specs.Outputs.{HasFronts, HasTexts, IsStatsCause, IsWriteCause, SameFiles, dropped_row, record_of, sent_row};
 
-use crate::gathered::{flush, gather};
+use crate::counting::{Counted, count};
+use crate::gathered::{flush, flush_rows, gather, write_all};
 use crate::outputs::{Outputs, output_fault};
 use crate::{Output, PlayFault};
-use altq_model::Fate;
+use altq_model::{Counts, Fate};
 use discipline_laws::Classify;
 use pcap_files::record_head;
 use play_base::{Files, Packet, Trouble};
 use play_core::{Departure, Dropped};
-use play_text::{Names, fate_row};
+use play_text::{Names, Rows, stats_text};
 use std::alloc::Global;
+
+/// Rows are written once they have more bytes than this. A row has fewer than 256, so no more than 65,536 are gathered.
+const ROWS_BOUND: usize = 65_536 - 256;
 
 // Adds the record of a packet of `len` bytes that was sent: its head, and then these bytes of it.
 fn add_record<F: Files>(
@@ -51,12 +57,11 @@ fn add_record<F: Files>(
     }
 }
 
-// Adds the row of a packet's fate.
+// Adds the row of a packet's fate, and writes the rows once they are too many.
 fn add_row<F: Files>(
-    alloc: Global,
     files: &mut F,
     file: u32,
-    pending: &mut Vec<u8>,
+    rows: &mut Rows,
     names: &Names,
     class: u32,
     packet: &Packet,
@@ -64,24 +69,26 @@ fn add_row<F: Files>(
 ) -> Result<(), Trouble>
     requires there { IsSome ((F.view files.old).part file) }
     requires named { HasClass names.now class }
-    ensures grew { OnOk result (Grew (F.view files.old) (F.view files.new) file pending.old.items pending.new.items
+    ensures grew { OnOk result (Grew (F.view files.old) (F.view files.new) file rows.old rows.new
         (fate_text packet.now.number packet.now.at packet.now.len (name_of names.now class) fate.now)) }
-    ensures stopped { OnErr result (Stopped (F.view files.old) (F.view files.new) file pending.old.items
+    ensures bounded { OnOk result (length rows.new ≤ 65280) }
+    ensures stopped { OnErr result (Stopped (F.view files.old) (F.view files.new) file rows.old
         (fate_text packet.now.number packet.now.at packet.now.len (name_of names.now class) fate.now)) }
     ensures failed { IsErrOf result Trouble.Failed → WriteFault (F.view files.old) (F.view files.new) file }
 {
-    let Ok(row) = fate_row(
-        alloc,
-        names,
-        packet.number,
-        packet.at,
-        packet.len,
-        class,
-        fate,
-    ) else {
+    let Packet {
+        number,
+        at,
+        len,
+        ..
+    } = *packet;
+    let Ok(()) = rows.add(names, number, at, len, class, fate) else {
         return Err(Trouble::NoMemory);
     };
-    match gather(files, file, pending, &row) {
+    if rows.as_slice().len() <= ROWS_BOUND {
+        return Ok(());
+    }
+    match flush_rows(files, file, rows) {
         Ok(()) => Ok(()),
         Err(trouble) => Err(trouble),
     }
@@ -100,10 +107,9 @@ fn dress_packet<C: Classify>(classify: &C, departure: &mut Departure)
     classify.dress(class, marked, departure.packet.bytes.as_mut_slice());
 }
 
-/// Adds the record of a packet that was sent, with the bytes with which it leaves, and then its row. After an error each file holds
-/// a front of its text.
+/// Counts a packet that was sent, and adds its record, with the bytes with which it leaves, and then its row. After an error each file
+/// holds a front of its text.
 pub fn add_sent<C: Classify, F: Files>(
-    alloc: Global,
     files: &mut F,
     outputs: &mut Outputs,
     names: &Names,
@@ -111,6 +117,7 @@ pub fn add_sent<C: Classify, F: Files>(
     mut departure: Departure,
 ) -> Result<(), PlayFault>
     requires named { HasClass names.now departure.class }
+    requires countable { AreCountable names.now outputs.old.counts.items }
     requires early { departure.end < 2 ^ 32 * 10 ^ 9 }
     requires within { length departure.packet.bytes ≤ departure.packet.len }
     requires departures { IsSome ((F.view files.old).part outputs.old.departures) }
@@ -119,10 +126,18 @@ pub fn add_sent<C: Classify, F: Files>(
         (ds ++ record_text (record_of (C.dressed classify.now) departure)) (ts ++ sent_row (name_of names.now) departure)) }
     ensures stopped { OnErr result ((ds ts : List ℕ) → HasTexts (F.view files.old) outputs.old ds ts → HasFronts (F.view files.new) outputs.old
         (ds ++ record_text (record_of (C.dressed classify.now) departure)) (ts ++ sent_row (name_of names.now) departure)) }
+    ensures counted { OnOk result (outputs.new.counts.items ≡ count_at names.now departure.class (Counted.Sent departure.packet.len) outputs.old.counts.items) }
     ensures same { SameFiles outputs.old outputs.new }
     ensures others { OnlyWrote outputs.old.departures outputs.old.fates (F.view files.old) (F.view files.new) }
     ensures why { IfErr result (IsWriteCause outputs.old.departures outputs.old.fates (F.view files.old) (F.view files.new)) }
 {
+    let len = departure.packet.len;
+    count(
+        &mut outputs.counts,
+        names,
+        departure.class,
+        Counted::Sent { len },
+    );
     dress_packet(classify, &mut departure);
     let fate = Fate::Sent {
         start: departure.start,
@@ -145,7 +160,6 @@ pub fn add_sent<C: Classify, F: Files>(
     }
     let file = outputs.fates;
     match add_row(
-        alloc,
         files,
         file,
         &mut outputs.rows,
@@ -159,9 +173,8 @@ pub fn add_sent<C: Classify, F: Files>(
     }
 }
 
-/// Adds the row of a packet that was offered to a class, if it was dropped. After an error each file holds a front of its text.
+/// Counts a packet that was offered to a class, if it was dropped, and adds its row. After an error each file holds a front of its text.
 pub fn add_dropped<F: Files>(
-    alloc: Global,
     files: &mut F,
     outputs: &mut Outputs,
     names: &Names,
@@ -169,12 +182,14 @@ pub fn add_dropped<F: Files>(
     dropped: Option<Dropped>,
 ) -> Result<(), PlayFault>
     requires named { HasClass names.now class }
+    requires countable { AreCountable names.now outputs.old.counts.items }
     requires departures { IsSome ((F.view files.old).part outputs.old.departures) }
     requires fates { IsSome ((F.view files.old).part outputs.old.fates) }
     ensures wrote { OnOk result ((ds ts : List ℕ) → HasTexts (F.view files.old) outputs.old ds ts → HasTexts (F.view files.new) outputs.new
         ds (ts ++ option_map_or (dropped_row (name_of names.now) class) dropped [])) }
     ensures stopped { OnErr result ((ds ts : List ℕ) → HasTexts (F.view files.old) outputs.old ds ts → HasFronts (F.view files.new) outputs.old
         ds (ts ++ option_map_or (dropped_row (name_of names.now) class) dropped [])) }
+    ensures counted { OnOk result (outputs.new.counts.items ≡ option_map_or (λ d. count_at names.now class (Counted.Dropped d.reason) outputs.old.counts.items) dropped outputs.old.counts.items) }
     ensures same { SameFiles outputs.old outputs.new }
     ensures others { OnlyWrote outputs.old.departures outputs.old.fates (F.view files.old) (F.view files.new) }
     ensures why { IfErr result (IsWriteCause outputs.old.departures outputs.old.fates (F.view files.old) (F.view files.new)) }
@@ -182,18 +197,10 @@ pub fn add_dropped<F: Files>(
     let Some(Dropped { packet, reason }) = dropped else {
         return Ok(());
     };
+    count(&mut outputs.counts, names, class, Counted::Dropped(reason));
     let fate = Fate::Dropped(reason);
     let file = outputs.fates;
-    match add_row(
-        alloc,
-        files,
-        file,
-        &mut outputs.rows,
-        names,
-        class,
-        &packet,
-        &fate,
-    ) {
+    match add_row(files, file, &mut outputs.rows, names, class, &packet, &fate) {
         Ok(()) => Ok(()),
         Err(trouble) => Err(output_fault(Output::Fates, trouble)),
     }
@@ -207,6 +214,7 @@ pub fn finish<F: Files>(files: &mut F, outputs: &mut Outputs) -> Result<(), Play
         HoldsAt (F.view files.new) outputs.old.departures ds) }
     ensures fates_whole { OnOk result ((ds ts : List ℕ) → HasTexts (F.view files.old) outputs.old ds ts →
         HoldsAt (F.view files.new) outputs.old.fates ts) }
+    ensures counts { outputs.new.counts.items ≡ outputs.old.counts.items }
     ensures stopped { OnErr result ((ds ts : List ℕ) → HasTexts (F.view files.old) outputs.old ds ts →
         HasFronts (F.view files.new) outputs.old ds ts) }
     ensures others { OnlyWrote outputs.old.departures outputs.old.fates (F.view files.old) (F.view files.new) }
@@ -216,8 +224,31 @@ pub fn finish<F: Files>(files: &mut F, outputs: &mut Outputs) -> Result<(), Play
         Ok(()) => {}
         Err(trouble) => return Err(output_fault(Output::Departures, trouble)),
     }
-    match flush(files, outputs.fates, &mut outputs.rows) {
+    match flush_rows(files, outputs.fates, &mut outputs.rows) {
         Ok(()) => Ok(()),
         Err(trouble) => Err(output_fault(Output::Fates, trouble)),
+    }
+}
+
+/// Writes the statistics of these counts. After an error the file holds a front of them.
+pub fn write_stats<F: Files>(
+    alloc: Global,
+    files: &mut F,
+    file: u32,
+    names: &Names,
+    counts: &[Counts],
+) -> Result<(), PlayFault>
+    requires there { IsSome ((F.view files.old).part file) }
+    requires countable { AreCountable names.now counts.now }
+    ensures wrote { OnOk result (Wrote (F.view files.old) (F.view files.new) file (stats_of names.now counts.now)) }
+    ensures front { OnErr result (WroteFront (F.view files.old) (F.view files.new) file (stats_of names.now counts.now)) }
+    ensures why { IfErr result (IsStatsCause file (F.view files.old) (F.view files.new)) }
+{
+    let Ok(text) = stats_text(alloc, names, counts) else {
+        return Err(PlayFault::NoMemory);
+    };
+    match write_all(files, file, text.as_slice()) {
+        Ok(()) => Ok(()),
+        Err(trouble) => Err(output_fault(Output::Statistics, trouble)),
     }
 }

@@ -2,7 +2,8 @@
 use Rattle.std.proofs.Common.{ap}
 use Rattle.altq_model.specs.History.{DrawnWords}
 use Rattle.play_cli.proofs.CheckLemmas.{fits}
-use Rattle.play_cli.proofs.OneLemmas.{explains_one, fronts_one, held_of, is_plain, named_of, plain_class, plays_one, stopped_empty}
+use Rattle.play_loop.proofs.PlayLemmas.{stopped_empty}
+use Rattle.play_cli.proofs.OneLemmas.{built, explains_one, fronts_one, held_of, named_of, plays_one, stats_one}
 use Rattle.play_cli.proofs.one.play_interface.Goals as goal
 
 pub returns-in_default-clause-front : goal.returns-in_default-clause-front
@@ -22,70 +23,42 @@ play-played-requires-clause-most g c = (fits c.args.interface.now c.configuratio
 
 pub play-played-requires-clause-held : goal.play-played-requires-clause-held
 play-played-requires-clause-held g c =
-    let plain = is_plain c.args.interface.now (fits c.args.interface.now c.configurations_fit.ensures c.requires.configured) c.requires.played in
-    let x = c.requires.configured in
-    held_of c.args.interface.now _ _ _ _ c.new-words.result.seed c.args.seed (record {
-      plain = plain;
-      class = λ frame. plain_class c.args.interface.now _ plain (c.frames_have_classes.ensures.class x.text x.interfaces x.read x.place c.args.interface.now x.at frame);
-      policy = c.in-Ok-one_queue.ensures.policy;
-      placed = c.in-Ok.ensures.placed;
-      dressed = c.in-Ok.ensures.dressed;
-      named = c.in-Ok-one_name.ensures;
-      seed_is = ap (λ (w : DrawnWords). w.seed) c.new-words.ensures;
-    })
+    held_of c.args.interface.now _ _ _ _ c.new-words.result.seed c.args.seed
+    (built c.args.interface.now _ _ _ _ c.new-words.result.seed c.args.seed (fits c.args.interface.now c.configurations_fit.ensures c.requires.configured) c.requires.played
+    (λ frame. c.frames_have_classes.ensures.class c.requires.configured.text c.requires.configured.interfaces c.requires.configured.read c.requires.configured.place c.args.interface.now c.requires.configured.at frame)
+    c.in-Ok-one_queue.ensures.policy c.in-Ok.ensures.placed c.in-Ok.ensures.dressed c.in-Ok-one_name.ensures (ap (λ (w : DrawnWords). w.seed) c.new-words.ensures))
 
 pub play-played-requires-clause-named : goal.play-played-requires-clause-named
 play-played-requires-clause-named g c =
-    let plain = is_plain c.args.interface.now (fits c.args.interface.now c.configurations_fit.ensures c.requires.configured) c.requires.played in
-    let x = c.requires.configured in
-    named_of c.args.interface.now _ _ _ _ c.new-words.result.seed c.args.seed (record {
-      plain = plain;
-      class = λ frame. plain_class c.args.interface.now _ plain (c.frames_have_classes.ensures.class x.text x.interfaces x.read x.place c.args.interface.now x.at frame);
-      policy = c.in-Ok-one_queue.ensures.policy;
-      placed = c.in-Ok.ensures.placed;
-      dressed = c.in-Ok.ensures.dressed;
-      named = c.in-Ok-one_name.ensures;
-      seed_is = ap (λ (w : DrawnWords). w.seed) c.new-words.ensures;
-    })
+    named_of c.args.interface.now _ _ _ _ c.new-words.result.seed c.args.seed
+    (built c.args.interface.now _ _ _ _ c.new-words.result.seed c.args.seed (fits c.args.interface.now c.configurations_fit.ensures c.requires.configured) c.requires.played
+    (λ frame. c.frames_have_classes.ensures.class c.requires.configured.text c.requires.configured.interfaces c.requires.configured.read c.requires.configured.place c.args.interface.now c.requires.configured.at frame)
+    c.in-Ok-one_queue.ensures.policy c.in-Ok.ensures.placed c.in-Ok.ensures.dressed c.in-Ok-one_name.ensures (ap (λ (w : DrawnWords). w.seed) c.new-words.ensures))
 
 pub returns-in-Ok-played-clause-done : goal.returns-in-Ok-played-clause-done
 returns-in-Ok-played-clause-done g c =
-    let plain = is_plain c.args.interface.now (fits c.args.interface.now c.configurations_fit.ensures c.requires.configured) c.requires.played in
-    let x = c.requires.configured in
-    plays_one c.args.interface.now _ _ _ _ c.new-words.result.seed c.args.seed (record {
-      plain = plain;
-      class = λ frame. plain_class c.args.interface.now _ plain (c.frames_have_classes.ensures.class x.text x.interfaces x.read x.place c.args.interface.now x.at frame);
-      policy = c.in-Ok-one_queue.ensures.policy;
-      placed = c.in-Ok.ensures.placed;
-      dressed = c.in-Ok.ensures.dressed;
-      named = c.in-Ok-one_name.ensures;
-      seed_is = ap (λ (w : DrawnWords). w.seed) c.new-words.ensures;
-    }) _ (g.F.Files.view c.args.files.now) (g.F.Files.view c.play-played.new.files) c.args.opened.now c.in-Ok-played.totals c.in-Ok-played.ensures.done
+    plays_one c.args.interface.now _ _ _ _ c.new-words.result.seed c.args.seed
+    (built c.args.interface.now _ _ _ _ c.new-words.result.seed c.args.seed (fits c.args.interface.now c.configurations_fit.ensures c.requires.configured) c.requires.played
+    (λ frame. c.frames_have_classes.ensures.class c.requires.configured.text c.requires.configured.interfaces c.requires.configured.read c.requires.configured.place c.args.interface.now c.requires.configured.at frame)
+    c.in-Ok-one_queue.ensures.policy c.in-Ok.ensures.placed c.in-Ok.ensures.dressed c.in-Ok-one_name.ensures (ap (λ (w : DrawnWords). w.seed) c.new-words.ensures)) _ (g.F.Files.view c.args.files.now) (g.F.Files.view c.play-played.new.files) c.args.opened.now c.in-Ok-played.totals c.in-Ok-played.ensures.done
 
 pub returns-clause-why : goal.returns-clause-why
 returns-clause-why g c =
-    let plain = is_plain c.args.interface.now (fits c.args.interface.now c.configurations_fit.ensures c.requires.configured) c.requires.played in
-    let x = c.requires.configured in
-    explains_one c.args.interface.now _ _ _ _ c.new-words.result.seed c.args.seed (record {
-      plain = plain;
-      class = λ frame. plain_class c.args.interface.now _ plain (c.frames_have_classes.ensures.class x.text x.interfaces x.read x.place c.args.interface.now x.at frame);
-      policy = c.in-Ok-one_queue.ensures.policy;
-      placed = c.in-Ok.ensures.placed;
-      dressed = c.in-Ok.ensures.dressed;
-      named = c.in-Ok-one_name.ensures;
-      seed_is = ap (λ (w : DrawnWords). w.seed) c.new-words.ensures;
-    }) _ (g.F.Files.view c.args.files.now) (g.F.Files.view c.play-played.new.files) c.args.opened.now c.in-Err.fault c.in-Err.ensures.why
+    explains_one c.args.interface.now _ _ _ _ c.new-words.result.seed c.args.seed
+    (built c.args.interface.now _ _ _ _ c.new-words.result.seed c.args.seed (fits c.args.interface.now c.configurations_fit.ensures c.requires.configured) c.requires.played
+    (λ frame. c.frames_have_classes.ensures.class c.requires.configured.text c.requires.configured.interfaces c.requires.configured.read c.requires.configured.place c.args.interface.now c.requires.configured.at frame)
+    c.in-Ok-one_queue.ensures.policy c.in-Ok.ensures.placed c.in-Ok.ensures.dressed c.in-Ok-one_name.ensures (ap (λ (w : DrawnWords). w.seed) c.new-words.ensures)) _ (g.F.Files.view c.args.files.now) (g.F.Files.view c.play-played.new.files) c.args.opened.now c.in-Err.fault c.in-Err.ensures.why
 
 pub returns-clause-front : goal.returns-clause-front
 returns-clause-front g c =
-    let plain = is_plain c.args.interface.now (fits c.args.interface.now c.configurations_fit.ensures c.requires.configured) c.requires.played in
-    let x = c.requires.configured in
-    fronts_one c.args.interface.now _ _ _ _ c.new-words.result.seed c.args.seed (record {
-      plain = plain;
-      class = λ frame. plain_class c.args.interface.now _ plain (c.frames_have_classes.ensures.class x.text x.interfaces x.read x.place c.args.interface.now x.at frame);
-      policy = c.in-Ok-one_queue.ensures.policy;
-      placed = c.in-Ok.ensures.placed;
-      dressed = c.in-Ok.ensures.dressed;
-      named = c.in-Ok-one_name.ensures;
-      seed_is = ap (λ (w : DrawnWords). w.seed) c.new-words.ensures;
-    }) (g.F.Files.view c.args.files.now) (g.F.Files.view c.play-played.new.files) c.args.opened.now c.in-Err.ensures.front
+    fronts_one c.args.interface.now _ _ _ _ c.new-words.result.seed c.args.seed
+    (built c.args.interface.now _ _ _ _ c.new-words.result.seed c.args.seed (fits c.args.interface.now c.configurations_fit.ensures c.requires.configured) c.requires.played
+    (λ frame. c.frames_have_classes.ensures.class c.requires.configured.text c.requires.configured.interfaces c.requires.configured.read c.requires.configured.place c.args.interface.now c.requires.configured.at frame)
+    c.in-Ok-one_queue.ensures.policy c.in-Ok.ensures.placed c.in-Ok.ensures.dressed c.in-Ok-one_name.ensures (ap (λ (w : DrawnWords). w.seed) c.new-words.ensures)) (g.F.Files.view c.args.files.now) (g.F.Files.view c.play-played.new.files) c.args.opened.now c.in-Err.ensures.front
+
+pub returns-clause-stats : goal.returns-clause-stats
+returns-clause-stats g c =
+    stats_one c.args.interface.now _ _ _ _ c.new-words.result.seed c.args.seed
+    (built c.args.interface.now _ _ _ _ c.new-words.result.seed c.args.seed (fits c.args.interface.now c.configurations_fit.ensures c.requires.configured) c.requires.played
+    (λ frame. c.frames_have_classes.ensures.class c.requires.configured.text c.requires.configured.interfaces c.requires.configured.read c.requires.configured.place c.args.interface.now c.requires.configured.at frame)
+    c.in-Ok-one_queue.ensures.policy c.in-Ok.ensures.placed c.in-Ok.ensures.dressed c.in-Ok-one_name.ensures (ap (λ (w : DrawnWords). w.seed) c.new-words.ensures)) (g.F.Files.view c.args.files.now) (g.F.Files.view c.play-played.new.files) c.args.opened.now c.in-Err.fault c.in-Err.ensures.stats

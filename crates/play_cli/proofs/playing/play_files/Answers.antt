@@ -118,7 +118,7 @@ returns-clause-why g c =
       place = λ frame. plain_class found _ plain (c.frames_have_classes.ensures.class at.text at.interfaces at.read at.place found at.at frame);
     } in
     causes_of _ _ _ _ (names_read c.args.words.now) c.in-Ok-played_interface.found.now c.in-Ok-open_files.opened c.args.words.now.seed c.in-Err-play_interface.fault steps
-    c.in-Err-play_interface.ensures.why
+    c.in-Err-play_interface.ensures.why c.in-Err-play_interface.ensures.stats
 
 pub returns-clause-front : goal.returns-clause-front
 returns-clause-front g c =
@@ -142,7 +142,8 @@ returns-clause-front g c =
       rate = omega (arith, least);
       place = λ frame. plain_class found _ plain (c.frames_have_classes.ensures.class at.text at.interfaces at.read at.place found at.at frame);
     } in
-    fronts_of _ _ _ _ (names_read c.args.words.now) c.in-Ok-played_interface.found.now c.in-Ok-open_files.opened c.args.words.now.seed steps c.in-Err-play_interface.ensures.front
+    fronts_of _ _ _ _ (names_read c.args.words.now) c.in-Ok-played_interface.found.now c.in-Ok-open_files.opened c.args.words.now.seed c.in-Err-play_interface.fault steps
+    c.in-Err-play_interface.ensures.front c.in-Err-play_interface.ensures.stats
 
 pub returns-clause-accepted : goal.returns-clause-accepted
 returns-clause-accepted g c = λ after. (

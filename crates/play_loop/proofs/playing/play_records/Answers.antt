@@ -2,6 +2,7 @@
 use Rattle.std.proofs.Common.{◌≡◌, ◌≤◌, ◌<◌, ◌++◌, ◌∙◌, ◌+◌, ◌⊎◌, inl, inr, ℕ, List, [], ◌∷◌, length, length-append, None, Some, Err, refl, ap, sym, subst, arith}
 use Rattle.std.specs.Prelude.{slice_get, IfSome, IfNone, IsTrue, IsSome, Result}
 use Rattle.std.specs.declared.option.Option.{Option}
+use Rattle.altq_model.specs.declared.Placed.{Placed}
 use Rattle.altq_model.specs.Arrivals.{Arrival, coming_of, comings}
 use Rattle.altq_model.specs.History.{Happened}
 use Rattle.altq_model.specs.Lawful.{IsOneOf}
@@ -19,7 +20,7 @@ use Rattle.play_core.specs.declared.totals.Totals.{Totals}
 use Rattle.play_core.specs.Ended.{IsBegun, IsCutOff}
 use Rattle.play_core.proofs.GoingLemmas.{IsPromised}
 use Rattle.play_core.proofs.OfferLemmas.{is_coming}
-use Rattle.play_text.specs.Names.{name_of}
+use Rattle.play_text.specs.Names.{HasClass}
 use Rattle.play_loop.specs.declared.ending.Due.{Due}
 use Rattle.play_loop.specs.declared.ending.Ending.{Ending}
 use Rattle.play_loop.specs.declared.ending.Ending.TheVariants as ending
@@ -32,7 +33,7 @@ use Rattle.play_loop.proofs.KeptLemmas.{played_nothing, then_took, then_wrote}
 use Rattle.play_loop.proofs.OutputLemmas.{fronts_files, same_trans, there_same}
 use Rattle.play_loop.proofs.PacketLemmas.{before_stays, held_same}
 use Rattle.play_loop.proofs.RecordLemmas.{IsRead, ahead_of, apart_played, cause_since, cut_starts, first_of_all, first_of_read, held_more, last_more, none_arrives, other_same, read_kept, read_record, read_since, under_kept, under_more}
-use Rattle.play_loop.proofs.TurnLemmas.{offered_stays, same_begun, same_play}
+use Rattle.play_loop.proofs.TurnLemmas.{offered_stays, same_begun, same_play, under_countable}
 use Rattle.play_loop.proofs.playing.play_records.Goals as goal
 
 pub records-init : goal.records-init
@@ -165,6 +166,22 @@ returns-in-Err-send_due-clause-others g c = then_wrote _ _ _ c.args.reader.now.f
 pub returns-in-Err-send_due-clause-why : goal.returns-in-Err-send_due-clause-why
 returns-in-Err-send_due-clause-why g c = cause_since c.args.reader.now.file c.args.outputs.now.departures c.args.outputs.now.fates c.records.outputs.departures c.records.outputs.fates (g.F.Files.view c.args.files.now) (g.F.Files.view c.next.new.files) (g.F.Files.view c.send_due.new.files) c.in-Err-send_due.fault (then_took _ _ _ c.args.reader.now.file c.args.outputs.now.departures c.args.outputs.now.fates c.records.reader.file c.requires.under.given.departures.holds.there c.requires.under.given.fates.holds.there c.records.invariant.file c.records.invariant.others c.next.ensures.some) c.records.invariant.same.departures c.records.invariant.same.fates c.in-Err-send_due.ensures.why
 
+pub count-requires-clause-named : goal.count-requires-clause-named
+count-requires-clause-named g c =
+    let P : Placed → Type 0 = λ k. HasClass c.args.names.now k.class in
+    subst P (sym c.class-placed.ensures) (c.requires.named c.as_slice.result.now)
+
+pub count-requires-clause-countable : goal.count-requires-clause-countable
+count-requires-clause-countable g c =
+    let z = c.records.invariant.reading in
+    let m : IsPromised (g.D.Discipline.policy c.records.discipline) c.records.progress.clock.rate = record {
+      positive = omega (arith, c.records.progress.least);
+      lawful = g.met.D.Discipline.lawful c.records.discipline z.2.under.going.told z.2.under.going.stands;
+      steady = g.met.D.Discipline.steady c.records.discipline z.2.under.going.told z.2.under.going.stands;
+      distinct = g.met.D.Discipline.distinct c.records.discipline z.2.under.going.told z.2.under.going.stands;
+    } in
+    under_countable (g.C.Classify.placed c.args.classify.now) (g.C.Classify.dressed c.args.classify.now) c.args.names.now (g.D.Discipline.policy c.records.discipline) _ _ _ _ _ c.records.outputs c.records.progress z.0 c.records.words z.1 m z.2.under
+
 pub play_packet-requires-clause-under : goal.play_packet-requires-clause-under
 play_packet-requires-clause-under g c =
     let z = c.records.invariant.reading in
@@ -181,10 +198,11 @@ play_packet-requires-clause-under g c =
       distinct = g.met.D.Discipline.distinct c.records.discipline z.2.under.going.told z.2.under.going.stands;
     } in
     let more : List Arrival = z.0 ++ arrival_of (g.C.Classify.placed c.args.classify.now) c.arriving_of-arriving.result ∷ [] in
-    let under = under_more _ (g.C.Classify.placed c.args.classify.now) (g.C.Classify.dressed c.args.classify.now) (name_of c.args.names.now) (g.D.Discipline.policy c.records.discipline) _ _ _ _ (g.F.Files.view c.records.files) (g.F.Files.view c.next.new.files) _ c.records.progress c.records.words (λ bytes. IsTrue (g.F.Files.view c.args.files.now).tells × StandsFor (g.F.Files.view c.args.files.now) c.args.reader.now bytes []) c.records.reader c.records.latest z.0 z.1 c.arriving_of-arriving.result m z.2
-    c.next.ensures.some.1.keeps c.arriving_of-arriving.ensures.within (omega (arith, c.arriving_of-arriving.ensures.at)) (omega (arith, z.2.counted, number, c.in-Some.record.counted)) in
+    let under = under_more _ (g.C.Classify.placed c.args.classify.now) (g.C.Classify.dressed c.args.classify.now) c.args.names.now (g.D.Discipline.policy c.records.discipline) _ _ _ _ (g.F.Files.view c.records.files) (g.F.Files.view c.next.new.files) _ c.records.progress c.records.words (λ bytes. IsTrue (g.F.Files.view c.args.files.now).tells × StandsFor (g.F.Files.view c.args.files.now) c.args.reader.now bytes []) c.records.reader c.records.latest z.0 z.1 c.arriving_of-arriving.result m z.2
+    c.next.ensures.some.1.keeps c.arriving_of-arriving.ensures.within (omega (arith, c.arriving_of-arriving.ensures.at)) (omega (arith, z.2.counted, number, c.in-Some.record.counted))
+    (record c.records.outputs { counts = c.count.new.counts }) c.class-placed.result.class refl (ap (λ (k : Placed). k.class) (c.class-placed.ensures ∙ ap (g.C.Classify.placed c.args.classify.now) (c.as_slice.ensures ∙ sym c.arriving_of-arriving.ensures.bytes))) c.count.ensures in
     let held = held_more (g.C.Classify.placed c.args.classify.now) z.0 z.1 c.arriving_of-arriving.result z.2.offers
-    (omega (arith, c.arriving_of-arriving.ensures.number, ap (λ (k : Totals). k.arrived) c.totals.ensures, z.2.under.going.totals.arrived)) in
+    (omega (arith, c.arriving_of-arriving.ensures.number, ap (λ (k : Totals). k.arrived) c.totals.ensures, z.2.under.going.totals.arrived)) (c.arriving_of-arriving.ensures.placed ∙ (c.class-placed.ensures ∙ ap (g.C.Classify.placed c.args.classify.now) (c.as_slice.ensures ∙ sym c.arriving_of-arriving.ensures.bytes))) in
     (more, z.1, under, held)
 
 pub play_packet-requires-clause-held : goal.play_packet-requires-clause-held
@@ -208,10 +226,11 @@ records-preserved g c =
       distinct = g.met.D.Discipline.distinct c.records.discipline z.2.under.going.told z.2.under.going.stands;
     } in
     let more : List Arrival = z.0 ++ arrival_of (g.C.Classify.placed c.args.classify.now) c.arriving_of-arriving.result ∷ [] in
-    let under = under_more _ (g.C.Classify.placed c.args.classify.now) (g.C.Classify.dressed c.args.classify.now) (name_of c.args.names.now) (g.D.Discipline.policy c.records.discipline) _ _ _ _ (g.F.Files.view c.records.files) (g.F.Files.view c.next.new.files) _ c.records.progress c.records.words (λ bytes. IsTrue (g.F.Files.view c.args.files.now).tells × StandsFor (g.F.Files.view c.args.files.now) c.args.reader.now bytes []) c.records.reader c.records.latest z.0 z.1 c.arriving_of-arriving.result m z.2
-    c.next.ensures.some.1.keeps c.arriving_of-arriving.ensures.within (omega (arith, c.arriving_of-arriving.ensures.at)) (omega (arith, z.2.counted, number, c.in-Some.record.counted)) in
+    let under = under_more _ (g.C.Classify.placed c.args.classify.now) (g.C.Classify.dressed c.args.classify.now) c.args.names.now (g.D.Discipline.policy c.records.discipline) _ _ _ _ (g.F.Files.view c.records.files) (g.F.Files.view c.next.new.files) _ c.records.progress c.records.words (λ bytes. IsTrue (g.F.Files.view c.args.files.now).tells × StandsFor (g.F.Files.view c.args.files.now) c.args.reader.now bytes []) c.records.reader c.records.latest z.0 z.1 c.arriving_of-arriving.result m z.2
+    c.next.ensures.some.1.keeps c.arriving_of-arriving.ensures.within (omega (arith, c.arriving_of-arriving.ensures.at)) (omega (arith, z.2.counted, number, c.in-Some.record.counted))
+    (record c.records.outputs { counts = c.count.new.counts }) c.class-placed.result.class refl (ap (λ (k : Placed). k.class) (c.class-placed.ensures ∙ ap (g.C.Classify.placed c.args.classify.now) (c.as_slice.ensures ∙ sym c.arriving_of-arriving.ensures.bytes))) c.count.ensures in
     let held = held_more (g.C.Classify.placed c.args.classify.now) z.0 z.1 c.arriving_of-arriving.result z.2.offers
-    (omega (arith, c.arriving_of-arriving.ensures.number, ap (λ (k : Totals). k.arrived) c.totals.ensures, z.2.under.going.totals.arrived)) in
+    (omega (arith, c.arriving_of-arriving.ensures.number, ap (λ (k : Totals). k.arrived) c.totals.ensures, z.2.under.going.totals.arrived)) (c.arriving_of-arriving.ensures.placed ∙ (c.class-placed.ensures ∙ ap (g.C.Classify.placed c.args.classify.now) (c.as_slice.ensures ∙ sym c.arriving_of-arriving.ensures.bytes))) in
     let is : IsRead c.in-Some.record c.records.latest c.arriving_of-arriving.result = record {
       at = c.arriving_of-arriving.ensures.at;
       len = c.arriving_of-arriving.ensures.len;
@@ -232,7 +251,10 @@ records-preserved g c =
     record {
       file = file;
       sound = c.in-Ok.ensures.sound;
-      same = same_trans _ _ _ c.records.invariant.same c.in-Ok-Made-play_packet.ensures.same;
+      same = record {
+        departures = c.in-Ok-Made-play_packet.ensures.same.departures ∙ c.records.invariant.same.departures;
+        fates = c.in-Ok-Made-play_packet.ensures.same.fates ∙ c.records.invariant.same.fates;
+      };
       others = then_wrote _ _ _ c.args.reader.now.file c.args.outputs.now.departures c.args.outputs.now.fates c.records.outputs.departures c.records.outputs.fates c.requires.under.given.departures.holds.there c.requires.under.given.fates.holds.there c.records.invariant.same.departures c.records.invariant.same.fates (then_took _ _ _ c.args.reader.now.file c.args.outputs.now.departures c.args.outputs.now.fates c.records.reader.file c.requires.under.given.departures.holds.there c.requires.under.given.fates.holds.there c.records.invariant.file c.records.invariant.others c.next.ensures.some) c.in-Ok-Made-play_packet.ensures.others;
       policy = c.in-Ok-Made-play_packet.ensures.policy ∙ c.records.invariant.policy;
       rate = c.in-Ok-Made-play_packet.ensures.rate ∙ c.records.invariant.rate;
@@ -272,10 +294,11 @@ returns-in-Ok-Late-play_packet-clause-ended g c =
       distinct = g.met.D.Discipline.distinct c.records.discipline z.2.under.going.told z.2.under.going.stands;
     } in
     let more : List Arrival = z.0 ++ arrival_of (g.C.Classify.placed c.args.classify.now) c.arriving_of-arriving.result ∷ [] in
-    let under = under_more _ (g.C.Classify.placed c.args.classify.now) (g.C.Classify.dressed c.args.classify.now) (name_of c.args.names.now) (g.D.Discipline.policy c.records.discipline) _ _ _ _ (g.F.Files.view c.records.files) (g.F.Files.view c.next.new.files) _ c.records.progress c.records.words (λ bytes. IsTrue (g.F.Files.view c.args.files.now).tells × StandsFor (g.F.Files.view c.args.files.now) c.args.reader.now bytes []) c.records.reader c.records.latest z.0 z.1 c.arriving_of-arriving.result m z.2
-    c.next.ensures.some.1.keeps c.arriving_of-arriving.ensures.within (omega (arith, c.arriving_of-arriving.ensures.at)) (omega (arith, z.2.counted, number, c.in-Some.record.counted)) in
+    let under = under_more _ (g.C.Classify.placed c.args.classify.now) (g.C.Classify.dressed c.args.classify.now) c.args.names.now (g.D.Discipline.policy c.records.discipline) _ _ _ _ (g.F.Files.view c.records.files) (g.F.Files.view c.next.new.files) _ c.records.progress c.records.words (λ bytes. IsTrue (g.F.Files.view c.args.files.now).tells × StandsFor (g.F.Files.view c.args.files.now) c.args.reader.now bytes []) c.records.reader c.records.latest z.0 z.1 c.arriving_of-arriving.result m z.2
+    c.next.ensures.some.1.keeps c.arriving_of-arriving.ensures.within (omega (arith, c.arriving_of-arriving.ensures.at)) (omega (arith, z.2.counted, number, c.in-Some.record.counted))
+    (record c.records.outputs { counts = c.count.new.counts }) c.class-placed.result.class refl (ap (λ (k : Placed). k.class) (c.class-placed.ensures ∙ ap (g.C.Classify.placed c.args.classify.now) (c.as_slice.ensures ∙ sym c.arriving_of-arriving.ensures.bytes))) c.count.ensures in
     let held = held_more (g.C.Classify.placed c.args.classify.now) z.0 z.1 c.arriving_of-arriving.result z.2.offers
-    (omega (arith, c.arriving_of-arriving.ensures.number, ap (λ (k : Totals). k.arrived) c.totals.ensures, z.2.under.going.totals.arrived)) in
+    (omega (arith, c.arriving_of-arriving.ensures.number, ap (λ (k : Totals). k.arrived) c.totals.ensures, z.2.under.going.totals.arrived)) (c.arriving_of-arriving.ensures.placed ∙ (c.class-placed.ensures ∙ ap (g.C.Classify.placed c.args.classify.now) (c.as_slice.ensures ∙ sym c.arriving_of-arriving.ensures.bytes))) in
     let is : IsRead c.in-Some.record c.records.latest c.arriving_of-arriving.result = record {
       at = c.arriving_of-arriving.ensures.at;
       len = c.arriving_of-arriving.ensures.len;
@@ -339,10 +362,11 @@ returns-in-Err-play_packet-clause-broken g c =
       distinct = g.met.D.Discipline.distinct c.records.discipline z.2.under.going.told z.2.under.going.stands;
     } in
     let more : List Arrival = z.0 ++ arrival_of (g.C.Classify.placed c.args.classify.now) c.arriving_of-arriving.result ∷ [] in
-    let under = under_more _ (g.C.Classify.placed c.args.classify.now) (g.C.Classify.dressed c.args.classify.now) (name_of c.args.names.now) (g.D.Discipline.policy c.records.discipline) _ _ _ _ (g.F.Files.view c.records.files) (g.F.Files.view c.next.new.files) _ c.records.progress c.records.words (λ bytes. IsTrue (g.F.Files.view c.args.files.now).tells × StandsFor (g.F.Files.view c.args.files.now) c.args.reader.now bytes []) c.records.reader c.records.latest z.0 z.1 c.arriving_of-arriving.result m z.2
-    c.next.ensures.some.1.keeps c.arriving_of-arriving.ensures.within (omega (arith, c.arriving_of-arriving.ensures.at)) (omega (arith, z.2.counted, number, c.in-Some.record.counted)) in
+    let under = under_more _ (g.C.Classify.placed c.args.classify.now) (g.C.Classify.dressed c.args.classify.now) c.args.names.now (g.D.Discipline.policy c.records.discipline) _ _ _ _ (g.F.Files.view c.records.files) (g.F.Files.view c.next.new.files) _ c.records.progress c.records.words (λ bytes. IsTrue (g.F.Files.view c.args.files.now).tells × StandsFor (g.F.Files.view c.args.files.now) c.args.reader.now bytes []) c.records.reader c.records.latest z.0 z.1 c.arriving_of-arriving.result m z.2
+    c.next.ensures.some.1.keeps c.arriving_of-arriving.ensures.within (omega (arith, c.arriving_of-arriving.ensures.at)) (omega (arith, z.2.counted, number, c.in-Some.record.counted))
+    (record c.records.outputs { counts = c.count.new.counts }) c.class-placed.result.class refl (ap (λ (k : Placed). k.class) (c.class-placed.ensures ∙ ap (g.C.Classify.placed c.args.classify.now) (c.as_slice.ensures ∙ sym c.arriving_of-arriving.ensures.bytes))) c.count.ensures in
     let held = held_more (g.C.Classify.placed c.args.classify.now) z.0 z.1 c.arriving_of-arriving.result z.2.offers
-    (omega (arith, c.arriving_of-arriving.ensures.number, ap (λ (k : Totals). k.arrived) c.totals.ensures, z.2.under.going.totals.arrived)) in
+    (omega (arith, c.arriving_of-arriving.ensures.number, ap (λ (k : Totals). k.arrived) c.totals.ensures, z.2.under.going.totals.arrived)) (c.arriving_of-arriving.ensures.placed ∙ (c.class-placed.ensures ∙ ap (g.C.Classify.placed c.args.classify.now) (c.as_slice.ensures ∙ sym c.arriving_of-arriving.ensures.bytes))) in
     let is : IsRead c.in-Some.record c.records.latest c.arriving_of-arriving.result = record {
       at = c.arriving_of-arriving.ensures.at;
       len = c.arriving_of-arriving.ensures.len;

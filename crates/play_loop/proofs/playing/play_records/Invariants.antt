@@ -3,7 +3,6 @@ use Rattle.std.specs.Prelude.{IsTrue}
 use Rattle.altq_model.specs.Arrivals.{Arrival}
 use Rattle.altq_model.specs.History.{Happened}
 use Rattle.pcap_files.specs.Reading.{StandsFor, answered}
-use Rattle.play_text.specs.Names.{name_of}
 use Rattle.play_loop.specs.Kept.{OnlyPlayed}
 use Rattle.play_loop.specs.Outputs.{SameFiles}
 use Rattle.play_loop.proofs.RecordLemmas.{IsReading}
@@ -20,7 +19,7 @@ invariant-records g l = record {
   seed : l.words.seed ≡ l.fn.words.seed;
   early : l.latest < 2 ^ 62;
   reading : (arrived : List Arrival) × (k : List Happened)
-      × IsReading (g.C.Classify.placed l.classify) (g.C.Classify.dressed l.classify) (name_of l.names) (g.D.Discipline.policy l.discipline) (g.D.Discipline.stands l.discipline) (g.D.Discipline.lists l.discipline) (g.D.Discipline.limits l.discipline) (g.D.Discipline.link_rate l.discipline) (g.F.Files.view l.files) l.outputs l.progress l.words (λ bytes. IsTrue (g.F.Files.view l.fn.files).tells × StandsFor (g.F.Files.view l.fn.files) l.fn.reader bytes []) l.reader l.latest arrived k;
+      × IsReading (g.C.Classify.placed l.classify) (g.C.Classify.dressed l.classify) l.names (g.D.Discipline.policy l.discipline) (g.D.Discipline.stands l.discipline) (g.D.Discipline.lists l.discipline) (g.D.Discipline.limits l.discipline) (g.D.Discipline.link_rate l.discipline) (g.F.Files.view l.files) l.outputs l.progress l.words (λ bytes. IsTrue (g.F.Files.view l.fn.files).tells × StandsFor (g.F.Files.view l.fn.files) l.fn.reader bytes []) l.reader l.latest arrived k;
 }
 
 abbrev pub decreases-records : goal.decreases-records

@@ -2,7 +2,6 @@ use Rattle.std.proofs.Common.{◌≡◌, ◌-◌, ℕ, List}
 use Rattle.altq_model.specs.Arrivals.{Arrival}
 use Rattle.altq_model.specs.History.{DrawnWords, Happened}
 use Rattle.play_core.specs.Turns.{arrives}
-use Rattle.play_text.specs.Names.{name_of}
 use Rattle.play_loop.specs.Kept.{OnlyWrote}
 use Rattle.play_loop.specs.Outputs.{SameFiles}
 use Rattle.play_loop.specs.Underway.{IsUnderway, SameOffers}
@@ -15,9 +14,9 @@ invariant-turns g l = record {
   policy : g.D.Discipline.policy l.discipline ≡ g.D.Discipline.policy l.fn.discipline;
   rate : l.progress.clock.rate ≡ l.fn.progress.clock.rate;
   under : (arrived : List Arrival) (w : DrawnWords) (k : List Happened)
-      → IsUnderway (g.C.Classify.placed l.classify) (g.C.Classify.dressed l.classify) (name_of l.names) (g.D.Discipline.policy l.fn.discipline) (g.D.Discipline.stands l.fn.discipline) (g.D.Discipline.lists l.fn.discipline) (g.D.Discipline.limits l.fn.discipline) (g.D.Discipline.link_rate l.fn.discipline) (g.F.Files.view l.fn.files) l.fn.outputs l.fn.progress arrived w k
+      → IsUnderway (g.C.Classify.placed l.classify) (g.C.Classify.dressed l.classify) l.names (g.D.Discipline.policy l.fn.discipline) (g.D.Discipline.stands l.fn.discipline) (g.D.Discipline.lists l.fn.discipline) (g.D.Discipline.limits l.fn.discipline) (g.D.Discipline.link_rate l.fn.discipline) (g.F.Files.view l.fn.files) l.fn.outputs l.fn.progress arrived w k
       → l.arrival ≡ arrives arrived k → (n : List Happened)
-      × IsUnderway (g.C.Classify.placed l.classify) (g.C.Classify.dressed l.classify) (name_of l.names) (g.D.Discipline.policy l.discipline) (g.D.Discipline.stands l.discipline) (g.D.Discipline.lists l.discipline) (g.D.Discipline.limits l.discipline) (g.D.Discipline.link_rate l.discipline) (g.F.Files.view l.files) l.outputs l.progress arrived w n
+      × IsUnderway (g.C.Classify.placed l.classify) (g.C.Classify.dressed l.classify) l.names (g.D.Discipline.policy l.discipline) (g.D.Discipline.stands l.discipline) (g.D.Discipline.lists l.discipline) (g.D.Discipline.limits l.discipline) (g.D.Discipline.link_rate l.discipline) (g.F.Files.view l.files) l.outputs l.progress arrived w n
       × SameOffers k n;
 }
 

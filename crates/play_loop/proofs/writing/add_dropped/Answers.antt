@@ -9,7 +9,7 @@ use Rattle.play_loop.proofs.writing.add_dropped.Goals as goal
 
 pub returns-in-Ok-clause-wrote : goal.returns-in-Ok-clause-wrote
 returns-in-Ok-clause-wrote g c = λ ds ts h.
-    let P : Option Dropped → Type 0 = λ o. TextsAre (g.F.Files.view c.add_row.new.files) c.args.outputs.now.departures c.args.outputs.now.fates c.args.outputs.now.records.items c.add_row.new.pending.items
+    let P : Option Dropped → Type 0 = λ o. TextsAre (g.F.Files.view c.add_row.new.files) c.args.outputs.now.departures c.args.outputs.now.fates c.args.outputs.now.records.items c.add_row.new.rows
     ds (ts ++ option_map_or (dropped_row (name_of c.args.names.now) c.args.class) o []) in
     subst P (sym c.in-Some.is) (texts_rowed _ _ _ _ _ _ _ ds ts _ h c.in-Ok.ensures.grew)
 
