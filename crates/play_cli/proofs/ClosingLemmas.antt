@@ -14,7 +14,7 @@ use Rattle.play_cli.specs.Run.{Names, HasPlayed, Fronts}
 use Rattle.play_cli.specs.declared.fault.ConfigFault.{ConfigFault}
 use Rattle.play_cli.specs.declared.fault.RunFault.{RunFault}
 use Rattle.play_cli.specs.declared.fault.RunFault.TheVariants as fault
-use Rattle.play_cli.proofs.RunLemmas.{done_comes, done_is_status, fault_comes, is_status}
+use Rattle.play_cli.proofs.RunLemmas.{done_comes, done_is_status, fault_comes, fault_is_not_done, is_status}
 use Rattle.play_cli.proofs.ToldLemmas.{done_is_told, fault_is_told}
 
 pub play_done : (u v : View) (n : Names) (seed : ℕ) → (IsTrue u.tells → HasPlayed u v n seed)
@@ -22,7 +22,8 @@ pub play_done : (u v : View) (n : Names) (seed : ℕ) → (IsTrue u.tells → Ha
     → (IsAbsent u n.arrivals → (m : List ℕ) → v.bytes m ≡ u.bytes m) → FilesEnd u v n
     → PlayEnds u v n seed (ended 0 0)
 play_done u v n seed done nothing absent files = record {
-  status = done_is_status;
+  status = done_is_status 0;
+  no_kind = λ e. refl;
   comes = done_comes u v n seed done;
   told = λ t q. done_is_told u v n seed (done t);
   leaves = record {
@@ -56,6 +57,7 @@ pub play_failed : (u v : View) (n : Names) (seed : ℕ) (f : RunFault) → Confi
     → FilesEnd u v n → PlayEnds u v n seed (status_of f)
 play_failed u v n seed f fit why front unread absent accepted nothing files = record {
   status = is_status f;
+  no_kind = λ e. fault_is_not_done f e;
   comes = fault_comes u v n seed f why accepted;
   told = λ t q. fault_is_told u v n seed f fit why accepted t q;
   leaves = record {

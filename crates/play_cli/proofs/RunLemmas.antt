@@ -1,5 +1,5 @@
 -- What the status of a fault tells, and that it is told.
-use Rattle.std.proofs.Common.{◌≡◌, ◌≢◌, ◌≤◌, ◌⊎◌, ℕ, refl, inl, inr, arith}
+use Rattle.std.proofs.Common.{◌≡◌, ◌≢◌, ◌≤◌, ◌⊎◌, ℕ, suc, refl, inl, inr, arith}
 use Rattle.std.specs.Prelude.{IsTrue}
 use Rattle.capture_model.specs.Numbers.{damage_number}
 use Rattle.play_base.specs.View.{View}
@@ -44,11 +44,7 @@ eight = inr (inr (inr (inr (inr (inr (inr (inl refl)))))))
 abbrev nine : IsCode 9
 nine = inr (inr (inr (inr (inr (inr (inr (inr refl)))))))
 
-not_zero_or_eight : (code kind : ℕ) → code ≢ 0 → code ≢ 8 → (code ≡ 0) ⊎ (code ≡ 8) → kind ≡ 0
-not_zero_or_eight code kind n m (inl e) = absurd (n e)
-not_zero_or_eight code kind n m (inr e) = absurd (m e)
-
-plain : (code kind : ℕ) → IsCode code → code ≢ 2 → ((code ≡ 0) ⊎ (code ≡ 8) → kind ≡ 0) → IsStatus (ended code kind)
+plain : (code kind : ℕ) → IsCode code → code ≢ 2 → (code ≡ 8 → kind ≡ 0) → IsStatus (ended code kind)
 plain code kind c n k = record {
   code = c;
   accepted = n;
@@ -58,8 +54,8 @@ plain code kind c n k = record {
   no_kind = k;
 }
 
-abbrev with_kind : (code kind : ℕ) → IsCode code → code ≢ 2 → code ≢ 0 → code ≢ 8 → IsStatus (ended code kind)
-with_kind code kind c n z m = plain code kind c n (not_zero_or_eight code kind z m)
+abbrev with_kind : (code kind : ℕ) → IsCode code → code ≢ 2 → code ≢ 8 → IsStatus (ended code kind)
+with_kind code kind c n m = plain code kind c n (λ e. absurd (m e))
 
 config_is_status : (c : ConfigFault) → IsStatus (config_status c)
 config_is_status (conf.At place) = record {
@@ -68,29 +64,29 @@ config_is_status (conf.At place) = record {
   no_line = λ n. absurd (n refl);
   no_word = λ n. absurd (n refl);
   no_place = λ n. refl;
-  no_kind = not_zero_or_eight 3 place.kind (λ e. omega (arith, e)) (λ e. omega (arith, e));
+  no_kind = λ e. omega (arith, e);
 }
-config_is_status conf.TooLong = with_kind 7 3 seven (λ e. omega (arith, e)) (λ e. omega (arith, e)) (λ e. omega (arith, e))
-config_is_status conf.Unbuilt = with_kind 9 3 nine (λ e. omega (arith, e)) (λ e. omega (arith, e)) (λ e. omega (arith, e))
-config_is_status conf.Read = with_kind 5 1 five (λ e. omega (arith, e)) (λ e. omega (arith, e)) (λ e. omega (arith, e))
+config_is_status conf.TooLong = with_kind 7 3 seven (λ e. omega (arith, e)) (λ e. omega (arith, e))
+config_is_status conf.Unbuilt = with_kind 9 3 nine (λ e. omega (arith, e)) (λ e. omega (arith, e))
+config_is_status conf.Read = with_kind 5 1 five (λ e. omega (arith, e)) (λ e. omega (arith, e))
 config_is_status conf.NoMemory = plain 8 0 eight (λ e. omega (arith, e)) (λ e. refl)
 
 play_is_status : (f : PlayFault) → IsStatus (play_status f)
-play_is_status play.Read = with_kind 5 2 five (λ e. omega (arith, e)) (λ e. omega (arith, e)) (λ e. omega (arith, e))
-play_is_status (play.Write output) = with_kind 6 (output_number output) six (λ e. omega (arith, e)) (λ e. omega (arith, e)) (λ e. omega (arith, e))
+play_is_status play.Read = with_kind 5 2 five (λ e. omega (arith, e)) (λ e. omega (arith, e))
+play_is_status (play.Write output) = with_kind 6 (output_number output) six (λ e. omega (arith, e)) (λ e. omega (arith, e))
 play_is_status (play.Capture d) = record {
   code = four;
   accepted = λ e. omega (arith, e);
   no_line = λ n. refl;
   no_word = λ n. refl;
   no_place = λ n. absurd (n refl);
-  no_kind = not_zero_or_eight 4 (damage_number d.kind) (λ e. omega (arith, e)) (λ e. omega (arith, e));
+  no_kind = λ e. omega (arith, e);
 }
-play_is_status (play.Limit limit) = with_kind 7 (limit_number limit) seven (λ e. omega (arith, e)) (λ e. omega (arith, e)) (λ e. omega (arith, e))
+play_is_status (play.Limit limit) = with_kind 7 (limit_number limit) seven (λ e. omega (arith, e)) (λ e. omega (arith, e))
 play_is_status play.NoMemory = plain 8 0 eight (λ e. omega (arith, e)) (λ e. refl)
 
 say_is_status : (t : Trouble) → IsStatus (say_status t)
-say_is_status trouble.Failed = with_kind 6 10 six (λ e. omega (arith, e)) (λ e. omega (arith, e)) (λ e. omega (arith, e))
+say_is_status trouble.Failed = with_kind 6 10 six (λ e. omega (arith, e)) (λ e. omega (arith, e))
 say_is_status trouble.NoMemory = plain 8 0 eight (λ e. omega (arith, e)) (λ e. refl)
 
 pub is_status : (f : RunFault) → IsStatus (status_of f)
@@ -98,8 +94,35 @@ is_status (fault.Config c) = config_is_status c
 is_status (fault.Play f) = play_is_status f
 is_status (fault.Say t) = say_is_status t
 
-pub done_is_status : IsStatus (ended 0 0)
-done_is_status = plain 0 0 (inl refl) (λ e. omega (arith, e)) (λ e. refl)
+pub done_is_status : (kind : ℕ) → IsStatus (ended 0 kind)
+done_is_status kind = with_kind 0 kind (inl refl) (λ e. omega (arith, e)) (λ e. omega (arith, e))
+
+-- a fault is not told as done
+not_zero : (n : ℕ) {A : Type 0} → (suc n) ≡ 0 → A
+not_zero n e = absurd (omega (arith, e))
+
+config_not_done : (c : ConfigFault) {A : Type 0} → (config_status c).code ≡ 0 → A
+config_not_done (conf.At place) e = not_zero 2 e
+config_not_done conf.TooLong e = not_zero 6 e
+config_not_done conf.Unbuilt e = not_zero 8 e
+config_not_done conf.Read e = not_zero 4 e
+config_not_done conf.NoMemory e = not_zero 7 e
+
+play_not_done : (f : PlayFault) {A : Type 0} → (play_status f).code ≡ 0 → A
+play_not_done play.Read e = not_zero 4 e
+play_not_done (play.Write output) e = not_zero 5 e
+play_not_done (play.Capture d) e = not_zero 3 e
+play_not_done (play.Limit limit) e = not_zero 6 e
+play_not_done play.NoMemory e = not_zero 7 e
+
+say_not_done : (t : Trouble) {A : Type 0} → (say_status t).code ≡ 0 → A
+say_not_done trouble.Failed e = not_zero 5 e
+say_not_done trouble.NoMemory e = not_zero 7 e
+
+pub fault_is_not_done : (f : RunFault) {A : Type 0} → (status_of f).code ≡ 0 → A
+fault_is_not_done (fault.Config c) e = config_not_done c e
+fault_is_not_done (fault.Play f) e = play_not_done f e
+fault_is_not_done (fault.Say t) e = say_not_done t e
 
 -- a status that comes behind the configuration comes behind one that is accepted
 after_three : (kind : ℕ) {A : Type 0} → IsAfterConfig 3 kind → A

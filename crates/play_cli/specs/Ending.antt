@@ -44,7 +44,7 @@ pub record IsStatus (s : Status) : Type 0 where
   pub no_line : s.code ≢ 3 → s.line ≡ 0
   pub no_word : s.code ≢ 3 → s.word ≡ 0
   pub no_place : s.code ≢ 4 → s.place ≡ 0
-  pub no_kind : (s.code ≡ 0) ⊎ (s.code ≡ 8) → s.kind ≡ 0
+  pub no_kind : s.code ≡ 8 → s.kind ≡ 0
 
 -- When a status of a play comes, in the words of its names and its seed.
 pub record PlayComes (old new : View) (n : Names) (seed : ℕ) (s : Status) : Type 0 where
@@ -87,6 +87,7 @@ pub record PlayLeaves (old new : View) (n : Names) (seed : ℕ) (s : Status) : T
 
 pub record PlayEnds (old new : View) (n : Names) (seed : ℕ) (s : Status) : Type 0 where
   pub status : IsStatus s
+  pub no_kind : s.code ≡ 0 → s.kind ≡ 0
   pub comes : PlayComes old new n seed s
   pub told : IsTrue old.tells → IsQuiet old new → PlayIsTold old n seed s
   pub leaves : PlayLeaves old new n seed s
@@ -94,7 +95,8 @@ pub record PlayEnds (old new : View) (n : Names) (seed : ℕ) (s : Status) : Typ
 -- The same of a check, in the words of the configuration's name and the interface asked for.
 pub record CheckEnds (old new : View) (config interface : List ℕ) (s : Status) : Type 0 where
   pub status : IsStatus s
-  pub done : s.code ≡ 0 → IsTrue old.tells → HasChecked old new config interface
+  pub done : s.code ≡ 0 → IsTrue old.tells → HasChecked old new config interface s.kind
+  pub kind : s.code ≡ 0 → s.kind ≤ 1
   pub configuration : s.code ≡ 3 → IsTrue old.tells → Says old config interface (Refused (place_of s))
   pub read : s.code ≡ 5 → (s.kind ≡ 1) × CannotRead old new 1 config
   pub write : s.code ≡ 6 → (s.kind ≡ 10) × Rose (old.write_faults 0) (new.write_faults 0)

@@ -1,5 +1,7 @@
-// Saying what a configuration means.
-ghost use Rattle.std.specs.Prelude.{◌≡◌, IfErr, OnErr, OnOk, IsTrue};
+// Saying what a configuration means, and whether its curves fit.
+ghost use Rattle.std.specs.Prelude.{◌≡◌, ◌++◌, IfErr, IfOk, OnErr, IsTrue};
+ghost use Rattle.conf_tree.specs.Canonical.{canonical_text};
+ghost use Rattle.link_fit.specs.Lines.{fit_kind, fit_line};
 ghost use Rattle.play_base.specs.View.{View, Any, Keeps};
 ghost use Rattle.play_cli.specs.Causes.{CheckCauses};
 ghost use Rattle.play_cli.specs.Checked.{HasChecked};
@@ -9,18 +11,42 @@ ghost use Rattle.play_cli.specs.Input.{OnlyReads};
 use crate::input::{absent, read_conf};
 use crate::status::{ended, status_of};
 use crate::{ConfigFault, RunFault, Status};
+use admission::Fit;
+use conf_laws::configurations_fit;
+use conf_tree::Conf;
+use link_fit::{configured_curves_can_be_summed, fit_line, fit_of};
 use play_base::{Files, NoMemory, Trouble};
 use play_words::CheckWords;
 use std::alloc::Global;
 
-// Says the canonical text of the configuration, where it has the interface asked for.
+// The canonical text of a configuration, and the line that says how the curves of an interface fit.
+fn checked_text(alloc: Global, conf: &Conf, fit: Fit) -> Result<Vec<u8>, NoMemory>
+    ensures { IfOk result (λ text. text.items ≡ canonical_text conf.now ++ fit_line fit) }
+{
+    let line = fit_line(alloc, fit)?;
+    let mut text = conf.text(alloc)?;
+    text.extend_from_slice(line.as_bytes())?;
+    Ok(text)
+}
+
+// The number of an answer.
+fn fit_kind(fit: Fit) -> u8
+    ensures { result ≡ fit_kind fit }
+{
+    match fit {
+        Fit::Fits => 0,
+        Fit::Exceeds { .. } => 1,
+    }
+}
+
+// Says the canonical text of the configuration, where it has the interface asked for, and how the curves of that fit its link.
 fn check_files<F: Files>(
     alloc: Global,
     files: &mut F,
     words: &CheckWords<'_>,
-) -> Result<(), RunFault>
-    ensures done { OnOk result (IsTrue (F.view files.old).tells →
-        HasChecked (F.view files.old) (F.view files.new) words.now.config.now words.now.interface.now) }
+) -> Result<Fit, RunFault>
+    ensures done { IfOk result (λ fit. IsTrue (F.view files.old).tells →
+        HasChecked (F.view files.old) (F.view files.new) words.now.config.now words.now.interface.now (fit_kind fit)) }
     ensures why { IfErr result (λ fault.
         CheckCauses (F.view files.old) (F.view files.new) words.now.config.now words.now.interface.now fault) }
     ensures only { OnlyReads (F.view files.old) (F.view files.new) words.now.config.now }
@@ -31,15 +57,21 @@ fn check_files<F: Files>(
         Ok(conf) => conf,
         Err(fault) => return Err(RunFault::Config(fault)),
     };
-    let Some(_found) = conf.interface(words.interface) else {
+    let Some(found) = conf.interface(words.interface) else {
         return Err(RunFault::Config(ConfigFault::At(absent())));
     };
-    let text = match conf.text(alloc) {
+    configurations_fit();
+    configured_curves_can_be_summed();
+    let fit = match fit_of(alloc, found) {
+        Ok(fit) => fit,
+        Err(_) => return Err(RunFault::Say(Trouble::NoMemory)),
+    };
+    let text = match checked_text(alloc, &conf, fit) {
         Ok(text) => text,
         Err(NoMemory) => return Err(RunFault::Say(Trouble::NoMemory)),
     };
     match files.say(text.as_slice()) {
-        Ok(()) => Ok(()),
+        Ok(()) => Ok(fit),
         Err(trouble) => Err(RunFault::Say(trouble)),
     }
 }
@@ -49,7 +81,7 @@ pub fn check<F: Files>(alloc: Global, files: &mut F, words: &CheckWords<'_>) -> 
     ensures { CheckEnds (F.view files.old) (F.view files.new) words.now.config.now words.now.interface.now result }
 {
     match check_files(alloc, files, words) {
-        Ok(()) => ended(0, 0),
+        Ok(fit) => ended(0, fit_kind(fit)),
         Err(fault) => status_of(fault),
     }
 }

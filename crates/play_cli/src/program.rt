@@ -29,7 +29,8 @@ use std::alloc::Global;
 /// queue of 50 packets that the configuration C gives the interface I, and a link of its rate, and writes the departures to D
 /// and the fates to T; Z is created and stays empty. Nothing is created before the configuration is accepted and the arrivals
 /// are open, and fates only behind departures, statistics only behind fates. Frames are placed by the filters of the interface. At
-/// most 2^20 + 1 bytes of C are read. `check --config C --interface I` says the canonical text of the configuration C, where it has the interface I.
+/// most 2^20 + 1 bytes of C are read. `check --config C --interface I` says the canonical text of the configuration C, where it
+/// has the interface I, and in a last line whether the real-time curves of I fit its link; the kind is 1 where they exceed it.
 ///
 /// The status says how it ended, and each clause below when that comes and what it leaves. Where the files tell their bytes,
 /// status 0 means the headline of `HasPlayed`, or `HasChecked`. Status 8 comes where there was no memory, and nothing ties it
@@ -45,13 +46,15 @@ pub fn run<F: Files>(alloc: Global, words: &[String], files: &mut F) -> Status
     ensures done { result.code ≡ 0 → IsPlay words.now → IsTrue (F.view files.old).tells → (seed : ℕ) → seed_of words.now ≡ Some seed →
         HasPlayed (F.view files.old) (F.view files.new) (names_of words.now) seed }
     ensures checked { result.code ≡ 0 → IsCheck words.now → IsTrue (F.view files.old).tells →
-        HasChecked (F.view files.old) (F.view files.new) (names_of words.now).config (names_of words.now).interface }
+        HasChecked (F.view files.old) (F.view files.new) (names_of words.now).config (names_of words.now).interface result.kind }
 
     // What no status uses is 0.
     ensures no_line { result.code ≢ 3 → result.line ≡ 0 }
     ensures no_word { result.code ≢ 3 → result.word ≡ 0 }
     ensures no_place { result.code ≢ 4 → result.place ≡ 0 }
-    ensures no_kind { (result.code ≡ 0) ⊎ (result.code ≡ 8) → result.kind ≡ 0 }
+    ensures no_kind { result.code ≡ 8 → result.kind ≡ 0 }
+    ensures play_kind { result.code ≡ 0 → IsPlay words.now → result.kind ≡ 0 }
+    ensures check_kind { result.code ≡ 0 → result.kind ≤ 1 }
 
     // When each fault comes, and that the configuration is accepted before any of the other files is looked at.
     ensures configuration { result.code ≡ 3 → IsTrue (F.view files.old).tells →
@@ -148,7 +151,7 @@ pub fn run_steady(alloc: Global, words: &[String], files: &mut SteadyFiles) -> S
     ensures done { result.code ≡ 0 → IsPlay words.now → (seed : ℕ) → seed_of words.now ≡ Some seed →
         HasPlayed (steady_view files.old) (steady_view files.new) (names_of words.now) seed }
     ensures checked { result.code ≡ 0 → IsCheck words.now →
-        HasChecked (steady_view files.old) (steady_view files.new) (names_of words.now).config (names_of words.now).interface }
+        HasChecked (steady_view files.old) (steady_view files.new) (names_of words.now).config (names_of words.now).interface result.kind }
     ensures complete { refusal words.now ≡ None → IsPlay words.now → (seed : ℕ) → seed_of words.now ≡ Some seed →
         IsPlayable (steady_view files.old) (names_of words.now) seed → (result.code ≡ 0) ⊎ (result.code ≡ 8) }
     ensures check_complete { refusal words.now ≡ None → IsCheck words.now →

@@ -325,9 +325,32 @@ fn canonical_text_of_voice_and_data(rt: HostRuntime) -> Result<(), Fail> {
     let status = checked(rt.alloc(), &mut files, VOICE_AND_DATA)?;
     assert_eq!(rt; status, ended(0, 0, 0));
     let text =
-        b"interface if0 bandwidth 8000000 hfsc\nclass hfsc if0 root NULL ls 8000000 0 8000000 qlimit 50\nclass hfsc if0 voice root rt 4000000 5 1000000 ls 4000000 5 1000000 qlimit 50\nclass hfsc if0 data root rt 0 5 4000000 ls 0 5 4000000 qlimit 50 default\nfilter if0 voice ruleno 0 0.0.0.0 netmask 0.0.0.0 5004 0.0.0.0 netmask 0.0.0.0 0 17\n";
+        b"interface if0 bandwidth 8000000 hfsc\nclass hfsc if0 root NULL ls 8000000 0 8000000 qlimit 50\nclass hfsc if0 voice root rt 4000000 5 1000000 ls 4000000 5 1000000 qlimit 50\nclass hfsc if0 data root rt 0 5 4000000 ls 0 5 4000000 qlimit 50 default\nfilter if0 voice ruleno 0 0.0.0.0 netmask 0.0.0.0 5004 0.0.0.0 netmask 0.0.0.0 0 17\nfits\n";
     assert!(rt; files.said() == text.as_slice());
     assert!(rt; files.get("out").is_none());
+    Ok(())
+}
+
+// The last line that a check says of two leaves with these options on a link of 8 megabits a second.
+fn says_last(alloc: Global, files: &mut MemoryFiles, options: [&str; 2]) -> Result<Status, Fail> {
+    let one = options[0];
+    let other = options[1];
+    let config = format!(in alloc; "interface if0 bandwidth 8M hfsc\nclass hfsc if0 root NULL pshare 100\nclass hfsc if0 a root {one}\nclass hfsc if0 b root {other} default\n")?;
+    Ok(checked(alloc, files, config.as_str())?)
+}
+
+#[test]
+fn curves_exceed_the_link(rt: HostRuntime) -> Result<(), Fail> {
+    for (options, line, kind) in [
+        (["sc 0 0 5M", "sc 0 0 5M"], "\nexceeds at 1 by 2000000\n", 1),
+        (["sc 6M 10 1M", "sc 6M 10 1M"], "\nexceeds at 10000000 by 40000000000000\n", 1),
+        (["rt 0 10 8M pshare 50 qlimit 200", "rt 8M 10 0 pshare 50 qlimit 200"], "\nfits\n", 0),
+    ] {
+        let mut files = MemoryFiles::new(rt.alloc());
+        let status = says_last(rt.alloc(), &mut files, options)?;
+        assert_eq!(rt; status, ended(0, 0, kind), "{line}");
+        assert!(rt; files.said().ends_with(line.as_bytes()), "{line}");
+    }
     Ok(())
 }
 
@@ -373,7 +396,7 @@ fn configuration_at_its_limit(rt: HostRuntime) -> Result<(), Fail> {
     let mut files = MemoryFiles::new(rt.alloc());
     let status = checked(rt.alloc(), &mut files, text.as_str())?;
     assert_eq!(rt; status, ended(0, 0, 0));
-    assert!(rt; files.said() == b"interface if0 bandwidth 100000000 hfsc\n".as_slice());
+    assert!(rt; files.said() == b"interface if0 bandwidth 100000000 hfsc\nfits\n".as_slice());
     text.push_str("x")?;
     let status = checked(rt.alloc(), &mut files, text.as_str())?;
     assert_eq!(rt; status, ended(7, 0, 3));
