@@ -1,5 +1,5 @@
 -- The curves of an interface that keeps to the ranges of a configuration.
-use Rattle.std.proofs.Common.{◌≡◌, ◌≤◌, ◌*◌, ◌^◌, ℕ, suc, List, [], ◌∷◌, length, Option, None, Some, refl, sym, subst, arith}
+use Rattle.std.proofs.Common.{◌≡◌, ◌≤◌, ℕ, zero, suc, List, [], ◌∷◌, length, Option, None, Some, refl, sym, subst, arith}
 use Rattle.std.specs.Prelude.{All, slice_get}
 use Rattle.service_curve.specs.declared.Curve.{Curve}
 use Rattle.service_curve.specs.Curve.{IsInRange}
@@ -8,7 +8,7 @@ use Rattle.conf_tree.specs.declared.interface.Interface.{Interface}
 use Rattle.conf_tree.specs.declared.interface.Kind.{Kind}
 use Rattle.conf_tree.specs.declared.interface.Kind.TheVariants.{Hfsc, Cbq}
 use Rattle.conf_laws.specs.Fit.{IsCurve, IsCurveIfAny, IsInterface, IsOfKind}
-use Rattle.admission.specs.Fit.{Fits, total}
+use Rattle.admission.specs.Fit.{Fits}
 use Rattle.link_fit.specs.Curves.{real_curves, curves_of, HasCurves}
 
 -- a curve that can be summed, where there is one
@@ -20,8 +20,8 @@ in_range : (s : Curve) → IsCurve 0 0 s → IsInRange s
 in_range s h =
     let first = h.first.1 in
     let second = h.second.1 in
-    let most = h.bend.1.0 in
-    let bend = h.bend.1.1 in
+    let most = h.bend.1 in
+    let bend = h.bend.2 in
     record { first = omega (arith, first); bend = omega (arith, most, bend); second = omega (arith, second) }
 
 sound_if : (o : Option Curve) → IsCurveIfAny 0 0 o → IsSound o
@@ -35,16 +35,20 @@ sound_of Cbq c h = subst IsSound (sym h.real) tt
 abbrev with_curve : Option Curve → List Curve → List Curve
 with_curve o ss = elim o [ None ↦ ss | Some s ↦ s ∷ ss ]
 
+all_cons : (s : Curve) (ss : List Curve) → IsInRange s → All IsInRange ss → All IsInRange (s ∷ ss)
+all_cons s ss h all zero d l = h
+all_cons s ss h all (suc k) d l = all k d (omega (arith, l))
+
 all_with : (o : Option Curve) (ss : List Curve) → IsSound o → All IsInRange ss → All IsInRange (with_curve o ss)
 all_with None ss h all = all
-all_with (Some s) ss h all = (h, all)
+all_with (Some s) ss h all = all_cons s ss h all
 
 count_with : (o : Option Curve) (ss : List Curve) (n : ℕ) → length ss ≤ n → length (with_curve o ss) ≤ suc n
 count_with None ss n h = omega (arith, h)
 count_with (Some s) ss n h = omega (arith, h)
 
 all_in_range : (cs : List Class) → ((k : ℕ) (c : Class) → slice_get cs k ≡ Some c → IsSound c.real) → All IsInRange (real_curves cs)
-all_in_range [] h = tt
+all_in_range [] h = λ k d l. absurd (omega (arith, l))
 all_in_range (c ∷ cs) h = all_with c.real (real_curves cs) (h 0 c refl) (all_in_range cs (λ k d e. h (suc k) d e))
 
 few : (cs : List Class) → length (real_curves cs) ≤ length cs

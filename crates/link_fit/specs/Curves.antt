@@ -1,6 +1,6 @@
 -- The real-time curves of an interface, after Stoica, Zhang and Ng, SIGCOMM 1997. A class with children has none, and so has a class
 -- of CBQ.
-use Rattle.std.specs.Prelude.{◌≡◌, ◌≤◌, ◌^◌, ◌↔◌, List, [], ◌∷◌, Option, None, Some}
+use Rattle.std.specs.Prelude.{◌≡◌, ◌≤◌, ◌^◌, ◌↔◌, List, [], ◌∷◌, None, Some}
 use Rattle.service_curve.specs.declared.Curve.{Curve}
 use Rattle.conf_tree.specs.declared.class.Class.{Class}
 use Rattle.conf_tree.specs.declared.interface.Interface.{Interface}

@@ -335,7 +335,9 @@ fn canonical_text_of_voice_and_data(rt: HostRuntime) -> Result<(), Fail> {
 fn says_last(alloc: Global, files: &mut MemoryFiles, options: [&str; 2]) -> Result<Status, Fail> {
     let one = options[0];
     let other = options[1];
-    let config = format!(in alloc; "interface if0 bandwidth 8M hfsc\nclass hfsc if0 root NULL pshare 100\nclass hfsc if0 a root {one}\nclass hfsc if0 b root {other} default\n")?;
+    let config = format!(in alloc;
+        "interface if0 bandwidth 8M hfsc\nclass hfsc if0 root NULL pshare 100\nclass hfsc if0 a root {one}\nclass hfsc if0 b root {other} default\n"
+    )?;
     Ok(checked(alloc, files, config.as_str())?)
 }
 
@@ -343,8 +345,19 @@ fn says_last(alloc: Global, files: &mut MemoryFiles, options: [&str; 2]) -> Resu
 fn curves_exceed_the_link(rt: HostRuntime) -> Result<(), Fail> {
     for (options, line, kind) in [
         (["sc 0 0 5M", "sc 0 0 5M"], "\nexceeds at 1 by 2000000\n", 1),
-        (["sc 6M 10 1M", "sc 6M 10 1M"], "\nexceeds at 10000000 by 40000000000000\n", 1),
-        (["rt 0 10 8M pshare 50 qlimit 200", "rt 8M 10 0 pshare 50 qlimit 200"], "\nfits\n", 0),
+        (
+            ["sc 6M 10 1M", "sc 6M 10 1M"],
+            "\nexceeds at 10000000 by 40000000000000\n",
+            1,
+        ),
+        (
+            [
+                "rt 0 10 8M pshare 50 qlimit 200",
+                "rt 8M 10 0 pshare 50 qlimit 200",
+            ],
+            "\nfits\n",
+            0,
+        ),
     ] {
         let mut files = MemoryFiles::new(rt.alloc());
         let status = says_last(rt.alloc(), &mut files, options)?;
