@@ -26,8 +26,8 @@ use std::alloc::Global;
 /// All that the program does. `words` are the words behind the program's name.
 ///
 /// `play --config C --interface I --arrivals A --departures D --fates T --stats Z --seed N` plays the capture A through the one
-/// queue of 50 packets that the configuration C gives the interface I, and a link of its rate, and writes the departures to D
-/// and the fates to T; Z is created and stays empty. Nothing is created before the configuration is accepted and the arrivals
+/// queue of 50 packets that the configuration C gives the interface I, and a link of its rate, and writes the departures to D,
+/// the fates to T, and at the end the statistics to Z. Nothing is created before the configuration is accepted and the arrivals
 /// are open, and fates only behind departures, statistics only behind fates. Frames are placed by the filters of the interface. At
 /// most 2^20 + 1 bytes of C are read. `check --config C --interface I` says the canonical text of the configuration C, where it
 /// has the interface I, and in a last line whether the real-time curves of I fit its link; the kind is 1 where they exceed it.

@@ -44,7 +44,7 @@ pub fn words_but(alloc: Global, place: usize, word: &str) -> Result<Vec<String>,
 }
 
 // A capture of so many equal packets, at this second and nanosecond, with 60 captured bytes each.
-fn capture(
+pub fn capture(
     alloc: Global,
     count: u32,
     second: u32,
@@ -121,7 +121,9 @@ fn empty_capture(rt: HostRuntime) -> Result<(), Fail> {
     assert!(rt; files.get("out").unwrap_or_default() == HEAD.as_slice());
     assert!(rt; files.get("fates").unwrap_or_default() == FATES.as_bytes());
     assert_eq!(rt; FATES.len(), 43);
-    assert!(rt; files.get("stats").is_some_and(|s| s.is_empty()));
+    let counts =
+        b"class,arrived,arrivedbytes,raised,sent,sentbytes,full,early,forced\ndefault,0,0,0,0,0,0,0,0\n*,0,0,0,0,0,0,0,0\n";
+    assert!(rt; files.get("stats").unwrap_or_default() == counts.as_slice());
     Ok(())
 }
 
@@ -269,6 +271,9 @@ fn big_endian_microseconds_and_a_raised_stamp(rt: HostRuntime) -> Result<(), Fai
     let rows =
         b"number,arrival,length,class,fate,start,end\n1,2000005000,100,default,share,2000005000,2000105000\n2,2000005000,100,default,share,2000105000,2000205000\n";
     assert!(rt; files.get("fates").unwrap_or_default() == rows.as_slice());
+    let counts =
+        b"class,arrived,arrivedbytes,raised,sent,sentbytes,full,early,forced\ndefault,2,200,1,2,200,0,0,0\n*,2,200,1,2,200,0,0,0\n";
+    assert!(rt; files.get("stats").unwrap_or_default() == counts.as_slice());
     Ok(())
 }
 
@@ -310,6 +315,7 @@ fn each_call_fails_in_turn(rt: HostRuntime) -> Result<(), Fail> {
         (Call::Write, 1, 6, 2),
         (Call::Write, 2, 6, 1),
         (Call::Write, 3, 6, 2),
+        (Call::Write, 4, 6, 3),
     ] {
         let mut files = MemoryFiles::new(rt.alloc());
         files.fail_at(call, nth)?;
@@ -449,6 +455,7 @@ fn decided_before_the_cut(rt: HostRuntime) -> Result<(), Fail> {
     let mut files = MemoryFiles::new(rt.alloc());
     let status = played(rt.alloc(), &mut files, IMPLIED, &arrivals)?;
     assert_eq!(rt; status, ended(4, 252, 5));
+    assert!(rt; files.get("stats").is_some_and(|s| s.is_empty()));
     let rows =
         b"number,arrival,length,class,fate,start,end\n1,0,1000,default,share,0,1000000\n2,0,1000,default,share,1000000,2000000\n";
     assert!(rt; files.get("fates").unwrap_or_default() == rows.as_slice());
