@@ -1,0 +1,1 @@
+-- The policy is lawful.
