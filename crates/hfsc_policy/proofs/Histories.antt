@@ -1,11 +1,10 @@
 -- What waits after the events of a link is what waits after the history that HFSC sees.
-use Rattle.std.proofs.Common.{◌≡◌, ℕ, Bool, true, false, List, [], ◌∷◌, ◌++◌, None, Some, refl, ap, sym, ◌∙◌, drop}
-use Rattle.std.specs.Prelude.{Option, ◌==◌, ◌&&◌, slice_get, if◌then◌else◌}
-use Rattle.altq_model.specs.declared.Verdict.{Verdict}
+use Rattle.std.proofs.Common.{◌≡◌, ℕ, Bool, true, false, List, [], ◌∷◌, ◌++◌, Some, refl, ap, sym, ◌∙◌, drop}
+use Rattle.std.specs.Prelude.{◌==◌, ◌&&◌, slice_get, if◌then◌else◌}
 use Rattle.altq_model.specs.History.{Coming, Event, Offered, Sent, is_kept, head, waiting}
-use Rattle.hfsc_model.specs.Event.{HfscHistory, Kept, Sent as Went}
-use Rattle.hfsc_model.specs.Leaf.{Leaf, Waiting, leaf, is_waiting, after_kept, after_sent}
-use Rattle.hfsc_policy.specs.Events.{is_real, with_offer, hfsc_history, waits}
+use Rattle.hfsc_model.specs.Event.{Kept}
+use Rattle.hfsc_model.specs.Leaf.{Waiting, leaf, is_waiting, after_kept, after_sent}
+use Rattle.hfsc_policy.specs.Events.{is_real, hfsc_history, waits}
 
 waits_push : (ws : List Coming) (a : Coming) → waits ws ++ record { at = a.at; len = a.len } ∷ [] ≡ waits (ws ++ a ∷ [])
 waits_push [] a = refl

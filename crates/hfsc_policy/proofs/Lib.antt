@@ -4,3 +4,7 @@ pub mod Histories
 pub mod Offers
 pub mod Paths
 pub mod Lawful
+pub mod Timely
+pub mod Plays
+pub mod Few
+pub mod Small

@@ -1,5 +1,5 @@
 -- From when on a leaf may send.
-use Rattle.std.proofs.Common.{◌≡◌, ◌≤◌, ◌*◌, ◌+◌, ◌-◌, ◌<◌, ℕ, max, Bool, true, false, List, [], ◌∷◌, None, Some, refl, ap, sym, arith, ◌∙◌}
+use Rattle.std.proofs.Common.{◌≡◌, ◌≤◌, ◌*◌, ◌+◌, ◌-◌, ℕ, max, Bool, true, false, List, [], ◌∷◌, None, Some, refl, ap, sym, arith, ◌∙◌}
 use Rattle.std.specs.Prelude.{Option, ◌==◌, ◌&&◌, ◌||◌, nat_le, if◌then◌else◌}
 use Rattle.std.specs.List.{list_all}
 use Rattle.std.proofs.lemmas.Bool.Decides.{nat_tests}
@@ -20,7 +20,7 @@ use Rattle.hfsc_model.specs.Limit.{arrivals_of, within, is_within, is_open, may_
 use Rattle.hfsc_model.specs.Choice.{may_send}
 use Rattle.hfsc_model.proofs.Soonest.{come_true, true_come}
 use Rattle.hfsc_laws.proofs.Tree.{same_truth, and_true, true_and}
-use Rattle.hfsc_policy.specs.Classes.{AreClasses}
+use Rattle.hfsc_policy.specs.Classes.{IsClassTree}
 use Rattle.hfsc_policy.specs.Policy.{eligible_from, within_from, open_from, earlier_of, send_from, not_before}
 
 pub reaches_is : (s : Curve) (os : List Opening) (t count : ℕ) → reaches s os t count ≡ has_come (deadline s os count) t
@@ -121,7 +121,7 @@ within_there : (o : Option Curve) (os : List Opening) (u : ℕ) → ((s : Curve)
 within_there None os u f = record { value = 0; is = refl }
 within_there (Some s) os u f = deadline_there s os u (f s refl)
 
-open_there : (cs : List HfscClass) (h : HfscHistory) (up : List ℕ) → AreClasses cs → IsThere (open_from cs h up)
+open_there : (cs : List HfscClass) (h : HfscHistory) (up : List ℕ) → IsClassTree cs → IsThere (open_from cs h up)
 open_there cs h [] k = record { value = 0; is = refl }
 open_there cs h (c ∷ up) k =
     later_there (within_from (class_of cs c).limit (arrivals_of cs h c) (total cs h c)) (open_from cs h up)
@@ -132,7 +132,7 @@ earlier_there None b x = x
 earlier_there (Some u) None x = let no = x.is in absurd cc
 earlier_there (Some u) (Some v) x = record { value = _; is = refl }
 
-pub send_there : (cs : List HfscClass) (h : HfscHistory) (c : ℕ) → AreClasses cs → IsThere (send_from cs h c)
+pub send_there : (cs : List HfscClass) (h : HfscHistory) (c : ℕ) → IsClassTree cs → IsThere (send_from cs h c)
 send_there cs h c k =
     earlier_there (eligible_from (curve_of (reals cs) c) (leaf h c)) (open_from cs h (path cs c)) (open_there cs h (path cs c) k)
 

@@ -1,5 +1,5 @@
 -- An offer changes nothing for a leaf in which a packet waits.
-use Rattle.std.proofs.Common.{◌≡◌, ◌≤◌, ◌<◌, ℕ, Bool, true, false, inl, inr, List, [], ◌∷◌, None, Some, length, refl, ap, sym, arith, ◌∙◌}
+use Rattle.std.proofs.Common.{◌≡◌, ◌<◌, ℕ, Bool, true, false, inl, inr, List, [], ◌∷◌, None, Some, length, refl, ap, arith, ◌∙◌}
 use Rattle.std.specs.Prelude.{Option, ◌==◌, ◌&&◌, not, nat_lt, if◌then◌else◌}
 use Rattle.std.proofs.lemmas.Bool.Decides.{nat_tests}
 use Rattle.service_curve.specs.declared.Curve.{Curve}

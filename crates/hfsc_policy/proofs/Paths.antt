@@ -1,8 +1,8 @@
 -- What is chosen is a leaf that may send.
 use Rattle.std.proofs.Common.{◌≡◌, ◌≤◌, ◌<◌, ◌+◌, ◌⊎◌, inl, inr, ℕ, zero, suc, Bool, true, false, List, [], ◌∷◌, None, Some, length, refl, ap, sym, subst, arith, ◌∙◌}
-use Rattle.std.specs.Prelude.{Option, ◌==◌, ◌&&◌, ◌||◌, nat_le, nat_lt, not, map, slice_get, if◌then◌else◌, MatchOption}
+use Rattle.std.specs.Prelude.{Option, ◌==◌, ◌&&◌, ◌||◌, nat_le, nat_lt, not, if◌then◌else◌, MatchOption}
 use Rattle.std.specs.List.{filter}
-use Rattle.std.proofs.lemmas.Bool.{cases_eq, cases_lt}
+use Rattle.std.proofs.lemmas.Bool.{cases_eq}
 use Rattle.std.proofs.lemmas.Bool.Decides.{nat_tests}
 use Rattle.service_curve.specs.declared.Curve.{Curve}
 use Rattle.runtime_curve.specs.Opening.{eligible_curve}
@@ -10,16 +10,16 @@ use Rattle.runtime_curve.specs.Deadline.{reaches}
 use Rattle.altq_model.specs.Play.{IsOneOf}
 use Rattle.hfsc_model.specs.declared.HfscClass.{HfscClass}
 use Rattle.hfsc_model.specs.Event.{HfscHistory}
-use Rattle.hfsc_model.specs.Leaf.{Leaf, leaf, is_waiting}
+use Rattle.hfsc_model.specs.Leaf.{leaf, is_waiting}
 use Rattle.hfsc_model.specs.Tree.{class_of, numbers, is_child, is_leaf, is_parent, is_under, path, path_up, reals, IsTree}
-use Rattle.hfsc_model.specs.RealTime.{curve_in, curve_of, unless_zero, is_eligible, real_pick, IsEligible, IsRealPick, NoneIsEligible}
-use Rattle.hfsc_model.specs.Share.{has_parent, virtual_time}
+use Rattle.hfsc_model.specs.RealTime.{curve_of, unless_zero, is_eligible, real_pick, IsEligible, IsRealPick, NoneIsEligible}
+use Rattle.hfsc_model.specs.Share.{virtual_time}
 use Rattle.hfsc_model.specs.Limit.{is_open, may_share, shares_under, least_by, path_down, share_pick}
 use Rattle.hfsc_model.specs.Choice.{choice, first_choice, by_real_time, by_share, may_send, Choice}
 use Rattle.hfsc_laws.proofs.Picking.{computed}
 use Rattle.hfsc_laws.proofs.Tree.{IsAny, and_true, true_and, any_is, is_any, child_within, parent_of, under_self, below_is, under_up}
-use Rattle.hfsc_policy.specs.Classes.{AreClasses}
-use Rattle.hfsc_policy.proofs.Lists.{kept_is, is_kept, in_range, range_in}
+use Rattle.hfsc_policy.specs.Classes.{IsClassTree}
+use Rattle.hfsc_policy.proofs.Lists.{kept_is, is_kept, in_range}
 use Rattle.hfsc_policy.proofs.Offers.{leaf_below}
 
 -- the class of least virtual time is one of the list, and there is one where the list is not empty
@@ -49,7 +49,7 @@ longer cs c p t e =
     let same = sym (t.levels c) ∙ ap (λ (o : Option ℕ). c ∷ path_up 8 cs o) e in
     ap (λ (xs : List ℕ). length xs) same ∙ omega arith
 
-root_under : (n : ℕ) (cs : List HfscClass) (c : ℕ) → AreClasses cs → c < n → c < length cs → is_under cs 0 c ≡ true
+root_under : (n : ℕ) (cs : List HfscClass) (c : ℕ) → IsClassTree cs → c < n → c < length cs → is_under cs 0 c ≡ true
 root_under zero cs c k h l = absurd (omega arith)
 root_under (suc n) cs zero k h l = under_self cs 0
 root_under (suc n) cs (suc c) k h l = go (class_of cs (suc c)).parent refl (k.one_root (suc c) (omega arith) l) (λ p. root_under n cs p k)
@@ -131,7 +131,7 @@ real_of [] c = refl
 real_of (k ∷ ks) zero = refl
 real_of (k ∷ ks) (suc c) = real_of ks c
 
-curve_there : (cs : List HfscClass) (c : ℕ) (s : Curve) → AreClasses cs → curve_of (reals cs) c ≡ Some s → is_leaf cs c ≡ true
+curve_there : (cs : List HfscClass) (c : ℕ) (s : Curve) → IsClassTree cs → curve_of (reals cs) c ≡ Some s → is_leaf cs c ≡ true
 curve_there cs c s k e = true_and (nat_lt c (length cs)) (not (is_parent cs c)) (low cs c e) (go (is_parent cs c) refl)
   where
     low : (ks : List HfscClass) (d : ℕ) → curve_of (reals ks) d ≡ Some s → nat_lt d (length ks) ≡ true
@@ -146,7 +146,7 @@ curve_there cs c s k e = true_and (nat_lt c (length cs)) (not (is_parent cs c)) 
         absurd cc
     go false f = refl
 
-real_sender : (cs : List HfscClass) (h : HfscHistory) (now c : ℕ) → AreClasses cs → IsEligible (reals cs) h now c → IsSender cs h now c
+pub real_sender : (cs : List HfscClass) (h : HfscHistory) (now c : ℕ) → IsClassTree cs → IsEligible (reals cs) h now c → IsSender cs h now c
 real_sender cs h now c k e = go (curve_of (reals cs) c) refl
   where
     go : (o : Option Curve) → curve_of (reals cs) c ≡ o → IsSender cs h now c
@@ -169,7 +169,7 @@ pub record IsChoice (cs : List HfscClass) (h : HfscHistory) (now : ℕ) : Type 0
   pub by_real_time : chosen.real ≡ true → IsRealPick (reals cs) h now chosen.class
   pub by_share : chosen.real ≡ false → NoneIsEligible (reals cs) h now
 
-shares_of : (cs : List HfscClass) (h : HfscHistory) (now c : ℕ) → AreClasses cs → NoneIsEligible (reals cs) h now → IsSender cs h now c → shares_under cs h now 0 ≡ true
+shares_of : (cs : List HfscClass) (h : HfscHistory) (now c : ℕ) → IsClassTree cs → NoneIsEligible (reals cs) h now → IsSender cs h now c → shares_under cs h now 0 ≡ true
 shares_of cs h now c k none x = go (is_eligible (curve_of (reals cs) c) (leaf h c) now) refl x.may
   where
     go : (b : Bool) → is_eligible (curve_of (reals cs) c) (leaf h c) now ≡ b → (b || may_share cs h now c) ≡ true → shares_under cs h now 0 ≡ true
@@ -182,7 +182,7 @@ shares_of cs h now c k none x = go (is_eligible (curve_of (reals cs) c) (leaf h 
 share_picked : (cs : List HfscClass) (h : HfscHistory) (now : ℕ) → shares_under cs h now 0 ≡ true → share_pick cs h now ≡ Some (path_down 8 cs h now 0)
 share_picked cs h now e = rw e refl
 
-pub chosen_may : (cs : List HfscClass) (h : HfscHistory) (now c : ℕ) → AreClasses cs → IsSender cs h now c → IsChoice cs h now
+pub chosen_may : (cs : List HfscClass) (h : HfscHistory) (now c : ℕ) → IsClassTree cs → IsSender cs h now c → IsChoice cs h now
 chosen_may cs h now c k x = go (real_pick (reals cs) h now) refl (computed (reals cs) h now)
   where
     root_deep : length (path cs 0) ≡ 1

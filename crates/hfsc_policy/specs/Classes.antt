@@ -8,12 +8,12 @@ use Rattle.hfsc_model.specs.Tree.{class_of, numbers, is_leaf, is_parent, IsTree}
 use Rattle.hfsc_model.specs.Share.{has_parent}
 
 -- they are a tree under the first class, which is the root; a class with children has no real-time curve; a limit rises without end
-pub record AreClasses (cs : List HfscClass) : Type 0 where
+pub record IsClassTree (cs : List HfscClass) : Type 0 where
   pub some : 0 < length cs
   pub tree : IsTree cs
   pub one_root : (c : ℕ) → 0 < c → c < length cs → has_parent cs c ≡ true
   pub inside : (c : ℕ) → is_parent cs c ≡ true → (class_of cs c).real ≡ None
-  pub shares : (c : ℕ) (s : Curve) → (class_of cs c).share ≡ Some s → IsInRange s
+  pub shares : (c : ℕ) (s : Curve) → has_parent cs c ≡ true → (class_of cs c).share ≡ Some s → IsInRange s
   pub limits : (c : ℕ) (s : Curve) → (class_of cs c).limit ≡ Some s → 1000 ≤ s.m2
 
 -- the classes that may hold packets, in the order of the file

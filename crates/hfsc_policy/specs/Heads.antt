@@ -1,5 +1,6 @@
 -- What is known of the packets of a history.
 use Rattle.std.specs.Prelude.{◌≡◌, ◌≤◌, ◌+◌, ℕ, List, [], ◌∷◌, Some}
+use Rattle.play_base.specs.Units.{units}
 use Rattle.altq_model.specs.History.{Coming, Event, Offered, Sent, Transmission, head}
 use Rattle.hfsc_model.specs.Event.{HfscHistory, Kept, Sent as Went}
 
@@ -9,15 +10,23 @@ pub record SendsHead (s : Transmission) (h : List Event) : Type 0 where
   pub front : head s.class h ≡ Some packet
   pub len : s.len ≡ packet.len
 
--- each sending is, and no packet is empty
-abbrev pub AreHeads : List Event → Type 0
-AreHeads [] = Unit {0}
-AreHeads (Offered a w v ∷ h) = (1 ≤ a.len) × AreHeads h
-AreHeads (Sent s ∷ h) = SendsHead s h × AreHeads h
-
--- the longest packet
+-- the longest packet, in bytes
 abbrev pub longest : ℕ
 longest = 262144
+
+pub record IsSized (a : Coming) : Type 0 where
+  pub least : 1 ≤ a.len
+  pub most : a.len ≤ longest
+
+abbrev pub AreSized : List Coming → Type 0
+AreSized [] = Unit {0}
+AreSized (a ∷ rest) = IsSized a × AreSized rest
+
+-- each sending is, and no packet is empty or longer than the longest
+abbrev pub AreHeads : List Event → Type 0
+AreHeads [] = Unit {0}
+AreHeads (Offered a w v ∷ h) = IsSized a × AreHeads h
+AreHeads (Sent s ∷ h) = SendsHead s h × AreHeads h
 
 abbrev pub AreWithin : HfscHistory → Type 0
 AreWithin [] = Unit {0}
@@ -33,6 +42,11 @@ abbrev pub sent_in : HfscHistory → ℕ
 sent_in [] = 0
 sent_in (Kept c at len ∷ h) = sent_in h
 sent_in (Went c len real start ∷ h) = sent_in h + 1
+
+abbrev pub units_in : HfscHistory → ℕ
+units_in [] = 0
+units_in (Kept c at len ∷ h) = units_in h
+units_in (Went c len real start ∷ h) = units_in h + units len
 
 -- at most 4,000,000 packets were kept, none longer than the longest, and no more sent
 pub record AreFew (h : HfscHistory) : Type 0 where
