@@ -125,7 +125,7 @@ open_there : (cs : List HfscClass) (h : HfscHistory) (up : List ℕ) → IsClass
 open_there cs h [] k = record { value = 0; is = refl }
 open_there cs h (c ∷ up) k =
     later_there (within_from (class_of cs c).limit (arrivals_of cs h c) (total cs h c)) (open_from cs h up)
-    (within_there (class_of cs c).limit (arrivals_of cs h c) (total cs h c) (λ s e. k.limits c s e)) (open_there cs h up k)
+    (within_there (class_of cs c).limit (arrivals_of cs h c) (total cs h c) (λ s e. (k.limits c s e).second)) (open_there cs h up k)
 
 earlier_there : (a b : Option ℕ) → IsThere b → IsThere (earlier_of a b)
 earlier_there None b x = x

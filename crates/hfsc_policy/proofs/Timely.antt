@@ -14,19 +14,21 @@ use Rattle.altq_model.specs.Policies.{Answering}
 use Rattle.link_clock.proofs.Rounded.{ceil_le}
 use Rattle.discipline_laws.specs.Moments.{StartsBy, IsOrderly}
 use Rattle.hfsc_model.specs.declared.HfscClass.{HfscClass}
-use Rattle.hfsc_model.specs.Event.{Kept}
-use Rattle.hfsc_model.specs.Leaf.{Waiting}
+use Rattle.hfsc_model.specs.Event.{HfscHistory, Kept}
+use Rattle.hfsc_model.specs.Leaf.{leaf}
 use Rattle.hfsc_model.specs.Link.{Run, free, started, with_units, run_after, AreOneByOne}
 use Rattle.hfsc_model.specs.Tree.{reals}
 use Rattle.hfsc_model.specs.RealTime.{IsRealPick, NoneIsEligible}
 use Rattle.hfsc_model.specs.Choice.{choice}
 use Rattle.hfsc_model.specs.Timely.{moment, StartBefore, AreInOrder, IsHeld, Before, Came, IsBusyAt, Goes_on, Held, IsBusy, IsHead, AreChosen, FitLink, IsTimely}
 use Rattle.hfsc_laws.proofs.Timing.{timely}
-use Rattle.hfsc_policy.specs.Events.{is_real, rule_of, hfsc_history, waits}
+use Rattle.hfsc_policy.specs.Events.{is_real, rule_of, with_offer, hfsc_history}
 use Rattle.hfsc_policy.specs.Classes.{IsClassTree, leaves}
 use Rattle.hfsc_policy.specs.Policy.{send_from, choice_of, hfsc_policy}
-use Rattle.hfsc_policy.specs.Heads.{IsSized, AreSized, SendsHead, AreHeads}
+use Rattle.hfsc_policy.specs.Heads.{AreHeads}
 use Rattle.hfsc_policy.proofs.Moments.{send_is, send_there, come_at, at_come}
+use Rattle.altq_model.specs.declared.Verdict.{Verdict}
+use Rattle.hfsc_policy.proofs.Few.{head_sized}
 use Rattle.hfsc_policy.proofs.Histories.{leaf_waits, head_waits, waits_head}
 use Rattle.hfsc_policy.proofs.Offers.{leaf_below}
 use Rattle.hfsc_policy.proofs.Paths.{IsSender, chosen_may, real_sender}
@@ -39,12 +41,12 @@ pub record IsSendingOf (cs : List HfscClass) (h : List Event) (s : Transmission)
   pub sender : ℕ
   pub may : IsSender cs (hfsc_history h) s.start sender
   pub pick : choice_of (choice cs (hfsc_history h) s.start) ≡ record { class = s.class; rule = s.rule }
-  pub front : SendsHead s h
+  pub front : IsHead (leaf (hfsc_history h) s.class).waiting s.len
 
 -- and of events in order
 abbrev pub Follow : List HfscClass → List Event → Type 0
 Follow cs [] = Unit {0}
-Follow cs (Offered a w v ∷ h) = (latest h ≤ a.at) × StartsBefore a.at h × IsSized a × Follow cs h
+Follow cs (Offered a w v ∷ h) = (latest h ≤ a.at) × StartsBefore a.at h × Follow cs h
 Follow cs (Sent s ∷ h) = IsSendingOf cs h s × Follow cs h
 
 -- the order of events
@@ -71,43 +73,24 @@ before_same (Offered a w v ∷ h) t b = go (is_kept v.verdict) (before_same h t 
     go false rest = rest
 before_same (Sent s ∷ h) t b = (b.0, before_same h t b.1)
 
--- what waits is not empty
-sized_push : (ws : List Coming) (a : Coming) → AreSized ws → IsSized a → AreSized (ws ++ a ∷ [])
-sized_push [] a x y = (y, tt)
-sized_push (w ∷ ws) a x y = (x.0, sized_push ws a x.1 y)
-
-sized_drop : (ws : List Coming) → AreSized ws → AreSized (drop 1 ws)
-sized_drop [] x = tt
-sized_drop (w ∷ ws) x = x.1
-
-sized_waiting : (cs : List HfscClass) (c : ℕ) (h : List Event) → Follow cs h → AreSized (waiting c h)
-sized_waiting cs c [] f = tt
-sized_waiting cs c (Offered a w v ∷ h) f = go (is_kept v.verdict && (a.class == c)) (sized_waiting cs c h f.3)
+-- what a history with an offer has, it had before
+heads_before : (v : Verdict) (a : Coming) (h : HfscHistory) → AreHeads (with_offer v a h) → AreHeads h
+heads_before v a h x = go (is_kept v) x
   where
-    go : (k : Bool) → AreSized (waiting c h) → AreSized (if k then waiting c h ++ a ∷ [] else waiting c h)
-    go true x = sized_push (waiting c h) a x f.2
-    go false x = x
-sized_waiting cs c (Sent s ∷ h) f = go (s.class == c) (sized_waiting cs c h f.1)
-  where
-    go : (k : Bool) → AreSized (waiting c h) → AreSized (if k then drop 1 (waiting c h) else waiting c h)
-    go true x = sized_drop (waiting c h) x
-    go false x = x
+    go : (k : Bool) → AreHeads (if k then Kept a.class a.at a.len ∷ h else h) → AreHeads h
+    go true y = y.1
+    go false y = y
 
-front_sized : (ws : List Coming) (b : Coming) → AreSized ws → slice_get ws 0 ≡ Some b → IsSized b
-front_sized [] b x e = absurd cc
-front_sized (w ∷ ws) b x e = let same : w ≡ b = cc in subst (λ (z : Coming). IsSized z) same x.0
-
-pub in_order : (cs : List HfscClass) (h : List Event) → Follow cs h → AreInOrder (hfsc_history h)
-in_order cs [] f = tt
-in_order cs (Offered a w v ∷ h) f = go (is_kept v.verdict) (in_order cs h f.3)
+pub in_order : (cs : List HfscClass) (h : List Event) → Follow cs h → AreHeads (hfsc_history h) → AreInOrder (hfsc_history h)
+in_order cs [] f a = tt
+in_order cs (Offered b w v ∷ h) f a = go (is_kept v.verdict) (in_order cs h f.2 (heads_before v.verdict b (hfsc_history h) a))
   where
-    go : (k : Bool) → AreInOrder (hfsc_history h) → AreInOrder (if k then Kept a.class a.at a.len ∷ hfsc_history h else hfsc_history h)
-    go true rest = (moment_by h a.at f.0 (before_by h a.at f.1), before_same h a.at f.1, rest)
+    go : (k : Bool) → AreInOrder (hfsc_history h) → AreInOrder (if k then Kept b.class b.at b.len ∷ hfsc_history h else hfsc_history h)
+    go true rest = (moment_by h b.at f.0 (before_by h b.at f.1), before_same h b.at f.1, rest)
     go false rest = rest
-in_order cs (Sent s ∷ h) f =
+in_order cs (Sent s ∷ h) f a =
     let x = f.0 in
-    let long = front_sized (waiting s.class h) x.front.packet (sized_waiting cs s.class h f.1) x.front.front in
-    (moment_by h s.start x.arrived x.started, omega (arith, long.least, x.front.len), in_order cs h f.1)
+    (moment_by h s.start x.arrived x.started, (head_sized s.class s.len (hfsc_history h) a.1 a.0).least, in_order cs h f.1 a.1)
 
 -- the link
 record IsRunOf (rate : ℕ) (l : Link) (r : Run) : Type 0 where
@@ -152,10 +135,6 @@ one_by_one rate (Offered a w v ∷ h) z e = go (is_kept v.verdict) (one_by_one r
 one_by_one rate (Sent s ∷ h) z e = let x = link_is rate h z in let l = e.0 in (omega (arith, l, x.free), one_by_one rate h z e.2)
 
 -- each sending is the choice
-front_head : (ws : List Coming) (b : Coming) (len : ℕ) → slice_get ws 0 ≡ Some b → len ≡ b.len → IsHead (waits ws) len
-front_head [] b len e f = absurd cc
-front_head (w ∷ ws) b len e f = let same : w ≡ b = cc in ap (λ (z : Coming). z.len) same ∙ sym f
-
 length_map : (cs : List HfscClass) → length (reals cs) ≡ length cs
 length_map [] = refl
 length_map (k ∷ ks) = let rest = length_map ks in omega (arith, rest)
@@ -184,7 +163,7 @@ is_of cs h s k x =
 
 pub are_chosen : (cs : List HfscClass) (h : List Event) → IsClassTree cs → Follow cs h → AreChosen (reals cs) (hfsc_history h)
 are_chosen cs [] k f = tt
-are_chosen cs (Offered a w v ∷ h) k f = go (is_kept v.verdict) (are_chosen cs h k f.3)
+are_chosen cs (Offered a w v ∷ h) k f = go (is_kept v.verdict) (are_chosen cs h k f.2)
   where
     go : (b : Bool) → AreChosen (reals cs) (hfsc_history h) → AreChosen (reals cs) (if b then Kept a.class a.at a.len ∷ hfsc_history h else hfsc_history h)
     go true x = x
@@ -196,7 +175,7 @@ are_chosen cs (Sent s ∷ h) k f =
     let long = length_map cs in (
       record {
         class = omega (arith, low, long);
-        head = subst (λ (ws : List Waiting). IsHead ws s.len) (sym (leaf_waits s.class h)) (front_head (waiting s.class h) x.front.packet s.len x.front.front x.front.len);
+        head = x.front;
         by_real_time = y.by_real_time;
         by_share = y.by_share;
       },
@@ -246,17 +225,17 @@ busy_at cs answer rate start h z k l x = go (cases_eq start (link rate h).free)
 pub is_busy : (cs : List HfscClass) (answer : Answering) (rate : ℕ) (h : List Event) → 0 < rate → IsClassTree cs → Follow cs h → IsBusyLink (hfsc_policy cs answer) rate h
     → IsBusy rate (reals cs) (hfsc_history h)
 is_busy cs answer rate [] z k f b = tt
-is_busy cs answer rate (Offered a w v ∷ h) z k f b = go (is_kept v.verdict) (is_busy cs answer rate h z k f.3 b)
+is_busy cs answer rate (Offered a w v ∷ h) z k f b = go (is_kept v.verdict) (is_busy cs answer rate h z k f.2 b)
   where
     go : (d : Bool) → IsBusy rate (reals cs) (hfsc_history h) → IsBusy rate (reals cs) (if d then Kept a.class a.at a.len ∷ hfsc_history h else hfsc_history h)
     go true x = x
     go false x = x
 is_busy cs answer rate (Sent s ∷ h) z k f b = (busy_at cs answer rate s.start h z k f.0.arrived b.0, is_busy cs answer rate h z k f.1 b.1)
 
-pub are_timely : (cs : List HfscClass) (answer : Answering) (rate : ℕ) (h : List Event) → 0 < rate → IsClassTree cs → Follow cs h → HasLinkEnds rate h
+pub are_timely : (cs : List HfscClass) (answer : Answering) (rate : ℕ) (h : List Event) → 0 < rate → IsClassTree cs → Follow cs h → AreHeads (hfsc_history h) → HasLinkEnds rate h
     → IsBusyLink (hfsc_policy cs answer) rate h → FitLink rate (reals cs) → IsTimely rate (reals cs) (hfsc_history h)
-are_timely cs answer rate h z k f e b fit =
-    timely rate (reals cs) (hfsc_history h) z (in_order cs h f) (one_by_one rate h z e) (is_busy cs answer rate h z k f b) (are_chosen cs h k f) fit
+are_timely cs answer rate h z k f a e b fit =
+    timely rate (reals cs) (hfsc_history h) z (in_order cs h f a) (one_by_one rate h z e) (is_busy cs answer rate h z k f b) (are_chosen cs h k f) fit
 
 -- the histories of a discipline follow so
 record StartsOne (p : Policy) (t : ℕ) (h : List Event) (s : ℕ) : Type 0 where
@@ -301,9 +280,9 @@ sends_at cs answer h c t b k i e f =
     let w = head_waits c h b e in
     record { is_leaf = l; waits = w; may = send_is cs (hfsc_history h) t c l w ∙ come_at (send_from cs (hfsc_history h) c) t (send_there cs (hfsc_history h) c k) f }
 
-pub orderly_follows : (cs : List HfscClass) (answer : Answering) (h : List Event) → IsClassTree cs → IsOrderly (hfsc_policy cs answer) h → AreHeads h → Follow cs h
+pub orderly_follows : (cs : List HfscClass) (answer : Answering) (h : List Event) → IsClassTree cs → IsOrderly (hfsc_policy cs answer) h → AreHeads (hfsc_history h) → Follow cs h
 orderly_follows cs answer [] k o a = tt
-orderly_follows cs answer (Offered b w v ∷ h) k o a = (o.0.arrived, o.0.started, a.0, orderly_follows cs answer h k o.2 a.1)
+orderly_follows cs answer (Offered b w v ∷ h) k o a = (o.0.arrived, o.0.started, orderly_follows cs answer h k o.2 (heads_before v.verdict b (hfsc_history h) a))
 orderly_follows cs answer (Sent s ∷ h) k o a =
     let x = o.0 in
     let one = first_one (hfsc_policy cs answer) s.start h (leaves cs) s.start x.first in
@@ -319,6 +298,6 @@ orderly_follows cs answer (Sent s ∷ h) k o a =
       orderly_follows cs answer h k o.1 a.1,
     )
 
-pub orderly_timely : (cs : List HfscClass) (answer : Answering) (rate : ℕ) (h : List Event) → 0 < rate → IsClassTree cs → IsOrderly (hfsc_policy cs answer) h → AreHeads h
+pub orderly_timely : (cs : List HfscClass) (answer : Answering) (rate : ℕ) (h : List Event) → 0 < rate → IsClassTree cs → IsOrderly (hfsc_policy cs answer) h → AreHeads (hfsc_history h)
     → HasLinkEnds rate h → IsBusyLink (hfsc_policy cs answer) rate h → FitLink rate (reals cs) → IsTimely rate (reals cs) (hfsc_history h)
-orderly_timely cs answer rate h z k o a e b fit = are_timely cs answer rate h z k (orderly_follows cs answer h k o a) e b fit
+orderly_timely cs answer rate h z k o a e b fit = are_timely cs answer rate h z k (orderly_follows cs answer h k o a) a e b fit

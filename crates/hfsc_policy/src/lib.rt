@@ -54,7 +54,7 @@ pub fn hfsc_sees_what_waits()
 #[tactic(auto, using(crate::proofs::Timely::orderly_timely, crate::proofs::Plays::play_timely))]
 pub fn leaves_are_timely()
     ensures histories { (cs : List HfscClass) (answer : Answering) (rate : ℕ) (h : List Event) → 0 < rate → IsClassTree cs
-        → IsOrderly (hfsc_policy cs answer) h → AreHeads h → HasLinkEnds rate h → IsBusy (hfsc_policy cs answer) rate h
+        → IsOrderly (hfsc_policy cs answer) h → AreHeads (hfsc_history h) → HasLinkEnds rate h → IsBusy (hfsc_policy cs answer) rate h
         → FitLink rate (reals cs) → IsTimely rate (reals cs) (hfsc_history h) }
     ensures plays { (cs : List HfscClass) (answer : Answering) (rate seed : ℕ) (arrived : List Coming) → 0 < rate → IsClassTree cs
         → AreSized arrived → (g : List Happened) → AreRising arrived → AreDue (hfsc_policy cs answer) rate seed arrived g
@@ -66,7 +66,7 @@ pub fn leaves_are_timely()
 /// head.
 #[tactic(auto, using(crate::proofs::Few::are_few, crate::proofs::Small::counts_small, crate::proofs::Small::totals_small, crate::proofs::Small::times_small))]
 pub fn numbers_stay_small()
-    ensures few { (h : List Event) → AreHeads h → kept_in (hfsc_history h) ≤ 4000000 → AreFew (hfsc_history h) }
+    ensures few { (h : HfscHistory) → AreHeads h → kept_in h ≤ 4000000 → AreFew h }
     ensures counts { (h : HfscHistory) (c : ℕ) → AreFew h → (leaf h c).count ≤ 2 ^ 73 }
     ensures totals { (cs : List HfscClass) (h : HfscHistory) (c : ℕ) → AreFew h → total cs h c ≤ 2 ^ 73 }
     ensures times { (cs : List HfscClass) (h : HfscHistory) (c : ℕ) → IsClassTree cs → AreFew h → virtual_time cs h c < 2 ^ 75 }
