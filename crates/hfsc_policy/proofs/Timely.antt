@@ -135,7 +135,7 @@ one_by_one rate (Offered a w v ∷ h) z e = go (is_kept v.verdict) (one_by_one r
 one_by_one rate (Sent s ∷ h) z e = let x = link_is rate h z in let l = e.0 in (omega (arith, l, x.free), one_by_one rate h z e.2)
 
 -- each sending is the choice
-length_map : (cs : List HfscClass) → length (reals cs) ≡ length cs
+pub length_map : (cs : List HfscClass) → length (reals cs) ≡ length cs
 length_map [] = refl
 length_map (k ∷ ks) = let rest = length_map ks in omega (arith, rest)
 
