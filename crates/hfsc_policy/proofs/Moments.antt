@@ -45,7 +45,7 @@ later_come (Some x) (Some y) t =
     (λ e. true_and (nat_le x t) (nat_le y t) (grind (arith, nat_tests, e)) (grind (arith, nat_tests, e)))
     (λ e. let b = and_true (nat_le x t) (nat_le y t) e in grind (arith, nat_tests, b.0, b.1))
 
-earlier_come : (a b : Option ℕ) (t : ℕ) → has_come (earlier_of a b) t ≡ (has_come a t || has_come b t)
+pub earlier_come : (a b : Option ℕ) (t : ℕ) → has_come (earlier_of a b) t ≡ (has_come a t || has_come b t)
 earlier_come None b t = refl
 earlier_come (Some x) None t = sym (or_false (nat_le x t))
 earlier_come (Some x) (Some y) t = go (nat_le x t) refl (nat_le y t) refl

@@ -49,7 +49,7 @@ longer cs c p t e =
     let same = sym (t.levels c) ∙ ap (λ (o : Option ℕ). c ∷ path_up 8 cs o) e in
     ap (λ (xs : List ℕ). length xs) same ∙ omega arith
 
-root_under : (n : ℕ) (cs : List HfscClass) (c : ℕ) → IsClassTree cs → c < n → c < length cs → is_under cs 0 c ≡ true
+pub root_under : (n : ℕ) (cs : List HfscClass) (c : ℕ) → IsClassTree cs → c < n → c < length cs → is_under cs 0 c ≡ true
 root_under zero cs c k h l = absurd (omega arith)
 root_under (suc n) cs zero k h l = under_self cs 0
 root_under (suc n) cs (suc c) k h l = go (class_of cs (suc c)).parent refl (k.one_root (suc c) (omega arith) l) (λ p. root_under n cs p k)
@@ -169,7 +169,7 @@ pub record IsChoice (cs : List HfscClass) (h : HfscHistory) (now : ℕ) : Type 0
   pub by_real_time : chosen.real ≡ true → IsRealPick (reals cs) h now chosen.class
   pub by_share : chosen.real ≡ false → NoneIsEligible (reals cs) h now
 
-shares_of : (cs : List HfscClass) (h : HfscHistory) (now c : ℕ) → IsClassTree cs → NoneIsEligible (reals cs) h now → IsSender cs h now c → shares_under cs h now 0 ≡ true
+pub shares_of : (cs : List HfscClass) (h : HfscHistory) (now c : ℕ) → IsClassTree cs → NoneIsEligible (reals cs) h now → IsSender cs h now c → shares_under cs h now 0 ≡ true
 shares_of cs h now c k none x = go (is_eligible (curve_of (reals cs) c) (leaf h c) now) refl x.may
   where
     go : (b : Bool) → is_eligible (curve_of (reals cs) c) (leaf h c) now ≡ b → (b || may_share cs h now c) ≡ true → shares_under cs h now 0 ≡ true
@@ -179,22 +179,26 @@ shares_of cs h now c k none x = go (is_eligible (curve_of (reals cs) c) (leaf h 
         is_any (λ d. is_under cs 0 d && may_share cs h now d) 0 (length cs) c (omega arith) (omega arith)
         (true_and (is_under cs 0 c) (may_share cs h now c) (root_under (suc c) cs c k (omega arith) low) f)
 
-share_picked : (cs : List HfscClass) (h : HfscHistory) (now : ℕ) → shares_under cs h now 0 ≡ true → share_pick cs h now ≡ Some (path_down 8 cs h now 0)
+pub share_picked : (cs : List HfscClass) (h : HfscHistory) (now : ℕ) → shares_under cs h now 0 ≡ true → share_pick cs h now ≡ Some (path_down 8 cs h now 0)
 share_picked cs h now e = rw e refl
 
-pub chosen_may : (cs : List HfscClass) (h : HfscHistory) (now c : ℕ) → IsClassTree cs → IsSender cs h now c → IsChoice cs h now
-chosen_may cs h now c k x = go (real_pick (reals cs) h now) refl (computed (reals cs) h now)
+-- where some path is open the leaf of least virtual time may send
+pub open_sender : (cs : List HfscClass) (h : HfscHistory) (now : ℕ) → IsClassTree cs → shares_under cs h now 0 ≡ true → IsSender cs h now (path_down 8 cs h now 0)
+open_sender cs h now k e = sharing cs h now (path_down 8 cs h now 0) (down_ends 8 cs h now 0 k.tree (omega (arith, root_deep)) e)
   where
     root_deep : length (path cs 0) ≡ 1
     root_deep = ap (λ (o : Option ℕ). length (0 ∷ path_up 7 cs o)) k.tree.root ∙ omega arith
 
+pub chosen_may : (cs : List HfscClass) (h : HfscHistory) (now c : ℕ) → IsClassTree cs → IsSender cs h now c → IsChoice cs h now
+chosen_may cs h now c k x = go (real_pick (reals cs) h now) refl (computed (reals cs) h now)
+  where
     go : (o : Option ℕ) → real_pick (reals cs) h now ≡ o → MatchOption o (NoneIsEligible (reals cs) h now) (IsRealPick (reals cs) h now) → IsChoice cs h now
     go None e none =
         let shares = shares_of cs h now c k none x in
         record {
           chosen = by_share (path_down 8 cs h now 0);
           is = ap (λ (p : Option ℕ). first_choice p (share_pick cs h now)) e ∙ ap (λ (p : Option ℕ). first_choice None p) (share_picked cs h now shares);
-          sender = sharing cs h now (path_down 8 cs h now 0) (down_ends 8 cs h now 0 k.tree (omega (arith, root_deep)) shares);
+          sender = open_sender cs h now k shares;
           by_real_time = λ f. absurd cc;
           by_share = λ f. none;
         }
