@@ -190,6 +190,10 @@ bound_most h f = let one = all_units h f in omega (arith, one, f.kept)
 pub counts_small : (h : HfscHistory) (c : ℕ) → AreFew h → (leaf h c).count ≤ 2 ^ 73
 counts_small h c f = let one = count_most h c in let two = all_units h f in omega (arith, one, two)
 
+-- exactly the packets times the longest
+pub total_within : (cs : List HfscClass) (h : HfscHistory) (c : ℕ) → AreFew h → total cs h c ≤ 8388608 * 10 ^ 15
+total_within cs h c f = let one = total_most cs h c in let two = units_most h f.within in omega (arith, one, two, f.kept, f.sent)
+
 pub totals_small : (cs : List HfscClass) (h : HfscHistory) (c : ℕ) → AreFew h → total cs h c ≤ 2 ^ 73
 totals_small cs h c f = let one = total_most cs h c in let two = all_units h f in omega (arith, one, two)
 

@@ -264,7 +264,7 @@ start_one p t h c s e = go (head c h) refl e
     go None f g = absurd cc
     go (Some a) f g = (a, f, cc)
 
-first_one : (p : Policy) (t : ℕ) (h : List Event) (xs : List ℕ) (s : ℕ) → first_at p t h xs ≡ Some s → (c : ℕ) × IsOneOf c xs × (start_at p t h c ≡ Some s)
+pub first_one : (p : Policy) (t : ℕ) (h : List Event) (xs : List ℕ) (s : ℕ) → first_at p t h xs ≡ Some s → (c : ℕ) × IsOneOf c xs × (start_at p t h c ≡ Some s)
 first_one p t h [] s e = absurd cc
 first_one p t h (x ∷ xs) s e = go (lesser_one (start_at p t h x) (first_at p t h xs) s e) (first_one p t h xs s)
   where
