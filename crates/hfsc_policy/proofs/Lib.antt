@@ -1,0 +1,10 @@
+pub mod Lists
+pub mod Moments
+pub mod Histories
+pub mod Offers
+pub mod Paths
+pub mod Lawful
+pub mod Timely
+pub mod Plays
+pub mod Few
+pub mod Small

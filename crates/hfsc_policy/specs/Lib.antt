@@ -1,0 +1,4 @@
+pub mod Events
+pub mod Classes
+pub mod Policy
+pub mod Heads
