@@ -1,0 +1,6 @@
+pub mod Curves
+pub mod Classes
+pub mod Lists
+pub mod Node
+pub mod Group
+pub mod Shares
