@@ -1,9 +1,10 @@
 -- The classes of a tree that shares a link, and when it is small enough for what is kept of it.
-use Rattle.std.specs.Prelude.{◌≡◌, ◌≤◌, ◌^◌, ◌&&◌, ◌||◌, ℕ, not, Bool, true, List, Option, None, Some, All, IsSome, IsSomeAnd, IfSome}
+use Rattle.std.specs.Prelude.{◌≡◌, ◌↔◌, ◌≤◌, ◌^◌, ◌&&◌, ◌||◌, ℕ, not, Bool, true, List, Option, None, Some, All, IsSome, IsSomeAnd, IfSome}
 use Rattle.std.specs.List.{list_any, list_all}
 use Rattle.service_curve.specs.declared.Curve.{Curve}
 use Rattle.hfsc_model.specs.declared.HfscClass.{HfscClass}
 use Rattle.hfsc_model.specs.Event.{HfscHistory}
+use Rattle.hfsc_model.specs.Leaf.{leaf, is_waiting}
 use Rattle.hfsc_model.specs.Tree.{class_of, numbers, path, is_under, IsTree}
 use Rattle.hfsc_model.specs.Share.{waits_under, total, virtual_time, active}
 use Rattle.hfsc_model.specs.Limit.{is_within, shares_under}
@@ -29,6 +30,10 @@ pub record IsClass (k : HfscClass) : Type 0 where
 pub record AreClasses (cs : List HfscClass) : Type 0 where
   pub tree : IsTree cs
   pub each : All IsClass cs
+
+-- a packet waits in a class
+abbrev pub waits_in : HfscHistory → ℕ → Bool
+waits_in h c = is_waiting (leaf h c).waiting
 
 -- no total and no virtual time passes what is kept of them
 pub record IsSmall (cs : List HfscClass) (h : HfscHistory) (c : ℕ) : Type 0 where

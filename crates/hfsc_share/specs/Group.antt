@@ -46,6 +46,10 @@ pub record IsNewGroup (classes : ℕ) (g : Group) : Type 0 where
   pub moment_keys : length (keys_of g.moments) ≡ classes
   pub high : g.high ≡ 0
 
+pub record AreEmpty (classes : ℕ) (groups : List Group) : Type 0 where
+  pub count : length groups ≡ classes
+  pub each : (p : ℕ) (g : Group) → slice_get groups p ≡ Some g → IsNewGroup classes g
+
 -- a child may be put in anew, and is
 pub record MayChange (class : ℕ) (was : Bool) (g : Group) : Type 0 where
   pub times : MayReplace class was g.times

@@ -3,4 +3,5 @@ pub mod Classes
 pub mod Lists
 pub mod Node
 pub mod Group
+pub mod Walk
 pub mod Shares

@@ -2,7 +2,7 @@
 ghost use Rattle.std.specs.Prelude.{◌≡◌, ◌∷◌, ℕ, List, true};
 ghost use Rattle.hfsc_model.specs.declared.HfscClass.{HfscClass};
 ghost use Rattle.hfsc_model.specs.Event.{HfscHistory, Kept};
-ghost use Rattle.hfsc_model.specs.Leaf.{leaf, is_waiting};
+ghost use Rattle.hfsc_share.specs.Classes.{waits_in};
 ghost use Rattle.hfsc_share.specs.declared.Shares.{Shares};
 ghost use Rattle.hfsc_share.specs.Shares.{StandsFor};
 
@@ -10,5 +10,5 @@ ghost use Rattle.hfsc_share.specs.Shares.{StandsFor};
 /// history as well.
 pub fn waiting_leaves_wake_once()
     ensures { (s : Shares) (cs : List HfscClass) (h : HfscHistory) (class at len : ℕ) → StandsFor s cs h
-        → is_waiting (leaf h class).waiting ≡ true → StandsFor s cs (Kept class at len ∷ h) }
+        → waits_in h class ≡ true → StandsFor s cs (Kept class at len ∷ h) }
 {}

@@ -8,17 +8,19 @@
 //! Link-Sharing, Real-Time and Priority Services", SIGCOMM 1997; upper limits are those of altq.conf(5).
 #![tactic(auto)]
 
-ghost use Rattle.std.specs.Prelude.{◌≡◌, ◌<◌, ◌≤◌, ◌^◌, ◌&&◌, ◌∷◌, [], ℕ, not, List, Option, None, Some, Bool, true, false, length, slice_get, slice_set, IfOk};
-ghost use Rattle.ranking.specs.Order.{IsOrderOf};
+ghost use Rattle.std.specs.Prelude.{◌≡◌, ◌==◌, ◌<◌, ◌≤◌, ◌^◌, ◌&&◌, ◌∷◌, [], ℕ, not, List, Option, None, Some, All, Bool, true, false, length, slice_get, slice_set, IfOk};
+ghost use Rattle.play_base.specs.Units.{units};
+ghost use Rattle.ranking.specs.Order.{IsOrderOf, is_in};
 ghost use Rattle.hfsc_model.specs.declared.HfscClass.{HfscClass};
 ghost use Rattle.hfsc_model.specs.Event.{HfscHistory, Kept, Sent};
-ghost use Rattle.hfsc_model.specs.Leaf.{leaf, is_waiting};
 ghost use Rattle.hfsc_model.specs.Tree.{is_child, is_leaf};
 ghost use Rattle.hfsc_model.specs.Share.{active, virtual_time};
 ghost use Rattle.hfsc_model.specs.Limit.{share_pick};
-ghost use Rattle.hfsc_share.specs.Classes.{AreClasses, AreSmall, IsSoonest};
-ghost use Rattle.hfsc_share.specs.Node.{AreParentsFirst, AreLimitsBy};
-ghost use Rattle.hfsc_share.specs.Group.{GroupsHold};
+ghost use Rattle.hfsc_share.specs.Curves.{IsBy};
+ghost use Rattle.hfsc_share.specs.Classes.{AreClasses, AreSmall, IsClass, IsSoonest, waits_in};
+ghost use Rattle.hfsc_share.specs.Node.{AreNew, AreParentsFirst, AreLimitsBy, time_in};
+ghost use Rattle.hfsc_share.specs.Group.{AreEmpty, GroupsHold, ranked_in};
+ghost use Rattle.hfsc_share.specs.Walk.{IsLeafThat, IsStep, Walks, has_ranked, moment_of, start_among, start_below};
 
 use hfsc_model::HfscClass;
 use play_base::{NoMemory, units};
@@ -49,7 +51,7 @@ pub struct Shares {
 }
 
 impl Shares {
-    ghost use Rattle.hfsc_share.specs.Shares.{StandsFor, IsNew, IsSameBut, IsLeafAt, classes_of, is_active_at, last_wake, pick_now, soonest_now, order_at};
+    ghost use Rattle.hfsc_share.specs.Shares.{StandsFor, IsNew, IsSameBut, IsLeafAt, classes_of, down, is_active_at, last_wake, parent_at, pick_now, soonest_now, order_at};
 
     /// The classes without a packet, at most 256.
     pub fn build(alloc: Global, classes: &[HfscClass]) -> Result<Shares, NoMemory>
@@ -82,9 +84,9 @@ impl Shares {
         ensures others { IsSameBut leaf self.old self.new }
     {
         self.woken = at;
-        let mut next = Some(leaf);
+        let mut next = self.wake_class(leaf);
         while let Some(class) = next {
-            next = self.wake_class(class, at);
+            next = self.wake_class(class);
         }
     }
 
@@ -95,7 +97,7 @@ impl Shares {
         requires leaf { IsLeafAt self.old leaf }
         requires waits { is_active_at self.old leaf ≡ true }
         ensures stands { (cs : List HfscClass) (h : HfscHistory) (real : Bool) (start : ℕ) → StandsFor self.old cs h
-            → is_waiting (leaf (Sent leaf len real start ∷ h) leaf).waiting ≡ not empty
+            → waits_in (Sent leaf len real start ∷ h) leaf ≡ not empty
             → AreSmall cs (Sent leaf len real start ∷ h) → StandsFor self.new cs (Sent leaf len real start ∷ h) }
         ensures woken { last_wake self.new ≡ last_wake self.old }
         ensures active { is_active_at self.new leaf ≡ not empty }
@@ -150,14 +152,21 @@ impl Shares {
     }
 
     /// A packet was kept below a class: the class becomes active if it was not, and opens anew. Answers its parent.
-    fn wake_class(&mut self, class: u32, at: u64) -> Option<u32>
-        requires class { class < classes_of self.old }
+    fn wake_class(&mut self, class: u32) -> Option<u32>
+        requires { class < classes_of self.old }
+        ensures walks { (cs : List HfscClass) (h : HfscHistory) (leaf len : ℕ) → IsLeafThat cs h leaf false
+            → Walks cs h (Kept leaf (last_wake self.old) len ∷ h) (last_wake self.old) leaf (Some class) self.old.nodes.items
+            → Walks cs h (Kept leaf (last_wake self.old) len ∷ h) (last_wake self.old) leaf result self.new.nodes.items }
+        ensures step { IsStep class self.old.nodes.items self.new.nodes.items }
+        ensures active { is_active_at self.new class ≡ true }
+        ensures woken { last_wake self.new ≡ last_wake self.old }
+        ensures parent { result ≡ parent_at self.old class }
     {
         let old = self.nodes[class as usize];
         let node = if old.is_active() {
             old
         } else {
-            old.activated(at, self.start_below(old.parent()))
+            old.activated(self.woken, self.start_below(old.parent()))
         };
         self.set(class, node.reopened(self.first_moment_below(class)));
         old.parent()
@@ -167,6 +176,14 @@ impl Shares {
     fn serve_class(&mut self, class: u32, amount: u128, waits: bool) -> Option<u32>
         requires class { class < classes_of self.old }
         requires amount { amount < 2 ^ 100 }
+        ensures walks { (cs : List HfscClass) (h : HfscHistory) (leaf len : ℕ) (real : Bool) (start : ℕ) → IsLeafThat cs h leaf true
+            → amount ≡ units len → waits ≡ ((leaf == class) && waits_in (Sent leaf len real start ∷ h) leaf)
+            → Walks cs h (Sent leaf len real start ∷ h) (last_wake self.old) leaf (Some class) self.old.nodes.items
+            → Walks cs h (Sent leaf len real start ∷ h) (last_wake self.old) leaf result self.new.nodes.items }
+        ensures step { IsStep class self.old.nodes.items self.new.nodes.items }
+        ensures active { IsLeafAt self.old class → is_active_at self.new class ≡ (is_active_at self.old class && waits) }
+        ensures woken { last_wake self.new ≡ last_wake self.old }
+        ensures parent { result ≡ parent_at self.old class }
     {
         let old = self.nodes[class as usize];
         let waits = waits || self.has_active_child(class);
@@ -175,13 +192,23 @@ impl Shares {
         old.parent()
     }
 
-    /// The virtual time that a class takes among the children of its parent: the middle of the least and the greatest of
-    /// those that are active, rounded down, or where none is the high mark.
-    fn start_below(&self, parent: Option<u32>) -> u128 {
-        let Some(parent) = parent else {
-            return 0;
-        };
-        let group = &self.groups[parent as usize];
+    /// The virtual time to take among the children of a parent: the middle of the least and the greatest of those that are
+    /// active, rounded down, or where none is the high mark.
+    fn start_below(&self, parent: Option<u32>) -> u128
+        requires { (p : ℕ) → parent ≡ Some p → p < classes_of self.now }
+        ensures { result ≡ start_below self.now.nodes.items self.now.groups.items parent }
+    {
+        match parent {
+            None => 0,
+            Some(parent) => self.start_in(&self.groups[parent as usize]),
+        }
+    }
+
+    /// The same of a group of children.
+    fn start_in(&self, group: &Group) -> u128
+        requires { (c : ℕ) → is_in c (ranked_in group.now) ≡ true → c < classes_of self.now }
+        ensures { result ≡ start_among self.now.nodes.items group.now (ranked_in group.now) }
+    {
         let ranked = group.ranked();
         match (ranked.first(), ranked.last()) {
             (Some(first), Some(last)) => (self.time_of(*first) + self.time_of(*last)) / 2,
@@ -190,22 +217,34 @@ impl Shares {
     }
 
     /// The virtual time of a class.
-    fn time_of(&self, class: u32) -> u128 {
+    fn time_of(&self, class: u32) -> u128
+        requires { class < classes_of self.now }
+        ensures is { result ≡ time_in (slice_get self.now.nodes.items class) }
+        ensures most { result ≤ 2 ^ 79 }
+    {
         self.nodes[class as usize].time()
     }
 
     /// The first moment from which a child of a class opens, 0 where none is active.
-    fn first_moment_below(&self, class: u32) -> Option<u128> {
+    fn first_moment_below(&self, class: u32) -> Option<u128>
+        requires { class < classes_of self.now }
+        ensures { result ≡ moment_of (slice_get self.now.groups.items class) }
+    {
         self.groups[class as usize].first_moment()
     }
 
     /// A child of a class is active.
-    fn has_active_child(&self, class: u32) -> bool {
+    fn has_active_child(&self, class: u32) -> bool
+        requires { class < classes_of self.now }
+        ensures { result ≡ has_ranked (slice_get self.now.groups.items class) }
+    {
         !self.groups[class as usize].ranked().is_empty()
     }
 
     /// Down from the root, on each level by the first child that is open.
     fn leaf_below(&self, now: u128) -> u32
+        requires { 0 < classes_of self.now }
+        ensures { result ≡ down 8 self.now.groups.items now 0 }
     {
         let mut class = 0;
         for _ in 0..LEVELS {
@@ -219,8 +258,12 @@ impl Shares {
 
     /// Puts a class into its place, and anew into the lists of its parent.
     fn set(&mut self, class: u32, node: Node)
-        requires { class < classes_of self.old }
-        ensures { self.new.nodes.items ≡ slice_set self.old.nodes.items class node }
+        requires class { class < classes_of self.old }
+        requires parent { node.parent ≡ parent_at self.old class }
+        requires later { time_in (slice_get self.old.nodes.items class) ≤ node.time }
+        requires by { IsBy (last_wake self.old) node.limit }
+        ensures nodes { self.new.nodes.items ≡ slice_set self.old.nodes.items class node }
+        ensures woken { last_wake self.new ≡ last_wake self.old }
     {
         let was = self.nodes[class as usize].is_active();
         self.nodes[class as usize] = node;
@@ -231,7 +274,10 @@ impl Shares {
 }
 
 /// What is held of classes without a packet.
-fn nodes_of(alloc: Global, classes: &[HfscClass]) -> Result<Vec<Node>, NoMemory> {
+fn nodes_of(alloc: Global, classes: &[HfscClass]) -> Result<Vec<Node>, NoMemory>
+    requires { All IsClass classes.now }
+    ensures { IfOk result (λ nodes. AreNew classes.now nodes.items) }
+{
     let mut nodes = Vec::with_capacity(alloc, classes.len())?;
     for class in classes {
         nodes.push(Node::new(class))?;
@@ -240,7 +286,10 @@ fn nodes_of(alloc: Global, classes: &[HfscClass]) -> Result<Vec<Node>, NoMemory>
 }
 
 /// A group for each of at most 256 classes, without an active child.
-fn groups_of(alloc: Global, classes: usize) -> Result<Vec<Group>, NoMemory> {
+fn groups_of(alloc: Global, classes: usize) -> Result<Vec<Group>, NoMemory>
+    requires { classes ≤ 256 }
+    ensures { IfOk result (λ groups. AreEmpty classes groups.items) }
+{
     let mut groups = Vec::with_capacity(alloc, classes)?;
     for _ in 0..classes {
         groups.push(Group::reserve(alloc, classes as u32)?)?;
