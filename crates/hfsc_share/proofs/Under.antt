@@ -55,20 +55,40 @@ trans_in (suc n) cs a b c t h u v =
 pub under_trans : (cs : List HfscClass) (a b c : ℕ) → IsTree cs → is_under cs a b ≡ true → is_under cs b c ≡ true → is_under cs a c ≡ true
 under_trans cs a b c t u v = trans_in (suc c) cs a b c t (omega arith) u v
 
+-- a class is the one that stands over it, or its parent stands under that
+pub record IsUp (cs : List HfscClass) (c d : ℕ) : Type 0 where
+  pub parent : ℕ
+  pub of : (class_of cs d).parent ≡ Some parent
+  pub under : is_under cs c parent ≡ true
+
+pub same_or_up : (cs : List HfscClass) (c d : ℕ) → IsTree cs → is_under cs c d ≡ true → (d ≡ c) ⊎ IsUp cs c d
+same_or_up cs c d t u = go (class_of cs d).parent refl
+  where
+    step : (p : ℕ) → (class_of cs d).parent ≡ Some p → (b : Bool) → (d == c) ≡ b → (b || is_under cs c p) ≡ true → (d ≡ c) ⊎ IsUp cs c d
+    step p e true f g = inl (grind (arith, nat_tests, f))
+    step p e false f g = inr (record { parent = p; of = e; under = g })
+
+    go : (o : Option ℕ) → (class_of cs d).parent ≡ o → (d ≡ c) ⊎ IsUp cs c d
+    go None e = inl (lone cs c d e u)
+    go (Some p) e = step p e (d == c) refl (sym (under_up cs c d p t e) ∙ u)
+
 -- of two classes over a third one stands over the other
 line_in : (n : ℕ) (cs : List HfscClass) (a b d : ℕ) → IsTree cs → d < n → is_under cs a d ≡ true → is_under cs b d ≡ true
     → (is_under cs a b ≡ true) ⊎ (is_under cs b a ≡ true)
 line_in zero cs a b d t h u v = absurd (omega arith)
-line_in (suc n) cs a b d t h u v =
-    above (λ x. is_under cs b x ≡ true → (is_under cs x b ≡ true) ⊎ (is_under cs b x ≡ true)) cs a d t u (λ w. inr w)
-    (λ p e w y.
-        above (λ x. (is_under cs a x ≡ true) ⊎ (is_under cs x a ≡ true)) cs b d t v (inl (parent_over cs a d p t e w))
-        (λ q f z. let same : p ≡ q = number (sym e ∙ f) in
-        line_in n cs a b p t (let low = t.earlier d p e in omega arith) w (subst (λ m. is_under cs b m ≡ true) (sym same) z)))
-    ?
+line_in (suc n) cs a b d t h u v = go (same_or_up cs a d t u) (same_or_up cs b d t v) (λ p k w x. line_in n cs a b p t k w x)
   where
-    number : {p q : ℕ} → Some p ≡ Some q → p ≡ q
-    number e = cc
+    number : (p q : ℕ) → Some p ≡ Some q → p ≡ q
+    number p q e = cc
+
+    go : (d ≡ a) ⊎ IsUp cs a d → (d ≡ b) ⊎ IsUp cs b d
+        → ((p : ℕ) → p < n → is_under cs a p ≡ true → is_under cs b p ≡ true → (is_under cs a b ≡ true) ⊎ (is_under cs b a ≡ true))
+        → (is_under cs a b ≡ true) ⊎ (is_under cs b a ≡ true)
+    go (inl e) y rest = inr (subst (λ m. is_under cs b m ≡ true) e v)
+    go (inr x) (inl f) rest = inl (subst (λ m. is_under cs a m ≡ true) f u)
+    go (inr x) (inr y) rest =
+        let low = t.earlier d x.parent x.of in
+        rest x.parent (omega arith) x.under (subst (λ m. is_under cs b m ≡ true) (number y.parent x.parent (sym y.of ∙ x.of)) y.under)
 
 pub in_line : (cs : List HfscClass) (a b d : ℕ) → IsTree cs → is_under cs a d ≡ true → is_under cs b d ≡ true
     → (is_under cs a b ≡ true) ⊎ (is_under cs b a ≡ true)
