@@ -5,3 +5,4 @@ pub mod Under
 pub mod Opening
 pub mod Moments
 pub mod Children
+pub mod Starting
