@@ -6,3 +6,4 @@ pub mod Opening
 pub mod Moments
 pub mod Children
 pub mod Starting
+pub mod Off

@@ -1,3 +1,4 @@
+use Rattle.hfsc_share.proofs.Off.{off_stands}
 use Rattle.hfsc_share.proofs.Starting.{start_is}
 use Rattle.hfsc_share.proofs.Children.{opens_at}
 use Rattle.hfsc_share.proofs.Moments.{first_come_of}
