@@ -7,3 +7,4 @@ pub mod Moments
 pub mod Children
 pub mod Starting
 pub mod Off
+pub mod Waking

@@ -1,3 +1,4 @@
+use Rattle.hfsc_share.proofs.Waking.{woken_child}
 use Rattle.hfsc_share.proofs.Off.{off_stands}
 use Rattle.hfsc_share.proofs.Starting.{start_is}
 use Rattle.hfsc_share.proofs.Children.{opens_at}
