@@ -41,7 +41,7 @@ pub record IsNode (nodes : List Node) (c : ℕ) : Type 0 where
   pub node : Node
   pub at : slice_get nodes c ≡ Some node
 
-missing : (xs : List Node) (i : ℕ) → i < length xs → slice_get xs i ≡ None → ⊥
+pub missing : (xs : List Node) (i : ℕ) → i < length xs → slice_get xs i ≡ None → ⊥
 missing [] i h e = absurd (omega arith)
 missing (x ∷ xs) i h e = let one = slice_get-get_or (x ∷ xs) i x h in absurd cc
 

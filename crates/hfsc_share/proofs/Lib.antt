@@ -8,3 +8,5 @@ pub mod Children
 pub mod Starting
 pub mod Off
 pub mod Waking
+pub mod Serving
+pub mod Walking

@@ -109,10 +109,10 @@ woken_limit cs h last l at len c start x y e u s a r =
     (r.limit (class_of cs c).limit (arrivals_of cs h c) s.limit))
 
 -- the curve that is kept
-shared : (k : HfscClass) (p : ℕ) → k.parent ≡ Some p → share_of k ≡ k.share
+pub shared : (k : HfscClass) (p : ℕ) → k.parent ≡ Some p → share_of k ≡ k.share
 shared k p e = ap (λ (o : Option ℕ). elim o [ None ↦ None | Some q ↦ k.share ]) e
 
-unshared : (k : HfscClass) → k.parent ≡ None → share_of k ≡ None
+pub unshared : (k : HfscClass) → k.parent ≡ None → share_of k ≡ None
 unshared k e = ap (λ (o : Option ℕ). elim o [ None ↦ None | Some q ↦ k.share ]) e
 
 pub woken_child : (cs : List HfscClass) (h : HfscHistory) (last l at len c p start : ℕ) (x y : Node) → is_leaf cs l ≡ true → is_under cs c l ≡ true

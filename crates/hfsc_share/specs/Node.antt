@@ -86,6 +86,15 @@ pub record IsActivated (at start : ℕ) (x y : Node) : Type 0 where
   pub limit : (o : Option Curve) (os : List Opening) → RunningStands x.limit o os → RunningStands y.limit o (opening at x.total ∷ os)
   pub by : IsBy at y.limit
 
+-- a class is active, or becomes so
+pub record IsAwake (at start : ℕ) (x y : Node) : Type 0 where
+  pub parent : y.parent ≡ x.parent
+  pub later : x.time ≤ y.time
+  pub by : IsBy at y.limit
+  pub active : y.active ≡ true
+  pub same : x.active ≡ true → y ≡ x
+  pub begun : x.active ≡ false → IsActivated at start x y
+
 -- after units more were sent
 pub record IsServed (amount : ℕ) (waits : Bool) (x y : Node) : Type 0 where
   pub parent : y.parent ≡ x.parent

@@ -18,7 +18,7 @@ ghost use Rattle.hfsc_model.specs.Share.{active, virtual_time};
 ghost use Rattle.hfsc_model.specs.Limit.{share_pick};
 ghost use Rattle.hfsc_share.specs.Curves.{IsBy};
 ghost use Rattle.hfsc_share.specs.Classes.{AreClasses, AreSmall, IsClass, IsSoonest, waits_in};
-ghost use Rattle.hfsc_share.specs.Node.{AreNew, AreParentsFirst, AreLimitsBy, time_in};
+ghost use Rattle.hfsc_share.specs.Node.{AreNew, IsAwake, AreParentsFirst, AreLimitsBy, time_in};
 ghost use Rattle.hfsc_share.specs.Group.{AreEmpty, GroupsHold, ranked_in};
 ghost use Rattle.hfsc_share.specs.Walk.{IsLeafThat, IsStep, Walks, has_ranked, moment_of, start_among, start_below};
 
@@ -163,13 +163,21 @@ impl Shares {
         ensures parent { result ≡ parent_at self.old class }
     {
         let old = self.nodes[class as usize];
-        let node = if old.is_active() {
-            old
-        } else {
-            old.activated(self.woken, self.start_below(old.parent()))
-        };
-        self.set(class, node.reopened(self.first_moment_below(class)));
+        let node = self.awake(old).reopened(self.first_moment_below(class));
+        self.set(class, node);
         old.parent()
+    }
+
+    /// The class, active: as it is, or from the last wake on.
+    fn awake(&self, node: Node) -> Node
+        requires parent { (p : ℕ) → node.parent ≡ Some p → p < classes_of self.now }
+        requires by { IsBy (last_wake self.now) node.limit }
+        ensures { IsAwake (last_wake self.now) (start_below self.now.nodes.items self.now.groups.items node.parent) node result }
+    {
+        if node.is_active() {
+            return node;
+        }
+        node.activated(self.woken, self.start_below(node.parent()))
     }
 
     /// Units were sent below a class: `waits` says that a packet waits in itself. Answers its parent.
@@ -187,8 +195,8 @@ impl Shares {
     {
         let old = self.nodes[class as usize];
         let waits = waits || self.has_active_child(class);
-        let node = old.served(amount, waits);
-        self.set(class, node.reopened(self.first_moment_below(class)));
+        let node = old.served(amount, waits).reopened(self.first_moment_below(class));
+        self.set(class, node);
         old.parent()
     }
 

@@ -1,3 +1,5 @@
+use Rattle.hfsc_share.proofs.Walking.{walked}
+use Rattle.hfsc_share.proofs.Serving.{served_has}
 use Rattle.hfsc_share.proofs.Waking.{woken_child}
 use Rattle.hfsc_share.proofs.Off.{off_stands}
 use Rattle.hfsc_share.proofs.Starting.{start_is}
