@@ -10,3 +10,4 @@ pub mod Off
 pub mod Waking
 pub mod Serving
 pub mod Walking
+pub mod Steps

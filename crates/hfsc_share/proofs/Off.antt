@@ -115,17 +115,21 @@ off_time cs h g c o =
     ∙ ap (λ n. virtual_time_of (class_of cs c).share (activations cs h c) n) o.units
 
 -- so its node stands for both histories
-pub off_stands : (cs : List HfscClass) (h g : HfscHistory) (last l c : ℕ) (x : Node) → IsTree cs → AllOff cs h g l → is_under cs c l ≡ false
+pub below_stands : (cs : List HfscClass) (h g : HfscHistory) (last c : ℕ) (x : Node) → ((y : ℕ) → is_under cs c y ≡ true → Off cs h g y)
     → NodeStands cs h last c x → NodeStands cs g last c x
-off_stands cs h g last l c x t all e s = record {
+below_stands cs h g last c x off s = record {
   parent = s.parent;
-  share = subst (λ (os : List Opening). RunningStands x.share (share_of (class_of cs c)) os) (sym (all c e).acts) s.share;
-  limit = subst (λ (os : List Opening). RunningStands x.limit (class_of cs c).limit os) (sym (all c e).arrivals) s.limit;
-  total = (all c e).units ∙ s.total;
+  share = subst (λ (os : List Opening). RunningStands x.share (share_of (class_of cs c)) os) (sym here.acts) s.share;
+  limit = subst (λ (os : List Opening). RunningStands x.limit (class_of cs c).limit os) (sym here.arrivals) s.limit;
+  total = here.units ∙ s.total;
   active = off_active_is cs h g c off ∙ s.active;
-  time = off_time cs h g c (all c e) ∙ s.time;
+  time = off_time cs h g c here ∙ s.time;
   opens = λ a. let o = s.opens a in record { some = o.some; from = λ now later. off_opens_is cs h g now c off ∙ o.from now later };
 }
   where
-    off : (y : ℕ) → is_under cs c y ≡ true → Off cs h g y
-    off = below_off cs h g l c t all e
+    here : Off cs h g c
+    here = off c (under_self cs c)
+
+pub off_stands : (cs : List HfscClass) (h g : HfscHistory) (last l c : ℕ) (x : Node) → IsTree cs → AllOff cs h g l → is_under cs c l ≡ false
+    → NodeStands cs h last c x → NodeStands cs g last c x
+off_stands cs h g last l c x t all e s = below_stands cs h g last c x (below_off cs h g l c t all e) s

@@ -1,5 +1,5 @@
 -- A walk from a leaf up to the root, on which an event is taken in class by class.
-use Rattle.std.specs.Prelude.{◌≡◌, ◌≤◌, ◌+◌, ◌/◌, ◌∷◌, [], ℕ, Bool, true, false, List, length, Option, None, Some, IfSome, slice_get}
+use Rattle.std.specs.Prelude.{◌≡◌, ◌≤◌, ◌<◌, ◌+◌, ◌/◌, ◌∷◌, [], ℕ, Bool, true, false, List, length, Option, None, Some, IfSome, slice_get}
 use Rattle.hfsc_model.specs.declared.HfscClass.{HfscClass}
 use Rattle.hfsc_model.specs.Event.{HfscHistory}
 use Rattle.hfsc_model.specs.Tree.{is_leaf, is_under}
@@ -67,3 +67,18 @@ has_some (c ∷ cs) = true
 abbrev pub has_ranked : Option Group → Bool
 has_ranked None = false
 has_ranked (Some g) = has_some (ranked_in g)
+
+-- so far on its way a walk from a leaf has left the tree as it was, and the activity of all other leaves; the next class is
+-- no leaf
+pub record IsOnWay (leaf : ℕ) (active : Bool) (next : Option ℕ) (old new : List Node) : Type 0 where
+  pub count : length new ≡ length old
+  pub parents : (c : ℕ) → parent_in (slice_get new c) ≡ parent_in (slice_get old c)
+  pub others : (c : ℕ) → ((d : ℕ) → parent_in (slice_get old d) ≡ Some c → ⊥) → (c ≡ leaf → ⊥) → active_in (slice_get new c) ≡ active_in (slice_get old c)
+  pub here : active_in (slice_get new leaf) ≡ active
+  pub low : (c : ℕ) → next ≡ Some c → c < length new
+  pub inner : (c : ℕ) → next ≡ Some c → ((d : ℕ) → parent_in (slice_get old d) ≡ Some c → ⊥) → ⊥
+
+-- how far the walk can go
+abbrev pub steps_left : Option ℕ → ℕ
+steps_left None = 0
+steps_left (Some c) = c + 1

@@ -194,8 +194,10 @@ impl Shares {
         ensures parent { result ≡ parent_at self.old class }
     {
         let old = self.nodes[class as usize];
-        let waits = waits || self.has_active_child(class);
-        let node = old.served(amount, waits).reopened(self.first_moment_below(class));
+        let below = self.has_active_child(class);
+        let node = old
+            .served(amount, waits || below)
+            .reopened(self.first_moment_below(class));
         self.set(class, node);
         old.parent()
     }
