@@ -70,7 +70,7 @@ active_is_in cs h last p nodes c s = go (is_child cs p c) refl
     go false e = ap (λ b. b && active_in (slice_get nodes c)) (child_is cs h last p nodes c s ∙ e)
 
 -- its first moment tells whether a child is open
-key_opens : (cs : List HfscClass) (h : HfscHistory) (last p now : ℕ) (nodes : List Node) (r : Ranking) (c : ℕ) → Stand cs h last p nodes → Ranks nodes p opens_in r → last ≤ now
+pub key_opens : (cs : List HfscClass) (h : HfscHistory) (last p now : ℕ) (nodes : List Node) (r : Ranking) (c : ℕ) → Stand cs h last p nodes → Ranks nodes p opens_in r → last ≤ now
     → is_child cs p c ≡ true → active cs h c ≡ true → has_come (key_of (keys_of r) c) now ≡ opens_under cs h now c
 key_opens cs h last p now nodes r c s ranks later k a =
     let n = child_node cs h last p nodes c s k in

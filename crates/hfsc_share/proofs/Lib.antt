@@ -11,3 +11,4 @@ pub mod Waking
 pub mod Serving
 pub mod Walking
 pub mod Steps
+pub mod Picks

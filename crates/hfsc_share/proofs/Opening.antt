@@ -15,7 +15,7 @@ use Rattle.hfsc_share.specs.Classes.{is_open_to, opens_under}
 use Rattle.hfsc_share.proofs.Under.{under_low, under_trans, in_line, same_or_up, IsUp}
 
 -- each class of a path passes exactly where each that stands over its end does
-all_over : (f : ℕ → Bool) (xs : List ℕ) → list_all f xs ≡ true → (x : ℕ) → list_any (λ y. y == x) xs ≡ true → f x ≡ true
+pub all_over : (f : ℕ → Bool) (xs : List ℕ) → list_all f xs ≡ true → (x : ℕ) → list_any (λ y. y == x) xs ≡ true → f x ≡ true
 all_over f [] e x a = absurd cc
 all_over f (y ∷ ys) e x a =
     let both = and_true (f y) (list_all f ys) e in
@@ -25,7 +25,7 @@ all_over f (y ∷ ys) e x a =
     go true g h k rest = subst (λ m. f m ≡ true) (grind (arith, nat_tests, g)) k
     go false g h k rest = rest h
 
-over_all : (f : ℕ → Bool) (xs : List ℕ) → ((x : ℕ) → list_any (λ y. y == x) xs ≡ true → f x ≡ true) → list_all f xs ≡ true
+pub over_all : (f : ℕ → Bool) (xs : List ℕ) → ((x : ℕ) → list_any (λ y. y == x) xs ≡ true → f x ≡ true) → list_all f xs ≡ true
 over_all f [] g = refl
 over_all f (y ∷ ys) g =
     true_and (f y) (list_all f ys) (g y (rw (same_test y) refl)) (over_all f ys (λ x a. g x (either (y == x) (list_any (λ z. z == x) ys) a)))

@@ -105,7 +105,7 @@ least_low f d (x ∷ xs) m h =
     omega arith
 
 -- the first and the last of a list in order
-time_before : (a b c d : ℕ) → goes_first (Some a) c (Some b) d ≡ true → a ≤ b
+pub time_before : (a b c d : ℕ) → goes_first (Some a) c (Some b) d ≡ true → a ≤ b
 time_before a b c d g = go (nat_lt a b) (nat_lt b a) refl refl g
   where
     go : (p q : Bool) → nat_lt a b ≡ p → nat_lt b a ≡ q → (if p then true else if q then false else nat_lt c d) ≡ true → a ≤ b

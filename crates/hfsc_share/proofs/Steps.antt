@@ -378,3 +378,14 @@ reopened_by below other x y e r = subst (λ (o : Option ℕ). IsReopened o x y) 
 
 pub served_by : (amount : ℕ) (b d : Bool) (x y : Node) → b ≡ d → IsServed amount b x y → IsServed amount d x y
 served_by amount b d x y e r = subst (λ (a : Bool). IsServed amount a x y) e r
+
+-- a class of the way that is no leaf is not the leaf
+pub not_here : (leaf class : ℕ) (waits b : Bool) (old new : List Node) → IsOnWay leaf b (Some class) old new → ((d : ℕ) → parent_in (slice_get old d) ≡ Some leaf → ⊥)
+    → false ≡ ((leaf == class) && waits)
+not_here leaf class waits b old new w l = go (leaf == class) refl
+  where
+    go : (v : Bool) → (leaf == class) ≡ v → false ≡ (v && waits)
+    go true e =
+        let same : leaf ≡ class = grind (arith, nat_tests, e) in
+        absurd (w.inner class refl (λ d f. l d (f ∙ ap (λ n. Some n) (sym same))))
+    go false e = refl

@@ -24,17 +24,21 @@ beyond [] c h = refl
 beyond (k ∷ ks) zero h = absurd (omega arith)
 beyond (k ∷ ks) (suc c) h = beyond ks c (omega arith)
 
+-- beyond the nodes there is no class
+pub outside_parent : (nodes : List Node) (cs : List HfscClass) (c : ℕ) → length nodes ≡ length cs → slice_get nodes c ≡ None → None ≡ (class_of cs c).parent
+outside_parent nodes cs c count e = go (cases_lt c (length nodes))
+  where
+    go : (c < length nodes) ⊎ (length nodes ≤ c) → None ≡ (class_of cs c).parent
+    go (inl k) = absurd (missing nodes c k e)
+    go (inr k) = sym (beyond cs c (omega arith))
+
 -- the nodes have the tree
 pub walks_parents : (cs : List HfscClass) (h g : HfscHistory) (last leaf : ℕ) (next : Option ℕ) (nodes : List Node) → Walks cs h g last leaf next nodes
     → (c : ℕ) → parent_in (slice_get nodes c) ≡ (class_of cs c).parent
 walks_parents cs h g last leaf next nodes w c = go (slice_get nodes c) (is_over cs next c) refl refl
   where
-    outside : (c < length nodes) ⊎ (length nodes ≤ c) → slice_get nodes c ≡ None → None ≡ (class_of cs c).parent
-    outside (inl k) e = absurd (missing nodes c k e)
-    outside (inr k) e = sym (beyond cs c (let count = w.count in omega arith))
-
     go : (o : Option Node) (b : Bool) → slice_get nodes c ≡ o → is_over cs next c ≡ b → parent_in o ≡ (class_of cs c).parent
-    go None b e f = outside (cases_lt c (length nodes)) e
+    go None b e f = outside_parent nodes cs c w.count e
     go (Some x) true e f = (w.before c x e f).parent
     go (Some x) false e f = (w.after c x e f).parent
 

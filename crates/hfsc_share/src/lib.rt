@@ -8,7 +8,7 @@
 //! Link-Sharing, Real-Time and Priority Services", SIGCOMM 1997; upper limits are those of altq.conf(5).
 #![tactic(auto)]
 
-ghost use Rattle.std.specs.Prelude.{◌≡◌, ◌==◌, ◌<◌, ◌≤◌, ◌^◌, ◌&&◌, ◌∷◌, [], ℕ, not, List, Option, None, Some, All, Bool, true, false, length, slice_get, slice_set, IfOk};
+ghost use Rattle.std.specs.Prelude.{◌≡◌, ◌==◌, ◌<◌, ◌≤◌, ◌^◌, ◌&&◌, ◌||◌, ◌∷◌, [], ℕ, not, List, Option, None, Some, All, Bool, true, false, length, slice_get, slice_set, IfOk};
 ghost use Rattle.play_base.specs.Units.{units};
 ghost use Rattle.ranking.specs.Order.{IsOrderOf, is_in};
 ghost use Rattle.hfsc_model.specs.declared.HfscClass.{HfscClass};
@@ -194,9 +194,8 @@ impl Shares {
         ensures parent { result ≡ parent_at self.old class }
     {
         let old = self.nodes[class as usize];
-        let below = self.has_active_child(class);
         let node = old
-            .served(amount, waits || below)
+            .served(amount, self.waits_below(class, waits))
             .reopened(self.first_moment_below(class));
         self.set(class, node);
         old.parent()
@@ -243,12 +242,12 @@ impl Shares {
         self.groups[class as usize].first_moment()
     }
 
-    /// A child of a class is active.
-    fn has_active_child(&self, class: u32) -> bool
+    /// A packet waits in a class itself, which `here` says, or below it: a child is active.
+    fn waits_below(&self, class: u32, here: bool) -> bool
         requires { class < classes_of self.now }
-        ensures { result ≡ has_ranked (slice_get self.now.groups.items class) }
+        ensures { result ≡ (here || has_ranked (slice_get self.now.groups.items class)) }
     {
-        !self.groups[class as usize].ranked().is_empty()
+        here || !self.groups[class as usize].ranked().is_empty()
     }
 
     /// Down from the root, on each level by the first child that is open.

@@ -15,7 +15,7 @@ returns-clause-walks c = λ cs h leaf len real start l e f w.
       holds = c.args.self.now.groups_hold;
       within = c.requires.class;
       at = get_read c.args.self.now.nodes.items c.args.class c.index.result.now c.requires.class c.index.ensures;
-      served = served_by c.args.amount _ _ c.index.result.now c.served.result (ap (λ (b : Bool). c.args.waits || b) c.has_active_child-below.ensures) c.served.ensures;
+      served = served_by c.args.amount c.waits_below.result _ c.index.result.now c.served.result c.waits_below.ensures c.served.ensures;
       reopened = reopened_by c.first_moment_below.result _ c.served.result c.reopened-node.result c.first_moment_below.ensures c.reopened-node.ensures;
     })
     c.parent.ensures c.set.ensures.nodes
@@ -29,11 +29,10 @@ returns-clause-step c =
 
 pub returns-clause-active : goal.returns-clause-active
 returns-clause-active c = λ l.
-    let none = c.has_active_child-below.ensures ∙ none_ranked c.args.self.now.nodes.items c.args.self.now.groups.items c.args.class c.args.self.now.groups_hold l in
+    let none = none_ranked c.args.self.now.nodes.items c.args.self.now.groups.items c.args.class c.args.self.now.groups_hold l in
     set_active c.args.self.now.nodes.items c.set.new.self.nodes.items c.args.class c.reopened-node.result _ c.requires.class c.set.ensures.nodes
     (c.reopened-node.ensures.active ∙ c.served.ensures.active
-    ∙ ap (λ (b : Bool). c.index.result.now.active && (c.args.waits || b)) none
-    ∙ ap (λ (b : Bool). c.index.result.now.active && b) (or_false c.args.waits)
+    ∙ ap (λ (b : Bool). c.index.result.now.active && b) (c.waits_below.ensures ∙ ap (λ (b : Bool). c.args.waits || b) none ∙ or_false c.args.waits)
     ∙ sym (ap (λ (o : Option Node). active_in o && c.args.waits) (get_read c.args.self.now.nodes.items c.args.class c.index.result.now c.requires.class c.index.ensures)))
   where
     or_false : (b : Bool) → (b || false) ≡ b
