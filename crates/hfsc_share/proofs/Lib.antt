@@ -12,3 +12,4 @@ pub mod Serving
 pub mod Walking
 pub mod Steps
 pub mod Picks
+pub mod New

@@ -1,5 +1,5 @@
 -- The children of a class in the order of their virtual times and in that of the moments from which they open.
-use Rattle.std.specs.Prelude.{◌≡◌, ◌≤◌, ◌<◌, ℕ, max, Bool, true, List, [], ◌∷◌, length, Option, None, Some, slice_get}
+use Rattle.std.specs.Prelude.{◌≡◌, ◌≤◌, ◌<◌, ℕ, max, Bool, true, List, [], ◌∷◌, length, Option, None, Some, slice_get, slice_index_or}
 use Rattle.std.specs.List.{find}
 use Rattle.ranking.specs.Order.{is_in, key_of}
 use Rattle.ranking.specs.Ranking.{keys_of, order_of}
@@ -48,7 +48,7 @@ pub record IsNewGroup (classes : ℕ) (g : Group) : Type 0 where
 
 pub record AreEmpty (classes : ℕ) (groups : List Group) : Type 0 where
   pub count : length groups ≡ classes
-  pub each : (p : ℕ) (g : Group) → slice_get groups p ≡ Some g → IsNewGroup classes g
+  pub each : (p : ℕ) (d : Group) → p < length groups → IsNewGroup classes (slice_index_or groups p d)
 
 -- a child may be put in anew, and is
 pub record MayChange (class : ℕ) (was : Bool) (g : Group) : Type 0 where

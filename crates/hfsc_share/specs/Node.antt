@@ -1,5 +1,5 @@
 -- What is held of a class, and what it stands for.
-use Rattle.std.specs.Prelude.{◌≡◌, ◌≤◌, ◌<◌, ◌+◌, ◌^◌, ◌&&◌, ℕ, min, max, Bool, true, false, List, [], ◌∷◌, length, Option, None, Some, slice_get, IsSome}
+use Rattle.std.specs.Prelude.{◌≡◌, ◌≤◌, ◌<◌, ◌+◌, ◌^◌, ◌&&◌, ℕ, min, max, Bool, true, false, List, [], ◌∷◌, length, Option, None, Some, slice_get, slice_index_or, IsSome}
 use Rattle.service_curve.specs.declared.Curve.{Curve}
 use Rattle.runtime_curve.specs.declared.Opening.{Opening}
 use Rattle.runtime_curve.specs.Opening.{opening}
@@ -74,7 +74,7 @@ pub record IsNewNode (k : HfscClass) (x : Node) : Type 0 where
 -- all classes without a packet
 pub record AreNew (ks : List HfscClass) (nodes : List Node) : Type 0 where
   pub count : length nodes ≡ length ks
-  pub each : (c : ℕ) (x : Node) → slice_get nodes c ≡ Some x → IsNewNode (class_of ks c) x
+  pub each : (c : ℕ) (d : Node) → c < length nodes → IsNewNode (class_of ks c) (slice_index_or nodes c d)
 
 -- what a class becomes: active, after an arrival, with a virtual time that is at least this
 pub record IsActivated (at start : ℕ) (x y : Node) : Type 0 where

@@ -119,12 +119,7 @@ impl Shares {
             → result ≡ share_pick cs h now }
         ensures is { result ≡ pick_now self.now now }
     {
-        let now = u128::from(now);
-        let root = self.nodes.first()?;
-        if root.is_active() && has_come(root.opens(), now) {
-            return Some(self.leaf_below(now));
-        }
-        None
+        self.picked(u128::from(now))
     }
 
     /// The least moment, not before the last wake, from which the limits let some active leaf be served. `None` comes
@@ -133,12 +128,7 @@ impl Shares {
         ensures least { (cs : List HfscClass) (h : HfscHistory) → StandsFor self.now cs h → IsSoonest cs h (last_wake self.now) result }
         ensures is { result ≡ soonest_now self.now }
     {
-        let root = self.nodes.first()?;
-        if !root.is_active() {
-            return None;
-        }
-        let opens = root.opens()?;
-        Some(opens.max(u128::from(self.woken)))
+        self.soonest_moment()
     }
 
     /// The active children of a class in the order of their virtual times, a tie in the order of the file. Constant time.
@@ -248,6 +238,29 @@ impl Shares {
         ensures { result ≡ (here || has_ranked (slice_get self.now.groups.items class)) }
     {
         here || !self.groups[class as usize].ranked().is_empty()
+    }
+
+    /// The leaf to send, where the root is open.
+    fn picked(&self, now: u128) -> Option<u32>
+        ensures { result ≡ pick_now self.now now }
+    {
+        let root = self.nodes.first()?;
+        if root.is_active() && has_come(root.opens(), now) {
+            return Some(self.leaf_below(now));
+        }
+        None
+    }
+
+    /// The moment from which the root opens, or the last wake if that is later.
+    fn soonest_moment(&self) -> Option<u128>
+        ensures { result ≡ soonest_now self.now }
+    {
+        let root = self.nodes.first()?;
+        if !root.is_active() {
+            return None;
+        }
+        let opens = root.opens()?;
+        Some(opens.max(u128::from(self.woken)))
     }
 
     /// Down from the root, on each level by the first child that is open.
