@@ -19,13 +19,14 @@ use Rattle.hfsc_share.specs.declared.node.Node.{Node}
 use Rattle.hfsc_share.specs.declared.group.Group.{Group}
 use Rattle.hfsc_share.specs.declared.Shares.{Shares}
 use Rattle.hfsc_share.specs.Classes.{opens_under, IsSoonest}
-use Rattle.hfsc_share.specs.Node.{active_in, opens_in, parent_in, time_in, NodeStands, OpensAt}
+use Rattle.hfsc_share.specs.Node.{active_in, opens_in, is_child_in, parent_in, time_in, OpensAt}
 use Rattle.hfsc_share.specs.Group.{first_open, ranked_in, time_key, GroupHolds, GroupsHold}
-use Rattle.hfsc_share.specs.Shares.{StandsFor, child_of, down, is_active_at, last_wake, pick_now}
+use Rattle.hfsc_share.specs.Shares.{StandsFor, child_of, down, is_active_at, last_wake, not_before, pick_now, soonest_now}
 use Rattle.hfsc_share.proofs.Under.{under_low, in_line, same_or_up, IsUp}
 use Rattle.hfsc_share.proofs.Opening.{all_over, over_all, Opens, opens_is, is_opens, waits_is, is_waits, is_active}
 use Rattle.hfsc_share.proofs.Children.{Stand, child_node, in_list, key_opens, missing}
 use Rattle.hfsc_share.proofs.Starting.{child_in, in_filter, time_before}
+use Rattle.hfsc_share.proofs.Lists.{ranked_low}
 use Rattle.hfsc_share.proofs.Walking.{outside_parent}
 
 -- where all classes above a class are within their limits, a leaf below it may be served exactly where the class opens
@@ -328,7 +329,7 @@ down_is s cs h now stands later (suc levels) c led o = go (child_of s.groups.ite
     with_group : (g : Option Group) → slice_get s.groups.items c ≡ g → child_of s.groups.items now c ≡ least_by (virtual_time cs h) (filter (shares_under cs h now) (filter (is_child cs c) (numbers cs)))
     with_group None e = absurd (no_group s.groups.items c low e)
     with_group (Some g) e =
-        ap (λ (x : Option Group). elim x [ None ↦ None | Some y ↦ first_open now y ]) e
+        ap {B = Option ℕ} (λ (x : Option Group). elim x [ None ↦ None | Some y ↦ first_open now y ]) e
         ∙ child_picked cs h s.woken now c s.nodes.items g stands.classes.tree later (stands_stand s cs h c stands) (s.groups_hold.each c g e) led o
 
     picked : child_of s.groups.items now c ≡ least_by (virtual_time cs h) (filter (shares_under cs h now) (filter (is_child cs c) (numbers cs)))
@@ -336,9 +337,9 @@ down_is s cs h now stands later (suc levels) c led o = go (child_of s.groups.ite
 
     go : (q : Option ℕ) → q ≡ least_by (virtual_time cs h) (filter (shares_under cs h now) (filter (is_child cs c) (numbers cs)))
         → ((d : ℕ) → ((x : ℕ) → is_under cs x d ≡ true → (x ≡ d → ⊥) → is_within cs h now x ≡ true) → opens_under cs h now d ≡ true → down levels s.groups.items now d ≡ path_down levels cs h now d)
-        → elim q [ None ↦ c | Some d ↦ down levels s.groups.items now d ]
-        ≡ elim (least_by (virtual_time cs h) (filter (shares_under cs h now) (filter (is_child cs c) (numbers cs)))) [ None ↦ c | Some d ↦ path_down levels cs h now d ]
-    go None e rest = ap (λ (x : Option ℕ). elim x [ None ↦ c | Some d ↦ path_down levels cs h now d ]) e
+        → ◌≡◌ {A = ℕ} (elim q [ None ↦ c | Some d ↦ down levels s.groups.items now d ])
+        (elim (least_by (virtual_time cs h) (filter (shares_under cs h now) (filter (is_child cs c) (numbers cs)))) [ None ↦ c | Some d ↦ path_down levels cs h now d ])
+    go None e rest = ap {B = ℕ} (λ (x : Option ℕ). elim x [ None ↦ c | Some d ↦ path_down levels cs h now d ]) e
     go (Some d) e rest =
         let l = least_is (virtual_time cs h) (filter (shares_under cs h now) (filter (is_child cs c) (numbers cs))) d
             (filter_rises (shares_under cs h now) (filter (is_child cs c) (numbers cs)) (filter_rises (is_child cs c) (numbers cs) (range_rises 0 (length cs)))) (sym e) in
@@ -346,7 +347,7 @@ down_is s cs h now stands later (suc levels) c led o = go (child_of s.groups.ite
         let child = sym (child_in cs c d) ∙ both.1 in
         let led_d = child_led cs h now c d stands.classes.tree led o child in
         rest d led_d (sym (shares_opens cs h now d stands.classes.tree led_d) ∙ both.0)
-        ∙ ap (λ (x : Option ℕ). elim x [ None ↦ c | Some m ↦ path_down levels cs h now m ]) e
+        ∙ ap {B = ℕ} (λ (x : Option ℕ). elim x [ None ↦ c | Some m ↦ path_down levels cs h now m ]) e
 
 -- the root
 root_shares : (cs : List HfscClass) (h : HfscHistory) (now : ℕ) → IsTree cs → shares_under cs h now 0 ≡ opens_under cs h now 0
@@ -403,15 +404,15 @@ pick_is s cs h now stands later = go (is_active_at s 0) refl
     go false a = share false (root_shares cs h now tree ∙ idle_closed cs h now 0 (root_active s cs h stands ∙ a))
 
 -- the soonest moment
-pub none_soonest : (s : Shares) (cs : List HfscClass) (h : HfscHistory) → StandsFor s cs h → is_active_at s 0 ≡ false → IsSoonest cs h (last_wake s) None
+none_soonest : (s : Shares) (cs : List HfscClass) (h : HfscHistory) → StandsFor s cs h → is_active_at s 0 ≡ false → IsSoonest cs h (last_wake s) None
 none_soonest s cs h stands a = record {
   some = (λ e. absurd cc, λ e. let is = root_active s cs h stands in absurd cc);
   from = λ now later. root_shares cs h now stands.classes.tree ∙ idle_closed cs h now 0 (root_active s cs h stands ∙ a);
   later = tt;
 }
 
-pub some_soonest : (s : Shares) (cs : List HfscClass) (h : HfscHistory) (t : ℕ) → StandsFor s cs h → is_active_at s 0 ≡ true → opens_in (slice_get s.nodes.items 0) ≡ Some t
-    → IsSoonest cs h (last_wake s) (Some (max t s.woken))
+some_soonest : (s : Shares) (cs : List HfscClass) (h : HfscHistory) (t : ℕ) → StandsFor s cs h → is_active_at s 0 ≡ true → opens_in (slice_get s.nodes.items 0) ≡ Some t
+    → IsSoonest cs h (last_wake s) (Some (max s.woken t))
 some_soonest s cs h t stands a e = record {
   some = (λ f. root_active s cs h stands ∙ a, λ f. refl);
   from = λ now later.
@@ -419,12 +420,50 @@ some_soonest s cs h t stands a e = record {
   later = omega arith;
 }
   where
-    same : (now : ℕ) → s.woken ≤ now → nat_le t now ≡ nat_le (max t s.woken) now
+    same : (now : ℕ) → s.woken ≤ now → nat_le t now ≡ nat_le (max s.woken t) now
     same now later = go (nat_le t now) refl
       where
-        go : (b : Bool) → nat_le t now ≡ b → b ≡ nat_le (max t s.woken) now
+        go : (b : Bool) → nat_le t now ≡ b → b ≡ nat_le (max s.woken t) now
         go true f = grind (arith, nat_tests, f, later)
         go false f = grind (arith, nat_tests, f, later)
 
-pub never_none : (s : Shares) (cs : List HfscClass) (h : HfscHistory) → StandsFor s cs h → is_active_at s 0 ≡ true → opens_in (slice_get s.nodes.items 0) ≡ None → ⊥
-never_none s cs h stands a e = let some = (root_opens s cs h stands a).some in let no = ap is_some e in cc
+pub soonest_is : (s : Shares) (cs : List HfscClass) (h : HfscHistory) → StandsFor s cs h → IsSoonest cs h (last_wake s) (soonest_now s)
+soonest_is s cs h stands = go (is_active_at s 0) refl
+  where
+    open_case : is_active_at s 0 ≡ true → (o : Option ℕ) → opens_in (slice_get s.nodes.items 0) ≡ o → IsSoonest cs h (last_wake s) (not_before s.woken o)
+    open_case a None e = let some = (root_opens s cs h stands a).some in let no = ap is_some e in absurd cc
+    open_case a (Some t) e = some_soonest s cs h t stands a e
+
+    go : (b : Bool) → is_active_at s 0 ≡ b → IsSoonest cs h (last_wake s) (if b then not_before s.woken (opens_in (slice_get s.nodes.items 0)) else None)
+    go true a = open_case a (opens_in (slice_get s.nodes.items 0)) refl
+    go false a = none_soonest s cs h stands a
+
+-- what stands in the list by virtual time has a place for its moment
+pub has_keys : (nodes : List Node) (p : ℕ) (g : Group) → GroupHolds nodes p g → (c : ℕ) → is_in c (order_of g.times) ≡ true → c < length (keys_of g.moments)
+has_keys nodes p g holds c i = holds.moments.room c (and_true (is_child_in nodes p c) (active_in (slice_get nodes c)) (sym (holds.times.exactly c) ∙ i)).0
+
+-- the first child that is open is a class
+pub first_low : (nodes : List Node) (p now c : ℕ) (g : Group) → GroupHolds nodes p g → first_open now g ≡ Some c → c < length nodes
+first_low nodes p now c g holds e = ranked_low nodes p c time_key g.times holds.times (found_in (λ d. has_come (key_of (keys_of g.moments) d) now) (order_of g.times) c e)
+  where
+    found_in : (test : ℕ → Bool) (xs : List ℕ) (d : ℕ) → find test xs ≡ Some d → is_in d xs ≡ true
+    found_in test [] d f = absurd cc
+    found_in test (x ∷ xs) d f = go (test x) f (found_in test xs d)
+      where
+        go : (b : Bool) → cond b (Some x) (find test xs) ≡ Some d → (find test xs ≡ Some d → is_in d xs ≡ true) → is_in d (x ∷ xs) ≡ true
+        go true k rest = subst (λ m. is_in m (x ∷ xs) ≡ true) (number_is x d k) (rw (same_test x) refl)
+        go false k rest = in_more x d xs (rest k)
+
+child_at : (groups : List Group) (g : Group) (now c : ℕ) → slice_get groups c ≡ Some g → child_of groups now c ≡ first_open now g
+child_at groups g now c at = ap {B = Option ℕ} (λ (x : Option Group). elim x [ None ↦ None | Some y ↦ first_open now y ]) at
+
+-- one step down, and none
+pub down_more : (groups : List Group) (g : Group) (now c d n m : ℕ) → slice_get groups c ≡ Some g → first_open now g ≡ Some d → m ≡ suc n → down m groups now c ≡ down n groups now d
+down_more groups g now c d n m at e is =
+    ap (λ k. down k groups now c) is
+    ∙ ap {B = ℕ} (λ (o : Option ℕ). elim o [ None ↦ c | Some f ↦ down n groups now f ]) (child_at groups g now c at ∙ e)
+
+pub down_none : (groups : List Group) (g : Group) (now c m : ℕ) → slice_get groups c ≡ Some g → first_open now g ≡ None → down m groups now c ≡ c
+down_none groups g now c zero at e = refl
+down_none groups g now c (suc n) at e =
+    ap {B = ℕ} (λ (o : Option ℕ). elim o [ None ↦ c | Some f ↦ down n groups now f ]) (child_at groups g now c at ∙ e)
