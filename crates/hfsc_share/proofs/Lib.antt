@@ -12,4 +12,5 @@ pub mod Serving
 pub mod Walking
 pub mod Steps
 pub mod Picks
+pub mod Ends
 pub mod New

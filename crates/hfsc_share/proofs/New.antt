@@ -8,7 +8,7 @@ use Rattle.ranking.specs.declared.Ranking.{Ranking}
 use Rattle.ranking.specs.Order.{is_in, key_of}
 use Rattle.ranking.specs.Ranking.{keys_of, order_of}
 use Rattle.hfsc_model.specs.declared.HfscClass.{HfscClass}
-use Rattle.hfsc_model.specs.Tree.{class_of, is_number}
+use Rattle.hfsc_model.specs.Tree.{class_of, is_child, is_number}
 use Rattle.hfsc_model.specs.Share.{active}
 use Rattle.hfsc_laws.proofs.Tree.{same_truth}
 use Rattle.hfsc_share.specs.declared.node.Node.{Node}
@@ -17,7 +17,7 @@ use Rattle.hfsc_share.specs.declared.Shares.{Shares}
 use Rattle.hfsc_share.specs.Curves.{IsBy}
 use Rattle.hfsc_share.specs.Classes.{AreClasses}
 use Rattle.hfsc_share.specs.Node.{active_in, parent_in, time_in, opens_in, is_child_in, is_active_child, AreNew, AreParentsFirst, AreLimitsBy, IsNewNode, NodeStands}
-use Rattle.hfsc_share.specs.Group.{AreEmpty, GroupHolds, GroupsHold, IsNewGroup, Ranks, time_key}
+use Rattle.hfsc_share.specs.Group.{AreEmpty, GroupHolds, GroupsHold, IsEmpty, Ranks, time_key}
 use Rattle.hfsc_share.specs.Shares.{StandsFor, IsNew, classes_of, is_active_at, parent_at}
 use Rattle.hfsc_share.proofs.Opening.{active_is, waits_is}
 use Rattle.hfsc_share.proofs.Walking.{outside_parent}
@@ -26,8 +26,8 @@ use Rattle.hfsc_share.proofs.Walking.{outside_parent}
 new_node : (cs : List HfscClass) (nodes : List Node) (c : ℕ) (x : Node) → AreNew cs nodes → slice_get nodes c ≡ Some x → IsNewNode (class_of cs c) x
 new_node cs nodes c x new e = subst (λ (y : Node). IsNewNode (class_of cs c) y) (get_or_from_slice_get nodes c x x e) (new.each c x (slice_get_within nodes c x e))
 
-new_group : (classes : ℕ) (groups : List Group) (p : ℕ) (g : Group) → AreEmpty classes groups → slice_get groups p ≡ Some g → IsNewGroup classes g
-new_group classes groups p g new e = subst (λ (y : Group). IsNewGroup classes y) (get_or_from_slice_get groups p g g e) (new.each p g (slice_get_within groups p g e))
+new_group : (cs : List HfscClass) (groups : List Group) (p : ℕ) (g : Group) → AreEmpty cs groups → slice_get groups p ≡ Some g → IsEmpty cs p g
+new_group cs groups p g new e = subst (λ (y : Group). IsEmpty cs p y) (get_or_from_slice_get groups p g g e) (new.each p g (slice_get_within groups p g e))
 
 idle_in : (cs : List HfscClass) (nodes : List Node) (c : ℕ) → AreNew cs nodes → active_in (slice_get nodes c) ≡ false
 idle_in cs nodes c new = go (slice_get nodes c) refl
@@ -50,13 +50,6 @@ parent_is cs nodes c new = go (slice_get nodes c) refl
     go None e = outside_parent nodes cs c new.count e
     go (Some x) e = (new_node cs nodes c x new e).parent
 
-child_low : (nodes : List Node) (p c : ℕ) → is_child_in nodes p c ≡ true → c < length nodes
-child_low nodes p c k = go (slice_get nodes c) refl
-  where
-    go : (o : Option Node) → slice_get nodes c ≡ o → c < length nodes
-    go None e = let no : is_child_in nodes p c ≡ false = ap (λ (x : Option Node). is_number p (parent_in x)) e in absurd cc
-    go (Some x) e = slice_get_within nodes c x e
-
 no_active : (cs : List HfscClass) (nodes : List Node) (p c : ℕ) → AreNew cs nodes → is_active_child nodes p c ≡ false
 no_active cs nodes p c new = ap (λ b. is_child_in nodes p c && b) (idle_in cs nodes c new) ∙ nothing (is_child_in nodes p c)
   where
@@ -64,19 +57,19 @@ no_active cs nodes p c new = ap (λ b. is_child_in nodes p c && b) (idle_in cs n
     nothing true = refl
     nothing false = refl
 
-empty_ranks : (cs : List HfscClass) (nodes : List Node) (p : ℕ) (key : Option Node → Option ℕ) (r : Ranking) → AreNew cs nodes → order_of r ≡ [] → length (keys_of r) ≡ length cs
-    → Ranks nodes p key r
+empty_ranks : (cs : List HfscClass) (nodes : List Node) (p : ℕ) (key : Option Node → Option ℕ) (r : Ranking) → AreNew cs nodes → order_of r ≡ []
+    → ((c : ℕ) → is_child cs p c ≡ true → c < length (keys_of r)) → Ranks nodes p key r
 empty_ranks cs nodes p key r new empty room = record {
-  room = λ c k. let low = child_low nodes p c k in let count = new.count in omega arith;
+  room = λ c k. room c (sym (ap (is_number p) (parent_is cs nodes c new)) ∙ k);
   exactly = λ c. ap (λ (xs : List ℕ). is_in c xs) empty ∙ sym (no_active cs nodes p c new);
   keys = λ c a. let no = no_active cs nodes p c new in absurd cc;
 }
 
-pub new_holds : (cs : List HfscClass) (nodes : List Node) (groups : List Group) → AreNew cs nodes → AreEmpty (length cs) groups → GroupsHold nodes groups
+pub new_holds : (cs : List HfscClass) (nodes : List Node) (groups : List Group) → AreNew cs nodes → AreEmpty cs groups → GroupsHold nodes groups
 new_holds cs nodes groups new empty = record {
   count = empty.count ∙ sym new.count;
   each = λ p g e.
-      let x = new_group (length cs) groups p g empty e in
+      let x = new_group cs groups p g empty e in
       record {
         times = empty_ranks cs nodes p time_key g.times new x.times x.time_keys;
         moments = empty_ranks cs nodes p opens_in g.moments new x.moments x.moment_keys;

@@ -139,7 +139,7 @@ pub record IsOpenChild (cs : List HfscClass) (h : HfscHistory) (now c : ℕ) : T
   pub opens : opens_under cs h now child ≡ true
   pub active : active cs h child ≡ true
 
-not_leaf : (cs : List HfscClass) (c d : ℕ) → is_leaf cs c ≡ false → is_leaf cs d ≡ true → d ≡ c → ⊥
+pub not_leaf : (cs : List HfscClass) (c d : ℕ) → is_leaf cs c ≡ false → is_leaf cs d ≡ true → d ≡ c → ⊥
 not_leaf cs c d e f s = let one : is_leaf cs d ≡ is_leaf cs c = ap (is_leaf cs) s in cc
 
 pub child_opens : (cs : List HfscClass) (h : HfscHistory) (now c : ℕ) → IsTree cs → is_leaf cs c ≡ false → opens_under cs h now c ≡ true

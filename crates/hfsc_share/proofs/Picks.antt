@@ -102,11 +102,11 @@ range_above a (suc n) d i = go (a == d) refl i (range_above (a + 1) n d)
     go true e i rest = grind (arith, nat_tests, e)
     go false e i rest = let one = rest i in omega arith
 
-range_rises : (a n : ℕ) → Rising (range_with_len a n)
+pub range_rises : (a n : ℕ) → Rising (range_with_len a n)
 range_rises a zero = tt
 range_rises a (suc n) = (λ d i. (let one = range_above (a + 1) n d i in omega arith), range_rises (a + 1) n)
 
-filter_rises : (p : ℕ → Bool) (xs : List ℕ) → Rising xs → Rising (filter p xs)
+pub filter_rises : (p : ℕ → Bool) (xs : List ℕ) → Rising xs → Rising (filter p xs)
 filter_rises p [] r = tt
 filter_rises p (x ∷ xs) r = go (p x) (filter_rises p xs r.1)
   where
@@ -130,7 +130,7 @@ goes a b c d h k = go (nat_lt a b) (nat_lt b a) refl refl
 goes_less : (a b c d : ℕ) → a < b → goes_first (Some a) c (Some b) d ≡ true
 goes_less a b c d h = let less : nat_lt a b ≡ true = grind (arith, nat_tests, h) in rw less refl
 
-least_none : (f : ℕ → ℕ) (xs : List ℕ) → least_by f xs ≡ None → xs ≡ []
+pub least_none : (f : ℕ → ℕ) (xs : List ℕ) → least_by f xs ≡ None → xs ≡ []
 least_none f [] e = refl
 least_none f (c ∷ cs) e = absurd (go (least_by f cs) e)
   where
@@ -142,7 +142,7 @@ least_none f (c ∷ cs) e = absurd (go (least_by f cs) e)
     go None e = cc
     go (Some d) e = either (nat_le (f c) (f d)) d e
 
-number_is : (a b : ℕ) → Some a ≡ Some b → a ≡ b
+pub number_is : (a b : ℕ) → Some a ≡ Some b → a ≡ b
 number_is a b e = cc
 
 behind : (c d : ℕ) (cs : List ℕ) → is_in d (c ∷ cs) ≡ true → (d ≡ c → ⊥) → is_in d cs ≡ true
@@ -152,7 +152,7 @@ behind c d cs i n = go (c == d) refl i
     go true e i = absurd (n (grind (arith, nat_tests, e)))
     go false e i = i
 
-least_is : (f : ℕ → ℕ) (xs : List ℕ) (c : ℕ) → Rising xs → least_by f xs ≡ Some c → IsLeastBy f xs c
+pub least_is : (f : ℕ → ℕ) (xs : List ℕ) (c : ℕ) → Rising xs → least_by f xs ≡ Some c → IsLeastBy f xs c
 least_is f [] c r e = absurd cc
 least_is f (x ∷ xs) c r e = go (least_by f xs) refl e (λ d g. least_is f xs d r.1 g)
   where

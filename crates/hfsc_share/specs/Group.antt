@@ -4,7 +4,9 @@ use Rattle.std.specs.List.{find}
 use Rattle.ranking.specs.Order.{is_in, key_of}
 use Rattle.ranking.specs.Ranking.{keys_of, order_of}
 use Rattle.ranking.specs.declared.Ranking.{Ranking}
+use Rattle.hfsc_model.specs.declared.HfscClass.{HfscClass}
 use Rattle.hfsc_model.specs.RealTime.{has_come}
+use Rattle.hfsc_model.specs.Tree.{is_child}
 use Rattle.hfsc_share.specs.declared.node.Node.{Node}
 use Rattle.hfsc_share.specs.declared.group.Group.{Group}
 use Rattle.hfsc_share.specs.Lists.{IsReplaced, MayReplace}
@@ -38,17 +40,25 @@ pub record GroupsHold (nodes : List Node) (groups : List Group) : Type 0 where
   pub count : length groups ≡ length nodes
   pub each : (p : ℕ) (g : Group) → slice_get groups p ≡ Some g → GroupHolds nodes p g
 
--- no child of these classes is active, and none was
-pub record IsNewGroup (classes : ℕ) (g : Group) : Type 0 where
+-- no child is active, and none was; so many classes have a place
+pub record IsNewGroup (places : ℕ) (g : Group) : Type 0 where
   pub times : order_of g.times ≡ []
   pub moments : order_of g.moments ≡ []
-  pub time_keys : length (keys_of g.times) ≡ classes
-  pub moment_keys : length (keys_of g.moments) ≡ classes
+  pub time_keys : length (keys_of g.times) ≡ places
+  pub moment_keys : length (keys_of g.moments) ≡ places
   pub high : g.high ≡ 0
 
-pub record AreEmpty (classes : ℕ) (groups : List Group) : Type 0 where
-  pub count : length groups ≡ classes
-  pub each : (p : ℕ) (d : Group) → p < length groups → IsNewGroup classes (slice_index_or groups p d)
+-- the group of p, in which each of its children has a place
+pub record IsEmpty (cs : List HfscClass) (p : ℕ) (g : Group) : Type 0 where
+  pub times : order_of g.times ≡ []
+  pub moments : order_of g.moments ≡ []
+  pub time_keys : (c : ℕ) → is_child cs p c ≡ true → c < length (keys_of g.times)
+  pub moment_keys : (c : ℕ) → is_child cs p c ≡ true → c < length (keys_of g.moments)
+  pub high : g.high ≡ 0
+
+pub record AreEmpty (cs : List HfscClass) (groups : List Group) : Type 0 where
+  pub count : length groups ≡ length cs
+  pub each : (p : ℕ) (d : Group) → p < length groups → IsEmpty cs p (slice_index_or groups p d)
 
 -- a child may be put in anew, and is
 pub record MayChange (class : ℕ) (was : Bool) (g : Group) : Type 0 where

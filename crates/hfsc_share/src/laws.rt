@@ -1,7 +1,9 @@
-//! A law of what a value stands for.
-ghost use Rattle.std.specs.Prelude.{◌≡◌, ◌∷◌, ℕ, List, true};
+//! Laws of link sharing.
+ghost use Rattle.std.specs.Prelude.{◌≡◌, ◌∷◌, ℕ, List, Some, true};
 ghost use Rattle.hfsc_model.specs.declared.HfscClass.{HfscClass};
 ghost use Rattle.hfsc_model.specs.Event.{HfscHistory, Kept};
+ghost use Rattle.hfsc_model.specs.Tree.{IsTree};
+ghost use Rattle.hfsc_model.specs.Limit.{may_share, share_pick};
 ghost use Rattle.hfsc_share.specs.Classes.{waits_in};
 ghost use Rattle.hfsc_share.specs.declared.Shares.{Shares};
 ghost use Rattle.hfsc_share.specs.Shares.{StandsFor};
@@ -11,4 +13,10 @@ ghost use Rattle.hfsc_share.specs.Shares.{StandsFor};
 pub fn waiting_leaves_wake_once()
     ensures { (s : Shares) (cs : List HfscClass) (h : HfscHistory) (class at len : ℕ) → StandsFor s cs h
         → waits_in h class ≡ true → StandsFor s cs (Kept class at len ∷ h) }
+{}
+
+/// What is picked by share is a leaf in which a packet waits, and its path is open.
+#[tactic(auto, using(crate::proofs::Ends::picked_may))]
+pub fn picked_leaves_may_share()
+    ensures { (cs : List HfscClass) (h : HfscHistory) (now c : ℕ) → IsTree cs → share_pick cs h now ≡ Some c → may_share cs h now c ≡ true }
 {}

@@ -31,7 +31,7 @@ mod laws;
 mod node;
 
 use group::{Group, has_come};
-pub use laws::waiting_leaves_wake_once;
+pub use laws::{picked_leaves_may_share, waiting_leaves_wake_once};
 use node::Node;
 
 /// At most so many levels has a tree.
@@ -61,7 +61,7 @@ impl Shares {
         ensures new { IfOk result (IsNew classes.now) }
     {
         let nodes = nodes_of(alloc, classes)?;
-        let groups = groups_of(alloc, classes.len())?;
+        let groups = groups_of(alloc, classes)?;
         Ok(Shares {
             nodes,
             groups,
@@ -307,16 +307,29 @@ fn nodes_of(alloc: Global, classes: &[HfscClass]) -> Result<Vec<Node>, NoMemory>
     Ok(nodes)
 }
 
-/// A group for each of at most 256 classes, without an active child.
-fn groups_of(alloc: Global, classes: usize) -> Result<Vec<Group>, NoMemory>
-    requires { classes ≤ 256 }
-    ensures { IfOk result (λ groups. AreEmpty classes groups.items) }
+/// A group for each of at most 256 classes, without an active child; in that of a leaf no child has a place.
+fn groups_of(alloc: Global, classes: &[HfscClass]) -> Result<Vec<Group>, NoMemory>
+    requires { length classes.now ≤ 256 }
+    ensures { IfOk result (λ groups. AreEmpty classes.now groups.items) }
 {
-    let mut groups = Vec::with_capacity(alloc, classes)?;
-    for _ in 0..classes {
-        groups.push(Group::reserve(alloc, classes as u32)?)?;
+    let mut groups = Vec::with_capacity(alloc, classes.len())?;
+    for class in 0..classes.len() {
+        groups.push(Group::reserve(alloc, places_below(classes, class as u32))?)?;
     }
     Ok(groups)
+}
+
+/// How many classes have a place among the children of a class: all, or where it has no child none.
+fn places_below(classes: &[HfscClass], class: u32) -> u32
+    requires { length classes.now ≤ 256 }
+    ensures { (c : ℕ) → is_child classes.now class c ≡ true → c < result }
+{
+    for other in classes {
+        if other.parent == Some(class) {
+            return classes.len() as u32;
+        }
+    }
+    0
 }
 
 #[cfg(test)]
