@@ -94,7 +94,7 @@ first_opens cs h last p now nodes r t s ranks later a = go (is_leaf cs p) refl
     leaf_case : is_leaf cs p ≡ true → opens_under cs h now p ≡ (is_within cs h now p && has_come (first_key (keys_of r) (order_of r)) now)
     leaf_case l =
         let none : (c : ℕ) → is_in c (order_of r) ≡ true → ⊥
-            = λ c i. leaf_childless cs p c l (and_true (is_child cs p c) (active cs h c) (sym (in_list cs h last p nodes opens_in r c s ranks) ∙ i)).0 in
+        = λ c i. leaf_childless cs p c l (and_true (is_child cs p c) (active cs h c) (sym (in_list cs h last p nodes opens_in r c s ranks) ∙ i)).0 in
         leaf_opens cs h now p t l a
         ∙ with_true (is_within cs h now p) (has_come (first_key (keys_of r) (order_of r)) now) (only (order_of r) refl none)
       where

@@ -51,9 +51,9 @@ not_none cs h now c t l e none =
     let x = shares_is cs h now c e in
     let b = below_is cs c x.one t x.under (not_leaf cs c x.one l (may_leaf cs h now x.one x.may)) in
     let shares = is_any (λ d. is_under cs b.child d && may_share cs h now d) 0 (length cs) x.one (omega arith) (let low = x.low in omega arith)
-        (true_and (is_under cs b.child x.one) (may_share cs h now x.one) b.under x.may) in
+    (true_and (is_under cs b.child x.one) (may_share cs h now x.one) b.under x.may) in
     let there = in_filter (shares_under cs h now) b.child (filter (is_child cs c) (numbers cs))
-        ∙ true_and (shares_under cs h now b.child) (is_in b.child (filter (is_child cs c) (numbers cs))) shares (child_in cs c b.child ∙ b.of) in
+    ∙ true_and (shares_under cs h now b.child) (is_in b.child (filter (is_child cs c) (numbers cs))) shares (child_in cs c b.child ∙ b.of) in
     let no = ap (λ (xs : List ℕ). is_in b.child xs) none in
     absurd cc
 
@@ -75,7 +75,7 @@ down_ends (suc n) cs h now c t e deep = go (least_by (virtual_time cs h) (filter
     go None f rest = here (is_leaf cs c) refl (least_none (virtual_time cs h) (filter (shares_under cs h now) (filter (is_child cs c) (numbers cs))) f)
     go (Some d) f rest =
         let l = least_is (virtual_time cs h) (filter (shares_under cs h now) (filter (is_child cs c) (numbers cs))) d
-            (filter_rises (shares_under cs h now) (filter (is_child cs c) (numbers cs)) (filter_rises (is_child cs c) (numbers cs) (range_rises 0 (length cs)))) f in
+        (filter_rises (shares_under cs h now) (filter (is_child cs c) (numbers cs)) (filter_rises (is_child cs c) (numbers cs) (range_rises 0 (length cs)))) f in
         let both = and_true (shares_under cs h now d) (is_in d (filter (is_child cs c) (numbers cs))) (sym (in_filter (shares_under cs h now) d (filter (is_child cs c) (numbers cs))) ∙ l.there) in
         rest d (sym (child_in cs c d) ∙ both.1) both.0
 

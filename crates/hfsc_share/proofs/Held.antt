@@ -78,11 +78,11 @@ high_changed nodes class x p high put of h = record {
       let low = h.highest c (sym (child_kept nodes class x p c put) ∙ k) in omega arith);
   least = λ other up.
       let low = h.least other (λ c. split (λ d. is_child_in nodes p d ≡ true → time_in (slice_get nodes d) ≤ other) class c
-          (λ k. let here = ap time_in (get_here nodes class x put.within) in
-          let most = up class (child_kept nodes class x p class put ∙ k) in
-          let more = put.later in omega arith)
-          (λ n k. let there = ap time_in (get_other nodes class c x n) in
-          let most = up c (child_kept nodes class x p c put ∙ k) in omega arith)) in
+      (λ k. let here = ap time_in (get_here nodes class x put.within) in
+      let most = up class (child_kept nodes class x p class put ∙ k) in
+      let more = put.later in omega arith)
+      (λ n k. let there = ap time_in (get_other nodes class c x n) in
+      let most = up c (child_kept nodes class x p c put ∙ k) in omega arith)) in
       let here = ap time_in (get_here nodes class x put.within) in
       let most = up class (ap (λ (o : Option Node). is_number p (parent_in o)) (get_here nodes class x put.within) ∙ ap (is_number p) of ∙ same_test p) in
       omega arith;

@@ -47,10 +47,13 @@ pub opens_is : (cs : List HfscClass) (h : HfscHistory) (now c : ℕ) → opens_u
 opens_is cs h now c e =
     let x = any_is (λ d. waits_under cs h c d && is_open_to cs h now c d) 0 (length cs) e in
     let both = and_true (waits_under cs h c x.one) (is_open_to cs h now c x.one) x.passes in
-    record { one = x.one; opens = record {
-      waits = both.0;
-      within = λ y u v. apart (is_under cs c y) (is_within cs h now y) v (all_over (λ z. not (is_under cs c z) || is_within cs h now z) (path cs x.one) both.1 y u);
-    } }
+    record {
+      one = x.one;
+      opens = record {
+        waits = both.0;
+        within = λ y u v. apart (is_under cs c y) (is_within cs h now y) v (all_over (λ z. not (is_under cs c z) || is_within cs h now z) (path cs x.one) both.1 y u);
+      };
+    }
   where
     apart : (a b : Bool) → a ≡ true → (not a || b) ≡ true → b ≡ true
     apart true b e f = f
@@ -161,9 +164,9 @@ child_opens cs h now c t l e =
 pub opens_child : (cs : List HfscClass) (h : HfscHistory) (now c : ℕ) → IsTree cs → is_within cs h now c ≡ true → IsOpenChild cs h now c
     → opens_under cs h now c ≡ true
 opens_child cs h now c t within o = is_opens cs h now c x.one (record {
-      waits = is_waits cs h c x.one w.leaf_is (under_is cs c o.child x.one t o.of w.under) w.waiting;
-      within = λ y u v. each y u v (in_line cs o.child y x.one t w.under u);
-    })
+  waits = is_waits cs h c x.one w.leaf_is (under_is cs c o.child x.one t o.of w.under) w.waiting;
+  within = λ y u v. each y u v (in_line cs o.child y x.one t w.under u);
+})
   where
     x : IsOpened cs h now o.child
     x = opens_is cs h now o.child o.opens

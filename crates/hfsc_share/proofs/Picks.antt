@@ -342,7 +342,7 @@ down_is s cs h now stands later (suc levels) c led o = go (child_of s.groups.ite
     go None e rest = ap {B = ℕ} (λ (x : Option ℕ). elim x [ None ↦ c | Some d ↦ path_down levels cs h now d ]) e
     go (Some d) e rest =
         let l = least_is (virtual_time cs h) (filter (shares_under cs h now) (filter (is_child cs c) (numbers cs))) d
-            (filter_rises (shares_under cs h now) (filter (is_child cs c) (numbers cs)) (filter_rises (is_child cs c) (numbers cs) (range_rises 0 (length cs)))) (sym e) in
+        (filter_rises (shares_under cs h now) (filter (is_child cs c) (numbers cs)) (filter_rises (is_child cs c) (numbers cs) (range_rises 0 (length cs)))) (sym e) in
         let both = and_true (shares_under cs h now d) (is_in d (filter (is_child cs c) (numbers cs))) (sym (in_filter (shares_under cs h now) d (filter (is_child cs c) (numbers cs))) ∙ l.there) in
         let child = sym (child_in cs c d) ∙ both.1 in
         let led_d = child_led cs h now c d stands.classes.tree led o child in

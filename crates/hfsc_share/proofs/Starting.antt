@@ -190,13 +190,13 @@ high_is : (cs : List HfscClass) (h : HfscHistory) (last p high : ℕ) (nodes : L
     → high ≡ greatest (map (virtual_time cs h) (filter (is_child cs p) (numbers cs)))
 high_is cs h last p high nodes s i =
     let one = i.least (greatest (map (virtual_time cs h) (filter (is_child cs p) (numbers cs))))
-        (λ c k. let is = sym (child_is cs h last p nodes c s) ∙ k in
-        let t = time_is c is in
-        let most = greatest_at (virtual_time cs h) (filter (is_child cs p) (numbers cs)) c (child_in cs p c ∙ is) in omega arith) in
+    (λ c k. let is = sym (child_is cs h last p nodes c s) ∙ k in
+    let t = time_is c is in
+    let most = greatest_at (virtual_time cs h) (filter (is_child cs p) (numbers cs)) c (child_in cs p c ∙ is) in omega arith) in
     let two = greatest_up (virtual_time cs h) (filter (is_child cs p) (numbers cs)) high
-        (λ c k. let is = sym (child_in cs p c) ∙ k in
-        let t = time_is c is in
-        let most = i.highest c (child_is cs h last p nodes c s ∙ is) in omega arith) in
+    (λ c k. let is = sym (child_in cs p c) ∙ k in
+    let t = time_is c is in
+    let most = i.highest c (child_is cs h last p nodes c s ∙ is) in omega arith) in
     omega arith
   where
     time_is : (c : ℕ) → is_child cs p c ≡ true → time_in (slice_get nodes c) ≡ virtual_time cs h c

@@ -290,7 +290,13 @@ impl Shares {
         let was = self.nodes[class as usize].is_active();
         self.nodes[class as usize] = node;
         if let Some(parent) = node.parent() {
-            self.groups[parent as usize].replace(class, was, node.is_active(), node.time(), node.opens());
+            self.groups[parent as usize].replace(
+                class,
+                was,
+                node.is_active(),
+                node.time(),
+                node.opens(),
+            );
         }
     }
 }

@@ -24,11 +24,11 @@ loop-next-init c = record {
 pub loop-next-preserved : goal.loop-next-preserved
 loop-next-preserved c =
     let way : IsOnWay c.args.leaf (not c.args.empty) (Some c.in-Some.class) c.args.self.now.nodes.items c.loop-next.self.nodes.items
-        = subst (λ (o : Option ℕ). IsOnWay c.args.leaf (not c.args.empty) o c.args.self.now.nodes.items c.loop-next.self.nodes.items) c.in-Some.is c.loop-next.invariant.way in
+    = subst (λ (o : Option ℕ). IsOnWay c.args.leaf (not c.args.empty) o c.args.self.now.nodes.items c.loop-next.self.nodes.items) c.in-Some.is c.loop-next.invariant.way in
     record {
       walks = λ cs h real start stands waits small.
           subst (λ n. Walks cs h (Sent c.args.leaf c.args.len real start ∷ h) n c.args.leaf (Some c.in-Some.class) c.loop-next.self.nodes.items
-              → Walks cs h (Sent c.args.leaf c.args.len real start ∷ h) n c.args.leaf c.serve_class-next-in-Some.result c.serve_class-next-in-Some.new.self.nodes.items) c.loop-next.invariant.woken
+          → Walks cs h (Sent c.args.leaf c.args.len real start ∷ h) n c.args.leaf c.serve_class-next-in-Some.result c.serve_class-next-in-Some.new.self.nodes.items) c.loop-next.invariant.woken
           (c.serve_class-next-in-Some.ensures.walks cs h c.args.leaf c.args.len real start
           (leaf_that c.args.self.now cs h c.args.leaf true stands c.requires.class c.requires.leaf c.requires.waits)
           (c.units-amount.ensures ∙ ap (λ n. units n) c.from.ensures)

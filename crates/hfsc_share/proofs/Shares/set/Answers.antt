@@ -22,7 +22,7 @@ pub invariant_of-self : goal.invariant_of-self
 invariant_of-self c =
     let of = sym c.parent.ensures ∙ c.in-Some.is in
     let low = parent_within c.args.self.now.nodes.items c.args.self.now.groups.items c.args.class c.in-Some.parent c.requires.class c.args.self.now.parents_first c.args.self.now.groups_hold
-        (sym c.requires.parent ∙ of) in
+    (sym c.requires.parent ∙ of) in
     let put : IsPut c.args.self.now.nodes.items c.args.class c.args.node = record { within = c.requires.class; parent = c.requires.parent; later = c.requires.later } in
     record {
       groups_hold = held_below c.args.self.now.nodes.items c.args.self.now.groups.items c.args.class c.args.node c.in-Some.parent c.index_mut-in-Some.result.now c.replace.new.self

@@ -20,7 +20,7 @@ pub loop-next-preserved : goal.loop-next-preserved
 loop-next-preserved c = record {
   walks = λ cs h len stands small.
       subst (λ n. Walks cs h (Kept c.args.leaf n len ∷ h) n c.args.leaf (Some c.in-Some.class) c.loop-next.self.nodes.items
-          → Walks cs h (Kept c.args.leaf n len ∷ h) n c.args.leaf c.wake_class-next-in-Some.result c.wake_class-next-in-Some.new.self.nodes.items) c.loop-next.invariant.woken
+      → Walks cs h (Kept c.args.leaf n len ∷ h) n c.args.leaf c.wake_class-next-in-Some.result c.wake_class-next-in-Some.new.self.nodes.items) c.loop-next.invariant.woken
       (c.wake_class-next-in-Some.ensures.walks cs h c.args.leaf len
       (leaf_that c.args.self.now cs h c.args.leaf false stands c.requires.class c.requires.leaf c.requires.idle))
       (subst (λ (o : Option ℕ). Walks cs h (Kept c.args.leaf c.args.at len ∷ h) c.args.at c.args.leaf o c.loop-next.self.nodes.items) c.in-Some.is
