@@ -1,0 +1,51 @@
+use Rattle.std.proofs.Common.{◌≡◌, ◌≤◌, ◌<◌, ◌+◌, ◌∙◌, ◌∷◌, ap, arith, sym, subst, ℕ, List, refl}
+use Rattle.altq_model.specs.History.{Happened, bare}
+use Rattle.discipline_laws.specs.Laws.{sent_of}
+use Rattle.discipline_laws.specs.Moments.{IsChoice}
+use Rattle.class_rows.specs.Rows.{list_in}
+use Rattle.hfsc_policy.specs.Events.{hfsc_history}
+use Rattle.hfsc_policy.proofs.Lawful.{leaf_one}
+use Rattle.hfsc_core.specs.Chooser.{chosen_now, classes_of, woken_at}
+use Rattle.hfsc_core.specs.Hfsc.{Held, HfscStands, due_of}
+use Rattle.hfsc_core.proofs.Choosing.{chosen_is}
+use Rattle.hfsc_core.proofs.Leaving.{may_leave, sent_is, sent_of_due, sent_stands}
+use Rattle.hfsc_core.proofs.Standing.{hfsc_after, known_of, known_sent, place_high}
+use Rattle.hfsc_core.proofs.hfsc.HfscDiscipline.sent.Goals as goal
+
+pub head_len-head-requires-clause-high : goal.head_len-head-requires-clause-high
+head_len-head-requires-clause-high g c =
+    let d = c.self.inside in
+    let k = c.self.invariant.known in
+    let s = c.args.sending in
+    let later = subst (λ (v : Held g.row.Q.Denot). woken_at v.chooser ≤ s.start) (sym c.self.view_is) c.requires.later in
+    let due = ap (λ (v : Held g.row.Q.Denot). due_of v s.start) c.self.view_is ∙ c.requires.due in
+    let x = sent_is (classes_of d.chooser) k.0 (list_in d.rows) s.start s.class s.len s.rule s.ticket (chosen_now d.chooser s.start) (chosen_is d.chooser k.0 k.1.stands s.start later) due in
+    let high = place_high d.chooser d.rows d.kept s.class c.self.invariant (leaf_one (classes_of d.chooser) s.class x.sender.is_leaf) in
+    let first = c.take.ensures.same.first in
+    let count = c.take.ensures.same.count in
+    omega (arith, high, first, count)
+
+pub sent-requires : goal.sent-requires
+sent-requires g c =
+    let d = c.self.inside in
+    let k = c.self.invariant.known in
+    let s = c.args.sending in
+    let later = subst (λ (v : Held g.row.Q.Denot). woken_at v.chooser ≤ s.start) (sym c.self.view_is) c.requires.later in
+    let due = ap (λ (v : Held g.row.Q.Denot). due_of v s.start) c.self.view_is ∙ c.requires.due in
+    let x = sent_is (classes_of d.chooser) k.0 (list_in d.rows) s.start s.class s.len s.rule s.ticket (chosen_now d.chooser s.start) (chosen_is d.chooser k.0 k.1.stands s.start later) due in
+    (k.0, may_leave d.chooser (list_in d.rows) (list_in c.take.new.self) d.kept s.start s.class s.len s.rule c.head_len-head.result k.0 k.1 x (c.take.ensures.lists s.class) c.head_len-head.ensures)
+
+pub invariant_of-self : goal.invariant_of-self
+invariant_of-self g c =
+    let d = c.self.inside in
+    let k = c.self.invariant.known in
+    let s = c.args.sending in
+    let later = subst (λ (v : Held g.row.Q.Denot). woken_at v.chooser ≤ s.start) (sym c.self.view_is) c.requires.later in
+    let due = ap (λ (v : Held g.row.Q.Denot). due_of v s.start) c.self.view_is ∙ c.requires.due in
+    let x = sent_is (classes_of d.chooser) k.0 (list_in d.rows) s.start s.class s.len s.rule s.ticket (chosen_now d.chooser s.start) (chosen_is d.chooser k.0 k.1.stands s.start later) due in
+    let may = may_leave d.chooser (list_in d.rows) (list_in c.take.new.self) d.kept s.start s.class s.len s.rule c.head_len-head.result k.0 k.1 x (c.take.ensures.lists s.class) c.head_len-head.ensures in
+    hfsc_after g.Q.QueueRule.most g.Q.QueueRule.says d.chooser c.sent.new.self d.rows c.take.new.self d.kept d.kept c.self.invariant c.take.ensures.same c.sent.ensures.classes
+    (_, known_sent d.chooser c.sent.new.self (list_in d.rows) (list_in c.take.new.self) d.kept s.class s.len s.start _ k.0 k.1 c.take.ensures.lists (c.sent.ensures.stands k.0 s.start may))
+
+pub returns-clause-history : goal.returns-clause-history
+returns-clause-history g c = ?

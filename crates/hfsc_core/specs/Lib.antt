@@ -1,0 +1,2 @@
+pub mod Chooser
+pub mod Hfsc
