@@ -4,27 +4,28 @@ use Rattle.hfsc_model.specs.Tree.{class_of}
 use Rattle.hfsc_share.specs.Classes.{AreClasses}
 use Rattle.hfsc_share.specs.declared.Shares.{Shares}
 use Rattle.hfsc_share.specs.Shares.{IsLeafAt, IsNew}
-use Rattle.hfsc_share.proofs.Flat.{flat_classes, flat_leaf, leaf_stays, new_leaf, plain_class, root_class}
+use Rattle.hfsc_share.proofs.Flat.{AreLeaves, flat_classes, flat_leaf, leaf_stays, new_leaf, plain_class, root_class}
 use Rattle.hfsc_share.proofs.tests.quarter_and_three_quarters.Goals as goal
 
-pub build-requires-clause-classes : goal.build-requires-clause-classes
-build-requires-clause-classes g c =
-    subst (λ (cs : List HfscClass). AreClasses cs) (sym c.as_slice.ensures)
-    (flat_classes _ _ refl root_class
-    (refl, plain_class 2000000 (omega arith) (omega arith), (refl, plain_class 6000000 (omega arith) (omega arith), tt)))
+abbrev root : HfscClass
+root = record { parent = None; real = None; share = None; limit = None }
 
-three : List HfscClass
-three =
-    record { parent = None; real = None; share = None; limit = None }
-    ∷ record { parent = Some 0; real = None; share = Some (record { m1 = 2000000; d = 0; m2 = 2000000 }); limit = None }
+abbrev leaves : List HfscClass
+leaves =
+    record { parent = Some 0; real = None; share = Some (record { m1 = 2000000; d = 0; m2 = 2000000 }); limit = None }
     ∷ record { parent = Some 0; real = None; share = Some (record { m1 = 6000000; d = 0; m2 = 6000000 }); limit = None }
     ∷ []
 
-leaf_of : (cs : List HfscClass) (s : Shares) (c : ℕ) → cs ≡ three → IsNew cs s → 1 ≤ c → IsLeafAt s c
+are_leaves : AreLeaves leaves
+are_leaves = (refl, plain_class 2000000 (omega arith) (omega arith), (refl, plain_class 6000000 (omega arith) (omega arith), tt))
+
+leaf_of : (cs : List HfscClass) (s : Shares) (c : ℕ) → cs ≡ root ∷ leaves → IsNew cs s → 1 ≤ c → IsLeafAt s c
 leaf_of cs s c e n h = new_leaf cs s c n
-    (subst (λ (xs : List HfscClass). (d : ℕ) → (class_of xs d).parent ≡ Some c → ⊥) (sym e)
-    (λ d. flat_leaf _ _ c d refl
-    (refl, plain_class 2000000 (omega arith) (omega arith), (refl, plain_class 6000000 (omega arith) (omega arith), tt)) h))
+    (subst (λ (xs : List HfscClass). (d : ℕ) → (class_of xs d).parent ≡ Some c → ⊥) (sym e) (λ d. flat_leaf root leaves c d refl are_leaves h))
+
+pub build-requires-clause-classes : goal.build-requires-clause-classes
+build-requires-clause-classes g c =
+    subst (λ (cs : List HfscClass). AreClasses cs) (sym c.as_slice.ensures) (flat_classes root leaves refl root_class are_leaves)
 
 pub wake-requires-clause-leaf : goal.wake-requires-clause-leaf
 wake-requires-clause-leaf g c = leaf_of _ _ 1 c.as_slice.ensures c.in_ok-shares.ensures.new (omega arith)
