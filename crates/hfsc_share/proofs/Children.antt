@@ -1,10 +1,8 @@
 -- The children of a class whose nodes stand for a history.
-use Rattle.std.proofs.Common.{◌≡◌, ◌≤◌, ◌<◌, ◌⊎◌, inl, inr, ℕ, Bool, true, false, List, [], ◌∷◌, None, Some, length, refl, ap, sym, subst, arith, ◌∙◌}
-use Rattle.std.specs.Prelude.{Option, ◌==◌, ◌&&◌, is_some, slice_get}
+use Rattle.std.proofs.Common.{◌≡◌, ◌≤◌, ◌<◌, ℕ, Bool, true, false, List, [], ◌∷◌, None, Some, length, refl, ap, sym, arith, ◌∙◌}
+use Rattle.std.specs.Prelude.{Option, ◌&&◌, is_some, slice_get}
 use Rattle.std.proofs.lemmas.Bool.Decides.{nat_tests}
-use Rattle.std.proofs.lemmas.Bool.{cases_lt}
 use Rattle.std.proofs.lemmas.Option.{slice_get-get_or}
-use Rattle.std.specs.List.{list_any}
 use Rattle.ranking.specs.declared.Ranking.{Ranking}
 use Rattle.ranking.specs.Order.{is_in, key_of}
 use Rattle.ranking.specs.Ranking.{keys_of, order_of}
@@ -24,7 +22,7 @@ use Rattle.hfsc_share.specs.Curves.{limit_opens}
 use Rattle.hfsc_share.specs.Classes.{IsLimit, opens_under}
 use Rattle.hfsc_share.specs.Node.{parent_in, active_in, opens_in, is_child_in, is_active_child, NodeStands, OpensAt}
 use Rattle.hfsc_share.specs.Group.{Ranks, first_key, first_moment}
-use Rattle.hfsc_share.proofs.Opening.{IsOpenChild, leaf_opens, child_opens, opens_child, leaf_childless, active_child}
+use Rattle.hfsc_share.proofs.Opening.{leaf_opens, child_opens, opens_child, leaf_childless, active_child}
 use Rattle.hfsc_share.proofs.Moments.{within_from, later_come, later_some, limit_some, first_come_of, open_later}
 
 -- the nodes have the tree, and those of the children of p stand for the history

@@ -1,7 +1,7 @@
 -- The way down ends in a leaf that may be served.
-use Rattle.std.proofs.Common.{◌≡◌, ◌≤◌, ◌<◌, ◌+◌, ◌⊎◌, inl, inr, ℕ, zero, suc, Bool, true, false, List, [], ◌∷◌, None, Some, length, refl, ap, sym, subst, arith, ◌∙◌}
-use Rattle.std.specs.Prelude.{Option, ◌==◌, ◌&&◌, if◌then◌else◌}
-use Rattle.std.specs.List.{filter, list_any}
+use Rattle.std.proofs.Common.{◌≡◌, ◌≤◌, ◌<◌, ◌+◌, ℕ, zero, suc, Bool, true, false, List, [], ◌∷◌, None, Some, length, refl, ap, sym, subst, arith, ◌∙◌}
+use Rattle.std.specs.Prelude.{Option, ◌&&◌, if◌then◌else◌}
+use Rattle.std.specs.List.{filter}
 use Rattle.ranking.specs.Order.{is_in}
 use Rattle.hfsc_model.specs.declared.HfscClass.{HfscClass}
 use Rattle.hfsc_model.specs.Event.{HfscHistory}
@@ -12,7 +12,7 @@ use Rattle.hfsc_model.specs.Limit.{is_open, least_by, may_share, path_down, shar
 use Rattle.hfsc_laws.proofs.Tree.{and_true, true_and, any_is, is_any, below_is, parent_of}
 use Rattle.hfsc_share.proofs.Opening.{leaf_alone, not_leaf}
 use Rattle.hfsc_share.proofs.Starting.{child_in, in_filter}
-use Rattle.hfsc_share.proofs.Picks.{IsLeastBy, filter_rises, least_is, least_none, number_is, range_rises}
+use Rattle.hfsc_share.proofs.Picks.{filter_rises, least_is, least_none, number_is, range_rises}
 
 -- a leaf below a class may be served
 record SharesUnder (cs : List HfscClass) (h : HfscHistory) (now c : ℕ) : Type 0 where

@@ -1,12 +1,12 @@
 -- A root and its leaves.
-use Rattle.std.proofs.Common.{◌≡◌, ◌≤◌, ◌<◌, ◌⊎◌, inl, inr, ℕ, zero, suc, List, [], ◌∷◌, None, Some, length, get_or, refl, ap, sym, subst, arith, ◌∙◌}
+use Rattle.std.proofs.Common.{◌≡◌, ◌≤◌, ◌<◌, ℕ, zero, suc, List, [], ◌∷◌, None, Some, length, get_or, refl, ap, sym, arith, ◌∙◌}
 use Rattle.std.specs.Prelude.{Option, All, ◌^◌}
 use Rattle.hfsc_model.specs.declared.HfscClass.{HfscClass}
-use Rattle.hfsc_model.specs.Tree.{no_class, class_of, path, path_up, IsTree}
+use Rattle.hfsc_model.specs.Tree.{no_class, class_of, path, path_up}
 use Rattle.hfsc_share.specs.declared.Shares.{Shares}
 use Rattle.hfsc_share.specs.Curves.{IsCurve}
 use Rattle.hfsc_share.specs.Classes.{AreClasses, IsClass}
-use Rattle.hfsc_share.specs.Shares.{IsLeafAt, IsSameBut, IsNew, classes_of, is_active_at, parent_at}
+use Rattle.hfsc_share.specs.Shares.{IsLeafAt, IsSameBut, IsNew}
 
 -- each class is a child of the first
 abbrev pub AreLeaves : List HfscClass → Type 0

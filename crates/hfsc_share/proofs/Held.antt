@@ -13,7 +13,7 @@ use Rattle.hfsc_share.specs.declared.group.Group.{Group}
 use Rattle.hfsc_share.specs.Lists.{IsReplaced, MayReplace}
 use Rattle.hfsc_share.specs.Curves.{IsBy}
 use Rattle.hfsc_share.specs.Node.{parent_in, active_in, time_in, opens_in, is_child_in, is_active_child, AreParentsFirst, AreLimitsBy}
-use Rattle.hfsc_share.specs.Group.{Ranks, IsHigh, IsHighest, GroupHolds, GroupsHold, IsChanged, MayChange, time_key}
+use Rattle.hfsc_share.specs.Group.{Ranks, IsHigh, GroupHolds, GroupsHold, IsChanged, MayChange, time_key}
 use Rattle.hfsc_share.proofs.Places.{get_here, get_other}
 
 -- one class is put into its place: its parent stays, and its virtual time does not fall

@@ -1,6 +1,6 @@
 -- Lists of classes.
-use Rattle.std.proofs.Common.{◌≡◌, ◌<◌, ◌≤◌, ◌⊎◌, inl, inr, ℕ, zero, suc, ◌+◌, Bool, true, false, List, [], ◌∷◌, None, Some, length, get_or, refl, sym, ap, arith, ◌∙◌}
-use Rattle.std.specs.Prelude.{Option, ◌==◌, ◌&&◌, ◌-◌, ◌/◌, slice_get, if◌then◌else◌}
+use Rattle.std.proofs.Common.{◌≡◌, ◌<◌, inl, inr, ℕ, zero, suc, ◌+◌, true, false, List, [], ◌∷◌, None, Some, length, get_or, refl, sym, ap, arith, ◌∙◌}
+use Rattle.std.specs.Prelude.{Option, ◌&&◌, ◌-◌, ◌/◌, slice_get}
 use Rattle.std.proofs.lemmas.Bool.{cases_lt}
 use Rattle.std.proofs.lemmas.Option.{slice_get_past}
 use Rattle.ranking.specs.Order.{is_in}
@@ -10,7 +10,7 @@ use Rattle.hfsc_model.specs.Tree.{is_number}
 use Rattle.hfsc_share.specs.declared.node.Node.{Node}
 use Rattle.hfsc_share.specs.declared.group.Group.{Group}
 use Rattle.hfsc_share.specs.Node.{active_in, parent_in, time_in, is_active_child}
-use Rattle.hfsc_share.specs.Group.{Ranks, GroupHolds, GroupsHold, ranked_in}
+use Rattle.hfsc_share.specs.Group.{Ranks}
 use Rattle.hfsc_share.specs.Walk.{last_of, start_among}
 use Rattle.ranking.proofs.Ranks.{same_test, in_more}
 

@@ -6,11 +6,10 @@ use Rattle.service_curve.specs.declared.Curve.{Curve}
 use Rattle.service_curve.specs.Curve.{first, time_at}
 use Rattle.runtime_curve.specs.declared.Opening.{Opening}
 use Rattle.runtime_curve.specs.Opening.{eligible_curve, newest}
-use Rattle.runtime_curve.specs.Deadline.{deadline, later_of, reached_at, reaches, shifted, soonest, soonest_from, from_last}
+use Rattle.runtime_curve.specs.Deadline.{deadline, later_of, reached_at, reaches, shifted, from_last}
 use Rattle.ranking.specs.Order.{is_in, key_of, is_before}
 use Rattle.ranking.specs.Search.{IsBeforeAll, IsRanked}
-use Rattle.hfsc_model.specs.Leaf.{Leaf}
-use Rattle.hfsc_model.specs.RealTime.{has_come, is_earlier, goes_first, IsOpenBy, is_eligible, soonest_of}
+use Rattle.hfsc_model.specs.RealTime.{has_come, goes_first, IsOpenBy}
 use Rattle.hfsc_model.specs.Limit.{within}
 use Rattle.hfsc_model.proofs.Soonest.{eligible_from_soonest}
 use Rattle.hfsc_share.specs.Curves.{limit_opens}

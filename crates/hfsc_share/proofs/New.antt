@@ -1,24 +1,20 @@
 -- Classes without a packet.
-use Rattle.std.proofs.Common.{◌≡◌, ◌≤◌, ◌<◌, ◌⊎◌, inl, inr, ℕ, Bool, true, false, List, [], ◌∷◌, None, Some, length, refl, ap, sym, subst, arith, ◌∙◌}
+use Rattle.std.proofs.Common.{◌≡◌, ◌<◌, ℕ, Bool, true, false, List, [], None, Some, length, refl, ap, sym, subst, arith, ◌∙◌}
 use Rattle.std.specs.Prelude.{Option, ◌&&◌, slice_get}
-use Rattle.std.proofs.lemmas.Bool.{cases_lt}
-use Rattle.std.proofs.lemmas.Option.{slice_get_within, get_or_from_slice_get, slice_get_past}
-use Rattle.service_curve.specs.declared.Curve.{Curve}
+use Rattle.std.proofs.lemmas.Option.{slice_get_within, get_or_from_slice_get}
 use Rattle.ranking.specs.declared.Ranking.{Ranking}
-use Rattle.ranking.specs.Order.{is_in, key_of}
+use Rattle.ranking.specs.Order.{is_in}
 use Rattle.ranking.specs.Ranking.{keys_of, order_of}
 use Rattle.hfsc_model.specs.declared.HfscClass.{HfscClass}
 use Rattle.hfsc_model.specs.Tree.{class_of, is_child, is_number}
 use Rattle.hfsc_model.specs.Share.{active}
-use Rattle.hfsc_laws.proofs.Tree.{same_truth}
 use Rattle.hfsc_share.specs.declared.node.Node.{Node}
 use Rattle.hfsc_share.specs.declared.group.Group.{Group}
 use Rattle.hfsc_share.specs.declared.Shares.{Shares}
-use Rattle.hfsc_share.specs.Curves.{IsBy}
 use Rattle.hfsc_share.specs.Classes.{AreClasses}
-use Rattle.hfsc_share.specs.Node.{active_in, parent_in, time_in, opens_in, is_child_in, is_active_child, AreNew, AreParentsFirst, AreLimitsBy, IsNewNode, NodeStands}
-use Rattle.hfsc_share.specs.Group.{AreEmpty, GroupHolds, GroupsHold, IsEmpty, Ranks, time_key}
-use Rattle.hfsc_share.specs.Shares.{StandsFor, IsNew, classes_of, is_active_at, parent_at}
+use Rattle.hfsc_share.specs.Node.{active_in, parent_in, time_in, opens_in, is_child_in, is_active_child, AreNew, AreParentsFirst, AreLimitsBy, IsNewNode}
+use Rattle.hfsc_share.specs.Group.{AreEmpty, GroupsHold, IsEmpty, Ranks, time_key}
+use Rattle.hfsc_share.specs.Shares.{StandsFor, IsNew}
 use Rattle.hfsc_share.proofs.Opening.{active_is, waits_is}
 use Rattle.hfsc_share.proofs.Walking.{outside_parent}
 

@@ -1,15 +1,13 @@
 -- What an event leaves as it was: all that does not stand over its leaf.
-use Rattle.std.proofs.Common.{◌≡◌, ◌≤◌, ◌<◌, ◌⊎◌, inl, inr, ℕ, Bool, true, false, List, [], ◌∷◌, None, Some, length, refl, ap, sym, subst, arith, ◌∙◌}
-use Rattle.std.specs.Prelude.{Option, ◌==◌, ◌&&◌, ◌+◌, not, if◌then◌else◌}
+use Rattle.std.proofs.Common.{◌≡◌, ℕ, Bool, true, false, List, ◌∷◌, refl, ap, sym, subst, arith, ◌∙◌}
+use Rattle.std.specs.Prelude.{◌==◌, ◌&&◌, ◌+◌, not, if◌then◌else◌}
 use Rattle.std.proofs.lemmas.Bool.Decides.{nat_tests}
 use Rattle.play_base.specs.Units.{units}
-use Rattle.service_curve.specs.declared.Curve.{Curve}
 use Rattle.runtime_curve.specs.declared.Opening.{Opening}
 use Rattle.runtime_curve.specs.Opening.{opening}
 use Rattle.hfsc_model.specs.declared.HfscClass.{HfscClass}
 use Rattle.hfsc_model.specs.Event.{HfscHistory, Kept, Sent}
-use Rattle.hfsc_model.specs.Leaf.{Leaf, leaf, is_waiting, after_kept, after_sent}
-use Rattle.hfsc_model.specs.RealTime.{has_come}
+use Rattle.hfsc_model.specs.Leaf.{leaf, is_waiting, after_kept, after_sent}
 use Rattle.hfsc_model.specs.Tree.{class_of, is_leaf, is_under, IsTree}
 use Rattle.hfsc_model.specs.Share.{active, activates, activation_time, activations, has_parent, total, virtual_time, virtual_time_of}
 use Rattle.hfsc_model.specs.Limit.{arrivals_of, is_within, within}
@@ -17,9 +15,9 @@ use Rattle.hfsc_laws.proofs.Tree.{same_truth, under_self}
 use Rattle.hfsc_share.specs.declared.node.Node.{Node}
 use Rattle.hfsc_share.specs.Curves.{RunningStands, share_of}
 use Rattle.hfsc_share.specs.Classes.{opens_under}
-use Rattle.hfsc_share.specs.Node.{NodeStands, OpensAt}
+use Rattle.hfsc_share.specs.Node.{NodeStands}
 use Rattle.hfsc_share.proofs.Under.{under_trans}
-use Rattle.hfsc_share.proofs.Opening.{Opens, IsOpened, opens_is, is_opens, waits_is, is_waits, active_is, is_active}
+use Rattle.hfsc_share.proofs.Opening.{opens_is, is_opens, waits_is, is_waits, active_is, is_active}
 
 -- after g a class has what it has after h
 pub record Off (cs : List HfscClass) (h g : HfscHistory) (c : ℕ) : Type 0 where

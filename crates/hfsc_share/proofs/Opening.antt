@@ -1,18 +1,18 @@
 -- The moment from which a class opens: its own limit's, and the first of those below it.
-use Rattle.std.proofs.Common.{◌≡◌, ◌≤◌, ◌<◌, ◌⊎◌, inl, inr, ℕ, zero, suc, Bool, true, false, List, [], ◌∷◌, None, Some, length, refl, ap, sym, subst, arith, ◌∙◌}
-use Rattle.std.specs.Prelude.{Option, ◌==◌, ◌&&◌, ◌||◌, nat_lt, not, IsSome}
+use Rattle.std.proofs.Common.{◌≡◌, ◌<◌, ◌⊎◌, inl, inr, ℕ, Bool, true, false, List, [], ◌∷◌, Some, length, refl, ap, sym, subst, arith, ◌∙◌}
+use Rattle.std.specs.Prelude.{◌==◌, ◌&&◌, ◌||◌, nat_lt, not}
 use Rattle.std.specs.List.{list_any, list_all}
 use Rattle.std.proofs.lemmas.Bool.Decides.{nat_tests}
 use Rattle.ranking.proofs.Ranks.{same_test}
 use Rattle.hfsc_model.specs.declared.HfscClass.{HfscClass}
 use Rattle.hfsc_model.specs.Event.{HfscHistory}
 use Rattle.hfsc_model.specs.Leaf.{leaf, is_waiting}
-use Rattle.hfsc_model.specs.Tree.{class_of, numbers, is_child, is_leaf, is_parent, is_under, path, IsTree}
+use Rattle.hfsc_model.specs.Tree.{is_child, is_leaf, is_parent, is_under, path, IsTree}
 use Rattle.hfsc_model.specs.Share.{waits_under, active}
-use Rattle.hfsc_model.specs.Limit.{is_within, is_open, may_share, shares_under}
-use Rattle.hfsc_laws.proofs.Tree.{same_truth, and_true, true_and, IsAny, any_is, is_any, child_within, below_is, under_is, under_self, parent_of}
+use Rattle.hfsc_model.specs.Limit.{is_within}
+use Rattle.hfsc_laws.proofs.Tree.{same_truth, and_true, true_and, any_is, is_any, child_within, below_is, under_is, under_self, parent_of}
 use Rattle.hfsc_share.specs.Classes.{is_open_to, opens_under}
-use Rattle.hfsc_share.proofs.Under.{under_low, under_trans, in_line, same_or_up, IsUp}
+use Rattle.hfsc_share.proofs.Under.{under_low, in_line, same_or_up, IsUp}
 
 -- each class of a path passes exactly where each that stands over its end does
 pub all_over : (f : ℕ → Bool) (xs : List ℕ) → list_all f xs ≡ true → (x : ℕ) → list_any (λ y. y == x) xs ≡ true → f x ≡ true

@@ -1,7 +1,7 @@
 -- The way down from the root is that of the definitions.
-use Rattle.std.proofs.Common.{◌≡◌, ◌≤◌, ◌<◌, ◌+◌, ◌⊎◌, inl, inr, ℕ, zero, suc, Bool, true, false, List, [], ◌∷◌, None, Some, length, map, refl, ap, sym, subst, arith, ◌∙◌}
-use Rattle.std.specs.Prelude.{Option, ◌==◌, ◌&&◌, ◌||◌, ◌↔◌, max, nat_le, nat_lt, cond, is_some, IsSome, slice_get, if◌then◌else◌}
-use Rattle.std.specs.List.{filter, find, list_any, list_all, range_with_len}
+use Rattle.std.proofs.Common.{◌≡◌, ◌≤◌, ◌<◌, ◌+◌, ◌⊎◌, inl, inr, ℕ, zero, suc, Bool, true, false, List, [], ◌∷◌, None, Some, length, refl, ap, sym, subst, arith, ◌∙◌}
+use Rattle.std.specs.Prelude.{Option, ◌==◌, ◌&&◌, max, nat_le, nat_lt, cond, is_some, slice_get, if◌then◌else◌}
+use Rattle.std.specs.List.{filter, find, range_with_len}
 use Rattle.std.proofs.lemmas.Bool.Decides.{nat_tests}
 use Rattle.ranking.specs.Order.{is_in, key_of, AreInOrder, IsOrderOf}
 use Rattle.ranking.specs.Ranking.{keys_of, order_of}
@@ -12,7 +12,7 @@ use Rattle.hfsc_model.specs.Event.{HfscHistory}
 use Rattle.hfsc_model.specs.Leaf.{leaf, is_waiting}
 use Rattle.hfsc_model.specs.RealTime.{goes_first, has_come}
 use Rattle.hfsc_model.specs.Tree.{class_of, numbers, is_child, is_leaf, is_under, path, IsTree}
-use Rattle.hfsc_model.specs.Share.{active, virtual_time, waits_under}
+use Rattle.hfsc_model.specs.Share.{active, virtual_time}
 use Rattle.hfsc_model.specs.Limit.{is_open, is_within, least_by, may_share, path_down, share_pick, shares_under}
 use Rattle.hfsc_laws.proofs.Tree.{same_truth, and_true, true_and, any_is, is_any, under_self, parent_of}
 use Rattle.hfsc_share.specs.declared.node.Node.{Node}
@@ -20,11 +20,11 @@ use Rattle.hfsc_share.specs.declared.group.Group.{Group}
 use Rattle.hfsc_share.specs.declared.Shares.{Shares}
 use Rattle.hfsc_share.specs.Classes.{opens_under, IsSoonest}
 use Rattle.hfsc_share.specs.Node.{active_in, opens_in, is_child_in, parent_in, time_in, OpensAt}
-use Rattle.hfsc_share.specs.Group.{first_open, ranked_in, time_key, GroupHolds, GroupsHold}
+use Rattle.hfsc_share.specs.Group.{first_open, time_key, GroupHolds}
 use Rattle.hfsc_share.specs.Shares.{StandsFor, child_of, down, is_active_at, last_wake, not_before, pick_now, soonest_now}
 use Rattle.hfsc_share.proofs.Under.{under_low, in_line, same_or_up, IsUp}
 use Rattle.hfsc_share.proofs.Opening.{all_over, over_all, Opens, opens_is, is_opens, waits_is, is_waits, is_active}
-use Rattle.hfsc_share.proofs.Children.{Stand, child_node, in_list, key_opens, missing}
+use Rattle.hfsc_share.proofs.Children.{Stand, child_node, in_list, key_opens}
 use Rattle.hfsc_share.proofs.Starting.{child_in, in_filter, time_before}
 use Rattle.hfsc_share.proofs.Lists.{ranked_low}
 use Rattle.hfsc_share.proofs.Walking.{outside_parent}

@@ -1,6 +1,6 @@
 -- A class below which a packet was sent.
-use Rattle.std.proofs.Common.{◌≡◌, ◌≤◌, ◌<◌, ◌+◌, ◌⊎◌, inl, inr, ℕ, Bool, true, false, List, [], ◌∷◌, None, Some, length, refl, ap, sym, subst, arith, ◌∙◌}
-use Rattle.std.specs.Prelude.{Option, ◌==◌, ◌&&◌, ◌||◌, ◌^◌, min, max, not, is_some, IsSome, IsSomeAnd, slice_get, if◌then◌else◌}
+use Rattle.std.proofs.Common.{◌≡◌, ◌≤◌, ◌<◌, ◌+◌, ◌⊎◌, inl, inr, ℕ, Bool, true, false, List, [], ◌∷◌, None, Some, refl, ap, sym, subst, arith, ◌∙◌}
+use Rattle.std.specs.Prelude.{Option, ◌==◌, ◌&&◌, ◌||◌, ◌^◌, max, is_some, IsSomeAnd, if◌then◌else◌}
 use Rattle.std.proofs.lemmas.Bool.Decides.{nat_tests}
 use Rattle.std.proofs.lemmas.Bool.{cases_lt}
 use Rattle.play_base.specs.Units.{units}
@@ -18,18 +18,18 @@ use Rattle.hfsc_model.specs.declared.HfscClass.{HfscClass}
 use Rattle.hfsc_model.specs.Event.{HfscHistory, Kept, Sent}
 use Rattle.hfsc_model.specs.Leaf.{leaf, is_waiting}
 use Rattle.hfsc_model.specs.Tree.{class_of, is_child, is_leaf, is_under, IsTree}
-use Rattle.hfsc_model.specs.Share.{active, activates, activation_time, activations, or_zero, reach, total, virtual_time, virtual_time_of}
+use Rattle.hfsc_model.specs.Share.{active, activates, activation_time, activations, or_zero, total, virtual_time, virtual_time_of}
 use Rattle.hfsc_model.specs.Limit.{arrivals_of}
 use Rattle.hfsc_laws.proofs.Tree.{same_truth, and_true, true_and, under_is}
 use Rattle.hfsc_share.specs.declared.node.Node.{Node}
 use Rattle.hfsc_share.specs.declared.group.Group.{Group}
 use Rattle.hfsc_share.specs.Curves.{RunningStands, share_of}
 use Rattle.hfsc_share.specs.Classes.{AreSmall, IsClass, IsShare, waits_in}
-use Rattle.hfsc_share.specs.Node.{NodeStands, IsServed, time_in}
+use Rattle.hfsc_share.specs.Node.{NodeStands, IsServed}
 use Rattle.hfsc_share.specs.Group.{Ranks, ranked_in, time_key}
 use Rattle.hfsc_share.specs.Walk.{has_some}
 use Rattle.hfsc_share.proofs.Moments.{deadline_some}
-use Rattle.hfsc_share.proofs.Opening.{active_is, is_active, is_waits, waits_is, active_child, leaf_alone, leaf_childless}
+use Rattle.hfsc_share.proofs.Opening.{active_is, is_active, is_waits, waits_is, active_child, leaf_alone}
 use Rattle.hfsc_share.proofs.Children.{Stand, in_list}
 use Rattle.hfsc_share.proofs.Waking.{NodeHas, shared, unshared}
 

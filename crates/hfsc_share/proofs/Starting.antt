@@ -1,26 +1,25 @@
 -- The virtual time that a class takes: the middle of the first and the last of its active siblings, or the high mark.
-use Rattle.std.proofs.Common.{◌≡◌, ◌≤◌, ◌<◌, ◌+◌, ◌⊎◌, inl, inr, ℕ, zero, suc, Bool, true, false, List, [], ◌∷◌, None, Some, length, map, refl, ap, sym, subst, arith, ◌∙◌}
-use Rattle.std.specs.Prelude.{Option, ◌==◌, ◌&&◌, ◌/◌, nat_lt, nat_le, min, max, cond, slice_get, if◌then◌else◌}
+use Rattle.std.proofs.Common.{◌≡◌, ◌≤◌, ◌<◌, ◌+◌, ◌⊎◌, inl, inr, ℕ, zero, suc, Bool, true, false, List, [], ◌∷◌, Some, length, map, refl, ap, sym, subst, arith, ◌∙◌}
+use Rattle.std.specs.Prelude.{Option, ◌==◌, ◌&&◌, ◌/◌, nat_lt, min, max, cond, slice_get, if◌then◌else◌}
 use Rattle.std.specs.List.{filter, range_with_len}
 use Rattle.std.proofs.lemmas.Bool.Decides.{nat_tests}
-use Rattle.ranking.specs.declared.Ranking.{Ranking}
 use Rattle.ranking.specs.Order.{is_in, key_of, is_before}
-use Rattle.ranking.specs.Search.{IsBeforeAll, IsRanked}
+use Rattle.ranking.specs.Search.{IsRanked}
 use Rattle.ranking.specs.Ranking.{keys_of, order_of}
 use Rattle.ranking.proofs.Ranks.{ranked_true, same_test, in_more}
 use Rattle.hfsc_model.specs.declared.HfscClass.{HfscClass}
 use Rattle.hfsc_model.specs.Event.{HfscHistory}
 use Rattle.hfsc_model.specs.RealTime.{goes_first}
-use Rattle.hfsc_model.specs.Tree.{class_of, numbers, is_child}
+use Rattle.hfsc_model.specs.Tree.{numbers, is_child}
 use Rattle.hfsc_model.specs.Share.{active, activation, greatest, least, virtual_time}
-use Rattle.hfsc_laws.proofs.Tree.{same_truth, and_true, true_and, child_within}
+use Rattle.hfsc_laws.proofs.Tree.{and_true, child_within}
 use Rattle.hfsc_share.specs.declared.node.Node.{Node}
 use Rattle.hfsc_share.specs.declared.group.Group.{Group}
-use Rattle.hfsc_share.specs.Node.{time_in, is_active_child, NodeStands}
-use Rattle.hfsc_share.specs.Group.{Ranks, IsHigh, IsHighest, time_key, ranked_in}
+use Rattle.hfsc_share.specs.Node.{time_in}
+use Rattle.hfsc_share.specs.Group.{Ranks, IsHigh, time_key, ranked_in}
 use Rattle.hfsc_share.specs.Walk.{last_of, start_among}
 use Rattle.hfsc_share.proofs.Moments.{first_before}
-use Rattle.hfsc_share.proofs.Children.{Stand, child_is, child_node, active_is_in, in_list}
+use Rattle.hfsc_share.proofs.Children.{Stand, child_is, child_node, in_list}
 
 -- what is in a filtered list, and in the list of numbers
 pub in_filter : (p : ℕ → Bool) (c : ℕ) (xs : List ℕ) → is_in c (filter p xs) ≡ (p c && is_in c xs)

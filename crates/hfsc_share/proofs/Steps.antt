@@ -1,6 +1,6 @@
 -- Each class of a walk, its beginning and its end.
 use Rattle.std.proofs.Common.{◌≡◌, ◌≤◌, ◌<◌, ◌⊎◌, inl, inr, ℕ, zero, suc, Bool, true, false, List, [], ◌∷◌, None, Some, length, ◌++◌, refl, ap, sym, subst, arith, ◌∙◌, get_or}
-use Rattle.std.specs.Prelude.{Option, ◌==◌, ◌&&◌, ◌||◌, max, All, IfSome, nat_lt, not, slice_get, slice_set, if◌then◌else◌}
+use Rattle.std.specs.Prelude.{Option, ◌==◌, ◌&&◌, ◌||◌, All, IfSome, nat_lt, not, slice_get, slice_set, if◌then◌else◌}
 use Rattle.std.proofs.lemmas.Bool.{cases_lt}
 use Rattle.std.proofs.lemmas.Bool.Decides.{nat_tests}
 use Rattle.std.proofs.lemmas.List.{length-set}
@@ -16,7 +16,7 @@ use Rattle.hfsc_model.specs.declared.HfscClass.{HfscClass}
 use Rattle.hfsc_model.specs.Event.{HfscHistory, Kept, Sent}
 use Rattle.hfsc_model.specs.Leaf.{Waiting, leaf, is_waiting, after_kept}
 use Rattle.hfsc_model.specs.RealTime.{IsOpenBy}
-use Rattle.hfsc_model.specs.Tree.{class_of, no_class, is_child, is_leaf, is_number, is_parent, is_under, numbers}
+use Rattle.hfsc_model.specs.Tree.{class_of, no_class, is_child, is_leaf, is_number, is_parent, is_under}
 use Rattle.hfsc_model.specs.Share.{active, activates, activation_time, activations, has_parent, total}
 use Rattle.hfsc_model.specs.Limit.{arrivals_of}
 use Rattle.hfsc_laws.proofs.Tree.{and_true, true_and, any_is, under_self, parent_of}
@@ -27,10 +27,10 @@ use Rattle.hfsc_share.specs.Curves.{limit_opens}
 use Rattle.hfsc_share.specs.Classes.{AreClasses, AreSmall, IsClass, IsLimit, waits_in}
 use Rattle.hfsc_share.specs.Node.{active_in, is_child_in, parent_in, AreParentsFirst, IsActivated, IsAwake, IsReopened, IsServed, NodeStands, OpensAt}
 use Rattle.hfsc_share.specs.Group.{GroupsHold, ranked_in}
-use Rattle.hfsc_share.specs.Walk.{has_ranked, has_some, is_over, moment_of, start_below, start_of, IsLeafThat, IsOnWay, IsStep, Walks}
-use Rattle.hfsc_share.specs.Shares.{StandsFor, IsLeafAt, IsSameBut, classes_of, is_active_at, last_wake, parent_at}
+use Rattle.hfsc_share.specs.Walk.{has_ranked, has_some, moment_of, start_below, start_of, IsLeafThat, IsOnWay, IsStep, Walks}
+use Rattle.hfsc_share.specs.Shares.{StandsFor, IsLeafAt, IsSameBut, classes_of, is_active_at, last_wake}
 use Rattle.hfsc_share.proofs.Places.{get_here, get_other}
-use Rattle.hfsc_share.proofs.Held.{IsPut, parents_kept, split}
+use Rattle.hfsc_share.proofs.Held.{split}
 use Rattle.hfsc_share.proofs.Moments.{open_later}
 use Rattle.hfsc_share.proofs.Opening.{active_is, is_active, is_waits, leaf_alone, waits_is}
 use Rattle.hfsc_share.proofs.Children.{missing, opens_at}

@@ -1,11 +1,11 @@
 -- What stands under what: a path is a line.
-use Rattle.std.proofs.Common.{◌≡◌, ◌≤◌, ◌<◌, ◌⊎◌, inl, inr, ℕ, zero, suc, Bool, true, false, List, [], ◌∷◌, None, Some, refl, ap, sym, subst, arith, ◌∙◌}
-use Rattle.std.specs.Prelude.{Option, ◌==◌, ◌&&◌, ◌||◌, not}
-use Rattle.std.specs.List.{list_any, list_all}
+use Rattle.std.proofs.Common.{◌≡◌, ◌≤◌, ◌<◌, ◌⊎◌, inl, inr, ℕ, zero, suc, Bool, true, false, List, ◌∷◌, None, Some, refl, ap, sym, subst, arith, ◌∙◌}
+use Rattle.std.specs.Prelude.{Option, ◌==◌, ◌||◌}
+use Rattle.std.specs.List.{list_any}
 use Rattle.std.proofs.lemmas.Bool.Decides.{nat_tests}
 use Rattle.hfsc_model.specs.declared.HfscClass.{HfscClass}
-use Rattle.hfsc_model.specs.Tree.{class_of, is_number, is_child, path_up, path, is_under, IsTree}
-use Rattle.hfsc_laws.proofs.Tree.{under_self, under_up, under_is, below_is, parent_of}
+use Rattle.hfsc_model.specs.Tree.{class_of, path_up, is_under, IsTree}
+use Rattle.hfsc_laws.proofs.Tree.{under_up}
 
 -- the path of a class goes up
 lone : (cs : List HfscClass) (c d : ℕ) → (class_of cs d).parent ≡ None → is_under cs c d ≡ true → d ≡ c

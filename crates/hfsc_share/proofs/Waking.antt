@@ -1,6 +1,6 @@
 -- A class on whose path a packet was kept.
-use Rattle.std.proofs.Common.{◌≡◌, ◌≤◌, ◌<◌, ◌⊎◌, inl, inr, ℕ, Bool, true, false, List, [], ◌∷◌, None, Some, length, map, refl, ap, sym, subst, arith, ◌∙◌}
-use Rattle.std.specs.Prelude.{Option, ◌==◌, ◌&&◌, ◌||◌, ◌^◌, min, max, not, slice_get, if◌then◌else◌}
+use Rattle.std.proofs.Common.{◌≡◌, ℕ, Bool, true, false, List, ◌∷◌, None, Some, map, refl, ap, sym, subst, arith, ◌∙◌}
+use Rattle.std.specs.Prelude.{Option, ◌&&◌, ◌||◌, max, not, if◌then◌else◌}
 use Rattle.std.specs.List.{filter}
 use Rattle.service_curve.specs.declared.Curve.{Curve}
 use Rattle.runtime_curve.specs.declared.Opening.{Opening}
@@ -9,20 +9,19 @@ use Rattle.runtime_curve.specs.Opening.{opening}
 use Rattle.runtime_curve.specs.Deadline.{later_of}
 use Rattle.hfsc_model.specs.declared.HfscClass.{HfscClass}
 use Rattle.hfsc_model.specs.Event.{HfscHistory, Kept}
-use Rattle.hfsc_model.specs.Tree.{class_of, is_child, is_leaf, is_under, numbers, IsTree}
+use Rattle.hfsc_model.specs.Tree.{class_of, is_leaf, is_under}
 use Rattle.hfsc_model.specs.Share.{active, activates, activation, activation_time, activations, greatest, has_parent, siblings, total, virtual_time, virtual_time_of}
 use Rattle.hfsc_model.specs.Limit.{arrivals_of}
-use Rattle.hfsc_model.specs.RealTime.{IsOpenBy}
 use Rattle.hfsc_laws.proofs.Activity.{active_kept, activated_time}
-use Rattle.hfsc_laws.proofs.Tree.{and_true, true_and}
+use Rattle.hfsc_laws.proofs.Tree.{true_and}
 use Rattle.hfsc_share.specs.declared.node.Node.{Node}
 use Rattle.hfsc_share.specs.declared.group.Group.{Group}
 use Rattle.hfsc_share.specs.Curves.{RunningStands, share_of, limit_opens}
-use Rattle.hfsc_share.specs.Classes.{AreSmall, IsLimit}
-use Rattle.hfsc_share.specs.Node.{NodeStands, OpensAt, IsActivated, IsReopened, time_in}
-use Rattle.hfsc_share.specs.Group.{Ranks, IsHigh, first_moment, ranked_in, time_key}
+use Rattle.hfsc_share.specs.Classes.{AreSmall}
+use Rattle.hfsc_share.specs.Node.{NodeStands, OpensAt, IsActivated, IsReopened}
+use Rattle.hfsc_share.specs.Group.{Ranks, IsHigh, ranked_in, time_key}
 use Rattle.hfsc_share.specs.Walk.{start_among}
-use Rattle.hfsc_share.proofs.Children.{Stand, opens_at}
+use Rattle.hfsc_share.proofs.Children.{Stand}
 use Rattle.hfsc_share.proofs.Starting.{start_is}
 
 -- all that a node stands for but the moment from which it opens

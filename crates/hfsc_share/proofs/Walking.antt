@@ -1,22 +1,20 @@
 -- A walk up to the root, one class after another.
 use Rattle.std.proofs.Common.{◌≡◌, ◌≤◌, ◌<◌, ◌⊎◌, inl, inr, ℕ, zero, suc, Bool, true, false, List, [], ◌∷◌, None, Some, length, refl, ap, sym, subst, arith, ◌∙◌}
-use Rattle.std.specs.Prelude.{Option, ◌==◌, ◌&&◌, ◌||◌, slice_get, slice_set}
+use Rattle.std.specs.Prelude.{Option, slice_get, slice_set}
 use Rattle.std.proofs.lemmas.Bool.{cases_lt}
-use Rattle.std.proofs.lemmas.Bool.Decides.{nat_tests}
 use Rattle.std.proofs.lemmas.List.{length-set}
-use Rattle.std.proofs.lemmas.Option.{slice_get_past}
 use Rattle.ranking.proofs.Ranks.{same_test}
 use Rattle.hfsc_model.specs.declared.HfscClass.{HfscClass}
 use Rattle.hfsc_model.specs.Event.{HfscHistory}
 use Rattle.hfsc_model.specs.Tree.{class_of, is_child, is_number, is_under, IsTree}
-use Rattle.hfsc_laws.proofs.Tree.{under_self, under_up, parent_of}
+use Rattle.hfsc_laws.proofs.Tree.{under_self, parent_of}
 use Rattle.hfsc_share.specs.declared.node.Node.{Node}
 use Rattle.hfsc_share.specs.Node.{parent_in, NodeStands}
 use Rattle.hfsc_share.specs.Walk.{Walks, is_over}
 use Rattle.hfsc_share.proofs.Places.{get_here, get_other}
 use Rattle.hfsc_share.proofs.Held.{split}
 use Rattle.hfsc_share.proofs.Under.{under_low, under_trans, in_line, parent_over, same_or_up, IsUp}
-use Rattle.hfsc_share.proofs.Off.{Off, AllOff, off_back, off_stands}
+use Rattle.hfsc_share.proofs.Off.{AllOff, off_back, off_stands}
 use Rattle.hfsc_share.proofs.Children.{Stand, missing}
 
 beyond : (cs : List HfscClass) (c : ℕ) → length cs ≤ c → (class_of cs c).parent ≡ None

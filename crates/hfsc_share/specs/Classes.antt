@@ -1,11 +1,11 @@
 -- The classes of a tree that shares a link, and when it is small enough for what is kept of it.
-use Rattle.std.specs.Prelude.{◌≡◌, ◌↔◌, ◌≤◌, ◌^◌, ◌&&◌, ◌||◌, ℕ, not, Bool, true, List, Option, None, Some, All, IsSome, IsSomeAnd, IfSome}
+use Rattle.std.specs.Prelude.{◌≡◌, ◌↔◌, ◌≤◌, ◌^◌, ◌&&◌, ◌||◌, ℕ, not, Bool, true, List, Option, All, IsSome, IsSomeAnd, IfSome}
 use Rattle.std.specs.List.{list_any, list_all}
 use Rattle.service_curve.specs.declared.Curve.{Curve}
 use Rattle.hfsc_model.specs.declared.HfscClass.{HfscClass}
 use Rattle.hfsc_model.specs.Event.{HfscHistory}
 use Rattle.hfsc_model.specs.Leaf.{leaf, is_waiting}
-use Rattle.hfsc_model.specs.Tree.{class_of, numbers, path, is_under, IsTree}
+use Rattle.hfsc_model.specs.Tree.{numbers, path, is_under, IsTree}
 use Rattle.hfsc_model.specs.Share.{waits_under, total, virtual_time, active}
 use Rattle.hfsc_model.specs.Limit.{is_within, shares_under}
 use Rattle.hfsc_model.specs.RealTime.{has_come}

@@ -1,5 +1,5 @@
 -- What a value stands for, and what it answers by what it holds.
-use Rattle.std.specs.Prelude.{◌≡◌, ◌≤◌, ℕ, max, zero, suc, Bool, true, false, List, [], length, Option, None, Some, slice_get, if◌then◌else◌}
+use Rattle.std.specs.Prelude.{◌≡◌, ℕ, max, zero, suc, Bool, false, List, [], length, Option, None, Some, slice_get, if◌then◌else◌}
 use Rattle.hfsc_model.specs.declared.HfscClass.{HfscClass}
 use Rattle.hfsc_model.specs.Event.{HfscHistory}
 use Rattle.hfsc_model.specs.RealTime.{has_come, IsOpenBy}

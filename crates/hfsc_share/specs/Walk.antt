@@ -1,5 +1,5 @@
 -- A walk from a leaf up to the root, on which an event is taken in class by class.
-use Rattle.std.specs.Prelude.{◌≡◌, ◌≤◌, ◌<◌, ◌+◌, ◌/◌, ◌∷◌, [], ℕ, Bool, true, false, List, length, Option, None, Some, IfSome, slice_get}
+use Rattle.std.specs.Prelude.{◌≡◌, ◌<◌, ◌+◌, ◌/◌, ◌∷◌, [], ℕ, Bool, true, false, List, length, Option, None, Some, slice_get}
 use Rattle.hfsc_model.specs.declared.HfscClass.{HfscClass}
 use Rattle.hfsc_model.specs.Event.{HfscHistory}
 use Rattle.hfsc_model.specs.Tree.{is_leaf, is_under}

@@ -1,5 +1,6 @@
 use super::*;
 use service_curve::Curve;
+use std::test::Fail;
 
 const LEN: u32 = 1000;
 
@@ -50,11 +51,9 @@ const LIMITED: HfscClass = HfscClass {
 /// A packet of the first leaf moves its virtual time to 4000000; so do three times as many bytes of the second, which is a
 /// tie.
 #[test]
-fn quarter_and_three_quarters(rt: HostRuntime) -> Result<(), &'static str> {
+fn quarter_and_three_quarters(rt: HostRuntime) -> Result<(), Fail> {
     let classes = [ROOT, QUARTER, THREE_QUARTERS];
-    let mut shares = Shares::build(rt.alloc(), classes.as_slice())
-        .ok()
-        .ok_or("no memory")?;
+    let mut shares = Shares::build(rt.alloc(), classes.as_slice())?;
     assert_eq!(rt; shares.pick(0), None);
     shares.wake(1, 0);
     shares.wake(2, 0);
@@ -78,6 +77,7 @@ fn link_waits_for_an_upper_limit(rt: HostRuntime) -> Result<(), &'static str> {
     assert_eq!(rt; shares.soonest(), None);
     shares.wake(1, 0);
     assert_eq!(rt; shares.pick(0), Some(1));
+    assert_eq!(rt; shares.ranked(0), [1].as_slice());
     shares.served(1, LEN, false);
     assert_eq!(rt; shares.soonest(), Some(4000000));
     assert_eq!(rt; shares.pick(3999999), None);

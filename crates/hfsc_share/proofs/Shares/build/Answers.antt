@@ -1,5 +1,4 @@
-use Rattle.std.proofs.Common.{◌≡◌, ℕ, refl, subst, sym}
-use Rattle.hfsc_share.specs.Group.{AreEmpty}
+use Rattle.std.proofs.Common.{refl}
 use Rattle.hfsc_share.proofs.New.{new_holds, new_limits, new_parents, new_stands, new_is}
 use Rattle.hfsc_share.proofs.Shares.build.Goals as goal
 

@@ -1,4 +1,4 @@
-use Rattle.std.proofs.Common.{◌≡◌, ◌<◌, ◌+◌, suc, length, sym, arith, ◌∙◌}
+use Rattle.std.proofs.Common.{◌<◌, ◌+◌, sym, arith, ◌∙◌}
 use Rattle.std.specs.Prelude.{◌-◌}
 use Rattle.hfsc_share.proofs.Places.{get_read}
 use Rattle.hfsc_share.proofs.Picks.{has_keys, first_low, down_more, down_none}

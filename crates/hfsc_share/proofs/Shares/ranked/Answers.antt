@@ -1,5 +1,5 @@
 use Rattle.hfsc_share.proofs.Picks.{order_is, stands_stand}
-use Rattle.std.proofs.Common.{◌≡◌, ℕ, None, Some, List, [], sym, ap, subst, arith, ◌∙◌}
+use Rattle.std.proofs.Common.{ℕ, None, Some, List, [], sym, ap, subst, arith, ◌∙◌}
 use Rattle.std.specs.Prelude.{Option, ◌&&◌}
 use Rattle.ranking.specs.Order.{IsOrderOf}
 use Rattle.hfsc_model.specs.Tree.{is_child}

@@ -1,9 +1,9 @@
-use Rattle.std.proofs.Common.{◌≡◌, ℕ, Bool, Some, true, false, refl, ap, sym, arith, ◌∙◌}
-use Rattle.std.specs.Prelude.{Option, slice_get, ◌||◌, ◌&&◌}
+use Rattle.std.proofs.Common.{◌≡◌, Bool, true, false, refl, ap, sym, ◌∙◌}
+use Rattle.std.specs.Prelude.{Option, ◌||◌, ◌&&◌}
 use Rattle.hfsc_share.specs.declared.node.Node.{Node}
-use Rattle.hfsc_share.specs.Node.{active_in, parent_in, time_in, IsReopened}
+use Rattle.hfsc_share.specs.Node.{active_in, parent_in}
 use Rattle.hfsc_share.proofs.Places.{get_read}
-use Rattle.hfsc_share.proofs.Steps.{stepped, set_active, serve_step, IsServiceOf, reopened_by, served_by, none_ranked}
+use Rattle.hfsc_share.proofs.Steps.{stepped, set_active, serve_step, reopened_by, served_by, none_ranked}
 use Rattle.hfsc_share.proofs.Shares.serve_class.Goals as goal
 
 pub returns-clause-walks : goal.returns-clause-walks

@@ -1,5 +1,5 @@
-use Rattle.std.proofs.Common.{◌≡◌, ◌∷◌, ℕ, Bool, Some, true, false, subst, sym, ap, ◌∙◌}
-use Rattle.std.specs.Prelude.{Option, ◌==◌, ◌&&◌, not}
+use Rattle.std.proofs.Common.{◌∷◌, ℕ, Bool, Some, true, subst, sym, ap, ◌∙◌}
+use Rattle.std.specs.Prelude.{Option, ◌&&◌, not}
 use Rattle.play_base.specs.Units.{units}
 use Rattle.ranking.proofs.Ranks.{same_test}
 use Rattle.hfsc_model.specs.Event.{Sent}

@@ -1,9 +1,5 @@
-use Rattle.std.proofs.Common.{◌≡◌, ◌<◌, ℕ, Bool, Some, length, sym, ap, subst, arith, ◌∙◌}
-use Rattle.std.specs.Prelude.{Option, slice_get}
-use Rattle.hfsc_share.specs.declared.node.Node.{Node}
-use Rattle.hfsc_share.specs.declared.group.Group.{Group}
+use Rattle.std.proofs.Common.{sym, ap, ◌∙◌}
 use Rattle.hfsc_share.specs.Node.{active_in}
-use Rattle.hfsc_share.specs.Group.{IsChanged}
 use Rattle.hfsc_share.proofs.Places.{get_read}
 use Rattle.hfsc_share.proofs.Held.{IsPut, held_below, held_alone, may_change, parents_put, limits_put, is_changed, parent_within}
 use Rattle.hfsc_share.proofs.Shares.set.Goals as goal

@@ -1,8 +1,7 @@
-use Rattle.std.proofs.Common.{◌≡◌, ◌+◌, ℕ, List, Some, length, ap, sym, arith, ◌∙◌}
+use Rattle.std.proofs.Common.{◌≡◌, ◌+◌, ℕ, List, Some, length, ap, sym, ◌∙◌}
 use Rattle.std.specs.Prelude.{◌-◌, ◌/◌, slice_get}
 use Rattle.std.specs.Option.{option_copied}
 use Rattle.hfsc_share.specs.Node.{time_in}
-use Rattle.hfsc_share.specs.Group.{ranked_in}
 use Rattle.hfsc_share.specs.Walk.{start_among}
 use Rattle.ranking.specs.Order.{is_in}
 use Rattle.hfsc_share.proofs.Lists.{got_in, start_got}

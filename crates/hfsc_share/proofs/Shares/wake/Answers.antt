@@ -1,4 +1,4 @@
-use Rattle.std.proofs.Common.{◌≡◌, ◌∷◌, ℕ, Some, true, false, subst, sym, ◌∙◌}
+use Rattle.std.proofs.Common.{◌∷◌, ℕ, Some, true, false, subst, ◌∙◌}
 use Rattle.std.specs.Prelude.{Option}
 use Rattle.hfsc_model.specs.Event.{Kept}
 use Rattle.hfsc_share.specs.Walk.{IsOnWay, Walks}

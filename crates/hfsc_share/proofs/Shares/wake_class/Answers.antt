@@ -1,9 +1,7 @@
-use Rattle.std.proofs.Common.{◌≡◌, ℕ, Some, true, ap, sym, arith, ◌∙◌}
-use Rattle.std.specs.Prelude.{slice_get}
-use Rattle.hfsc_share.specs.declared.node.Node.{Node}
-use Rattle.hfsc_share.specs.Node.{parent_in, time_in, IsReopened}
+use Rattle.std.proofs.Common.{true, ap, sym, arith, ◌∙◌}
+use Rattle.hfsc_share.specs.Node.{parent_in, time_in}
 use Rattle.hfsc_share.proofs.Places.{get_read}
-use Rattle.hfsc_share.proofs.Steps.{stepped, set_active, wake_step, IsWakeOf, reopened_by}
+use Rattle.hfsc_share.proofs.Steps.{stepped, set_active, wake_step, reopened_by}
 use Rattle.hfsc_share.proofs.Shares.wake_class.Goals as goal
 
 pub awake-requires-clause-parent : goal.awake-requires-clause-parent

@@ -1,4 +1,4 @@
-use Rattle.std.proofs.Common.{◌≡◌, List, refl, sym, subst}
+use Rattle.std.proofs.Common.{◌≡◌, List, refl, sym, subst, arith}
 use Rattle.hfsc_model.specs.declared.HfscClass.{HfscClass}
 use Rattle.hfsc_share.specs.Classes.{AreClasses}
 use Rattle.hfsc_share.proofs.Flat.{flat_classes, limited_class, root_class}
