@@ -4,6 +4,7 @@ ghost use Rattle.std.specs.Option.{option_map};
 ghost use Rattle.class_rows.specs.Rows.{IsNew, limit_at, limits_of, list_in};
 ghost use Rattle.leaf_queue.specs.Queue.{by_queues};
 ghost use Rattle.hfsc_model.specs.Tree.{is_leaf, numbers};
+ghost use Rattle.hfsc_policy.specs.Events.{is_real};
 ghost use Rattle.hfsc_policy.specs.Policy.{hfsc_policy};
 ghost use Rattle.hfsc_core.specs.Chooser.{MayBuild};
 ghost use Rattle.hfsc_core.specs.Hfsc.{Held, HfscStands, IsHfsc, MayAsk, due_of, pick_of, policy_of, send_head};
@@ -64,6 +65,16 @@ fn pick_of<Q: QueueRule + Drop>(rows: &Rows<Q>, chosen: Chosen) -> Pick
             till: moment as u64,
         },
         Chosen::Nothing => Pick::Empty,
+    }
+}
+
+// A packet sent by this rule counts for real time.
+fn is_real(rule: Rule) -> bool
+    ensures { result ≡ is_real rule }
+{
+    match rule {
+        Rule::RealTime => true,
+        Rule::Share | Rule::Own | Rule::Borrow => false,
     }
 }
 
@@ -167,7 +178,7 @@ impl<Q: QueueRule + Drop> Discipline for Hfsc<Q> {
 
     fn sent(&mut self, sending: Sending, _clock: &LinkClock) {
         self.rows.take(sending.class, sending.start);
-        let real = sending.rule == Rule::RealTime;
+        let real = is_real(sending.rule);
         let head = head_len(&self.rows, sending.class);
         self.chooser.sent(sending.class, sending.len, real, head);
     }
