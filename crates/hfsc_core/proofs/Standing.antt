@@ -127,7 +127,7 @@ may_keep x lists kept class at len o empty h k i f g z few later = record {
 }
 
 -- the lists of a history that a discipline stands for
-seen_lens : (xs : List Entry) (ws : List Coming) → seen xs ≡ seen_of ws → lens xs ≡ lens_of (waits ws)
+pub seen_lens : (xs : List Entry) (ws : List Coming) → seen xs ≡ seen_of ws → lens xs ≡ lens_of (waits ws)
 seen_lens [] [] e = refl
 seen_lens [] (a ∷ ws) e = absurd cc
 seen_lens (x ∷ xs) [] e = absurd cc
