@@ -170,9 +170,10 @@ module _ (x : Chooser) (h : HfscHistory) (s : Stands x h) where
       next true e n =
           let picked = share_picked (classes_of x) h now e in
           let same = pick_is x.shares (classes_of x) h now s.share l ∙ picked in
-          subst (λ (o : Option ℕ). ChosenIs (classes_of x) h now (shared_or o (till (earlier_of (real_soonest_now x.eligible) (share_soonest_now x.shares))))) (sym same)
-          (ap (λ (p : Option ℕ). first_choice p (share_pick (classes_of x) h now)) (real_none now n) ∙ ap (λ (p : Option ℕ). first_choice None p) picked,
-          open_sender (classes_of x) h now s.tree e)
+          subst (λ (o : Option ℕ). ChosenIs (classes_of x) h now (shared_or o (till (earlier_of (real_soonest_now x.eligible) (share_soonest_now x.shares))))) (sym same) (
+            ap (λ (p : Option ℕ). first_choice p (share_pick (classes_of x) h now)) (real_none now n) ∙ ap (λ (p : Option ℕ). first_choice None p) picked,
+            open_sender (classes_of x) h now s.tree e,
+          )
       next false e n =
           let none : share_pick (classes_of x) h now ≡ None = rw e refl in
           let same = pick_is x.shares (classes_of x) h now s.share l ∙ none in

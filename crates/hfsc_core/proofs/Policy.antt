@@ -73,13 +73,15 @@ module _ (cs : List HfscClass) (answer : Answering) (h : List Event) (k : IsClas
       go (Some b) f g =
           let same : not_before t (send_from cs (hfsc_history h) c) ≡ u = cc in
           let l = one_leaf cs c i in
-          let w = head_waits c h b f in
-          (sym same, record {
-            is_leaf = l;
-            waits = w;
-            may = send_is cs (hfsc_history h) u c l w
-                ∙ subst (λ n. has_come (send_from cs (hfsc_history h) c) n ≡ true) same (from_come (send_from cs (hfsc_history h) c) t (send_there cs (hfsc_history h) c k));
-          })
+          let w = head_waits c h b f in (
+            sym same,
+            record {
+              is_leaf = l;
+              waits = w;
+              may = send_is cs (hfsc_history h) u c l w
+                  ∙ subst (λ n. has_come (send_from cs (hfsc_history h) c) n ≡ true) same (from_come (send_from cs (hfsc_history h) c) t (send_there cs (hfsc_history h) c k));
+            },
+          )
 
   start_of : (t u c : ℕ) → IsSender cs (hfsc_history h) u c → not_before t (send_from cs (hfsc_history h) c) ≡ u → start_at (hfsc_policy cs answer) t h c ≡ Some u
   start_of t u c s e =

@@ -95,11 +95,7 @@ impl<Q: QueueRule + Drop> Hfsc<Q> {
     /// or told yet and holds 1 to 10,000 packets. The first class is the root; every other has a link-sharing curve whose second
     /// slope is at least 1, and a class with children has no real-time curve. Both slopes of a limit are at least 1,000 bits per
     /// second. Takes all the memory that it will ever take; `NoMemory` comes only for want of it.
-    pub fn build(
-        alloc: Global,
-        classes: &[HfscClass],
-        queues: Vec<Q>,
-    ) -> Result<Hfsc<Q>, NoMemory>
+    pub fn build(alloc: Global, classes: &[HfscClass], queues: Vec<Q>) -> Result<Hfsc<Q>, NoMemory>
         requires count { length classes.now ≤ 256 }
         requires classes { MayBuild classes.now }
         requires one_each { length queues.items ≡ length classes.now }

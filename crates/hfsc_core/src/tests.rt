@@ -55,7 +55,13 @@ fn sent_at<D: Discipline>(
 }
 
 // Offers as many packets of 1,000 bytes.
-fn offer_all<D: Discipline>(discipline: &mut D, class: u32, count: u32, now: u64, words: &mut Words) {
+fn offer_all<D: Discipline>(
+    discipline: &mut D,
+    class: u32,
+    count: u32,
+    now: u64,
+    words: &mut Words,
+) {
     for ticket in 0..count {
         discipline.offer(Ticket(ticket), class, 1000, 0, now, words);
     }
@@ -76,7 +82,10 @@ fn fifty_first_packet_is_dropped(rt: HostRuntime) -> Result<(), Fail> {
     }
     let verdict = hfsc.offer(Ticket(50), 1, 100, 0, 0, &mut words);
     assert_eq!(rt; verdict, Verdict::Drop(Reason::Full));
-    assert_eq!(rt; sent_at(&mut hfsc, &mut clock, 0), Some((1, Rule::Share, 100_000)));
+    assert_eq!(rt;
+        sent_at(&mut hfsc, &mut clock, 0),
+        Some((1, Rule::Share, 100_000))
+    );
     Ok(())
 }
 
@@ -84,20 +93,33 @@ fn fifty_first_packet_is_dropped(rt: HostRuntime) -> Result<(), Fail> {
 fn voice_overtakes_bulk_data(rt: HostRuntime) -> Result<(), Fail> {
     let voice = Curve::make(4_000_000, 5_000_000, 1_000_000);
     let data = Curve::make(0, 5_000_000, 4_000_000);
-    let classes = [ROOT, leaf(Some(voice), voice, None), leaf(Some(data), data, None)];
+    let classes = [
+        ROOT,
+        leaf(Some(voice), voice, None),
+        leaf(Some(data), data, None),
+    ];
     let queues = vec![in rt.alloc(); Tail { limit: 50 }, Tail { limit: 50 }, Tail { limit: 50 }]?;
     let built = Hfsc::build(rt.alloc(), classes.as_slice(), queues);
     let mut hfsc = built.ok().ok_or("no memory")?;
     let mut words = Words::new(42);
     let mut clock = LinkClock::new(RATE);
     offer_all(&mut hfsc, 2, 50, 0, &mut words);
-    assert_eq!(rt; sent_at(&mut hfsc, &mut clock, 0), Some((2, Rule::RealTime, 1_000_000)));
-    assert_eq!(rt; sent_at(&mut hfsc, &mut clock, 1_000_000), Some((2, Rule::Share, 2_000_000)));
+    assert_eq!(rt;
+        sent_at(&mut hfsc, &mut clock, 0),
+        Some((2, Rule::RealTime, 1_000_000))
+    );
+    assert_eq!(rt;
+        sent_at(&mut hfsc, &mut clock, 1_000_000),
+        Some((2, Rule::Share, 2_000_000))
+    );
     for k in 2..10 {
         sent_at(&mut hfsc, &mut clock, k * 1_000_000);
     }
     hfsc.offer(Ticket(50), 1, 200, 0, 10_000_000, &mut words);
-    assert_eq!(rt; sent_at(&mut hfsc, &mut clock, 10_000_000), Some((1, Rule::RealTime, 10_200_000)));
+    assert_eq!(rt;
+        sent_at(&mut hfsc, &mut clock, 10_000_000),
+        Some((1, Rule::RealTime, 10_200_000))
+    );
     Ok(())
 }
 
@@ -133,11 +155,26 @@ fn link_waits_for_an_upper_limit(rt: HostRuntime) -> Result<(), Fail> {
     let mut words = Words::new(42);
     let mut clock = LinkClock::new(RATE);
     offer_all(&mut hfsc, 1, 3, 0, &mut words);
-    assert_eq!(rt; sent_at(&mut hfsc, &mut clock, 0), Some((1, Rule::Share, 1_000_000)));
-    assert_eq!(rt; hfsc.next(1_000_000, &clock), Pick::Wait { till: 4_000_000 });
-    assert_eq!(rt; sent_at(&mut hfsc, &mut clock, 4_000_000), Some((1, Rule::Share, 5_000_000)));
-    assert_eq!(rt; hfsc.next(5_000_000, &clock), Pick::Wait { till: 8_000_000 });
-    assert_eq!(rt; sent_at(&mut hfsc, &mut clock, 8_000_000), Some((1, Rule::Share, 9_000_000)));
+    assert_eq!(rt;
+        sent_at(&mut hfsc, &mut clock, 0),
+        Some((1, Rule::Share, 1_000_000))
+    );
+    assert_eq!(rt;
+        hfsc.next(1_000_000, &clock),
+        Pick::Wait { till: 4_000_000 }
+    );
+    assert_eq!(rt;
+        sent_at(&mut hfsc, &mut clock, 4_000_000),
+        Some((1, Rule::Share, 5_000_000))
+    );
+    assert_eq!(rt;
+        hfsc.next(5_000_000, &clock),
+        Pick::Wait { till: 8_000_000 }
+    );
+    assert_eq!(rt;
+        sent_at(&mut hfsc, &mut clock, 8_000_000),
+        Some((1, Rule::Share, 9_000_000))
+    );
     Ok(())
 }
 
@@ -152,9 +189,21 @@ fn real_time_ignores_the_limit(rt: HostRuntime) -> Result<(), Fail> {
     let mut words = Words::new(42);
     let mut clock = LinkClock::new(RATE);
     offer_all(&mut hfsc, 1, 3, 0, &mut words);
-    assert_eq!(rt; sent_at(&mut hfsc, &mut clock, 0), Some((1, Rule::RealTime, 1_000_000)));
-    assert_eq!(rt; hfsc.next(1_000_000, &clock), Pick::Wait { till: 2_000_000 });
-    assert_eq!(rt; sent_at(&mut hfsc, &mut clock, 2_000_000), Some((1, Rule::RealTime, 3_000_000)));
-    assert_eq!(rt; sent_at(&mut hfsc, &mut clock, 4_000_000), Some((1, Rule::RealTime, 5_000_000)));
+    assert_eq!(rt;
+        sent_at(&mut hfsc, &mut clock, 0),
+        Some((1, Rule::RealTime, 1_000_000))
+    );
+    assert_eq!(rt;
+        hfsc.next(1_000_000, &clock),
+        Pick::Wait { till: 2_000_000 }
+    );
+    assert_eq!(rt;
+        sent_at(&mut hfsc, &mut clock, 2_000_000),
+        Some((1, Rule::RealTime, 3_000_000))
+    );
+    assert_eq!(rt;
+        sent_at(&mut hfsc, &mut clock, 4_000_000),
+        Some((1, Rule::RealTime, 5_000_000))
+    );
     Ok(())
 }

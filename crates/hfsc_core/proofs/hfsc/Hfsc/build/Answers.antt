@@ -20,11 +20,14 @@ invariant_of-result g c =
       count = ap (λ (qs : List _). length qs) c.in_ok-rows.ensures.queues ∙ c.requires.one_each ∙ sym (ap (λ (ks : List HfscClass). length ks) c.in_ok-chooser.ensures.classes);
       holds = ap (λ n. holding n rows.holds) c.in_ok-rows.ensures.first ∙ ap (λ (bs : List Bool). holding 0 bs) c.in_ok-rows.ensures.holds ∙ all
           ∙ ap (λ n. filter (is_leaf cs) (range_with_len 0 n)) count ∙ sym (ap leaves c.in_ok-chooser.ensures.classes);
-      known = ([], record {
-        stands = c.in_ok-chooser.ensures.stands;
-        shown = λ class. seen_lens (list_in rows class) [] (c.in_ok-rows.ensures.told.shown class).packets;
-        count = refl;
-      });
+      known = (
+        [],
+        record {
+          stands = c.in_ok-chooser.ensures.stands;
+          shown = λ class. seen_lens (list_in rows class) [] (c.in_ok-rows.ensures.told.shown class).packets;
+          count = refl;
+        },
+      );
     }
 
 pub returns-clause-limits : goal.returns-clause-limits
