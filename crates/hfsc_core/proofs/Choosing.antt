@@ -20,7 +20,7 @@ use Rattle.hfsc_eligible.specs.Eligible.{IsLeastOf, pick_now as real_pick_now, s
 use Rattle.hfsc_eligible.proofs.Picks.{pick_is_real, soonest_is_least}
 use Rattle.hfsc_share.specs.Classes.{IsSoonest}
 use Rattle.hfsc_share.specs.Shares.{last_wake, pick_now as share_pick_now, soonest_now as share_soonest_now}
-use Rattle.hfsc_share.proofs.A.{pick_is, soonest_is}
+use Rattle.hfsc_share.proofs.Picks.{pick_is, soonest_is}
 use Rattle.hfsc_core.specs.declared.chooser.Chooser.{Chooser}
 use Rattle.hfsc_core.specs.declared.chooser.Chosen.{Chosen}
 use Rattle.hfsc_core.specs.declared.chooser.Chosen.TheVariants.{Real, Shared, Later, Nothing}
