@@ -1,0 +1,17 @@
+pub mod Places
+pub mod Lists
+pub mod Held
+pub mod Under
+pub mod Opening
+pub mod Moments
+pub mod Children
+pub mod Starting
+pub mod Off
+pub mod Waking
+pub mod Serving
+pub mod Walking
+pub mod Steps
+pub mod Picks
+pub mod Ends
+pub mod Flat
+pub mod New

@@ -1,0 +1,86 @@
+-- The children of a class in the order of their virtual times and in that of the moments from which they open.
+use Rattle.std.specs.Prelude.{◌≡◌, ◌≤◌, ◌<◌, ℕ, max, Bool, true, List, [], ◌∷◌, length, Option, Some, slice_get, slice_index_or}
+use Rattle.std.specs.List.{find}
+use Rattle.ranking.specs.Order.{is_in, key_of}
+use Rattle.ranking.specs.Ranking.{keys_of, order_of}
+use Rattle.ranking.specs.declared.Ranking.{Ranking}
+use Rattle.hfsc_model.specs.declared.HfscClass.{HfscClass}
+use Rattle.hfsc_model.specs.RealTime.{has_come}
+use Rattle.hfsc_model.specs.Tree.{is_child}
+use Rattle.hfsc_share.specs.declared.node.Node.{Node}
+use Rattle.hfsc_share.specs.declared.group.Group.{Group}
+use Rattle.hfsc_share.specs.Lists.{IsReplaced, MayReplace}
+use Rattle.hfsc_share.specs.Node.{is_child_in, is_active_child, time_in, opens_in}
+
+-- exactly the active children of p stand in a list, each with its key
+pub record Ranks (nodes : List Node) (p : ℕ) (key : Option Node → Option ℕ) (ranking : Ranking) : Type 0 where
+  pub room : (c : ℕ) → is_child_in nodes p c ≡ true → c < length (keys_of ranking)
+  pub exactly : (c : ℕ) → is_in c (order_of ranking) ≡ is_active_child nodes p c
+  pub keys : (c : ℕ) → is_active_child nodes p c ≡ true → key_of (keys_of ranking) c ≡ key (slice_get nodes c)
+
+-- no child of p has a greater virtual time
+abbrev pub IsHighest : List Node → ℕ → ℕ → Type 0
+IsHighest nodes p high = (c : ℕ) → is_child_in nodes p c ≡ true → time_in (slice_get nodes c) ≤ high
+
+-- the least such number: the greatest virtual time of the children of p, 0 where there is none
+pub record IsHigh (nodes : List Node) (p high : ℕ) : Type 0 where
+  pub highest : IsHighest nodes p high
+  pub least : (other : ℕ) → IsHighest nodes p other → high ≤ other
+
+abbrev pub time_key : Option Node → Option ℕ
+time_key o = Some (time_in o)
+
+pub record GroupHolds (nodes : List Node) (p : ℕ) (g : Group) : Type 0 where
+  pub times : Ranks nodes p time_key g.times
+  pub moments : Ranks nodes p opens_in g.moments
+  pub high : IsHigh nodes p g.high
+
+-- the groups hold the children of the classes
+pub record GroupsHold (nodes : List Node) (groups : List Group) : Type 0 where
+  pub count : length groups ≡ length nodes
+  pub each : (p : ℕ) (g : Group) → slice_get groups p ≡ Some g → GroupHolds nodes p g
+
+-- no child is active, and none was; so many classes have a place
+pub record IsNewGroup (places : ℕ) (g : Group) : Type 0 where
+  pub times : order_of g.times ≡ []
+  pub moments : order_of g.moments ≡ []
+  pub time_keys : length (keys_of g.times) ≡ places
+  pub moment_keys : length (keys_of g.moments) ≡ places
+  pub high : g.high ≡ 0
+
+-- the group of p, in which each of its children has a place
+pub record IsEmpty (cs : List HfscClass) (p : ℕ) (g : Group) : Type 0 where
+  pub times : order_of g.times ≡ []
+  pub moments : order_of g.moments ≡ []
+  pub time_keys : (c : ℕ) → is_child cs p c ≡ true → c < length (keys_of g.times)
+  pub moment_keys : (c : ℕ) → is_child cs p c ≡ true → c < length (keys_of g.moments)
+  pub high : g.high ≡ 0
+
+pub record AreEmpty (cs : List HfscClass) (groups : List Group) : Type 0 where
+  pub count : length groups ≡ length cs
+  pub each : (p : ℕ) (d : Group) → p < length groups → IsEmpty cs p (slice_index_or groups p d)
+
+-- a child may be put in anew, and is
+pub record MayChange (class : ℕ) (was : Bool) (g : Group) : Type 0 where
+  pub times : MayReplace class was g.times
+  pub moments : MayReplace class was g.moments
+
+pub record IsChanged (class : ℕ) (is : Bool) (time : ℕ) (opens : Option ℕ) (old new : Group) : Type 0 where
+  pub times : IsReplaced class is (Some time) old.times new.times
+  pub moments : IsReplaced class is opens old.moments new.moments
+  pub high : new.high ≡ max old.high time
+
+-- its answers, by what it holds
+abbrev pub ranked_in : Group → List ℕ
+ranked_in g = order_of g.times
+
+abbrev pub first_key : List (Option ℕ) → List ℕ → Option ℕ
+first_key keys [] = Some 0
+first_key keys (c ∷ cs) = key_of keys c
+
+abbrev pub first_moment : Group → Option ℕ
+first_moment g = first_key (keys_of g.moments) (order_of g.moments)
+
+-- the first child in the order of virtual times that is open at a moment
+abbrev pub first_open : ℕ → Group → Option ℕ
+first_open now g = find (λ c. has_come (key_of (keys_of g.moments) c) now) (order_of g.times)

@@ -1,0 +1,7 @@
+pub mod Curves
+pub mod Classes
+pub mod Lists
+pub mod Node
+pub mod Group
+pub mod Walk
+pub mod Shares

@@ -1,0 +1,342 @@
+//! The choice by link sharing: which class goes where no head is sent by real time.
+//!
+//! The choice goes down from the root, to the active child of least virtual time among those on whose path a packet waits
+//! within all upper limits. A class keeps the units sent in it and below it, and its virtual time is the first at which its
+//! link-sharing curve, over all its activations, reaches them. The active children of each class stand in two lists, by
+//! virtual time and by the moment from which the limits let a leaf below be served; `build` takes all memory. Moments are
+//! nanoseconds, lengths bytes. The source is Stoica, Zhang and Ng, "A Hierarchical Fair Service Curve Algorithm for
+//! Link-Sharing, Real-Time and Priority Services", SIGCOMM 1997; upper limits are those of altq.conf(5).
+#![tactic(auto)]
+
+ghost use Rattle.std.specs.Prelude.{◌≡◌, ◌==◌, ◌<◌, ◌≤◌, ◌^◌, ◌&&◌, ◌||◌, ◌∷◌, [], ℕ, not, List, Option, None, Some, All, Bool, true, false, length, slice_get, slice_set, IfOk};
+ghost use Rattle.play_base.specs.Units.{units};
+ghost use Rattle.ranking.specs.Order.{IsOrderOf, is_in};
+ghost use Rattle.hfsc_model.specs.declared.HfscClass.{HfscClass};
+ghost use Rattle.hfsc_model.specs.Event.{HfscHistory, Kept, Sent};
+ghost use Rattle.hfsc_model.specs.Tree.{is_child, is_leaf};
+ghost use Rattle.hfsc_model.specs.Share.{active, virtual_time};
+ghost use Rattle.hfsc_model.specs.Limit.{share_pick};
+ghost use Rattle.hfsc_share.specs.Curves.{IsBy};
+ghost use Rattle.hfsc_share.specs.Classes.{AreClasses, AreSmall, IsClass, IsSoonest, waits_in};
+ghost use Rattle.hfsc_share.specs.Node.{AreNew, IsAwake, AreParentsFirst, AreLimitsBy, time_in};
+ghost use Rattle.hfsc_share.specs.Group.{AreEmpty, GroupsHold, ranked_in};
+ghost use Rattle.hfsc_share.specs.Walk.{IsLeafThat, IsStep, Walks, has_ranked, moment_of, start_among, start_below};
+
+use hfsc_model::HfscClass;
+use play_base::{NoMemory, units};
+use std::alloc::Global;
+
+mod group;
+mod laws;
+mod node;
+
+use group::{Group, has_come};
+pub use laws::{picked_leaves_may_share, waiting_leaves_wake_once};
+use node::Node;
+
+/// At most so many levels has a tree.
+const LEVELS: u32 = 8;
+
+/// The classes of an interface in the order of the file, with what sharing keeps of them.
+///
+/// Contracts say for which classes and which history of kept packets and sendings a value stands.
+#[derive(Debug, Drop)]
+pub struct Shares {
+    nodes: Vec<Node>,
+    groups: Vec<Group>,
+    woken: u64,
+    ghost groups_hold: { GroupsHold nodes.items groups.items },
+    ghost parents_first: { AreParentsFirst nodes.items },
+    ghost limits_by: { AreLimitsBy woken nodes.items },
+}
+
+impl Shares {
+    ghost use Rattle.hfsc_share.specs.Shares.{StandsFor, IsNew, IsSameBut, IsLeafAt, classes_of, down, is_active_at, last_wake, parent_at, pick_now, soonest_now, order_at};
+
+    /// The classes without a packet, at most 256.
+    pub fn build(alloc: Global, classes: &[HfscClass]) -> Result<Shares, NoMemory>
+        requires count { length classes.now ≤ 256 }
+        requires classes { AreClasses classes.now }
+        ensures stands { IfOk result (λ s. StandsFor s classes.now []) }
+        ensures new { IfOk result (IsNew classes.now) }
+    {
+        let nodes = nodes_of(alloc, classes)?;
+        let groups = groups_of(alloc, classes)?;
+        Ok(Shares {
+            nodes,
+            groups,
+            woken: 0,
+        })
+    }
+
+    /// A packet was kept at the moment `at` in a leaf in which nothing waited. No wake before was later. What is claimed of
+    /// histories is claimed while totals are at most 2^99 and virtual times at most 2^79. It takes a time that grows with
+    /// the levels of the tree, and on each with the logarithm of the siblings, which it moves.
+    pub fn wake(&mut self, leaf: u32, at: u64)
+        requires class { leaf < classes_of self.old }
+        requires leaf { IsLeafAt self.old leaf }
+        requires idle { is_active_at self.old leaf ≡ false }
+        requires later { last_wake self.old ≤ at }
+        ensures stands { (cs : List HfscClass) (h : HfscHistory) (len : ℕ) → StandsFor self.old cs h
+            → AreSmall cs (Kept leaf at len ∷ h) → StandsFor self.new cs (Kept leaf at len ∷ h) }
+        ensures woken { last_wake self.new ≡ at }
+        ensures active { is_active_at self.new leaf ≡ true }
+        ensures others { IsSameBut leaf self.old self.new }
+    {
+        self.woken = at;
+        let mut next = self.wake_class(leaf);
+        while let Some(class) = next {
+            next = self.wake_class(class);
+        }
+    }
+
+    /// The head of a leaf, of `len` bytes, was sent, by either rule; `empty` says that nothing waits there now. What is
+    /// claimed of histories, and the time that it takes, is as with `wake`.
+    pub fn served(&mut self, leaf: u32, len: u32, empty: bool)
+        requires class { leaf < classes_of self.old }
+        requires leaf { IsLeafAt self.old leaf }
+        requires waits { is_active_at self.old leaf ≡ true }
+        ensures stands { (cs : List HfscClass) (h : HfscHistory) (real : Bool) (start : ℕ) → StandsFor self.old cs h
+            → waits_in (Sent leaf len real start ∷ h) leaf ≡ not empty
+            → AreSmall cs (Sent leaf len real start ∷ h) → StandsFor self.new cs (Sent leaf len real start ∷ h) }
+        ensures woken { last_wake self.new ≡ last_wake self.old }
+        ensures active { is_active_at self.new leaf ≡ not empty }
+        ensures others { IsSameBut leaf self.old self.new }
+    {
+        let amount = units(u64::from(len));
+        let mut next = self.serve_class(leaf, amount, !empty);
+        while let Some(class) = next {
+            next = self.serve_class(class, amount, false);
+        }
+    }
+
+    /// The leaf to send by share at `now`, no earlier than the last wake: down from the root by the least virtual time among
+    /// the children below which a packet waits on a path that is open, a tie going to the class that stands earlier in the
+    /// file. `None` comes exactly where no active leaf may be served at `now`. On each level it looks at the children in
+    /// that order up to the first that may.
+    pub fn pick(&self, now: u64) -> Option<u32>
+        ensures pick { (cs : List HfscClass) (h : HfscHistory) → StandsFor self.now cs h → last_wake self.now ≤ now
+            → result ≡ share_pick cs h now }
+        ensures is { result ≡ pick_now self.now now }
+    {
+        self.picked(u128::from(now))
+    }
+
+    /// The least moment, not before the last wake, from which the limits let some active leaf be served. `None` comes
+    /// exactly where no leaf is active. Constant time.
+    pub fn soonest(&self) -> Option<u128>
+        ensures least { (cs : List HfscClass) (h : HfscHistory) → StandsFor self.now cs h → IsSoonest cs h (last_wake self.now) result }
+        ensures is { result ≡ soonest_now self.now }
+    {
+        self.soonest_moment()
+    }
+
+    /// The active children of a class in the order of their virtual times, a tie in the order of the file. Constant time.
+    pub fn ranked(&self, parent: u32) -> &[u32]
+        requires { parent < classes_of self.now }
+        ensures order { (cs : List HfscClass) (h : HfscHistory) → StandsFor self.now cs h
+            → IsOrderOf (λ c. Some (virtual_time cs h c)) (λ c. is_child cs parent c && active cs h c) result.now }
+        ensures is { result.now ≡ order_at self.now parent }
+    {
+        self.groups[parent as usize].ranked()
+    }
+
+    /// A packet was kept below a class: the class becomes active if it was not, and opens anew. Answers its parent.
+    fn wake_class(&mut self, class: u32) -> Option<u32>
+        requires { class < classes_of self.old }
+        ensures walks { (cs : List HfscClass) (h : HfscHistory) (leaf len : ℕ) → IsLeafThat cs h leaf false
+            → Walks cs h (Kept leaf (last_wake self.old) len ∷ h) (last_wake self.old) leaf (Some class) self.old.nodes.items
+            → Walks cs h (Kept leaf (last_wake self.old) len ∷ h) (last_wake self.old) leaf result self.new.nodes.items }
+        ensures step { IsStep class self.old.nodes.items self.new.nodes.items }
+        ensures active { is_active_at self.new class ≡ true }
+        ensures woken { last_wake self.new ≡ last_wake self.old }
+        ensures parent { result ≡ parent_at self.old class }
+    {
+        let old = self.nodes[class as usize];
+        let node = self.awake(old).reopened(self.first_moment_below(class));
+        self.set(class, node);
+        old.parent()
+    }
+
+    /// The class, active: as it is, or from the last wake on.
+    fn awake(&self, node: Node) -> Node
+        requires parent { (p : ℕ) → node.parent ≡ Some p → p < classes_of self.now }
+        requires by { IsBy (last_wake self.now) node.limit }
+        ensures { IsAwake (last_wake self.now) (start_below self.now.nodes.items self.now.groups.items node.parent) node result }
+    {
+        if node.is_active() {
+            return node;
+        }
+        node.activated(self.woken, self.start_below(node.parent()))
+    }
+
+    /// Units were sent below a class: `waits` says that a packet waits in itself. Answers its parent.
+    fn serve_class(&mut self, class: u32, amount: u128, waits: bool) -> Option<u32>
+        requires class { class < classes_of self.old }
+        requires amount { amount < 2 ^ 100 }
+        ensures walks { (cs : List HfscClass) (h : HfscHistory) (leaf len : ℕ) (real : Bool) (start : ℕ) → IsLeafThat cs h leaf true
+            → amount ≡ units len → waits ≡ ((leaf == class) && waits_in (Sent leaf len real start ∷ h) leaf)
+            → Walks cs h (Sent leaf len real start ∷ h) (last_wake self.old) leaf (Some class) self.old.nodes.items
+            → Walks cs h (Sent leaf len real start ∷ h) (last_wake self.old) leaf result self.new.nodes.items }
+        ensures step { IsStep class self.old.nodes.items self.new.nodes.items }
+        ensures active { IsLeafAt self.old class → is_active_at self.new class ≡ (is_active_at self.old class && waits) }
+        ensures woken { last_wake self.new ≡ last_wake self.old }
+        ensures parent { result ≡ parent_at self.old class }
+    {
+        let old = self.nodes[class as usize];
+        let node = old
+            .served(amount, self.waits_below(class, waits))
+            .reopened(self.first_moment_below(class));
+        self.set(class, node);
+        old.parent()
+    }
+
+    /// The virtual time to take among the children of a parent: the middle of the least and the greatest of those that are
+    /// active, rounded down, or where none is the high mark.
+    fn start_below(&self, parent: Option<u32>) -> u128
+        requires { (p : ℕ) → parent ≡ Some p → p < classes_of self.now }
+        ensures { result ≡ start_below self.now.nodes.items self.now.groups.items parent }
+    {
+        match parent {
+            None => 0,
+            Some(parent) => self.start_in(&self.groups[parent as usize]),
+        }
+    }
+
+    /// The same of a group of children.
+    fn start_in(&self, group: &Group) -> u128
+        requires { (c : ℕ) → is_in c (ranked_in group.now) ≡ true → c < classes_of self.now }
+        ensures { result ≡ start_among self.now.nodes.items group.now (ranked_in group.now) }
+    {
+        let ranked = group.ranked();
+        match (ranked.first(), ranked.last()) {
+            (Some(first), Some(last)) => (self.time_of(*first) + self.time_of(*last)) / 2,
+            _ => group.high(),
+        }
+    }
+
+    /// The virtual time of a class.
+    fn time_of(&self, class: u32) -> u128
+        requires { class < classes_of self.now }
+        ensures is { result ≡ time_in (slice_get self.now.nodes.items class) }
+        ensures most { result ≤ 2 ^ 79 }
+    {
+        self.nodes[class as usize].time()
+    }
+
+    /// The first moment from which a child of a class opens, 0 where none is active.
+    fn first_moment_below(&self, class: u32) -> Option<u128>
+        requires { class < classes_of self.now }
+        ensures { result ≡ moment_of (slice_get self.now.groups.items class) }
+    {
+        self.groups[class as usize].first_moment()
+    }
+
+    /// A packet waits in a class itself, which `here` says, or below it: a child is active.
+    fn waits_below(&self, class: u32, here: bool) -> bool
+        requires { class < classes_of self.now }
+        ensures { result ≡ (here || has_ranked (slice_get self.now.groups.items class)) }
+    {
+        here || !self.groups[class as usize].ranked().is_empty()
+    }
+
+    /// The leaf to send, where the root is open.
+    fn picked(&self, now: u128) -> Option<u32>
+        ensures { result ≡ pick_now self.now now }
+    {
+        let root = self.nodes.first()?;
+        if root.is_active() && has_come(root.opens(), now) {
+            return Some(self.leaf_below(now));
+        }
+        None
+    }
+
+    /// The moment from which the root opens, or the last wake if that is later.
+    fn soonest_moment(&self) -> Option<u128>
+        ensures { result ≡ soonest_now self.now }
+    {
+        let root = self.nodes.first()?;
+        if !root.is_active() {
+            return None;
+        }
+        let opens = root.opens()?;
+        Some(opens.max(u128::from(self.woken)))
+    }
+
+    /// Down from the root, on each level by the first child that is open.
+    fn leaf_below(&self, now: u128) -> u32
+        requires { 0 < classes_of self.now }
+        ensures { result ≡ down 8 self.now.groups.items now 0 }
+    {
+        let mut class = 0;
+        for _ in 0..LEVELS {
+            match self.groups[class as usize].first_open(now) {
+                None => return class,
+                Some(child) => class = child,
+            }
+        }
+        class
+    }
+
+    /// Puts a class into its place, and anew into the lists of its parent.
+    fn set(&mut self, class: u32, node: Node)
+        requires class { class < classes_of self.old }
+        requires parent { node.parent ≡ parent_at self.old class }
+        requires later { time_in (slice_get self.old.nodes.items class) ≤ node.time }
+        requires by { IsBy (last_wake self.old) node.limit }
+        ensures nodes { self.new.nodes.items ≡ slice_set self.old.nodes.items class node }
+        ensures woken { last_wake self.new ≡ last_wake self.old }
+    {
+        let was = self.nodes[class as usize].is_active();
+        self.nodes[class as usize] = node;
+        if let Some(parent) = node.parent() {
+            self.groups[parent as usize].replace(
+                class,
+                was,
+                node.is_active(),
+                node.time(),
+                node.opens(),
+            );
+        }
+    }
+}
+
+/// What is held of classes without a packet.
+fn nodes_of(alloc: Global, classes: &[HfscClass]) -> Result<Vec<Node>, NoMemory>
+    requires { All IsClass classes.now }
+    ensures { IfOk result (λ nodes. AreNew classes.now nodes.items) }
+{
+    let mut nodes = Vec::with_capacity(alloc, classes.len())?;
+    for class in classes {
+        nodes.push(Node::new(class))?;
+    }
+    Ok(nodes)
+}
+
+/// A group for each of at most 256 classes, without an active child; in that of a leaf no child has a place.
+fn groups_of(alloc: Global, classes: &[HfscClass]) -> Result<Vec<Group>, NoMemory>
+    requires { length classes.now ≤ 256 }
+    ensures { IfOk result (λ groups. AreEmpty classes.now groups.items) }
+{
+    let mut groups = Vec::with_capacity(alloc, classes.len())?;
+    for class in 0..classes.len() {
+        groups.push(Group::reserve(alloc, places_below(classes, class as u32))?)?;
+    }
+    Ok(groups)
+}
+
+/// How many classes have a place among the children of a class: all, or where it has no child none.
+fn places_below(classes: &[HfscClass], class: u32) -> u32
+    requires { length classes.now ≤ 256 }
+    ensures { (c : ℕ) → is_child classes.now class c ≡ true → c < result }
+{
+    for other in classes {
+        if other.parent == Some(class) {
+            return classes.len() as u32;
+        }
+    }
+    0
+}
+
+#[cfg(test)]
+mod tests;

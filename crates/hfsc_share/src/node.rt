@@ -1,0 +1,226 @@
+//! One class: its curves, its total, whether it is active, its virtual time, and the moment from which it opens.
+ghost use Rattle.std.specs.Prelude.{◌≡◌, ◌+◌, ◌<◌, ◌≤◌, ◌^◌, ◌∷◌, [], ℕ, List, Option, None, Some, max, min, true, false, is_some, if◌then◌else◌};
+ghost use Rattle.std.specs.Option.{ForSome};
+ghost use Rattle.service_curve.specs.declared.Curve.{Curve};
+ghost use Rattle.runtime_curve.specs.declared.Opening.{Opening};
+ghost use Rattle.runtime_curve.specs.Opening.{opening};
+ghost use Rattle.runtime_curve.specs.Deadline.{deadline, later_of};
+ghost use Rattle.hfsc_model.specs.Share.{or_zero};
+ghost use Rattle.hfsc_share.specs.Curves.{CanCarry, RunningStands, IsBy, IsUpTo, IsOpen, last_in, limit_opens, share_of};
+ghost use Rattle.hfsc_share.specs.Classes.{IsClass};
+
+use hfsc_model::HfscClass;
+use runtime_curve::Running;
+use service_curve::Curve;
+
+/// Totals stand still here, which no play reaches.
+const MOST_UNITS: u128 = 1 << 99;
+
+/// And so do virtual times here.
+const MOST_TIME: u128 = 1 << 79;
+
+/// A class: its parent; its link-sharing curve over its activations, and its limit over the arrivals that made it active;
+/// the units sent in it and below it; whether it is active; its virtual time; and the moment from which a packet waits on
+/// a path that is open up to it.
+#[derive(Clone, Copy, Debug)]
+pub struct Node {
+    parent: Option<u32>,
+    share: Option<Running>,
+    limit: Option<Running>,
+    total: u128,
+    active: bool,
+    time: u128,
+    opens: Option<u128>,
+    ghost total_small: { total ≤ 2 ^ 99 },
+    ghost time_small: { time ≤ 2 ^ 79 },
+    ghost share_by: { IsBy time share },
+    ghost share_up_to: { IsUpTo total share },
+    ghost share_open: { IsOpen active share },
+    ghost limit_up_to: { IsUpTo total limit },
+    ghost limit_open: { IsOpen active limit },
+}
+
+impl Node {
+    ghost use Rattle.hfsc_share.specs.Node.{IsNewNode, IsActivated, IsServed, IsReopened};
+
+    /// A class without a packet.
+    pub fn new(class: &HfscClass) -> Node
+        requires { IsClass class.now }
+        ensures { IsNewNode class.now result }
+    {
+        Node {
+            parent: class.parent,
+            share: running_of(share_of(class)),
+            limit: running_of(class.limit),
+            total: 0,
+            active: false,
+            time: 0,
+            opens: None,
+        }
+    }
+
+    /// The class becomes active with a packet that arrived at a moment, and takes a virtual time of at least `start`.
+    pub fn activated(self, at: u64, start: u128) -> Node
+        requires { IsBy at self.limit }
+        ensures { IsActivated at start self result }
+    {
+        let time = self.time.max(start).min(MOST_TIME);
+        Node {
+            parent: self.parent,
+            share: begun(self.share, time, self.total),
+            limit: begun(self.limit, u128::from(at), self.total),
+            total: self.total,
+            active: true,
+            time,
+            opens: self.opens,
+        }
+    }
+
+    /// Units were sent in the class or below it, which stays active where a packet waits.
+    pub fn served(self, amount: u128, waits: bool) -> Node
+        requires { amount < 2 ^ 100 }
+        ensures { IsServed amount waits self result }
+    {
+        let total = (self.total + amount).min(MOST_UNITS);
+        Node {
+            parent: self.parent,
+            share: self.share,
+            limit: self.limit,
+            total,
+            active: self.active && waits,
+            time: self.time_at(total),
+            opens: self.opens,
+        }
+    }
+
+    /// The virtual time with a total that is not less.
+    fn time_at(&self, total: u128) -> u128
+        requires more { self.now.total ≤ total }
+        requires most { total ≤ 2 ^ 99 }
+        ensures later { self.now.time ≤ result }
+        ensures most { result ≤ 2 ^ 79 }
+        ensures same { total ≡ self.now.total → result ≡ self.now.time }
+        ensures none { self.now.share ≡ None → result ≡ self.now.time }
+        ensures grown { self.now.active ≡ true → self.now.total < total → (s : Curve) (os : List Opening) → RunningStands self.now.share (Some s) os
+            → result ≡ min (max self.now.time (or_zero (deadline s os total))) (2 ^ 79) }
+    {
+        match self.share {
+            Some(share) if self.active && self.total < total => {
+                let reached = share.deadline(total).unwrap_or(0);
+                self.time.max(reached).min(MOST_TIME)
+            }
+            _ => self.time,
+        }
+    }
+
+    /// The class with the moment from which its limit lets it be served, where that is later than the one below it.
+    pub fn reopened(self, below: Option<u128>) -> Node
+        ensures { IsReopened below self result }
+    {
+        let opens = if self.active {
+            later_of(limit_opens(self.limit, self.total), below)
+        } else {
+            None
+        };
+        Node {
+            parent: self.parent,
+            share: self.share,
+            limit: self.limit,
+            total: self.total,
+            active: self.active,
+            time: self.time,
+            opens,
+        }
+    }
+
+    /// The parent.
+    pub fn parent(&self) -> Option<u32>
+        ensures { result ≡ self.now.parent }
+    {
+        self.parent
+    }
+
+    /// A packet waits in the class or below it.
+    pub fn is_active(&self) -> bool
+        ensures { result ≡ self.now.active }
+    {
+        self.active
+    }
+
+    /// The virtual time.
+    pub fn time(&self) -> u128
+        ensures is { result ≡ self.now.time }
+        ensures most { result ≤ 2 ^ 79 }
+    {
+        self.time
+    }
+
+    /// The moment from which a packet waits on a path that is open up to the class; told while the class is active.
+    pub fn opens(&self) -> Option<u128>
+        ensures { result ≡ self.now.opens }
+    {
+        self.opens
+    }
+}
+
+/// The link-sharing curve; that of the root has no effect.
+fn share_of(class: &HfscClass) -> Option<Curve>
+    ensures { result ≡ share_of class.now }
+{
+    match class.parent {
+        None => None,
+        Some(_) => class.share,
+    }
+}
+
+/// A curve without an opening.
+fn running_of(curve: Option<Curve>) -> Option<Running>
+    requires { CanCarry curve }
+    ensures stands { RunningStands result curve [] }
+    ensures last { last_in result ≡ None }
+{
+    match curve {
+        None => None,
+        Some(curve) => Some(Running::new(curve)),
+    }
+}
+
+/// The curve with one opening more.
+fn begun(running: Option<Running>, at: u128, count: u128) -> Option<Running>
+    requires at { at < 2 ^ 80 }
+    requires count { count < 2 ^ 100 }
+    requires later { ForSome (last_in running) (λ last. (last.at ≤ at) × (last.count ≤ count)) }
+    ensures stands { (o : Option Curve) (os : List Opening) → RunningStands running o os → RunningStands result o (opening at count ∷ os) }
+    ensures last { last_in result ≡ (if is_some running then Some (opening at count) else None) }
+    ensures curve { is_some result ≡ is_some running }
+{
+    match running {
+        None => None,
+        Some(mut running) => {
+            running.begin(at, count);
+            Some(running)
+        }
+    }
+}
+
+/// The moment from which a limit lets a class of this total be served.
+fn limit_opens(limit: Option<Running>, total: u128) -> Option<u128>
+    requires total { total < 2 ^ 100 }
+    requires opened { IsOpen true limit }
+    ensures { (o : Option Curve) (os : List Opening) → RunningStands limit o os → result ≡ limit_opens o os total }
+{
+    match limit {
+        None => Some(0),
+        Some(limit) => limit.soonest(total),
+    }
+}
+
+/// The later of two moments, where `None` is never.
+fn later_of(a: Option<u128>, b: Option<u128>) -> Option<u128>
+    ensures { result ≡ later_of a b }
+{
+    match (a, b) {
+        (Some(x), Some(y)) => Some(x.max(y)),
+        _ => None,
+    }
+}
