@@ -1,14 +1,14 @@
 -- What is chosen is HFSC's choice, or the least moment at which a leaf may send.
-use Rattle.std.proofs.Common.{◌≡◌, ◌≤◌, ◌<◌, ◌⊎◌, inl, inr, ℕ, Bool, true, false, List, [], ◌∷◌, None, Some, refl, ap, sym, subst, arith, ◌∙◌}
-use Rattle.std.specs.Prelude.{Option, ◌||◌, IsSome, MatchOption, if◌then◌else◌}
+use Rattle.std.proofs.Common.{◌≡◌, ◌≤◌, ◌<◌, ◌⊎◌, inl, inr, ℕ, Bool, true, false, List, None, Some, refl, ap, sym, subst, arith, ◌∙◌}
+use Rattle.std.specs.Prelude.{Option, ◌||◌, IsSome, MatchOption}
 use Rattle.std.proofs.lemmas.Bool.Decides.{nat_tests}
 use Rattle.hfsc_model.specs.declared.HfscClass.{HfscClass}
 use Rattle.hfsc_model.specs.Event.{HfscHistory}
 use Rattle.hfsc_model.specs.Leaf.{leaf, is_waiting}
-use Rattle.hfsc_model.specs.RealTime.{curve_of, has_come, is_eligible, soonest_of, real_pick, IsEligible, IsRealPick, NoneIsEligible, IsOpenBy, AreOpenBy}
+use Rattle.hfsc_model.specs.RealTime.{curve_of, has_come, soonest_of, real_pick, IsEligible, IsRealPick, NoneIsEligible, AreOpenBy}
 use Rattle.hfsc_model.specs.Share.{active}
-use Rattle.hfsc_model.specs.Limit.{may_share, shares_under, share_pick, path_down}
-use Rattle.hfsc_model.specs.Choice.{Choice, by_real_time, by_share, choice, first_choice}
+use Rattle.hfsc_model.specs.Limit.{shares_under, share_pick, path_down}
+use Rattle.hfsc_model.specs.Choice.{by_real_time, by_share, choice, first_choice}
 use Rattle.hfsc_model.specs.Tree.{is_leaf, reals}
 use Rattle.hfsc_model.proofs.Soonest.{eligible_from_soonest}
 use Rattle.hfsc_laws.proofs.Picking.{computed, one_pick}
@@ -19,7 +19,7 @@ use Rattle.hfsc_policy.proofs.Paths.{IsSender, open_sender, real_sender, root_un
 use Rattle.hfsc_eligible.specs.Eligible.{IsLeastOf, pick_now as real_pick_now, soonest_now as real_soonest_now}
 use Rattle.hfsc_eligible.proofs.Picks.{pick_is_real, soonest_is_least}
 use Rattle.hfsc_share.specs.Classes.{IsSoonest}
-use Rattle.hfsc_share.specs.Shares.{last_wake, pick_now as share_pick_now, soonest_now as share_soonest_now}
+use Rattle.hfsc_share.specs.Shares.{pick_now as share_pick_now, soonest_now as share_soonest_now}
 use Rattle.hfsc_share.proofs.Picks.{pick_is, soonest_is}
 use Rattle.hfsc_core.specs.declared.chooser.Chooser.{Chooser}
 use Rattle.hfsc_core.specs.declared.chooser.Chosen.{Chosen}

@@ -1,4 +1,4 @@
-use Rattle.std.proofs.Common.{◌≡◌, ◌∙◌, ap, sym, subst, arith, ℕ, List, Bool, [], refl, length, map, Some}
+use Rattle.std.proofs.Common.{◌∙◌, ap, sym, arith, List, Bool, [], refl, length, map, Some}
 use Rattle.class_rows.specs.Rows.{holding, limit_at, limits_of, list_in}
 use Rattle.hfsc_model.specs.declared.HfscClass.{HfscClass}
 use Rattle.hfsc_model.specs.Tree.{is_leaf, numbers}

@@ -1,5 +1,5 @@
-use Rattle.std.proofs.Common.{◌≡◌, ◌≤◌, ◌<◌, ◌+◌, ◌-◌, ◌^◌, ◌∙◌, ◌∷◌, ap, sym, subst, ℕ, List, refl}
-use Rattle.altq_model.specs.History.{Happened, bare, is_kept}
+use Rattle.std.proofs.Common.{◌≤◌, ◌<◌, ◌+◌, ◌-◌, ◌^◌, ◌∙◌, ◌∷◌, sym, subst, List}
+use Rattle.altq_model.specs.History.{Happened, bare}
 use Rattle.altq_model.specs.Play.{IsOneOf}
 use Rattle.discipline_laws.specs.Laws.{IsAnswer, coming, offer_of}
 use Rattle.discipline_laws.specs.Moments.{IsOffer}
@@ -8,7 +8,7 @@ use Rattle.hfsc_policy.specs.Classes.{leaves}
 use Rattle.hfsc_policy.specs.Events.{hfsc_history}
 use Rattle.hfsc_core.specs.Chooser.{classes_of, woken_at}
 use Rattle.hfsc_core.specs.Hfsc.{Held, HfscStands, policy_of}
-use Rattle.hfsc_core.proofs.Standing.{hfsc_after, known_dropped, known_kept, known_of, may_keep, offer_dropped, offer_kept, place_high}
+use Rattle.hfsc_core.proofs.Standing.{hfsc_after, known_kept, known_of, may_keep, offer_dropped, offer_kept, place_high}
 use Rattle.hfsc_core.proofs.hfsc.HfscDiscipline.offer.Goals as goal
 
 pub head-requires-clause-high : goal.head-requires-clause-high

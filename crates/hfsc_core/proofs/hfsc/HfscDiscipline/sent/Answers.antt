@@ -1,4 +1,4 @@
-use Rattle.std.proofs.Common.{◌≡◌, ◌≤◌, ◌<◌, ◌+◌, ◌∙◌, ◌∷◌, ap, arith, sym, subst, ℕ, Bool, List, refl}
+use Rattle.std.proofs.Common.{◌≤◌, ◌∙◌, ◌∷◌, ap, arith, sym, subst, Bool, List, refl}
 use Rattle.altq_model.specs.History.{Happened, bare}
 use Rattle.discipline_laws.specs.Laws.{sent_of}
 use Rattle.discipline_laws.specs.Moments.{IsChoice}
