@@ -1,5 +1,5 @@
 -- No wait is longer than the units that were sent take at the least rate of a limit.
-use Rattle.std.proofs.Common.{◌≡◌, ◌≤◌, ◌<◌, ◌+◌, ◌-◌, ◌*◌, ◌^◌, ◌⊎◌, inl, inr, ℕ, max, Bool, true, false, List, [], ◌∷◌, None, Some, length, refl, ap, sym, subst, arith, ◌∙◌}
+use Rattle.std.proofs.Common.{◌≡◌, ◌≤◌, ◌<◌, ◌+◌, ◌-◌, ◌*◌, ◌^◌, ◌⊎◌, inl, inr, ℕ, Bool, true, false, List, [], ◌∷◌, None, Some, length, refl, arith}
 use Rattle.std.specs.Prelude.{Option, ◌&&◌, ◌||◌}
 use Rattle.std.specs.List.{list_all}
 use Rattle.std.proofs.lemmas.Bool.{cases_lt}
@@ -9,7 +9,6 @@ use Rattle.service_curve.proofs.Amounts.{mul_mono}
 use Rattle.runtime_curve.specs.declared.Opening.{Opening}
 use Rattle.runtime_curve.specs.Opening.{Reaches}
 use Rattle.runtime_curve.proofs.Reaching.{true_reaches}
-use Rattle.hfsc_model.specs.declared.HfscClass.{HfscClass}
 use Rattle.hfsc_model.specs.Event.{HfscHistory}
 use Rattle.hfsc_model.specs.Leaf.{leaf, is_waiting}
 use Rattle.hfsc_model.specs.RealTime.{curve_of, is_eligible, IsOpenBy}
@@ -17,7 +16,7 @@ use Rattle.hfsc_model.specs.Share.{total}
 use Rattle.hfsc_model.specs.Limit.{arrivals_of, within, is_within, is_open, may_share}
 use Rattle.hfsc_model.specs.Tree.{class_of, is_leaf, path, reals}
 use Rattle.hfsc_laws.proofs.Tree.{true_and}
-use Rattle.hfsc_policy.specs.Classes.{IsClassTree, IsLimit}
+use Rattle.hfsc_policy.specs.Classes.{IsLimit}
 use Rattle.hfsc_policy.proofs.Few.{are_few}
 use Rattle.hfsc_policy.proofs.Offers.{leaf_below}
 use Rattle.hfsc_policy.proofs.Paths.{IsSender}

@@ -1,14 +1,14 @@
 -- What is chosen is HFSC's choice, or the least moment at which a leaf may send.
-use Rattle.std.proofs.Common.{◌≡◌, ◌≤◌, ◌<◌, ◌⊎◌, inl, inr, ℕ, Bool, true, false, List, [], ◌∷◌, None, Some, refl, ap, sym, subst, arith, ◌∙◌}
-use Rattle.std.specs.Prelude.{Option, ◌||◌, IsSome, MatchOption, if◌then◌else◌}
+use Rattle.std.proofs.Common.{◌≡◌, ◌≤◌, ◌<◌, ◌⊎◌, inl, inr, ℕ, Bool, true, false, List, None, Some, refl, ap, sym, subst, arith, ◌∙◌}
+use Rattle.std.specs.Prelude.{Option, ◌||◌, IsSome, MatchOption}
 use Rattle.std.proofs.lemmas.Bool.Decides.{nat_tests}
 use Rattle.hfsc_model.specs.declared.HfscClass.{HfscClass}
 use Rattle.hfsc_model.specs.Event.{HfscHistory}
 use Rattle.hfsc_model.specs.Leaf.{leaf, is_waiting}
-use Rattle.hfsc_model.specs.RealTime.{curve_of, has_come, is_eligible, soonest_of, real_pick, IsEligible, IsRealPick, NoneIsEligible, IsOpenBy, AreOpenBy}
+use Rattle.hfsc_model.specs.RealTime.{curve_of, has_come, soonest_of, real_pick, IsEligible, IsRealPick, NoneIsEligible, AreOpenBy}
 use Rattle.hfsc_model.specs.Share.{active}
-use Rattle.hfsc_model.specs.Limit.{may_share, shares_under, share_pick, path_down}
-use Rattle.hfsc_model.specs.Choice.{Choice, by_real_time, by_share, choice, first_choice}
+use Rattle.hfsc_model.specs.Limit.{shares_under, share_pick, path_down}
+use Rattle.hfsc_model.specs.Choice.{by_real_time, by_share, choice, first_choice}
 use Rattle.hfsc_model.specs.Tree.{is_leaf, reals}
 use Rattle.hfsc_model.proofs.Soonest.{eligible_from_soonest}
 use Rattle.hfsc_laws.proofs.Picking.{computed, one_pick}
@@ -19,8 +19,8 @@ use Rattle.hfsc_policy.proofs.Paths.{IsSender, open_sender, real_sender, root_un
 use Rattle.hfsc_eligible.specs.Eligible.{IsLeastOf, pick_now as real_pick_now, soonest_now as real_soonest_now}
 use Rattle.hfsc_eligible.proofs.Picks.{pick_is_real, soonest_is_least}
 use Rattle.hfsc_share.specs.Classes.{IsSoonest}
-use Rattle.hfsc_share.specs.Shares.{last_wake, pick_now as share_pick_now, soonest_now as share_soonest_now}
-use Rattle.hfsc_share.proofs.A.{pick_is, soonest_is}
+use Rattle.hfsc_share.specs.Shares.{pick_now as share_pick_now, soonest_now as share_soonest_now}
+use Rattle.hfsc_share.proofs.Picks.{pick_is, soonest_is}
 use Rattle.hfsc_core.specs.declared.chooser.Chooser.{Chooser}
 use Rattle.hfsc_core.specs.declared.chooser.Chosen.{Chosen}
 use Rattle.hfsc_core.specs.declared.chooser.Chosen.TheVariants.{Real, Shared, Later, Nothing}
@@ -170,9 +170,10 @@ module _ (x : Chooser) (h : HfscHistory) (s : Stands x h) where
       next true e n =
           let picked = share_picked (classes_of x) h now e in
           let same = pick_is x.shares (classes_of x) h now s.share l ∙ picked in
-          subst (λ (o : Option ℕ). ChosenIs (classes_of x) h now (shared_or o (till (earlier_of (real_soonest_now x.eligible) (share_soonest_now x.shares))))) (sym same)
-          (ap (λ (p : Option ℕ). first_choice p (share_pick (classes_of x) h now)) (real_none now n) ∙ ap (λ (p : Option ℕ). first_choice None p) picked,
-          open_sender (classes_of x) h now s.tree e)
+          subst (λ (o : Option ℕ). ChosenIs (classes_of x) h now (shared_or o (till (earlier_of (real_soonest_now x.eligible) (share_soonest_now x.shares))))) (sym same) (
+            ap (λ (p : Option ℕ). first_choice p (share_pick (classes_of x) h now)) (real_none now n) ∙ ap (λ (p : Option ℕ). first_choice None p) picked,
+            open_sender (classes_of x) h now s.tree e,
+          )
       next false e n =
           let none : share_pick (classes_of x) h now ≡ None = rw e refl in
           let same = pick_is x.shares (classes_of x) h now s.share l ∙ none in

@@ -1,11 +1,10 @@
 -- What is due is the head of a list that HFSC chooses, or a wait till the least moment at which one may be sent.
-use Rattle.std.proofs.Common.{◌≡◌, ◌≤◌, ◌<◌, ℕ, Bool, true, false, List, [], ◌∷◌, None, Some, refl, ap, sym, subst, arith, ◌∙◌}
-use Rattle.std.specs.Prelude.{Option, ◌↔◌, slice_get}
+use Rattle.std.proofs.Common.{◌≡◌, ◌≤◌, ℕ, Bool, true, false, List, [], ◌∷◌, Some, refl, ap, sym, arith, ◌∙◌}
+use Rattle.std.specs.Prelude.{◌↔◌, slice_get}
 use Rattle.altq_model.specs.declared.Rule.{Rule}
 use Rattle.altq_model.specs.declared.Rule.TheVariants.{RealTime, Share}
 use Rattle.leaf_queue.specs.declared.node.Entry.{Entry}
-use Rattle.discipline_laws.specs.declared.pick.Pick.{Pick}
-use Rattle.discipline_laws.specs.declared.pick.Pick.TheVariants.{Send, Wait, Empty}
+use Rattle.discipline_laws.specs.declared.pick.Pick.TheVariants.{Empty}
 use Rattle.altq_model.specs.History.{Coming, Happened, bare, waiting}
 use Rattle.discipline_laws.specs.Laws.{IsLeast, NamesHead, Sends, Shows, Waits, seen, seen_of}
 use Rattle.hfsc_policy.specs.Events.{hfsc_history}
@@ -18,7 +17,7 @@ use Rattle.hfsc_policy.proofs.Paths.{IsSender}
 use Rattle.hfsc_core.specs.declared.chooser.Chooser.{Chooser}
 use Rattle.hfsc_core.specs.declared.chooser.Chosen.{Chosen}
 use Rattle.hfsc_core.specs.declared.chooser.Chosen.TheVariants.{Real, Shared, Later, Nothing}
-use Rattle.hfsc_core.specs.Chooser.{Stands, chosen_now, classes_of, woken_at}
+use Rattle.hfsc_core.specs.Chooser.{chosen_now, classes_of, woken_at}
 use Rattle.hfsc_core.specs.Hfsc.{Known, lens, lens_of, pick_of, send_head}
 use Rattle.hfsc_core.proofs.Choosing.{ChosenIs, IsIdle, IsLater, chosen_is}
 

@@ -1,10 +1,9 @@
 -- What both choices hold of a leaf.
 use Rattle.std.proofs.Common.{◌≡◌, ◌≤◌, ◌<◌, ◌+◌, ◌⊎◌, inl, inr, ℕ, zero, suc, Bool, true, false, List, [], ◌∷◌, None, Some, length, refl, ap, sym, subst, arith, ◌∙◌, get_or, eqb}
-use Rattle.std.specs.Prelude.{Option, ◌==◌, ◌&&◌, not, nat_lt, slice_get}
+use Rattle.std.specs.Prelude.{Option, ◌&&◌, not, nat_lt, slice_get}
 use Rattle.std.specs.Option.{option_eq}
 use Rattle.std.specs.List.{list_any, range_with_len}
-use Rattle.std.proofs.lemmas.Bool.{cases_eq, cases_lt}
-use Rattle.std.proofs.lemmas.Bool.Decides.{nat_tests}
+use Rattle.std.proofs.lemmas.Bool.{cases_eq}
 use Rattle.std.proofs.lemmas.Option.{slice_get-get_or}
 use Rattle.service_curve.specs.declared.Curve.{Curve}
 use Rattle.runtime_curve.specs.declared.Opening.{Opening}
@@ -17,12 +16,12 @@ use Rattle.hfsc_model.specs.Leaf.{Waiting, leaf, head_len, is_waiting}
 use Rattle.hfsc_model.specs.RealTime.{curve_of, IsOpenBy, AreOpenBy}
 use Rattle.hfsc_model.specs.Share.{waits_under, active}
 use Rattle.hfsc_model.specs.Tree.{no_class, class_of, is_number, is_child, is_leaf, is_parent, is_under, IsTree}
-use Rattle.hfsc_laws.proofs.Tree.{same_truth, and_true, true_and, IsAny, any_is, is_any, child_within, under_self, below_is}
+use Rattle.hfsc_laws.proofs.Tree.{same_truth, and_true, IsAny, any_is, is_any, child_within, under_self, below_is}
 use Rattle.hfsc_policy.proofs.Offers.{leaf_below, above_active}
 use Rattle.hfsc_eligible.specs.declared.Eligible.{Eligible}
 use Rattle.hfsc_eligible.specs.declared.slot.Slot.{Slot}
 use Rattle.hfsc_eligible.specs.Real.{last_in, RealStands}
-use Rattle.hfsc_eligible.specs.Slot.{SlotStands, last_opening}
+use Rattle.hfsc_eligible.specs.Slot.{SlotStands}
 use Rattle.hfsc_eligible.specs.Eligible.{StandsFor as HoldsReal, head_at, head_in, opening_at, opening_in}
 use Rattle.hfsc_eligible.proofs.Lists.{no_slot}
 use Rattle.hfsc_share.specs.declared.Shares.{Shares}

@@ -1,23 +1,22 @@
 -- Both choices stand for the longer history.
-use Rattle.std.proofs.Common.{◌≡◌, ◌≤◌, ◌<◌, ◌+◌, ◌^◌, ℕ, Bool, true, false, List, [], ◌∷◌, ◌++◌, None, Some, length, refl, ap, sym, subst, arith, ◌∙◌, drop}
+use Rattle.std.proofs.Common.{◌≡◌, ◌≤◌, ◌^◌, ℕ, Bool, true, false, List, [], ◌∷◌, Some, refl, ap, sym, subst, arith, ◌∙◌, drop}
 use Rattle.std.specs.Prelude.{Option, ◌==◌, not, is_some, if◌then◌else◌}
 use Rattle.std.proofs.lemmas.Bool.Decides.{nat_tests}
 use Rattle.ranking.proofs.Ranks.{same_test}
 use Rattle.runtime_curve.specs.declared.Opening.{Opening}
 use Rattle.hfsc_model.specs.declared.HfscClass.{HfscClass}
 use Rattle.hfsc_model.specs.Event.{HfscHistory, Kept, Sent}
-use Rattle.hfsc_model.specs.Leaf.{Leaf, Waiting, leaf, head_len, is_waiting, opened, after_kept, after_sent}
+use Rattle.hfsc_model.specs.Leaf.{Waiting, leaf, head_len, is_waiting, opened, after_kept, after_sent}
 use Rattle.hfsc_model.specs.RealTime.{IsOpenBy, AreOpenBy}
 use Rattle.hfsc_model.specs.Timely.{IsHead}
 use Rattle.hfsc_model.specs.Tree.{is_leaf, reals}
 use Rattle.hfsc_policy.specs.Classes.{IsClassTree}
-use Rattle.hfsc_policy.specs.Heads.{AreHeads, AreFew, IsSized, kept_in}
+use Rattle.hfsc_policy.specs.Heads.{AreHeads, kept_in}
 use Rattle.hfsc_policy.proofs.Few.{are_few, head_sized}
 use Rattle.hfsc_policy.proofs.Small.{counts_small, totals_small, times_small}
-use Rattle.hfsc_policy.proofs.Offers.{leaf_below}
 use Rattle.hfsc_eligible.specs.Eligible.{StandsFor as HoldsReal}
 use Rattle.hfsc_share.specs.Classes.{AreSmall}
-use Rattle.hfsc_share.specs.Shares.{StandsFor as HoldsShare, last_wake}
+use Rattle.hfsc_share.specs.Shares.{StandsFor as HoldsShare}
 use Rattle.hfsc_core.specs.declared.chooser.Chooser.{Chooser}
 use Rattle.hfsc_core.specs.Chooser.{MayKeep, MayLeave, Stands, classes_of, woken_at}
 

@@ -1,6 +1,6 @@
 -- The sending that is due is of a leaf that may send, of its head, and by its rule.
-use Rattle.std.proofs.Common.{◌≡◌, ◌≤◌, ◌<◌, ◌+◌, ℕ, Bool, true, false, List, [], ◌∷◌, None, Some, refl, ap, sym, subst, arith, ◌∙◌, drop}
-use Rattle.std.specs.Prelude.{Option, ◌==◌, slice_get, if◌then◌else◌}
+use Rattle.std.proofs.Common.{◌≡◌, ◌≤◌, ℕ, List, [], ◌∷◌, Some, refl, ap, sym, subst, arith, ◌∙◌, drop}
+use Rattle.std.specs.Prelude.{Option, slice_get}
 use Rattle.std.specs.Option.{option_map}
 use Rattle.ranking.proofs.Ranks.{same_test}
 use Rattle.altq_model.specs.declared.Rule.{Rule}
@@ -11,8 +11,7 @@ use Rattle.play_base.specs.declared.packet.Ticket.{Ticket}
 use Rattle.link_clock.specs.Clock.{Clock}
 use Rattle.leaf_queue.specs.declared.node.Entry.{Entry}
 use Rattle.leaf_queue.specs.Queue.{QueueEvent, Saying}
-use Rattle.discipline_laws.specs.declared.pick.Pick.{Pick}
-use Rattle.discipline_laws.specs.declared.pick.Pick.TheVariants.{Send, Wait, Empty}
+use Rattle.discipline_laws.specs.declared.pick.Pick.TheVariants.{Send}
 use Rattle.discipline_laws.specs.declared.pick.Sending.{Sending}
 use Rattle.discipline_laws.specs.Laws.{after_sent, sent_of}
 use Rattle.discipline_laws.specs.Moments.{IsChoice, IsOrderly, WasDue}

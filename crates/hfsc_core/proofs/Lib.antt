@@ -6,3 +6,4 @@ pub mod Bounds
 pub mod Policy
 pub mod Standing
 pub mod Leaving
+pub mod Building

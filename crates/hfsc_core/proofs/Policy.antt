@@ -1,16 +1,13 @@
 -- What is due is the policy's.
-use Rattle.std.proofs.Common.{◌≡◌, ◌≤◌, ◌<◌, ◌⊎◌, inl, inr, ℕ, min, max, Bool, true, false, List, [], ◌∷◌, None, Some, refl, ap, sym, subst, arith, ◌∙◌}
+use Rattle.std.proofs.Common.{◌≡◌, ◌≤◌, ◌<◌, ◌⊎◌, inl, inr, ℕ, Bool, true, false, List, [], ◌∷◌, None, Some, refl, ap, sym, subst, arith, ◌∙◌}
 use Rattle.std.specs.Prelude.{Option, slice_get, option_map}
 use Rattle.std.proofs.lemmas.Bool.{cases_lt}
 use Rattle.std.proofs.lemmas.Bool.Decides.{nat_tests}
-use Rattle.altq_model.specs.declared.Rule.TheVariants.{RealTime, Share}
 use Rattle.altq_model.specs.History.{Coming, Event, head}
 use Rattle.altq_model.specs.Play.{Policy, IsOneOf, lesser}
 use Rattle.altq_model.specs.Policies.{Answering}
 use Rattle.altq_model.specs.Lawful.{first_at, start_at}
 use Rattle.leaf_queue.specs.declared.node.Entry.{Entry}
-use Rattle.discipline_laws.specs.declared.pick.Pick.{Pick}
-use Rattle.discipline_laws.specs.declared.pick.Pick.TheVariants.{Send, Wait, Empty}
 use Rattle.discipline_laws.specs.Laws.{IsDue}
 use Rattle.hfsc_model.specs.declared.HfscClass.{HfscClass}
 use Rattle.hfsc_model.specs.Leaf.{leaf, is_waiting}
@@ -28,7 +25,7 @@ use Rattle.hfsc_policy.proofs.Timely.{first_one}
 use Rattle.hfsc_core.specs.declared.chooser.Chosen.{Chosen}
 use Rattle.hfsc_core.specs.declared.chooser.Chosen.TheVariants.{Real, Shared, Later, Nothing}
 use Rattle.hfsc_core.specs.Hfsc.{pick_of, send_head}
-use Rattle.hfsc_core.proofs.Choosing.{ChosenIs, IsIdle, IsLater}
+use Rattle.hfsc_core.proofs.Choosing.{ChosenIs, IsLater}
 
 -- the least of the starts
 first_least : (p : Policy) (t : ℕ) (h : List Event) (xs : List ℕ) (c m : ℕ) → IsOneOf c xs → start_at p t h c ≡ Some m
@@ -73,13 +70,15 @@ module _ (cs : List HfscClass) (answer : Answering) (h : List Event) (k : IsClas
       go (Some b) f g =
           let same : not_before t (send_from cs (hfsc_history h) c) ≡ u = cc in
           let l = one_leaf cs c i in
-          let w = head_waits c h b f in
-          (sym same, record {
-            is_leaf = l;
-            waits = w;
-            may = send_is cs (hfsc_history h) u c l w
-                ∙ subst (λ n. has_come (send_from cs (hfsc_history h) c) n ≡ true) same (from_come (send_from cs (hfsc_history h) c) t (send_there cs (hfsc_history h) c k));
-          })
+          let w = head_waits c h b f in (
+            sym same,
+            record {
+              is_leaf = l;
+              waits = w;
+              may = send_is cs (hfsc_history h) u c l w
+                  ∙ subst (λ n. has_come (send_from cs (hfsc_history h) c) n ≡ true) same (from_come (send_from cs (hfsc_history h) c) t (send_there cs (hfsc_history h) c k));
+            },
+          )
 
   start_of : (t u c : ℕ) → IsSender cs (hfsc_history h) u c → not_before t (send_from cs (hfsc_history h) c) ≡ u → start_at (hfsc_policy cs answer) t h c ≡ Some u
   start_of t u c s e =

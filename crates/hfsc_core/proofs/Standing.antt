@@ -1,30 +1,20 @@
 -- What a discipline stands for after an offer and after a sending.
-use Rattle.std.proofs.Common.{◌≡◌, ◌≤◌, ◌<◌, ◌+◌, ℕ, max, Bool, true, false, List, [], ◌∷◌, ◌++◌, None, Some, length, refl, ap, sym, subst, arith, ◌∙◌, drop}
+use Rattle.std.proofs.Common.{◌≡◌, ◌≤◌, ◌<◌, ◌+◌, ℕ, Bool, true, false, List, [], ◌∷◌, ◌++◌, length, refl, ap, sym, subst, arith, ◌∙◌, drop}
 use Rattle.std.specs.Prelude.{Option, ◌==◌, ◌&&◌, not, is_some, slice_get, if◌then◌else◌}
-use Rattle.std.specs.Option.{option_map}
-use Rattle.std.proofs.lemmas.Bool.Decides.{nat_tests}
-use Rattle.altq_model.specs.declared.Rule.{Rule}
-use Rattle.altq_model.specs.declared.Rule.TheVariants.{RealTime, Share}
 use Rattle.altq_model.specs.declared.Verdict.{Verdict}
-use Rattle.altq_model.specs.History.{Answer, Coming, DrawnWords, Event, Happened, Offered, bare, is_kept, offered, waiting, with_offer, without_head}
-use Rattle.altq_model.specs.Lawful.{latest}
+use Rattle.altq_model.specs.History.{Answer, Coming, DrawnWords, Happened, bare, is_kept, waiting}
 use Rattle.altq_model.specs.Play.{IsOneOf, Policy}
 use Rattle.altq_model.specs.Policies.{Answering}
 use Rattle.play_base.specs.declared.packet.Ticket.{Ticket}
 use Rattle.leaf_queue.specs.declared.node.Entry.{Entry}
 use Rattle.leaf_queue.specs.Queue.{QueueEvent, Saying}
-use Rattle.discipline_laws.specs.declared.pick.Pick.{Pick}
-use Rattle.discipline_laws.specs.declared.pick.Pick.TheVariants.{Send, Wait, Empty}
-use Rattle.discipline_laws.specs.declared.pick.Sending.{Sending}
-use Rattle.discipline_laws.specs.Laws.{IsAnswer, seen, seen_of, after_offer, after_sent, coming, entry, offer_of, sent_of}
-use Rattle.discipline_laws.specs.Moments.{IsChoice, IsOffer, IsOrderly}
-use Rattle.class_rows.specs.Rows.{Answers, Rowed, SameRow, Told, answering, classes_in, holding, list_in}
+use Rattle.discipline_laws.specs.Laws.{IsAnswer, seen, seen_of, after_offer, after_sent, coming, entry, offer_of}
+use Rattle.discipline_laws.specs.Moments.{IsOffer, IsOrderly}
+use Rattle.class_rows.specs.Rows.{Answers, Rowed, SameRow, answering, classes_in, holding, list_in}
 use Rattle.hfsc_model.specs.declared.HfscClass.{HfscClass}
 use Rattle.hfsc_model.specs.Event.{HfscHistory, Kept, Sent}
-use Rattle.hfsc_model.specs.Leaf.{Waiting, leaf, head_len, is_waiting, after_kept}
+use Rattle.hfsc_model.specs.Leaf.{Waiting, leaf, is_waiting, after_kept}
 use Rattle.hfsc_model.specs.Leaf.{after_sent as leaf_sent}
-use Rattle.hfsc_model.specs.Timely.{IsHead}
-use Rattle.hfsc_model.specs.Tree.{is_leaf}
 use Rattle.hfsc_policy.specs.Classes.{leaves}
 use Rattle.hfsc_policy.specs.Events.{hfsc_history, waits}
 use Rattle.hfsc_policy.proofs.Histories.{leaf_waits}
@@ -34,7 +24,7 @@ use Rattle.hfsc_policy.specs.Policy.{hfsc_policy}
 use Rattle.hfsc_policy.proofs.Lawful.{one_leaf}
 use Rattle.hfsc_policy.proofs.Offers.{leaf_below}
 use Rattle.hfsc_core.specs.declared.chooser.Chooser.{Chooser}
-use Rattle.hfsc_core.specs.Chooser.{MayKeep, MayLeave, Stands, classes_of, woken_at}
+use Rattle.hfsc_core.specs.Chooser.{MayKeep, Stands, classes_of, woken_at}
 use Rattle.hfsc_core.specs.Hfsc.{Held, HfscStands, IsHfsc, Known, lens, lens_of, policy_of}
 
 -- a leaf has a place in the row
@@ -127,7 +117,7 @@ may_keep x lists kept class at len o empty h k i f g z few later = record {
 }
 
 -- the lists of a history that a discipline stands for
-seen_lens : (xs : List Entry) (ws : List Coming) → seen xs ≡ seen_of ws → lens xs ≡ lens_of (waits ws)
+pub seen_lens : (xs : List Entry) (ws : List Coming) → seen xs ≡ seen_of ws → lens xs ≡ lens_of (waits ws)
 seen_lens [] [] e = refl
 seen_lens [] (a ∷ ws) e = absurd cc
 seen_lens (x ∷ xs) [] e = absurd cc

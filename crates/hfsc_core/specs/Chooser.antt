@@ -1,7 +1,7 @@
 -- Both choices of HFSC together: the histories that they stand for, and what is chosen.
-use Rattle.std.specs.Prelude.{◌≡◌, ◌≤◌, ◌<◌, ℕ, not, Bool, true, false, List, [], ◌∷◌, drop, Option, None, Some, All}
+use Rattle.std.specs.Prelude.{◌≡◌, ◌≤◌, ◌<◌, ℕ, not, Bool, true, false, List, [], drop, Option, None, Some, All}
 use Rattle.hfsc_model.specs.declared.HfscClass.{HfscClass}
-use Rattle.hfsc_model.specs.Event.{HfscHistory, Kept, Sent}
+use Rattle.hfsc_model.specs.Event.{HfscHistory}
 use Rattle.hfsc_model.specs.Leaf.{leaf, head_len, is_waiting}
 use Rattle.hfsc_model.specs.RealTime.{AreOpenBy}
 use Rattle.hfsc_model.specs.Timely.{IsHead}

@@ -4,6 +4,7 @@ ghost use Rattle.std.specs.Option.{option_map};
 ghost use Rattle.class_rows.specs.Rows.{IsNew, limit_at, limits_of, list_in};
 ghost use Rattle.leaf_queue.specs.Queue.{by_queues};
 ghost use Rattle.hfsc_model.specs.Tree.{is_leaf, numbers};
+ghost use Rattle.hfsc_policy.specs.Events.{is_real};
 ghost use Rattle.hfsc_policy.specs.Policy.{hfsc_policy};
 ghost use Rattle.hfsc_core.specs.Chooser.{MayBuild};
 ghost use Rattle.hfsc_core.specs.Hfsc.{Held, HfscStands, IsHfsc, MayAsk, due_of, pick_of, policy_of, send_head};
@@ -67,6 +68,16 @@ fn pick_of<Q: QueueRule + Drop>(rows: &Rows<Q>, chosen: Chosen) -> Pick
     }
 }
 
+// A packet sent by this rule counts for real time.
+fn is_real(rule: Rule) -> bool
+    ensures { result ≡ is_real rule }
+{
+    match rule {
+        Rule::RealTime => true,
+        Rule::Share | Rule::Own | Rule::Borrow => false,
+    }
+}
+
 // The length of the head of a class's list.
 fn head_len<Q: QueueRule + Drop>(rows: &Rows<Q>, class: u32) -> Option<u32>
     requires low { rows.now.first ≤ class }
@@ -84,11 +95,7 @@ impl<Q: QueueRule + Drop> Hfsc<Q> {
     /// or told yet and holds 1 to 10,000 packets. The first class is the root; every other has a link-sharing curve whose second
     /// slope is at least 1, and a class with children has no real-time curve. Both slopes of a limit are at least 1,000 bits per
     /// second. Takes all the memory that it will ever take; `NoMemory` comes only for want of it.
-    pub fn build(
-        alloc: Global,
-        classes: &[HfscClass],
-        queues: Vec<Q>,
-    ) -> Result<Hfsc<Q>, NoMemory>
+    pub fn build(alloc: Global, classes: &[HfscClass], queues: Vec<Q>) -> Result<Hfsc<Q>, NoMemory>
         requires count { length classes.now ≤ 256 }
         requires classes { MayBuild classes.now }
         requires one_each { length queues.items ≡ length classes.now }
@@ -167,7 +174,7 @@ impl<Q: QueueRule + Drop> Discipline for Hfsc<Q> {
 
     fn sent(&mut self, sending: Sending, _clock: &LinkClock) {
         self.rows.take(sending.class, sending.start);
-        let real = sending.rule == Rule::RealTime;
+        let real = is_real(sending.rule);
         let head = head_len(&self.rows, sending.class);
         self.chooser.sent(sending.class, sending.len, real, head);
     }

@@ -11,6 +11,3 @@ mod leaves;
 
 pub use hfsc::Hfsc;
 pub use hfsc_model::HfscClass;
-
-#[cfg(test)]
-mod tests;

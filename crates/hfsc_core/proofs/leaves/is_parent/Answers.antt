@@ -1,4 +1,4 @@
-use Rattle.std.proofs.Common.{◌∙◌, ap, arith, sym, refl}
+use Rattle.std.proofs.Common.{◌∙◌, arith, sym}
 use Rattle.hfsc_model.specs.Tree.{is_child}
 use Rattle.hfsc_laws.proofs.Tree.{is_any}
 use Rattle.hfsc_core.proofs.Held.{no_any, same_number}

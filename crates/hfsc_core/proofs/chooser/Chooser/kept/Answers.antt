@@ -1,6 +1,6 @@
-use Rattle.std.proofs.Common.{◌∙◌, ap, arith, sym, refl}
+use Rattle.std.proofs.Common.{◌∙◌, ap, arith, refl}
 use Rattle.std.specs.Prelude.{not}
-use Rattle.hfsc_model.specs.Leaf.{is_waiting, leaf}
+use Rattle.hfsc_model.specs.Leaf.{leaf}
 use Rattle.hfsc_model.specs.Tree.{reals}
 use Rattle.hfsc_policy.proofs.Offers.{leaf_below}
 use Rattle.hfsc_policy.proofs.Timely.{length_map}

@@ -1,4 +1,4 @@
-use Rattle.std.proofs.Common.{◌∙◌, ap, arith, sym, refl}
+use Rattle.std.proofs.Common.{◌∙◌, refl}
 use Rattle.hfsc_model.specs.Tree.{reals}
 use Rattle.hfsc_core.specs.Chooser.{classes_of}
 use Rattle.hfsc_core.proofs.Held.{active_is, no_child}

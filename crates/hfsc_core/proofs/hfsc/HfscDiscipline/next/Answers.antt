@@ -1,4 +1,4 @@
-use Rattle.std.proofs.Common.{◌≡◌, ◌≤◌, ◌∙◌, ap, sym, subst, ℕ, [], List}
+use Rattle.std.proofs.Common.{◌≡◌, ◌≤◌, ◌∙◌, ap, sym, subst, ℕ, []}
 use Rattle.std.specs.Prelude.{◌↔◌}
 use Rattle.altq_model.specs.History.{bare}
 use Rattle.discipline_laws.specs.declared.pick.Pick.{Pick}

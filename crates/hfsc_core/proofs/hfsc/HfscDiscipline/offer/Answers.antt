@@ -1,5 +1,5 @@
-use Rattle.std.proofs.Common.{◌≡◌, ◌≤◌, ◌<◌, ◌+◌, ◌-◌, ◌^◌, ◌∙◌, ◌∷◌, ap, sym, subst, ℕ, List, refl}
-use Rattle.altq_model.specs.History.{Happened, bare, is_kept}
+use Rattle.std.proofs.Common.{◌≤◌, ◌<◌, ◌+◌, ◌-◌, ◌^◌, ◌∙◌, ◌∷◌, sym, subst, List}
+use Rattle.altq_model.specs.History.{Happened, bare}
 use Rattle.altq_model.specs.Play.{IsOneOf}
 use Rattle.discipline_laws.specs.Laws.{IsAnswer, coming, offer_of}
 use Rattle.discipline_laws.specs.Moments.{IsOffer}
@@ -8,7 +8,7 @@ use Rattle.hfsc_policy.specs.Classes.{leaves}
 use Rattle.hfsc_policy.specs.Events.{hfsc_history}
 use Rattle.hfsc_core.specs.Chooser.{classes_of, woken_at}
 use Rattle.hfsc_core.specs.Hfsc.{Held, HfscStands, policy_of}
-use Rattle.hfsc_core.proofs.Standing.{hfsc_after, known_dropped, known_kept, known_of, may_keep, offer_dropped, offer_kept, place_high}
+use Rattle.hfsc_core.proofs.Standing.{hfsc_after, known_kept, known_of, may_keep, offer_dropped, offer_kept, place_high}
 use Rattle.hfsc_core.proofs.hfsc.HfscDiscipline.offer.Goals as goal
 
 pub head-requires-clause-high : goal.head-requires-clause-high
@@ -36,9 +36,11 @@ kept-requires g c =
     let k = c.self.invariant.known in
     let of = subst (λ (v : Held g.row.Q.Denot). IsOneOf c.args.class (leaves (classes_of v.chooser))) (sym c.self.view_is) c.requires.class in
     let later = subst (λ (v : Held g.row.Q.Denot). woken_at v.chooser ≤ c.args.now) (sym c.self.view_is) c.requires.later in
-    let few = subst (λ (v : Held g.row.Q.Denot). v.kept < 4000000) (sym c.self.view_is) c.requires.few in
-    (k.0, may_keep d.chooser (list_in d.rows) d.kept c.args.class c.args.now c.args.len c.head.result c.is_none-empty.result k.0 k.1 of c.head.ensures c.is_none-empty.ensures
-    (record { least = c.requires.least; most = c.requires.most }) few later)
+    let few = subst (λ (v : Held g.row.Q.Denot). v.kept < 4000000) (sym c.self.view_is) c.requires.few in (
+      k.0,
+      may_keep d.chooser (list_in d.rows) d.kept c.args.class c.args.now c.args.len c.head.result c.is_none-empty.result k.0 k.1 of c.head.ensures c.is_none-empty.ensures
+          (record { least = c.requires.least; most = c.requires.most }) few later,
+    )
 
 pub invariant_of-self-2 : goal.invariant_of-self-2
 invariant_of-self-2 g c =
@@ -50,9 +52,11 @@ invariant_of-self-2 g c =
     let may = may_keep d.chooser (list_in d.rows) d.kept c.args.class c.args.now c.args.len c.head.result c.is_none-empty.result k.0 k.1 of c.head.ensures c.is_none-empty.ensures
     (record { least = c.requires.least; most = c.requires.most }) few later in
     hfsc_after g.Q.QueueRule.most g.Q.QueueRule.says d.chooser c.kept.new.self d.rows c.offer-verdict.new.self d.kept (d.kept + 1) c.self.invariant c.offer-verdict.ensures.same
-    c.kept.ensures.classes
-    (_, known_kept d.chooser c.kept.new.self (list_in d.rows) (list_in c.offer-verdict.new.self) d.kept c.args.class c.args.now _ c.offer-verdict.result k.0 k.1
-    (sym c.is_kept.ensures ∙ c.if-not-is_kept.false) c.offer-verdict.ensures.lists (c.kept.ensures.stands k.0 may))
+    c.kept.ensures.classes (
+      _,
+      known_kept d.chooser c.kept.new.self (list_in d.rows) (list_in c.offer-verdict.new.self) d.kept c.args.class c.args.now _ c.offer-verdict.result k.0 k.1
+          (sym c.is_kept.ensures ∙ c.if-not-is_kept.false) c.offer-verdict.ensures.lists (c.kept.ensures.stands k.0 may),
+    )
 
 pub returns-clause-history : goal.returns-clause-history
 returns-clause-history g c =

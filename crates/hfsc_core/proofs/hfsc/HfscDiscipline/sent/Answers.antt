@@ -1,11 +1,12 @@
-use Rattle.std.proofs.Common.{◌≡◌, ◌≤◌, ◌<◌, ◌+◌, ◌∙◌, ◌∷◌, ap, arith, sym, subst, ℕ, List, refl}
+use Rattle.std.proofs.Common.{◌≤◌, ◌∙◌, ◌∷◌, ap, arith, sym, subst, Bool, List, refl}
 use Rattle.altq_model.specs.History.{Happened, bare}
 use Rattle.discipline_laws.specs.Laws.{sent_of}
 use Rattle.discipline_laws.specs.Moments.{IsChoice}
 use Rattle.class_rows.specs.Rows.{list_in}
 use Rattle.hfsc_policy.specs.Events.{hfsc_history}
 use Rattle.hfsc_policy.proofs.Lawful.{leaf_one}
-use Rattle.hfsc_core.specs.Chooser.{chosen_now, classes_of, woken_at}
+use Rattle.hfsc_model.specs.Event.{Sent as Went}
+use Rattle.hfsc_core.specs.Chooser.{Stands, chosen_now, classes_of, woken_at}
 use Rattle.hfsc_core.specs.Hfsc.{Held, HfscStands, due_of}
 use Rattle.hfsc_core.proofs.Choosing.{chosen_is}
 use Rattle.hfsc_core.proofs.Leaving.{may_leave, sent_is, sent_of_due, sent_stands}
@@ -48,4 +49,19 @@ invariant_of-self g c =
     (_, known_sent d.chooser c.sent.new.self (list_in d.rows) (list_in c.take.new.self) d.kept s.class s.len s.start _ k.0 k.1 c.take.ensures.lists (c.sent.ensures.stands k.0 s.start may))
 
 pub returns-clause-history : goal.returns-clause-history
-returns-clause-history g c = ?
+returns-clause-history g c =
+    let i = c.self.inside in
+    let s = c.args.sending in
+    let later = subst (λ (v : Held g.row.Q.Denot). woken_at v.chooser ≤ s.start) (sym c.self.view_is) c.requires.later in
+    let due = ap (λ (v : Held g.row.Q.Denot). due_of v s.start) c.self.view_is ∙ c.requires.due in
+    let d : Held g.row.Q.Denot = record { chooser = i.chooser; rows = i.rows; kept = i.kept } in
+    let P : Held g.row.Q.Denot → Type 0 = λ v. (h : List Happened) → HfscStands g.Q.QueueRule.stands g.Q.QueueRule.says v h → IsChoice s.start c.args._clock.now (bare h)
+    → HfscStands g.Q.QueueRule.stands g.Q.QueueRule.says (record { chooser = c.sent.new.self; rows = c.take.new.self; kept = i.kept }) (sent_of s ∷ h) in
+    subst P c.self.view_is (λ h k o.
+    let x = sent_of_due g.Q.QueueRule.stands g.Q.QueueRule.says g.Q.QueueRule.most d h s k later due in
+    let known = known_of g.Q.QueueRule.stands g.Q.QueueRule.says g.Q.QueueRule.most d h k in
+    let may = may_leave i.chooser (list_in i.rows) (list_in c.take.new.self) i.kept s.start s.class s.len s.rule c.head_len-head.result (hfsc_history (bare h)) known x
+    (c.take.ensures.lists s.class) c.head_len-head.ensures in
+    sent_stands g.Q.QueueRule.stands g.Q.QueueRule.says g.Q.QueueRule.most d c.sent.new.self c.take.new.self h c.args._clock.now s c.take.ensures.same k
+    (c.take.ensures.told h k.told _ _ refl refl) o x c.sent.ensures.classes c.sent.ensures.woken
+    (subst (λ (b : Bool). Stands c.sent.new.self (Went s.class s.len b s.start ∷ hfsc_history (bare h))) c.is_real-real.ensures (c.sent.ensures.stands (hfsc_history (bare h)) s.start may)))
