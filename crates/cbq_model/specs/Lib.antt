@@ -1,0 +1,4 @@
+pub mod Choice
+pub mod Rounds
+pub mod Rows
+pub mod Tree

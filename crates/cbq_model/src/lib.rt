@@ -1,0 +1,24 @@
+//! The definitions of CBQ, in specs/, and the class that they speak of.
+//!
+//! CBQ keeps an average of how far each class is from its rate. A class that is not ahead of it may send, and one that is may
+//! borrow from a class above it that is not. Of the classes that may send those of the greatest priority go first, and among
+//! them weighted rounds decide. The source is Floyd and Jacobson, "Link-sharing and resource management models for packet
+//! networks", IEEE/ACM Transactions on Networking 3(4), 1995.
+#![tactic(auto)]
+
+mod rows;
+
+pub use rows::worked_examples;
+
+/// A class of CBQ: its parent, `None` for the root; its rate in bits per second, 1,000 to 10^12; its priority, 0 to 7, the greatest of
+/// which goes first; whether it may borrow from its parent; and how many packets, 1 to 1,000, of how many bytes, 1 to 262,144, it
+/// may send in a burst.
+#[derive(Clone, Copy, Debug, PartialEq, Eq)]
+pub struct CbqClass {
+    pub parent: Option<u32>,
+    pub rate: u64,
+    pub priority: u8,
+    pub borrow: bool,
+    pub maxburst: u32,
+    pub packetsize: u32,
+}
