@@ -1,0 +1,4 @@
+pub mod Least
+pub mod Lawful
+pub mod Members
+pub mod Places

@@ -6,8 +6,10 @@
 //! networks", IEEE/ACM Transactions on Networking 3(4), 1995.
 #![tactic(auto)]
 
+mod laws;
 mod rows;
 
+pub use laws::cbq_is_lawful;
 pub use rows::worked_examples;
 
 /// A class of CBQ: its parent, `None` for the root; its rate in bits per second, 1,000 to 10^12; its priority, 0 to 7, the greatest of
