@@ -1,4 +1,6 @@
-pub mod Least
+pub mod Capped
 pub mod Lawful
+pub mod Least
 pub mod Members
 pub mod Places
+pub mod PlayedSendings

@@ -1,3 +1,4 @@
+pub mod Capped
 pub mod Choice
 pub mod Rounds
 pub mod Rows

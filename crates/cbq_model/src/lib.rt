@@ -9,7 +9,7 @@
 mod laws;
 mod rows;
 
-pub use laws::cbq_is_lawful;
+pub use laws::{cbq_is_lawful, class_keeps_its_rate};
 pub use rows::worked_examples;
 
 /// A class of CBQ: its parent, `None` for the root; its rate in bits per second, 1,000 to 10^12; its priority, 0 to 7, the greatest of
