@@ -1,12 +1,11 @@
 -- A class that does not borrow keeps its rate.
-use Rattle.std.proofs.Common.{◌≡◌, ◌≢◌, ◌≤◌, ◌<◌, ◌+◌, ◌-◌, ◌*◌, ◌∙◌, inl, inr, ℕ, zero, suc, Bool, true, false, List, [], ◌∷◌, ◌++◌, None, Some, length, refl, ap, sym, subst, arith, max, eqb}
+use Rattle.std.proofs.Common.{◌≡◌, ◌≢◌, ◌≤◌, ◌<◌, ◌+◌, ◌-◌, ◌*◌, ◌∙◌, ℕ, zero, suc, Bool, true, false, List, [], ◌∷◌, ◌++◌, None, Some, length, refl, ap, sym, subst, arith, max, eqb}
 use Rattle.std.specs.declared.option.Option.{Option}
-use Rattle.std.specs.Prelude.{◌||◌, if◌then◌else◌, unwrap_or, is_none}
+use Rattle.std.specs.Prelude.{◌||◌, if◌then◌else◌, unwrap_or}
 use Rattle.std.specs.List.{list_any}
-use Rattle.std.proofs.lemmas.Bool.{cases_eq, eq-eqb, ne_eqb, eqb-true}
-use Rattle.altq_model.specs.declared.Rule.{Rule}
+use Rattle.std.proofs.lemmas.Bool.{eq-eqb, ne_eqb, eqb-true}
 use Rattle.altq_model.specs.declared.Rule.TheVariants.{Own, Borrow}
-use Rattle.altq_model.specs.History.{Event, Offered, Sent, Transmission, head}
+use Rattle.altq_model.specs.History.{Event, Offered, Sent, Transmission}
 use Rattle.altq_model.specs.Link.{end_of, link}
 use Rattle.altq_model.specs.Play.{Choice}
 use Rattle.play_base.specs.Units.{time_of, units}
@@ -18,8 +17,8 @@ use Rattle.cbq_estimator.specs.Now.{allows_now, estimate_of}
 use Rattle.cbq_estimator.specs.Starts.{allows}
 use Rattle.cbq_estimator.proofs.Rises.{keeps}
 use Rattle.cbq_model.specs.declared.CbqClass.{CbqClass}
-use Rattle.cbq_model.specs.Tree.{class_of, is_root, is_under, no_class, pace_of, path_up}
-use Rattle.cbq_model.specs.Choice.{Situation, allows_in, choice_of, estimate_in, head_in, picked}
+use Rattle.cbq_model.specs.Tree.{class_of, is_root, is_under, pace_of, path_up}
+use Rattle.cbq_model.specs.Choice.{Situation, allows_in, estimate_in, head_in, picked}
 use Rattle.cbq_model.specs.Rounds.{ends, situation}
 use Rattle.cbq_model.specs.Capped.{AreOwn, AreSendings, IsBottom, IsSending, IsStretch, KeepsItsRate, longest, sent_by}
 use Rattle.cbq_model.proofs.Lawful.{head_len}
@@ -66,7 +65,7 @@ own_allowed cs rate h s i own =
     let class : picked cs rate x s.start ≡ s.class = ap (λ (k : Choice). k.class) i.choice in
     let rule : (if allows_head cs rate x s.start (picked cs rate x s.start) then Own else Borrow) ≡ Own = ap (λ (k : Choice). k.rule) i.choice ∙ own in
     let here : allows_head cs rate x s.start s.class ≡ true =
-        ap (allows_head cs rate x s.start) (sym class) ∙ rule_own (allows_head cs rate x s.start (picked cs rate x s.start)) rule in
+    ap (allows_head cs rate x s.start) (sym class) ∙ rule_own (allows_head cs rate x s.start (picked cs rate x s.start)) rule in
     let front : head_in x s.class ≡ Some s.len = head_len cs rate h s.class i.packet i.held i.front ∙ ap (λ (n : ℕ). Some n) (sym i.len) in
     ap (λ (o : Option ℕ). allows_in cs rate x s.class s.start (unwrap_or o 0)) (sym front) ∙ here
 
@@ -84,7 +83,7 @@ allowed_by_ends cs rate h s c b i e own =
     let Q : ℕ → Type 0 = λ d. d < length cs in
     let place : c < length cs = subst Q e (is_below s.class cs i.held) in
     let known : estimate_in x c ≡ estimate_of (pace_of (class_of cs c)) (sent_by c h) =
-        estimate_is cs rate h c place ∙ ap (estimate_of (pace_of (class_of cs c))) (own_ends cs c h b) in
+    estimate_is cs rate h c place ∙ ap (estimate_of (pace_of (class_of cs c))) (own_ends cs c h b) in
     ap (λ (t : ℕ). allows_now (estimate_of (pace_of (class_of cs c)) (sent_by c h)) t s.len) i.end
     ∙ ap (λ (k : Estimate). allows_now k (end_of rate x.link s.start s.len) s.len) (sym known) ∙ now
 
@@ -157,12 +156,12 @@ keeps_its_rate cs rate c last between first before some own_rate s =
     let newest : sent_by c (Sent last ∷ between) ≡ e ∷ es = sent_one c last between s.of_last in
     let oldest : sent_by c (Sent first ∷ before) ≡ b ∷ older = sent_one c first before s.of_first in
     let all : sent_by c (Sent last ∷ between ++ Sent first ∷ before) ≡ e ∷ es ++ b ∷ older =
-        sent_after c (Sent last ∷ between) (Sent first ∷ before)
-        ∙ ap (λ (xs : List Ended). xs ++ sent_by c (Sent first ∷ before)) newest ∙ ap (λ (xs : List Ended). (e ∷ es) ++ xs) oldest in
+    sent_after c (Sent last ∷ between) (Sent first ∷ before)
+    ∙ ap (λ (xs : List Ended). xs ++ sent_by c (Sent first ∷ before)) newest ∙ ap (λ (xs : List Ended). (e ∷ es) ++ xs) oldest in
     let order : IsInOrder (e ∷ es ++ b ∷ older) = subst IsInOrder all (up_to cs rate c (Sent last ∷ between ++ Sent first ∷ before) some s.sendings).order in
     let A : List Ended → Type 0 = λ xs. AreAllowed p xs (sent_by c (Sent first ∷ before)) in
     let B : List Ended → Type 0 = λ xs. AreAllowed p (e ∷ es) xs in
     let allowed : AreAllowed p (e ∷ es) (b ∷ older) =
-        subst B oldest (subst A newest (are_allowed cs rate c (Sent last ∷ between) (Sent first ∷ before) s.bottom s.sendings s.own)) in
+    subst B oldest (subst A newest (are_allowed cs rate c (Sent last ∷ between) (Sent first ∷ before) s.bottom s.sendings s.own)) in
     let K : List Ended → Type 0 = λ xs. 31 * units (bytes xs) ≤ p.rate * (32 * (last.end - first.end) + 31 * (p.cap + time_of (longest xs) p.rate)) in
     subst K (sym newest) (keeps p (longest (e ∷ es)) e es b older own_rate order allowed (at_most (e ∷ es)))

@@ -1,5 +1,5 @@
 -- CBQ is a policy by when a class may send.
-use Rattle.std.proofs.Common.{◌≡◌, ◌≤◌, ◌<◌, ◌+◌, ◌∙◌, inl, inr, ℕ, Bool, true, false, List, [], ◌∷◌, None, Some, length, refl, ap, sym, subst, arith, eqb}
+use Rattle.std.proofs.Common.{◌≡◌, ◌<◌, ◌∙◌, ℕ, true, List, ◌∷◌, None, Some, length, refl, ap, sym, subst, arith, eqb}
 use Rattle.std.specs.declared.option.Option.{Option}
 use Rattle.std.specs.Prelude.{option_map, IsTrue}
 use Rattle.std.proofs.lemmas.Bool.{eq-eqb}
@@ -14,7 +14,7 @@ use Rattle.cbq_model.specs.Tree.{class_of, numbers}
 use Rattle.cbq_model.specs.Choice.{Situation, able, candidates, cursor_in, head_in, may, may_send, may_with, of_priority, picked, rounds, start_of, start_with, top_priority}
 use Rattle.cbq_model.specs.Rounds.{cbq, situation}
 use Rattle.cbq_model.proofs.Least.{send_is}
-use Rattle.cbq_model.proofs.Members.{IsKept, first_is_one, has_top, in_ring, kept, of_ring, was_kept}
+use Rattle.cbq_model.proofs.Members.{first_is_one, has_top, in_ring, kept, of_ring, was_kept}
 use Rattle.cbq_model.proofs.Places.{at_place, is_below}
 
 abbrev length_of : Option Coming → Option ℕ
@@ -59,7 +59,7 @@ module _ (cs : List CbqClass) (rate : ℕ) (answer : Answering) where
       let top = has_top cs c ready m in
       let p : ℕ = top_priority cs ready in
       let one : IsOneOf top.class (of_priority cs p ready) =
-          kept (λ d. eqb (class_of cs d).priority p) top.class ready top.there (eq-eqb (class_of cs top.class).priority p top.top) in
+      kept (λ d. eqb (class_of cs d).priority p) top.class ready top.there (eq-eqb (class_of cs top.class).priority p top.top) in
       let k : ℕ = cursor_in cs rate x s in
       of_ring k (picked cs rate x s) (of_priority cs p ready) (first_is_one (rounds cs rate x) top.class _ (in_ring k top.class (of_priority cs p ready) one))
 

@@ -1,11 +1,9 @@
 -- The least moment at which a class may send.
-use Rattle.std.proofs.Common.{◌≡◌, ◌≤◌, ◌<◌, ◌+◌, ◌∙◌, ◌⊎◌, inl, inr, ℕ, Bool, true, false, List, [], ◌∷◌, length, refl, ap, sym, subst, arith}
-use Rattle.std.specs.Prelude.{◌||◌, nat_lt, if◌then◌else◌}
-use Rattle.std.specs.List.{list_any}
+use Rattle.std.proofs.Common.{◌≡◌, ◌≤◌, ◌<◌, inl, inr, ℕ, Bool, true, false, List, [], ◌∷◌, length, refl, sym, subst, arith}
+use Rattle.std.specs.Prelude.{◌||◌, if◌then◌else◌}
 use Rattle.std.proofs.lemmas.Bool.{cases_lt}
 use Rattle.altq_model.specs.History.{Event}
-use Rattle.altq_model.specs.Link.{Link, end_of, link}
-use Rattle.altq_model.specs.Play.{IsOneOf}
+use Rattle.altq_model.specs.Link.{Link, end_of}
 use Rattle.cbq_estimator.specs.Average.{Pace, Ended}
 use Rattle.cbq_estimator.specs.Estimate.{Estimate}
 use Rattle.cbq_estimator.specs.Now.{allows_now, estimate_of}
@@ -33,10 +31,10 @@ of_ends : (cs : List CbqClass) (rate : ℕ) (h : List Event) (c : ℕ) → IsOfE
 of_ends cs rate h c = elim (cases_lt c (length cs)) [
   | inl l ↦ record { pace = pace_of (class_of cs c); history = ends cs c h; is = estimate_is cs rate h c l }
   | inr l ↦ record {
-      pace = pace_of no_class;
-      history = [];
-      is = past_place (λ d k. estimate_of (pace_of k) (ends cs d h)) cs c (estimate_of (pace_of no_class) []) l;
-    }
+    pace = pace_of no_class;
+    history = [];
+    is = past_place (λ d k. estimate_of (pace_of k) (ends cs d h)) cs c (estimate_of (pace_of no_class) []) l;
+  }
 ]
 
 -- a moment is the least from t on at which an average allows a packet
@@ -78,7 +76,7 @@ pub own_is : (cs : List CbqClass) (rate : ℕ) (h : List Event) (t len c : ℕ) 
 own_is cs rate h t len c some =
     let s : Situation = situation cs rate h in
     let x = own_by rate s.link (estimate_in s c) t len (is_root cs c)
-        (least_allowed_is (estimate_in s c) rate s.link t len some (link_ends rate h some) (of_ends cs rate h c)) in
+    (least_allowed_is (estimate_in s c) rate s.link t len some (link_ends rate h some) (of_ends cs rate h c)) in
     record { from = x.0; allowed = x.1; least = x.2 }
 
 -- of a class and those that may lend to it

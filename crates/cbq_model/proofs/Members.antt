@@ -1,13 +1,12 @@
 -- Members of lists: what a filter keeps, what a ring holds, and which of them is the least.
-use Rattle.std.proofs.Common.{◌≡◌, ◌≤◌, ◌<◌, ◌+◌, ◌∙◌, ◌⊎◌, inl, inr, ℕ, Bool, true, false, List, [], ◌∷◌, ◌++◌, refl, ap, sym, subst, arith, max, min}
-use Rattle.std.specs.Prelude.{nat_eq, nat_le, nat_lt, ◌||◌, cond}
+use Rattle.std.proofs.Common.{◌≡◌, ◌≤◌, ◌<◌, ◌∙◌, ◌⊎◌, inl, inr, ℕ, Bool, true, false, List, [], ◌∷◌, ◌++◌, refl, ap, sym, arith}
+use Rattle.std.specs.Prelude.{nat_le, nat_lt, ◌||◌, cond}
 use Rattle.std.specs.List.{filter, list_any}
-use Rattle.std.proofs.lemmas.Bool.{eqb-true, eq-eqb}
 use Rattle.std.proofs.lemmas.Bool.Decides.{nat_tests}
 use Rattle.altq_model.specs.Play.{IsOneOf}
 use Rattle.cbq_model.specs.declared.CbqClass.{CbqClass}
 use Rattle.cbq_model.specs.Tree.{class_of}
-use Rattle.cbq_model.specs.Choice.{first_least, first_least_of, least_of, of_priority, ring_from, top_priority}
+use Rattle.cbq_model.specs.Choice.{first_least, first_least_of, least_of, ring_from, top_priority}
 
 pub kept_by : (test : ℕ → Bool) (x : ℕ) (xs : List ℕ) (b : Bool) → test x ≡ b → (c : ℕ) → test c ≡ true → (x ≡ c) ⊎ IsOneOf c (filter test xs)
     → IsOneOf c (cond b (x ∷ filter test xs) (filter test xs))

@@ -1,9 +1,9 @@
 -- The sendings of a play of CBQ.
-use Rattle.std.proofs.Common.{◌≡◌, ◌≤◌, ◌<◌, ◌∙◌, ◌⊎◌, inl, inr, ℕ, List, [], ◌∷◌, ap, sym, subst}
+use Rattle.std.proofs.Common.{◌≡◌, ◌<◌, ◌∙◌, ◌⊎◌, inl, inr, ℕ, List, [], ◌∷◌, ap, sym, subst}
 use Rattle.altq_model.specs.declared.Rule.{Rule}
-use Rattle.altq_model.specs.History.{Coming, Event, Offered, Sent, Transmission, Happened, bare}
+use Rattle.altq_model.specs.History.{Coming, Event, Happened, bare}
 use Rattle.altq_model.specs.Lawful.{AreRising}
-use Rattle.altq_model.specs.Link.{HasLinkEnds, link}
+use Rattle.altq_model.specs.Link.{HasLinkEnds}
 use Rattle.altq_model.specs.Play.{AreDue, Choice}
 use Rattle.altq_model.specs.Policies.{Answering}
 use Rattle.play_laws.specs.Events.{EachFollows, IsOffer, IsSending}

@@ -1,5 +1,5 @@
 -- What a class that does not borrow may send: no more than its rate carries in the time, a burst ahead.
-use Rattle.std.specs.Prelude.{◌≡◌, ◌≢◌, ◌≤◌, ◌<◌, ◌==◌, ◌+◌, ◌-◌, ◌*◌, ◌++◌, ℕ, max, false, List, [], ◌∷◌, Some, if◌then◌else◌}
+use Rattle.std.specs.Prelude.{◌≡◌, ◌≢◌, ◌≤◌, ◌==◌, ◌+◌, ◌-◌, ◌*◌, ◌++◌, ℕ, max, false, List, [], ◌∷◌, Some, if◌then◌else◌}
 use Rattle.altq_model.specs.declared.Rule.TheVariants.{Own}
 use Rattle.altq_model.specs.History.{Coming, Event, Offered, Sent, Transmission, head}
 use Rattle.altq_model.specs.Link.{end_of, link}

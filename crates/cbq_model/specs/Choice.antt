@@ -1,12 +1,11 @@
 -- Which class sends, and when one may (Floyd and Jacobson 1995, "Link-sharing and resource management models for packet networks"):
 -- of the classes that may send those of the greatest priority, and of these the one that needs the fewest weighted rounds.
-use Rattle.std.specs.Prelude.{◌≡◌, ◌==◌, ◌+◌, ◌-◌, ℕ, min, max, nat_le, nat_lt, Bool, false, ◌||◌, List, [], ◌∷◌, ◌++◌, get_or, Option, None, Some, unwrap_or, if◌then◌else◌, int_lt, pos}
+use Rattle.std.specs.Prelude.{◌==◌, ◌+◌, ◌-◌, ℕ, min, max, nat_le, nat_lt, Bool, false, ◌||◌, List, [], ◌∷◌, ◌++◌, get_or, Option, None, Some, unwrap_or, if◌then◌else◌, int_lt, pos}
 use Rattle.std.specs.List.{filter, list_any}
 use Rattle.altq_model.specs.declared.Rule.TheVariants.{Own, Borrow}
 use Rattle.altq_model.specs.Link.{Link, end_of}
 use Rattle.altq_model.specs.Play.{Choice}
 use Rattle.play_base.specs.Units.{ceil_div, time_of}
-use Rattle.cbq_estimator.specs.Average.{Ended}
 use Rattle.cbq_estimator.specs.Estimate.{Estimate}
 use Rattle.cbq_estimator.specs.Now.{allows_now, estimate_of, wanted_now}
 use Rattle.cbq_model.specs.declared.CbqClass.{CbqClass}

@@ -1,5 +1,5 @@
 -- What follows from a history of sendings: averages, credits, the cursors of the rings, and so what a choice looks at.
-use Rattle.std.specs.Prelude.{◌≡◌, ◌==◌, ◌+◌, ◌-◌, ◌*◌, ℕ, Bool, List, [], ◌∷◌, get_or, Option, None, Some, is_none, option_map, replicate, slice_set, if◌then◌else◌}
+use Rattle.std.specs.Prelude.{◌==◌, ◌+◌, ◌-◌, ◌*◌, ℕ, Bool, List, [], ◌∷◌, Option, is_none, option_map, replicate, slice_set, if◌then◌else◌}
 use Rattle.std.specs.List.{list_any}
 use Rattle.altq_model.specs.History.{Coming, Event, Offered, Sent, Transmission, head}
 use Rattle.altq_model.specs.Link.{link}

@@ -1,5 +1,5 @@
 -- The tree of the classes. Exactly the first class has no parent: it is the root. Every other parent stands earlier in the file.
-use Rattle.std.specs.Prelude.{◌≡◌, ◌<◌, ◌==◌, ◌+◌, ◌*◌, ℕ, zero, suc, max, Bool, false, is_none, List, [], ◌∷◌, get_or, Option, None, Some, if◌then◌else◌}
+use Rattle.std.specs.Prelude.{◌==◌, ◌+◌, ◌*◌, ℕ, zero, suc, max, Bool, false, is_none, List, [], ◌∷◌, get_or, Option, None, Some, if◌then◌else◌}
 use Rattle.std.specs.List.{list_any}
 use Rattle.play_base.specs.Units.{ceil_div}
 use Rattle.cbq_estimator.specs.Average.{Pace, cap_of}
