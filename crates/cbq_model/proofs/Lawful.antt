@@ -1,8 +1,7 @@
 -- CBQ is a policy by when a class may send.
-use Rattle.std.proofs.Common.{◌≡◌, ◌<◌, ◌∙◌, ℕ, true, List, ◌∷◌, None, Some, length, refl, ap, sym, subst, arith, eqb}
+use Rattle.std.proofs.Common.{◌≡◌, ◌<◌, ◌∙◌, ℕ, true, List, ◌∷◌, None, Some, length, refl, ap, sym, subst, arith}
 use Rattle.std.specs.declared.option.Option.{Option}
-use Rattle.std.specs.Prelude.{option_map, IsTrue}
-use Rattle.std.proofs.lemmas.Bool.{eq-eqb}
+use Rattle.std.specs.Prelude.{option_map, unwrap_or, IsTrue}
 use Rattle.altq_model.specs.History.{Coming, Answer, DrawnWords, Event, Offered, head}
 use Rattle.altq_model.specs.Lawful.{IsCandidate, IsHead, IsLawful, IsSteady, SendsWhen}
 use Rattle.altq_model.specs.Play.{IsOneOf, Policy}
@@ -10,11 +9,12 @@ use Rattle.altq_model.specs.Policies.{Answering}
 use Rattle.play_laws.proofs.TimeLemmas.{head_stays}
 use Rattle.play_laws.proofs.LawfulLemmas.{when_lawful, when_steady}
 use Rattle.cbq_model.specs.declared.CbqClass.{CbqClass}
-use Rattle.cbq_model.specs.Tree.{class_of, numbers}
-use Rattle.cbq_model.specs.Choice.{Situation, able, candidates, cursor_in, head_in, may, may_send, may_with, of_priority, picked, rounds, start_of, start_with, top_priority}
+use Rattle.cbq_model.specs.Tree.{numbers}
+use Rattle.cbq_model.specs.Choice.{Situation, able, head_in, may, may_send, may_with, picked, start_of, start_with}
 use Rattle.cbq_model.specs.Rounds.{cbq, situation}
 use Rattle.cbq_model.proofs.Least.{send_is}
-use Rattle.cbq_model.proofs.Members.{first_is_one, has_top, in_ring, kept, of_ring, was_kept}
+use Rattle.cbq_model.proofs.Best.{best_of}
+use Rattle.cbq_model.proofs.Members.{kept, was_kept}
 use Rattle.cbq_model.proofs.Places.{at_place, is_below}
 
 abbrev length_of : Option Coming → Option ℕ
@@ -52,16 +52,12 @@ module _ (cs : List CbqClass) (rate : ℕ) (answer : Answering) where
   able_is h s c k = kept (λ d. may cs rate (situation cs rate h) d s) c (numbers cs) k.head.held k.may
 
   picked_is : (h : List Event) (s c : ℕ) → IsOneOf c (able cs rate (situation cs rate h) s)
-      → IsOneOf (picked cs rate (situation cs rate h) s) (candidates cs rate (situation cs rate h) s)
+      → IsOneOf (picked cs rate (situation cs rate h) s) (able cs rate (situation cs rate h) s)
   picked_is h s c m =
       let x : Situation = situation cs rate h in
-      let ready : List ℕ = able cs rate x s in
-      let top = has_top cs c ready m in
-      let p : ℕ = top_priority cs ready in
-      let one : IsOneOf top.class (of_priority cs p ready) =
-      kept (λ d. eqb (class_of cs d).priority p) top.class ready top.there (eq-eqb (class_of cs top.class).priority p top.top) in
-      let k : ℕ = cursor_in cs rate x s in
-      of_ring k (picked cs rate x s) (of_priority cs p ready) (first_is_one (rounds cs rate x) top.class _ (in_ring k top.class (of_priority cs p ready) one))
+      let one = best_of cs rate x c (able cs rate x s) m in
+      let P : ℕ → Type 0 = λ d. IsOneOf d (able cs rate x s) in
+      subst P (ap (λ (o : Option ℕ). unwrap_or o 0) (sym one.is)) one.there
 
   -- a class that may send has a head
   has_head : (h : List Event) (s c : ℕ) (o : Option Coming) → IsOneOf c (numbers cs) → head c h ≡ o
@@ -75,8 +71,7 @@ module _ (cs : List CbqClass) (rate : ℕ) (answer : Answering) where
       let x : Situation = situation cs rate h in
       let d : ℕ = picked cs rate x s in
       let one = picked_is h s c (able_is h s c k) in
-      let ready = was_kept (λ e. eqb (class_of cs e).priority (top_priority cs (able cs rate x s))) d (able cs rate x s) one in
-      let may_now = was_kept (λ e. may cs rate x e s) d (numbers cs) ready.there in
+      let may_now = was_kept (λ e. may cs rate x e s) d (numbers cs) one in
       let P : Option ℕ → Type 0 = λ o. may_with cs rate x d s o ≡ true in
       has_head h s d (head d h) may_now.there refl (subst P (head_is cs rate h d (is_below d cs may_now.there)) may_now.passes) may_now.passes
 

@@ -1,3 +1,4 @@
+pub mod Best
 pub mod Capped
 pub mod Lawful
 pub mod Least

@@ -1,12 +1,10 @@
--- Members of lists: what a filter keeps, what a ring holds, and which of them is the least.
-use Rattle.std.proofs.Common.{◌≡◌, ◌≤◌, ◌<◌, ◌∙◌, ◌⊎◌, inl, inr, ℕ, Bool, true, false, List, [], ◌∷◌, ◌++◌, refl, ap, sym, arith}
-use Rattle.std.specs.Prelude.{nat_le, nat_lt, ◌||◌, cond}
+-- Members of lists: what a filter keeps, which pass a test, and which is the least.
+use Rattle.std.proofs.Common.{◌≡◌, ◌≤◌, ◌<◌, ◌∙◌, ◌⊎◌, inl, inr, ℕ, Bool, true, false, List, [], ◌∷◌, refl, ap, sym, arith}
+use Rattle.std.specs.Prelude.{nat_le, ◌||◌, cond}
 use Rattle.std.specs.List.{filter, list_any}
 use Rattle.std.proofs.lemmas.Bool.Decides.{nat_tests}
 use Rattle.altq_model.specs.Play.{IsOneOf}
-use Rattle.cbq_model.specs.declared.CbqClass.{CbqClass}
-use Rattle.cbq_model.specs.Tree.{class_of}
-use Rattle.cbq_model.specs.Choice.{first_least, first_least_of, least_of, ring_from, top_priority}
+use Rattle.cbq_model.specs.Choice.{least_of}
 
 pub kept_by : (test : ℕ → Bool) (x : ℕ) (xs : List ℕ) (b : Bool) → test x ≡ b → (c : ℕ) → test c ≡ true → (x ≡ c) ⊎ IsOneOf c (filter test xs)
     → IsOneOf c (cond b (x ∷ filter test xs) (filter test xs))
@@ -32,73 +30,6 @@ was_kept_by test x xs false c e m f = record { there = inr (f m).there; passes =
 pub was_kept : (test : ℕ → Bool) (c : ℕ) (xs : List ℕ) → IsOneOf c (filter test xs) → IsKept test c xs
 was_kept test c [] m = absurd m
 was_kept test c (x ∷ xs) m = was_kept_by test x xs (test x) c refl m (λ n. was_kept test c xs n)
-
-pub on_left : (c : ℕ) (xs ys : List ℕ) → IsOneOf c xs → IsOneOf c (xs ++ ys)
-on_left c [] ys m = absurd m
-on_left c (x ∷ xs) ys (inl e) = inl e
-on_left c (x ∷ xs) ys (inr m) = inr (on_left c xs ys m)
-
-pub on_right : (c : ℕ) (xs ys : List ℕ) → IsOneOf c ys → IsOneOf c (xs ++ ys)
-on_right c [] ys m = m
-on_right c (x ∷ xs) ys m = inr (on_right c xs ys m)
-
-pub on_one : (c : ℕ) (xs ys : List ℕ) → IsOneOf c (xs ++ ys) → IsOneOf c xs ⊎ IsOneOf c ys
-on_one c [] ys m = inr m
-on_one c (x ∷ xs) ys (inl e) = inl (inl e)
-on_one c (x ∷ xs) ys (inr m) = elim (on_one c xs ys m) [ inl n ↦ inl (inr n) | inr n ↦ inr n ]
-
--- a ring has the same members
-in_ring_by : (k c : ℕ) (xs : List ℕ) (b : Bool) → nat_le k c ≡ b → IsOneOf c xs → IsOneOf c (ring_from k xs)
-in_ring_by k c xs true e m = on_left c (filter (λ d. nat_le k d) xs) (filter (λ d. nat_lt d k) xs) (kept (λ d. nat_le k d) c xs m e)
-in_ring_by k c xs false e m =
-    let low : nat_lt c k ≡ true = grind (arith, nat_tests) in
-    on_right c (filter (λ d. nat_le k d) xs) (filter (λ d. nat_lt d k) xs) (kept (λ d. nat_lt d k) c xs m low)
-
-pub in_ring : (k c : ℕ) (xs : List ℕ) → IsOneOf c xs → IsOneOf c (ring_from k xs)
-in_ring k c xs m = in_ring_by k c xs (nat_le k c) refl m
-
-pub of_ring : (k c : ℕ) (xs : List ℕ) → IsOneOf c (ring_from k xs) → IsOneOf c xs
-of_ring k c xs m = elim (on_one c (filter (λ d. nat_le k d) xs) (filter (λ d. nat_lt d k) xs) m) [
-  | inl n ↦ (was_kept (λ d. nat_le k d) c xs n).there
-  | inr n ↦ (was_kept (λ d. nat_lt d k) c xs n).there
-]
-
--- the first of the least is one of them
-best_by : (f : ℕ → ℕ) (best c : ℕ) (cs : List ℕ) (b : Bool) → IsOneOf (first_least f c cs) (c ∷ cs) → IsOneOf (first_least f best cs) (best ∷ cs)
-    → IsOneOf (cond b (first_least f c cs) (first_least f best cs)) (best ∷ c ∷ cs)
-best_by f best c cs true m n = inr m
-best_by f best c cs false m (inl e) = inl e
-best_by f best c cs false m (inr n) = inr (inr n)
-
-best_is_one : (f : ℕ → ℕ) (best : ℕ) (cs : List ℕ) → IsOneOf (first_least f best cs) (best ∷ cs)
-best_is_one f best [] = inl refl
-best_is_one f best (c ∷ cs) = best_by f best c cs (nat_lt (f c) (f best)) (best_is_one f c cs) (best_is_one f best cs)
-
-pub first_is_one : (f : ℕ → ℕ) (c : ℕ) (cs : List ℕ) → IsOneOf c cs → IsOneOf (first_least_of f cs) cs
-first_is_one f c [] m = m
-first_is_one f c (x ∷ xs) m = best_is_one f x xs
-
--- some class has the greatest priority
-pub record HasTop (cs : List CbqClass) (classes : List ℕ) : Type 0 where
-  pub class : ℕ
-  pub there : IsOneOf class classes
-  pub top : (class_of cs class).priority ≡ top_priority cs classes
-
-top_by : (cs : List CbqClass) (c d : ℕ) (rest : List ℕ) (b : Bool) → nat_le (class_of cs c).priority (class_of cs d).priority ≡ b → IsOneOf d rest
-    → (class_of cs d).priority ≡ top_priority cs rest → HasTop cs (c ∷ rest)
-top_by cs c d rest true e m t =
-    let le : (class_of cs c).priority ≤ (class_of cs d).priority = grind (arith, nat_tests) in
-    record { class = d; there = inr m; top = omega (arith, le, t) }
-top_by cs c d rest false e m t =
-    let lt : (class_of cs d).priority < (class_of cs c).priority = grind (arith, nat_tests) in
-    record { class = c; there = inl refl; top = omega (arith, lt, t) }
-
-pub has_top : (cs : List CbqClass) (c : ℕ) (classes : List ℕ) → IsOneOf c classes → HasTop cs classes
-has_top cs c [] m = absurd m
-has_top cs c (d ∷ []) m = record { class = d; there = inl refl; top = omega arith }
-has_top cs c (d ∷ e ∷ rest) m =
-    let t = has_top cs e (e ∷ rest) (inl refl) in
-    top_by cs d t.class (e ∷ rest) (nat_le (class_of cs d).priority (class_of cs t.class).priority) refl t.there t.top
 
 -- some member passes a test
 pub record HasOne (test : ℕ → Bool) (xs : List ℕ) : Type 0 where

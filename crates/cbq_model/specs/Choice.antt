@@ -1,6 +1,6 @@
 -- Which class sends, and when one may (Floyd and Jacobson 1995, "Link-sharing and resource management models for packet networks"):
 -- of the classes that may send those of the greatest priority, and of these the one that needs the fewest weighted rounds.
-use Rattle.std.specs.Prelude.{◌==◌, ◌+◌, ◌-◌, ℕ, min, max, nat_le, nat_lt, Bool, false, ◌||◌, List, [], ◌∷◌, ◌++◌, get_or, Option, None, Some, unwrap_or, if◌then◌else◌, int_lt, pos}
+use Rattle.std.specs.Prelude.{◌==◌, ◌+◌, ◌-◌, ℕ, min, max, nat_le, nat_lt, Bool, true, false, ◌||◌, ◌&&◌, List, [], ◌∷◌, get_or, Option, None, Some, unwrap_or, if◌then◌else◌, int_lt, pos}
 use Rattle.std.specs.List.{filter, list_any}
 use Rattle.altq_model.specs.declared.Rule.TheVariants.{Own, Borrow}
 use Rattle.altq_model.specs.Link.{Link, end_of}
@@ -73,18 +73,6 @@ start_of cs rate s c t = start_with cs rate s c t (head_in s c)
 abbrev pub able : List CbqClass → (rate : ℕ) → Situation → (t : ℕ) → List ℕ
 able cs rate s t = filter (λ c. may cs rate s c t) (numbers cs)
 
--- the greatest priority among classes
-abbrev pub top_priority : List CbqClass → List ℕ → ℕ
-top_priority cs [] = 0
-top_priority cs (c ∷ rest) = max (class_of cs c).priority (top_priority cs rest)
-
--- the candidates: those of them whose priority is the greatest among them
-abbrev pub of_priority : List CbqClass → (p : ℕ) → List ℕ → List ℕ
-of_priority cs p classes = filter (λ c. (class_of cs c).priority == p) classes
-
-abbrev pub candidates : List CbqClass → (rate : ℕ) → Situation → (t : ℕ) → List ℕ
-candidates cs rate s t = of_priority cs (top_priority cs (able cs rate s t)) (able cs rate s t)
-
 -- how many rounds a class needs until its credit pays for a packet
 abbrev pub rounds_for : (credit quantum len : ℕ) → ℕ
 rounds_for credit quantum len = ceil_div (len - credit) quantum
@@ -92,25 +80,47 @@ rounds_for credit quantum len = ceil_div (len - credit) quantum
 abbrev pub rounds : List CbqClass → (rate : ℕ) → Situation → (c : ℕ) → ℕ
 rounds cs rate s c = rounds_for (credit_in s c) (quantum_of rate (class_of cs c)) (unwrap_or (head_in s c) 0)
 
--- classes in the order of their ring, beginning at the cursor
-abbrev pub ring_from : (cursor : ℕ) → List ℕ → List ℕ
-ring_from cursor classes = filter (λ c. nat_le cursor c) classes ++ filter (λ c. nat_lt c cursor) classes
+-- what decides between classes: the priority, the rounds that they need, and the order of their ring from the cursor on, in which those
+-- that stand before the cursor in the file come last
+pub record Rank : Type 0 where
+  pub priority : ℕ
+  pub rounds : ℕ
+  pub wraps : Bool
+  pub class : ℕ
 
--- the first of classes for which a number is the least
-abbrev pub first_least : (ℕ → ℕ) → (best : ℕ) → List ℕ → ℕ
-first_least f best [] = best
-first_least f best (c ∷ cs) = if nat_lt (f c) (f best) then first_least f c cs else first_least f best cs
+abbrev pub rank_in : List CbqClass → (rate : ℕ) → Situation → (c : ℕ) → Rank
+rank_in cs rate s c =
+    let p = (class_of cs c).priority in
+    record { priority = p; rounds = rounds cs rate s c; wraps = nat_lt c (get_or s.cursors p 0); class = c }
 
-abbrev pub first_least_of : (ℕ → ℕ) → List ℕ → ℕ
-first_least_of f [] = 0
-first_least_of f (c ∷ cs) = first_least f c cs
+abbrev pub before_in_ring : (a b : Rank) → Bool
+before_in_ring a b = if a.wraps then b.wraps && nat_lt a.class b.class else (b.wraps || nat_lt a.class b.class)
 
--- the class that sends: the candidate that needs the fewest rounds, a tie going to the first in the ring from the cursor
-abbrev pub cursor_in : List CbqClass → (rate : ℕ) → Situation → (t : ℕ) → ℕ
-cursor_in cs rate s t = get_or s.cursors (top_priority cs (able cs rate s t)) 0
+-- the greater priority goes first, then the fewer rounds, then the ring
+abbrev pub goes_before : (a b : Rank) → Bool
+goes_before a b =
+    if nat_lt b.priority a.priority then true
+    else if nat_lt a.priority b.priority then false
+    else if nat_lt a.rounds b.rounds then true
+    else if nat_lt b.rounds a.rounds then false
+    else before_in_ring a b
 
+-- the first among classes, where this one is the first of those before them
+abbrev pub better : List CbqClass → (rate : ℕ) → Situation → Option ℕ → ℕ → Option ℕ
+better cs rate s None c = Some c
+better cs rate s (Some b) c = if goes_before (rank_in cs rate s c) (rank_in cs rate s b) then Some c else Some b
+
+abbrev pub best : List CbqClass → (rate : ℕ) → Situation → Option ℕ → List ℕ → Option ℕ
+best cs rate s o [] = o
+best cs rate s o (c ∷ rest) = best cs rate s (better cs rate s o c) rest
+
+-- the class that sends
 abbrev pub picked : List CbqClass → (rate : ℕ) → Situation → (t : ℕ) → ℕ
-picked cs rate s t = first_least_of (rounds cs rate s) (ring_from (cursor_in cs rate s t) (candidates cs rate s t))
+picked cs rate s t = unwrap_or (best cs rate s None (able cs rate s t)) 0
+
+-- the candidates: those that may send and have its priority
+abbrev pub candidates : List CbqClass → (rate : ℕ) → Situation → (t : ℕ) → List ℕ
+candidates cs rate s t = filter (λ c. (class_of cs c).priority == (class_of cs (picked cs rate s t)).priority) (able cs rate s t)
 
 -- it sends as its own what it allows itself, and else borrows
 abbrev pub choice_of : List CbqClass → (rate : ℕ) → Situation → (t : ℕ) → Choice
