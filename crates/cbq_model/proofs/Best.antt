@@ -5,7 +5,8 @@ use Rattle.std.specs.Prelude.{if◌then◌else◌}
 use Rattle.std.proofs.lemmas.Bool.Decides.{nat_tests}
 use Rattle.altq_model.specs.Play.{IsOneOf}
 use Rattle.cbq_model.specs.declared.CbqClass.{CbqClass}
-use Rattle.cbq_model.specs.Choice.{Rank, Situation, best, goes_before, rank_in}
+use Rattle.cbq_model.specs.declared.Rank.{Rank}
+use Rattle.cbq_model.specs.Choice.{Situation, best, goes_before, rank_in}
 
 -- the order is transitive, and no class goes before itself
 pub before_trans : (a b c : Rank) → goes_before a b ≡ true → goes_before b c ≡ true → goes_before a c ≡ true
@@ -24,10 +25,10 @@ behind_by a b c true e f g = let h : goes_before b c ≡ true = before_trans b a
 behind_by a b c false e f g = e
 
 -- the first of a class and the rest is one of them, and none of them goes before it
-pub record Leads (cs : List CbqClass) (rate : ℕ) (s : Situation) (b : ℕ) (rest : List ℕ) (o : Option ℕ) : Type 0 where
+pub record Leads (cs : List CbqClass) (rate : ℕ) (s : Situation) (b : ℕ) (rest : List ℕ) (o : Option Rank) : Type 0 where
   pub one : ℕ
   pub there : IsOneOf one (b ∷ rest)
-  pub is : o ≡ Some one
+  pub is : o ≡ Some (rank_in cs rate s one)
   pub first : (d : ℕ) → IsOneOf d (b ∷ rest) → goes_before (rank_in cs rate s d) (rank_in cs rate s one) ≡ false
 
 module _ (cs : List CbqClass) (rate : ℕ) (s : Situation) where
@@ -55,7 +56,7 @@ module _ (cs : List CbqClass) (rate : ℕ) (s : Situation) where
   with_one b c one rest (inr m) = inr (inr m)
 
   leads_by : (b c : ℕ) (rest : List ℕ) (t : Bool) → goes_before (r c) (r b) ≡ t
-      → ((d : ℕ) → Leads cs rate s d rest (best cs rate s (Some d) rest)) → Leads cs rate s b (c ∷ rest) (best cs rate s (if t then Some c else Some b) rest)
+      → ((d : ℕ) → Leads cs rate s d rest (best cs rate s (Some (r d)) rest)) → Leads cs rate s b (c ∷ rest) (best cs rate s (if t then Some (r c) else Some (r b)) rest)
   leads_by b c rest true e f =
       let x = f c in
       record { one = x.one; there = inr x.there; is = x.is; first = λ d m. behind_new b c x.one d rest e x.first m }
@@ -67,7 +68,7 @@ module _ (cs : List CbqClass) (rate : ℕ) (s : Situation) where
   behind_self b d (inl same) = subst (IsBehind b) same (not_before_itself (r b))
   behind_self b d (inr m) = absurd m
 
-  pub leads : (b : ℕ) (rest : List ℕ) → Leads cs rate s b rest (best cs rate s (Some b) rest)
+  pub leads : (b : ℕ) (rest : List ℕ) → Leads cs rate s b rest (best cs rate s (Some (r b)) rest)
   leads b [] = record { one = b; there = inl refl; is = refl; first = λ d m. behind_self b d m }
   leads b (c ∷ rest) = leads_by b c rest (goes_before (r c) (r b)) refl (λ d. leads d rest)
 
@@ -75,7 +76,7 @@ module _ (cs : List CbqClass) (rate : ℕ) (s : Situation) where
 pub record IsBest (cs : List CbqClass) (rate : ℕ) (s : Situation) (classes : List ℕ) : Type 0 where
   pub one : ℕ
   pub there : IsOneOf one classes
-  pub is : best cs rate s None classes ≡ Some one
+  pub is : best cs rate s None classes ≡ Some (rank_in cs rate s one)
   pub first : (d : ℕ) → IsOneOf d classes → goes_before (rank_in cs rate s d) (rank_in cs rate s one) ≡ false
 
 pub best_of : (cs : List CbqClass) (rate : ℕ) (s : Situation) (c : ℕ) (classes : List ℕ) → IsOneOf c classes → IsBest cs rate s classes

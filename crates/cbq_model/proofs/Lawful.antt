@@ -10,7 +10,7 @@ use Rattle.play_laws.proofs.TimeLemmas.{head_stays}
 use Rattle.play_laws.proofs.LawfulLemmas.{when_lawful, when_steady}
 use Rattle.cbq_model.specs.declared.CbqClass.{CbqClass}
 use Rattle.cbq_model.specs.Tree.{numbers}
-use Rattle.cbq_model.specs.Choice.{Situation, able, head_in, may, may_send, may_with, picked, start_of, start_with}
+use Rattle.cbq_model.specs.Choice.{Situation, able, class_in, head_in, may, may_send, may_with, picked, start_of, start_with}
 use Rattle.cbq_model.specs.Rounds.{cbq, situation}
 use Rattle.cbq_model.proofs.Least.{send_is}
 use Rattle.cbq_model.proofs.Best.{best_of}
@@ -57,7 +57,7 @@ module _ (cs : List CbqClass) (rate : ℕ) (answer : Answering) where
       let x : Situation = situation cs rate h in
       let one = best_of cs rate x c (able cs rate x s) m in
       let P : ℕ → Type 0 = λ d. IsOneOf d (able cs rate x s) in
-      subst P (ap (λ (o : Option ℕ). unwrap_or o 0) (sym one.is)) one.there
+      subst P (ap class_in (sym one.is)) one.there
 
   -- a class that may send has a head
   has_head : (h : List Event) (s c : ℕ) (o : Option Coming) → IsOneOf c (numbers cs) → head c h ≡ o

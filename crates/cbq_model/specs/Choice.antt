@@ -9,6 +9,7 @@ use Rattle.play_base.specs.Units.{ceil_div, time_of}
 use Rattle.cbq_estimator.specs.Estimate.{Estimate}
 use Rattle.cbq_estimator.specs.Now.{allows_now, estimate_of, wanted_now}
 use Rattle.cbq_model.specs.declared.CbqClass.{CbqClass}
+use Rattle.cbq_model.specs.declared.Rank.{Rank}
 use Rattle.cbq_model.specs.Tree.{class_of, is_root, lenders, no_class, numbers, pace_of, quantum_of}
 
 -- what a choice looks at: of each class its average and last end, the length of its head and its credit in bytes; of each priority the
@@ -82,12 +83,6 @@ rounds cs rate s c = rounds_for (credit_in s c) (quantum_of rate (class_of cs c)
 
 -- what decides between classes: the priority, the rounds that they need, and the order of their ring from the cursor on, in which those
 -- that stand before the cursor in the file come last
-pub record Rank : Type 0 where
-  pub priority : ℕ
-  pub rounds : ℕ
-  pub wraps : Bool
-  pub class : ℕ
-
 abbrev pub rank_in : List CbqClass → (rate : ℕ) → Situation → (c : ℕ) → Rank
 rank_in cs rate s c =
     let p = (class_of cs c).priority in
@@ -105,18 +100,22 @@ goes_before a b =
     else if nat_lt b.rounds a.rounds then false
     else before_in_ring a b
 
--- the first among classes, where this one is the first of those before them
-abbrev pub better : List CbqClass → (rate : ℕ) → Situation → Option ℕ → ℕ → Option ℕ
-better cs rate s None c = Some c
-better cs rate s (Some b) c = if goes_before (rank_in cs rate s c) (rank_in cs rate s b) then Some c else Some b
+-- the first by that order of what was first so far and of some classes
+abbrev pub better : Option Rank → Rank → Option Rank
+better None a = Some a
+better (Some b) a = if goes_before a b then Some a else Some b
 
-abbrev pub best : List CbqClass → (rate : ℕ) → Situation → Option ℕ → List ℕ → Option ℕ
+abbrev pub best : List CbqClass → (rate : ℕ) → Situation → Option Rank → List ℕ → Option Rank
 best cs rate s o [] = o
-best cs rate s o (c ∷ rest) = best cs rate s (better cs rate s o c) rest
+best cs rate s o (c ∷ rest) = best cs rate s (better o (rank_in cs rate s c)) rest
+
+abbrev pub class_in : Option Rank → ℕ
+class_in None = 0
+class_in (Some a) = a.class
 
 -- the class that sends
 abbrev pub picked : List CbqClass → (rate : ℕ) → Situation → (t : ℕ) → ℕ
-picked cs rate s t = unwrap_or (best cs rate s None (able cs rate s t)) 0
+picked cs rate s t = class_in (best cs rate s None (able cs rate s t))
 
 -- the candidates: those that may send and have its priority
 abbrev pub candidates : List CbqClass → (rate : ℕ) → Situation → (t : ℕ) → List ℕ

@@ -6,6 +6,9 @@
 //! networks", IEEE/ACM Transactions on Networking 3(4), 1995.
 #![tactic(auto)]
 
+ghost use Rattle.std.specs.Prelude.{◌≡◌};
+ghost use Rattle.cbq_model.specs.Choice.{goes_before};
+
 mod laws;
 mod rows;
 
@@ -23,4 +26,32 @@ pub struct CbqClass {
     pub borrow: bool,
     pub maxburst: u32,
     pub packetsize: u32,
+}
+
+/// What decides between classes that may send.
+#[derive(Clone, Copy, Debug, PartialEq, Eq)]
+pub struct Rank {
+    pub priority: u8,
+    /// How many rounds the class needs until its credit pays for its head.
+    pub rounds: u64,
+    /// Whether it stands before the cursor of its ring in the file, and so comes after those that do not.
+    pub wraps: bool,
+    pub class: u32,
+}
+
+impl Rank {
+    /// Whether a class of this rank goes before one of another: by the greater priority, then by the fewer rounds, then by the ring.
+    pub fn goes_before(self, other: Rank) -> bool
+        ensures { result ≡ goes_before self other }
+    {
+        if self.priority != other.priority {
+            self.priority > other.priority
+        } else if self.rounds != other.rounds {
+            self.rounds < other.rounds
+        } else if self.wraps {
+            other.wraps && self.class < other.class
+        } else {
+            other.wraps || self.class < other.class
+        }
+    }
 }
