@@ -1,0 +1,10 @@
+//! CBQ as a queueing discipline.
+//!
+//! Classes that are not ahead of their rates send by themselves, others by a loan from a class above them. Among those that may
+//! send the greatest priority goes first, and weighted rounds share the link within a priority. After Floyd and Jacobson 1995.
+#![tactic(auto)]
+
+mod sharing;
+
+pub use cbq_model::CbqClass;
+pub use discipline_laws::{Discipline, Pick, Rule, Sending, Verdict};
