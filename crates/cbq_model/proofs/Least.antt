@@ -38,12 +38,12 @@ of_ends cs rate h c = elim (cases_lt c (length cs)) [
 ]
 
 -- a moment is the least from t on at which an average allows a packet
-record IsLeastAllowed (e : Estimate) (rate : ℕ) (l : Link) (t len start : ℕ) : Type 0 where
+pub record IsLeastAllowed (e : Estimate) (rate : ℕ) (l : Link) (t len start : ℕ) : Type 0 where
   pub from : t ≤ start
   pub allowed : allows_now e (end_of rate l start len) len ≡ true
   pub least : (u : ℕ) → t ≤ u → allows_now e (end_of rate l u len) len ≡ true → start ≤ u
 
-least_or : (u start : ℕ) (b : Bool) → b ≡ true → (u < start → b ≡ false) → start ≤ u
+pub least_or : (u start : ℕ) (b : Bool) → b ≡ true → (u < start → b ≡ false) → start ≤ u
 least_or u start b e f = elim (cases_lt u start) [ inl l ↦ let no = f l in absurd (cc) | inr l ↦ l ]
 
 least_of_ends : (p : Pace) (h : List Ended) (rate : ℕ) (l : Link) (t len : ℕ) → 0 < rate → EndsItsRun rate l
@@ -64,20 +64,25 @@ pub record IsLeastOwn (cs : List CbqClass) (rate : ℕ) (s : Situation) (t len c
   pub allowed : allows_in cs rate s c start len ≡ true
   pub least : (u : ℕ) → t ≤ u → allows_in cs rate s c u len ≡ true → start ≤ u
 
-own_by : (rate : ℕ) (l : Link) (e : Estimate) (t len : ℕ) (root : Bool) → IsLeastAllowed e rate l t len (least_allowed e rate l t len)
-    → (t ≤ (if root then t else least_allowed e rate l t len))
-    × ((root || allows_now e (end_of rate l (if root then t else least_allowed e rate l t len) len) len) ≡ true)
-    × ((u : ℕ) → t ≤ u → (root || allows_now e (end_of rate l u len) len) ≡ true → (if root then t else least_allowed e rate l t len) ≤ u)
-own_by rate l e t len true x = (omega arith, refl, λ u from a. from)
-own_by rate l e t len false x = (x.from, x.allowed, x.least)
+own_by : (rate : ℕ) (l : Link) (e : Estimate) (t len start : ℕ) (root : Bool) → IsLeastAllowed e rate l t len start
+    → (t ≤ (if root then t else start))
+    × ((root || allows_now e (end_of rate l (if root then t else start) len) len) ≡ true)
+    × ((u : ℕ) → t ≤ u → (root || allows_now e (end_of rate l u len) len) ≡ true → (if root then t else start) ≤ u)
+own_by rate l e t len start true x = (omega arith, refl, λ u from a. from)
+own_by rate l e t len start false x = (x.from, x.allowed, x.least)
+
+pub own_from : (cs : List CbqClass) (rate : ℕ) (s : Situation) (t len c start : ℕ) → IsLeastAllowed (estimate_in s c) rate s.link t len start
+    → IsLeastOwn cs rate s t len c (if is_root cs c then t else start)
+own_from cs rate s t len c start a =
+    let x = own_by rate s.link (estimate_in s c) t len start (is_root cs c) a in
+    record { from = x.0; allowed = x.1; least = x.2 }
 
 pub own_is : (cs : List CbqClass) (rate : ℕ) (h : List Event) (t len c : ℕ) → 0 < rate
     → IsLeastOwn cs rate (situation cs rate h) t len c (own_start cs rate (situation cs rate h) t len c)
 own_is cs rate h t len c some =
     let s : Situation = situation cs rate h in
-    let x = own_by rate s.link (estimate_in s c) t len (is_root cs c)
-    (least_allowed_is (estimate_in s c) rate s.link t len some (link_ends rate h some) (of_ends cs rate h c)) in
-    record { from = x.0; allowed = x.1; least = x.2 }
+    own_from cs rate s t len c (least_allowed (estimate_in s c) rate s.link t len)
+    (least_allowed_is (estimate_in s c) rate s.link t len some (link_ends rate h some) (of_ends cs rate h c))
 
 -- of a class and those that may lend to it
 pub record IsLeastSend (cs : List CbqClass) (rate : ℕ) (s : Situation) (t len c start : ℕ) : Type 0 where
@@ -85,23 +90,27 @@ pub record IsLeastSend (cs : List CbqClass) (rate : ℕ) (s : Situation) (t len 
   pub allowed : may_send cs rate s c start len ≡ true
   pub least : (u : ℕ) → t ≤ u → may_send cs rate s c u len ≡ true → start ≤ u
 
-abbrev start_among : List CbqClass → (rate : ℕ) → Situation → (t len c : ℕ) → ℕ
-start_among cs rate s t len c = least_of (own_start cs rate s t len) c (lenders cs c)
-
-pub send_is : (cs : List CbqClass) (rate : ℕ) (h : List Event) (t len c : ℕ) → 0 < rate
-    → IsLeastSend cs rate (situation cs rate h) t len c (start_among cs rate (situation cs rate h) t len c)
-send_is cs rate h t len c some =
-    let s : Situation = situation cs rate h in
-    let f : ℕ → ℕ = own_start cs rate s t len in
+pub send_from : (cs : List CbqClass) (rate : ℕ) (s : Situation) (t len c : ℕ) (f : ℕ → ℕ) → ((d : ℕ) → IsLeastOwn cs rate s t len d (f d))
+    → IsLeastSend cs rate s t len c (least_of f c (lenders cs c))
+send_from cs rate s t len c f own =
     let y = least_is f c (lenders cs c) in
-    let own = own_is cs rate h t len y.one some in
-    let test : ℕ → Bool = λ d. allows_in cs rate s d (f y.one) len in
+    let o = own y.one in
     let P : ℕ → Type 0 = λ n. may_send cs rate s c n len ≡ true in
     record {
-      from = omega (arith, own.from, y.is);
-      allowed = subst P (sym y.is) (passes_some test y.one (c ∷ lenders cs c) y.there own.allowed);
+      from = omega (arith, o.from, y.is);
+      allowed = subst P (sym y.is) (passes_some (λ d. allows_in cs rate s d (f y.one) len) y.one (c ∷ lenders cs c) y.there o.allowed);
       least = λ u from a.
           let one = some_passes (λ d. allows_in cs rate s d u len) (c ∷ lenders cs c) a in
-          let low = (own_is cs rate h t len one.one some).least u from one.passes in
+          let low = (own one.one).least u from one.passes in
           omega (arith, low, least_most f c one.one (lenders cs c) one.there);
     }
+
+pub send_is : (cs : List CbqClass) (rate : ℕ) (h : List Event) (t len c : ℕ) → 0 < rate
+    → IsLeastSend cs rate (situation cs rate h) t len c (least_of (own_start cs rate (situation cs rate h) t len) c (lenders cs c))
+send_is cs rate h t len c some =
+    let s : Situation = situation cs rate h in
+    send_from cs rate s t len c (own_start cs rate s t len) (λ d. own_is cs rate h t len d some)
+
+-- there is one alone
+pub one_least : (cs : List CbqClass) (rate : ℕ) (s : Situation) (t len c x y : ℕ) → IsLeastSend cs rate s t len c x → IsLeastSend cs rate s t len c y → x ≡ y
+one_least cs rate s t len c x y a b = omega (arith, a.least y b.from b.allowed, b.least x a.from a.allowed)

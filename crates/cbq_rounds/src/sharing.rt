@@ -89,8 +89,8 @@ impl Shares {
             return start;
         }
         let own = self.own_start(class, len, now, clock);
-        let least = if own < start { own } else { start };
-        self.least_start(levels - 1, self.lender(class), least, len, now, clock)
+        let next = self.lender(class);
+        self.least_start(levels - 1, next, start.min(own), len, now, clock)
     }
 
     /// The least moment from `now` on, no earlier than the last end and before 2^63, at which a class may send a packet of `len` bytes, of
@@ -104,7 +104,8 @@ impl Shares {
         ensures { result ≡ start_now_in self.now clock.now.rate clock.now.link class now len }
     {
         let own = self.own_start(class, len, now, clock);
-        self.least_start(LEVELS, self.lender(class), own, len, now, clock)
+        let lender = self.lender(class);
+        self.least_start(LEVELS, lender, own, len, now, clock)
     }
 
     // What a class gains in a round, in bytes.
