@@ -1,1 +1,3 @@
+pub mod LookLemmas
+pub mod Moments
 pub mod Places

@@ -1,2 +1,3 @@
 pub mod Due
+pub mod Looked
 pub mod Shared
