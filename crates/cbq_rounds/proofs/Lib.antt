@@ -1,3 +1,6 @@
+pub mod DueLemmas
+pub mod Firsts
 pub mod LookLemmas
 pub mod Moments
 pub mod Places
+pub mod PolicyLemmas

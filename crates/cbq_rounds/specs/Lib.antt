@@ -1,3 +1,4 @@
 pub mod Due
 pub mod Looked
 pub mod Shared
+pub mod Stands

@@ -4,8 +4,10 @@
 //! send the greatest priority goes first, and weighted rounds share the link within a priority. After Floyd and Jacobson 1995.
 #![tactic(auto)]
 
+mod cbq;
 mod look;
 mod sharing;
 
+pub use cbq::Cbq;
 pub use cbq_model::CbqClass;
 pub use discipline_laws::{Discipline, Pick, Rule, Sending, Verdict};

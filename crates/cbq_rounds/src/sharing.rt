@@ -1,5 +1,5 @@
 // What CBQ keeps of its classes beside their queues.
-ghost use Rattle.std.specs.Prelude.{◌≡◌, ◌≤◌, ◌<◌, ◌+◌, ◌^◌, ℕ, List, length, get_or, nat_lt};
+ghost use Rattle.std.specs.Prelude.{◌≡◌, ◌==◌, ◌≤◌, ◌<◌, ◌+◌, ◌^◌, ℕ, List, length, get_or, nat_lt};
 ghost use Rattle.cbq_model.specs.Choice.{rounds_for};
 ghost use Rattle.cbq_model.specs.Tree.{class_of, lender_of, lenders_up, quantum_of};
 ghost use Rattle.cbq_rounds.specs.Shared.{IsShared, Shared, least_with, own_now, start_now_in};
@@ -106,6 +106,18 @@ impl Shares {
         let own = self.own_start(class, len, now, clock);
         let lender = self.lender(class);
         self.least_start(LEVELS, lender, own, len, now, clock)
+    }
+
+    /// Whether a class itself allows a packet of `len` bytes to start at `now`, no earlier than the last end and before 2^63.
+    pub fn allows(&self, class: u32, len: u32, now: u64, clock: &LinkClock) -> bool
+        requires class { class < length self.now.tree }
+        requires free { clock.now.link.free ≤ now }
+        requires early { now < 2 ^ 63 }
+        requires some_bytes { 1 ≤ len }
+        requires few_bytes { len ≤ 262144 }
+        ensures { result ≡ (own_now self.now.tree self.now.estimates clock.now.rate clock.now.link now len class == now) }
+    {
+        self.own_start(class, len, now, clock) == now
     }
 
     // What a class gains in a round, in bytes.
