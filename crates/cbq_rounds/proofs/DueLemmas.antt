@@ -5,6 +5,7 @@ use Rattle.std.specs.Prelude.{◌↔◌, slice_get, option_map, unwrap_or, if◌
 use Rattle.std.specs.List.{filter}
 use Rattle.std.proofs.lemmas.Bool.{cases_eq, cases_lt, eq-eqb, eqb-true, ne_eqb}
 use Rattle.altq_model.specs.declared.Rule.{Rule}
+use Rattle.altq_model.specs.declared.Rule.TheVariants.{Own, Borrow}
 use Rattle.altq_model.specs.Link.{Link}
 use Rattle.altq_model.specs.Play.{Choice, IsOneOf}
 use Rattle.play_base.specs.declared.packet.Ticket.{Ticket}
@@ -15,16 +16,16 @@ use Rattle.discipline_laws.specs.declared.pick.Pick.TheVariants.{Send, Wait, Emp
 use Rattle.discipline_laws.specs.Laws.{IsLeast, NamesHead, Sends, Waits}
 use Rattle.cbq_model.specs.declared.CbqClass.{CbqClass}
 use Rattle.cbq_model.specs.declared.Rank.{Rank}
-use Rattle.cbq_model.specs.Choice.{Situation, able, best, choice_of, class_in, may, picked, rank_in}
+use Rattle.cbq_model.specs.Choice.{Situation, able, allows_in, best, choice_of, class_in, head_in, may, picked, rank_in}
 use Rattle.cbq_model.specs.Tree.{class_of, each_from, numbers}
 use Rattle.cbq_model.proofs.Best.{best_of}
 use Rattle.cbq_model.proofs.Least.{IsLeastSend, one_least}
 use Rattle.cbq_model.proofs.Members.{kept, was_kept}
 use Rattle.cbq_model.proofs.Places.{is_below}
 use Rattle.cbq_rounds.specs.Due.{due_in, due_with, first_in, first_of, send_head, start_in}
-use Rattle.cbq_rounds.specs.Shared.{Shared, head_len, situation_in, start_now_in}
+use Rattle.cbq_rounds.specs.Shared.{Shared, head_len, own_now, situation_in, start_now_in}
 use Rattle.cbq_rounds.proofs.Firsts.{IsNoLater, IsOfOne, all_none, first_none, first_same, no_later, of_one}
-use Rattle.cbq_rounds.proofs.Moments.{head_seen, may_not, may_where, start_is}
+use Rattle.cbq_rounds.proofs.Moments.{head_seen, may_not, may_where, own_where, start_is}
 
 -- the head of a list, and its length
 pub record HasHead (xs : List Entry) : Type 0 where
@@ -263,3 +264,63 @@ module _ (d : Shared) (lists : ℕ → List Entry) (clock : Clock) where
     ],
     λ e. due_none t (none_first t e),
   )
+
+  -- what a look finds where something is due now
+  pub record IsFound (t : ℕ) (o : Option Rank) : Type 0 where
+    pub rank : Rank
+    pub is : o ≡ Some rank
+    pub class : rank.class ≡ picked d.tree d.rate s t
+    pub place : rank.class < length d.tree
+    pub head : HasHead (lists rank.class)
+    pub first : first_in d lists clock t ≡ Some t
+
+  pub found_is : (t till : ℕ) (o : Option ℕ) (b : Option Rank) → clock.link.free ≤ t → clock.rate ≡ d.rate → o ≡ first_in d lists clock t → o ≡ Some till → till ≤ t
+      → b ≡ best d.tree d.rate s None (able d.tree d.rate s t) → IsFound t b
+  found_is t till o b free rate e m l k =
+      let first : first_in d lists clock t ≡ Some till = sym e ∙ m in
+      let same : till ≡ t = omega (arith, l, from_now t till free first) in
+      let now : first_in d lists clock t ≡ Some t = first ∙ ap (λ (n : ℕ). Some n) same in
+      let x = chosen t free rate now in
+      record { rank = x.rank; is = k ∙ x.best; class = x.class; place = x.place; head = x.head; first = now }
+
+  pub same_rank : (t : ℕ) (o : Option Rank) (r : Rank) → IsFound t o → o ≡ Some r → (r.class ≡ picked d.tree d.rate s t) × (r.class < length d.tree)
+  same_rank t o r x e =
+      let y = x.is in
+      let same : x.rank ≡ r = cc in
+      let P : Rank → Type 0 = λ q. (q.class ≡ picked d.tree d.rate s t) × (q.class < length d.tree) in
+      subst P same (x.class, x.place)
+
+  -- a head is there
+  pub found_head : (t : ℕ) (o : Option Rank) (r : Rank) → IsFound t o → o ≡ Some r → HasHead (lists r.class)
+  found_head t o r x e =
+      let y = x.is in
+      let same : x.rank ≡ r = cc in
+      let P : Rank → Type 0 = λ q. HasHead (lists q.class) in
+      subst P same x.head
+
+  abbrev sending : Entry → (class : ℕ) → (allowed : Bool) → Pick
+  sending x class allowed = Send x.ticket class x.len (if allowed then Own else Borrow)
+
+  pub found_sent : (t : ℕ) (o : Option Rank) (r : Rank) (x : Entry) (allowed : Bool) → clock.link.free ≤ t → clock.rate ≡ d.rate → IsFound t o → o ≡ Some r
+      → slice_get (lists r.class) 0 ≡ Some x → allowed ≡ eqb (own_now d.tree d.estimates clock.rate clock.link t x.len r.class) t
+      → sending x r.class allowed ≡ due_in d lists clock t
+  found_sent t o r x allowed free rate y e front a =
+      let c : ℕ = picked d.tree d.rate s t in
+      let same = same_rank t o r y e in
+      let F : ℕ → Type 0 = λ k. slice_get (lists k) 0 ≡ Some x in
+      let here : slice_get (lists c) 0 ≡ Some x = subst F same.0 front in
+      let low : c < length d.tree = omega (arith, same.0, same.1) in
+      let len : head_in s c ≡ Some x.len = head_seen d lists clock.link c low ∙ front_len (lists c) x here in
+      let own : allowed ≡ allows_in d.tree d.rate s c t (unwrap_or (head_in s c) 0) =
+          a ∙ ap (λ (m : ℕ). eqb (own_now d.tree d.estimates m clock.link t x.len r.class) t) rate
+          ∙ ap (λ (m : ℕ). eqb (own_now d.tree d.estimates d.rate clock.link t x.len m) t) same.0
+          ∙ sym (own_where d lists clock.link c t x.len free)
+          ∙ ap (λ (m : Option ℕ). allows_in d.tree d.rate s c t (unwrap_or m 0)) (sym len) in
+      ap (λ (k : ℕ). sending x k allowed) same.0 ∙ ap (λ (b : Bool). sending x c b) own ∙ sym (due_sent t x y.first here)
+
+  -- what is due where there is no first moment, and where it is later
+  pub found_none : (t : ℕ) (o : Option ℕ) → o ≡ first_in d lists clock t → o ≡ None → Empty ≡ due_in d lists clock t
+  found_none t o e m = sym (due_none t (sym e ∙ m))
+
+  pub found_later : (t till : ℕ) (o : Option ℕ) → o ≡ first_in d lists clock t → o ≡ Some till → t < till → Wait till ≡ due_in d lists clock t
+  found_later t till o e m l = sym (due_later t till (sym e ∙ m) (λ q. omega (arith, q, l)))

@@ -8,9 +8,9 @@ use Rattle.cbq_estimator.specs.Now.{allows_now, start_now}
 use Rattle.cbq_estimator.proofs.Now as now
 use Rattle.altq_model.specs.Link.{end_of}
 use Rattle.cbq_model.specs.declared.CbqClass.{CbqClass}
-use Rattle.cbq_model.specs.Choice.{Situation, estimate_in, head_in, least_of, may, may_send, may_with}
+use Rattle.cbq_model.specs.Choice.{Situation, allows_in, estimate_in, head_in, least_of, may, may_send, may_with}
 use Rattle.cbq_model.specs.Tree.{lenders}
-use Rattle.cbq_model.proofs.Least.{IsLeastAllowed, IsLeastSend, least_or, own_from, send_from}
+use Rattle.cbq_model.proofs.Least.{IsLeastAllowed, IsLeastOwn, IsLeastSend, least_or, own_from, send_from}
 use Rattle.cbq_model.proofs.Places.{at_place}
 use Rattle.leaf_queue.specs.declared.node.Entry.{Entry}
 use Rattle.cbq_rounds.specs.Shared.{Shared, head_len, least_with, own_now, situation_in, start_now_in}
@@ -71,3 +71,21 @@ may_where d lists l c t len low free e =
 pub may_not : (d : Shared) (lists : ℕ → List Entry) (l : Link) (c t : ℕ) → c < length d.tree → head_len (lists c) ≡ None
     → may d.tree d.rate (situation_in d lists l) c t ≡ false
 may_not d lists l c t low e = ap (may_with d.tree d.rate (situation_in d lists l) c t) (head_seen d lists l c low ∙ e)
+
+-- a class's own average allows a packet now exactly where its own moment is now
+own_now_by : (cs : List CbqClass) (rate : ℕ) (s : Situation) (t len c start : ℕ) (b : Bool) → allows_in cs rate s c t len ≡ b → IsLeastOwn cs rate s t len c start
+    → allows_in cs rate s c t len ≡ eqb start t
+own_now_by cs rate s t len c start true e x =
+    let low = x.least t (omega arith) e in
+    let same : start ≡ t = omega (arith, low, x.from) in
+    e ∙ sym (eq-eqb start t same)
+own_now_by cs rate s t len c start false e x =
+    let P : ℕ → Type 0 = λ n. allows_in cs rate s c n len ≡ true in
+    e ∙ sym (ne_eqb start t (λ same. let f = subst P same x.allowed in (cc)))
+
+pub own_where : (d : Shared) (lists : ℕ → List Entry) (l : Link) (c t len : ℕ) → l.free ≤ t
+    → allows_in d.tree d.rate (situation_in d lists l) c t len ≡ eqb (own_now d.tree d.estimates d.rate l t len c) t
+own_where d lists l c t len free =
+    let s : Situation = situation_in d lists l in
+    own_now_by d.tree d.rate s t len c (own_now d.tree d.estimates d.rate l t len c) (allows_in d.tree d.rate s c t len) refl
+    (own_from d.tree d.rate s t len c (start_now (estimate_in s c) d.rate l t len) (now_is (estimate_in s c) d.rate l t len free))

@@ -32,7 +32,7 @@ len_shown : (xs : List Entry) (ws : List Coming) → seen xs ≡ seen_of ws → 
 len_shown [] [] e = refl
 len_shown [] (a ∷ ws) e = absurd (cc)
 len_shown (x ∷ xs) [] e = absurd (cc)
-len_shown (x ∷ xs) (a ∷ ws) e = let same : x.len ≡ a.len = cc in ap (λ (n : ℕ). Some n) same
+len_shown (x ∷ xs) (a ∷ ws) e = let same : (x.len, x.prec) ≡ (a.len, a.prec) = cc in ap (λ (p : ℕ × ℕ). Some p.0) same
 
 pub each_same : {X : Type 0} (f g : ℕ → X) (b : ℕ) (cs : List CbqClass) → ((c : ℕ) → f c ≡ g c) → each_from (λ c k. f c) b cs ≡ each_from (λ c k. g c) b cs
 each_same f g b [] e = refl

@@ -1,5 +1,6 @@
 // CBQ with its queues.
-ghost use Rattle.std.specs.Prelude.{◌≡◌, ◌≤◌, ◌<◌, ◌^◌, ℕ, List, length, None};
+ghost use Rattle.std.specs.Prelude.{◌≡◌, ◌≤◌, ◌<◌, ◌^◌, ℕ, List, length, None, if◌then◌else◌};
+ghost use Rattle.altq_model.specs.declared.Rule.TheVariants.{Own, Borrow};
 ghost use Rattle.class_rows.specs.Rows.{list_in};
 ghost use Rattle.cbq_model.specs.Choice.{able, best};
 ghost use Rattle.cbq_rounds.specs.Due.{due_in, first_in};
@@ -29,6 +30,13 @@ impl<Q: QueueRule + Drop> Model for Cbq<Q> {
     ghost view = { λ d. record { shares = d.shares; rows = d.rows } };
 
     ghost invariant = { λ d. IsRuling d.shares d.rows };
+}
+
+// A class sends as its own what it allows itself, and else borrows.
+fn rule_of(allowed: bool) -> Rule
+    ensures { result ≡ (if allowed then Own else Borrow) }
+{
+    if allowed { Rule::Own } else { Rule::Borrow }
 }
 
 // What is due, by what a look has found.
@@ -62,15 +70,11 @@ fn pick_of<Q: QueueRule + Drop>(
     let Some(head) = rows.head(best.class) else {
         return Pick::Empty;
     };
-    let rule = if shares.allows(best.class, head.len, now, clock) {
-        Rule::Own
-    } else {
-        Rule::Borrow
-    };
+    let allowed = shares.allows(best.class, head.len, now, clock);
     Pick::Send {
         ticket: head.ticket,
         class: best.class,
         len: head.len,
-        rule,
+        rule: rule_of(allowed),
     }
 }

@@ -6,6 +6,7 @@
 
 mod cbq;
 mod look;
+mod sent;
 mod sharing;
 
 pub use cbq::Cbq;

@@ -10,17 +10,17 @@ use link_clock::LinkClock;
 use std::marker::Model;
 
 /// The most levels of a tree of classes.
-const LEVELS: u32 = 8;
+pub const LEVELS: u32 = 8;
 
 /// The rate of the link, the classes with their averages and credits, and the cursors of their rings.
 #[derive(Drop)]
 pub struct Shares {
-    rate: u64,
-    classes: Vec<CbqClass>,
-    estimators: Vec<Estimator>,
-    credits: Vec<u64>,
-    cursors: Vec<u32>,
-    ended: u64,
+    pub rate: u64,
+    pub classes: Vec<CbqClass>,
+    pub estimators: Vec<Estimator>,
+    pub credits: Vec<u64>,
+    pub cursors: Vec<u32>,
+    pub ended: u64,
 }
 
 impl Model for Shares {
@@ -121,7 +121,7 @@ impl Shares {
     }
 
     // What a class gains in a round, in bytes.
-    fn quantum(&self, class: u32) -> u64
+    pub fn quantum(&self, class: u32) -> u64
         requires class { class < length self.now.tree }
         ensures value { result ≡ quantum_of self.now.rate (class_of self.now.tree class) }
         ensures least { 1 ≤ result }
