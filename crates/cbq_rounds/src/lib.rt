@@ -5,6 +5,7 @@
 #![tactic(auto)]
 
 mod cbq;
+mod gains;
 mod look;
 mod sent;
 mod sharing;

@@ -120,7 +120,7 @@ impl Shares {
         self.own_start(class, len, now, clock) == now
     }
 
-    // What a class gains in a round, in bytes.
+    /// What a class gains in a round, in bytes.
     pub fn quantum(&self, class: u32) -> u64
         requires class { class < length self.now.tree }
         ensures value { result ≡ quantum_of self.now.rate (class_of self.now.tree class) }
@@ -131,8 +131,16 @@ impl Shares {
         part.max(1)
     }
 
-    // How many rounds a class needs until its credit pays for a packet.
-    fn rounds(&self, class: u32, len: u32) -> u64
+    /// The priority of a class.
+    pub fn priority(&self, class: u32) -> u8
+        requires class { class < length self.now.tree }
+        ensures { result ≡ (class_of self.now.tree class).priority }
+    {
+        self.classes[class as usize].priority
+    }
+
+    /// How many rounds a class needs until its credit pays for a packet.
+    pub fn rounds(&self, class: u32, len: u32) -> u64
         requires class { class < length self.now.tree }
         ensures { result ≡ rounds_for (get_or self.now.credits class 0) (quantum_of self.now.rate (class_of self.now.tree class)) len }
     {
