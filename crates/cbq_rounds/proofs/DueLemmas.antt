@@ -43,7 +43,7 @@ pub len_none : (xs : List Entry) → head_len xs ≡ None → xs ≡ []
 len_none [] e = refl
 len_none (x ∷ xs) e = absurd (cc)
 
-member_from : (b c : ℕ) (cs : List CbqClass) → b ≤ c → c < b + length cs → IsOneOf c (each_from (λ d k. d) b cs)
+pub member_from : (b c : ℕ) (cs : List CbqClass) → b ≤ c → c < b + length cs → IsOneOf c (each_from (λ d k. d) b cs)
 member_from b c [] l h = absurd (omega arith)
 member_from b c (k ∷ ks) l h = elim (cases_lt b c) [
   | inl m ↦ inr (member_from (b + 1) c ks (omega (arith, m)) (omega (arith, h)))
@@ -187,6 +187,7 @@ module _ (d : Shared) (lists : ℕ → List Entry) (clock : Clock) where
 
   -- the three cases of what is due
   pub record IsSent (t : ℕ) : Type 0 where
+    pub place : picked d.tree d.rate s t < length d.tree
     pub entry : Entry
     pub front : slice_get (lists (picked d.tree d.rate s t)) 0 ≡ Some entry
     pub first : first_in d lists clock t ≡ Some t
@@ -208,7 +209,7 @@ module _ (d : Shared) (lists : ℕ → List Entry) (clock : Clock) where
       let x = chosen t free rate first in
       let P : ℕ → Type 0 = λ c. HasHead (lists c) in
       let y : HasHead (lists (picked d.tree d.rate s t)) = subst P x.class x.head in
-      record { entry = y.entry; front = y.front; first = first; is = due_sent t y.entry first y.front }
+      record { place = omega (arith, x.class, x.place); entry = y.entry; front = y.front; first = first; is = due_sent t y.entry first y.front }
 
   cases_by : (t : ℕ) (o : Option ℕ) → first_in d lists clock t ≡ o → clock.link.free ≤ t → clock.rate ≡ d.rate → IsNone t ⊎ IsSent t ⊎ IsLater t
   cases_by t None e free rate = inl (record { first = e; is = due_none t e })
@@ -324,3 +325,30 @@ module _ (d : Shared) (lists : ℕ → List Entry) (clock : Clock) where
 
   pub found_later : (t till : ℕ) (o : Option ℕ) → o ≡ first_in d lists clock t → o ≡ Some till → t < till → Wait till ≡ due_in d lists clock t
   found_later t till o e m l = sym (due_later t till (sym e ∙ m) (λ q. omega (arith, q, l)))
+
+  -- what is sent is the head of the class that was picked
+  pub record SendsPicked (t class len : ℕ) (ticket : Ticket) (rule : Rule) : Type 0 where
+    pub entry : Entry
+    pub place : class < length d.tree
+    pub front : slice_get (lists class) 0 ≡ Some entry
+    pub of_len : entry.len ≡ len
+    pub of_class : picked d.tree d.rate s t ≡ class
+    pub of_rule : (choice_of d.tree d.rate s t).rule ≡ rule
+    pub first : first_in d lists clock t ≡ Some t
+
+  sends_by : (t class len : ℕ) (ticket : Ticket) (rule : Rule) (x : IsSent t)
+      → Send x.entry.ticket (picked d.tree d.rate s t) x.entry.len (choice_of d.tree d.rate s t).rule ≡ Send ticket class len rule → SendsPicked t class len ticket rule
+  sends_by t class len ticket rule x e =
+      let same : picked d.tree d.rate s t ≡ class = cc in
+      let long : x.entry.len ≡ len = cc in
+      let by : (choice_of d.tree d.rate s t).rule ≡ rule = cc in
+      let P : ℕ → Type 0 = λ c. slice_get (lists c) 0 ≡ Some x.entry in
+      record { entry = x.entry; place = omega (arith, same, x.place); front = subst P same x.front; of_len = long; of_class = same; of_rule = by; first = x.first }
+
+  pub sends_picked : (t class len : ℕ) (ticket : Ticket) (rule : Rule) → clock.link.free ≤ t → clock.rate ≡ d.rate
+      → due_in d lists clock t ≡ Send ticket class len rule → SendsPicked t class len ticket rule
+  sends_picked t class len ticket rule free rate e = elim (cases t free rate) [
+    | inl x ↦ let y = x.is in absurd (cc)
+    | inr (inl x) ↦ sends_by t class len ticket rule x (sym x.is ∙ e)
+    | inr (inr x) ↦ let y = x.is in absurd (cc)
+  ]

@@ -8,13 +8,15 @@ ghost use Rattle.cbq_rounds.specs.Looked.{AreSized};
 ghost use Rattle.cbq_rounds.specs.Shared.{situation_in};
 ghost use Rattle.cbq_rounds.specs.Stands.{IsRuling, Ruling};
 
+use crate::gains::gain_all;
 use crate::look::{Found, look};
 use crate::sharing::Shares;
-use altq_model::Rule;
+use altq_model::{Rule, Verdict};
 use class_rows::Rows;
-use discipline_laws::Pick;
-use leaf_queue::QueueRule;
+use discipline_laws::{Discipline, Pick, Sending};
+use leaf_queue::{Entry, QueueRule, Words};
 use link_clock::LinkClock;
+use play_base::Ticket;
 use std::marker::Model;
 
 /// CBQ: classes that share a link.
@@ -77,4 +79,79 @@ fn pick_of<Q: QueueRule + Drop>(
         len: head.len,
         rule: rule_of(allowed),
     }
+}
+
+impl<Q: QueueRule + Drop> Discipline for Cbq<Q> {
+    ghost use Rattle.std.specs.Prelude.{Some};
+    ghost use Rattle.altq_model.specs.History.{bare, offered};
+    ghost use Rattle.class_rows.specs.Rows.{limit_in, list_in};
+    ghost use Rattle.class_rows.proofs.RowLemmas.{none_is_least};
+    ghost use Rattle.cbq_rounds.specs.Due.{due_in};
+    ghost use Rattle.cbq_rounds.specs.Stands.{Stands, cbq_of};
+
+    ghost lists = { λ d. list_in d.rows };
+
+    ghost limits = { λ d. limit_in Q.most d.rows };
+
+    ghost stands = { λ d h. Stands Q.stands Q.says d h };
+
+    ghost due = { λ d clock now. due_in d.shares (list_in d.rows) clock now };
+
+    ghost policy = { λ d. cbq_of Q.says d };
+
+    ghost link_rate = { λ d. Some d.shares.rate };
+
+    ghost given = { λ d. 0 };
+
+    ghost moment = { λ d. 0 };
+
+    ghost ended = { λ d. d.shares.ended };
+
+    fn room(&self) -> u32 {
+        self.rows.room()
+    }
+
+    fn offer(
+        &mut self,
+        ticket: Ticket,
+        class: u32,
+        len: u32,
+        prec: u8,
+        now: u64,
+        words: &mut Words,
+    ) -> Verdict {
+        let entry = Entry { ticket, len, prec };
+        self.rows.offer(class, entry, now, words)
+    }
+
+    fn next(&mut self, now: u64, clock: &LinkClock) -> Pick {
+        let found = look(&self.shares, &self.rows, now, clock);
+        pick_of(&self.shares, &self.rows, &found, now, clock)
+    }
+
+    fn sent(&mut self, sending: Sending, clock: &LinkClock) {
+        let end = clock.end_of(sending.start, sending.len);
+        gain_all(&mut self.shares, &self.rows, &sending, clock);
+        self.rows.take(sending.class, sending.start);
+        let emptied = self.rows.head(sending.class).is_none();
+        self.shares.pay(sending.class, sending.len, emptied);
+        self.shares.set_last(sending.class, end);
+        self.shares.tell(sending.class, sending.len);
+    }
+
+    ghost shows = { λ d h s. s.told.shown };
+
+    ghost counts = { λ d h s. none_is_least (offered (bare h)) };
+
+    ghost moments = { λ d h s t l b. none_is_least t };
+
+    ghost ends = { λ d h s r l. s.ended r l };
+
+    ghost distinct = { λ d h s. s.distinct };
+
+    ghost orderly = { λ d h s. s.orderly };
+
+    ghost lawful = { λ d h s. s.lawful };
+
+    ghost steady = { λ d h s. s.steady };
 }

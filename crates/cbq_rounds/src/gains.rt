@@ -22,6 +22,7 @@ pub fn gain_all<Q: QueueRule + Drop>(
 )
     requires first { rows.now.first ≡ 0 }
     requires count { length rows.now.queues ≡ length shares.old.tree }
+    requires credits { length shares.old.credits ≡ length shares.old.tree }
     requires sized { (c : ℕ) → AreSized (list_in rows.now c) }
     requires free { clock.now.link.free ≤ sending.now.start }
     requires early { sending.now.start < 2 ^ 63 }

@@ -14,6 +14,7 @@ use leaf_queue::QueueRule;
 use link_clock::LinkClock;
 
 /// The least moment at which a class that waits may send, and the rank of the first of those that may send now.
+#[derive(Clone, Copy)]
 pub struct Found {
     pub till: Option<u64>,
     pub best: Option<Rank>,
