@@ -5,4 +5,5 @@ pub mod LookLemmas
 pub mod Moments
 pub mod Places
 pub mod PolicyLemmas
+pub mod SentLemmas
 pub mod StandsLemmas

@@ -57,7 +57,7 @@ module _ {Q : Type 0} (stands : Q → List QueueEvent → Type 0) (says : Q → 
   abbrev lists : ℕ → List Entry
   lists = list_in d.rows
 
-  shown : (c : ℕ) → head_len (lists c) ≡ option_map (λ (a : Coming). a.len) (head c (bare h))
+  pub shown : (c : ℕ) → head_len (lists c) ≡ option_map (λ (a : Coming). a.len) (head c (bare h))
   shown c = len_shown (lists c) (waiting c (bare h)) (k.told.shown c).packets
 
   -- what a choice looks at is what it has to

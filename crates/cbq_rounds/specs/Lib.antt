@@ -1,4 +1,5 @@
 pub mod Due
+pub mod Fresh
 pub mod Gained
 pub mod Looked
 pub mod Sent

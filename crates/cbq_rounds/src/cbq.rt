@@ -1,9 +1,12 @@
 // CBQ with its queues.
-ghost use Rattle.std.specs.Prelude.{◌≡◌, ◌≤◌, ◌<◌, ◌^◌, ℕ, List, length, None, if◌then◌else◌};
+ghost use Rattle.std.specs.Prelude.{◌≡◌, ◌≤◌, ◌<◌, ◌^◌, [], ℕ, List, All, IfOk, length, map, None, if◌then◌else◌};
 ghost use Rattle.altq_model.specs.declared.Rule.TheVariants.{Own, Borrow};
-ghost use Rattle.class_rows.specs.Rows.{list_in};
+ghost use Rattle.class_rows.specs.Rows.{IsNew, limit_at, list_in};
+ghost use Rattle.leaf_queue.specs.Queue.{by_queues};
 ghost use Rattle.cbq_model.specs.Choice.{able, best};
+ghost use Rattle.cbq_model.specs.Rounds.{cbq};
 ghost use Rattle.cbq_rounds.specs.Due.{due_in, first_in};
+ghost use Rattle.cbq_rounds.specs.Fresh.{HasEarlierParents, IsClass};
 ghost use Rattle.cbq_rounds.specs.Looked.{AreSized};
 ghost use Rattle.cbq_rounds.specs.Shared.{situation_in};
 ghost use Rattle.cbq_rounds.specs.Stands.{IsRuling, Ruling};
@@ -12,11 +15,13 @@ use crate::gains::gain_all;
 use crate::look::{Found, look};
 use crate::sharing::Shares;
 use altq_model::{Rule, Verdict};
+use cbq_model::CbqClass;
 use class_rows::Rows;
 use discipline_laws::{Discipline, Pick, Sending};
 use leaf_queue::{Entry, QueueRule, Words};
 use link_clock::LinkClock;
-use play_base::Ticket;
+use play_base::{NoMemory, Ticket};
+use std::alloc::Global;
 use std::marker::Model;
 
 /// CBQ: classes that share a link.
@@ -32,6 +37,34 @@ impl<Q: QueueRule + Drop> Model for Cbq<Q> {
     ghost view = { λ d. record { shares = d.shares; rows = d.rows } };
 
     ghost invariant = { λ d. IsRuling d.shares d.rows };
+}
+
+impl<Q: QueueRule + Drop> Cbq<Q> {
+    /// CBQ with these classes, at most 256, on a link of `rate` bits per second, 1,000 to 10^12. Every class may hold packets, and there
+    /// is one queue for each, which stands for nothing asked or told yet and holds 1 to 10,000 packets. Each parent stands earlier in
+    /// the list, and no class is deeper than 8 levels. Takes all the memory that it will ever take; `NoMemory` comes only for want of it.
+    pub fn build(
+        alloc: Global,
+        classes: &[CbqClass],
+        rate: u64,
+        queues: Vec<Q>,
+    ) -> Result<Cbq<Q>, NoMemory>
+        requires least { 1000 ≤ rate }
+        requires most { rate ≤ 10 ^ 12 }
+        requires few { length classes.now ≤ 256 }
+        requires one_each { length queues.items ≡ length classes.now }
+        requires parents { HasEarlierParents classes.now }
+        requires classes { All IsClass classes.now }
+        requires queues { All (IsNew Q.stands Q.most) queues.items }
+        ensures empty { IfOk result (λ d. ⟦<Cbq<Q> as Discipline>⟧.stands d []) }
+        ensures policy { IfOk result (λ d. ⟦<Cbq<Q> as Discipline>⟧.policy d ≡ cbq classes.now rate (by_queues 0 (map Q.says queues.items))) }
+        ensures limits { IfOk result (λ d. ⟦<Cbq<Q> as Discipline>⟧.limits d ≡ limit_at 0 (map Q.most queues.items)) }
+    {
+        let holds = vec![in alloc; true; queues.len()]?;
+        let rows = Rows::build(alloc, 0, queues, holds)?;
+        let shares = Shares::build(alloc, classes, rate)?;
+        Ok(Cbq { shares, rows })
+    }
 }
 
 // A class sends as its own what it allows itself, and else borrows.
@@ -130,7 +163,7 @@ impl<Q: QueueRule + Drop> Discipline for Cbq<Q> {
     }
 
     fn sent(&mut self, sending: Sending, clock: &LinkClock) {
-        let end = clock.end_of(sending.start, sending.len);
+        let end = clock.end_of(sending.start, sending.len).max(self.shares.ended);
         gain_all(&mut self.shares, &self.rows, &sending, clock);
         self.rows.take(sending.class, sending.start);
         let emptied = self.rows.head(sending.class).is_none();

@@ -4,6 +4,7 @@
 //! send the greatest priority goes first, and weighted rounds share the link within a priority. After Floyd and Jacobson 1995.
 #![tactic(auto)]
 
+mod build;
 mod cbq;
 mod gains;
 mod look;
