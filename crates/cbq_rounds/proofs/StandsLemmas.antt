@@ -1,7 +1,7 @@
 -- The histories that CBQ stands for.
 use Rattle.std.proofs.Common.{◌≡◌, ◌≤◌, ◌<◌, ◌+◌, ◌-◌, ◌*◌, ◌∙◌, ◌⊎◌, inl, inr, ℕ, zero, suc, Bool, true, false, List, [], ◌∷◌, ◌++◌, None, Some, length, get_or, drop, max, set, refl, ap, sym, subst, arith, eqb, get_or-set_same, get_or-set_other, length-set}
 use Rattle.std.specs.declared.option.Option.{Option}
-use Rattle.std.specs.Prelude.{◌&&◌, is_none, slice_get, slice_set, option_map, if◌then◌else◌}
+use Rattle.std.specs.Prelude.{◌&&◌, is_none, is_some, not, slice_get, slice_set, option_map, if◌then◌else◌}
 use Rattle.std.proofs.lemmas.Bool.{ne_eqb}
 use Rattle.altq_model.specs.declared.Rule.{Rule}
 use Rattle.altq_model.specs.declared.Verdict.{Verdict}
@@ -26,7 +26,7 @@ use Rattle.cbq_model.specs.declared.CbqClass.{CbqClass}
 use Rattle.cbq_model.specs.Capped.{AreSendings, IsSending}
 use Rattle.cbq_model.specs.Choice.{Situation, candidates, choice_of}
 use Rattle.cbq_model.specs.Rounds.{cbq, credits, cursors, estimates, gained, rounds_needed, situation}
-use Rattle.cbq_model.specs.Tree.{class_of, each, numbers}
+use Rattle.cbq_model.specs.Tree.{class_of, each, each_from, numbers}
 use Rattle.cbq_model.proofs.Lawful.{cbq_lawful, cbq_steady}
 use Rattle.cbq_model.proofs.Places.{at_place}
 use Rattle.cbq_rounds.specs.Looked.{AreSized}
@@ -37,7 +37,7 @@ use Rattle.cbq_rounds.specs.Shared.{IsTree, Shared, head_len, situation_in}
 use Rattle.cbq_rounds.proofs.DueLemmas.{SendsPicked, front_len, member_from, sends_picked}
 use Rattle.cbq_rounds.proofs.PolicyLemmas.{each_same, first_is, shown, situation_is}
 use Rattle.cbq_rounds.proofs.SentLemmas.{estimates_after, none_shown, set_each}
-use Rattle.cbq_rounds.specs.Stands.{Ruling, Stands, cbq_of}
+use Rattle.cbq_rounds.specs.Stands.{IsRuling, Ruling, Stands, cbq_of}
 
 -- a list whose packets have lengths of packets keeps so where one more comes, and where its head leaves
 sized_more : (b : Bool) (x : Entry) (xs : List Entry) → 1 ≤ x.len → x.len ≤ 262144 → AreSized xs → AreSized (if b then xs ++ x ∷ [] else xs)
@@ -266,3 +266,32 @@ without_none false xs e = e
 
 pub sent_others : (class c : ℕ) (lists : ℕ → List Entry) → lists c ≡ [] → after_sent class lists c ≡ []
 sent_others class c lists e = without_none (eqb class c) (lists c) e
+
+length_all : (f : ℕ → ℕ) (b : ℕ) (cs : List CbqClass) → length (each_from (λ c k. f c) b cs) ≡ length cs
+length_all f b [] = refl
+length_all f b (k ∷ ks) = let more = length_all f (b + 1) ks in omega (arith, more)
+
+-- the classes keep their form after a sending
+pub ruling_after : {Q : Type 0} (stands : Q → List QueueEvent → Type 0) (says : Q → Saying) (most : Q → ℕ) (d : Ruling Q) (rows : Rowed Q) (clock : Clock) (x : Sending) (end : ℕ) (emptied : Bool)
+    (after : Shared) → IsRuling d.shares d.rows → SameRow most says d.rows rows → ((c : ℕ) → list_in rows c ≡ after_sent x.class (list_in d.rows) c)
+    → IsAfter stands says d clock x end emptied after → IsRuling after rows
+ruling_after stands says most d rows clock x end emptied after r same lists i =
+    let f : ℕ → ℕ = gained_by d.shares (list_in d.rows) clock x in
+    let tree : length after.tree ≡ length d.shares.tree = ap (λ (cs : List CbqClass). length cs) i.tree in
+    let S : List Entry → Type 0 = λ xs. AreSized xs in
+    record {
+      first = same.first ∙ r.first;
+      count = same.count ∙ r.count ∙ sym tree;
+      credit_each = ap (λ (ns : List ℕ). length ns) i.credits
+          ∙ length-set (each (λ c k. f c) d.shares.tree) x.class (if emptied then 0 else f x.class - x.len) ∙ length_all f 0 d.shares.tree ∙ sym tree;
+      classes = same_in most says d.rows rows same ∙ r.classes ∙ ap numbers (sym i.tree);
+      sized = λ c. subst S (sym (lists c)) (sent_sized x.class c (list_in d.rows) (r.sized c));
+      others = λ c l. lists c ∙ sent_others x.class c (list_in d.rows) (r.others c (omega (arith, l, tree)));
+    }
+
+-- an option is none exactly where it is not some
+pub none_of : (o : Option Entry) (b : Bool) → is_some o ≡ not b → b ≡ is_none o
+none_of None true e = refl
+none_of None false e = absurd (cc)
+none_of (Some x) true e = absurd (cc)
+none_of (Some x) false e = refl
