@@ -1,3 +1,4 @@
+pub mod BuildLemmas
 pub mod DueLemmas
 pub mod Firsts
 pub mod GainLemmas

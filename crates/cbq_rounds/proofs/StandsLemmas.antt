@@ -75,7 +75,7 @@ front_of None n e = absurd (cc)
 front_of (Some a) n e = let same : a.len ≡ n = cc in record { packet = a; front = refl; len = sym same }
 
 module _ {Q : Type 0} (stands : Q → List QueueEvent → Type 0) (says : Q → Saying) where
-  distinct_in : (d : Ruling Q) → classes_in d.rows ≡ numbers d.shares.tree → AreDistinct (cbq_of says d).classes
+  pub distinct_in : (d : Ruling Q) → classes_in d.rows ≡ numbers d.shares.tree → AreDistinct (cbq_of says d).classes
   distinct_in d e = let P : List ℕ → Type 0 = λ cs. AreDistinct cs in subst P e (holding_distinct d.rows.first d.rows.holds)
 
   -- an offer
