@@ -1,6 +1,7 @@
 -- What CBQ keeps at first.
 use Rattle.std.proofs.Common.{◌≡◌, ◌≤◌, ◌<◌, ◌+◌, ◌^◌, ◌∙◌, inl, inr, ℕ, zero, suc, Bool, true, List, [], ◌∷◌, None, Some, All, length, get_or, map, replicate, refl, ap, sym, subst, arith}
 use Rattle.std.specs.Prelude.{unwrap_or}
+use Rattle.std.proofs.lemmas.Bool.{cases_lt}
 use Rattle.altq_model.specs.History.{Happened, bare}
 use Rattle.leaf_queue.specs.Queue.{QueueEvent, Saying}
 use Rattle.leaf_queue.specs.declared.node.Entry.{Entry}
@@ -15,19 +16,26 @@ use Rattle.cbq_rounds.specs.Fresh.{HasEarlierParents, IsClass, fresh, fresh_esti
 use Rattle.cbq_rounds.specs.Looked.{AreSized}
 use Rattle.cbq_rounds.specs.Shared.{IsShared, Shared, no_estimate}
 use Rattle.cbq_rounds.specs.Stands.{IsRuling, Ruling, Stands, cbq_of}
+use Rattle.cbq_rounds.proofs.Places.{past_end}
 use Rattle.cbq_rounds.proofs.StandsLemmas.{distinct_in}
 
 priority_bound : (cs : List CbqClass) (c : ℕ) → All IsClass cs → (get_or cs c no_class).priority ≤ 7
-priority_bound [] c a = omega arith
-priority_bound (k ∷ ks) zero a = a.0.priority
-priority_bound (k ∷ ks) (suc c) a = priority_bound ks c a.1
+priority_bound cs c a = elim (cases_lt c (length cs)) [
+  | inl l ↦ (a c no_class l).priority
+  | inr l ↦
+      let none : (get_or cs c no_class).priority ≡ 0 = ap (λ (k : CbqClass). k.priority) (past_end cs c no_class l) in
+      omega (arith, none)
+]
 
 rate_bound : (cs : List CbqClass) (c : ℕ) → All IsClass cs → (get_or cs c no_class).rate ≤ 10 ^ 12
-rate_bound [] c a = omega arith
-rate_bound (k ∷ ks) zero a = a.0.most_rate
-rate_bound (k ∷ ks) (suc c) a = rate_bound ks c a.1
+rate_bound cs c a = elim (cases_lt c (length cs)) [
+  | inl l ↦ (a c no_class l).most_rate
+  | inr l ↦
+      let none : (get_or cs c no_class).rate ≡ 0 = ap (λ (k : CbqClass). k.rate) (past_end cs c no_class l) in
+      omega (arith, none)
+]
 
-none_yet : (n c : ℕ) → get_or (replicate n 0) c 0 ≡ 0
+none_yet : (n c : ℕ) → ◌≡◌ {A = ℕ} (get_or {A = ℕ} (replicate {A = ℕ} n 0) c 0) 0
 none_yet zero c = refl
 none_yet (suc n) zero = refl
 none_yet (suc n) (suc c) = none_yet n c
@@ -41,7 +49,7 @@ count_map : (cs : List CbqClass) → length (map fresh_estimate cs) ≡ length c
 count_map [] = refl
 count_map (k ∷ ks) = let more = count_map ks in omega (arith, more)
 
-count_copies : (n : ℕ) → length (replicate n 0) ≡ n
+count_copies : (n : ℕ) → length {A = ℕ} (replicate {A = ℕ} n 0) ≡ n
 count_copies zero = refl
 count_copies (suc n) = let more = count_copies n in omega (arith, more)
 
@@ -89,7 +97,7 @@ fresh_each : (b : ℕ) (cs : List CbqClass) → map fresh_estimate cs ≡ each_f
 fresh_each b [] = refl
 fresh_each b (k ∷ ks) = ap (λ (es : List Estimate). fresh_estimate k ∷ es) (fresh_each (b + 1) ks)
 
-zero_each : (b : ℕ) (cs : List CbqClass) → replicate (length cs) 0 ≡ each_from (λ c k. 0) b cs
+zero_each : (b : ℕ) (cs : List CbqClass) → ◌≡◌ {A = List ℕ} (replicate {A = ℕ} (length cs) 0) (each_from (λ c k. 0) b cs)
 zero_each b [] = refl
 zero_each b (k ∷ ks) = ap (λ (ns : List ℕ). 0 ∷ ns) (zero_each (b + 1) ks)
 

@@ -11,7 +11,7 @@ at_any [] i d e l = absurd (omega arith)
 at_any (x ∷ xs) zero d e l = refl
 at_any (x ∷ xs) (suc i) d e l = at_any xs i d e (omega arith)
 
-past_end : {X : Type 0} (xs : List X) (i : ℕ) (d : X) → length xs ≤ i → get_or xs i d ≡ d
+pub past_end : {X : Type 0} (xs : List X) (i : ℕ) (d : X) → length xs ≤ i → get_or xs i d ≡ d
 past_end [] i d l = refl
 past_end (x ∷ xs) zero d l = absurd (omega arith)
 past_end (x ∷ xs) (suc i) d l = past_end xs i d (omega arith)
