@@ -105,7 +105,7 @@ module _ (d : Shared) (lists : ℕ → List Entry) (clock : Clock) where
       let place : x.class < length d.tree = omega (arith, x.high) in
       let now : start_now_in d d.rate clock.link x.class t y.len ≡ t = ap (λ (r : ℕ). start_now_in d r clock.link x.class t y.len) (sym rate) ∙ y.start in
       let able_now : may d.tree d.rate s x.class t ≡ true =
-          may_where d lists clock.link x.class t y.len place free y.head ∙ eq-eqb (start_now_in d d.rate clock.link x.class t y.len) t now in
+      may_where d lists clock.link x.class t y.len place free y.head ∙ eq-eqb (start_now_in d d.rate clock.link x.class t y.len) t now in
       chosen_by t x.class (kept (λ k. may d.tree d.rate s k t) x.class (numbers d.tree) (member_from 0 x.class d.tree x.low x.high) able_now)
 
   -- what is due by the first moment
@@ -313,10 +313,10 @@ module _ (d : Shared) (lists : ℕ → List Entry) (clock : Clock) where
       let low : c < length d.tree = omega (arith, same.0, same.1) in
       let len : head_in s c ≡ Some x.len = head_seen d lists clock.link c low ∙ front_len (lists c) x here in
       let own : allowed ≡ allows_in d.tree d.rate s c t (unwrap_or (head_in s c) 0) =
-          a ∙ ap (λ (m : ℕ). eqb (own_now d.tree d.estimates m clock.link t x.len r.class) t) rate
-          ∙ ap (λ (m : ℕ). eqb (own_now d.tree d.estimates d.rate clock.link t x.len m) t) same.0
-          ∙ sym (own_where d lists clock.link c t x.len free)
-          ∙ ap (λ (m : Option ℕ). allows_in d.tree d.rate s c t (unwrap_or m 0)) (sym len) in
+      a ∙ ap (λ (m : ℕ). eqb (own_now d.tree d.estimates m clock.link t x.len r.class) t) rate
+      ∙ ap (λ (m : ℕ). eqb (own_now d.tree d.estimates d.rate clock.link t x.len m) t) same.0
+      ∙ sym (own_where d lists clock.link c t x.len free)
+      ∙ ap (λ (m : Option ℕ). allows_in d.tree d.rate s c t (unwrap_or m 0)) (sym len) in
       ap (λ (k : ℕ). sending x k allowed) same.0 ∙ ap (λ (b : Bool). sending x c b) own ∙ sym (due_sent t x y.first here)
 
   -- what is due where there is no first moment, and where it is later

@@ -149,9 +149,9 @@ module _ (d : Shared) (lists : ℕ → List Entry) (clock : Clock) (x : Sending)
       let f : ℕ → ℕ = gained_by d lists clock x in
       let count : length now.credits ≡ length (each (λ c k. f c) d.tree) = g.count ∙ all ∙ sym (each_length f 0 d.tree) in
       let credits : now.credits ≡ each (λ c k. f c) d.tree = same_lists now.credits (each (λ c k. f c) d.tree) count
-          (λ c h.
-          let low : c < length d.tree = omega (arith, h, g.count, all) in
-          g.done c (omega (arith, low, l)) low ∙ sym (at_place (λ e k. f e) d.tree c 0 low)) in
+      (λ c h.
+      let low : c < length d.tree = omega (arith, h, g.count, all) in
+      g.done c (omega (arith, low, l)) low ∙ sym (at_place (λ e k. f e) d.tree c 0 low)) in
       g.same ∙ ap (with_credits d) credits
 
   -- what the class that is sent needs, and what a candidate needs
@@ -186,14 +186,14 @@ module _ (d : Shared) (lists : ℕ → List Entry) (clock : Clock) (x : Sending)
   few_rounds i len q =
       let y = picked_is i len q in
       let m : IsOneOf i (able d.tree d.rate s x.start) =
-          kept (λ k. may d.tree d.rate s k x.start) i (numbers d.tree) (member_from 0 i d.tree (omega arith) (omega (arith, q.place))) (able_now i len q) in
+      kept (λ k. may d.tree d.rate s k x.start) i (numbers d.tree) (member_from 0 i d.tree (omega arith) (omega (arith, q.place))) (able_now i len q) in
       let b = best_of d.tree d.rate s i (able d.tree d.rate s x.start) m in
       let one : b.one ≡ x.class = sym (ap class_in b.is) ∙ y.of_class in
       let same : priority i ≡ priority b.one = q.alike ∙ ap priority (sym one) in
       let low = fewer (rank_in d.tree d.rate s i) (rank_in d.tree d.rate s b.one) (b.first i m) same in
       let head : head_len (lists x.class) ≡ Some x.len = front_len (lists x.class) y.entry y.front ∙ ap (λ (n : ℕ). Some n) y.of_len in
       let theirs : rounds d.tree d.rate s b.one ≡ rounds_for (get_or d.credits x.class 0) (quantum_of d.rate (class_of d.tree x.class)) x.len =
-          ap (rounds d.tree d.rate s) one ∙ rounds_of_head x.class x.len y.place head in
+      ap (rounds d.tree d.rate s) one ∙ rounds_of_head x.class x.len y.place head in
       omega (arith, low, theirs, rounds_of_head i len q.place q.head)
 
   -- the class's gain, by what stands
@@ -212,8 +212,8 @@ module _ (d : Shared) (lists : ℕ → List Entry) (clock : Clock) (x : Sending)
       → r ≤ rounds_for (get_or now.credits i 0) (quantum_of now.rate (class_of now.tree i)) len
   few_now i len r now g q e =
       let same : rounds_for (get_or now.credits i 0) (quantum_of now.rate (class_of now.tree i)) len ≡ rounds_for (get_or d.credits i 0) (quantum_of d.rate (class_of d.tree i)) len =
-          ap (λ (k : Shared). rounds_for (get_or now.credits i 0) (quantum_of k.rate (class_of k.tree i)) len) g.same
-          ∙ ap (λ (c : ℕ). rounds_for c (quantum_of d.rate (class_of d.tree i)) len) (g.rest i (omega arith)) in
+      ap (λ (k : Shared). rounds_for (get_or now.credits i 0) (quantum_of k.rate (class_of k.tree i)) len) g.same
+      ∙ ap (λ (c : ℕ). rounds_for c (quantum_of d.rate (class_of d.tree i)) len) (g.rest i (omega arith)) in
       omega (arith, few_rounds i len q, same, e)
 
   -- the class's moment, by what stands
@@ -247,10 +247,10 @@ module _ (d : Shared) (lists : ℕ → List Entry) (clock : Clock) (x : Sending)
   pub later_gains_nothing : (i len start : ℕ) (now : Shared) → IsLookedAt i len start now → (start ≡ x.start → ⊥) → gained_by d lists clock x i ≡ get_or d.credits i 0
   later_gains_nothing i len start now q other =
       let is : start ≡ start_now_in d d.rate clock.link i x.start len =
-          start_by i len start now q.gone q.start_is ∙ ap (λ (r : ℕ). start_now_in d r clock.link i x.start len) q.rate in
+      start_by i len start now q.gone q.start_is ∙ ap (λ (r : ℕ). start_now_in d r clock.link i x.start len) q.rate in
       let late : may d.tree d.rate s i x.start ≡ false =
-          may_where d lists clock.link i x.start len q.place q.free q.head
-          ∙ ne_eqb (start_now_in d d.rate clock.link i x.start len) x.start (λ e. other (is ∙ e)) in
+      may_where d lists clock.link i x.start len q.place q.free q.head
+      ∙ ne_eqb (start_now_in d d.rate clock.link i x.start len) x.start (λ e. other (is ∙ e)) in
       gains_nothing i (not_able i late)
 
   pub other_gains_nothing : (i len start mine theirs : ℕ) (now : Shared) → IsLookedAt i len start now → mine ≡ (class_of now.tree i).priority → theirs ≡ priority x.class

@@ -139,7 +139,7 @@ looked_now d lists clock now i len start at after found found_after r x w same k
     let P : Option ℕ → Type 0 = λ o. HasLooked d lists clock now (i + 1) o found_after in
     let R : Option Rank → Type 0 = λ o. HasLooked d lists clock now (i + 1) (lesser at (Some start)) o in
     let is : found_after ≡ better found (rank_in d.tree d.rate (situation_in d lists clock.link) i) =
-        f ∙ ap (better found) (rank_is d lists clock.link i len r w.place w.head k) in
+    f ∙ ap (better found) (rank_is d lists clock.link i len r w.place w.head k) in
     subst P (sym e) (subst R (sym is) (looked_some d lists clock now i len start at found true (eq-eqb start now same) x w))
 
 pub looked_later : (d : Shared) (lists : ℕ → List Entry) (clock : Clock) (now i len start : ℕ) (at after : Option ℕ) (found found_after : Option Rank)

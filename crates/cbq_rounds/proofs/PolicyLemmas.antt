@@ -93,7 +93,7 @@ module _ {Q : Type 0} (stands : Q → List QueueEvent → Type 0) (says : Q → 
         let len : head_len (lists c) ≡ Some a.len = shown c ∙ ap (λ (m : Option Coming). option_map (λ (x : Coming). x.len) m) e in
         let there = head_is tree rate (bare h) c l ∙ ap (λ (m : Option Coming). option_map (λ (x : Coming). x.len) m) e in
         let same = one_least tree rate s t a.len c (least_of (own_start tree rate s t a.len) c (lenders tree c)) (start_now_in d.shares clock.rate clock.link c t a.len)
-            (send_is tree rate (bare h) t a.len c k.rate) (least_here c t a.len free) in
+        (send_is tree rate (bare h) t a.len c k.rate) (least_here c t a.len free) in
         ap (λ (n : ℕ). Some n) (ap (start_with tree rate s c t) there ∙ same)
         ∙ sym (ap (λ (m : Option ℕ). option_map (λ n. start_now_in d.shares clock.rate clock.link c t n) m) len)
 

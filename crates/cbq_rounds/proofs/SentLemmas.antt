@@ -126,7 +126,7 @@ set_each f g cs class v low e =
           let P : ℕ → Type 0 = λ j. get_or (slice_set xs class v) j 0 ≡ (if eqb class j then g j else f j) in
           let place : class < length xs = omega (arith, low, old) in
           let here : get_or (slice_set xs class v) class 0 ≡ (if eqb class class then g class else f class) =
-              (rw get_or-set_same e) ∙ sym (ap (λ (b : Bool). if b then g class else f class) (eq-eqb class class refl)) in
+          (rw get_or-set_same e) ∙ sym (ap (λ (b : Bool). if b then g class else f class) (eq-eqb class class refl)) in
           subst P (sym same) here ∙ sym (at_place h cs c 0 there)
       | inr other ↦
           (rw get_or-set_other refl) ∙ at_place (λ j k. f j) cs c 0 there

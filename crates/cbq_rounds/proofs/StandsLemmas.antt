@@ -184,7 +184,7 @@ module _ {Q : Type 0} (stands : Q → List QueueEvent → Type 0) (says : Q → 
     credits_same emptied e =
         let f : ℕ → ℕ = gained_by d.shares (list_in d.rows) clock x in
         let n : ℕ → ℕ = λ c. gained tree rate (situation tree rate b) (candidates tree rate (situation tree rate b) x.start)
-            (rounds_needed tree rate (situation tree rate b) (transmission x)) c in
+        (rounds_needed tree rate (situation tree rate b) (transmission x)) c in
         set_each f (λ c. if emptied then 0 else f c - x.len) tree x.class (if emptied then 0 else f x.class - x.len) sends.place refl
         ∙ each_same (λ c. if eqb x.class c then if emptied then 0 else f c - x.len else f c) (λ c. if eqb x.class c then if emptied then 0 else n c - x.len else n c) 0 tree
         (λ c. ap (λ (v : ℕ). if eqb x.class c then if emptied then 0 else v - x.len else v) (gained_same c))
@@ -197,9 +197,9 @@ module _ {Q : Type 0} (stands : Q → List QueueEvent → Type 0) (says : Q → 
         let g : List Event = Sent (transmission x) ∷ b in
         let empty : emptied ≡ is_none (head x.class g) = none ∙ none_shown (list_in rows x.class) (waiting x.class g) (told.shown x.class).packets in
         let es : after.estimates ≡ estimates tree g =
-            i.estimates ∙ ap (λ (n : ℕ). told_up 8 tree (Some x.class) (record { end = n; len = x.len }) d.shares.estimates) e
-            ∙ ap (λ (l : List Estimate). told_up 8 tree (Some x.class) (record { end = x.end; len = x.len }) l) k.estimates
-            ∙ estimates_after tree b (transmission x) t in
+        i.estimates ∙ ap (λ (n : ℕ). told_up 8 tree (Some x.class) (record { end = n; len = x.len }) d.shares.estimates) e
+        ∙ ap (λ (l : List Estimate). told_up 8 tree (Some x.class) (record { end = x.end; len = x.len }) l) k.estimates
+        ∙ estimates_after tree b (transmission x) t in
         let credited : after.credits ≡ credits tree rate g = i.credits ∙ credits_same emptied empty in
         let turned : after.cursors ≡ cursors tree g = i.cursors ∙ ap (λ (ns : List ℕ). slice_set ns (class_of tree x.class).priority x.class) k.cursors in
         let some : 0 < after.rate = omega (arith, k.rate, i.rate) in

@@ -163,7 +163,9 @@ impl<Q: QueueRule + Drop> Discipline for Cbq<Q> {
     }
 
     fn sent(&mut self, sending: Sending, clock: &LinkClock) {
-        let end = clock.end_of(sending.start, sending.len).max(self.shares.ended);
+        let end = clock
+            .end_of(sending.start, sending.len)
+            .max(self.shares.ended);
         gain_all(&mut self.shares, &self.rows, &sending, clock);
         self.rows.take(sending.class, sending.start);
         let emptied = self.rows.head(sending.class).is_none();

@@ -34,7 +34,9 @@ fn earlier(till: Option<u64>, start: u64) -> u64
 fn better(best: Option<Rank>, rank: Rank) -> Rank
     ensures { better best rank ≡ Some result }
 {
-    if let Some(b) = best && !rank.goes_before(b) {
+    if let Some(b) = best
+        && !rank.goes_before(b)
+    {
         b
     } else {
         rank

@@ -40,11 +40,11 @@ gain-requires-clause-few g c =
     let i : ℕ = c.loop-class.class in
     let place : i < length d.tree = omega (arith, c.loop-class-test.true, c.count-class-end.ensures, c.requires.count) in
     let head : head_len (list_in c.args.rows.now i) ≡ Some c.in-Some.head.len =
-        head_of (list_in c.args.rows.now i) c.head.result c.head.ensures ∙ ap (λ (o : Option Entry). option_map (λ (x : Entry). x.len) o) c.in-Some.is in
+    head_of (list_in c.args.rows.now i) c.head.result c.head.ensures ∙ ap (λ (o : Option Entry). option_map (λ (x : Entry). x.len) o) c.in-Some.is in
     let at = due_now d (list_in c.args.rows.now) c.args.clock.now c.args.sending.now i c.in-Some.head.len c.start_of-start.result c.priority.result c.priority-priority.result
-        c.loop-class.shares
-        (record { gone = c.loop-class.invariant; free = c.requires.free; rate = c.requires.rate; due = c.requires.due; place = place; head = head; start_is = c.start_of-start.ensures })
-        c.if-start-sending.true c.priority.ensures c.priority-priority.ensures c.if-priority.true in
+    c.loop-class.shares
+    (record { gone = c.loop-class.invariant; free = c.requires.free; rate = c.requires.rate; due = c.requires.due; place = place; head = head; start_is = c.start_of-start.ensures })
+    c.if-start-sending.true c.priority.ensures c.priority-priority.ensures c.if-priority.true in
     few_now d (list_in c.args.rows.now) c.args.clock.now c.args.sending.now i c.in-Some.head.len c.rounds-rounds.result c.loop-class.shares c.loop-class.invariant at c.rounds-rounds.ensures
 
 pub loop-class-preserved : goal.loop-class-preserved
@@ -55,16 +55,16 @@ loop-class-preserved g c =
     elim c.match-head.branch [
       | in-Some+then-start-sending+then-priority w ↦
           let head : head_len (list_in c.args.rows.now i) ≡ Some w.in-Some.head.len =
-              head_of (list_in c.args.rows.now i) c.head.result c.head.ensures ∙ ap (λ (o : Option Entry). option_map (λ (x : Entry). x.len) o) w.in-Some.is in
+          head_of (list_in c.args.rows.now i) c.head.result c.head.ensures ∙ ap (λ (o : Option Entry). option_map (λ (x : Entry). x.len) o) w.in-Some.is in
           let at = due_now d (list_in c.args.rows.now) c.args.clock.now c.args.sending.now i w.in-Some.head.len w.start_of-start.result w.priority.result c.priority-priority.result
-              c.loop-class.shares
-              (record { gone = c.loop-class.invariant; free = c.requires.free; rate = c.requires.rate; due = c.requires.due; place = place; head = head; start_is = w.start_of-start.ensures })
-              w.if-start-sending.true w.priority.ensures c.priority-priority.ensures w.if-priority.true in
+          c.loop-class.shares
+          (record { gone = c.loop-class.invariant; free = c.requires.free; rate = c.requires.rate; due = c.requires.due; place = place; head = head; start_is = w.start_of-start.ensures })
+          w.if-start-sending.true w.priority.ensures c.priority-priority.ensures w.if-priority.true in
           gained_on d (list_in c.args.rows.now) c.args.clock.now c.args.sending.now i w.in-Some.head.len c.rounds-rounds.result c.loop-class.shares c.match-head.shares
           c.loop-class.invariant at c.requires.credits c.rounds-rounds.ensures (w.shares-is ∙ w.gain.ensures)
       | in-Some+else-start-sending w ↦
           let head : head_len (list_in c.args.rows.now i) ≡ Some w.in-Some.head.len =
-              head_of (list_in c.args.rows.now i) c.head.result c.head.ensures ∙ ap (λ (o : Option Entry). option_map (λ (x : Entry). x.len) o) w.in-Some.is in
+          head_of (list_in c.args.rows.now i) c.head.result c.head.ensures ∙ ap (λ (o : Option Entry). option_map (λ (x : Entry). x.len) o) w.in-Some.is in
           let at : IsLookedAt d (list_in c.args.rows.now) c.args.clock.now c.args.sending.now i w.in-Some.head.len w.start_of-start.result c.loop-class.shares = record {
             gone = c.loop-class.invariant;
             free = c.requires.free;
@@ -86,7 +86,7 @@ loop-class-preserved g c =
           ]
       | in_default w ↦
           let none : head_len (list_in c.args.rows.now i) ≡ None =
-              head_of (list_in c.args.rows.now i) c.head.result c.head.ensures ∙ ap (λ (o : Option Entry). option_map (λ (x : Entry). x.len) o) w.in_default.is in
+          head_of (list_in c.args.rows.now i) c.head.result c.head.ensures ∙ ap (λ (o : Option Entry). option_map (λ (x : Entry). x.len) o) w.in_default.is in
           kept_on d (list_in c.args.rows.now) c.args.clock.now c.args.sending.now i c.loop-class.shares c.match-head.shares c.loop-class.invariant
           (empty_gains_nothing d (list_in c.args.rows.now) c.args.clock.now c.args.sending.now i place none) w.shares-is
     ]

@@ -12,7 +12,7 @@ invariant_of-result g c =
     let n : ℕ = length c.args.queues.items in
     let count : c.len.result ≡ length c.args.classes.now = omega (arith, c.requires.one_each) in
     let all : r.holds ≡ replicate (length c.args.classes.now) true =
-        c.in_ok-rows.ensures.holds ∙ c.in_ok-holds.ensures.items_if_clones_equal (λ y e. e) ∙ ap (λ k. replicate k true) count in
+    c.in_ok-rows.ensures.holds ∙ c.in_ok-holds.ensures.items_if_clones_equal (λ y e. e) ∙ ap (λ k. replicate k true) count in
     is_ruling g.Q.QueueRule.stands g.Q.QueueRule.says c.args.rate c.args.classes.now c.in_ok-shares.shares r c.in_ok-shares.ensures c.in_ok-rows.ensures.told
     (hold_all r c.args.classes.now c.in_ok-rows.ensures.first all) c.in_ok-rows.ensures.first
     (ap (λ (qs : List g.row.Q.Denot). length qs) c.in_ok-rows.ensures.queues ∙ c.requires.one_each)
@@ -22,7 +22,7 @@ returns-clause-empty g c =
     let r : Rowed g.row.Q.Denot = c.in_ok-rows.rows in
     let count : c.len.result ≡ length c.args.classes.now = omega (arith, c.requires.one_each) in
     let all : r.holds ≡ replicate (length c.args.classes.now) true =
-        c.in_ok-rows.ensures.holds ∙ c.in_ok-holds.ensures.items_if_clones_equal (λ y e. e) ∙ ap (λ k. replicate k true) count in
+    c.in_ok-rows.ensures.holds ∙ c.in_ok-holds.ensures.items_if_clones_equal (λ y e. e) ∙ ap (λ k. replicate k true) count in
     stands_empty g.Q.QueueRule.stands g.Q.QueueRule.says c.args.rate c.args.classes.now c.in_ok-shares.shares r c.in_ok-shares.ensures c.in_ok-rows.ensures.told
     (hold_all r c.args.classes.now c.in_ok-rows.ensures.first all) (omega (arith, c.requires.least))
 

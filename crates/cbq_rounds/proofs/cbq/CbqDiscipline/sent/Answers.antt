@@ -27,7 +27,7 @@ tell-requires-clause-some_bytes g c =
     let rate : c.args.clock.now.rate ≡ d.shares.rate = c.requires.rate ∙ ap (λ (v : Ruling g.row.Q.Denot). v.shares.rate) (sym c.self.view_is) in
     let due = ap (λ (v : Ruling g.row.Q.Denot). due_in v.shares (list_in v.rows) c.args.clock.now c.args.sending.start) c.self.view_is ∙ c.requires.due in
     let sends = sends_picked d.shares (list_in d.rows) c.args.clock.now c.args.sending.start c.args.sending.class c.args.sending.len c.args.sending.ticket c.args.sending.rule
-        c.requires.free rate due in
+    c.requires.free rate due in
     let sized = first_sized (list_in d.rows c.args.sending.class) sends.entry (c.self.invariant.sized c.args.sending.class) sends.front in
     omega (arith, sized.0, sends.of_len)
 
@@ -37,7 +37,7 @@ tell-requires-clause-few_bytes g c =
     let rate : c.args.clock.now.rate ≡ d.shares.rate = c.requires.rate ∙ ap (λ (v : Ruling g.row.Q.Denot). v.shares.rate) (sym c.self.view_is) in
     let due = ap (λ (v : Ruling g.row.Q.Denot). due_in v.shares (list_in v.rows) c.args.clock.now c.args.sending.start) c.self.view_is ∙ c.requires.due in
     let sends = sends_picked d.shares (list_in d.rows) c.args.clock.now c.args.sending.start c.args.sending.class c.args.sending.len c.args.sending.ticket c.args.sending.rule
-        c.requires.free rate due in
+    c.requires.free rate due in
     let sized = first_sized (list_in d.rows c.args.sending.class) sends.entry (c.self.invariant.sized c.args.sending.class) sends.front in
     omega (arith, sized.1, sends.of_len)
 
@@ -47,7 +47,7 @@ invariant_of-self g c =
     let rate : c.args.clock.now.rate ≡ d.shares.rate = c.requires.rate ∙ ap (λ (v : Ruling g.row.Q.Denot). v.shares.rate) (sym c.self.view_is) in
     let due = ap (λ (v : Ruling g.row.Q.Denot). due_in v.shares (list_in v.rows) c.args.clock.now c.args.sending.start) c.self.view_is ∙ c.requires.due in
     let sends = sends_picked d.shares (list_in d.rows) c.args.clock.now c.args.sending.start c.args.sending.class c.args.sending.len c.args.sending.ticket c.args.sending.rule
-        c.requires.free rate due in
+    c.requires.free rate due in
     ruling_after g.Q.QueueRule.stands g.Q.QueueRule.says g.Q.QueueRule.most d c.take.new.self c.args.clock.now c.args.sending c.max-end.result c.is_none-emptied.result
     c.tell.new.self c.self.invariant c.take.ensures.same c.take.ensures.lists
     (after_steps g.Q.QueueRule.stands g.Q.QueueRule.says d c.args.clock.now c.args.sending c.max-end.result c.is_none-emptied.result c.gain_all.new.shares c.pay.new.self
@@ -59,12 +59,12 @@ returns-clause-history g c =
     let rate : c.args.clock.now.rate ≡ d.shares.rate = c.requires.rate ∙ ap (λ (v : Ruling g.row.Q.Denot). v.shares.rate) (sym c.self.view_is) in
     let due = ap (λ (v : Ruling g.row.Q.Denot). due_in v.shares (list_in v.rows) c.args.clock.now c.args.sending.start) c.self.view_is ∙ c.requires.due in
     let sends = sends_picked d.shares (list_in d.rows) c.args.clock.now c.args.sending.start c.args.sending.class c.args.sending.len c.args.sending.ticket c.args.sending.rule
-        c.requires.free rate due in
+    c.requires.free rate due in
     let T : Inside g.row.Q.Denot → Type 0 = λ v. IsTree v.shares.tree in
     let tree : IsTree d.shares.tree = subst T c.self-inside.view_is c.self-inside.invariant.tree in
     let last = ap (λ (v : Inside g.row.Q.Denot). v.shares.ended) c.self-inside.view_is in
     let steps = after_steps g.Q.QueueRule.stands g.Q.QueueRule.says d c.args.clock.now c.args.sending c.max-end.result c.is_none-emptied.result c.gain_all.new.shares c.pay.new.self
-        c.set_last.new.self c.tell.new.self sends.place c.gain_all.ensures c.pay.ensures c.set_last.ensures c.tell.ensures in
+    c.set_last.new.self c.tell.new.self sends.place c.gain_all.ensures c.pay.ensures c.set_last.ensures c.tell.ensures in
     let P : Ruling g.row.Q.Denot → Type 0 = λ v. (h : List Happened) → Stands g.Q.QueueRule.stands g.Q.QueueRule.says v h
     → IsChoice c.args.sending.start c.args.clock.now (bare h)
     → Stands g.Q.QueueRule.stands g.Q.QueueRule.says (record { shares = c.tell.new.self; rows = c.take.new.self }) (sent_of c.args.sending ∷ h) in

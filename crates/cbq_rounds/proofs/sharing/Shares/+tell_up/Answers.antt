@@ -8,6 +8,8 @@ tell_up-requires t c =
     let same : length c.self.inside.classes.items ≡ length c.args.self.now.tree = ap (λ (d : Shared). length d.tree) c.self.view_is in
     let place : c.in-Some.class < length c.self.inside.classes.items = omega (arith, same, c.requires.class c.in-Some.class c.in-Some.is) in (
       omega (arith, c.decreases, c.if-levels-eq0.false),
-      (λ p e. parent_below c.self.inside.classes.items c.in-Some.class p c.index.result.now c.self.invariant.tree place c.index.ensures e,
-      search rules),
+      (
+        λ p e. parent_below c.self.inside.classes.items c.in-Some.class p c.index.result.now c.self.invariant.tree place c.index.ensures e,
+        search rules,
+      ),
     )
