@@ -39,13 +39,15 @@ module _ (cs : List CbqClass) (rate : ℕ) (s : Situation) where
   IsBehind one d = goes_before (r d) (r one) ≡ false
 
   -- c goes before b, and so leads what b led
-  behind_new : (b c one d : ℕ) (rest : List ℕ) → goes_before (r c) (r b) ≡ true → ((d : ℕ) → IsOneOf d (c ∷ rest) → IsBehind one d) → IsOneOf d (b ∷ c ∷ rest)
+  behind_new : (b c one d : ℕ) (rest : List ℕ) → goes_before (r c) (r b) ≡ true → ((d : ℕ) → IsOneOf d (c ∷ rest) → IsBehind one d)
+      → IsOneOf d (b ∷ c ∷ rest)
       → IsBehind one d
   behind_new b c one d rest e f (inl same) = subst (IsBehind one) same (behind_by (r b) (r c) (r one) (goes_before (r b) (r one)) refl e (f c (inl refl)))
   behind_new b c one d rest e f (inr m) = f d m
 
   -- or it does not
-  behind_old : (b c one d : ℕ) (rest : List ℕ) → goes_before (r c) (r b) ≡ false → ((d : ℕ) → IsOneOf d (b ∷ rest) → IsBehind one d) → IsOneOf d (b ∷ c ∷ rest)
+  behind_old : (b c one d : ℕ) (rest : List ℕ) → goes_before (r c) (r b) ≡ false → ((d : ℕ) → IsOneOf d (b ∷ rest) → IsBehind one d)
+      → IsOneOf d (b ∷ c ∷ rest)
       → IsBehind one d
   behind_old b c one d rest e f (inl same) = f d (inl same)
   behind_old b c one d rest e f (inr (inl same)) = subst (IsBehind one) same (not_before_trans (r c) (r b) (r one) e (f b (inl refl)))
@@ -56,7 +58,8 @@ module _ (cs : List CbqClass) (rate : ℕ) (s : Situation) where
   with_one b c one rest (inr m) = inr (inr m)
 
   leads_by : (b c : ℕ) (rest : List ℕ) (t : Bool) → goes_before (r c) (r b) ≡ t
-      → ((d : ℕ) → Leads cs rate s d rest (best cs rate s (Some (r d)) rest)) → Leads cs rate s b (c ∷ rest) (best cs rate s (if t then Some (r c) else Some (r b)) rest)
+      → ((d : ℕ) → Leads cs rate s d rest (best cs rate s (Some (r d)) rest))
+      → Leads cs rate s b (c ∷ rest) (best cs rate s (if t then Some (r c) else Some (r b)) rest)
   leads_by b c rest true e f =
       let x = f c in
       record { one = x.one; there = inr x.there; is = x.is; first = λ d m. behind_new b c x.one d rest e x.first m }

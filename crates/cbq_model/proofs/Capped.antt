@@ -73,7 +73,8 @@ not_root : (a b : Bool) → a ≡ false → (a || b) ≡ true → b ≡ true
 not_root true b e t = absurd (cc)
 not_root false b e t = t
 
-allowed_by_ends : (cs : List CbqClass) (rate : ℕ) (h : List Event) (s : Transmission) (c : ℕ) → IsBottom cs c → IsSending cs rate h s → s.class ≡ c → s.rule ≡ Own
+allowed_by_ends : (cs : List CbqClass) (rate : ℕ) (h : List Event) (s : Transmission) (c : ℕ) → IsBottom cs c → IsSending cs rate h s → s.class ≡ c
+    → s.rule ≡ Own
     → allows (pace_of (class_of cs c)) (sent_by c h) s.end s.len ≡ true
 allowed_by_ends cs rate h s c b i e own =
     let x : Situation = situation cs rate h in
@@ -117,7 +118,8 @@ sent_after c (Offered a w v ∷ g) h = sent_after c g h
 sent_after c (Sent s ∷ g) h = sent_by_case (eqb s.class c) (record { end = s.end; len = s.len }) (sent_by c (g ++ h)) (sent_by c g) (sent_by c h) (sent_after c g h)
 
 -- each was allowed after those before it
-allowed_by : (p : Pace) (x : Ended) (newer older : List Ended) (b : Bool) → (b ≡ true → allows p (newer ++ older) x.end x.len ≡ true) → AreAllowed p newer older
+allowed_by : (p : Pace) (x : Ended) (newer older : List Ended) (b : Bool) → (b ≡ true → allows p (newer ++ older) x.end x.len ≡ true)
+    → AreAllowed p newer older
     → AreAllowed p (if b then x ∷ newer else newer) older
 allowed_by p x newer older true f a = (f refl, a)
 allowed_by p x newer older false f a = a
@@ -145,7 +147,8 @@ at_most (e ∷ es) = (omega arith, at_most_more (longest es) (max e.len (longest
 sent_one : (c : ℕ) (s : Transmission) (h : List Event) → s.class ≡ c → sent_by c (Sent s ∷ h) ≡ record { end = s.end; len = s.len } ∷ sent_by c h
 sent_one c s h e = ap (λ (t : Bool). if t then record { end = s.end; len = s.len } ∷ sent_by c h else sent_by c h) (eq-eqb s.class c e)
 
-pub keeps_its_rate : (cs : List CbqClass) (rate c : ℕ) (last : Transmission) (between : List Event) (first : Transmission) (before : List Event) → 0 < rate
+pub keeps_its_rate : (cs : List CbqClass) (rate c : ℕ) (last : Transmission) (between : List Event) (first : Transmission) (before : List Event)
+    → 0 < rate
     → 0 < (class_of cs c).rate → IsStretch cs rate c last between first before → KeepsItsRate cs c last between first
 keeps_its_rate cs rate c last between first before some own_rate s =
     let p : Pace = pace_of (class_of cs c) in

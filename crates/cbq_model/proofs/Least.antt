@@ -112,5 +112,6 @@ send_is cs rate h t len c some =
     send_from cs rate s t len c (own_start cs rate s t len) (λ d. own_is cs rate h t len d some)
 
 -- there is one alone
-pub one_least : (cs : List CbqClass) (rate : ℕ) (s : Situation) (t len c x y : ℕ) → IsLeastSend cs rate s t len c x → IsLeastSend cs rate s t len c y → x ≡ y
+pub one_least : (cs : List CbqClass) (rate : ℕ) (s : Situation) (t len c x y : ℕ) → IsLeastSend cs rate s t len c x
+    → IsLeastSend cs rate s t len c y → x ≡ y
 one_least cs rate s t len c x y a b = omega (arith, a.least y b.from b.allowed, b.least x a.from a.allowed)

@@ -68,8 +68,10 @@ fresh_is_shared rate cs least most few parents classes = record {
 }
 
 -- the same of lists that are these
-pub is_shared : (rate : ℕ) (cs ks : List CbqClass) (es : List Estimate) (credits cursors : List ℕ) → 1000 ≤ rate → rate ≤ 10 ^ 12 → length cs ≤ 256 → HasEarlierParents cs
-    → All IsClass cs → ks ≡ cs → es ≡ map fresh_estimate cs → credits ≡ replicate (length cs) 0 → cursors ≡ replicate 8 0 → IsShared rate ks es credits cursors 0
+pub is_shared : (rate : ℕ) (cs ks : List CbqClass) (es : List Estimate) (credits cursors : List ℕ) → 1000 ≤ rate → rate ≤ 10 ^ 12 → length cs ≤ 256
+    → HasEarlierParents cs
+    → All IsClass cs → ks ≡ cs → es ≡ map fresh_estimate cs → credits ≡ replicate (length cs) 0 → cursors ≡ replicate 8 0
+    → IsShared rate ks es credits cursors 0
 is_shared rate cs ks es credits cursors least most few parents classes k e c u =
     let P1 : List CbqClass → Type 0 = λ x. IsShared rate x es credits cursors 0 in
     let P2 : List Estimate → Type 0 = λ x. IsShared rate cs x credits cursors 0 in
@@ -83,7 +85,8 @@ hold_numbers b zero (k ∷ ks) e = absurd (omega arith)
 hold_numbers b (suc n) [] e = absurd (omega arith)
 hold_numbers b (suc n) (k ∷ ks) e = let more : n ≡ length ks = omega arith in ap (λ (xs : List ℕ). b ∷ xs) (hold_numbers (b + 1) n ks more)
 
-pub hold_all : {Q : Type 0} (rows : Rowed Q) (cs : List CbqClass) → rows.first ≡ 0 → rows.holds ≡ replicate (length cs) true → classes_in rows ≡ numbers cs
+pub hold_all : {Q : Type 0} (rows : Rowed Q) (cs : List CbqClass) → rows.first ≡ 0 → rows.holds ≡ replicate (length cs) true
+    → classes_in rows ≡ numbers cs
 hold_all rows cs f h = ap (λ (n : ℕ). holding n rows.holds) f ∙ ap (holding 0) h ∙ hold_numbers 0 (length cs) cs refl
 
 nothing_seen : (xs : List Entry) → seen xs ≡ [] → xs ≡ []

@@ -63,7 +63,8 @@ module _ (d : Shared) (lists : ℕ → List Entry) (clock : Clock) where
     pub head : head_len (lists c) ≡ Some len
     pub start : start_now_in d clock.rate clock.link c t len ≡ u
 
-  starts_by : (t c u : ℕ) (o : Option ℕ) → head_len (lists c) ≡ o → option_map (λ len. start_now_in d clock.rate clock.link c t len) o ≡ Some u → Starts t c u
+  starts_by : (t c u : ℕ) (o : Option ℕ) → head_len (lists c) ≡ o → option_map (λ len. start_now_in d clock.rate clock.link c t len) o ≡ Some u
+      → Starts t c u
   starts_by t c u None e m = absurd (cc)
   starts_by t c u (Some n) e m = let same : start_now_in d clock.rate clock.link c t n ≡ u = cc in record { len = n; head = e; start = same }
 
@@ -117,7 +118,8 @@ module _ (d : Shared) (lists : ℕ → List Entry) (clock : Clock) where
       let p : Pick = send_head (choice_of d.tree d.rate s t) (lists (choice_of d.tree d.rate s t).class) in
       ap (λ (o : Option ℕ). due_with o t p) e ∙ ap (λ (b : Bool). if b then p else Wait u) (ne_eqb u t n)
 
-  due_now : (t : ℕ) → first_in d lists clock t ≡ Some t → due_in d lists clock t ≡ send_head (choice_of d.tree d.rate s t) (lists (picked d.tree d.rate s t))
+  due_now : (t : ℕ) → first_in d lists clock t ≡ Some t
+      → due_in d lists clock t ≡ send_head (choice_of d.tree d.rate s t) (lists (picked d.tree d.rate s t))
   due_now t e =
       let p : Pick = send_head (choice_of d.tree d.rate s t) (lists (choice_of d.tree d.rate s t).class) in
       ap (λ (o : Option ℕ). due_with o t p) e ∙ ap (λ (b : Bool). if b then p else Wait t) (eq-eqb t t refl)
@@ -170,7 +172,8 @@ module _ (d : Shared) (lists : ℕ → List Entry) (clock : Clock) where
       first_same (f u) (f t) 0 d.tree (λ c x h. same_case t u c first (head_len (lists c)) refl free l m (omega (arith, h)) a) ∙ a
 
   -- the wait is till the least moment at which something is sent
-  pub waits : (t u : ℕ) → clock.link.free ≤ t → clock.rate ≡ d.rate → t < u → first_in d lists clock t ≡ Some u → IsLeast (λ v. due_in d lists clock v) t u
+  pub waits : (t u : ℕ) → clock.link.free ≤ t → clock.rate ≡ d.rate → t < u → first_in d lists clock t ≡ Some u
+      → IsLeast (λ v. due_in d lists clock v) t u
   waits t u free rate l e =
       let again = steady t u u free (omega (arith, l)) (omega arith) e in
       let x = chosen u (omega (arith, free, l)) rate again in
@@ -275,7 +278,8 @@ module _ (d : Shared) (lists : ℕ → List Entry) (clock : Clock) where
     pub head : HasHead (lists rank.class)
     pub first : first_in d lists clock t ≡ Some t
 
-  pub found_is : (t till : ℕ) (o : Option ℕ) (b : Option Rank) → clock.link.free ≤ t → clock.rate ≡ d.rate → o ≡ first_in d lists clock t → o ≡ Some till → till ≤ t
+  pub found_is : (t till : ℕ) (o : Option ℕ) (b : Option Rank) → clock.link.free ≤ t → clock.rate ≡ d.rate → o ≡ first_in d lists clock t
+      → o ≡ Some till → till ≤ t
       → b ≡ best d.tree d.rate s None (able d.tree d.rate s t) → IsFound t b
   found_is t till o b free rate e m l k =
       let first : first_in d lists clock t ≡ Some till = sym e ∙ m in
@@ -302,7 +306,8 @@ module _ (d : Shared) (lists : ℕ → List Entry) (clock : Clock) where
   abbrev sending : Entry → (class : ℕ) → (allowed : Bool) → Pick
   sending x class allowed = Send x.ticket class x.len (if allowed then Own else Borrow)
 
-  pub found_sent : (t : ℕ) (o : Option Rank) (r : Rank) (x : Entry) (allowed : Bool) → clock.link.free ≤ t → clock.rate ≡ d.rate → IsFound t o → o ≡ Some r
+  pub found_sent : (t : ℕ) (o : Option Rank) (r : Rank) (x : Entry) (allowed : Bool) → clock.link.free ≤ t → clock.rate ≡ d.rate → IsFound t o
+      → o ≡ Some r
       → slice_get (lists r.class) 0 ≡ Some x → allowed ≡ eqb (own_now d.tree d.estimates clock.rate clock.link t x.len r.class) t
       → sending x r.class allowed ≡ due_in d lists clock t
   found_sent t o r x allowed free rate y e front a =
@@ -337,7 +342,8 @@ module _ (d : Shared) (lists : ℕ → List Entry) (clock : Clock) where
     pub first : first_in d lists clock t ≡ Some t
 
   sends_by : (t class len : ℕ) (ticket : Ticket) (rule : Rule) (x : IsSent t)
-      → Send x.entry.ticket (picked d.tree d.rate s t) x.entry.len (choice_of d.tree d.rate s t).rule ≡ Send ticket class len rule → SendsPicked t class len ticket rule
+      → Send x.entry.ticket (picked d.tree d.rate s t) x.entry.len (choice_of d.tree d.rate s t).rule ≡ Send ticket class len rule
+      → SendsPicked t class len ticket rule
   sends_by t class len ticket rule x e =
       let same : picked d.tree d.rate s t ≡ class = cc in
       let long : x.entry.len ≡ len = cc in

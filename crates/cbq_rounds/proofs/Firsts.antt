@@ -27,7 +27,8 @@ of_two f b n u v w e rest m = elim (cases_lt w v) [
   | inr l ↦ from_here f b n u v e (omega (arith, m, l))
 ]
 
-one_case : (f : ℕ → Option ℕ) (b n u : ℕ) (o p : Option ℕ) → f b ≡ o → lesser o p ≡ Some u → ((v : ℕ) → p ≡ Some v → IsOfOne f (b + 1) n v) → IsOfOne f b (suc n) u
+one_case : (f : ℕ → Option ℕ) (b n u : ℕ) (o p : Option ℕ) → f b ≡ o → lesser o p ≡ Some u → ((v : ℕ) → p ≡ Some v → IsOfOne f (b + 1) n v)
+    → IsOfOne f b (suc n) u
 one_case f b n u None p e m rest = from_rest f b n u (rest u m)
 one_case f b n u (Some v) None e m rest = let same : v ≡ u = cc in from_here f b n u v e same
 one_case f b n u (Some v) (Some w) e m rest =
@@ -73,13 +74,15 @@ first_same f g b (k ∷ ks) e =
     ap (λ (o : Option ℕ). lesser o (first_of (each_from (λ c x. f c) (b + 1) ks))) (e b (omega arith) (omega arith))
     ∙ ap (lesser (g b)) (first_same f g (b + 1) ks (λ c l h. e c (omega (arith, l)) (omega (arith, h))))
 
-none_by : (f : ℕ → Option ℕ) (b c : ℕ) (cs : List CbqClass) (o : Option ℕ) → f c ≡ o → first_of (each_from (λ d k. f d) b cs) ≡ None → b ≤ c → c < b + length cs
+none_by : (f : ℕ → Option ℕ) (b c : ℕ) (cs : List CbqClass) (o : Option ℕ) → f c ≡ o → first_of (each_from (λ d k. f d) b cs) ≡ None → b ≤ c
+    → c < b + length cs
     → f c ≡ None
 none_by f b c cs None e n l h = e
 none_by f b c cs (Some v) e n l h = let x = no_later f b c cs v l h e in let y = x.is in absurd (cc)
 
 -- there is none exactly where no class has one
-pub first_none : (f : ℕ → Option ℕ) (b c : ℕ) (cs : List CbqClass) → first_of (each_from (λ d k. f d) b cs) ≡ None → b ≤ c → c < b + length cs → f c ≡ None
+pub first_none : (f : ℕ → Option ℕ) (b c : ℕ) (cs : List CbqClass) → first_of (each_from (λ d k. f d) b cs) ≡ None → b ≤ c → c < b + length cs
+    → f c ≡ None
 first_none f b c cs e l h = none_by f b c cs (f c) refl e l h
 
 pub all_none : (f : ℕ → Option ℕ) (b : ℕ) (cs : List CbqClass) → ((c : ℕ) → f c ≡ None) → first_of (each_from (λ d k. f d) b cs) ≡ None

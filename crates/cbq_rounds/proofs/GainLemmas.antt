@@ -71,7 +71,8 @@ module _ (d : Shared) (lists : ℕ → List Entry) (clock : Clock) (x : Sending)
   priority c = (class_of d.tree c).priority
 
   -- who is a candidate, and who is not
-  pub candidate : (c : ℕ) → IsOneOf c (numbers d.tree) → may d.tree d.rate s c x.start ≡ true → priority c ≡ priority (picked d.tree d.rate s x.start) → IsOneOf c ready
+  pub candidate : (c : ℕ) → IsOneOf c (numbers d.tree) → may d.tree d.rate s c x.start ≡ true
+      → priority c ≡ priority (picked d.tree d.rate s x.start) → IsOneOf c ready
   candidate c m able_then p =
       kept (λ k. eqb (priority k) (priority (picked d.tree d.rate s x.start))) c (able d.tree d.rate s x.start)
       (kept (λ k. may d.tree d.rate s k x.start) c (numbers d.tree) m able_then) (eq-eqb (priority c) (priority (picked d.tree d.rate s x.start)) p)
@@ -98,7 +99,8 @@ module _ (d : Shared) (lists : ℕ → List Entry) (clock : Clock) (x : Sending)
   gains_rounds c m = ap (λ (b : Bool). gain_if b c) (among c ready m)
 
   -- one class more, which gains nothing
-  kept_at : (i c : ℕ) (now : Shared) → HasGained d lists clock x i now → gained_by d lists clock x i ≡ get_or d.credits i 0 → c < i + 1 → c < length d.tree
+  kept_at : (i c : ℕ) (now : Shared) → HasGained d lists clock x i now → gained_by d lists clock x i ≡ get_or d.credits i 0 → c < i + 1
+      → c < length d.tree
       → get_or now.credits c 0 ≡ gained_by d lists clock x c
   kept_at i c now g e l h = elim (cases_lt c i) [
     | inl m ↦ g.done c m h
@@ -108,7 +110,8 @@ module _ (d : Shared) (lists : ℕ → List Entry) (clock : Clock) (x : Sending)
         subst P (sym same) (g.rest i (omega arith) ∙ sym e)
   ]
 
-  pub gain_kept : (i : ℕ) (now : Shared) → HasGained d lists clock x i now → gained_by d lists clock x i ≡ get_or d.credits i 0 → HasGained d lists clock x (i + 1) now
+  pub gain_kept : (i : ℕ) (now : Shared) → HasGained d lists clock x i now → gained_by d lists clock x i ≡ get_or d.credits i 0
+      → HasGained d lists clock x (i + 1) now
   gain_kept i now g e = record {
     same = g.same;
     count = g.count;
@@ -117,7 +120,8 @@ module _ (d : Shared) (lists : ℕ → List Entry) (clock : Clock) (x : Sending)
   }
 
   -- or which gains
-  set_at : (i c v : ℕ) (now : Shared) → HasGained d lists clock x i now → i < length now.credits → v ≡ gained_by d lists clock x i → c < i + 1 → c < length d.tree
+  set_at : (i c v : ℕ) (now : Shared) → HasGained d lists clock x i now → i < length now.credits → v ≡ gained_by d lists clock x i → c < i + 1
+      → c < length d.tree
       → get_or (slice_set now.credits i v) c 0 ≡ gained_by d lists clock x c
   set_at i c v now g place e l h = elim (cases_lt c i) [
     | inl m ↦
@@ -134,7 +138,8 @@ module _ (d : Shared) (lists : ℕ → List Entry) (clock : Clock) (x : Sending)
       let other : c ≡ i → ⊥ = λ q. omega (arith, q, l) in
       rw get_or-set_other (g.rest c (omega (arith, l)))
 
-  pub gain_more : (i v : ℕ) (now : Shared) → HasGained d lists clock x i now → i < length d.tree → length d.credits ≡ length d.tree → v ≡ gained_by d lists clock x i
+  pub gain_more : (i v : ℕ) (now : Shared) → HasGained d lists clock x i now → i < length d.tree → length d.credits ≡ length d.tree
+      → v ≡ gained_by d lists clock x i
       → HasGained d lists clock x (i + 1) (with_credit now i v)
   gain_more i v now g place all e = record {
     same = ap (λ (k : Shared). with_credit k i v) g.same;
@@ -144,7 +149,8 @@ module _ (d : Shared) (lists : ℕ → List Entry) (clock : Clock) (x : Sending)
   }
 
   -- nothing is left
-  pub gain_all_is : (i : ℕ) (now : Shared) → HasGained d lists clock x i now → length d.tree ≤ i → length d.credits ≡ length d.tree → now ≡ with_gains d lists clock x
+  pub gain_all_is : (i : ℕ) (now : Shared) → HasGained d lists clock x i now → length d.tree ≤ i → length d.credits ≡ length d.tree
+      → now ≡ with_gains d lists clock x
   gain_all_is i now g l all =
       let f : ℕ → ℕ = gained_by d lists clock x in
       let count : length now.credits ≡ length (each (λ c k. f c) d.tree) = g.count ∙ all ∙ sym (each_length f 0 d.tree) in
@@ -177,7 +183,8 @@ module _ (d : Shared) (lists : ℕ → List Entry) (clock : Clock) (x : Sending)
       let y = picked_is i len q in
       candidate i (member_from 0 i d.tree (omega arith) (omega (arith, q.place))) (able_now i len q) (q.alike ∙ ap priority (sym y.of_class))
 
-  rounds_of_head : (c len : ℕ) → c < length d.tree → head_len (lists c) ≡ Some len → rounds d.tree d.rate s c ≡ rounds_for (get_or d.credits c 0) (quantum_of d.rate (class_of d.tree c)) len
+  rounds_of_head : (c len : ℕ) → c < length d.tree → head_len (lists c) ≡ Some len
+      → rounds d.tree d.rate s c ≡ rounds_for (get_or d.credits c 0) (quantum_of d.rate (class_of d.tree c)) len
   rounds_of_head c len l e =
       ap (λ (o : Option ℕ). rounds_for (get_or d.credits c 0) (quantum_of d.rate (class_of d.tree c)) (unwrap_or o 0)) (head_seen d lists clock.link c l ∙ e)
 
@@ -244,7 +251,8 @@ module _ (d : Shared) (lists : ℕ → List Entry) (clock : Clock) (x : Sending)
   }
 
   -- it may not be sent now, or is of another priority
-  pub later_gains_nothing : (i len start : ℕ) (now : Shared) → IsLookedAt i len start now → (start ≡ x.start → ⊥) → gained_by d lists clock x i ≡ get_or d.credits i 0
+  pub later_gains_nothing : (i len start : ℕ) (now : Shared) → IsLookedAt i len start now → (start ≡ x.start → ⊥)
+      → gained_by d lists clock x i ≡ get_or d.credits i 0
   later_gains_nothing i len start now q other =
       let is : start ≡ start_now_in d d.rate clock.link i x.start len =
       start_by i len start now q.gone q.start_is ∙ ap (λ (r : ℕ). start_now_in d r clock.link i x.start len) q.rate in
@@ -253,7 +261,8 @@ module _ (d : Shared) (lists : ℕ → List Entry) (clock : Clock) (x : Sending)
       ∙ ne_eqb (start_now_in d d.rate clock.link i x.start len) x.start (λ e. other (is ∙ e)) in
       gains_nothing i (not_able i late)
 
-  pub other_gains_nothing : (i len start mine theirs : ℕ) (now : Shared) → IsLookedAt i len start now → mine ≡ (class_of now.tree i).priority → theirs ≡ priority x.class
+  pub other_gains_nothing : (i len start mine theirs : ℕ) (now : Shared) → IsLookedAt i len start now → mine ≡ (class_of now.tree i).priority
+      → theirs ≡ priority x.class
       → (mine ≡ theirs → ⊥) → gained_by d lists clock x i ≡ get_or d.credits i 0
   other_gains_nothing i len start mine theirs now q m t other =
       let y = sends_picked d lists clock x.start x.class x.len x.ticket x.rule q.free q.rate q.due in

@@ -2,6 +2,7 @@ pub mod BuildLemmas
 pub mod DueLemmas
 pub mod Firsts
 pub mod GainLemmas
+pub mod Keeping
 pub mod LookLemmas
 pub mod Moments
 pub mod Places

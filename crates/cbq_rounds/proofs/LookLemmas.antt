@@ -46,7 +46,8 @@ best_step : (cs : List CbqClass) (rate : ℕ) (s : Situation) (found : Option Ra
 best_step cs rate s found test i rest true e = ap (λ (t : Bool). best cs rate s found (cond t (i ∷ filter test rest) (filter test rest))) e
 best_step cs rate s found test i rest false e = ap (λ (t : Bool). best cs rate s found (cond t (i ∷ filter test rest) (filter test rest))) e
 
-pub looked_on : (d : Shared) (lists : ℕ → List Entry) (clock : Clock) (now i : ℕ) (at : Option ℕ) (found : Option Rank) (b : Bool) → HasLooked d lists clock now i at found
+pub looked_on : (d : Shared) (lists : ℕ → List Entry) (clock : Clock) (now i : ℕ) (at : Option ℕ) (found : Option Rank) (b : Bool)
+    → HasLooked d lists clock now i at found
     → i < length d.tree → may d.tree d.rate (situation_in d lists clock.link) i now ≡ b
     → HasLooked d lists clock now (i + 1) (lesser at (start_in d lists clock now i))
     (if b then better found (rank_in d.tree d.rate (situation_in d lists clock.link) i) else found)
@@ -73,7 +74,8 @@ pub head_of : (xs : List Entry) (o : Option Entry) → o ≡ slice_get xs 0 → 
 head_of xs o e = ap (λ (p : Option Entry). option_map (λ (x : Entry). x.len) p) (sym e)
 
 -- nothing waits in the class
-pub looked_none : (d : Shared) (lists : ℕ → List Entry) (clock : Clock) (now i : ℕ) (at : Option ℕ) (found : Option Rank) → HasLooked d lists clock now i at found
+pub looked_none : (d : Shared) (lists : ℕ → List Entry) (clock : Clock) (now i : ℕ) (at : Option ℕ) (found : Option Rank)
+    → HasLooked d lists clock now i at found
     → i < length d.tree → head_len (lists i) ≡ None → HasLooked d lists clock now (i + 1) at found
 looked_none d lists clock now i at found x l e =
     let P : Option ℕ → Type 0 = λ o. HasLooked d lists clock now (i + 1) o found in
@@ -94,7 +96,8 @@ waiting_may d lists clock now i len start w =
     may_where d lists clock.link i now len w.place w.free w.head
     ∙ ap (λ (r : ℕ). eqb (start_now_in d r clock.link i now len) now) (sym w.rate) ∙ ap (λ (n : ℕ). eqb n now) (sym w.start_is)
 
-pub looked_some : (d : Shared) (lists : ℕ → List Entry) (clock : Clock) (now i len start : ℕ) (at : Option ℕ) (found : Option Rank) (b : Bool) → eqb start now ≡ b
+pub looked_some : (d : Shared) (lists : ℕ → List Entry) (clock : Clock) (now i len start : ℕ) (at : Option ℕ) (found : Option Rank) (b : Bool)
+    → eqb start now ≡ b
     → HasLooked d lists clock now i at found → Waiting d lists clock now i len start
     → HasLooked d lists clock now (i + 1) (lesser at (Some start)) (if b then better found (rank_in d.tree d.rate (situation_in d lists clock.link) i) else found)
 looked_some d lists clock now i len start at found b e x w =
@@ -118,7 +121,8 @@ pub record HasRank (d : Shared) (c len : ℕ) (r : Rank) : Type 0 where
   pub of_wraps : r.wraps ≡ nat_lt c (get_or d.cursors (class_of d.tree c).priority 0)
   pub of_class : r.class ≡ c
 
-pub rank_is : (d : Shared) (lists : ℕ → List Entry) (l : Link) (c len : ℕ) (r : Rank) → c < length d.tree → head_len (lists c) ≡ Some len → HasRank d c len r
+pub rank_is : (d : Shared) (lists : ℕ → List Entry) (l : Link) (c len : ℕ) (r : Rank) → c < length d.tree → head_len (lists c) ≡ Some len
+    → HasRank d c len r
     → r ≡ rank_in d.tree d.rate (situation_in d lists l) c
 rank_is d lists l c len r low e k =
     let p : ℕ = (class_of d.tree c).priority in
@@ -159,7 +163,8 @@ looked_past d lists clock now i at after found found_after x l none e f =
     subst P (sym e) (subst R (sym f) (looked_none d lists clock now i at found x l none))
 
 -- nothing is left to look at
-pub looked_all : (d : Shared) (lists : ℕ → List Entry) (clock : Clock) (now i : ℕ) (at : Option ℕ) (found : Option Rank) → HasLooked d lists clock now i at found
+pub looked_all : (d : Shared) (lists : ℕ → List Entry) (clock : Clock) (now i : ℕ) (at : Option ℕ) (found : Option Rank)
+    → HasLooked d lists clock now i at found
     → length d.tree ≤ i → (at ≡ first_in d lists clock now)
     × (found ≡ best d.tree d.rate (situation_in d lists clock.link) None (able d.tree d.rate (situation_in d lists clock.link) now))
 looked_all d lists clock now i at found x l =

@@ -44,7 +44,8 @@ start_is d lists rate l c t len free =
     (send_from d.tree rate s t len c f (λ k. own_from d.tree rate s t len k (start_now (estimate_in s k) rate l t len) (now_is (estimate_in s k) rate l t len free)))
 
 -- a class may send now exactly where that moment is now
-is_now_by : (cs : List CbqClass) (rate : ℕ) (s : Situation) (t len c start : ℕ) (b : Bool) → may_send cs rate s c t len ≡ b → IsLeastSend cs rate s t len c start
+is_now_by : (cs : List CbqClass) (rate : ℕ) (s : Situation) (t len c start : ℕ) (b : Bool) → may_send cs rate s c t len ≡ b
+    → IsLeastSend cs rate s t len c start
     → may_send cs rate s c t len ≡ eqb start t
 is_now_by cs rate s t len c start true e x =
     let low = x.least t (omega arith) e in
@@ -54,7 +55,8 @@ is_now_by cs rate s t len c start false e x =
     let P : ℕ → Type 0 = λ n. may_send cs rate s c n len ≡ true in
     e ∙ sym (ne_eqb start t (λ same. let f = subst P same x.allowed in (cc)))
 
-pub is_now : (cs : List CbqClass) (rate : ℕ) (s : Situation) (t len c start : ℕ) → IsLeastSend cs rate s t len c start → may_send cs rate s c t len ≡ eqb start t
+pub is_now : (cs : List CbqClass) (rate : ℕ) (s : Situation) (t len c start : ℕ) → IsLeastSend cs rate s t len c start
+    → may_send cs rate s c t len ≡ eqb start t
 is_now cs rate s t len c start x = is_now_by cs rate s t len c start (may_send cs rate s c t len) refl x
 
 -- the head that a choice sees
@@ -73,7 +75,8 @@ pub may_not : (d : Shared) (lists : ℕ → List Entry) (l : Link) (c t : ℕ) �
 may_not d lists l c t low e = ap (may_with d.tree d.rate (situation_in d lists l) c t) (head_seen d lists l c low ∙ e)
 
 -- a class's own average allows a packet now exactly where its own moment is now
-own_now_by : (cs : List CbqClass) (rate : ℕ) (s : Situation) (t len c start : ℕ) (b : Bool) → allows_in cs rate s c t len ≡ b → IsLeastOwn cs rate s t len c start
+own_now_by : (cs : List CbqClass) (rate : ℕ) (s : Situation) (t len c start : ℕ) (b : Bool) → allows_in cs rate s c t len ≡ b
+    → IsLeastOwn cs rate s t len c start
     → allows_in cs rate s c t len ≡ eqb start t
 own_now_by cs rate s t len c start true e x =
     let low = x.least t (omega arith) e in

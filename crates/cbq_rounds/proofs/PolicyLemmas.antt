@@ -34,7 +34,8 @@ len_shown [] (a ∷ ws) e = absurd (cc)
 len_shown (x ∷ xs) [] e = absurd (cc)
 len_shown (x ∷ xs) (a ∷ ws) e = let same : (x.len, x.prec) ≡ (a.len, a.prec) = cc in ap (λ (p : ℕ × ℕ). Some p.0) same
 
-pub each_same : {X : Type 0} (f g : ℕ → X) (b : ℕ) (cs : List CbqClass) → ((c : ℕ) → f c ≡ g c) → each_from (λ c k. f c) b cs ≡ each_from (λ c k. g c) b cs
+pub each_same : {X : Type 0} (f g : ℕ → X) (b : ℕ) (cs : List CbqClass) → ((c : ℕ) → f c ≡ g c)
+    → each_from (λ c k. f c) b cs ≡ each_from (λ c k. g c) b cs
 each_same f g b [] e = refl
 each_same {X} f g b (k ∷ ks) e =
     ap (λ (x : X). x ∷ each_from (λ c y. f c) (b + 1) ks) (e b) ∙ ap (λ (xs : List X). g b ∷ xs) (each_same f g (b + 1) ks e)
@@ -43,7 +44,8 @@ abbrev seen_as : List Estimate → List (Option ℕ) → (credits cursors : List
 seen_as es hs credits cursors l = record { estimates = es; heads = hs; credits = credits; cursors = cursors; link = l }
 
 -- the first moment of a policy is that of its classes
-first_each : (p : Policy) (t : ℕ) (h : List Event) (b : ℕ) (cs : List CbqClass) → first_at p t h (each_from (λ c k. c) b cs) ≡ first_of (each_from (λ c k. start_at p t h c) b cs)
+first_each : (p : Policy) (t : ℕ) (h : List Event) (b : ℕ) (cs : List CbqClass)
+    → first_at p t h (each_from (λ c k. c) b cs) ≡ first_of (each_from (λ c k. start_at p t h c) b cs)
 first_each p t h b [] = refl
 first_each p t h b (k ∷ ks) = ap (lesser (start_at p t h b)) (first_each p t h (b + 1) ks)
 

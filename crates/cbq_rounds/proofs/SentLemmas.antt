@@ -66,7 +66,8 @@ told_at cs x (suc levels) c (Some k) es t l =
       | inr other ↦ more ∙ told_other x k c v es rest (λ q. other (sym q)) other
     ]
 
-same_estimates : (xs ys : List Estimate) → length xs ≡ length ys → ((i : ℕ) → i < length xs → get_or xs i no_estimate ≡ get_or ys i no_estimate) → xs ≡ ys
+same_estimates : (xs ys : List Estimate) → length xs ≡ length ys → ((i : ℕ) → i < length xs → get_or xs i no_estimate ≡ get_or ys i no_estimate)
+    → xs ≡ ys
 same_estimates [] [] l e = refl
 same_estimates [] (y ∷ ys) l e = absurd (omega arith)
 same_estimates (x ∷ xs) [] l e = absurd (omega arith)

@@ -45,7 +45,8 @@ sized_more true x [] l m a = (l, m, tt)
 sized_more true x (y ∷ ys) l m a = (a.0, a.1, sized_more true x ys l m a.2)
 sized_more false x xs l m a = a
 
-pub offer_sized : (v : Verdict) (class c : ℕ) (x : Entry) (lists : ℕ → List Entry) → 1 ≤ x.len → x.len ≤ 262144 → AreSized (lists c) → AreSized (after_offer v class x lists c)
+pub offer_sized : (v : Verdict) (class c : ℕ) (x : Entry) (lists : ℕ → List Entry) → 1 ≤ x.len → x.len ≤ 262144 → AreSized (lists c)
+    → AreSized (after_offer v class x lists c)
 offer_sized v class c x lists l m a = sized_more (is_kept v && eqb class c) x (lists c) l m a
 
 not_kept : (a b : Bool) (x : Entry) (xs : List Entry) → b ≡ false → (if a && b then xs ++ x ∷ [] else xs) ≡ xs
@@ -80,7 +81,8 @@ module _ {Q : Type 0} (stands : Q → List QueueEvent → Type 0) (says : Q → 
 
   -- an offer
   pub offer_stands : (most : Q → ℕ) (d : Ruling Q) (rows : Rowed Q) (h : List Happened) (ticket : Ticket) (class len prec now : ℕ) (w z : DrawnWords) (v : Verdict)
-      → SameRow most says d.rows rows → Stands stands says d h → IsOffer now (bare h) → Answers stands says d.rows rows h class (entry ticket len prec) now w v z
+      → SameRow most says d.rows rows → Stands stands says d h → IsOffer now (bare h)
+      → Answers stands says d.rows rows h class (entry ticket len prec) now w v z
       → IsAnswer (cbq_of says d) (bare h) w (coming class len prec now) v z
       × Stands stands says (record { shares = d.shares; rows = rows }) (offer_of (cbq_of says d) h ticket w (coming class len prec now) ∷ h)
   offer_stands most d rows h ticket class len prec now w z v same k o a =

@@ -1,5 +1,5 @@
 // CBQ with its queues.
-ghost use Rattle.std.specs.Prelude.{◌≡◌, ◌≤◌, ◌<◌, ◌^◌, [], ℕ, List, All, IfOk, length, map, None, if◌then◌else◌};
+ghost use Rattle.std.specs.Prelude.{◌≡◌, ◌≤◌, ◌<◌, ◌^◌, [], ℕ, List, All, IfOk, length, map, None, Some, if◌then◌else◌};
 ghost use Rattle.altq_model.specs.declared.Rule.TheVariants.{Own, Borrow};
 ghost use Rattle.class_rows.specs.Rows.{IsNew, limit_at, list_in};
 ghost use Rattle.leaf_queue.specs.Queue.{by_queues};
@@ -59,6 +59,7 @@ impl<Q: QueueRule + Drop> Cbq<Q> {
         ensures empty { IfOk result (λ d. ⟦<Cbq<Q> as Discipline>⟧.stands d []) }
         ensures policy { IfOk result (λ d. ⟦<Cbq<Q> as Discipline>⟧.policy d ≡ cbq classes.now rate (by_queues 0 (map Q.says queues.items))) }
         ensures limits { IfOk result (λ d. ⟦<Cbq<Q> as Discipline>⟧.limits d ≡ limit_at 0 (map Q.most queues.items)) }
+        ensures rate { IfOk result (λ d. ⟦<Cbq<Q> as Discipline>⟧.link_rate d ≡ Some rate) }
     {
         let holds = vec![in alloc; true; queues.len()]?;
         let rows = Rows::build(alloc, 0, queues, holds)?;

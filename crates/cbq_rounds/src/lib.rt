@@ -7,6 +7,7 @@
 mod build;
 mod cbq;
 mod gains;
+mod laws;
 mod look;
 mod sent;
 mod sharing;
@@ -14,3 +15,4 @@ mod sharing;
 pub use cbq::Cbq;
 pub use cbq_model::CbqClass;
 pub use discipline_laws::{Discipline, Pick, Rule, Sending, Verdict};
+pub use laws::classes_keep_their_rates;

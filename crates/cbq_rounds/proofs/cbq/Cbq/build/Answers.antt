@@ -1,8 +1,9 @@
-use Rattle.std.proofs.Common.{◌≡◌, ◌<◌, ◌∙◌, ℕ, Bool, List, ap, arith, length, map, replicate}
+use Rattle.std.proofs.Common.{◌≡◌, ◌<◌, ◌∙◌, ℕ, Bool, List, ap, arith, length, map, replicate, Some}
 use Rattle.std.specs.Prelude.{true}
 use Rattle.class_rows.specs.Rows.{Rowed, classes_in, limit_at, limits_of}
 use Rattle.class_rows.proofs.RowLemmas.{all_limits}
 use Rattle.cbq_model.specs.Tree.{numbers}
+use Rattle.cbq_rounds.specs.Shared.{Shared}
 use Rattle.cbq_rounds.proofs.BuildLemmas.{hold_all, is_ruling, stands_empty}
 use Rattle.cbq_rounds.proofs.cbq.Cbq.build.Goals as goal
 
@@ -36,3 +37,6 @@ returns-clause-limits g c =
     ∙ ap (λ (hs : List Bool). limit_at 0 (limits_of g.Q.QueueRule.most r.queues hs)) all
     ∙ ap (λ (qs : List g.row.Q.Denot). limit_at 0 (limits_of g.Q.QueueRule.most qs (replicate n true))) c.in_ok-rows.ensures.queues
     ∙ ap (limit_at 0) (all_limits g.Q.QueueRule.most c.args.queues.items)
+
+pub returns-clause-rate : goal.returns-clause-rate
+returns-clause-rate g c = ap (λ (s : Shared). Some s.rate) c.in_ok-shares.ensures
