@@ -1,0 +1,11 @@
+pub mod BuildLemmas
+pub mod DueLemmas
+pub mod Firsts
+pub mod GainLemmas
+pub mod Keeping
+pub mod LookLemmas
+pub mod Moments
+pub mod Places
+pub mod PolicyLemmas
+pub mod SentLemmas
+pub mod StandsLemmas

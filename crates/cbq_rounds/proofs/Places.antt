@@ -1,0 +1,51 @@
+-- What stands at a place, and the least over lenders.
+use Rattle.std.proofs.Common.{◌≡◌, ◌≤◌, ◌<◌, ◌+◌, ◌-◌, ◌∙◌, ◌⊎◌, inl, inr, ℕ, zero, suc, Bool, true, false, List, [], ◌∷◌, None, Some, length, get_or, min, refl, ap, sym, subst, arith}
+use Rattle.std.specs.declared.option.Option.{Option}
+use Rattle.std.proofs.lemmas.Bool.{cases_lt}
+use Rattle.cbq_model.specs.declared.CbqClass.{CbqClass}
+use Rattle.cbq_model.specs.Tree.{class_of, lender_of, lenders_up, no_class}
+use Rattle.cbq_rounds.specs.Shared.{IsTree, least_with}
+
+pub at_any : {X : Type 0} (xs : List X) (i : ℕ) (d e : X) → i < length xs → get_or xs i d ≡ get_or xs i e
+at_any [] i d e l = absurd (omega arith)
+at_any (x ∷ xs) zero d e l = refl
+at_any (x ∷ xs) (suc i) d e l = at_any xs i d e (omega arith)
+
+pub past_end : {X : Type 0} (xs : List X) (i : ℕ) (d : X) → length xs ≤ i → get_or xs i d ≡ d
+past_end [] i d l = refl
+past_end (x ∷ xs) zero d l = absurd (omega arith)
+past_end (x ∷ xs) (suc i) d l = past_end xs i d (omega arith)
+
+-- a class that has a parent is one of the tree's
+pub has_parent : (cs : List CbqClass) (c p : ℕ) → (class_of cs c).parent ≡ Some p → c < length cs
+has_parent cs c p e = elim (cases_lt c (length cs)) [
+  | inl l ↦ l
+  | inr l ↦
+      let none : (class_of cs c).parent ≡ None = ap (λ (k : CbqClass). k.parent) (past_end cs c no_class l) in
+      absurd (cc)
+]
+
+-- a parent is one of the tree's
+pub parent_below : (cs : List CbqClass) (c p : ℕ) (k : CbqClass) → IsTree cs → c < length cs → k ≡ get_or cs c k → k.parent ≡ Some p → p < length cs
+parent_below cs c p k t l e f =
+    let same : k ≡ class_of cs c = e ∙ at_any cs c k no_class l in
+    let parent : (class_of cs c).parent ≡ Some p = ap (λ (x : CbqClass). x.parent) (sym same) ∙ f in
+    omega (arith, t.earlier c p parent)
+
+-- one lender more
+pub one_lender : (f : ℕ → ℕ) (t levels class : ℕ) (cs : List CbqClass) → 0 < levels
+    → least_with f t (lenders_up levels cs (Some class)) ≡ least_with f (min t (f class)) (lenders_up (levels - 1) cs (lender_of (class_of cs class)))
+one_lender f t zero class cs l = absurd (omega arith)
+one_lender f t (suc n) class cs l =
+    let same : n ≡ suc n - 1 = omega arith in
+    ap (λ (m : ℕ). least_with f (min t (f class)) (lenders_up m cs (lender_of (class_of cs class)))) same
+
+pub no_levels : (f : ℕ → ℕ) (t levels : ℕ) (cs : List CbqClass) (o : Option ℕ) → levels ≡ 0 → least_with f t (lenders_up levels cs o) ≡ t
+no_levels f t levels cs o e = ap (λ (m : ℕ). least_with f t (lenders_up m cs o)) e
+
+no_lender_by : (f : ℕ → ℕ) (t levels : ℕ) (cs : List CbqClass) → least_with f t (lenders_up levels cs None) ≡ t
+no_lender_by f t zero cs = refl
+no_lender_by f t (suc n) cs = refl
+
+pub no_lender : (f : ℕ → ℕ) (t levels : ℕ) (cs : List CbqClass) (o : Option ℕ) → o ≡ None → least_with f t (lenders_up levels cs o) ≡ t
+no_lender f t levels cs o e = ap (λ (p : Option ℕ). least_with f t (lenders_up levels cs p)) e ∙ no_lender_by f t levels cs

@@ -1,0 +1,78 @@
+use Rattle.std.proofs.Common.{◌≡◌, ◌<◌, ◌∙◌, ℕ, List, ◌∷◌, ap, arith, length, max, refl, subst, sym}
+use Rattle.std.specs.Prelude.{is_none}
+use Rattle.std.specs.declared.option.Option.{Option}
+use Rattle.altq_model.specs.History.{Happened, bare}
+use Rattle.altq_model.specs.Link.{end_of}
+use Rattle.leaf_queue.specs.declared.node.Entry.{Entry}
+use Rattle.class_rows.specs.Rows.{list_in}
+use Rattle.discipline_laws.specs.declared.pick.Pick.TheVariants.{Send}
+use Rattle.discipline_laws.specs.Laws.{sent_of}
+use Rattle.discipline_laws.specs.Moments.{IsChoice}
+use Rattle.cbq_rounds.specs.Due.{due_in}
+use Rattle.cbq_rounds.specs.declared.cbq.Cbq.TheInside.{Inside}
+use Rattle.cbq_rounds.specs.Shared.{IsTree}
+use Rattle.cbq_rounds.proofs.LookLemmas.{first_sized}
+use Rattle.cbq_rounds.specs.Stands.{Ruling, Stands}
+use Rattle.cbq_rounds.proofs.DueLemmas.{sends_picked}
+use Rattle.cbq_rounds.proofs.StandsLemmas.{after_steps, kept_end, none_of, ruling_after, sent_stands}
+use Rattle.cbq_rounds.proofs.cbq.CbqDiscipline.sent.Goals as goal
+
+pub gain_all-requires-clause-due : goal.gain_all-requires-clause-due
+gain_all-requires-clause-due g c =
+    ap (λ (d : Ruling g.row.Q.Denot). due_in d.shares (list_in d.rows) c.args.clock.now c.args.sending.start) c.self.view_is ∙ c.requires.due
+
+pub tell-requires-clause-some_bytes : goal.tell-requires-clause-some_bytes
+tell-requires-clause-some_bytes g c =
+    let d : Ruling g.row.Q.Denot = record { shares = c.self.inside.shares; rows = c.self.inside.rows } in
+    let rate : c.args.clock.now.rate ≡ d.shares.rate = c.requires.rate ∙ ap (λ (v : Ruling g.row.Q.Denot). v.shares.rate) (sym c.self.view_is) in
+    let due = ap (λ (v : Ruling g.row.Q.Denot). due_in v.shares (list_in v.rows) c.args.clock.now c.args.sending.start) c.self.view_is ∙ c.requires.due in
+    let sends = sends_picked d.shares (list_in d.rows) c.args.clock.now c.args.sending.start c.args.sending.class c.args.sending.len c.args.sending.ticket c.args.sending.rule
+    c.requires.free rate due in
+    let sized = first_sized (list_in d.rows c.args.sending.class) sends.entry (c.self.invariant.sized c.args.sending.class) sends.front in
+    omega (arith, sized.0, sends.of_len)
+
+pub tell-requires-clause-few_bytes : goal.tell-requires-clause-few_bytes
+tell-requires-clause-few_bytes g c =
+    let d : Ruling g.row.Q.Denot = record { shares = c.self.inside.shares; rows = c.self.inside.rows } in
+    let rate : c.args.clock.now.rate ≡ d.shares.rate = c.requires.rate ∙ ap (λ (v : Ruling g.row.Q.Denot). v.shares.rate) (sym c.self.view_is) in
+    let due = ap (λ (v : Ruling g.row.Q.Denot). due_in v.shares (list_in v.rows) c.args.clock.now c.args.sending.start) c.self.view_is ∙ c.requires.due in
+    let sends = sends_picked d.shares (list_in d.rows) c.args.clock.now c.args.sending.start c.args.sending.class c.args.sending.len c.args.sending.ticket c.args.sending.rule
+    c.requires.free rate due in
+    let sized = first_sized (list_in d.rows c.args.sending.class) sends.entry (c.self.invariant.sized c.args.sending.class) sends.front in
+    omega (arith, sized.1, sends.of_len)
+
+pub invariant_of-self : goal.invariant_of-self
+invariant_of-self g c =
+    let d : Ruling g.row.Q.Denot = record { shares = c.self.inside.shares; rows = c.self.inside.rows } in
+    let rate : c.args.clock.now.rate ≡ d.shares.rate = c.requires.rate ∙ ap (λ (v : Ruling g.row.Q.Denot). v.shares.rate) (sym c.self.view_is) in
+    let due = ap (λ (v : Ruling g.row.Q.Denot). due_in v.shares (list_in v.rows) c.args.clock.now c.args.sending.start) c.self.view_is ∙ c.requires.due in
+    let sends = sends_picked d.shares (list_in d.rows) c.args.clock.now c.args.sending.start c.args.sending.class c.args.sending.len c.args.sending.ticket c.args.sending.rule
+    c.requires.free rate due in
+    ruling_after g.Q.QueueRule.stands g.Q.QueueRule.says g.Q.QueueRule.most d c.take.new.self c.args.clock.now c.args.sending c.max-end.result c.is_none-emptied.result
+    c.tell.new.self c.self.invariant c.take.ensures.same c.take.ensures.lists
+    (after_steps g.Q.QueueRule.stands g.Q.QueueRule.says d c.args.clock.now c.args.sending c.max-end.result c.is_none-emptied.result c.gain_all.new.shares c.pay.new.self
+    c.set_last.new.self c.tell.new.self sends.place c.gain_all.ensures c.pay.ensures c.set_last.ensures c.tell.ensures)
+
+pub returns-clause-history : goal.returns-clause-history
+returns-clause-history g c =
+    let d : Ruling g.row.Q.Denot = record { shares = c.self.inside.shares; rows = c.self.inside.rows } in
+    let rate : c.args.clock.now.rate ≡ d.shares.rate = c.requires.rate ∙ ap (λ (v : Ruling g.row.Q.Denot). v.shares.rate) (sym c.self.view_is) in
+    let due = ap (λ (v : Ruling g.row.Q.Denot). due_in v.shares (list_in v.rows) c.args.clock.now c.args.sending.start) c.self.view_is ∙ c.requires.due in
+    let sends = sends_picked d.shares (list_in d.rows) c.args.clock.now c.args.sending.start c.args.sending.class c.args.sending.len c.args.sending.ticket c.args.sending.rule
+    c.requires.free rate due in
+    let T : Inside g.row.Q.Denot → Type 0 = λ v. IsTree v.shares.tree in
+    let tree : IsTree d.shares.tree = subst T c.self-inside.view_is c.self-inside.invariant.tree in
+    let last = ap (λ (v : Inside g.row.Q.Denot). v.shares.ended) c.self-inside.view_is in
+    let steps = after_steps g.Q.QueueRule.stands g.Q.QueueRule.says d c.args.clock.now c.args.sending c.max-end.result c.is_none-emptied.result c.gain_all.new.shares c.pay.new.self
+    c.set_last.new.self c.tell.new.self sends.place c.gain_all.ensures c.pay.ensures c.set_last.ensures c.tell.ensures in
+    let P : Ruling g.row.Q.Denot → Type 0 = λ v. (h : List Happened) → Stands g.Q.QueueRule.stands g.Q.QueueRule.says v h
+    → IsChoice c.args.sending.start c.args.clock.now (bare h)
+    → Stands g.Q.QueueRule.stands g.Q.QueueRule.says (record { shares = c.tell.new.self; rows = c.take.new.self }) (sent_of c.args.sending ∷ h) in
+    subst P c.self.view_is (λ h s o.
+    sent_stands g.Q.QueueRule.stands g.Q.QueueRule.says d h s tree c.args.clock.now c.args.sending o c.requires.free rate c.requires.end due
+    g.Q.QueueRule.most c.take.new.self c.tell.new.self c.max-end.result c.is_none-emptied.result c.take.ensures.same
+    (c.take.ensures.told h s.told _ _ refl refl)
+    (none_of c.head.result c.is_none-emptied.result c.is_none-emptied.ensures ∙ ap (λ (e : Option Entry). is_none e) c.head.ensures)
+    (c.max-end.ensures ∙ ap (λ (n : ℕ). max n c.self-inside.inside.0.0.ended) c.end_of.ensures.end ∙ ap (λ (n : ℕ). max (end_of c.args.clock.now.rate c.args.clock.now.link c.args.sending.start c.args.sending.len) n) last
+    ∙ kept_end g.Q.QueueRule.stands g.Q.QueueRule.says d h s tree c.args.clock.now c.args.sending o c.requires.free rate c.requires.end due)
+    steps)

@@ -1,0 +1,62 @@
+use Rattle.std.proofs.Common.{◌≡◌, ◌<◌, ◌≤◌, ◌+◌, ◌∙◌, ℕ, None, Some, ap, arith, length, refl, sym}
+use Rattle.std.specs.declared.option.Option.{Option}
+use Rattle.std.specs.Prelude.{option_map}
+use Rattle.leaf_queue.specs.declared.node.Entry.{Entry}
+use Rattle.class_rows.specs.Rows.{list_in}
+use Rattle.cbq_rounds.specs.Shared.{Shared}
+use Rattle.cbq_rounds.proofs.LookLemmas.{HasRank, Waiting, first_sized, head_of, looked_all, looked_later, looked_now, looked_past}
+use Rattle.cbq_rounds.proofs.look.look.Goals as goal
+use Rattle.cbq_rounds.proofs.look.look.Goals.{in-Some+then-start-now, in-Some+else-start-now, in_default}
+
+pub start_of-start-requires-clause-some_bytes : goal.start_of-start-requires-clause-some_bytes
+start_of-start-requires-clause-some_bytes g c =
+    (first_sized (list_in c.args.rows.now c.loop-class.class) c.in-Some.head (c.requires.sized c.loop-class.class) (sym c.head.ensures ∙ c.in-Some.is)).0
+
+pub start_of-start-requires-clause-few_bytes : goal.start_of-start-requires-clause-few_bytes
+start_of-start-requires-clause-few_bytes g c =
+    (first_sized (list_in c.args.rows.now c.loop-class.class) c.in-Some.head (c.requires.sized c.loop-class.class) (sym c.head.ensures ∙ c.in-Some.is)).1
+
+pub loop-class-preserved : goal.loop-class-preserved
+loop-class-preserved g c =
+    let d : Shared = c.args.shares.now in
+    let i : ℕ = c.loop-class.class in
+    let place : i < length d.tree = omega (arith, c.loop-class-test.true, c.count-class-end.ensures, c.requires.count) in
+    elim c.match-head.branch [
+      | in-Some+then-start-now w ↦
+          looked_now d (list_in c.args.rows.now) c.args.clock.now c.args.now i w.in-Some.head.len w.start_of-start.result c.loop-class.till c.match-head.till c.loop-class.best
+          c.match-head.best w.rank.result c.loop-class.invariant
+          (record {
+            place = place;
+            free = c.requires.free;
+            rate = c.requires.rate;
+            head = head_of (list_in c.args.rows.now i) c.head.result c.head.ensures ∙ ap (λ (o : Option Entry). option_map (λ (x : Entry). x.len) o) w.in-Some.is;
+            start_is = w.start_of-start.ensures;
+          })
+          w.if-start-now.true
+          (record { of_priority = w.rank.ensures.priority; of_rounds = w.rank.ensures.rounds; of_wraps = w.rank.ensures.wraps; of_class = w.rank.ensures.class })
+          (w.till-is ∙ sym w.earlier.ensures) (w.best-is ∙ sym w.better.ensures)
+      | in-Some+else-start-now w ↦
+          looked_later d (list_in c.args.rows.now) c.args.clock.now c.args.now i w.in-Some.head.len w.start_of-start.result c.loop-class.till c.match-head.till c.loop-class.best
+          c.match-head.best c.loop-class.invariant
+          (record {
+            place = place;
+            free = c.requires.free;
+            rate = c.requires.rate;
+            head = head_of (list_in c.args.rows.now i) c.head.result c.head.ensures ∙ ap (λ (o : Option Entry). option_map (λ (x : Entry). x.len) o) w.in-Some.is;
+            start_is = w.start_of-start.ensures;
+          })
+          w.if-start-now.false (w.till-is ∙ sym w.earlier.ensures) w.best-is
+      | in_default w ↦
+          looked_past d (list_in c.args.rows.now) c.args.clock.now c.args.now i c.loop-class.till c.match-head.till c.loop-class.best c.match-head.best c.loop-class.invariant place
+          (head_of (list_in c.args.rows.now i) c.head.result c.head.ensures ∙ ap (λ (o : Option Entry). option_map (λ (x : Entry). x.len) o) w.in_default.is) w.till-is w.best-is
+    ]
+
+pub returns-clause-till : goal.returns-clause-till
+returns-clause-till g c =
+    (looked_all c.args.shares.now (list_in c.args.rows.now) c.args.clock.now c.args.now c.loop-class.class c.loop-class.till c.loop-class.best c.loop-class.invariant
+    (omega (arith, c.loop-class-test.false, c.count-class-end.ensures, c.requires.count))).0
+
+pub returns-clause-best : goal.returns-clause-best
+returns-clause-best g c =
+    (looked_all c.args.shares.now (list_in c.args.rows.now) c.args.clock.now c.args.now c.loop-class.class c.loop-class.till c.loop-class.best c.loop-class.invariant
+    (omega (arith, c.loop-class-test.false, c.count-class-end.ensures, c.requires.count))).1

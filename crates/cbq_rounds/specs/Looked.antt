@@ -1,0 +1,23 @@
+-- What a look at the first classes has found.
+use Rattle.std.specs.Prelude.{◌≡◌, ◌≤◌, ℕ, List, [], ◌∷◌, Option, None, drop}
+use Rattle.std.specs.List.{filter}
+use Rattle.altq_model.specs.Play.{lesser}
+use Rattle.cbq_model.specs.declared.Rank.{Rank}
+use Rattle.cbq_model.specs.Choice.{able, best, may}
+use Rattle.cbq_model.specs.Tree.{each_from}
+use Rattle.leaf_queue.specs.declared.node.Entry.{Entry}
+use Rattle.link_clock.specs.Clock.{Clock}
+use Rattle.cbq_rounds.specs.Due.{first_in, first_of, start_in}
+use Rattle.cbq_rounds.specs.Shared.{Shared, situation_in}
+
+-- every packet that waits has a length of a packet
+abbrev pub AreSized : List Entry → Type 0
+AreSized [] = Unit {0}
+AreSized (x ∷ xs) = (1 ≤ x.len) × (x.len ≤ 262144) × AreSized xs
+
+-- the first moment and the first class of the classes from one on, with what the earlier ones gave, are those of all
+pub record HasLooked (d : Shared) (lists : ℕ → List Entry) (clock : Clock) (now class : ℕ) (at : Option ℕ) (found : Option Rank) : Type 0 where
+  pub till : lesser at (first_of (each_from (λ c k. start_in d lists clock now c) class (drop class d.tree))) ≡ first_in d lists clock now
+  pub best : best d.tree d.rate (situation_in d lists clock.link) found
+      (filter (λ c. may d.tree d.rate (situation_in d lists clock.link) c now) (each_from (λ c k. c) class (drop class d.tree)))
+      ≡ best d.tree d.rate (situation_in d lists clock.link) None (able d.tree d.rate (situation_in d lists clock.link) now)

@@ -1,0 +1,193 @@
+// CBQ with its queues.
+ghost use Rattle.std.specs.Prelude.{◌≡◌, ◌≤◌, ◌<◌, ◌^◌, [], ℕ, List, All, IfOk, length, map, None, Some, if◌then◌else◌};
+ghost use Rattle.altq_model.specs.declared.Rule.TheVariants.{Own, Borrow};
+ghost use Rattle.class_rows.specs.Rows.{IsNew, limit_at, list_in};
+ghost use Rattle.leaf_queue.specs.Queue.{by_queues};
+ghost use Rattle.cbq_model.specs.Choice.{able, best};
+ghost use Rattle.cbq_model.specs.Rounds.{cbq};
+ghost use Rattle.cbq_rounds.specs.Due.{due_in, first_in};
+ghost use Rattle.cbq_rounds.specs.Fresh.{HasEarlierParents, IsClass};
+ghost use Rattle.cbq_rounds.specs.Looked.{AreSized};
+ghost use Rattle.cbq_rounds.specs.Shared.{situation_in};
+ghost use Rattle.cbq_rounds.specs.Stands.{IsRuling, Ruling};
+
+use crate::gains::gain_all;
+use crate::look::{Found, look};
+use crate::sharing::Shares;
+use altq_model::{Rule, Verdict};
+use cbq_model::CbqClass;
+use class_rows::Rows;
+use discipline_laws::{Discipline, Pick, Sending};
+use leaf_queue::{Entry, QueueRule, Words};
+use link_clock::LinkClock;
+use play_base::{NoMemory, Ticket};
+use std::alloc::Global;
+use std::marker::Model;
+
+/// CBQ: classes that share a link.
+#[derive(Drop)]
+pub struct Cbq<Q: QueueRule + Drop> {
+    shares: Shares,
+    rows: Rows<Q>,
+}
+
+impl<Q: QueueRule + Drop> Model for Cbq<Q> {
+    ghost Value = { Ruling Q };
+
+    ghost view = { λ d. record { shares = d.shares; rows = d.rows } };
+
+    ghost invariant = { λ d. IsRuling d.shares d.rows };
+}
+
+impl<Q: QueueRule + Drop> Cbq<Q> {
+    /// CBQ with these classes, at most 256, on a link of `rate` bits per second, 1,000 to 10^12. Every class may hold packets, and there
+    /// is one queue for each, which stands for nothing asked or told yet and holds 1 to 10,000 packets. Each parent stands earlier in
+    /// the list, and no class is deeper than 8 levels. Takes all the memory that it will ever take; `NoMemory` comes only for want of it.
+    pub fn build(
+        alloc: Global,
+        classes: &[CbqClass],
+        rate: u64,
+        queues: Vec<Q>,
+    ) -> Result<Cbq<Q>, NoMemory>
+        requires least { 1000 ≤ rate }
+        requires most { rate ≤ 10 ^ 12 }
+        requires few { length classes.now ≤ 256 }
+        requires one_each { length queues.items ≡ length classes.now }
+        requires parents { HasEarlierParents classes.now }
+        requires classes { All IsClass classes.now }
+        requires queues { All (IsNew Q.stands Q.most) queues.items }
+        ensures empty { IfOk result (λ d. ⟦<Cbq<Q> as Discipline>⟧.stands d []) }
+        ensures policy { IfOk result (λ d. ⟦<Cbq<Q> as Discipline>⟧.policy d ≡ cbq classes.now rate (by_queues 0 (map Q.says queues.items))) }
+        ensures limits { IfOk result (λ d. ⟦<Cbq<Q> as Discipline>⟧.limits d ≡ limit_at 0 (map Q.most queues.items)) }
+        ensures rate { IfOk result (λ d. ⟦<Cbq<Q> as Discipline>⟧.link_rate d ≡ Some rate) }
+    {
+        let holds = vec![in alloc; true; queues.len()]?;
+        let rows = Rows::build(alloc, 0, queues, holds)?;
+        let shares = Shares::build(alloc, classes, rate)?;
+        Ok(Cbq { shares, rows })
+    }
+}
+
+// A class sends as its own what it allows itself, and else borrows.
+fn rule_of(allowed: bool) -> Rule
+    ensures { result ≡ (if allowed then Own else Borrow) }
+{
+    if allowed { Rule::Own } else { Rule::Borrow }
+}
+
+// What is due, by what a look has found.
+fn pick_of<Q: QueueRule + Drop>(
+    shares: &Shares,
+    rows: &Rows<Q>,
+    found: &Found,
+    now: u64,
+    clock: &LinkClock,
+) -> Pick
+    requires first { rows.now.first ≡ 0 }
+    requires count { length rows.now.queues ≡ length shares.now.tree }
+    requires sized { (c : ℕ) → AreSized (list_in rows.now c) }
+    requires free { clock.now.link.free ≤ now }
+    requires early { now < 2 ^ 63 }
+    requires rate { clock.now.rate ≡ shares.now.rate }
+    requires till { found.now.till ≡ first_in shares.now (list_in rows.now) clock.now now }
+    requires best { found.now.best ≡ best shares.now.tree shares.now.rate (situation_in shares.now (list_in rows.now) clock.now.link) None
+        (able shares.now.tree shares.now.rate (situation_in shares.now (list_in rows.now) clock.now.link) now) }
+    ensures { result ≡ due_in shares.now (list_in rows.now) clock.now now }
+{
+    let Some(till) = found.till else {
+        return Pick::Empty;
+    };
+    if till > now {
+        return Pick::Wait { till };
+    }
+    let Some(best) = found.best else {
+        return Pick::Empty;
+    };
+    let Some(head) = rows.head(best.class) else {
+        return Pick::Empty;
+    };
+    let allowed = shares.allows(best.class, head.len, now, clock);
+    Pick::Send {
+        ticket: head.ticket,
+        class: best.class,
+        len: head.len,
+        rule: rule_of(allowed),
+    }
+}
+
+impl<Q: QueueRule + Drop> Discipline for Cbq<Q> {
+    ghost use Rattle.std.specs.Prelude.{Some};
+    ghost use Rattle.altq_model.specs.History.{bare, offered};
+    ghost use Rattle.class_rows.specs.Rows.{limit_in, list_in};
+    ghost use Rattle.class_rows.proofs.RowLemmas.{none_is_least};
+    ghost use Rattle.cbq_rounds.specs.Due.{due_in};
+    ghost use Rattle.cbq_rounds.specs.Stands.{Stands, cbq_of};
+
+    ghost lists = { λ d. list_in d.rows };
+
+    ghost limits = { λ d. limit_in Q.most d.rows };
+
+    ghost stands = { λ d h. Stands Q.stands Q.says d h };
+
+    ghost due = { λ d clock now. due_in d.shares (list_in d.rows) clock now };
+
+    ghost policy = { λ d. cbq_of Q.says d };
+
+    ghost link_rate = { λ d. Some d.shares.rate };
+
+    ghost given = { λ d. 0 };
+
+    ghost moment = { λ d. 0 };
+
+    ghost ended = { λ d. d.shares.ended };
+
+    fn room(&self) -> u32 {
+        self.rows.room()
+    }
+
+    fn offer(
+        &mut self,
+        ticket: Ticket,
+        class: u32,
+        len: u32,
+        prec: u8,
+        now: u64,
+        words: &mut Words,
+    ) -> Verdict {
+        let entry = Entry { ticket, len, prec };
+        self.rows.offer(class, entry, now, words)
+    }
+
+    fn next(&mut self, now: u64, clock: &LinkClock) -> Pick {
+        let found = look(&self.shares, &self.rows, now, clock);
+        pick_of(&self.shares, &self.rows, &found, now, clock)
+    }
+
+    fn sent(&mut self, sending: Sending, clock: &LinkClock) {
+        let end = clock
+            .end_of(sending.start, sending.len)
+            .max(self.shares.ended);
+        gain_all(&mut self.shares, &self.rows, &sending, clock);
+        self.rows.take(sending.class, sending.start);
+        let emptied = self.rows.head(sending.class).is_none();
+        self.shares.pay(sending.class, sending.len, emptied);
+        self.shares.set_last(sending.class, end);
+        self.shares.tell(sending.class, sending.len);
+    }
+
+    ghost shows = { λ d h s. s.told.shown };
+
+    ghost counts = { λ d h s. none_is_least (offered (bare h)) };
+
+    ghost moments = { λ d h s t l b. none_is_least t };
+
+    ghost ends = { λ d h s r l. s.ended r l };
+
+    ghost distinct = { λ d h s. s.distinct };
+
+    ghost orderly = { λ d h s. s.orderly };
+
+    ghost lawful = { λ d h s. s.lawful };
+
+    ghost steady = { λ d h s. s.steady };
+}

@@ -1,0 +1,44 @@
+// What the candidates of a sending gain.
+ghost use Rattle.std.specs.Prelude.{◌≡◌, ◌≤◌, ◌<◌, ◌^◌, ℕ, length};
+ghost use Rattle.class_rows.specs.Rows.{list_in};
+ghost use Rattle.discipline_laws.specs.declared.pick.Pick.{Pick};
+ghost use Rattle.cbq_rounds.specs.Due.{due_in};
+ghost use Rattle.cbq_rounds.specs.Looked.{AreSized};
+ghost use Rattle.cbq_rounds.specs.Gained.{with_gains};
+
+use crate::sharing::Shares;
+use class_rows::Rows;
+use discipline_laws::Sending;
+use leaf_queue::QueueRule;
+use link_clock::LinkClock;
+
+/// Gives each candidate of a sending, which is the one due at its start, its quantum in each of the rounds that the class sent needed.
+/// It looks at each class that waits once, and at its way to the root as far as it may borrow.
+pub fn gain_all<Q: QueueRule + Drop>(
+    shares: &mut Shares,
+    rows: &Rows<Q>,
+    sending: &Sending,
+    clock: &LinkClock,
+)
+    requires first { rows.now.first ≡ 0 }
+    requires count { length rows.now.queues ≡ length shares.old.tree }
+    requires credits { length shares.old.credits ≡ length shares.old.tree }
+    requires sized { (c : ℕ) → AreSized (list_in rows.now c) }
+    requires free { clock.now.link.free ≤ sending.now.start }
+    requires early { sending.now.start < 2 ^ 63 }
+    requires rate { clock.now.rate ≡ shares.old.rate }
+    requires due { due_in shares.old (list_in rows.now) clock.now sending.now.start
+        ≡ Pick.Send sending.now.ticket sending.now.class sending.now.len sending.now.rule }
+    ensures { shares.new ≡ with_gains shares.old (list_in rows.now) clock.now sending.now }
+{
+    let rounds = shares.rounds(sending.class, sending.len);
+    let priority = shares.priority(sending.class);
+    for class in 0..rows.count() {
+        if let Some(head) = rows.head(class) {
+            let start = shares.start_of(class, head.len, sending.start, clock);
+            if start == sending.start && shares.priority(class) == priority {
+                shares.gain(class, rounds, head.len);
+            }
+        }
+    }
+}

@@ -1,0 +1,18 @@
+//! CBQ as a queueing discipline.
+//!
+//! Classes that are not ahead of their rates send by themselves, others by a loan from a class above them. Among those that may
+//! send the greatest priority goes first, and weighted rounds share the link within a priority. After Floyd and Jacobson 1995.
+#![tactic(auto)]
+
+mod build;
+mod cbq;
+mod gains;
+mod laws;
+mod look;
+mod sent;
+mod sharing;
+
+pub use cbq::Cbq;
+pub use cbq_model::CbqClass;
+pub use discipline_laws::{Discipline, Pick, Rule, Sending, Verdict};
+pub use laws::classes_keep_their_rates;

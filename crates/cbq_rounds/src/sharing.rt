@@ -1,0 +1,168 @@
+// What CBQ keeps of its classes beside their queues.
+ghost use Rattle.std.specs.Prelude.{◌≡◌, ◌==◌, ◌≤◌, ◌<◌, ◌+◌, ◌^◌, ℕ, List, length, get_or, nat_lt};
+ghost use Rattle.cbq_model.specs.Choice.{rounds_for};
+ghost use Rattle.cbq_model.specs.Tree.{class_of, lender_of, lenders_up, quantum_of};
+ghost use Rattle.cbq_rounds.specs.Shared.{IsShared, Shared, least_with, own_now, start_now_in};
+
+use cbq_estimator::Estimator;
+use cbq_model::{CbqClass, Rank};
+use link_clock::LinkClock;
+use std::marker::Model;
+
+/// The most levels of a tree of classes.
+pub const LEVELS: u32 = 8;
+
+/// The rate of the link, the classes with their averages and credits, and the cursors of their rings.
+#[derive(Drop)]
+pub struct Shares {
+    pub rate: u64,
+    pub classes: Vec<CbqClass>,
+    pub estimators: Vec<Estimator>,
+    pub credits: Vec<u64>,
+    pub cursors: Vec<u32>,
+    pub ended: u64,
+}
+
+impl Model for Shares {
+    ghost Value = { Shared };
+
+    ghost view = { λ s. record {
+      rate = s.rate;
+      tree = s.classes.items;
+      estimates = s.estimators.items;
+      credits = s.credits.items;
+      cursors = s.cursors.items;
+      ended = s.ended;
+    } };
+
+    ghost invariant = { λ s. IsShared s.rate s.classes.items s.estimators.items s.credits.items s.cursors.items s.ended };
+}
+
+impl Shares {
+    // The least moment from `now` on at which a class's own average allows a packet.
+    fn own_start(&self, class: u32, len: u32, now: u64, clock: &LinkClock) -> u64
+        requires class { class < length self.now.tree }
+        requires free { clock.now.link.free ≤ now }
+        requires early { now < 2 ^ 63 }
+        requires some_bytes { 1 ≤ len }
+        requires few_bytes { len ≤ 262144 }
+        ensures { result ≡ own_now self.now.tree self.now.estimates clock.now.rate clock.now.link now len class }
+    {
+        if self.classes[class as usize].parent.is_none() {
+            return now;
+        }
+        self.estimators[class as usize].start(now, len, clock)
+    }
+
+    // Whom a class may ask for a loan.
+    fn lender(&self, class: u32) -> Option<u32>
+        requires class { class < length self.now.tree }
+        ensures lender { result ≡ lender_of (class_of self.now.tree class) }
+        ensures earlier { (p : ℕ) → result ≡ Some p → p < length self.now.tree }
+    {
+        let k = &self.classes[class as usize];
+        if k.borrow { k.parent } else { None }
+    }
+
+    // The least of a moment and of those of a class that may lend and of the lenders above it, over at most `levels` levels.
+    fn least_start(
+        &self,
+        levels: u32,
+        lender: Option<u32>,
+        start: u64,
+        len: u32,
+        now: u64,
+        clock: &LinkClock,
+    ) -> u64
+        requires lender { (p : ℕ) → lender ≡ Some p → p < length self.now.tree }
+        requires free { clock.now.link.free ≤ now }
+        requires early { now < 2 ^ 63 }
+        requires some_bytes { 1 ≤ len }
+        requires few_bytes { len ≤ 262144 }
+        ensures { result ≡ least_with (own_now self.now.tree self.now.estimates clock.now.rate clock.now.link now len) start
+            (lenders_up levels self.now.tree lender) }
+    {
+        let Some(class) = lender else {
+            return start;
+        };
+        if levels == 0 {
+            return start;
+        }
+        let own = self.own_start(class, len, now, clock);
+        let next = self.lender(class);
+        self.least_start(levels - 1, next, start.min(own), len, now, clock)
+    }
+
+    /// The least moment from `now` on, no earlier than the last end and before 2^63, at which a class may send a packet of `len` bytes, of
+    /// itself or by a loan. It looks at the class and at those above it that may lend.
+    pub fn start_of(&self, class: u32, len: u32, now: u64, clock: &LinkClock) -> u64
+        requires class { class < length self.now.tree }
+        requires free { clock.now.link.free ≤ now }
+        requires early { now < 2 ^ 63 }
+        requires some_bytes { 1 ≤ len }
+        requires few_bytes { len ≤ 262144 }
+        ensures { result ≡ start_now_in self.now clock.now.rate clock.now.link class now len }
+    {
+        let own = self.own_start(class, len, now, clock);
+        let lender = self.lender(class);
+        self.least_start(LEVELS, lender, own, len, now, clock)
+    }
+
+    /// Whether a class itself allows a packet of `len` bytes to start at `now`, no earlier than the last end and before 2^63.
+    pub fn allows(&self, class: u32, len: u32, now: u64, clock: &LinkClock) -> bool
+        requires class { class < length self.now.tree }
+        requires free { clock.now.link.free ≤ now }
+        requires early { now < 2 ^ 63 }
+        requires some_bytes { 1 ≤ len }
+        requires few_bytes { len ≤ 262144 }
+        ensures { result ≡ (own_now self.now.tree self.now.estimates clock.now.rate clock.now.link now len class == now) }
+    {
+        self.own_start(class, len, now, clock) == now
+    }
+
+    /// What a class gains in a round, in bytes.
+    pub fn quantum(&self, class: u32) -> u64
+        requires class { class < length self.now.tree }
+        ensures value { result ≡ quantum_of self.now.rate (class_of self.now.tree class) }
+        ensures least { 1 ≤ result }
+        ensures most { result ≤ 2 ^ 41 }
+    {
+        let part = (1500 * self.classes[class as usize].rate + (self.rate - 1)) / self.rate;
+        part.max(1)
+    }
+
+    /// The priority of a class.
+    pub fn priority(&self, class: u32) -> u8
+        requires class { class < length self.now.tree }
+        ensures { result ≡ (class_of self.now.tree class).priority }
+    {
+        self.classes[class as usize].priority
+    }
+
+    /// How many rounds a class needs until its credit pays for a packet.
+    pub fn rounds(&self, class: u32, len: u32) -> u64
+        requires class { class < length self.now.tree }
+        ensures { result ≡ rounds_for (get_or self.now.credits class 0) (quantum_of self.now.rate (class_of self.now.tree class)) len }
+    {
+        let missing = u64::from(len).saturating_sub(self.credits[class as usize]);
+        let quantum = self.quantum(class);
+        (missing + (quantum - 1)) / quantum
+    }
+
+    /// What decides between a class whose head has `len` bytes and others.
+    pub fn rank(&self, class: u32, len: u32) -> Rank
+        requires class { class < length self.now.tree }
+        ensures priority { result.priority ≡ (class_of self.now.tree class).priority }
+        ensures rounds { result.rounds ≡ rounds_for (get_or self.now.credits class 0) (quantum_of self.now.rate (class_of self.now.tree class)) len }
+        ensures wraps { result.wraps ≡ nat_lt class (get_or self.now.cursors (class_of self.now.tree class).priority 0) }
+        ensures class { result.class ≡ class }
+    {
+        let priority = self.classes[class as usize].priority;
+        Rank {
+            priority,
+            rounds: self.rounds(class, len),
+            wraps: class < self.cursors[priority as usize],
+            class,
+        }
+    }
+}
