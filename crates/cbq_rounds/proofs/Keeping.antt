@@ -10,7 +10,7 @@ use Rattle.cbq_rounds.specs.Kept.{IsOwnStretch}
 use Rattle.cbq_rounds.specs.Stands.{Ruling, Stands}
 
 -- the older events are sendings as well
-sendings_before : (cs : List CbqClass) (rate : ℕ) (after h : List Event) → AreSendings cs rate (after ++ h) → AreSendings cs rate h
+pub sendings_before : (cs : List CbqClass) (rate : ℕ) (after h : List Event) → AreSendings cs rate (after ++ h) → AreSendings cs rate h
 sendings_before cs rate [] h a = a
 sendings_before cs rate (Offered x w v ∷ after) h a = sendings_before cs rate after h a
 sendings_before cs rate (Sent s ∷ after) h a = sendings_before cs rate after h a.1

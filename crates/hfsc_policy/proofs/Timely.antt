@@ -93,10 +93,10 @@ in_order cs (Sent s ∷ h) f a =
     (moment_by h s.start x.arrived x.started, (head_sized s.class s.len (hfsc_history h) a.1 a.0).least, in_order cs h f.1 a.1)
 
 -- the link
-record IsRunOf (rate : ℕ) (l : Link) (r : Run) : Type 0 where
-  start : r.start ≡ l.run
-  sent : r.sent ≡ l.sent
-  free : l.free ≡ free rate r
+pub record IsRunOf (rate : ℕ) (l : Link) (r : Run) : Type 0 where
+  pub start : r.start ≡ l.run
+  pub sent : r.sent ≡ l.sent
+  pub free : l.free ≡ free rate r
 
 no_time : (rate : ℕ) → 0 < rate → 0 ≡ 0 + ceil_div 0 rate
 no_time rate z = let one = ceil_le 0 rate 0 z (omega arith) in omega (arith, one)
@@ -115,7 +115,7 @@ goes_on rate start len l r x = go (start == l.free) (start == free rate r) (ap (
     go true false e = absurd cc
     go false true e = absurd cc
 
-link_is : (rate : ℕ) (h : List Event) → 0 < rate → IsRunOf rate (link rate h) (run_after rate (hfsc_history h))
+pub link_is : (rate : ℕ) (h : List Event) → 0 < rate → IsRunOf rate (link rate h) (run_after rate (hfsc_history h))
 link_is rate [] z = record { start = refl; sent = refl; free = no_time rate z }
 link_is rate (Offered a w v ∷ h) z = go (is_kept v.verdict) (link_is rate h z)
   where

@@ -8,9 +8,9 @@ use Rattle.conf_lines.specs.declared.fault.ConfPlace.{ConfPlace}
 use Rattle.conf_tree.specs.declared.interface.Interface.{Interface}
 use Rattle.conf_tree.specs.Reading.{IsConfiguration, reading}
 use Rattle.play_base.specs.View.{View}
-use Rattle.play_cli.specs.Causes.{CheckConfigCauses, ConfigCauses}
+use Rattle.play_cli.specs.Causes.{ConfigCauses}
 use Rattle.play_cli.specs.Configuration.{Configuration, Configures, IsConfigured, Refused, Said, Says, TooLong, absent, asked_of, interface_of, most_bytes, said_by}
-use Rattle.play_cli.specs.Input.{InputCauses, IsLonger, IsMissing, IsRead}
+use Rattle.play_cli.specs.Input.{InputCauses, IsLonger, IsRead}
 use Rattle.play_cli.specs.declared.fault.ConfigFault.{ConfigFault}
 use Rattle.play_cli.specs.declared.fault.ConfigFault.TheVariants as conf
 use Rattle.play_cli.proofs.ConfLemmas.{long_says, short_says}
@@ -27,20 +27,12 @@ read_says u config interface interfaces x t = record { text = x.text; at = x.at 
 longer_says : (u : View) (config interface : List ℕ) → IsLonger u config → Says u config interface TooLong
 longer_says u config interface x = record { text = x.text; at = x.at; says = long_says interface x.text (grind (arith, x.long)) }
 
--- why nothing is read, among the causes of a play and of a check
+-- why nothing is read
 pub input_config : (u v : View) (config interface : List ℕ) (f : ConfigFault) → InputCauses u v config f → ConfigCauses u v config interface f
 input_config u v config interface (conf.At place) x = λ t. read_refused u config interface place x t
 input_config u v config interface conf.TooLong x = λ t. longer_says u config interface (x t)
-input_config u v config interface conf.Unbuilt x = absurd x
 input_config u v config interface conf.Read x = x
 input_config u v config interface conf.NoMemory x = tt
-
-pub input_check : (u v : View) (config interface : List ℕ) (f : ConfigFault) → InputCauses u v config f → CheckConfigCauses u v config interface f
-input_check u v config interface (conf.At place) x = λ t. read_refused u config interface place x t
-input_check u v config interface conf.TooLong x = λ t. longer_says u config interface (x t)
-input_check u v config interface conf.Unbuilt x = absurd x
-input_check u v config interface conf.Read x = x
-input_check u v config interface conf.NoMemory x = tt
 
 -- what is read with the interface says so
 pub read_found : (u : View) (config interface : List ℕ) (interfaces : List Interface) (i : Interface) → IsRead u config (Ok interfaces)
@@ -51,25 +43,14 @@ read_found u config interface interfaces i x e t = record {
   says = short_says interface x.text (Ok interfaces) x.short x.reads ∙ ap (asked_of interfaces) e;
 }
 
-read_absent : (u : View) (config interface : List ℕ) (interfaces : List Interface) → IsRead u config (Ok interfaces)
+-- and without it is refused
+pub read_absent : (u : View) (config interface : List ℕ) (interfaces : List Interface) → IsRead u config (Ok interfaces)
     → interface_of interface interfaces ≡ None → IsTrue u.tells → Says u config interface (Refused absent)
 read_absent u config interface interfaces x e t = record {
   text = x.text;
   at = x.at t;
   says = short_says interface x.text (Ok interfaces) x.short x.reads ∙ ap (asked_of interfaces) e;
 }
-
--- why there is no interface to play
-pub missing_config : (u v : View) (config interface : List ℕ) (interfaces : List Interface) (f : ConfigFault) → IsRead u config (Ok interfaces)
-    → IsMissing interface interfaces f → ConfigCauses u v config interface f
-missing_config u v config interface interfaces (conf.At place) r x = λ t.
-    let P : ConfPlace → Type 0 = λ p. Says u config interface (Refused p) in
-    subst P (sym x.0) (read_absent u config interface interfaces r x.1 t)
-missing_config u v config interface interfaces conf.TooLong r x = absurd x
-missing_config u v config interface interfaces conf.Unbuilt r x = λ t.
-    record { interfaces = interfaces; found = x.0; says = read_found u config interface interfaces x.0 r x.1 t; other = x.2 }
-missing_config u v config interface interfaces conf.Read r x = absurd x
-missing_config u v config interface interfaces conf.NoMemory r x = absurd x
 
 -- the interface that is found is one of the configuration
 found_here : (b : Bool) (x i : Interface) (interfaces : List Interface) (rest : Option Interface) → cond b (Some x) rest ≡ Some i

@@ -1,7 +1,6 @@
 -- How a play ends, and how a check ends, by what was done or by the fault.
 use Rattle.std.proofs.Common.{◌≡◌, ℕ, List, refl, arith}
 use Rattle.std.specs.Prelude.{IsTrue}
-use Rattle.conf_laws.specs.Laws.{ConfigurationsFit}
 use Rattle.conf_tree.specs.declared.interface.Interface.{Interface}
 use Rattle.play_base.specs.declared.trouble.Trouble.TheVariants as trouble
 use Rattle.play_base.specs.View.{View, IsAbsent}
@@ -14,6 +13,7 @@ use Rattle.play_cli.specs.Run.{Names, HasPlayed, Fronts}
 use Rattle.play_cli.specs.declared.fault.ConfigFault.{ConfigFault}
 use Rattle.play_cli.specs.declared.fault.RunFault.{RunFault}
 use Rattle.play_cli.specs.declared.fault.RunFault.TheVariants as fault
+use Rattle.play_cli.proofs.Laws.{HaveLaws}
 use Rattle.play_cli.proofs.RunLemmas.{done_comes, done_is_status, fault_comes, fault_is_not_done, is_status}
 use Rattle.play_cli.proofs.ToldLemmas.{done_is_told, fault_is_told}
 
@@ -49,7 +49,7 @@ unread_is u v (fault.Play f) x e k = play_unread f e k
 unread_is u v (fault.Say trouble.Failed) x e k = absurd (omega (arith, e))
 unread_is u v (fault.Say trouble.NoMemory) x e k = absurd (omega (arith, e))
 
-pub play_failed : (u v : View) (n : Names) (seed : ℕ) (f : RunFault) → ConfigurationsFit → Causes u v n seed f → Fronts u v n seed
+pub play_failed : (u v : View) (n : Names) (seed : ℕ) (f : RunFault) → HaveLaws → Causes u v n seed f → Fronts u v n seed
     → ((c : ConfigFault) → f ≡ fault.Config c → (m : List ℕ) → v.bytes m ≡ u.bytes m)
     → (IsAbsent u n.arrivals → (m : List ℕ) → v.bytes m ≡ u.bytes m)
     → (IsAfterConfigFault f → (found : Interface) × Accepts u n.config n.interface found)

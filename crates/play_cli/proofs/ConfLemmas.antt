@@ -8,7 +8,7 @@ use Rattle.conf_tree.specs.declared.interface.Interface.{Interface}
 use Rattle.conf_tree.specs.Reading.{reading}
 use Rattle.play_base.specs.View.{View}
 use Rattle.play_cli.specs.Causes.{ConfigCauses, config_status}
-use Rattle.play_cli.specs.Configuration.{Configuration, Configures, TooLong, Refused, Said, Says, IsUnbuilt, most_bytes, configuration, said_by, is_one_queue}
+use Rattle.play_cli.specs.Configuration.{Configuration, Configures, TooLong, Refused, Said, Says, most_bytes, configuration, said_by}
 use Rattle.play_cli.specs.Ending.{TellsPlace, Tells}
 use Rattle.play_cli.specs.Run.{Accepted, IsQuiet, Names}
 use Rattle.play_cli.specs.declared.fault.ConfigFault.{ConfigFault}
@@ -64,9 +64,6 @@ same_place p q h = cc
 same_interface : (xs ys : List Interface) (x y : Interface) → Said xs x ≡ Said ys y → x ≡ y
 same_interface xs ys x y h = cc
 
-true_false : (b : Bool) → b ≡ true → b ≡ false → ⊥
-true_false b h k = cc
-
 -- one interface is configured
 pub one_interface : (u : View) (config interface : List ℕ) (x y : Interface) → Configures u config interface x → Configures u config interface y → x ≡ y
 one_interface u config interface x y a b =
@@ -83,18 +80,11 @@ refused_not u config interface i p x y = refused_said p x.interfaces i (one_says
 pub long_not : (u : View) (config interface : List ℕ) (i : Interface) → Configures u config interface i → Says u config interface TooLong → ⊥
 long_not u config interface i x y = long_said x.interfaces i (one_says u config interface TooLong (Said x.interfaces i) y x.says)
 
-pub unbuilt_not : (u : View) (config interface : List ℕ) (i : Interface) → Configures u config interface i → IsUnbuilt u config interface → ⊥
-unbuilt_not u config interface i x y =
-    let same = same_interface x.interfaces y.interfaces i y.found
-    (one_says u config interface (Said x.interfaces i) (Said y.interfaces y.found) x.says y.says) in
-    true_false (is_one_queue y.found) (ap is_one_queue (sym same) ∙ x.played) y.other
-
 -- a fault of the configuration is not one of an accepted one
 pub config_not : (u v : View) (config interface : List ℕ) (i : Interface) (f : ConfigFault) → IsTrue u.tells → IsQuiet u v
     → Configures u config interface i → ConfigCauses u v config interface f → (config_status f).code ≡ 8
 config_not u v config interface i (conf.At place) t q x c = absurd (refused_not u config interface i place x (c t))
 config_not u v config interface i conf.TooLong t q x c = absurd (long_not u config interface i x (c t))
-config_not u v config interface i conf.Unbuilt t q x c = absurd (unbuilt_not u config interface i x (c t))
 config_not u v config interface i conf.Read t q x (inl c) = absurd ((q 1).0 c)
 config_not u v config interface i conf.Read t q x (inr c) = absurd (no_bytes x.says.text (sym c.1 ∙ x.says.at))
 config_not u v config interface i conf.NoMemory t q x c = refl
@@ -118,9 +108,6 @@ told_place u v config interface place (conf.At p) t q y c =
     inl (tells_place p place (same_place p place (one_says u config interface (Refused p) (Refused place) (c t) y)))
 told_place u v config interface place conf.TooLong t q y c =
     absurd (refused_long place (one_says u config interface (Refused place) TooLong y (c t)))
-told_place u v config interface place conf.Unbuilt t q y c =
-    let x = c t in
-    absurd (refused_said place x.interfaces x.found (one_says u config interface (Refused place) (Said x.interfaces x.found) y x.says))
 told_place u v config interface place conf.Read t q y c = absurd (unread_not u v config interface (Refused place) q y c)
 told_place u v config interface place conf.NoMemory t q y c = inr refl
 
@@ -129,18 +116,5 @@ pub told_long : (u v : View) (config interface : List ℕ) (f : ConfigFault) →
 told_long u v config interface (conf.At p) t q y c =
     absurd (refused_long p (one_says u config interface (Refused p) TooLong (c t) y))
 told_long u v config interface conf.TooLong t q y c = inl (record { code = refl; kind = refl })
-told_long u v config interface conf.Unbuilt t q y c =
-    let x = c t in
-    absurd (long_said x.interfaces x.found (one_says u config interface TooLong (Said x.interfaces x.found) y x.says))
 told_long u v config interface conf.Read t q y c = absurd (unread_not u v config interface TooLong q y c)
 told_long u v config interface conf.NoMemory t q y c = inr refl
-
-pub told_unbuilt : (u v : View) (config interface : List ℕ) (f : ConfigFault) → IsTrue u.tells → IsQuiet u v
-    → IsUnbuilt u config interface → ConfigCauses u v config interface f → Tells (config_status f) 9 3 ⊎ ((config_status f).code ≡ 8)
-told_unbuilt u v config interface (conf.At p) t q y c =
-    absurd (refused_said p y.interfaces y.found (one_says u config interface (Refused p) (Said y.interfaces y.found) (c t) y.says))
-told_unbuilt u v config interface conf.TooLong t q y c =
-    absurd (long_said y.interfaces y.found (one_says u config interface TooLong (Said y.interfaces y.found) (c t) y.says))
-told_unbuilt u v config interface conf.Unbuilt t q y c = inl (record { code = refl; kind = refl })
-told_unbuilt u v config interface conf.Read t q y c = absurd (unread_not u v config interface (Said y.interfaces y.found) q y.says c)
-told_unbuilt u v config interface conf.NoMemory t q y c = inr refl

@@ -1,23 +1,19 @@
 -- Which ends of a play exclude one another.
 use Rattle.std.proofs.Common.{◌≡◌, ◌<◌, ◌⊎◌, ℕ, List, ◌∷◌, [], sym, subst, inl, inr, arith}
-use Rattle.altq_model.specs.declared.Rule.TheVariants.{Share}
 use Rattle.altq_model.specs.History.{Happened}
-use Rattle.altq_model.specs.Lawful.{IsLawful}
-use Rattle.altq_model.specs.Policies.{tail}
 use Rattle.altq_model.specs.Arrivals.{comings}
 use Rattle.capture_model.specs.declared.damage.Damage.{Damage}
 use Rattle.capture_model.specs.Capture.{Record, Step, End, Fault, Limit, Reads, IsLast}
-use Rattle.conf_laws.specs.Laws.{ConfigurationsFit}
 use Rattle.conf_tree.specs.declared.interface.Interface.{Interface}
 use Rattle.pcap_files.proofs.ReadingLaws.{one_reading}
 use Rattle.play_base.specs.View.{View}
-use Rattle.play_laws.proofs.StrictLemmas.{strict_lawful}
 use Rattle.play_loop.specs.Setup.{Setup, arrivals_in}
-use Rattle.play_cli.specs.InterfaceSetup.{default_limit, policy_of, setup_of}
+use Rattle.play_cli.specs.InterfaceSetup.{setup_of}
 use Rattle.play_cli.specs.Run.{Accepted, EndsLate, EndsWith, HasPlayed, IsCutEarly, IsLate, IsOffered, Names}
-use Rattle.play_cli.proofs.CheckLemmas.{has_rate}
+use Rattle.play_cli.proofs.CheckLemmas.{configured_said, has_rate}
 use Rattle.play_cli.proofs.ConfLemmas.{one_accepted}
 use Rattle.play_cli.proofs.LateLemmas.{not_cut, offered_not_early}
+use Rattle.play_cli.proofs.Laws.{HaveLaws, is_lawful}
 
 pub end_fault : (d : Damage) → End ≡ Fault d → ⊥
 end_fault d h = cc
@@ -36,9 +32,6 @@ limit_end h = cc
 
 pub fault_same : (d e : Damage) → Fault d ≡ Fault e → d ≡ e
 fault_same d e h = cc
-
-pub lawful : (i : Interface) → IsLawful (policy_of i)
-lawful i = strict_lawful (1 ∷ []) Share (tail (default_limit i))
 
 -- what is accepted reads one way
 pub one_reads : (u : View) (n : Names) (x y : Accepted u n) (xs ys : List Record) (p q : Step) → IsLast p → IsLast q → Reads x.bytes xs p → Reads y.bytes ys q
@@ -80,16 +73,16 @@ early_only : (last : Step) (a b : ℕ) → (last ≡ End → ⊥) → (last ≡ 
 early_only last a b n (inl e) = absurd (n e)
 early_only last a b n (inr l) = l
 
-pub offered_not_late : (u v : View) (n : Names) (seed : ℕ) (last : Step) → ConfigurationsFit → IsLast last → (last ≡ End → ⊥) → IsOffered u v n seed last
+pub offered_not_late : (u v : View) (n : Names) (seed : ℕ) (last : Step) → HaveLaws → IsLast last → (last ≡ End → ⊥) → IsOffered u v n seed last
     → EndsLate u n seed → ⊥
-offered_not_late u v n seed last fit h other x y =
+offered_not_late u v n seed last laws h other x y =
     let same = one_reads u n y.accepted x.accepted y.records x.records y.last last y.is_last h y.reads x.reads in
     let c = one_cut u n seed y.accepted x.accepted y.records x.records y.last last y.history same.0 same.1 y.early in
     let i : Interface = x.accepted.interface in
     let s : Setup = setup_of i seed in
     let all = x.decided.all in
-    offered_not_early s.policy s.rate seed s.place x.records x.decided.history y.history (has_rate u n.config n.interface i fit x.accepted.configuration)
-    (lawful i) x.decided.begun (omega (arith, all)) c.cut (early_only last _ _ other c.before)
+    offered_not_early s.policy s.rate seed s.place x.records x.decided.history y.history (has_rate u n.config n.interface i laws.fit x.accepted.configuration)
+    (is_lawful laws i (configured_said u n.config n.interface i x.accepted.configuration)) x.decided.begun (omega (arith, all)) c.cut (early_only last _ _ other c.before)
 
 -- what is cut off ends late
 pub late_not_ended : (u v : View) (n : Names) (seed : ℕ) (last : Step) → IsLast last → EndsWith u n seed last → IsLate u v n seed → ⊥

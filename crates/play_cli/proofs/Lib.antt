@@ -4,9 +4,10 @@ pub mod ConfLemmas
 pub mod EndLemmas
 pub mod FilesLemmas
 pub mod LateLemmas
+pub mod Laws
 pub mod NameLemmas
-pub mod OneLemmas
 pub mod OpeningLemmas
 pub mod RunLemmas
+pub mod SetupLemmas
 pub mod StepLemmas
 pub mod ToldLemmas

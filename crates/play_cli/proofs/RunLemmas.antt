@@ -39,10 +39,7 @@ abbrev seven : IsCode 7
 seven = inr (inr (inr (inr (inr (inr (inl refl))))))
 
 abbrev eight : IsCode 8
-eight = inr (inr (inr (inr (inr (inr (inr (inl refl)))))))
-
-abbrev nine : IsCode 9
-nine = inr (inr (inr (inr (inr (inr (inr (inr refl)))))))
+eight = inr (inr (inr (inr (inr (inr (inr refl))))))
 
 plain : (code kind : ℕ) → IsCode code → code ≢ 2 → (code ≡ 8 → kind ≡ 0) → IsStatus (ended code kind)
 plain code kind c n k = record {
@@ -67,7 +64,6 @@ config_is_status (conf.At place) = record {
   no_kind = λ e. omega (arith, e);
 }
 config_is_status conf.TooLong = with_kind 7 3 seven (λ e. omega (arith, e)) (λ e. omega (arith, e))
-config_is_status conf.Unbuilt = with_kind 9 3 nine (λ e. omega (arith, e)) (λ e. omega (arith, e))
 config_is_status conf.Read = with_kind 5 1 five (λ e. omega (arith, e)) (λ e. omega (arith, e))
 config_is_status conf.NoMemory = plain 8 0 eight (λ e. omega (arith, e)) (λ e. refl)
 
@@ -104,7 +100,6 @@ not_zero n e = absurd (omega (arith, e))
 config_not_done : (c : ConfigFault) {A : Type 0} → (config_status c).code ≡ 0 → A
 config_not_done (conf.At place) e = not_zero 2 e
 config_not_done conf.TooLong e = not_zero 6 e
-config_not_done conf.Unbuilt e = not_zero 8 e
 config_not_done conf.Read e = not_zero 4 e
 config_not_done conf.NoMemory e = not_zero 7 e
 
@@ -137,12 +132,6 @@ after_too_long (inr (inl e)) = absurd (omega (arith, e))
 after_too_long (inr (inr (inl e))) = absurd (e.1 refl)
 after_too_long (inr (inr (inr e))) = absurd (omega (arith, e.0))
 
-after_nine : {A : Type 0} → IsAfterConfig 9 3 → A
-after_nine (inl e) = absurd (omega (arith, e))
-after_nine (inr (inl e)) = absurd (omega (arith, e))
-after_nine (inr (inr (inl e))) = absurd (omega (arith, e.0))
-after_nine (inr (inr (inr e))) = absurd (omega (arith, e.0))
-
 after_read : {A : Type 0} → IsAfterConfig 5 1 → A
 after_read (inl e) = absurd (omega (arith, e))
 after_read (inr (inl e)) = absurd (omega (arith, e))
@@ -166,7 +155,6 @@ config_comes : (u v : View) (n : Names) (seed : ℕ) (c : ConfigFault) → Confi
 config_comes u v n seed (conf.At place) x = record {
   done = λ e. absurd (omega (arith, e));
   configuration = λ e. x;
-  unbuilt = λ e. absurd (omega (arith, e));
   damaged = λ e. absurd (omega (arith, e));
   read = λ e. absurd (omega (arith, e));
   write = λ e. absurd (omega (arith, e));
@@ -176,27 +164,15 @@ config_comes u v n seed (conf.At place) x = record {
 config_comes u v n seed conf.TooLong x = record {
   done = λ e. absurd (omega (arith, e));
   configuration = λ e. absurd (omega (arith, e));
-  unbuilt = λ e. absurd (omega (arith, e));
   damaged = λ e. absurd (omega (arith, e));
   read = λ e. absurd (omega (arith, e));
   write = λ e. absurd (omega (arith, e));
   limit = λ e. inr (inr (refl, x));
   accepted_first = λ e. after_too_long e;
 }
-config_comes u v n seed conf.Unbuilt x = record {
-  done = λ e. absurd (omega (arith, e));
-  configuration = λ e. absurd (omega (arith, e));
-  unbuilt = λ e. (refl, x);
-  damaged = λ e. absurd (omega (arith, e));
-  read = λ e. absurd (omega (arith, e));
-  write = λ e. absurd (omega (arith, e));
-  limit = λ e. absurd (omega (arith, e));
-  accepted_first = λ e. after_nine e;
-}
 config_comes u v n seed conf.Read x = record {
   done = λ e. absurd (omega (arith, e));
   configuration = λ e. absurd (omega (arith, e));
-  unbuilt = λ e. absurd (omega (arith, e));
   damaged = λ e. absurd (omega (arith, e));
   read = λ e. inl (refl, x);
   write = λ e. absurd (omega (arith, e));
@@ -206,7 +182,6 @@ config_comes u v n seed conf.Read x = record {
 config_comes u v n seed conf.NoMemory x = record {
   done = λ e. absurd (omega (arith, e));
   configuration = λ e. absurd (omega (arith, e));
-  unbuilt = λ e. absurd (omega (arith, e));
   damaged = λ e. absurd (omega (arith, e));
   read = λ e. absurd (omega (arith, e));
   write = λ e. absurd (omega (arith, e));
@@ -224,7 +199,6 @@ limit_comes : (u v : View) (n : Names) (seed : ℕ) (l : Limit) → LimitCauses 
 limit_comes u v n seed limit.Capture x a = record {
   done = λ e. absurd (omega (arith, e));
   configuration = λ e. absurd (omega (arith, e));
-  unbuilt = λ e. absurd (omega (arith, e));
   damaged = λ e. absurd (omega (arith, e));
   read = λ e. absurd (omega (arith, e));
   write = λ e. absurd (omega (arith, e));
@@ -234,7 +208,6 @@ limit_comes u v n seed limit.Capture x a = record {
 limit_comes u v n seed limit.Clock x a = record {
   done = λ e. absurd (omega (arith, e));
   configuration = λ e. absurd (omega (arith, e));
-  unbuilt = λ e. absurd (omega (arith, e));
   damaged = λ e. absurd (omega (arith, e));
   read = λ e. absurd (omega (arith, e));
   write = λ e. absurd (omega (arith, e));
@@ -247,7 +220,6 @@ play_comes : (u v : View) (n : Names) (seed : ℕ) (f : PlayFault) → PlayCause
 play_comes u v n seed play.Read x a = record {
   done = λ e. absurd (omega (arith, e));
   configuration = λ e. absurd (omega (arith, e));
-  unbuilt = λ e. absurd (omega (arith, e));
   damaged = λ e. absurd (omega (arith, e));
   read = λ e. inr (refl, x);
   write = λ e. absurd (omega (arith, e));
@@ -257,7 +229,6 @@ play_comes u v n seed play.Read x a = record {
 play_comes u v n seed (play.Write o) x a = record {
   done = λ e. absurd (omega (arith, e));
   configuration = λ e. absurd (omega (arith, e));
-  unbuilt = λ e. absurd (omega (arith, e));
   damaged = λ e. absurd (omega (arith, e));
   read = λ e. absurd (omega (arith, e));
   write = λ e. let b = output_bounds o in (b.0, b.1, x);
@@ -267,7 +238,6 @@ play_comes u v n seed (play.Write o) x a = record {
 play_comes u v n seed (play.Capture d) x a = record {
   done = λ e. absurd (omega (arith, e));
   configuration = λ e. absurd (omega (arith, e));
-  unbuilt = λ e. absurd (omega (arith, e));
   damaged = λ e. x;
   read = λ e. absurd (omega (arith, e));
   write = λ e. absurd (omega (arith, e));
@@ -278,7 +248,6 @@ play_comes u v n seed (play.Limit l) x a = limit_comes u v n seed l x a
 play_comes u v n seed play.NoMemory x a = record {
   done = λ e. absurd (omega (arith, e));
   configuration = λ e. absurd (omega (arith, e));
-  unbuilt = λ e. absurd (omega (arith, e));
   damaged = λ e. absurd (omega (arith, e));
   read = λ e. absurd (omega (arith, e));
   write = λ e. absurd (omega (arith, e));
@@ -296,7 +265,6 @@ pub done_comes : (u v : View) (n : Names) (seed : ℕ) → (IsTrue u.tells → H
 done_comes u v n seed x = record {
   done = λ e. x;
   configuration = λ e. absurd (omega (arith, e));
-  unbuilt = λ e. absurd (omega (arith, e));
   damaged = λ e. absurd (omega (arith, e));
   read = λ e. absurd (omega (arith, e));
   write = λ e. absurd (omega (arith, e));

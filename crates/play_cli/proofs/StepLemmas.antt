@@ -1,24 +1,15 @@
 -- From the files of a play to the names of the words.
-use Rattle.std.proofs.Common.{◌≡◌, ◌≢◌, ◌≤◌, ◌<◌, ◌++◌, ◌∙◌, ◌⊎◌, ℕ, true, List, [], ◌∷◌, None, Some, Ok, ap, sym, refl, subst, inl, inr, arith}
+use Rattle.std.proofs.Common.{◌≡◌, ◌≢◌, ◌≤◌, ◌<◌, ◌++◌, ◌∙◌, ◌⊎◌, ℕ, List, [], ◌∷◌, None, Some, Ok, ap, sym, refl, subst, inl, inr, arith}
 use Rattle.std.specs.Prelude.{IsSome, IsTrue}
-use Rattle.altq_model.specs.declared.Placed.{Placed}
-use Rattle.altq_model.specs.declared.Rule.TheVariants.{Share}
-use Rattle.altq_model.specs.Arrivals.{comings}
 use Rattle.altq_model.specs.History.{Happened}
-use Rattle.altq_model.specs.Idle.{NeverIdles}
-use Rattle.altq_model.specs.Policies.{one_queue, tail}
 use Rattle.capture_model.specs.Capture.{Record, Step, End, Fault, Limit, Reads, IsLast}
 use Rattle.conf_tree.specs.declared.interface.Interface.{Interface}
 use Rattle.play_base.specs.View.{View, Keeps, Any, NoneAppears, Rose}
 use Rattle.pcap_files.proofs.ReadingLaws.{one_reading}
 use Rattle.play_base.proofs.ViewLaws.{part_of_there, rose_later}
 use Rattle.play_base.specs.Holds.{HoldsAt}
-use Rattle.play_laws.proofs.ArrivalLemmas.{arrivals_rise}
-use Rattle.play_laws.proofs.IdleLemmas.{never_idles}
-use Rattle.play_laws.proofs.StrictLemmas.{strict_lawful, strict_never_waits, one_queue_holds}
 use Rattle.play_words.specs.Words.{AreDistinct}
 use Rattle.play_core.specs.declared.totals.Totals.{Totals}
-use Rattle.play_core.specs.Finished.{IsFinished}
 use Rattle.play_loop.specs.declared.fault.Limit.TheVariants as limit
 use Rattle.play_loop.specs.declared.fault.Opened.{Opened}
 use Rattle.play_loop.specs.declared.fault.Output.TheVariants as output
@@ -29,15 +20,16 @@ use Rattle.play_loop.specs.Played.{BeginsStats, Explains, LeavesStats, Offers, P
 use Rattle.play_loop.specs.Played as loop
 use Rattle.play_loop.specs.Setup.{Setup, arrivals_in}
 use Rattle.play_cli.specs.Causes.{PlayCauses}
-use Rattle.play_cli.specs.Configuration.{Accepts, AcceptsNone, interface_of, is_one_queue}
+use Rattle.play_cli.specs.Configuration.{Accepts, AcceptsNone, IsConfigured, interface_of}
 use Rattle.play_cli.specs.Ending.{FilesEnd}
 use Rattle.play_cli.specs.Input.{IsRead, OnlyReads}
-use Rattle.play_cli.specs.InterfaceSetup.{default_limit, setup_of}
+use Rattle.play_cli.specs.InterfaceSetup.{setup_of}
 use Rattle.play_cli.specs.Opening.{AreOpened, HaveParts, OpenCauses, OpenedFar, Untold}
 use Rattle.play_cli.specs.Run.{Accepted, Names, HasPlayed, HasFronts, HasStatsFront, HoldTexts, Fronts, IsFrontAt, IsOffered}
 use Rattle.play_cli.proofs.CheckLemmas.{read_found}
 use Rattle.play_cli.proofs.ConfLemmas.{one_accepted, some_bytes}
 use Rattle.play_cli.proofs.FilesLemmas.{Course, course_keeps, course_parts, files_played, untouched}
+use Rattle.play_cli.proofs.Laws.{HaveLaws, promises_kept}
 use Rattle.play_cli.proofs.OpeningLemmas.{far_none, fresh_before, none_some, same_part, short_or_long}
 
 -- where the outputs were not created, or emptied
@@ -108,8 +100,8 @@ pub record Steps (u a b c : View) (n : Names) (i : Interface) (o : Opened) : Typ
   pub none : NoneAppears b c
   pub said : c.said ≡ b.said
   pub distinct : AreDistinct n.config n.arrivals n.departures n.fates n.stats
-  pub rate : 0 < i.rate
-  pub place : (bytes : List ℕ) → ((setup_of i 0).place bytes).class ≡ 1
+  pub laws : HaveLaws
+  pub configured : IsConfigured i
 
 course_of : (u a b c : View) (n : Names) (i : Interface) (o : Opened) → Steps u a b c n i o → Course u a b c n
 course_of u a b c n i o s = record {
@@ -188,16 +180,6 @@ texts_of u a b c n i o x records g s t h = record {
   fates = fates_held u a b c n i o _ s t h.fates;
 }
 
--- of one queue the link never idles
-idle_of : (u a b c : View) (n : Names) (i : Interface) (o : Opened) (seed : ℕ) (records : List Record) (g : List Happened) (t : Totals) → Steps u a b c n i o
-    → IsFinished (setup_of i seed).policy i.rate seed (arrivals_in (setup_of i seed) records) g t
-    → NeverIdles i.rate (comings (arrivals_in (setup_of i seed) records)) g
-idle_of u a b c n i o seed records g t s x =
-    let place : List ℕ → Placed = (setup_of i seed).place in
-    never_idles (one_queue (default_limit i)) i.rate seed (comings (arrivals_in (setup_of i seed) records)) g s.rate
-    (strict_lawful (1 ∷ []) Share (tail (default_limit i))) (strict_never_waits (1 ∷ []) Share (tail (default_limit i))) (arrivals_rise place records)
-    (one_queue_holds (default_limit i) place records s.place) x.play.events
-
 pub done_of : (u a b c : View) (n : Names) (i : Interface) (o : Opened) (seed : ℕ) → Steps u a b c n i o → (totals : Totals)
     → Plays (setup_of i seed) Untold b c o totals → IsTrue u.tells → HasPlayed u c n seed
 unfolding accepted_of
@@ -217,7 +199,7 @@ done_of u a b c n i o seed s totals p t =
         stats = stats_held u a b c n i o _ s t y.stats;
         reads = y.reads;
       };
-      never_idles = λ one. idle_of u a b c n i o seed x.0 y.history totals s y.play;
+      promises = promises_kept s.laws i s.configured seed found.0.bytes x.0 End x.1 y.history y.play.play.events;
     }
 
 front_at : (u c : View) (part : ℕ) (name text : List ℕ) (written rest : List ℕ) → c.bytes name ≡ Some written → written ++ rest ≡ text → IsFrontAt u c part name text
@@ -320,9 +302,8 @@ causes_of u a b c n i o seed play.NoMemory s x q = tt
 
 -- what is read and found is accepted
 pub accepts_of : (u : View) (config interface : List ℕ) (interfaces : List Interface) (i : Interface) → IsRead u config (Ok interfaces)
-    → interface_of interface interfaces ≡ Some i → is_one_queue i ≡ true → Accepts u config interface i
-accepts_of u config interface interfaces i r e one = λ t.
-    record { interfaces = interfaces; says = read_found u config interface interfaces i r e t; played = one }
+    → interface_of interface interfaces ≡ Some i → Accepts u config interface i
+accepts_of u config interface interfaces i r e = λ t. record { interfaces = interfaces; says = read_found u config interface interfaces i r e t }
 
 -- where the configuration is accepted it is not refused
 pub accepted_not : (u v : View) (n : Names) (i : Interface) → Accepts u n.config n.interface i → AcceptsNone u n.config n.interface → IsTrue u.tells

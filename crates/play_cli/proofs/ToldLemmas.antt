@@ -4,7 +4,6 @@ use Rattle.std.specs.Prelude.{IsTrue}
 use Rattle.capture_model.specs.declared.damage.Damage.{Damage}
 use Rattle.capture_model.specs.Capture.{End, Fault, Limit}
 use Rattle.capture_model.specs.Numbers.{damage_number}
-use Rattle.conf_laws.specs.Laws.{ConfigurationsFit}
 use Rattle.conf_lines.specs.declared.fault.ConfPlace.{ConfPlace}
 use Rattle.conf_tree.specs.declared.interface.Interface.{Interface}
 use Rattle.play_base.specs.View.{View}
@@ -12,13 +11,14 @@ use Rattle.play_loop.specs.declared.fault.Limit.TheVariants as limit
 use Rattle.play_loop.specs.declared.fault.PlayFault.{PlayFault}
 use Rattle.play_loop.specs.declared.fault.PlayFault.TheVariants as play
 use Rattle.play_cli.specs.Causes.{Causes, IsAfterConfigFault, PlayCauses, play_status, status_of, ended}
-use Rattle.play_cli.specs.Configuration.{Accepts, IsUnbuilt, Refused, Says, TooLong}
+use Rattle.play_cli.specs.Configuration.{Accepts, Refused, Says, TooLong}
 use Rattle.play_cli.specs.Ending.{PlayIsTold, Tells, TellsDamage, TellsPlace}
 use Rattle.play_cli.specs.Opening.{CannotRead, output_number}
 use Rattle.play_cli.specs.Run.{Accepted, Names, HasPlayed, EndsWith, EndsLate, IsPlayable, IsQuiet}
 use Rattle.play_cli.specs.declared.fault.RunFault.{RunFault}
 use Rattle.play_cli.specs.declared.fault.RunFault.TheVariants as fault
-use Rattle.play_cli.proofs.ConfLemmas.{config_not, long_not, no_bytes, refused_not, told_long, told_place, told_unbuilt, unbuilt_not}
+use Rattle.play_cli.proofs.ConfLemmas.{config_not, long_not, no_bytes, refused_not, told_long, told_place}
+use Rattle.play_cli.proofs.Laws.{HaveLaws}
 use Rattle.play_cli.proofs.EndLemmas.{damaged_not, end_fault, end_limit, fault_end, fault_same, late_not_ended, late_not_played, limit_end, limit_fault, limited_not, offered_not_late, one_end}
 
 -- what is accepted can be read, where no count of faults rose
@@ -86,7 +86,7 @@ told_limit u v n seed (fault.Play f) t p q x = play_limit u v n seed f t p q x
 told_limit u v n seed (fault.Say s) t p q x = absurd x
 
 -- and a sending that would end too late
-play_late : (u v : View) (n : Names) (seed : ℕ) (f : PlayFault) → ConfigurationsFit → IsTrue u.tells → EndsLate u n seed → IsQuiet u v → PlayCauses u v n seed f
+play_late : (u v : View) (n : Names) (seed : ℕ) (f : PlayFault) → HaveLaws → IsTrue u.tells → EndsLate u n seed → IsQuiet u v → PlayCauses u v n seed f
     → Tells (play_status f) 7 2 ⊎ ((play_status f).code ≡ 8)
 play_late u v n seed (play.Capture e) fit t p q x =
     let y = x t in absurd (offered_not_late u v n seed (Fault y.damage) fit tt (fault_end y.damage) y.decided p)
@@ -96,7 +96,7 @@ play_late u v n seed (play.Limit limit.Capture) fit t p q x = absurd (offered_no
 play_late u v n seed (play.Limit limit.Clock) fit t p q x = inl (record { code = refl; kind = refl })
 play_late u v n seed play.NoMemory fit t p q x = inr refl
 
-told_late : (u v : View) (n : Names) (seed : ℕ) (f : RunFault) → ConfigurationsFit → IsTrue u.tells → EndsLate u n seed → IsQuiet u v → Causes u v n seed f
+told_late : (u v : View) (n : Names) (seed : ℕ) (f : RunFault) → HaveLaws → IsTrue u.tells → EndsLate u n seed → IsQuiet u v → Causes u v n seed f
     → Tells (status_of f) 7 2 ⊎ ((status_of f).code ≡ 8)
 told_late u v n seed (fault.Config c) fit t p q x =
     inr (config_not u v n.config n.interface p.accepted.interface c t q p.accepted.configuration x)
@@ -116,19 +116,12 @@ long_is_told u v n seed (fault.Config c) t q y x a = told_long u v n.config n.in
 long_is_told u v n seed (fault.Play f) t q y x a = let w = a tt in absurd (long_not u n.config n.interface w.0 (w.1 t) y)
 long_is_told u v n seed (fault.Say s) t q y x a = absurd x
 
-unbuilt_is_told : (u v : View) (n : Names) (seed : ℕ) (f : RunFault) → IsTrue u.tells → IsQuiet u v → IsUnbuilt u n.config n.interface → Causes u v n seed f
-    → (IsAfterConfigFault f → (found : Interface) × Accepts u n.config n.interface found) → Tells (status_of f) 9 3 ⊎ ((status_of f).code ≡ 8)
-unbuilt_is_told u v n seed (fault.Config c) t q y x a = told_unbuilt u v n.config n.interface c t q y x
-unbuilt_is_told u v n seed (fault.Play f) t q y x a = let w = a tt in absurd (unbuilt_not u n.config n.interface w.0 (w.1 t) y)
-unbuilt_is_told u v n seed (fault.Say s) t q y x a = absurd x
-
-pub fault_is_told : (u v : View) (n : Names) (seed : ℕ) (f : RunFault) → ConfigurationsFit → Causes u v n seed f
+pub fault_is_told : (u v : View) (n : Names) (seed : ℕ) (f : RunFault) → HaveLaws → Causes u v n seed f
     → (IsAfterConfigFault f → (found : Interface) × Accepts u n.config n.interface found) → IsTrue u.tells → IsQuiet u v → PlayIsTold u n seed (status_of f)
 fault_is_told u v n seed f fit x a t q = record {
   complete = λ p. inr (is_memory u v n seed f t p q x);
   configuration = λ place y. place_is_told u v n seed place f t q y x a;
   long = λ y. long_is_told u v n seed f t q y x a;
-  unbuilt = λ y. unbuilt_is_told u v n seed f t q y x a;
   damage = λ d p. told_damage u v n seed d f t p q x;
   limit = λ p. told_limit u v n seed f t p q x;
   late = λ p. told_late u v n seed f fit t p q x;
@@ -139,7 +132,6 @@ done_is_told u v n seed x = record {
   complete = λ p. inl refl;
   configuration = λ place y. absurd (refused_not u n.config n.interface x.accepted.interface place x.accepted.configuration y);
   long = λ y. absurd (long_not u n.config n.interface x.accepted.interface x.accepted.configuration y);
-  unbuilt = λ y. absurd (unbuilt_not u n.config n.interface x.accepted.interface x.accepted.configuration y);
   damage = λ d p. absurd (damaged_not u v n seed d p x);
   limit = λ p. absurd (limited_not u v n seed p x);
   late = λ p. absurd (late_not_played u v n seed p x);

@@ -10,7 +10,7 @@ use Rattle.play_loop.specs.declared.fault.Limit.{Limit}
 use Rattle.play_loop.specs.declared.fault.Limit.TheVariants as limit
 use Rattle.play_loop.specs.declared.fault.PlayFault.{PlayFault}
 use Rattle.play_loop.specs.declared.fault.PlayFault.TheVariants as play
-use Rattle.play_cli.specs.Configuration.{Refused, TooLong, Says, IsUnbuilt}
+use Rattle.play_cli.specs.Configuration.{Refused, TooLong, Says}
 use Rattle.play_cli.specs.Opening.{CannotRead, output_number}
 use Rattle.play_cli.specs.Run.{Names, IsDamagedAt, IsLimited, IsLate}
 use Rattle.play_cli.specs.declared.status.Status.{Status}
@@ -44,7 +44,6 @@ names_read words = record {
 abbrev pub ConfigCauses : View → View → (config interface : List ℕ) → ConfigFault → Type 0
 ConfigCauses old new config interface (conf.At place) = IsTrue old.tells → Says old config interface (Refused place)
 ConfigCauses old new config interface conf.TooLong = IsTrue old.tells → Says old config interface TooLong
-ConfigCauses old new config interface conf.Unbuilt = IsTrue old.tells → IsUnbuilt old config interface
 ConfigCauses old new config interface conf.Read = CannotRead old new 1 config
 ConfigCauses old new config interface conf.NoMemory = Unit {0}
 
@@ -68,16 +67,12 @@ Causes old new n seed (Play fault) = PlayCauses old new n seed fault
 Causes old new n seed (Say trouble) = ⊥
 
 -- why a check ends early: it asks for no play
-abbrev pub CheckConfigCauses : View → View → (config interface : List ℕ) → ConfigFault → Type 0
-CheckConfigCauses old new config interface conf.Unbuilt = ⊥
-CheckConfigCauses old new config interface fault = ConfigCauses old new config interface fault
-
 abbrev pub SayCauses : View → View → Trouble → Type 0
 SayCauses old new trouble.Failed = Rose (old.write_faults 0) (new.write_faults 0)
 SayCauses old new trouble.NoMemory = Unit {0}
 
 abbrev pub CheckCauses : View → View → (config interface : List ℕ) → RunFault → Type 0
-CheckCauses old new config interface (Config fault) = CheckConfigCauses old new config interface fault
+CheckCauses old new config interface (Config fault) = ConfigCauses old new config interface fault
 CheckCauses old new config interface (Play fault) = ⊥
 CheckCauses old new config interface (Say trouble) = SayCauses old new trouble
 
@@ -89,7 +84,6 @@ ended code kind = record { code = code; line = 0; word = 0; place = 0; kind = ki
 abbrev pub config_status : ConfigFault → Status
 config_status (conf.At place) = record { code = 3; line = place.line; word = place.word; place = 0; kind = place.kind }
 config_status conf.TooLong = ended 7 3
-config_status conf.Unbuilt = ended 9 3
 config_status conf.Read = ended 5 1
 config_status conf.NoMemory = ended 8 0
 

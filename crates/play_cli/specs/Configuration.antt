@@ -1,9 +1,8 @@
 -- What the text of a configuration says to one who asks for an interface, after altq.conf(5).
-use Rattle.std.specs.Prelude.{◌≡◌, ◌^◌, ◌&&◌, ℕ, Bool, true, false, List, length, find, nat_lt, bytes_eq, if◌then◌else◌, Option, Some, None, Result, Ok, Err, IsTrue, slice_get}
+use Rattle.std.specs.Prelude.{◌≡◌, ◌^◌, ℕ, List, length, find, nat_lt, bytes_eq, if◌then◌else◌, Option, Some, None, Result, Ok, Err, IsTrue, slice_get}
 use Rattle.conf_lines.specs.declared.fault.ConfPlace.{ConfPlace}
 use Rattle.conf_lines.specs.Texts.{statements_of}
 use Rattle.conf_tree.specs.declared.interface.Interface.{Interface}
-use Rattle.conf_tree.specs.Classes.{is_hfsc}
 use Rattle.conf_tree.specs.Kinds.{fault_at, no_interface}
 use Rattle.conf_tree.specs.Reading.{IsConfiguration, reading}
 use Rattle.play_base.specs.View.{View}
@@ -41,22 +40,10 @@ pub record Says (v : View) (config interface : List ℕ) (said : Configuration) 
   pub at : v.bytes config ≡ Some text
   pub says : configuration interface text ≡ said
 
--- an interface that is played so far: it has no class statement and shares its link by HFSC, so that it has one queue
-abbrev pub is_one_queue : Interface → Bool
-is_one_queue i = i.implied && is_hfsc i.kind
-
--- the text says that the interface asked for is this one, which is played
+-- the text says that the interface asked for is this one
 pub record Configures (v : View) (config interface : List ℕ) (found : Interface) : Type 0 where
   pub interfaces : List Interface
   pub says : Says v config interface (Said interfaces found)
-  pub played : is_one_queue found ≡ true
-
--- the text says that the interface is another
-pub record IsUnbuilt (v : View) (config interface : List ℕ) : Type 0 where
-  pub interfaces : List Interface
-  pub found : Interface
-  pub says : Says v config interface (Said interfaces found)
-  pub other : is_one_queue found ≡ false
 
 -- the interface is one of those of a text
 pub record IsConfigured (found : Interface) : Type 0 where
@@ -66,7 +53,7 @@ pub record IsConfigured (found : Interface) : Type 0 where
   pub place : ℕ
   pub at : slice_get interfaces place ≡ Some found
 
--- where the object tells: this interface is configured and played
+-- where the object tells: this interface is configured
 abbrev pub Accepts : View → (config interface : List ℕ) → Interface → Type 0
 Accepts v config interface found = IsTrue v.tells → Configures v config interface found
 

@@ -9,7 +9,7 @@ use Rattle.play_base.specs.View.{View, Any, Keeps, IsAbsent, Rose}
 use Rattle.play_cli.specs.declared.status.Status.{Status}
 use Rattle.play_cli.specs.Causes.{IsAfterConfig}
 use Rattle.play_cli.specs.Checked.{HasChecked, IsCheckable}
-use Rattle.play_cli.specs.Configuration.{Accepts, AcceptsNone, IsUnbuilt, Refused, Says, TooLong}
+use Rattle.play_cli.specs.Configuration.{Accepts, AcceptsNone, Refused, Says, TooLong}
 use Rattle.play_cli.specs.Input.{OnlyReads}
 use Rattle.play_cli.specs.Opening.{CannotRead, KeepsOthers}
 use Rattle.play_cli.specs.Order.{IsInOrder, KeepUncreated, TakesFew}
@@ -50,7 +50,6 @@ pub record IsStatus (s : Status) : Type 0 where
 pub record PlayComes (old new : View) (n : Names) (seed : ℕ) (s : Status) : Type 0 where
   pub done : s.code ≡ 0 → IsTrue old.tells → HasPlayed old new n seed
   pub configuration : s.code ≡ 3 → IsTrue old.tells → Says old n.config n.interface (Refused (place_of s))
-  pub unbuilt : s.code ≡ 9 → (s.kind ≡ 3) × (IsTrue old.tells → IsUnbuilt old n.config n.interface)
   pub damaged : s.code ≡ 4 → IsTrue old.tells → IsDamagedAt old new n seed s.place s.kind
   pub read : s.code ≡ 5 → ((s.kind ≡ 1) × CannotRead old new 1 n.config) ⊎ ((s.kind ≡ 2) × CannotRead old new 2 n.arrivals)
   pub write : s.code ≡ 6 → (1 ≤ s.kind) × (s.kind ≤ 3) × Rose (old.write_faults (s.kind + 2)) (new.write_faults (s.kind + 2))
@@ -64,7 +63,6 @@ pub record PlayIsTold (old : View) (n : Names) (seed : ℕ) (s : Status) : Type 
   pub complete : IsPlayable old n seed → (s.code ≡ 0) ⊎ (s.code ≡ 8)
   pub configuration : (place : ConfPlace) → Says old n.config n.interface (Refused place) → TellsPlace s place ⊎ (s.code ≡ 8)
   pub long : Says old n.config n.interface TooLong → Tells s 7 3 ⊎ (s.code ≡ 8)
-  pub unbuilt : IsUnbuilt old n.config n.interface → Tells s 9 3 ⊎ (s.code ≡ 8)
   pub damage : (d : Damage) → EndsWith old n seed (Fault d) → TellsDamage s d ⊎ (s.code ≡ 8)
   pub limit : EndsWith old n seed Limit → Tells s 7 1 ⊎ (s.code ≡ 8)
   pub late : EndsLate old n seed → Tells s 7 2 ⊎ (s.code ≡ 8)
@@ -101,7 +99,6 @@ pub record CheckEnds (old new : View) (config interface : List ℕ) (s : Status)
   pub read : s.code ≡ 5 → (s.kind ≡ 1) × CannotRead old new 1 config
   pub write : s.code ≡ 6 → (s.kind ≡ 10) × Rose (old.write_faults 0) (new.write_faults 0)
   pub limit : s.code ≡ 7 → (s.kind ≡ 3) × (IsTrue old.tells → Says old config interface TooLong)
-  pub built : s.code ≢ 9
   pub whole : s.code ≢ 4
   pub complete : IsTrue old.tells → IsQuiet old new → IsCheckable old config interface → (s.code ≡ 0) ⊎ (s.code ≡ 8)
   pub configuration_told : IsTrue old.tells → IsQuiet old new → (place : ConfPlace) → Says old config interface (Refused place)

@@ -1,11 +1,11 @@
 -- What is read of a configuration.
-use Rattle.std.specs.Prelude.{◌≡◌, ◌≤◌, ◌<◌, ◌+◌, ℕ, false, List, length, None, Some, Result, Err, IsTrue}
+use Rattle.std.specs.Prelude.{◌≡◌, ◌≤◌, ◌<◌, ◌+◌, ℕ, List, length, None, Some, Result, Err, IsTrue}
 use Rattle.conf_lines.specs.declared.fault.ConfPlace.{ConfPlace}
 use Rattle.conf_lines.specs.Texts.{statements_of}
 use Rattle.conf_tree.specs.declared.interface.Interface.{Interface}
 use Rattle.conf_tree.specs.Reading.{reading}
 use Rattle.play_base.specs.View.{View}
-use Rattle.play_cli.specs.Configuration.{absent, interface_of, is_one_queue, most_bytes}
+use Rattle.play_cli.specs.Configuration.{most_bytes}
 use Rattle.play_cli.specs.Opening.{CannotRead}
 use Rattle.play_cli.specs.declared.fault.ConfigFault.{ConfigFault}
 use Rattle.play_cli.specs.declared.fault.ConfigFault.TheVariants as conf
@@ -47,30 +47,18 @@ pub record IsLonger (old : View) (config : List ℕ) : Type 0 where
 abbrev pub BytesCauses : View → View → (config : List ℕ) → ConfigFault → Type 0
 BytesCauses old new config (conf.At place) = ⊥
 BytesCauses old new config conf.TooLong = IsTrue old.tells → IsLonger old config
-BytesCauses old new config conf.Unbuilt = ⊥
 BytesCauses old new config conf.Read = CannotRead old new 1 config
 BytesCauses old new config conf.NoMemory = Unit {0}
 
 abbrev pub InputCauses : View → View → (config : List ℕ) → ConfigFault → Type 0
 InputCauses old new config (conf.At place) = IsRead old config (Err place)
 InputCauses old new config conf.TooLong = IsTrue old.tells → IsLonger old config
-InputCauses old new config conf.Unbuilt = ⊥
 InputCauses old new config conf.Read = CannotRead old new 1 config
 InputCauses old new config conf.NoMemory = Unit {0}
-
--- why a configuration has no interface to play
-abbrev pub IsMissing : (interface : List ℕ) → List Interface → ConfigFault → Type 0
-IsMissing interface interfaces (conf.At place) = (place ≡ absent) × (interface_of interface interfaces ≡ None)
-IsMissing interface interfaces conf.TooLong = ⊥
-IsMissing interface interfaces conf.Unbuilt =
-    (found : Interface) × (interface_of interface interfaces ≡ Some found) × (is_one_queue found ≡ false)
-IsMissing interface interfaces conf.Read = ⊥
-IsMissing interface interfaces conf.NoMemory = ⊥
 
 -- the faults that one file can show
 abbrev pub IsOfFile : ConfigFault → Type 0
 IsOfFile (conf.At place) = ⊥
 IsOfFile conf.TooLong = Unit {0}
-IsOfFile conf.Unbuilt = ⊥
 IsOfFile conf.Read = Unit {0}
 IsOfFile conf.NoMemory = Unit {0}

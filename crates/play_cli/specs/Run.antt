@@ -1,22 +1,22 @@
 -- What a run of the program leaves, and when each of its statuses comes.
-use Rattle.std.specs.Prelude.{◌≡◌, ◌<◌, ◌⊎◌, ℕ, true, List, [], ◌++◌, length, None, Some, IsTrue}
+use Rattle.std.specs.Prelude.{◌≡◌, ◌<◌, ◌⊎◌, ℕ, List, [], ◌++◌, length, None, Some, IsTrue}
 use Rattle.altq_model.specs.Arrivals.{comings}
 use Rattle.altq_model.specs.Departures.{departed}
 use Rattle.altq_model.specs.History.{Happened, bare, offered}
-use Rattle.altq_model.specs.Idle.{NeverIdles}
 use Rattle.altq_model.specs.Lawful.{greatest}
 use Rattle.altq_model.specs.Play.{IsPlay}
 use Rattle.capture_model.specs.declared.damage.Damage.{Damage}
 use Rattle.capture_model.specs.Capture.{Record, Step, End, Fault, Limit, Reads, IsCapture, IsLast}
 use Rattle.capture_model.specs.Numbers.{damage_number}
 use Rattle.conf_tree.specs.declared.interface.Interface.{Interface}
+use Rattle.interface_policy.specs.Promises.{KeepsPromises}
 use Rattle.play_base.specs.View.{View, Rose}
 use Rattle.play_core.specs.declared.totals.Totals.{Totals}
 use Rattle.play_core.specs.Ended.{IsBegun, IsCutOff}
 use Rattle.play_core.specs.Finished.{EndsWithOffer, IsFinished, IsStopped}
 use Rattle.play_loop.specs.Played.{Streams, start_of}
 use Rattle.play_loop.specs.Setup.{Setup, arrivals_in, departures_of, fates_of, statistics_of}
-use Rattle.play_cli.specs.Configuration.{Configures, is_one_queue}
+use Rattle.play_cli.specs.Configuration.{Configures}
 use Rattle.play_cli.specs.InterfaceSetup.{setup_of}
 use Rattle.play_cli.specs.Order.{Untouched}
 
@@ -29,8 +29,8 @@ pub record Names : Type 0 where
   pub fates : List ℕ
   pub stats : List ℕ
 
--- what is accepted: the configuration says that the interface asked for is this one, which is played, and these are the bytes under
--- the name of the arrivals
+-- what is accepted: the configuration says that the interface asked for is this one, and these are the bytes under the name of the
+-- arrivals
 pub record Accepted (v : View) (n : Names) : Type 0 where
   pub interface : Interface
   pub bytes : List ℕ
@@ -57,13 +57,13 @@ pub record WasPlayed (v : View) (n : Names) (x : Setup) (bytes : List ℕ) : Typ
 -- THE HEADLINE. The configuration gives the interface, and the arrivals are a capture; this is the history of its play by the
 -- interface and the seed of the words. In it each arrival has one fate, each class departs in the order of arrival, no packet starts
 -- before it arrived, each end is that of its run, each event is the one that the policy makes due, each start is the least moment,
--- not before the last end, at which a class may send, nothing waits at the end, and every packet ends before the clock does. Of one
--- queue the link never idles while a packet waits.
+-- not before the last end, at which a class may send, nothing waits at the end, and every packet ends before the clock does. It keeps
+-- what the interface promises: of HFSC the due moments where the real-time curves fit the link, and that the link never idles while
+-- a packet waits where no class has an upper limit; of CBQ the cap on a class that does not borrow.
 pub record HasPlayed (old new : View) (n : Names) (seed : ℕ) : Type 0 where
   pub accepted : Accepted old n
   pub played : WasPlayed new n (setup_of accepted.interface seed) accepted.bytes
-  pub never_idles : is_one_queue accepted.interface ≡ true
-      → NeverIdles accepted.interface.rate (comings (arrivals_in (setup_of accepted.interface seed) played.records)) played.history
+  pub promises : KeepsPromises accepted.interface (comings (arrivals_in (setup_of accepted.interface seed) played.records)) played.history
 
 -- the name was not created and holds what it held before the run, or it holds a front of this text
 abbrev pub IsFrontAt : View → View → (part : ℕ) → (name text : List ℕ) → Type 0
@@ -163,7 +163,7 @@ IsPlayable old n seed = EndsWith old n seed End
 
 -- the statuses of this program
 abbrev pub IsCode : ℕ → Type 0
-IsCode c = (c ≡ 0) ⊎ (c ≡ 2) ⊎ (c ≡ 3) ⊎ (c ≡ 4) ⊎ (c ≡ 5) ⊎ (c ≡ 6) ⊎ (c ≡ 7) ⊎ (c ≡ 8) ⊎ (c ≡ 9)
+IsCode c = (c ≡ 0) ⊎ (c ≡ 2) ⊎ (c ≡ 3) ⊎ (c ≡ 4) ⊎ (c ≡ 5) ⊎ (c ≡ 6) ⊎ (c ≡ 7) ⊎ (c ≡ 8)
 
 -- one does
 pub record EndsLate (old : View) (n : Names) (seed : ℕ) : Type 0 where

@@ -11,8 +11,6 @@ pub enum ConfigFault {
     At(ConfPlace),
     /// It has more than 2^20 bytes.
     TooLong,
-    /// The interface asked for has class statements or is `cbq`, which is not played yet.
-    Unbuilt,
     /// It could not be opened or read.
     Read,
     /// No memory was left for it.

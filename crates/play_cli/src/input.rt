@@ -1,15 +1,15 @@
 // Reading the configuration.
-ghost use Rattle.std.specs.Prelude.{◌≡◌, ◌≢◌, ◌≤◌, ◌<◌, ◌+◌, ℕ, List, length, true, Some, Ok, IsTrue, IsSome, IfOk, IfErr, IsErrOf};
+ghost use Rattle.std.specs.Prelude.{◌≡◌, ◌≢◌, ◌≤◌, ◌<◌, ◌+◌, ℕ, List, length, Some, Ok, IsTrue, IsSome, IfOk, IfErr, IsErrOf};
 ghost use Rattle.conf_lines.specs.Texts.{statements_of};
 ghost use Rattle.conf_tree.specs.Answers.{Fails};
 ghost use Rattle.conf_tree.specs.Reading.{reading};
 ghost use Rattle.play_base.specs.View.{View, ReadFault, Keeps, Any, NoneAppears};
-ghost use Rattle.play_cli.specs.Configuration.{absent, interface_of, is_one_queue, most_bytes};
-ghost use Rattle.play_cli.specs.Input.{BytesCauses, HadLeft, HadMore, InputCauses, IsMissing, IsOfFile, IsRead, OnlyReads, TookFew};
+ghost use Rattle.play_cli.specs.Configuration.{absent, most_bytes};
+ghost use Rattle.play_cli.specs.Input.{BytesCauses, HadLeft, HadMore, InputCauses, IsOfFile, IsRead, OnlyReads, TookFew};
 
 use crate::ConfigFault;
 use conf_lines::{ConfFault, ConfPlace, statements};
-use conf_tree::{Conf, Interface, Kind};
+use conf_tree::Conf;
 use play_base::{Files, Trouble};
 use std::alloc::Global;
 
@@ -120,26 +120,4 @@ pub fn absent() -> ConfPlace
         word: 0,
         kind: NO_INTERFACE,
     }
-}
-
-// Whether an interface is played so far.
-fn is_one_queue(interface: &Interface) -> bool
-    ensures { result ≡ is_one_queue interface.now }
-{
-    interface.implied && interface.kind == Kind::Hfsc
-}
-
-/// The interface of a name, where it is played so far: it has no class statement and shares its link by HFSC.
-pub fn played_interface<'a>(conf: &'a Conf, name: &str) -> Result<&'a Interface, ConfigFault>
-    ensures found { IfOk result (λ found. interface_of name.now conf.now ≡ Some found.now) }
-    ensures played { IfOk result (λ found. is_one_queue found.now ≡ true) }
-    ensures why { IfErr result (IsMissing name.now conf.now) }
-{
-    let Some(found) = conf.interface(name) else {
-        return Err(ConfigFault::At(absent()));
-    };
-    if !is_one_queue(found) {
-        return Err(ConfigFault::Unbuilt);
-    }
-    Ok(found)
 }

@@ -4,7 +4,7 @@
 mod checking;
 mod fault;
 mod input;
-mod one;
+mod interface;
 mod opening;
 mod playing;
 mod program;

@@ -9,13 +9,14 @@ ghost use Rattle.play_cli.specs.Ending.{FilesEnd, PlayEnds};
 ghost use Rattle.play_cli.specs.Run.{HasPlayed, Fronts};
 ghost use Rattle.play_cli.specs.declared.fault.ConfigFault.{ConfigFault};
 
-use crate::input::{played_interface, read_conf};
-use crate::one::play_interface;
+use crate::input::{absent, read_conf};
+use crate::interface::play_interface;
 use crate::opening::open_files;
 use crate::status::{ended, status_of};
-use crate::{RunFault, Status};
+use crate::{ConfigFault, RunFault, Status};
 use conf_laws::configurations_fit;
 use frame_classes::frames_have_classes;
+use interface_policy::interfaces_keep_their_promises;
 use play_base::Files;
 use play_words::PlayWords;
 use std::alloc::Global;
@@ -41,9 +42,8 @@ fn play_files<F: Files>(alloc: Global, files: &mut F, words: &PlayWords<'_>) -> 
         Ok(conf) => conf,
         Err(fault) => return Err(RunFault::Config(fault)),
     };
-    let found = match played_interface(&conf, words.interface) {
-        Ok(found) => found,
-        Err(fault) => return Err(RunFault::Config(fault)),
+    let Some(found) = conf.interface(words.interface) else {
+        return Err(RunFault::Config(ConfigFault::At(absent())));
     };
     let opened = match open_files(files, words) {
         Ok(opened) => opened,
@@ -51,6 +51,7 @@ fn play_files<F: Files>(alloc: Global, files: &mut F, words: &PlayWords<'_>) -> 
     };
     configurations_fit();
     frames_have_classes();
+    interfaces_keep_their_promises();
     match play_interface(alloc, files, found, words.seed, &opened) {
         Ok(_) => Ok(()),
         Err(fault) => Err(RunFault::Play(fault)),
@@ -63,6 +64,8 @@ pub fn play<F: Files>(alloc: Global, files: &mut F, words: &PlayWords<'_>) -> St
     ensures { PlayEnds (F.view files.old) (F.view files.new) (names_read words.now) words.now.seed result }
 {
     configurations_fit();
+    frames_have_classes();
+    interfaces_keep_their_promises();
     match play_files(alloc, files, words) {
         Ok(()) => ended(0, 0),
         Err(fault) => status_of(fault),

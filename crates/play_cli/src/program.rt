@@ -9,7 +9,7 @@ ghost use Rattle.play_base.specs.View.{View, Any, IsAbsent, Keeps, Rose};
 ghost use Rattle.play_words.specs.Words.{IsCheck, IsPlay, refusal, seed_of};
 ghost use Rattle.play_cli.specs.Causes.{IsAfterConfig, names_of};
 ghost use Rattle.play_cli.specs.Checked.{HasChecked, IsCheckable};
-ghost use Rattle.play_cli.specs.Configuration.{Accepts, AcceptsNone, IsUnbuilt, Refused, Says, TooLong};
+ghost use Rattle.play_cli.specs.Configuration.{Accepts, AcceptsNone, Refused, Says, TooLong};
 ghost use Rattle.play_cli.specs.Ending.{Tells, TellsDamage, TellsPlace, place_of};
 ghost use Rattle.play_cli.specs.Opening.{CannotRead, KeepsOthers};
 ghost use Rattle.play_cli.specs.Order.{IsInOrder, KeepUncreated, TakesFew};
@@ -25,11 +25,11 @@ use std::alloc::Global;
 
 /// All that the program does. `words` are the words behind the program's name.
 ///
-/// `play --config C --interface I --arrivals A --departures D --fates T --stats Z --seed N` plays the capture A through the one
-/// queue of 50 packets that the configuration C gives the interface I, and a link of its rate, and writes the departures to D,
-/// the fates to T, and at the end the statistics to Z. Nothing is created before the configuration is accepted and the arrivals
-/// are open, and fates only behind departures, statistics only behind fates. Frames are placed by the filters of the interface. At
-/// most 2^20 + 1 bytes of C are read. `check --config C --interface I` says the canonical text of the configuration C, where it
+/// `play --config C --interface I --arrivals A --departures D --fates T --stats Z --seed N` plays the capture A through the queues
+/// that the configuration C gives the interface I, and a link of its rate, by HFSC or CBQ as C says and by the words of the seed N,
+/// and writes the departures to D, the fates to T, and at the end the statistics to Z. Nothing is created before the configuration
+/// is accepted and the arrivals are open, and fates only behind departures, statistics only behind fates. Frames are placed by the
+/// filters of the interface. At most 2^20 + 1 bytes of C are read. `check --config C --interface I` says the canonical text of the configuration C, where it
 /// has the interface I, and in a last line whether the real-time curves of I fit its link; the kind is 1 where they exceed it.
 ///
 /// The status says how it ended, and each clause below when that comes and what it leaves. Where the files tell their bytes,
@@ -59,8 +59,6 @@ pub fn run<F: Files>(alloc: Global, words: &[String], files: &mut F) -> Status
     // When each fault comes, and that the configuration is accepted before any of the other files is looked at.
     ensures configuration { result.code ≡ 3 → IsTrue (F.view files.old).tells →
         Says (F.view files.old) (names_of words.now).config (names_of words.now).interface (Refused (place_of result)) }
-    ensures unbuilt { result.code ≡ 9 → IsPlay words.now × (result.kind ≡ 3)
-        × (IsTrue (F.view files.old).tells → IsUnbuilt (F.view files.old) (names_of words.now).config (names_of words.now).interface) }
     ensures damaged { result.code ≡ 4 → IsPlay words.now × (IsTrue (F.view files.old).tells →
         (seed : ℕ) → seed_of words.now ≡ Some seed →
         IsDamagedAt (F.view files.old) (F.view files.new) (names_of words.now) seed result.place result.kind) }
@@ -96,9 +94,6 @@ pub fn run<F: Files>(alloc: Global, words: &[String], files: &mut F) -> Status
     ensures long_told { IsTrue (F.view files.old).tells → refusal words.now ≡ None →
         Says (F.view files.old) (names_of words.now).config (names_of words.now).interface TooLong →
         IsQuiet (F.view files.old) (F.view files.new) → Tells result 7 3 ⊎ (result.code ≡ 8) }
-    ensures unbuilt_told { IsTrue (F.view files.old).tells → refusal words.now ≡ None → IsPlay words.now →
-        IsUnbuilt (F.view files.old) (names_of words.now).config (names_of words.now).interface →
-        IsQuiet (F.view files.old) (F.view files.new) → Tells result 9 3 ⊎ (result.code ≡ 8) }
 
     // So is a damage told, a limit of the arrivals, or a packet that would end too late: that comes in place of a damage or a limit
     // exactly where its sending starts before the last complete record arrives.

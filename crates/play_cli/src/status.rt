@@ -10,8 +10,7 @@ use play_loop::{Limit, Output, PlayFault};
 /// How a run ended. Fields that a code does not use are 0.
 #[derive(Clone, Copy, Debug, PartialEq, Eq)]
 pub struct Status {
-    /// 0 done, 2 words refused, 3 configuration refused, 4 capture damaged, 5 read fault, 6 write fault, 7 limit, 8 no memory, 9 not
-    /// built yet.
+    /// 0 done, 2 words refused, 3 configuration refused, 4 capture damaged, 5 read fault, 6 write fault, 7 limit, 8 no memory.
     pub code: u8,
     /// The line of a configuration's fault, from 1.
     pub line: u64,
@@ -49,7 +48,6 @@ fn config_status(fault: ConfigFault) -> Status
             kind: place.kind,
         },
         ConfigFault::TooLong => ended(7, 3),
-        ConfigFault::Unbuilt => ended(9, 3),
         ConfigFault::Read => ended(5, 1),
         ConfigFault::NoMemory => ended(8, 0),
     }

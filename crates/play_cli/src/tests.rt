@@ -393,8 +393,6 @@ fn refused_configurations(rt: HostRuntime) -> Result<(), Fail> {
             refused(1, 0, 23),
             refused(1, 0, 23),
         ),
-        (VOICE_AND_DATA, ended(9, 0, 3), ended(0, 0, 0)),
-        ("interface if0 cbq", ended(9, 0, 3), ended(0, 0, 0)),
     ] {
         let mut files = MemoryFiles::new(rt.alloc());
         let status = played(rt.alloc(), &mut files, config, &arrivals)?;

@@ -1,0 +1,4 @@
+pub mod Classes
+pub mod Policy
+pub mod Promises
+pub mod Laws

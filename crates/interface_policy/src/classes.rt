@@ -1,0 +1,57 @@
+// The classes of an interface as its discipline sees them.
+ghost use Rattle.std.specs.Prelude.{◌≡◌, IfOk};
+ghost use Rattle.interface_policy.specs.Classes.{cbq_class, cbq_classes, hfsc_class, hfsc_classes};
+
+use cbq_model::CbqClass;
+use conf_tree::Class;
+use hfsc_model::HfscClass;
+use play_base::NoMemory;
+use std::alloc::Global;
+
+// A class of HFSC.
+fn hfsc_class(class: &Class) -> HfscClass
+    ensures { result ≡ hfsc_class class.now }
+{
+    HfscClass {
+        parent: class.parent,
+        real: class.real,
+        share: class.share,
+        limit: class.upper,
+    }
+}
+
+// A class of CBQ.
+fn cbq_class(class: &Class) -> CbqClass
+    ensures { result ≡ cbq_class class.now }
+{
+    CbqClass {
+        parent: class.parent,
+        rate: class.rate,
+        priority: class.priority,
+        borrow: class.borrow,
+        maxburst: class.maxburst,
+        packetsize: class.packetsize,
+    }
+}
+
+/// The classes of an interface as HFSC sees them, in their order. `NoMemory` comes only for want of it.
+pub fn hfsc_classes(alloc: Global, classes: &[Class]) -> Result<Vec<HfscClass>, NoMemory>
+    ensures { IfOk result (λ all. all.items ≡ hfsc_classes classes.now) }
+{
+    let mut all = Vec::with_capacity(alloc, classes.len())?;
+    for class in classes {
+        all.push(hfsc_class(class))?;
+    }
+    Ok(all)
+}
+
+/// The same as CBQ sees them.
+pub fn cbq_classes(alloc: Global, classes: &[Class]) -> Result<Vec<CbqClass>, NoMemory>
+    ensures { IfOk result (λ all. all.items ≡ cbq_classes classes.now) }
+{
+    let mut all = Vec::with_capacity(alloc, classes.len())?;
+    for class in classes {
+        all.push(cbq_class(class))?;
+    }
+    Ok(all)
+}

@@ -1,0 +1,16 @@
+//! An interface of a configuration as the discipline that shares its link: HFSC or CBQ over a queue for each class, which drops at a
+//! limit alone, or by RED, RED that marks, or RIO.
+//!
+//! The definitions say which policy is played of an interface, and what each play of it promises; the functions build the
+//! discipline that keeps that policy. Nothing here sees a file or a packet.
+#![tactic(auto)]
+
+mod classes;
+mod disciplines;
+mod laws;
+mod names;
+mod queues;
+
+pub use disciplines::{cbq_of, hfsc_of};
+pub use laws::interfaces_keep_their_promises;
+pub use names::names_of;
