@@ -6,6 +6,7 @@ say with another rate. Options before them:
 
     --late N      also says which packets take more than N nanoseconds in SECOND and not in FIRST
     --length N    looks only at packets of N bytes, say those of a call
+    --class NAME  looks only at packets that are of this class in both
 
 The delay of a packet that was sent is its end minus its arrival, in nanoseconds. A median is the lower one of
 two middle values, so all numbers are integers. The exit status is 0 where no packet changed fate and no delay
@@ -15,10 +16,13 @@ moved, 1 where one did, and 2 where the files are no fates of the same arrivals.
 import argparse
 import csv
 import sys
-from collections import Counter
+from collections import Counter, namedtuple
 
 HEAD = ["number", "arrival", "length", "class", "fate", "start", "end"]
 SHOWN = 10
+
+# What became of a packet; the delay is None where it was dropped.
+Fate = namedtuple("Fate", "at length fate delay name")
 
 
 class CannotCompare(Exception):
@@ -26,7 +30,7 @@ class CannotCompare(Exception):
 
 
 def fates(name):
-    """The fates of a file by number: (arrival, length, fate, delay), with delay None where it was dropped."""
+    """The fates of a file by number."""
     found = {}
     with open(name, newline="", encoding="ascii", errors="replace") as file:
         rows = csv.reader(file)
@@ -34,8 +38,8 @@ def fates(name):
             raise CannotCompare(f"{name}: its first row is not that of fates")
         for row in rows:
             try:
-                number, at, length, _class, fate, _start, end = row
-                key, value = int(number), (int(at), int(length), fate, int(end) - int(at) if end else None)
+                number, at, length, name_of_class, fate, _start, end = row
+                key, value = int(number), Fate(int(at), int(length), fate, int(end) - int(at) if end else None, name_of_class)
             except ValueError:
                 raise CannotCompare(f"{name}: row {rows.line_num} is not one of fates") from None
             if key in found:
@@ -64,7 +68,7 @@ def changed_fates(first, second):
     """Prints which packets changed fate, and returns how many."""
     changed = {}
     for number in sorted(first):
-        before, after = first[number][2], second[number][2]
+        before, after = first[number].fate, second[number].fate
         if before != after:
             changed.setdefault((before, after), []).append(number)
     count = sum(len(numbers) for numbers in changed.values())
@@ -85,19 +89,19 @@ def spread(label, values):
 
 def delays(first, second):
     """Prints how the delays moved, and returns how many did."""
-    both = [n for n in first if first[n][3] is not None and second[n][3] is not None]
-    moves = [second[n][3] - first[n][3] for n in both]
+    both = [n for n in first if first[n].delay is not None and second[n].delay is not None]
+    moves = [second[n].delay - first[n].delay for n in both]
     print("delays in nanoseconds:")
     print(f"  {'':<22}{'packets':>9}{'least':>14}{'median':>14}{'greatest':>14}")
-    spread("sent in the first", [f[3] for f in first.values() if f[3] is not None])
-    spread("sent in the second", [f[3] for f in second.values() if f[3] is not None])
+    spread("sent in the first", [f.delay for f in first.values() if f.delay is not None])
+    spread("sent in the second", [f.delay for f in second.values() if f.delay is not None])
     spread("sent in both: moved by", moves)
     print(f"  of those sent in both: {sum(m < 0 for m in moves)} earlier, {sum(m == 0 for m in moves)} the same, {sum(m > 0 for m in moves)} later")
     return sum(m != 0 for m in moves)
 
 
 def is_late(fate, most):
-    return fate[3] is not None and fate[3] > most
+    return fate.delay is not None and fate.delay > most
 
 
 def late(first, second, most):
@@ -112,6 +116,7 @@ def main():
     reader = argparse.ArgumentParser(description="Compares two fates of the same arrivals.")
     reader.add_argument("--late", type=int, metavar="N", help="also says which packets take more than N nanoseconds in the second alone")
     reader.add_argument("--length", type=int, metavar="N", help="looks only at packets of N bytes")
+    reader.add_argument("--class", dest="name", metavar="NAME", help="looks only at packets that are of this class in both")
     reader.add_argument("first", help="fates")
     reader.add_argument("second", help="fates of the same arrivals")
     words = reader.parse_args()
@@ -122,9 +127,12 @@ def main():
         print(f"compare.py: {fault}", file=sys.stderr)
         return 2
     if words.length is not None:
-        first, second = ({n: f for n, f in side.items() if f[1] == words.length} for side in (first, second))
+        first, second = ({n: f for n, f in side.items() if f.length == words.length} for side in (first, second))
+    if words.name is not None:
+        own = [n for n in first if first[n].name == second[n].name == words.name]
+        first, second = ({n: side[n] for n in own} for side in (first, second))
     for label, name, side in [("first", words.first, first), ("second", words.second, second)]:
-        counts = Counter(f[2] for f in side.values())
+        counts = Counter(f.fate for f in side.values())
         print(f"{label + ':':<8}{name}: " + ", ".join(f"{n} {fate}" for fate, n in sorted(counts.items())))
     moved = changed_fates(first, second) + delays(first, second)
     if words.late is not None:
