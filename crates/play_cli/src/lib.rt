@@ -11,10 +11,6 @@ mod program;
 mod status;
 
 pub use fault::{ConfigFault, RunFault};
+pub use opening::open_files;
 pub use program::{run, run_steady};
 pub use status::Status;
-
-#[cfg(test)]
-mod over_strict;
-#[cfg(test)]
-mod tests;

@@ -157,9 +157,20 @@ impl Rows {
         if write_row(&mut self.writer, &fields) {
             return Ok(());
         }
-        self.writer = writer_over(Vec::new(self.alloc));
+        renew(&mut self.writer, self.alloc);
         Err(NoMemory)
     }
+}
+
+// Puts a new writer over nothing in place of one. It is not inlined, since a writer is large, and a function that makes one pays for
+// it at its entry.
+#[cold]
+#[inline(never)]
+fn renew(writer: &mut Writer<Vec<u8>>, alloc: Global)
+    ensures ready { IsReady writer.new }
+    ensures text { (writer_under writer.new).items ≡ [] }
+{
+    *writer = writer_over(Vec::new(alloc));
 }
 
 // Writes a row at once; false where memory was wanting.

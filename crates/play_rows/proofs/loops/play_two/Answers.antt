@@ -1,7 +1,7 @@
 use Rattle.std.proofs.Common.{◌≡◌, ℕ, Bool, true, false, [], ◌∷◌, codes, refl, subst, sym}
 use Rattle.std.specs.Prelude.{if◌then◌else◌}
 use Rattle.play_text.specs.Names.{HasClass, NameList}
-use Rattle.play_cli.proofs.over_strict.play_two.Goals as goal
+use Rattle.play_rows.proofs.loops.play_two.Goals as goal
 
 named_two : (names : NameList) (first : Bool) → names ≡ (1, codes "voice") ∷ (2, codes "data") ∷ [] → HasClass names (if first then 1 else 2)
 named_two names true e = let P : NameList → Type 0 = λ l. HasClass l 1 in subst P (sym e) refl
