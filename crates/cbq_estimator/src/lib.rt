@@ -26,9 +26,6 @@ use play_base::time_of;
 pub use rows::worked_examples;
 use std::marker::Model;
 
-#[cfg(test)]
-mod tests;
-
 /// The average idle time of a class, which contracts see with the class's pace and the last end. It stands for the list of
 /// the ends that it was told of.
 #[derive(Drop)]

@@ -6,6 +6,3 @@ mod leaf;
 mod rows;
 
 pub use rows::Rows;
-
-#[cfg(test)]
-mod tests;

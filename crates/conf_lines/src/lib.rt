@@ -16,6 +16,3 @@ pub use item::{Item, Items, Key, Text, What};
 pub use laws::{items_are_sound, line_faults_stand, options_are_whole};
 pub use options::{MOST_BEND, MOST_PORT, MOST_PROTOCOL, MOST_RATE, MOST_RULENO, MOST_TOS, Slots};
 pub use statement::{Form, Statement, statements};
-
-#[cfg(test)]
-mod tests;

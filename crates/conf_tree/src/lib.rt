@@ -31,6 +31,3 @@ pub use conf::Conf;
 pub use filter::{Addresses, Filter};
 pub use interface::{ClassList, FilterList, Interface, Kind};
 pub use laws::faults_stand;
-
-#[cfg(test)]
-mod tests;

@@ -11,6 +11,3 @@ pub use discipline_laws::{
 pub use one_queue::one_class_is_one_queue;
 pub use paced::Paced;
 pub use strict::Strict;
-
-#[cfg(test)]
-mod tests;

@@ -19,6 +19,3 @@ mod winner;
 pub use filters::Filters;
 pub use laws::{class_is_there, control_takes_its_protocols, greatest_rule_wins};
 pub use rows::worked_examples;
-
-#[cfg(test)]
-mod tests;

@@ -13,6 +13,3 @@ pub use classifier::Classifier;
 pub use handling::Handling;
 pub use laws::frames_have_classes;
 pub use rows::worked_examples;
-
-#[cfg(test)]
-mod tests;

@@ -202,6 +202,3 @@ fn slots_of(alloc: Global, curves: &[Option<Curve>]) -> Result<Vec<Slot>, NoMemo
     }
     Ok(slots)
 }
-
-#[cfg(test)]
-mod tests;

@@ -337,6 +337,3 @@ fn places_below(classes: &[HfscClass], class: u32) -> u32
     }
     0
 }
-
-#[cfg(test)]
-mod tests;

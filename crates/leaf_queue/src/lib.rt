@@ -17,6 +17,3 @@ pub use node::Entry;
 pub use pool::Pool;
 pub use rule::{QueueRule, Tail, Waiting};
 pub use words::Words;
-
-#[cfg(test)]
-mod tests;

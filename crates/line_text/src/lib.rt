@@ -10,6 +10,3 @@ pub use address::{ip4, ip6};
 pub use line::{Line, next_line};
 pub use number::{cut, decimal, rate, whole};
 pub use word::{LineFault, Word, word_count, words};
-
-#[cfg(test)]
-mod tests;

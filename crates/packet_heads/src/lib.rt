@@ -15,6 +15,3 @@ pub use laws::tos_alone_changes;
 pub use marking::{dress, retag};
 pub use points::precedence;
 pub use rows::worked_examples;
-
-#[cfg(test)]
-mod tests;

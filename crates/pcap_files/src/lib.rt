@@ -20,6 +20,3 @@ pub use laws::{bytes_read_one_way, written_captures_read_back};
 pub use reader::Reader;
 pub use record::Record;
 pub use writing::{head_bytes, record_head};
-
-#[cfg(test)]
-mod tests;

@@ -21,6 +21,3 @@ pub use packet::{Bytes, Packet, Ticket};
 pub use planned::Call;
 pub use steady::SteadyFiles;
 pub use trouble::{NoMemory, Trouble};
-
-#[cfg(test)]
-mod tests;

@@ -9,6 +9,3 @@ pub use altq_model::Counts;
 pub use names::Names;
 pub use rows::{Rows, fate_row, fates_header};
 pub use stats::stats_text;
-
-#[cfg(test)]
-mod tests;

@@ -4,6 +4,3 @@
 mod words;
 
 pub use words::{CheckWords, Command, PlayWords, WordsFault, read_words};
-
-#[cfg(test)]
-mod tests;

@@ -15,6 +15,3 @@ pub use laws::idle_steps_are_few;
 pub use red::Red;
 pub use rows::worked_examples;
 pub use ruling::{Ruling, Thresholds, ruled};
-
-#[cfg(test)]
-mod tests;

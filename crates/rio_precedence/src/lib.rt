@@ -13,6 +13,3 @@ pub use any::AnyQueue;
 pub use red_average::Red;
 pub use rio::Rio;
 pub use rows::worked_examples;
-
-#[cfg(test)]
-mod tests;

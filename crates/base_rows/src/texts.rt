@@ -1,0 +1,93 @@
+//! Literal names, rows and statistics of `play_text`.
+use altq_model::{Fate, Reason, Rule};
+use play_text::{Counts, Names, Rows, fate_row, fates_header, stats_text};
+use std::test::Fail;
+
+#[test]
+fn one_packet_at_five_seconds(rt: HostRuntime) -> Result<(), Fail> {
+    let mut names = Names::make(rt.alloc());
+    names.add(1, "default")?;
+    let sent = Fate::Sent {
+        start: 5_000_000_000,
+        end: 5_001_000_000,
+        rule: Rule::Share,
+    };
+    let mut rows = Rows::new(rt.alloc());
+    rows.add(&names, 1, 5_000_000_000, 1000, 1, &sent)?;
+    let text = b"1,5000000000,1000,default,share,5000000000,5001000000\n";
+    assert!(rt; rows.as_slice() == text.as_slice());
+    assert_eq!(rt; fates_header().len(), 43);
+    Ok(())
+}
+
+#[test]
+fn fifty_first_packet_is_dropped(rt: HostRuntime) -> Result<(), Fail> {
+    let mut names = Names::make(rt.alloc());
+    names.add(1, "default")?;
+    let full = Fate::Dropped(Reason::Full);
+    let mut rows = Rows::new(rt.alloc());
+    rows.add(&names, 51, 0, 100, 1, &full)?;
+    assert!(rt; rows.as_slice() == b"51,0,100,default,full,,\n".as_slice());
+    Ok(())
+}
+
+#[test]
+fn voice_overtakes_bulk_data(rt: HostRuntime) -> Result<(), Fail> {
+    let mut names = Names::make(rt.alloc());
+    names.add(1, "voice")?;
+    names.add(2, "data")?;
+    assert_eq!(rt; names.len(), 2);
+    assert_eq!(rt; names.place(1), Some(0));
+    assert_eq!(rt; names.place(2), Some(1));
+    assert_eq!(rt; names.place(0), None);
+    let sent = Fate::Sent {
+        start: 10_000_000,
+        end: 10_200_000,
+        rule: Rule::RealTime,
+    };
+    let mut rows = Rows::new(rt.alloc());
+    rows.add(&names, 51, 10_000_000, 200, 1, &sent)?;
+    assert!(rt;
+        rows.as_slice() == b"51,10000000,200,voice,realtime,10000000,10200000\n".as_slice()
+    );
+    Ok(())
+}
+
+#[test]
+fn empty_capture(rt: HostRuntime) -> Result<(), Fail> {
+    let mut names = Names::make(rt.alloc());
+    names.add(1, "default")?;
+    let none = Counts {
+        arrived: 0,
+        arrived_bytes: 0,
+        raised: 0,
+        sent: 0,
+        sent_bytes: 0,
+        full: 0,
+        early: 0,
+        forced: 0,
+    };
+    let text = stats_text(rt.alloc(), &names, &[none])?;
+    let head = "class,arrived,arrivedbytes,raised,sent,sentbytes,full,early,forced";
+    let rows = format!(in rt.alloc(); "{head}\ndefault,0,0,0,0,0,0,0,0\n*,0,0,0,0,0,0,0,0\n")?;
+    assert!(rt; text.as_slice() == rows.as_bytes());
+    Ok(())
+}
+
+#[test]
+fn rows_are_gathered_and_cleared(rt: HostRuntime) -> Result<(), Fail> {
+    let mut names = Names::make(rt.alloc());
+    names.add(1, "default")?;
+    let full = Fate::Dropped(Reason::Full);
+    let mut rows = Rows::new(rt.alloc());
+    rows.add(&names, 51, 0, 100, 1, &full)?;
+    rows.add(&names, 52, 0, 100, 1, &full)?;
+    assert!(rt;
+        rows.as_slice() == b"51,0,100,default,full,,\n52,0,100,default,full,,\n".as_slice()
+    );
+    rows.clear();
+    rows.add(&names, 53, 0, 100, 1, &full)?;
+    let row = fate_row(rt.alloc(), &names, 53, 0, 100, 1, &full)?;
+    assert!(rt; rows.as_slice() == row.as_slice());
+    Ok(())
+}

@@ -1,0 +1,211 @@
+//! Literal cases of what a configuration of `conf_tree` holds, and of its canonical text.
+use crate::faults::built;
+use conf_tree::{Addresses, Class, DropRule, Filter, Interface, Kind};
+use service_curve::Curve;
+use std::alloc::Global;
+use std::test::Fail;
+
+/// A class of an interface, by its number.
+fn class_at(interface: &Interface, at: usize) -> Result<&Class, Fail> {
+    match interface.classes.as_slice().get(at) {
+        Some(class) => Ok(class),
+        None => Err(Fail::new("no such class")),
+    }
+}
+
+/// A filter of an interface, by its place.
+fn filter_at(interface: &Interface, at: usize) -> Result<Filter, Fail> {
+    match interface.filters.as_slice().get(at) {
+        Some(filter) => Ok(*filter),
+        None => Err(Fail::new("no such filter")),
+    }
+}
+
+#[test]
+fn control_on_the_last_of_256(rt: HostRuntime) -> Result<(), Fail> {
+    let mut text = String::from_str(
+        rt.alloc(),
+        "interface if0 cbq\nclass cbq if0 c0 NULL default\n",
+    )?;
+    for i in 1..256u32 {
+        let control = if i == 255 { " control" } else { "" };
+        let line = format!(in rt.alloc(); "class cbq if0 c{i} c0 exactbandwidth 1k{control}\n")?;
+        text.push_str(line.as_str())?;
+    }
+    let conf = match built(rt.alloc(), text.as_str())? {
+        Ok(conf) => conf,
+        Err(_) => return Err(Fail::new("refused")),
+    };
+    let Some(interface) = conf.interface("if0") else {
+        return Err(Fail::new("no if0"));
+    };
+    assert_eq!(rt; interface.classes.as_slice().len(), 256);
+    assert!(rt; class_at(interface, 255)?.control);
+    assert!(rt; !class_at(interface, 254)?.control);
+    Ok(())
+}
+
+#[test]
+fn implied_classes(rt: HostRuntime) -> Result<(), Fail> {
+    let conf = match built(
+        rt.alloc(),
+        "interface if0 bandwidth 8M hfsc\ninterface if1 cbq\n",
+    )? {
+        Ok(conf) => conf,
+        Err(_) => return Err(Fail::new("refused")),
+    };
+    assert!(rt; conf.interface("if2").is_none());
+    let Some(hfsc) = conf.interface("if0") else {
+        return Err(Fail::new("no if0"));
+    };
+    assert!(rt; hfsc.implied);
+    assert_eq!(rt; hfsc.rate, 8_000_000);
+    let leaf = class_at(hfsc, 1)?;
+    assert_eq!(rt; leaf.name.as_str(), "default");
+    assert_eq!(rt;
+        leaf.share,
+        Some(Curve {
+            m1: 8_000_000,
+            d: 0,
+            m2: 8_000_000
+        })
+    );
+    assert_eq!(rt;
+        (leaf.parent, leaf.is_default, leaf.limit),
+        (Some(0), true, 50)
+    );
+    let Some(cbq) = conf.interface("if1") else {
+        return Err(Fail::new("no if1"));
+    };
+    assert_eq!(rt; cbq.kind, Kind::Cbq);
+    let root = class_at(cbq, 0)?;
+    assert_eq!(rt; root.name.as_str(), "root");
+    assert_eq!(rt;
+        (root.rate, root.borrow, root.is_default),
+        (100_000_000, false, false)
+    );
+    let leaf = class_at(cbq, 1)?;
+    assert_eq!(rt;
+        (leaf.rate, leaf.borrow, leaf.is_default),
+        (100_000_000, true, true)
+    );
+    Ok(())
+}
+
+#[test]
+fn classes_and_filters(rt: HostRuntime) -> Result<(), Fail> {
+    let text =
+        "interface if0 cbq bandwidth 1M bandwidth 150M\nclass cbq if0 a NULL\nclass cbq if0 b a pbandwidth 7 priority 3 borrow red rio qlimit 9 maxburst 2 packetsize 64 control default\nfilter if0 b name x ruleno 7 10.1.2.3 netmask 255.0.15.0 80 0 0 tcp tos 0x1f tosmask 0x1c\nfilter6 if0 a ffff::/12 0 ::1 53 udp\ninterface if1 bandwidth 1999 hfsc\nclass hfsc if1 r NULL\nclass hfsc if1 s r sc 4 5 3 grate 2 pshare 50 default\n";
+    let conf = match built(rt.alloc(), text)? {
+        Ok(conf) => conf,
+        Err(_) => return Err(Fail::new("refused")),
+    };
+    let Some(cbq) = conf.interface("if0") else {
+        return Err(Fail::new("no if0"));
+    };
+    assert!(rt; !cbq.implied);
+    let b = class_at(cbq, 1)?;
+    assert_eq!(rt; (b.rate, b.priority, b.limit), (10_500_000, 3, 9));
+    assert_eq!(rt; (b.maxburst, b.packetsize), (2, 64));
+    assert_eq!(rt; (b.borrow, b.control, b.is_default), (true, true, true));
+    assert_eq!(rt; b.drop, DropRule::Rio);
+    let filter = filter_at(cbq, 0)?;
+    assert_eq!(rt; (filter.class, filter.ruleno), (1, 7));
+    assert_eq!(rt;
+        (filter.target_port, filter.source_port, filter.protocol),
+        (80, 0, 6)
+    );
+    assert_eq!(rt; filter.tos, Some((0x1c, 0x1c)));
+    assert_eq!(rt;
+        filter.addresses,
+        Addresses::V4 {
+            target: [10, 0, 2, 0],
+            target_mask: [255, 0, 15, 0],
+            source: [0, 0, 0, 0],
+            source_mask: [0, 0, 0, 0],
+        }
+    );
+    let filter = filter_at(cbq, 1)?;
+    assert_eq!(rt;
+        (filter.class, filter.source_port, filter.protocol),
+        (0, 53, 17)
+    );
+    assert_eq!(rt; filter.tos, None);
+    assert_eq!(rt;
+        filter.addresses,
+        Addresses::V6 {
+            target: [255, 240, 0, 0, 0, 0, 0, 0, 0, 0, 0, 0, 0, 0, 0, 0],
+            target_len: 12,
+            source: [0, 0, 0, 0, 0, 0, 0, 0, 0, 0, 0, 0, 0, 0, 0, 1],
+            source_len: 128,
+        }
+    );
+    let Some(hfsc) = conf.interface("if1") else {
+        return Err(Fail::new("no if1"));
+    };
+    let leaf = class_at(hfsc, 1)?;
+    assert_eq!(rt; leaf.real, Some(Curve { m1: 2, d: 0, m2: 2 }));
+    assert_eq!(rt;
+        leaf.share,
+        Some(Curve {
+            m1: 999,
+            d: 0,
+            m2: 999
+        })
+    );
+    assert_eq!(rt; (leaf.rate, leaf.maxburst, leaf.packetsize), (0, 0, 0));
+    Ok(())
+}
+
+/// The canonical text of a text.
+fn canonical(alloc: Global, text: &str) -> Result<Vec<u8>, Fail> {
+    match built(alloc, text)? {
+        Ok(conf) => match conf.text(alloc) {
+            Ok(text) => Ok(text),
+            Err(_) => Err(Fail::new("no memory")),
+        },
+        Err(_) => Err(Fail::new("refused")),
+    }
+}
+
+#[test]
+fn canonical_text_of_voice_and_data(rt: HostRuntime) -> Result<(), Fail> {
+    let text = canonical(
+        rt.alloc(),
+        "interface if0 bandwidth 8M hfsc\nclass hfsc if0 root NULL pshare 100\nclass hfsc if0 voice root [sc 4M 5 1M]\nclass hfsc if0 data root [sc 0 5 4M] default\nfilter if0 voice 0 5004 0 0 17\n",
+    )?;
+    let expected =
+        "interface if0 bandwidth 8000000 hfsc\nclass hfsc if0 root NULL ls 8000000 0 8000000 qlimit 50\nclass hfsc if0 voice root rt 4000000 5 1000000 ls 4000000 5 1000000 qlimit 50\nclass hfsc if0 data root rt 0 5 4000000 ls 0 5 4000000 qlimit 50 default\nfilter if0 voice ruleno 0 0.0.0.0 netmask 0.0.0.0 5004 0.0.0.0 netmask 0.0.0.0 0 17\n";
+    assert_eq!(rt; text.as_slice(), expected.as_bytes());
+    let again = canonical(rt.alloc(), expected)?;
+    assert_eq!(rt; again.as_slice(), expected.as_bytes());
+    Ok(())
+}
+
+#[test]
+fn canonical_text_of_limits_and_marks(rt: HostRuntime) -> Result<(), Fail> {
+    let text = canonical(
+        rt.alloc(),
+        "interface if0 hfsc\nclass hfsc if0 r NULL ul 9M 0 8M cleardscp red ecn\nclass hfsc if0 a r ul 1M 0 1M default ecn rio ls 0 3 2 ul 3M 4 2K\nclass hfsc if0 b r red cleardscp ecn sc 1 0 1\n",
+    )?;
+    let expected =
+        "interface if0 bandwidth 100000000 hfsc\nclass hfsc if0 r NULL ul 8000000 0 8000000 qlimit 50 ecn cleardscp\nclass hfsc if0 a r ls 0 3 2 ul 3000000 4 2000 qlimit 50 rio default\nclass hfsc if0 b r rt 1 0 1 ls 1 0 1 qlimit 50 ecn cleardscp\n";
+    assert_eq!(rt; text.as_slice(), expected.as_bytes());
+    let again = canonical(rt.alloc(), expected)?;
+    assert_eq!(rt; again.as_slice(), expected.as_bytes());
+    Ok(())
+}
+
+#[test]
+fn canonical_text_of_every_option(rt: HostRuntime) -> Result<(), Fail> {
+    let text = canonical(
+        rt.alloc(),
+        "interface if1 hfsc\ninterface if0 bandwidth 150M cbq\nclass cbq if0 a NULL red\nclass cbq if0 b a pbandwidth 7 priority 3 borrow control default red rio\nclass cbq if0 c a exactbandwidth 2M ecn cleardscp\nfilter if0 b name x ruleno 7 10.1.2.3 netmask 255.0.15.0 80 0 0 tcp tos 0x1f tosmask 0x1c\nfilter6 if0 a fEff::10/12 0 1:2:3:4:5:6:7:8 53 udp tclass 8\n",
+    )?;
+    let expected =
+        "interface if1 bandwidth 100000000 hfsc\ninterface if0 bandwidth 150000000 cbq\nclass cbq if0 a NULL priority 0 exactbandwidth 150000000 maxburst 16 packetsize 1500 qlimit 50 red\nclass cbq if0 b a priority 3 exactbandwidth 10500000 borrow maxburst 16 packetsize 1500 qlimit 50 rio control default\nclass cbq if0 c a priority 0 exactbandwidth 2000000 maxburst 16 packetsize 1500 qlimit 50 ecn cleardscp\nfilter if0 b ruleno 7 10.0.2.0 netmask 255.0.15.0 80 0.0.0.0 netmask 0.0.0.0 0 6 tos 28 tosmask 28\nfilter6 if0 a ruleno 0 fef0:0:0:0:0:0:0:0/12 0 1:2:3:4:5:6:7:8/128 53 17 tclass 8 tclassmask 255\n";
+    assert_eq!(rt; text.as_slice(), expected.as_bytes());
+    let again = canonical(rt.alloc(), expected)?;
+    assert_eq!(rt; again.as_slice(), expected.as_bytes());
+    Ok(())
+}

@@ -1,0 +1,13 @@
+//! Literal offers to the queues of classes, and sendings of the two plain disciplines. There are tests alone.
+#![tactic(auto)]
+
+#[cfg(test)]
+mod classes;
+#[cfg(test)]
+mod leaves;
+#[cfg(test)]
+mod plain;
+#[cfg(test)]
+mod red;
+#[cfg(test)]
+mod rio;
