@@ -13,5 +13,4 @@ pub mod Walking
 pub mod Steps
 pub mod Picks
 pub mod Ends
-pub mod Flat
 pub mod New

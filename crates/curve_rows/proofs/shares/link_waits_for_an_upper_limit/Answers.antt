@@ -1,7 +1,7 @@
 use Rattle.std.proofs.Common.{List, refl, sym, subst, arith}
 use Rattle.hfsc_model.specs.declared.HfscClass.{HfscClass}
 use Rattle.hfsc_share.specs.Classes.{AreClasses}
-use Rattle.hfsc_share.proofs.Flat.{flat_classes, limited_class, root_class}
+use Rattle.curve_rows.proofs.Flat.{flat_classes, limited_class, root_class}
 use Rattle.curve_rows.proofs.shares.link_waits_for_an_upper_limit.Goals as goal
 
 pub build-requires-clause-classes : goal.build-requires-clause-classes

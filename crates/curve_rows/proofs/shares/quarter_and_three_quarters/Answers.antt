@@ -4,7 +4,7 @@ use Rattle.hfsc_model.specs.Tree.{class_of}
 use Rattle.hfsc_share.specs.Classes.{AreClasses}
 use Rattle.hfsc_share.specs.declared.Shares.{Shares}
 use Rattle.hfsc_share.specs.Shares.{IsLeafAt, IsNew}
-use Rattle.hfsc_share.proofs.Flat.{AreLeaves, flat_classes, flat_leaf, leaf_stays, new_leaf, plain_class, root_class}
+use Rattle.curve_rows.proofs.Flat.{AreLeaves, flat_classes, flat_leaf, leaf_stays, new_leaf, plain_class, root_class}
 use Rattle.curve_rows.proofs.shares.quarter_and_three_quarters.Goals as goal
 
 abbrev root : HfscClass
