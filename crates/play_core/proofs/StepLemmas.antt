@@ -1,12 +1,13 @@
 -- What is due under the clock is what comes next in the play.
-use Rattle.std.proofs.Common.{◌≡◌, ◌≤◌, ◌<◌, ◌∙◌, ℕ, Bool, true, false, cond, List, [], ◌∷◌, Some, refl, ap, sym, subst, arith}
-use Rattle.std.specs.Prelude.{slice_get, nat_le}
+use Rattle.std.proofs.Common.{◌≡◌, ◌≤◌, ◌<◌, ◌∙◌, ℕ, Bool, true, false, cond, List, [], ◌∷◌, None, Some, refl, ap, sym, subst, inl, inr, arith}
+use Rattle.std.specs.Prelude.{slice_get, nat_le, option_map}
 use Rattle.std.specs.declared.option.Option.{Option}
 use Rattle.altq_model.specs.declared.Rule.{Rule}
 use Rattle.altq_model.specs.History.{Coming, Event, Offered, Sent, Happened, bare, head, labels, waiting}
 use Rattle.altq_model.specs.Laws.{clock_end}
 use Rattle.altq_model.specs.Link.{Link, link, end_of}
-use Rattle.altq_model.specs.Play.{Policy, Choice}
+use Rattle.altq_model.specs.Play.{Policy, Choice, IsOneOf, lesser}
+use Rattle.altq_model.specs.Lawful.{IsLawful, first_at, start_at}
 use Rattle.play_laws.proofs.LinkLemmas.{end_later}
 use Rattle.play_base.specs.declared.packet.Ticket.{Ticket}
 use Rattle.leaf_queue.specs.declared.node.Entry.{Entry}
@@ -16,7 +17,7 @@ use Rattle.discipline_laws.specs.Laws.{Shows, entry, seen, seen_of}
 use Rattle.discipline_laws.specs.Moments.{IsChoice, StartsBy}
 use Rattle.play_core.specs.declared.step.Step.{Step}
 use Rattle.play_core.specs.declared.step.Step.TheVariants.{End, Offer, Send, Late}
-use Rattle.play_core.specs.Steps.{IsSentAt, IsStep, SendsFirst, step_at}
+use Rattle.play_core.specs.Steps.{IsSentAt, IsStep, OffersFirst, SendsFirst, comes_by, step_at}
 
 -- the head of a list is the head of what waits
 pub record HasFront (c : ℕ) (g : List Happened) (ticket : Ticket) (len : ℕ) : Type 0 where
@@ -100,3 +101,40 @@ ticket_then g xs ticket class len prec rule start end s w h e =
     let r : Sending = record { ticket = ticket; class = class; len = len; rule = rule; start = start; end = end } in
     let P : Sending → Type 0 = λ q. slice_get (labels q.class g) 0 ≡ Some q.ticket.0 in
     subst P (ticket_case (nat_le clock_end end) r s e) x.number
+
+-- no class may send before the moment from which it is asked
+start_later : (p : Policy) (t : ℕ) (h : List Event) (c s : ℕ) (o : Option Coming) → IsLawful p → IsOneOf c p.classes → head c h ≡ o
+    → option_map (λ (a : Coming). p.start_from h c t) o ≡ Some s → t ≤ s
+start_later p t h c s None law held e f = absurd (cc)
+start_later p t h c s (Some b) law held e f =
+    let l = law.later h c t b (record { held = held; front = e }) in
+    let same : p.start_from h c t ≡ s = cc in
+    omega (arith, l, same)
+
+lesser_later : (t s : ℕ) (a b : Option ℕ) → ((x : ℕ) → a ≡ Some x → t ≤ x) → ((x : ℕ) → b ≡ Some x → t ≤ x) → lesser a b ≡ Some s → t ≤ s
+lesser_later t s None b f g e = g s e
+lesser_later t s (Some x) None f g e = f s e
+lesser_later t s (Some x) (Some y) f g e =
+    let k = f x refl in
+    let l = g y refl in
+    least_of x y s k l e
+  where
+    least_of : (x y s : ℕ) → t ≤ x → t ≤ y → lesser (Some x) (Some y) ≡ Some s → t ≤ s
+    least_of x y s k l e = grind (arith, k, l, e)
+
+first_later : (p : Policy) (t : ℕ) (h : List Event) (cs : List ℕ) (s : ℕ) → IsLawful p → ((c : ℕ) → IsOneOf c cs → IsOneOf c p.classes)
+    → first_at p t h cs ≡ Some s → t ≤ s
+first_later p t h [] s law within e = absurd (cc)
+first_later p t h (c ∷ cs) s law within e =
+    lesser_later t s (start_at p t h c) (first_at p t h cs)
+    (λ x f. start_later p t h c x (head c h) law (within c (inl refl)) refl f)
+    (λ x f. first_later p t h cs x law (λ d i. within d (inr i)) f) e
+
+-- so an arrival up to that moment is offered first
+pub offers_now : (p : Policy) (t : ℕ) (h : List Event) (arrival : Option ℕ) → IsLawful p → comes_by arrival t ≡ true → OffersFirst p t h arrival
+offers_now p t h None law e = absurd (cc)
+offers_now p t h (Some at) law e = record {
+  at = at;
+  next = refl;
+  first = λ s f. let l = first_later p t h p.classes s law (λ c i. i) f in let m : at ≤ t = grind (arith, e) in omega (arith, l, m);
+}

@@ -132,6 +132,10 @@ pub(crate) fn next_step<D: Discipline>(
     ensures moment { D.moment discipline.new ≡ D.moment discipline.old }
     ensures ended { D.ended discipline.new ≡ D.ended discipline.old }
 {
+    // No class may send before this moment, so the discipline need not be asked.
+    if comes_by(arrival, moment) {
+        return Step::Offer;
+    }
     match discipline.next(moment, clock) {
         Pick::Empty => match arrival {
             Some(_) => Step::Offer,
@@ -142,12 +146,7 @@ pub(crate) fn next_step<D: Discipline>(
             class,
             len,
             rule,
-        } => {
-            if comes_by(arrival, moment) {
-                return Step::Offer;
-            }
-            send_at(clock, moment, ticket, class, len, rule)
-        }
+        } => send_at(clock, moment, ticket, class, len, rule),
         Pick::Wait { till } => {
             if comes_by(arrival, till) {
                 return Step::Offer;
