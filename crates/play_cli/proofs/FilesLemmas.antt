@@ -3,7 +3,7 @@ use Rattle.std.proofs.Common.{◌≡◌, ◌≤◌, ◌<◌, ◌∙◌, ◌⊎�
 use Rattle.std.specs.Prelude.{IsTrue}
 use Rattle.play_base.specs.View.{View, Keeps, Any, NoneAppears}
 use Rattle.play_words.specs.Words.{AreDistinct}
-use Rattle.play_cli.specs.Ending.{FilesEnd}
+use Rattle.play_cli.specs.Ending.{SilentEnd}
 use Rattle.play_cli.specs.Input.{OnlyReads}
 use Rattle.play_cli.specs.Opening.{HaveParts, KeepsOthers, OpenedFar, OtherThree}
 use Rattle.play_cli.specs.Order.{IsInOrder, TakesFew, Untouched}
@@ -41,7 +41,7 @@ pub record Course (u a b c : View) (n : Names) : Type 0 where
   pub distinct : AreDistinct n.config n.arrivals n.departures n.fates n.stats
 
 -- a file that is there at the end was there when they were all opened
-there_then : (b c : View) (f p : ℕ) → NoneAppears b c → ((f p : ℕ) → b.part f ≡ Some p → c.part f ≡ Some p) → c.part f ≡ Some p
+pub there_then : (b c : View) (f p : ℕ) → NoneAppears b c → ((f p : ℕ) → b.part f ≡ Some p → c.part f ≡ Some p) → c.part f ≡ Some p
     → (b.part f ≡ None) ⊎ ((q : ℕ) × (b.part f ≡ Some q)) → b.part f ≡ Some p
 there_then b c f p n k e (inl m) = absurd (none_some p (sym (n f m) ∙ e))
 there_then b c f p n k e (inr m) = m.1 ∙ sym (k f m.0 m.1) ∙ e
@@ -123,36 +123,40 @@ course_keeps u a b c n s bytes left name rs ws =
     }
 
 -- where the play did not begin
-pub files_opened : (u a b : View) (n : Names) → Course u a b b n → FilesEnd u b n
+pub files_opened : (u a b : View) (n : Names) → Course u a b b n → SilentEnd u b n
 files_opened u a b n s =
     let parts = course_parts u a b b n s in
     record {
-      order = in_order u b s.far.end parts;
-      uncreated = record {
-        departures_kept = λ x. s.far.departures_kept (ends_by u b s.far.end 3 parts (omega arith) x) ∙ s.read.bytes n.departures tt;
-        fates_kept = λ x. s.far.fates_kept (ends_by u b s.far.end 4 parts (omega arith) x) ∙ s.read.bytes n.fates tt;
-        stats_kept = λ x. s.far.stats_kept (ends_by u b s.far.end 5 parts (omega arith) x) ∙ s.read.bytes n.stats tt;
+      files = record {
+        order = in_order u b s.far.end parts;
+        uncreated = record {
+          departures_kept = λ x. s.far.departures_kept (ends_by u b s.far.end 3 parts (omega arith) x) ∙ s.read.bytes n.departures tt;
+          fates_kept = λ x. s.far.fates_kept (ends_by u b s.far.end 4 parts (omega arith) x) ∙ s.read.bytes n.fates tt;
+          stats_kept = λ x. s.far.stats_kept (ends_by u b s.far.end 5 parts (omega arith) x) ∙ s.read.bytes n.stats tt;
+        };
+        few = course_few u a b b n s (λ f e t m. refl);
+        others = course_keeps u a b b n s (λ m h. refl) (λ f p e d h. refl) (λ f p e. refl) (λ p. omega arith) (λ p. omega arith);
       };
-      few = course_few u a b b n s (λ f e t m. refl);
-      others = course_keeps u a b b n s (λ m h. refl) (λ f p e d h. refl) (λ f p e. refl) (λ p. omega arith) (λ p. omega arith);
       said = s.far.said ∙ s.told;
     }
 
 -- where all files came to be
 pub files_played : (u a b c : View) (n : Names) (s : Course u a b c n) → s.far.end ≡ 6
     → ((f : ℕ) → b.part f ≡ Some 1 → IsTrue u.tells → b.name f ≡ n.config → c.left f ≡ b.left f)
-    → KeepsOthers n.departures n.fates n.stats u c → c.said ≡ b.said → FilesEnd u c n
+    → KeepsOthers n.departures n.fates n.stats u c → c.said ≡ b.said → SilentEnd u c n
 files_played u a b c n s six after others said =
     let parts = course_parts u a b c n s in
     record {
-      order = in_order u c s.far.end parts;
-      uncreated = record {
-        departures_kept = λ x. let l = ends_by u c s.far.end 3 parts (omega arith) x in absurd (omega (arith, l, six));
-        fates_kept = λ x. let l = ends_by u c s.far.end 4 parts (omega arith) x in absurd (omega (arith, l, six));
-        stats_kept = λ x. let l = ends_by u c s.far.end 5 parts (omega arith) x in absurd (omega (arith, l, six));
+      files = record {
+        order = in_order u c s.far.end parts;
+        uncreated = record {
+          departures_kept = λ x. let l = ends_by u c s.far.end 3 parts (omega arith) x in absurd (omega (arith, l, six));
+          fates_kept = λ x. let l = ends_by u c s.far.end 4 parts (omega arith) x in absurd (omega (arith, l, six));
+          stats_kept = λ x. let l = ends_by u c s.far.end 5 parts (omega arith) x in absurd (omega (arith, l, six));
+        };
+        few = course_few u a b c n s after;
+        others = others;
       };
-      few = course_few u a b c n s after;
-      others = others;
       said = said ∙ s.far.said ∙ s.told;
     }
 

@@ -8,6 +8,8 @@ pub mod Laws
 pub mod NameLemmas
 pub mod OpeningLemmas
 pub mod RunLemmas
+pub mod SayingLemmas
 pub mod SetupLemmas
 pub mod StepLemmas
 pub mod ToldLemmas
+pub mod ToldOver

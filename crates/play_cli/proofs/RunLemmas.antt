@@ -151,7 +151,7 @@ after_done (inr (inr (inl e))) = absurd (omega (arith, e.0))
 after_done (inr (inr (inr e))) = absurd (omega (arith, e.0))
 
 -- when a status comes
-config_comes : (u v : View) (n : Names) (seed : ℕ) (c : ConfigFault) → ConfigCauses u v n.config n.interface c → PlayComes u v n seed (config_status c)
+pub config_comes : (u v : View) (n : Names) (seed : ℕ) (c : ConfigFault) → ConfigCauses u v n.config n.interface c → PlayComes u v n seed (config_status c)
 config_comes u v n seed (conf.At place) x = record {
   done = λ e. absurd (omega (arith, e));
   configuration = λ e. x;

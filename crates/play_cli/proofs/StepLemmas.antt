@@ -21,7 +21,7 @@ use Rattle.play_loop.specs.Played as loop
 use Rattle.play_loop.specs.Setup.{Setup, arrivals_in}
 use Rattle.play_cli.specs.Causes.{PlayCauses}
 use Rattle.play_cli.specs.Configuration.{Accepts, AcceptsNone, IsConfigured, interface_of}
-use Rattle.play_cli.specs.Ending.{FilesEnd}
+use Rattle.play_cli.specs.Ending.{SilentEnd}
 use Rattle.play_cli.specs.Input.{IsRead, OnlyReads}
 use Rattle.play_cli.specs.InterfaceSetup.{setup_of}
 use Rattle.play_cli.specs.Opening.{AreOpened, HaveParts, OpenCauses, OpenedFar, Untold}
@@ -314,7 +314,7 @@ accepted_not u v n i x y t = absurd (y t i (x t))
 not_arrivals : (b : View) (o : Opened) (f p : ℕ) → b.part f ≡ Some p → b.part o.arrivals ≡ Some 2 → (p ≢ 2) → f ≢ o.arrivals
 not_arrivals b o f p e at n = λ s. n (same_part p 2 (sym e ∙ ap b.part s ∙ at))
 
-pub files_of : (u a b c : View) (n : Names) (i : Interface) (o : Opened) → Steps u a b c n i o → FilesEnd u c n
+pub files_of : (u a b c : View) (n : Names) (i : Interface) (o : Opened) → Steps u a b c n i o → SilentEnd u c n
 unfolding course_of
 files_of u a b c n i o s =
     let course = course_of u a b c n i o s in

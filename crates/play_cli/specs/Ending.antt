@@ -73,6 +73,10 @@ pub record FilesEnd (old new : View) (n : Names) : Type 0 where
   pub uncreated : KeepUncreated old new n.departures n.fates n.stats
   pub few : TakesFew old new n.config
   pub others : KeepsOthers n.departures n.fates n.stats old new
+
+-- and nothing was said
+pub record SilentEnd (old new : View) (n : Names) : Type 0 where
+  pub files : FilesEnd old new n
   pub said : new.said ≡ old.said
 
 -- What a play leaves.
@@ -106,4 +110,3 @@ pub record CheckEnds (old new : View) (config interface : List ℕ) (s : Status)
   pub long_told : IsTrue old.tells → IsQuiet old new → Says old config interface TooLong → Tells s 7 3 ⊎ (s.code ≡ 8)
   pub keeps : Keeps Any Any old new
   pub only : OnlyReads old new config
-  pub silent : s.code ≢ 0 → new.said ≡ old.said

@@ -4,9 +4,11 @@ pub mod Configuration
 pub mod Ending
 pub mod Input
 pub mod InterfaceSetup
+pub mod Message
 pub mod Opening
 pub mod Order
 pub mod Run
+pub mod Telling
 pub use Rattle.play_words.specs.Words
 pub use Rattle.play_loop.specs.Played
 pub use Rattle.play_loop.specs.Setup

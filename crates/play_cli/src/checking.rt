@@ -1,5 +1,5 @@
 // Saying what a configuration means, and whether its curves fit.
-ghost use Rattle.std.specs.Prelude.{◌≡◌, ◌++◌, IfErr, IfOk, OnErr, IsTrue};
+ghost use Rattle.std.specs.Prelude.{◌≡◌, ◌≢◌, ◌++◌, IfErr, IfOk, OnErr, IsTrue};
 ghost use Rattle.conf_tree.specs.Canonical.{canonical_text};
 ghost use Rattle.link_fit.specs.Lines.{fit_kind, fit_line};
 ghost use Rattle.play_base.specs.View.{View, Any, Keeps};
@@ -7,9 +7,11 @@ ghost use Rattle.play_cli.specs.Causes.{CheckCauses};
 ghost use Rattle.play_cli.specs.Checked.{HasChecked};
 ghost use Rattle.play_cli.specs.Ending.{CheckEnds};
 ghost use Rattle.play_cli.specs.Input.{OnlyReads};
+ghost use Rattle.play_cli.specs.Telling.{HasMessage};
 
 use crate::input::{absent, read_conf};
 use crate::status::{ended, status_of};
+use crate::telling::told;
 use crate::{ConfigFault, RunFault, Status};
 use admission::Fit;
 use conf_laws::configurations_fit;
@@ -76,12 +78,22 @@ fn check_files<F: Files>(
     }
 }
 
-/// Checks, and says how it ended.
-pub fn check<F: Files>(alloc: Global, files: &mut F, words: &CheckWords<'_>) -> Status
-    ensures { CheckEnds (F.view files.old) (F.view files.new) words.now.config.now words.now.interface.now result }
+// Checks, and answers how it ended.
+fn checked<F: Files>(alloc: Global, files: &mut F, words: &CheckWords<'_>) -> Status
+    ensures ends { CheckEnds (F.view files.old) (F.view files.new) words.now.config.now words.now.interface.now result }
+    ensures silent { result.code ≢ 0 → (F.view files.new).said ≡ (F.view files.old).said }
 {
     match check_files(alloc, files, words) {
         Ok(fit) => ended(0, fit_kind(fit)),
         Err(fault) => status_of(fault),
     }
+}
+
+/// Checks, and says how it ended where that is not well.
+pub fn check<F: Files>(alloc: Global, files: &mut F, words: &CheckWords<'_>) -> Status
+    ensures ends { CheckEnds (F.view files.old) (F.view files.new) words.now.config.now words.now.interface.now result }
+    ensures message { HasMessage (F.view files.old) (F.view files.new) result }
+{
+    let status = checked(alloc, files, words);
+    told(alloc, files, status)
 }

@@ -5,10 +5,12 @@ mod checking;
 mod fault;
 mod input;
 mod interface;
+mod message;
 mod opening;
 mod playing;
 mod program;
 mod status;
+mod telling;
 
 pub use fault::{ConfigFault, RunFault};
 pub use opening::open_files;

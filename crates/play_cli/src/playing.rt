@@ -5,14 +5,16 @@ ghost use Rattle.play_base.specs.View.{View, IsAbsent};
 ghost use Rattle.play_words.specs.Words.{AreDistinct};
 ghost use Rattle.play_cli.specs.Causes.{Causes, IsAfterConfigFault, names_read};
 ghost use Rattle.play_cli.specs.Configuration.{Accepts, AcceptsNone};
-ghost use Rattle.play_cli.specs.Ending.{FilesEnd, PlayEnds};
+ghost use Rattle.play_cli.specs.Ending.{PlayEnds, SilentEnd};
 ghost use Rattle.play_cli.specs.Run.{HasPlayed, Fronts};
+ghost use Rattle.play_cli.specs.Telling.{HasMessage};
 ghost use Rattle.play_cli.specs.declared.fault.ConfigFault.{ConfigFault};
 
 use crate::input::{absent, read_conf};
 use crate::interface::play_interface;
 use crate::opening::open_files;
 use crate::status::{ended, status_of};
+use crate::telling::told;
 use crate::{ConfigFault, RunFault, Status};
 use conf_laws::configurations_fit;
 use frame_classes::frames_have_classes;
@@ -36,7 +38,7 @@ fn play_files<F: Files>(alloc: Global, files: &mut F, words: &PlayWords<'_>) -> 
         (found : Interface) × Accepts (F.view files.old) words.now.config.now words.now.interface.now found) }
     ensures nothing { IsTrue (F.view files.old).tells → AcceptsNone (F.view files.old) words.now.config.now words.now.interface.now →
         (n : List ℕ) → (F.view files.new).bytes n ≡ (F.view files.old).bytes n }
-    ensures files { FilesEnd (F.view files.old) (F.view files.new) (names_read words.now) }
+    ensures files { SilentEnd (F.view files.old) (F.view files.new) (names_read words.now) }
 {
     let conf = match read_conf(alloc, files, words.config) {
         Ok(conf) => conf,
@@ -58,10 +60,11 @@ fn play_files<F: Files>(alloc: Global, files: &mut F, words: &PlayWords<'_>) -> 
     }
 }
 
-/// Plays, and says how it ended.
-pub fn play<F: Files>(alloc: Global, files: &mut F, words: &PlayWords<'_>) -> Status
+// Plays, and answers how it ended.
+fn played<F: Files>(alloc: Global, files: &mut F, words: &PlayWords<'_>) -> Status
     requires { AreDistinct words.now.config.now words.now.arrivals.now words.now.departures.now words.now.fates.now words.now.stats.now }
-    ensures { PlayEnds (F.view files.old) (F.view files.new) (names_read words.now) words.now.seed result }
+    ensures ends { PlayEnds (F.view files.old) (F.view files.new) (names_read words.now) words.now.seed result }
+    ensures silent { (F.view files.new).said ≡ (F.view files.old).said }
 {
     configurations_fit();
     frames_have_classes();
@@ -70,4 +73,15 @@ pub fn play<F: Files>(alloc: Global, files: &mut F, words: &PlayWords<'_>) -> St
         Ok(()) => ended(0, 0),
         Err(fault) => status_of(fault),
     }
+}
+
+/// Plays, and says how it ended where that is not well.
+pub fn play<F: Files>(alloc: Global, files: &mut F, words: &PlayWords<'_>) -> Status
+    requires { AreDistinct words.now.config.now words.now.arrivals.now words.now.departures.now words.now.fates.now words.now.stats.now }
+    ensures ends { PlayEnds (F.view files.old) (F.view files.new) (names_read words.now) words.now.seed result }
+    ensures said { result.code ≡ 0 → (F.view files.new).said ≡ (F.view files.old).said }
+    ensures message { HasMessage (F.view files.old) (F.view files.new) result }
+{
+    let status = played(alloc, files, words);
+    told(alloc, files, status)
 }

@@ -11,14 +11,17 @@ ghost use Rattle.play_cli.specs.Causes.{IsAfterConfig, names_of};
 ghost use Rattle.play_cli.specs.Checked.{HasChecked, IsCheckable};
 ghost use Rattle.play_cli.specs.Configuration.{Accepts, AcceptsNone, Refused, Says, TooLong};
 ghost use Rattle.play_cli.specs.Ending.{Tells, TellsDamage, TellsPlace, place_of};
+ghost use Rattle.play_cli.specs.Message.{message_text, out_of_memory};
 ghost use Rattle.play_cli.specs.Opening.{CannotRead, KeepsOthers};
 ghost use Rattle.play_cli.specs.Order.{IsInOrder, KeepUncreated, TakesFew};
 ghost use Rattle.play_cli.specs.Run.{HasPlayed, Fronts, IsDamagedAt, IsLimited, IsLate, IsPlayable, EndsWith, EndsLate, IsQuiet, IsCode};
+ghost use Rattle.play_cli.specs.Telling.{OnlySays, SaysOrFails, SaysOrNot};
 
 use crate::Status;
 use crate::checking::check;
 use crate::playing::play;
 use crate::status::ended;
+use crate::telling::told;
 use play_base::{Files, SteadyFiles};
 use play_words::{Command, read_words};
 use std::alloc::Global;
@@ -30,7 +33,8 @@ use std::alloc::Global;
 /// and writes the departures to D, the fates to T, and at the end the statistics to Z. Nothing is created before the configuration
 /// is accepted and the arrivals are open, and fates only behind departures, statistics only behind fates. Frames are placed by the
 /// filters of the interface. At most 2^20 + 1 bytes of C are read. `check --config C --interface I` says the canonical text of the configuration C, where it
-/// has the interface I, and in a last line whether the real-time curves of I fit its link; the kind is 1 where they exceed it.
+/// has the interface I, and in a last line whether the real-time curves of I fit its link; the kind is 1 where they exceed it. After
+/// every status but 0 the message of it is said, a line that `message_text` gives, and `play` says nothing where it is done.
 ///
 /// The status says how it ended, and each clause below when that comes and what it leaves. Where the files tell their bytes,
 /// status 0 means the headline of `HasPlayed`, or `HasChecked`. Status 8 comes where there was no memory, and nothing ties it
@@ -40,7 +44,7 @@ pub fn run<F: Files>(alloc: Global, words: &[String], files: &mut F) -> Status
 
     // Words are refused exactly where they fail a test, with the kind of the first.
     ensures words { result.code ≡ 2 → refusal words.now ≡ Some result.kind }
-    ensures refused { (kind : ℕ) → refusal words.now ≡ Some kind → Tells result 2 kind }
+    ensures refused { (kind : ℕ) → refusal words.now ≡ Some kind → Tells result 2 kind ⊎ (result.code ≡ 8) }
 
     // What is done, and the laws of what was decided.
     ensures done { result.code ≡ 0 → IsPlay words.now → IsTrue (F.view files.old).tells → (seed : ℕ) → seed_of words.now ≡ Some seed →
@@ -108,8 +112,8 @@ pub fn run<F: Files>(alloc: Global, words: &[String], files: &mut F) -> Status
         EndsLate (F.view files.old) (names_of words.now) seed → IsQuiet (F.view files.old) (F.view files.new) →
         Tells result 7 2 ⊎ (result.code ≡ 8) }
 
-    // What stands after any other status than 0, and what no status touches. Refused words touch nothing, and a check no file.
-    ensures untouched { result.code ≡ 2 → F.view files.new ≡ F.view files.old }
+    // What stands after any other status than 0, and what no status touches. Refused words touch no file, and a check none either.
+    ensures untouched { result.code ≡ 2 → OnlySays (F.view files.old) (F.view files.new) }
     ensures front { result.code ≢ 0 → IsPlay words.now → (seed : ℕ) → seed_of words.now ≡ Some seed →
         Fronts (F.view files.old) (F.view files.new) (names_of words.now) seed }
     ensures nothing { IsTrue (F.view files.old).tells →
@@ -126,13 +130,17 @@ pub fn run<F: Files>(alloc: Global, words: &[String], files: &mut F) -> Status
         (F.view files.old) (F.view files.new) }
     ensures check_keeps { IsCheck words.now → Keeps Any Any (F.view files.old) (F.view files.new) }
     ensures check_parts { IsCheck words.now → (f p : ℕ) → (F.view files.old).part f ≡ None → (F.view files.new).part f ≡ Some p → p ≡ 1 }
-    ensures said { IsPlay words.now → (F.view files.new).said ≡ (F.view files.old).said }
-    ensures silent { IsCheck words.now → result.code ≢ 0 → (F.view files.new).said ≡ (F.view files.old).said }
+
+    // What is said. A play that is done says nothing. Behind every other status than 0 and 8 exactly its message was said, or nothing,
+    // and then the count of write faults of part 0 rose; behind 8 its message or nothing.
+    ensures said { result.code ≡ 0 → IsPlay words.now → (F.view files.new).said ≡ (F.view files.old).said }
+    ensures message { result.code ≢ 0 → result.code ≢ 8 → SaysOrFails (F.view files.old) (F.view files.new) (message_text result) }
+    ensures memory { result.code ≡ 8 → SaysOrNot (F.view files.old) (F.view files.new) out_of_memory }
 {
     match read_words(words) {
         Ok(Command::Play(read)) => play(alloc, files, &read),
         Ok(Command::Check(read)) => check(alloc, files, &read),
-        Err(fault) => ended(2, fault.kind()),
+        Err(fault) => told(alloc, files, ended(2, fault.kind())),
     }
 }
 
@@ -142,7 +150,7 @@ pub fn run_steady(alloc: Global, words: &[String], files: &mut SteadyFiles) -> S
     ensures read { result.code ≢ 5 }
     ensures write { result.code ≢ 6 }
     ensures words { result.code ≡ 2 → refusal words.now ≡ Some result.kind }
-    ensures refused { (kind : ℕ) → refusal words.now ≡ Some kind → Tells result 2 kind }
+    ensures refused { (kind : ℕ) → refusal words.now ≡ Some kind → Tells result 2 kind ⊎ (result.code ≡ 8) }
     ensures done { result.code ≡ 0 → IsPlay words.now → (seed : ℕ) → seed_of words.now ≡ Some seed →
         HasPlayed (steady_view files.old) (steady_view files.new) (names_of words.now) seed }
     ensures checked { result.code ≡ 0 → IsCheck words.now →
