@@ -1,5 +1,5 @@
 -- From what is read of a configuration to what it says, and how a check ends.
-use Rattle.std.proofs.Common.{◌≡◌, ◌<◌, ◌∙◌, ℕ, suc, Bool, true, false, cond, Option, List, [], ◌∷◌, length, None, Some, Result, Ok, Err, ap, sym, subst, refl, arith}
+use Rattle.std.proofs.Common.{◌≡◌, ◌<◌, ◌∙◌, ℕ, suc, Bool, true, false, cond, Option, List, [], ◌∷◌, length, None, Some, Result, Ok, Err, ap, sym, refl, arith}
 use Rattle.std.specs.Prelude.{IsTrue, bytes_eq, find, nat_lt, slice_get}
 use Rattle.conf_laws.specs.Fit.{IsInterface}
 use Rattle.conf_laws.specs.Laws.{ConfigurationsFit}

@@ -1,5 +1,5 @@
 -- Which ends of a play exclude one another.
-use Rattle.std.proofs.Common.{◌≡◌, ◌<◌, ◌⊎◌, ℕ, List, ◌∷◌, [], sym, subst, inl, inr, arith}
+use Rattle.std.proofs.Common.{◌≡◌, ◌<◌, ◌⊎◌, ℕ, List, sym, subst, inl, inr, arith}
 use Rattle.altq_model.specs.History.{Happened}
 use Rattle.altq_model.specs.Arrivals.{comings}
 use Rattle.capture_model.specs.declared.damage.Damage.{Damage}

@@ -1,11 +1,11 @@
 -- The laws that a run cites, of configurations, of frames and of interfaces.
-use Rattle.std.proofs.Common.{◌≡◌, ◌≤◌, ◌<◌, ℕ, max, length, List, [], ◌∷◌, true, arith}
+use Rattle.std.proofs.Common.{◌≡◌, ℕ, max, length, List, [], ◌∷◌, true, arith}
 use Rattle.altq_model.specs.declared.Placed.{Placed}
 use Rattle.altq_model.specs.Arrivals.{arrivals_from, arrivals_of, comings}
 use Rattle.altq_model.specs.History.{Happened}
 use Rattle.altq_model.specs.Lawful.{IsLawful, IsOneOf}
 use Rattle.altq_model.specs.Play.{AreDue}
-use Rattle.capture_model.specs.Capture.{Record, Step, Reads, longest}
+use Rattle.capture_model.specs.Capture.{Record, Step, Reads}
 use Rattle.conf_laws.specs.Fit.{IsInterface}
 use Rattle.conf_laws.specs.Laws.{ConfigurationsFit}
 use Rattle.conf_tree.specs.declared.interface.Interface.{Interface}

@@ -1,6 +1,5 @@
 -- What holds of the files of a run before something is said holds of them after it.
-use Rattle.std.proofs.Common.{◌≡◌, ◌∙◌, ℕ, List, None, Some, sym, inl, inr}
-use Rattle.std.specs.Prelude.{IsTrue}
+use Rattle.std.proofs.Common.{◌≡◌, ◌∙◌, ℕ, List, Some, inl, inr}
 use Rattle.altq_model.specs.History.{Happened}
 use Rattle.capture_model.specs.Capture.{Record, Step}
 use Rattle.play_base.specs.View.{View, Rose}
@@ -29,7 +28,7 @@ untouched_after u v w part o x = λ f fresh e. x f fresh (there_before v w f par
 pub quiet_before : (u v w : View) → OnlySays v w → IsQuiet u w → IsQuiet u v
 quiet_before u v w o q = λ part. (
   (λ r. (q part).0 (rose_before _ _ _ r (o.keeps.later.read part))),
-  (λ r. (q part).1 (rose_before _ _ _ r (o.keeps.later.write part))),
+  (λ l r. (q part).1 l (rose_before _ _ _ r (o.keeps.later.write part))),
 )
 
 pub read_after : (u v w : View) (part : ℕ) (name : List ℕ) → OnlySays v w → CannotRead u v part name → CannotRead u w part name

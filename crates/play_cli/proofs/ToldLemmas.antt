@@ -1,5 +1,5 @@
 -- What must be told is told, unless a count of faults rose or memory was wanting.
-use Rattle.std.proofs.Common.{◌≡◌, ◌+◌, ◌∙◌, ◌⊎◌, ℕ, ap, sym, refl, inl, inr}
+use Rattle.std.proofs.Common.{◌≡◌, ◌+◌, ◌∙◌, ◌⊎◌, ℕ, ap, sym, refl, inl, inr, arith}
 use Rattle.std.specs.Prelude.{IsTrue}
 use Rattle.capture_model.specs.declared.damage.Damage.{Damage}
 use Rattle.capture_model.specs.Capture.{End, Fault, Limit}
@@ -32,7 +32,7 @@ play_memory : (u v : View) (n : Names) (seed : ℕ) (f : PlayFault) → IsTrue u
 play_memory u v n seed (play.Capture d) t p q x =
     let y = x t in absurd (end_fault y.damage (one_end u v n seed End (Fault y.damage) tt tt p y.decided))
 play_memory u v n seed play.Read t p q x = absurd (read_not u v n q p.accepted x)
-play_memory u v n seed (play.Write output) t p q x = absurd ((q (output_number output + 2)).1 x)
+play_memory u v n seed (play.Write output) t p q x = absurd ((q (output_number output + 2)).1 (omega arith) x)
 play_memory u v n seed (play.Limit limit.Capture) t p q x = absurd (end_limit (one_end u v n seed End Limit tt tt p (x t)))
 play_memory u v n seed (play.Limit limit.Clock) t p q x = absurd (late_not_ended u v n seed End tt p (x t))
 play_memory u v n seed play.NoMemory t p q x = refl
@@ -55,7 +55,7 @@ play_damage u v n seed d (play.Capture e) t p q x =
     let z = same_damage d y.damage e.place (damage_number e.kind) same y.at y.what in
     inl (record { code = refl; place = z.0; kind = z.1 })
 play_damage u v n seed d play.Read t p q x = absurd (read_not u v n q p.accepted x)
-play_damage u v n seed d (play.Write output) t p q x = absurd ((q (output_number output + 2)).1 x)
+play_damage u v n seed d (play.Write output) t p q x = absurd ((q (output_number output + 2)).1 (omega arith) x)
 play_damage u v n seed d (play.Limit limit.Capture) t p q x = absurd (limit_fault d (sym (one_end u v n seed (Fault d) Limit tt tt p (x t))))
 play_damage u v n seed d (play.Limit limit.Clock) t p q x = absurd (late_not_ended u v n seed (Fault d) tt p (x t))
 play_damage u v n seed d play.NoMemory t p q x = inr refl
@@ -73,7 +73,7 @@ play_limit : (u v : View) (n : Names) (seed : ℕ) (f : PlayFault) → IsTrue u.
 play_limit u v n seed (play.Capture e) t p q x =
     let y = x t in absurd (limit_fault y.damage (one_end u v n seed Limit (Fault y.damage) tt tt p y.decided))
 play_limit u v n seed play.Read t p q x = absurd (read_not u v n q p.accepted x)
-play_limit u v n seed (play.Write output) t p q x = absurd ((q (output_number output + 2)).1 x)
+play_limit u v n seed (play.Write output) t p q x = absurd ((q (output_number output + 2)).1 (omega arith) x)
 play_limit u v n seed (play.Limit limit.Capture) t p q x = inl (record { code = refl; kind = refl })
 play_limit u v n seed (play.Limit limit.Clock) t p q x = absurd (late_not_ended u v n seed Limit tt p (x t))
 play_limit u v n seed play.NoMemory t p q x = inr refl
@@ -91,7 +91,7 @@ play_late : (u v : View) (n : Names) (seed : ℕ) (f : PlayFault) → HaveLaws �
 play_late u v n seed (play.Capture e) fit t p q x =
     let y = x t in absurd (offered_not_late u v n seed (Fault y.damage) fit tt (fault_end y.damage) y.decided p)
 play_late u v n seed play.Read fit t p q x = absurd (read_not u v n q p.accepted x)
-play_late u v n seed (play.Write output) fit t p q x = absurd ((q (output_number output + 2)).1 x)
+play_late u v n seed (play.Write output) fit t p q x = absurd ((q (output_number output + 2)).1 (omega arith) x)
 play_late u v n seed (play.Limit limit.Capture) fit t p q x = absurd (offered_not_late u v n seed Limit fit tt limit_end (x t) p)
 play_late u v n seed (play.Limit limit.Clock) fit t p q x = inl (record { code = refl; kind = refl })
 play_late u v n seed play.NoMemory fit t p q x = inr refl

@@ -9,7 +9,7 @@ use Rattle.play_cli.specs.declared.fault.RunFault.TheVariants as fault
 use Rattle.play_cli.specs.Causes.{ended}
 use Rattle.play_cli.specs.Checked.{HasChecked}
 use Rattle.play_cli.specs.Configuration.{Says, TooLong}
-use Rattle.play_cli.specs.Ending.{CheckEnds, IsStatus, PlayComes, PlayEnds, PlayIsTold, PlayLeaves}
+use Rattle.play_cli.specs.Ending.{CheckEnds, IsStatus, PlayComes, PlayEnds, PlayIsTold}
 use Rattle.play_cli.specs.Message.{message_text}
 use Rattle.play_cli.specs.Opening.{CannotRead}
 use Rattle.play_cli.specs.Run.{HasPlayed, IsLate, IsLimited, Names}
@@ -137,7 +137,7 @@ check_memory u v w config interface s t d h = record {
   write = λ e. absurd (omega (arith, e));
   limit = λ e. absurd (omega (arith, e));
   whole = λ e. absurd (omega (arith, e));
-  complete = λ tells q p. inr refl;
+  complete = λ tells q p. inr (inl refl);
   configuration_told = λ tells q place y. inr refl;
   long_told = λ tells q y. inr refl;
   keeps = keeps_trans _ _ u v w h.keeps d.only.keeps;

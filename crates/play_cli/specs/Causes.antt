@@ -1,6 +1,7 @@
 -- When each fault of a run comes, in the words of its names.
 use Rattle.std.specs.Prelude.{◌≡◌, ◌≢◌, ◌+◌, ◌⊎◌, ℕ, List, IsTrue}
 use Rattle.capture_model.specs.Numbers.{damage_number}
+use Rattle.conf_tree.specs.declared.interface.Interface.{Interface}
 use Rattle.play_base.specs.declared.trouble.Trouble.{Trouble}
 use Rattle.play_base.specs.declared.trouble.Trouble.TheVariants as trouble
 use Rattle.play_base.specs.View.{View, Rose}
@@ -10,7 +11,7 @@ use Rattle.play_loop.specs.declared.fault.Limit.{Limit}
 use Rattle.play_loop.specs.declared.fault.Limit.TheVariants as limit
 use Rattle.play_loop.specs.declared.fault.PlayFault.{PlayFault}
 use Rattle.play_loop.specs.declared.fault.PlayFault.TheVariants as play
-use Rattle.play_cli.specs.Configuration.{Refused, TooLong, Says}
+use Rattle.play_cli.specs.Configuration.{Accepts, Refused, TooLong, Says}
 use Rattle.play_cli.specs.Opening.{CannotRead, output_number}
 use Rattle.play_cli.specs.Run.{Names, IsDamagedAt, IsLimited, IsLate}
 use Rattle.play_cli.specs.declared.status.Status.{Status}
@@ -66,15 +67,16 @@ Causes old new n seed (Config fault) = ConfigCauses old new n.config n.interface
 Causes old new n seed (Play fault) = PlayCauses old new n seed fault
 Causes old new n seed (Say trouble) = ⊥
 
--- why a check ends early: it asks for no play
-abbrev pub SayCauses : View → View → Trouble → Type 0
-SayCauses old new trouble.Failed = Rose (old.write_faults 0) (new.write_faults 0)
-SayCauses old new trouble.NoMemory = Unit {0}
+-- why a check ends early: it asks for no play. Its result is said once the configuration is accepted
+abbrev pub SayCauses : View → View → (config interface : List ℕ) → Trouble → Type 0
+SayCauses old new config interface trouble.Failed =
+    Rose (old.write_faults 0) (new.write_faults 0) × ((found : Interface) × Accepts old config interface found)
+SayCauses old new config interface trouble.NoMemory = Unit {0}
 
 abbrev pub CheckCauses : View → View → (config interface : List ℕ) → RunFault → Type 0
 CheckCauses old new config interface (Config fault) = ConfigCauses old new config interface fault
 CheckCauses old new config interface (Play fault) = ⊥
-CheckCauses old new config interface (Say trouble) = SayCauses old new trouble
+CheckCauses old new config interface (Say trouble) = SayCauses old new config interface trouble
 
 -- the status of this code and kind
 abbrev pub ended : (code kind : ℕ) → Status

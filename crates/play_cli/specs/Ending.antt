@@ -104,7 +104,7 @@ pub record CheckEnds (old new : View) (config interface : List ℕ) (s : Status)
   pub write : s.code ≡ 6 → (s.kind ≡ 10) × Rose (old.write_faults 0) (new.write_faults 0)
   pub limit : s.code ≡ 7 → (s.kind ≡ 3) × (IsTrue old.tells → Says old config interface TooLong)
   pub whole : s.code ≢ 4
-  pub complete : IsTrue old.tells → IsQuiet old new → IsCheckable old config interface → (s.code ≡ 0) ⊎ (s.code ≡ 8)
+  pub complete : IsTrue old.tells → IsQuiet old new → IsCheckable old config interface → (s.code ≡ 0) ⊎ (s.code ≡ 8) ⊎ Tells s 6 10
   pub configuration_told : IsTrue old.tells → IsQuiet old new → (place : ConfPlace) → Says old config interface (Refused place)
       → TellsPlace s place ⊎ (s.code ≡ 8)
   pub long_told : IsTrue old.tells → IsQuiet old new → Says old config interface TooLong → Tells s 7 3 ⊎ (s.code ≡ 8)

@@ -1,5 +1,5 @@
 -- What a run of the program leaves, and when each of its statuses comes.
-use Rattle.std.specs.Prelude.{◌≡◌, ◌<◌, ◌⊎◌, ℕ, List, [], ◌++◌, length, None, Some, IsTrue}
+use Rattle.std.specs.Prelude.{◌≡◌, ◌≤◌, ◌<◌, ◌⊎◌, ℕ, List, [], ◌++◌, length, None, Some, IsTrue}
 use Rattle.altq_model.specs.Arrivals.{comings}
 use Rattle.altq_model.specs.Departures.{departed}
 use Rattle.altq_model.specs.History.{Happened, bare, offered}
@@ -146,9 +146,10 @@ pub record IsLate (old new : View) (n : Names) (seed : ℕ) : Type 0 where
   pub part : new.part file ≡ Some 2
   pub streams : Streams new file accepted.bytes records (start_of early.cut.next.what)
 
--- no count of faults rose
+-- no count of faults rose, but perhaps that of texts that could not be said, which is that of write faults of part 0
 abbrev pub IsQuiet : View → View → Type 0
-IsQuiet old new = (part : ℕ) → (Rose (old.read_faults part) (new.read_faults part) → ⊥) × (Rose (old.write_faults part) (new.write_faults part) → ⊥)
+IsQuiet old new = (part : ℕ) → (Rose (old.read_faults part) (new.read_faults part) → ⊥)
+    × (1 ≤ part → Rose (old.write_faults part) (new.write_faults part) → ⊥)
 
 -- what is accepted reads to this end, and no sending of its play comes before that and would end too late
 pub record EndsWith (old : View) (n : Names) (seed : ℕ) (last : Step) : Type 0 where

@@ -83,13 +83,14 @@ pub fn run<F: Files>(alloc: Global, words: &[String], files: &mut F) -> Status
     ensures accepted_first { IsPlay words.now → IsAfterConfig result.code result.kind →
         (found : Interface) × Accepts (F.view files.old) (names_of words.now).config (names_of words.now).interface found }
 
-    // What is playable is done, unless a fault or want of memory comes; so is what can be checked.
+    // What is playable is done, unless a fault or want of memory comes; so is what can be checked, unless its result cannot be said.
+    // A message that cannot be said is no such fault.
     ensures complete { IsTrue (F.view files.old).tells → refusal words.now ≡ None → IsPlay words.now →
         (seed : ℕ) → seed_of words.now ≡ Some seed → IsPlayable (F.view files.old) (names_of words.now) seed →
         IsQuiet (F.view files.old) (F.view files.new) → (result.code ≡ 0) ⊎ (result.code ≡ 8) }
     ensures check_complete { IsTrue (F.view files.old).tells → refusal words.now ≡ None → IsCheck words.now →
         IsCheckable (F.view files.old) (names_of words.now).config (names_of words.now).interface →
-        IsQuiet (F.view files.old) (F.view files.new) → (result.code ≡ 0) ⊎ (result.code ≡ 8) }
+        IsQuiet (F.view files.old) (F.view files.new) → (result.code ≡ 0) ⊎ (result.code ≡ 8) ⊎ Tells result 6 10 }
 
     // A configuration that cannot be used is told.
     ensures configuration_told { IsTrue (F.view files.old).tells → refusal words.now ≡ None → (place : ConfPlace) →

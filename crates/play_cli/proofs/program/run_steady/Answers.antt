@@ -5,4 +5,4 @@ pub returns-clause-done : goal.returns-clause-done
 returns-clause-done c = λ e command seed is. c.run.ensures.done e command refl seed is
 
 pub returns-clause-complete : goal.returns-clause-complete
-returns-clause-complete c = λ r command seed is p. c.run.ensures.complete refl r command seed is p (λ part. ((λ h. omega (arith, h)), (λ h. omega (arith, h))))
+returns-clause-complete c = λ r command seed is p. c.run.ensures.complete refl r command seed is p (λ part. ((λ h. omega (arith, h)), (λ l h. omega (arith, h))))
