@@ -1,3 +1,5 @@
+pub mod Causes
 pub mod Kinds
+pub mod Options
 pub mod Read
 pub mod Words

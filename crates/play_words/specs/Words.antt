@@ -1,13 +1,12 @@
--- The words behind the program's name: a command, `play` or `check`, and its options in their order, each followed by its value.
-use Rattle.std.specs.Prelude.{◌≡◌, ◌≢◌, ◌==◌, ◌&&◌, ℕ, Bool, not, is_none, List, [], length, slice_get, string_bytes, codes, if◌then◌else◌, None, Some, String}
+-- The words behind the program's name: a command, `play` or `check`, and its options, as clap reads them.
+use Rattle.std.specs.Prelude.{◌≡◌, ◌≢◌, ◌&&◌, ℕ, Bool, not, is_none, List, [], slice_get, string_bytes, codes, if◌then◌else◌, None, Some}
 use Rattle.std.specs.Option.{option_map_or}
 use Rattle.std.specs.Str.{bytes_eq}
 use Rattle.std.specs.declared.option.Option.{Option}
-use Rattle.std.specs.declared.alloc.Global.{Global}
+use Rattle.clap.specs.Words.{Row}
 use Rattle.line_text.specs.Numbers.{number}
-
-abbrev pub Words : Type 0
-Words = List (String Global)
+use Rattle.play_words.specs.Options.{check_app, options_of, options_refusal, play_app, takes_options, value_of}
+pub use Rattle.play_words.specs.Options.{Words}
 
 -- a word, or no text where there are fewer
 abbrev pub word_at : Words → ℕ → List ℕ
@@ -34,38 +33,36 @@ IsPlay words = named words ≡ Play
 abbrev pub IsCheck : Words → Type 0
 IsCheck words = named words ≡ Check
 
--- check: its options stand in their order, and nothing else
-abbrev pub has_check_options : Words → Bool
-has_check_options words = (length words == 5) && (is_word words 1 (codes "--config") && is_word words 3 (codes "--interface"))
+-- the options that are read of the words behind the command
+abbrev pub options_by : Named → Words → List Row
+options_by Play words = options_of play_app words
+options_by Check words = options_of check_app words
+options_by NoCommand words = []
 
--- play: its options stand in their order, and nothing else
-abbrev pub has_options : Words → Bool
-has_options words =
-    (length words == 15) && (is_word words 1 (codes "--config") && (is_word words 3 (codes "--interface")
-    && (is_word words 5 (codes "--arrivals") && (is_word words 7 (codes "--departures") && (is_word words 9 (codes "--fates")
-    && (is_word words 11 (codes "--stats") && is_word words 13 (codes "--seed")))))))
+abbrev pub option_of : List ℕ → Words → List ℕ
+option_of name words = value_of name (options_by (named words) words)
 
 abbrev pub config_name : Words → List ℕ
-config_name words = word_at words 2
+config_name = option_of (codes "config")
 
 abbrev pub interface_name : Words → List ℕ
-interface_name words = word_at words 4
+interface_name = option_of (codes "interface")
 
 abbrev pub arrivals_name : Words → List ℕ
-arrivals_name words = word_at words 6
+arrivals_name = option_of (codes "arrivals")
 
 abbrev pub departures_name : Words → List ℕ
-departures_name words = word_at words 8
+departures_name = option_of (codes "departures")
 
 abbrev pub fates_name : Words → List ℕ
-fates_name words = word_at words 10
+fates_name = option_of (codes "fates")
 
 abbrev pub stats_name : Words → List ℕ
-stats_name words = word_at words 12
+stats_name = option_of (codes "stats")
 
 -- the seed: one or more decimal digits and nothing else, below 2^64
 abbrev pub seed_of : Words → Option ℕ
-seed_of words = number 10 (word_at words 14)
+seed_of words = number 10 (option_of (codes "seed") words)
 
 abbrev pub differ : List ℕ → List ℕ → Bool
 differ a b = not (bytes_eq a b)
@@ -86,13 +83,13 @@ are_distinct words = are_distinct_names (config_name words) (arrivals_name words
 -- they are accepted
 abbrev pub play_refusal : Words → Option ℕ
 play_refusal words =
-    if not (has_options words) then Some 2
+    if not (takes_options play_app words) then Some 2
     else if is_none (seed_of words) then Some 4
     else if not (are_distinct words) then Some 3
     else None
 
 abbrev pub check_refusal : Words → Option ℕ
-check_refusal words = if has_check_options words then None else Some 2
+check_refusal = options_refusal check_app
 
 abbrev pub refusal_by : Named → Words → Option ℕ
 refusal_by Play words = play_refusal words

@@ -1,6 +1,7 @@
 //! The words of the command line.
 #![tactic(auto)]
 
+mod options;
 mod words;
 
-pub use words::{CheckWords, Command, PlayWords, WordsFault, read_words};
+pub use words::{CheckWords, Command, PlayWords, Unread, WordsFault, read_words};

@@ -2,18 +2,24 @@
 ghost use Rattle.std.specs.Prelude.{◌≡◌, ◌<◌, length, Some, None, IfOk, IfErr, OnOk, IsOk};
 ghost use Rattle.std.specs.Str.{bytes_eq};
 ghost use Rattle.line_text.specs.Numbers.{number};
-ghost use Rattle.play_words.specs.Words.{AreDistinct, IsPlay, IsCheck, word_at, is_word, has_options, has_check_options, are_distinct_names, differ_from, play_refusal, check_refusal, refusal, seed_of, config_name, interface_name, arrivals_name, departures_name, fates_name, stats_name};
+ghost use Rattle.clap.specs.Words.{kind_of};
+ghost use Rattle.play_words.specs.Causes.{Explains, cause_of};
+ghost use Rattle.play_words.specs.Words.{AreDistinct, IsPlay, IsCheck, is_word, are_distinct_names, differ_from, play_refusal, check_refusal, refusal, seed_of, config_name, interface_name, arrivals_name, departures_name, fates_name, stats_name};
 ghost use Rattle.play_words.specs.Read.{Reads, ReadsPlay, ReadsCheck};
 ghost use Rattle.play_words.specs.Kinds.{words_kind};
+ghost use Rattle.play_words.specs.declared.words.Unread.TheVariants.{NoMemory};
 
+use crate::options::{check_matches, play_matches, value};
+use clap::error::ErrorKind;
 use line_text::{Word, whole};
+use std::alloc::{AllocError, Global};
 
 /// Why words are refused, in the order in which it is looked at.
 #[derive(Clone, Copy, Debug, PartialEq, Eq)]
 pub enum WordsFault {
     /// There is no first word, or it is no command.
     NoCommand,
-    /// The words behind the command are not its options in their order, each followed by its value.
+    /// The words behind the command are not its options, each given once with its value; so is a call for help.
     Options,
     /// The seed is not decimal digits, or it is 2^64 or more.
     BadNumber,
@@ -31,6 +37,34 @@ impl WordsFault {
             WordsFault::Options => 2,
             WordsFault::NamesEqual => 3,
             WordsFault::BadNumber => 4,
+        }
+    }
+}
+
+/// Why words are not read.
+#[derive(Clone, Copy, Debug, PartialEq, Eq)]
+pub enum Unread {
+    /// They are refused.
+    Refused(WordsFault),
+    /// There was no memory to read them.
+    NoMemory,
+}
+
+impl From<AllocError> for Unread {
+    ghost from_gives = { λ _ cause. cause ≡ NoMemory };
+
+    fn from(_error: AllocError) -> Unread {
+        Unread::NoMemory
+    }
+}
+
+impl From<clap::Error> for Unread {
+    ghost from_gives = { λ e cause. cause ≡ cause_of (kind_of e) };
+
+    fn from(error: clap::Error) -> Unread {
+        match error.kind() {
+            ErrorKind::OutOfMemory => Unread::NoMemory,
+            _ => Unread::Refused(WordsFault::Options),
         }
     }
 }
@@ -63,14 +97,6 @@ pub enum Command<'a> {
     Check(CheckWords<'a>),
 }
 
-// A word that is there.
-fn word(words: &[String], i: usize) -> &str
-    requires { i < length words.now }
-    ensures { result.now ≡ word_at words.now i }
-{
-    words[i].as_str()
-}
-
 // Whether a word is there and is this text, which isn't empty.
 fn is(words: &[String], i: usize, text: &str) -> bool
     requires { 0 < length text.now }
@@ -80,27 +106,6 @@ fn is(words: &[String], i: usize, text: &str) -> bool
         Some(word) => word.as_str() == text,
         None => false,
     }
-}
-
-// Whether the options of `check` stand in their order.
-fn has_check_options(words: &[String]) -> bool
-    ensures { result ≡ has_check_options words.now }
-{
-    words.len() == 5 && is(words, 1, "--config") && is(words, 3, "--interface")
-}
-
-// Whether the options of `play` stand in their order.
-fn has_options(words: &[String]) -> bool
-    ensures { result ≡ has_options words.now }
-{
-    words.len() == 15
-        && is(words, 1, "--config")
-        && is(words, 3, "--interface")
-        && is(words, 5, "--arrivals")
-        && is(words, 7, "--departures")
-        && is(words, 9, "--fates")
-        && is(words, 11, "--stats")
-        && is(words, 13, "--seed")
 }
 
 // Whether a text differs from three others.
@@ -134,67 +139,63 @@ fn decimal(text: &str) -> Option<u64>
 }
 
 // Reads the options of `play`.
-fn play_words(words: &[String]) -> Result<PlayWords<'_>, WordsFault>
+fn play_words<'a>(alloc: Global, words: &'a [String]) -> Result<PlayWords<'a>, Unread>
     requires { IsPlay words.now }
     ensures accepted { OnOk result (play_refusal words.now ≡ None) }
-    ensures refused { IfErr result (λ fault. play_refusal words.now ≡ Some (words_kind fault)) }
+    ensures refused { IfErr result (Explains (play_refusal words.now)) }
     ensures read { IfOk result (λ w. ReadsPlay words.now w) }
 {
-    if !has_options(words) {
-        return Err(WordsFault::Options);
-    }
-    let Some(seed) = decimal(word(words, 14)) else {
-        return Err(WordsFault::BadNumber);
+    let matches = play_matches(alloc, words)?;
+    let Some(seed) = decimal(value(&matches, "seed")) else {
+        return Err(Unread::Refused(WordsFault::BadNumber));
     };
     let read = PlayWords {
-        config: word(words, 2),
-        interface: word(words, 4),
-        arrivals: word(words, 6),
-        departures: word(words, 8),
-        fates: word(words, 10),
-        stats: word(words, 12),
+        config: value(&matches, "config"),
+        interface: value(&matches, "interface"),
+        arrivals: value(&matches, "arrivals"),
+        departures: value(&matches, "departures"),
+        fates: value(&matches, "fates"),
+        stats: value(&matches, "stats"),
         seed,
     };
     if !are_distinct(&read) {
-        return Err(WordsFault::NamesEqual);
+        return Err(Unread::Refused(WordsFault::NamesEqual));
     }
     Ok(read)
 }
 
 // Reads the options of `check`.
-fn check_words(words: &[String]) -> Result<CheckWords<'_>, WordsFault>
+fn check_words<'a>(alloc: Global, words: &'a [String]) -> Result<CheckWords<'a>, Unread>
     requires { IsCheck words.now }
     ensures accepted { OnOk result (check_refusal words.now ≡ None) }
-    ensures refused { IfErr result (λ fault. check_refusal words.now ≡ Some (words_kind fault)) }
+    ensures refused { IfErr result (Explains (check_refusal words.now)) }
     ensures read { IfOk result (λ w. ReadsCheck words.now w) }
 {
-    if !has_check_options(words) {
-        return Err(WordsFault::Options);
-    }
-    let (config, interface) = (word(words, 2), word(words, 4));
+    let matches = check_matches(alloc, words)?;
+    let (config, interface) = (value(&matches, "config"), value(&matches, "interface"));
     Ok(CheckWords { config, interface })
 }
 
 /// Reads the words behind the program's name: `play --config C --interface I --arrivals A --departures D --fates T --stats Z
-/// --seed N`, or `check --config C --interface I`, the options in this order. The seed is one or more decimal digits, below
-/// 2^64. No two of the file names C, A, D, T and Z are equal as texts. An error is the first test that fails, in the order of
-/// `WordsFault`. Takes no memory.
-pub fn read_words(words: &[String]) -> Result<Command<'_>, WordsFault>
+/// --seed N`, or `check --config C --interface I`. The options stand in any order, each once, as `--name VALUE` or
+/// `--name=VALUE`. The seed is one or more decimal digits, below 2^64. No two of the file names C, A, D, T and Z are equal as
+/// texts. A refusal is the first test that fails, in the order of `WordsFault`.
+pub fn read_words<'a>(alloc: Global, words: &'a [String]) -> Result<Command<'a>, Unread>
     ensures accepted { OnOk result (refusal words.now ≡ None) }
-    ensures refused { IfErr result (λ fault. refusal words.now ≡ Some (words_kind fault)) }
+    ensures refused { IfErr result (Explains (refusal words.now)) }
     ensures read { IfOk result (λ command. Reads words.now command) }
 {
     if is(words, 0, "play") {
-        return match play_words(words) {
+        return match play_words(alloc, words) {
             Ok(read) => Ok(Command::Play(read)),
-            Err(fault) => Err(fault),
+            Err(cause) => Err(cause),
         };
     }
     if is(words, 0, "check") {
-        return match check_words(words) {
+        return match check_words(alloc, words) {
             Ok(read) => Ok(Command::Check(read)),
-            Err(fault) => Err(fault),
+            Err(cause) => Err(cause),
         };
     }
-    Err(WordsFault::NoCommand)
+    Err(Unread::Refused(WordsFault::NoCommand))
 }
