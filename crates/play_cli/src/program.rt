@@ -23,7 +23,7 @@ use crate::playing::play;
 use crate::status::ended;
 use crate::telling::told;
 use play_base::{Files, SteadyFiles};
-use play_words::{Command, read_words};
+use play_words::{Command, Unread, read_words};
 use std::alloc::Global;
 
 /// All that the program does. `words` are the words behind the program's name.
@@ -32,9 +32,10 @@ use std::alloc::Global;
 /// that the configuration C gives the interface I, and a link of its rate, by HFSC or CBQ as C says and by the words of the seed N,
 /// and writes the departures to D, the fates to T, and at the end the statistics to Z. Nothing is created before the configuration
 /// is accepted and the arrivals are open, and fates only behind departures, statistics only behind fates. Frames are placed by the
-/// filters of the interface. At most 2^20 + 1 bytes of C are read. `check --config C --interface I` says the canonical text of the configuration C, where it
-/// has the interface I, and in a last line whether the real-time curves of I fit its link; the kind is 1 where they exceed it. After
-/// every status but 0 the message of it is said, a line that `message_text` gives, and `play` says nothing where it is done.
+/// filters of the interface. At most 2^20 + 1 bytes of C are read. `check --config C --interface I` says the canonical text of the
+/// configuration C, where it has the interface I, and in a last line whether the real-time curves of I fit its link; the kind is 1
+/// where they exceed it. Options come in any order, as `--name VALUE` or `--name=VALUE`. After every status but 0 the message of it
+/// is said, a line that `message_text` gives, and `play` says nothing where it is done.
 ///
 /// The status says how it ended, and each clause below when that comes and what it leaves. Where the files tell their bytes,
 /// status 0 means the headline of `HasPlayed`, or `HasChecked`. Status 8 comes where there was no memory, and nothing ties it
@@ -42,7 +43,7 @@ use std::alloc::Global;
 pub fn run<F: Files>(alloc: Global, words: &[String], files: &mut F) -> Status
     ensures code { IsCode result.code }
 
-    // Words are refused exactly where they fail a test, with the kind of the first.
+    // Words are refused exactly where they fail a test, with the kind of the first, unless there is no memory to read them.
     ensures words { result.code ≡ 2 → refusal words.now ≡ Some result.kind }
     ensures refused { (kind : ℕ) → refusal words.now ≡ Some kind → Tells result 2 kind ⊎ (result.code ≡ 8) }
 
@@ -138,10 +139,11 @@ pub fn run<F: Files>(alloc: Global, words: &[String], files: &mut F) -> Status
     ensures message { result.code ≢ 0 → result.code ≢ 8 → SaysOrFails (F.view files.old) (F.view files.new) (message_text result) }
     ensures memory { result.code ≡ 8 → SaysOrNot (F.view files.old) (F.view files.new) out_of_memory }
 {
-    match read_words(words) {
+    match read_words(alloc, words) {
         Ok(Command::Play(read)) => play(alloc, files, &read),
         Ok(Command::Check(read)) => check(alloc, files, &read),
-        Err(fault) => told(alloc, files, ended(2, fault.kind())),
+        Err(Unread::Refused(fault)) => told(alloc, files, ended(2, fault.kind())),
+        Err(Unread::NoMemory) => told(alloc, files, ended(8, 0)),
     }
 }
 

@@ -165,7 +165,7 @@ fn opened(alloc: Global, files: &mut MemoryFiles) -> Result<Opened, Fail>
     ensures { IfOk result (λ o. AreReady (memory_view files.new) o) }
 {
     let words = words_but(alloc, 0, "play")?;
-    let Ok(Command::Play(read)) = read_words(&words) else {
+    let Ok(Command::Play(read)) = read_words(alloc, words.as_slice()) else {
         return Err(Fail::new("words"));
     };
     match open_files(files, &read) {

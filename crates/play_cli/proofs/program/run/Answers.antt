@@ -47,10 +47,15 @@ pub returns-in-Ok-Play-clause-few : goal.returns-in-Ok-Play-clause-few
 returns-in-Ok-Play-clause-few g c =
     (play_of_words (g.F.Files.view c.args.files.now) (g.F.Files.view c.play.new.files) c.args.words.now c.in-Ok-Play.read c.play.result (play_read c.args.words.now c.in-Ok-Play.field-0 c.in-Ok-Play.read c.in-Ok-Play.field-0-is c.in-Ok-Play.ensures.read) c.play.ensures.ends).leaves.files.few
 
-pub returns-in-Err-clause-front : goal.returns-in-Err-clause-front
-returns-in-Err-clause-front g c = λ other command seed is.
+pub returns-in-Err-Refused-clause-front : goal.returns-in-Err-Refused-clause-front
+returns-in-Err-Refused-clause-front g c = λ other command seed is.
     let old : View = g.F.Files.view c.args.files.now in
     fronts_after old old (g.F.Files.view c.told.new.files) (names_of c.args.words.now) seed c.told.ensures.only (fronts_kept old (names_of c.args.words.now) seed)
+
+pub returns-in-Err-NoMemory-clause-front : goal.returns-in-Err-NoMemory-clause-front
+returns-in-Err-NoMemory-clause-front g c = λ other command seed is.
+    let old : View = g.F.Files.view c.args.files.now in
+    fronts_after old old (g.F.Files.view c.told-2.new.files) (names_of c.args.words.now) seed c.told-2.ensures.only (fronts_kept old (names_of c.args.words.now) seed)
 
 pub returns-in-Ok-Check-clause-few : goal.returns-in-Ok-Check-clause-few
 returns-in-Ok-Check-clause-few g c = reads_few (g.F.Files.view c.args.files.now) (g.F.Files.view c.check.new.files) (names_of c.args.words.now).config
