@@ -16,3 +16,4 @@ pub use fault::{ConfigFault, RunFault};
 pub use opening::open_files;
 pub use program::{run, run_steady};
 pub use status::Status;
+pub use telling::told;

@@ -36,7 +36,7 @@ fn no_memory<F: Files>(files: &mut F) -> Status
 
 /// Says the message of a status, and nothing of status 0. A message that cannot be said changes no status, but want of memory for
 /// it does.
-pub(crate) fn told<F: Files>(alloc: Global, files: &mut F, status: Status) -> Status
+pub fn told<F: Files>(alloc: Global, files: &mut F, status: Status) -> Status
     ensures { IsTold (F.view files.old) (F.view files.new) status result }
 {
     match status.code {

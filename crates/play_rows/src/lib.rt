@@ -28,6 +28,8 @@ mod loops;
 #[cfg(test)]
 mod marks;
 #[cfg(test)]
+mod messages;
+#[cfg(test)]
 mod one_queue;
 #[cfg(test)]
 mod refusals;

@@ -46,6 +46,11 @@ pub fn words_but(alloc: Global, place: usize, word: &str) -> Result<Vec<String>,
     words_of(alloc, &texts)
 }
 
+/// The words of a check.
+pub fn check_words(alloc: Global) -> Result<Vec<String>, NoMemory> {
+    words_of(alloc, &CHECK)
+}
+
 /// A run.
 pub fn run_words(alloc: Global, words: &[String], files: &mut MemoryFiles) -> Status {
     run(alloc, words, files)

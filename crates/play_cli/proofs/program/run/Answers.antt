@@ -55,7 +55,7 @@ returns-in-Err-Refused-clause-front g c = λ other command seed is.
 pub returns-in-Err-NoMemory-clause-front : goal.returns-in-Err-NoMemory-clause-front
 returns-in-Err-NoMemory-clause-front g c = λ other command seed is.
     let old : View = g.F.Files.view c.args.files.now in
-    fronts_after old old (g.F.Files.view c.told-2.new.files) (names_of c.args.words.now) seed c.told-2.ensures.only (fronts_kept old (names_of c.args.words.now) seed)
+    fronts_after old old (g.F.Files.view c.told-in-Err-NoMemory.new.files) (names_of c.args.words.now) seed c.told-in-Err-NoMemory.ensures.only (fronts_kept old (names_of c.args.words.now) seed)
 
 pub returns-in-Ok-Check-clause-few : goal.returns-in-Ok-Check-clause-few
 returns-in-Ok-Check-clause-few g c = reads_few (g.F.Files.view c.args.files.now) (g.F.Files.view c.check.new.files) (names_of c.args.words.now).config

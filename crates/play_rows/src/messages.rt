@@ -1,54 +1,12 @@
 // The message of each status.
-use crate::telling::told;
-use crate::{Status, run};
+
+use crate::arrivals::HEAD;
+use crate::runs::{IMPLIED, check_words, run_words, words_but};
 use play_base::{Call, MemoryFiles, NoMemory};
+use play_cli::{Status, told};
 use std::alloc::Global;
 use std::process::Abort;
 use std::test::Fail;
-
-const WORDS: [&str; 15] = [
-    "play",
-    "--config",
-    "conf",
-    "--interface",
-    "if0",
-    "--arrivals",
-    "in",
-    "--departures",
-    "out",
-    "--fates",
-    "fates",
-    "--stats",
-    "stats",
-    "--seed",
-    "42",
-];
-
-const IMPLIED: &str = "interface if0 bandwidth 8M hfsc";
-
-// An empty capture in little-endian nanoseconds.
-const EMPTY: [u8; 24] = [
-    0x4d, 0x3c, 0xb2, 0xa1, 2, 0, 4, 0, 0, 0, 0, 0, 0, 0, 0, 0, 0, 0, 4, 0, 1, 0, 0, 0,
-];
-
-// The words of a play, but for one.
-fn play_but(alloc: Global, place: usize, word: &str) -> Result<Vec<String>, NoMemory> {
-    let mut words = Vec::new(alloc);
-    for (i, text) in WORDS.iter().enumerate() {
-        let text = if i == place { word } else { *text };
-        words.push(String::from_str(alloc, text)?)?;
-    }
-    Ok(words)
-}
-
-// The words of a check.
-fn check(alloc: Global) -> Result<Vec<String>, NoMemory> {
-    let mut words = Vec::new(alloc);
-    for text in ["check", "--config", "conf", "--interface", "if0"] {
-        words.push(String::from_str(alloc, text)?)?;
-    }
-    Ok(words)
-}
 
 // Files of this configuration and these arrivals.
 fn files_of(alloc: Global, config: &str, arrivals: &[u8]) -> Result<MemoryFiles, NoMemory> {
@@ -67,22 +25,22 @@ fn assert_says(
     message: &str,
 ) -> Result<(), Fail> {
     let mut files = files_of(alloc, config, arrivals)?;
-    let words = play_but(alloc, 0, "play")?;
-    let _ = run(alloc, &words, &mut files);
+    let words = words_but(alloc, 0, "play")?;
+    let _ = run_words(alloc, &words, &mut files);
     assert!(rt; files.said() == message.as_bytes(), "{message}");
     Ok(())
 }
 
 #[test]
 fn play_that_is_done_says_nothing(rt: HostRuntime) -> Result<(), Fail> {
-    assert_says(&rt, rt.alloc(), IMPLIED, &EMPTY, "")
+    assert_says(&rt, rt.alloc(), IMPLIED, &HEAD, "")
 }
 
 #[test]
 fn check_that_is_done_says_its_result_alone(rt: HostRuntime) -> Result<(), Fail> {
-    let mut files = files_of(rt.alloc(), IMPLIED, &EMPTY)?;
-    let words = check(rt.alloc())?;
-    assert_eq!(rt; run(rt.alloc(), &words, &mut files).code, 0);
+    let mut files = files_of(rt.alloc(), IMPLIED, &HEAD)?;
+    let words = check_words(rt.alloc())?;
+    assert_eq!(rt; run_words(rt.alloc(), &words, &mut files).code, 0);
     assert!(rt; files.said() == b"interface if0 bandwidth 8000000 hfsc\nfits\n".as_slice());
     Ok(())
 }
@@ -101,9 +59,9 @@ fn words_and_names(rt: HostRuntime) -> Result<(), Fail> {
         (2, "none", 5, "altqplay: reading configuration failed\n"),
         (6, "none", 5, "altqplay: reading arrivals failed\n"),
     ] {
-        let mut files = files_of(rt.alloc(), IMPLIED, &EMPTY)?;
-        let words = play_but(rt.alloc(), place, word)?;
-        assert_eq!(rt; run(rt.alloc(), &words, &mut files).code, code);
+        let mut files = files_of(rt.alloc(), IMPLIED, &HEAD)?;
+        let words = words_but(rt.alloc(), place, word)?;
+        assert_eq!(rt; run_words(rt.alloc(), &words, &mut files).code, code);
         assert!(rt; files.said() == message.as_bytes(), "{message}");
     }
     Ok(())
@@ -125,7 +83,7 @@ fn configurations(rt: HostRuntime) -> Result<(), Fail> {
             "altqplay: configuration line 1 word 0: NoDefault\n",
         ),
     ] {
-        assert_says(&rt, rt.alloc(), config, &EMPTY, message)?;
+        assert_says(&rt, rt.alloc(), config, &HEAD, message)?;
     }
     Ok(())
 }
@@ -139,7 +97,7 @@ fn captures(rt: HostRuntime) -> Result<(), Fail> {
         &[],
         "altqplay: capture byte 0: ShortHead\n",
     )?;
-    let mut arrivals = Vec::from_slice(rt.alloc(), &EMPTY)?;
+    let mut arrivals = Vec::from_slice(rt.alloc(), &HEAD)?;
     arrivals.push(0)?;
     assert_says(
         &rt,
@@ -161,7 +119,7 @@ fn captures(rt: HostRuntime) -> Result<(), Fail> {
 // A packet of 262,144 bytes at the last second, which would end when the clock does.
 #[test]
 fn limits(rt: HostRuntime) -> Result<(), Fail> {
-    let mut arrivals = Vec::from_slice(rt.alloc(), &EMPTY)?;
+    let mut arrivals = Vec::from_slice(rt.alloc(), &HEAD)?;
     arrivals.extend_from_slice(&4_294_965_198u32.to_le_bytes())?;
     arrivals.extend_from_slice(&848_000_000u32.to_le_bytes())?;
     arrivals.extend_from_slice(&[0, 0, 0, 0, 0, 0, 4, 0])?;
@@ -183,10 +141,10 @@ fn calls_that_fail(rt: HostRuntime) -> Result<(), Fail> {
         (Call::Create, 1, "altqplay: writing fates failed\n"),
         (Call::Create, 2, "altqplay: writing statistics failed\n"),
     ] {
-        let mut files = files_of(rt.alloc(), IMPLIED, &EMPTY)?;
+        let mut files = files_of(rt.alloc(), IMPLIED, &HEAD)?;
         files.fail_at(call, nth)?;
-        let words = play_but(rt.alloc(), 0, "play")?;
-        let _ = run(rt.alloc(), &words, &mut files);
+        let words = words_but(rt.alloc(), 0, "play")?;
+        let _ = run_words(rt.alloc(), &words, &mut files);
         assert!(rt; files.said() == message.as_bytes(), "{message}");
     }
     Ok(())
@@ -195,12 +153,12 @@ fn calls_that_fail(rt: HostRuntime) -> Result<(), Fail> {
 #[test]
 fn result_that_is_not_said(rt: HostRuntime) -> Result<(), Fail> {
     for (count, said) in [(1, "altqplay: writing result failed\n"), (2, "")] {
-        let mut files = files_of(rt.alloc(), IMPLIED, &EMPTY)?;
+        let mut files = files_of(rt.alloc(), IMPLIED, &HEAD)?;
         for nth in 0..count {
             files.fail_at(Call::Say, nth)?;
         }
-        let words = check(rt.alloc())?;
-        let status = run(rt.alloc(), &words, &mut files);
+        let words = check_words(rt.alloc())?;
+        let status = run_words(rt.alloc(), &words, &mut files);
         assert_eq!(rt; (status.code, status.kind), (6, 10));
         assert!(rt; files.said() == said.as_bytes(), "{said}");
         assert_eq!(rt; files.write_faults(0), count);
@@ -212,8 +170,8 @@ fn result_that_is_not_said(rt: HostRuntime) -> Result<(), Fail> {
 fn message_that_is_not_said_changes_no_status(rt: HostRuntime) -> Result<(), Fail> {
     let mut files = files_of(rt.alloc(), IMPLIED, &[])?;
     files.fail_at(Call::Say, 0)?;
-    let words = play_but(rt.alloc(), 0, "play")?;
-    let status = run(rt.alloc(), &words, &mut files);
+    let words = words_but(rt.alloc(), 0, "play")?;
+    let status = run_words(rt.alloc(), &words, &mut files);
     assert_eq!(rt; (status.code, status.place, status.kind), (4, 0, 1));
     assert!(rt; files.said().is_empty());
     assert_eq!(rt; files.write_faults(0), 1);
