@@ -115,7 +115,7 @@ pub fn run<F: Files>(alloc: Global, words: &[String], files: &mut F) -> Status
         Tells result 7 2 ⊎ (result.code ≡ 8) }
 
     // What stands after any other status than 0, and what no status touches. Refused words touch no file, and a check none either.
-    ensures untouched { result.code ≡ 2 → OnlySays (F.view files.old) (F.view files.new) }
+    ensures untouched { (kind : ℕ) → refusal words.now ≡ Some kind → OnlySays (F.view files.old) (F.view files.new) }
     ensures front { result.code ≢ 0 → IsPlay words.now → (seed : ℕ) → seed_of words.now ≡ Some seed →
         Fronts (F.view files.old) (F.view files.new) (names_of words.now) seed }
     ensures nothing { IsTrue (F.view files.old).tells →
