@@ -1,10 +1,14 @@
 -- What stands at a place, and the least over lenders.
 use Rattle.std.proofs.Common.{◌≡◌, ◌≤◌, ◌<◌, ◌+◌, ◌-◌, ◌∙◌, ◌⊎◌, inl, inr, ℕ, zero, suc, Bool, true, false, List, [], ◌∷◌, None, Some, length, get_or, min, refl, ap, sym, subst, arith}
 use Rattle.std.specs.declared.option.Option.{Option}
+use Rattle.std.specs.Prelude.{int_lt, nat_le, pos, if◌then◌else◌}
 use Rattle.std.proofs.lemmas.Bool.{cases_lt}
+use Rattle.altq_model.specs.Link.{Link, end_of}
+use Rattle.cbq_estimator.specs.Estimate.{Estimate}
+use Rattle.cbq_estimator.specs.Now.{wanted_now}
 use Rattle.cbq_model.specs.declared.CbqClass.{CbqClass}
-use Rattle.cbq_model.specs.Tree.{class_of, lender_of, lenders_up, no_class}
-use Rattle.cbq_rounds.specs.Shared.{IsTree, least_with}
+use Rattle.cbq_model.specs.Tree.{class_of, is_root, lender_of, lenders_up, no_class}
+use Rattle.cbq_rounds.specs.Shared.{IsTree, least_with, no_estimate, own_now}
 
 pub at_any : {X : Type 0} (xs : List X) (i : ℕ) (d e : X) → i < length xs → get_or xs i d ≡ get_or xs i e
 at_any [] i d e l = absurd (omega arith)
@@ -49,3 +53,27 @@ no_lender_by f t (suc n) cs = refl
 
 pub no_lender : (f : ℕ → ℕ) (t levels : ℕ) (cs : List CbqClass) (o : Option ℕ) → o ≡ None → least_with f t (lenders_up levels cs o) ≡ t
 no_lender f t levels cs o e = ap (λ (p : Option ℕ). least_with f t (lenders_up levels cs p)) e ∙ no_lender_by f t levels cs
+
+-- no class is allowed before the moment from which on it is asked for
+no_sooner : (a b c : Bool) (t u : ℕ) → t ≤ u → t ≤ (if a then t else if b then t else if c then t else u)
+no_sooner true b c t u l = omega arith
+no_sooner false true c t u l = omega arith
+no_sooner false false true t u l = omega arith
+no_sooner false false false t u l = l
+
+pub own_from : (cs : List CbqClass) (es : List Estimate) (rate : ℕ) (l : Link) (t len c : ℕ) → t ≤ own_now cs es rate l t len c
+own_from cs es rate l t len c =
+    let e : Estimate = get_or es c no_estimate in
+    let short : ℕ = wanted_now e len - end_of rate l (t + 1) len in
+    no_sooner (is_root cs c) (int_lt (pos 0) e.average) (nat_le (wanted_now e len) (end_of rate l t len)) t (t + 1 + short) (omega arith)
+
+-- so a moment that is that one is the least
+pub least_is_now : (f : ℕ → ℕ) (t : ℕ) (ps : List ℕ) → ((c : ℕ) → t ≤ f c) → least_with f t ps ≡ t
+least_is_now f t [] from = refl
+least_is_now f t (p ∷ ps) from =
+    let same : min t (f p) ≡ t = omega (arith, from p) in
+    ap (λ (n : ℕ). least_with f n ps) same ∙ least_is_now f t ps from
+
+pub least_from : (f : ℕ → ℕ) (t u : ℕ) (ps : List ℕ) → ((c : ℕ) → t ≤ f c) → t ≤ u → t ≤ least_with f u ps
+least_from f t u [] from l = l
+least_from f t u (p ∷ ps) from l = least_from f t (min u (f p)) ps from (omega (arith, from p, l))

@@ -64,7 +64,8 @@ impl Shares {
         if k.borrow { k.parent } else { None }
     }
 
-    // The least of a moment and of those of a class that may lend and of the lenders above it, over at most `levels` levels.
+    // The least of a moment and of those of a class that may lend and of the lenders above it, over at most `levels` levels. None is before
+    // `now`, so no further lender is asked once the moment is `now`.
     fn least_start(
         &self,
         levels: u32,
@@ -82,6 +83,9 @@ impl Shares {
         ensures { result ≡ least_with (own_now self.now.tree self.now.estimates clock.now.rate clock.now.link now len) start
             (lenders_up levels self.now.tree lender) }
     {
+        if start == now {
+            return start;
+        }
         let Some(class) = lender else {
             return start;
         };
@@ -94,7 +98,8 @@ impl Shares {
     }
 
     /// The least moment from `now` on, no earlier than the last end and before 2^63, at which a class may send a packet of `len` bytes, of
-    /// itself or by a loan. It looks at the class and at those above it that may lend.
+    /// itself or by a loan. It looks at the class and, until one may start at `now`, at those above it that
+    /// may lend.
     pub fn start_of(&self, class: u32, len: u32, now: u64, clock: &LinkClock) -> u64
         requires class { class < length self.now.tree }
         requires free { clock.now.link.free ≤ now }
