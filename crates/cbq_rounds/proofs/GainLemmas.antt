@@ -261,10 +261,16 @@ module _ (d : Shared) (lists : ℕ → List Entry) (clock : Clock) (x : Sending)
       ∙ ne_eqb (start_now_in d d.rate clock.link i x.start len) x.start (λ e. other (is ∙ e)) in
       gains_nothing i (not_able i late)
 
-  pub other_gains_nothing : (i len start mine theirs : ℕ) (now : Shared) → IsLookedAt i len start now → mine ≡ (class_of now.tree i).priority
-      → theirs ≡ priority x.class
+  -- a sending whose gains have come to a class
+  pub record IsUnderWay (i : ℕ) (now : Shared) : Type 0 where
+    pub gone : HasGained d lists clock x i now
+    pub free : clock.link.free ≤ x.start
+    pub rate : clock.rate ≡ d.rate
+    pub due : due_in d lists clock x.start ≡ Send x.ticket x.class x.len x.rule
+
+  pub other_gains_nothing : (i mine theirs : ℕ) (now : Shared) → IsUnderWay i now → mine ≡ (class_of now.tree i).priority → theirs ≡ priority x.class
       → (mine ≡ theirs → ⊥) → gained_by d lists clock x i ≡ get_or d.credits i 0
-  other_gains_nothing i len start mine theirs now q m t other =
+  other_gains_nothing i mine theirs now q m t other =
       let y = sends_picked d lists clock x.start x.class x.len x.ticket x.rule q.free q.rate q.due in
       let is : mine ≡ priority i = m ∙ ap (λ (k : Shared). (class_of k.tree i).priority) q.gone.same in
       gains_nothing i (other_priority i (λ e. other (is ∙ e ∙ ap priority y.of_class ∙ sym t)))
@@ -282,3 +288,21 @@ module _ (d : Shared) (lists : ℕ → List Entry) (clock : Clock) (x : Sending)
   gained_on i len r now after g q all e f =
       let P : Shared → Type 0 = λ k. HasGained d lists clock x (i + 1) k in
       subst P (sym f) (gain_more i (get_or now.credits i 0 + r * quantum_of now.rate (class_of now.tree i)) now g q.place all (gain_is i len r now g q e))
+
+  -- where the class sent needs no round, nobody gains
+  no_rounds : (b : Bool) (c : ℕ) → n ≡ 0 → get_or d.credits c 0 ≡ gain_if b c
+  no_rounds true c e =
+      let none : get_or d.credits c 0 + 0 * quantum_of d.rate (class_of d.tree c) ≡ get_or d.credits c 0 = omega arith in
+      sym (ap (λ (k : ℕ). get_or d.credits c 0 + k * quantum_of d.rate (class_of d.tree c)) e ∙ none)
+  no_rounds false c e = refl
+
+  pub no_gains : (r : ℕ) → r ≡ rounds_for (get_or d.credits x.class 0) (quantum_of d.rate (class_of d.tree x.class)) x.len → r ≡ 0
+      → length d.credits ≡ length d.tree → d ≡ with_gains d lists clock x
+  no_gains r e none all =
+      let needed : n ≡ 0 = sym e ∙ none in
+      gain_all_is (length d.tree) d (record {
+        same = refl;
+        count = refl;
+        done = λ c l h. no_rounds (list_any (λ k. eqb k c) ready) c needed;
+        rest = λ c l. refl;
+      }) (omega arith) all

@@ -1,21 +1,22 @@
 -- One class more that was looked at.
-use Rattle.std.proofs.Common.{◌≡◌, ◌≤◌, ◌<◌, ◌+◌, ◌∙◌, inl, inr, ℕ, zero, suc, Bool, true, false, List, [], ◌∷◌, None, Some, length, get_or, drop, min, refl, ap, sym, subst, arith, eqb}
+use Rattle.std.proofs.Common.{◌≡◌, ◌≤◌, ◌<◌, ◌+◌, ◌∙◌, ℕ, zero, suc, Bool, true, false, List, [], ◌∷◌, None, Some, length, get_or, drop, min, refl, ap, sym, subst, arith, eqb}
 use Rattle.std.specs.declared.option.Option.{Option}
 use Rattle.std.specs.Prelude.{cond, nat_lt, slice_get, option_map, unwrap_or, if◌then◌else◌}
 use Rattle.std.specs.List.{filter}
 use Rattle.std.proofs.lemmas.Bool.{eq-eqb, ne_eqb}
+use Rattle.std.proofs.lemmas.Bool.Decides.{nat_tests}
 use Rattle.altq_model.specs.Link.{Link}
 use Rattle.altq_model.specs.Play.{lesser}
 use Rattle.cbq_model.specs.declared.CbqClass.{CbqClass}
 use Rattle.cbq_model.specs.declared.Rank.{Rank}
-use Rattle.cbq_model.specs.Choice.{Situation, able, best, better, may, rank_in, rounds_for}
+use Rattle.cbq_model.specs.Choice.{Situation, able, best, better, goes_before, may, rank_in, rounds_for}
 use Rattle.cbq_model.specs.Tree.{class_of, each_from, quantum_of}
 use Rattle.leaf_queue.specs.declared.node.Entry.{Entry}
 use Rattle.link_clock.specs.Clock.{Clock}
 use Rattle.cbq_rounds.specs.Due.{first_in, first_of, start_in}
-use Rattle.cbq_rounds.specs.Looked.{AreSized, HasLooked}
+use Rattle.cbq_rounds.specs.Looked.{AreFrom, AreSized, HasLooked, is_behind}
 use Rattle.cbq_rounds.specs.Shared.{Shared, head_len, situation_in, start_now_in}
-use Rattle.cbq_rounds.proofs.Moments.{head_seen, may_not, may_where}
+use Rattle.cbq_rounds.proofs.Moments.{head_seen, may_not, may_where, start_is}
 
 -- the classes from one on are that one and those from the next on
 drop_here : (cs : List CbqClass) (i : ℕ) → i < length cs → drop i cs ≡ class_of cs i ∷ drop (i + 1) cs
@@ -89,6 +90,11 @@ pub record Waiting (d : Shared) (lists : ℕ → List Entry) (clock : Clock) (no
   pub rate : clock.rate ≡ d.rate
   pub head : head_len (lists i) ≡ Some len
   pub start_is : start ≡ start_now_in d clock.rate clock.link i now len
+
+waits_from : (d : Shared) (lists : ℕ → List Entry) (clock : Clock) (now i len start : ℕ) → Waiting d lists clock now i len start → now ≤ start
+waits_from d lists clock now i len start w =
+    let low = (start_is d lists clock.rate clock.link i now len w.free).from in
+    omega (arith, low, w.start_is)
 
 waiting_may : (d : Shared) (lists : ℕ → List Entry) (clock : Clock) (now i len start : ℕ) → Waiting d lists clock now i len start
     → may d.tree d.rate (situation_in d lists clock.link) i now ≡ eqb start now
@@ -174,3 +180,78 @@ looked_all d lists clock now i at found x l =
       sym (lesser_none at) ∙ ap (λ (cs : List CbqClass). lesser at (first_of (each_from f i cs))) (sym none) ∙ x.till,
       ap (λ (cs : List CbqClass). best d.tree d.rate s found (filter (λ c. may d.tree d.rate s c now) (each_from (λ c k. c) i cs))) (sym none) ∙ x.best,
     )
+
+-- no moment that was found is before now
+lesser_from : (now start : ℕ) (at : Option ℕ) → ((t : ℕ) → at ≡ Some t → now ≤ t) → now ≤ start → (u : ℕ) → lesser at (Some start) ≡ Some u → now ≤ u
+lesser_from now start None from l u e = let same : start ≡ u = cc in omega (arith, l, same)
+lesser_from now start (Some t) from l u e =
+    let same : min t start ≡ u = cc in
+    let low : now ≤ t = from t refl in
+    omega (arith, l, low, same)
+
+lesser_now : (now : ℕ) (at : Option ℕ) → ((t : ℕ) → at ≡ Some t → now ≤ t) → lesser at (Some now) ≡ Some now
+lesser_now now None from = refl
+lesser_now now (Some t) from =
+    let low : now ≤ t = from t refl in
+    let same : min t now ≡ now = omega (arith, low) in
+    ap (λ (n : ℕ). Some n) same
+
+lesser_kept : (now start : ℕ) → now ≤ start → lesser (Some now) (Some start) ≡ Some now
+lesser_kept now start l = let same : min now start ≡ now = omega (arith, l) in ap (λ (n : ℕ). Some n) same
+
+pub from_now : (now start : ℕ) (at after : Option ℕ) (found found_after : Option Rank) → AreFrom now at found → start ≡ now
+    → after ≡ lesser at (Some start) → AreFrom now after found_after
+from_now now start at after found found_after x same e =
+    let is : after ≡ Some now = e ∙ ap (λ (n : ℕ). lesser at (Some n)) same ∙ lesser_now now at x.from in
+    record { from = λ t f. let one : now ≡ t = cc in omega (arith, one); first = λ r f. is }
+
+pub from_later : (d : Shared) (lists : ℕ → List Entry) (clock : Clock) (now i len start : ℕ) (at after : Option ℕ) (found found_after : Option Rank)
+    → AreFrom now at found → Waiting d lists clock now i len start → after ≡ lesser at (Some start) → found_after ≡ found
+    → AreFrom now after found_after
+from_later d lists clock now i len start at after found found_after x w e f =
+    let low : now ≤ start = waits_from d lists clock now i len start w in
+    record {
+      from = λ t a. lesser_from now start at x.from low t (sym e ∙ a);
+      first = λ r a. e ∙ ap (λ (o : Option ℕ). lesser o (Some start)) (x.first r (sym f ∙ a)) ∙ lesser_kept now start low;
+    }
+
+pub from_same : (now : ℕ) (at after : Option ℕ) (found found_after : Option Rank) → AreFrom now at found → after ≡ at → found_after ≡ found
+    → AreFrom now after found_after
+from_same now at after found found_after x e f = record { from = λ t a. x.from t (sym e ∙ a); first = λ r a. e ∙ x.first r (sym f ∙ a) }
+
+-- a class of lesser priority goes before none, and may send no sooner than now
+better_kept : (k r : Rank) → nat_lt r.priority k.priority ≡ true → better (Some k) r ≡ Some k
+better_kept k r e =
+    let after : goes_before r k ≡ false = grind (arith, nat_tests) in
+    ap (λ (b : Bool). if b then Some r else Some k) after
+
+kept_either : (k r : Rank) (b : Bool) → nat_lt r.priority k.priority ≡ true → (if b then better (Some k) r else Some k) ≡ Some k
+kept_either k r true e = better_kept k r e
+kept_either k r false e = refl
+
+behind_some : (d : Shared) (lists : ℕ → List Entry) (clock : Clock) (now i len : ℕ) (at : Option ℕ) (k : Rank)
+    → HasLooked d lists clock now i at (Some k) → at ≡ Some now → nat_lt (class_of d.tree i).priority k.priority ≡ true
+    → Waiting d lists clock now i len (start_now_in d clock.rate clock.link i now len) → HasLooked d lists clock now (i + 1) at (Some k)
+behind_some d lists clock now i len at k x first e w =
+    let start : ℕ = start_now_in d clock.rate clock.link i now len in
+    let r : Rank = rank_in d.tree d.rate (situation_in d lists clock.link) i in
+    let b : Bool = eqb start now in
+    let P : Option ℕ → Type 0 = λ o. HasLooked d lists clock now (i + 1) o (Some k) in
+    let R : Option Rank → Type 0 = λ o. HasLooked d lists clock now (i + 1) (lesser at (Some start)) o in
+    let same : lesser at (Some start) ≡ at =
+    ap (λ (o : Option ℕ). lesser o (Some start)) first ∙ lesser_kept now start (waits_from d lists clock now i len start w) ∙ sym first in
+    subst P same (subst R (kept_either k r b e) (looked_some d lists clock now i len start at (Some k) b refl x w))
+
+behind_by : (d : Shared) (lists : ℕ → List Entry) (clock : Clock) (now i : ℕ) (at : Option ℕ) (k : Rank) (o : Option ℕ)
+    → HasLooked d lists clock now i at (Some k) → at ≡ Some now → nat_lt (class_of d.tree i).priority k.priority ≡ true
+    → i < length d.tree → clock.link.free ≤ now → clock.rate ≡ d.rate → head_len (lists i) ≡ o → HasLooked d lists clock now (i + 1) at (Some k)
+behind_by d lists clock now i at k None x first e l free rate head = looked_none d lists clock now i at (Some k) x l head
+behind_by d lists clock now i at k (Some len) x first e l free rate head =
+    behind_some d lists clock now i len at k x first e (record { place = l; free = free; rate = rate; head = head; start_is = refl })
+
+pub looked_behind : (d : Shared) (lists : ℕ → List Entry) (clock : Clock) (now i : ℕ) (at : Option ℕ) (found : Option Rank)
+    → HasLooked d lists clock now i at found × AreFrom now at found → is_behind found (class_of d.tree i).priority ≡ true
+    → i < length d.tree → clock.link.free ≤ now → clock.rate ≡ d.rate → HasLooked d lists clock now (i + 1) at found
+looked_behind d lists clock now i at None x e l free rate = absurd (cc)
+looked_behind d lists clock now i at (Some k) x e l free rate =
+    behind_by d lists clock now i at k (head_len (lists i)) x.0 (x.1.first k refl) e l free rate refl

@@ -1,5 +1,5 @@
 -- What stands at a place, and the least over lenders.
-use Rattle.std.proofs.Common.{◌≡◌, ◌≤◌, ◌<◌, ◌+◌, ◌-◌, ◌∙◌, ◌⊎◌, inl, inr, ℕ, zero, suc, Bool, true, false, List, [], ◌∷◌, None, Some, length, get_or, min, refl, ap, sym, subst, arith}
+use Rattle.std.proofs.Common.{◌≡◌, ◌≤◌, ◌<◌, ◌+◌, ◌-◌, ◌∙◌, inl, inr, ℕ, zero, suc, Bool, true, false, List, [], ◌∷◌, None, Some, length, get_or, min, refl, ap, sym, arith}
 use Rattle.std.specs.declared.option.Option.{Option}
 use Rattle.std.specs.Prelude.{int_lt, nat_le, pos, if◌then◌else◌}
 use Rattle.std.proofs.lemmas.Bool.{cases_lt}
@@ -73,7 +73,3 @@ least_is_now f t [] from = refl
 least_is_now f t (p ∷ ps) from =
     let same : min t (f p) ≡ t = omega (arith, from p) in
     ap (λ (n : ℕ). least_with f n ps) same ∙ least_is_now f t ps from
-
-pub least_from : (f : ℕ → ℕ) (t u : ℕ) (ps : List ℕ) → ((c : ℕ) → t ≤ f c) → t ≤ u → t ≤ least_with f u ps
-least_from f t u [] from l = l
-least_from f t u (p ∷ ps) from l = least_from f t (min u (f p)) ps from (omega (arith, from p, l))

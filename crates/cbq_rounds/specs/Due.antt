@@ -1,5 +1,5 @@
 -- What is due at a moment, by what CBQ keeps.
-use Rattle.std.specs.Prelude.{◌≡◌, ◌==◌, ℕ, List, [], ◌∷◌, Option, None, Some, option_map, slice_get, if◌then◌else◌}
+use Rattle.std.specs.Prelude.{◌==◌, ℕ, List, [], ◌∷◌, Option, None, Some, option_map, if◌then◌else◌}
 use Rattle.altq_model.specs.Play.{Choice, lesser}
 use Rattle.cbq_model.specs.Choice.{choice_of}
 use Rattle.cbq_model.specs.Tree.{each}

@@ -1,5 +1,5 @@
 -- What a look at the first classes has found.
-use Rattle.std.specs.Prelude.{◌≡◌, ◌≤◌, ℕ, List, [], ◌∷◌, Option, None, drop}
+use Rattle.std.specs.Prelude.{◌≡◌, ◌≤◌, ℕ, nat_lt, Bool, false, List, [], ◌∷◌, Option, None, Some, drop}
 use Rattle.std.specs.List.{filter}
 use Rattle.altq_model.specs.Play.{lesser}
 use Rattle.cbq_model.specs.declared.Rank.{Rank}
@@ -15,9 +15,19 @@ abbrev pub AreSized : List Entry → Type 0
 AreSized [] = Unit {0}
 AreSized (x ∷ xs) = (1 ≤ x.len) × (x.len ≤ 262144) × AreSized xs
 
+-- a class of this priority comes after the first so far
+abbrev pub is_behind : Option Rank → (priority : ℕ) → Bool
+is_behind None p = false
+is_behind (Some b) p = nat_lt p b.priority
+
 -- the first moment and the first class of the classes from one on, with what the earlier ones gave, are those of all
 pub record HasLooked (d : Shared) (lists : ℕ → List Entry) (clock : Clock) (now class : ℕ) (at : Option ℕ) (found : Option Rank) : Type 0 where
   pub till : lesser at (first_of (each_from (λ c k. start_in d lists clock now c) class (drop class d.tree))) ≡ first_in d lists clock now
   pub best : best d.tree d.rate (situation_in d lists clock.link) found
       (filter (λ c. may d.tree d.rate (situation_in d lists clock.link) c now) (each_from (λ c k. c) class (drop class d.tree)))
       ≡ best d.tree d.rate (situation_in d lists clock.link) None (able d.tree d.rate (situation_in d lists clock.link) now)
+
+-- no moment before now was found, and where a class was found that may send, now is the first
+pub record AreFrom (now : ℕ) (at : Option ℕ) (found : Option Rank) : Type 0 where
+  pub from : (t : ℕ) → at ≡ Some t → now ≤ t
+  pub first : (r : Rank) → found ≡ Some r → at ≡ Some now

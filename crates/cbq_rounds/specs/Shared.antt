@@ -1,5 +1,5 @@
 -- What CBQ keeps of its classes beside their queues, and what a choice looks at of it.
-use Rattle.std.specs.Prelude.{◌≡◌, ◌≤◌, ◌<◌, ◌^◌, ◌+◌, ℕ, min, is_none, List, [], ◌∷◌, length, get_or, Option, None, Some, option_map, slice_get, unwrap_or, if◌then◌else◌}
+use Rattle.std.specs.Prelude.{◌≡◌, ◌≤◌, ◌<◌, ◌^◌, ℕ, min, List, [], ◌∷◌, length, get_or, Option, Some, option_map, slice_get, unwrap_or, if◌then◌else◌}
 use Rattle.altq_model.specs.Link.{Link}
 use Rattle.cbq_estimator.specs.Estimate.{Estimate}
 use Rattle.cbq_estimator.specs.Now.{estimate_of, start_now}

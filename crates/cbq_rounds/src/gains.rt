@@ -13,7 +13,7 @@ use leaf_queue::QueueRule;
 use link_clock::LinkClock;
 
 /// Gives each candidate of a sending, which is the one due at its start, its quantum in each of the rounds that the class sent needed.
-/// It looks at each class that waits once, and at its way to the root as far as it may borrow.
+/// If it needed any, it looks once at each class of its priority that waits, and at that one's way to the root as far as it may borrow.
 pub fn gain_all<Q: QueueRule + Drop>(
     shares: &mut Shares,
     rows: &Rows<Q>,
@@ -32,11 +32,17 @@ pub fn gain_all<Q: QueueRule + Drop>(
     ensures { shares.new ≡ with_gains shares.old (list_in rows.now) clock.now sending.now }
 {
     let rounds = shares.rounds(sending.class, sending.len);
+    if rounds == 0 {
+        return;
+    }
     let priority = shares.priority(sending.class);
     for class in 0..rows.count() {
+        if shares.priority(class) != priority {
+            continue;
+        }
         if let Some(head) = rows.head(class) {
             let start = shares.start_of(class, head.len, sending.start, clock);
-            if start == sending.start && shares.priority(class) == priority {
+            if start == sending.start {
                 shares.gain(class, rounds, head.len);
             }
         }

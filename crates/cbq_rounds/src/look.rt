@@ -4,7 +4,7 @@ ghost use Rattle.altq_model.specs.Play.{lesser};
 ghost use Rattle.class_rows.specs.Rows.{list_in};
 ghost use Rattle.cbq_model.specs.Choice.{able, best, better};
 ghost use Rattle.cbq_rounds.specs.Due.{first_in};
-ghost use Rattle.cbq_rounds.specs.Looked.{AreSized};
+ghost use Rattle.cbq_rounds.specs.Looked.{AreSized, is_behind};
 ghost use Rattle.cbq_rounds.specs.Shared.{situation_in};
 
 use crate::sharing::Shares;
@@ -43,7 +43,19 @@ fn better(best: Option<Rank>, rank: Rank) -> Rank
     }
 }
 
-/// Looks at each class once, and at its way to the root as far as it may borrow.
+// Whether a class of this priority comes after the first so far, whatever it needs.
+fn is_behind(best: Option<Rank>, priority: u8) -> bool
+    ensures { result ≡ is_behind best priority }
+{
+    if let Some(b) = best {
+        priority < b.priority
+    } else {
+        false
+    }
+}
+
+/// Looks at each class once, and at its way to the root as far as it may borrow. Where a class may send now, those of lesser priority
+/// after it need no look: none may send sooner, and none goes before it.
 pub fn look<Q: QueueRule + Drop>(
     shares: &Shares,
     rows: &Rows<Q>,
@@ -63,6 +75,9 @@ pub fn look<Q: QueueRule + Drop>(
     let mut till = None;
     let mut best = None;
     for class in 0..rows.count() {
+        if is_behind(best, shares.priority(class)) {
+            continue;
+        }
         if let Some(head) = rows.head(class) {
             let start = shares.start_of(class, head.len, now, clock);
             till = Some(earlier(till, start));

@@ -5,10 +5,10 @@ use Rattle.leaf_queue.specs.declared.node.Entry.{Entry}
 use Rattle.class_rows.specs.Rows.{list_in}
 use Rattle.cbq_rounds.specs.Shared.{Shared, head_len}
 use Rattle.cbq_rounds.proofs.DueLemmas.{sends_picked}
-use Rattle.cbq_rounds.proofs.GainLemmas.{IsLookedAt, due_now, empty_gains_nothing, few_now, gain_all_is, gained_on, kept_on, later_gains_nothing, other_gains_nothing}
+use Rattle.cbq_rounds.proofs.GainLemmas.{due_now, empty_gains_nothing, few_now, gain_all_is, gain_kept, gained_on, kept_on, later_gains_nothing, no_gains, other_gains_nothing}
 use Rattle.cbq_rounds.proofs.LookLemmas.{first_sized, head_of}
 use Rattle.cbq_rounds.proofs.gains.gain_all.Goals as goal
-use Rattle.cbq_rounds.proofs.gains.gain_all.Goals.{in-Some+then-start-sending+then-priority, in-Some+else-start-sending, else-start-sending-via-then-start-sending+else-priority, else-start-sending-via-else-start-sending, in_default}
+use Rattle.cbq_rounds.proofs.gains.gain_all.Goals.{in-Some+then-start-sending, in-Some+else-start-sending, in_default}
 
 pub rounds-rounds-requires : goal.rounds-rounds-requires
 rounds-rounds-requires g c = record {
@@ -44,7 +44,7 @@ gain-requires-clause-few g c =
     let at = due_now d (list_in c.args.rows.now) c.args.clock.now c.args.sending.now i c.in-Some.head.len c.start_of-start.result c.priority.result c.priority-priority.result
     c.loop-class.shares
     (record { gone = c.loop-class.invariant; free = c.requires.free; rate = c.requires.rate; due = c.requires.due; place = place; head = head; start_is = c.start_of-start.ensures })
-    c.if-start-sending.true c.priority.ensures c.priority-priority.ensures c.if-priority.true in
+    c.if-start-sending.true c.priority.ensures c.priority-priority.ensures c.if-priority.false in
     few_now d (list_in c.args.rows.now) c.args.clock.now c.args.sending.now i c.in-Some.head.len c.rounds-rounds.result c.loop-class.shares c.loop-class.invariant at c.rounds-rounds.ensures
 
 pub loop-class-preserved : goal.loop-class-preserved
@@ -53,43 +53,45 @@ loop-class-preserved g c =
     let i : ℕ = c.loop-class.class in
     let place : i < length d.tree = omega (arith, c.loop-class-test.true, c.count-class-end.ensures, c.requires.count) in
     elim c.match-head.branch [
-      | in-Some+then-start-sending+then-priority w ↦
+      | in-Some+then-start-sending w ↦
           let head : head_len (list_in c.args.rows.now i) ≡ Some w.in-Some.head.len =
           head_of (list_in c.args.rows.now i) c.head.result c.head.ensures ∙ ap (λ (o : Option Entry). option_map (λ (x : Entry). x.len) o) w.in-Some.is in
-          let at = due_now d (list_in c.args.rows.now) c.args.clock.now c.args.sending.now i w.in-Some.head.len w.start_of-start.result w.priority.result c.priority-priority.result
+          let at = due_now d (list_in c.args.rows.now) c.args.clock.now c.args.sending.now i w.in-Some.head.len w.start_of-start.result c.priority.result c.priority-priority.result
           c.loop-class.shares
           (record { gone = c.loop-class.invariant; free = c.requires.free; rate = c.requires.rate; due = c.requires.due; place = place; head = head; start_is = w.start_of-start.ensures })
-          w.if-start-sending.true w.priority.ensures c.priority-priority.ensures w.if-priority.true in
+          w.if-start-sending.true c.priority.ensures c.priority-priority.ensures c.if-priority.false in
           gained_on d (list_in c.args.rows.now) c.args.clock.now c.args.sending.now i w.in-Some.head.len c.rounds-rounds.result c.loop-class.shares c.match-head.shares
           c.loop-class.invariant at c.requires.credits c.rounds-rounds.ensures (w.shares-is ∙ w.gain.ensures)
       | in-Some+else-start-sending w ↦
-          let head : head_len (list_in c.args.rows.now i) ≡ Some w.in-Some.head.len =
-          head_of (list_in c.args.rows.now i) c.head.result c.head.ensures ∙ ap (λ (o : Option Entry). option_map (λ (x : Entry). x.len) o) w.in-Some.is in
-          let at : IsLookedAt d (list_in c.args.rows.now) c.args.clock.now c.args.sending.now i w.in-Some.head.len w.start_of-start.result c.loop-class.shares = record {
+          kept_on d (list_in c.args.rows.now) c.args.clock.now c.args.sending.now i c.loop-class.shares c.match-head.shares c.loop-class.invariant
+          (later_gains_nothing d (list_in c.args.rows.now) c.args.clock.now c.args.sending.now i w.in-Some.head.len w.start_of-start.result c.loop-class.shares
+          (record {
             gone = c.loop-class.invariant;
             free = c.requires.free;
             rate = c.requires.rate;
             due = c.requires.due;
             place = place;
-            head = head;
+            head = head_of (list_in c.args.rows.now i) c.head.result c.head.ensures ∙ ap (λ (o : Option Entry). option_map (λ (x : Entry). x.len) o) w.in-Some.is;
             start_is = w.start_of-start.ensures;
-          } in
-          elim w.else-start-sending.branch [
-            | else-start-sending-via-then-start-sending+else-priority v ↦
-                kept_on d (list_in c.args.rows.now) c.args.clock.now c.args.sending.now i c.loop-class.shares c.match-head.shares c.loop-class.invariant
-                (other_gains_nothing d (list_in c.args.rows.now) c.args.clock.now c.args.sending.now i w.in-Some.head.len w.start_of-start.result v.priority.result
-                c.priority-priority.result c.loop-class.shares at v.priority.ensures c.priority-priority.ensures v.if-priority.false) w.shares-is
-            | else-start-sending-via-else-start-sending v ↦
-                kept_on d (list_in c.args.rows.now) c.args.clock.now c.args.sending.now i c.loop-class.shares c.match-head.shares c.loop-class.invariant
-                (later_gains_nothing d (list_in c.args.rows.now) c.args.clock.now c.args.sending.now i w.in-Some.head.len w.start_of-start.result c.loop-class.shares at v.if-start-sending.false)
-                w.shares-is
-          ]
+          })
+          w.if-start-sending.false) w.shares-is
       | in_default w ↦
-          let none : head_len (list_in c.args.rows.now i) ≡ None =
-          head_of (list_in c.args.rows.now i) c.head.result c.head.ensures ∙ ap (λ (o : Option Entry). option_map (λ (x : Entry). x.len) o) w.in_default.is in
           kept_on d (list_in c.args.rows.now) c.args.clock.now c.args.sending.now i c.loop-class.shares c.match-head.shares c.loop-class.invariant
-          (empty_gains_nothing d (list_in c.args.rows.now) c.args.clock.now c.args.sending.now i place none) w.shares-is
+          (empty_gains_nothing d (list_in c.args.rows.now) c.args.clock.now c.args.sending.now i place
+          (head_of (list_in c.args.rows.now i) c.head.result c.head.ensures ∙ ap (λ (o : Option Entry). option_map (λ (x : Entry). x.len) o) w.in_default.is)) w.shares-is
     ]
+
+pub loop-class-preserved-then-priority : goal.loop-class-preserved-then-priority
+loop-class-preserved-then-priority g c =
+    gain_kept c.args.shares.now (list_in c.args.rows.now) c.args.clock.now c.args.sending.now c.loop-class.class c.loop-class.shares c.loop-class.invariant
+    (other_gains_nothing c.args.shares.now (list_in c.args.rows.now) c.args.clock.now c.args.sending.now c.loop-class.class c.priority.result c.priority-priority.result
+    c.loop-class.shares (record { gone = c.loop-class.invariant; free = c.requires.free; rate = c.requires.rate; due = c.requires.due }) c.priority.ensures
+    c.priority-priority.ensures c.if-priority.true)
+
+pub returns-then-rounds-eq0 : goal.returns-then-rounds-eq0
+returns-then-rounds-eq0 g c =
+    no_gains c.args.shares.now (list_in c.args.rows.now) c.args.clock.now c.args.sending.now c.rounds-rounds.result c.rounds-rounds.ensures c.if-rounds-eq0.true
+    c.requires.credits
 
 pub returns : goal.returns
 returns g c =

@@ -1,4 +1,4 @@
-use Rattle.std.proofs.Common.{◌≡◌, ◌<◌, ◌-◌, ◌∙◌, ℕ, List, Some, ap, arith, min, sym}
+use Rattle.std.proofs.Common.{◌≡◌, ◌<◌, ◌-◌, ◌∙◌, ℕ, List, ap, arith, min, sym}
 use Rattle.std.specs.declared.option.Option.{Option}
 use Rattle.cbq_model.specs.Tree.{lenders_up}
 use Rattle.cbq_rounds.specs.Shared.{Shared, least_with, own_now}

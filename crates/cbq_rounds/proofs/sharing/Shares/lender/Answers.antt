@@ -1,5 +1,4 @@
-use Rattle.std.proofs.Common.{◌≡◌, ◌<◌, List, ap, arith, length, subst, sym}
-use Rattle.cbq_model.specs.declared.CbqClass.{CbqClass}
+use Rattle.std.proofs.Common.{◌≡◌, ap, arith, length}
 use Rattle.cbq_rounds.specs.Shared.{Shared}
 use Rattle.cbq_rounds.proofs.Places.{parent_below}
 use Rattle.cbq_rounds.proofs.sharing.Shares.lender.Goals as goal
