@@ -1,5 +1,5 @@
 -- What CBQ keeps of its classes beside their queues, and what a choice looks at of it.
-use Rattle.std.specs.Prelude.{◌≡◌, ◌≤◌, ◌<◌, ◌^◌, ℕ, min, List, [], ◌∷◌, length, get_or, Option, Some, option_map, slice_get, unwrap_or, if◌then◌else◌}
+use Rattle.std.specs.Prelude.{◌≡◌, ◌≤◌, ◌<◌, ◌^◌, ◌||◌, ℕ, pos, int_lt, Bool, min, List, [], ◌∷◌, length, get_or, Option, Some, option_map, slice_get, unwrap_or, if◌then◌else◌}
 use Rattle.altq_model.specs.Link.{Link}
 use Rattle.cbq_estimator.specs.Estimate.{Estimate}
 use Rattle.cbq_estimator.specs.Now.{estimate_of, start_now}
@@ -54,6 +54,10 @@ situation_in d lists link = record {
 -- the least moment from t on at which a class's own average allows a packet, of which the root is never held back
 abbrev pub own_now : List CbqClass → List Estimate → (rate : ℕ) → Link → (t len c : ℕ) → ℕ
 own_now cs es rate l t len c = if is_root cs c then t else start_now (get_or es c no_estimate) rate l t len
+
+-- a class holds back no packet at any moment: the root, or one whose average is above 0
+abbrev pub is_free : List CbqClass → List Estimate → (c : ℕ) → Bool
+is_free cs es c = is_root cs c || int_lt (pos 0) (get_or es c no_estimate).average
 
 -- the least of a moment and of those of some classes
 abbrev pub least_with : (ℕ → ℕ) → (t : ℕ) → List ℕ → ℕ

@@ -1,8 +1,9 @@
 // What CBQ keeps of its classes beside their queues.
 ghost use Rattle.std.specs.Prelude.{◌≡◌, ◌==◌, ◌≤◌, ◌<◌, ◌+◌, ◌^◌, ℕ, List, length, get_or, nat_lt};
+ghost use Rattle.std.specs.List.{list_any};
 ghost use Rattle.cbq_model.specs.Choice.{rounds_for};
 ghost use Rattle.cbq_model.specs.Tree.{class_of, lender_of, lenders_up, quantum_of};
-ghost use Rattle.cbq_rounds.specs.Shared.{IsShared, Shared, least_with, own_now, start_now_in};
+ghost use Rattle.cbq_rounds.specs.Shared.{IsShared, Shared, is_free, least_with, own_now, start_now_in};
 
 use cbq_estimator::Estimator;
 use cbq_model::{CbqClass, Rank};
@@ -64,6 +65,33 @@ impl Shares {
         if k.borrow { k.parent } else { None }
     }
 
+    // Whether a class holds back no packet, whatever its length and whenever it starts.
+    fn is_free(&self, class: u32) -> bool
+        requires class { class < length self.now.tree }
+        ensures { result ≡ is_free self.now.tree self.now.estimates class }
+    {
+        self.classes[class as usize].parent.is_none()
+            || self.estimators[class as usize].average() > 0
+    }
+
+    // Whether a class that may lend, or one of the lenders above it, over at most `levels` levels, holds back no packet.
+    fn has_free(&self, levels: u32, lender: Option<u32>) -> bool
+        requires lender { (p : ℕ) → lender ≡ Some p → p < length self.now.tree }
+        ensures { result ≡ list_any (is_free self.now.tree self.now.estimates) (lenders_up levels self.now.tree lender) }
+    {
+        let Some(class) = lender else {
+            return false;
+        };
+        if levels == 0 {
+            return false;
+        }
+        if self.is_free(class) {
+            return true;
+        }
+        let next = self.lender(class);
+        self.has_free(levels - 1, next)
+    }
+
     // The least of a moment and of those of a class that may lend and of the lenders above it, over at most `levels` levels. None is before
     // `now`, so no further lender is asked once the moment is `now`.
     fn least_start(
@@ -98,8 +126,8 @@ impl Shares {
     }
 
     /// The least moment from `now` on, no earlier than the last end and before 2^63, at which a class may send a packet of `len` bytes, of
-    /// itself or by a loan. It looks at the class and, until one may start at `now`, at those above it that
-    /// may lend.
+    /// itself or by a loan. It looks at the class and at those above it that may lend, and computes a moment
+    /// only where each of them holds packets back.
     pub fn start_of(&self, class: u32, len: u32, now: u64, clock: &LinkClock) -> u64
         requires class { class < length self.now.tree }
         requires free { clock.now.link.free ≤ now }
@@ -108,8 +136,11 @@ impl Shares {
         requires few_bytes { len ≤ 262144 }
         ensures { result ≡ start_now_in self.now clock.now.rate clock.now.link class now len }
     {
-        let own = self.own_start(class, len, now, clock);
         let lender = self.lender(class);
+        if self.is_free(class) || self.has_free(LEVELS, lender) {
+            return now;
+        }
+        let own = self.own_start(class, len, now, clock);
         self.least_start(LEVELS, lender, own, len, now, clock)
     }
 
