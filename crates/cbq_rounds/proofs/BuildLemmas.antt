@@ -10,7 +10,7 @@ use Rattle.discipline_laws.specs.Laws.{seen, seen_of}
 use Rattle.cbq_estimator.specs.Estimate.{Estimate}
 use Rattle.cbq_model.specs.declared.CbqClass.{CbqClass}
 use Rattle.cbq_model.specs.Rounds.{estimates}
-use Rattle.cbq_model.specs.Tree.{class_of, each, each_from, no_class, numbers}
+use Rattle.cbq_model.specs.Tree.{class_of, each, each_from, no_class, numbers, quantum_of}
 use Rattle.cbq_model.proofs.Lawful.{cbq_lawful, cbq_steady}
 use Rattle.cbq_rounds.specs.Fresh.{HasEarlierParents, IsClass, fresh, fresh_estimate}
 use Rattle.cbq_rounds.specs.Looked.{AreSized}
@@ -54,13 +54,14 @@ count_copies zero = refl
 count_copies (suc n) = let more = count_copies n in omega (arith, more)
 
 pub fresh_is_shared : (rate : ℕ) (cs : List CbqClass) → 1000 ≤ rate → rate ≤ 10 ^ 12 → length cs ≤ 256 → HasEarlierParents cs → All IsClass cs
-    → IsShared rate cs (map fresh_estimate cs) (replicate (length cs) 0) (replicate 8 0) 0
+    → IsShared rate cs (map fresh_estimate cs) (map (quantum_of rate) cs) (replicate (length cs) 0) (replicate 8 0) 0
 fresh_is_shared rate cs least most few parents classes = record {
   least_rate = least;
   most_rate = most;
   few = few;
   tree = record { earlier = parents; priorities = λ c. priority_bound cs c classes; rates = λ c. rate_bound cs c classes };
   estimate_each = count_map cs;
+  quantum_each = refl;
   credit_each = count_copies (length cs);
   cursor_each = refl;
   credit_bound = λ c. omega (arith, none_yet (length cs) c);
@@ -68,16 +69,18 @@ fresh_is_shared rate cs least most few parents classes = record {
 }
 
 -- the same of lists that are these
-pub is_shared : (rate : ℕ) (cs ks : List CbqClass) (es : List Estimate) (credits cursors : List ℕ) → 1000 ≤ rate → rate ≤ 10 ^ 12 → length cs ≤ 256
-    → HasEarlierParents cs
-    → All IsClass cs → ks ≡ cs → es ≡ map fresh_estimate cs → credits ≡ replicate (length cs) 0 → cursors ≡ replicate 8 0
-    → IsShared rate ks es credits cursors 0
-is_shared rate cs ks es credits cursors least most few parents classes k e c u =
-    let P1 : List CbqClass → Type 0 = λ x. IsShared rate x es credits cursors 0 in
-    let P2 : List Estimate → Type 0 = λ x. IsShared rate cs x credits cursors 0 in
-    let P3 : List ℕ → Type 0 = λ x. IsShared rate cs (map fresh_estimate cs) x cursors 0 in
-    let P4 : List ℕ → Type 0 = λ x. IsShared rate cs (map fresh_estimate cs) (replicate (length cs) 0) x 0 in
-    subst P1 (sym k) (subst P2 (sym e) (subst P3 (sym c) (subst P4 (sym u) (fresh_is_shared rate cs least most few parents classes))))
+pub is_shared : (rate : ℕ) (cs ks : List CbqClass) (es : List Estimate) (quanta credits cursors : List ℕ) → 1000 ≤ rate → rate ≤ 10 ^ 12
+    → length cs ≤ 256 → HasEarlierParents cs
+    → All IsClass cs → ks ≡ cs → es ≡ map fresh_estimate cs → quanta ≡ map (quantum_of rate) cs → credits ≡ replicate (length cs) 0
+    → cursors ≡ replicate 8 0
+    → IsShared rate ks es quanta credits cursors 0
+is_shared rate cs ks es quanta credits cursors least most few parents classes k e q c u =
+    let P1 : List CbqClass → Type 0 = λ x. IsShared rate x es quanta credits cursors 0 in
+    let P2 : List Estimate → Type 0 = λ x. IsShared rate cs x quanta credits cursors 0 in
+    let P3 : List ℕ → Type 0 = λ x. IsShared rate cs (map fresh_estimate cs) x credits cursors 0 in
+    let P4 : List ℕ → Type 0 = λ x. IsShared rate cs (map fresh_estimate cs) (map (quantum_of rate) cs) x cursors 0 in
+    let P5 : List ℕ → Type 0 = λ x. IsShared rate cs (map fresh_estimate cs) (map (quantum_of rate) cs) (replicate (length cs) 0) x 0 in
+    subst P1 (sym k) (subst P2 (sym e) (subst P3 (sym q) (subst P4 (sym c) (subst P5 (sym u) (fresh_is_shared rate cs least most few parents classes)))))
 
 hold_numbers : (b n : ℕ) (cs : List CbqClass) → n ≡ length cs → holding b (replicate n true) ≡ each_from (λ c k. c) b cs
 hold_numbers b zero [] e = refl

@@ -1,14 +1,16 @@
 -- What stands at a place, and the least over lenders.
-use Rattle.std.proofs.Common.{◌≡◌, ◌≤◌, ◌<◌, ◌+◌, ◌-◌, ◌∙◌, inl, inr, ℕ, zero, suc, Bool, true, false, List, [], ◌∷◌, None, Some, length, get_or, min, refl, ap, sym, arith}
+use Rattle.std.proofs.Common.{◌≡◌, ◌≤◌, ◌<◌, ◌+◌, ◌-◌, ◌*◌, ◌/◌, ◌^◌, ◌∙◌, inl, inr, ℕ, zero, suc, Bool, true, false, List, [], ◌∷◌, None, Some, length, get_or, map, min, refl, ap, sym, arith}
 use Rattle.std.specs.declared.option.Option.{Option}
 use Rattle.std.specs.Prelude.{◌||◌, int_lt, nat_le, pos, if◌then◌else◌}
 use Rattle.std.specs.List.{list_any}
+use Rattle.std.proofs.Math.Nat.{div-le_of_le-mul}
 use Rattle.std.proofs.lemmas.Bool.{cases_lt}
+use Rattle.std.proofs.lemmas.List.{get_or-map}
 use Rattle.altq_model.specs.Link.{Link, end_of}
 use Rattle.cbq_estimator.specs.Estimate.{Estimate}
 use Rattle.cbq_estimator.specs.Now.{wanted_now}
 use Rattle.cbq_model.specs.declared.CbqClass.{CbqClass}
-use Rattle.cbq_model.specs.Tree.{class_of, is_root, lender_of, lenders_up, no_class}
+use Rattle.cbq_model.specs.Tree.{class_of, is_root, lender_of, lenders_up, no_class, quantum_of}
 use Rattle.cbq_rounds.specs.Shared.{IsTree, is_free, least_with, no_estimate, own_now}
 
 pub at_any : {X : Type 0} (xs : List X) (i : ℕ) (d e : X) → i < length xs → get_or xs i d ≡ get_or xs i e
@@ -36,6 +38,20 @@ parent_below cs c p k t l e f =
     let same : k ≡ class_of cs c = e ∙ at_any cs c k no_class l in
     let parent : (class_of cs c).parent ≡ Some p = ap (λ (x : CbqClass). x.parent) (sym same) ∙ f in
     omega (arith, t.earlier c p parent)
+
+-- a class's quantum, as it is kept
+pub quantum_is : (rate : ℕ) (cs : List CbqClass) (qs : List ℕ) (c v : ℕ) → qs ≡ map (quantum_of rate) cs → c < length cs → v ≡ get_or qs c v
+    → v ≡ quantum_of rate (class_of cs c)
+quantum_is rate cs qs c v all l e = e ∙ ap (λ (ns : List ℕ). get_or ns c v) all ∙ get_or-map (quantum_of rate) cs c no_class v l
+
+pub some_quantum : (rate : ℕ) (k : CbqClass) → 1 ≤ quantum_of rate k
+some_quantum rate k = omega arith
+
+pub most_quantum : (rate : ℕ) (k : CbqClass) → 1000 ≤ rate → k.rate ≤ 10 ^ 12 → quantum_of rate k ≤ 2 ^ 41
+most_quantum rate k least most =
+    let room : 1500 * k.rate + (rate - 1) ≤ rate * 2 ^ 41 = omega arith in
+    let part : (1500 * k.rate + (rate - 1)) / rate ≤ 2 ^ 41 = div-le_of_le-mul rate room in
+    omega (arith, part)
 
 -- one lender more
 pub one_lender : (f : ℕ → ℕ) (t levels class : ℕ) (cs : List CbqClass) → 0 < levels

@@ -1,11 +1,11 @@
 -- What CBQ keeps of its classes beside their queues, and what a choice looks at of it.
-use Rattle.std.specs.Prelude.{◌≡◌, ◌≤◌, ◌<◌, ◌^◌, ◌||◌, ℕ, pos, int_lt, Bool, min, List, [], ◌∷◌, length, get_or, Option, Some, option_map, slice_get, unwrap_or, if◌then◌else◌}
+use Rattle.std.specs.Prelude.{◌≡◌, ◌≤◌, ◌<◌, ◌^◌, ◌||◌, ℕ, pos, int_lt, Bool, min, List, [], ◌∷◌, length, get_or, map, Option, Some, option_map, slice_get, unwrap_or, if◌then◌else◌}
 use Rattle.altq_model.specs.Link.{Link}
 use Rattle.cbq_estimator.specs.Estimate.{Estimate}
 use Rattle.cbq_estimator.specs.Now.{estimate_of, start_now}
 use Rattle.cbq_model.specs.declared.CbqClass.{CbqClass}
 use Rattle.cbq_model.specs.Choice.{Situation}
-use Rattle.cbq_model.specs.Tree.{class_of, each, is_root, lenders, no_class, pace_of}
+use Rattle.cbq_model.specs.Tree.{class_of, each, is_root, lenders, no_class, pace_of, quantum_of}
 use Rattle.leaf_queue.specs.declared.node.Entry.{Entry}
 
 -- the rate of the link, the classes, and of each its average and its credit; of each priority the class at which its ring begins; and the
@@ -27,12 +27,13 @@ pub record IsTree (cs : List CbqClass) : Type 0 where
   pub priorities : (c : ℕ) → (class_of cs c).priority ≤ 7
   pub rates : (c : ℕ) → (class_of cs c).rate ≤ 10 ^ 12
 
-pub record IsShared (rate : ℕ) (cs : List CbqClass) (estimates : List Estimate) (credits cursors : List ℕ) (ended : ℕ) : Type 0 where
+pub record IsShared (rate : ℕ) (cs : List CbqClass) (estimates : List Estimate) (quanta credits cursors : List ℕ) (ended : ℕ) : Type 0 where
   pub least_rate : 1000 ≤ rate
   pub most_rate : rate ≤ 10 ^ 12
   pub few : length cs ≤ 256
   pub tree : IsTree cs
   pub estimate_each : length estimates ≡ length cs
+  pub quantum_each : quanta ≡ map (quantum_of rate) cs
   pub credit_each : length credits ≡ length cs
   pub cursor_each : length cursors ≡ 8
   pub credit_bound : (c : ℕ) → get_or credits c 0 ≤ 2 ^ 42

@@ -13,12 +13,13 @@ use std::marker::Model;
 /// The most levels of a tree of classes.
 pub const LEVELS: u32 = 8;
 
-/// The rate of the link, the classes with their averages and credits, and the cursors of their rings.
+/// The rate of the link, the classes with their averages, quanta and credits, and the cursors of their rings.
 #[derive(Drop)]
 pub struct Shares {
     pub rate: u64,
     pub classes: Vec<CbqClass>,
     pub estimators: Vec<Estimator>,
+    pub quanta: Vec<u64>,
     pub credits: Vec<u64>,
     pub cursors: Vec<u32>,
     pub ended: u64,
@@ -36,7 +37,7 @@ impl Model for Shares {
       ended = s.ended;
     } };
 
-    ghost invariant = { λ s. IsShared s.rate s.classes.items s.estimators.items s.credits.items s.cursors.items s.ended };
+    ghost invariant = { λ s. IsShared s.rate s.classes.items s.estimators.items s.quanta.items s.credits.items s.cursors.items s.ended };
 }
 
 impl Shares {
@@ -163,8 +164,7 @@ impl Shares {
         ensures least { 1 ≤ result }
         ensures most { result ≤ 2 ^ 41 }
     {
-        let part = (1500 * self.classes[class as usize].rate + (self.rate - 1)) / self.rate;
-        part.max(1)
+        self.quanta[class as usize]
     }
 
     /// The priority of a class.
