@@ -18,5 +18,9 @@ returns-clause-most c =
     let place : c.args.class < length c.self.inside.classes.items = omega (arith, tree, c.requires.class) in
     let is : c.index.result.now ≡ quantum_of c.self.inside.rate (class_of c.self.inside.classes.items c.args.class) =
     quantum_is c.self.inside.rate c.self.inside.classes.items c.self.inside.quanta.items c.args.class c.index.result.now c.self.invariant.quantum_each place c.index.ensures in
-    omega (arith, is, most_quantum c.self.inside.rate (class_of c.self.inside.classes.items c.args.class) c.self.invariant.least_rate
-    (c.self.invariant.tree.rates c.args.class))
+    omega (
+      arith,
+      is,
+      most_quantum c.self.inside.rate (class_of c.self.inside.classes.items c.args.class) c.self.invariant.least_rate
+          (c.self.invariant.tree.rates c.args.class),
+    )
