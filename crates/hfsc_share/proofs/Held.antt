@@ -13,7 +13,7 @@ use Rattle.hfsc_share.specs.declared.group.Group.{Group}
 use Rattle.hfsc_share.specs.Lists.{IsReplaced, MayReplace}
 use Rattle.hfsc_share.specs.Curves.{IsBy}
 use Rattle.hfsc_share.specs.Node.{parent_in, active_in, time_in, opens_in, is_child_in, is_active_child, AreParentsFirst, AreLimitsBy}
-use Rattle.hfsc_share.specs.Group.{Ranks, IsHigh, GroupHolds, GroupsHold, IsChanged, MayChange, time_key}
+use Rattle.hfsc_share.specs.Group.{Ranks, IsHigh, GroupHolds, GroupsHold, IsChanged, MayChange, AreRanked, time_key}
 use Rattle.hfsc_share.proofs.Places.{get_here, get_other}
 
 -- one class is put into its place: its parent stays, and its virtual time does not fall
@@ -21,6 +21,15 @@ pub record IsPut (nodes : List Node) (class : ℕ) (x : Node) : Type 0 where
   pub within : class < length nodes
   pub parent : x.parent ≡ parent_in (slice_get nodes class)
   pub later : time_in (slice_get nodes class) ≤ x.time
+
+-- a class was taken in, and the moment from which it opens taken anew
+pub is_put : (nodes : List Node) (class : ℕ) (x y z : Node) → class < length nodes → slice_get nodes class ≡ Some x → y.parent ≡ x.parent → x.time ≤ y.time
+    → z.parent ≡ y.parent → z.time ≡ y.time → IsPut nodes class z
+is_put nodes class x y z low at parent later parent_same time_same = record {
+  within = low;
+  parent = parent_same ∙ parent ∙ sym (ap parent_in at);
+  later = let was = ap time_in at in omega arith;
+}
 
 -- by its number
 pub split : (P : ℕ → Type 0) (class c : ℕ) → P class → ((c ≡ class → ⊥) → P c) → P c
@@ -217,3 +226,15 @@ parent_within nodes groups class p low first holds of =
     let one = first class p of in
     let count = holds.count in
     omega arith
+
+-- all groups, where a class was put anew into the lists of its parent
+pub held_ranked : (nodes : List Node) (groups new : List Group) (class : ℕ) (x : Node) → IsPut nodes class x → AreParentsFirst nodes
+    → GroupsHold nodes groups → AreRanked class x groups new → GroupsHold (slice_set nodes class x) new
+held_ranked nodes groups new class x put first holds r = go x.parent refl
+  where
+    go : (o : Option ℕ) → x.parent ≡ o → GroupsHold (slice_set nodes class x) new
+    go None e = subst (λ (gs : List Group). GroupsHold (slice_set nodes class x) gs) (sym (r.none e)) (held_alone nodes groups class x put e holds)
+    go (Some p) e =
+        let s = r.some p e in
+        subst (λ (gs : List Group). GroupsHold (slice_set nodes class x) gs) (sym s.set)
+        (held_below nodes groups class x p s.old s.changed put e (parent_within nodes groups class p put.within first holds (sym put.parent ∙ e)) s.at holds s.change)

@@ -376,6 +376,16 @@ kept_more s cs h class at len stands waits = record {
 pub reopened_by : (below other : Option ℕ) (x y : Node) → below ≡ other → IsReopened below x y → IsReopened other x y
 reopened_by below other x y e r = subst (λ (o : Option ℕ). IsReopened o x y) e r
 
+pub awake_by : (at start other : ℕ) (x y : Node) → (x.active ≡ false → start ≡ other) → IsAwake at start x y → IsAwake at other x y
+awake_by at start other x y e a = record {
+  parent = a.parent;
+  later = a.later;
+  by = a.by;
+  active = a.active;
+  same = a.same;
+  begun = λ f. subst (λ n. IsActivated at n x y) (e f) (a.begun f);
+}
+
 pub served_by : (amount : ℕ) (b d : Bool) (x y : Node) → b ≡ d → IsServed amount b x y → IsServed amount d x y
 served_by amount b d x y e r = subst (λ (a : Bool). IsServed amount a x y) e r
 

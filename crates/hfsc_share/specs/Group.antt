@@ -1,5 +1,5 @@
 -- The children of a class in the order of their virtual times and in that of the moments from which they open.
-use Rattle.std.specs.Prelude.{◌≡◌, ◌≤◌, ◌<◌, ℕ, max, Bool, true, List, [], ◌∷◌, length, Option, Some, slice_get, slice_index_or}
+use Rattle.std.specs.Prelude.{◌≡◌, ◌≤◌, ◌<◌, ℕ, max, Bool, true, List, [], ◌∷◌, length, Option, None, Some, slice_get, slice_set, slice_index_or}
 use Rattle.std.specs.List.{find}
 use Rattle.ranking.specs.Order.{is_in, key_of}
 use Rattle.ranking.specs.Ranking.{keys_of, order_of}
@@ -84,3 +84,19 @@ first_moment g = first_key (keys_of g.moments) (order_of g.moments)
 -- the first child in the order of virtual times that is open at a moment
 abbrev pub first_open : ℕ → Group → Option ℕ
 first_open now g = find (λ c. has_come (key_of (keys_of g.moments) c) now) (order_of g.times)
+
+-- a class may be put anew into the lists of its parent, and is
+pub record MayRank (class : ℕ) (was : Bool) (x : Node) (groups : List Group) : Type 0 where
+  pub low : (p : ℕ) → x.parent ≡ Some p → p < length groups
+  pub may : (p : ℕ) (g : Group) → x.parent ≡ Some p → slice_get groups p ≡ Some g → MayChange class was g
+
+pub record AreRankedIn (p class : ℕ) (x : Node) (groups new : List Group) : Type 0 where
+  pub old : Group
+  pub changed : Group
+  pub at : slice_get groups p ≡ Some old
+  pub set : new ≡ slice_set groups p changed
+  pub change : IsChanged class x.active x.time x.opens old changed
+
+pub record AreRanked (class : ℕ) (x : Node) (groups new : List Group) : Type 0 where
+  pub none : x.parent ≡ None → new ≡ groups
+  pub some : (p : ℕ) → x.parent ≡ Some p → AreRankedIn p class x groups new

@@ -8,7 +8,7 @@
 //! Link-Sharing, Real-Time and Priority Services", SIGCOMM 1997; upper limits are those of altq.conf(5).
 #![tactic(auto)]
 
-ghost use Rattle.std.specs.Prelude.{◌≡◌, ◌==◌, ◌<◌, ◌≤◌, ◌^◌, ◌&&◌, ◌||◌, ◌∷◌, [], ℕ, not, List, Option, None, Some, All, Bool, true, false, length, slice_get, slice_set, IfOk};
+ghost use Rattle.std.specs.Prelude.{◌≡◌, ◌==◌, ◌<◌, ◌≤◌, ◌^◌, ◌&&◌, ◌||◌, ◌∷◌, [], ℕ, not, List, Option, None, Some, All, Bool, true, false, length, slice_get, IfOk};
 ghost use Rattle.play_base.specs.Units.{units};
 ghost use Rattle.ranking.specs.Order.{IsOrderOf, is_in};
 ghost use Rattle.hfsc_model.specs.declared.HfscClass.{HfscClass};
@@ -16,10 +16,9 @@ ghost use Rattle.hfsc_model.specs.Event.{HfscHistory, Kept, Sent};
 ghost use Rattle.hfsc_model.specs.Tree.{is_child, is_leaf};
 ghost use Rattle.hfsc_model.specs.Share.{active, virtual_time};
 ghost use Rattle.hfsc_model.specs.Limit.{share_pick};
-ghost use Rattle.hfsc_share.specs.Curves.{IsBy};
 ghost use Rattle.hfsc_share.specs.Classes.{AreClasses, AreSmall, IsClass, IsSoonest, waits_in};
-ghost use Rattle.hfsc_share.specs.Node.{AreNew, IsAwake, AreParentsFirst, AreLimitsBy, time_in};
-ghost use Rattle.hfsc_share.specs.Group.{AreEmpty, GroupsHold, ranked_in};
+ghost use Rattle.hfsc_share.specs.Node.{AreNew, AreParentsFirst, AreLimitsBy, time_in};
+ghost use Rattle.hfsc_share.specs.Group.{AreEmpty, AreRanked, GroupsHold, MayRank, ranked_in};
 ghost use Rattle.hfsc_share.specs.Walk.{IsLeafThat, IsStep, Walks, has_ranked, moment_of, start_among, start_below};
 
 use hfsc_model::HfscClass;
@@ -152,22 +151,27 @@ impl Shares {
         ensures woken { last_wake self.new ≡ last_wake self.old }
         ensures parent { result ≡ parent_at self.old class }
     {
-        let old = self.nodes[class as usize];
-        let node = self.awake(old).reopened(self.first_moment_below(class));
-        self.set(class, node);
-        old.parent()
+        let start = self.start_of(class);
+        let below = self.first_moment_below(class);
+        let node = &mut self.nodes[class as usize];
+        let was = node.is_active();
+        node.wake(self.woken, start);
+        node.reopen(below);
+        rank(&mut self.groups, class, was, node);
+        node.parent()
     }
 
-    /// The class, active: as it is, or from the last wake on.
-    fn awake(&self, node: Node) -> Node
-        requires parent { (p : ℕ) → node.parent ≡ Some p → p < classes_of self.now }
-        requires by { IsBy (last_wake self.now) node.limit }
-        ensures { IsAwake (last_wake self.now) (start_below self.now.nodes.items self.now.groups.items node.parent) node result }
+    /// The virtual time to take where a class becomes active; 0 where it is active.
+    fn start_of(&self, class: u32) -> u128
+        requires { class < classes_of self.now }
+        ensures { is_active_at self.now class ≡ false
+            → result ≡ start_below self.now.nodes.items self.now.groups.items (parent_at self.now class) }
     {
+        let node = &self.nodes[class as usize];
         if node.is_active() {
-            return node;
+            return 0;
         }
-        node.activated(self.woken, self.start_below(node.parent()))
+        self.start_below(node.parent())
     }
 
     /// Units were sent below a class: `waits` says that a packet waits in itself. Answers its parent.
@@ -183,12 +187,14 @@ impl Shares {
         ensures woken { last_wake self.new ≡ last_wake self.old }
         ensures parent { result ≡ parent_at self.old class }
     {
-        let old = self.nodes[class as usize];
-        let node = old
-            .served(amount, self.waits_below(class, waits))
-            .reopened(self.first_moment_below(class));
-        self.set(class, node);
-        old.parent()
+        let waits = self.waits_below(class, waits);
+        let below = self.first_moment_below(class);
+        let node = &mut self.nodes[class as usize];
+        let was = node.is_active();
+        node.serve(amount, waits);
+        node.reopen(below);
+        rank(&mut self.groups, class, was, node);
+        node.parent()
     }
 
     /// The virtual time to take among the children of a parent: the middle of the least and the greatest of those that are
@@ -277,27 +283,15 @@ impl Shares {
         }
         class
     }
+}
 
-    /// Puts a class into its place, and anew into the lists of its parent.
-    fn set(&mut self, class: u32, node: Node)
-        requires class { class < classes_of self.old }
-        requires parent { node.parent ≡ parent_at self.old class }
-        requires later { time_in (slice_get self.old.nodes.items class) ≤ node.time }
-        requires by { IsBy (last_wake self.old) node.limit }
-        ensures nodes { self.new.nodes.items ≡ slice_set self.old.nodes.items class node }
-        ensures woken { last_wake self.new ≡ last_wake self.old }
-    {
-        let was = self.nodes[class as usize].is_active();
-        self.nodes[class as usize] = node;
-        if let Some(parent) = node.parent() {
-            self.groups[parent as usize].replace(
-                class,
-                was,
-                node.is_active(),
-                node.time(),
-                node.opens(),
-            );
-        }
+/// Puts a class anew into the lists of its parent; `was` says whether it was active.
+fn rank(groups: &mut Vec<Group>, class: u32, was: bool, node: &Node)
+    requires { MayRank class was node.now groups.old.items }
+    ensures { AreRanked class node.now groups.old.items groups.new.items }
+{
+    if let Some(parent) = node.parent() {
+        groups[parent as usize].replace(class, was, node.is_active(), node.time(), node.opens());
     }
 }
 

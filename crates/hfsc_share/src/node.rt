@@ -41,7 +41,7 @@ pub struct Node {
 }
 
 impl Node {
-    ghost use Rattle.hfsc_share.specs.Node.{IsNewNode, IsActivated, IsServed, IsReopened};
+    ghost use Rattle.hfsc_share.specs.Node.{IsNewNode, IsActivated, IsAwake, IsServed, IsReopened};
 
     /// A class without a packet.
     pub fn new(class: &HfscClass) -> Node
@@ -59,38 +59,38 @@ impl Node {
         }
     }
 
-    /// The class becomes active with a packet that arrived at a moment, and takes a virtual time of at least `start`.
-    pub fn activated(self, at: u64, start: u128) -> Node
-        requires { IsBy at self.limit }
-        ensures { IsActivated at start self result }
+    /// A packet that arrived at a moment waits in the class or below it: the class is active, or becomes so with a virtual
+    /// time of at least `start`.
+    pub fn wake(&mut self, at: u64, start: u128)
+        requires { IsBy at self.old.limit }
+        ensures { IsAwake at start self.old self.new }
     {
-        let time = self.time.max(start).min(MOST_TIME);
-        Node {
-            parent: self.parent,
-            share: begun(self.share, time, self.total),
-            limit: begun(self.limit, u128::from(at), self.total),
-            total: self.total,
-            active: true,
-            time,
-            opens: self.opens,
+        if !self.active {
+            self.activate(at, start);
         }
     }
 
+    /// The class becomes active with a packet that arrived at a moment, and takes a virtual time of at least `start`.
+    fn activate(&mut self, at: u64, start: u128)
+        requires { IsBy at self.old.limit }
+        ensures { IsActivated at start self.old self.new }
+    {
+        let time = self.time.max(start).min(MOST_TIME);
+        begin(&mut self.share, time, self.total);
+        begin(&mut self.limit, u128::from(at), self.total);
+        self.active = true;
+        self.time = time;
+    }
+
     /// Units were sent in the class or below it, which stays active where a packet waits.
-    pub fn served(self, amount: u128, waits: bool) -> Node
+    pub fn serve(&mut self, amount: u128, waits: bool)
         requires { amount < 2 ^ 100 }
-        ensures { IsServed amount waits self result }
+        ensures { IsServed amount waits self.old self.new }
     {
         let total = (self.total + amount).min(MOST_UNITS);
-        Node {
-            parent: self.parent,
-            share: self.share,
-            limit: self.limit,
-            total,
-            active: self.active && waits,
-            time: self.time_at(total),
-            opens: self.opens,
-        }
+        self.time = self.time_at(total);
+        self.total = total;
+        self.active = self.active && waits;
     }
 
     /// The virtual time with a total that is not less.
@@ -104,7 +104,7 @@ impl Node {
         ensures grown { self.now.active ≡ true → self.now.total < total → (s : Curve) (os : List Opening) → RunningStands self.now.share (Some s) os
             → result ≡ min (max self.now.time (or_zero (deadline s os total))) (2 ^ 79) }
     {
-        match self.share {
+        match &self.share {
             Some(share) if self.active && self.total < total => {
                 let reached = share.deadline(total).unwrap_or(0);
                 self.time.max(reached).min(MOST_TIME)
@@ -113,24 +113,15 @@ impl Node {
         }
     }
 
-    /// The class with the moment from which its limit lets it be served, where that is later than the one below it.
-    pub fn reopened(self, below: Option<u128>) -> Node
-        ensures { IsReopened below self result }
+    /// The class opens from the moment from which its limit lets it be served, or from that below it where this is later.
+    pub fn reopen(&mut self, below: Option<u128>)
+        ensures { IsReopened below self.old self.new }
     {
-        let opens = if self.active {
-            later_of(limit_opens(self.limit, self.total), below)
+        self.opens = if self.active {
+            later_of(limit_opens(&self.limit, self.total), below)
         } else {
             None
         };
-        Node {
-            parent: self.parent,
-            share: self.share,
-            limit: self.limit,
-            total: self.total,
-            active: self.active,
-            time: self.time,
-            opens,
-        }
     }
 
     /// The parent.
@@ -185,29 +176,25 @@ fn running_of(curve: Option<Curve>) -> Option<Running>
     }
 }
 
-/// The curve with one opening more.
-fn begun(running: Option<Running>, at: u128, count: u128) -> Option<Running>
+/// Adds an opening, where there is a curve.
+fn begin(running: &mut Option<Running>, at: u128, count: u128)
     requires at { at < 2 ^ 80 }
     requires count { count < 2 ^ 100 }
-    requires later { ForSome (last_in running) (λ last. (last.at ≤ at) × (last.count ≤ count)) }
-    ensures stands { (o : Option Curve) (os : List Opening) → RunningStands running o os → RunningStands result o (opening at count ∷ os) }
-    ensures last { last_in result ≡ (if is_some running then Some (opening at count) else None) }
-    ensures curve { is_some result ≡ is_some running }
+    requires later { ForSome (last_in running.old) (λ last. (last.at ≤ at) × (last.count ≤ count)) }
+    ensures stands { (o : Option Curve) (os : List Opening) → RunningStands running.old o os → RunningStands running.new o (opening at count ∷ os) }
+    ensures last { last_in running.new ≡ (if is_some running.old then Some (opening at count) else None) }
+    ensures curve { is_some running.new ≡ is_some running.old }
 {
-    match running {
-        None => None,
-        Some(mut running) => {
-            running.begin(at, count);
-            Some(running)
-        }
+    if let Some(running) = running {
+        running.begin(at, count);
     }
 }
 
 /// The moment from which a limit lets a class of this total be served.
-fn limit_opens(limit: Option<Running>, total: u128) -> Option<u128>
+fn limit_opens(limit: &Option<Running>, total: u128) -> Option<u128>
     requires total { total < 2 ^ 100 }
-    requires opened { IsOpen true limit }
-    ensures { (o : Option Curve) (os : List Opening) → RunningStands limit o os → result ≡ limit_opens o os total }
+    requires opened { IsOpen true limit.now }
+    ensures { (o : Option Curve) (os : List Opening) → RunningStands limit.now o os → result ≡ limit_opens o os total }
 {
     match limit {
         None => Some(0),

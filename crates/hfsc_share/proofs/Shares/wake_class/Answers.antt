@@ -1,57 +1,74 @@
-use Rattle.std.proofs.Common.{true, ap, sym, arith, ◌∙◌}
-use Rattle.hfsc_share.specs.Node.{parent_in, time_in}
+use Rattle.std.proofs.Common.{true, refl, ap, sym, subst, ◌∙◌}
+use Rattle.std.specs.Prelude.{Option, slice_set}
+use Rattle.runtime_curve.specs.declared.Running.{Running}
+use Rattle.hfsc_share.specs.Curves.{IsBy}
+use Rattle.hfsc_share.specs.Node.{active_in, parent_in}
+use Rattle.hfsc_share.specs.Walk.{start_below}
 use Rattle.hfsc_share.proofs.Places.{get_read}
-use Rattle.hfsc_share.proofs.Steps.{stepped, set_active, wake_step, reopened_by}
+use Rattle.hfsc_share.proofs.Held.{held_ranked, is_put, limits_put, may_change, parent_within, parents_put}
+use Rattle.hfsc_share.proofs.Steps.{awake_by, stepped, set_active, wake_step, reopened_by}
 use Rattle.hfsc_share.proofs.Shares.wake_class.Goals as goal
 
-pub awake-requires-clause-parent : goal.awake-requires-clause-parent
-awake-requires-clause-parent c = λ p e.
-    let at = get_read c.args.self.now.nodes.items c.args.class c.index.result.now c.requires c.index.ensures in
-    let up = c.args.self.now.parents_first c.args.class p (ap parent_in at ∙ e) in
-    let low = c.requires in
-    omega arith
+pub wake-requires : goal.wake-requires
+wake-requires c =
+    c.args.self.now.limits_by c.args.class c.index_mut-node.result.now
+    (get_read c.args.self.now.nodes.items c.args.class c.index_mut-node.result.now c.requires c.index_mut-node.ensures.value)
 
-pub awake-requires-clause-by : goal.awake-requires-clause-by
-awake-requires-clause-by c =
-    c.args.self.now.limits_by c.args.class c.index.result.now (get_read c.args.self.now.nodes.items c.args.class c.index.result.now c.requires c.index.ensures)
+pub rank-requires : goal.rank-requires
+rank-requires c =
+    let at = get_read c.args.self.now.nodes.items c.args.class c.index_mut-node.result.now c.requires c.index_mut-node.ensures.value in
+    let put = is_put c.args.self.now.nodes.items c.args.class c.index_mut-node.result.now c.wake.new.self c.reopen.new.self c.requires at c.wake.ensures.parent c.wake.ensures.later c.reopen.ensures.parent c.reopen.ensures.time in
+    record {
+      low = λ p e. parent_within c.args.self.now.nodes.items c.args.self.now.groups.items c.args.class p c.requires c.args.self.now.parents_first c.args.self.now.groups_hold (sym put.parent ∙ e);
+      may = λ p g e held. may_change c.args.self.now.nodes.items c.args.class p g c.is_active-was.result (sym put.parent ∙ e) (ap active_in at ∙ sym c.is_active-was.ensures)
+          (c.args.self.now.groups_hold.each p g held);
+    }
 
-pub set-requires-clause-parent : goal.set-requires-clause-parent
-set-requires-clause-parent c =
-    c.reopened-node.ensures.parent ∙ c.awake.ensures.parent
-    ∙ sym (ap parent_in (get_read c.args.self.now.nodes.items c.args.class c.index.result.now c.requires c.index.ensures))
-
-pub set-requires-clause-later : goal.set-requires-clause-later
-set-requires-clause-later c =
-    let at = ap time_in (get_read c.args.self.now.nodes.items c.args.class c.index.result.now c.requires c.index.ensures) in
-    let one = c.reopened-node.ensures.time in
-    let two = c.awake.ensures.later in
-    omega arith
+pub invariant_of-self : goal.invariant_of-self
+invariant_of-self c =
+    let at = get_read c.args.self.now.nodes.items c.args.class c.index_mut-node.result.now c.requires c.index_mut-node.ensures.value in
+    let put = is_put c.args.self.now.nodes.items c.args.class c.index_mut-node.result.now c.wake.new.self c.reopen.new.self c.requires at c.wake.ensures.parent c.wake.ensures.later c.reopen.ensures.parent c.reopen.ensures.time in
+    record {
+      groups_hold = held_ranked c.args.self.now.nodes.items c.args.self.now.groups.items c.rank.new.groups.items c.args.class c.reopen.new.self put
+          c.args.self.now.parents_first c.args.self.now.groups_hold c.rank.ensures;
+      parents_first = parents_put c.args.self.now.nodes.items c.args.class c.reopen.new.self put c.args.self.now.parents_first;
+      limits_by = limits_put c.args.self.now.woken c.args.self.now.nodes.items c.args.class c.reopen.new.self put
+          (subst (λ (k : Option Running). IsBy c.args.self.now.woken k) (sym c.reopen.ensures.limit) c.wake.ensures.by)
+          c.args.self.now.limits_by;
+    }
 
 pub returns-clause-walks : goal.returns-clause-walks
-returns-clause-walks c = λ cs h leaf len l w.
-    wake_step cs h c.args.self.now.woken leaf len c.args.class c.args.self.now.nodes.items c.args.self.now.groups.items c.index.result.now c.awake.result c.reopened-node.result
-    c.parent.result c.set.new.self.nodes.items l w
+returns-clause-walks c =
+    let at = get_read c.args.self.now.nodes.items c.args.class c.index_mut-node.result.now c.requires c.index_mut-node.ensures.value in
+    λ cs h leaf len l w.
+    wake_step cs h c.args.self.now.woken leaf len c.args.class c.args.self.now.nodes.items c.args.self.now.groups.items
+    c.index_mut-node.result.now c.wake.new.self c.reopen.new.self c.parent.result
+    (slice_set c.args.self.now.nodes.items c.args.class c.reopen.new.self) l w
     (record {
       holds = c.args.self.now.groups_hold;
       within = c.requires;
-      at = get_read c.args.self.now.nodes.items c.args.class c.index.result.now c.requires c.index.ensures;
-      awake = c.awake.ensures;
-      reopened = reopened_by c.first_moment_below.result _ c.awake.result c.reopened-node.result c.first_moment_below.ensures c.reopened-node.ensures;
+      at = at;
+      awake = awake_by c.args.self.now.woken c.start_of-start.result _ c.index_mut-node.result.now c.wake.new.self
+          (λ a. c.start_of-start.ensures (ap active_in at ∙ a)
+          ∙ ap (start_below c.args.self.now.nodes.items c.args.self.now.groups.items) (ap parent_in at))
+          c.wake.ensures;
+      reopened = reopened_by c.first_moment_below-below.result _ c.wake.new.self c.reopen.new.self c.first_moment_below-below.ensures c.reopen.ensures;
     })
-    c.parent.ensures c.set.ensures.nodes
+    (c.parent.ensures ∙ c.reopen.ensures.parent ∙ c.wake.ensures.parent) refl
 
 pub returns-clause-step : goal.returns-clause-step
 returns-clause-step c =
-    stepped c.args.self.now.nodes.items c.set.new.self.nodes.items c.args.class c.reopened-node.result c.requires
-    (c.reopened-node.ensures.parent ∙ c.awake.ensures.parent
-    ∙ sym (ap parent_in (get_read c.args.self.now.nodes.items c.args.class c.index.result.now c.requires c.index.ensures)))
-    c.set.ensures.nodes
+    let at = get_read c.args.self.now.nodes.items c.args.class c.index_mut-node.result.now c.requires c.index_mut-node.ensures.value in
+    let put = is_put c.args.self.now.nodes.items c.args.class c.index_mut-node.result.now c.wake.new.self c.reopen.new.self c.requires at c.wake.ensures.parent c.wake.ensures.later c.reopen.ensures.parent c.reopen.ensures.time in
+    stepped c.args.self.now.nodes.items (slice_set c.args.self.now.nodes.items c.args.class c.reopen.new.self) c.args.class c.reopen.new.self c.requires put.parent refl
 
 pub returns-clause-active : goal.returns-clause-active
 returns-clause-active c =
-    set_active c.args.self.now.nodes.items c.set.new.self.nodes.items c.args.class c.reopened-node.result true c.requires c.set.ensures.nodes
-    (c.reopened-node.ensures.active ∙ c.awake.ensures.active)
+    set_active c.args.self.now.nodes.items (slice_set c.args.self.now.nodes.items c.args.class c.reopen.new.self) c.args.class c.reopen.new.self true c.requires refl
+    (c.reopen.ensures.active ∙ c.wake.ensures.active)
 
 pub returns-clause-parent : goal.returns-clause-parent
 returns-clause-parent c =
-    c.parent.ensures ∙ sym (ap parent_in (get_read c.args.self.now.nodes.items c.args.class c.index.result.now c.requires c.index.ensures))
+    let at = get_read c.args.self.now.nodes.items c.args.class c.index_mut-node.result.now c.requires c.index_mut-node.ensures.value in
+    let put = is_put c.args.self.now.nodes.items c.args.class c.index_mut-node.result.now c.wake.new.self c.reopen.new.self c.requires at c.wake.ensures.parent c.wake.ensures.later c.reopen.ensures.parent c.reopen.ensures.time in
+    c.parent.ensures ∙ put.parent
