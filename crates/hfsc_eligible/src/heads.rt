@@ -42,12 +42,16 @@ fn put_if(ranking: &mut Ranking, class: u32, is: bool, key: Option<u128>)
     }
 }
 
-/// Takes a class out where it was there, and puts it in with a key where it is to be there.
+/// Takes a class out where it was there, and puts it in with a key where it is to be there. One that stays with the key that
+/// it has is left where it stands.
 pub fn replace(ranking: &mut Ranking, class: u32, was: bool, is: bool, key: Option<u128>)
     requires class { class < length (keys_of ranking.old) }
     requires was { is_in class (order_of ranking.old) ≡ was }
     ensures { IsReplaced class is key ranking.old ranking.new }
 {
+    if was && is && ranking.key(class) == key {
+        return;
+    }
     take_if(ranking, class, was);
     put_if(ranking, class, is, key);
 }

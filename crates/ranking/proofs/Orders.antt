@@ -5,7 +5,7 @@ use Rattle.std.specs.Prelude.{Option, ◌==◌, cond, if◌then◌else◌}
 use Rattle.std.specs.List.{find}
 use Rattle.std.proofs.lemmas.Bool.Decides.{nat_tests}
 use Rattle.hfsc_model.specs.RealTime.{goes_first}
-use Rattle.ranking.specs.Order.{key_of, is_before, is_ranked, are_below, is_in, GoesBefore, AreInOrder, IsOrderOf}
+use Rattle.ranking.specs.Order.{key_of, is_ranked, are_below, is_in, GoesBefore, AreInOrder, IsOrderOf}
 use Rattle.ranking.specs.Search.{IsBeforeAll, IsRanked, AreBelow}
 use Rattle.ranking.proofs.Ranks.{ranked_true, below_true, same_test, in_more}
 

@@ -1,7 +1,7 @@
 //! The place of a class in a list in the order of the keys.
 ghost use Rattle.std.specs.Prelude.{◌≡◌, true};
-ghost use Rattle.hfsc_model.specs.RealTime.{is_earlier};
-ghost use Rattle.ranking.specs.Order.{is_ranked, is_before, key_of};
+ghost use Rattle.hfsc_model.specs.RealTime.{goes_first, is_earlier};
+ghost use Rattle.ranking.specs.Order.{is_ranked, key_of};
 ghost use Rattle.ranking.specs.Search.{IsFound};
 
 /// Whether the first moment is before the second, where `None` is never.
@@ -27,12 +27,10 @@ fn key_of(keys: &[Option<u128>], class: u32) -> Option<u128>
     }
 }
 
-/// Whether the first class goes before the second.
-fn is_before(keys: &[Option<u128>], one: u32, other: u32) -> bool
-    ensures { result ≡ is_before keys.now one other }
+/// Whether a class with the first key goes before one with the second.
+fn goes_first(a: Option<u128>, one: u32, b: Option<u128>, other: u32) -> bool
+    ensures { result ≡ goes_first a one b other }
 {
-    let a = key_of(keys, one);
-    let b = key_of(keys, other);
     if is_earlier(a, b) {
         return true;
     }
@@ -47,11 +45,13 @@ pub fn place_of(order: &[u32], keys: &[Option<u128>], class: u32) -> usize
     requires { is_ranked keys.now order.now ≡ true }
     ensures { IsFound keys.now order.now class result result }
 {
+    let key = key_of(keys, class);
     let mut low = 0;
     let mut high = order.len();
     while low < high {
         let middle = low + (high - low) / 2;
-        if is_before(keys, order[middle], class) {
+        let other = order[middle];
+        if goes_first(key_of(keys, other), other, key, class) {
             low = middle + 1;
         } else {
             high = middle;

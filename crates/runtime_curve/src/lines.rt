@@ -33,7 +33,7 @@ fn reached_at(curve: &Curve, opening: Opening, count: u128) -> Option<u128>
     }
 }
 
-/// The first moment up to which two openings allow a count.
+/// The first moment up to which two openings allow a count. They often are one, whose moment is found once.
 pub fn latest_of(curve: &Curve, one: Opening, other: Opening, count: u128) -> Option<u128>
     requires in_range { IsInRange curve.now }
     requires one { IsWithin one }
@@ -41,10 +41,11 @@ pub fn latest_of(curve: &Curve, one: Opening, other: Opening, count: u128) -> Op
     requires amount { count < 2 ^ 100 }
     ensures { result ≡ deadline curve.now (one ∷ other ∷ []) count }
 {
-    later_of(
-        reached_at(curve, one, count),
-        later_of(reached_at(curve, other, count), Some(0)),
-    )
+    let reached = reached_at(curve, one, count);
+    if one == other {
+        return reached;
+    }
+    later_of(reached, later_of(reached_at(curve, other, count), Some(0)))
 }
 
 /// The curve that makes a class eligible.

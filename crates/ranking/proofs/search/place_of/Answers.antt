@@ -3,8 +3,8 @@ use Rattle.ranking.proofs.Ranks.{ranked_true}
 use Rattle.ranking.proofs.Searched.{found_above, found_below}
 use Rattle.ranking.proofs.search.place_of.Goals as goal
 
-pub loop-low-preserved-then-is_before : goal.loop-low-preserved-then-is_before
-loop-low-preserved-then-is_before c =
+pub loop-low-preserved-then-goes_first : goal.loop-low-preserved-then-goes_first
+loop-low-preserved-then-goes_first c =
     found_above c.args.keys.now c.args.order.now c.args.class c.loop-low.low _ c.loop-low.high (ranked_true _ _ c.requires) c.loop-low.invariant (omega arith)
     (search rules)
 
