@@ -57,3 +57,23 @@ manual = root 10000000 0 ∷ child 400000 6 false 16 ∷ child 9500000 1 true 16
 -- two classes that share by two and one
 abbrev pub two_and_one : List CbqClass
 two_and_one = root 8000000 0 ∷ child 4000000 0 true 16 ∷ child 2000000 0 true 16 ∷ []
+
+-- classes of rates just below, at and just above half of a link of 8 Mbit/s
+abbrev pub around_a_half : List CbqClass
+around_a_half = root 8000000 0 ∷ child 3999999 0 false 16 ∷ child 4000000 0 false 16 ∷ child 4000001 0 false 16 ∷ child 1000 0 false 16 ∷ []
+
+-- three classes that share by thirds
+abbrev pub thirds : List CbqClass
+thirds = root 8000000 0 ∷ child 2666666 0 false 16 ∷ child 2666666 0 false 16 ∷ child 2666666 0 false 16 ∷ []
+
+-- a class that may borrow or not, and one below it that may borrow
+abbrev pub nested : (borrow : Bool) → List CbqClass
+nested borrow =
+    root 8000000 0
+    ∷ child 1000000 0 borrow 1
+    ∷ record { parent = Some 1; rate = 500000; priority = 0; borrow = true; maxburst = 1; packetsize = 1500 }
+    ∷ []
+
+-- a class with two packets at 0, and one with a packet at 0 and another 200 microseconds later
+abbrev pub empty_between : List Coming
+empty_between = packets 1 1 1500 ++ packets 1 1 100 ++ packets 1 2 100 ++ record { class = 2; len = 400; prec = 0; at = 200000 } ∷ []

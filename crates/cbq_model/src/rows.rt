@@ -2,7 +2,8 @@
 ghost use Rattle.std.specs.Prelude.{◌≡◌, ◌∷◌, ◌++◌, [], true, false, pos, negsuc};
 ghost use Rattle.altq_model.specs.declared.Fate.TheVariants.{Sent};
 ghost use Rattle.altq_model.specs.declared.Rule.TheVariants.{Own, Borrow};
-ghost use Rattle.cbq_model.specs.Rows.{averages_of, journal_of, manual, next_start, packets, paced, quanta, two_and_one};
+ghost use Rattle.cbq_model.specs.Rows.{averages_of, journal_of, manual, next_start, packets, paced, quanta, two_and_one, around_a_half, empty_between, nested, thirds};
+ghost use Rattle.cbq_model.specs.Choice.{rounds_for};
 
 /// Five packets of a class of 1 Mbit/s with a burst of one, on a link of 8 Mbit/s, that all arrive at 0. Three go at once, and each
 /// further one when the class is back at its rate, or at once by a loan.
@@ -31,4 +32,43 @@ pub fn weighted_round_of_two()
     ensures order { journal_of two_and_one 8000000 (packets 3 1 1500 ++ packets 3 2 1500) ≡
         (1, Sent 0 1500000 Own) ∷ (2, Sent 1500000 3000000 Own) ∷ (4, Sent 3000000 4500000 Own)
         ∷ (3, Sent 4500000 6000000 Own) ∷ (5, Sent 6000000 7500000 Own) ∷ (6, Sent 7500000 9000000 Own) ∷ [] }
+{}
+
+/// A quantum is a class's part of 1,500 bytes, rounded up: half of them is 750, and a bit/s less or more gives 749.9998 or 750.0002.
+/// At 1,000 bit/s it is 0.1875 bytes. Rounds are what a packet of more bytes than the credit needs, rounded up.
+pub fn quanta_and_rounds_are_rounded_up()
+    ensures quanta { quanta around_a_half 8000000 ≡ 1500 ∷ 750 ∷ 750 ∷ 751 ∷ 1 ∷ [] }
+    ensures below { rounds_for 0 750 749 ≡ 1 }
+    ensures one { rounds_for 0 750 750 ≡ 1 }
+    ensures above { rounds_for 0 750 751 ≡ 2 }
+    ensures paid { rounds_for 1500 750 1500 ≡ 0 }
+    ensures unpaid { rounds_for 1499 750 1500 ≡ 1 }
+    ensures more { rounds_for 1501 750 1500 ≡ 0 }
+{}
+
+/// Two packets of each of three classes with a quantum of 500. In the first choice all need 3 rounds and gain 1,500 bytes, so that the
+/// second and the third class go next. Then all need 3 rounds again, and the class of the cursor goes first, the third.
+pub fn cursor_of_the_ring_goes_first()
+    ensures { journal_of thirds 8000000 (packets 2 1 1500 ++ packets 2 2 1500 ++ packets 2 3 1500) ≡
+        (1, Sent 0 1500000 Own) ∷ (3, Sent 1500000 3000000 Own) ∷ (5, Sent 3000000 4500000 Own)
+        ∷ (6, Sent 4500000 6000000 Own) ∷ (2, Sent 6000000 7500000 Own) ∷ (4, Sent 7500000 9000000 Own) ∷ [] }
+{}
+
+/// With a quantum of 500 the second class's packet of 100 bytes goes first, after one round. Of the 400 that it has left it keeps nothing,
+/// as it is empty then. So its packet of 400 bytes, which comes 200 microseconds later, needs one round, as does the first class's of 100
+/// that waits after the one of 1,500; and the class of the cursor goes first.
+pub fn emptied_class_keeps_no_credit()
+    ensures { journal_of thirds 8000000 empty_between ≡
+        (3, Sent 0 100000 Own) ∷ (1, Sent 100000 1600000 Own) ∷ (2, Sent 1600000 1700000 Own) ∷ (4, Sent 1700000 2100000 Own) ∷ [] }
+{}
+
+/// Three packets of the lower class leave both classes above their rates: the averages are 24000000, 750000 and -21773437 below, and as in
+/// `class_is_paced_and_borrows` above. The lower class itself would wait till 48093018. The one above lends when it is back at its rate,
+/// and at once where it borrows from the root.
+pub fn class_above_its_rate_does_not_lend()
+    ensures averages { averages_of (nested false) 8000000 2 (packets 3 2 1500) ≡ pos 24000000 ∷ pos 750000 ∷ negsuc 21773436 ∷ [] }
+    ensures waits { next_start (nested false) 8000000 2 4500000 8 (packets 5 2 1500) ≡ 24116089 }
+    ensures borrows { journal_of (nested false) 8000000 (packets 4 2 1500) ≡
+        (1, Sent 0 1500000 Own) ∷ (2, Sent 1500000 3000000 Own) ∷ (3, Sent 3000000 4500000 Own) ∷ (4, Sent 24116089 25616089 Borrow) ∷ [] }
+    ensures never_waits { next_start (nested true) 8000000 2 4500000 8 (packets 5 2 1500) ≡ 4500000 }
 {}

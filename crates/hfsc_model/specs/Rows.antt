@@ -8,6 +8,7 @@ use Rattle.hfsc_model.specs.Choice.{Choice, with_chosen}
 use Rattle.hfsc_model.specs.Share.{virtual_time}
 use Rattle.hfsc_model.specs.Timely.{opens, rows, units_of}
 use Rattle.runtime_curve.specs.Deadline.{deadline}
+use Rattle.runtime_curve.specs.declared.Opening.{Opening}
 
 abbrev pub root : HfscClass
 root = record { parent = None; real = None; share = None; limit = None }
@@ -73,6 +74,29 @@ limited = root ∷ child None (straight 8000000) (Some (straight 2000000)) ∷ [
 
 abbrev pub limited_in_real_time : List HfscClass
 limited_in_real_time = root ∷ child (Some (straight 4000000)) (straight 4000000) (Some (straight 2000000)) ∷ []
+
+-- three leaves with shares of 2, 3 and 4 megabits a second
+abbrev pub three : List HfscClass
+three = root ∷ child None (straight 2000000) None ∷ child None (straight 3000000) None ∷ child None (straight 4000000) None ∷ []
+
+-- a class with one leaf below it, and a leaf beside it; the class has a limit, or none
+abbrev pub grandchild : HfscClass
+grandchild = record { parent = Some 1; real = None; share = Some (straight 4000000); limit = None }
+
+abbrev pub nested : Option Curve → List HfscClass
+nested limit = root ∷ child None (straight 4000000) limit ∷ grandchild ∷ child None (straight 4000000) None ∷ []
+
+-- one leaf with this real-time curve
+abbrev pub one_leaf : Curve → List HfscClass
+one_leaf real = root ∷ child (Some real) (straight 1000000) None ∷ []
+
+-- a packet of the leaf with a limit that is sent at 0, and two that come at a moment, the first of which is sent then
+abbrev pub limited_twice : ℕ → HfscHistory
+limited_twice at = with_chosen limited (kept 2 1 at 1000 (with_chosen limited (kept 1 1 0 1000 []) (0 ∷ []))) (at ∷ [])
+
+-- the openings of two packets, the second of which arrives at a moment and the first of which starts at 10 milliseconds
+abbrev pub openings_of_two : ℕ → List Opening
+openings_of_two at = opens (record { at = at; len = 1000; start = at; end = at } ∷ record { at = 0; len = 1000; start = 10000000; end = 11000000 } ∷ [])
 
 -- 150 packets of 100 bytes for the first leaf at 0, sent one after another; at 16 milliseconds 100 for each, of which so many
 -- are sent
