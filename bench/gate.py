@@ -1,0 +1,72 @@
+#!/usr/bin/env python3
+"""Runs the gate and says what processor time it took for each crate: its proof, the proof of its tests, and its edits.
+
+Takes no word, and then runs `rt ci` at the top of the repository; or the words of another command, as
+`rt must-fail link_clock`. What that prints goes to bench/out/gate.log. It looks at /proc every 2 seconds, so what a
+process uses in its last moments is missed: a few seconds in a hundred. It needs Linux, and is no part of any test.
+
+The table has minutes of processor time, the dearest crate first; in brackets stands how many checks there were. The
+check of a crate on which an edit is tried counts among its edits. The exit status is the command's.
+"""
+
+import os
+import subprocess
+import sys
+import time
+from collections import defaultdict
+
+ROOT = os.path.dirname(os.path.dirname(os.path.abspath(__file__)))
+LOG = os.path.join(ROOT, "bench", "out", "gate.log")
+TICKS = os.sysconf("SC_CLK_TCK")
+KINDS = ["proof", "tests", "edits"]
+
+
+def checks():
+    """The checks that run now: of each process a key that comes once, what it checks and the seconds that it took."""
+    for name in filter(str.isdigit, os.listdir("/proc")):
+        try:
+            with open(f"/proc/{name}/cmdline", encoding="utf-8") as file:
+                words = file.read().split("\0")
+            folder = os.readlink(f"/proc/{name}/cwd")
+            with open(f"/proc/{name}/stat", encoding="utf-8") as file:
+                numbers = file.read().rpartition(")")[2].split()
+        except OSError:
+            continue  # it has ended
+        if os.path.basename(words[0]) != "rattle" or "--crate-name" not in words:
+            continue
+        is_edit = "rt-edit" in folder
+        if is_edit or folder.startswith(ROOT + os.sep):
+            kind = "edits" if is_edit else "tests" if "--test" in words else "proof"
+            what = words[words.index("--crate-name") + 1], kind
+            yield (name, numbers[19]), what, sum(map(int, numbers[11:15])) / TICKS
+
+
+def watched(process):
+    """The seconds of each check until a process ends."""
+    found = {}
+    while process.poll() is None:
+        found.update((key, (what, seconds)) for key, what, seconds in checks())
+        time.sleep(2)
+    return found.values()
+
+
+def main(words):
+    os.makedirs(os.path.dirname(LOG), exist_ok=True)
+    began = time.time()
+    with open(LOG, "w", encoding="utf-8") as log:
+        process = subprocess.Popen(words or ["rt", "ci"], cwd=ROOT, stdout=log, stderr=subprocess.STDOUT)
+        took, count = defaultdict(float), defaultdict(int)
+        for what, seconds in watched(process):
+            took[what] += seconds / 60
+            count[what] += 1
+    crates = sorted({crate for crate, _ in took}, key=lambda crate: -sum(took[crate, kind] for kind in KINDS))
+    for crate in crates:
+        print(f"{crate:18}" + "".join(f"{kind:>8} {took[crate, kind]:6.1f} ({count[crate, kind]})" for kind in KINDS))
+    sums = [sum(took[crate, kind] for crate in crates) for kind in KINDS]
+    print(f"{'all':18}" + "".join(f"{kind:>8} {total:6.1f}" for kind, total in zip(KINDS, sums)) + f"   together {sum(sums):.1f}")
+    print(f"{(time.time() - began) / 60:.1f} minutes by the clock")
+    return process.returncode
+
+
+if __name__ == "__main__":
+    sys.exit(main(sys.argv[1:]))
