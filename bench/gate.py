@@ -2,8 +2,9 @@
 """Runs the gate and says what processor time it took for each crate: its proof, the proof of its tests, and its edits.
 
 Takes no word, and then runs `rt ci` at the top of the repository; or the words of another command, as
-`rt must-fail link_clock`. What that prints goes to bench/out/gate.log. It looks at /proc every 2 seconds, so what a
-process uses in its last moments is missed: a few seconds in a hundred. It needs Linux, and is no part of any test.
+`rt must-fail link_clock`. What that prints goes to bench/out/gate.log. It looks at /proc every 2 seconds, so of each
+check up to 2 seconds are missed, about one in the mean; of an edit that takes 8 that is one in eight. What builds and
+runs programs is not counted, and edits that another run tries meanwhile are. It needs Linux, and is no part of any test.
 
 The table has minutes of processor time, the dearest crate first; in brackets stands how many checks there were. The
 check of a crate on which an edit is tried counts among its edits. The exit status is the command's.
