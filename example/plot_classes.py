@@ -53,38 +53,45 @@ def classes_of(plays):
 
 def data_of(column, play, names, first):
     """Data for gnuplot: of each class its backlog, its drops and its delays."""
-    found = []
+    found, nothing = [], ["NaN NaN"]
     for n, name in enumerate(names):
         own = [fate for fate in play if fate.name == name]
         sent = [fate for fate in own if fate.end is not None]
-        found += [
-            block(f"wait{column}_{n}", [f"{milliseconds(at - first)} {count}" for at, count in backlog(sent)] or ["NaN NaN"]),
-            block(f"lost{column}_{n}", [f"{milliseconds(f.arrival - first)} {len(names) - n}" for f in own if f.end is None] or ["NaN NaN"]),
-            block(f"took{column}_{n}", [f"{milliseconds(f.arrival - first)} {milliseconds(f.end - f.arrival)}" for f in sent] or ["NaN NaN"])]
+        waits = [f"{milliseconds(at - first)} {count}" for at, count in backlog(sent)]
+        drops = [f"{milliseconds(fate.arrival - first)} {len(names) - n}" for fate in own if fate.end is None]
+        delays = [f"{milliseconds(fate.arrival - first)} {milliseconds(fate.end - fate.arrival)}" for fate in sent]
+        found += [block(f"{what}{column}_{n}", rows or nothing) for what, rows in (("wait", waits), ("lost", drops), ("took", delays))]
     return found
+
+
+def plots_of(column, names, late):
+    """What is drawn in each of the three parts of a column."""
+    waits, drops, delays = [], [], []
+    for n, name in enumerate(names):
+        colour = f"linecolor '{COLOURS[n % len(COLOURS)]}'"
+        waits.append(f"$wait{column}_{n} with lines linewidth 1.6 dashtype {DASHES[n % len(DASHES)]} {colour} title '{name}'")
+        drops.append(f"$lost{column}_{n} using 1:($2-0.35):(0):(0.7) with vectors nohead {colour}")
+        delays.append(f"$took{column}_{n} with points pointtype {SHAPES[n % len(SHAPES)]} pointsize 0.5 {colour} title '{name}'")
+    if late:
+        delays.append(f"{late / 10**6} with lines dashtype 2 linecolor '#000000' title '{late / 10**6:g} ms'")
+    return [", ".join(plots) for plots in (waits, drops, delays)]
 
 
 def parts_of(column, count, names, title, high, late):
     """The three parts of a play's column, from above."""
-    left = 0.08 + column * 0.48 if count == 2 else 0.16
-    sides = {"left": left, "right": left + (0.42 if count == 2 else 0.8)}
+    left = 0.08 + column * 0.48 if count == 2 else 0.12
+    right = left + (0.42 if count == 2 else 0.85)
     lanes = ", ".join(f"'{name}' {len(names) - n}" for n, name in enumerate(names))
-    waits = [f"$wait{column}_{n} with lines linewidth 1.6 dashtype {DASHES[n % len(DASHES)]} linecolor '{COLOURS[n % len(COLOURS)]}' title '{name}'"
-             for n, name in enumerate(names)]
-    drops = [f"$lost{column}_{n} using 1:($2-0.35):(0):(0.7) with vectors nohead linecolor '{COLOURS[n % len(COLOURS)]}'"
-             for n in range(len(names))]
-    delays = [f"$took{column}_{n} with points pointtype {SHAPES[n % len(SHAPES)]} pointsize 0.5 linecolor '{COLOURS[n % len(COLOURS)]}' title '{name}'"
-              for n, name in enumerate(names)]
-    bound = [f"{late / 10**6} with lines dashtype 2 linecolor '#000000' title '{late / 10**6:g} ms'"] if late else []
-    beside = column == 0
-    return [
-        PART.format(**sides, top=0.93, bottom=0.61, title=title, numbers="", below="", range=f"[0:{high} * 1.2]", plots=", ".join(waits),
-                    beside="packets that wait" if beside else "", more="unset logscale\nset ytics autofreq\nset key top right horizontal reverse Left width 1 samplen 3"),
-        PART.format(**sides, top=0.58, bottom=0.46, title="", numbers="", below="", range=f"[0.4:{len(names)} + 0.6]", plots=", ".join(drops),
-                    beside="drops" if beside else "", more=f"unset key\nset ytics ({lanes})"),
-        PART.format(**sides, top=0.43, bottom=0.1, title="", numbers="%g", below="time, ms after the first arrival", range="[0.1:2000]",
-                    plots=", ".join(delays + bound), beside="delay, ms" if beside else "",
-                    more="set logscale y\nset ytics autofreq\nset key top center horizontal reverse Left width 1 samplen 1.5")]
+    beside = ["packets that wait", "drops", "delay, ms"] if column == 0 else [""] * 3
+    key = "set key top {} horizontal reverse Left width 1 samplen {}"
+    waits = {"top": 0.93, "bottom": 0.61, "title": title, "range": f"[0:{high} * 1.2]",
+             "more": "unset logscale\nset ytics autofreq\n" + key.format("right", 3)}
+    drops = {"top": 0.58, "bottom": 0.46, "range": f"[0.4:{len(names)} + 0.6]", "more": f"unset key\nset ytics ({lanes})"}
+    delays = {"top": 0.43, "bottom": 0.1, "range": "[0.1:2000]", "numbers": "%g", "below": "time, ms after the first arrival",
+              "more": "set logscale y\nset ytics autofreq\n" + key.format("center", 1.5)}
+    common = {"left": left, "right": right, "title": "", "numbers": "", "below": ""}
+    return [PART.format(**{**common, **part, "plots": plots, "beside": name})
+            for part, plots, name in zip((waits, drops, delays), plots_of(column, names, late), beside)]
 
 
 def drawing(names_of_files, plays, late):
