@@ -203,7 +203,7 @@ def main(words):
     picture = os.path.relpath(os.path.join(OUT, words[0] + ".png"))
     try:
         text, (commands, size) = DRAWINGS[words[0]](make(words[0], OUT))
-    except (Failed, OSError) as fault:
+    except (Failed, NoPicture, OSError) as fault:
         print(f"draw.py: {fault}", file=sys.stderr)
         return 1
     print("\n".join(text), flush=True)
