@@ -1,7 +1,7 @@
 #!/usr/bin/env python3
 """Measures the built program over three captures of 1,000,000 packets each. No part of any test.
 
-Takes no word, or one: how many packets a capture has (1,000 at least). The program must be built:
+Takes no argument, or one: how many packets a capture has (1,000 at least). The program must be built:
 crates/altqplay/out/altqplay, which example/run builds. It works in a new folder under bench/out and removes
 it at the end: with 1,000,000 packets it takes up to 430 MB of disk.
 

@@ -1,7 +1,7 @@
 #!/usr/bin/env python3
 """Writes a capture of a few bursts, for the worked plays of the pages.
 
-Takes the name of the capture and then a word for each burst, in the order of the records:
+Takes the name of the capture and then an argument for each burst, in the order of the records:
 
     COUNTxLENGTH@TIME[:WHAT[:TOS]]
 
@@ -41,7 +41,7 @@ def frame_of(number, length, what, tos):
 
 
 def records(words):
-    """The records of some bursts, or None where a word is not of the form above."""
+    """The records of some bursts, or None where an argument is not of the form above."""
     found = []
     for word in words:
         match = BURST.fullmatch(word)

@@ -1,7 +1,7 @@
 #!/usr/bin/env python3
 """Writes the example capture: 393 frames of Ethernet, IPv4 and UDP, the same bytes on every machine.
 
-Takes one word, the name of the capture to write. Without it the capture is example/out/arrivals.pcap,
+Takes one argument, the name of the capture to write. Without it the capture is example/out/arrivals.pcap,
 beside this script.
 
 The capture is of the classic form: little-endian, stamps in nanoseconds, link type 1 (Ethernet). Of each

@@ -1,8 +1,8 @@
 #!/usr/bin/env python3
 """Draws a play from its fates: how many packets wait over time, the drops, and the delay of each packet.
 
-Takes two words, FATES and PICTURE, the name of the fates and that of the picture to write; its ending, .svg or .png,
-says the format. Without words they are example/out/fates.csv and example/out/play.png, beside this script. It needs
+Takes two arguments, FATES and PICTURE, the name of the fates and that of the picture to write; its ending, .svg or .png,
+says the format. Without arguments they are example/out/fates.csv and example/out/play.png, beside this script. It needs
 gnuplot. Where that is not installed it says so, draws nothing and ends with status 1.
 
 The upper half is the backlog: the packets that wait, without the one that is being sent. Above it stands a stroke for

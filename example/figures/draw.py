@@ -4,7 +4,7 @@
 Takes FIGURE, one of hfsc-delay, hfsc-return, red-average, rio-drops and cbq-borrowing, and works from any directory.
 What it makes lies in example/out/figures. It prints the numbers, and draws FIGURE.png there with gnuplot; where that
 is not installed it says so and draws nothing. The program must be built. The exit status is 0 where all that could be
-done was done, 1 where a play failed, and 2 for other words.
+done was done, 1 where a play failed, and 2 for other arguments.
 """
 
 import os
