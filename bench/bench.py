@@ -1,7 +1,7 @@
 #!/usr/bin/env python3
 """Measures the built program over three captures of 1,000,000 packets each. No part of any test.
 
-Takes no word, or one: how many packets a capture has (1,000 at least). The program must be built:
+Takes no argument, or one: how many packets a capture has (1,000 at least). The program must be built:
 crates/altqplay/out/altqplay, which example/run builds. It works in a new folder under bench/out and removes
 it at the end: with 1,000,000 packets it takes up to 430 MB of disk.
 
@@ -127,7 +127,7 @@ def main(words):
     if not os.access(PROGRAM, os.X_OK):
         print(f"bench.py: {PROGRAM} is not there: example/run builds it", file=sys.stderr)
         return 1
-    print(f"{count} packets a capture, the shortest of {RUNS} runs; {os.cpu_count()} processors, load {os.getloadavg()[0]:.1f}")
+    print(f"{count} packets a capture, the shortest of {RUNS} runs; {os.cpu_count()} processors")
     print(f"{'':<10}{'sent':>9}{'dropped':>9}{'ms':>10}{'packets/s':>13}{'peak MiB':>10}{'MB':>9}{'cat ms':>8}{'to cat':>9}", flush=True)
     os.makedirs(os.path.join(HERE, "out"), exist_ok=True)
     folder = tempfile.mkdtemp(dir=os.path.join(HERE, "out"))

@@ -1,7 +1,7 @@
 #!/usr/bin/env python3
 """Measures how long the class of a flow takes with few filters and with many. No part of any test.
 
-Takes no word. It makes a program of its own in a new folder under bench/out, over copies of the crates that it needs, lets
+Takes no argument. It makes a program of its own in a new folder under bench/out, over copies of the crates that it needs, lets
 `rt try` build and run it, and removes the folder at the end. The filters are of UDP ports of their own, 1,024 of them as an
 interface may have at most, and each flow asked for has the port of one of them, or of none. For each count of filters it
 prints the nanoseconds of one call of `class`, and how many times those of one filter they are.

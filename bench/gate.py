@@ -1,7 +1,7 @@
 #!/usr/bin/env python3
 """Runs the gate and says what processor time it took for each crate: its proof, the proof of its tests, and its edits.
 
-Takes no word, and then runs `rt ci` at the top of the repository; or the words of another command, as
+Takes no argument, and then runs `rt ci` at the top of the repository; or the words of another command, as
 `rt must-fail link_clock`. What that prints goes to bench/out/gate.log. It looks at /proc every 2 seconds, so of each
 check up to 2 seconds are missed, about one in the mean; of an edit that takes 8 that is one in eight. What builds and
 runs programs is not counted, and edits that another run tries meanwhile are. It needs Linux, and is no part of any test.

@@ -11,7 +11,7 @@ holds example/ and docs/ of this repository, the built program and its data. So 
 
 The program must be built: crates/altqplay/out/altqplay, which example/run and `rt ci` build. Where that, bash
 or a tool of TOOLS is missing, what needs it is left out. The exit status is 0 where what was run came out as
-shown, else 1, and 2 for other words.
+shown, else 1, and 2 for other arguments.
 """
 
 import os

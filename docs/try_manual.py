@@ -8,7 +8,7 @@ compared. The completion for bash must offer the two commands, exactly the optio
 an option names of files, names of interfaces or nothing. That for zsh must name the same options; it is not run.
 
 With --quiet it says nothing but what is wrong. Where neither groff nor mandoc is there the man page is left out,
-and without bash its completion. The exit status is 0 where what was looked at is right, else 1, 2 for other words.
+and without bash its completion. The exit status is 0 where what was looked at is right, else 1, 2 for other arguments.
 """
 
 import re

@@ -1,7 +1,7 @@
 #!/usr/bin/env python3
 """Writes a capture of a few bursts, for the worked plays of the pages.
 
-Takes the name of the capture and then a word for each burst, in the order of the records:
+Takes the name of the capture and then an argument for each burst, in the order of the records:
 
     COUNTxLENGTH@TIME[:WHAT[:TOS]]
 
@@ -22,11 +22,11 @@ from generate import DATA_PORT, SNAP, capture_head, captured_bytes, head_checksu
 
 BURST = re.compile(r"(\d+)x(\d+)@(\d+)(?::(\d+|tcp|icmp|arp)(?::(\d+|0x[0-9a-fA-F]+))?)?")
 PROTOCOLS = {"icmp": 1, "tcp": 6}
-LEAST, MOST = 42, 65_549  # the heads of Ethernet, IPv4 and UDP, and what an IPv4 head can tell
+LEAST, MOST = 42, 65_549  # the headers of Ethernet, IPv4 and UDP, and what an IPv4 header can tell
 
 
 def of_protocol(frame, protocol):
-    """A frame of UDP as one of another protocol over IPv4: its number and the checksum of its head change."""
+    """A frame of UDP as one of another protocol over IPv4: its number and the checksum of its header change."""
     head = frame[14:23] + bytes([protocol]) + bytes(2) + frame[26:34]
     return frame[:14] + head[:10] + struct.pack(">H", head_checksum(head)) + head[12:] + frame[34:]
 
@@ -41,7 +41,7 @@ def frame_of(number, length, what, tos):
 
 
 def records(words):
-    """The records of some bursts, or None where a word is not of the form above."""
+    """The records of some bursts, or None where an argument is not of the form above."""
     found = []
     for word in words:
         match = BURST.fullmatch(word)

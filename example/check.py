@@ -2,9 +2,9 @@
 """Plays a capture once more, in plain Python, and compares what the program wrote, byte for byte.
 
 Takes four words: CONFIG ARRIVALS DEPARTURES FATES, the configuration and the capture that the program read,
-and the two files that it wrote. Without words they are those of the example, beside this script. It writes
+and the two files that it wrote. Without arguments they are those of the example, beside this script. It writes
 no file. Its exit status is 0 where both files are as they should be, 1 where one is not, and 2 where it
-cannot judge: the words, the configuration or the capture are not of the kind below.
+cannot judge: the arguments, the configuration or the capture are not of the kind below.
 
 It shares no code with the program, and no arithmetic but whole numbers. What it plays:
 

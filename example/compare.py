@@ -1,7 +1,7 @@
 #!/usr/bin/env python3
 """Compares two fates of the same arrivals: which packets changed fate, and how the delays moved.
 
-Takes two words, FIRST and SECOND, the names of two files of fates that were written by plays of one capture,
+Takes two arguments, FIRST and SECOND, the names of two files of fates that were written by plays of one capture,
 say with another rate. Options before them:
 
     --late N      also says which packets take more than N nanoseconds in SECOND and not in FIRST

@@ -1,7 +1,7 @@
 #!/usr/bin/env python3
 """Says for each class what two plays of the same arrivals make of its packets: drops and delays, and what changed.
 
-Takes two words, FIRST and SECOND, the names of two files of fates that were written by plays of one capture, say
+Takes two arguments, FIRST and SECOND, the names of two files of fates that were written by plays of one capture, say
 before and after a change of a rate. For each class there is a line for each play, and a third one on what changed
 for the packets that are of the class in either play.
 

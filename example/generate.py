@@ -1,7 +1,7 @@
 #!/usr/bin/env python3
 """Writes the example capture: 393 frames of Ethernet, IPv4 and UDP, the same bytes on every machine.
 
-Takes one word, the name of the capture to write. Without it the capture is example/out/arrivals.pcap,
+Takes one argument, the name of the capture to write. Without it the capture is example/out/arrivals.pcap,
 beside this script.
 
 The capture is of the classic form: little-endian, stamps in nanoseconds, link type 1 (Ethernet). Of each
@@ -50,7 +50,7 @@ TRAFFIC = [
 
 
 def head_checksum(head):
-    """The checksum of an IPv4 head whose own checksum is zero (RFC 791)."""
+    """The checksum of an IPv4 header whose own checksum is zero (RFC 791)."""
     total = sum(struct.unpack(">10H", head))
     while total >> 16:
         total = (total & 0xFFFF) + (total >> 16)
@@ -58,10 +58,10 @@ def head_checksum(head):
 
 
 def captured_bytes(number, length, port, tos):
-    """The first 60 bytes, or fewer, of a frame of this length: Ethernet, IPv4 and UDP heads, then zeros.
+    """The first 60 bytes, or fewer, of a frame of this length: Ethernet, IPv4 and UDP headers, then zeros.
 
-    `number` goes into the identification of the IPv4 head, so that frames differ. The length is at least 42
-    (the three heads) and at most 65,549 (what an IPv4 head can tell).
+    `number` goes into the identification of the IPv4 header, so that frames differ. The length is at least 42
+    (the three headers) and at most 65,549 (what an IPv4 header can tell).
     """
     ethernet = bytes.fromhex("020000000002" "020000000001" "0800")
     inside = length - len(ethernet)
@@ -75,7 +75,7 @@ def captured_bytes(number, length, port, tos):
 
 
 def capture_head():
-    """The head of a capture: little-endian, nanoseconds, version 2.4, Ethernet."""
+    """The header of a capture: little-endian, nanoseconds, version 2.4, Ethernet."""
     return struct.pack("<IHHiIII", 0xA1B23C4D, 2, 4, 0, 0, 262144, 1)
 
 

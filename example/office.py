@@ -1,7 +1,7 @@
 #!/usr/bin/env python3
 """Writes the capture of the office link: 620 frames of calls, a backup and web pages, the same bytes on every machine.
 
-Takes one word, the name of the capture to write. Without it the capture is example/out/office.pcap, beside this
+Takes one argument, the name of the capture to write. Without it the capture is example/out/office.pcap, beside this
 script. Frames are those of generate.py; all numbers are integers and nothing is drawn at random.
 
 The traffic, in milliseconds after the first frame (which is stamped with one second exactly):

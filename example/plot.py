@@ -1,14 +1,16 @@
 #!/usr/bin/env python3
 """Draws a play from its fates: how many packets wait over time, the drops, and the delay of each packet.
 
-Takes two words, FATES and PICTURE, the name of the fates and that of the picture to write; its ending, .svg or .png,
-says the format. Without words they are example/out/fates.csv and example/out/play.png, beside this script. It needs
+Takes two arguments, FATES and PICTURE, the name of the fates and that of the picture to write; its ending, .svg or .png,
+says the format. Without arguments they are example/out/fates.csv and example/out/play.png, beside this script. It needs
 gnuplot. Where that is not installed it says so, draws nothing and ends with status 1.
 
 The upper half is the backlog: the packets that wait, without the one that is being sent. Above it stands a stroke for
 each packet that was dropped, at its arrival. The lower half has a point for each packet that was sent, at its arrival,
-as high as its delay, its end minus its arrival. Strokes and points have a colour for each length. Times are in
-milliseconds after the first arrival.
+as high as its delay, its end minus its arrival. Points have a shape for each length, strokes and points a colour.
+Times are in milliseconds after the first arrival. It knows no classes; plot_classes.py draws a play by class.
+
+Other scripts use the functions of this one to draw.
 """
 
 import csv
@@ -18,13 +20,20 @@ import subprocess
 import sys
 from collections import Counter, namedtuple
 
-# Tellable apart by the colour-blind (Okabe and Ito). The commonest length has the first.
-COLOURS = ["#0072b2", "#009e73", "#d55e00", "#cc79a7", "#e69f00", "#56b4e9"]
-TERMINALS = {".svg": "svg size 1000,620 dynamic font 'sans-serif,14' background '#ffffff'",
-             ".png": "pngcairo size 1000,620 font 'sans-serif,11' background '#ffffff'"}
+# Tellable apart by the colour-blind (Okabe and Ito), with shapes for those who print in black and white.
+COLOURS = ["#0072b2", "#d55e00", "#009e73", "#cc79a7", "#000000", "#56b4e9"]
+SHAPES = [7, 4, 9, 2, 12, 1]  # of gnuplot: disc, square, full triangle, cross, diamond, plus
+DASHES = ["1", "(6,3)", "(2,3)", "(12,3,3,3)"]
+TERMINALS = {".svg": "svg size {},{} dynamic font 'sans-serif,14' background '#ffffff'",
+             ".png": "pngcairo size {},{} font 'sans-serif,11' background '#ffffff'"}
 
 # Times in nanoseconds, the length in bytes; start and end are None where the packet was dropped.
-Fate = namedtuple("Fate", "arrival length start end")
+Fate = namedtuple("Fate", "number arrival length name fate start end")
+
+
+class NoPicture(Exception):
+    """Why nothing was drawn."""
+
 
 PICTURE = """\
 set multiplot title "{title}"
@@ -47,7 +56,7 @@ plot {upper}
 set size 1,0.5
 set origin 0,0
 set format x '%g'
-set xlabel 'ms after the first arrival'
+set xlabel 'time, ms after the first arrival'
 set ylabel 'delay, ms'
 set ytics autofreq
 set yrange [0:*]
@@ -60,8 +69,38 @@ unset multiplot
 def fates(name):
     """The fates of a file, in its order."""
     with open(name, newline="", encoding="ascii", errors="replace") as file:
-        return [Fate(int(row["arrival"]), int(row["length"]), *(int(row[k]) if row[k] else None for k in ("start", "end")))
-                for row in csv.DictReader(file)]
+        return [Fate(int(row["number"]), int(row["arrival"]), int(row["length"]), row["class"], row["fate"],
+                     *(int(row[k]) if row[k] else None for k in ("start", "end"))) for row in csv.DictReader(file)]
+
+
+def read_fates(name):
+    """The fates of a file, of which there is at least one."""
+    try:
+        rows = fates(name)
+    except OSError as fault:
+        raise NoPicture(str(fault)) from None
+    except (csv.Error, KeyError, TypeError, ValueError):
+        raise NoPicture(f"{name} is no file of fates, so nothing was drawn") from None
+    if not rows:
+        raise NoPicture(f"{name} has no packets, so nothing was drawn")
+    return rows
+
+
+def is_picture(name):
+    return os.path.splitext(name)[1] in TERMINALS
+
+
+def written(picture, commands, size):
+    """Has gnuplot draw a picture of this size in pixels, whose ending says the format."""
+    if not is_picture(picture):
+        raise NoPicture(f"{picture} is neither NAME.png nor NAME.svg, so nothing was drawn")
+    if shutil.which("gnuplot") is None:
+        raise NoPicture("gnuplot was not found on this machine, so nothing was drawn")
+    terminal = f"set terminal {TERMINALS[os.path.splitext(picture)[1]].format(*size)}\n"
+    with open(picture, "wb") as file:
+        done = subprocess.run(["gnuplot", "-"], input=(terminal + commands).encode(), stdout=file, check=False)
+    if done.returncode != 0:
+        raise NoPicture(f"gnuplot ended with status {done.returncode}")
 
 
 def milliseconds(time):
@@ -107,7 +146,7 @@ def lengths_drawn(rows, first, lane):
             data.append(block(f"lost{n}", lost))
             strokes.append(f"$lost{n} using 1:($2*0.97):(0):($2*0.06) with vectors nohead linecolor '{COLOURS[n]}' notitle")
         data.append(block(f"sent{n}", sent or ["NaN NaN"]))
-        points.append(f"$sent{n} with points pointtype 7 pointsize 0.6 linecolor '{COLOURS[n]}' title '{name}'")
+        points.append(f"$sent{n} with points pointtype {SHAPES[n]} pointsize 0.7 linecolor '{COLOURS[n]}' title '{name}'")
     return data, strokes, points
 
 
@@ -130,30 +169,18 @@ def drawing(rows):
 def main(words):
     out = os.path.join(os.path.dirname(os.path.abspath(__file__)), "out")
     words = words or [os.path.relpath(os.path.join(out, name)) for name in ("fates.csv", "play.png")]
-    if len(words) != 2 or words[0].startswith("-") or os.path.splitext(words[1])[1] not in TERMINALS:
+    if len(words) != 2 or words[0].startswith("-") or not is_picture(words[1]):
         print("usage: plot.py [FATES PICTURE], the picture being NAME.svg or NAME.png", file=sys.stderr)
         return 2
     name, picture = words
-    if shutil.which("gnuplot") is None:
-        print("plot.py: gnuplot was not found on this machine, so nothing was drawn", file=sys.stderr)
-        return 1
     try:
-        rows = fates(name)
-    except OSError as fault:
+        rows = read_fates(name)
+        written(picture, drawing(rows), (1000, 620))
+    except NoPicture as fault:
         print(f"plot.py: {fault}", file=sys.stderr)
         return 1
-    except (csv.Error, KeyError, TypeError, ValueError):
-        print(f"plot.py: {name} is no file of fates, so nothing was drawn", file=sys.stderr)
-        return 1
-    if not rows:
-        print(f"plot.py: {name} has no packets, so nothing was drawn", file=sys.stderr)
-        return 1
-    terminal = f"set terminal {TERMINALS[os.path.splitext(picture)[1]]}\n"
-    with open(picture, "wb") as file:
-        done = subprocess.run(["gnuplot", "-"], input=(terminal + drawing(rows)).encode(), stdout=file, check=False)
-    if done.returncode == 0:
-        print(f"{len(rows)} packets drawn in {picture}")
-    return done.returncode
+    print(f"{len(rows)} packets drawn in {picture}")
+    return 0
 
 
 if __name__ == "__main__":
