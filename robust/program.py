@@ -3,6 +3,7 @@
 The scripts of this folder share it. Nothing here is part of any test of the gate.
 """
 
+import contextlib
 import os
 import re
 import resource
@@ -115,6 +116,10 @@ def store(name, data):
         file.write(data)
 
 
-def without_core():
-    """Has no process that is started from now on leave an image of its memory where a signal ends it."""
+def prepare():
+    """Has what is started from now on leave no image of its memory, and begin with the three standard files open alone."""
     resource.setrlimit(resource.RLIMIT_CORE, (0, resource.getrlimit(resource.RLIMIT_CORE)[1]))
+    for descriptor in os.listdir("/proc/self/fd"):
+        if int(descriptor) > 2:
+            with contextlib.suppress(OSError):
+                os.set_inheritable(int(descriptor), False)
