@@ -1,10 +1,10 @@
 #!/usr/bin/env python3
 """Runs the built program on random and changed configurations, captures and words, and judges how each run ends.
 
-    fuzz.py SEED [RUNS] [--valgrind COUNT] [--reference PROGRAM] [--only NUMBER] [--keep FOLDER] [--program PROGRAM]
+    fuzz.py SEED [RUNS] [--valgrind COUNT] [--reference PROGRAM] [--once] [--first NUMBER] [--only NUMBER] [--keep FOLDER] [--program PROGRAM]
 
-No part of any test: it takes minutes. The cases follow from SEED and their numbers, 0 to RUNS - 1 (RUNS is 1000 without
-the word), so a run of this script repeats. Each case is run twice in a new folder, and
+No part of any test: it takes minutes. The cases follow from SEED and their numbers, RUNS of them (1000 without the word)
+from 0 or from --first on, so a run of this script repeats. Each case is run twice in a new folder, or once with --once, and
 
   - ends within a second of processor time, and one more for each megabyte of its files, by no signal,
   - with a status and a message of docs/MANUAL.md, and nothing on standard error,
@@ -14,7 +14,7 @@ the word), so a run of this script repeats. Each case is run twice in a new fold
 
 COUNT of the cases, evenly spread, are run once more under valgrind, which must find no fault and let the case end alike.
 With --reference each case is run by another program of the same command line, too, and status, standard output and all
-files are compared byte for byte; cases with a word that is no UTF-8 are not, since a message about them is no one's rule.
+files are compared byte for byte; but for cases with a word that is no UTF-8, of which this program says nothing.
 
 With --only the one case of this number is run; --keep leaves its files in a folder, and prints its words. The exit status
 is 0 where nothing was found, 1 where something was, 2 for other words. What was found is printed, a line each.
@@ -32,7 +32,7 @@ sys.dont_write_bytecode = True
 
 from cases import case  # noqa: E402
 from judge import wrong  # noqa: E402
-from program import PROGRAM, Late, content, kind_of, run, store, without_core  # noqa: E402
+from program import PROGRAM, Late, content, kind_of, prepare, run, store  # noqa: E402
 
 VALGRIND = ["valgrind", "--quiet", "--error-exitcode=99", "--log-file=/dev/null"]
 AT_MOST = 120  # seconds by the clock, after which a run is ended
@@ -70,7 +70,7 @@ def judged(given, folder, options, with_valgrind):
     allowed = 1 + sum(len(data) for data in given.files.values()) / 1e6
     if fault is None and first[0].seconds > allowed:
         fault = f"it took {first[0].seconds:.2f} s of processor time"
-    if fault is None and not is_same(first, ending(given, folder, [options.program])):
+    if fault is None and not options.once and not is_same(first, ending(given, folder, [options.program])):
         fault = "it ended otherwise when it was run again"
     if fault is None and with_valgrind and not is_same(first, ending(given, folder, [*VALGRIND, options.program])):
         fault = "under valgrind it ended otherwise, or valgrind found a fault"
@@ -82,7 +82,8 @@ def judged(given, folder, options, with_valgrind):
 
 def is_for_valgrind(number, options):
     """Whether the case of this number is one of those, evenly spread, that are run under valgrind."""
-    return number * options.valgrind // options.runs != (number + 1) * options.valgrind // options.runs
+    place = number - options.first
+    return place * options.valgrind // options.runs != (place + 1) * options.valgrind // options.runs
 
 
 def keep(given, options):
@@ -112,6 +113,8 @@ def options_of(words):
     parser.add_argument("runs", nargs="?", type=int, default=1000)
     parser.add_argument("--valgrind", type=int, default=0, metavar="COUNT")
     parser.add_argument("--reference", type=os.path.abspath, metavar="PROGRAM")
+    parser.add_argument("--once", action="store_true")
+    parser.add_argument("--first", type=int, default=0, metavar="NUMBER")
     parser.add_argument("--only", type=int, metavar="NUMBER")
     parser.add_argument("--keep", type=os.path.abspath, metavar="FOLDER")
     parser.add_argument("--program", type=os.path.abspath, default=PROGRAM)
@@ -128,8 +131,8 @@ def main(words):
         return 1
     if options.valgrind:
         VALGRIND[0] = shutil.which("valgrind") or sys.exit("fuzz.py: valgrind was not found on this machine")
-    without_core()
-    numbers = range(options.runs) if options.only is None else [options.only]
+    prepare()
+    numbers = range(options.first, options.first + options.runs) if options.only is None else [options.only]
     with tempfile.TemporaryDirectory(prefix="altqplay-fuzz-") as top:
         results = [tried(number, os.path.join(top, "case"), options) for number in numbers]
     for what, count in sorted(Counter(what for what, _ in results).items()):
