@@ -16,14 +16,17 @@ COUNT of the cases, evenly spread, are run once more under valgrind, which must 
 With --reference each case is run by another program of the same command line, too, and status, standard output and all
 files are compared byte for byte; but for cases with a word that is no UTF-8, of which this program says nothing.
 
-With --only the one case of this number is run; --keep leaves its files in a folder, and prints its words. The exit status
-is 0 where nothing was found, 1 where something was, 2 for other words. What was found is printed, a line each.
+With --only the one case of this number is run; --keep leaves its files in a folder, and prints its words. An interrupt ends
+the script with the counts of what was run so far. The exit status is 0 where nothing was found, 1 where something was, 2 for
+other words. What was found is printed, a line each.
 """
 
 import argparse
+import contextlib
 import os
 import shlex
 import shutil
+import signal
 import sys
 import tempfile
 from collections import Counter
@@ -133,8 +136,11 @@ def main(words):
         VALGRIND[0] = shutil.which("valgrind") or sys.exit("fuzz.py: valgrind was not found on this machine")
     prepare()
     numbers = range(options.first, options.first + options.runs) if options.only is None else [options.only]
-    with tempfile.TemporaryDirectory(prefix="altqplay-fuzz-") as top:
-        results = [tried(number, os.path.join(top, "case"), options) for number in numbers]
+    results = []
+    signal.signal(signal.SIGTERM, signal.default_int_handler)
+    with tempfile.TemporaryDirectory(prefix="altqplay-fuzz-") as top, contextlib.suppress(KeyboardInterrupt):
+        for number in numbers:
+            results.append(tried(number, os.path.join(top, "case"), options))
     for what, count in sorted(Counter(what for what, _ in results).items()):
         print(f"{count:>8}  status {what}")
     bad = sum(is_bad for _, is_bad in results)
