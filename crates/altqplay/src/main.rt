@@ -1,9 +1,16 @@
 //! altqplay: plays the output queueing of one network interface over recorded traffic.
 #![tactic(auto)]
 
+ghost use Rattle.std.specs.Prelude.{◌≡◌};
+ghost use Rattle.std.specs.Process.{exit_status};
+
+#[cfg(test)]
+mod long;
+#[cfg(test)]
+mod plays;
 mod real;
 
-use play_cli::run;
+use play_cli::{Status, run};
 use real::RealFiles;
 use std::process::ExitCode;
 use std::{env, io};
@@ -23,6 +30,13 @@ fn words_of(rt: &HostRuntime) -> io::Result<Vec<String>> {
     Ok(words)
 }
 
+// The exit status of a run: the code of its status.
+fn exit_of(status: Status) -> ExitCode
+    ensures { exit_status result ≡ status.code }
+{
+    ExitCode::from(status.code)
+}
+
 fn main(rt: HostRuntime) -> io::Result<ExitCode> {
     let words = match words_of(&rt) {
         Ok(words) => words,
@@ -34,5 +48,5 @@ fn main(rt: HostRuntime) -> io::Result<ExitCode> {
     let alloc = rt.alloc();
     let mut files = RealFiles::new(alloc, &rt);
     let status = run(alloc, &words, &mut files);
-    Ok(ExitCode::from(status.code))
+    Ok(exit_of(status))
 }

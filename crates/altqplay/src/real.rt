@@ -1,14 +1,19 @@
 // The machine's files, which tell nothing of their content.
-ghost use Rattle.std.specs.Prelude.{◌≡◌, ◌≤◌, ◌<◌, ◌++◌, ◌∷◌, ℕ, [], None, Some, false, length, slice_get, slice_index, vec_len, IsSome, IfOk, OnErr, IsErrOf};
+ghost use Rattle.std.specs.Prelude.{◌≡◌, ◌≤◌, ◌<◌, ◌++◌, ◌∷◌, ℕ, [], None, Some, false, length, slice_get, slice_index, take, vec_len, IsSome, IfOk, OnErr, OnOk, IsErrOf};
+ghost use Rattle.std.specs.Io.{ReadsAtMost, WritesAtMost};
+ghost use Rattle.std.specs.Io.KnownBytes.{Appends, ReadConsumes};
 ghost use Rattle.altqplay.specs.Parts.{AreParts, AddedPart};
 ghost use Rattle.play_base.specs.View.{Rose};
 
 use play_base::{Files, Trouble};
 use std::alloc::Global;
-use std::io::{self, Read, Write};
+use std::fs::{Metadata, OpenFile, OpenOptions};
+use std::io::{self, ErrorKind, Read, Write};
+use std::os::unix::fs::MetadataExt;
 use std::{fs, rt};
 
-/// Files of the machine, and its standard output.
+/// Files of the machine, and its standard output. A file that is open here is not emptied under another name: creating it fails, so
+/// that no capture is lost to two names of one file.
 #[derive(Drop)]
 pub struct RealFiles<'a, R: rt::Files + Print> {
     rt: &'a R,
@@ -33,7 +38,7 @@ impl<'a, R: rt::Files + Print> RealFiles<'a, R> {
 }
 
 // Puts a file at the end, if there is a number for it.
-fn add_file<T: Drop>(
+pub(crate) fn add_file<T: Drop>(
     parts: &mut Vec<u8>,
     files: &mut Vec<T>,
     part: u8,
@@ -71,6 +76,64 @@ fn count_fault(counts: &mut [u64; 16], part: u8)
     *count = count.saturating_add(1);
 }
 
+// Whether an open file is this one.
+fn is_same<T: OpenFile>(file: &T, other: &Metadata) -> bool {
+    match file.metadata() {
+        Ok(found) => found.dev() == other.dev() && found.ino() == other.ino(),
+        Err(_) => false,
+    }
+}
+
+// The emptied file under a name, which is made if it is not there. A regular file that is open here is left as it is, and refused.
+fn emptied<R: rt::Files>(rt: &R, opened: &[R::File], name: &str) -> io::Result<R::File> {
+    let file = OpenOptions::new().write(true).create(true).open(rt, name)?;
+    let found = file.metadata()?;
+    if found.is_file() {
+        if opened.iter().any(|other| is_same(other, &found)) {
+            return Err(io::Error::from(ErrorKind::AlreadyExists));
+        }
+        file.set_len(0)?;
+    }
+    Ok(file)
+}
+
+// Moves the next bytes of a reader to the front of `into`, and says how many. A failed read is no end.
+fn read_piece<T: Read>(reader: &mut T, into: &mut [u8]) -> Result<usize, Trouble>
+    ensures bound { ReadsAtMost result into.new }
+    ensures bytes { ReadConsumes (T.remaining reader.old) (T.remaining reader.new) result into.new }
+    ensures memory { IsErrOf result Trouble.NoMemory → ⊥ }
+{
+    match reader.read(into) {
+        Ok(count) => Ok(count),
+        Err(_) => Err(Trouble::Failed),
+    }
+}
+
+// Appends a front of the bytes to what a writer holds, and says how long it was, 0 only where there are none. A short write is no
+// whole one.
+fn write_piece<T: Write>(writer: &mut T, bytes: &[u8]) -> Result<usize, Trouble>
+    ensures bound { WritesAtMost result bytes.now }
+    ensures bytes { IfOk result (λ n. Appends (T.contents writer.old) (T.contents writer.new) (take n bytes.now)) }
+    ensures some { IfOk result (λ n. n ≡ 0 → length bytes.now ≡ 0) }
+    ensures memory { IsErrOf result Trouble.NoMemory → ⊥ }
+{
+    match writer.write(bytes) {
+        Ok(count) if count > 0 || bytes.is_empty() => Ok(count),
+        _ => Err(Trouble::Failed),
+    }
+}
+
+// Appends a whole text to what a writer holds, once.
+fn say_whole<T: Write>(writer: &mut T, text: &[u8]) -> Result<(), Trouble>
+    ensures bytes { OnOk result (Appends (T.contents writer.old) (T.contents writer.new) text.now) }
+    ensures memory { IsErrOf result Trouble.NoMemory → ⊥ }
+{
+    match writer.write_all(text) {
+        Ok(()) => Ok(()),
+        Err(_) => Err(Trouble::Failed),
+    }
+}
+
 impl<'a, R: rt::Files + Print> Files for RealFiles<'a, R> {
     ghost view = { λ s. record {
       tells = false;
@@ -94,7 +157,7 @@ impl<'a, R: rt::Files + Print> Files for RealFiles<'a, R> {
     }
 
     fn create(&mut self, part: u8, name: &str) -> Result<u32, Trouble> {
-        match fs::create(self.rt, name) {
+        match emptied(self.rt, &self.files, name) {
             Ok(file) => add_file(&mut self.parts, &mut self.files, part, file),
             Err(_) => {
                 count_fault(&mut self.write_faults, part);
@@ -105,39 +168,39 @@ impl<'a, R: rt::Files + Print> Files for RealFiles<'a, R> {
 
     fn read(&mut self, file: u32, into: &mut [u8]) -> Result<usize, Trouble> {
         let part = part_of(&self.parts, file);
-        match self.files[file as usize].read(into) {
+        match read_piece(&mut self.files[file as usize], into) {
             Ok(count) => Ok(count),
-            Err(_) => {
+            Err(trouble) => {
                 count_fault(&mut self.read_faults, part);
-                Err(Trouble::Failed)
+                Err(trouble)
             }
         }
     }
 
     fn write(&mut self, file: u32, bytes: &[u8]) -> Result<usize, Trouble> {
         let part = part_of(&self.parts, file);
-        match self.files[file as usize].write(bytes) {
-            Ok(count) if count > 0 || bytes.is_empty() => Ok(count),
-            _ => {
+        match write_piece(&mut self.files[file as usize], bytes) {
+            Ok(count) => Ok(count),
+            Err(trouble) => {
                 count_fault(&mut self.write_faults, part);
-                Err(Trouble::Failed)
+                Err(trouble)
             }
         }
     }
 
     fn say(&mut self, text: &[u8]) -> Result<(), Trouble> {
-        match io::writer(self.rt).write_all(text) {
+        match say_whole(&mut io::writer(self.rt), text) {
             Ok(()) => Ok(()),
-            Err(_) => {
+            Err(trouble) => {
                 count_fault(&mut self.write_faults, 0);
-                Err(Trouble::Failed)
+                Err(trouble)
             }
         }
     }
 }
 
 // The part of a file.
-fn part_of(parts: &[u8], file: u32) -> u8
+pub(crate) fn part_of(parts: &[u8], file: u32) -> u8
     requires there { IsSome (slice_get parts.now file) }
     requires parts { AreParts parts.now }
     ensures part { slice_get parts.now file ≡ Some result }

@@ -103,6 +103,37 @@ fn steady_files(rt: HostRuntime) -> Result<(), Fail> {
     Ok(())
 }
 
+// Creates a file, and writes three bytes at once.
+fn write_three<F: Files>(files: &mut F) -> Result<usize, Trouble> {
+    let file = files.create(3, "out")?;
+    files.write(file, &[1, 2, 3])
+}
+
+#[test]
+fn short_writes_and_counted_calls(rt: HostRuntime) -> Result<(), Fail> {
+    let mut files = MemoryFiles::new(rt.alloc());
+    let mut steady = SteadyFiles::new(rt.alloc());
+    files.short_writes(2);
+    steady.short_writes(2);
+    files.fail_at(Call::Say, 0)?;
+    assert!(rt; files.say(b"done").is_err());
+    assert_eq!(rt; write_three(&mut files), Ok(2));
+    assert_eq!(rt; write_three(&mut steady), Ok(2));
+    assert!(rt; files.get("out").unwrap_or_default() == [1u8, 2].as_slice());
+    assert!(rt; steady.get("out").unwrap_or_default() == [1u8, 2].as_slice());
+    for (call, made, calls) in [
+        (Call::Open, 0, 0),
+        (Call::Create, 1, 1),
+        (Call::Read, 0, 0),
+        (Call::Write, 1, 1),
+        (Call::Say, 1, 0),
+    ] {
+        assert_eq!(rt; files.calls(call), made, "{call:?}");
+        assert_eq!(rt; steady.calls(call), calls, "{call:?}");
+    }
+    Ok(())
+}
+
 #[test]
 fn amounts_and_packets(rt: HostRuntime) -> Result<(), Fail> {
     assert_eq!(rt; units(1), 8_000_000_000);

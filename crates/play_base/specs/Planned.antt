@@ -1,4 +1,4 @@
--- Failures that are planned for files in memory, the calls that are counted for them, and the bound on a read.
+-- Failures that are planned for files in memory, the calls that are counted for them, and the bounds on a read and a write.
 use Rattle.std.specs.Prelude.{◌≡◌, ◌≢◌, ◌+◌, ◌-◌, ◌^◌, ◌==◌, ◌&&◌, ℕ, Bool, min, List, slice_index}
 use Rattle.std.specs.List.{list_any}
 use Rattle.play_base.specs.declared.planned.Call.{Call}
@@ -31,9 +31,10 @@ pub record IsSamePlan (old new : MemoryFiles) : Type 0 where
   pub plan : new.failing.items ≡ old.failing.items
   pub calls : (c : Call) → made new c ≡ made old c
 
--- one call more was made of this kind, and none of another; the plan and the bound on a read stand
+-- one call more was made of this kind, and none of another; the plan and the bounds on a read and a write stand
 pub record Counted (call : Call) (old new : MemoryFiles) : Type 0 where
   pub plan : new.failing.items ≡ old.failing.items
   pub one : made new call ≡ min (made old call + 1) (2 ^ 64 - 1)
   pub others : (c : Call) → c ≢ call → made new c ≡ made old c
   pub most : new.chunk.most ≡ old.chunk.most
+  pub short : new.short.most ≡ old.short.most

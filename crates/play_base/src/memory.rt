@@ -7,7 +7,7 @@ ghost use Rattle.play_base.specs.Planned.{Counted, IsSamePlan, is_due, made};
 use crate::names::{append_bytes, bytes_of, set_bytes};
 use crate::numbered::{add_created, add_file, copy_next, name_of, part_of};
 use crate::opened::{Chunk, OpenedFile};
-use crate::planned::{Failing, count_fault, fails_now};
+use crate::planned::{Failing, count_fault, count_of, fails_now};
 use crate::{Call, Files, NoMemory, Trouble};
 use std::alloc::Global;
 use std::collections::BTreeMap;
@@ -22,18 +22,20 @@ pub struct MemoryFiles {
     read_faults: [u64; 16],
     write_faults: [u64; 16],
     chunk: Chunk,
+    short: Chunk,
     failing: Vec<Failing>,
     calls: [u64; 5],
 }
 
 impl MemoryFiles {
-    /// No name, no file, nothing said, every count 0, and no bound on a read. Takes no memory.
+    /// No name, no file, nothing said, every count 0, and no bound on a read or a write. Takes no memory.
     pub fn new(alloc: Global) -> Self
         ensures names { (n : List ℕ) → (memory_view result).bytes n ≡ None }
         ensures fresh { IsFresh (memory_view result) }
         ensures plan { result.failing.items ≡ [] }
         ensures made { (call : Call) → made result call ≡ 0 }
         ensures most { result.chunk.most ≡ 2 ^ 32 - 1 }
+        ensures short { result.short.most ≡ 2 ^ 32 - 1 }
     {
         MemoryFiles {
             alloc,
@@ -43,6 +45,7 @@ impl MemoryFiles {
             read_faults: [0; 16],
             write_faults: [0; 16],
             chunk: Chunk { most: u32::MAX },
+            short: Chunk { most: u32::MAX },
             failing: Vec::new(alloc),
             calls: [0; 5],
         }
@@ -60,6 +63,7 @@ impl MemoryFiles {
         ensures err { OnErr result (Unchanged (memory_view self.old) (memory_view self.new)) }
         ensures plan { IsSamePlan self.old self.new }
         ensures most { self.new.chunk.most ≡ self.old.chunk.most }
+        ensures short { self.new.short.most ≡ self.old.short.most }
     {
         let Ok(bytes) = bytes.to_vec(self.alloc) else {
             return Err(NoMemory);
@@ -91,8 +95,28 @@ impl MemoryFiles {
         ensures counts { SameCounts (memory_view self.old) (memory_view self.new) }
         ensures plan { IsSamePlan self.old self.new }
         ensures most { self.new.chunk.most ≡ most }
+        ensures short { self.new.short.most ≡ self.old.short.most }
     {
         self.chunk = Chunk { most };
+    }
+
+    /// Lets one `write` move at most `most` bytes, at least 1. Takes no memory.
+    pub fn short_writes(&mut self, most: u32)
+        requires { 1 ≤ most }
+        ensures same { Unchanged (memory_view self.old) (memory_view self.new) }
+        ensures counts { SameCounts (memory_view self.old) (memory_view self.new) }
+        ensures plan { IsSamePlan self.old self.new }
+        ensures most { self.new.chunk.most ≡ self.old.chunk.most }
+        ensures short { self.new.short.most ≡ most }
+    {
+        self.short = Chunk { most };
+    }
+
+    /// How many calls of this kind were made since `new`, those that failed too. Takes no memory.
+    pub fn calls(&self, call: Call) -> u64
+        ensures { result ≡ made self.now call }
+    {
+        count_of(&self.calls, call)
     }
 
     /// Lets the nth call of this kind fail, from 0, counting each call of the kind since `new`. A failing call answers
@@ -104,6 +128,7 @@ impl MemoryFiles {
         ensures err { OnErr result (self.new.failing.items ≡ self.old.failing.items) }
         ensures made { (c : Call) → made self.new c ≡ made self.old c }
         ensures most { self.new.chunk.most ≡ self.old.chunk.most }
+        ensures short { self.new.short.most ≡ self.old.short.most }
     {
         match self.failing.push(Failing { call, nth }) {
             Ok(()) => Ok(()),
@@ -211,15 +236,17 @@ impl Files for MemoryFiles {
         ensures due { IsTrue (is_due self.old Call.Write) → result ≡ Err Trouble.Failed }
         ensures quiet { (IsTrue (is_due self.old Call.Write) → ⊥) → SameCounts (memory_view self.old) (memory_view self.new) }
         ensures otherwise { IsErrOf result Trouble.Failed → IsTrue (is_due self.old Call.Write) }
+        ensures bounded { IfOk result (λ n. n ≡ min (length bytes.now) self.old.short.most) }
         ensures counted { Counted Call.Write self.old self.new }
     {
         if fails_now(&self.failing, &mut self.calls, Call::Write) {
             count_fault(&mut self.write_faults, part_of(&self.opened, file));
             return Err(Trouble::Failed);
         }
+        let count = self.short.count(bytes);
         let name = name_of(&self.opened, file);
-        match append_bytes(self.alloc, &mut self.names, name, bytes) {
-            Ok(()) => Ok(bytes.len()),
+        match append_bytes(self.alloc, &mut self.names, name, &bytes[..count]) {
+            Ok(()) => Ok(count),
             Err(_) => Err(Trouble::NoMemory),
         }
     }

@@ -46,15 +46,32 @@ fn is_planned(failing: &[Failing], call: Call, nth: u64) -> bool
         .any(|f| f.call.place() == place && f.nth == nth)
 }
 
-// Whether the next call of this kind is to fail; it counts as made.
-pub fn fails_now(failing: &[Failing], calls: &mut [u64; 5], call: Call) -> bool
-    ensures due { result ≡ is_planned failing.now call (slice_index calls.old (place_of call)) }
+// How many calls of this kind were made.
+pub fn count_of(calls: &[u64; 5], call: Call) -> u64
+    ensures { result ≡ slice_index calls.now (place_of call) }
+{
+    calls[call.place()]
+}
+
+// One more call of this kind, and of no other; answers how many were made before.
+pub fn count_call(calls: &mut [u64; 5], call: Call) -> u64
+    ensures before { result ≡ slice_index calls.old (place_of call) }
     ensures counted { slice_index calls.new (place_of call) ≡ min (slice_index calls.old (place_of call) + 1) (2 ^ 64 - 1) }
     ensures others { (c : Call) → c ≢ call → slice_index calls.new (place_of c) ≡ slice_index calls.old (place_of c) }
 {
     let made = &mut calls[call.place()];
     let nth = *made;
     *made = made.saturating_add(1);
+    nth
+}
+
+// Whether the next call of this kind is to fail; it counts as made.
+pub fn fails_now(failing: &[Failing], calls: &mut [u64; 5], call: Call) -> bool
+    ensures due { result ≡ is_planned failing.now call (slice_index calls.old (place_of call)) }
+    ensures counted { slice_index calls.new (place_of call) ≡ min (slice_index calls.old (place_of call) + 1) (2 ^ 64 - 1) }
+    ensures others { (c : Call) → c ≢ call → slice_index calls.new (place_of c) ≡ slice_index calls.old (place_of c) }
+{
+    let nth = count_call(calls, call);
     is_planned(failing, call, nth)
 }
 

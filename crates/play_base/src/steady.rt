@@ -2,12 +2,14 @@
 ghost use Rattle.std.specs.Prelude.{◌≡◌, ◌≢◌, ◌≤◌, ◌<◌, ◌-◌, ◌^◌, ℕ, List, [], min, length, take, IsSome, Some, None, IfOk, OnOk, OnErr, IsErrOf, option_map, unwrap_or};
 ghost use Rattle.play_base.specs.View.{Unchanged, Keeps, Any, IsFresh, Opened, Created, Took, Wrote, Said, WriteFault, IsAtEnd};
 ghost use Rattle.play_base.specs.Memory.{bytes_under};
-ghost use Rattle.play_base.specs.Steady.{steady_view};
+ghost use Rattle.play_base.specs.Steady.{HasSameBounds, IsCounted, steady_made, steady_view};
+ghost use Rattle.play_base.specs.declared.planned.Call.{Call};
 
 use crate::names::{append_bytes, bytes_of, set_bytes};
 use crate::numbered::{add_created, add_file, copy_next, name_of};
 use crate::opened::{Chunk, OpenedFile};
-use crate::{Files, NoMemory, Trouble};
+use crate::planned::{count_call, count_of};
+use crate::{Call, Files, NoMemory, Trouble};
 use std::alloc::Global;
 use std::collections::BTreeMap;
 
@@ -20,15 +22,19 @@ pub struct SteadyFiles {
     opened: Vec<OpenedFile>,
     said: Vec<u8>,
     chunk: Chunk,
+    short: Chunk,
+    calls: [u64; 5],
 }
 
 impl SteadyFiles {
-    /// No file, nothing said, every name empty, and no bound on a read. Takes no memory.
+    /// No file, nothing said, every name empty, no call made, and no bound on a read or a write. Takes no memory.
     pub fn new(alloc: Global) -> Self
         ensures none { (n : List ℕ) → bytes_under result.names n ≡ None }
         ensures names { (n : List ℕ) → (steady_view result).bytes n ≡ Some [] }
         ensures fresh { IsFresh (steady_view result) }
+        ensures made { (call : Call) → steady_made result call ≡ 0 }
         ensures most { result.chunk.most ≡ 2 ^ 32 - 1 }
+        ensures short { result.short.most ≡ 2 ^ 32 - 1 }
     {
         SteadyFiles {
             alloc,
@@ -36,6 +42,8 @@ impl SteadyFiles {
             opened: Vec::new(alloc),
             said: Vec::new(alloc),
             chunk: Chunk { most: u32::MAX },
+            short: Chunk { most: u32::MAX },
+            calls: [0; 5],
         }
     }
 }
@@ -48,7 +56,8 @@ impl SteadyFiles {
         ensures others { Keeps (λ n. n ≢ name.now) Any (steady_view self.old) (steady_view self.new) }
         ensures said { (steady_view self.new).said ≡ (steady_view self.old).said }
         ensures err { OnErr result (Unchanged (steady_view self.old) (steady_view self.new)) }
-        ensures most { self.new.chunk.most ≡ self.old.chunk.most }
+        ensures made { (call : Call) → steady_made self.new call ≡ steady_made self.old call }
+        ensures bounds { HasSameBounds self.old self.new }
     {
         let Ok(bytes) = bytes.to_vec(self.alloc) else {
             return Err(NoMemory);
@@ -78,9 +87,29 @@ impl SteadyFiles {
     pub fn chunk(&mut self, most: u32)
         requires { 1 ≤ most }
         ensures same { Unchanged (steady_view self.old) (steady_view self.new) }
+        ensures made { (call : Call) → steady_made self.new call ≡ steady_made self.old call }
         ensures most { self.new.chunk.most ≡ most }
+        ensures short { self.new.short.most ≡ self.old.short.most }
     {
         self.chunk = Chunk { most };
+    }
+
+    /// Lets one `write` move at most `most` bytes, at least 1. Takes no memory.
+    pub fn short_writes(&mut self, most: u32)
+        requires { 1 ≤ most }
+        ensures same { Unchanged (steady_view self.old) (steady_view self.new) }
+        ensures made { (call : Call) → steady_made self.new call ≡ steady_made self.old call }
+        ensures most { self.new.chunk.most ≡ self.old.chunk.most }
+        ensures short { self.new.short.most ≡ most }
+    {
+        self.short = Chunk { most };
+    }
+
+    /// How many calls of this kind were made since `new`. Takes no memory.
+    pub fn calls(&self, call: Call) -> u64
+        ensures { result ≡ steady_made self.now call }
+    {
+        count_of(&self.calls, call)
     }
 
     /// The count of read faults of a part, a number below 16: always 0.
@@ -109,8 +138,9 @@ impl Files for SteadyFiles {
         ensures files { OnErr result (self.new.opened.items ≡ self.old.opened.items) }
         ensures refused { OnErr result (Unchanged (steady_view self.old) (steady_view self.new)) }
         ensures failed { IsErrOf result Trouble.Failed → ⊥ }
-        ensures most { self.new.chunk.most ≡ self.old.chunk.most }
+        ensures counted { IsCounted Call.Open self.old self.new }
     {
+        let _ = count_call(&mut self.calls, Call::Open);
         let bytes = match self.names.get(name) {
             Some(bytes) => bytes.to_vec(self.alloc),
             None => Ok(Vec::new(self.alloc)),
@@ -127,8 +157,9 @@ impl Files for SteadyFiles {
         ensures files { OnErr result (self.new.opened.items ≡ self.old.opened.items) }
         ensures refused { OnErr result (Unchanged (steady_view self.old) (steady_view self.new)) }
         ensures failed { IsErrOf result Trouble.Failed → ⊥ }
-        ensures most { self.new.chunk.most ≡ self.old.chunk.most }
+        ensures counted { IsCounted Call.Create self.old self.new }
     {
+        let _ = count_call(&mut self.calls, Call::Create);
         add_created(self.alloc, &mut self.opened, &mut self.names, part, name)
     }
 
@@ -141,24 +172,28 @@ impl Files for SteadyFiles {
         ensures failed { IsErrOf result Trouble.Failed → ⊥ }
         ensures bounded { IfOk result (λ n. (left : List ℕ) → (steady_view self.old).left file ≡ Some left →
             n ≡ min (min (length left) (length into.old)) self.old.chunk.most) }
-        ensures most { self.new.chunk.most ≡ self.old.chunk.most }
+        ensures counted { IsCounted Call.Read self.old self.new }
     {
+        let _ = count_call(&mut self.calls, Call::Read);
         let from = &mut self.opened[file as usize];
         Ok(copy_next(from, &self.chunk, into))
     }
 
     fn write(&mut self, file: u32, bytes: &[u8]) -> Result<usize, Trouble>
         requires { IsSome ((steady_view self.old).part file) }
-        ensures count { IfOk result (λ n. n ≡ length bytes.now) }
+        ensures count { IfOk result (λ n. n ≤ length bytes.now) }
+        ensures bounded { IfOk result (λ n. n ≡ min (length bytes.now) self.old.short.most) }
         ensures wrote { IfOk result (λ n. Wrote (steady_view self.old) (steady_view self.new) file (take n bytes.now)) }
         ensures none { IfOk result (λ n. n ≡ 0 → 0 < length bytes.now → WriteFault (steady_view self.old) (steady_view self.new) file) }
         ensures refused { OnErr result (Unchanged (steady_view self.old) (steady_view self.new)) }
         ensures failed { IsErrOf result Trouble.Failed → ⊥ }
-        ensures most { self.new.chunk.most ≡ self.old.chunk.most }
+        ensures counted { IsCounted Call.Write self.old self.new }
     {
+        let _ = count_call(&mut self.calls, Call::Write);
+        let count = self.short.count(bytes);
         let name = name_of(&self.opened, file);
-        match append_bytes(self.alloc, &mut self.names, name, bytes) {
-            Ok(()) => Ok(bytes.len()),
+        match append_bytes(self.alloc, &mut self.names, name, &bytes[..count]) {
+            Ok(()) => Ok(count),
             Err(_) => Err(Trouble::NoMemory),
         }
     }
@@ -167,8 +202,9 @@ impl Files for SteadyFiles {
         ensures said { OnOk result (Said (steady_view self.old) (steady_view self.new) text.now) }
         ensures refused { OnErr result (Unchanged (steady_view self.old) (steady_view self.new)) }
         ensures failed { IsErrOf result Trouble.Failed → ⊥ }
-        ensures most { self.new.chunk.most ≡ self.old.chunk.most }
+        ensures counted { IsCounted Call.Say self.old self.new }
     {
+        let _ = count_call(&mut self.calls, Call::Say);
         match self.said.extend_from_slice(text) {
             Ok(()) => Ok(()),
             Err(_) => Err(Trouble::NoMemory),

@@ -1,6 +1,7 @@
 // Calls that fail, and what stands then.
 
 use crate::arrivals::{HEAD, packets};
+use crate::hfsc::VOICE_AND_DATA;
 use crate::runs::{IMPLIED, check_over, ended, play_over};
 use play_base::{Call, MemoryFiles};
 use std::test::Fail;
@@ -28,7 +29,7 @@ fn write_fails_in_the_middle(rt: HostRuntime) -> Result<(), Fail> {
 }
 
 #[test]
-fn each_call_fails_in_turn(rt: HostRuntime) -> Result<(), Fail> {
+fn single_failures(rt: HostRuntime) -> Result<(), Fail> {
     let arrivals = packets(rt.alloc(), 1, 5, 0, 1000)?;
     for (call, nth, code, kind) in [
         (Call::Open, 0, 5, 1),
@@ -56,7 +57,7 @@ fn each_call_fails_in_turn(rt: HostRuntime) -> Result<(), Fail> {
 fn text_is_not_said(rt: HostRuntime) -> Result<(), Fail> {
     let mut files = MemoryFiles::new(rt.alloc());
     files.fail_at(Call::Say, 0)?;
-    let status = check_over(rt.alloc(), &mut files, IMPLIED)?;
+    let status = check_over(rt.alloc(), &mut files, VOICE_AND_DATA)?;
     assert_eq!(rt; status, ended(6, 0, 10));
     assert!(rt; files.said() == b"altqplay: writing result failed\n".as_slice());
     Ok(())

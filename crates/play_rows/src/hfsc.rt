@@ -4,11 +4,21 @@ use crate::arrivals::{arrive, no_arrivals};
 use crate::fates::{Burst, HEAD_ROW, leave};
 use crate::frames::{PLAIN, datagram};
 use crate::runs::played;
+use play_base::NoMemory;
+use std::alloc::Global;
 use std::test::Fail;
 
 /// A leaf for voice beside one for data.
 pub const VOICE_AND_DATA: &str =
     "interface if0 bandwidth 8M hfsc\nclass hfsc if0 root NULL pshare 100\nclass hfsc if0 voice root [sc 4M 5 1M]\nclass hfsc if0 data root [sc 0 5 4M] default\nfilter if0 voice 0 5004 0 0 17\n";
+
+/// 50 packets of data at 0, and one of voice after 10 ms.
+pub fn voice_and_data(alloc: Global) -> Result<Vec<u8>, NoMemory> {
+    let mut arrivals = no_arrivals(alloc)?;
+    arrive(&mut arrivals, 50, 0, 1000, &PLAIN)?;
+    arrive(&mut arrivals, 1, 10_000_000, 200, &datagram(alloc, 5004)?)?;
+    Ok(arrivals)
+}
 
 // Real time grants the data half the link: where k of its packets went by real time, the next is eligible from 2k ms on, and so every
 // second one goes by share. The voice packet is due at 10,400,000, and the data's next deadline is 17,000,000. One packet of data may
@@ -16,9 +26,7 @@ pub const VOICE_AND_DATA: &str =
 #[test]
 fn voice_overtakes_bulk_data(rt: HostRuntime) -> Result<(), Fail> {
     let alloc = rt.alloc();
-    let mut arrivals = no_arrivals(alloc)?;
-    arrive(&mut arrivals, 50, 0, 1000, &PLAIN)?;
-    arrive(&mut arrivals, 1, 10_000_000, 200, &datagram(alloc, 5004)?)?;
+    let arrivals = voice_and_data(alloc)?;
     let mut rows = String::from_str(alloc, HEAD_ROW)?;
     let data = Burst {
         count: 10,

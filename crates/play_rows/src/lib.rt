@@ -10,6 +10,8 @@ mod cbq;
 #[cfg(test)]
 mod damages;
 #[cfg(test)]
+mod extremes;
+#[cfg(test)]
 mod fates;
 #[cfg(test)]
 mod faults;
@@ -35,3 +37,5 @@ mod one_queue;
 mod refusals;
 #[cfg(test)]
 mod runs;
+#[cfg(test)]
+mod turns;
