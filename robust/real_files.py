@@ -8,7 +8,7 @@ takes a second or two. It tries full disks, names that are not there or may not 
 capture that is cut while it is read, descriptors that are closed or run out, and one file under two names. For each it
 compares status, standard output, and what each output holds, in one word:
 
-    as before   what it held when the program began, also that it was not there
+    as before   what it held when the program began, also that it was not there, or that it is the capture or the configuration
     empty       nothing, though it was created
     head        its head alone
     front       a front of its whole text, longer than the head and shorter than the whole
@@ -266,9 +266,14 @@ def by_another_name(room, which, how):
     return finished(room, {**NAMES, which: name})
 
 
-def over_configuration(room):
-    """A play whose departures are one file with its configuration."""
-    return played(room, departures="./" + NAMES["config"])
+def over(room, which, other):
+    """A play whose output `which` is one file with another of its files."""
+    return played(room, **{which: "./" + NAMES[other]})
+
+
+def on_device(room):
+    """A play all of whose outputs are one device, by three names."""
+    return played(room, departures="/dev/null", fates="/dev/./null", stats="/dev/.//null")
 
 
 def long_name(room, which):
@@ -350,12 +355,14 @@ QUICK = [
     Try("a capture that is cut, with standard output closed, or full", redirected, (">&-", 1), 4, "", ("front", "front", "empty")),
     Try("a capture that is cut, with standard output closed, or full", redirected, (">/dev/full", 1), 4, "", ("front", "front", "empty")),
     Try("a capture that is cut, with all three standard descriptors closed", redirected, ("<&- >&- 2>&-", 1), 4, "", ("front", "front", "empty")),
-    Try("departures that are the arrivals by another name, a link or a symbolic link", by_another_name, ("departures", "name"), 0, "", ("head", "head", "other")),
-    Try("departures that are the arrivals by another name, a link or a symbolic link", by_another_name, ("departures", "link"), 0, "", ("head", "head", "other")),
-    Try("departures that are the arrivals by another name, a link or a symbolic link", by_another_name, ("departures", "symbolic link"), 0, "", ("head", "head", "other")),
-    Try("fates that are the arrivals by another name", by_another_name, ("fates", "name"), 4, "altqplay: capture byte 0: BadMagic\n", ("head", "head", "empty")),
-    Try("statistics that are the arrivals by another name", by_another_name, ("stats", "name"), 4, "altqplay: capture byte 0: ShortHead\n", ("head", "head", "empty")),
-    Try("departures that are the configuration by another name", over_configuration, (), 0, "", WHOLE),
+    Try("departures that are the arrivals by another name, a link or a symbolic link", by_another_name, ("departures", "name"), 6, writing("departures"), UNTOUCHED),
+    Try("departures that are the arrivals by another name, a link or a symbolic link", by_another_name, ("departures", "link"), 6, writing("departures"), UNTOUCHED),
+    Try("departures that are the arrivals by another name, a link or a symbolic link", by_another_name, ("departures", "symbolic link"), 6, writing("departures"), UNTOUCHED),
+    Try("fates that are the arrivals by another name", by_another_name, ("fates", "name"), 6, writing("fates"), after_creation("fates")),
+    Try("statistics that are the arrivals by another name", by_another_name, ("stats", "name"), 6, writing("stats"), after_creation("stats")),
+    Try("departures that are the configuration by another name", over, ("departures", "config"), 6, writing("departures"), UNTOUCHED),
+    Try("fates that are the departures by another name", over, ("fates", "departures"), 6, writing("fates"), ("empty", "empty", "as before")),
+    Try("all outputs on `/dev/null`", on_device, (), 0, "", ("nothing",) * 3),
 ]
 
 DEMANDING = [
@@ -367,11 +374,12 @@ DEMANDING = [
 ]
 
 
-def holding(name, data, whole):
+def holding(name, data, whole, capture):
     """In one word what an output holds."""
     if data is None:
         return "nothing"
-    for word, text in (("as before", BEFORE), ("whole", whole), ("empty", b""), ("head", HEADS[name])):
+    before = [("as before", text) for text in (BEFORE, capture, CONFIG)]
+    for word, text in (*before, ("whole", whole), ("empty", b""), ("head", HEADS[name])):
         if data == text:
             return word
     return "front" if whole.startswith(data) else "other"
@@ -387,7 +395,7 @@ def differences(room, one, found):
     if found.run.complaint:
         told.append("something stands on standard error")
     for name, word in zip(OUTPUTS, one.holds):
-        held = holding(name, found.outputs[name], room.whole[name])
+        held = holding(name, found.outputs[name], room.whole[name], room.capture)
         if held != word and (held, word) != ("nothing", "as before"):
             told.append(f"{name}: {held} for {word}")
     return told
