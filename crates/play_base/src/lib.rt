@@ -13,6 +13,7 @@ mod packet;
 mod planned;
 mod steady;
 mod trouble;
+mod writing;
 
 pub use amounts::{time_of, units};
 pub use files::Files;
@@ -21,3 +22,4 @@ pub use packet::{Bytes, Packet, Ticket};
 pub use planned::Call;
 pub use steady::SteadyFiles;
 pub use trouble::{NoMemory, Trouble};
+pub use writing::write_all;
