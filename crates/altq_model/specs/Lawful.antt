@@ -1,5 +1,5 @@
--- When a policy is lawful, and when arrivals suit it. A law is asked after every history, also after one that holds packets of
--- classes that are none of the policy's: of the policy's own classes that wait it is asked alone.
+-- When a policy is lawful, and which arrivals it can play. Each law is required after every history, even after one with packets of
+-- classes that the policy does not have; but it is required only for the policy's own classes in which a packet waits.
 use Rattle.std.specs.Prelude.{◌≡◌, ◌≤◌, ◌↔◌, ℕ, max, List, [], ◌∷◌, None, Some, option_map}
 use Rattle.std.specs.declared.option.Option.{Option}
 use Rattle.capture_model.specs.Capture.{Record}
@@ -34,7 +34,7 @@ pub record IsLawful (p : Policy) : Type 0 where
 abbrev pub NeverWaits : Policy → Type 0
 NeverWaits p = (h : List Event) (c t : ℕ) (b : Coming) → IsHead p h c b → p.start_from h c t ≡ t
 
--- asked again from a later moment that is not past the answer, a class that waits gives the same answer, as a least moment does
+-- if the least moment from t on is m, then the least moment from any u between t and m on is also m
 abbrev pub IsSteady : Policy → Type 0
 IsSteady p = (h : List Event) (c t u : ℕ) (b : Coming) → IsHead p h c b → t ≤ u → u ≤ p.start_from h c t
     → p.start_from h c u ≡ p.start_from h c t
@@ -45,8 +45,8 @@ pub record IsCandidate (allowed : List Event → (c t : ℕ) → Type 0) (p : Po
   pub head : IsHead p h c packet
   pub may : allowed h c s
 
--- a policy by when a class of it that waits may send: it gives the least such moment, an offer changes nothing of it, and the pick is
--- a candidate wherever there is one
+-- a policy given by a predicate that says when a waiting class may send: the policy gives the least such moment, an offer changes
+-- nothing of the predicate, and the pick is a candidate wherever there is one
 pub record SendsWhen (allowed : List Event → (c t : ℕ) → Type 0) (p : Policy) : Type 0 where
   pub later : (h : List Event) (c t : ℕ) (b : Coming) → IsHead p h c b → t ≤ p.start_from h c t
   pub may : (h : List Event) (c t : ℕ) (b : Coming) → IsHead p h c b → allowed h c (p.start_from h c t)

@@ -22,7 +22,7 @@ pub enum Rule {
 pub enum Reason {
     /// The queue held as many packets as its limit.
     Full,
-    /// The queue rule drew it early.
+    /// RED or RIO dropped it before the queue was full: by a random word, or because the spacing of drops was used up.
     Early,
     /// The queue's average had reached its upper threshold.
     Forced,
