@@ -30,16 +30,16 @@ head_in s c = get_or s.heads c None
 abbrev pub credit_in : Situation → ℕ → ℕ
 credit_in s c = get_or s.credits c 0
 
--- a class allows a packet of a length to start then: the root always, another by its average or by the idle time that the packet's
+-- a class allows a packet of a length to start at t: the root always, another by its average or by the idle time that the packet's
 -- end leaves
 abbrev pub allows_in : List CbqClass → (rate : ℕ) → Situation → (c t len : ℕ) → Bool
 allows_in cs rate s c t len = is_root cs c || allows_now (estimate_in s c) (end_of rate s.link t len) len
 
--- a class may send a packet of a length then: it allows it itself, or one that may lend to it does
+-- a class may send a packet of a length at t: it allows it itself, or one that may lend to it does
 abbrev pub may_send : List CbqClass → (rate : ℕ) → Situation → (c t len : ℕ) → Bool
 may_send cs rate s c t len = allows_in cs rate s c t len || list_any (λ p. allows_in cs rate s p t len) (lenders cs c)
 
--- a class waits, and may send its head then
+-- a class waits, and may send its head at t
 abbrev pub may_with : List CbqClass → (rate : ℕ) → Situation → (c t : ℕ) → Option ℕ → Bool
 may_with cs rate s c t None = false
 may_with cs rate s c t (Some len) = may_send cs rate s c t len
@@ -70,7 +70,7 @@ start_with cs rate s c t (Some len) = least_of (own_start cs rate s t len) c (le
 abbrev pub start_of : List CbqClass → (rate : ℕ) → Situation → (c t : ℕ) → ℕ
 start_of cs rate s c t = start_with cs rate s c t (head_in s c)
 
--- the waiting classes that may send then
+-- the waiting classes that may send at t
 abbrev pub able : List CbqClass → (rate : ℕ) → Situation → (t : ℕ) → List ℕ
 able cs rate s t = filter (λ c. may cs rate s c t) (numbers cs)
 
@@ -81,8 +81,8 @@ rounds_for credit quantum len = ceil_div (len - credit) quantum
 abbrev pub rounds : List CbqClass → (rate : ℕ) → Situation → (c : ℕ) → ℕ
 rounds cs rate s c = rounds_for (credit_in s c) (quantum_of rate (class_of cs c)) (unwrap_or (head_in s c) 0)
 
--- what decides between classes: the priority, the rounds that they need, and the order of their ring from the cursor on, in which those
--- that stand before the cursor in the file come last
+-- what decides between classes: the priority, the rounds that they need, and the order of the ring of their priority: that of the
+-- file, but beginning at the cursor
 abbrev pub rank_in : List CbqClass → (rate : ℕ) → Situation → (c : ℕ) → Rank
 rank_in cs rate s c =
     let p = (class_of cs c).priority in

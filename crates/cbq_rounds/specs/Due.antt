@@ -30,7 +30,7 @@ abbrev pub due_with : Option ℕ → (t : ℕ) → Pick → Pick
 due_with None t p = Empty
 due_with (Some u) t p = if u == t then p else Wait u
 
--- nothing where nothing waits; the head of the choice's class where some class may send then; else a wait
+-- nothing where nothing waits; the head of the choice's class where some class may send at t; else a wait
 abbrev pub due_in : Shared → (ℕ → List Entry) → Clock → (t : ℕ) → Pick
 due_in d lists clock t =
     let k = choice_of d.tree d.rate (situation_in d lists clock.link) t in

@@ -18,7 +18,7 @@ with_credit d c credit = record {
   ended = d.ended;
 }
 
--- a class was sent last of its priority, till then
+-- the ring of the class's priority begins at it, and the latest sending ended at `end`
 abbrev pub with_last : Shared → (c end : ℕ) → Shared
 with_last d c end = record {
   rate = d.rate;
