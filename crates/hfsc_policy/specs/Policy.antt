@@ -33,7 +33,7 @@ abbrev pub open_from : List HfscClass → HfscHistory → List ℕ → Option �
 open_from cs h [] = Some 0
 open_from cs h (c ∷ up) = later_of (within_from (class_of cs c).limit (arrivals_of cs h c) (total cs h c)) (open_from cs h up)
 
--- the earlier of two moments, where `None` is never
+-- the earlier of two moments; `None` means never, and is later than every moment
 abbrev pub earlier_of : Option ℕ → Option ℕ → Option ℕ
 earlier_of None b = b
 earlier_of (Some x) None = Some x

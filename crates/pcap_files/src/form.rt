@@ -1,4 +1,4 @@
-// The head of a capture.
+// The header of a capture.
 ghost use Rattle.std.specs.Prelude.{◌≡◌, ◌≤◌, IfOk, OnOk, IfErr, option_map, length};
 ghost use Rattle.capture_model.specs.Capture.{header, Formed, Unformed, form_of, damage};
 ghost use Rattle.pcap_files.specs.Forms.{form};
@@ -15,7 +15,7 @@ pub struct Head {
 }
 
 impl Head {
-    /// The form that a file's bytes begin with. The error is the first test of the head that the bytes fail: fewer than 24
+    /// The form that a file's bytes begin with. The error is the first test of the header that the bytes fail: fewer than 24
     /// bytes, no magic number of the classic format, another version than 2.4, or another link type than Ethernet in the
     /// low 16 bits; nothing else is looked at. Constant time.
     pub fn read(bytes: &[u8]) -> Result<Head, Damage>

@@ -14,7 +14,7 @@ use capture_model::DamageKind;
 use play_base::{Bytes, Files};
 use std::alloc::Global;
 
-// Bytes of a file's head.
+// Bytes of a file's header.
 const FILE_HEAD: usize = 24;
 
 /// Reads a capture from an opened file. It takes pieces of at most 65,536 bytes from it, and holds no more than a piece
@@ -30,9 +30,9 @@ pub struct Reader {
 }
 
 impl Reader {
-    /// Reads the head of the capture that the file has left. `Damage` comes exactly where the head fails a test,
+    /// Reads the header of the capture that the file has left. `Damage` comes exactly where the header fails a test,
     /// `Read` only where the count of read faults of the file's part rose in this call, and `Limit` never. At most 65,536
-    /// bytes past the head were taken. `file` was answered by `files`.
+    /// bytes past the header were taken. `file` was answered by `files`.
     pub fn start<F: Files>(alloc: Global, files: &mut F, file: u32) -> Result<Reader, CaptureFault>
         requires there { IsSome ((F.view files.old).part file) }
         ensures stands { IfOk result (λ reader. (bytes : List ℕ) → (F.view files.old).left file ≡ Some bytes →
@@ -144,7 +144,7 @@ impl Reader {
         }
     }
 
-    // Takes the record with this head from the bytes ahead, where it stands whole.
+    // Takes the record with this header from the bytes ahead, where it stands whole.
     fn take_record(
         &mut self,
         stamp: u64,

@@ -22,7 +22,7 @@ use std::alloc::Global;
 impl Progress {
     /// Begins the play of a discipline that nothing was offered yet, over a link of `rate` bits per second, 1,000 to 10^12. Takes
     /// all the memory that the play takes: a place for each packet that the discipline has room for, and one for the packet that
-    /// is offered. `NoMemory` comes only for want of it.
+    /// is offered. `NoMemory` comes only when memory runs out.
     pub fn begin<D: Discipline>(
         alloc: Global,
         discipline: &D,

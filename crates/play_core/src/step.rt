@@ -11,7 +11,8 @@ use discipline_laws::{Discipline, Pick, Sending};
 use link_clock::LinkClock;
 use play_base::Ticket;
 
-/// The clock ends at 2^32 seconds, in nanoseconds: no packet may end then or later.
+/// The end of the clock, 2^32 seconds, in nanoseconds: the first moment that a capture cannot stamp. No packet may end at it or
+/// later.
 const CLOCK_END: u64 = 4_294_967_296_000_000_000;
 
 // What comes next in a play.

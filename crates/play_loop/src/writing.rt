@@ -28,7 +28,7 @@ use std::alloc::Global;
 /// Rows are written once they have more bytes than this. A row has fewer than 256, so no more than 65,536 are gathered.
 const ROWS_BOUND: usize = 65_536 - 256;
 
-// Adds the record of a packet of `len` bytes that was sent: its head, and then these bytes of it.
+// Adds the record of a packet of `len` bytes that was sent: its header, and then these bytes of it.
 fn add_record<F: Files>(
     files: &mut F,
     file: u32,

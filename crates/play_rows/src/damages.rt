@@ -26,7 +26,7 @@ fn last_record_cut_by_one_byte(rt: HostRuntime) -> Result<(), Fail> {
     Ok(())
 }
 
-// The head has 24 bytes, and each of two records 76.
+// The header has 24 bytes, and each of two records 76.
 #[test]
 fn cuts_to_each_length(rt: HostRuntime) -> Result<(), Fail> {
     for count in 0..=176 {

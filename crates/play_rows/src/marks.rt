@@ -5,7 +5,7 @@ use crate::fates::{Burst, HEAD_ROW, leave};
 use crate::runs::played;
 use std::test::Fail;
 
-// A frame of 60 bytes that is capable of congestion notification, by the first word of its IPv4 head, 4502.
+// A frame of 60 bytes that is capable of congestion notification, by the first word of its IPv4 header, 4502.
 const CAPABLE: [u8; 60] = [
     2, 0, 0, 0, 0, 2, 2, 0, 0, 0, 0, 1, 8, 0, 0x45, 2, 0, 0x2e, 0, 0, 0, 0, 0x40, 0x11, 0xb1, 0xe6,
     10, 0, 0, 1, 10, 0, 0, 2, 4, 3, 0x13, 0x89, 0, 0, 0, 0, 0, 0, 0, 0, 0, 0, 0, 0, 0, 0, 0, 0, 0,

@@ -1,4 +1,4 @@
-// Examples that are computed from the definitions.
+// Worked examples, computed by the checker from the definitions.
 ghost use Rattle.std.specs.Prelude.{◌≡◌, true, false, pos, negsuc};
 ghost use Rattle.play_base.specs.Units.{time_of};
 ghost use Rattle.red_average.specs.Average.{idle_steps, moved};
