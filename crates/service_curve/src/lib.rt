@@ -14,7 +14,7 @@ ghost use Rattle.service_curve.specs.Moment.{IsFirst};
 /// A service curve of two pieces: the slope `m1` for a time of `d`, and from there on the slope `m2`.
 ///
 /// Slopes are in bits per second, up to 10^12; `d` is in nanoseconds, up to 10^15. A curve with `d` = 0 is the line of slope
-/// `m2`. It gives 0 in no time.
+/// `m2`. In a time of 0 it gives 0.
 #[derive(Clone, Copy, Debug, PartialEq, Eq)]
 pub struct Curve {
     pub m1: u64,
