@@ -1,4 +1,4 @@
-// What is told of a frame.
+// What a classifier says of a frame.
 ghost use Rattle.std.specs.Prelude.{◌≡◌, ℕ, Bool, List, length};
 
 use altq_model::Placed;
