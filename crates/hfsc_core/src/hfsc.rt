@@ -68,7 +68,7 @@ fn pick_of<Q: QueueRule + Drop>(rows: &Rows<Q>, chosen: Chosen) -> Pick
     }
 }
 
-// A packet sent by this rule counts for real time.
+// Whether a sending by this rule counts for real time.
 fn is_real(rule: Rule) -> bool
     ensures { result ≡ is_real rule }
 {

@@ -81,7 +81,7 @@ pub record IsRealPick (curves : List (Option Curve)) (h : HfscHistory) (now c : 
   pub first : (d : ℕ) → IsEligible curves h now d → (d ≡ c → ⊥)
       → before curves h c d ≡ true
 
--- the same computed: of the classes with an eligible head the one that goes first
+-- the pick, computed: of the classes with an eligible head the one that goes first
 abbrev pub first_by : (ℕ → ℕ → Bool) → List ℕ → Option ℕ
 first_by goes [] = None
 first_by goes (c ∷ cs) = elim (first_by goes cs) [ None ↦ Some c | Some d ↦ if goes c d then Some c else Some d ]

@@ -28,7 +28,7 @@ abbrev pub within_from : Option Curve → List Opening → ℕ → Option ℕ
 within_from None os u = Some 0
 within_from (Some s) os u = deadline s os u
 
--- the first moment at which all classes of a path are
+-- the first moment at which all classes of a path are within their limits
 abbrev pub open_from : List HfscClass → HfscHistory → List ℕ → Option ℕ
 open_from cs h [] = Some 0
 open_from cs h (c ∷ up) = later_of (within_from (class_of cs c).limit (arrivals_of cs h c) (total cs h c)) (open_from cs h up)

@@ -40,7 +40,7 @@ pub record GroupsHold (nodes : List Node) (groups : List Group) : Type 0 where
   pub count : length groups ≡ length nodes
   pub each : (p : ℕ) (g : Group) → slice_get groups p ≡ Some g → GroupHolds nodes p g
 
--- no child is active, and none was; so many classes have a place
+-- no child is active, and none was; there is a place for each of `places` classes
 pub record IsNewGroup (places : ℕ) (g : Group) : Type 0 where
   pub times : order_of g.times ≡ []
   pub moments : order_of g.moments ≡ []
