@@ -98,7 +98,7 @@ fn count(line: &[u8]) -> u64
     found + one_if(start < at)
 }
 
-/// One for a word that is there.
+/// 1 if a word is there, else 0.
 fn one_if(is_there: bool) -> u64
     ensures { result ≡ (if is_there then 1 else 0) }
 {

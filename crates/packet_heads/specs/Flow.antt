@@ -1,6 +1,6 @@
 -- The flow that a frame of Ethernet belongs to, from the list of its bytes: what its type is behind the tags (IEEE 802.1Q),
 -- then what the header of its packet says (RFC 791, RFC 8200), and the ports of TCP and UDP, which stand first behind that
--- header. Numbers stand with the greater byte first. Places are counted from 0.
+-- header. Numbers are big-endian. Places are counted from 0.
 use Rattle.std.specs.Prelude.{◌≡◌, ℕ, Bool, ◌+◌, ◌*◌, ◌/◌, ◌%◌, ◌^◌, ◌==◌, ◌&&◌, ◌||◌, nat_le, if◌then◌else◌, List, length, drop, slice_index, slice_range, Option, Some, None}
 
 -- what the headers say: the type of service or traffic class, the protocol, the addresses, and the ports, source first

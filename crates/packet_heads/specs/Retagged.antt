@@ -8,7 +8,7 @@ use Rattle.packet_heads.specs.Flow.{Flow, V4, V6, Other, flow, packet_place, two
 abbrev pub ones_sum : (a b : ℕ) → ℕ
 ones_sum a b = if nat_le (a + b) 0xffff then a + b else a + b - 0xffff
 
--- a word with each bit turned
+-- the ones' complement of a word of 16 bits
 abbrev pub turned : (word : ℕ) → ℕ
 turned word = 0xffff - word
 

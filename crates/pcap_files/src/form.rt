@@ -6,8 +6,8 @@ ghost use Rattle.pcap_files.specs.Forms.{form};
 use crate::numbers::{half, word};
 use capture_model::{Damage, DamageKind};
 
-/// The form of a capture: whether its numbers stand with the greatest byte first, and whether the fractions of its stamps
-/// count nanoseconds, and not microseconds.
+/// The form of a capture: whether its numbers are big-endian, and whether the fractions of its stamps count nanoseconds, and
+/// not microseconds.
 #[derive(Clone, Copy, Debug, PartialEq, Eq)]
 pub struct Head {
     pub big: bool,
@@ -39,7 +39,7 @@ impl Head {
     }
 }
 
-// The form that a magic number names, read with the greatest byte first.
+// The form that a magic number names, read as big-endian.
 fn form_by(magic: u32) -> Option<Head>
     ensures { option_map form result ≡ form_of magic }
 {

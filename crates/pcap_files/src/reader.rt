@@ -71,8 +71,8 @@ impl Reader {
     /// The next record, or none where the file ends at a record's place. `Damage` and `Limit` come exactly where the bytes
     /// at that place fail a test, `Read` only where the count of read faults of the file's part rose in this call.
     /// After any fault the reader answers that fault again and takes nothing. When a record is answered, at most 65,536
-    /// bytes past it were taken. What the file has left is to be what it had left after this reader's last call. Takes time
-    /// in proportion to the bytes taken and the record's.
+    /// bytes past it were taken. Between this reader's calls nothing else may read from the file. Takes time in
+    /// proportion to the bytes taken and the record's.
     pub fn next<F: Files>(&mut self, files: &mut F) -> Result<Option<Record>, CaptureFault>
         requires there { IsSome ((F.view files.old).part self.old.file) }
         ensures record { IfOk result (λ answer. IfSome answer (λ r.
