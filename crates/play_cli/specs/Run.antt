@@ -146,7 +146,7 @@ pub record IsLate (old new : View) (n : Names) (seed : ℕ) : Type 0 where
   pub part : new.part file ≡ Some 2
   pub streams : Streams new file accepted.bytes records (start_of early.cut.next.what)
 
--- no count of faults rose, but perhaps that of texts that could not be said, which is that of write faults of part 0
+-- no count of faults rose, but perhaps that of texts that could not be printed: the write faults of part 0
 abbrev pub IsQuiet : View → View → Type 0
 IsQuiet old new = (part : ℕ) → (Rose (old.read_faults part) (new.read_faults part) → ⊥)
     × (1 ≤ part → Rose (old.write_faults part) (new.write_faults part) → ⊥)
@@ -166,7 +166,7 @@ IsPlayable old n seed = EndsWith old n seed End
 abbrev pub IsCode : ℕ → Type 0
 IsCode c = (c ≡ 0) ⊎ (c ≡ 2) ⊎ (c ≡ 3) ⊎ (c ≡ 4) ⊎ (c ≡ 5) ⊎ (c ≡ 6) ⊎ (c ≡ 7) ⊎ (c ≡ 8)
 
--- one does
+-- a sending of the play would end too late
 pub record EndsLate (old : View) (n : Names) (seed : ℕ) : Type 0 where
   pub accepted : Accepted old n
   pub records : List Record

@@ -37,7 +37,7 @@ abbrev pub one_kept : Verdict → ℕ
 one_kept v = if is_kept v then 1 else 0
 
 -- the first events of the play of what arrived so far, by the policy, the histories, the lists, the limits and the rate of a discipline,
--- and by the words of a seed
+-- and by the random words of a seed
 pub record IsGoing (p : Policy) (stood : List Happened → Type 0) (lists : ℕ → List Entry) (limits : ℕ → ℕ) (rate : Option ℕ)
     (arrived : List Arrival) (w : DrawnWords) (x : Progress) (g : List Happened) : Type 0 where
   pub begun : IsBegun p x.clock.rate w.seed (comings arrived) g

@@ -18,7 +18,7 @@ abbrev pub comes_by : Option ℕ → (t : ℕ) → Bool
 comes_by None t = false
 comes_by (Some at) t = nat_le at t
 
--- the sending of a packet that would end then
+-- the sending of a packet that would end at `end`, if that is not too late
 abbrev pub step_at : Ticket → (class len : ℕ) → Rule → (start end : ℕ) → Step
 step_at ticket class len rule start end =
     if nat_le clock_end end then Late

@@ -57,12 +57,12 @@ fn write_heads<F: Files>(files: &mut F, departures: u32, fates: u32) -> Result<(
     }
 }
 
-/// Plays the capture that the arrivals have left through a discipline, of which nothing was asked yet, and a link of `rate` bits per
-/// second, 1,000 to 10^12. It writes both headers, and then reads the records one by one: after each it makes every sending that
+/// Plays the capture that the arrivals have left through a discipline, to which nothing was offered yet, and a link of `rate` bits
+/// per second, 1,000 to 10^12. It writes both headers, and then reads the records one by one: after each it makes every sending that
 /// starts before the record's packet arrives, and offers the packet; at the end of the capture it makes the rest, and writes the
 /// statistics. A record for each sending and a row for each fate are gathered as they are decided, up to 65,536 bytes for each file.
-/// `classify` tells the class and the precedence of each frame and the bytes with which it leaves, `names` has a name for each class
-/// that it tells, and of `words` none is drawn.
+/// `classify` gives the class and the precedence of each frame and the bytes with which it leaves, `names` has a name for each class
+/// that it gives, and of the random words of `words` none is drawn yet.
 ///
 /// What each error means, and when it comes, `PlayFault` says. After a fault or a limit of the capture, departures and fates hold
 /// exactly what was decided up to the offer of its last complete record, and after a sending that would end too late exactly what was

@@ -94,7 +94,7 @@ fn add_row<F: Files>(
     }
 }
 
-// Gives the bytes of a packet that was sent those with which it leaves.
+// Rewrites the bytes of a sent packet as they leave: marked, or with the code point cleared, as `classify` has it.
 fn dress_packet<C: Classify>(classify: &C, departure: &mut Departure)
     ensures { departure.new ≡ record departure.old {
       packet = record departure.old.packet {

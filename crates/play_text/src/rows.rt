@@ -130,7 +130,7 @@ impl Rows {
         }
     }
 
-    // Adds a row of these fields. They lie in one array, so they have one lifetime.
+    // Adds a row of these fields. All are in one array, which `csv` writes, so they have one lifetime.
     fn put<'a>(
         &mut self,
         number: &'a str,

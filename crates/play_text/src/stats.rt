@@ -49,7 +49,7 @@ fn sums(counts: &[Counts]) -> Counts
     sum
 }
 
-// Writes a row of nine fields; false where memory was wanting. They lie in one array, so they have one lifetime.
+// Writes a row of nine fields; false where memory ran out. All are in one array, which `csv` writes, so they have one lifetime.
 fn write_fields<'a>(
     writer: &mut Writer<Vec<u8>>,
     name: &'a str,
