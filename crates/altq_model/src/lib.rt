@@ -1,4 +1,5 @@
-//! The definitions that the crates above cite, in specs/, and the plain enums that they speak of.
+//! The definitions of a play, in specs/: its events and histories, its policies, the link and the laws; and the plain
+//! enums that they speak of.
 #![tactic(auto)]
 
 ghost use Rattle.std.specs.Prelude.{◌≡◌};

@@ -54,7 +54,7 @@ least_allowed e rate l t len =
     let u = max t (wanted_now e len - time_of len rate) in
     if int_lt (pos 0) e.average then t else if nat_le (wanted_now e len) (end_of rate l u len) then u else u + 1
 
--- the same of a class, of which the root is never held back
+-- the same for a class; the root is never held back
 abbrev pub own_start : List CbqClass → (rate : ℕ) → Situation → (t len c : ℕ) → ℕ
 own_start cs rate s t len c = if is_root cs c then t else least_allowed (estimate_in s c) rate s.link t len
 
@@ -100,7 +100,7 @@ goes_before a b =
     else if nat_lt b.rounds a.rounds then false
     else before_in_ring a b
 
--- the first by that order of what was first so far and of some classes
+-- the better of the best so far and one class more, and the best of all of a list
 abbrev pub better : Option Rank → Rank → Option Rank
 better None a = Some a
 better (Some b) a = if goes_before a b then Some a else Some b
@@ -121,7 +121,7 @@ picked cs rate s t = class_in (best cs rate s None (able cs rate s t))
 abbrev pub candidates : List CbqClass → (rate : ℕ) → Situation → (t : ℕ) → List ℕ
 candidates cs rate s t = filter (λ c. (class_of cs c).priority == (class_of cs (picked cs rate s t)).priority) (able cs rate s t)
 
--- it sends as its own what it allows itself, and else borrows
+-- it sends by `Own` where it allows the packet itself, else by `Borrow`
 abbrev pub choice_of : List CbqClass → (rate : ℕ) → Situation → (t : ℕ) → Choice
 choice_of cs rate s t =
     let c = picked cs rate s t in

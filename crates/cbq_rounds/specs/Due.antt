@@ -9,7 +9,7 @@ use Rattle.discipline_laws.specs.declared.pick.Pick.{Pick}
 use Rattle.discipline_laws.specs.declared.pick.Pick.TheVariants.{Send, Wait, Empty}
 use Rattle.cbq_rounds.specs.Shared.{Shared, head_len, situation_in, start_now_in}
 
--- the first of moments
+-- the first of some moments
 abbrev pub first_of : List (Option ℕ) → Option ℕ
 first_of [] = None
 first_of (o ∷ os) = lesser o (first_of os)
@@ -21,7 +21,7 @@ start_in d lists clock t c = option_map (λ len. start_now_in d clock.rate clock
 abbrev pub first_in : Shared → (ℕ → List Entry) → Clock → (t : ℕ) → Option ℕ
 first_in d lists clock t = first_of (each (λ c k. start_in d lists clock t c) d.tree)
 
--- the head of a list is sent
+-- the sending of the head of a list
 abbrev pub send_head : Choice → List Entry → Pick
 send_head k [] = Empty
 send_head k (x ∷ xs) = Send x.ticket k.class x.len k.rule

@@ -7,7 +7,7 @@ use Rattle.cbq_model.specs.declared.CbqClass.{CbqClass}
 use Rattle.cbq_model.specs.Tree.{class_of}
 use Rattle.cbq_rounds.specs.Shared.{Shared, no_estimate}
 
--- a class has another credit
+-- the same, with another credit of class c
 abbrev pub with_credit : Shared → (c credit : ℕ) → Shared
 with_credit d c credit = record {
   rate = d.rate;

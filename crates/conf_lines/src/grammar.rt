@@ -92,6 +92,6 @@ pub(crate) struct Step {
 pub(crate) enum Refusal {
     /// It is a fault of this kind.
     Kind(u8),
-    /// There was no memory.
+    /// Memory ran out.
     NoMemory,
 }

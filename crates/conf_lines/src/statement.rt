@@ -41,7 +41,7 @@ pub struct Statement {
 
 /// The statements of a text, in order, one for each logical line that has words or is too long.
 ///
-/// Each is read up to its first fault, which it keeps. Answers `NoMemory` where there was none for the list, a name or the
+/// Each is read up to its first fault, which it keeps. Returns `NoMemory` where memory ran out for the list, a name or the
 /// words of a line. Takes the text's length in time, and its statements and the words of one line in memory.
 /// Source: altq.conf(5).
 pub fn statements(alloc: Global, text: &[u8]) -> Result<Vec<Statement>, NoMemory>

@@ -39,7 +39,7 @@ impl Filters {
     /// the order of the classes.
     ///
     /// They are sorted here, by their rule numbers downwards and then by their places, so that `class` can ask them in that
-    /// order. Answers `NoMemory` where there was none, or where there are 2^32 filters or more, or the default class or one
+    /// order. Returns `NoMemory` where memory ran out, or where there are 2^32 filters or more, or the default class or one
     /// with `control` has such a number, which no configuration has. Takes memory linear in the filters and classes, and time
     /// for sorting them. See altq.conf(5).
     pub fn build(alloc: Global, interface: &Interface) -> Result<Filters, NoMemory>

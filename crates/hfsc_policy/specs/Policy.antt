@@ -18,7 +18,7 @@ use Rattle.hfsc_model.specs.Choice.{choice, Choice as Chosen}
 use Rattle.hfsc_policy.specs.Events.{hfsc_history, rule_of}
 use Rattle.hfsc_policy.specs.Classes.{leaves}
 
--- the first moment at which the head of a class is eligible, while one waits; `None` is never
+-- the first moment at which the head of a class is eligible, while one waits; `None` means never
 abbrev pub eligible_from : Option Curve → Leaf → Option ℕ
 eligible_from None l = None
 eligible_from (Some s) l = deadline (eligible_curve s) l.openings l.count

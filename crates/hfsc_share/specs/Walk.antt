@@ -33,7 +33,7 @@ pub record Walks (cs : List HfscClass) (h g : HfscHistory) (last leaf : ℕ) (ne
   pub before : (c : ℕ) (x : Node) → slice_get nodes c ≡ Some x → is_over cs next c ≡ true → NodeStands cs h last c x
   pub after : (c : ℕ) (x : Node) → slice_get nodes c ≡ Some x → is_over cs next c ≡ false → NodeStands cs g last c x
 
--- one class is taken in
+-- a step of the walk, in which the activity of `class` alone may change
 pub record IsStep (class : ℕ) (old new : List Node) : Type 0 where
   pub count : length new ≡ length old
   pub parents : (c : ℕ) → parent_in (slice_get new c) ≡ parent_in (slice_get old c)

@@ -202,7 +202,7 @@ fn limit_opens(limit: &Option<Running>, total: u128) -> Option<u128>
     }
 }
 
-/// The later of two moments, where `None` is never.
+/// The later of two moments, where `None` means never.
 fn later_of(a: Option<u128>, b: Option<u128>) -> Option<u128>
     ensures { result ≡ later_of a b }
 {

@@ -9,7 +9,7 @@ use crate::Trouble;
 /// part a count of read faults and one of write faults. A part is a number below 16. Each call changes only what it
 /// names here, and counts.
 ///
-/// Every call may answer `NoMemory`. After any error nothing has changed but counts, which never fall. A count saturates
+/// Every call may return `NoMemory`. After any error nothing has changed but counts, which never fall. A count saturates
 /// at 2^64 − 1; there "rose" holds of every call.
 pub trait Files {
     ghost view: { Self → View };

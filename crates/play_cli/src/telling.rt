@@ -24,7 +24,7 @@ fn say_message<F: Files>(alloc: Global, files: &mut F, status: Status) -> Result
     }
 }
 
-// The status where there is no memory. Its message is a constant, so it can still be printed.
+// The status where memory ran out. Its message is a constant, so it can still be printed.
 fn no_memory<F: Files>(files: &mut F) -> Status
     ensures only { OnlySays (F.view files.old) (F.view files.new) }
     ensures said { SaysOrNot (F.view files.old) (F.view files.new) out_of_memory }

@@ -46,7 +46,7 @@ impl WordsFault {
 pub enum Unread {
     /// They are refused.
     Refused(WordsFault),
-    /// There was no memory to read them.
+    /// Memory ran out as they were read.
     NoMemory,
 }
 

@@ -1,4 +1,4 @@
-//! Service curves over the openings of a class: when a class is to have sent so much, and whether it may send now.
+//! Service curves over the openings of a class: when a class is to have sent an amount, and whether it may send now.
 //!
 //! A class opens when a packet comes to it while nothing of it waits. An opening is the moment of that, and the count of
 //! what the class was sent before it. From each opening on the class is allowed its count and what its curve gives; of

@@ -1,4 +1,4 @@
--- The first moment at which something holds. Moments are nanoseconds; `None` is never.
+-- The first moment at which something holds. Moments are nanoseconds; `None` means never.
 use Rattle.std.specs.Prelude.{◌≤◌, ℕ, Option, None, Some}
 
 -- the least moment at which P holds, or none exactly where P holds at no moment

@@ -1,4 +1,4 @@
-//! Service curves of two pieces: how much they give in a time, and the least time in which they give so much.
+//! Service curves of two pieces: how much they give in a time, and the least time in which they give an amount.
 //!
 //! Times are in nanoseconds and slopes in bits per second. Amounts are in units, of which a byte has 8,000,000,000: so a
 //! slope of m bits per second gives exactly m·t units in t nanoseconds, and every amount is a whole number.
