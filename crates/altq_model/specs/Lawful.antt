@@ -69,7 +69,7 @@ abbrev pub first_at : Policy → (t : ℕ) → List Event → List ℕ → Optio
 first_at p t h [] = None
 first_at p t h (c ∷ cs) = lesser (start_at p t h c) (first_at p t h cs)
 
--- no moment of these arrivals is before the one before it, nor the first before this
+-- no arrival is before the one before it, and the first is not before t
 abbrev pub RiseFrom : (t : ℕ) → List Coming → Type 0
 RiseFrom t [] = Unit {0}
 RiseFrom t (a ∷ rest) = (t ≤ a.at) × RiseFrom a.at rest
@@ -77,12 +77,12 @@ RiseFrom t (a ∷ rest) = (t ≤ a.at) × RiseFrom a.at rest
 abbrev pub AreRising : List Coming → Type 0
 AreRising arrived = RiseFrom 0 arrived
 
--- each comes to a class of the policy
+-- each arrival is of a class of the policy
 abbrev pub AreHeld : Policy → List Coming → Type 0
 AreHeld p [] = Unit {0}
 AreHeld p (a ∷ rest) = IsOneOf a.class p.classes × AreHeld p rest
 
--- the greatest of this moment and the stamps of these records
+-- the greatest of t and the stamps of the records
 abbrev pub greatest : (t : ℕ) → List Record → ℕ
 greatest t [] = t
 greatest t (r ∷ rs) = greatest (max t r.stamp) rs

@@ -27,7 +27,7 @@ abbrev pub sent_in : (c : ℕ) → List Happened → List ℕ
 sent_in c [] = []
 sent_in c (e ∷ g) = sent_by c e.label e.what (sent_in c g)
 
--- each number of a list is less than this
+-- each number of a list is less than m
 abbrev pub AllBelow : (m : ℕ) → List ℕ → Type 0
 AllBelow m [] = Unit {0}
 AllBelow m (n ∷ ns) = (n < m) × AllBelow m ns

@@ -90,7 +90,7 @@ nested limit = root ∷ child None (straight 4000000) limit ∷ grandchild ∷ c
 abbrev pub one_leaf : Curve → List HfscClass
 one_leaf real = root ∷ child (Some real) (straight 1000000) None ∷ []
 
--- a packet of the leaf with a limit that is sent at 0, and two that come at a moment, the first of which is sent then
+-- a packet of the leaf with a limit that is sent at 0, and two that come at the moment `at`, the first of which is sent at once
 abbrev pub limited_twice : ℕ → HfscHistory
 limited_twice at = with_chosen limited (kept 2 1 at 1000 (with_chosen limited (kept 1 1 0 1000 []) (0 ∷ []))) (at ∷ [])
 

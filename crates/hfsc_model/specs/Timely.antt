@@ -86,7 +86,7 @@ AreInOrder [] = Unit {0}
 AreInOrder (Kept c at len ∷ h) = (moment h ≤ at) × StartBefore h at × AreInOrder h
 AreInOrder (Sent c len real start ∷ h) = (moment h ≤ start) × (1 ≤ len) × AreInOrder h
 
--- these packets arrived at this moment or later
+-- the packets arrived at t or later
 abbrev pub ArriveFrom : ℕ → List Waiting → Type 0
 ArriveFrom t [] = Unit {0}
 ArriveFrom t (w ∷ ws) = (t ≤ w.at) × ArriveFrom t ws

@@ -49,7 +49,7 @@ pub record Departs (p : Policy) (rate seed : ℕ) (arrived : List Arrival) (g : 
 abbrev pub arrives : List Arrival → List Happened → Option ℕ
 arrives arrived g = option_map (λ (a : Coming). a.at) (slice_get (comings arrived) (offered (bare g)))
 
--- the next event is this, or none is
+-- the turn is the next event of the play, or says that none is left
 abbrev pub ComesNext : Policy → (rate seed : ℕ) → List Arrival → List Happened → Turn → Type 0
 ComesNext p rate seed arrived g End = due p rate seed (comings arrived) g ≡ None
 ComesNext p rate seed arrived g Offer = (a : Arrival) → slice_get arrived (offered (bare g)) ≡ Some a → IsNext p rate seed arrived g a
