@@ -7,7 +7,7 @@ use crate::Trouble;
 /// Files of one play. The `view` is what contracts know of an object: the bytes under each name, the part and the name
 /// of each file that it opened or created, what each has left to read, the text printed so far (`said`), and for each
 /// part a count of read faults and one of write faults. A part is a number below 16. Each call changes only what it
-/// names here, and counts.
+/// names here, and the counts.
 ///
 /// Every call may return `NoMemory`. After any error nothing has changed but counts, which never fall. A count saturates
 /// at 2^64 − 1; there "rose" holds of every call.

@@ -125,9 +125,9 @@ pub record IsCutEarly (x : Setup) (records : List Record) (last : Step) (g : Lis
   pub cut : IsCutOff x.policy x.rate x.seed (comings (arrivals_in x records)) g
   pub before : (last ≡ End) ⊎ (start_of cut.next.what < greatest 0 records)
 
--- the play of what is accepted is cut off so. Departures and fates hold exactly the texts of the events before that sending, and the
--- statistics nothing. If a complete record arrives later than it starts, the bytes that were taken of the arrivals end at most 65,536 bytes past the first such
--- record
+-- the play of what is accepted is cut off so. Departures and fates hold exactly the texts of the events before that sending, and
+-- the statistics nothing. If a complete record arrives later than it starts, the bytes that were taken of the arrivals end at most
+-- 65,536 bytes past the first such record
 pub record IsLate (old new : View) (n : Names) (seed : ℕ) : Type 0 where
   pub accepted : Accepted old n
   pub records : List Record
