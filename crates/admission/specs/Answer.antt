@@ -1,4 +1,4 @@
--- What is said of an answer that names an excess.
+-- What holds of an answer `Exceeds`.
 use Rattle.std.specs.Prelude.{ℕ}
 use Rattle.admission.specs.declared.Fit.{Fit}
 use Rattle.admission.specs.declared.Fit.TheVariants.{Fits, Exceeds}

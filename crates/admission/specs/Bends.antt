@@ -29,7 +29,7 @@ pub record IsBendAmong (rate : ℕ) (all some : List Curve) (t : ℕ) : Type 0 w
   pub bend : IsBend some t
   pub above : IsAbove rate all t
 
--- the earlier of two moments, where `None` is never
+-- the earlier of two moments; `None` means never, and is later than every moment
 abbrev pub earlier_of : Option ℕ → Option ℕ → Option ℕ
 earlier_of None b = b
 earlier_of (Some x) None = Some x

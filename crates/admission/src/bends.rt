@@ -8,7 +8,7 @@ ghost use Rattle.admission.specs.Bends.{AreInRange, last_bend, IsOwnBendAbove, e
 use crate::sums::total_of;
 use service_curve::Curve;
 
-/// The earlier of two moments, where `None` is never.
+/// The earlier of two moments, where `None` means never.
 fn earlier_of(a: Option<u128>, b: Option<u128>) -> Option<u128>
     ensures { result ≡ earlier_of a b }
 {

@@ -55,8 +55,9 @@ pub fn fits(curves: &[Curve], rate: u64) -> Fit
 
 /// Whether the curves fit, where the sum is above at no breakpoint.
 ///
-/// From the last breakpoint on the room below the line shrinks by the same amount in each nanosecond. The sum is not taken
-/// at the moment named, since it may pass 128 bits there.
+/// From the last breakpoint on the spare capacity, what the link carries less the sum, shrinks by the same amount in each
+/// nanosecond, so one division gives the moment. The sum at that moment is not computed, since it may need more than 128
+/// bits.
 fn fit_past_bends(curves: &[Curve], rate: u64) -> Fit
     requires curves { AreInRange curves.now }
     requires rate { rate ≤ 10 ^ 12 }

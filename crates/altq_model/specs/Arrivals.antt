@@ -18,7 +18,7 @@ pub record Arrival : Type 0 where
   -- its own stamp is less than `at`
   pub raised : Bool
 
--- the arrivals of records before which this was the greatest stamp, classified by their captured bytes
+-- the arrivals of records, where `latest` is the greatest stamp before them; `mark` places each by its captured bytes
 abbrev pub arrivals_from : (List ℕ → Placed) → (latest : ℕ) → List Record → List Arrival
 arrivals_from mark latest [] = []
 arrivals_from mark latest (r ∷ rs) =

@@ -4,8 +4,8 @@ use Rattle.altq_model.specs.History.{Coming, Event, Offered, Sent, head}
 use Rattle.altq_model.specs.Link.{link}
 use Rattle.altq_model.specs.Play.{Policy, IsOneOf}
 
--- a history when all that came up to a moment was offered, and nothing that came later: without the newest offers of what came
--- later. Where the history is prompt these are all the arrivals up to that moment
+-- the history as it was at the moment u: without its newest offers, of packets that arrived later than u. Where the history is
+-- prompt it has all the arrivals up to u
 abbrev pub as_of : (u : ℕ) → List Event → List Event
 as_of u [] = []
 as_of u (Offered a w v ∷ h) = if nat_lt u a.at then as_of u h else Offered a w v ∷ h
@@ -25,7 +25,7 @@ pub record IsLeastStart (p : Policy) (free : ℕ) (h : List Event) (s : ℕ) : T
   pub may : SomeMaySend p (as_of s h) s
   pub least : (u : ℕ) → free ≤ u → SomeMaySend p (as_of u h) u → s ≤ u
 
--- each sending starts then
+-- each sending starts at that least moment
 abbrev pub IsBusy : Policy → (rate : ℕ) → List Event → Type 0
 IsBusy p rate [] = Unit {0}
 IsBusy p rate (Offered a w v ∷ h) = IsBusy p rate h

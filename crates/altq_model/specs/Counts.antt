@@ -7,7 +7,7 @@ use Rattle.altq_model.specs.declared.Reason.TheVariants.{Full, Early, Forced}
 use Rattle.altq_model.specs.Arrivals.{Arrival, arrival}
 use Rattle.altq_model.specs.History.{Decision}
 
--- the sum of what each of a list is counted as
+-- the sum of `amount` over a list
 abbrev pub total : {X : Type 0} → (X → ℕ) → List X → ℕ
 total amount [] = 0
 total amount (x ∷ xs) = amount x + total amount xs
@@ -16,7 +16,7 @@ abbrev pub is_sent : Fate → Bool
 is_sent (Dropped reason) = false
 is_sent (Sent start end rule) = true
 
--- a fate by which of the reasons it is a drop
+-- whether a fate is a drop for this reason
 abbrev pub is_full : Fate → Bool
 is_full (Dropped Full) = true
 is_full (Dropped Early) = false
@@ -35,11 +35,11 @@ is_forced (Dropped Early) = false
 is_forced (Dropped Forced) = true
 is_forced (Sent start end rule) = false
 
--- the sum of an amount over the arrivals that are meant
+-- the sum of `amount` over the arrivals that `meant` accepts
 abbrev pub of_arrivals : (meant : Arrival → Bool) → (amount : Arrival → ℕ) → List Arrival → ℕ
 of_arrivals meant amount arrived = total (λ a. if meant a then amount a else 0) arrived
 
--- the sum of an amount over the arrivals that are meant and whose fate is told
+-- the sum of `amount` over the decisions whose arrival `meant` accepts and whose fate `told` accepts
 abbrev pub of_decisions : (meant : Arrival → Bool) → (told : Fate → Bool) → (amount : Arrival → ℕ) → List Arrival → List Decision → ℕ
 of_decisions meant told amount arrived js =
     total (λ d. if meant (arrival arrived d.0) && told d.1 then amount (arrival arrived d.0) else 0) js
@@ -47,7 +47,7 @@ of_decisions meant told amount arrived js =
 abbrev pub one : Arrival → ℕ
 one a = 1
 
--- the counts of the arrivals that are meant, and of what was decided of them
+-- the counts of the arrivals that `meant` accepts, and of what was decided of them
 abbrev pub counts_where : (meant : Arrival → Bool) → List Arrival → List Decision → Counts
 counts_where meant arrived js = record {
   arrived = of_arrivals meant one arrived;

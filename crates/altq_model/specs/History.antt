@@ -14,12 +14,12 @@ pub record Coming : Type 0 where
   pub prec : ℕ
   pub at : ℕ
 
--- the words of a seed, and how many of them were drawn
+-- a seed, and how many of its random words were drawn
 pub record DrawnWords : Type 0 where
   pub seed : ℕ
   pub drawn : ℕ
 
--- what a queue says of a packet: its verdict, and how many words it drew for it
+-- how a queue answers an offer: its verdict, and how many random words it drew for it
 pub record Answer : Type 0 where
   pub verdict : Verdict
   pub took : ℕ
@@ -32,7 +32,7 @@ pub record Transmission : Type 0 where
   pub start : ℕ
   pub end : ℕ
 
--- an offer of a packet to its class's queue, with the words as they were before it, or a sending
+-- an offer of a packet to its class's queue, with the random words as they were before it, or a sending
 pub data Event : Type 0 where
   Offered : Coming → DrawnWords → Answer → Event
   Sent : Transmission → Event
@@ -84,7 +84,7 @@ waiting c [] = []
 waiting c (Offered a w v ∷ h) = with_offer (a.class == c) v.verdict a (waiting c h)
 waiting c (Sent s ∷ h) = without_head (s.class == c) (waiting c h)
 
--- the first of them
+-- the head: the first packet that waits in a class
 abbrev pub head : (c : ℕ) → List Event → Option Coming
 head c h = slice_get (waiting c h) 0
 

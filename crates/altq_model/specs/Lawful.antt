@@ -1,5 +1,5 @@
--- When a policy is lawful, and when arrivals suit it. A law is asked after every history, also after one that holds packets of
--- classes that are none of the policy's: of the policy's own classes that wait it is asked alone.
+-- When a policy is lawful, and which arrivals it can play. Each law is required after every history, even after one with packets of
+-- classes that the policy does not have; but it is required only for the policy's own classes in which a packet waits.
 use Rattle.std.specs.Prelude.{◌≡◌, ◌≤◌, ◌↔◌, ℕ, max, List, [], ◌∷◌, None, Some, option_map}
 use Rattle.std.specs.declared.option.Option.{Option}
 use Rattle.capture_model.specs.Capture.{Record}
@@ -34,7 +34,7 @@ pub record IsLawful (p : Policy) : Type 0 where
 abbrev pub NeverWaits : Policy → Type 0
 NeverWaits p = (h : List Event) (c t : ℕ) (b : Coming) → IsHead p h c b → p.start_from h c t ≡ t
 
--- asked again from a later moment that is not past the answer, a class that waits gives the same answer, as a least moment does
+-- if the least moment from t on is m, then the least moment from any u between t and m on is also m
 abbrev pub IsSteady : Policy → Type 0
 IsSteady p = (h : List Event) (c t u : ℕ) (b : Coming) → IsHead p h c b → t ≤ u → u ≤ p.start_from h c t
     → p.start_from h c u ≡ p.start_from h c t
@@ -45,8 +45,8 @@ pub record IsCandidate (allowed : List Event → (c t : ℕ) → Type 0) (p : Po
   pub head : IsHead p h c packet
   pub may : allowed h c s
 
--- a policy by when a class of it that waits may send: it gives the least such moment, an offer changes nothing of it, and the pick is
--- a candidate wherever there is one
+-- a policy given by a predicate that says when a waiting class may send: the policy gives the least such moment, an offer changes
+-- nothing of the predicate, and the pick is a candidate wherever there is one
 pub record SendsWhen (allowed : List Event → (c t : ℕ) → Type 0) (p : Policy) : Type 0 where
   pub later : (h : List Event) (c t : ℕ) (b : Coming) → IsHead p h c b → t ≤ p.start_from h c t
   pub may : (h : List Event) (c t : ℕ) (b : Coming) → IsHead p h c b → allowed h c (p.start_from h c t)
@@ -69,7 +69,7 @@ abbrev pub first_at : Policy → (t : ℕ) → List Event → List ℕ → Optio
 first_at p t h [] = None
 first_at p t h (c ∷ cs) = lesser (start_at p t h c) (first_at p t h cs)
 
--- no moment of these arrivals is before the one before it, nor the first before this
+-- no arrival is before the one before it, and the first is not before t
 abbrev pub RiseFrom : (t : ℕ) → List Coming → Type 0
 RiseFrom t [] = Unit {0}
 RiseFrom t (a ∷ rest) = (t ≤ a.at) × RiseFrom a.at rest
@@ -77,12 +77,12 @@ RiseFrom t (a ∷ rest) = (t ≤ a.at) × RiseFrom a.at rest
 abbrev pub AreRising : List Coming → Type 0
 AreRising arrived = RiseFrom 0 arrived
 
--- each comes to a class of the policy
+-- each arrival is of a class of the policy
 abbrev pub AreHeld : Policy → List Coming → Type 0
 AreHeld p [] = Unit {0}
 AreHeld p (a ∷ rest) = IsOneOf a.class p.classes × AreHeld p rest
 
--- the greatest of this moment and the stamps of these records
+-- the greatest of t and the stamps of the records
 abbrev pub greatest : (t : ℕ) → List Record → ℕ
 greatest t [] = t
 greatest t (r ∷ rs) = greatest (max t r.stamp) rs

@@ -27,12 +27,12 @@ abbrev pub sent_in : (c : ℕ) → List Happened → List ℕ
 sent_in c [] = []
 sent_in c (e ∷ g) = sent_by c e.label e.what (sent_in c g)
 
--- each number of a list is less than this
+-- each number of a list is less than m
 abbrev pub AllBelow : (m : ℕ) → List ℕ → Type 0
 AllBelow m [] = Unit {0}
 AllBelow m (n ∷ ns) = (n < m) × AllBelow m ns
 
--- this event follows in order: what it sends has a greater number than all that its class sent before
+-- this event follows in order: if it is a sending, its packet has a greater number than all that its class sent before
 abbrev pub FollowsInOrder : (n : ℕ) → Event → List Happened → Type 0
 FollowsInOrder n (Offered a w v) g = Unit {0}
 FollowsInOrder n (Sent s) g = AllBelow n (sent_in s.class g)
@@ -75,7 +75,7 @@ pub record KeepsLaws (rate : ℕ) (arrived : List Coming) (g : List Happened) : 
   pub prompt : IsPrompt (bare g)
   pub ends : HasLinkEnds rate (bare g)
 
--- the clock ends here: no packet may end at 2^32 seconds or later
+-- the end of the clock, 2^32 seconds: the first moment that a capture cannot stamp. No packet may end at it or later
 abbrev pub clock_end : ℕ
 clock_end = 2 ^ 32 * 10 ^ 9
 

@@ -4,7 +4,7 @@ use Rattle.std.specs.Prelude.{◌≡◌, ◌≤◌, ◌==◌, ◌+◌, ℕ, List
 use Rattle.play_base.specs.Units.{units, ceil_div}
 use Rattle.altq_model.specs.History.{Event, Offered, Sent}
 
--- the last end, 0 at first, and of the run that ended there its start and the units of its packets
+-- the state of the link: the last end, 0 at first, and of the run that it belongs to the start and the units so far
 pub record Link : Type 0 where
   pub free : ℕ
   pub run : ℕ
@@ -18,13 +18,13 @@ idle_link = record { free = 0; run = 0; sent = 0 }
 abbrev pub run_on : (rate run sent more : ℕ) → Link
 run_on rate run sent more = record { free = run + ceil_div (sent + more) rate; run = run; sent = sent + more }
 
--- the link after a packet of this length that starts then: a start at the last end goes on with the run, and a later
+-- the link after a packet of this length that starts at `start`: a start at the last end goes on with the run, and a later
 -- one begins another
 abbrev pub after_sending : (rate : ℕ) → Link → (start len : ℕ) → Link
 after_sending rate l start len =
     if start == l.free then run_on rate l.run l.sent (units len) else run_on rate start 0 (units len)
 
--- the end of a packet of this length that starts then
+-- the end of a packet of this length that starts at `start`
 abbrev pub end_of : (rate : ℕ) → Link → (start len : ℕ) → ℕ
 end_of rate l start len = (after_sending rate l start len).free
 

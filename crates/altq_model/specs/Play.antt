@@ -11,11 +11,11 @@ pub record Choice : Type 0 where
   pub class : ℕ
   pub rule : Rule
 
--- what a play is a play of. Only its classes send: a history may hold packets of others, and no start and no pick is theirs
+-- what decides in a play. Only its classes send: a history may hold packets of others, which never start and are never picked
 pub record Policy : Type 0 where
   -- the queue classes, in the order of the file
   pub classes : List ℕ
-  -- after a history, what the queue of its class says of a packet, by these words
+  -- after a history, the answer of its class's queue to a packet, by the random words that come next
   pub answer : List Event → DrawnWords → Coming → Answer
   -- after a history, the least moment from t on at which a class may send its head
   pub start_from : List Event → (c t : ℕ) → ℕ
@@ -48,7 +48,7 @@ offer_of p seed g a =
     let w : DrawnWords = record { seed = seed; drawn = drawn (bare g) } in
     record { label = offered (bare g) + 1; what = Offered a w (p.answer (bare g) w a) }
 
--- the sending of a class's head, whose number and packet these are
+-- the sending of a class's head, given its number and its packet
 abbrev pub head_sent : (rate : ℕ) → List Happened → (s : ℕ) → Choice → Option ℕ → Option Coming → Option Happened
 head_sent rate g s c (Some n) (Some a) = Some (record {
   label = n;
@@ -60,8 +60,8 @@ head_sent rate g s c (Some n) None = None
 abbrev pub sent_at : (rate : ℕ) → List Happened → (s : ℕ) → Choice → Option Happened
 sent_at rate g s c = head_sent rate g s c (slice_get (labels c.class g) 0) (head c.class (bare g))
 
--- what comes next, where this is the next arrival, and this the least moment at which something may be sent: an arrival up to
--- that moment is offered first
+-- what comes next, given the next arrival and the least moment at which something may be sent: an arrival up to that moment is
+-- offered first
 abbrev pub due_from : Policy → (rate seed : ℕ) → List Happened → Option Coming → Option ℕ → Option Happened
 due_from p rate seed g None None = None
 due_from p rate seed g (Some a) None = Some (offer_of p seed g a)
@@ -85,7 +85,7 @@ pub record IsPlay (p : Policy) (rate seed : ℕ) (arrived : List Coming) (g : Li
   pub events : AreDue p rate seed arrived g
   pub done : due p rate seed arrived g ≡ None
 
--- the same as a function, over at most `turns` events
+-- the play, computed event by event, for at most `turns` events
 abbrev pub play_on : (turns : ℕ) → Policy → (rate seed : ℕ) → List Coming → List Happened → List Happened
 play_on zero p rate seed arrived g = g
 play_on (suc turns) p rate seed arrived g =

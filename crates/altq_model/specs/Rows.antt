@@ -28,7 +28,7 @@ play_of p rate records = play p rate 42 (comings (arrivals_of one_mark records))
 abbrev pub journal_of : (rate : ℕ) → List Record → List Decision
 journal_of rate records = journal (play_of (one_queue 50) rate records)
 
--- the rows of its fates, without their head
+-- the rows of its fates, without their header
 abbrev pub rows_of : (rate : ℕ) → List Record → List ℕ
 rows_of rate records = fate_rows default_name (arrivals_of one_mark records) (journal_of rate records)
 

@@ -1,4 +1,5 @@
-//! The definitions that the crates above cite, in specs/, and the plain enums that they speak of.
+//! The definitions of a play, in specs/: its events and histories, its policies, the link and the laws; and the plain
+//! enums that they speak of.
 #![tactic(auto)]
 
 ghost use Rattle.std.specs.Prelude.{◌≡◌};
@@ -22,7 +23,7 @@ pub enum Rule {
 pub enum Reason {
     /// The queue held as many packets as its limit.
     Full,
-    /// The queue rule drew it early.
+    /// RED or RIO dropped it before the queue was full: by a random word, or because the spacing of drops was used up.
     Early,
     /// The queue's average had reached its upper threshold.
     Forced,

@@ -1,4 +1,4 @@
-// Examples that are computed from the definitions.
+// Worked examples, computed by the checker from the definitions.
 ghost use Rattle.std.specs.Prelude.{◌≡◌, ◌∷◌, ◌++◌, [], take, drop, codes, List, ℕ};
 ghost use Rattle.capture_model.specs.Header.{capture_header};
 ghost use Rattle.altq_model.specs.Policies.{one_queue};

@@ -18,7 +18,7 @@ use std::{env, io};
 /// The code of words that are refused: also where one is no UTF-8.
 const REFUSED: u8 = 2;
 
-/// The code of want of memory.
+/// The exit status where memory runs out.
 const NO_MEMORY: u8 = 8;
 
 // The words behind the program's name.

@@ -5,7 +5,7 @@ use Rattle.altq_model.specs.History.{Coming, Event}
 use Rattle.altq_model.specs.Lawful.{IsHead, latest}
 use Rattle.altq_model.specs.Play.{Policy}
 
--- a sending starts at the greater of the last end and the arrival of a head that waits, and that is for no head earlier
+-- a sending starts at the later of the last end and the earliest arrival of a waiting head
 pub record StartsWithHead (p : Policy) (free : ℕ) (h : List Event) (s : ℕ) : Type 0 where
   pub class : ℕ
   pub packet : Coming

@@ -9,9 +9,9 @@ ghost use Rattle.altq_model.specs.Link.{link};
 ghost use Rattle.altq_model.specs.Play.{AreDue, Policy};
 ghost use Rattle.busy_laws.specs.Heads.{ComeInOrder, StartsWithHead};
 
-/// Where any class may send at any moment, two sentences are one: the least moment, not before the last end, such that after the offers
-/// of all arrivals up to it some waiting class may send at it, is the greater of the last end and the least arrival of the heads that
-/// wait. In a play what is offered comes in order, as this asks.
+/// Where any class may send at any moment, the least moment, not before the last end, such that after the offers of all arrivals up
+/// to it some waiting class may send at it, is simply the later of the last end and the earliest arrival of a waiting head. The
+/// offers of a play come in order, as this asks.
 pub fn busy_is_never_idle()
     ensures same { (p : Policy) (free : ℕ) (h : List Event) (s : ℕ) → NeverWaits p → ComeInOrder free h
         → IsLeastStart p free h s ↔ StartsWithHead p free h s }

@@ -40,7 +40,7 @@ abbrev pub half : Bool → List ℕ → ℕ → ℕ
 half true bytes at = from_be_bytes w16 (take 2 (drop at bytes))
 half false bytes at = from_le_bytes w16 (take 2 (drop at bytes))
 
--- the form that the first four bytes name, read with the greatest byte first
+-- the form that the first four bytes name, read as big-endian
 abbrev pub form_of : ℕ → Option Form
 form_of magic =
     if magic == 0xa1b2c3d4 then Some (record { big = true; nanos = false })
@@ -132,7 +132,7 @@ Reads bytes records last = ReadsFrom (header bytes) bytes records last
 abbrev pub IsCapture : List ℕ → List Record → Type 0
 IsCapture bytes records = Reads bytes records End
 
--- the same as a function, over at most as many records as are asked for: the complete records, and what stands after them
+-- the reading, computed, over at most as many records as are asked for: the complete records, and what stands after them
 pub record Outcome : Type 0 where
   pub records : List Record
   pub last : Step

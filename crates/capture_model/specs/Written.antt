@@ -1,4 +1,4 @@
--- A capture as it is written: the head, then for each record its head and the captured bytes.
+-- A capture as it is written: the header, then for each record its header and the captured bytes.
 use Rattle.std.specs.Prelude.{◌≤◌, ◌<◌, ◌*◌, ◌^◌, ℕ, max, List, [], ◌∷◌, ◌++◌, length, All}
 use Rattle.capture_model.specs.Capture.{Record, longest, most_records, most_bytes}
 use Rattle.capture_model.specs.Header.{capture_header, record_header}

@@ -2,7 +2,7 @@
 ghost use Rattle.std.specs.Prelude.{◌≡◌};
 ghost use Rattle.capture_model.specs.Numbers.{damage_number};
 
-/// The kind of the first test that a capture fails, in the order of the tests of the head and then of a record.
+/// The kind of the first test that a capture fails, in the order of the tests of the header and then of a record.
 #[derive(Clone, Copy, Debug, PartialEq, Eq)]
 pub enum DamageKind {
     /// The file has fewer than 24 bytes. The place is its length.
@@ -13,7 +13,7 @@ pub enum DamageKind {
     BadVersion,
     /// The low 16 bits of the link type are not 1, Ethernet. The place is 20.
     BadLink,
-    /// Fewer bytes stand at the record's place than its head or its captured length needs.
+    /// Fewer bytes stand at the record's place than its header or its captured length needs.
     ShortRecord,
     /// Both lengths of the record are 0.
     EmptyRecord,

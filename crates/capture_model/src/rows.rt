@@ -1,4 +1,4 @@
-// Examples that are computed from the definitions.
+// Worked examples, computed by the checker from the definitions.
 ghost use Rattle.std.specs.Prelude.{◌≡◌, ◌∷◌, [], take};
 ghost use Rattle.capture_model.specs.Capture.{Fault, End, damage, outcome};
 ghost use Rattle.capture_model.specs.Rows.{plain, two_records};

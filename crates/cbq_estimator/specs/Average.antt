@@ -1,5 +1,5 @@
 -- How far a class of CBQ is from its rate: a moving average of its idle times (Floyd and Jacobson 1995, "Link-sharing and
--- resource management models for packet networks"), in nanoseconds and times 32, so that a decay by one 32nd is a whole
+-- resource management models for packet networks"), in nanoseconds and times 32, so that a decay by 1/32 is a whole
 -- number. A history is the list of the ends of the packets of the class and of the classes below it, the newest first.
 use Rattle.std.specs.Prelude.{ℕ, ◌≤◌, ◌*◌, ℤ, pos, ◌+ℤ◌, ◌-ℤ◌, int_div, List, [], ◌∷◌, Option, Some, None, unwrap_or}
 use Rattle.std.specs.Int.{int_min}
@@ -14,7 +14,7 @@ pub record Pace : Type 0 where
 abbrev pub cap_of : (rate maxburst packetsize : ℕ) → ℕ
 cap_of rate maxburst packetsize = maxburst * time_of packetsize rate
 
--- a packet of a length whose sending ended then
+-- the end of a packet's sending, and the packet's length
 pub record Ended : Type 0 where
   pub end : ℕ
   pub len : ℕ
@@ -31,11 +31,11 @@ abbrev pub IsInOrder : List Ended → Type 0
 IsInOrder [] = Unit {0}
 IsInOrder (e ∷ h) = (last_end h ≤ e.end) × IsInOrder h
 
--- the idle time of a packet that ends then: since the end before it, less the packet's own time at the class's rate
+-- the idle time of a packet that ends at `end`: since the end before it, less the packet's own time at the class's rate
 abbrev pub idle : Pace → List Ended → (end len : ℕ) → ℤ
 idle p h end len = (pos end -ℤ pos (last_end h)) -ℤ pos (time_of len p.rate)
 
--- an average less one 32nd of it, rounded towards zero
+-- an average less 1/32 of it, rounded towards zero
 abbrev pub decayed : ℤ → ℤ
 decayed a = a -ℤ int_div a (pos 32)
 

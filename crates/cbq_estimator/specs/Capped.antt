@@ -17,16 +17,16 @@ abbrev pub AreAtMost : (longest : ℕ) → List Ended → Type 0
 AreAtMost longest [] = Unit {0}
 AreAtMost longest (e ∷ es) = (e.len ≤ longest) × AreAtMost longest es
 
--- the rise of the average by a packet that is allowed, 31 times, is at most its idle time 32 times and its own time
+-- for a packet that is allowed, 31 times the rise of the average is at most 32 times its idle time plus its own time
 abbrev pub RisesByIdleTime : (p : Pace) (e b : Ended) (h : List Ended) → Type 0
 RisesByIdleTime p e b h =
     IsTrue (allows p (b ∷ h) e.end e.len) → b.end ≤ e.end
     → (pos 31 *ℤ (average p (e ∷ b ∷ h) -ℤ average p (b ∷ h)))
     ≤ℤ ((pos 32 *ℤ idle p (b ∷ h) e.end e.len) +ℤ pos (time_of e.len p.rate))
 
--- Between the ends of packet b and of packet e, where e and all between them were allowed and none is longer than the longest,
--- 31 times the units of those packets are at most what the rate carries in 32 times the time and in 31 times a burst and the
--- longest packet.
+-- From the end of packet b to that of packet e, where e and all between them were allowed and none is longer than the longest:
+-- 31 units <= rate (32 (last end - first end) + 31 (cap + longest packet's time)), the units being those of the packets after
+-- b.
 abbrev pub KeepsItsRate : (p : Pace) (longest : ℕ) (e : Ended) (es : List Ended) (b : Ended) (h : List Ended) → Type 0
 KeepsItsRate p longest e es b h =
     IsInOrder (e ∷ es ++ b ∷ h) → AreAllowed p (e ∷ es) (b ∷ h) → AreAtMost longest (e ∷ es)

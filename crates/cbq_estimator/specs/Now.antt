@@ -12,7 +12,7 @@ use Rattle.cbq_estimator.specs.Starts.{enough}
 abbrev pub estimate_of : Pace → List Ended → Estimate
 estimate_of p h = record { pace = p; average = average p h; last = latest h }
 
--- the idle time of a packet that ends then
+-- the idle time of a packet that ends at `end`
 abbrev pub idle_now : Estimate → (end len : ℕ) → ℤ
 idle_now e end len = (pos end -ℤ pos (unwrap_or e.last 0)) -ℤ pos (time_of len e.pace.rate)
 
@@ -25,7 +25,7 @@ average_after (Some last) e x = int_min (pos e.pace.cap) (decayed e.average +ℤ
 abbrev pub after_end : Estimate → Ended → Estimate
 after_end e x = record { pace = e.pace; average = average_after e.last e x; last = Some x.end }
 
--- the class allows a packet of a length that would end then
+-- the class allows a packet of a length that would end at `end`
 abbrev pub allows_now : Estimate → (end len : ℕ) → Bool
 allows_now e end len = int_lt (pos 0) e.average || int_le (pos (enough e.average)) (idle_now e end len)
 
@@ -33,15 +33,16 @@ allows_now e end len = int_lt (pos 0) e.average || int_le (pos (enough e.average
 abbrev pub wanted_now : Estimate → (len : ℕ) → ℕ
 wanted_now e len = unwrap_or e.last 0 + time_of len e.pace.rate + enough e.average
 
--- The least moment from `now` on at which a packet is allowed to start: now, where it then ends late enough. Else it begins a run of
--- the link, and each moment that it starts later it ends later too: the next one, and as many more as it is short of then.
+-- The least moment from `now` on at which a packet is allowed to start: `now`, where it then ends late enough. Else it starts later
+-- and begins a run of the link, in which a start 1 ns later gives an end 1 ns later: so the moment is `now` + 1 and as many
+-- nanoseconds more as the end of a start at `now` + 1 is too early.
 abbrev pub start_now : Estimate → (rate : ℕ) → Link → (now len : ℕ) → ℕ
 start_now e rate l now len =
     if int_lt (pos 0) e.average then now
     else if nat_le (wanted_now e len) (end_of rate l now len) then now
     else now + 1 + (wanted_now e len - end_of rate l (now + 1) len)
 
--- a packet of a length is allowed to start then, and at no earlier moment from `now` on
+-- a packet of a length is allowed to start at `start`, and at no earlier moment from `now` on
 pub record IsLeastStartNow (e : Estimate) (rate : ℕ) (l : Link) (now len start : ℕ) : Type 0 where
   pub from : now ≤ start
   pub allowed : IsTrue (allows_now e (end_of rate l start len) len)

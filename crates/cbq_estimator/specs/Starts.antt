@@ -8,11 +8,11 @@ use Rattle.cbq_estimator.specs.Average.{Pace, Ended, average, idle, last_end}
 abbrev pub enough : (a : ℤ) → ℕ
 enough a = ceil_div (31 * unsigned_abs a) 32
 
--- the class allows a packet of a length that would end then
+-- the class allows a packet of a length that would end at `end`
 abbrev pub allows : Pace → List Ended → (end len : ℕ) → Bool
 allows p h end len = int_lt (pos 0) (average p h) || int_le (pos (enough (average p h))) (idle p h end len)
 
--- the same of a start then, on a link of a rate in bits per second
+-- the same for a packet that starts at `start`, on a link of a rate in bits per second
 abbrev pub allows_start : Pace → List Ended → (rate : ℕ) → Link → (start len : ℕ) → Bool
 allows_start p h rate l start len = allows p h (end_of rate l start len) len
 
@@ -20,7 +20,7 @@ allows_start p h rate l start len = allows p h (end_of rate l start len) len
 abbrev pub wanted : Pace → List Ended → (len : ℕ) → ℕ
 wanted p h len = last_end h + time_of len p.rate + enough (average p h)
 
--- a packet of a length is allowed to start then, and at no earlier moment from `now` on
+-- a packet of a length is allowed to start at `start`, and at no earlier moment from `now` on
 pub record IsLeastStart (p : Pace) (h : List Ended) (rate : ℕ) (l : Link) (now len start : ℕ) : Type 0 where
   pub from : now ≤ start
   pub allowed : IsTrue (allows_start p h rate l start len)

@@ -20,16 +20,16 @@ pub fn least_starts_are_told()
     ensures links { (rate : ℕ) (h : List Event) → 0 < rate → EndsItsRun rate (link rate h) }
 {}
 
-/// A class that sends only when it is allowed to keeps to its rate: within each stretch of such sendings it is at most a burst
-/// and a packet ahead of 32 31sts of it.
+/// A class that sends only when it is allowed to keeps to its rate: within each stretch of such sendings it is at most one burst
+/// and one packet ahead of 32/31 of its rate.
 pub fn allowed_packets_keep_the_rate()
     ensures rise { (p : Pace) (e b : Ended) (h : List Ended) → RisesByIdleTime p e b h }
     ensures rate { (p : Pace) (longest : ℕ) (e : Ended) (es : List Ended) (b : Ended) (h : List Ended) → 0 < p.rate
         → KeepsItsRate p longest e es b h }
 {}
 
-/// What an estimator answers by what it keeps is what its histories say: it keeps their pace, average and last end, and so one
-/// packet more, what is allowed, and the least start are functions of what it keeps.
+/// An estimator answers as its histories do: its pace, the average and the last end are enough, since what one more packet
+/// changes, what is allowed and the least start follow from them.
 pub fn answers_are_those_of_the_history()
     ensures kept { (e : Estimate) (h : List Ended) → StandsFor e h → e ≡ estimate_of e.pace h }
     ensures ended { (p : Pace) (h : List Ended) (e : Ended) → after_end (estimate_of p h) e ≡ estimate_of p (e ∷ h) }

@@ -50,7 +50,7 @@ impl Model for Estimator {
     ghost invariant = { λ e. IsBounded e.rate e.cap e.average e.last };
 }
 
-// An average less one 32nd of it.
+// An average less 1/32 of it, rounded towards zero.
 fn decayed(average: i64) -> i64
     requires least { negsuc (2 ^ 46 - 1) ≤ℤ average }
     requires most { average ≤ℤ pos (2 ^ 51) }
@@ -72,7 +72,7 @@ fn idle_time(last: u64, end: u64, own: u64) -> i128
     i128::from(end - last) - i128::from(own)
 }
 
-// A decayed average and an idle time, or the cap.
+// The decayed average plus the idle time, at most the cap.
 fn sum_below(cap: u64, decayed: i64, idle: i128) -> i64
     requires cap { cap ≤ 2 ^ 51 }
     requires least { negsuc (31 * 2 ^ 41 - 1) ≤ℤ decayed }
@@ -91,7 +91,7 @@ fn sum_below(cap: u64, decayed: i64, idle: i128) -> i64
     }
 }
 
-// The idle time that is enough at an average of 0 or less.
+// The idle time that brings an average of 0 or less back to 0 or above.
 fn enough(average: i64) -> u64
     requires { unsigned_abs average ≤ 2 ^ 51 }
     ensures { result ≡ enough average }
@@ -142,7 +142,7 @@ impl Estimator {
 
     /// The least moment from `now` on, in nanoseconds, at which a packet of `len` bytes may start on the clock's link: no
     /// earlier than the link's last end, and before 2^63. A packet that starts at the last end goes on with the link's run
-    /// and may end 1 ns earlier than by its own time, so the answer is told by the clock's own ends. Constant time; takes
+    /// and may end 1 ns earlier than by its own time, so the answer is computed from the clock's own ends. Constant time; takes
     /// no memory.
     pub fn start(&self, now: u64, len: u32, clock: &LinkClock) -> u64
         requires free { clock.now.link.free ≤ now }
@@ -164,7 +164,7 @@ impl Estimator {
         later + wanted.saturating_sub(clock.end_of(later, len))
     }
 
-    /// A packet of `len` bytes, of the class or of a class below it, ended then: no earlier than the end before, and before
+    /// A packet of `len` bytes, of the class or of a class below it, ended at `end`: no earlier than the end before, and before
     /// 2^63 + 2^62 nanoseconds. Constant time; takes no memory.
     pub fn ended(&mut self, end: u64, len: u32)
         requires in_order { unwrap_or self.old.last 0 ≤ end }

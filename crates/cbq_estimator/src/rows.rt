@@ -1,4 +1,4 @@
-// Examples that are computed from the definitions.
+// Worked examples, computed by the checker from the definitions.
 ghost use Rattle.std.specs.Prelude.{◌≡◌, ◌∷◌, [], pos, negsuc, true, false};
 ghost use Rattle.cbq_estimator.specs.Average.{average, cap_of, decayed};
 ghost use Rattle.cbq_estimator.specs.Now.{allows_now, estimate_of, start_now};
@@ -12,7 +12,7 @@ pub fn worked_examples()
     ensures burst_of_sixteen { cap_of 1000000 16 1500 ≡ 192000000 }
     ensures burst_rounded_up { cap_of 1000000000000 16 1 ≡ 16 }
 
-    // One 32nd is rounded towards zero.
+    // 1/32 is rounded towards zero.
     ensures decays_by_one { decayed (pos 63) ≡ pos 62 }
     ensures decays_by_nothing { decayed (pos 31) ≡ pos 31 }
     ensures rises_by_one { decayed (negsuc 62) ≡ negsuc 61 }

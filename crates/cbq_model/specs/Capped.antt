@@ -23,7 +23,7 @@ pub record IsSending (cs : List CbqClass) (rate : ℕ) (h : List Event) (s : Tra
   pub len : s.len ≡ packet.len
   pub choice : choice_of cs rate (situation cs rate h) s.start ≡ record { class = s.class; rule = s.rule }
 
--- each sending of a history is
+-- each sending of a history is one of CBQ's
 abbrev pub AreSendings : List CbqClass → (rate : ℕ) → List Event → Type 0
 AreSendings cs rate [] = Unit {0}
 AreSendings cs rate (Offered a w v ∷ h) = AreSendings cs rate h
@@ -59,8 +59,8 @@ pub record IsStretch (cs : List CbqClass) (rate c : ℕ) (last : Transmission) (
   pub of_first : first.class ≡ c
   pub own : AreOwn c (Sent last ∷ between)
 
--- 31 times the units that the class sent after the first of them are at most what its rate carries in 32 times the time between the two
--- ends and in 31 times its burst and its longest packet of these
+-- 31 units <= rate (32 (last end - first end) + 31 (cap + longest packet's time)), the units being those that the class sent after
+-- the first of the two, up to and with the last
 abbrev pub KeepsItsRate : List CbqClass → (c : ℕ) → (last : Transmission) → (between : List Event) → (first : Transmission) → Type 0
 KeepsItsRate cs c last between first =
     let p = pace_of (class_of cs c) in

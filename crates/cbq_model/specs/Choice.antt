@@ -30,16 +30,16 @@ head_in s c = get_or s.heads c None
 abbrev pub credit_in : Situation → ℕ → ℕ
 credit_in s c = get_or s.credits c 0
 
--- a class allows a packet of a length to start then: the root always, another by its average or by the idle time that the packet's
+-- a class allows a packet of a length to start at t: the root always, another by its average or by the idle time that the packet's
 -- end leaves
 abbrev pub allows_in : List CbqClass → (rate : ℕ) → Situation → (c t len : ℕ) → Bool
 allows_in cs rate s c t len = is_root cs c || allows_now (estimate_in s c) (end_of rate s.link t len) len
 
--- a class may send a packet of a length then: it allows it itself, or one that may lend to it does
+-- a class may send a packet of a length at t: it allows it itself, or one that may lend to it does
 abbrev pub may_send : List CbqClass → (rate : ℕ) → Situation → (c t len : ℕ) → Bool
 may_send cs rate s c t len = allows_in cs rate s c t len || list_any (λ p. allows_in cs rate s p t len) (lenders cs c)
 
--- a class waits, and may send its head then
+-- a class waits, and may send its head at t
 abbrev pub may_with : List CbqClass → (rate : ℕ) → Situation → (c t : ℕ) → Option ℕ → Bool
 may_with cs rate s c t None = false
 may_with cs rate s c t (Some len) = may_send cs rate s c t len
@@ -54,7 +54,7 @@ least_allowed e rate l t len =
     let u = max t (wanted_now e len - time_of len rate) in
     if int_lt (pos 0) e.average then t else if nat_le (wanted_now e len) (end_of rate l u len) then u else u + 1
 
--- the same of a class, of which the root is never held back
+-- the same for a class; the root is never held back
 abbrev pub own_start : List CbqClass → (rate : ℕ) → Situation → (t len c : ℕ) → ℕ
 own_start cs rate s t len c = if is_root cs c then t else least_allowed (estimate_in s c) rate s.link t len
 
@@ -70,7 +70,7 @@ start_with cs rate s c t (Some len) = least_of (own_start cs rate s t len) c (le
 abbrev pub start_of : List CbqClass → (rate : ℕ) → Situation → (c t : ℕ) → ℕ
 start_of cs rate s c t = start_with cs rate s c t (head_in s c)
 
--- the waiting classes that may send then
+-- the waiting classes that may send at t
 abbrev pub able : List CbqClass → (rate : ℕ) → Situation → (t : ℕ) → List ℕ
 able cs rate s t = filter (λ c. may cs rate s c t) (numbers cs)
 
@@ -81,8 +81,8 @@ rounds_for credit quantum len = ceil_div (len - credit) quantum
 abbrev pub rounds : List CbqClass → (rate : ℕ) → Situation → (c : ℕ) → ℕ
 rounds cs rate s c = rounds_for (credit_in s c) (quantum_of rate (class_of cs c)) (unwrap_or (head_in s c) 0)
 
--- what decides between classes: the priority, the rounds that they need, and the order of their ring from the cursor on, in which those
--- that stand before the cursor in the file come last
+-- what decides between classes: the priority, the rounds that they need, and the order of the ring of their priority: that of the
+-- file, but beginning at the cursor
 abbrev pub rank_in : List CbqClass → (rate : ℕ) → Situation → (c : ℕ) → Rank
 rank_in cs rate s c =
     let p = (class_of cs c).priority in
@@ -100,7 +100,7 @@ goes_before a b =
     else if nat_lt b.rounds a.rounds then false
     else before_in_ring a b
 
--- the first by that order of what was first so far and of some classes
+-- the better of the best so far and one class more, and the best of all of a list
 abbrev pub better : Option Rank → Rank → Option Rank
 better None a = Some a
 better (Some b) a = if goes_before a b then Some a else Some b
@@ -121,7 +121,7 @@ picked cs rate s t = class_in (best cs rate s None (able cs rate s t))
 abbrev pub candidates : List CbqClass → (rate : ℕ) → Situation → (t : ℕ) → List ℕ
 candidates cs rate s t = filter (λ c. (class_of cs c).priority == (class_of cs (picked cs rate s t)).priority) (able cs rate s t)
 
--- it sends as its own what it allows itself, and else borrows
+-- it sends by `Own` where it allows the packet itself, else by `Borrow`
 abbrev pub choice_of : List CbqClass → (rate : ℕ) → Situation → (t : ℕ) → Choice
 choice_of cs rate s t =
     let c = picked cs rate s t in

@@ -25,7 +25,8 @@ estimates cs h = each (λ c k. estimate_of (pace_of k) (ends cs c h)) cs
 abbrev pub heads : List CbqClass → List Event → List (Option ℕ)
 heads cs h = each (λ c k. option_map (λ (a : Coming). a.len) (head c h)) cs
 
--- the ring of each priority begins at the class of it that was sent last; at first at the first one, as at the file's first class
+-- the ring of each priority begins at the class of it that was sent last; before that at the file's first class, which is as good as
+-- at its own first one
 abbrev pub cursors : List CbqClass → List Event → List ℕ
 cursors cs [] = replicate 8 0
 cursors cs (Offered a w v ∷ h) = cursors cs h

@@ -11,7 +11,7 @@ no_class = record { parent = None; rate = 0; priority = 0; borrow = false; maxbu
 abbrev pub class_of : List CbqClass → ℕ → CbqClass
 class_of cs c = get_or cs c no_class
 
--- what each class has, of its number and itself, where these are the classes from one number on
+-- f of the number and of the class itself, for each of a list whose first class has the number c
 abbrev pub each_from : {X : Type 0} → (ℕ → CbqClass → X) → (c : ℕ) → List CbqClass → List X
 each_from f c [] = []
 each_from f c (k ∷ ks) = f c k ∷ each_from f (c + 1) ks

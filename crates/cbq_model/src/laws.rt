@@ -19,9 +19,9 @@ pub fn cbq_is_lawful()
     ensures steady { (cs : List CbqClass) (rate : ℕ) (answer : Answering) → 0 < rate → IsSteady (cbq cs rate answer) }
 {}
 
-/// A class without children that is not the root keeps to its rate while it does not borrow: within each stretch of such sendings it is
-/// at most a burst and a packet ahead of 32 31sts of it. This holds of every history of CBQ's sendings, and the first events of a play of
-/// CBQ are one.
+/// A class without children that is not the root keeps to its rate while it does not borrow: within each stretch of such sendings it
+/// is at most one burst and one packet ahead of 32/31 of its rate. This holds of every history of CBQ's sendings, and the first
+/// events of a play of CBQ are one.
 pub fn class_keeps_its_rate()
     ensures rate { (cs : List CbqClass) (rate c : ℕ) (last : Transmission) (between : List Event) (first : Transmission) (before : List Event)
         → 0 < rate → 0 < (class_of cs c).rate → IsStretch cs rate c last between first before → KeepsItsRate cs c last between first }

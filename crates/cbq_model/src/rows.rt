@@ -1,4 +1,4 @@
-// Examples that are computed from the definitions.
+// Worked examples, computed by the checker from the definitions.
 ghost use Rattle.std.specs.Prelude.{◌≡◌, ◌∷◌, ◌++◌, [], true, false, pos, negsuc};
 ghost use Rattle.altq_model.specs.declared.Fate.TheVariants.{Sent};
 ghost use Rattle.altq_model.specs.declared.Rule.TheVariants.{Own, Borrow};
@@ -34,8 +34,9 @@ pub fn weighted_round_of_two()
         ∷ (3, Sent 4500000 6000000 Own) ∷ (5, Sent 6000000 7500000 Own) ∷ (6, Sent 7500000 9000000 Own) ∷ [] }
 {}
 
-/// A quantum is a class's part of 1,500 bytes, rounded up: half of them is 750, and a bit/s less or more gives 749.9998 or 750.0002.
-/// At 1,000 bit/s it is 0.1875 bytes. Rounds are what a packet of more bytes than the credit needs, rounded up.
+/// A quantum is a class's part of 1,500 bytes, rounded up: at half of the link's rate it is 750; one bit/s less or more gives
+/// 749.9998 or 750.0002, rounded up to 750 and 751. At 1,000 bit/s it is 0.1875 bytes, rounded up to 1. A packet needs as many rounds
+/// as make up for the bytes that its class's credit lacks, rounded up.
 pub fn quanta_and_rounds_are_rounded_up()
     ensures quanta { quanta around_a_half 8000000 ≡ 1500 ∷ 750 ∷ 750 ∷ 751 ∷ 1 ∷ [] }
     ensures below { rounds_for 0 750 749 ≡ 1 }
@@ -54,17 +55,17 @@ pub fn cursor_of_the_ring_goes_first()
         ∷ (6, Sent 4500000 6000000 Own) ∷ (2, Sent 6000000 7500000 Own) ∷ (4, Sent 7500000 9000000 Own) ∷ [] }
 {}
 
-/// With a quantum of 500 the second class's packet of 100 bytes goes first, after one round. Of the 400 that it has left it keeps nothing,
-/// as it is empty then. So its packet of 400 bytes, which comes 200 microseconds later, needs one round, as does the first class's of 100
-/// that waits after the one of 1,500; and the class of the cursor goes first.
+/// With a quantum of 500 the second class's packet of 100 bytes goes first, after one round. The class is empty then, so it loses the
+/// 400 bytes of credit that are left. Its next packet, of 400 bytes, comes 200 microseconds later and needs one round. So does the
+/// first class's packet of 100 bytes, which waits behind one of 1,500. The class at the cursor goes first.
 pub fn emptied_class_keeps_no_credit()
     ensures { journal_of thirds 8000000 empty_between ≡
         (3, Sent 0 100000 Own) ∷ (1, Sent 100000 1600000 Own) ∷ (2, Sent 1600000 1700000 Own) ∷ (4, Sent 1700000 2100000 Own) ∷ [] }
 {}
 
-/// Three packets of the lower class leave both classes above their rates: the averages are 24000000, 750000 and -21773437 below, and as in
-/// `class_is_paced_and_borrows` above. The lower class itself would wait till 48093018. The one above lends when it is back at its rate,
-/// and at once where it borrows from the root.
+/// Three packets of the lower class leave both classes above their rates: the averages of the lower one are 24000000, 750000 and
+/// -21773437, those of the upper one are those of `class_is_paced_and_borrows`. The lower class itself would wait till 48093018. The
+/// upper one lends when it is back at its rate, and at once where it borrows from the root.
 pub fn class_above_its_rate_does_not_lend()
     ensures averages { averages_of (nested false) 8000000 2 (packets 3 2 1500) ≡ pos 24000000 ∷ pos 750000 ∷ negsuc 21773436 ∷ [] }
     ensures waits { next_start (nested false) 8000000 2 4500000 8 (packets 5 2 1500) ≡ 24116089 }

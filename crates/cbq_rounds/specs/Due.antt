@@ -9,7 +9,7 @@ use Rattle.discipline_laws.specs.declared.pick.Pick.{Pick}
 use Rattle.discipline_laws.specs.declared.pick.Pick.TheVariants.{Send, Wait, Empty}
 use Rattle.cbq_rounds.specs.Shared.{Shared, head_len, situation_in, start_now_in}
 
--- the first of moments
+-- the first of some moments
 abbrev pub first_of : List (Option ℕ) → Option ℕ
 first_of [] = None
 first_of (o ∷ os) = lesser o (first_of os)
@@ -21,7 +21,7 @@ start_in d lists clock t c = option_map (λ len. start_now_in d clock.rate clock
 abbrev pub first_in : Shared → (ℕ → List Entry) → Clock → (t : ℕ) → Option ℕ
 first_in d lists clock t = first_of (each (λ c k. start_in d lists clock t c) d.tree)
 
--- the head of a list is sent
+-- the sending of the head of a list
 abbrev pub send_head : Choice → List Entry → Pick
 send_head k [] = Empty
 send_head k (x ∷ xs) = Send x.ticket k.class x.len k.rule
@@ -30,7 +30,7 @@ abbrev pub due_with : Option ℕ → (t : ℕ) → Pick → Pick
 due_with None t p = Empty
 due_with (Some u) t p = if u == t then p else Wait u
 
--- nothing where nothing waits; the head of the choice's class where some class may send then; else a wait
+-- nothing where nothing waits; the head of the choice's class where some class may send at t; else a wait
 abbrev pub due_in : Shared → (ℕ → List Entry) → Clock → (t : ℕ) → Pick
 due_in d lists clock t =
     let k = choice_of d.tree d.rate (situation_in d lists clock.link) t in

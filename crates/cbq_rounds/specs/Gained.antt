@@ -15,7 +15,7 @@ transmission x = record { class = x.class; len = x.len; rule = x.rule; start = x
 abbrev pub with_credits : Shared → List ℕ → Shared
 with_credits d credits = record { rate = d.rate; tree = d.tree; estimates = d.estimates; credits = credits; cursors = d.cursors; ended = d.ended }
 
--- what one class has then
+-- the credit of a class after the gains of a sending
 abbrev pub gained_by : Shared → (ℕ → List Entry) → Clock → Sending → (c : ℕ) → ℕ
 gained_by d lists clock x c =
     let s = situation_in d lists clock.link in
@@ -24,7 +24,7 @@ gained_by d lists clock x c =
 abbrev pub with_gains : Shared → (ℕ → List Entry) → Clock → Sending → Shared
 with_gains d lists clock x = with_credits d (each (λ c k. gained_by d lists clock x c) d.tree)
 
--- the classes below one have gained, and the others not yet
+-- the classes before `class` have gained, and the others not yet
 pub record HasGained (d : Shared) (lists : ℕ → List Entry) (clock : Clock) (x : Sending) (class : ℕ) (now : Shared) : Type 0 where
   pub same : now ≡ with_credits d now.credits
   pub count : length now.credits ≡ length d.credits

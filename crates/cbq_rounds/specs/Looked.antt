@@ -10,17 +10,17 @@ use Rattle.link_clock.specs.Clock.{Clock}
 use Rattle.cbq_rounds.specs.Due.{first_in, first_of, start_in}
 use Rattle.cbq_rounds.specs.Shared.{Shared, situation_in}
 
--- every packet that waits has a length of a packet
+-- every waiting packet is 1 to 262,144 bytes long
 abbrev pub AreSized : List Entry → Type 0
 AreSized [] = Unit {0}
 AreSized (x ∷ xs) = (1 ≤ x.len) × (x.len ≤ 262144) × AreSized xs
 
--- a class of this priority comes after the first so far
+-- a class of this priority cannot win against the best one so far
 abbrev pub is_behind : Option Rank → (priority : ℕ) → Bool
 is_behind None p = false
 is_behind (Some b) p = nat_lt p b.priority
 
--- the first moment and the first class of the classes from one on, with what the earlier ones gave, are those of all
+-- what the classes before `class` gave, and what those from it on give, make the first moment and the best class of all
 pub record HasLooked (d : Shared) (lists : ℕ → List Entry) (clock : Clock) (now class : ℕ) (at : Option ℕ) (found : Option Rank) : Type 0 where
   pub till : lesser at (first_of (each_from (λ c k. start_in d lists clock now c) class (drop class d.tree))) ≡ first_in d lists clock now
   pub best : best d.tree d.rate (situation_in d lists clock.link) found

@@ -7,7 +7,7 @@ use Rattle.cbq_model.specs.declared.CbqClass.{CbqClass}
 use Rattle.cbq_model.specs.Tree.{class_of}
 use Rattle.cbq_rounds.specs.Shared.{Shared, no_estimate}
 
--- a class has another credit
+-- the same, with another credit of class c
 abbrev pub with_credit : Shared → (c credit : ℕ) → Shared
 with_credit d c credit = record {
   rate = d.rate;
@@ -18,7 +18,7 @@ with_credit d c credit = record {
   ended = d.ended;
 }
 
--- a class was sent last of its priority, till then
+-- the ring of the class's priority begins at it, and the latest sending ended at `end`
 abbrev pub with_last : Shared → (c end : ℕ) → Shared
 with_last d c end = record {
   rate = d.rate;

@@ -52,7 +52,7 @@ situation_in d lists link = record {
   link = link;
 }
 
--- the least moment from t on at which a class's own average allows a packet, of which the root is never held back
+-- the least moment from t on at which a class's own average allows a packet; the root is never held back
 abbrev pub own_now : List CbqClass → List Estimate → (rate : ℕ) → Link → (t len c : ℕ) → ℕ
 own_now cs es rate l t len c = if is_root cs c then t else start_now (get_or es c no_estimate) rate l t len
 
@@ -60,7 +60,7 @@ own_now cs es rate l t len c = if is_root cs c then t else start_now (get_or es 
 abbrev pub is_free : List CbqClass → List Estimate → (c : ℕ) → Bool
 is_free cs es c = is_root cs c || int_lt (pos 0) (get_or es c no_estimate).average
 
--- the least of a moment and of those of some classes
+-- the least of t and of the moments that f gives some classes
 abbrev pub least_with : (ℕ → ℕ) → (t : ℕ) → List ℕ → ℕ
 least_with f t [] = t
 least_with f t (p ∷ ps) = least_with f (min t (f p)) ps

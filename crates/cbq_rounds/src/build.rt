@@ -30,7 +30,7 @@ fn quantum_of(class: &CbqClass, rate: u64) -> u64
 
 impl Shares {
     /// What CBQ keeps of at most 256 classes that have sent nothing, on a link of `rate` bits per second, 1,000 to 10^12. `NoMemory`
-    /// comes only for want of memory.
+    /// comes only when memory runs out.
     pub fn build(alloc: Global, classes: &[CbqClass], rate: u64) -> Result<Shares, NoMemory>
         requires least { 1000 ≤ rate }
         requires most { rate ≤ 10 ^ 12 }

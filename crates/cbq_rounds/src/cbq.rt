@@ -40,9 +40,10 @@ impl<Q: QueueRule + Drop> Model for Cbq<Q> {
 }
 
 impl<Q: QueueRule + Drop> Cbq<Q> {
-    /// CBQ with these classes, at most 256, on a link of `rate` bits per second, 1,000 to 10^12. Every class may hold packets, and there
-    /// is one queue for each, which stands for nothing asked or told yet and holds 1 to 10,000 packets. Each parent stands earlier in
-    /// the list, and no class is deeper than 8 levels. Takes all the memory that it will ever take; `NoMemory` comes only for want of it.
+    /// CBQ with these classes, at most 256, on a link of `rate` bits per second, 1,000 to 10^12. Every class may hold packets, and
+    /// there is one queue for each, which stands for nothing asked or told yet and holds 1 to 10,000 packets. Each parent stands
+    /// earlier in the list, and no class is deeper than 8 levels. Takes all the memory that it will ever take; `NoMemory` comes only
+    /// when memory runs out.
     pub fn build(
         alloc: Global,
         classes: &[CbqClass],

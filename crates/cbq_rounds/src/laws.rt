@@ -10,7 +10,7 @@ use discipline_laws::Discipline;
 use leaf_queue::QueueRule;
 
 /// In each history that CBQ stands for, a class without children that is not the root keeps to its rate while it does not borrow: within
-/// each stretch of such sendings it is at most a burst and a packet ahead of 32 31sts of it.
+/// each stretch of such sendings it is at most one burst and one packet ahead of 32/31 of its rate.
 pub fn classes_keep_their_rates<Q: QueueRule + Drop>(cbq: &Cbq<Q>)
     ensures { (h : List Happened) (c : ℕ) (last : Transmission) (between : List Event) (first : Transmission) → ⟦<Cbq<Q> as Discipline>⟧.stands cbq.now h
         → 0 < (class_of cbq.now.shares.tree c).rate → IsOwnStretch cbq.now.shares.tree c (bare h) last between first

@@ -43,7 +43,7 @@ fn better(best: Option<Rank>, rank: Rank) -> Rank
     }
 }
 
-// Whether a class of this priority comes after the first so far, whatever it needs.
+// Whether a class of this priority cannot win against the best one so far, however few rounds it needs.
 fn is_behind(best: Option<Rank>, priority: u8) -> bool
     ensures { result ≡ is_behind best priority }
 {

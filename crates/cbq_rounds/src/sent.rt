@@ -32,7 +32,7 @@ impl Shares {
         };
     }
 
-    /// The ring of a class's priority begins at it from now on, and the latest sending ended then, no earlier than the one before.
+    /// The ring of a class's priority begins at it from now on, and the latest sending ended at `end`, no earlier than the one before.
     pub fn set_last(&mut self, class: u32, end: u64)
         requires class { class < length self.old.tree }
         requires order { self.old.ended ≤ end }

@@ -93,8 +93,8 @@ impl Shares {
         self.has_free(levels - 1, next)
     }
 
-    // The least of a moment and of those of a class that may lend and of the lenders above it, over at most `levels` levels. None is before
-    // `now`, so no further lender is asked once the moment is `now`.
+    // The least of `start` and of the moments from which `lender`, and each lender above it over at most `levels` levels, allows the
+    // packet. None is before `now`, so no further lender is asked once the moment is `now`.
     fn least_start(
         &self,
         levels: u32,

@@ -11,12 +11,12 @@ use Rattle.leaf_queue.specs.Queue.{QueueEvent, Saying, by_queues, told_of}
 use Rattle.discipline_laws.specs.Laws.{Shows, coming, seen, seen_of}
 use Rattle.class_rows.specs.Leaf.{HasPrecs}
 
--- the queue classes, where these are the classes from one on
+-- the numbers of the queue classes of a list whose first class has the number c
 abbrev pub holding : (c : ℕ) → List Bool → List ℕ
 holding c [] = []
 holding c (h ∷ hs) = if h then c ∷ holding (c + 1) hs else holding (c + 1) hs
 
--- the list of a class, where these are the lists of the classes from one on
+-- the list of a class, where the first of the lists is that of class c
 abbrev pub list_at : (c : ℕ) → List (List Entry) → (class : ℕ) → List Entry
 list_at c [] class = []
 list_at c (xs ∷ lists) class = if c == class then xs else list_at (c + 1) lists class
@@ -84,7 +84,7 @@ pub record IsRow {Q : Type 0} (most : Q → ℕ) (first room : ℕ) (queues : Li
   pub bound : room ≤ 2560000
   pub count_bound : length queues ≤ 256
 
--- each list, of the classes from one on, is what waits in its class, and each queue was told what the history tells it
+-- each list, the first being that of class c, is what waits in its class, and each queue was told what the history tells it
 abbrev pub RowsStand : {Q : Type 0} → (Q → List QueueEvent → Type 0) → (c : ℕ) → List Q → List (List Entry) → List Event → Type 0
 RowsStand stands c [] [] b = Unit {0}
 RowsStand stands c [] (xs ∷ lists) b = ⊥

@@ -55,8 +55,8 @@ fn sum_of<Q: QueueRule>(queues: &[Q], holds: &[bool]) -> u32
 
 impl<Q: QueueRule + Drop> Rows<Q> {
     /// The classes `first`, `first` + 1 and so on, one for each of at most 256 queues, which stand for nothing asked or told yet and
-    /// hold 1 to 10,000 packets; those for which `holds` are queue classes, one word for each. Takes all the memory that it will
-    /// ever take; `NoMemory` comes only for want of it.
+    /// hold 1 to 10,000 packets; `holds` says of each whether it is a queue class. Takes all the memory that it will ever take;
+    /// `NoMemory` comes only when memory runs out.
     pub fn build(
         alloc: Global,
         first: u32,
@@ -116,7 +116,7 @@ impl<Q: QueueRule + Drop> Rows<Q> {
     }
 
     /// Offers a packet to the queue of a queue class, and puts it at the end of its list if it is kept. It is dropped as `Full`
-    /// exactly where as many wait as may. Takes no memory.
+    /// exactly where the queue is at its limit. Takes no memory.
     pub fn offer(&mut self, class: u32, entry: Entry, now: u64, words: &mut Words) -> Verdict
         requires class { IsOneOf class (classes_in self.old) }
         requires prec { entry.prec ≤ 2 }

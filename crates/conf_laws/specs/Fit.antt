@@ -22,9 +22,8 @@ IsName name = is_name name ≡ true
 abbrev pub IsWithin : ℕ → ℕ → ℕ → Type 0
 IsWithin low high n = (low ≤ n) × (n ≤ high)
 
--- A curve that may be set: slopes of at most 10^12, the first at least `low` and the second at least `least`; a bend in whole
--- milliseconds, at most 10^6 of them; none that bends upwards from more than 0. It has a bend where its slopes differ, and there
--- alone.
+-- A curve that may be set: slopes of at most 10^12, the first at least `low` and the second at least `least`, and not 0 < m1 < m2; a
+-- bend in whole milliseconds, at most 10^6 of them. It has a bend where its slopes differ, and there alone.
 pub record IsCurve (low least : ℕ) (s : Curve) : Type 0 where
   pub first : IsWithin low most_rate s.m1
   pub second : IsWithin least most_rate s.m2

@@ -38,7 +38,7 @@ kind_key Cbq = key.Cbq
 abbrev pub interface_whats : Interface → List What
 interface_whats i = what.Name i.name ∷ what.Key key.Bandwidth ∷ what.Rate i.rate ∷ what.Key (kind_key i.kind) ∷ []
 
--- an option that stands where something holds
+-- an option that is there if the condition is true
 abbrev pub key_where : Key → Bool → List What
 key_where key true = what.Key key ∷ []
 key_where key false = []

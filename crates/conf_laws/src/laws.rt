@@ -37,8 +37,8 @@ pub fn texts_read_back()
     statements_are_read();
 }
 
-/// The first fault of a text stands at its word: two lines behind the same statements that agree up to and with this word have
-/// the same fault, whatever follows.
+/// The first fault of a text depends only on what stands up to its word: two lines behind the same statements that agree up
+/// to and with this word have the same fault, whatever follows.
 pub fn faults_stand_at_words()
     ensures { FaultsStandAtWords }
 {}

@@ -105,7 +105,7 @@ abbrev pub at_last_slope : ℕ → ℕ → Result ℕ ℕ → Place → Result S
 at_last_slope m1 d (Ok m2) place = if is_convex m1 d m2 then Err convex_first else says (what.Rate m2) place next.Choice
 at_last_slope m1 d (Err kind) place = Err kind
 
--- a word that is one of the statement's own, and then another is next
+-- a keyword of the statement, and then another word is next
 abbrev pub keyword : Key → Place → Next → Result Step ℕ
 keyword key place next = says (what.Key key) place next
 
@@ -157,7 +157,7 @@ abbrev pub word_or_end : Option Key → Place → Next → List ℕ → Result S
 word_or_end None place next word = refused word
 word_or_end (Some key) place next word = keyword key place next
 
--- what a word leads to from a place
+-- what a word leads to from a place, which is a state of the parser
 abbrev pub step_from : Next → Place → List ℕ → Result Step ℕ
 step_from next.Statement place word = at_statement word
 step_from next.Discipline place word = at_discipline word
@@ -209,7 +209,7 @@ end place = end_from place.next place
 abbrev pub start : Place
 start = record { form = form.Unread; next = next.Statement; settled = false }
 
--- what the code answered is this, unless memory ran out
+-- the code returns exactly this reading, or `NoMemory`
 abbrev pub Fails : Refusal → Result Step ℕ → Type 0
 Fails NoMemory read = Unit {0}
 Fails (Kind kind) read = read ≡ Err kind

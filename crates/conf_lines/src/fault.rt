@@ -17,7 +17,7 @@ pub struct ConfPlace {
 pub enum ConfFault {
     /// The text has a fault.
     At(ConfPlace),
-    /// There was no memory.
+    /// Memory ran out.
     NoMemory,
 }
 

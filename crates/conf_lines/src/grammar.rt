@@ -1,4 +1,4 @@
-//! What may stand where: the places of a statement.
+//! What may stand where in a statement. A `Place` is a state of its parser.
 
 use crate::item::What;
 use crate::statement::Form;
@@ -69,7 +69,7 @@ pub(crate) enum Next {
     End,
 }
 
-/// Where the reading of a statement is.
+/// A state of the parser of a statement.
 #[derive(Clone, Copy, Debug)]
 pub(crate) struct Place {
     /// Which statement it is.
@@ -80,18 +80,18 @@ pub(crate) struct Place {
     pub(crate) settled: bool,
 }
 
-/// What a word says, if it says more than which statement it is, and where the reading is behind it.
+/// The item of a word, if it gives more than which statement it is, and the parser's state after the word.
 #[derive(Debug, Drop)]
 pub(crate) struct Step {
     pub(crate) what: Option<What>,
     pub(crate) after: Place,
 }
 
-/// Why a word leads nowhere.
+/// Why a word is refused.
 #[derive(Clone, Copy, Debug)]
 pub(crate) enum Refusal {
     /// It is a fault of this kind.
     Kind(u8),
-    /// There was no memory.
+    /// Memory ran out.
     NoMemory,
 }

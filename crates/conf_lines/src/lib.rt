@@ -1,5 +1,5 @@
 //! The statements of a configuration text, after altq.conf(5) in this project's own profile: each logical line read word by
-//! word, up to the first word that no statement has there.
+//! word, up to the first word that is not allowed there.
 #![tactic(auto)]
 
 mod fault;

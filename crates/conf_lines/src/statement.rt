@@ -33,7 +33,7 @@ pub struct Statement {
     pub form: Form,
     /// What its words say, up to the fault.
     pub items: Items,
-    /// The count of the line's words, and 1.
+    /// One more than the number of the line's words.
     pub end: u64,
     /// Its first fault.
     pub fault: Option<ConfPlace>,
@@ -41,7 +41,7 @@ pub struct Statement {
 
 /// The statements of a text, in order, one for each logical line that has words or is too long.
 ///
-/// Each is read up to its first fault, which it keeps. Answers `NoMemory` where there was none for the list, a name or the
+/// Each is read up to its first fault, which it keeps. Returns `NoMemory` where memory ran out for the list, a name or the
 /// words of a line. Takes the text's length in time, and its statements and the words of one line in memory.
 /// Source: altq.conf(5).
 pub fn statements(alloc: Global, text: &[u8]) -> Result<Vec<Statement>, NoMemory>
@@ -175,7 +175,7 @@ fn fault_at(line: u64, word: u64, kind: Option<u8>) -> Option<ConfPlace>
     }
 }
 
-/// Adds the item of a word, if it says more than which statement it is.
+/// Adds the item of a word, if it gives more than which statement it is.
 fn add_item(items: &mut Vec<Item>, word: u64, what: Option<What>) -> Result<(), NoMemory>
     ensures { OnOk result (items.new.items ≡ items.old.items ++ item_of word what) }
 {

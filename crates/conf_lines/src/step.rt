@@ -30,7 +30,7 @@ fn says(what: What, place: Place, next: Next) -> Step
     }
 }
 
-/// A word that no statement has at its place.
+/// The refusal of a word that is not allowed at its place.
 fn refused(word: &Word) -> Result<Step, u8>
     ensures { result ≡ refused word.now.parts.now }
 {
@@ -85,7 +85,7 @@ fn flows(read: Result<u64, u8>, place: Place, next: Next) -> Result<Step, u8>
     }
 }
 
-/// A word of the statement's own, and then another is next.
+/// A keyword of the statement, and then another word is next.
 fn keyword(key: Key, place: Place, next: Next) -> Result<Step, u8>
     ensures { result ≡ keyword key place next }
 {

@@ -22,7 +22,7 @@ abbrev pub interface_line : Interface → List ℕ
 interface_line i =
     codes "interface " ++ (i.name ++ (codes " bandwidth " ++ (decimal i.rate ++ (codes " " ++ (kind_word i.kind ++ codes "\n")))))
 
--- a word that stands where something holds
+-- a word that is there if the condition is true
 abbrev pub word_where : List ℕ → Bool → List ℕ
 word_where word true = word
 word_where word false = []

@@ -94,7 +94,8 @@ set_cbq scope s word key.Maxburst items = Ok (record s { maxburst = unwrap_or (n
 set_cbq scope s word key.Packetsize items = Ok (record s { packetsize = unwrap_or (number_behind key.Packetsize items) s.packetsize })
 set_cbq scope s word key items = set_queue scope s word key items
 
--- an option of HFSC, or another; sc sets both curves, and what rt or grate set last no child may take away
+-- an option of HFSC, or another; sc sets both curves, and a class whose real-time curve was set last by rt or grate cannot
+-- be a parent
 abbrev pub set_option : Scope → Settings → ℕ → Key → List Item → Result Settings ConfPlace
 set_option scope s word key.Sc items =
     let curve = curve_behind key.Sc items in

@@ -9,7 +9,7 @@ use conf_lines::Text;
 use play_base::NoMemory;
 use std::alloc::Global;
 
-/// A class and what later statements ask of it.
+/// A class, and what later statements need to know of it.
 #[derive(Debug, Drop)]
 pub(crate) struct Branch {
     pub(crate) class: Class,

@@ -126,7 +126,7 @@ fn cbq_shape(
     })
 }
 
-/// A class whose options have no fault before the statement's own.
+/// A class whose options are right, unless the statement has a fault of its own.
 fn shape_unless(
     draft: &Draft,
     statement: &Statement,
@@ -144,7 +144,7 @@ fn shape_unless(
     }
 }
 
-/// A class at a spot.
+/// A class at its spot in the tree, by its options.
 fn shape_at(draft: &Draft, statement: &Statement, spot: Spot) -> Result<Shape, ConfPlace>
     ensures { result ≡ shape_at draft.now statement.now (Ok spot) }
 {

@@ -7,7 +7,7 @@ use crate::interface::Kind;
 use service_curve::Curve;
 use std::alloc::{AllocError, Global};
 
-/// A word that stands where something holds.
+/// The word if `holds`, else an empty one.
 fn word_where(word: &str, holds: bool) -> &str
     ensures { result.now ≡ word_where word.now holds }
 {

@@ -34,7 +34,7 @@ impl Conf {
     ///
     /// Answers `At` with the first fault of the text: that of its first statement that cannot stand behind those before it,
     /// at its first word that cannot; where no statement has a fault, it is that of the first interface that has classes and
-    /// no default class, at word 0. Answers `NoMemory` where there was none. Takes time close to linear in the statements.
+    /// no default class, at word 0. Returns `NoMemory` where memory ran out. Takes time close to linear in the statements.
     pub fn build(alloc: Global, statements: &[Statement]) -> Result<Conf, ConfFault>
         ensures accepted { IfOk result (λ conf. reading statements.now ≡ Ok conf) }
         ensures refused { IfErr result (λ fault. Fails fault (reading statements.now)) }
@@ -66,7 +66,7 @@ impl Conf {
     /// The canonical text: for each interface its line, its classes and its filters, each on a line of its own, with every
     /// number in decimal and each option that holds written once. Implied classes are not written.
     ///
-    /// Answers `NoMemory` where there was none. Takes time and memory linear in the text.
+    /// Returns `NoMemory` where memory ran out. Takes time and memory linear in the text.
     pub fn text(&self, alloc: Global) -> Result<Vec<u8>, NoMemory>
         ensures { IfOk result (λ text. text.items ≡ canonical_text self.now) }
     {

@@ -83,7 +83,7 @@ fn made(m1: u64, d: u64, m2: u64) -> Curve
     Curve::make(m1, d, m2)
 }
 
-/// The curve of the three numbers at the front, whose slopes are at least what is said.
+/// The curve of the three numbers at the front, whose first slope is at least `low` and whose second at least `least`.
 fn curve_in(low: u64, least: u64, items: &[Item]) -> Option<Curve>
     ensures { result ≡ curve_in_slots (Slots.Curve low least) items.now }
 {

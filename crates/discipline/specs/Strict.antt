@@ -12,7 +12,7 @@ use Rattle.discipline_laws.specs.Moments.{IsOrderly}
 use Rattle.discipline.specs.Plain.{IsPlain}
 use Rattle.class_rows.specs.Rows.{Rowed, Told, answering, classes_in, list_in}
 
--- so many classes from one on
+-- `count` classes from c on
 abbrev pub classes_from : (c count : ℕ) → List ℕ
 classes_from c zero = []
 classes_from c (suc n) = c ∷ classes_from (c + 1) n

@@ -28,8 +28,8 @@ impl<Q: QueueRule + Drop> Model for Paced<Q> {
 }
 
 impl<Q: QueueRule + Drop> Paced<Q> {
-    /// One class with this queue, 1 to 10,000 packets, which stands for nothing asked or told yet. Its packets start at the
-    /// multiples of `gap` nanoseconds, 1 at least. Takes all the memory that it will ever take; `NoMemory` comes only for want of it.
+    /// One class with this queue, 1 to 10,000 packets, which stands for nothing asked or told yet. Its packets start at the multiples
+    /// of `gap` nanoseconds, 1 at least. Takes all the memory that it will ever take; `NoMemory` comes only when memory runs out.
     pub fn build(alloc: Global, class: u32, gap: u64, queue: Q) -> Result<Paced<Q>, NoMemory>
         requires gap { 1 ≤ gap }
         requires least { 1 ≤ Q.most queue }

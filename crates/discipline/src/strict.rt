@@ -52,7 +52,7 @@ fn pick_from<Q: QueueRule + Drop>(rule: Rule, rows: &Rows<Q>) -> Pick
 impl<Q: QueueRule + Drop> Strict<Q> {
     /// The classes `first`, at most 1,000,000, `first` + 1 and so on, one for each of 1 to 256 queues, which stand for nothing
     /// asked or told yet and hold 1 to 10,000 packets. Each packet is sent by `rule`. Takes all the memory that it will ever take;
-    /// `NoMemory` comes only for want of it.
+    /// `NoMemory` comes only when memory runs out.
     pub fn build(
         alloc: Global,
         first: u32,

@@ -41,7 +41,7 @@ room_of limits (c ∷ cs) = limits c + room_of limits cs
 abbrev pub AreDistinct : List ℕ → Type 0
 AreDistinct cs = (c : ℕ) → occurs c cs ≤ 1
 
--- a packet is answered by the policy, and the words that it takes are drawn for it
+-- the verdict is the policy's, and exactly the random words that it takes were drawn
 pub record IsAnswer (p : Policy) (h : List Event) (old : DrawnWords) (a : Coming) (v : Verdict) (new : DrawnWords) : Type 0 where
   pub verdict : v ≡ (p.answer h old a).verdict
   pub words : Drew old new (p.answer h old a).took

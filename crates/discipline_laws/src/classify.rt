@@ -1,9 +1,9 @@
-// What is told of a frame.
+// What a classifier says of a frame.
 ghost use Rattle.std.specs.Prelude.{◌≡◌, ℕ, Bool, List, length};
 
 use altq_model::Placed;
 
-/// Tells where a frame belongs, and what becomes of its bytes on the way. Neither call takes memory.
+/// Says in which class a frame belongs, and with which bytes it departs. Neither call takes memory.
 pub trait Classify {
     ghost use Rattle.altq_model.specs.declared.Placed.{Placed};
 

@@ -41,14 +41,13 @@ pub trait Discipline {
     /// The policy of whose plays its histories are a part.
     ghost policy: { Self → Policy };
 
-    /// The rate of the link in bits per second, where the discipline has one.
+    /// The rate of the link in bits per second; `None` for a discipline that does not depend on it.
     ghost link_rate: { Self → Option ℕ };
 
     /// How many offers it has counted, where it counts them; else 0.
     ghost given: { Self → ℕ };
 
-    /// The moment of the latest event that it keeps in mind, and the end of its latest sending, in nanoseconds: 0 where it keeps
-    /// none.
+    /// The moment of the latest event and the end of the latest sending that it stores, in nanoseconds; 0 where it stores none.
     ghost moment: { Self → ℕ };
 
     ghost ended: { Self → ℕ };
@@ -61,7 +60,7 @@ pub trait Discipline {
         ensures within { held_in (lists self.now) (policy self.now).classes ≤ result };
 
     /// Offers a packet of a queue class, 1 to 262,144 bytes long, with a precedence of 0, 1 or 2, under a ticket. The verdict is
-    /// that of the class's queue: `Drop(Full)` exactly where as many wait in the class as may. A packet that is kept, marked or
+    /// that of the class's queue: `Drop(Full)` exactly where the queue is at its limit. A packet that is kept, marked or
     /// not, comes to the end of its class's list, and one that is dropped changes no list. Its moment, before 2^63, is no earlier
     /// than any before it, and later than each start. No more than 4,000,000 packets are offered. Takes no memory.
     fn offer(
@@ -84,7 +83,7 @@ pub trait Discipline {
         ensures lists { (c : ℕ) → lists self.new c ≡ after_offer result class (entry ticket len prec) (lists self.old) c }
         ensures full { (result ≡ Verdict.Drop Reason.Full) ↔ (length (lists self.old class) ≡ limits self.old class) }
 
-        // after a history that it stood for: the verdict, the words drawn, and the history with this offer
+        // after a history that it stood for: the verdict, the random words drawn, and the history with this offer
         ensures history { (h : List Happened) → stands self.old h → IsOffer now (bare h) → words.old.drawn < 2 ^ 64 - 1
             → IsAnswer (policy self.old) (bare h) words.old (coming class len prec now) result words.new
             × stands self.new (offer_of (policy self.old) h ticket words.old (coming class len prec now) ∷ h) }
@@ -94,9 +93,9 @@ pub trait Discipline {
         ensures limits { limits self.new ≡ limits self.old }
         ensures rate { link_rate self.new ≡ link_rate self.old };
 
-    /// What is due at a moment, no earlier than the last end and before 2^63, under the link's clock. It is `Empty` exactly where
-    /// every list is empty, and a `Send` of the head of its class's list where a class may send then. Otherwise it is `Wait` till
-    /// the least later moment at which one is due. Nothing changes. Takes no memory.
+    /// What is due at `now`, no earlier than the last end and before 2^63, under the link's clock. It is `Empty` exactly where
+    /// every list is empty, and a `Send` of the head of its class's list where a class may send at `now`. Otherwise it is `Wait`
+    /// till the least later moment at which one is due. Nothing changes. Takes no memory.
     fn next(&mut self, now: u64, clock: &LinkClock) -> Pick
         requires free { clock.now.link.free ≤ now }
         requires early { now < 2 ^ 63 }
@@ -142,7 +141,7 @@ pub trait Discipline {
         ensures limits { limits self.new ≡ limits self.old }
         ensures rate { link_rate self.new ≡ link_rate self.old };
 
-    /// Its lists are what waits in each history that it stands for.
+    /// In each history that it stands for, the packets that wait are those of its lists.
     ghost shows: { (d : Self) (h : List Happened) → stands d h → (c : ℕ) → Shows c (lists d c) h };
 
     /// It has counted no more offers than there were.

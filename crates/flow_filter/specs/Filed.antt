@@ -26,7 +26,7 @@ HoldsAll filters places side entries =
     (rank port : ℕ) → option_and_then (port_on side) (filter_at filters places rank) ≡ Some port
     → Contains entries (record { port = port; rank = rank })
 
--- Those of the filters that are asked before a number which are filed on that side, in the order in which they are asked.
+-- Of the first `count` filters in the order of asking, those that are filed on that side, in this order.
 pub record IsFiledByRank (filters : List Filter) (places : List ℕ) (side : Side) (count : ℕ) (entries : List Filed) : Type 0 where
   pub below : All (λ e. e.rank < count) entries
   pub ranks_rise : IsSortedByKey (λ e. e.rank) nat_cmp entries

@@ -46,7 +46,7 @@ tos_agrees (Some given) tos = bit_and tos given.1 == given.0
 abbrev pub rest_agrees : Filter → (tos protocol : ℕ) → (ports : Option (ℕ × ℕ)) → Bool
 rest_agrees f tos protocol ports = ports_agree f ports && is_none_or f.protocol protocol && tos_agrees f.tos tos
 
--- what the heads of a flow say agrees, where it has any
+-- what the headers of a flow say agrees, where it has any
 abbrev pub matches : Filter → Flow → Bool
 matches f (V4 heads) =
     addresses_agree_4 f.addresses heads.source heads.target && rest_agrees f heads.tos heads.protocol heads.ports

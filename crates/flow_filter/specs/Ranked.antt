@@ -18,10 +18,10 @@ pub record IsRanked (filters : List Filter) (places : List ℕ) : Type 0 where
   pub ties : (i j : ℕ) → i ≤ j → j < length places → ruleno_at filters (slice_index places i) ≡ ruleno_at filters (slice_index places j)
       → slice_index places i ≤ slice_index places j
 
--- the filter that is asked as this one, from 0
+-- the filter that is asked at position `rank`, from 0
 abbrev pub filter_at : List Filter → (places : List ℕ) → (rank : ℕ) → Option Filter
 filter_at filters places rank = option_and_then (λ place. slice_get filters place) (slice_get places rank)
 
--- it matches a flow
+-- whether that filter matches a flow
 abbrev pub matches_at : List Filter → (places : List ℕ) → Flow → (rank : ℕ) → Bool
 matches_at filters places flow rank = option_map_or (λ f. matches f flow) (filter_at filters places rank) false

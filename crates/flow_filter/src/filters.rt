@@ -39,7 +39,7 @@ impl Filters {
     /// the order of the classes.
     ///
     /// They are sorted here, by their rule numbers downwards and then by their places, so that `class` can ask them in that
-    /// order. Answers `NoMemory` where there was none, or where there are 2^32 filters or more, or the default class or one
+    /// order. Returns `NoMemory` where memory ran out, or where there are 2^32 filters or more, or the default class or one
     /// with `control` has such a number, which no configuration has. Takes memory linear in the filters and classes, and time
     /// for sorting them. See altq.conf(5).
     pub fn build(alloc: Global, interface: &Interface) -> Result<Filters, NoMemory>
@@ -58,10 +58,11 @@ impl Filters {
     }
 
     /// The number of the class of a flow: that of the filter that wins among those that match, or the default class where
-    /// none does, as for every `Other`. The flow of a frame has addresses of four or sixteen bytes; of a shorter one in IPv4,
-    /// and of one of another length in IPv6, no filter matches, and of a longer one in IPv4 the first four bytes count. Takes
-    /// no memory. Of the filters that fix a port only those of the flow's ports are asked, up to the first that matches, and
-    /// they are found by bisection; those that fix none are asked likewise. See altq.conf(5).
+    /// none does, as for every `Other`. Addresses are of four or sixteen bytes in the flow of a frame. An IPv4 address of
+    /// fewer bytes, or an IPv6 address of another length, matches no filter; of a longer IPv4 address only the first four
+    /// bytes are compared. Takes no memory. Of the filters that fix a port only those of the flow's ports are asked, up
+    /// to the first that matches, and they are found by bisection; those that fix none are asked likewise. See
+    /// altq.conf(5).
     pub fn class(&self, heads: &FlowHeads) -> u32
         ensures { result ≡ class_of self.now (flow_of heads.now) }
     {

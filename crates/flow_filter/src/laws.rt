@@ -1,9 +1,8 @@
 //! Laws of the class of a flow.
 ghost use Rattle.flow_filter.specs.Laws.{ClassIsThere, ControlTakesItsProtocols, DefaultTakesTheRest, OneWinsOrNoneMatches, WinnerTakesIt};
 
-/// A flow goes to the class of the filter that matches, that no other one which matches passes in its rule number, and that
-/// none of the same number which matches stands before. Where no filter matches, it goes to the default class. One of the
-/// two is so.
+/// A flow goes to the class of the matching filter of the greatest rule number, and of several with that number the first.
+/// Where no filter matches, it goes to the default class. One of the two is so.
 pub fn greatest_rule_wins()
     ensures winner { WinnerTakesIt }
     ensures otherwise { DefaultTakesTheRest }

@@ -35,7 +35,7 @@ fn port_on(side: Side, filter: &Filter) -> Option<u16>
     }
 }
 
-/// The port under which the filter that is asked as this one is filed on a side.
+/// The port under which the filter that is asked at position `rank` is filed on a side.
 fn port_at(side: Side, filters: &[Filter], places: &[u32], rank: u32) -> Option<u16>
     ensures { result ≡ option_and_then (port_on side) (filter_at filters.now places.now rank) }
 {

@@ -44,7 +44,7 @@ pub(crate) fn ranked(alloc: Global, filters: &[Filter]) -> Result<Vec<u32>, NoMe
     Ok(places)
 }
 
-/// The filter that is asked as this one, from 0.
+/// The filter that is asked at position `rank`, from 0.
 pub(crate) fn filter_at<'a>(filters: &'a [Filter], places: &[u32], rank: u32) -> Option<&'a Filter>
     ensures { option_copied result ≡ filter_at filters.now places.now rank }
 {

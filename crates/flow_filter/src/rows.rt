@@ -1,4 +1,4 @@
-//! Examples that are computed from the definitions.
+//! Worked examples, computed by the checker from the definitions.
 ghost use Rattle.std.specs.Prelude.{◌≡◌, ◌∷◌, [], Some, true, false};
 ghost use Rattle.flow_filter.specs.Matches.{matches};
 ghost use Rattle.flow_filter.specs.Rows.{datagram, datagram_to, host_6, later_fragment, of_udp, over, ping, segment_to, to_4, to_5004, to_6, with_rest};

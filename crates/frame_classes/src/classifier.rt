@@ -30,7 +30,7 @@ impl Model for Classifier {
 }
 
 impl Classifier {
-    /// The classifier of an interface. Answers `NoMemory` where there was none, or where it has 2^32 filters or classes, which no
+    /// The classifier of an interface. Returns `NoMemory` where memory ran out, or where it has 2^32 filters or classes, which no
     /// configuration has. Takes time for sorting the filters.
     pub fn build(alloc: Global, interface: &Interface) -> Result<Classifier, NoMemory>
         ensures kept { IfOk result (λ c. c ≡ classes_of interface.now) }

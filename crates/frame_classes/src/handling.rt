@@ -6,8 +6,8 @@ use conf_tree::{Class, DropRule};
 use play_base::NoMemory;
 use std::alloc::Global;
 
-/// What a class asks for its packets: `marks` says that its queue marks them in place of early drops, so that their precedence says
-/// whether they are capable of it, and `clears` that their code points are cleared as they depart.
+/// What a class asks for its packets: `marks` says that its queue marks them in place of early drops, so that their precedence is 1
+/// where their transport is capable of marks (ECN), else 0, and `clears` that their code points are cleared as they depart.
 #[derive(Clone, Copy, Debug, PartialEq, Eq)]
 pub struct Handling {
     pub marks: bool,

@@ -1,4 +1,4 @@
-// Examples that are computed from the definitions.
+// Worked examples, computed by the checker from the definitions.
 ghost use Rattle.std.specs.Prelude.{◌≡◌, true, false, take};
 ghost use Rattle.frame_classes.specs.Handlings.{is_ecn};
 ghost use Rattle.frame_classes.specs.Frames.{dressed_by, placed_by};

@@ -39,7 +39,7 @@ const OVER_IPV6: [u8; 62] = [
     0x00, 0x00, 0x00, 0x00, 0x00, 0x02, 0x01, 0xbb, 0xc0, 0x00, 0x00, 0x00, 0x00, 0x00,
 ];
 
-// The heads of the datagram, with ports or without.
+// The headers of the datagram, with ports or without.
 fn heads(ports: Option<(u16, u16)>) -> FlowHeads<'static> {
     FlowHeads::V4 {
         tos: 0x28,

@@ -1,4 +1,4 @@
-//! Literal frames: their heads, the filters that take them, and where they belong. There are tests alone.
+//! Literal frames: their headers, the filters that take them, and where they belong. There are tests alone.
 #![tactic(auto)]
 
 #[cfg(test)]

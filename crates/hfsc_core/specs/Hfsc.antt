@@ -37,7 +37,7 @@ abbrev pub lens_of : List Waiting → List ℕ
 lens_of [] = []
 lens_of (w ∷ ws) = w.len ∷ lens_of ws
 
--- a history after which the lists hold what waits, and as many packets were kept as are counted
+-- a history after which the lists hold what waits, and in which `kept` packets were kept
 pub record Known (x : Chooser) (lists : ℕ → List Entry) (kept : ℕ) (h : HfscHistory) : Type 0 where
   pub stands : Stands x h
   pub shown : (c : ℕ) → lens (lists c) ≡ lens_of (leaf h c).waiting

@@ -36,7 +36,7 @@ pub struct Chooser {
 }
 
 impl Chooser {
-    /// The classes without a packet. `NoMemory` comes only for want of it.
+    /// The classes without a packet. `NoMemory` comes only when memory runs out.
     pub fn build(alloc: Global, classes: &[HfscClass]) -> Result<Chooser, NoMemory>
         requires count { length classes.now ≤ 256 }
         requires classes { MayBuild classes.now }
@@ -100,7 +100,7 @@ impl Chooser {
     }
 }
 
-/// The earlier of two moments, where `None` is never.
+/// The earlier of two moments; `None` means never, and is later than every moment.
 fn earlier_of(one: Option<u128>, other: Option<u128>) -> Option<u128>
     ensures { result ≡ earlier_of one other }
 {

@@ -68,7 +68,7 @@ fn pick_of<Q: QueueRule + Drop>(rows: &Rows<Q>, chosen: Chosen) -> Pick
     }
 }
 
-// A packet sent by this rule counts for real time.
+// Whether a sending by this rule counts for real time.
 fn is_real(rule: Rule) -> bool
     ensures { result ≡ is_real rule }
 {
@@ -94,7 +94,7 @@ impl<Q: QueueRule + Drop> Hfsc<Q> {
     /// The classes of an interface, at most 256, in the order of the file, with one queue for each, which stands for nothing asked
     /// or told yet and holds 1 to 10,000 packets. The first class is the root; every other has a link-sharing curve whose second
     /// slope is at least 1, and a class with children has no real-time curve. Both slopes of a limit are at least 1,000 bits per
-    /// second. Takes all the memory that it will ever take; `NoMemory` comes only for want of it.
+    /// second. Takes all the memory that it will ever take; `NoMemory` comes only when memory runs out.
     pub fn build(alloc: Global, classes: &[HfscClass], queues: Vec<Q>) -> Result<Hfsc<Q>, NoMemory>
         requires count { length classes.now ≤ 256 }
         requires classes { MayBuild classes.now }

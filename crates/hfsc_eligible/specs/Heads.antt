@@ -16,7 +16,7 @@ pub record Holds (key : Slot → Option ℕ) (slots : List Slot) (ranking : Rank
   pub keys : (c : ℕ) (d : Slot) → c < length slots → slot_has_head (slice_index_or slots c d) ≡ true
       → key_of (keys_of ranking) c ≡ key (slice_index_or slots c d)
 
--- a class is there or is not, with its moment; the others are as they were
+-- after one class was placed anew: it is there with its moment, or is not, as `is` says; the others are as they were
 pub record IsReplaced (class : ℕ) (is : Bool) (key : Option ℕ) (old new : Ranking) : Type 0 where
   pub count : length (keys_of new) ≡ length (keys_of old)
   pub classes : (c : ℕ) → is_in c (order_of new) ≡ (if class == c then is else is_in c (order_of old))

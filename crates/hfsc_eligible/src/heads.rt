@@ -17,7 +17,7 @@ pub fn has_come(moment: Option<u128>, now: u128) -> bool
     }
 }
 
-/// Takes a class out, where it is there.
+/// Takes a class out, if `was`.
 fn take_if(ranking: &mut Ranking, class: u32, was: bool)
     requires { is_in class (order_of ranking.old) ≡ was }
     ensures keys { keys_of ranking.new ≡ keys_of ranking.old }
@@ -28,7 +28,7 @@ fn take_if(ranking: &mut Ranking, class: u32, was: bool)
     }
 }
 
-/// Puts a class in with a key, where it is to be there.
+/// Puts a class in with a key, if `is`.
 fn put_if(ranking: &mut Ranking, class: u32, is: bool, key: Option<u128>)
     requires class { class < length (keys_of ranking.old) }
     requires absent { is_in class (order_of ranking.old) ≡ false }
@@ -42,8 +42,7 @@ fn put_if(ranking: &mut Ranking, class: u32, is: bool, key: Option<u128>)
     }
 }
 
-/// Takes a class out where it was there, and puts it in with a key where it is to be there. One that stays with the key that
-/// it has is left where it stands.
+/// Takes a class out if `was`, and puts it in with a key if `is`. A class that stays with the key that it has is not moved.
 pub fn replace(ranking: &mut Ranking, class: u32, was: bool, is: bool, key: Option<u128>)
     requires class { class < length (keys_of ranking.old) }
     requires was { is_in class (order_of ranking.old) ≡ was }

@@ -12,7 +12,7 @@ use play_base::units;
 use runtime_curve::Running;
 use service_curve::Curve;
 
-/// Counts stand still here, which no play reaches.
+/// Counts saturate here; no play reaches it.
 const MOST: u128 = 1 << 99;
 
 /// A class: its curve over its openings, where it has one that is not 0 everywhere, the units that it was sent by real

@@ -11,10 +11,11 @@ ghost use Rattle.hfsc_model.specs.Link.{AreOneByOne};
 ghost use Rattle.hfsc_model.specs.Timely.{AreInOrder, IsBusy, AreChosen, FitLink, IsTimely};
 
 /// Where the real-time curves never exceed the link, each packet of a class with such a curve ends at most the time of the
-/// longest packet, rounded up, after each moment that is due for it, whatever packets come. Each sending is the choice of
-/// HFSC as far as real time goes, and starts when the one before it ends, or when the first of what waits comes, or when the
-/// link was held till then; so upper limits may hold the link, and how link sharing chooses does not matter. Every prefix of
-/// a history is one too.
+/// longest packet, rounded up, after each moment that is due for it, whatever packets come. What is asked of the history:
+/// each sending by real time is HFSC's pick, and one by share comes only where no head is eligible; and a sending starts
+/// when the one before it ends, when the first waiting packet arrives, or at a moment just before which no head was
+/// eligible. So upper limits may hold the link, and how link sharing chooses does not matter. Every prefix of a history is
+/// one too.
 #[tactic(auto, using(crate::proofs::Timing::timely))]
 pub fn packets_are_timely()
     ensures { (rate : ℕ) (curves : List (Option Curve)) (h : HfscHistory) → 0 < rate → AreInOrder h → AreOneByOne rate h

@@ -20,7 +20,7 @@ pub fn packets_make_their_path_active()
         → active cs (Kept l at len ∷ h) c ≡ (active cs h c || (is_leaf cs l && is_under cs c l)) }
 {}
 
-/// The v with which a class becomes active is its virtual time then: no activation before it asks for more.
+/// When a class becomes active, its virtual time is the v of this activation: none before it gives a later one.
 #[tactic(auto, using(crate::proofs::Activity::activated_time))]
 pub fn classes_begin_at_their_activation()
     ensures { (cs : List HfscClass) (h : HfscHistory) (l at len c : ℕ) → has_parent cs c ≡ true → activates cs h l c ≡ true

@@ -37,13 +37,13 @@ may_share cs h now d = is_leaf cs d && (is_waiting (leaf h d).waiting && is_open
 abbrev pub shares_under : List HfscClass → HfscHistory → ℕ → ℕ → Bool
 shares_under cs h now c = list_any (λ d. is_under cs c d && may_share cs h now d) (numbers cs)
 
--- the first of least virtual time
+-- of the classes the one of least f, the first of several
 abbrev pub least_by : (ℕ → ℕ) → List ℕ → Option ℕ
 least_by f [] = None
 least_by f (c ∷ cs) = elim (least_by f cs) [ None ↦ Some c | Some d ↦ if nat_le (f c) (f d) then Some c else Some d ]
 
 -- down from a class by the child of least virtual time among those that stand on an open path of a waiting leaf, a tie
--- going to the class that stands earlier in the file, over at most so many levels
+-- going to the class that stands earlier in the file, over at most `levels` levels
 abbrev pub path_down : ℕ → List HfscClass → HfscHistory → ℕ → ℕ → ℕ
 path_down zero cs h now c = c
 path_down (suc levels) cs h now c =

@@ -27,7 +27,7 @@ curve_in (Some o) = unless_zero o
 abbrev pub curve_of : List (Option Curve) → ℕ → Option Curve
 curve_of curves c = curve_in (slice_get curves c)
 
--- the deadline of the head: the first moment at which the deadline curve reaches the count with the head. `None` is never
+-- the deadline of the head: the first moment at which the deadline curve reaches the count with the head. `None` means never
 abbrev pub deadline_of : Curve → Leaf → List Waiting → Option ℕ
 deadline_of s l [] = None
 deadline_of s l (w ∷ ws) = deadline s l.openings (l.count + units w.len)
@@ -51,12 +51,12 @@ abbrev pub has_head : Option Curve → Leaf → Bool
 has_head None l = false
 has_head (Some s) l = is_waiting l.waiting
 
--- a moment is not later than now, where `None` is never
+-- a moment is not later than now, where `None` means never
 abbrev pub has_come : Option ℕ → ℕ → Bool
 has_come None now = false
 has_come (Some t) now = nat_le t now
 
--- the first moment is before the second, where `None` is never
+-- the first moment is before the second, where `None` means never
 abbrev pub is_earlier : Option ℕ → Option ℕ → Bool
 is_earlier None b = false
 is_earlier (Some x) None = true
@@ -81,7 +81,7 @@ pub record IsRealPick (curves : List (Option Curve)) (h : HfscHistory) (now c : 
   pub first : (d : ℕ) → IsEligible curves h now d → (d ≡ c → ⊥)
       → before curves h c d ≡ true
 
--- the same computed: of the classes with an eligible head the one that goes first
+-- the pick, computed: of the classes with an eligible head the one that goes first
 abbrev pub first_by : (ℕ → ℕ → Bool) → List ℕ → Option ℕ
 first_by goes [] = None
 first_by goes (c ∷ cs) = elim (first_by goes cs) [ None ↦ Some c | Some d ↦ if goes c d then Some c else Some d ]

@@ -16,12 +16,12 @@ root = record { parent = None; real = None; share = None; limit = None }
 abbrev pub child : Option Curve → Curve → Option Curve → HfscClass
 child real share limit = record { parent = Some 0; real = real; share = Some share; limit = limit }
 
--- a history with so many packets more, kept in a class at one moment
+-- a history with n packets more, kept in class c at the moment `at`
 abbrev pub kept : ℕ → ℕ → ℕ → ℕ → HfscHistory → HfscHistory
 kept zero c at len h = h
 kept (suc n) c at len h = Kept c at len ∷ kept n c at len h
 
--- so many starts, one a step after the other
+-- n starts, `step` apart
 abbrev pub starts : ℕ → ℕ → ℕ → List ℕ
 starts zero from step = []
 starts (suc n) from step = from ∷ starts n (from + step) step
@@ -90,7 +90,7 @@ nested limit = root ∷ child None (straight 4000000) limit ∷ grandchild ∷ c
 abbrev pub one_leaf : Curve → List HfscClass
 one_leaf real = root ∷ child (Some real) (straight 1000000) None ∷ []
 
--- a packet of the leaf with a limit that is sent at 0, and two that come at a moment, the first of which is sent then
+-- a packet of the leaf with a limit that is sent at 0, and two that come at the moment `at`, the first of which is sent at once
 abbrev pub limited_twice : ℕ → HfscHistory
 limited_twice at = with_chosen limited (kept 2 1 at 1000 (with_chosen limited (kept 1 1 0 1000 []) (0 ∷ []))) (at ∷ [])
 
@@ -98,8 +98,8 @@ limited_twice at = with_chosen limited (kept 2 1 at 1000 (with_chosen limited (k
 abbrev pub openings_of_two : ℕ → List Opening
 openings_of_two at = opens (record { at = at; len = 1000; start = at; end = at } ∷ record { at = 0; len = 1000; start = 10000000; end = 11000000 } ∷ [])
 
--- 150 packets of 100 bytes for the first leaf at 0, sent one after another; at 16 milliseconds 100 for each, of which so many
--- are sent
+-- 150 packets of 100 bytes for the first leaf at 0, sent one after another; at 16 milliseconds 100 for each, of which n are
+-- sent
 abbrev pub first_burst : HfscHistory
 first_burst = with_chosen filling (kept 150 1 0 100 []) (starts 150 0 100000)
 

@@ -45,7 +45,7 @@ opens (r ∷ q ∷ rs) = if nat_lt q.start r.at then opening r.at (units_of (q �
 abbrev pub IsDue : Curve → List Row → ℕ → Type 0
 IsDue s rs u = Reaches s (opens rs) u (units_of rs)
 
--- each packet ends at most so long after each moment that is due for it
+-- each packet ends at most `most` after each moment that is due for it
 abbrev pub AreTimely : Curve → ℕ → List Row → Type 0
 AreTimely s most [] = Unit {0}
 AreTimely s most (r ∷ rs) = ((u : ℕ) → IsDue s (r ∷ rs) u → r.end ≤ u + most) × AreTimely s most rs
@@ -86,17 +86,17 @@ AreInOrder [] = Unit {0}
 AreInOrder (Kept c at len ∷ h) = (moment h ≤ at) × StartBefore h at × AreInOrder h
 AreInOrder (Sent c len real start ∷ h) = (moment h ≤ start) × (1 ≤ len) × AreInOrder h
 
--- these packets arrived at this moment or later
+-- the packets arrived at t or later
 abbrev pub ArriveFrom : ℕ → List Waiting → Type 0
 ArriveFrom t [] = Unit {0}
 ArriveFrom t (w ∷ ws) = (t ≤ w.at) × ArriveFrom t ws
 
--- no head was eligible just before a moment, at which nothing but packets came since
+-- no head was eligible just before `start`, and at `start` nothing but packets came since
 pub data IsHeld (curves : List (Option Curve)) (start : ℕ) : HfscHistory → Type 0 where
   Before : (h : HfscHistory) → NoneIsEligible curves h (start - 1) → IsHeld curves start h
   Came : (c len : ℕ) (h : HfscHistory) → IsHeld curves start h → IsHeld curves start (Kept c start len ∷ h)
 
--- why a sending starts when it does: the one before it ended; or the first of what waits came; or the link was held till then
+-- why a sending starts when it does: the one before it ended; or the first waiting packet came; or the link was held till `start`
 pub data IsBusyAt (rate : ℕ) (curves : List (Option Curve)) (h : HfscHistory) (start : ℕ) : Type 0 where
   Goes_on : start ≡ free rate (run_after rate h) → IsBusyAt rate curves h start
   Begins : ((c : ℕ) → ArriveFrom start (leaf h c).waiting) → IsBusyAt rate curves h start

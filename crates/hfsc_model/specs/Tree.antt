@@ -29,7 +29,7 @@ is_parent cs p = list_any (is_child cs p) (numbers cs)
 abbrev pub is_leaf : List HfscClass → ℕ → Bool
 is_leaf cs c = nat_lt c (length cs) && not (is_parent cs c)
 
--- a class, its parent and so on up to the root, over at most so many levels
+-- a class, its parent and so on up to the root, over at most `levels` levels
 abbrev pub path_up : ℕ → List HfscClass → Option ℕ → List ℕ
 path_up zero cs o = []
 path_up (suc levels) cs None = []

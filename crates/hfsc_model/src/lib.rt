@@ -80,7 +80,8 @@ pub fn real_time_ignores_the_limit()
     ensures waits { choice limited_in_real_time (with_chosen limited_in_real_time (kept 3 1 0 1000 []) (0 ∷ [])) 1999999 ≡ None }
 {}
 
-/// Two leaves whose curves fill the link, the second of which is empty for a while: of a burst for both its packets go first.
+/// Two leaves whose curves together take the whole link. The second is empty for a while; of a burst for both, its packets go
+/// first.
 pub fn exact_fit_with_a_returning_burst()
     ensures alone { choice filling first_burst 15000000 ≡ None }
     ensures burst { choice filling (second_burst 0) 16000000 ≡ Some (by_real_time 2) }
@@ -111,9 +112,9 @@ pub fn classes_above_a_leaf_count()
         ≡ Some (by_share 2) }
 {}
 
-/// A limit opens anew at the arrival that makes its class active, with what was sent till then: of two packets that come at 10
-/// milliseconds the second waits till 14, where the first opening alone would let it go at once; of two that come at 5 it waits
-/// till 9, where that would let it go at 8.
+/// A limit opens anew whenever its class becomes active, at that arrival and with the total sent so far. Of two packets that
+/// come at 10 milliseconds the second therefore waits till 14; by the first opening alone it would go at once. Of two that come
+/// at 5 it waits till 9, not 8.
 pub fn limits_open_at_arrivals()
     ensures waits { choice limited (limited_twice 10000000) 13999999 ≡ None }
     ensures goes { choice limited (limited_twice 10000000) 14000000 ≡ Some (by_share 1) }

@@ -12,7 +12,8 @@ pub record IsLimit (s : Curve) : Type 0 where
   pub in_range : IsInRange s
   pub second : 1000 ≤ s.m2
 
--- they are a tree under the first class, which is the root; a class with children has no real-time curve; a limit rises without end
+-- they are a tree under the first class, which is the root; a class with children has no real-time curve; link-sharing curves are
+-- in range, and limits as above
 pub record IsClassTree (cs : List HfscClass) : Type 0 where
   pub some : 0 < length cs
   pub tree : IsTree cs

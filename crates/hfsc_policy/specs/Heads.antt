@@ -19,7 +19,7 @@ abbrev pub AreSized : List Coming → Type 0
 AreSized [] = Unit {0}
 AreSized (a ∷ rest) = IsSized a.len × AreSized rest
 
--- no packet that was kept is, and each sending is of the head of its class, with its length
+-- no packet that was kept is empty or too long, and each sending is of the head of its class and has its length
 abbrev pub AreHeads : HfscHistory → Type 0
 AreHeads [] = Unit {0}
 AreHeads (Kept c at len ∷ h) = IsSized len × AreHeads h

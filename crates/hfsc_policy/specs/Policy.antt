@@ -18,7 +18,7 @@ use Rattle.hfsc_model.specs.Choice.{choice, Choice as Chosen}
 use Rattle.hfsc_policy.specs.Events.{hfsc_history, rule_of}
 use Rattle.hfsc_policy.specs.Classes.{leaves}
 
--- the first moment at which the head of a class is eligible, while one waits; `None` is never
+-- the first moment at which the head of a class is eligible, while one waits; `None` means never
 abbrev pub eligible_from : Option Curve → Leaf → Option ℕ
 eligible_from None l = None
 eligible_from (Some s) l = deadline (eligible_curve s) l.openings l.count
@@ -28,12 +28,12 @@ abbrev pub within_from : Option Curve → List Opening → ℕ → Option ℕ
 within_from None os u = Some 0
 within_from (Some s) os u = deadline s os u
 
--- the first moment at which all classes of a path are
+-- the first moment at which all classes of a path are within their limits
 abbrev pub open_from : List HfscClass → HfscHistory → List ℕ → Option ℕ
 open_from cs h [] = Some 0
 open_from cs h (c ∷ up) = later_of (within_from (class_of cs c).limit (arrivals_of cs h c) (total cs h c)) (open_from cs h up)
 
--- the earlier of two moments, where `None` is never
+-- the earlier of two moments; `None` means never, and is later than every moment
 abbrev pub earlier_of : Option ℕ → Option ℕ → Option ℕ
 earlier_of None b = b
 earlier_of (Some x) None = Some x

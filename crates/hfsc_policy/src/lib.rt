@@ -1,7 +1,7 @@
 //! HFSC as a policy over the events of a link, and its laws.
 //!
 //! The leaves of a tree of classes send. After every list of events the policy says what a queue answers, from when on a leaf
-//! may send, and which leaf is chosen, by real time or by share. It stands for the definitions alone: what a discipline does is
+//! may send, and which leaf is chosen, by real time or by share. It is made of the definitions alone: what a discipline does is
 //! compared with it. The source is Stoica, Zhang and Ng, "A Hierarchical Fair Service Curve Algorithm for Link-Sharing,
 //! Real-Time and Priority Services", SIGCOMM 1997; upper limits are those of altq.conf(5). The functions do nothing: each states
 //! its laws, and a caller that cites one calls nothing at run time.

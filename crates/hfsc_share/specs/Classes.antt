@@ -11,7 +11,7 @@ use Rattle.hfsc_model.specs.Limit.{is_within, shares_under}
 use Rattle.hfsc_model.specs.RealTime.{has_come}
 use Rattle.hfsc_share.specs.Curves.{IsCurve}
 
--- a link-sharing curve never ends
+-- the second slope of a link-sharing curve is at least 1, so that it reaches every amount
 pub record IsShare (s : Curve) : Type 0 where
   pub curve : IsCurve s
   pub second : 1 ≤ s.m2

@@ -40,7 +40,7 @@ pub record GroupsHold (nodes : List Node) (groups : List Group) : Type 0 where
   pub count : length groups ≡ length nodes
   pub each : (p : ℕ) (g : Group) → slice_get groups p ≡ Some g → GroupHolds nodes p g
 
--- no child is active, and none was; so many classes have a place
+-- no child is active, and none was; there is a place for each of `places` classes
 pub record IsNewGroup (places : ℕ) (g : Group) : Type 0 where
   pub times : order_of g.times ≡ []
   pub moments : order_of g.moments ≡ []
@@ -60,7 +60,7 @@ pub record AreEmpty (cs : List HfscClass) (groups : List Group) : Type 0 where
   pub count : length groups ≡ length cs
   pub each : (p : ℕ) (d : Group) → p < length groups → IsEmpty cs p (slice_index_or groups p d)
 
--- a child may be put in anew, and is
+-- what holds before a child is placed anew in both lists, and after
 pub record MayChange (class : ℕ) (was : Bool) (g : Group) : Type 0 where
   pub times : MayReplace class was g.times
   pub moments : MayReplace class was g.moments
@@ -85,7 +85,7 @@ first_moment g = first_key (keys_of g.moments) (order_of g.moments)
 abbrev pub first_open : ℕ → Group → Option ℕ
 first_open now g = find (λ c. has_come (key_of (keys_of g.moments) c) now) (order_of g.times)
 
--- a class may be put anew into the lists of its parent, and is
+-- what holds before a class is placed anew in the lists of its parent, and after
 pub record MayRank (class : ℕ) (was : Bool) (x : Node) (groups : List Group) : Type 0 where
   pub low : (p : ℕ) → x.parent ≡ Some p → p < length groups
   pub may : (p : ℕ) (g : Group) → x.parent ≡ Some p → slice_get groups p ≡ Some g → MayChange class was g

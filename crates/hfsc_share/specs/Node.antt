@@ -14,7 +14,7 @@ use Rattle.hfsc_share.specs.declared.node.Node.{Node}
 use Rattle.hfsc_share.specs.Curves.{IsBy, RunningStands, last_in, limit_opens, share_of}
 use Rattle.hfsc_share.specs.Classes.{opens_under}
 
--- by its number
+-- the fields of a node, where there is one
 abbrev pub parent_in : Option Node → Option ℕ
 parent_in None = None
 parent_in (Some x) = x.parent
@@ -42,7 +42,7 @@ is_active_child nodes p c = is_child_in nodes p c && active_in (slice_get nodes 
 abbrev pub AreParentsFirst : List Node → Type 0
 AreParentsFirst nodes = (c p : ℕ) → parent_in (slice_get nodes c) ≡ Some p → p < c
 
--- no arrival made a class active later than this
+-- no arrival made a class active later than `woken`
 abbrev pub AreLimitsBy : ℕ → List Node → Type 0
 AreLimitsBy woken nodes = (c : ℕ) (x : Node) → slice_get nodes c ≡ Some x → IsBy woken x.limit
 
@@ -51,7 +51,7 @@ pub record OpensAt (cs : List HfscClass) (h : HfscHistory) (last c : ℕ) (o : O
   pub some : IsSome o
   pub from : (now : ℕ) → last ≤ now → opens_under cs h now c ≡ has_come o now
 
--- it stands for the class c after a history in which the last wake was at a moment
+-- the node x stands for the class c after the history h, in which the last wake was at `last`
 pub record NodeStands (cs : List HfscClass) (h : HfscHistory) (last c : ℕ) (x : Node) : Type 0 where
   pub parent : x.parent ≡ (class_of cs c).parent
   pub share : RunningStands x.share (share_of (class_of cs c)) (activations cs h c)
@@ -76,7 +76,7 @@ pub record AreNew (ks : List HfscClass) (nodes : List Node) : Type 0 where
   pub count : length nodes ≡ length ks
   pub each : (c : ℕ) (d : Node) → c < length nodes → IsNewNode (class_of ks c) (slice_index_or nodes c d)
 
--- what a class becomes: active, after an arrival, with a virtual time that is at least this
+-- y is x made active by an arrival at `at`, with a virtual time of at least `start`
 pub record IsActivated (at start : ℕ) (x y : Node) : Type 0 where
   pub parent : y.parent ≡ x.parent
   pub total : y.total ≡ x.total
@@ -86,7 +86,7 @@ pub record IsActivated (at start : ℕ) (x y : Node) : Type 0 where
   pub limit : (o : Option Curve) (os : List Opening) → RunningStands x.limit o os → RunningStands y.limit o (opening at x.total ∷ os)
   pub by : IsBy at y.limit
 
--- a class is active, or becomes so
+-- y is x, which was active or is made so
 pub record IsAwake (at start : ℕ) (x y : Node) : Type 0 where
   pub parent : y.parent ≡ x.parent
   pub later : x.time ≤ y.time
@@ -95,7 +95,7 @@ pub record IsAwake (at start : ℕ) (x y : Node) : Type 0 where
   pub same : x.active ≡ true → y ≡ x
   pub begun : x.active ≡ false → IsActivated at start x y
 
--- after units more were sent
+-- y is x after `amount` units more were sent
 pub record IsServed (amount : ℕ) (waits : Bool) (x y : Node) : Type 0 where
   pub parent : y.parent ≡ x.parent
   pub total : y.total ≡ min (x.total + amount) (2 ^ 99)
@@ -108,7 +108,7 @@ pub record IsServed (amount : ℕ) (waits : Bool) (x y : Node) : Type 0 where
       → y.time ≡ min (max x.time (or_zero (deadline s os y.total))) (2 ^ 79)
   pub later : x.time ≤ y.time
 
--- after the moment from which it opens was taken anew
+-- y is x with the moment from which it opens computed anew
 pub record IsReopened (below : Option ℕ) (x y : Node) : Type 0 where
   pub parent : y.parent ≡ x.parent
   pub total : y.total ≡ x.total

@@ -22,7 +22,8 @@ pub record IsLeafThat (cs : List HfscClass) (h : HfscHistory) (leaf : ℕ) (wait
   pub leaf_is : is_leaf cs leaf ≡ true
   pub waits_is : active cs h leaf ≡ waits
 
--- from the next class on the classes of the path stand for the history h before the event, all others for g with it
+-- while the walk goes up: the classes of the path from the next one up stand for h, the history before the event, all others
+-- for g, with it
 pub record Walks (cs : List HfscClass) (h g : HfscHistory) (last leaf : ℕ) (next : Option ℕ) (nodes : List Node) : Type 0 where
   pub classes : AreClasses cs
   pub count : length nodes ≡ length cs
@@ -32,7 +33,7 @@ pub record Walks (cs : List HfscClass) (h g : HfscHistory) (last leaf : ℕ) (ne
   pub before : (c : ℕ) (x : Node) → slice_get nodes c ≡ Some x → is_over cs next c ≡ true → NodeStands cs h last c x
   pub after : (c : ℕ) (x : Node) → slice_get nodes c ≡ Some x → is_over cs next c ≡ false → NodeStands cs g last c x
 
--- one class is taken in
+-- a step of the walk, in which the activity of `class` alone may change
 pub record IsStep (class : ℕ) (old new : List Node) : Type 0 where
   pub count : length new ≡ length old
   pub parents : (c : ℕ) → parent_in (slice_get new c) ≡ parent_in (slice_get old c)

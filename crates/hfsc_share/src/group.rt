@@ -104,7 +104,7 @@ fn take_if(ranking: &mut Ranking, class: u32, was: bool)
     }
 }
 
-/// Puts a class in with a key, where it is to be there.
+/// Puts a class in with a key, if `is`.
 fn put_if(ranking: &mut Ranking, class: u32, is: bool, key: Option<u128>)
     requires class { class < length (keys_of ranking.old) }
     requires absent { is_in class (order_of ranking.old) ≡ false }
@@ -118,8 +118,7 @@ fn put_if(ranking: &mut Ranking, class: u32, is: bool, key: Option<u128>)
     }
 }
 
-/// Takes a class out where it was there, and puts it in with a key where it is to be there. One that stays with the key that
-/// it has is left where it stands.
+/// Takes a class out if `was`, and puts it in with a key if `is`. A class that stays with the key that it has is not moved.
 fn replace(ranking: &mut Ranking, class: u32, was: bool, is: bool, key: Option<u128>)
     requires class { class < length (keys_of ranking.old) }
     requires was { is_in class (order_of ranking.old) ≡ was }

@@ -33,7 +33,7 @@ use group::{Group, has_come};
 pub use laws::{picked_leaves_may_share, waiting_leaves_wake_once};
 use node::Node;
 
-/// At most so many levels has a tree.
+/// The most levels of a tree.
 const LEVELS: u32 = 8;
 
 /// The classes of an interface in the order of the file, with what sharing keeps of them.
@@ -68,9 +68,9 @@ impl Shares {
         })
     }
 
-    /// A packet was kept at the moment `at` in a leaf in which nothing waited. No wake before was later. What is claimed of
-    /// histories is claimed while totals are at most 2^99 and virtual times at most 2^79. It takes a time that grows with
-    /// the levels of the tree, and on each with the logarithm of the siblings, which it moves.
+    /// A packet was kept at the moment `at` in a leaf in which nothing waited. No earlier `wake` had a later `at`. What
+    /// is claimed of histories is claimed while totals are at most 2^99 and virtual times at most 2^79. It takes a time
+    /// that grows with the levels of the tree, and on each with the logarithm of the siblings, which it moves.
     pub fn wake(&mut self, leaf: u32, at: u64)
         requires class { leaf < classes_of self.old }
         requires leaf { IsLeafAt self.old leaf }

@@ -13,10 +13,10 @@ use hfsc_model::HfscClass;
 use runtime_curve::Running;
 use service_curve::Curve;
 
-/// Totals stand still here, which no play reaches.
+/// Totals saturate here; no play reaches it.
 const MOST_UNITS: u128 = 1 << 99;
 
-/// And so do virtual times here.
+/// Virtual times saturate here; no play reaches it.
 const MOST_TIME: u128 = 1 << 79;
 
 /// A class: its parent; its link-sharing curve over its activations, and its limit over the arrivals that made it active;
@@ -202,7 +202,7 @@ fn limit_opens(limit: &Option<Running>, total: u128) -> Option<u128>
     }
 }
 
-/// The later of two moments, where `None` is never.
+/// The later of two moments, where `None` means never.
 fn later_of(a: Option<u128>, b: Option<u128>) -> Option<u128>
     ensures { result ≡ later_of a b }
 {

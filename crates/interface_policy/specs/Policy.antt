@@ -24,7 +24,7 @@ use Rattle.interface_policy.specs.Classes.{hfsc_classes, cbq_classes}
 abbrev pub step_of : (rate : ℕ) → ℕ
 step_of rate = time_of 1000 rate
 
--- what a queue says that drops by this rule and holds at most `limit` packets, on a link of a rate in bits per second
+-- how a queue with this drop rule and this limit answers an offer, on a link of a rate in bits per second
 abbrev pub rule_says : (rate : ℕ) → DropRule → (limit : ℕ) → Saying
 rule_says rate Tail limit = tail_says limit
 rule_says rate Red limit = red_says (step_of rate) limit

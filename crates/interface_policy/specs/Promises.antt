@@ -29,8 +29,8 @@ pub record KeepsHfsc (i : Interface) (arrived : List Coming) (g : List Happened)
   pub ends : AreTheirEnds i.rate (bare g)
   pub timely : Fits i.rate (curves_of i) → IsTimely i.rate (reals (hfsc_classes i.classes)) (hfsc_history (bare g))
 
--- CBQ. Within each stretch in which a class without children, not the root, does not borrow, it is at most a burst and a packet
--- ahead of 32 31sts of its rate
+-- CBQ. Within each stretch in which a class without children, not the root, does not borrow, it is at most one burst and one packet
+-- ahead of 32/31 of its rate
 pub record KeepsCbq (i : Interface) (g : List Happened) : Type 0 where
   pub capped : (c : ℕ) (last : Transmission) (between : List Event) (first : Transmission)
       → IsOwnStretch (cbq_classes i.classes) c (bare g) last between first → KeepsItsRate (cbq_classes i.classes) c last between first

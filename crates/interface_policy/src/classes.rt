@@ -34,7 +34,7 @@ fn cbq_class(class: &Class) -> CbqClass
     }
 }
 
-/// The classes of an interface as HFSC sees them, in their order. `NoMemory` comes only for want of it.
+/// The classes of an interface as HFSC sees them, in their order. `NoMemory` comes only when memory runs out.
 pub fn hfsc_classes(alloc: Global, classes: &[Class]) -> Result<Vec<HfscClass>, NoMemory>
     ensures { IfOk result (λ all. all.items ≡ hfsc_classes classes.now) }
 {

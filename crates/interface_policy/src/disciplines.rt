@@ -16,7 +16,7 @@ use rio_precedence::AnyQueue;
 use std::alloc::Global;
 
 /// The discipline of an interface that shares its link by HFSC, to which nothing was offered yet. Takes all the memory that it will
-/// ever take; `NoMemory` comes only for want of it.
+/// ever take; `NoMemory` comes only when memory runs out.
 pub fn hfsc_of(alloc: Global, interface: &Interface) -> Result<Hfsc<AnyQueue>, NoMemory>
     requires fit { IsInterface interface.now }
     requires kind { interface.now.kind ≡ kind.Hfsc }

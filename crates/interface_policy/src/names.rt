@@ -33,7 +33,8 @@ fn is_queue_class(interface: &Interface, number: u32) -> bool
     }
 }
 
-/// The classes of an interface that hold packets, in the order of the text, with their names. `NoMemory` comes only for want of it.
+/// The classes of an interface that hold packets, in the order of the text, with their names. `NoMemory` comes only when memory
+/// runs out.
 pub fn names_of(alloc: Global, interface: &Interface) -> Result<Names, NoMemory>
     requires { IsInterface interface.now }
     ensures { IfOk result (λ names. names ≡ queue_names interface.now) }

@@ -26,7 +26,7 @@ fn queue_of(class: &Class, rate: u64) -> AnyQueue
     }
 }
 
-/// A queue for each class on a link of `rate` bits per second, 1,000 to 10^12. `NoMemory` comes only for want of it.
+/// A queue for each class on a link of `rate` bits per second, 1,000 to 10^12. `NoMemory` comes only when memory runs out.
 pub fn queues_of(alloc: Global, classes: &[Class], rate: u64) -> Result<Vec<AnyQueue>, NoMemory>
     requires rate { 1000 ≤ rate }
     requires limits { All (λ (c : Class). (1 ≤ c.limit) × (c.limit ≤ 10000)) classes.now }

@@ -6,14 +6,14 @@ use Rattle.altq_model.specs.History.{Coming, Answer, DrawnWords, Event, Offered,
 use Rattle.altq_model.specs.Policies.{Answering}
 use Rattle.leaf_queue.specs.declared.rule.Waiting.{Waiting}
 
--- it was asked of a packet at a moment, where so many waited and with the words as they were, and answered; or it was told that a
--- packet left, after which so many wait
+-- it was asked of a packet at a moment, with what waited and the random words as they were, and answered; or it was told that a
+-- packet left, and what waits after it
 pub data QueueEvent : Type 0 where
   Asked : (now : ℕ) → Waiting → (prec : ℕ) → DrawnWords → Answer → QueueEvent
   Gone : (now prec : ℕ) → Waiting → QueueEvent
 
--- what a queue says of a packet: after what it was asked and told, the newest first, at a moment, where so many wait, by its
--- precedence and these words
+-- how a queue answers an offer: by what it was asked and told, the newest first, the moment, what waits, the precedence and the
+-- random words
 abbrev pub Saying : Type 0
 Saying = List QueueEvent → (now : ℕ) → Waiting → (prec : ℕ) → DrawnWords → Answer
 
@@ -21,12 +21,12 @@ Saying = List QueueEvent → (now : ℕ) → Waiting → (prec : ℕ) → DrawnW
 abbrev pub tail_says : (limit : ℕ) → Saying
 tail_says limit q now waiting prec w = record { verdict = if waiting.all == limit then Drop Full else Keep; took = 0 }
 
--- how many of these precedences are at most this
+-- how many of the precedences are at most p
 abbrev pub at_most : (p : ℕ) → List ℕ → ℕ
 at_most p [] = 0
 at_most p (x ∷ xs) = (if nat_le x p then 1 else 0) + at_most p xs
 
--- so many wait, where these are their precedences
+-- how many wait, given their precedences
 abbrev pub waiting_of : List ℕ → Waiting
 waiting_of precs = record { best = at_most 0 precs; middle = at_most 1 precs; all = length precs }
 

@@ -1,4 +1,4 @@
--- The words of a seed: those of PCG XSH RR 64/32 (O'Neill, "PCG: a family of simple fast space-efficient statistically good
+-- The random words of a seed: those of PCG XSH RR 64/32 (O'Neill, "PCG: a family of simple fast space-efficient statistically good
 -- algorithms for random number generation", 2014) on stream 54, in order.
 use Rattle.std.specs.Prelude.{◌≡◌, ◌≤◌, ◌<◌, ◌+◌, ◌-◌, ◌^◌, ℕ, zero, suc}
 use Rattle.altq_model.specs.History.{DrawnWords}

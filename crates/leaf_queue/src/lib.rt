@@ -1,6 +1,6 @@
 //! What a leaf of an interface's queues is made of: the trait of queue rules with its laws, the rule that drops at a limit, the
-//! words of a seed, the pool of the packets that wait, and the lists of the classes. None of them sees a file, and after they are
-//! reserved none takes memory.
+//! random words of a seed, the pool of the packets that wait, and the lists of the classes. None of them sees a file, and after
+//! they are reserved none takes memory.
 #![tactic(auto)]
 
 mod linked;

@@ -29,7 +29,7 @@ pub fn entry_in(nodes: &Slab<Node>, slot: Slot) -> Option<Entry>
     nodes.get(slot.index()).map(|node| node.entry)
 }
 
-// Lets the last place of a list, if it has one, name another as the one after it.
+// Links the last node of a list, if there is one, to the node at `slot`.
 pub fn link(nodes: &mut Slab<Node>, row: &Row, slot: Slot)
     requires { 0 < row.now.waiting.all → ContainsKey nodes.old row.now.last.0 }
     ensures { nodes.new ≡ linked_to nodes.old row.now slot }

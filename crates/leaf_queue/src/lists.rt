@@ -33,7 +33,7 @@ impl Model for Lists {
 
 impl Lists {
     /// Empty lists of `classes` classes, with room for `n` entries in all. Takes all the memory that the lists will ever take: about
-    /// 24 bytes for each entry and for each class. `NoMemory` comes only for want of it.
+    /// 24 bytes for each entry and for each class. `NoMemory` comes only when memory runs out.
     pub fn reserve(alloc: Global, classes: u32, n: u32) -> Result<Lists, NoMemory>
         ensures empty { IfOk result (λ l. l.lists ≡ replicate classes []) }
         ensures room { IfOk result (λ l. l.room ≡ n) }

@@ -25,7 +25,7 @@ impl Slot {
     }
 }
 
-/// An entry at its place, and the place of the one after it; the last one's means nothing.
+/// An entry, and the slot of the next node of its list; that of the last node means nothing.
 #[derive(Clone, Copy, Debug, PartialEq, Eq)]
 pub struct Node {
     pub entry: Entry,

@@ -32,8 +32,8 @@ impl Model for Pool {
 }
 
 impl Pool {
-    /// Room for `n` packets. Takes all the memory that the pool will ever take: about 64 bytes for each. `NoMemory` comes only for
-    /// want of it.
+    /// Room for `n` packets. Takes all the memory that the pool will ever take: about 64 bytes for each. `NoMemory` comes only
+    /// when memory runs out.
     pub fn reserve(alloc: Global, n: u32) -> Result<Pool, NoMemory>
         ensures empty { IfOk result (λ p. (t : ℕ) → packet_of p t ≡ None) }
         ensures count { IfOk result (λ p. count_of p ≡ 0) }

@@ -1,4 +1,4 @@
-// Reserved places, whose numbers fit 32 bits.
+// Slabs with reserved room, whose indices fit 32 bits.
 ghost use Rattle.std.specs.Prelude.{◌≡◌, ◌≤◌, ◌<◌, ◌^◌, [], IfOk};
 
 use play_base::NoMemory;

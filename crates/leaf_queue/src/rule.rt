@@ -13,9 +13,9 @@ pub struct Waiting {
     pub all: u32,
 }
 
-/// The rule of one queue. Its laws are clauses of its methods: it drops for want of room exactly where its waiting packets equal
-/// its limit, the limit never changes, and each verdict is what it says after all that it was asked and told, by the seed's words.
-/// None of the calls takes memory.
+/// The rule of one queue. Its laws are clauses of its methods: it drops as `Full` exactly where its waiting packets equal its
+/// limit, the limit never changes, and each verdict is what it says after all that it was asked and told, by the seed's random
+/// words. None of the calls takes memory.
 pub trait QueueRule {
     ghost use Rattle.altq_model.specs.History.{DrawnWords};
     ghost use Rattle.leaf_queue.specs.declared.rule.Waiting.{Waiting};
@@ -34,8 +34,8 @@ pub trait QueueRule {
     fn limit(&self) -> u32
         ensures { result ≡ most self.now };
 
-    /// Whether a packet of precedence `prec` that comes at `now`, in nanoseconds, is kept, where so many wait before it. It is
-    /// dropped as `Full` exactly where as many wait as may.
+    /// Whether a packet of precedence `prec` that comes at `now`, in nanoseconds, is kept, where `waiting` says how many wait
+    /// before it. It is dropped as `Full` exactly where the queue is at its limit.
     fn offer(&mut self, now: u64, waiting: Waiting, prec: u8, words: &mut Words) -> Verdict
         requires room { waiting.all ≤ most self.old }
         requires prec { prec ≤ 2 }
@@ -49,7 +49,7 @@ pub trait QueueRule {
         ensures limit { most self.new ≡ most self.old }
         ensures kind { says self.new ≡ says self.old };
 
-    /// Tells it that a packet of precedence `prec` left at `now`, in nanoseconds, and that so many wait after it.
+    /// Tells it that a packet of precedence `prec` left at `now`, in nanoseconds, and how many wait after it.
     fn left(&mut self, now: u64, prec: u8, waiting: Waiting)
         requires prec { prec ≤ 2 }
         ensures history { (q : List QueueEvent) → stands self.old q → stands self.new (Gone now prec waiting ∷ q) }
@@ -57,7 +57,7 @@ pub trait QueueRule {
         ensures kind { says self.new ≡ says self.old };
 }
 
-/// Drops what comes where as many wait as `limit`, 1 to 10,000, and keeps everything else.
+/// Drops what comes where `limit` packets wait, 1 to 10,000, and keeps everything else.
 #[derive(Clone, Copy, Debug, PartialEq, Eq)]
 pub struct Tail {
     pub limit: u32,

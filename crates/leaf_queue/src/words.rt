@@ -1,4 +1,4 @@
-// The words of a seed.
+// The random words of a seed.
 ghost use Rattle.std.specs.Prelude.{◌≡◌, ◌<◌, ◌+◌, ◌-◌, ◌^◌, min};
 ghost use Rattle.altq_model.specs.History.{DrawnWords};
 ghost use Rattle.leaf_queue.specs.Words.{word, IsDrawn};
@@ -10,8 +10,9 @@ use std::marker::Model;
 /// The stream of the generator, which is the same for every seed.
 const STREAM: u64 = 54;
 
-/// The words of a seed, each of 32 bits: those of the generator PCG XSH RR 64/32 (O'Neill 2014) that begins at the seed, on stream
-/// 54. Contracts see the seed and the count of words drawn. None of the calls takes memory or refuses; each takes constant time.
+/// The random words of a seed, each of 32 bits: those of the generator PCG XSH RR 64/32 (O'Neill 2014) that begins at the seed,
+/// on stream 54. Contracts see the seed and the count of words drawn. None of the calls takes memory or refuses; each takes
+/// constant time.
 #[derive(Drop)]
 pub struct Words {
     seed: u64,
@@ -28,7 +29,7 @@ impl Model for Words {
 }
 
 impl Words {
-    /// The words of this seed, of which none is drawn.
+    /// The random words of this seed, of which none is drawn yet.
     pub fn new(seed: u64) -> Words
         ensures { result ≡ record { seed = seed; drawn = 0 } }
     {
@@ -39,7 +40,8 @@ impl Words {
         }
     }
 
-    /// Draws the next word. Its place in the seed's words is known as long as the count is: below 2^64 - 1.
+    /// Draws the next word, the one after the `drawn` before it: this is known as long as the count is below 2^64 - 1, where it
+    /// stays.
     pub fn next(&mut self) -> u32
         ensures word { self.old.drawn < 2 ^ 64 - 1 → result ≡ word self.old.seed self.old.drawn }
         ensures seed { self.new.seed ≡ self.old.seed }

@@ -28,7 +28,7 @@ line_len_after zero (byte ∷ text) =
 abbrev pub line_len : List ℕ → ℕ
 line_len text = line_len_after 0 text
 
--- what a byte ends that stands in no continuation: a line feed the line, and '#' all of it that is not a comment
+-- whether a byte outside a continuation ends what a line says: a line feed ends the line, and '#' begins its comment
 abbrev pub ends : ℕ → Bool
 ends byte = (byte == 10) || (byte == 35)
 

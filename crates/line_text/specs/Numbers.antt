@@ -24,7 +24,7 @@ abbrev pub whole_of : List ℕ → Option ℕ
 whole_of word =
     if (slice_index word 0 == 48) && (slice_index word 1 == 120) then number 16 (drop 2 word) else number 10 word
 
--- what stands before the first such byte, and what stands behind it
+-- what stands before the first byte `mark`, and what stands behind it
 abbrev pub cut : ℕ → List ℕ → Option (List ℕ × List ℕ)
 cut mark text = position (λ byte. byte == mark) text >>= λ at. Some (take at text, drop (at + 1) text)
 

@@ -93,7 +93,7 @@ pub(crate) fn joined_len(line: &[u8]) -> usize
     count
 }
 
-/// Whether a byte ends what a logical line says: its line feed, or the begin of its comment.
+/// Whether a byte ends what a logical line says: its line feed, or the beginning of its comment.
 pub(crate) fn ends_line(byte: u8) -> bool
     ensures { result ≡ ends byte }
 {

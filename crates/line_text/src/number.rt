@@ -41,7 +41,7 @@ pub fn rate(word: &Word) -> Option<u64>
     }
 }
 
-/// `multiple` times the number that digits write, or digits, a point and 1 to 9 digits.
+/// `multiple` times the decimal number DIGITS or DIGITS.DIGITS, with 1 to 9 digits behind the point.
 fn mantissa(multiple: u64, text: &[u8]) -> Option<u64>
     requires { multiple ≤ 10 ^ 9 }
     ensures { result ≡ mantissa multiple text.now (cut 46 text.now) }
@@ -97,7 +97,7 @@ fn multiple_of(byte: u8) -> u64
     }
 }
 
-/// What stands before the first such byte of a text, and what stands behind it; `None` exactly where there is none.
+/// What stands before the first byte `mark` of a text, and what stands behind it; `None` exactly where there is none.
 ///
 /// Takes the text's length in time and no memory.
 pub fn cut(mark: u8, text: &[u8]) -> Option<(&[u8], &[u8])>
@@ -108,7 +108,7 @@ pub fn cut(mark: u8, text: &[u8]) -> Option<(&[u8], &[u8])>
     Some((&text[..at], &text[at + 1..]))
 }
 
-/// The place of the first such byte.
+/// The place of the first byte `mark`.
 fn place_of(mark: u8, text: &[u8]) -> Option<usize>
     ensures value { result ≡ position (λ byte. byte == mark) text.now }
     ensures within { IfSome result (λ at. at < length text.now) }
@@ -139,7 +139,7 @@ pub(crate) fn number(radix: u32, text: &[u8]) -> Option<u64>
     if text.is_empty() { None } else { Some(value) }
 }
 
-/// A number with one more digit behind it, if that is one and the number stays below 2^64.
+/// `value` · `radix` + the digit, if `byte` is a digit of this radix and the result is below 2^64.
 fn with_digit(radix: u32, value: u64, byte: u8) -> Option<u64>
     requires low { 2 ≤ radix }
     requires high { radix ≤ 16 }

@@ -24,7 +24,7 @@ pub struct Word<'a> {
 pub enum LineFault {
     /// The joined line has more than 4,096 bytes. Its comment and its line end do not count, and a continuation is one.
     TooLong,
-    /// There was no memory.
+    /// Memory ran out.
     NoMemory,
 }
 
@@ -47,7 +47,7 @@ impl<T: Drop> From<AllocFailed<T>> for LineFault {
 /// The words of a logical line of a text, in order, each with its number.
 ///
 /// `line` is one that `next_line` answers for the text. Answers `TooLong` exactly where the joined line has more than 4,096
-/// bytes, and `NoMemory` where there was none for the list. Takes the line's length in time. Source: altq.conf(5).
+/// bytes, and `NoMemory` where memory ran out for the list. Takes the line's length in time. Source: altq.conf(5).
 pub fn words<'a>(alloc: Global, text: &'a [u8], line: &Line) -> Result<Vec<Word<'a>>, LineFault>
     requires order { line.now.from ≤ line.now.to }
     requires within { line.now.to ≤ length text.now }
@@ -98,7 +98,7 @@ fn count(line: &[u8]) -> u64
     found + one_if(start < at)
 }
 
-/// One for a word that is there.
+/// 1 if a word is there, else 0.
 fn one_if(is_there: bool) -> u64
     ensures { result ≡ (if is_there then 1 else 0) }
 {

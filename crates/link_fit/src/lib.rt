@@ -32,7 +32,7 @@ fn curves_of(alloc: Global, classes: &[Class]) -> Result<Vec<Curve>, AllocError>
 }
 
 /// Whether the real-time curves of an interface fit its link, and if not, where they exceed it. The interface of any
-/// configuration meets what is asked for (`configured_curves_can_be_summed`). `Err` comes only where there is no memory. It takes
+/// configuration meets what is asked for (`configured_curves_can_be_summed`). `Err` comes only when memory runs out. It takes
 /// time in proportion to the square of the number of curves.
 pub fn fit_of(alloc: Global, interface: &Interface) -> Result<Fit, AllocError>
     requires { HasCurves interface.now }
@@ -43,7 +43,7 @@ pub fn fit_of(alloc: Global, interface: &Interface) -> Result<Fit, AllocError>
 }
 
 /// The line that says how curves fit a link: `fits`, or `exceeds at T by U` with the moment in nanoseconds and the excess in
-/// units. `Err` comes only where there is no memory.
+/// units. `Err` comes only when memory runs out.
 pub fn fit_line(alloc: Global, fit: Fit) -> Result<String, AllocError>
     ensures { IfOk result (λ line. string_bytes line ≡ fit_line fit) }
 {

@@ -1,9 +1,9 @@
 -- The flow that a frame of Ethernet belongs to, from the list of its bytes: what its type is behind the tags (IEEE 802.1Q),
--- then what the head of its packet says (RFC 791, RFC 8200), and the ports of TCP and UDP, which stand first behind that
--- head. Numbers stand with the greater byte first. Places are counted from 0.
+-- then what the header of its packet says (RFC 791, RFC 8200), and the ports of TCP and UDP, which stand first behind that
+-- header. Numbers are big-endian. Places are counted from 0.
 use Rattle.std.specs.Prelude.{◌≡◌, ℕ, Bool, ◌+◌, ◌*◌, ◌/◌, ◌%◌, ◌^◌, ◌==◌, ◌&&◌, ◌||◌, nat_le, if◌then◌else◌, List, length, drop, slice_index, slice_range, Option, Some, None}
 
--- what the heads say: the type of service or traffic class, the protocol, the addresses, and the ports, source first
+-- what the headers say: the type of service or traffic class, the protocol, the addresses, and the ports, source first
 pub record Heads : Type 0 where
   pub tos : ℕ
   pub protocol : ℕ
@@ -47,7 +47,7 @@ ports_at packet protocol at =
 abbrev pub version : List ℕ → ℕ
 version packet = slice_index packet 0 / 2 ^ 4
 
--- the length of a head of version 4 in words of four bytes, the lower four bits of its first byte
+-- the length of a header of version 4 in words of four bytes, the lower four bits of its first byte
 abbrev pub head_words : List ℕ → ℕ
 head_words packet = slice_index packet 0 % 2 ^ 4
 
@@ -56,12 +56,12 @@ head_words packet = slice_index packet 0 % 2 ^ 4
 abbrev pub fragment_offset : List ℕ → ℕ
 fragment_offset packet = two_at packet 6 % 2 ^ 13
 
--- only a packet whose fragment offset is 0 has the head of TCP or UDP
+-- only a packet whose fragment offset is 0 has the header of TCP or UDP
 abbrev pub ports_4 : List ℕ → Option (ℕ × ℕ)
 ports_4 packet =
     if fragment_offset packet == 0 then ports_at packet (slice_index packet 9) (4 * head_words packet) else None
 
--- what a head of version 4 says; the packet's own length is not looked at
+-- what a header of version 4 says; the packet's own length is not looked at
 abbrev pub heads_4 : List ℕ → Heads
 heads_4 packet = record {
   tos = slice_index packet 1;
@@ -71,7 +71,7 @@ heads_4 packet = record {
   ports = ports_4 packet;
 }
 
--- a head of version 4 begins the packet: at least twenty bytes, five words
+-- a header of version 4 begins the packet: at least twenty bytes, five words
 abbrev pub is_head_4 : List ℕ → Bool
 is_head_4 packet = has_bytes 20 packet 0 && (version packet == 4) && nat_le 5 (head_words packet)
 
@@ -91,7 +91,7 @@ heads_6 packet = record {
   ports = ports_at packet (slice_index packet 6) 40;
 }
 
--- a head of version 6 begins the packet: forty bytes
+-- a header of version 6 begins the packet: forty bytes
 abbrev pub is_head_6 : List ℕ → Bool
 is_head_6 packet = has_bytes 40 packet 0 && (version packet == 6)
 
@@ -114,7 +114,7 @@ pub record StandsAt (frame : List ℕ) (at count : ℕ) (address : List ℕ) : T
   pub whole : length address ≡ count
   pub part : address ≡ slice_range frame at (at + count)
 
--- both addresses of a flow are parts of the frame, in the head of the packet that begins at a place
+-- both addresses of a flow are parts of the frame, in the header of the packet that begins at a place
 abbrev pub HasAddresses : (frame : List ℕ) → (place : ℕ) → Flow → Type 0
 HasAddresses frame place (V4 heads) =
     StandsAt frame (place + 12) 4 heads.source × StandsAt frame (place + 16) 4 heads.target

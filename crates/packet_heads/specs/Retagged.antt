@@ -8,7 +8,7 @@ use Rattle.packet_heads.specs.Flow.{Flow, V4, V6, Other, flow, packet_place, two
 abbrev pub ones_sum : (a b : ℕ) → ℕ
 ones_sum a b = if nat_le (a + b) 0xffff then a + b else a + b - 0xffff
 
--- a word with each bit turned
+-- the ones' complement of a word of 16 bits
 abbrev pub turned : (word : ℕ) → ℕ
 turned word = 0xffff - word
 
@@ -20,7 +20,7 @@ checksum_after checksum word changed = turned (ones_sum (ones_sum (turned checks
 abbrev pub with_two : List ℕ → (at word : ℕ) → List ℕ
 with_two bytes at word = slice_set (slice_set bytes at (word / 256)) (at + 1) (word % 256)
 
--- the first word of a head of version 4 holds the type of service in its second byte
+-- the first word of a header of version 4 holds the type of service in its second byte
 abbrev pub first_word_4 : (word tos : ℕ) → ℕ
 first_word_4 word tos = word / 256 * 256 + tos
 
@@ -61,7 +61,7 @@ tos_places (V6 heads) place = place ∷ (place + 1) ∷ []
 tos_places Other place = []
 
 -- What stays within them: the sum of the first word and the checksum of version 4, modulo 65,535, so that the sum over the
--- head shows the same as before (RFC 1071); the four bits of the flow label that share a byte with the traffic class.
+-- header shows the same as before (RFC 1071); the four bits of the flow label that share a byte with the traffic class.
 abbrev pub KeepsTheRest : Flow → (place : ℕ) → (frame changed : List ℕ) → Type 0
 KeepsTheRest (V4 heads) place frame changed =
     (two_at changed place + two_at changed (place + 10)) % 0xffff ≡ (two_at frame place + two_at frame (place + 10)) % 0xffff

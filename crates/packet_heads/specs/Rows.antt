@@ -10,7 +10,7 @@ words = flat_map (λ word. (word / 256) ∷ (word % 256) ∷ [])
 abbrev pub ethernet : List ℕ → List ℕ
 ethernet rest = words (0x0200 ∷ 0x0000 ∷ 0x0002 ∷ 0x0200 ∷ 0x0000 ∷ 0x0001 ∷ []) ++ words rest
 
--- a UDP datagram over IPv4, with these two words of its head
+-- a UDP datagram over IPv4, with these two words of its header
 abbrev pub datagram : (first_word checksum : ℕ) → List ℕ
 datagram first_word checksum =
     0x0800 ∷ first_word ∷ 0x00f8 ∷ 0x0000 ∷ 0x0000 ∷ 0x4011 ∷ checksum ∷ 0x0a00 ∷ 0x0001 ∷ 0x0a00 ∷ 0x0002 ∷ 0x0403 ∷ 0x1389 ∷ 0x00e4 ∷ 0x0000 ∷ []
@@ -19,7 +19,7 @@ datagram first_word checksum =
 abbrev pub datagram_flow : (tos : ℕ) → Option (ℕ × ℕ) → Flow
 datagram_flow tos ports = V4 (record { tos = tos; protocol = 17; source = 10 ∷ 0 ∷ 0 ∷ 1 ∷ []; target = 10 ∷ 0 ∷ 0 ∷ 2 ∷ []; ports = ports })
 
--- one whose head has a sixth word, of options that do nothing (RFC 791)
+-- one whose header has a sixth word, of options that do nothing (RFC 791)
 abbrev pub datagram_with_options : (checksum : ℕ) → List ℕ
 datagram_with_options checksum =
     0x0800 ∷ 0x4628 ∷ 0x00fc ∷ 0x0000 ∷ 0x0000 ∷ 0x4011 ∷ checksum ∷ 0x0a00 ∷ 0x0001 ∷ 0x0a00 ∷ 0x0002 ∷ 0x0101 ∷ 0x0101 ∷ 0x0403 ∷ 0x1389 ∷ 0x00e4 ∷ 0x0000 ∷ []

@@ -40,10 +40,10 @@ const TCP: u8 = 6;
 
 const UDP: u8 = 17;
 
-/// The flow of a frame, whose bytes begin with the target's address of Ethernet. At most two tags are passed. A head of
+/// The flow of a frame, whose bytes begin with the target's address of Ethernet. At most two tags are passed. A header of
 /// IPv4 has at least 20 bytes, says version 4 and at least five words; one of IPv6 has 40 bytes and says version 6; any
 /// other frame is `Other`. The ports are there where the protocol is TCP or UDP, the packet is no later fragment, and all
-/// four bytes of both stand behind the head. Constant time; takes no memory. See RFC 791, RFC 8200 and IEEE 802.1Q.
+/// four bytes of both stand behind the header. Constant time; takes no memory. See RFC 791, RFC 8200 and IEEE 802.1Q.
 pub fn flow(frame: &[u8]) -> FlowHeads<'_>
     ensures value { flow_of result ≡ flow frame.now }
     ensures parts { HasAddresses frame.now (packet_place frame.now) (flow_of result) }
@@ -110,7 +110,7 @@ fn type_place(frame: &[u8]) -> usize
     }
 }
 
-// Whether a head of IPv4 begins the packet.
+// Whether a header of IPv4 begins the packet.
 fn is_head_4(packet: &[u8]) -> bool
     ensures { result ≡ is_head_4 packet.now }
 {
@@ -145,7 +145,7 @@ fn ports_4(packet: &[u8]) -> Option<(u16, u16)>
     ports_at(packet, packet[9], 4 * usize::from(words))
 }
 
-// Whether a head of IPv6 begins the packet.
+// Whether a header of IPv6 begins the packet.
 fn is_head_6(packet: &[u8]) -> bool
     ensures { result ≡ is_head_6 packet.now }
 {

@@ -1,7 +1,7 @@
-//! The heads of a frame of Ethernet that name its flow: code point, protocol, addresses and ports of IPv4 and IPv6.
+//! The headers of a frame of Ethernet that name its flow: code point, protocol, addresses and ports of IPv4 and IPv6.
 //!
-//! No call takes memory or refuses a frame: whatever isn't a whole head of either protocol is `Other`. Not read are
-//! extension heads of IPv6, so a packet whose ports stand behind one has none here, and what a tunnel holds.
+//! No call takes memory or refuses a frame: whatever isn't a whole header of either protocol is `Other`. Not read are
+//! extension headers of IPv6, so a packet whose ports stand behind one has none here, and what a tunnel holds.
 #![tactic(auto)]
 
 mod heads;

@@ -8,7 +8,7 @@ ghost use Rattle.packet_heads.specs.Heads.{flow_of};
 use crate::heads::{FlowHeads, flow, packet_place, two_at};
 
 /// Gives a frame the type of service, or traffic class, `tos`. A frame whose flow is `Other`, or that has it already, stays
-/// as it is. In IPv4 the head's checksum follows; whether it was right is not looked at, and one that was wrong stays wrong.
+/// as it is. In IPv4 the header's checksum follows; whether it was right is not looked at, and one that was wrong stays wrong.
 /// All other bytes stay. Constant time; takes no memory. See RFC 2474, RFC 3168 and RFC 1624.
 pub fn retag(frame: &mut [u8], tos: u8)
     ensures value { frame.new ≡ retagged frame.old tos }
@@ -45,14 +45,14 @@ fn retag_6(frame: &mut [u8], place: usize, tos: u8)
     set_two(frame, place, first_word_6(word, tos));
 }
 
-// The first word of a head of IPv4 with another type of service.
+// The first word of a header of IPv4 with another type of service.
 fn first_word_4(word: u16, tos: u8) -> u16
     ensures { result ≡ first_word_4 word tos }
 {
     word / 256 * 256 + u16::from(tos)
 }
 
-// The first word of a head of IPv6 with another traffic class.
+// The first word of a header of IPv6 with another traffic class.
 fn first_word_6(word: u16, tos: u8) -> u16
     ensures { result ≡ first_word_6 word tos }
 {

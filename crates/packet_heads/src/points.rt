@@ -5,7 +5,7 @@ ghost use Rattle.packet_heads.specs.Points.{precedence, precedence_of};
 
 use crate::FlowHeads;
 
-/// The drop precedence of a packet by the code point of its heads (RFC 2474, RFC 2597): 0, 1 or 2 for a point 8i + 2,
+/// The drop precedence of a packet by the code point of its headers (RFC 2474, RFC 2597): 0, 1 or 2 for a point 8i + 2,
 /// 8i + 4 or 8i + 6 with i from 1 to 4, and 0 for every other point and for `Other`. Constant time.
 pub fn precedence(heads: &FlowHeads) -> u8
     ensures value { result ≡ precedence (flow_of heads.now) }

@@ -1,4 +1,4 @@
-// Examples that are computed from the definitions.
+// Worked examples, computed by the checker from the definitions.
 ghost use Rattle.std.specs.Prelude.{◌≡◌, ◌∷◌, [], true, false, map, take, replicate};
 ghost use Rattle.packet_heads.specs.Departing.{departing};
 ghost use Rattle.packet_heads.specs.Flow.{flow, Other};

@@ -1,4 +1,4 @@
--- What a call on a file that did nothing means for its reader.
+-- How a failed call on a file becomes a fault of its reader.
 use Rattle.play_base.specs.declared.trouble.Trouble.{Trouble}
 use Rattle.play_base.specs.declared.trouble.Trouble.TheVariants as trouble
 use Rattle.pcap_files.specs.declared.fault.CaptureFault.{CaptureFault}

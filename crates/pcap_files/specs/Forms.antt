@@ -1,7 +1,7 @@
--- How the code's head shows the form of a capture.
+-- How the `Head` that the code reads gives the form of a capture.
 use Rattle.capture_model.specs.Capture.{Form}
 use Rattle.pcap_files.specs.declared.form.Head.{Head}
 
--- the form that a head shows
+-- the form that a `Head` gives
 abbrev pub form : Head → Form
 form h = record { big = h.big; nanos = h.nanos }

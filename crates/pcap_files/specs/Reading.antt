@@ -68,7 +68,7 @@ ReadsTo fault.Limit bytes records = Reads bytes records Limit
 ReadsTo fault.Read bytes records = Unit {0}
 ReadsTo fault.NoMemory bytes records = Unit {0}
 
--- where the fault of a start is told by the bytes, it is the first test that their head fails
+-- where the fault of a start is told by the bytes, it is the first test that their header fails
 abbrev pub IsHeadFault : CaptureFault → List ℕ → Type 0
 IsHeadFault (fault.Damage found) bytes = header bytes ≡ Unformed found
 IsHeadFault fault.Limit bytes = ⊥
@@ -86,7 +86,7 @@ pub record SameBut (old new : Reader) : Type 0 where
   pub progress : new.progress ≡ old.progress
   pub fault : new.fault ≡ old.fault
 
--- the record with this head was taken from the bytes ahead
+-- the record with this header was taken from the bytes ahead
 pub record IsTaken (old new : Reader) (answer : Record) (stamp_given captured original : ℕ) : Type 0 where
   pub enough : 16 + captured ≤ length old.ahead
   pub head : new.head ≡ old.head

@@ -6,7 +6,7 @@ use Rattle.capture_model.specs.Capture as capture
 use Rattle.pcap_files.specs.declared.stand.Stand.{Stand}
 use Rattle.pcap_files.specs.declared.stand.Stand.TheVariants.{End, Limit, Damaged, Headed}
 
--- the tests that need no more than a record's head
+-- the tests that need no more than a record's header
 abbrev pub stand_at : Form → (count at : ℕ) → List ℕ → Stand
 stand_at form count at ahead =
     let captured = word form.big ahead 8 in

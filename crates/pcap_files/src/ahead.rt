@@ -58,8 +58,8 @@ impl Ahead {
         self.from += count;
     }
 
-    // Takes bytes from the file until `need` are there, or the file is at its end. What was passed is given up before
-    // the first read, so that each byte is moved once for each time that it is waited for.
+    // Takes bytes from the file until `need` are there, or the file is at its end. Bytes that were passed are dropped
+    // before the first read; so the others are moved at most once in a call, and only in one that has to read.
     pub fn fill<F: Files>(&mut self, files: &mut F, file: u32, need: usize) -> Result<(), Trouble>
         requires there { IsSome ((F.view files.old).part file) }
         requires small { need < 2 ^ 40 }

@@ -18,7 +18,7 @@ pub enum CaptureFault {
     NoMemory,
 }
 
-// What a call on the file that did nothing means for the reader.
+// How a failed call on the file becomes a fault of the reader.
 pub fn fault_of(trouble: Trouble) -> CaptureFault
     ensures { result ≡ fault_of trouble }
 {

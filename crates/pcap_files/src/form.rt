@@ -1,4 +1,4 @@
-// The head of a capture.
+// The header of a capture.
 ghost use Rattle.std.specs.Prelude.{◌≡◌, ◌≤◌, IfOk, OnOk, IfErr, option_map, length};
 ghost use Rattle.capture_model.specs.Capture.{header, Formed, Unformed, form_of, damage};
 ghost use Rattle.pcap_files.specs.Forms.{form};
@@ -6,8 +6,8 @@ ghost use Rattle.pcap_files.specs.Forms.{form};
 use crate::numbers::{half, word};
 use capture_model::{Damage, DamageKind};
 
-/// The form of a capture: whether its numbers stand with the greatest byte first, and whether the fractions of its stamps
-/// count nanoseconds, and not microseconds.
+/// The form of a capture: whether its numbers are big-endian, and whether the fractions of its stamps count nanoseconds, and
+/// not microseconds.
 #[derive(Clone, Copy, Debug, PartialEq, Eq)]
 pub struct Head {
     pub big: bool,
@@ -15,7 +15,7 @@ pub struct Head {
 }
 
 impl Head {
-    /// The form that a file's bytes begin with. The error is the first test of the head that the bytes fail: fewer than 24
+    /// The form that a file's bytes begin with. The error is the first test of the header that the bytes fail: fewer than 24
     /// bytes, no magic number of the classic format, another version than 2.4, or another link type than Ethernet in the
     /// low 16 bits; nothing else is looked at. Constant time.
     pub fn read(bytes: &[u8]) -> Result<Head, Damage>
@@ -39,7 +39,7 @@ impl Head {
     }
 }
 
-// The form that a magic number names, read with the greatest byte first.
+// The form that a magic number names, read as big-endian.
 fn form_by(magic: u32) -> Option<Head>
     ensures { option_map form result ≡ form_of magic }
 {

@@ -4,7 +4,7 @@ ghost use Rattle.capture_model.specs.Capture.{Record, Step, Reads, IsCapture};
 ghost use Rattle.capture_model.specs.Capture.{IsLast};
 ghost use Rattle.capture_model.specs.Written.{AreWithin, written};
 
-/// What the two heads write, with the captured bytes after each record's head, is a capture of the records that were given,
+/// What the two headers write, with the captured bytes after each record's header, is a capture of the records that were given,
 /// while lengths, count and size are within the limits. It does nothing.
 #[tactic(auto, using(crate::proofs::WritingLemmas::reads_written))]
 pub fn written_captures_read_back()

@@ -1,5 +1,5 @@
-//! Captures in the classic capture format of version 2.4 (libpcap, pcap-savefile(5)): a reader that answers the records of
-//! a file one by one from pieces of it, and the heads that a capture is written with.
+//! Captures in the classic capture format of version 2.4 (libpcap, pcap-savefile(5)): a reader that returns the records of
+//! a file one by one from pieces of it, and the headers that a capture is written with.
 #![tactic(auto)]
 
 mod ahead;

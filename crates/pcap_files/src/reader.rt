@@ -14,7 +14,7 @@ use capture_model::DamageKind;
 use play_base::{Bytes, Files};
 use std::alloc::Global;
 
-// Bytes of a file's head.
+// Bytes of a file's header.
 const FILE_HEAD: usize = 24;
 
 /// Reads a capture from an opened file. It takes pieces of at most 65,536 bytes from it, and holds no more than a piece
@@ -30,9 +30,9 @@ pub struct Reader {
 }
 
 impl Reader {
-    /// Reads the head of the capture that the file has left. `Damage` comes exactly where the head fails a test,
+    /// Reads the header of the capture that the file has left. `Damage` comes exactly where the header fails a test,
     /// `Read` only where the count of read faults of the file's part rose in this call, and `Limit` never. At most 65,536
-    /// bytes past the head were taken. `file` was answered by `files`.
+    /// bytes past the header were taken. `file` was answered by `files`.
     pub fn start<F: Files>(alloc: Global, files: &mut F, file: u32) -> Result<Reader, CaptureFault>
         requires there { IsSome ((F.view files.old).part file) }
         ensures stands { IfOk result (λ reader. (bytes : List ℕ) → (F.view files.old).left file ≡ Some bytes →
@@ -71,8 +71,8 @@ impl Reader {
     /// The next record, or none where the file ends at a record's place. `Damage` and `Limit` come exactly where the bytes
     /// at that place fail a test, `Read` only where the count of read faults of the file's part rose in this call.
     /// After any fault the reader answers that fault again and takes nothing. When a record is answered, at most 65,536
-    /// bytes past it were taken. What the file has left is to be what it had left after this reader's last call. Takes time
-    /// in proportion to the bytes taken and the record's.
+    /// bytes past it were taken. Between this reader's calls nothing else may read from the file. Takes time in
+    /// proportion to the bytes taken and the record's.
     pub fn next<F: Files>(&mut self, files: &mut F) -> Result<Option<Record>, CaptureFault>
         requires there { IsSome ((F.view files.old).part self.old.file) }
         ensures record { IfOk result (λ answer. IfSome answer (λ r.
@@ -144,7 +144,7 @@ impl Reader {
         }
     }
 
-    // Takes the record with this head from the bytes ahead, where it stands whole.
+    // Takes the record with this header from the bytes ahead, where it stands whole.
     fn take_record(
         &mut self,
         stamp: u64,

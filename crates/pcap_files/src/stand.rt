@@ -1,4 +1,4 @@
-// The tests of a record that need no more than its head.
+// The tests of a record that need no more than its header.
 ghost use Rattle.std.specs.Prelude.{◌≡◌, ◌+◌, ◌≤◌, ◌<◌, ◌^◌, ℕ, max, length};
 ghost use Rattle.capture_model.specs.Capture.{stamp};
 ghost use Rattle.pcap_files.specs.Forms.{form};
@@ -9,7 +9,7 @@ use crate::numbers::word;
 use crate::progress::Progress;
 use capture_model::DamageKind;
 
-// Bytes of a record's head.
+// Bytes of a record's header.
 pub const RECORD_HEAD: usize = 16;
 
 const MOST_RECORDS: u32 = 4_000_000;
@@ -19,7 +19,7 @@ const MOST_BYTES: u32 = 1 << 30;
 const LONGEST: u32 = 262_144;
 
 // What the bytes at a place tell of the record there: its stamp in nanoseconds and its two lengths in bytes, or the first
-// test that its head fails.
+// test that its header fails.
 pub enum Stand {
     End,
     Limit,

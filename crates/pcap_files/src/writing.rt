@@ -1,10 +1,10 @@
-// The heads that a capture is written with.
+// The headers that a capture is written with.
 ghost use Rattle.std.specs.Prelude.{◌≡◌, ◌<◌, ◌*◌, ◌^◌};
 ghost use Rattle.capture_model.specs.Header.{capture_header, record_header};
 
 use byteorder::{ByteOrder, LittleEndian};
 
-/// The head of a little-endian nanosecond capture of Ethernet frames with a snap length of 262,144 bytes.
+/// The header of a little-endian nanosecond capture of Ethernet frames with a snap length of 262,144 bytes.
 pub fn head_bytes() -> [u8; 24]
     ensures { result ≡ capture_header }
 {
@@ -13,7 +13,7 @@ pub fn head_bytes() -> [u8; 24]
     ]
 }
 
-/// The head of a record in such a capture, stamped with `end` nanoseconds, below 2^32 seconds: `captured` bytes stand behind
+/// The header of a record in such a capture, stamped with `end` nanoseconds, below 2^32 seconds: `captured` bytes stand behind
 /// it, of a packet of `len` bytes.
 pub fn record_head(end: u64, captured: u32, len: u32) -> [u8; 16]
     requires { end < 2 ^ 32 * 10 ^ 9 }

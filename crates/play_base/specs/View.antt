@@ -3,13 +3,13 @@
 use Rattle.std.specs.Prelude.{◌≡◌, ◌≢◌, ℕ, ◌+◌, ◌-◌, ◌^◌, ◌≤◌, min, Bool, IsTrue, List, [], ◌++◌, take, length, None, Some, IsSome}
 use Rattle.std.specs.declared.option.Option.{Option}
 
--- The meanings. Where the object doesn't tell, `bytes`, `said` and `name` mean nothing; what a file has left is told
--- for each file by itself.
+-- What each part means. If `tells` is false, as for files of a disk, nothing is claimed of `bytes`, `said` and `name`;
+-- what a file has left is told for each file by itself.
 pub record View : Type 0 where
   pub tells : Bool
   -- the bytes under each name: None where the name isn't there
   pub bytes : List ℕ → Option (List ℕ)
-  -- the text said so far
+  -- the text printed so far
   pub said : List ℕ
   -- the part under which each file was opened or created: None for a number that no call answered
   pub part : ℕ → Option ℕ
@@ -21,7 +21,7 @@ pub record View : Type 0 where
   pub read_faults : ℕ → ℕ
   pub write_faults : ℕ → ℕ
 
--- a count rose, or stands at its type's end
+-- a count rose, or is at its greatest value, 2^64 - 1
 abbrev pub Rose : ℕ → ℕ → Type 0
 Rose old new = min (old + 1) (2 ^ 64 - 1) ≤ new
 

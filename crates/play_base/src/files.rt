@@ -4,12 +4,13 @@ ghost use Rattle.play_base.specs.View.{View, Rose, Unchanged, Opened, Created, T
 
 use crate::Trouble;
 
-/// Files of one play. What an object tells is its `view`: the bytes under each name, the name and the part of each file
-/// that it answered, what each has left to read, the text said so far, and a count of read faults and one of write
-/// faults for each part. A part is a number below 16. Each call changes only what it names here, and counts.
+/// Files of one play. The `view` is what contracts know of an object: the bytes under each name, the part and the name
+/// of each file that it opened or created, what each has left to read, the text printed so far (`said`), and for each
+/// part a count of read faults and one of write faults. A part is a number below 16. Each call changes only what it
+/// names here, and the counts.
 ///
-/// Every call may answer `NoMemory`. After any error nothing has changed but counts, which never fall. A count that
-/// stands at 2^64 − 1 stays there and is said to rise.
+/// Every call may return `NoMemory`. After any error nothing has changed but counts, which never fall. A count saturates
+/// at 2^64 − 1; there "rose" holds of every call.
 pub trait Files {
     ghost view: { Self → View };
 
@@ -57,7 +58,7 @@ pub trait Files {
         ensures refused { OnErr result (Unchanged (view self.old) (view self.new)) }
         ensures failed { IsErrOf result Trouble.Failed → WriteFault (view self.old) (view self.new) file };
 
-    /// Says the whole text. `Failed` comes only where part 0's count of write faults rose in this call.
+    /// Prints the whole text. `Failed` comes only where part 0's count of write faults rose in this call.
     fn say(&mut self, text: &[u8]) -> Result<(), Trouble>
         ensures said { OnOk result (Said (view self.old) (view self.new) text.now) }
         ensures refused { OnErr result (Unchanged (view self.old) (view self.new)) }

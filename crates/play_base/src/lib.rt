@@ -1,6 +1,6 @@
-//! The files of a play, as everything above sees them: the trait `Files` with its laws, files in memory that tell
-//! everything and fail where a test plans it, and files in memory that never fail. Beside them stand a packet's own
-//! types, and the exact amounts of altq.conf(5)'s rates: units and nanoseconds.
+//! The files of a play: the trait `Files` with its laws, through which all other crates see files; files in memory that
+//! tell everything and fail where a test plans it; and files in memory that never fail. Beside them stand a packet's
+//! own types, and the exact amounts of altq.conf(5)'s rates: units and nanoseconds.
 #![tactic(auto)]
 
 mod amounts;

@@ -65,7 +65,7 @@ pub fn count_call(calls: &mut [u64; 5], call: Call) -> u64
     nth
 }
 
-// Whether the next call of this kind is to fail; it counts as made.
+// Whether this call, the next of its kind, is to fail; it is counted.
 pub fn fails_now(failing: &[Failing], calls: &mut [u64; 5], call: Call) -> bool
     ensures due { result ≡ is_planned failing.now call (slice_index calls.old (place_of call)) }
     ensures counted { slice_index calls.new (place_of call) ≡ min (slice_index calls.old (place_of call) + 1) (2 ^ 64 - 1) }

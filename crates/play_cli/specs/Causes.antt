@@ -67,7 +67,7 @@ Causes old new n seed (Config fault) = ConfigCauses old new n.config n.interface
 Causes old new n seed (Play fault) = PlayCauses old new n seed fault
 Causes old new n seed (Say trouble) = ⊥
 
--- why a check ends early: it asks for no play. Its result is said once the configuration is accepted
+-- why a check ends early: it asks for no play. Its result is printed once the configuration is accepted
 abbrev pub SayCauses : View → View → (config interface : List ℕ) → Trouble → Type 0
 SayCauses old new config interface trouble.Failed =
     Rose (old.write_faults 0) (new.write_faults 0) × ((found : Interface) × Accepts old config interface found)

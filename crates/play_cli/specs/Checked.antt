@@ -1,4 +1,4 @@
--- What `check` says: the canonical text of the configuration, and in a last line how the real-time curves of the interface asked
+-- What `check` prints: the canonical text of the configuration, and in a last line how the real-time curves of the interface asked
 -- for fit its link.
 use Rattle.std.specs.Prelude.{◌≡◌, ℕ, List, ◌++◌}
 use Rattle.admission.specs.declared.Fit.{Fit}
@@ -9,7 +9,8 @@ use Rattle.conf_tree.specs.Canonical.{canonical_text}
 use Rattle.play_base.specs.View.{View}
 use Rattle.play_cli.specs.Configuration.{Says, Said}
 
--- the configuration has the interface asked for; its canonical text was said, and how the curves fit, which the kind tells as well
+-- the configuration has the interface asked for; its canonical text was printed, and how the curves fit, which the kind gives
+-- as well
 pub record HasChecked (old new : View) (config interface : List ℕ) (kind : ℕ) : Type 0 where
   pub interfaces : List Interface
   pub found : Interface

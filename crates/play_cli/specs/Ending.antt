@@ -58,7 +58,7 @@ pub record PlayComes (old new : View) (n : Names) (seed : ℕ) (s : Status) : Ty
       ⊎ ((s.kind ≡ 3) × (IsTrue old.tells → Says old n.config n.interface TooLong))
   pub accepted_first : IsAfterConfig s.code s.kind → (found : Interface) × Accepts old n.config n.interface found
 
--- When it must come, where the files tell and no count of faults rises.
+-- When a status must come: for files whose bytes are known, where no count of faults rises.
 pub record PlayIsTold (old : View) (n : Names) (seed : ℕ) (s : Status) : Type 0 where
   pub complete : IsPlayable old n seed → (s.code ≡ 0) ⊎ (s.code ≡ 8)
   pub configuration : (place : ConfPlace) → Says old n.config n.interface (Refused place) → TellsPlace s place ⊎ (s.code ≡ 8)
@@ -74,7 +74,7 @@ pub record FilesEnd (old new : View) (n : Names) : Type 0 where
   pub few : TakesFew old new n.config
   pub others : KeepsOthers n.departures n.fates n.stats old new
 
--- and nothing was said
+-- and nothing was printed
 pub record SilentEnd (old new : View) (n : Names) : Type 0 where
   pub files : FilesEnd old new n
   pub said : new.said ≡ old.said

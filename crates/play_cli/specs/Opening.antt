@@ -11,7 +11,7 @@ use Rattle.play_loop.specs.declared.fault.PlayFault.{PlayFault}
 use Rattle.play_loop.specs.declared.fault.PlayFault.TheVariants as play
 use Rattle.play_loop.specs.Played.{AreReady}
 
--- nothing is told of what stands for a history
+-- nothing is claimed of a history
 abbrev pub Untold : List Happened → Type 0
 Untold g = Unit {0}
 
@@ -28,7 +28,7 @@ abbrev pub KeepsOthers : (dep fat stats : List ℕ) → View → View → Type 0
 KeepsOthers dep fat stats old new =
     Keeps (OtherThree old dep fat stats) (λ f. OtherThree old dep fat stats (old.name f)) old new
 
--- files of the parts from 2 on, up to but not with one, and none but these and some of part 1
+-- there is a new file of each of the parts 2 to `end` - 1, and every other new file is of one of these or of part 1
 pub record HaveParts (old new : View) (end : ℕ) : Type 0 where
   pub some : 2 ≤ end
   pub few : end ≤ 6
@@ -36,8 +36,8 @@ pub record HaveParts (old new : View) (end : ℕ) : Type 0 where
   pub only : (f p : ℕ) → old.part f ≡ None → new.part f ≡ Some p → (1 ≤ p) × (p < end)
   pub each : (p : ℕ) → 2 ≤ p → p < end → (f : ℕ) × (old.part f ≡ None) × (new.part f ≡ Some p)
 
--- of the arrivals, the departures, the fates and the statistics so many came to be, in this order, and nothing was written: an output
--- that did not keeps its bytes, and one that did is empty where the object tells
+-- of the arrivals, the departures, the fates and the statistics, in this order, those before part `end` were opened or created, and
+-- nothing was written: an output that was not created keeps its bytes, and one that was is empty where the object tells
 pub record OpenedFar (old new : View) (dep fat stats : List ℕ) : Type 0 where
   pub end : ℕ
   pub parts : HaveParts old new end

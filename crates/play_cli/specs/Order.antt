@@ -7,8 +7,8 @@ use Rattle.play_cli.specs.Configuration.{most_bytes}
 abbrev pub Untouched : View → View → (part : ℕ) → Type 0
 Untouched old new part = (f : ℕ) → old.part f ≡ None → new.part f ≢ Some part
 
--- departures are created only behind the opening of the arrivals, fates behind the creation of departures, and statistics behind
--- that of fates; no other part is used
+-- departures are created only after the arrivals are opened, fates after departures are created, and statistics after fates are;
+-- no other part is used
 pub record IsInOrder (old new : View) : Type 0 where
   pub departures : Untouched old new 2 → Untouched old new 3
   pub fates : Untouched old new 3 → Untouched old new 4

@@ -125,9 +125,9 @@ pub record IsCutEarly (x : Setup) (records : List Record) (last : Step) (g : Lis
   pub cut : IsCutOff x.policy x.rate x.seed (comings (arrivals_in x records)) g
   pub before : (last ≡ End) ⊎ (start_of cut.next.what < greatest 0 records)
 
--- the play of what is accepted is cut off so. Departures and fates hold exactly the texts of the events before that sending, and the
--- statistics nothing. If a complete record arrives later than it starts, the bytes that were taken of the arrivals end at most 65,536 bytes past the first such
--- record
+-- the play of what is accepted is cut off so. Departures and fates hold exactly the texts of the events before that sending, and
+-- the statistics nothing. If a complete record arrives later than it starts, the bytes that were taken of the arrivals end at most
+-- 65,536 bytes past the first such record
 pub record IsLate (old new : View) (n : Names) (seed : ℕ) : Type 0 where
   pub accepted : Accepted old n
   pub records : List Record
@@ -146,7 +146,7 @@ pub record IsLate (old new : View) (n : Names) (seed : ℕ) : Type 0 where
   pub part : new.part file ≡ Some 2
   pub streams : Streams new file accepted.bytes records (start_of early.cut.next.what)
 
--- no count of faults rose, but perhaps that of texts that could not be said, which is that of write faults of part 0
+-- no count of faults rose, but perhaps that of texts that could not be printed: the write faults of part 0
 abbrev pub IsQuiet : View → View → Type 0
 IsQuiet old new = (part : ℕ) → (Rose (old.read_faults part) (new.read_faults part) → ⊥)
     × (1 ≤ part → Rose (old.write_faults part) (new.write_faults part) → ⊥)
@@ -166,7 +166,7 @@ IsPlayable old n seed = EndsWith old n seed End
 abbrev pub IsCode : ℕ → Type 0
 IsCode c = (c ≡ 0) ⊎ (c ≡ 2) ⊎ (c ≡ 3) ⊎ (c ≡ 4) ⊎ (c ≡ 5) ⊎ (c ≡ 6) ⊎ (c ≡ 7) ⊎ (c ≡ 8)
 
--- one does
+-- a sending of the play would end too late
 pub record EndsLate (old : View) (n : Names) (seed : ℕ) : Type 0 where
   pub accepted : Accepted old n
   pub records : List Record

@@ -89,7 +89,7 @@ fn checked<F: Files>(alloc: Global, files: &mut F, words: &CheckWords<'_>) -> St
     }
 }
 
-/// Checks, and says how it ended where that is not well.
+/// Checks, and prints the message of every status but 0.
 pub fn check<F: Files>(alloc: Global, files: &mut F, words: &CheckWords<'_>) -> Status
     ensures ends { CheckEnds (F.view files.old) (F.view files.new) words.now.config.now words.now.interface.now result }
     ensures message { HasMessage (F.view files.old) (F.view files.new) result }

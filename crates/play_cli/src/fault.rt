@@ -24,6 +24,6 @@ pub enum RunFault {
     Config(ConfigFault),
     /// The play of an accepted configuration ended early, or one of its files could not be opened or created.
     Play(PlayFault),
-    /// The result of a check could not be said.
+    /// The result of a check could not be printed.
     Say(Trouble),
 }

@@ -19,7 +19,7 @@ const LIMIT: usize = 1 << 20;
 /// The number of the kind NoInterface.
 const NO_INTERFACE: u8 = 9;
 
-// How many bytes to ask for next, where so many were taken: a piece, or as many as there may be and one more.
+// How many bytes to ask for after `taken` bytes: a piece, but never more than one byte past the limit.
 fn wanted(taken: usize) -> usize
     requires { taken ≤ most_bytes }
     ensures some { 1 ≤ result }

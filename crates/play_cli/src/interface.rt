@@ -19,7 +19,7 @@ use play_base::{Files, NoMemory};
 use play_loop::{Opened, PlayFault, Totals, play};
 use std::alloc::Global;
 
-// Plays an interface by a discipline that keeps its policy, of which nothing was asked yet.
+// Plays an interface by a discipline that keeps its policy, to which nothing was offered yet.
 fn play_by<D: Discipline, F: Files>(
     alloc: Global,
     files: &mut F,
@@ -68,7 +68,7 @@ fn play_by<D: Discipline, F: Files>(
 }
 
 /// Plays the capture that the arrivals have left through the queues of an interface and a link of its rate, by HFSC or CBQ as it
-/// says, and by the words of a seed. What each error means, and when it comes, `PlayFault` says.
+/// says, and by the random words of a seed. What each error means, and when it comes, `PlayFault` says.
 pub fn play_interface<F: Files>(
     alloc: Global,
     files: &mut F,

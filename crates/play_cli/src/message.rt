@@ -5,7 +5,7 @@ ghost use Rattle.play_cli.specs.Message.{conf_name, damage_name, read_name, writ
 use crate::Status;
 use std::alloc::{AllocError, Global};
 
-/// The message where there is no memory, which takes none.
+/// The message where memory ran out; it takes none.
 pub(crate) const OUT_OF_MEMORY: &str = "altqplay: out of memory\n";
 
 // The name of a kind of fault of a configuration, 1 to 24.
@@ -77,7 +77,7 @@ fn written_name(kind: u8) -> &'static str
     }
 }
 
-/// The message of a status other than 0. `Err` comes only where there is no memory.
+/// The message of a status other than 0. `Err` comes only when memory runs out.
 pub(crate) fn message(alloc: Global, status: Status) -> Result<String, AllocError>
     ensures { IfOk result (λ m. string_bytes m ≡ message_text status) }
 {

@@ -75,7 +75,7 @@ fn played<F: Files>(alloc: Global, files: &mut F, words: &PlayWords<'_>) -> Stat
     }
 }
 
-/// Plays, and says how it ended where that is not well.
+/// Plays, and prints the message of every status but 0.
 pub fn play<F: Files>(alloc: Global, files: &mut F, words: &PlayWords<'_>) -> Status
     requires { AreDistinct words.now.config.now words.now.arrivals.now words.now.departures.now words.now.fates.now words.now.stats.now }
     ensures ends { PlayEnds (F.view files.old) (F.view files.new) (names_read words.now) words.now.seed result }

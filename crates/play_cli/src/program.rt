@@ -29,17 +29,16 @@ use std::alloc::Global;
 /// All that the program does. `words` are the words behind the program's name.
 ///
 /// `play --config C --interface I --arrivals A --departures D --fates T --stats Z --seed N` plays the capture A through the queues
-/// that the configuration C gives the interface I, and a link of its rate, by HFSC or CBQ as C says and by the words of the seed N,
-/// and writes the departures to D, the fates to T, and at the end the statistics to Z. Nothing is created before the configuration
-/// is accepted and the arrivals are open, and fates only behind departures, statistics only behind fates. Frames are placed by the
-/// filters of the interface. At most 2^20 + 1 bytes of C are read. `check --config C --interface I` says the canonical text of the
-/// configuration C, where it has the interface I, and in a last line whether the real-time curves of I fit its link; the kind is 1
-/// where they exceed it. Options come in any order, as `--name VALUE` or `--name=VALUE`. After every status but 0 the message of it
-/// is said, a line that `message_text` gives, and `play` says nothing where it is done.
-///
-/// The status says how it ended, and each clause below when that comes and what it leaves. Where the files tell their bytes,
-/// status 0 means the headline of `HasPlayed`, or `HasChecked`. Status 8 comes where there was no memory, and nothing ties it
-/// down.
+/// that the configuration C gives the interface I, and a link of its rate, by HFSC or CBQ as C says and by the random words of the
+/// seed N, and writes the departures to D, the fates to T, and at the end the statistics to Z. Nothing is created before the
+/// configuration is accepted and the arrivals are open, fates only after departures, and statistics only after fates. Frames are
+/// placed by the filters of the interface. At most 2^20 + 1 bytes of C are read. `check --config C --interface I` prints the
+/// canonical text of the configuration C, where it has the interface I, and in a last line whether the real-time curves of I fit its
+/// link; the kind is 1 where they exceed it. Options come in any order, as `--name VALUE` or `--name=VALUE`. After every status but 0
+/// its message is printed, a line that `message_text` gives; a `play` that is done prints nothing.
+/// The status says how the run ended; each clause below says when that status comes and what it leaves. For files whose bytes are
+/// known, status 0 means the headline of `HasPlayed`, or `HasChecked`. Status 8 means that memory ran out; no clause says when that
+/// happens.
 pub fn run<F: Files>(alloc: Global, words: &[String], files: &mut F) -> Status
     ensures code { IsCode result.code }
 
@@ -53,7 +52,7 @@ pub fn run<F: Files>(alloc: Global, words: &[String], files: &mut F) -> Status
     ensures checked { result.code ≡ 0 → IsCheck words.now → IsTrue (F.view files.old).tells →
         HasChecked (F.view files.old) (F.view files.new) (names_of words.now).config (names_of words.now).interface result.kind }
 
-    // What no status uses is 0.
+    // Fields that a status does not use are 0.
     ensures no_line { result.code ≢ 3 → result.line ≡ 0 }
     ensures no_word { result.code ≢ 3 → result.word ≡ 0 }
     ensures no_place { result.code ≢ 4 → result.place ≡ 0 }
@@ -84,8 +83,8 @@ pub fn run<F: Files>(alloc: Global, words: &[String], files: &mut F) -> Status
     ensures accepted_first { IsPlay words.now → IsAfterConfig result.code result.kind →
         (found : Interface) × Accepts (F.view files.old) (names_of words.now).config (names_of words.now).interface found }
 
-    // What is playable is done, unless a fault or want of memory comes; so is what can be checked, unless its result cannot be said.
-    // A message that cannot be said is no such fault.
+    // What is playable is done, unless a fault comes or memory runs out; so is what can be checked, unless its result cannot be
+    // printed. A message that cannot be printed is no such fault.
     ensures complete { IsTrue (F.view files.old).tells → refusal words.now ≡ None → IsPlay words.now →
         (seed : ℕ) → seed_of words.now ≡ Some seed → IsPlayable (F.view files.old) (names_of words.now) seed →
         IsQuiet (F.view files.old) (F.view files.new) → (result.code ≡ 0) ⊎ (result.code ≡ 8) }
@@ -93,7 +92,7 @@ pub fn run<F: Files>(alloc: Global, words: &[String], files: &mut F) -> Status
         IsCheckable (F.view files.old) (names_of words.now).config (names_of words.now).interface →
         IsQuiet (F.view files.old) (F.view files.new) → (result.code ≡ 0) ⊎ (result.code ≡ 8) ⊎ Tells result 6 10 }
 
-    // A configuration that cannot be used is told.
+    // A configuration that cannot be used gets its status.
     ensures configuration_told { IsTrue (F.view files.old).tells → refusal words.now ≡ None → (place : ConfPlace) →
         Says (F.view files.old) (names_of words.now).config (names_of words.now).interface (Refused place) →
         IsQuiet (F.view files.old) (F.view files.new) → TellsPlace result place ⊎ (result.code ≡ 8) }
@@ -101,7 +100,7 @@ pub fn run<F: Files>(alloc: Global, words: &[String], files: &mut F) -> Status
         Says (F.view files.old) (names_of words.now).config (names_of words.now).interface TooLong →
         IsQuiet (F.view files.old) (F.view files.new) → Tells result 7 3 ⊎ (result.code ≡ 8) }
 
-    // So is a damage told, a limit of the arrivals, or a packet that would end too late: that comes in place of a damage or a limit
+    // So does a damage, a limit of the arrivals, or a packet that would end too late: that comes in place of a damage or a limit
     // exactly where its sending starts before the last complete record arrives.
     ensures damage_told { IsTrue (F.view files.old).tells → refusal words.now ≡ None → IsPlay words.now →
         (seed : ℕ) → seed_of words.now ≡ Some seed → (d : Damage) → EndsWith (F.view files.old) (names_of words.now) seed (Fault d) → IsQuiet (F.view files.old) (F.view files.new) →
@@ -133,8 +132,8 @@ pub fn run<F: Files>(alloc: Global, words: &[String], files: &mut F) -> Status
     ensures check_keeps { IsCheck words.now → Keeps Any Any (F.view files.old) (F.view files.new) }
     ensures check_parts { IsCheck words.now → (f p : ℕ) → (F.view files.old).part f ≡ None → (F.view files.new).part f ≡ Some p → p ≡ 1 }
 
-    // What is said. A play that is done says nothing. Behind every other status than 0 and 8 exactly its message was said, or nothing,
-    // and then the count of write faults of part 0 rose; behind 8 its message or nothing.
+    // What is printed. A play that is done prints nothing. After every other status than 0 and 8 exactly its message was printed, or
+    // nothing, and then the count of write faults of part 0 rose; after 8 its message or nothing.
     ensures said { result.code ≡ 0 → IsPlay words.now → (F.view files.new).said ≡ (F.view files.old).said }
     ensures message { result.code ≢ 0 → result.code ≢ 8 → SaysOrFails (F.view files.old) (F.view files.new) (message_text result) }
     ensures memory { result.code ≡ 8 → SaysOrNot (F.view files.old) (F.view files.new) out_of_memory }

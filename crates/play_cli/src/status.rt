@@ -93,7 +93,7 @@ fn play_status(fault: PlayFault) -> Status
     }
 }
 
-// The status of a result that could not be said.
+// The status of a result that could not be printed.
 fn say_status(trouble: Trouble) -> Status
     ensures { result ≡ say_status trouble }
 {

@@ -24,7 +24,7 @@ fn say_message<F: Files>(alloc: Global, files: &mut F, status: Status) -> Result
     }
 }
 
-// The status where there is no memory. Its message is a constant, so it can still be said.
+// The status where memory ran out. Its message is a constant, so it can still be printed.
 fn no_memory<F: Files>(files: &mut F) -> Status
     ensures only { OnlySays (F.view files.old) (F.view files.new) }
     ensures said { SaysOrNot (F.view files.old) (F.view files.new) out_of_memory }
@@ -34,8 +34,8 @@ fn no_memory<F: Files>(files: &mut F) -> Status
     ended(8, 0)
 }
 
-/// Says the message of a status, and nothing of status 0. A message that cannot be said changes no status, but want of memory for
-/// it does.
+/// Prints the message of a status, and nothing for status 0. If it cannot be printed the status stays the same; if memory runs
+/// out for it the status is 8.
 pub fn told<F: Files>(alloc: Global, files: &mut F, status: Status) -> Status
     ensures { IsTold (F.view files.old) (F.view files.new) status result }
 {

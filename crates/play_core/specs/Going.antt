@@ -20,12 +20,12 @@ use Rattle.play_core.specs.Totals.{AreTotals}
 abbrev pub numbered : (n : ℕ) → Arrival → Packet
 numbered n a = record { number = n; at = a.at; len = a.len; bytes = a.bytes }
 
--- under this ticket waits the arrival of this number, marked as it was
+-- under `ticket` the pool holds the packet of arrival n, marked as its queue marked it
 pub record Holds (arrived : List Arrival) (g : List Happened) (pool : Held) (ticket n : ℕ) : Type 0 where
   pub packet : packet_of pool ticket ≡ Some (numbered n (arrival arrived n))
   pub mark : is_marked pool ticket ≡ was_marked n g
 
--- under each of these tickets the arrival of the number at the same place
+-- so it does under each of `tickets`, for the number at the same place of `numbers`
 abbrev pub HoldEach : List Arrival → List Happened → Held → (tickets numbers : List ℕ) → Type 0
 HoldEach arrived g pool [] [] = Unit {0}
 HoldEach arrived g pool [] (n ∷ ns) = ⊥
@@ -37,7 +37,7 @@ abbrev pub one_kept : Verdict → ℕ
 one_kept v = if is_kept v then 1 else 0
 
 -- the first events of the play of what arrived so far, by the policy, the histories, the lists, the limits and the rate of a discipline,
--- and by the words of a seed
+-- and by the random words of a seed
 pub record IsGoing (p : Policy) (stood : List Happened → Type 0) (lists : ℕ → List Entry) (limits : ℕ → ℕ) (rate : Option ℕ)
     (arrived : List Arrival) (w : DrawnWords) (x : Progress) (g : List Happened) : Type 0 where
   pub begun : IsBegun p x.clock.rate w.seed (comings arrived) g

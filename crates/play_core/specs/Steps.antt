@@ -13,12 +13,12 @@ use Rattle.discipline_laws.specs.declared.pick.Sending.{Sending}
 use Rattle.play_core.specs.declared.step.Step.{Step}
 use Rattle.play_core.specs.declared.step.Step.TheVariants.{End, Offer, Send, Late}
 
--- the next arrival, if any, comes by this moment
+-- the next arrival, if any, comes by t
 abbrev pub comes_by : Option ℕ → (t : ℕ) → Bool
 comes_by None t = false
 comes_by (Some at) t = nat_le at t
 
--- the sending of a packet that would end then
+-- the sending of a packet that would end at `end`, if that is not too late
 abbrev pub step_at : Ticket → (class len : ℕ) → Rule → (start end : ℕ) → Step
 step_at ticket class len rule start end =
     if nat_le clock_end end then Late
@@ -49,14 +49,14 @@ IsSentAt p clock start h Offer = ⊥
 IsSentAt p clock start h (Send s) = (s.start ≡ start) × SendsHead p h s
 IsSentAt p clock start h Late = WouldEndLate p clock start h
 
--- the least moment at which a class may send is before the next arrival, and this is sent then
+-- the least moment at which a class may send is before the next arrival, and the step is the sending at that moment
 pub record SendsFirst (p : Policy) (clock : Clock) (t : ℕ) (h : List Event) (arrival : Option ℕ) (step : Step) : Type 0 where
   pub start : ℕ
   pub first : first_at p t h p.classes ≡ Some start
   pub later : comes_by arrival start ≡ false
   pub sent : IsSentAt p clock start h step
 
--- after a history this comes next, where this is the next arrival
+-- after a history the step is what comes next, given the next arrival
 abbrev pub IsStep : Policy → Clock → (t : ℕ) → List Event → (arrival : Option ℕ) → Step → Type 0
 IsStep p clock t h arrival End = (first_at p t h p.classes ≡ None) × (arrival ≡ None)
 IsStep p clock t h arrival Offer = OffersFirst p t h arrival

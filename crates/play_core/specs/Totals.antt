@@ -23,7 +23,7 @@ abbrev pub count_dropped : List Decision → ℕ
 count_dropped [] = 0
 count_dropped (d ∷ js) = one_dropped d.1 + count_dropped js
 
--- these are the counts of decisions, where so many packets were offered and this is the last end
+-- the counts of decisions, given how many packets were offered and the last end
 pub record IsCounted (js : List Decision) (offers free : ℕ) (t : Totals) : Type 0 where
   pub arrived : t.arrived ≡ offers
   pub sent : t.sent ≡ count_sent js

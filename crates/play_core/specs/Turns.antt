@@ -20,13 +20,13 @@ pub record IsNext (p : Policy) (rate seed : ℕ) (arrived : List Arrival) (g : L
   pub there : slice_get arrived (offered (bare g)) ≡ Some a
   pub is_due : due p rate seed (comings arrived) g ≡ Some (offer_of p seed g (coming_of a))
 
--- it is of this packet, which was put there
+-- the next event is the offer of this packet, which was placed there
 pub record Offers (p : Policy) (rate seed : ℕ) (arrived : List Arrival) (g : List Happened) (a : Arrival) (packet : Packet) (placed : Placed) : Type 0 where
   pub next : IsNext p rate seed arrived g a
   pub packet_is : packet ≡ numbered (offered (bare g) + 1) a
   pub placed_is : placed ≡ record { class = a.class; prec = a.prec }
 
--- what is handed back of a packet after a verdict
+-- the packet that is handed back after a drop, or none
 abbrev pub handed_back : Verdict → Packet → Option Dropped
 handed_back Keep packet = None
 handed_back Mark packet = None
@@ -49,7 +49,7 @@ pub record Departs (p : Policy) (rate seed : ℕ) (arrived : List Arrival) (g : 
 abbrev pub arrives : List Arrival → List Happened → Option ℕ
 arrives arrived g = option_map (λ (a : Coming). a.at) (slice_get (comings arrived) (offered (bare g)))
 
--- the next event is this, or none is
+-- the turn is the next event of the play, or says that none is left
 abbrev pub ComesNext : Policy → (rate seed : ℕ) → List Arrival → List Happened → Turn → Type 0
 ComesNext p rate seed arrived g End = due p rate seed (comings arrived) g ≡ None
 ComesNext p rate seed arrived g Offer = (a : Arrival) → slice_get arrived (offered (bare g)) ≡ Some a → IsNext p rate seed arrived g a

@@ -22,7 +22,7 @@ use std::alloc::Global;
 impl Progress {
     /// Begins the play of a discipline that nothing was offered yet, over a link of `rate` bits per second, 1,000 to 10^12. Takes
     /// all the memory that the play takes: a place for each packet that the discipline has room for, and one for the packet that
-    /// is offered. `NoMemory` comes only for want of it.
+    /// is offered. `NoMemory` comes only when memory runs out.
     pub fn begin<D: Discipline>(
         alloc: Global,
         discipline: &D,
@@ -57,8 +57,8 @@ impl Progress {
         self.totals
     }
 
-    /// Offers the next arrival, which is due: where it was placed, under the number that is one more than that of the one before.
-    /// It waits from then on, or comes back with the reason for which it was dropped. Takes no memory.
+    /// Offers the next arrival, which is due, to the class in which it was placed; its number is one more than that of the last one.
+    /// The packet is kept, or handed back with the reason of its drop. Takes no memory.
     pub fn offer<D: Discipline>(
         &mut self,
         discipline: &mut D,
@@ -100,9 +100,9 @@ impl Progress {
         dropped
     }
 
-    /// What comes next, where the next arrival, if there is one, comes at this moment: the offer of that arrival where it comes up to
-    /// the least moment at which a class may send, else a sending then, which is made, if it ends before the clock does. Takes no
-    /// memory, and one division.
+    /// The next event of the play, given the moment of the next arrival, if there is one: the offer of that arrival if it comes up to
+    /// the least moment at which a class may send, else the sending at that moment, which is made if it ends before the clock does.
+    /// Takes no memory, and one division.
     pub fn turn<D: Discipline>(&mut self, discipline: &mut D, arrival: Option<u64>) -> Turn
         requires going { (arrived : List Arrival) × (w : DrawnWords) × (g : List Happened) × IsGoing (D.policy discipline.old) (D.stands discipline.old) (D.lists discipline.old) (D.limits discipline.old) (D.link_rate discipline.old) arrived w self.old g }
         ensures turned { (arrived : List Arrival) (w : DrawnWords) (g : List Happened)

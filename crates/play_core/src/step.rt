@@ -11,7 +11,8 @@ use discipline_laws::{Discipline, Pick, Sending};
 use link_clock::LinkClock;
 use play_base::Ticket;
 
-/// The clock ends at 2^32 seconds, in nanoseconds: no packet may end then or later.
+/// The end of the clock, 2^32 seconds, in nanoseconds: the first moment that a capture cannot stamp. No packet may end at it or
+/// later.
 const CLOCK_END: u64 = 4_294_967_296_000_000_000;
 
 // What comes next in a play.
@@ -98,9 +99,9 @@ fn what_is_sent<D: Discipline>(discipline: &mut D, clock: &LinkClock, till: u64)
     }
 }
 
-// What comes next, where `moment` is no earlier than the last end nor than any arrival that was offered, and this is the next
-// arrival, in nanoseconds: an arrival up to the least moment at which a class may send is offered first. The discipline is asked
-// again where it waits. Takes no memory.
+// What comes next, given the next arrival, in nanoseconds, if there is one: an arrival up to the least moment at which a class
+// may send is offered first. `moment` is no earlier than the last end nor than any arrival that was offered. The discipline is
+// asked again where it waits. Takes no memory.
 pub(crate) fn next_step<D: Discipline>(
     discipline: &mut D,
     clock: &LinkClock,

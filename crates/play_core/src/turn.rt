@@ -1,4 +1,4 @@
-// What is told of the packets of a play.
+// What a play hands back of its packets.
 use altq_model::{Reason, Rule};
 use play_base::Packet;
 

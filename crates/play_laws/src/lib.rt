@@ -24,8 +24,9 @@ ghost use Rattle.altq_model.specs.Lawful.{AreHeld, AreRising, IsLawful, IsOneOf,
 ghost use Rattle.play_laws.specs.Sizes.{AreSized};
 ghost use Rattle.play_laws.specs.Runs.{AreRunEnds, sendings};
 
-/// The arrivals of a capture rise, there is one for each record, those of more records begin with those of the fewer, and a play
-/// sees each as it is. Where each mark is a class of the policy, the policy holds them all.
+/// The moments of arrival of a capture never fall, there is one arrival for each record, those of more records begin with those of
+/// the fewer, and a play sees each as it is. Where each record is placed in a class of the policy, every arrival is of a class of the
+/// policy.
 pub fn arrivals_rise()
     ensures rising { (mark : List ℕ → Placed) (records : List Record) → AreRising (comings (arrivals_of mark records)) }
     ensures one_each { (mark : List ℕ → Placed) (records : List Record) → length (comings (arrivals_of mark records)) ≡ length records }
@@ -57,9 +58,10 @@ pub fn policies_by_moments_are_lawful()
     ensures steady { (allowed : List Event → (c t : ℕ) → Bool) (p : Policy) → SendsWhen (λ h c t. IsTrue (allowed h c t)) p → IsSteady p }
 {}
 
-/// The laws of the first events of every play of a lawful policy, however many: each is the offer of the next arrival, or a
-/// sending at the least moment at which a class may send, before every arrival that was not offered; each is of the arrival of its number, with its class and length; no number has two fates; each
-/// class departs in order of number, no packet starts before it arrives, and each end is that of its run.
+/// The laws of the first events of every play of a lawful policy, however many: each is the offer of the next arrival, or a sending
+/// at the least moment at which a class may send, before every arrival that was not offered; each is of the arrival of its number,
+/// with its class and length; no number has two fates; each class departs in order of number, no packet starts before it arrives, and
+/// each end is that of its run.
 pub fn due_events_keep_the_laws()
     ensures laws { (p : Policy) (rate seed : ℕ) (arrived : List Coming) (g : List Happened) → 0 < rate → IsLawful p → AreRising arrived
         → AreDue p rate seed arrived g → HasLaws p rate seed arrived g }
@@ -131,8 +133,8 @@ pub fn departures_are_within()
         → AreWithin (departed dress (arrivals_of mark records) g) }
 {}
 
-/// The counts of more arrivals, and of more decisions, are the sums of those of the fewer and of the rest; what was decided of packets
-/// that arrived counts the same, whatever arrives later.
+/// Counts add up: those of a longer list of arrivals, or of decisions, are those of its front plus those of the rest. What was
+/// decided of packets that arrived counts the same, whatever arrives later.
 pub fn counts_add_up()
     ensures arrivals { (meant : Arrival → Bool) (amount : Arrival → ℕ) (xs ys : List Arrival)
         → of_arrivals meant amount (xs ++ ys) ≡ of_arrivals meant amount xs + of_arrivals meant amount ys }

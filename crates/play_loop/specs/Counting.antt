@@ -34,7 +34,7 @@ count_at (n ∷ ns) class what (k ∷ ks) = if n.0 == class then with_one k what
 abbrev pub tallied : NameList → List Arrival → List Decision → List Counts
 tallied names arrived js = map (λ n. counts_of n.0 arrived js) names
 
--- these are they, and the classes rise
+-- `counts` are those counts, and the numbers of the classes rise
 pub record HasCounted (names : NameList) (arrived : List Arrival) (js : List Decision) (counts : List Counts) : Type 0 where
   pub names_are : AreNames names
   pub counts_are : counts ≡ tallied names arrived js

@@ -20,21 +20,21 @@ use Rattle.play_loop.specs.declared.fault.PlayFault.{PlayFault}
 use Rattle.play_loop.specs.declared.fault.PlayFault.TheVariants as play
 use Rattle.play_loop.specs.Played.{start_of}
 
--- what a fault of the capture means for the play
+-- how a fault of the capture becomes a fault of the play
 abbrev pub capture_fault : CaptureFault → PlayFault
 capture_fault (capture.Damage damage) = play.Capture damage
 capture_fault capture.Limit = play.Limit limit.Capture
 capture_fault capture.Read = play.Read
 capture_fault capture.NoMemory = play.NoMemory
 
--- these are all arrivals of a capture
+-- `arrived` are all arrivals of a capture
 pub record IsAll (place : List ℕ → Placed) (bytes : List ℕ) (arrived : List Arrival) : Type 0 where
   pub records : List Record
   pub arrivals : arrived ≡ arrivals_of place records
   pub reads : IsCapture bytes records
   pub size : place_after 24 records ≤ most_bytes
 
--- and none of them comes after this moment
+-- they are all arrivals of a capture, and none comes after `moment`
 pub record IsPast (place : List ℕ → Placed) (bytes : List ℕ) (arrived : List Arrival) (moment : ℕ) : Type 0 where
   pub all : IsAll place bytes arrived
   pub passed : greatest 0 all.records ≤ moment
@@ -45,7 +45,7 @@ pub record IsFaulty (place : List ℕ → Placed) (bytes : List ℕ) (arrived : 
   pub arrivals : arrived ≡ arrivals_of place records
   pub reads : ReadsTo fault bytes records
 
--- they are the arrivals of the records that a reader answered, and the last alone arrives after this moment
+-- they are the arrivals of the records that a reader answered, and the last alone arrives after `moment`
 pub record IsAhead (place : List ℕ → Placed) (v : View) (r : Reader) (bytes : List ℕ) (arrived : List Arrival) (moment : ℕ) : Type 0 where
   pub before : List Record
   pub last : Record
@@ -55,7 +55,7 @@ pub record IsAhead (place : List ℕ → Placed) (v : View) (r : Reader) (bytes 
   pub passed : greatest 0 before ≤ moment
   pub later : moment < greatest 0 (before ++ last ∷ [])
 
--- of all complete records they are the first arrivals, and these are the first events of the play
+-- they are the first arrivals of all complete records, and `g` are the first events of the play
 abbrev pub AreFirst : (place : List ℕ → Placed) → Policy → (rate seed : ℕ) → (told : List ℕ → Type 0) → List Arrival → List Happened → Type 0
 AreFirst place p rate seed told arrived g = (bytes : List ℕ) → told bytes → (all : List Record) (last : Step) → Reads bytes all last → IsLast last
     → (more : List Arrival) × (arrivals_of place all ≡ arrived ++ more) × AreDue p rate seed (comings (arrived ++ more)) g

@@ -9,7 +9,7 @@ pub record Grew (old new : View) (file : ℕ) (before after bytes : List ℕ) : 
   pub wrote : Wrote old new file written
   pub split : written ++ after ≡ before ++ bytes
 
--- a front of what had been gathered and of these bytes was written; nothing is said of the rest
+-- a front of what had been gathered and of these bytes was written; what became of the rest is left open
 pub record Stopped (old new : View) (file : ℕ) (before bytes : List ℕ) : Type 0 where
   pub written : List ℕ
   pub rest : List ℕ

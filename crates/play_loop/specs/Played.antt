@@ -62,7 +62,7 @@ pub record WasWritten (x : Setup) (stood : List Happened → Type 0) (v : View) 
   pub reads : IsCapture (departures_of x (arrivals_in x records) history) (departed x.dress (arrivals_in x records) history)
   pub stands : IsStanding stood history
 
--- and the statistics hold its statistics
+-- the same, and the statistics hold those of the play
 pub record HasPlayed (x : Setup) (stood : List Happened → Type 0) (v : View) (o : Opened) (records : List Record) (t : Totals) : Type 0 where
   pub history : List Happened
   pub play : IsFinished x.policy x.rate x.seed (arrivals_in x records) history t
@@ -86,13 +86,13 @@ abbrev pub start_of : Event → ℕ
 start_of (Offered a w v) = 0
 start_of (Sent s) = s.start
 
--- the bytes that were taken of these end at most 65,536 bytes past this place
+-- what was taken of the file's `bytes` ends at most 65,536 bytes past `place`
 pub record TookUpTo (v : View) (file place : ℕ) (bytes : List ℕ) : Type 0 where
   pub rest : List ℕ
   pub left : v.left file ≡ Some rest
   pub within : length bytes ≤ place + 65536 + length rest
 
--- if a complete record arrives later than this moment, the bytes taken end at most 65,536 bytes past the first such record. A record
+-- if a complete record arrives later than `moment`, the bytes taken end at most 65,536 bytes past the first such record. A record
 -- arrives at the greatest stamp up to its own
 abbrev pub Streams : View → (file : ℕ) → List ℕ → List Record → (moment : ℕ) → Type 0
 Streams v file bytes records moment = (before : List Record) (r : Record) (after : List Record) → records ≡ before ++ r ∷ after
@@ -115,11 +115,11 @@ pub record HasStopped (x : Setup) (v : View) (o : Opened) (records : List Record
   pub begun : IsBegun x.policy x.rate x.seed (comings (arrivals_in x records)) history
   pub texts : HoldFronts v o x (arrivals_in x records) history
 
--- this holds of what the arrivals had left, where the files tell it
+-- P holds of what the arrivals had left, where the files tell it
 abbrev pub OfArrivals : View → Opened → (List ℕ → Type 0) → Type 0
 OfArrivals old o P = IsTrue old.tells → (bytes : List ℕ) → old.left o.arrivals ≡ Some bytes → P bytes
 
--- that is a capture, and its play ended
+-- what the arrivals had left is a capture, and its play ended
 abbrev pub Writes : Setup → (List Happened → Type 0) → View → View → Opened → Tally → Type 0
 Writes x stood old new o t = OfArrivals old o (λ bytes. (records : List Record) × IsCapture bytes records × WasWritten x stood new o records t)
 
@@ -130,7 +130,7 @@ Plays x stood old new o t = OfArrivals old o (λ bytes. (records : List Record) 
 abbrev pub Fronts : Setup → View → View → Opened → Type 0
 Fronts x old new o = OfArrivals old o (λ bytes. (records : List Record) (last : Step) → Reads bytes records last → IsLast last → HasStopped x new o records)
 
--- its complete records were offered, and then this stands
+-- all complete records were offered, and the reading of the capture ends with `last`
 abbrev pub Offers : Setup → (List Happened → Type 0) → View → View → Opened → Step → Type 0
 Offers x stood old new o last = OfArrivals old o (λ bytes. (records : List Record) × Reads bytes records last × HasOffered x stood new o records)
 
@@ -150,7 +150,7 @@ Explains x stood old new o (play.Limit limit.Capture) = Offers x stood old new o
 Explains x stood old new o (play.Limit limit.Clock) = IsLate x stood old new o
 Explains x stood old new o play.NoMemory = Unit {0}
 
--- this is the whole play of these records, and the statistics hold a front of its statistics
+-- the statistics hold a front of those of the whole play of these records
 pub record HasBegunStats (x : Setup) (v : View) (o : Opened) (records : List Record) : Type 0 where
   pub history : List Happened
   pub play : IsPlay x.policy x.rate x.seed (comings (arrivals_in x records)) history

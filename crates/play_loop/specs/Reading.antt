@@ -27,7 +27,7 @@ pub record IsWithin (p : Arriving) : Type 0 where
   pub short : p.packet.len ≤ 262144
   pub fits : length p.packet.bytes ≤ p.packet.len
 
--- a reader answered these records, these are their arrivals, and this is the latest
+-- `arrived` are the arrivals of the records that a reader returned, and `latest` is the moment of the last
 pub record HasRead (place : List ℕ → Placed) (v : View) (r : Reader) (bytes : List ℕ) (arrived : List Arrival) (latest : ℕ) : Type 0 where
   pub records : List Record
   pub stands : StandsFor v r bytes records

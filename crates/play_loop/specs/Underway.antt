@@ -64,7 +64,7 @@ pub record IsHeld (place : List ℕ → Placed) (arrived : List Arrival) (g : Li
 abbrev pub SameOffers : (before after : List Happened) → Type 0
 SameOffers g k = (offered (bare k) ≡ offered (bare g)) × (latest (bare k) ≡ latest (bare g))
 
--- it was offered at this moment, or the next sending would end too late
+-- the next arrival was offered at `at`, or the next sending would end too late
 abbrev pub OfferedIs : Due → Policy → (rate seed : ℕ) → List Arrival → (at : ℕ) → (before after : List Happened) → Type 0
 OfferedIs Made p rate seed arrived at g k = EndsWithOffer k × (offered (bare k) ≡ offered (bare g) + 1) × (latest (bare k) ≡ at)
 OfferedIs Late p rate seed arrived at g k = IsCutOff p rate seed (comings arrived) k × SameOffers g k

@@ -28,7 +28,7 @@ pub struct Tally {
     pub counts: Vec<Counts>,
 }
 
-/// The counts of each class of these names, where nothing arrived. The only error is want of memory.
+/// The counts of each class of these names, where nothing arrived. The only error is lack of memory.
 pub fn no_counts(alloc: Global, names: &Names) -> Result<Vec<Counts>, NoMemory>
     ensures none { IfOk result (λ counts. counts.items ≡ tallied names.now [] []) }
     ensures names { AreNames names.now }

@@ -25,7 +25,7 @@ pub enum Ending {
     Late,
 }
 
-// What a fault of the capture means for the play.
+// How a fault of the capture becomes a fault of the play.
 pub fn capture_fault(fault: CaptureFault) -> PlayFault
     ensures { result ≡ capture_fault fault }
 {

@@ -36,7 +36,7 @@ use play_core::{Progress, Totals};
 use play_text::{Names, Rows, fates_header};
 use std::alloc::Global;
 
-// Writes the head of the departures, and then the head row of the fates.
+// Writes the header of the departures, and then the header row of the fates.
 fn write_heads<F: Files>(files: &mut F, departures: u32, fates: u32) -> Result<(), PlayFault>
     requires departures { IsSome ((F.view files.old).part departures) }
     requires fates { IsSome ((F.view files.old).part fates) }
@@ -57,17 +57,17 @@ fn write_heads<F: Files>(files: &mut F, departures: u32, fates: u32) -> Result<(
     }
 }
 
-/// Plays the capture that the arrivals have left through a discipline, of which nothing was asked yet, and a link of `rate` bits per
-/// second, 1,000 to 10^12. It writes both heads, and then reads the records one by one: after each it makes every sending that
+/// Plays the capture that the arrivals have left through a discipline, to which nothing was offered yet, and a link of `rate` bits
+/// per second, 1,000 to 10^12. It writes both headers, and then reads the records one by one: after each it makes every sending that
 /// starts before the record's packet arrives, and offers the packet; at the end of the capture it makes the rest, and writes the
 /// statistics. A record for each sending and a row for each fate are gathered as they are decided, up to 65,536 bytes for each file.
-/// `classify` tells the class and the precedence of each frame and the bytes with which it leaves, `names` has a name for each class
-/// that it tells, and of `words` none is drawn.
+/// `classify` gives the class and the precedence of each frame and the bytes with which it leaves, `names` has a name for each class
+/// that it gives, and of the random words of `words` none is drawn yet.
 ///
 /// What each error means, and when it comes, `PlayFault` says. After a fault or a limit of the capture, departures and fates hold
 /// exactly what was decided up to the offer of its last complete record, and after a sending that would end too late exactly what was
 /// decided before it; after any other error fronts of their texts. The statistics hold nothing then, but after a failed write of them,
-/// or want of memory, maybe a front. Holds one packet besides those that wait, a piece of 65,536 bytes of the capture, what is
+/// or lack of memory, maybe a front. Holds one packet besides those that wait, a piece of 65,536 bytes of the capture, what is
 /// gathered, and the counts of each class: nothing that grows with the capture. Costs a few steps and the bytes of each packet, and
 /// what the discipline and `classify` cost.
 pub fn play<D: Discipline, C: Classify, F: Files>(

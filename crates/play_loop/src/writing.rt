@@ -28,7 +28,7 @@ use std::alloc::Global;
 /// Rows are written once they have more bytes than this. A row has fewer than 256, so no more than 65,536 are gathered.
 const ROWS_BOUND: usize = 65_536 - 256;
 
-// Adds the record of a packet of `len` bytes that was sent: its head, and then these bytes of it.
+// Adds the record of a packet of `len` bytes that was sent: its header, and then these bytes of it.
 fn add_record<F: Files>(
     files: &mut F,
     file: u32,
@@ -94,7 +94,7 @@ fn add_row<F: Files>(
     }
 }
 
-// Gives the bytes of a packet that was sent those with which it leaves.
+// Rewrites the bytes of a sent packet as they leave: marked, or with the code point cleared, as `classify` has it.
 fn dress_packet<C: Classify>(classify: &C, departure: &mut Departure)
     ensures { departure.new ≡ record departure.old {
       packet = record departure.old.packet {

@@ -3,7 +3,7 @@
 use play_base::NoMemory;
 use std::alloc::Global;
 
-/// The head of a capture.
+/// The header of a capture.
 pub const HEAD: [u8; 24] = [
     0x4d, 0x3c, 0xb2, 0xa1, 2, 0, 4, 0, 0, 0, 0, 0, 0, 0, 0, 0, 0, 0, 4, 0, 1, 0, 0, 0,
 ];

@@ -26,7 +26,7 @@ fn last_record_cut_by_one_byte(rt: HostRuntime) -> Result<(), Fail> {
     Ok(())
 }
 
-// The head has 24 bytes, and each of two records 76.
+// The header has 24 bytes, and each of two records 76.
 #[test]
 fn cuts_to_each_length(rt: HostRuntime) -> Result<(), Fail> {
     for count in 0..=176 {
@@ -92,7 +92,8 @@ fn decided_before_the_cut(rt: HostRuntime) -> Result<(), Fail> {
     Ok(())
 }
 
-// Each read moves at most 4,096 bytes, so more than 25 would take what is past the second record and 65,536 bytes more.
+// Each read moves 4,096 bytes, so the second record and the 65,536 bytes behind it, past which the reader may not go,
+// take fewer than 25 reads; the 26th would fail.
 #[test]
 fn reading_stops_at_the_late_sending(rt: HostRuntime) -> Result<(), Fail> {
     let mut arrivals = packets(rt.alloc(), 1, 4_294_965_198, 848_000_000, 262_144)?;

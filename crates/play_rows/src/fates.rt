@@ -3,7 +3,7 @@
 use play_base::NoMemory;
 use std::alloc::Global;
 
-/// The head row.
+/// The header row.
 pub const HEAD_ROW: &str = "number,arrival,length,class,fate,start,end\n";
 
 /// Packets with consecutive numbers that leave one behind the other. Each needs the same time, and the rules take turns.

@@ -5,7 +5,7 @@ use crate::fates::{Burst, HEAD_ROW, leave};
 use crate::runs::played;
 use std::test::Fail;
 
-// A frame of 60 bytes that is capable of congestion notification, by the first word of its IPv4 head, 4502.
+// A frame of 60 bytes that is capable of congestion notification, by the first word of its IPv4 header, 4502.
 const CAPABLE: [u8; 60] = [
     2, 0, 0, 0, 0, 2, 2, 0, 0, 0, 0, 1, 8, 0, 0x45, 2, 0, 0x2e, 0, 0, 0, 0, 0x40, 0x11, 0xb1, 0xe6,
     10, 0, 0, 1, 10, 0, 0, 2, 4, 3, 0x13, 0x89, 0, 0, 0, 0, 0, 0, 0, 0, 0, 0, 0, 0, 0, 0, 0, 0, 0,
@@ -44,9 +44,9 @@ fn sent(count: u32) -> Burst<'static> {
 }
 
 // All arrive before the first leaves, so n - 1 wait before the n-th. By A + 4096(n - 1) - floor(A/512) the average passes 5 packets,
-// which is 10,485,760, with the 74th. From there on each draws a word and is kept, since word * d is 2^32 times the excess or more;
-// nearest are the 97th, with the word 486af299, d = 38,181,890 and the excess 7,457,970, and the 98th. With the 99th the average is
-// 18,671,651, the excess 8,185,891, the count 25, and d = 209,715,200 - 25 * 8,185,891 = 5,067,925: any word is too small.
+// which is 10,485,760, with the 74th. From there on each draws a random word and is kept, since word * d is 2^32 times the excess or
+// more; nearest are the 97th, with the word 486af299, d = 38,181,890 and the excess 7,457,970, and the 98th. With the 99th the
+// average is 18,671,651, the excess 8,185,891, the count 25, and d = 209,715,200 - 25 * 8,185,891 = 5,067,925: any word is too small.
 #[test]
 fn early_drop_becomes_a_mark(rt: HostRuntime) -> Result<(), Fail> {
     let alloc = rt.alloc();

@@ -1,4 +1,4 @@
--- The statistics of a play as rows of comma-separated values: a head row, a row for each queue class, and the row of the sums.
+-- The statistics of a play as rows of comma-separated values: a header row, a row for each queue class, and the row of the sums.
 use Rattle.std.specs.Prelude.{◌≤◌, ◌^◌, ℕ, List, [], ◌∷◌, ◌++◌, codes, map}
 use Rattle.std.specs.Fmt.{decimal}
 use Rattle.csv.specs.Writing.{row_text, default_writer}

@@ -43,7 +43,7 @@ impl Names {
     }
 
     /// Puts a queue class at the end, with the name that altq.conf(5) gives it: 1 to 64 letters, digits and `_`, `-`, `.`, `:`, `/`.
-    /// The only error is want of memory, and then nothing has changed. Costs the length of the name, and now and then a move of
+    /// The only error is lack of memory, and then nothing has changed. Costs the length of the name, and now and then a move of
     /// all entries.
     pub fn add(&mut self, class: u32, name: &str) -> Result<(), NoMemory>
         requires last { All (λ pair. pair.0 < class) self.old }

@@ -94,7 +94,7 @@ impl Rows {
 
     /// Adds the row of a packet's fate: its number from 1, its arrival in nanoseconds, its length in bytes, the name of its class, how
     /// it was sent or why it was dropped, and for a sending its start and end in nanoseconds. The class is one of `names`. The only
-    /// error is want of memory, and then no row is left. Costs the length of the row, and a search for the class.
+    /// error is lack of memory, and then no row is left. Costs the length of the row, and a search for the class.
     pub fn add(
         &mut self,
         names: &Names,
@@ -130,7 +130,7 @@ impl Rows {
         }
     }
 
-    // Adds a row of these fields. They lie in one array, so they have one lifetime.
+    // Adds a row of these fields. All are in one array, which `csv` writes, so they have one lifetime.
     fn put<'a>(
         &mut self,
         number: &'a str,
@@ -185,7 +185,7 @@ pub(crate) fn write_row(writer: &mut Writer<Vec<u8>>, fields: &[&[u8]]) -> bool
     }
 }
 
-/// The row of a packet's fate by itself, as `Rows::add` writes it. The only error is want of memory.
+/// The row of a packet's fate by itself, as `Rows::add` writes it. The only error is lack of memory.
 pub fn fate_row(
     alloc: Global,
     names: &Names,
@@ -207,7 +207,7 @@ pub fn fate_row(
     }
 }
 
-/// The head row of the fates.
+/// The header row of the fates.
 pub fn fates_header() -> &'static [u8]
     ensures { result.now ≡ fates_header }
 {

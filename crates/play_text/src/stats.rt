@@ -12,7 +12,7 @@ use itoa::Buffer;
 use play_base::NoMemory;
 use std::alloc::Global;
 
-// The head row.
+// The header row.
 fn stats_header() -> &'static [u8]
     ensures { result.now ≡ stats_header }
 {
@@ -49,7 +49,7 @@ fn sums(counts: &[Counts]) -> Counts
     sum
 }
 
-// Writes a row of nine fields; false where memory was wanting. They lie in one array, so they have one lifetime.
+// Writes a row of nine fields; false where memory ran out. All are in one array, which `csv` writes, so they have one lifetime.
 fn write_fields<'a>(
     writer: &mut Writer<Vec<u8>>,
     name: &'a str,
@@ -108,8 +108,8 @@ fn write_counts(writer: &mut Writer<Vec<u8>>, name: &str, counts: &Counts) -> bo
     )
 }
 
-/// The statistics of a play: a head row, a row for each class of `names` with its counts, at the same place, and a row `*` with their
-/// sums. There are as many counts as names, and none of their numbers is above 2^41. The only error is want of memory. Costs the
+/// The statistics of a play: a header row, a row for each class of `names` with its counts, at the same place, and a row `*` with their
+/// sums. There are as many counts as names, and none of their numbers is above 2^41. The only error is lack of memory. Costs the
 /// length of the text.
 pub fn stats_text(alloc: Global, names: &Names, counts: &[Counts]) -> Result<Vec<u8>, NoMemory>
     requires each { length counts.now ≡ length names.now }

@@ -7,7 +7,7 @@ use Rattle.play_words.specs.declared.words.Unread.TheVariants.{Refused, NoMemory
 use Rattle.play_words.specs.declared.words.WordsFault.TheVariants.{Options}
 use Rattle.play_words.specs.Kinds.{words_kind}
 
--- a refusal has the kind of the first test that the words fail; want of memory says nothing of them
+-- a refusal has the kind of the first test that the words fail; where memory ran out nothing is claimed of them
 abbrev pub Explains : Option ℕ → Unread → Type 0
 Explains kind (Refused fault) = kind ≡ Some (words_kind fault)
 Explains kind NoMemory = Unit {0}

@@ -14,7 +14,7 @@ use clap::error::ErrorKind;
 use line_text::{Word, whole};
 use std::alloc::{AllocError, Global};
 
-/// Why words are refused, in the order in which it is looked at.
+/// Why the words are refused, in the order of the tests.
 #[derive(Clone, Copy, Debug, PartialEq, Eq)]
 pub enum WordsFault {
     /// There is no first word, or it is no command.
@@ -46,7 +46,7 @@ impl WordsFault {
 pub enum Unread {
     /// They are refused.
     Refused(WordsFault),
-    /// There was no memory to read them.
+    /// Memory ran out as they were read.
     NoMemory,
 }
 

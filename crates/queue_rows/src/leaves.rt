@@ -1,4 +1,4 @@
-//! Literal words, packets, lists and offers of `leaf_queue`.
+//! Literal random words, packets, lists and offers of `leaf_queue`.
 use leaf_queue::{Entry, Lists, Pool, QueueRule, Reason, Tail, Verdict, Waiting, Words};
 use play_base::{Bytes, Packet, Ticket};
 use std::test::Fail;

@@ -48,7 +48,7 @@ fn red_draws_words(rt: HostRuntime) {
     assert_eq!(rt; (red.average, red.count), (20_971_520, 0));
     assert_eq!(rt; red.arrive(10, 0, &mut words), Verdict::Keep);
     assert_eq!(rt; (red.average, red.count), (20_971_520, 1));
-    // The first two words of the seed, a15c02b7 and 7b47f409, are drawn: this is the third.
+    // The first two random words of the seed, a15c02b7 and 7b47f409, are drawn: this is the third.
     assert_eq!(rt; words.drawn(), 2);
     assert_eq!(rt; words.next(), 0xba1d_3330);
 

@@ -86,7 +86,7 @@ fn any_queue_is_each_rule(rt: HostRuntime) {
     }
 }
 
-// RED at an average of ten packets and a count of 19, where the next packet is dropped early without a word, or marked.
+// RED at an average of ten packets and a count of 19, where the next packet is dropped early without a random word, or marked.
 fn answers_at_ten(rt: &impl Abort, prec: u8, expected: Verdict)
     requires { prec ≤ 2 }
 {

@@ -4,7 +4,7 @@ ghost use Rattle.hfsc_model.specs.RealTime.{goes_first, is_earlier};
 ghost use Rattle.ranking.specs.Order.{is_ranked, key_of};
 ghost use Rattle.ranking.specs.Search.{IsFound};
 
-/// Whether the first moment is before the second, where `None` is never.
+/// Whether the first moment is before the second, where `None` means never.
 fn is_earlier(a: Option<u128>, b: Option<u128>) -> bool
     ensures { result ≡ is_earlier a b }
 {

@@ -24,7 +24,7 @@ average_of step [] = 0
 average_of step (Asked now waiting prec w v ∷ q) = moved step (idle_of q) now waiting.all (average_of step q)
 average_of step (Gone now prec waiting ∷ q) = average_of step q
 
--- what follows where so many wait, from the average and the count before, and by the next of these words
+-- what follows for a packet, by what waits, the average and the count before it, and the next random word
 abbrev pub ruling_at : (step limit idle average : ℕ) → (count : ℤ) → (now : ℕ) → Waiting → DrawnWords → Ruled
 ruling_at step limit idle a c now waiting w =
     ruled thresholds (waiting.all == limit) (moved step idle now waiting.all a) c (word w.seed w.drawn)

@@ -6,7 +6,7 @@ use Rattle.altq_model.specs.declared.Verdict.TheVariants.{Keep, Drop}
 use Rattle.red_average.specs.declared.ruling.Thresholds.{Thresholds}
 use Rattle.red_average.specs.declared.ruling.Ruling.{Ruling}
 
--- a ruling, and how many words were drawn for it
+-- a ruling, and how many random words were drawn for it
 pub record Ruled : Type 0 where
   pub ruling : Ruling
   pub took : ℕ
@@ -48,7 +48,7 @@ ruled t full a c word =
     else between t a c word
 
 -- Where a packet is kept at an average of x or more over the lower threshold, it is counted, and the count times x is below the
--- spacing. So of such packets in a row, spacing / x rounded up and one more, one is dropped, or, where drops become marks, dropped or
+-- spacing. So of ceil(spacing / x) + 1 such packets in a row at least one is dropped, or, where drops become marks, dropped or
 -- marked.
 abbrev pub KeepsCount : Thresholds → (average : ℕ) → (count : ℤ) → Ruling → Type 0
 KeepsCount t a c r = (x : ℕ) → 1 ≤ x → t.low + x ≤ a → r.verdict ≡ Keep

@@ -24,10 +24,10 @@ pub fn idle_step(rate: u64) -> u64
     time_of(TYPICAL_PACKET, rate)
 }
 
-/// The most steps that the greatest average, 2^54, takes before it is below 512, where it is its own next one.
+/// After 16,250 idle steps even the greatest average, 2^54, is below 512, where a step changes nothing.
 const MOST_IDLE_STEPS: u64 = 16_250;
 
-// The average after `steps` steps with nothing waiting, of which at most 16,250 are taken. They end before that where the average moves no more.
+// The average after `steps` steps with nothing waiting. At most 16,250 are taken, and fewer where the average moves no more.
 fn idled(average: u64, steps: u64) -> u64
     requires { average ≤ 2 ^ 54 }
     ensures value { result ≡ idled steps average }

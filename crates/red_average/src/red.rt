@@ -55,10 +55,10 @@ impl Red {
         }
     }
 
-    /// What is said of a packet that comes at `now`, in nanoseconds, where `q` wait. The average moves first, whatever is said
-    /// then. The packet is dropped as `Full` exactly where `q` is the limit, else kept below the lower threshold, else dropped as
-    /// `Forced` from the upper one on, and between them dropped as `Early` by the count and a word, which is drawn only there.
-    /// Takes no memory; its time does not grow with the idle time, as `moved` says.
+    /// The verdict on a packet that comes at `now`, in nanoseconds, where `q` wait. The average moves first, whatever the verdict
+    /// is. The packet is dropped as `Full` exactly where `q` is the limit, else kept below the lower threshold, else dropped as
+    /// `Forced` from the upper one on, and between them dropped as `Early` by the count and a random word, which is drawn only
+    /// there. Takes no memory; its time does not grow with the idle time, as `moved` says.
     pub fn arrive(&mut self, q: u32, now: u64, words: &mut Words) -> Verdict
         requires { q ≤ self.old.limit }
         ensures average { self.new.average ≡ moved self.old.step self.old.idle now q self.old.average }

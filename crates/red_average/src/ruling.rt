@@ -13,7 +13,7 @@ pub struct Thresholds {
     pub high: u64,
 }
 
-/// What is said of a packet, and the count of kept packets after it: -1 where the average is below the lower threshold.
+/// The verdict on a packet, and the count of kept packets after it: -1 where the average is below the lower threshold.
 #[derive(Clone, Copy, Debug, PartialEq, Eq)]
 pub struct Ruling {
     pub verdict: Verdict,
@@ -61,9 +61,9 @@ fn between(thresholds: Thresholds, average: u64, count: i64, words: &mut Words) 
     }
 }
 
-/// What is said of a packet, and the count after it: `full` says that its queue has no room, `average` is the average that it
-/// brought about, and `count`, -1 to 2^62, the count before it. A word is drawn only where the average is between the thresholds
-/// and the count has not reached the spacing of drops. Constant time.
+/// The verdict on a packet, and the count after it: `full` says that its queue has no room, `average` is the average that it
+/// brought about, and `count`, -1 to 2^62, the count before it. A random word is drawn only where the average is between the
+/// thresholds and the count has not used up the spacing of drops. Constant time.
 pub fn ruled(
     thresholds: Thresholds,
     full: bool,

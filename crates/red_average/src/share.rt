@@ -22,8 +22,8 @@ pub fn risen(count: i64) -> u64
     }
 }
 
-// What the spacing of drops, ten times the width between the thresholds, still leaves after so many kept packets, each of which
-// took as much as the average is over the lower threshold. 0 is none.
+// How much of the spacing of drops is left: 10 · `width` - `count` · `over`, where `width` is that between the thresholds,
+// `count` is of kept packets, and `over` is how far the average is over the lower threshold. 0 where it is used up.
 pub fn room(width: u64, count: u64, over: u64) -> u128
     requires { count ≤ 2 ^ 62 }
     ensures value { result ≡ spacing width - count * over }
@@ -33,7 +33,7 @@ pub fn room(width: u64, count: u64, over: u64) -> u128
     spacing.saturating_sub(u128::from(count) * u128::from(over))
 }
 
-// Whether a word, as a fraction of 2^32, is below the chance `over` / `room`.
+// Whether a random word, as a fraction of 2^32, is below the chance `over` / `room`.
 pub fn falls(word: u32, room: u128, over: u64) -> bool
     requires { room ≤ 2 ^ 68 }
     ensures { result ≡ nat_lt (word * room) (2 ^ 32 * over) }

@@ -29,8 +29,8 @@ average_of step j [] = 0
 average_of step j (Asked now waiting prec w v ∷ q) = average_after step j prec now waiting (idle_of j q) (average_of step j q)
 average_of step j (Gone now prec waiting ∷ q) = average_of step j q
 
--- what follows for a packet where so many wait, from the average and the count of its precedence, and by the next of these words: the
--- queue is full by all that wait
+-- what follows for a packet, by what waits, the average and the count of its precedence, and the next random word: the queue is full
+-- by all that wait
 abbrev pub ruling_at : (limit prec average : ℕ) → (count : ℤ) → Waiting → DrawnWords → Ruled
 ruling_at limit prec a c waiting w = ruled (thresholds_of prec) (waiting.all == limit) a c (word w.seed w.drawn)
 

@@ -49,7 +49,7 @@ impl Rio {
         }
     }
 
-    // The average at a place after a packet of this precedence came.
+    // The average of precedence `place` after a packet of precedence `prec` came.
     fn average_after(&self, place: u8, prec: u8, now: u64, waiting: Waiting) -> u64
         requires { place ≤ 2 }
         ensures value { result ≡ average_after self.now.step place prec now waiting (slice_index self.now.idle place)
@@ -64,7 +64,7 @@ impl Rio {
         moved(average, self.step, idle, now, seen(place, waiting))
     }
 
-    // All three of them.
+    // The three averages after a packet of precedence `prec` came.
     fn averages_after(&self, prec: u8, now: u64, waiting: Waiting) -> [u64; 3]
         ensures value { (j : ℕ) → j ≤ 2 → slice_index result j
             ≡ average_after self.now.step j prec now waiting (slice_index self.now.idle j) (slice_index self.now.average j) }
@@ -77,7 +77,7 @@ impl Rio {
         ]
     }
 
-    // The beginning of the idle time at a place after a packet of this precedence left.
+    // The beginning of the idle time of precedence `place` after a packet of precedence `prec` left.
     fn idle_after(&self, place: u8, prec: u8, now: u64, waiting: Waiting) -> u64
         requires { place ≤ 2 }
         ensures { result ≡ idle_after place prec now waiting (slice_index self.now.idle place) }
@@ -88,10 +88,10 @@ impl Rio {
         self.idle[place as usize]
     }
 
-    /// What is said of a packet of precedence `prec` that comes at `now`, in nanoseconds, where so many wait. The averages of its
-    /// precedence and of the worse ones move first, whatever is said then. The packet is dropped as `Full` exactly where `waiting.all`
-    /// is the limit; else as RED does by the average, the count and the thresholds of its own precedence. Takes no memory; its time
-    /// does not grow with the idle time, as `red_average::moved` says.
+    /// The verdict on a packet of precedence `prec` that comes at `now`, in nanoseconds, where `waiting` says how many wait. The
+    /// averages of its precedence and of the worse ones move first, whatever the verdict is. The packet is dropped as `Full` exactly
+    /// where `waiting.all` is the limit; else as RED does by the average, the count and the thresholds of its own precedence. Takes
+    /// no memory; its time does not grow with the idle time, as `red_average::moved` says.
     pub fn arrive(&mut self, waiting: Waiting, prec: u8, now: u64, words: &mut Words) -> Verdict
         requires room { waiting.all ≤ self.old.limit }
         requires prec { prec ≤ 2 }

@@ -1,4 +1,4 @@
-// Examples that are computed from the definitions.
+// Worked examples, computed by the checker from the definitions.
 ghost use Rattle.std.specs.Prelude.{◌≡◌, ◌∷◌, [], map, false, pos, negsuc};
 ghost use Rattle.red_average.specs.Ruling.{dropped, kept, ruled};
 ghost use Rattle.rio_precedence.specs.Any.{ecn_answer, ecn_verdict};

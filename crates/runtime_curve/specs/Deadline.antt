@@ -1,12 +1,12 @@
--- Deadlines and eligibility, computed opening by opening. The contracts say of what they are the first moment and the
--- truth; these are the values.
+-- Deadlines and eligibility, computed opening by opening. The contracts state what they mean; these functions compute
+-- them.
 use Rattle.std.specs.Prelude.{◌+◌, ◌-◌, ℕ, max, nat_le, Bool, true, false, List, [], ◌∷◌, Option, None, Some, if◌then◌else◌}
 use Rattle.service_curve.specs.declared.Curve.{Curve}
 use Rattle.service_curve.specs.Curve.{first}
 use Rattle.runtime_curve.specs.declared.Opening.{Opening}
 use Rattle.runtime_curve.specs.Opening.{line, eligible_curve, newest}
 
--- the later of two moments, where `None` is never
+-- the later of two moments; `None` means never, and is later than every moment
 abbrev pub later_of : Option ℕ → Option ℕ → Option ℕ
 later_of None b = None
 later_of (Some x) None = None

@@ -36,7 +36,7 @@ pub record StandFor (s : Curve) (h : Held) (os : List Opening) : Type 0 where
   pub last : newest os ≡ Some h.last
   pub up_to : AreUpTo h.last os
 
--- where nothing is held there is no opening
+-- if no line is held there was no opening
 abbrev pub Stand : Curve → Option Held → List Opening → Type 0
 Stand s None os = os ≡ []
 Stand s (Some h) os = StandFor s h os

@@ -1,4 +1,4 @@
-//! Service curves over the openings of a class: when a class is to have sent so much, and whether it may send now.
+//! Service curves over the openings of a class: when a class is to have sent an amount, and whether it may send now.
 //!
 //! A class opens when a packet comes to it while nothing of it waits. An opening is the moment of that, and the count of
 //! what the class was sent before it. From each opening on the class is allowed its count and what its curve gives; of
@@ -73,9 +73,9 @@ impl Running {
         self.held = Some(with_opening(&self.curve, self.held, Opening { at, count }));
     }
 
-    /// The first moment, in nanoseconds, up to which the class is allowed `count` units: the least over all openings of
-    /// what they allow reaches it then. `None` comes exactly where there is no such moment. There is an opening; `count`
-    /// is greater than the last one's, and less than 2^100.
+    /// The deadline: the first moment, in nanoseconds, at which the deadline curve, the least over all openings, reaches
+    /// `count` units. `None` comes exactly where there is no such moment. There is an opening; `count` is greater than the
+    /// last one's, and less than 2^100.
     pub fn deadline(&self, count: u128) -> Option<u128>
         requires amount { count < 2 ^ 100 }
         requires opened { IsSomeAnd (last_of self.now) (λ last. last.count < count) }
@@ -90,9 +90,9 @@ impl Running {
         }
     }
 
-    /// Whether a class that was sent `count` units may be sent more at `now`, a moment in nanoseconds: whether the least
-    /// over all openings of what makes it eligible reaches the count. There is an opening, and none is later than `now`;
-    /// `now` is less than 2^80, and `count` less than 2^101.
+    /// Whether a class that was sent `count` units may be sent more at `now`, a moment in nanoseconds: whether the eligible
+    /// curve, the least over all openings, has reached the count. There is an opening, and none is later than `now`; `now`
+    /// is less than 2^80, and `count` less than 2^101.
     pub fn eligible(&self, now: u128, count: u128) -> bool
         requires now { now < 2 ^ 80 }
         requires amount { count < 2 ^ 101 }

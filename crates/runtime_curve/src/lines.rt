@@ -7,7 +7,7 @@ ghost use Rattle.runtime_curve.specs.Deadline.{later_of, reached_at, deadline, r
 use crate::Opening;
 use service_curve::Curve;
 
-/// The later of two moments, where `None` is never.
+/// The later of two moments, where `None` means never.
 pub fn later_of(a: Option<u128>, b: Option<u128>) -> Option<u128>
     ensures { result ≡ later_of a b }
 {

@@ -1,4 +1,4 @@
-//! Service curves of two pieces: how much they give in a time, and the least time in which they give so much.
+//! Service curves of two pieces: how much they give in a time, and the least time in which they give an amount.
 //!
 //! Times are in nanoseconds and slopes in bits per second. Amounts are in units, of which a byte has 8,000,000,000: so a
 //! slope of m bits per second gives exactly m·t units in t nanoseconds, and every amount is a whole number.
@@ -14,7 +14,7 @@ ghost use Rattle.service_curve.specs.Moment.{IsFirst};
 /// A service curve of two pieces: the slope `m1` for a time of `d`, and from there on the slope `m2`.
 ///
 /// Slopes are in bits per second, up to 10^12; `d` is in nanoseconds, up to 10^15. A curve with `d` = 0 is the line of slope
-/// `m2`. It gives 0 in no time.
+/// `m2`. In a time of 0 it gives 0.
 #[derive(Clone, Copy, Debug, PartialEq, Eq)]
 pub struct Curve {
     pub m1: u64,
