@@ -32,10 +32,6 @@ pub opened_here : (slots : List Slot) (class at : ℕ) (x : Slot) → class < le
     → ForSome (opening_in (slice_get (slice_set slots class x) class)) (λ last. last.at ≡ at)
 opened_here slots class at x h f = λ last g. f last (sym (ap opening_in (here slots class x h)) ∙ g)
 
--- a slot that was read at its place
-pub opening_there : (e : Eligible) (class : ℕ) (x : Slot) → class < length e.slots.items → x ≡ get_or e.slots.items class x → opening_at e class ≡ last_opening x
-opening_there e class x h is = ap opening_in (slice_get-get_or e.slots.items class x h ∙ ap (λ (y : Slot). Some y) (sym is))
-
 pub same_but : (old new : Eligible) (class : ℕ) (x : Slot) → new.slots.items ≡ slice_set old.slots.items class x → IsSameBut class old new
 same_but old new class x e = record {
   classes = ap (λ (xs : List Slot). length xs) e ∙ length-set old.slots.items class x;

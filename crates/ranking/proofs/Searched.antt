@@ -1,5 +1,5 @@
 -- What a look at the middle adds to a search.
-use Rattle.std.proofs.Common.{◌≡◌, ◌<◌, ◌≤◌, ◌+◌, ◌⊎◌, inl, inr, ℕ, Bool, true, false, List, [], ◌∷◌, None, Some, length, refl, sym, ap, arith, get_or, ◌∙◌}
+use Rattle.std.proofs.Common.{◌≡◌, ◌<◌, ◌≤◌, ◌+◌, ◌⊎◌, inl, inr, ℕ, Bool, true, false, List, [], ◌∷◌, Some, length, refl, sym, ap, arith, get_or, ◌∙◌}
 use Rattle.std.specs.Prelude.{Option, slice_get}
 use Rattle.std.proofs.lemmas.Bool.{cases_lt}
 use Rattle.ranking.specs.Order.{is_before, is_ranked}
@@ -50,18 +50,8 @@ found_all keys xs c = record {
 }
 
 -- after a look at the front
-pub front_above : (keys : List (Option ℕ)) (xs : List ℕ) (c x : ℕ) → is_ranked keys xs ≡ true → slice_get xs 0 ≡ Some x → is_before keys x c ≡ true → IsFound keys xs c 1 (length xs)
-front_above keys [] c x r e b = absurd cc
-front_above keys (y ∷ ys) c x r e b =
-    let same : y ≡ x = cc in
-    found_above keys (y ∷ ys) c 0 0 (length (y ∷ ys)) (ranked_true keys (y ∷ ys) r) (found_all keys (y ∷ ys) c) (omega arith) (ap (λ n. is_before keys n c) same ∙ b)
-
 pub front_below : (keys : List (Option ℕ)) (xs : List ℕ) (c x : ℕ) → is_ranked keys xs ≡ true → slice_get xs 0 ≡ Some x → is_before keys x c ≡ false → IsFound keys xs c 0 0
 front_below keys [] c x r e b = absurd cc
 front_below keys (y ∷ ys) c x r e b =
     let same : y ≡ x = cc in
     found_below keys (y ∷ ys) c 0 0 (length (y ∷ ys)) (ranked_true keys (y ∷ ys) r) (found_all keys (y ∷ ys) c) (omega arith) (omega arith) (ap (λ n. is_before keys n c) same ∙ b)
-
-pub front_none : (keys : List (Option ℕ)) (xs : List ℕ) (c : ℕ) → slice_get xs 0 ≡ None → IsFound keys xs c 0 0
-front_none keys [] c e = found_all keys [] c
-front_none keys (y ∷ ys) c e = absurd cc
