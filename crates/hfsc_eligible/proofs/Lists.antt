@@ -7,7 +7,7 @@ use Rattle.std.proofs.lemmas.List.{length-set, get_or-set_same, get_or-set_other
 use Rattle.service_curve.specs.declared.Curve.{Curve}
 use Rattle.ranking.specs.declared.Ranking.{Ranking}
 use Rattle.ranking.specs.Order.{is_in, key_of, IsOrderOf}
-use Rattle.ranking.specs.Ranking.{keys_of, order_of}
+use Rattle.ranking.specs.Ranking.{IsReplaced, keys_of, order_of}
 use Rattle.ranking.proofs.Orders.{is_order, outside}
 use Rattle.hfsc_model.specs.Event.{HfscHistory}
 use Rattle.hfsc_model.specs.Event.{Kept}
@@ -21,10 +21,10 @@ use Rattle.runtime_curve.specs.declared.Opening.{Opening}
 use Rattle.ranking.proofs.Ranks.{same_test}
 use Rattle.std.proofs.lemmas.Option.{slice_get-get_or}
 use Rattle.hfsc_eligible.specs.Slot.{head_of, SlotStands, slot_has_head}
-use Rattle.hfsc_eligible.specs.Heads.{Holds, IsReplaced}
+use Rattle.hfsc_eligible.specs.Heads.{Holds}
 use Rattle.hfsc_eligible.proofs.Slots.{slot_head_is}
 
-holds_changed : (f : Slot → Option ℕ) (slots : List Slot) (class : ℕ) (x : Slot) (old new : Ranking) → Holds f slots old → class < length slots
+pub holds_changed : (f : Slot → Option ℕ) (slots : List Slot) (class : ℕ) (x : Slot) (old new : Ranking) → Holds f slots old → class < length slots
     → IsReplaced class (slot_has_head x) (f x) old new → Holds f (slice_set slots class x) new
 holds_changed f slots class x old new holds h r = record {
   classes = r.count ∙ holds.classes ∙ sym (length-set slots class x);
@@ -46,17 +46,19 @@ holds_changed f slots class x old new holds h r = record {
     keys c d true e k g =
         let same : class ≡ c = grind (arith, nat_tests, e) in
         let there : get_or (slice_set slots class x) c d ≡ x = ap (λ n. get_or (slice_set slots class x) n d) (sym same) ∙ get_or-set_same slots class x d h in
-        ap (λ n. key_of (keys_of new) n) (sym same) ∙ r.moment (sym (ap slot_has_head there) ∙ g) ∙ sym (ap f there)
+        ap (λ n. key_of (keys_of new) n) (sym same) ∙ r.keyed (sym (ap slot_has_head there) ∙ g) ∙ sym (ap f there)
     keys c d false e k g =
         let other : c ≡ class → ⊥ = λ s. grind (arith, nat_tests, e, s) in
         let there : get_or (slice_set slots class x) c d ≡ get_or slots c d = get_or-set_other slots class c x d other in
         r.others c other ∙ holds.keys c d k (sym (ap slot_has_head there) ∙ g) ∙ sym (ap f there)
 
-pub holds_replaced : (f : Slot → Option ℕ) (slots : List Slot) (class : ℕ) (x : Slot) (is : Bool) (k : Option ℕ) (old new : Ranking) → Holds f slots old → class < length slots
-    → is ≡ slot_has_head x → k ≡ f x → IsReplaced class is k old new → Holds f (slice_set slots class x) new
-holds_replaced f slots class x is k old new holds h e g r =
-    holds_changed f slots class x old new holds h
-    (subst (λ (b : Bool). IsReplaced class b (f x) old new) e (subst (λ (o : Option ℕ). IsReplaced class is o old new) g r))
+-- a class that was read stands in a list where it has a head, and has a place for its key
+pub was_there : (f : Slot → Option ℕ) (slots : List Slot) (class : ℕ) (x : Slot) (was : Bool) (r : Ranking) → Holds f slots r → class < length slots
+    → x ≡ get_or slots class x → was ≡ slot_has_head x → is_in class (order_of r) ≡ was
+was_there f slots class x was r holds h e w = holds.heads class x h ∙ sym (ap slot_has_head e) ∙ sym w
+
+pub has_place : (f : Slot → Option ℕ) (slots : List Slot) (class : ℕ) (r : Ranking) → Holds f slots r → class < length slots → class < length (keys_of r)
+has_place f slots class r holds h = let same = holds.classes in omega arith
 
 -- the slots stand for the classes
 pub record AllStand (slots : List Slot) (curves : List (Option Curve)) (h : HfscHistory) : Type 0 where

@@ -25,25 +25,12 @@ other xs i c x n = go (cases_lt c (length xs))
         ∙ ap (λ (y : Slot). Some y) (get_or-set_other xs i c x x n) ∙ sym (slice_get-get_or xs c x h)
     go (inr h) = slice_get_past (slice_set xs i x) c (let same = length-set xs i x in omega arith) ∙ sym (slice_get_past xs c h)
 
-pub slot_here : (old new : Eligible) (class : ℕ) (x : Slot) → class < length old.slots.items → new.slots.items ≡ slice_set old.slots.items class x
-    → slice_get new.slots.items class ≡ Some x
-slot_here old new class x h e = ap (λ (xs : List Slot). slice_get xs class) e ∙ here old.slots.items class x h
+pub head_here : (slots : List Slot) (class : ℕ) (x : Slot) → class < length slots → head_in (slice_get (slice_set slots class x) class) ≡ head_of x
+head_here slots class x h = ap head_in (here slots class x h)
 
-pub head_here : (old new : Eligible) (class : ℕ) (x : Slot) → class < length old.slots.items → new.slots.items ≡ slice_set old.slots.items class x
-    → head_at new class ≡ head_of x
-head_here old new class x h e = ap head_in (slot_here old new class x h e)
-
-pub opening_here : (old new : Eligible) (class : ℕ) (x : Slot) → class < length old.slots.items → new.slots.items ≡ slice_set old.slots.items class x
-    → opening_at new class ≡ last_opening x
-opening_here old new class x h e = ap opening_in (slot_here old new class x h e)
-
-pub opened_here : (old new : Eligible) (class at : ℕ) (x : Slot) → class < length old.slots.items → new.slots.items ≡ slice_set old.slots.items class x
-    → ForSome (last_opening x) (λ last. last.at ≡ at) → ForSome (opening_at new class) (λ last. last.at ≡ at)
-opened_here old new class at x h e f = λ last g. f last (sym (opening_here old new class x h e) ∙ g)
-
--- a slot that was read at its place
-pub opening_there : (e : Eligible) (class : ℕ) (x : Slot) → class < length e.slots.items → x ≡ get_or e.slots.items class x → opening_at e class ≡ last_opening x
-opening_there e class x h is = ap opening_in (slice_get-get_or e.slots.items class x h ∙ ap (λ (y : Slot). Some y) (sym is))
+pub opened_here : (slots : List Slot) (class at : ℕ) (x : Slot) → class < length slots → ForSome (last_opening x) (λ last. last.at ≡ at)
+    → ForSome (opening_in (slice_get (slice_set slots class x) class)) (λ last. last.at ≡ at)
+opened_here slots class at x h f = λ last g. f last (sym (ap opening_in (here slots class x h)) ∙ g)
 
 pub same_but : (old new : Eligible) (class : ℕ) (x : Slot) → new.slots.items ≡ slice_set old.slots.items class x → IsSameBut class old new
 same_but old new class x e = record {

@@ -1,5 +1,5 @@
 -- The lists of the heads.
-use Rattle.std.specs.Prelude.{◌≡◌, ◌<◌, ◌==◌, ℕ, Bool, true, false, List, length, slice_index_or, Option, None, if◌then◌else◌}
+use Rattle.std.specs.Prelude.{◌≡◌, ◌<◌, ℕ, true, false, List, length, slice_index_or, Option, None}
 use Rattle.service_curve.specs.declared.Curve.{Curve}
 use Rattle.ranking.specs.declared.Ranking.{Ranking}
 use Rattle.ranking.specs.Order.{is_in, key_of}
@@ -15,13 +15,6 @@ pub record Holds (key : Slot → Option ℕ) (slots : List Slot) (ranking : Rank
   pub heads : (c : ℕ) (d : Slot) → c < length slots → is_in c (order_of ranking) ≡ slot_has_head (slice_index_or slots c d)
   pub keys : (c : ℕ) (d : Slot) → c < length slots → slot_has_head (slice_index_or slots c d) ≡ true
       → key_of (keys_of ranking) c ≡ key (slice_index_or slots c d)
-
--- after one class was placed anew: it is there with its moment, or is not, as `is` says; the others are as they were
-pub record IsReplaced (class : ℕ) (is : Bool) (key : Option ℕ) (old new : Ranking) : Type 0 where
-  pub count : length (keys_of new) ≡ length (keys_of old)
-  pub classes : (c : ℕ) → is_in c (order_of new) ≡ (if class == c then is else is_in c (order_of old))
-  pub moment : is ≡ true → key_of (keys_of new) class ≡ key
-  pub others : (c : ℕ) → (c ≡ class → ⊥) → key_of (keys_of new) c ≡ key_of (keys_of old) c
 
 -- slots of the first classes, without a packet
 pub record AreNew (curves : List (Option Curve)) (slots : List Slot) : Type 0 where

@@ -7,7 +7,7 @@
 //! for Link-Sharing, Real-Time and Priority Services", SIGCOMM 1997.
 #![tactic(auto)]
 
-ghost use Rattle.std.specs.Prelude.{◌≡◌, ◌<◌, ◌≤◌, ◌^◌, ◌∷◌, [], ℕ, List, Option, None, Some, All, length, slice_set, IfOk, MatchOption};
+ghost use Rattle.std.specs.Prelude.{◌≡◌, ◌<◌, ◌≤◌, ◌^◌, ◌∷◌, [], ℕ, List, Option, None, Some, All, length, IfOk, MatchOption};
 ghost use Rattle.std.specs.List.{find};
 ghost use Rattle.std.specs.Option.{ForSome};
 ghost use Rattle.service_curve.specs.declared.Curve.{Curve};
@@ -29,7 +29,7 @@ mod heads;
 mod laws;
 mod slot;
 
-use heads::{has_come, replace};
+use heads::{has_come, rank};
 pub use laws::waiting_classes_open_once;
 use slot::Slot;
 
@@ -82,8 +82,10 @@ impl Eligible {
         ensures opening { ForSome (opening_at self.new class) (λ last. last.at ≡ at) }
         ensures others { IsSameBut class self.old self.new }
     {
-        let slot = self.slots[class as usize].opened(at, len);
-        self.set(class, slot);
+        let slot = &mut self.slots[class as usize];
+        let was = slot.has_head();
+        slot.keep(at, len);
+        rank(&mut self.deadlines, &mut self.moments, class, was, slot);
     }
 
     /// The head of a class, of `len` bytes, was sent, by real time where `counted`. `head` is the length of the next one,
@@ -101,8 +103,10 @@ impl Eligible {
         ensures opening { opening_at self.new class ≡ opening_at self.old class }
         ensures others { IsSameBut class self.old self.new }
     {
-        let slot = self.slots[class as usize].sent(len, counted, head);
-        self.set(class, slot);
+        let slot = &mut self.slots[class as usize];
+        let was = slot.has_head();
+        slot.send(len, counted, head);
+        rank(&mut self.deadlines, &mut self.moments, class, was, slot);
     }
 
     /// The class whose head is eligible at `now` and has the least deadline, a head without one coming after all others and
@@ -141,20 +145,6 @@ impl Eligible {
             → IsOrderOf (λ c. soonest_of (curve_of curves c) (leaf h c)) (λ c. has_head (curve_of curves c) (leaf h c)) result.now }
     {
         self.moments.as_slice()
-    }
-
-    /// Puts a class into its slot and its lists.
-    fn set(&mut self, class: u32, slot: Slot)
-        requires { class < classes_of self.old }
-        ensures { self.new.slots.items ≡ slice_set self.old.slots.items class slot }
-    {
-        let was = self.slots[class as usize].has_head();
-        let is = slot.has_head();
-        let deadline = slot.deadline();
-        let moment = slot.soonest();
-        self.slots[class as usize] = slot;
-        replace(&mut self.deadlines, class, was, is, deadline);
-        replace(&mut self.moments, class, was, is, moment);
     }
 
     /// The moment of the first class in the order of the moments.

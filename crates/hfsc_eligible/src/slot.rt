@@ -44,40 +44,31 @@ impl Slot {
         }
     }
 
-    /// The packet of a length that is kept where nothing waits.
-    pub fn opened(self, at: u64, len: u32) -> Slot
+    /// A packet of a length is kept where nothing waits.
+    pub fn keep(&mut self, at: u64, len: u32)
         requires len { 1 ≤ len }
-        requires later { ForSome (last_opening self) (λ last. last.at ≤ at) }
-        ensures stands { (o : Option Curve) (l : Leaf) → SlotStands self o l → l.waiting ≡ [] → SlotStands result o (after_kept at len l) }
-        ensures last { IsOpenedAt at result }
-        ensures head { head_of result ≡ Some len }
+        requires later { ForSome (last_opening self.old) (λ last. last.at ≤ at) }
+        ensures stands { (o : Option Curve) (l : Leaf) → SlotStands self.old o l → l.waiting ≡ [] → SlotStands self.new o (after_kept at len l) }
+        ensures last { IsOpenedAt at self.new }
+        ensures head { head_of self.new ≡ Some len }
     {
-        Slot {
-            real: begun(self.real, u128::from(at), self.count),
-            count: self.count,
-            head: Some(len),
-        }
+        begin(&mut self.real, u128::from(at), self.count);
+        self.head = Some(len);
     }
 
     /// The head is sent; `head` is the next one's length.
-    pub fn sent(self, len: u32, counted: bool, head: Option<u32>) -> Slot
-        requires waits { IsSome (head_of self) }
+    pub fn send(&mut self, len: u32, counted: bool, head: Option<u32>)
+        requires waits { IsSome (head_of self.old) }
         requires head { (n : ℕ) → head ≡ Some n → 1 ≤ n }
-        ensures stands { (o : Option Curve) (l : Leaf) → SlotStands self o l → head_len (drop 1 l.waiting) ≡ head
-            → (after_sent len counted l).count ≤ 2 ^ 99 → SlotStands result o (after_sent len counted l) }
-        ensures last { last_opening result ≡ last_opening self }
-        ensures next { head_of result ≡ head }
+        ensures stands { (o : Option Curve) (l : Leaf) → SlotStands self.old o l → head_len (drop 1 l.waiting) ≡ head
+            → (after_sent len counted l).count ≤ 2 ^ 99 → SlotStands self.new o (after_sent len counted l) }
+        ensures last { last_opening self.new ≡ last_opening self.old }
+        ensures next { head_of self.new ≡ head }
     {
-        let count = if counted {
-            (self.count + units(u64::from(len))).min(MOST)
-        } else {
-            self.count
-        };
-        Slot {
-            real: self.real,
-            count,
-            head,
+        if counted {
+            self.count = (self.count + units(u64::from(len))).min(MOST);
         }
+        self.head = head;
     }
 
     /// The class has a curve and a head.
@@ -91,7 +82,7 @@ impl Slot {
     pub fn deadline(&self) -> Option<u128>
         ensures { result ≡ slot_deadline self.now }
     {
-        match (self.real, self.head) {
+        match (&self.real, self.head) {
             (Some(real), Some(len)) => real.deadline(self.count + units(u64::from(len))),
             _ => None,
         }
@@ -101,7 +92,7 @@ impl Slot {
     pub fn soonest(&self) -> Option<u128>
         ensures { result ≡ slot_soonest self.now }
     {
-        match (self.real, self.head) {
+        match (&self.real, self.head) {
             (Some(real), Some(_)) => real.soonest(self.count),
             _ => None,
         }
@@ -126,20 +117,16 @@ fn running_of(curve: Option<Curve>) -> Option<Running>
     }
 }
 
-/// The curve with one opening more.
-fn begun(real: Option<Running>, at: u128, count: u128) -> Option<Running>
+/// Adds an opening, where there is a curve.
+fn begin(real: &mut Option<Running>, at: u128, count: u128)
     requires at { at < 2 ^ 80 }
     requires count { count < 2 ^ 100 }
-    requires later { ForSome (last_in real) (λ last. (last.at ≤ at) × (last.count ≤ count)) }
-    ensures stands { (o : Option Curve) (os : List Opening) → RealStands real o os → RealStands result o (opening at count ∷ os) }
-    ensures last { last_in result ≡ (if is_some real then Some (opening at count) else None) }
-    ensures curve { is_some result ≡ is_some real }
+    requires later { ForSome (last_in real.old) (λ last. (last.at ≤ at) × (last.count ≤ count)) }
+    ensures stands { (o : Option Curve) (os : List Opening) → RealStands real.old o os → RealStands real.new o (opening at count ∷ os) }
+    ensures last { last_in real.new ≡ (if is_some real.old then Some (opening at count) else None) }
+    ensures curve { is_some real.new ≡ is_some real.old }
 {
-    match real {
-        None => None,
-        Some(mut real) => {
-            real.begin(at, count);
-            Some(real)
-        }
+    if let Some(real) = real {
+        real.begin(at, count);
     }
 }

@@ -2,14 +2,14 @@
 use Rattle.std.specs.Prelude.{◌≡◌, ◌≤◌, ◌<◌, ℕ, max, Bool, true, List, [], ◌∷◌, length, Option, None, Some, slice_get, slice_set, slice_index_or}
 use Rattle.std.specs.List.{find}
 use Rattle.ranking.specs.Order.{is_in, key_of}
-use Rattle.ranking.specs.Ranking.{keys_of, order_of}
+use Rattle.ranking.specs.Ranking.{IsReplaced, keys_of, order_of}
 use Rattle.ranking.specs.declared.Ranking.{Ranking}
 use Rattle.hfsc_model.specs.declared.HfscClass.{HfscClass}
 use Rattle.hfsc_model.specs.RealTime.{has_come}
 use Rattle.hfsc_model.specs.Tree.{is_child}
 use Rattle.hfsc_share.specs.declared.node.Node.{Node}
 use Rattle.hfsc_share.specs.declared.group.Group.{Group}
-use Rattle.hfsc_share.specs.Lists.{IsReplaced, MayReplace}
+use Rattle.hfsc_share.specs.Lists.{MayReplace}
 use Rattle.hfsc_share.specs.Node.{is_child_in, is_active_child, time_in, opens_in}
 
 -- exactly the active children of p stand in a list, each with its key

@@ -1,10 +1,8 @@
 //! The children of a class: those that are active in the order of their virtual times, and in that of the moments from which
 //! they open; and the high mark of all.
-ghost use Rattle.std.specs.Prelude.{◌≡◌, ◌==◌, ◌<◌, ℕ, Option, [], length, max, true, false, IfOk, if◌then◌else◌};
-ghost use Rattle.ranking.specs.Order.{is_in, key_of};
-ghost use Rattle.ranking.specs.Ranking.{keys_of, order_of};
+ghost use Rattle.std.specs.Prelude.{◌≡◌, ℕ, Option, [], max, true, IfOk};
 ghost use Rattle.hfsc_model.specs.RealTime.{has_come};
-ghost use Rattle.hfsc_share.specs.Lists.{IsReplaced, HasKeys};
+ghost use Rattle.hfsc_share.specs.Lists.{HasKeys};
 
 use play_base::NoMemory;
 use ranking::Ranking;
@@ -77,8 +75,8 @@ impl Group {
         requires { MayChange class was self.old }
         ensures { IsChanged class is time opens self.old self.new }
     {
-        replace(&mut self.times, class, was, is, Some(time));
-        replace(&mut self.moments, class, was, is, opens);
+        self.times.replace(class, was, is, Some(time));
+        self.moments.replace(class, was, is, opens);
         self.high = self.high.max(time);
     }
 }
@@ -91,42 +89,4 @@ pub fn has_come(moment: Option<u128>, now: u128) -> bool
         None => false,
         Some(moment) => moment <= now,
     }
-}
-
-/// Takes a class out, where it is there.
-fn take_if(ranking: &mut Ranking, class: u32, was: bool)
-    requires { is_in class (order_of ranking.old) ≡ was }
-    ensures keys { keys_of ranking.new ≡ keys_of ranking.old }
-    ensures classes { (c : ℕ) → is_in c (order_of ranking.new) ≡ (if class == c then false else is_in c (order_of ranking.old)) }
-{
-    if was {
-        ranking.take(class);
-    }
-}
-
-/// Puts a class in with a key, if `is`.
-fn put_if(ranking: &mut Ranking, class: u32, is: bool, key: Option<u128>)
-    requires class { class < length (keys_of ranking.old) }
-    requires absent { is_in class (order_of ranking.old) ≡ false }
-    ensures count { length (keys_of ranking.new) ≡ length (keys_of ranking.old) }
-    ensures classes { (c : ℕ) → is_in c (order_of ranking.new) ≡ (if class == c then is else is_in c (order_of ranking.old)) }
-    ensures key { is ≡ true → key_of (keys_of ranking.new) class ≡ key }
-    ensures others { (c : ℕ) → (c ≡ class → ⊥) → key_of (keys_of ranking.new) c ≡ key_of (keys_of ranking.old) c }
-{
-    if is {
-        ranking.put(class, key);
-    }
-}
-
-/// Takes a class out if `was`, and puts it in with a key if `is`. A class that stays with the key that it has is not moved.
-fn replace(ranking: &mut Ranking, class: u32, was: bool, is: bool, key: Option<u128>)
-    requires class { class < length (keys_of ranking.old) }
-    requires was { is_in class (order_of ranking.old) ≡ was }
-    ensures { IsReplaced class is key ranking.old ranking.new }
-{
-    if was && is && ranking.key(class) == key {
-        return;
-    }
-    take_if(ranking, class, was);
-    put_if(ranking, class, is, key);
 }

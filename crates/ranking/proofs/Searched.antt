@@ -1,10 +1,11 @@
 -- What a look at the middle adds to a search.
-use Rattle.std.proofs.Common.{◌≡◌, ◌<◌, ◌≤◌, ◌+◌, ◌⊎◌, inl, inr, ℕ, Bool, true, false, List, length, refl, sym, ap, arith, get_or, ◌∙◌}
-use Rattle.std.specs.Prelude.{Option}
+use Rattle.std.proofs.Common.{◌≡◌, ◌<◌, ◌≤◌, ◌+◌, ◌⊎◌, inl, inr, ℕ, Bool, true, false, List, [], ◌∷◌, Some, length, refl, sym, ap, arith, get_or, ◌∙◌}
+use Rattle.std.specs.Prelude.{Option, slice_get}
 use Rattle.std.proofs.lemmas.Bool.{cases_lt}
-use Rattle.ranking.specs.Order.{is_before}
+use Rattle.ranking.specs.Order.{is_before, is_ranked}
 use Rattle.ranking.specs.Search.{IsFound, IsRanked}
 use Rattle.ranking.proofs.Ordered.{before_trans, in_order}
+use Rattle.ranking.proofs.Ranks.{ranked_true}
 
 pub found_above : (keys : List (Option ℕ)) (xs : List ℕ) (c low mid high : ℕ) → IsRanked keys xs → IsFound keys xs c low high
     → mid < high → is_before keys (get_or xs mid 0) c ≡ true → IsFound keys xs c (mid + 1) high
@@ -38,3 +39,19 @@ found_below keys xs c low mid high r found l h e = record {
     go : (k : ℕ) → (mid < k) ⊎ (k ≤ mid) → mid ≤ k → k < length xs → is_before keys (get_or xs k 0) c ≡ false
     go k (inl a) b s = no (is_before keys (get_or xs k 0) c) k refl a s
     go k (inr a) b s = let same : k ≡ mid = omega arith in ap (λ n. is_before keys (get_or xs n 0) c) same ∙ e
+
+-- before a look
+pub found_all : (keys : List (Option ℕ)) (xs : List ℕ) (c : ℕ) → IsFound keys xs c 0 (length xs)
+found_all keys xs c = record {
+  in_order = omega arith;
+  within = omega arith;
+  before = λ k a. absurd (omega arith);
+  from = λ k a b. absurd (omega arith);
+}
+
+-- after a look at the front
+pub front_below : (keys : List (Option ℕ)) (xs : List ℕ) (c x : ℕ) → is_ranked keys xs ≡ true → slice_get xs 0 ≡ Some x → is_before keys x c ≡ false → IsFound keys xs c 0 0
+front_below keys [] c x r e b = absurd cc
+front_below keys (y ∷ ys) c x r e b =
+    let same : y ≡ x = cc in
+    found_below keys (y ∷ ys) c 0 0 (length (y ∷ ys)) (ranked_true keys (y ∷ ys) r) (found_all keys (y ∷ ys) c) (omega arith) (omega arith) (ap (λ n. is_before keys n c) same ∙ b)

@@ -1,6 +1,7 @@
 -- What contracts see of a ranking.
-use Rattle.std.specs.Prelude.{ℕ, List, Option}
+use Rattle.std.specs.Prelude.{◌≡◌, ◌==◌, ℕ, Bool, true, List, length, Option, if◌then◌else◌}
 use Rattle.ranking.specs.declared.Ranking.{Ranking}
+use Rattle.ranking.specs.Order.{is_in, key_of}
 
 -- the key of each class
 abbrev pub keys_of : Ranking → List (Option ℕ)
@@ -9,3 +10,10 @@ keys_of r = r.keys.items
 -- the classes that are there, in their order
 abbrev pub order_of : Ranking → List ℕ
 order_of r = r.order.items
+
+-- a class is there or is not, with its key; the others are as they were
+pub record IsReplaced (class : ℕ) (is : Bool) (key : Option ℕ) (old new : Ranking) : Type 0 where
+  pub count : length (keys_of new) ≡ length (keys_of old)
+  pub classes : (c : ℕ) → is_in c (order_of new) ≡ (if class == c then is else is_in c (order_of old))
+  pub keyed : is ≡ true → key_of (keys_of new) class ≡ key
+  pub others : (c : ℕ) → (c ≡ class → ⊥) → key_of (keys_of new) c ≡ key_of (keys_of old) c

@@ -1,10 +1,10 @@
 //! Classes in the order of their keys.
 //!
 //! A key is a moment or a virtual time. One of `None` comes after all others, and of equal keys the class that stands
-//! earlier in the file goes first. Places are found by binary search, and `reserve` takes all memory.
+//! earlier in the file goes first. Places are found by binary search, the front first, and `reserve` takes all memory.
 #![tactic(auto)]
 
-ghost use Rattle.std.specs.Prelude.{◌≡◌, ◌<◌, ◌≤◌, ◌^◌, ℕ, [], length, true, false, slice_set, None, IfOk};
+ghost use Rattle.std.specs.Prelude.{◌≡◌, ◌==◌, ◌<◌, ◌≤◌, ◌^◌, ℕ, [], length, true, false, slice_set, None, IfOk, if◌then◌else◌};
 ghost use Rattle.std.specs.Vec.{vec_len, vec_capacity};
 ghost use Rattle.ranking.specs.Order.{is_ranked, are_below, is_in, key_of, with_class, without};
 
@@ -28,7 +28,7 @@ pub struct Ranking {
 }
 
 impl Ranking {
-    ghost use Rattle.ranking.specs.Ranking.{keys_of, order_of};
+    ghost use Rattle.ranking.specs.Ranking.{IsReplaced, keys_of, order_of};
 
     /// An empty ranking of `classes` classes, with room for all of them.
     pub fn reserve(alloc: Global, classes: u32) -> Result<Ranking, NoMemory>
@@ -77,5 +77,43 @@ impl Ranking {
     {
         let place = place_of(&self.order, &self.keys, class);
         let _ = self.order.remove(place);
+    }
+    /// Takes a class out where it `was` there, and puts it in with a key where it `is` to be there. It takes the time of
+    /// `take` and `put`, and constant time where the class stays with the key that it has.
+    pub fn replace(&mut self, class: u32, was: bool, is: bool, key: Option<u128>)
+        requires class { class < length (keys_of self.old) }
+        requires was { is_in class (order_of self.old) ≡ was }
+        ensures { IsReplaced class is key self.old self.new }
+    {
+        if was && is && self.key(class) == key {
+            return;
+        }
+        self.take_if(class, was);
+        self.put_if(class, is, key);
+    }
+
+    /// Takes a class out, where it is there.
+    fn take_if(&mut self, class: u32, was: bool)
+        requires { is_in class (order_of self.old) ≡ was }
+        ensures keys { keys_of self.new ≡ keys_of self.old }
+        ensures classes { (c : ℕ) → is_in c (order_of self.new) ≡ (if class == c then false else is_in c (order_of self.old)) }
+    {
+        if was {
+            self.take(class);
+        }
+    }
+
+    /// Puts a class in with a key, where it is to be there.
+    fn put_if(&mut self, class: u32, is: bool, key: Option<u128>)
+        requires class { class < length (keys_of self.old) }
+        requires absent { is_in class (order_of self.old) ≡ false }
+        ensures count { length (keys_of self.new) ≡ length (keys_of self.old) }
+        ensures classes { (c : ℕ) → is_in c (order_of self.new) ≡ (if class == c then is else is_in c (order_of self.old)) }
+        ensures key { is ≡ true → key_of (keys_of self.new) class ≡ key }
+        ensures others { (c : ℕ) → (c ≡ class → ⊥) → key_of (keys_of self.new) c ≡ key_of (keys_of self.old) c }
+    {
+        if is {
+            self.put(class, key);
+        }
     }
 }

@@ -1,14 +1,22 @@
-use Rattle.std.proofs.Common.{◌∙◌, sym}
-use Rattle.hfsc_eligible.proofs.Same.{head_here, opening_here, opening_there, same_but}
+use Rattle.std.proofs.Common.{◌∙◌, refl, sym}
+use Rattle.hfsc_eligible.specs.Slot.{slot_deadline, slot_soonest}
+use Rattle.hfsc_eligible.proofs.Lists.{has_place, holds_changed, was_there}
 use Rattle.hfsc_eligible.proofs.Eligible.sent.Goals as goal
 
-pub returns-clause-next : goal.returns-clause-next
-returns-clause-next c = head_here c.args.self.now c.set.new.self c.args.class c.sent-slot.result c.requires.class c.set.ensures ∙ c.sent-slot.ensures.next
+pub rank-requires : goal.rank-requires
+rank-requires c = record {
+  deadline_place = has_place slot_deadline c.args.self.now.slots.items c.args.class c.args.self.now.deadlines c.args.self.now.by_deadline c.requires.class;
+  moment_place = has_place slot_soonest c.args.self.now.slots.items c.args.class c.args.self.now.moments c.args.self.now.by_moment c.requires.class;
+  deadline_was = was_there slot_deadline c.args.self.now.slots.items c.args.class c.index_mut-slot.result.now c.has_head-was.result c.args.self.now.deadlines
+      c.args.self.now.by_deadline c.requires.class c.index_mut-slot.ensures.value c.has_head-was.ensures;
+  moment_was = was_there slot_soonest c.args.self.now.slots.items c.args.class c.index_mut-slot.result.now c.has_head-was.result c.args.self.now.moments
+      c.args.self.now.by_moment c.requires.class c.index_mut-slot.ensures.value c.has_head-was.ensures;
+}
 
-pub returns-clause-opening : goal.returns-clause-opening
-returns-clause-opening c =
-    opening_here c.args.self.now c.set.new.self c.args.class c.sent-slot.result c.requires.class c.set.ensures
-    ∙ c.sent-slot.ensures.last ∙ sym (opening_there c.args.self.now c.args.class c.index.result.now c.requires.class c.index.ensures)
-
-pub returns-clause-others : goal.returns-clause-others
-returns-clause-others c = same_but c.args.self.now c.set.new.self c.args.class c.sent-slot.result c.set.ensures
+pub invariant_of-self : goal.invariant_of-self
+invariant_of-self c = record {
+  by_deadline = holds_changed slot_deadline c.args.self.now.slots.items c.args.class c.send.new.self c.args.self.now.deadlines c.rank.new.deadlines
+      c.args.self.now.by_deadline c.requires.class c.rank.ensures.deadlines;
+  by_moment = holds_changed slot_soonest c.args.self.now.slots.items c.args.class c.send.new.self c.args.self.now.moments c.rank.new.moments
+      c.args.self.now.by_moment c.requires.class c.rank.ensures.moments;
+}
