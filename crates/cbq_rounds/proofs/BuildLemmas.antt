@@ -1,21 +1,20 @@
 -- What CBQ keeps at first.
-use Rattle.std.proofs.Common.{◌≡◌, ◌≤◌, ◌<◌, ◌+◌, ◌^◌, ◌∙◌, inl, inr, ℕ, zero, suc, Bool, true, List, [], ◌∷◌, None, Some, All, length, get_or, map, replicate, refl, ap, sym, subst, arith}
+use Rattle.std.proofs.Common.{◌≡◌, ◌≤◌, ◌<◌, ◌+◌, ◌^◌, ◌∙◌, inl, inr, ℕ, zero, suc, true, List, [], ◌∷◌, All, length, get_or, map, replicate, refl, ap, sym, subst, arith}
 use Rattle.std.specs.Prelude.{unwrap_or}
 use Rattle.std.proofs.lemmas.Bool.{cases_lt}
-use Rattle.altq_model.specs.History.{Happened, bare}
 use Rattle.leaf_queue.specs.Queue.{QueueEvent, Saying}
 use Rattle.leaf_queue.specs.declared.node.Entry.{Entry}
 use Rattle.class_rows.specs.Rows.{Rowed, Told, answering, classes_in, holding, list_in}
-use Rattle.discipline_laws.specs.Laws.{seen, seen_of}
+use Rattle.discipline_laws.specs.Laws.{seen}
 use Rattle.cbq_estimator.specs.Estimate.{Estimate}
 use Rattle.cbq_model.specs.declared.CbqClass.{CbqClass}
-use Rattle.cbq_model.specs.Rounds.{estimates}
-use Rattle.cbq_model.specs.Tree.{class_of, each, each_from, no_class, numbers, quantum_of}
+use Rattle.cbq_model.specs.Tree.{each_from, no_class, numbers, quantum_of}
 use Rattle.cbq_model.proofs.Lawful.{cbq_lawful, cbq_steady}
 use Rattle.cbq_rounds.specs.Fresh.{HasEarlierParents, IsClass, fresh, fresh_estimate}
 use Rattle.cbq_rounds.specs.Looked.{AreSized}
 use Rattle.cbq_rounds.specs.Shared.{IsShared, Shared, no_estimate}
-use Rattle.cbq_rounds.specs.Stands.{IsRuling, Ruling, Stands, cbq_of}
+use Rattle.cbq_rounds.specs.Stands.{IsRuling, Stands}
+use Rattle.cbq_rounds.specs.Waiting.{marked, waits}
 use Rattle.cbq_rounds.proofs.Places.{past_end}
 use Rattle.cbq_rounds.proofs.StandsLemmas.{distinct_in}
 
@@ -112,8 +111,9 @@ module _ {Q : Type 0} (stands : Q → List QueueEvent → Type 0) (says : Q → 
   tree_is : shares.tree ≡ cs
   tree_is = ap (λ (s : Shared). s.tree) is
 
-  pub is_ruling : rows.first ≡ 0 → length rows.queues ≡ length cs → IsRuling shares rows
-  is_ruling first count =
+  pub is_ruling : (words : List ℕ) → rows.first ≡ 0 → length rows.queues ≡ length cs → length cs ≤ 256 → ((c : ℕ) → marked words c ≡ 0)
+      → IsRuling shares rows words
+  is_ruling words first count few none =
       let S : List Entry → Type 0 = λ xs. AreSized xs in
       record {
         first = first;
@@ -122,6 +122,8 @@ module _ {Q : Type 0} (stands : Q → List QueueEvent → Type 0) (says : Q → 
         classes = classes ∙ ap numbers (sym tree_is);
         sized = λ c. subst S (sym (all_empty stands rows told c)) tt;
         others = λ c l. all_empty stands rows told c;
+        few = omega (arith, few, ap (λ (ks : List CbqClass). length ks) tree_is);
+        waiting = λ c. none c ∙ ap waits (sym (all_empty stands rows told c));
       }
 
   pub stands_empty : 0 < rate → Stands stands says (record { shares = shares; rows = rows }) []

@@ -1,12 +1,10 @@
 -- What is due, by what CBQ keeps.
-use Rattle.std.proofs.Common.{◌≡◌, ◌≤◌, ◌<◌, ◌+◌, ◌∙◌, ◌⊎◌, inl, inr, ℕ, zero, suc, Bool, true, false, List, [], ◌∷◌, None, Some, length, get_or, min, refl, ap, sym, subst, arith, eqb}
+use Rattle.std.proofs.Common.{◌≡◌, ◌≤◌, ◌<◌, ◌+◌, ◌∙◌, ◌⊎◌, inl, inr, ℕ, Bool, true, List, [], ◌∷◌, None, Some, length, refl, ap, sym, subst, arith, eqb}
 use Rattle.std.specs.declared.option.Option.{Option}
 use Rattle.std.specs.Prelude.{◌↔◌, slice_get, option_map, unwrap_or, if◌then◌else◌}
-use Rattle.std.specs.List.{filter}
-use Rattle.std.proofs.lemmas.Bool.{cases_eq, cases_lt, eq-eqb, eqb-true, ne_eqb}
+use Rattle.std.proofs.lemmas.Bool.{cases_eq, cases_lt, eq-eqb, ne_eqb}
 use Rattle.altq_model.specs.declared.Rule.{Rule}
 use Rattle.altq_model.specs.declared.Rule.TheVariants.{Own, Borrow}
-use Rattle.altq_model.specs.Link.{Link}
 use Rattle.altq_model.specs.Play.{Choice, IsOneOf}
 use Rattle.play_base.specs.declared.packet.Ticket.{Ticket}
 use Rattle.leaf_queue.specs.declared.node.Entry.{Entry}
@@ -17,14 +15,14 @@ use Rattle.discipline_laws.specs.Laws.{IsLeast, NamesHead, Sends, Waits}
 use Rattle.cbq_model.specs.declared.CbqClass.{CbqClass}
 use Rattle.cbq_model.specs.declared.Rank.{Rank}
 use Rattle.cbq_model.specs.Choice.{Situation, able, allows_in, best, choice_of, class_in, head_in, may, picked, rank_in}
-use Rattle.cbq_model.specs.Tree.{class_of, each_from, numbers}
+use Rattle.cbq_model.specs.Tree.{each_from, numbers}
 use Rattle.cbq_model.proofs.Best.{best_of}
 use Rattle.cbq_model.proofs.Least.{IsLeastSend, one_least}
 use Rattle.cbq_model.proofs.Members.{kept, was_kept}
 use Rattle.cbq_model.proofs.Places.{is_below}
-use Rattle.cbq_rounds.specs.Due.{due_in, due_with, first_in, first_of, send_head, start_in}
+use Rattle.cbq_rounds.specs.Due.{due_in, due_with, first_in, send_head, start_in}
 use Rattle.cbq_rounds.specs.Shared.{Shared, head_len, own_now, situation_in, start_now_in}
-use Rattle.cbq_rounds.proofs.Firsts.{IsNoLater, IsOfOne, all_none, first_none, first_same, no_later, of_one}
+use Rattle.cbq_rounds.proofs.Firsts.{all_none, first_none, first_same, no_later, of_one}
 use Rattle.cbq_rounds.proofs.Moments.{head_seen, may_not, may_where, own_where, start_is}
 
 -- the head of a list, and its length

@@ -1,9 +1,9 @@
 -- The gains of the candidates of a sending, one class after the other.
-use Rattle.std.proofs.Common.{◌≡◌, ◌≤◌, ◌<◌, ◌+◌, ◌*◌, ◌∙◌, ◌⊎◌, inl, inr, ℕ, zero, suc, Bool, true, false, List, [], ◌∷◌, None, Some, length, get_or, set, refl, ap, sym, subst, arith, eqb, get_or-set_same, get_or-set_other, length-set}
+use Rattle.std.proofs.Common.{◌≡◌, ◌≤◌, ◌<◌, ◌+◌, ◌*◌, ◌∙◌, inl, inr, ℕ, suc, Bool, true, false, List, [], ◌∷◌, None, Some, length, get_or, refl, ap, sym, subst, arith, eqb, get_or-set_same, get_or-set_other, length-set}
 use Rattle.std.specs.declared.option.Option.{Option}
 use Rattle.std.specs.Prelude.{slice_set, if◌then◌else◌, unwrap_or}
-use Rattle.std.specs.List.{filter, list_any}
-use Rattle.std.proofs.lemmas.Bool.{cases_eq, cases_lt, eq-eqb, eqb-true, ne_eqb}
+use Rattle.std.specs.List.{list_any}
+use Rattle.std.proofs.lemmas.Bool.{cases_lt, eq-eqb, eqb-true, ne_eqb}
 use Rattle.std.proofs.lemmas.Bool.Decides.{nat_tests}
 use Rattle.altq_model.specs.Play.{IsOneOf}
 use Rattle.leaf_queue.specs.declared.node.Entry.{Entry}
@@ -13,7 +13,7 @@ use Rattle.discipline_laws.specs.declared.pick.Sending.{Sending}
 use Rattle.cbq_model.specs.declared.CbqClass.{CbqClass}
 use Rattle.cbq_model.specs.declared.Rank.{Rank}
 use Rattle.cbq_model.specs.Choice.{Situation, able, candidates, class_in, credit_in, goes_before, may, picked, rank_in, rounds, rounds_for}
-use Rattle.cbq_model.specs.Rounds.{gained, rounds_needed}
+use Rattle.cbq_model.specs.Rounds.{rounds_needed}
 use Rattle.cbq_model.specs.Tree.{class_of, each, each_from, numbers, quantum_of}
 use Rattle.cbq_model.proofs.Best.{best_of}
 use Rattle.cbq_model.proofs.Members.{kept, passes_some, some_passes, was_kept}

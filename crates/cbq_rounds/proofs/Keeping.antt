@@ -1,5 +1,5 @@
 -- What CBQ stands for has the cap of its sendings.
-use Rattle.std.proofs.Common.{◌≡◌, ◌<◌, ℕ, List, [], ◌∷◌, ◌++◌, subst}
+use Rattle.std.proofs.Common.{◌<◌, ℕ, List, [], ◌∷◌, ◌++◌, subst}
 use Rattle.altq_model.specs.History.{Event, Happened, Offered, Sent, Transmission, bare}
 use Rattle.leaf_queue.specs.Queue.{QueueEvent, Saying}
 use Rattle.cbq_model.specs.declared.CbqClass.{CbqClass}

@@ -9,3 +9,5 @@ pub mod Places
 pub mod PolicyLemmas
 pub mod SentLemmas
 pub mod StandsLemmas
+pub mod WaitLemmas
+mod Marks

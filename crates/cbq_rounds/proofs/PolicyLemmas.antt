@@ -1,27 +1,26 @@
 -- What is due after a history is CBQ's.
-use Rattle.std.proofs.Common.{◌≡◌, ◌≤◌, ◌<◌, ◌+◌, ◌∙◌, ◌⊎◌, inl, inr, ℕ, List, [], ◌∷◌, None, Some, length, refl, ap, sym, subst, arith}
+use Rattle.std.proofs.Common.{◌≡◌, ◌≤◌, ◌<◌, ◌+◌, ◌∙◌, inl, inr, ℕ, List, [], ◌∷◌, None, Some, length, refl, ap, sym, subst, arith}
 use Rattle.std.specs.declared.option.Option.{Option}
 use Rattle.std.specs.Prelude.{slice_get, option_map}
-use Rattle.altq_model.specs.declared.Rule.{Rule}
 use Rattle.altq_model.specs.History.{Coming, Event, Happened, bare, head, waiting}
 use Rattle.altq_model.specs.Link.{Link, link}
-use Rattle.altq_model.specs.Play.{Choice, Policy, lesser}
+use Rattle.altq_model.specs.Play.{Policy, lesser}
 use Rattle.altq_model.specs.Lawful.{first_at, start_at}
 use Rattle.leaf_queue.specs.declared.node.Entry.{Entry}
 use Rattle.leaf_queue.specs.Queue.{QueueEvent, Saying}
 use Rattle.link_clock.specs.Clock.{Clock}
-use Rattle.class_rows.specs.Rows.{Rowed, answering, list_in}
+use Rattle.class_rows.specs.Rows.{list_in}
 use Rattle.discipline_laws.specs.declared.pick.Pick.{Pick}
 use Rattle.discipline_laws.specs.Laws.{IsDue, seen, seen_of}
 use Rattle.cbq_estimator.specs.Estimate.{Estimate}
 use Rattle.cbq_model.specs.declared.CbqClass.{CbqClass}
 use Rattle.cbq_model.specs.Choice.{Situation, choice_of, least_of, own_start, start_of, start_with}
-use Rattle.cbq_model.specs.Rounds.{cbq, credits, cursors, estimates, heads, situation}
+use Rattle.cbq_model.specs.Rounds.{credits, cursors, estimates, heads, situation}
 use Rattle.cbq_model.specs.Tree.{each, each_from, lenders, numbers}
 use Rattle.cbq_model.proofs.Lawful.{head_is}
 use Rattle.cbq_model.proofs.Least.{IsLeastSend, one_least, send_is}
 use Rattle.cbq_rounds.specs.Due.{due_in, first_in, first_of, start_in}
-use Rattle.cbq_rounds.specs.Shared.{Shared, head_len, situation_in, start_now_in}
+use Rattle.cbq_rounds.specs.Shared.{head_len, situation_in, start_now_in}
 use Rattle.cbq_rounds.specs.Stands.{Ruling, Stands, cbq_of}
 use Rattle.cbq_rounds.proofs.DueLemmas.{cases}
 use Rattle.cbq_rounds.proofs.Firsts.{first_same}

@@ -1,9 +1,9 @@
 -- What CBQ keeps after a sending is that of the history with it.
-use Rattle.std.proofs.Common.{◌≡◌, ◌≤◌, ◌<◌, ◌+◌, ◌-◌, ◌*◌, ◌∙◌, ◌⊎◌, inl, inr, ℕ, zero, suc, Bool, true, false, List, [], ◌∷◌, None, Some, length, get_or, set, refl, ap, sym, subst, arith, eqb, get_or-set_same, get_or-set_other, length-set}
+use Rattle.std.proofs.Common.{◌≡◌, ◌≤◌, ◌<◌, ◌+◌, ◌∙◌, inl, inr, ℕ, zero, suc, Bool, true, false, List, [], ◌∷◌, None, Some, length, get_or, refl, ap, sym, subst, arith, eqb, get_or-set_same, get_or-set_other, length-set}
 use Rattle.std.specs.declared.option.Option.{Option}
-use Rattle.std.specs.Prelude.{◌||◌, slice_get, slice_set, option_map, is_none, if◌then◌else◌}
+use Rattle.std.specs.Prelude.{◌||◌, slice_get, slice_set, is_none, if◌then◌else◌}
 use Rattle.std.specs.List.{list_any}
-use Rattle.std.proofs.lemmas.Bool.{cases_eq, cases_lt, eq-eqb, ne_eqb}
+use Rattle.std.proofs.lemmas.Bool.{cases_eq, eq-eqb, ne_eqb}
 use Rattle.altq_model.specs.History.{Coming, Event, Sent, Transmission}
 use Rattle.cbq_estimator.specs.Average.{Ended}
 use Rattle.cbq_estimator.specs.Estimate.{Estimate}

@@ -1,14 +1,13 @@
 -- The histories that CBQ stands for.
-use Rattle.std.proofs.Common.{◌≡◌, ◌≤◌, ◌<◌, ◌+◌, ◌-◌, ◌*◌, ◌∙◌, ◌⊎◌, inl, inr, ℕ, zero, suc, Bool, true, false, List, [], ◌∷◌, ◌++◌, None, Some, length, get_or, drop, max, set, refl, ap, sym, subst, arith, eqb, get_or-set_same, get_or-set_other, length-set}
+use Rattle.std.proofs.Common.{◌≡◌, ◌≤◌, ◌<◌, ◌+◌, ◌-◌, ◌∙◌, ℕ, Bool, true, false, List, [], ◌∷◌, ◌++◌, None, Some, length, get_or, drop, max, refl, ap, sym, subst, arith, eqb, length-set}
 use Rattle.std.specs.declared.option.Option.{Option}
 use Rattle.std.specs.Prelude.{◌&&◌, is_none, is_some, not, slice_get, slice_set, option_map, if◌then◌else◌}
 use Rattle.std.proofs.lemmas.Bool.{ne_eqb}
 use Rattle.altq_model.specs.declared.Rule.{Rule}
 use Rattle.altq_model.specs.declared.Verdict.{Verdict}
-use Rattle.altq_model.specs.History.{Coming, DrawnWords, Event, Happened, Sent, Transmission, bare, head, is_kept, waiting}
-use Rattle.altq_model.specs.Lawful.{IsLawful, IsSteady}
+use Rattle.altq_model.specs.History.{Coming, DrawnWords, Event, Happened, Sent, bare, head, is_kept, waiting}
 use Rattle.altq_model.specs.Link.{Link, end_of, link}
-use Rattle.altq_model.specs.Play.{Choice, Policy}
+use Rattle.altq_model.specs.Play.{Choice}
 use Rattle.altq_model.specs.Policies.{Answering}
 use Rattle.play_base.specs.declared.packet.Ticket.{Ticket}
 use Rattle.leaf_queue.specs.Queue.{QueueEvent, Saying}
@@ -38,6 +37,7 @@ use Rattle.cbq_rounds.proofs.DueLemmas.{SendsPicked, front_len, member_from, sen
 use Rattle.cbq_rounds.proofs.PolicyLemmas.{each_same, first_is, shown, situation_is}
 use Rattle.cbq_rounds.proofs.SentLemmas.{estimates_after, none_shown, set_each}
 use Rattle.cbq_rounds.specs.Stands.{IsRuling, Ruling, Stands, cbq_of}
+use Rattle.cbq_rounds.specs.Waiting.{AreWaiting}
 
 -- a list whose packets have lengths of packets keeps so where one more comes, and where its head leaves
 sized_more : (b : Bool) (x : Entry) (xs : List Entry) → 1 ≤ x.len → x.len ≤ 262144 → AreSized xs → AreSized (if b then xs ++ x ∷ [] else xs)
@@ -275,9 +275,10 @@ length_all f b (k ∷ ks) = let more = length_all f (b + 1) ks in omega (arith, 
 
 -- the classes keep their form after a sending
 pub ruling_after : {Q : Type 0} (stands : Q → List QueueEvent → Type 0) (says : Q → Saying) (most : Q → ℕ) (d : Ruling Q) (rows : Rowed Q) (clock : Clock) (x : Sending) (end : ℕ) (emptied : Bool)
-    (after : Shared) → IsRuling d.shares d.rows → SameRow most says d.rows rows → ((c : ℕ) → list_in rows c ≡ after_sent x.class (list_in d.rows) c)
-    → IsAfter stands says d clock x end emptied after → IsRuling after rows
-ruling_after stands says most d rows clock x end emptied after r same lists i =
+    (after : Shared) (before words : List ℕ) → IsRuling d.shares d.rows before → SameRow most says d.rows rows
+    → ((c : ℕ) → list_in rows c ≡ after_sent x.class (list_in d.rows) c)
+    → IsAfter stands says d clock x end emptied after → AreWaiting words (list_in rows) → IsRuling after rows words
+ruling_after stands says most d rows clock x end emptied after before words r same lists i waiting =
     let f : ℕ → ℕ = gained_by d.shares (list_in d.rows) clock x in
     let tree : length after.tree ≡ length d.shares.tree = ap (λ (cs : List CbqClass). length cs) i.tree in
     let S : List Entry → Type 0 = λ xs. AreSized xs in
@@ -289,6 +290,8 @@ ruling_after stands says most d rows clock x end emptied after r same lists i =
       classes = same_in most says d.rows rows same ∙ r.classes ∙ ap numbers (sym i.tree);
       sized = λ c. subst S (sym (lists c)) (sent_sized x.class c (list_in d.rows) (r.sized c));
       others = λ c l. lists c ∙ sent_others x.class c (list_in d.rows) (r.others c (omega (arith, l, tree)));
+      few = omega (arith, tree, r.few);
+      waiting = waiting;
     }
 
 -- an option is none exactly where it is not some

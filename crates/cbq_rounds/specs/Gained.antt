@@ -1,10 +1,10 @@
 -- The credits of the classes after the gains of a sending.
-use Rattle.std.specs.Prelude.{◌≡◌, ◌≤◌, ◌<◌, ◌+◌, ◌*◌, ℕ, List, length, get_or}
+use Rattle.std.specs.Prelude.{◌≡◌, ◌≤◌, ◌<◌, ℕ, List, length, get_or}
 use Rattle.altq_model.specs.History.{Transmission}
 use Rattle.leaf_queue.specs.declared.node.Entry.{Entry}
 use Rattle.link_clock.specs.Clock.{Clock}
 use Rattle.discipline_laws.specs.declared.pick.Sending.{Sending}
-use Rattle.cbq_model.specs.Choice.{Situation, candidates}
+use Rattle.cbq_model.specs.Choice.{candidates}
 use Rattle.cbq_model.specs.Rounds.{gained, rounds_needed}
 use Rattle.cbq_model.specs.Tree.{each}
 use Rattle.cbq_rounds.specs.Shared.{Shared, situation_in}

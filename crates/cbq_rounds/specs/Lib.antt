@@ -6,3 +6,4 @@ pub mod Looked
 pub mod Sent
 pub mod Shared
 pub mod Stands
+pub mod Waiting

@@ -14,6 +14,7 @@ ghost use Rattle.cbq_rounds.specs.Stands.{IsRuling, Ruling};
 use crate::gains::gain_all;
 use crate::look::{Found, look};
 use crate::sharing::Shares;
+use crate::waiting::Waiting;
 use altq_model::{Rule, Verdict};
 use cbq_model::CbqClass;
 use class_rows::Rows;
@@ -29,6 +30,7 @@ use std::marker::Model;
 pub struct Cbq<Q: QueueRule + Drop> {
     shares: Shares,
     rows: Rows<Q>,
+    waiting: Waiting,
 }
 
 impl<Q: QueueRule + Drop> Model for Cbq<Q> {
@@ -36,7 +38,7 @@ impl<Q: QueueRule + Drop> Model for Cbq<Q> {
 
     ghost view = { λ d. record { shares = d.shares; rows = d.rows } };
 
-    ghost invariant = { λ d. IsRuling d.shares d.rows };
+    ghost invariant = { λ d. IsRuling d.shares d.rows d.waiting };
 }
 
 impl<Q: QueueRule + Drop> Cbq<Q> {
@@ -65,7 +67,11 @@ impl<Q: QueueRule + Drop> Cbq<Q> {
         let holds = vec![in alloc; true; queues.len()]?;
         let rows = Rows::build(alloc, 0, queues, holds)?;
         let shares = Shares::build(alloc, classes, rate)?;
-        Ok(Cbq { shares, rows })
+        Ok(Cbq {
+            shares,
+            rows,
+            waiting: Waiting::none(),
+        })
     }
 }
 
@@ -156,11 +162,13 @@ impl<Q: QueueRule + Drop> Discipline for Cbq<Q> {
         words: &mut Words,
     ) -> Verdict {
         let entry = Entry { ticket, len, prec };
-        self.rows.offer(class, entry, now, words)
+        let verdict = self.rows.offer(class, entry, now, words);
+        self.waiting.put(class, verdict.is_kept());
+        verdict
     }
 
     fn next(&mut self, now: u64, clock: &LinkClock) -> Pick {
-        let found = look(&self.shares, &self.rows, now, clock);
+        let found = look(&self.shares, &self.rows, &self.waiting, now, clock);
         pick_of(&self.shares, &self.rows, &found, now, clock)
     }
 
@@ -168,9 +176,10 @@ impl<Q: QueueRule + Drop> Discipline for Cbq<Q> {
         let end = clock
             .end_of(sending.start, sending.len)
             .max(self.shares.ended);
-        gain_all(&mut self.shares, &self.rows, &sending, clock);
+        gain_all(&mut self.shares, &self.rows, &self.waiting, &sending, clock);
         self.rows.take(sending.class, sending.start);
         let emptied = self.rows.head(sending.class).is_none();
+        self.waiting.take(sending.class, emptied);
         self.shares.pay(sending.class, sending.len, emptied);
         self.shares.set_last(sending.class, end);
         self.shares.tell(sending.class, sending.len);

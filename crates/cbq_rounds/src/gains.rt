@@ -1,12 +1,14 @@
 // What the candidates of a sending gain.
-ghost use Rattle.std.specs.Prelude.{◌≡◌, ◌≤◌, ◌<◌, ◌^◌, ℕ, length};
+ghost use Rattle.std.specs.Prelude.{◌≡◌, ◌≤◌, ◌<◌, ◌^◌, ℕ, [], length};
 ghost use Rattle.class_rows.specs.Rows.{list_in};
 ghost use Rattle.discipline_laws.specs.declared.pick.Pick.{Pick};
 ghost use Rattle.cbq_rounds.specs.Due.{due_in};
 ghost use Rattle.cbq_rounds.specs.Looked.{AreSized};
 ghost use Rattle.cbq_rounds.specs.Gained.{with_gains};
+ghost use Rattle.cbq_rounds.specs.Waiting.{AreWaiting};
 
 use crate::sharing::Shares;
+use crate::waiting::Waiting;
 use class_rows::Rows;
 use discipline_laws::Sending;
 use leaf_queue::QueueRule;
@@ -17,6 +19,7 @@ use link_clock::LinkClock;
 pub fn gain_all<Q: QueueRule + Drop>(
     shares: &mut Shares,
     rows: &Rows<Q>,
+    waiting: &Waiting,
     sending: &Sending,
     clock: &LinkClock,
 )
@@ -24,6 +27,8 @@ pub fn gain_all<Q: QueueRule + Drop>(
     requires count { length rows.now.queues ≡ length shares.old.tree }
     requires credits { length shares.old.credits ≡ length shares.old.tree }
     requires sized { (c : ℕ) → AreSized (list_in rows.now c) }
+    requires waiting { AreWaiting waiting.now (list_in rows.now) }
+    requires others { (c : ℕ) → length shares.old.tree ≤ c → list_in rows.now c ≡ [] }
     requires free { clock.now.link.free ≤ sending.now.start }
     requires early { sending.now.start < 2 ^ 63 }
     requires rate { clock.now.rate ≡ shares.old.rate }
@@ -36,7 +41,9 @@ pub fn gain_all<Q: QueueRule + Drop>(
         return;
     }
     let priority = shares.priority(sending.class);
-    for class in 0..rows.count() {
+    let mut from = 0;
+    'classes: while let Some(class) = waiting.first_from(from) {
+        from = class + 1;
         if shares.priority(class) != priority {
             continue;
         }

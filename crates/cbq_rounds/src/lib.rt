@@ -11,6 +11,7 @@ mod laws;
 mod look;
 mod sent;
 mod sharing;
+mod waiting;
 
 pub use cbq::Cbq;
 pub use cbq_model::CbqClass;

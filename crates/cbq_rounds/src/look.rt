@@ -1,13 +1,15 @@
 // A look at every class that waits.
-ghost use Rattle.std.specs.Prelude.{◌≡◌, ◌≤◌, ◌<◌, ◌^◌, ℕ, length, None, Some};
+ghost use Rattle.std.specs.Prelude.{◌≡◌, ◌≤◌, ◌<◌, ◌^◌, ℕ, [], length, None, Some};
 ghost use Rattle.altq_model.specs.Play.{lesser};
 ghost use Rattle.class_rows.specs.Rows.{list_in};
 ghost use Rattle.cbq_model.specs.Choice.{able, best, better};
 ghost use Rattle.cbq_rounds.specs.Due.{first_in};
 ghost use Rattle.cbq_rounds.specs.Looked.{AreSized, is_behind};
 ghost use Rattle.cbq_rounds.specs.Shared.{situation_in};
+ghost use Rattle.cbq_rounds.specs.Waiting.{AreWaiting};
 
 use crate::sharing::Shares;
+use crate::waiting::Waiting;
 use cbq_model::Rank;
 use class_rows::Rows;
 use leaf_queue::QueueRule;
@@ -54,17 +56,20 @@ fn is_behind(best: Option<Rank>, priority: u8) -> bool
     }
 }
 
-/// Looks at each class once, and at its way to the root as far as it may borrow. Where a class may send now, those of lesser priority
+/// Looks at each class that waits once, and at its way to the root as far as it may borrow. Where a class may send now, those of lesser priority
 /// after it need no look: none may send sooner, and none goes before it.
 pub fn look<Q: QueueRule + Drop>(
     shares: &Shares,
     rows: &Rows<Q>,
+    waiting: &Waiting,
     now: u64,
     clock: &LinkClock,
 ) -> Found
     requires first { rows.now.first ≡ 0 }
     requires count { length rows.now.queues ≡ length shares.now.tree }
     requires sized { (c : ℕ) → AreSized (list_in rows.now c) }
+    requires waiting { AreWaiting waiting.now (list_in rows.now) }
+    requires others { (c : ℕ) → length shares.now.tree ≤ c → list_in rows.now c ≡ [] }
     requires free { clock.now.link.free ≤ now }
     requires early { now < 2 ^ 63 }
     requires rate { clock.now.rate ≡ shares.now.rate }
@@ -74,7 +79,9 @@ pub fn look<Q: QueueRule + Drop>(
 {
     let mut till = None;
     let mut best = None;
-    for class in 0..rows.count() {
+    let mut from = 0;
+    'classes: while let Some(class) = waiting.first_from(from) {
+        from = class + 1;
         if is_behind(best, shares.priority(class)) {
             continue;
         }

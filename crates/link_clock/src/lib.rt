@@ -36,15 +36,20 @@ impl Model for LinkClock {
     ghost invariant = { λ c. IsRunning c.rate c.free c.run c.sent };
 }
 
-// The end of a run that began at `run`, with `sent` units up to it.
+// The end of a run that began at `run`, with `sent` units up to it. Most runs are short enough for a division of 64 bits, which is cheaper.
 fn run_end(rate: u64, run: u64, sent: u128) -> u64
     requires rate { 0 < rate }
     requires fits { run + ceil_div sent rate < 2 ^ 64 }
     requires small { sent + rate < 2 ^ 128 }
     ensures { result ≡ run + ceil_div sent rate }
 {
-    let rate = u128::from(rate);
-    run + ((sent + (rate - 1)) / rate) as u64
+    let amount = sent + u128::from(rate - 1);
+    let time = if amount <= u128::from(u64::MAX) {
+        amount as u64 / rate
+    } else {
+        (amount / u128::from(rate)) as u64
+    };
+    run + time
 }
 
 impl LinkClock {

@@ -72,6 +72,11 @@ searched pair [] class (Ok at) rising inside equal = absurd (omega (arith, insid
 searched pair [] class (Err at) rising inside parted = refl
 searched pair (x ∷ xs) class r rising inside h = search_ends pair (x ∷ xs) x rising class r inside h
 
+-- where an entry of the class stands is its place
+pub stands_at : {X : Type 0} (pair : X → ℕ × List ℕ) (xs : List X) (class at : ℕ) (d : X) → AllPairs (λ x y. x.0 < y.0) (map pair xs) → at < length xs
+    → (pair (get_or xs at d)).0 ≡ class → place_of (map pair xs) class ≡ Some at
+stands_at pair xs class at d rising inside here = found pair xs d rising class at inside here
+
 -- at the place of a class its name is read
 pub name_at : {X : Type 0} (pair : X → ℕ × List ℕ) (xs : List X) (class at : ℕ) (x : X) → place_of (map pair xs) class ≡ Some at
     → x ≡ get_or xs at x → name_of (map pair xs) class ≡ (pair x).1

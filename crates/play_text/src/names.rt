@@ -96,11 +96,31 @@ impl Names {
         self.entries[place].name.as_str()
     }
 
-    // Where a class stands: the classes rise.
+    // Where a class stands, if those before it follow one another without a gap from the first one on.
+    #[inline]
+    fn guess(&self, class: u32) -> Option<usize>
+        ensures place { IfSome result (λ at. place_of self.now class ≡ Some at) }
+        ensures few { IfSome result (λ at. at < 256) }
+    {
+        if self.entries.is_empty() {
+            return None;
+        }
+        let at = class.saturating_sub(self.entries[0].class) as usize;
+        if at < self.entries.len() && self.entries[at].class == class {
+            Some(at)
+        } else {
+            None
+        }
+    }
+
+    // Where a class stands: the classes rise, and mostly by one.
     fn search(&self, class: u32) -> Option<usize>
         ensures place { result ≡ place_of self.now class }
         ensures few { IfSome result (λ at. at < 256) }
     {
+        if let Some(at) = self.guess(class) {
+            return Some(at);
+        }
         self.entries
             .binary_search_by_key(&class, |named| named.class)
             .ok()

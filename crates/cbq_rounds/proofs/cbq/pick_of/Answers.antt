@@ -1,8 +1,7 @@
-use Rattle.std.proofs.Common.{◌≡◌, ◌≤◌, ◌<◌, ◌∙◌, ℕ, List, Some, ap, arith, length, sym}
-use Rattle.std.specs.Prelude.{slice_get}
+use Rattle.std.proofs.Common.{◌∙◌, ap, arith, sym}
 use Rattle.discipline_laws.specs.declared.pick.Pick.TheVariants.{Send}
 use Rattle.class_rows.specs.Rows.{list_in}
-use Rattle.cbq_rounds.proofs.DueLemmas.{found_head, found_is, found_later, found_none, found_sent, same_rank}
+use Rattle.cbq_rounds.proofs.DueLemmas.{found_head, found_is, found_sent, same_rank}
 use Rattle.cbq_rounds.proofs.LookLemmas.{first_sized}
 use Rattle.cbq_rounds.proofs.cbq.pick_of.Goals as goal
 

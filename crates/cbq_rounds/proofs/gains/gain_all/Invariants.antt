@@ -1,6 +1,10 @@
+use Rattle.std.proofs.Common.{◌-◌}
 use Rattle.class_rows.specs.Rows.{list_in}
 use Rattle.cbq_rounds.specs.Gained.{HasGained}
 use Rattle.cbq_rounds.proofs.gains.gain_all.Given as goal
 
-abbrev pub invariant-loop-class : goal.invariant-loop-class
-invariant-loop-class g l = HasGained l.fn.shares (list_in l.rows) l.clock l.sending l.class l.shares
+abbrev pub invariant-classes : goal.invariant-classes
+invariant-classes g l = HasGained l.fn.shares (list_in l.rows) l.clock l.sending l.from l.shares
+
+abbrev pub decreases-classes : goal.decreases-classes
+decreases-classes g l = 256 - l.from

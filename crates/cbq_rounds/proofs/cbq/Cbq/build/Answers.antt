@@ -1,8 +1,7 @@
-use Rattle.std.proofs.Common.{◌≡◌, ◌<◌, ◌∙◌, ℕ, Bool, List, ap, arith, length, map, replicate, Some}
+use Rattle.std.proofs.Common.{◌≡◌, ◌∙◌, ℕ, Bool, List, ap, arith, length, replicate, Some}
 use Rattle.std.specs.Prelude.{true}
-use Rattle.class_rows.specs.Rows.{Rowed, classes_in, limit_at, limits_of}
+use Rattle.class_rows.specs.Rows.{Rowed, limit_at, limits_of}
 use Rattle.class_rows.proofs.RowLemmas.{all_limits}
-use Rattle.cbq_model.specs.Tree.{numbers}
 use Rattle.cbq_rounds.specs.Shared.{Shared}
 use Rattle.cbq_rounds.proofs.BuildLemmas.{hold_all, is_ruling, stands_empty}
 use Rattle.cbq_rounds.proofs.cbq.Cbq.build.Goals as goal
@@ -15,8 +14,8 @@ invariant_of-result g c =
     let all : r.holds ≡ replicate (length c.args.classes.now) true =
     c.in_ok-rows.ensures.holds ∙ c.in_ok-holds.ensures.items_if_clones_equal (λ y e. e) ∙ ap (λ k. replicate k true) count in
     is_ruling g.Q.QueueRule.stands g.Q.QueueRule.says c.args.rate c.args.classes.now c.in_ok-shares.shares r c.in_ok-shares.ensures c.in_ok-rows.ensures.told
-    (hold_all r c.args.classes.now c.in_ok-rows.ensures.first all) c.in_ok-rows.ensures.first
-    (ap (λ (qs : List g.row.Q.Denot). length qs) c.in_ok-rows.ensures.queues ∙ c.requires.one_each)
+    (hold_all r c.args.classes.now c.in_ok-rows.ensures.first all) c.none.result c.in_ok-rows.ensures.first
+    (ap (λ (qs : List g.row.Q.Denot). length qs) c.in_ok-rows.ensures.queues ∙ c.requires.one_each) c.requires.few c.none.ensures
 
 pub returns-clause-empty : goal.returns-clause-empty
 returns-clause-empty g c =

@@ -1,4 +1,4 @@
-use Rattle.std.proofs.Common.{◌≡◌, ◌≤◌, ◌∙◌, ℕ, List, [], ap, length, subst, sym}
+use Rattle.std.proofs.Common.{◌≡◌, ◌≤◌, ◌∙◌, ℕ, [], ap, length, subst, sym}
 use Rattle.std.specs.Prelude.{◌↔◌}
 use Rattle.altq_model.specs.History.{bare}
 use Rattle.altq_model.specs.Link.{link}

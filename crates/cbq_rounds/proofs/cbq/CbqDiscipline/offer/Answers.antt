@@ -1,15 +1,14 @@
-use Rattle.std.proofs.Common.{◌≡◌, ◌≤◌, ◌<◌, ◌-◌, ◌^◌, ◌∙◌, ℕ, List, [], ◌∷◌, ap, arith, length, subst, sym}
+use Rattle.std.proofs.Common.{◌≡◌, ◌<◌, ◌-◌, ◌^◌, ◌∙◌, List, ◌∷◌, ap, arith, length, subst, sym}
 use Rattle.altq_model.specs.History.{Happened, bare}
-use Rattle.altq_model.specs.Play.{IsOneOf}
 use Rattle.leaf_queue.specs.declared.node.Entry.{Entry}
 use Rattle.class_rows.specs.Rows.{list_in}
 use Rattle.discipline_laws.specs.Laws.{IsAnswer, coming, entry, offer_of}
 use Rattle.discipline_laws.specs.Moments.{IsOffer}
-use Rattle.cbq_model.specs.Tree.{numbers}
 use Rattle.cbq_model.proofs.Places.{is_below}
 use Rattle.cbq_rounds.specs.Looked.{AreSized}
 use Rattle.cbq_rounds.specs.Stands.{Ruling, Stands, cbq_of}
 use Rattle.cbq_rounds.proofs.StandsLemmas.{offer_others, offer_sized, offer_stands, same_in}
+use Rattle.cbq_rounds.proofs.WaitLemmas.{offer_waiting}
 use Rattle.cbq_rounds.proofs.cbq.CbqDiscipline.offer.Goals as goal
 
 pub invariant_of-self : goal.invariant_of-self
@@ -21,23 +20,31 @@ invariant_of-self g c =
     let low : c.args.class < length d.tree = omega (arith, is_below c.args.class c.args.self.now.shares.tree c.requires.class, same_tree) in
     let S : List Entry → Type 0 = λ xs. AreSized xs in
     record {
-      first = c.offer.ensures.same.first ∙ c.self.invariant.first;
-      count = c.offer.ensures.same.count ∙ c.self.invariant.count;
+      first = c.offer-verdict.ensures.same.first ∙ c.self.invariant.first;
+      count = c.offer-verdict.ensures.same.count ∙ c.self.invariant.count;
       credit_each = c.self.invariant.credit_each;
-      classes = same_in most g.Q.QueueRule.says c.self.inside.rows c.offer.new.self c.offer.ensures.same ∙ c.self.invariant.classes;
-      sized = λ k. subst S (sym (c.offer.ensures.lists k))
-          (offer_sized c.offer.result c.args.class k x (list_in c.self.inside.rows) c.requires.least c.requires.most (c.self.invariant.sized k));
-      others = λ k l. c.offer.ensures.lists k
-          ∙ offer_others c.offer.result c.args.class k x (list_in c.self.inside.rows) (omega (arith, low, l)) (c.self.invariant.others k l);
+      classes = same_in most g.Q.QueueRule.says c.self.inside.rows c.offer-verdict.new.self c.offer-verdict.ensures.same ∙ c.self.invariant.classes;
+      sized = λ k. subst S (sym (c.offer-verdict.ensures.lists k))
+          (offer_sized c.offer-verdict.result c.args.class k x (list_in c.self.inside.rows) c.requires.least c.requires.most (c.self.invariant.sized k));
+      others = λ k l. c.offer-verdict.ensures.lists k
+          ∙ offer_others c.offer-verdict.result c.args.class k x (list_in c.self.inside.rows) (omega (arith, low, l)) (c.self.invariant.others k l);
+      few = c.self.invariant.few;
+      waiting = offer_waiting c.offer-verdict.result c.args.class x c.is_kept.result c.self.inside.waiting c.put.new.self (list_in c.self.inside.rows) (list_in c.offer-verdict.new.self)
+          c.self.invariant.waiting c.offer-verdict.ensures.lists c.is_kept.ensures c.put.ensures.here c.put.ensures.others;
     }
+
+pub put-requires : goal.put-requires
+put-requires g c =
+    let same_tree : length c.args.self.now.shares.tree ≡ length c.self.inside.shares.tree = ap (λ (v : Ruling g.row.Q.Denot). length v.shares.tree) (sym c.self.view_is) in
+    omega (arith, is_below c.args.class c.args.self.now.shares.tree c.requires.class, same_tree, c.self.invariant.few)
 
 pub returns-clause-history : goal.returns-clause-history
 returns-clause-history g c =
     let P : Ruling g.row.Q.Denot → Type 0 = λ d. (h : List Happened) → Stands g.Q.QueueRule.stands g.Q.QueueRule.says d h → IsOffer c.args.now (bare h)
     → c.args.words.now.drawn < 2 ^ 64 - 1
-    → IsAnswer (cbq_of g.Q.QueueRule.says d) (bare h) c.args.words.now (coming c.args.class c.args.len c.args.prec c.args.now) c.offer.result c.offer.new.words
-    × Stands g.Q.QueueRule.stands g.Q.QueueRule.says (record { shares = c.self.inside.shares; rows = c.offer.new.self })
+    → IsAnswer (cbq_of g.Q.QueueRule.says d) (bare h) c.args.words.now (coming c.args.class c.args.len c.args.prec c.args.now) c.offer-verdict.result c.offer-verdict.new.words
+    × Stands g.Q.QueueRule.stands g.Q.QueueRule.says (record { shares = c.self.inside.shares; rows = c.offer-verdict.new.self })
     (offer_of (cbq_of g.Q.QueueRule.says d) h c.args.ticket c.args.words.now (coming c.args.class c.args.len c.args.prec c.args.now) ∷ h) in
     subst P c.self.view_is (λ h s o few. offer_stands g.Q.QueueRule.stands g.Q.QueueRule.says g.Q.QueueRule.most
-    (record { shares = c.self.inside.shares; rows = c.self.inside.rows }) c.offer.new.self h c.args.ticket c.args.class c.args.len c.args.prec c.args.now
-    c.args.words.now c.offer.new.words c.offer.result c.offer.ensures.same s o (c.offer.ensures.told h s.told few))
+    (record { shares = c.self.inside.shares; rows = c.self.inside.rows }) c.offer-verdict.new.self h c.args.ticket c.args.class c.args.len c.args.prec c.args.now
+    c.args.words.now c.offer-verdict.new.words c.offer-verdict.result c.offer-verdict.ensures.same s o (c.offer-verdict.ensures.told h s.told few))

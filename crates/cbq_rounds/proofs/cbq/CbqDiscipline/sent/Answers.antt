@@ -1,11 +1,10 @@
-use Rattle.std.proofs.Common.{◌≡◌, ◌<◌, ◌∙◌, ℕ, List, ◌∷◌, ap, arith, length, max, refl, subst, sym}
+use Rattle.std.proofs.Common.{◌≡◌, ◌∙◌, ℕ, List, ◌∷◌, ap, arith, max, refl, subst, sym}
 use Rattle.std.specs.Prelude.{is_none}
 use Rattle.std.specs.declared.option.Option.{Option}
 use Rattle.altq_model.specs.History.{Happened, bare}
 use Rattle.altq_model.specs.Link.{end_of}
 use Rattle.leaf_queue.specs.declared.node.Entry.{Entry}
 use Rattle.class_rows.specs.Rows.{list_in}
-use Rattle.discipline_laws.specs.declared.pick.Pick.TheVariants.{Send}
 use Rattle.discipline_laws.specs.Laws.{sent_of}
 use Rattle.discipline_laws.specs.Moments.{IsChoice}
 use Rattle.cbq_rounds.specs.Due.{due_in}
@@ -15,6 +14,7 @@ use Rattle.cbq_rounds.proofs.LookLemmas.{first_sized}
 use Rattle.cbq_rounds.specs.Stands.{Ruling, Stands}
 use Rattle.cbq_rounds.proofs.DueLemmas.{sends_picked}
 use Rattle.cbq_rounds.proofs.StandsLemmas.{after_steps, kept_end, none_of, ruling_after, sent_stands}
+use Rattle.cbq_rounds.proofs.WaitLemmas.{sent_waiting}
 use Rattle.cbq_rounds.proofs.cbq.CbqDiscipline.sent.Goals as goal
 
 pub gain_all-requires-clause-due : goal.gain_all-requires-clause-due
@@ -49,9 +49,13 @@ invariant_of-self g c =
     let sends = sends_picked d.shares (list_in d.rows) c.args.clock.now c.args.sending.start c.args.sending.class c.args.sending.len c.args.sending.ticket c.args.sending.rule
     c.requires.free rate due in
     ruling_after g.Q.QueueRule.stands g.Q.QueueRule.says g.Q.QueueRule.most d c.take.new.self c.args.clock.now c.args.sending c.max-end.result c.is_none-emptied.result
-    c.tell.new.self c.self.invariant c.take.ensures.same c.take.ensures.lists
+    c.tell.new.self c.self.inside.waiting c.take-2.new.self c.self.invariant c.take.ensures.same c.take.ensures.lists
     (after_steps g.Q.QueueRule.stands g.Q.QueueRule.says d c.args.clock.now c.args.sending c.max-end.result c.is_none-emptied.result c.gain_all.new.shares c.pay.new.self
     c.set_last.new.self c.tell.new.self sends.place c.gain_all.ensures c.pay.ensures c.set_last.ensures c.tell.ensures)
+    (sent_waiting c.args.sending.class c.is_none-emptied.result c.self.inside.waiting c.take-2.new.self (list_in c.self.inside.rows) (list_in c.take.new.self)
+    c.self.invariant.waiting c.take.ensures.lists
+    (none_of c.head.result c.is_none-emptied.result c.is_none-emptied.ensures ∙ ap (λ (e : Option Entry). is_none e) c.head.ensures)
+    c.take-2.ensures.here c.take-2.ensures.others)
 
 pub returns-clause-history : goal.returns-clause-history
 returns-clause-history g c =

@@ -1,4 +1,4 @@
-use Rattle.std.proofs.Common.{◌≡◌, ◌<◌, ◌-◌, ap, arith, length, rules}
+use Rattle.std.proofs.Common.{◌≡◌, ◌<◌, ap, arith, length, rules}
 use Rattle.cbq_rounds.specs.Shared.{Shared}
 use Rattle.cbq_rounds.proofs.Places.{parent_below}
 use Rattle.cbq_rounds.proofs.sharing.Shares.+tell_up.Goals as goal

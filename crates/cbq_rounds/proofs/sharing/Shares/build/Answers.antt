@@ -1,4 +1,4 @@
-use Rattle.std.proofs.Common.{◌≡◌, ◌≤◌, ◌∙◌, List, ap, arith, length, map, replicate, take}
+use Rattle.std.proofs.Common.{◌≤◌, ◌∙◌, List, ap, arith, length, map}
 use Rattle.std.proofs.lemmas.List.{take_all}
 use Rattle.cbq_model.specs.declared.CbqClass.{CbqClass}
 use Rattle.cbq_model.specs.Tree.{quantum_of}

@@ -1,4 +1,4 @@
-use Rattle.std.proofs.Common.{◌≡◌, ◌∙◌, sym}
+use Rattle.std.proofs.Common.{◌∙◌, sym}
 use Rattle.cbq_model.specs.Tree.{class_of, lender_of, lenders}
 use Rattle.cbq_rounds.specs.Shared.{Shared}
 use Rattle.cbq_rounds.proofs.Places.{start_free, start_lent}

@@ -1,0 +1,91 @@
+-- Bits of words, as a set of classes keeps them.
+use Rattle.std.proofs.Common.{◌≡◌, ◌≢◌, ◌≤◌, ◌<◌, ◌-◌, ◌*◌, ◌/◌, ◌%◌, ◌^◌, ◌∙◌, inl, inr, ℕ, List, length, get_or, ap, sym, arith, min, bit_and, bit_or, w64, get_or-set_same, get_or-set_other}
+use Rattle.std.specs.Prelude.{slice_set}
+use Rattle.std.specs.Int.{bit_at, bit_not, trailing_zeros}
+use Rattle.std.proofs.lemmas.Bool.{cases_eq, cases_lt}
+use Rattle.std.proofs.lemmas.Nat.Bits.{bit_at-trailing_zeros, bit_at-zero, bit_at_and, bit_at_clear_other, bit_at_clear_same, bit_at_mask_below, bit_at_mask_inside, bit_at-lt, bit_at_set_other, bit_at_set_same, ones_shl}
+use Rattle.cbq_rounds.specs.Waiting.{IsLowest, marked}
+
+abbrev with_bit : ℕ → ℕ → ℕ
+with_bit n i = bit_or n (1 * 2 ^ i % 2 ^ 64)
+
+abbrev without_bit : ℕ → ℕ → ℕ
+without_bit n i = bit_and n (bit_not w64 (1 * 2 ^ i % 2 ^ 64))
+
+-- a word is changed in one bit, so a set in one class
+changed_other : (words : List ℕ) (k c n : ℕ) → length words ≡ 4 → k < 256 → c ≢ k
+    → ((i : ℕ) → i < 64 → i ≢ k % 64 → bit_at n i ≡ bit_at (get_or words (k / 64) 0) i) → marked (slice_set words (k / 64) n) c ≡ marked words c
+changed_other words k c n l h other same = elim (cases_eq (c / 64) (k / 64)) [
+  | inl e ↦
+      let inside : k / 64 < length words = omega (arith, l, h) in
+      let here : get_or (slice_set words (k / 64) n) (c / 64) 0 ≡ n = ap (λ (i : ℕ). get_or (slice_set words (k / 64) n) i 0) e ∙ get_or-set_same words (k / 64) n 0 inside in
+      let apart : c % 64 ≢ k % 64 = λ p. other (omega (arith, p, e)) in
+      ap (λ (m : ℕ). bit_at m (c % 64)) here ∙ same (c % 64) (omega arith) apart ∙ ap (λ (i : ℕ). bit_at (get_or words i 0) (c % 64)) (sym e)
+  | inr d ↦ ap (λ (m : ℕ). bit_at m (c % 64)) (get_or-set_other words (k / 64) (c / 64) n 0 d)
+]
+
+changed_here : (words : List ℕ) (k n b : ℕ) → length words ≡ 4 → k < 256 → bit_at n (k % 64) ≡ b → marked (slice_set words (k / 64) n) k ≡ b
+changed_here words k n b l h e =
+    let inside : k / 64 < length words = omega (arith, l, h) in
+    ap (λ (m : ℕ). bit_at m (k % 64)) (get_or-set_same words (k / 64) n 0 inside) ∙ e
+
+pub put_same : (words : List ℕ) (k : ℕ) → length words ≡ 4 → k < 256 → marked (slice_set words (k / 64) (with_bit (get_or words (k / 64) 0) (k % 64))) k ≡ 1
+put_same words k l h =
+    changed_here words k (with_bit (get_or words (k / 64) 0) (k % 64)) 1 l h (bit_at_set_same w64 (get_or words (k / 64) 0) (k % 64) (omega arith))
+
+pub put_other : (words : List ℕ) (k c : ℕ) → length words ≡ 4 → k < 256 → c ≢ k
+    → marked (slice_set words (k / 64) (with_bit (get_or words (k / 64) 0) (k % 64))) c ≡ marked words c
+put_other words k c l h other =
+    changed_other words k c (with_bit (get_or words (k / 64) 0) (k % 64)) l h other
+    (λ i m d. bit_at_set_other w64 (get_or words (k / 64) 0) (k % 64) (omega arith) i d)
+
+pub take_same : (words : List ℕ) (k : ℕ) → length words ≡ 4 → k < 256 → marked (slice_set words (k / 64) (without_bit (get_or words (k / 64) 0) (k % 64))) k ≡ 0
+take_same words k l h =
+    changed_here words k (without_bit (get_or words (k / 64) 0) (k % 64)) 0 l h (bit_at_clear_same w64 (get_or words (k / 64) 0) (k % 64) (omega arith))
+
+pub take_other : (words : List ℕ) (k c : ℕ) → length words ≡ 4 → k < 256 → c ≢ k
+    → marked (slice_set words (k / 64) (without_bit (get_or words (k / 64) 0) (k % 64))) c ≡ marked words c
+take_other words k c l h other =
+    changed_other words k c (without_bit (get_or words (k / 64) 0) (k % 64)) l h other
+    (λ i m d. bit_at_clear_other w64 (get_or words (k / 64) 0) (k % 64) (omega arith) i m d)
+
+-- the bits of a word from a place on
+abbrev rest : ℕ → ℕ → ℕ
+rest n p = bit_and n ((2 ^ 64 - 1) * 2 ^ p % 2 ^ 64)
+
+rest_is : (n p i : ℕ) → p < 64 → bit_at (rest n p) i ≡ min (bit_at n i) (bit_at (2 ^ 64 - 2 ^ p) i)
+rest_is n p i h = ap (λ (m : ℕ). bit_at (bit_and n m) i) (ones_shl 64 p (omega (arith, h))) ∙ bit_at_and n (2 ^ 64 - 2 ^ p) i
+
+rest_from : (n p i : ℕ) → p < 64 → p ≤ i → i < 64 → bit_at (rest n p) i ≡ bit_at n i
+rest_from n p i h low high =
+    let one = bit_at_mask_inside p 64 i low high in
+    let most = bit_at-lt n i in
+    let small : min (bit_at n i) 1 ≡ bit_at n i = omega (arith, most) in
+    rest_is n p i h ∙ ap (λ (m : ℕ). min (bit_at n i) m) one ∙ small
+
+rest_below : (n p i : ℕ) → p < 64 → i < p → bit_at (rest n p) i ≡ 0
+rest_below n p i h low =
+    let none = bit_at_mask_below p 64 i low in
+    let small : min (bit_at n i) 0 ≡ 0 = omega arith in
+    rest_is n p i h ∙ ap (λ (m : ℕ). min (bit_at n i) m) none ∙ small
+
+pub none_left : (n p : ℕ) → p < 64 → rest n p ≡ 0 → (i : ℕ) → p ≤ i → i < 64 → bit_at n i ≡ 0
+none_left n p h e i low high = sym (rest_from n p i h low high) ∙ ap (λ (m : ℕ). bit_at m i) e ∙ bit_at-zero i
+
+pub lowest_left : (n p : ℕ) → p < 64 → (rest n p ≡ 0 → ⊥) → rest n p < 2 ^ 64 → IsLowest n p (trailing_zeros w64 (rest n p))
+lowest_left n p h some fits =
+    let x = bit_at-trailing_zeros w64 (rest n p) (omega (arith, some)) fits in
+    let i : ℕ = trailing_zeros w64 (rest n p) in
+    let low : p ≤ i = elim (cases_lt i p) [
+      | inl m ↦
+          let e : bit_at (rest n p) i ≡ 0 = rest_below n p i h m in
+          let f : bit_at (rest n p) i ≡ 1 = x.1 in
+          absurd (omega (arith, e, f))
+      | inr m ↦ m
+    ] in
+    record {
+      from = low;
+      inside = x.0;
+      is = sym (rest_from n p i h low x.0) ∙ x.1;
+      below = λ j a b. let m : j < 64 = omega (arith, b, x.0) in sym (rest_from n p j h a m) ∙ x.2 j b;
+    }

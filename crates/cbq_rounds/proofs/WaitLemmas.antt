@@ -1,0 +1,155 @@
+-- The classes that wait, and those between them, which have nothing.
+use Rattle.std.proofs.Common.{◌≡◌, ◌≢◌, ◌≤◌, ◌<◌, ◌+◌, ◌-◌, ◌∙◌, inl, inr, ℕ, zero, suc, Bool, true, false, List, [], ◌∷◌, ◌++◌, None, length, drop, refl, ap, sym, subst, arith, eqb}
+use Rattle.std.specs.declared.option.Option.{Option}
+use Rattle.std.specs.Prelude.{◌&&◌, if◌then◌else◌, is_none, slice_get}
+use Rattle.std.proofs.lemmas.Bool.{cases_eq, cases_lt, eq-eqb, ne_eqb}
+use Rattle.altq_model.specs.declared.Verdict.{Verdict}
+use Rattle.altq_model.specs.History.{is_kept}
+use Rattle.cbq_model.specs.declared.Rank.{Rank}
+use Rattle.cbq_model.specs.Choice.{able, best}
+use Rattle.discipline_laws.specs.Laws.{after_offer, after_sent}
+use Rattle.discipline_laws.specs.declared.pick.Sending.{Sending}
+use Rattle.leaf_queue.specs.declared.node.Entry.{Entry}
+use Rattle.link_clock.specs.Clock.{Clock}
+use Rattle.cbq_rounds.specs.Due.{first_in}
+use Rattle.cbq_rounds.specs.Gained.{HasGained, with_gains}
+use Rattle.cbq_rounds.specs.Looked.{HasLooked}
+use Rattle.cbq_rounds.specs.Shared.{Shared, head_len, situation_in}
+use Rattle.cbq_rounds.specs.Waiting.{AreWaiting, marked, waits}
+use Rattle.cbq_rounds.proofs.GainLemmas.{empty_gains_nothing, gain_all_is, gain_kept}
+use Rattle.cbq_rounds.proofs.LookLemmas.{looked_all, looked_none}
+
+no_waits : (xs : List Entry) → waits xs ≡ 0 → xs ≡ []
+no_waits [] e = refl
+no_waits (x ∷ xs) e = absurd (omega (arith, e))
+
+-- nothing waits in a class that is not marked
+pub not_marked : (words : List ℕ) (lists : ℕ → List Entry) (c : ℕ) → AreWaiting words lists → marked words c ≡ 0 → lists c ≡ []
+not_marked words lists c w e = no_waits (lists c) (sym (w c) ∙ e)
+
+pub no_head : (lists : ℕ → List Entry) (c : ℕ) → lists c ≡ [] → head_len (lists c) ≡ None
+no_head lists c e = ap head_len e
+
+-- one that is marked is one of the tree
+pub marked_inside : (words : List ℕ) (lists : ℕ → List Entry) (c n : ℕ) → AreWaiting words lists → ((k : ℕ) → n ≤ k → lists k ≡ []) → marked words c ≡ 1 → c < n
+marked_inside words lists c n w others e = elim (cases_lt c n) [
+  | inl m ↦ m
+  | inr m ↦
+      let none : marked words c ≡ 0 = w c ∙ ap waits (others c m) in
+      absurd (omega (arith, e, none))
+]
+
+-- an offer
+kept_waits : (xs : List Entry) (x : Entry) → waits (xs ++ x ∷ []) ≡ 1
+kept_waits [] x = refl
+kept_waits (y ∷ ys) x = refl
+
+offered_here : (v : Verdict) (x : Entry) (xs : List Entry) (b : Bool) (n : ℕ) → is_kept v ≡ b → n ≡ waits xs → (if b then 1 else n) ≡ waits (if b && true then xs ++ x ∷ [] else xs)
+offered_here v x xs true n e w = sym (kept_waits xs x)
+offered_here v x xs false n e w = w
+
+not_mine : (b : Bool) → (b && false) ≡ false
+not_mine true = refl
+not_mine false = refl
+
+pub offer_waiting : (v : Verdict) (class : ℕ) (x : Entry) (kept : Bool) (before after : List ℕ) (old new : ℕ → List Entry) → AreWaiting before old
+    → ((c : ℕ) → new c ≡ after_offer v class x old c) → kept ≡ is_kept v
+    → marked after class ≡ (if kept then 1 else marked before class) → ((c : ℕ) → c ≢ class → marked after c ≡ marked before c) → AreWaiting after new
+offer_waiting v class x kept before after old new w lists k here others c = elim (cases_eq c class) [
+  | inl e ↦
+      let P : ℕ → Type 0 = λ n. marked after n ≡ waits (new n) in
+      let mine : eqb class class ≡ true = eq-eqb class class refl in
+      subst P (sym e)
+      (here ∙ ap (λ (b : Bool). if b then 1 else marked before class) k ∙ offered_here v x (old class) (is_kept v) (marked before class) refl (w class)
+      ∙ ap (λ (b : Bool). waits (if is_kept v && b then old class ++ x ∷ [] else old class)) (sym mine) ∙ ap waits (sym (lists class)))
+  | inr d ↦
+      let other : eqb class c ≡ false = ne_eqb class c (λ e. d (sym e)) in
+      others c d ∙ w c ∙ ap (λ (b : Bool). waits (if b then old c ++ x ∷ [] else old c)) (sym (not_mine (is_kept v)))
+      ∙ ap (λ (b : Bool). waits (if is_kept v && b then old c ++ x ∷ [] else old c)) (sym other) ∙ ap waits (sym (lists c))
+]
+
+-- a sending
+taken_here : (xs : List Entry) (b : Bool) (n : ℕ) → n ≡ waits xs → b ≡ is_none (slice_get (drop 1 xs) 0) → (if b then 0 else n) ≡ waits (drop 1 xs)
+taken_here [] true n w e = refl
+taken_here [] false n w e = w
+taken_here (x ∷ []) true n w e = refl
+taken_here (x ∷ []) false n w e = absurd (cc)
+taken_here (x ∷ y ∷ ys) true n w e = absurd (cc)
+taken_here (x ∷ y ∷ ys) false n w e = w
+
+pub sent_waiting : (class : ℕ) (emptied : Bool) (before after : List ℕ) (old new : ℕ → List Entry) → AreWaiting before old
+    → ((c : ℕ) → new c ≡ after_sent class old c) → emptied ≡ is_none (slice_get (new class) 0)
+    → marked after class ≡ (if emptied then 0 else marked before class) → ((c : ℕ) → c ≢ class → marked after c ≡ marked before c) → AreWaiting after new
+sent_waiting class emptied before after old new w lists k here others c = elim (cases_eq c class) [
+  | inl e ↦
+      let P : ℕ → Type 0 = λ n. marked after n ≡ waits (new n) in
+      let mine : eqb class class ≡ true = eq-eqb class class refl in
+      let is : new class ≡ drop 1 (old class) = lists class ∙ ap (λ (b : Bool). if b then drop 1 (old class) else old class) mine in
+      subst P (sym e)
+      (here ∙ taken_here (old class) emptied (marked before class) (w class) (k ∙ ap (λ (xs : List Entry). is_none (slice_get xs 0)) is) ∙ ap waits (sym is))
+  | inr d ↦
+      let other : eqb class c ≡ false = ne_eqb class c (λ e. d (sym e)) in
+      others c d ∙ w c ∙ ap (λ (b : Bool). waits (if b then drop 1 (old c) else old c)) (sym other) ∙ ap waits (sym (lists c))
+]
+
+-- a look passes by the classes that have nothing
+look_over : (d : Shared) (lists : ℕ → List Entry) (clock : Clock) (now from more : ℕ) (at : Option ℕ) (found : Option Rank)
+    → HasLooked d lists clock now from at found → from + more ≤ length d.tree → ((c : ℕ) → from ≤ c → c < from + more → lists c ≡ [])
+    → HasLooked d lists clock now (from + more) at found
+look_over d lists clock now from zero at found x l none =
+    let P : ℕ → Type 0 = λ n. HasLooked d lists clock now n at found in
+    let same : from ≡ from + 0 = omega arith in
+    subst P same x
+look_over d lists clock now from (suc more) at found x l none =
+    let before = look_over d lists clock now from more at found x (omega (arith, l)) (λ c a b. none c a (omega (arith, b))) in
+    let P : ℕ → Type 0 = λ n. HasLooked d lists clock now n at found in
+    let same : from + more + 1 ≡ from + suc more = omega arith in
+    subst P same (looked_none d lists clock now (from + more) at found before (omega (arith, l)) (no_head lists (from + more) (none (from + more) (omega arith) (omega arith))))
+
+pub look_to : (d : Shared) (lists : ℕ → List Entry) (clock : Clock) (now from class : ℕ) (at : Option ℕ) (found : Option Rank)
+    → HasLooked d lists clock now from at found → from ≤ class → class ≤ length d.tree → ((c : ℕ) → from ≤ c → c < class → lists c ≡ [])
+    → HasLooked d lists clock now class at found
+look_to d lists clock now from class at found x low high none =
+    let same : from + (class - from) ≡ class = omega (arith, low) in
+    let P : ℕ → Type 0 = λ n. HasLooked d lists clock now n at found in
+    subst P same (look_over d lists clock now from (class - from) at found x (omega (arith, low, high)) (λ c a b. none c a (omega (arith, b, low))))
+
+pub look_rest : (d : Shared) (lists : ℕ → List Entry) (clock : Clock) (now from : ℕ) (at : Option ℕ) (found : Option Rank)
+    → HasLooked d lists clock now from at found → ((c : ℕ) → from ≤ c → lists c ≡ []) → (at ≡ first_in d lists clock now)
+    × (found ≡ best d.tree d.rate (situation_in d lists clock.link) None (able d.tree d.rate (situation_in d lists clock.link) now))
+look_rest d lists clock now from at found x none = elim (cases_lt from (length d.tree)) [
+  | inl m ↦
+      looked_all d lists clock now (length d.tree) at found
+      (look_to d lists clock now from (length d.tree) at found x (omega (arith, m)) (omega arith) (λ c a b. none c a)) (omega arith)
+  | inr m ↦ looked_all d lists clock now from at found x m
+]
+
+-- and so do gains
+gain_over : (d : Shared) (lists : ℕ → List Entry) (clock : Clock) (x : Sending) (from more : ℕ) (now : Shared) → HasGained d lists clock x from now
+    → from + more ≤ length d.tree → ((c : ℕ) → from ≤ c → c < from + more → lists c ≡ []) → HasGained d lists clock x (from + more) now
+gain_over d lists clock x from zero now g l none =
+    let P : ℕ → Type 0 = λ n. HasGained d lists clock x n now in
+    let same : from ≡ from + 0 = omega arith in
+    subst P same g
+gain_over d lists clock x from (suc more) now g l none =
+    let before = gain_over d lists clock x from more now g (omega (arith, l)) (λ c a b. none c a (omega (arith, b))) in
+    let P : ℕ → Type 0 = λ n. HasGained d lists clock x n now in
+    let same : from + more + 1 ≡ from + suc more = omega arith in
+    subst P same (gain_kept d lists clock x (from + more) now before
+    (empty_gains_nothing d lists clock x (from + more) (omega (arith, l)) (no_head lists (from + more) (none (from + more) (omega arith) (omega arith)))))
+
+pub gain_to : (d : Shared) (lists : ℕ → List Entry) (clock : Clock) (x : Sending) (from class : ℕ) (now : Shared) → HasGained d lists clock x from now
+    → from ≤ class → class ≤ length d.tree → ((c : ℕ) → from ≤ c → c < class → lists c ≡ []) → HasGained d lists clock x class now
+gain_to d lists clock x from class now g low high none =
+    let same : from + (class - from) ≡ class = omega (arith, low) in
+    let P : ℕ → Type 0 = λ n. HasGained d lists clock x n now in
+    subst P same (gain_over d lists clock x from (class - from) now g (omega (arith, low, high)) (λ c a b. none c a (omega (arith, b, low))))
+
+pub gain_rest : (d : Shared) (lists : ℕ → List Entry) (clock : Clock) (x : Sending) (from : ℕ) (now : Shared) → HasGained d lists clock x from now
+    → ((c : ℕ) → from ≤ c → lists c ≡ []) → length d.credits ≡ length d.tree → now ≡ with_gains d lists clock x
+gain_rest d lists clock x from now g none all = elim (cases_lt from (length d.tree)) [
+  | inl m ↦
+      gain_all_is d lists clock x (length d.tree) now
+      (gain_to d lists clock x from (length d.tree) now g (omega (arith, m)) (omega arith) (λ c a b. none c a)) (omega arith) all
+  | inr m ↦ gain_all_is d lists clock x from now g m all
+]

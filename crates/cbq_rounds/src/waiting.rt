@@ -1,0 +1,81 @@
+// Which classes wait.
+ghost use Rattle.std.specs.Prelude.{◌≡◌, ◌≢◌, ◌≤◌, ◌<◌, ℕ, IfNone, IfSome, if◌then◌else◌};
+ghost use Rattle.std.specs.Int.{bit_at};
+ghost use Rattle.cbq_rounds.specs.Waiting.{IsFirst, IsLowest, marked};
+
+use std::marker::Model;
+
+/// A set of classes below 256: a bit for each, 64 in a word. Contracts see the words.
+#[derive(Drop)]
+pub struct Waiting {
+    words: [u64; 4],
+}
+
+impl Model for Waiting {
+    ghost use Rattle.std.specs.Prelude.{◌≡◌, ℕ, List, length};
+
+    ghost Value = { List ℕ };
+
+    ghost view = { λ w. w.words };
+
+    ghost invariant = { λ w. length w.words ≡ 4 };
+}
+
+// The lowest bit of a word that is 1, from a place on.
+fn lowest_from(word: u64, place: u32) -> Option<u32>
+    requires { place < 64 }
+    ensures some { IfSome result (λ i. IsLowest word place i) }
+    ensures none { IfNone result ((i : ℕ) → place ≤ i → i < 64 → bit_at word i ≡ 0) }
+{
+    let rest = word & (u64::MAX << place);
+    if rest == 0 {
+        None
+    } else {
+        Some(rest.trailing_zeros())
+    }
+}
+
+impl Waiting {
+    /// No class.
+    pub fn none() -> Waiting
+        ensures { (c : ℕ) → marked result c ≡ 0 }
+    {
+        Waiting { words: [0; 4] }
+    }
+
+    /// Puts a class in, if a packet was kept in it.
+    pub fn put(&mut self, class: u32, kept: bool)
+        requires { class < 256 }
+        ensures here { marked self.new class ≡ (if kept then 1 else marked self.old class) }
+        ensures others { (c : ℕ) → c ≢ class → marked self.new c ≡ marked self.old c }
+    {
+        if kept {
+            self.words[(class / 64) as usize] |= 1 << (class % 64);
+        }
+    }
+
+    /// Takes a class out, if it was emptied.
+    pub fn take(&mut self, class: u32, emptied: bool)
+        requires { class < 256 }
+        ensures here { marked self.new class ≡ (if emptied then 0 else marked self.old class) }
+        ensures others { (c : ℕ) → c ≢ class → marked self.new c ≡ marked self.old c }
+    {
+        if emptied {
+            self.words[(class / 64) as usize] &= !(1 << (class % 64));
+        }
+    }
+
+    /// The first class from one on that is there. It looks at no more than four words.
+    pub fn first_from(&self, from: u32) -> Option<u32>
+        ensures some { IfSome result (λ class. IsFirst self.now from class) }
+        ensures none { IfNone result ((c : ℕ) → from ≤ c → marked self.now c ≡ 0) }
+    {
+        for at in from / 64..4 {
+            let place = from.saturating_sub(64 * at);
+            if let Some(bit) = lowest_from(self.words[at as usize], place) {
+                return Some(64 * at + bit);
+            }
+        }
+        None
+    }
+}
