@@ -38,7 +38,7 @@ from judge import wrong  # noqa: E402
 from program import PROGRAM, Late, content, kind_of, prepare, run, store  # noqa: E402
 
 VALGRIND = ["valgrind", "--quiet", "--error-exitcode=99", "--log-file=/dev/null"]
-AT_MOST = 120  # seconds by the clock, after which a run is ended
+AT_MOST = 1200  # seconds by the clock, after which a run is ended
 
 
 def laid(folder, files):

@@ -17,6 +17,8 @@ PROGRAM = os.path.join(ROOT, "crates", "altqplay", "out", "altqplay")
 # after it, and the seconds of processor time that it took.
 Run = namedtuple("Run", "status said complaint seconds")
 
+PROCESSOR_SECONDS = 120  # after which a run is ended by a signal
+
 OUTPUTS = ("departures", "fates", "stats")
 DEPARTURES_HEAD = bytes.fromhex("4d3cb2a10200040000000000000000000000040001000000")
 FATES_HEAD = b"number,arrival,length,class,fate,start,end\n"
@@ -83,11 +85,12 @@ def ended(child, seconds):
     return status, used
 
 
-def run(words, folder, seconds=60, environment=None):
+def run(words, folder, seconds=600, environment=None):
     """Runs a command, its words as texts or bytes, where `folder` is the current one, and without standard input.
 
     What it prints goes to files beside the folder. Signals that Python ignores, of a pipe without a reader and of a file
-    that grows too long, end it as they do from a shell. It raises Late where it has not ended after so many seconds.
+    that grows too long, end it as they do from a shell, and so does a signal after PROCESSOR_SECONDS. It raises Late where it
+    has not ended after so many seconds by the clock, which are many, since the machine may have other work.
     """
     printed, complained = folder.rstrip("/") + ".out", folder.rstrip("/") + ".err"
     flags = os.O_WRONLY | os.O_CREAT | os.O_TRUNC
@@ -100,6 +103,8 @@ def run(words, folder, seconds=60, environment=None):
                                file_actions=actions, setsigdef=[signal.SIGPIPE, signal.SIGXFSZ])
     finally:
         os.chdir(here)
+    with contextlib.suppress(ProcessLookupError, PermissionError):  # it has ended, or is another user's
+        resource.prlimit(child, resource.RLIMIT_CPU, (PROCESSOR_SECONDS, PROCESSOR_SECONDS))
     status, used = ended(child, seconds)
     return Run(os.waitstatus_to_exitcode(status), content(printed), content(complained), used.ru_utime + used.ru_stime)
 
