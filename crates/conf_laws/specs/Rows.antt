@@ -2,7 +2,7 @@
 -- and the canonical text of one that has none. See altq.conf(5).
 use Rattle.std.specs.Prelude.{◌≡◌, ℕ, true, false, List, [], ◌∷◌, Option, Some, None, Ok, Err, slice_get, codes}
 use Rattle.conf_lines.specs.declared.fault.ConfKind.{ConfKind}
-use Rattle.conf_lines.specs.declared.fault.ConfKind.TheVariants.{UnknownWord, MissingWord, BadNumber, RateRange, BadAddress, BadByte, WrongDiscipline, NameTaken, ConvexFirst, NoShare, RealTimeInside, InnerQueue, TwoDefaults, NoDefault}
+use Rattle.conf_lines.specs.declared.fault.ConfKind.TheVariants.{UnknownWord, MissingWord, BadNumber, RateRange, BadAddress, BadByte, WrongDiscipline, NameTaken, ConvexFirst, NoShare, RealTimeInside, InnerQueue, TwoDefaults, NoDefault, TwoRoots}
 use Rattle.conf_lines.specs.declared.fault.ConfPlace.{ConfPlace}
 use Rattle.conf_lines.specs.Texts.{statements_of}
 use Rattle.conf_tree.specs.declared.class.Class.{Class}
@@ -38,6 +38,7 @@ pub record LinesAre : Type 0 where
   pub brackets_are_blanks : Means (codes "interface [if0]hfsc") (codes "interface if0 bandwidth 100000000 hfsc\n")
   pub later_discipline_holds : Means (codes "interface if0 hfsc cbq") (codes "interface if0 bandwidth 100000000 cbq\n")
   pub later_bandwidth_holds : Means (codes "interface if0 bandwidth 1K hfsc bandwidth 2K") (codes "interface if0 bandwidth 2000 hfsc\n")
+  pub earlier_discipline_goes : Means (codes "interface if0 cbq hfsc") (codes "interface if0 bandwidth 100000000 hfsc\n")
 
 -- NAME: 1 to 64 letters, digits and signs
 pub record NamesAre : Type 0 where
@@ -50,6 +51,7 @@ pub record NamesAre : Type 0 where
   pub no_backquote : Faulty (codes "interface a` hfsc") 1 2 BadByte
   pub no_semicolon : Faulty (codes "interface a; hfsc") 1 2 BadByte
   pub no_bracket_of_arrays : Faulty (codes "interface a^ hfsc") 1 2 BadByte
+  pub name_like_a_number : Means (codes "interface a:1 hfsc") (codes "interface a:1 bandwidth 100000000 hfsc\n")
 
 -- the ends of each range
 pub record RangesAre : Type 0 where
@@ -92,6 +94,16 @@ pub record RangesAre : Type 0 where
   pub exact_above : Faulty (codes "interface if0 cbq\nclass cbq if0 r NULL\nclass cbq if0 a r exactbandwidth 1K exactbandwidth 1001G default") 3 9 RateRange
   pub percent_of_101 : Faulty (codes "interface if0 cbq\nclass cbq if0 r NULL\nclass cbq if0 a r exactbandwidth 1K pbandwidth 101 default") 3 9 BadNumber
   pub percent_of_0 : Faulty (codes "interface if0 cbq\nclass cbq if0 r NULL\nclass cbq if0 a r exactbandwidth 1K pbandwidth 0 default") 3 9 RateRange
+  pub greatest_real_time : Means (codes "interface if0 hfsc\nclass hfsc if0 r NULL\nclass hfsc if0 a r ls 1 0 1 rt 0 0 1000G rt 1000G 1000000 1 default") (codes "interface if0 bandwidth 100000000 hfsc\nclass hfsc if0 r NULL qlimit 50\nclass hfsc if0 a r rt 1000000000000 1000000 1 ls 1 0 1 qlimit 50 default\n")
+  pub real_time_above : Faulty (codes "interface if0 hfsc\nclass hfsc if0 r NULL\nclass hfsc if0 a r ls 1 0 1 rt 0 0 1001G default") 3 13 RateRange
+  pub greatest_guarantee : Means (codes "interface if0 hfsc\nclass hfsc if0 r NULL\nclass hfsc if0 a r ls 1 0 1 grate 1000G default") (codes "interface if0 bandwidth 100000000 hfsc\nclass hfsc if0 r NULL qlimit 50\nclass hfsc if0 a r rt 1000000000000 0 1000000000000 ls 1 0 1 qlimit 50 default\n")
+  pub guarantee_of_0 : Means (codes "interface if0 hfsc\nclass hfsc if0 r NULL\nclass hfsc if0 a r ls 1 0 1 grate 0 default") (codes "interface if0 bandwidth 100000000 hfsc\nclass hfsc if0 r NULL qlimit 50\nclass hfsc if0 a r rt 0 0 0 ls 1 0 1 qlimit 50 default\n")
+  pub greatest_limit : Means (codes "interface if0 hfsc\nclass hfsc if0 r NULL\nclass hfsc if0 a r ls 1 0 1 ul 1000 0 1000G ul 1000G 1000000 1000 default") (codes "interface if0 bandwidth 100000000 hfsc\nclass hfsc if0 r NULL qlimit 50\nclass hfsc if0 a r ls 1 0 1 ul 1000000000000 1000000 1000 qlimit 50 default\n")
+  pub limit_bend_above : Faulty (codes "interface if0 hfsc\nclass hfsc if0 r NULL\nclass hfsc if0 a r ls 1 0 1 ul 1000 1000001 1000 default") 3 12 BadNumber
+  pub limit_second_above : Faulty (codes "interface if0 hfsc\nclass hfsc if0 r NULL\nclass hfsc if0 a r ls 1 0 1 ul 1000 0 1000000000001 default") 3 13 RateRange
+  pub percent_of_100 : Means (codes "interface if0 cbq\nclass cbq if0 r NULL\nclass cbq if0 a r exactbandwidth 1K pbandwidth 100 default") (codes "interface if0 bandwidth 100000000 cbq\nclass cbq if0 r NULL priority 0 exactbandwidth 100000000 maxburst 16 packetsize 1500 qlimit 50\nclass cbq if0 a r priority 0 exactbandwidth 100000000 maxburst 16 packetsize 1500 qlimit 50 default\n")
+  pub percent_of_a_thousand : Means (codes "interface if0 bandwidth 100000 cbq\nclass cbq if0 r NULL pbandwidth 1 default") (codes "interface if0 bandwidth 100000 cbq\nclass cbq if0 r NULL priority 0 exactbandwidth 1000 maxburst 16 packetsize 1500 qlimit 50 default\n")
+  pub percent_below_a_thousand : Faulty (codes "interface if0 bandwidth 99999 cbq\nclass cbq if0 r NULL pbandwidth 1 default") 2 7 RateRange
 
 -- of two faults the earlier word, and at one word the order of the kinds
 pub record OrdersAre : Type 0 where
@@ -106,6 +118,9 @@ pub record OrdersAre : Type 0 where
   pub name_before_the_parent : Faulty (codes "interface if0 hfsc\nclass hfsc if0 r NULL\nclass hfsc if0 r x") 3 4 NameTaken
   pub share_at_the_end : Faulty (codes "interface if0 hfsc\nclass hfsc if0 r NULL\nclass hfsc if0 a r red") 3 7 NoShare
   pub no_default_after_all : Faulty (codes "interface if0 hfsc\nclass hfsc if0 r NULL\n") 1 0 NoDefault
+  pub burst_before_the_rate : Faulty (codes "interface if0 cbq\nclass cbq if0 r NULL\nclass cbq if0 a r maxburst 0") 3 7 BadNumber
+  pub spot_before_the_options : Faulty (codes "interface if0 hfsc\nclass hfsc if0 r NULL\nclass hfsc if0 a NULL quick") 3 5 TwoRoots
+  pub option_before_the_default : Faulty (codes "interface if0 hfsc\nclass hfsc if0 r NULL\nclass hfsc if0 a r ls 0 0 0") 3 9 RateRange
 
 -- a later option replaces an earlier one
 pub record LaterAre : Type 0 where
@@ -131,6 +146,14 @@ pub record LaterAre : Type 0 where
   pub percent_then_exact : Means (codes "interface if0 cbq\nclass cbq if0 r NULL\nclass cbq if0 a r default pbandwidth 50 exactbandwidth 3000") (codes "interface if0 bandwidth 100000000 cbq\nclass cbq if0 r NULL priority 0 exactbandwidth 100000000 maxburst 16 packetsize 1500 qlimit 50\nclass cbq if0 a r priority 0 exactbandwidth 3000 maxburst 16 packetsize 1500 qlimit 50 default\n")
   pub exact_then_percent : Means (codes "interface if0 cbq\nclass cbq if0 r NULL\nclass cbq if0 a r default exactbandwidth 3000 pbandwidth 50") (codes "interface if0 bandwidth 100000000 cbq\nclass cbq if0 r NULL priority 0 exactbandwidth 100000000 maxburst 16 packetsize 1500 qlimit 50\nclass cbq if0 a r priority 0 exactbandwidth 50000000 maxburst 16 packetsize 1500 qlimit 50 default\n")
   pub cbq_twice : Means (codes "interface if0 cbq\nclass cbq if0 r NULL\nclass cbq if0 a r default exactbandwidth 3K priority 1 priority 2 maxburst 3 maxburst 4 packetsize 5 packetsize 6") (codes "interface if0 bandwidth 100000000 cbq\nclass cbq if0 r NULL priority 0 exactbandwidth 100000000 maxburst 16 packetsize 1500 qlimit 50\nclass cbq if0 a r priority 2 exactbandwidth 3000 maxburst 4 packetsize 6 qlimit 50 default\n")
+  pub pshare_then_sc : Means (codes "interface if0 hfsc\nclass hfsc if0 r NULL\nclass hfsc if0 a r default pshare 2 sc 9 1 8") (codes "interface if0 bandwidth 100000000 hfsc\nclass hfsc if0 r NULL qlimit 50\nclass hfsc if0 a r rt 9 1 8 ls 9 1 8 qlimit 50 default\n")
+  pub rt_twice : Means (codes "interface if0 hfsc\nclass hfsc if0 r NULL\nclass hfsc if0 a r default ls 1 0 1 rt 5 2 3 rt 9 1 8") (codes "interface if0 bandwidth 100000000 hfsc\nclass hfsc if0 r NULL qlimit 50\nclass hfsc if0 a r rt 9 1 8 ls 1 0 1 qlimit 50 default\n")
+  pub sc_twice : Means (codes "interface if0 hfsc\nclass hfsc if0 r NULL\nclass hfsc if0 a r default sc 5 2 3 sc 9 1 8") (codes "interface if0 bandwidth 100000000 hfsc\nclass hfsc if0 r NULL qlimit 50\nclass hfsc if0 a r rt 9 1 8 ls 9 1 8 qlimit 50 default\n")
+  pub ls_twice : Means (codes "interface if0 hfsc\nclass hfsc if0 r NULL\nclass hfsc if0 a r default ls 5 2 3 ls 9 1 8") (codes "interface if0 bandwidth 100000000 hfsc\nclass hfsc if0 r NULL qlimit 50\nclass hfsc if0 a r ls 9 1 8 qlimit 50 default\n")
+  pub pshare_twice : Means (codes "interface if0 hfsc\nclass hfsc if0 r NULL\nclass hfsc if0 a r default pshare 1 pshare 2") (codes "interface if0 bandwidth 100000000 hfsc\nclass hfsc if0 r NULL qlimit 50\nclass hfsc if0 a r ls 2000000 0 2000000 qlimit 50 default\n")
+  pub grate_twice : Means (codes "interface if0 hfsc\nclass hfsc if0 r NULL\nclass hfsc if0 a r default ls 1 0 1 grate 7 grate 9") (codes "interface if0 bandwidth 100000000 hfsc\nclass hfsc if0 r NULL qlimit 50\nclass hfsc if0 a r rt 9 0 9 ls 1 0 1 qlimit 50 default\n")
+  pub percent_twice : Means (codes "interface if0 cbq\nclass cbq if0 r NULL\nclass cbq if0 a r default pbandwidth 50 pbandwidth 2") (codes "interface if0 bandwidth 100000000 cbq\nclass cbq if0 r NULL priority 0 exactbandwidth 100000000 maxburst 16 packetsize 1500 qlimit 50\nclass cbq if0 a r priority 0 exactbandwidth 2000000 maxburst 16 packetsize 1500 qlimit 50 default\n")
+  pub exact_twice : Means (codes "interface if0 cbq\nclass cbq if0 r NULL\nclass cbq if0 a r default exactbandwidth 3000 exactbandwidth 4000") (codes "interface if0 bandwidth 100000000 cbq\nclass cbq if0 r NULL priority 0 exactbandwidth 100000000 maxburst 16 packetsize 1500 qlimit 50\nclass cbq if0 a r priority 0 exactbandwidth 4000 maxburst 16 packetsize 1500 qlimit 50 default\n")
 
 -- filters under their masks
 pub record FiltersAre : Type 0 where
