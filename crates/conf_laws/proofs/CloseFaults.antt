@@ -19,7 +19,9 @@ use Rattle.conf_tree.specs.Classes.{is_hfsc, same_kind, below_at, below_number, 
 use Rattle.conf_tree.specs.FilterStatements.{filter_to, filter_to_number, filter_to_name, filter_read, filter_added, filter_in, filter_at, filter_of_interface}
 use Rattle.conf_tree.specs.Interfaces.{kind_unless, begin_by, are_full, begin_named}
 use Rattle.conf_tree.specs.Items.{name_in, name_at, number_behind}
-use Rattle.conf_tree.specs.Kinds.{fault_at, at_word, own_fault, rate_range, interface_twice, no_interface, wrong_discipline, name_taken, too_many_classes, too_many_filters, too_many_interfaces, inner_queue, two_defaults, no_class}
+use Rattle.conf_tree.specs.Places.{fault_at, at_word, own_fault}
+use Rattle.conf_lines.specs.declared.fault.ConfKind.{ConfKind}
+use Rattle.conf_lines.specs.declared.fault.ConfKind.TheVariants.{RateRange, InterfaceTwice, NoInterface, WrongDiscipline, NameTaken, NoParent, TwoRoots, TooManyClasses, TooManyFilters, TooManyInterfaces, InnerQueue, TwoDefaults, NoClass}
 use Rattle.conf_tree.specs.Options.{set_by_word, set_options}
 use Rattle.conf_tree.specs.Reading.{read_form}
 use Rattle.conf_tree.specs.Settings.{unset, percent, set_percent, set_default, set_option}
@@ -46,7 +48,7 @@ IsAlike (Err f) (Err g) = f ≡ g
 IsAlike _ _ = ⊥
 
 default_by : (line word : ℕ) (a b : Bool) (s t : Settings) → a ≡ b
-    → IsAlike (cond a (Err (fault_at line word two_defaults)) (Ok (record s { is_default = true }))) (cond b (Err (fault_at line word two_defaults)) (Ok (record t { is_default = true })))
+    → IsAlike (cond a (Err (fault_at line word TwoDefaults)) (Ok (record s { is_default = true }))) (cond b (Err (fault_at line word TwoDefaults)) (Ok (record t { is_default = true })))
 default_by line word true true s t e = refl
 default_by line word false false s t e = refl
 default_by line word true false s t e = cc
@@ -64,7 +66,7 @@ percent_alike : (scope : Scope) (s t : Settings) (word : ℕ) (o : Option ℕ) �
     → IsAlike (set_percent scope s word o) (set_percent scope t word o)
 percent_alike scope s t word None e = e
 percent_alike scope s t word (Some n) e =
-    percent_cond (nat_le 1000 (percent scope.rate n) && nat_le (percent scope.rate n) most_rate) (fault_at scope.line word rate_range) (percent scope.rate n) s t e
+    percent_cond (nat_le 1000 (percent scope.rate n) && nat_le (percent scope.rate n) most_rate) (fault_at scope.line word RateRange) (percent scope.rate n) s t e
 
 option_alike : (scope : Scope) (s t : Settings) (word : ℕ) (option : Key) (item : Item) (items others : List Item) → s.is_default ≡ t.is_default
     → IsAlike (set_option scope s word option (item ∷ items)) (set_option scope t word option (item ∷ others))
@@ -159,19 +161,19 @@ drop_in zero common left h = refl
 drop_in (suc n) [] left h = absurd (omega arith)
 drop_in (suc n) (item ∷ common) left h = drop_in n common left (omega arith)
 
-same_place : (s t : Statement) (word kind : ℕ) → s.line ≡ t.line → at_word s word kind ≡ at_word t word kind
+same_place : (s t : Statement) (word : ℕ) (kind : ConfKind) → s.line ≡ t.line → at_word s word kind ≡ at_word t word kind
 same_place s t word kind e = ap (λ line. fault_at line word kind) e
 
-close_place : {A : Type 0} (m : ℕ) (s t : Statement) (word kind : ℕ) → s.line ≡ t.line → Close {A = A} m (Err (at_word s word kind)) (Err (at_word t word kind))
+close_place : {A : Type 0} (m : ℕ) (s t : Statement) (word : ℕ) (kind : ConfKind) → s.line ≡ t.line → Close {A = A} m (Err (at_word s word kind)) (Err (at_word t word kind))
 close_place m s t word kind e = inl (ap (λ x. Err x) (same_place s t word kind e))
 
 -- A CLASS
 same_at : (kind : Kind) (s t : Statement) (i : ℕ) (o : Option Branch) → s.line ≡ t.line → below_at kind s i o ≡ below_at kind t i o
-same_at kind s t i None e = ap (λ x. Err x) (same_place s t 5 12 e)
+same_at kind s t i None e = ap (λ x. Err x) (same_place s t 5 NoParent e)
 same_at kind s t i (Some c) e = ap (λ line. below_at kind (stmt line s.form s.items s.end s.fault) i (Some c)) e
 
 same_number : (b : Begun) (s t : Statement) (o : Option ℕ) → s.line ≡ t.line → below_number b s o ≡ below_number b t o
-same_number b s t None e = ap (λ x. Err x) (same_place s t 5 12 e)
+same_number b s t None e = ap (λ x. Err x) (same_place s t 5 NoParent e)
 same_number b s t (Some i) e = same_at b.kind s t i (slice_get b.classes i) e
 
 pub same_cond : {A : Type 0} (a : Bool) (x y z w : A) → x ≡ z → y ≡ w → cond a x y ≡ cond a z w
@@ -181,7 +183,7 @@ same_cond false x y z w p q = q
 pub same_spot : (b : Begun) (s t : Statement) (parent : List ℕ) → s.line ≡ t.line → spot_of b s parent ≡ spot_of b t parent
 same_spot b s t parent e =
     same_cond (bytes_eq parent (codes "NULL")) _ _ _ _
-    (same_cond b.rooted _ _ _ _ (ap (λ x. Err x) (same_place s t 5 13 e)) refl)
+    (same_cond b.rooted _ _ _ _ (ap (λ x. Err x) (same_place s t 5 TwoRoots e)) refl)
     (same_number b s t (class_number parent b.classes) e)
 
 by_close : (m : ℕ) (b : Begun) (s t : Statement) (spot : Spot) (r u : Result Settings ConfPlace) → IsBehind m s → IsBehind m t → Close m r u
@@ -259,8 +261,8 @@ and_true true b e = e
 and_true false b e = refl
 
 full_close : (m : ℕ) (b : Begun) (s t : Statement) (a d : Bool) → s.line ≡ t.line → IsBehind m s → IsBehind m t → a ≡ d
-    → Close {A = Branch} m (cond a (Err (at_word s 4 too_many_classes)) (Err (own_fault s))) (cond d (Err (at_word t 4 too_many_classes)) (Err (own_fault t)))
-full_close m b s t true true line h k e = close_place m s t 4 too_many_classes line
+    → Close {A = Branch} m (cond a (Err (at_word s 4 TooManyClasses)) (Err (own_fault s))) (cond d (Err (at_word t 4 TooManyClasses)) (Err (own_fault t)))
+full_close m b s t true true line h k e = close_place m s t 4 TooManyClasses line
 full_close m b s t false false line h k e = inr (late_own m s h, late_own m t k)
 full_close m b s t true false line h k e = cc
 full_close m b s t false true line h k e = cc
@@ -274,9 +276,9 @@ branch_of_close m b common left right s t None two few far =
     let there : nat_lt 4 t.end ≡ true = grind (arith, nat_tests) in
     full_close m b s t (is_full b && nat_lt 4 s.end) (is_full b && nat_lt 4 t.end) two.line two.left_behind two.right_behind (ap (λ x. is_full b && x) (here ∙ sym there))
 branch_of_close m b common left right s t (Some name) two few far =
-    close_cond m (is_full b) _ _ _ _ (close_place m s t 4 too_many_classes two.line)
+    close_cond m (is_full b) _ _ _ _ (close_place m s t 4 TooManyClasses two.line)
     (by_name_close m b.kind name (shape_named b s name) (shape_named b t name)
-    (close_cond m (is_some (class_number name b.classes)) _ _ _ _ (close_place m s t 4 name_taken two.line)
+    (close_cond m (is_some (class_number name b.classes)) _ _ _ _ (close_place m s t 4 NameTaken two.line)
     (under_close m b common left right s t two few (either (nat_lt 2 (length common))))))
 
 branch_close : (m : ℕ) (b : Begun) (common left right : List Item) (s t : Statement) → Two m common left right s t → Few m 3 common
@@ -302,7 +304,7 @@ branch_close m b common left right s t two few tests =
 read_close : (m : ℕ) (b : Begun) (kind : Kind) (common left right : List Item) (s t : Statement) → Two m common left right s t → Few m 3 common
     → Close m (read_branch b kind s) (read_branch b kind t)
 read_close m b kind common left right s t two few =
-    close_cond m (not (same_kind kind b.kind)) _ _ _ _ (close_place m s t 3 wrong_discipline two.line)
+    close_cond m (not (same_kind kind b.kind)) _ _ _ _ (close_place m s t 3 WrongDiscipline two.line)
     (branch_close m b common left right s t two few (either (nat_lt 1 (length common))))
 
 added_close : (m : ℕ) (before : List Begun) (i : ℕ) (b : Begun) (r u : Result Branch ConfPlace) → Close m r u
@@ -312,13 +314,13 @@ added_close m before i b r u close =
 
 in_close : (m : ℕ) (before : List Begun) (kind : Kind) (common left right : List Item) (s t : Statement) (i : ℕ) (o : Option Begun)
     → Two m common left right s t → Few m 3 common → Close m (class_in before kind s i o) (class_in before kind t i o)
-in_close m before kind common left right s t i None two few = close_place m s t 3 no_interface two.line
+in_close m before kind common left right s t i None two few = close_place m s t 3 NoInterface two.line
 in_close m before kind common left right s t i (Some b) two few =
     added_close m before i b (read_branch b kind s) (read_branch b kind t) (read_close m b kind common left right s t two few)
 
 number_close : (m : ℕ) (before : List Begun) (kind : Kind) (common left right : List Item) (s t : Statement) (o : Option ℕ)
     → Two m common left right s t → Few m 3 common → Close m (class_at before kind s o) (class_at before kind t o)
-number_close m before kind common left right s t None two few = close_place m s t 3 no_interface two.line
+number_close m before kind common left right s t None two few = close_place m s t 3 NoInterface two.line
 number_close m before kind common left right s t (Some i) two few = in_close m before kind common left right s t i (slice_get before i) two few
 
 class_by_close : (m : ℕ) (before : List Begun) (kind : Kind) (common left right : List Item) (s t : Statement) (o : Option (List ℕ))
@@ -348,14 +350,14 @@ class_close m before kind common left right s t two few tests =
 -- A FILTER
 to_close : (m : ℕ) (kind : Kind) (common left right : List Item) (s t : Statement) (i : ℕ) (o : Option Branch) → Two m common left right s t
     → Close m (filter_to kind s i o) (filter_to kind t i o)
-to_close m kind common left right s t i None two = close_place m s t 3 no_class two.line
+to_close m kind common left right s t i None two = close_place m s t 3 NoClass two.line
 to_close m kind common left right s t i (Some c) two =
-    close_cond m (is_hfsc kind && c.inner) _ _ _ _ (close_place m s t 3 inner_queue two.line)
+    close_cond m (is_hfsc kind && c.inner) _ _ _ _ (close_place m s t 3 InnerQueue two.line)
     (inr (filter_unless_late m s i s.fault two.left_behind.fault, filter_unless_late m t i t.fault two.right_behind.fault))
 
 to_number_close : (m : ℕ) (b : Begun) (common left right : List Item) (s t : Statement) (o : Option ℕ) → Two m common left right s t
     → Close m (filter_to_number b s o) (filter_to_number b t o)
-to_number_close m b common left right s t None two = close_place m s t 3 no_class two.line
+to_number_close m b common left right s t None two = close_place m s t 3 NoClass two.line
 to_number_close m b common left right s t (Some i) two = to_close m b.kind common left right s t i (slice_get b.classes i) two
 
 to_name_close : (m : ℕ) (b : Begun) (common left right : List Item) (s t : Statement) (o : Option (List ℕ)) → Two m common left right s t
@@ -385,15 +387,15 @@ filter_added_close m before i b r u close =
 
 filter_in_close : (m : ℕ) (before : List Begun) (common left right : List Item) (s t : Statement) (i : ℕ) (o : Option Begun)
     → Two m common left right s t → Few m 2 common → Close m (filter_in before s i o) (filter_in before t i o)
-filter_in_close m before common left right s t i None two few = close_place m s t 2 no_interface two.line
+filter_in_close m before common left right s t i None two few = close_place m s t 2 NoInterface two.line
 filter_in_close m before common left right s t i (Some b) two few =
     filter_added_close m before i b (filter_read b s) (filter_read b t)
-    (close_cond m (nat_le 1024 (length b.filters)) _ _ _ _ (close_place m s t 2 too_many_filters two.line)
+    (close_cond m (nat_le 1024 (length b.filters)) _ _ _ _ (close_place m s t 2 TooManyFilters two.line)
     (names_close m b common left right s t two few (either (nat_lt 1 (length common)))))
 
 filter_at_close : (m : ℕ) (before : List Begun) (common left right : List Item) (s t : Statement) (o : Option ℕ)
     → Two m common left right s t → Few m 2 common → Close m (filter_at before s o) (filter_at before t o)
-filter_at_close m before common left right s t None two few = close_place m s t 2 no_interface two.line
+filter_at_close m before common left right s t None two few = close_place m s t 2 NoInterface two.line
 filter_at_close m before common left right s t (Some i) two few = filter_in_close m before common left right s t i (slice_get before i) two few
 
 filter_by_close : (m : ℕ) (before : List Begun) (common left right : List Item) (s t : Statement) (o : Option (List ℕ))
@@ -418,9 +420,9 @@ filter_close m before common left right s t two few tests =
 
 -- AN INTERFACE
 begin_close : (m : ℕ) (before : List Begun) (s t : Statement) (name : List ℕ) (a : Bool) → s.line ≡ t.line → IsBehind m s → IsBehind m t
-    → Close m (begin_by before s name (cond a (Err (at_word s 2 interface_twice)) (kind_unless s s.fault)))
-    (begin_by before t name (cond a (Err (at_word t 2 interface_twice)) (kind_unless t t.fault)))
-begin_close m before s t name true line h k = inl (ap (λ x. Err x) (same_place s t 2 interface_twice line))
+    → Close m (begin_by before s name (cond a (Err (at_word s 2 InterfaceTwice)) (kind_unless s s.fault)))
+    (begin_by before t name (cond a (Err (at_word t 2 InterfaceTwice)) (kind_unless t t.fault)))
+begin_close m before s t name true line h k = inl (ap (λ x. Err x) (same_place s t 2 InterfaceTwice line))
 begin_close m before s t name false line h k =
     inr (
       begin_late m before s name (kind_unless s s.fault) (kind_unless_late m s s.fault h.fault h.end),
@@ -428,8 +430,8 @@ begin_close m before s t name false line h k =
     )
 
 full_begin : (m : ℕ) (s t : Statement) (a d : Bool) → s.line ≡ t.line → IsBehind m s → IsBehind m t → a ≡ d
-    → Close {A = List Begun} m (cond a (Err (at_word s 2 too_many_interfaces)) (Err (own_fault s))) (cond d (Err (at_word t 2 too_many_interfaces)) (Err (own_fault t)))
-full_begin m s t true true line h k e = close_place m s t 2 too_many_interfaces line
+    → Close {A = List Begun} m (cond a (Err (at_word s 2 TooManyInterfaces)) (Err (own_fault s))) (cond d (Err (at_word t 2 TooManyInterfaces)) (Err (own_fault t)))
+full_begin m s t true true line h k e = close_place m s t 2 TooManyInterfaces line
 full_begin m s t false false line h k e = inr (late_own m s h, late_own m t k)
 full_begin m s t true false line h k e = cc
 full_begin m s t false true line h k e = cc
@@ -444,7 +446,7 @@ begin_by_close m before common left right s t None two far =
     full_begin m s t (are_full before && nat_lt 2 s.end) (are_full before && nat_lt 2 t.end) two.line two.left_behind two.right_behind
     (ap (λ x. are_full before && x) (here ∙ sym there))
 begin_by_close m before common left right s t (Some name) two far =
-    close_cond m (are_full before) _ _ _ _ (close_place m s t 2 too_many_interfaces two.line)
+    close_cond m (are_full before) _ _ _ _ (close_place m s t 2 TooManyInterfaces two.line)
     (begin_close m before s t name (is_some (interface_number name before)) two.line two.left_behind two.right_behind)
 
 interface_close : (m : ℕ) (before : List Begun) (common left right : List Item) (s t : Statement) → Two m common left right s t → Few m 2 common

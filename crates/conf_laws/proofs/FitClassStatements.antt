@@ -16,7 +16,8 @@ use Rattle.conf_tree.specs.declared.interface.Kind.{Kind}
 use Rattle.conf_tree.specs.declared.interface.Kind.TheVariants.{Hfsc, Cbq}
 use Rattle.conf_tree.specs.Classes.{same_kind, is_queue, below, below_at, below_number, spot_of, cbq_shape, shape_of_kind, shape_unless, shape_by, scope_of, shape_at, shape_under, shape_named, branch_of, branch_by, is_full, branch_named, read_branch}
 use Rattle.conf_tree.specs.Items.{name_of, name_in, name_at}
-use Rattle.conf_tree.specs.Kinds.{at_word, own_fault, missing_word, wrong_discipline, name_taken, two_roots, too_deep, too_many_classes, no_share, real_time_inside, inner_queue}
+use Rattle.conf_tree.specs.Places.{at_word, own_fault}
+use Rattle.conf_lines.specs.declared.fault.ConfKind.TheVariants.{MissingWord, WrongDiscipline, NameTaken, TwoRoots, TooDeep, TooManyClasses, NoShare, RealTimeInside, InnerQueue}
 use Rattle.conf_tree.specs.Options.{set_options}
 use Rattle.conf_tree.specs.Settings.{unset}
 use Rattle.conf_tree.specs.Tree.{Begun, class_number}
@@ -54,10 +55,10 @@ queue_parts Cbq c h e = cc
 below_fit : (b : Begun) (s : Statement) (i : ℕ) (c : Branch) → slice_get b.classes i ≡ Some c → c.class.name ≢ codes "NULL" → IsSpotIfOk b (below b.kind s i c)
 below_fit b s i c at named =
     let spot : Result Spot ConfPlace = Ok (record { parent = Some i; level = c.level + 1 }) in
-    let third = cond (is_queue b.kind c) (Err (at_word s 5 inner_queue)) spot in
-    cond_both (nat_le 8 c.level) (Err (at_word s 5 too_deep)) (cond c.fixed (Err (at_word s 5 real_time_inside)) third) (IsSpotIfOk b) (λ e. tt) (λ deep.
-    cond_both c.fixed (Err (at_word s 5 real_time_inside)) third (IsSpotIfOk b) (λ e. tt) (λ fixed.
-    cond_both (is_queue b.kind c) (Err (at_word s 5 inner_queue)) spot (IsSpotIfOk b) (λ e. tt) (λ queue. record {
+    let third = cond (is_queue b.kind c) (Err (at_word s 5 InnerQueue)) spot in
+    cond_both (nat_le 8 c.level) (Err (at_word s 5 TooDeep)) (cond c.fixed (Err (at_word s 5 RealTimeInside)) third) (IsSpotIfOk b) (λ e. tt) (λ deep.
+    cond_both c.fixed (Err (at_word s 5 RealTimeInside)) third (IsSpotIfOk b) (λ e. tt) (λ fixed.
+    cond_both (is_queue b.kind c) (Err (at_word s 5 InnerQueue)) spot (IsSpotIfOk b) (λ e. tt) (λ queue. record {
       parent = c;
       at = at;
       named = named;
@@ -88,8 +89,8 @@ below_number_fit b s parent (Some i) e named = below_at_fit b s parent i (slice_
 spot_fit : (b : Begun) (s : Statement) (parent : List ℕ) → IsSpotIfOk b (spot_of b s parent)
 spot_fit b s parent =
     let top : Result Spot ConfPlace = Ok (record { parent = None; level = 1 }) in
-    cond_both (bytes_eq parent (codes "NULL")) (cond b.rooted (Err (at_word s 5 two_roots)) top) (below_number b s (class_number parent b.classes)) (IsSpotIfOk b)
-    (λ e. cond_both b.rooted (Err (at_word s 5 two_roots)) top (IsSpotIfOk b) (λ r. tt) (λ r. (r, refl)))
+    cond_both (bytes_eq parent (codes "NULL")) (cond b.rooted (Err (at_word s 5 TwoRoots)) top) (below_number b s (class_number parent b.classes)) (IsSpotIfOk b)
+    (λ e. cond_both b.rooted (Err (at_word s 5 TwoRoots)) top (IsSpotIfOk b) (λ r. tt) (λ r. (r, refl)))
     (λ e. below_number_fit b s parent (class_number parent b.classes) refl
     (λ null. both_ways (bytes_eq parent (codes "NULL")) e ((bytes_eq-Decides parent (codes "NULL")).1 null)))
 
@@ -117,13 +118,13 @@ cbq_fit : (b : Begun) (s : Statement) (spot : Spot) (settings : Settings) (rate 
 cbq_fit b s spot settings (Some rate) r h k within = record { spot = h; settings = k; own = within }
 cbq_fit b s spot settings None r h k within =
     let shape : Result Shape ConfPlace = Ok (record { spot = spot; settings = settings; rate = b.rate }) in
-    cond_both (is_some spot.parent) (Err (at_word s s.end missing_word)) shape (IsShapeIfOk Cbq b) (λ e. tt) (λ e. record { spot = h; settings = k; own = r })
+    cond_both (is_some spot.parent) (Err (at_word s s.end MissingWord)) shape (IsShapeIfOk Cbq b) (λ e. tt) (λ e. record { spot = h; settings = k; own = r })
 
 kind_fit : (kind : Kind) (b : Begun) (s : Statement) (spot : Spot) (settings : Settings) → IsWithin 1000 most_rate b.rate → StandsAt b spot.level spot.parent
     → AreSet b.chosen settings → IsShapeIfOk kind b (shape_of_kind kind b s spot settings)
 kind_fit Hfsc b s spot settings r h k =
     let shape : Result Shape ConfPlace = Ok (record { spot = spot; settings = settings; rate = 0 }) in
-    cond_both (is_some spot.parent && is_none settings.share) (Err (at_word s s.end no_share)) shape (IsShapeIfOk Hfsc b) (λ e. tt)
+    cond_both (is_some spot.parent && is_none settings.share) (Err (at_word s s.end NoShare)) shape (IsShapeIfOk Hfsc b) (λ e. tt)
     (λ e. record { spot = h; settings = k; own = has_share spot.parent settings.share e })
 kind_fit Cbq b s spot settings r h k = cbq_fit b s spot settings settings.rate r h k k.rate
 
@@ -190,15 +191,15 @@ by_fit b name (Ok shape) named new room h = new_fit b.kind b name shape refl nam
 
 named_fit : (b : Begun) (s : Statement) (o : Option (List ℕ)) → IsBegun b → IfSome o IsName → IsNewIfOk b (branch_named b s o)
 named_fit b s None h named =
-    cond_both (is_full b && nat_lt 4 s.end) (Err (at_word s 4 too_many_classes)) (Err (own_fault s)) (IsNewIfOk b) (λ e. tt) (λ e. tt)
+    cond_both (is_full b && nat_lt 4 s.end) (Err (at_word s 4 TooManyClasses)) (Err (own_fault s)) (IsNewIfOk b) (λ e. tt) (λ e. tt)
 named_fit b s (Some name) h named =
-    cond_both (is_full b) (Err (at_word s 4 too_many_classes)) (branch_by b.kind name (shape_named b s name)) (IsNewIfOk b) (λ e. tt) (λ room.
-    cond_both (is_some (class_number name b.classes)) (Err (at_word s 4 name_taken)) (shape_under b s (name_at s.items 2))
+    cond_both (is_full b) (Err (at_word s 4 TooManyClasses)) (branch_by b.kind name (shape_named b s name)) (IsNewIfOk b) (λ e. tt) (λ room.
+    cond_both (is_some (class_number name b.classes)) (Err (at_word s 4 NameTaken)) (shape_under b s (name_at s.items 2))
     (λ r. IsNewIfOk b (branch_by b.kind name r)) (λ e. tt) (λ free.
     by_fit b name (shape_under b s (name_at s.items 2)) named (none_by (class_number name b.classes) free) (leb-false 256 (length b.classes) room)
     (under_fit b s (name_at s.items 2) h)))
 
 pub branch_fit : (b : Begun) (kind : Kind) (s : Statement) → IsBegun b → AreSound s.items → IsNewIfOk b (read_branch b kind s)
 branch_fit b kind s h sound =
-    cond_both (not (same_kind kind b.kind)) (Err (at_word s 3 wrong_discipline)) (branch_named b s (name_at s.items 1)) (IsNewIfOk b) (λ e. tt)
+    cond_both (not (same_kind kind b.kind)) (Err (at_word s 3 WrongDiscipline)) (branch_named b s (name_at s.items 1)) (IsNewIfOk b) (λ e. tt)
     (λ e. named_fit b s (name_at s.items 1) h (name_fit s.items 1 sound))

@@ -10,7 +10,8 @@ use Rattle.conf_tree.specs.declared.interface.Kind.TheVariants.{Hfsc, Cbq}
 use Rattle.conf_tree.specs.Classes.{is_hfsc}
 use Rattle.conf_tree.specs.FilterStatements.{filter_unless, filter_to, filter_to_number, filter_to_name, filter_read}
 use Rattle.conf_tree.specs.Items.{name_at}
-use Rattle.conf_tree.specs.Kinds.{at_word, too_many_filters, inner_queue}
+use Rattle.conf_tree.specs.Places.{at_word}
+use Rattle.conf_lines.specs.declared.fault.ConfKind.TheVariants.{TooManyFilters, InnerQueue}
 use Rattle.conf_tree.specs.Tree.{Begun, class_number}
 use Rattle.conf_laws.proofs.FitFilters.{HasParts, filter_fit, sound_drop}
 use Rattle.conf_laws.proofs.Types.{Branch}
@@ -46,7 +47,7 @@ to_fit : (b : Begun) (s : Statement) (i : ℕ) (o : Option Branch) → AreSound 
     → IsNewFilterIfOk b (filter_to b.kind s i o)
 to_fit b s i None sound few at = tt
 to_fit b s i (Some c) sound few at =
-    cond_both (is_hfsc b.kind && c.inner) (Err (at_word s 3 inner_queue)) (filter_unless s i s.fault) (IsNewFilterIfOk b) (λ e. tt)
+    cond_both (is_hfsc b.kind && c.inner) (Err (at_word s 3 InnerQueue)) (filter_unless s i s.fault) (IsNewFilterIfOk b) (λ e. tt)
     (λ e. unless_fit b s i c s.fault sound few at (outer_by b.kind c.inner e))
 
 number_fit : (b : Begun) (s : Statement) (o : Option ℕ) → AreSound s.items → length b.filters < 1024 → IsNewFilterIfOk b (filter_to_number b s o)
@@ -59,5 +60,5 @@ to_name_fit b s (Some name) sound few = number_fit b s (class_number name b.clas
 
 pub read_fit : (b : Begun) (s : Statement) → AreSound s.items → IsNewFilterIfOk b (filter_read b s)
 read_fit b s sound =
-    cond_both (nat_le 1024 (length b.filters)) (Err (at_word s 2 too_many_filters)) (filter_to_name b s (name_at s.items 1)) (IsNewFilterIfOk b) (λ e. tt)
+    cond_both (nat_le 1024 (length b.filters)) (Err (at_word s 2 TooManyFilters)) (filter_to_name b s (name_at s.items 1)) (IsNewFilterIfOk b) (λ e. tt)
     (λ e. to_name_fit b s (name_at s.items 1) sound (leb-false 1024 (length b.filters) e))

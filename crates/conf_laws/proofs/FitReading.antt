@@ -21,7 +21,8 @@ use Rattle.conf_tree.specs.Classes.{read_branch, class_in, class_at, class_of_in
 use Rattle.conf_tree.specs.FilterStatements.{filter_read, filter_added, filter_in, filter_at, filter_of_interface}
 use Rattle.conf_tree.specs.Interfaces.{kind_unless, interface_kind, interface_rate, begin_by, are_full, begin_named, read_interface}
 use Rattle.conf_tree.specs.Items.{number_at, name_at}
-use Rattle.conf_tree.specs.Kinds.{at_word, own_fault, interface_twice, too_many_interfaces}
+use Rattle.conf_tree.specs.Places.{at_word, own_fault}
+use Rattle.conf_lines.specs.declared.fault.ConfKind.TheVariants.{InterfaceTwice, TooManyInterfaces}
 use Rattle.conf_tree.specs.Options.{rate_by_key, rate_by_word, rate_by_options}
 use Rattle.conf_tree.specs.Reading.{read_form, read_statement, reading_from}
 use Rattle.conf_tree.specs.Tree.{Begun, begun, interface_name, interface_number, add_class, add_filter}
@@ -104,10 +105,10 @@ kind_fit before s name (Ok kind) h room named new =
 
 named_fit : (before : List Begun) (s : Statement) (o : Option (List ℕ)) → AreBegun before → IfSome o IsName → AreBegunIfOk (begin_named before s o)
 named_fit before s None h named =
-    cond_both (are_full before && nat_lt 2 s.end) (Err (at_word s 2 too_many_interfaces)) (Err (own_fault s)) AreBegunIfOk (λ e. tt) (λ e. tt)
+    cond_both (are_full before && nat_lt 2 s.end) (Err (at_word s 2 TooManyInterfaces)) (Err (own_fault s)) AreBegunIfOk (λ e. tt) (λ e. tt)
 named_fit before s (Some name) h named =
-    cond_both (are_full before) (Err (at_word s 2 too_many_interfaces)) (begin_by before s name (interface_kind before s name)) AreBegunIfOk (λ e. tt) (λ room.
-    cond_both (is_some (interface_number name before)) (Err (at_word s 2 interface_twice)) (kind_unless s s.fault) (λ r. AreBegunIfOk (begin_by before s name r))
+    cond_both (are_full before) (Err (at_word s 2 TooManyInterfaces)) (begin_by before s name (interface_kind before s name)) AreBegunIfOk (λ e. tt) (λ room.
+    cond_both (is_some (interface_number name before)) (Err (at_word s 2 InterfaceTwice)) (kind_unless s s.fault) (λ r. AreBegunIfOk (begin_by before s name r))
     (λ e. tt) (λ free.
     kind_fit before s name (kind_unless s s.fault) h (leb-false 16 (length before) room) named (none_by (interface_number name before) free)))
 

@@ -16,7 +16,8 @@ use Rattle.conf_lines.specs.declared.options.Slots.TheVariants as slots
 use Rattle.conf_lines.specs.Grammar.{is_convex}
 use Rattle.conf_lines.specs.Options.{most_rate}
 use Rattle.conf_tree.specs.Items.{number_in, within, number_at, word_at}
-use Rattle.conf_tree.specs.Kinds.{fault_at, rate_range, two_defaults}
+use Rattle.conf_tree.specs.Places.{fault_at}
+use Rattle.conf_lines.specs.declared.fault.ConfKind.TheVariants.{RateRange, TwoDefaults}
 use Rattle.conf_tree.specs.Options.{set_by_word, set_options}
 use Rattle.conf_tree.specs.Settings.{unset, made, curve_of, curve_in_slots, percent, curve_behind, set_percent, set_default, set_option}
 use Rattle.conf_laws.specs.Fit.{IsWithin, IsCurve, IsCurveIfAny}
@@ -179,13 +180,13 @@ percent_set : (scope : Scope) (s : Settings) (word : ℕ) (o : Option ℕ) → A
 percent_set scope s word None h = h
 percent_set scope s word (Some n) h =
     let rate = percent scope.rate n in
-    cond_both (nat_le 1000 rate && nat_le rate most_rate) (Ok (record s { rate = Some rate })) (Err (fault_at scope.line word rate_range)) (AreSetIfOk scope.chosen) (λ t.
+    cond_both (nat_le 1000 rate && nat_le rate most_rate) (Ok (record s { rate = Some rate })) (Err (fault_at scope.line word RateRange)) (AreSetIfOk scope.chosen) (λ t.
     let parts = and_parts (nat_le 1000 rate) (nat_le rate most_rate) t in
     rate_fit scope.chosen s (Some rate) h (leb-true 1000 rate parts.0, leb-true rate most_rate parts.1)) (λ t. tt)
 
 default_fit : (scope : Scope) (s : Settings) (word : ℕ) → AreSet scope.chosen s → AreSetIfOk scope.chosen (set_default scope s word)
 default_fit scope s word h =
-    cond_both (scope.chosen || s.is_default) (Err (fault_at scope.line word two_defaults)) (Ok (record s { is_default = true })) (AreSetIfOk scope.chosen) (λ t. tt) (λ t.
+    cond_both (scope.chosen || s.is_default) (Err (fault_at scope.line word TwoDefaults)) (Ok (record s { is_default = true })) (AreSetIfOk scope.chosen) (λ t. tt) (λ t.
     let free : true ≡ true → scope.chosen ≡ false = λ e. (or_parts scope.chosen s.is_default t).0 in assumption free)
 
 -- each option

@@ -9,7 +9,8 @@ use Rattle.conf_tree.specs.declared.class.Class.{Class}
 use Rattle.conf_tree.specs.declared.interface.Interface.{Interface}
 use Rattle.conf_tree.specs.declared.interface.Kind.{Kind}
 use Rattle.conf_tree.specs.declared.interface.Kind.TheVariants.{Hfsc, Cbq}
-use Rattle.conf_tree.specs.Kinds.{fault_at, no_default}
+use Rattle.conf_tree.specs.Places.{fault_at}
+use Rattle.conf_lines.specs.declared.fault.ConfKind.TheVariants.{NoDefault}
 use Rattle.conf_tree.specs.Reading.{reading}
 use Rattle.conf_tree.specs.Tree.{Begun}
 use Rattle.conf_tree.specs.Whole.{implied_classes, is_empty, whole, undecided, first_undecided, finished_unless}
@@ -87,8 +88,8 @@ decided_at : (bs : List Begun) (k : ℕ) (b : Begun) → first_undecided bs ≡ 
 decided_at [] k b h at = cc
 decided_at (a ∷ bs) zero b h at =
     let same : a ≡ b = cc in
-    ap undecided (sym same) ∙ (decided_by (undecided a) (fault_at a.line 0 no_default) (first_undecided bs) h).0
-decided_at (a ∷ bs) (suc k) b h at = decided_at bs k b (decided_by (undecided a) (fault_at a.line 0 no_default) (first_undecided bs) h).1 at
+    ap undecided (sym same) ∙ (decided_by (undecided a) (fault_at a.line 0 NoDefault) (first_undecided bs) h).0
+decided_at (a ∷ bs) (suc k) b h at = decided_at bs k b (decided_by (undecided a) (fault_at a.line 0 NoDefault) (first_undecided bs) h).1 at
 
 all_fit : (bs : List Begun) → AreBegun bs → first_undecided bs ≡ None → AreFit (map whole bs)
 all_fit bs h decided = record {

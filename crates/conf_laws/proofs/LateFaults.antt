@@ -18,7 +18,8 @@ use Rattle.conf_tree.specs.Classes.{is_hfsc, same_kind, is_queue, below, below_a
 use Rattle.conf_tree.specs.FilterStatements.{filter_unless, filter_to, filter_to_number, filter_to_name, filter_read, filter_added, filter_in, filter_at, filter_of_interface}
 use Rattle.conf_tree.specs.Interfaces.{kind_at_end, kind_unless, interface_kind, begin_by, are_full, begin_named}
 use Rattle.conf_tree.specs.Items.{name_at, number_behind, word_at}
-use Rattle.conf_tree.specs.Kinds.{at_word, own_or_end, own_fault, no_share}
+use Rattle.conf_tree.specs.Places.{at_word, own_or_end, own_fault}
+use Rattle.conf_lines.specs.declared.fault.ConfKind.TheVariants.{NoShare}
 use Rattle.conf_tree.specs.Options.{kind_by_options, set_by_word, set_options}
 use Rattle.conf_tree.specs.Reading.{read_form}
 use Rattle.conf_tree.specs.Settings.{unset, percent, set_percent, set_default, set_option}
@@ -48,7 +49,7 @@ late_own m s h = own_by m s s.fault h.fault h.end
 
 -- A CLASS
 hfsc_late : (m : ℕ) (s : Statement) (spot : Spot) (settings : Settings) (t : Bool) → m ≤ s.end
-    → Late {A = Shape} m (cond t (Err (at_word s s.end no_share)) (Ok (record { spot = spot; settings = settings; rate = 0 })))
+    → Late {A = Shape} m (cond t (Err (at_word s s.end NoShare)) (Ok (record { spot = spot; settings = settings; rate = 0 })))
 hfsc_late m s spot settings t e = late_cond m t _ _ e tt
 
 cbq_late : (m : ℕ) (b : Begun) (s : Statement) (spot : Spot) (settings : Settings) (rate : Option ℕ) → m ≤ s.end → Late m (cbq_shape b s spot settings rate)

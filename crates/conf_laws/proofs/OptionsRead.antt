@@ -14,7 +14,8 @@ use Rattle.conf_tree.specs.declared.class.DropRule.TheVariants.{Tail, Red, Ecn, 
 use Rattle.conf_tree.specs.declared.interface.Kind.{Kind}
 use Rattle.conf_tree.specs.declared.interface.Kind.TheVariants.{Hfsc, Cbq}
 use Rattle.conf_laws.proofs.Types.{Scope, Settings}
-use Rattle.conf_tree.specs.Kinds.{fault_at, two_defaults}
+use Rattle.conf_tree.specs.Places.{fault_at}
+use Rattle.conf_lines.specs.declared.fault.ConfKind.TheVariants.{TwoDefaults}
 use Rattle.conf_tree.specs.Options.{set_options}
 use Rattle.conf_tree.specs.Settings.{unset}
 use Rattle.conf_laws.specs.Fit.{IsWithin, IsCurveIfAny, IsOfKind}
@@ -109,7 +110,7 @@ default_sets scope s false e h = same_sets (ap (λ x. record s { is_default = x 
 default_sets scope s true e h = record {
   on = λ at rest. (
     at + 1,
-    ap (λ b. after scope (numbered (at + 1) rest) (cond b (Err (fault_at scope.line at two_defaults)) (Ok (record s { is_default = true }))))
+    ap (λ b. after scope (numbered (at + 1) rest) (cond b (Err (fault_at scope.line at TwoDefaults)) (Ok (record s { is_default = true }))))
         (not_chosen scope.chosen s.is_default (h refl) e),
   );
 }

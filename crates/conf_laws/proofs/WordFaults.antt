@@ -16,7 +16,8 @@ use Rattle.conf_tree.specs.Classes.{same_kind, spot_of, shape_by, scope_of, shap
 use Rattle.conf_tree.specs.FilterStatements.{filter_to, filter_to_number, filter_to_name, filter_added, filter_in, filter_at, filter_of_interface}
 use Rattle.conf_tree.specs.Interfaces.{begin_by, are_full, begin_named}
 use Rattle.conf_tree.specs.Items.{name_at}
-use Rattle.conf_tree.specs.Kinds.{fault_at, interface_twice, no_default}
+use Rattle.conf_tree.specs.Places.{fault_at}
+use Rattle.conf_lines.specs.declared.fault.ConfKind.TheVariants.{InterfaceTwice, NoDefault}
 use Rattle.conf_tree.specs.Options.{set_options}
 use Rattle.conf_tree.specs.Reading.{read_form, read_statement, reading_from, reading}
 use Rattle.conf_tree.specs.Settings.{unset}
@@ -121,8 +122,8 @@ filter_same before line of items fault end other (Some name) = filter_at_same be
 
 -- an interface
 begin_same : (before : List Begun) (line : ℕ) (of : Form) (items : List Item) (fault : ConfPlace) (end other : ℕ) (name : List ℕ) (a : Bool)
-    → begin_by before (stops line of items fault end) name (cond a (Err (fault_at line 2 interface_twice)) (Err fault))
-    ≡ begin_by before (stops line of items fault other) name (cond a (Err (fault_at line 2 interface_twice)) (Err fault))
+    → begin_by before (stops line of items fault end) name (cond a (Err (fault_at line 2 InterfaceTwice)) (Err fault))
+    ≡ begin_by before (stops line of items fault other) name (cond a (Err (fault_at line 2 InterfaceTwice)) (Err fault))
 begin_same before line of items fault end other name true = refl
 begin_same before line of items fault end other name false = refl
 
@@ -211,9 +212,9 @@ line_stands before line words more other fault within e =
     (omega (arith, length-append words other)) (omega arith) e
 
 -- THE STATEMENTS BEFORE IT
-undecided_by : (line : ℕ) (t : Bool) (rest : Option ConfPlace) (fault : ConfPlace) → cond t (Some (fault_at line 0 no_default)) rest ≡ Some fault
+undecided_by : (line : ℕ) (t : Bool) (rest : Option ConfPlace) (fault : ConfPlace) → cond t (Some (fault_at line 0 NoDefault)) rest ≡ Some fault
     → (rest ≡ Some fault → fault.word ≡ 0) → fault.word ≡ 0
-undecided_by line true rest fault h k = let same : fault_at line 0 no_default ≡ fault = cc in sym (ap (λ (x : ConfPlace). x.word) same)
+undecided_by line true rest fault h k = let same : fault_at line 0 NoDefault ≡ fault = cc in sym (ap (λ (x : ConfPlace). x.word) same)
 undecided_by line false rest fault h k = k h
 
 undecided_word : (bs : List Begun) (fault : ConfPlace) → first_undecided bs ≡ Some fault → fault.word ≡ 0

@@ -15,6 +15,7 @@ lines_are = record {
   brackets_are_blanks = refl;
   later_discipline_holds = refl;
   later_bandwidth_holds = refl;
+  earlier_discipline_goes = refl;
 }
 
 pub names_are : NamesAre
@@ -29,6 +30,7 @@ names_are = record {
   no_backquote = refl;
   no_semicolon = refl;
   no_bracket_of_arrays = refl;
+  name_like_a_number = refl;
 }
 
 pub ranges_are : RangesAre
@@ -73,6 +75,16 @@ ranges_are = record {
   exact_above = refl;
   percent_of_101 = refl;
   percent_of_0 = refl;
+  greatest_real_time = refl;
+  real_time_above = refl;
+  greatest_guarantee = refl;
+  guarantee_of_0 = refl;
+  greatest_limit = refl;
+  limit_bend_above = refl;
+  limit_second_above = refl;
+  percent_of_100 = refl;
+  percent_of_a_thousand = refl;
+  percent_below_a_thousand = refl;
 }
 
 pub orders_are : OrdersAre
@@ -89,6 +101,9 @@ orders_are = record {
   name_before_the_parent = refl;
   share_at_the_end = refl;
   no_default_after_all = refl;
+  burst_before_the_rate = refl;
+  spot_before_the_options = refl;
+  option_before_the_default = refl;
 }
 
 pub later_are : LaterAre
@@ -116,6 +131,14 @@ later_are = record {
   percent_then_exact = refl;
   exact_then_percent = refl;
   cbq_twice = refl;
+  pshare_then_sc = refl;
+  rt_twice = refl;
+  sc_twice = refl;
+  ls_twice = refl;
+  pshare_twice = refl;
+  grate_twice = refl;
+  percent_twice = refl;
+  exact_twice = refl;
 }
 
 pub filters_are : FiltersAre

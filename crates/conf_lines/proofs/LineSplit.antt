@@ -1,5 +1,6 @@
 -- Two lines that agree in their first words: they have the same fault among these, or none, and then the same items of them.
 use Rattle.std.proofs.Common.{◌≡◌, ◌⊎◌, inl, inr, ⊎_elim, ℕ, ◌+◌, ◌<◌, ◌≤◌, Bool, true, false, cond, List, [], ◌∷◌, ◌++◌, length, Option, Some, None, Result, Ok, Err, codes, refl, sym, ap, subst, ◌∙◌, ◌||◌, arith, append_assoc}
+use Rattle.conf_lines.specs.declared.fault.ConfKind.{ConfKind}
 use Rattle.conf_lines.specs.declared.fault.ConfPlace.{ConfPlace}
 use Rattle.conf_lines.specs.declared.grammar.Next.{Next}
 use Rattle.conf_lines.specs.declared.grammar.Next.TheVariants as next
@@ -18,7 +19,8 @@ use Rattle.conf_lines.specs.declared.statement.Form.{Form}
 use Rattle.conf_lines.specs.declared.statement.Form.TheVariants as form
 use Rattle.conf_lines.specs.Grammar.{says, reads, counts, refused, begins, at_statement, at_discipline, after_interface, at_parent, behind_option, chosen, is_convex, at_bend, at_slope, at_last_slope, keyword, address_of, then_address, after_address, at_address, after_port, at_port, at_ruleno_or_address, at_name_or_address, at_mask_or_port, tos_word, mask_word, word_or_end, step_from, step, end, start}
 use Rattle.conf_lines.specs.Options.{most_rate, most_bend, most_ruleno, most_port, most_tos, word_of_key, slots_of, option_of}
-use Rattle.conf_lines.specs.Slots.{is_text, are_plain, rate_in, whole_in, skipped_in, name_in, protocol_in, mask_in, unknown_word, bad_byte, convex_first}
+use Rattle.conf_lines.specs.Slots.{is_text, are_plain, rate_in, whole_in, skipped_in, name_in, protocol_in, mask_in}
+use Rattle.conf_lines.specs.declared.fault.ConfKind.TheVariants.{UnknownWord, BadByte, ConvexFirst}
 use Rattle.conf_lines.specs.Texts.{Reading, fault_at, stops, item_of, behind, read_from}
 
 pick : {A : Type 0} (P : A → Type 0) (b : Bool) (x y : A) → P x → P y → P (cond b x y)
@@ -35,24 +37,24 @@ abbrev IsItem : Option What → Type 0
 IsItem None = ⊥
 IsItem (Some says) = Unit {0}
 
-abbrev MovesIfOk : Form → Result Step ℕ → Type 0
+abbrev MovesIfOk : Form → Result Step ConfKind → Type 0
 MovesIfOk form (Ok taken) = IsItem taken.what × (taken.after.form ≡ form) × IsFormed taken.after.next
 MovesIfOk form (Err kind) = Unit {0}
 
-reads_moves : (r : Result What ℕ) (place : Place) (to : Next) → IsFormed to → MovesIfOk place.form (reads r place to)
+reads_moves : (r : Result What ConfKind) (place : Place) (to : Next) → IsFormed to → MovesIfOk place.form (reads r place to)
 reads_moves (Ok says) place to f = (tt, refl, f)
 reads_moves (Err kind) place to f = tt
 
-whole_moves : (r : Result ℕ ℕ) (place : Place) (to : Next) → IsFormed to → MovesIfOk place.form (counts what.Whole r place to)
+whole_moves : (r : Result ℕ ConfKind) (place : Place) (to : Next) → IsFormed to → MovesIfOk place.form (counts what.Whole r place to)
 whole_moves (Ok n) place to f = (tt, refl, f)
 whole_moves (Err kind) place to f = tt
 
-rate_moves : (r : Result ℕ ℕ) (place : Place) (to : Next) → IsFormed to → MovesIfOk place.form (counts what.Rate r place to)
+rate_moves : (r : Result ℕ ConfKind) (place : Place) (to : Next) → IsFormed to → MovesIfOk place.form (counts what.Rate r place to)
 rate_moves (Ok n) place to f = (tt, refl, f)
 rate_moves (Err kind) place to f = tt
 
 refused_moves : (form : Form) (word : List ℕ) → MovesIfOk form (refused word)
-refused_moves form word = pick (MovesIfOk form) (are_plain word) (Err unknown_word) (Err bad_byte) tt tt
+refused_moves form word = pick (MovesIfOk form) (are_plain word) (Err UnknownWord) (Err BadByte) tt tt
 
 interface_formed : (form : Form) → IsFormed (after_interface form)
 interface_formed form.Interface = tt
@@ -77,17 +79,17 @@ chosen_moves : (place : Place) (word : List ℕ) (o : Option Key) → MovesIfOk 
 chosen_moves place word None = refused_moves place.form word
 chosen_moves place word (Some key) = (tt, refl, option_formed (slots_of key))
 
-bend_moves : (least : ℕ) (r : Result ℕ ℕ) (place : Place) (m1 : ℕ) → MovesIfOk place.form (at_bend least r place m1)
+bend_moves : (least : ℕ) (r : Result ℕ ConfKind) (place : Place) (m1 : ℕ) → MovesIfOk place.form (at_bend least r place m1)
 bend_moves least (Ok d) place m1 = (tt, refl, tt)
 bend_moves least (Err kind) place m1 = tt
 
-slope_moves : (least : ℕ) (r : Result ℕ ℕ) (place : Place) → MovesIfOk place.form (at_slope least r place)
+slope_moves : (least : ℕ) (r : Result ℕ ConfKind) (place : Place) → MovesIfOk place.form (at_slope least r place)
 slope_moves least (Ok m1) place = (tt, refl, tt)
 slope_moves least (Err kind) place = tt
 
-second_moves : (m1 d : ℕ) (r : Result ℕ ℕ) (place : Place) → MovesIfOk place.form (at_last_slope m1 d r place)
+second_moves : (m1 d : ℕ) (r : Result ℕ ConfKind) (place : Place) → MovesIfOk place.form (at_last_slope m1 d r place)
 second_moves m1 d (Ok m2) place =
-    pick (MovesIfOk place.form) (is_convex m1 d m2) (Err convex_first) (says (what.Rate m2) place next.Choice) tt (tt, refl, tt)
+    pick (MovesIfOk place.form) (is_convex m1 d m2) (Err ConvexFirst) (says (what.Rate m2) place next.Choice) tt (tt, refl, tt)
 second_moves m1 d (Err kind) place = tt
 
 address_formed : (form : Form) (says : What) (side : Side) → IsFormed (after_address form says side)
@@ -95,7 +97,7 @@ address_formed form.Filter (what.Ip4 address) side = tt
 address_formed form.Filter _ side = tt
 address_formed _ _ side = tt
 
-then_moves : (r : Result What ℕ) (place : Place) (side : Side) → MovesIfOk place.form (then_address r place side)
+then_moves : (r : Result What ConfKind) (place : Place) (side : Side) → MovesIfOk place.form (then_address r place side)
 then_moves (Ok says) place side = (tt, refl, address_formed place.form says side)
 then_moves (Err kind) place side = tt
 
@@ -187,7 +189,7 @@ one_late : (m at : ℕ) (o : Option What) (items : List Item) → m ≤ at → A
 one_late m at None items h k = k
 one_late m at (Some says) items h k = (h, k)
 
-fault_late : (line at : ℕ) (o : Option ℕ) → IsLate at (fault_at line at o)
+fault_late : (line at : ℕ) (o : Option ConfKind) → IsLate at (fault_at line at o)
 fault_late line at None = tt
 fault_late line at (Some kind) = omega arith
 
@@ -196,14 +198,14 @@ pub record AllLate (m : ℕ) (r : Reading) : Type 0 where
   pub items : AreLate m r.items
   pub fault : IsLate m r.fault
 
-abbrev past : ℕ → List (List ℕ) → Place → ℕ → Result Step ℕ → Reading
+abbrev past : ℕ → List (List ℕ) → Place → ℕ → Result Step ConfKind → Reading
 past line words place at r =
     elim r [
       | Ok taken ↦ behind (item_of at taken.what) (read_from line words taken.after (at + 1))
       | Err kind ↦ stops place (fault_at line at (Some kind))
     ]
 
-late_past : (line : ℕ) (words : List (List ℕ)) (place : Place) (at : ℕ) (r : Result Step ℕ)
+late_past : (line : ℕ) (words : List (List ℕ)) (place : Place) (at : ℕ) (r : Result Step ConfKind)
     → ((to : Place) → AllLate (at + 1) (read_from line words to (at + 1))) → AllLate at (past line words place at r)
 late_past line words place at (Ok taken) k =
     let more = k taken.after in
@@ -219,7 +221,7 @@ late_from line [] place at = record { items = tt; fault = fault_late line at (en
 late_from line (word ∷ words) place at = late_past line words place at (step place word) (λ to. late_from line words to (at + 1))
 
 -- the form of a reading
-form_past : (line : ℕ) (words : List (List ℕ)) (place : Place) (at : ℕ) (r : Result Step ℕ) → MovesIfOk place.form r
+form_past : (line : ℕ) (words : List (List ℕ)) (place : Place) (at : ℕ) (r : Result Step ConfKind) → MovesIfOk place.form r
     → ((to : Place) → IsFormed to.next → (read_from line words to (at + 1)).form ≡ to.form) → (past line words place at r).form ≡ place.form
 form_past line words place at (Ok taken) h k = k taken.after h.2 ∙ h.1
 form_past line words place at (Err kind) h k = refl
@@ -259,7 +261,7 @@ item_count : (at : ℕ) (o : Option What) (items : List Item) → IsItem o → l
 item_count at None items is = absurd is
 item_count at (Some says) items is = omega arith
 
-agree_past : (m line : ℕ) (words others : List (List ℕ)) (place : Place) (at : ℕ) (r : Result Step ℕ) → at < m → MovesIfOk place.form r
+agree_past : (m line : ℕ) (words others : List (List ℕ)) (place : Place) (at : ℕ) (r : Result Step ConfKind) → at < m → MovesIfOk place.form r
     → ((to : Place) → IsFormed to.next → Agree m (at + 1) to.form (read_from line words to (at + 1)) (read_from line others to (at + 1)))
     → Agree m at place.form (past line words place at r) (past line others place at r)
 agree_past m line words others place at (Ok taken) within h k =
@@ -348,7 +350,7 @@ abbrev pub LinesAgree : ℕ → Reading → Reading → Type 0
 LinesAgree m r t = Unknown m r t ⊎ (Refused r t ⊎ AgreeInForm m r t)
 
 -- behind class
-abbrev Second : ℕ → ℕ → List (List ℕ) → List (List ℕ) → Place → Result Step ℕ → Type 0
+abbrev Second : ℕ → ℕ → List (List ℕ) → List (List ℕ) → Place → Result Step ConfKind → Type 0
 Second m line words others place r = LinesAgree m (past line words place 2 r) (past line others place 2 r)
 
 discipline_agree : (m line : ℕ) (words more other : List (List ℕ)) (word : List ℕ) (place : Place) → place.form ≡ form.Unread → m ≡ 3 + length words
@@ -361,7 +363,7 @@ discipline_agree m line words more other word place e n =
     (inr (inr (form.ClassHfsc, agree_from m line words more other (record { form = form.ClassHfsc; next = next.Interface; settled = false }) 3 tt n)))
     (pick P (is_text (codes "cbq") word) (begins form.ClassCbq next.Interface) (refused word)
     (inr (inr (form.ClassCbq, agree_from m line words more other (record { form = form.ClassCbq; next = next.Interface; settled = false }) 3 tt n)))
-    (pick P (are_plain word) (Err unknown_word) (Err bad_byte) (inr (inl (record { same = refl; fault = record { line = line; word = 2; kind = unknown_word }; is = refl; of_form = e }))) (inr (inl (record { same = refl; fault = record { line = line; word = 2; kind = bad_byte }; is = refl; of_form = e })))))
+    (pick P (are_plain word) (Err UnknownWord) (Err BadByte) (inr (inl (record { same = refl; fault = record { line = line; word = 2; kind = UnknownWord }; is = refl; of_form = e }))) (inr (inl (record { same = refl; fault = record { line = line; word = 2; kind = BadByte }; is = refl; of_form = e })))))
 
 is_discipline : (place : Place) (word : List ℕ) → place.next ≡ next.Discipline → step place word ≡ at_discipline word
 unfolding step
@@ -379,7 +381,7 @@ after_class m line (word ∷ words) more other place d e n =
     let at : step place word ≡ at_discipline word = is_discipline place word d in
     subst (Second m line (words ++ more) (words ++ other) place) (sym at) (discipline_agree m line words more other word place e (omega arith))
 
-abbrev First : ℕ → ℕ → List (List ℕ) → List (List ℕ) → Result Step ℕ → Type 0
+abbrev First : ℕ → ℕ → List (List ℕ) → List (List ℕ) → Result Step ConfKind → Type 0
 First m line words others r = LinesAgree m (past line words start 1 r) (past line others start 1 r)
 
 statement_agree : (m line : ℕ) (words more other : List (List ℕ)) (word : List ℕ) → m ≡ 2 + length words
@@ -395,7 +397,7 @@ statement_agree m line words more other word n =
     (after_class m line words more other (record { form = form.Unread; next = next.Discipline; settled = false }) refl refl n)
     (pick P (is_text (codes "filter") word) (begins form.Filter next.Interface) last (inr (inr (form.Filter, agree_from m line words more other (record { form = form.Filter; next = next.Interface; settled = false }) 2 tt n)))
     (pick P (is_text (codes "filter6") word) (begins form.Filter6 next.Interface) (refused word) (inr (inr (form.Filter6, agree_from m line words more other (record { form = form.Filter6; next = next.Interface; settled = false }) 2 tt n)))
-    (pick P (are_plain word) (Err unknown_word) (Err bad_byte) (inr (inl (record { same = refl; fault = record { line = line; word = 1; kind = unknown_word }; is = refl; of_form = refl }))) (inr (inl (record { same = refl; fault = record { line = line; word = 1; kind = bad_byte }; is = refl; of_form = refl })))))))
+    (pick P (are_plain word) (Err UnknownWord) (Err BadByte) (inr (inl (record { same = refl; fault = record { line = line; word = 1; kind = UnknownWord }; is = refl; of_form = refl }))) (inr (inl (record { same = refl; fault = record { line = line; word = 1; kind = BadByte }; is = refl; of_form = refl })))))))
 
 is_statement : (word : List ℕ) → step start word ≡ at_statement word
 unfolding step

@@ -5,6 +5,7 @@ use Rattle.line_text.specs.Addresses.{ip4_of, ip6_of}
 use Rattle.line_text.specs.Lines.{line_len, joined, longest_line}
 use Rattle.line_text.specs.Numbers.{number, cut}
 use Rattle.line_text.specs.Words.{words_of}
+use Rattle.conf_lines.specs.declared.fault.ConfKind.{ConfKind}
 use Rattle.conf_lines.specs.declared.grammar.Next.{Next}
 use Rattle.conf_lines.specs.declared.grammar.Next.TheVariants as next
 use Rattle.conf_lines.specs.declared.grammar.Place.{Place}
@@ -21,12 +22,13 @@ use Rattle.conf_lines.specs.declared.statement.Form.TheVariants as form
 use Rattle.conf_lines.specs.declared.statement.Statement.{Statement}
 use Rattle.conf_lines.specs.Grammar.{says, reads, counts, refused, begins, at_statement, at_discipline, after_interface, at_parent, chosen, is_convex, at_bend, at_slope, at_last_slope, keyword, address_of, then_address, at_address, after_port, at_port, at_ruleno_or_address, at_name_or_address, at_mask_or_port, tos_word, mask_word, word_or_end, step_from, step, start}
 use Rattle.conf_lines.specs.Options.{most_rate, most_bend, most_ruleno, most_port, most_tos, word_of_key, option_of}
-use Rattle.conf_lines.specs.Slots.{is_text, are_plain, is_name, rate_in, whole_in, skipped_in, name_in, protocol_in, found_in, as_ip4, mask_in, address_in, as_ip6, prefix_in, address6_in, unknown_word, bad_byte, convex_first}
+use Rattle.conf_lines.specs.Slots.{is_text, are_plain, is_name, rate_in, whole_in, skipped_in, name_in, protocol_in, found_in, as_ip4, mask_in, address_in, as_ip6, prefix_in, address6_in}
+use Rattle.conf_lines.specs.declared.fault.ConfKind.TheVariants.{UnknownWord, BadByte, ConvexFirst}
 use Rattle.conf_lines.specs.Texts.{Reading, fault_at, stops, item_of, behind, read_from, by_words, line_too_long, statement_of, line_feeds, before, statements_in, statements_of}
 use Rattle.conf_lines.specs.Laws.{AreBytes, IsSound, AreSound, AreAllSound}
 use Rattle.conf_lines.proofs.SoundAddresses.{ip4_bytes, ip6_bytes}
 
-abbrev IsSoundRead : Result What ℕ → Type 0
+abbrev IsSoundRead : Result What ConfKind → Type 0
 IsSoundRead (Ok says) = IsSound says
 IsSoundRead (Err kind) = Unit {0}
 
@@ -34,7 +36,7 @@ abbrev IsSoundIfAny : Option What → Type 0
 IsSoundIfAny None = Unit {0}
 IsSoundIfAny (Some says) = IsSound says
 
-abbrev IsSoundStep : Result Step ℕ → Type 0
+abbrev IsSoundStep : Result Step ConfKind → Type 0
 IsSoundStep (Ok taken) = IsSoundIfAny taken.what
 IsSoundStep (Err kind) = Unit {0}
 
@@ -45,11 +47,11 @@ pick P false x y p q = q
 -- what one word says
 name_read : (word : List ℕ) → IsSoundRead (name_in word)
 unfolding name_in
-name_read word = cond_both (is_name word) (Ok (what.Name word)) (Err bad_byte) IsSoundRead (λ e. e) (λ e. tt)
+name_read word = cond_both (is_name word) (Ok (what.Name word)) (Err BadByte) IsSoundRead (λ e. e) (λ e. tt)
 
 skipped_read : (word : List ℕ) → IsSoundRead (skipped_in word)
 unfolding skipped_in
-skipped_read word = pick IsSoundRead (are_plain word) (Ok what.Skipped) (Err bad_byte) tt tt
+skipped_read word = pick IsSoundRead (are_plain word) (Ok what.Skipped) (Err BadByte) tt tt
 
 found4 : (o : Option (List ℕ)) → IfSome o (AreBytes 4) → IsSoundRead (found_in (as_ip4 o))
 found4 None h = tt
@@ -57,7 +59,7 @@ found4 (Some address) h = h
 
 mask_read : (word : List ℕ) → IsSoundRead (mask_in word)
 unfolding mask_in
-mask_read word = pick IsSoundRead (are_plain word) (found_in (as_ip4 (ip4_of word))) (Err bad_byte) (found4 (ip4_of word) (ip4_bytes word)) tt
+mask_read word = pick IsSoundRead (are_plain word) (found_in (as_ip4 (ip4_of word))) (Err BadByte) (found4 (ip4_of word) (ip4_bytes word)) tt
 
 address_read : (word : List ℕ) → IsSoundRead (address_in word)
 unfolding address_in
@@ -76,24 +78,24 @@ address6_read : (word : List ℕ) → IsSoundRead (address6_in word)
 unfolding address6_in
 address6_read word =
     let found = found_in (prefix_in word (cut 47 word)) in
-    pick IsSoundRead (is_text (codes "0") word) (Ok what.Any) (cond (are_plain word) found (Err bad_byte)) tt
-    (pick IsSoundRead (are_plain word) found (Err bad_byte) (prefix_read word (cut 47 word)) tt)
+    pick IsSoundRead (is_text (codes "0") word) (Ok what.Any) (cond (are_plain word) found (Err BadByte)) tt
+    (pick IsSoundRead (are_plain word) found (Err BadByte) (prefix_read word (cut 47 word)) tt)
 
 -- a step of each kind
-reads_step : (r : Result What ℕ) (place : Place) (to : Next) → IsSoundRead r → IsSoundStep (reads r place to)
+reads_step : (r : Result What ConfKind) (place : Place) (to : Next) → IsSoundRead r → IsSoundStep (reads r place to)
 reads_step (Ok says) place to h = h
 reads_step (Err kind) place to h = tt
 
-whole_step : (r : Result ℕ ℕ) (place : Place) (to : Next) → IsSoundStep (counts what.Whole r place to)
+whole_step : (r : Result ℕ ConfKind) (place : Place) (to : Next) → IsSoundStep (counts what.Whole r place to)
 whole_step (Ok n) place to = tt
 whole_step (Err kind) place to = tt
 
-rate_step : (r : Result ℕ ℕ) (place : Place) (to : Next) → IsSoundStep (counts what.Rate r place to)
+rate_step : (r : Result ℕ ConfKind) (place : Place) (to : Next) → IsSoundStep (counts what.Rate r place to)
 rate_step (Ok n) place to = tt
 rate_step (Err kind) place to = tt
 
 refused_step : (word : List ℕ) → IsSoundStep (refused word)
-refused_step word = pick IsSoundStep (are_plain word) (Err unknown_word) (Err bad_byte) tt tt
+refused_step word = pick IsSoundStep (are_plain word) (Err UnknownWord) (Err BadByte) tt tt
 
 statement_step : (word : List ℕ) → IsSoundStep (at_statement word)
 unfolding at_statement
@@ -121,19 +123,19 @@ chosen_step : (place : Place) (word : List ℕ) (o : Option Key) → IsSoundStep
 chosen_step place word None = refused_step word
 chosen_step place word (Some key) = tt
 
-bend_step : (least : ℕ) (r : Result ℕ ℕ) (place : Place) (m1 : ℕ) → IsSoundStep (at_bend least r place m1)
+bend_step : (least : ℕ) (r : Result ℕ ConfKind) (place : Place) (m1 : ℕ) → IsSoundStep (at_bend least r place m1)
 bend_step least (Ok d) place m1 = tt
 bend_step least (Err kind) place m1 = tt
 
-slope_step : (least : ℕ) (r : Result ℕ ℕ) (place : Place) → IsSoundStep (at_slope least r place)
+slope_step : (least : ℕ) (r : Result ℕ ConfKind) (place : Place) → IsSoundStep (at_slope least r place)
 slope_step least (Ok m1) place = tt
 slope_step least (Err kind) place = tt
 
-last_slope_step : (m1 d : ℕ) (r : Result ℕ ℕ) (place : Place) → IsSoundStep (at_last_slope m1 d r place)
-last_slope_step m1 d (Ok m2) place = pick IsSoundStep (is_convex m1 d m2) (Err convex_first) (says (what.Rate m2) place next.Choice) tt tt
+last_slope_step : (m1 d : ℕ) (r : Result ℕ ConfKind) (place : Place) → IsSoundStep (at_last_slope m1 d r place)
+last_slope_step m1 d (Ok m2) place = pick IsSoundStep (is_convex m1 d m2) (Err ConvexFirst) (says (what.Rate m2) place next.Choice) tt tt
 last_slope_step m1 d (Err kind) place = tt
 
-then_step : (r : Result What ℕ) (place : Place) (side : Side) → IsSoundRead r → IsSoundStep (then_address r place side)
+then_step : (r : Result What ConfKind) (place : Place) (side : Side) → IsSoundRead r → IsSoundStep (then_address r place side)
 then_step (Ok says) place side h = h
 then_step (Err kind) place side h = tt
 
@@ -208,14 +210,14 @@ sound_item at None h = tt
 sound_item at (Some says) h = (h, tt)
 
 -- the reading behind a step
-abbrev past : ℕ → List (List ℕ) → Place → ℕ → Result Step ℕ → Reading
+abbrev past : ℕ → List (List ℕ) → Place → ℕ → Result Step ConfKind → Reading
 past line words place at r =
     elim r [
       | Ok taken ↦ behind (item_of at taken.what) (read_from line words taken.after (at + 1))
       | Err kind ↦ stops place (fault_at line at (Some kind))
     ]
 
-sound_past : (line : ℕ) (words : List (List ℕ)) (place : Place) (at : ℕ) (r : Result Step ℕ) → IsSoundStep r
+sound_past : (line : ℕ) (words : List (List ℕ)) (place : Place) (at : ℕ) (r : Result Step ConfKind) → IsSoundStep r
     → ((to : Place) → AreSound (read_from line words to (at + 1)).items) → AreSound (past line words place at r).items
 sound_past line words place at (Ok taken) h k =
     sound_append (item_of at taken.what) (read_from line words taken.after (at + 1)).items (sound_item at taken.what h) (k taken.after)

@@ -1,19 +1,20 @@
 -- The fault that a line shows by itself stands at its word.
 use Rattle.std.proofs.Common.{◌≡◌, ℕ, ◌+◌, ◌<◌, ◌≤◌, List, [], ◌∷◌, ◌++◌, length, Option, Some, None, Result, Ok, Err, refl, ap, arith}
+use Rattle.conf_lines.specs.declared.fault.ConfKind.{ConfKind}
 use Rattle.conf_lines.specs.declared.fault.ConfPlace.{ConfPlace}
 use Rattle.conf_lines.specs.declared.grammar.Place.{Place}
 use Rattle.conf_lines.specs.declared.grammar.Step.{Step}
 use Rattle.conf_lines.specs.Grammar.{step, end}
 use Rattle.conf_lines.specs.Texts.{Reading, fault_at, stops, item_of, behind, read_from}
 
-abbrev past : ℕ → List (List ℕ) → Place → ℕ → Result Step ℕ → Reading
+abbrev past : ℕ → List (List ℕ) → Place → ℕ → Result Step ConfKind → Reading
 past line words place at r =
     elim r [
       | Ok taken ↦ behind (item_of at taken.what) (read_from line words taken.after (at + 1))
       | Err kind ↦ stops place (fault_at line at (Some kind))
     ]
 
-at_word : (line at : ℕ) (o : Option ℕ) (fault : ConfPlace) → fault_at line at o ≡ Some fault → at ≤ fault.word
+at_word : (line at : ℕ) (o : Option ConfKind) (fault : ConfPlace) → fault_at line at o ≡ Some fault → at ≤ fault.word
 at_word line at None fault e = cc
 at_word line at (Some kind) fault e =
     let same : at ≡ fault.word = ap (λ (o : Option ConfPlace). word_of o) e in omega arith
@@ -23,7 +24,7 @@ at_word line at (Some kind) fault e =
     word_of (Some place) = place.word
 
 -- no fault stands before the first word
-later_past : (line : ℕ) (words : List (List ℕ)) (place : Place) (at : ℕ) (r : Result Step ℕ) (fault : ConfPlace) → (past line words place at r).fault ≡ Some fault
+later_past : (line : ℕ) (words : List (List ℕ)) (place : Place) (at : ℕ) (r : Result Step ConfKind) (fault : ConfPlace) → (past line words place at r).fault ≡ Some fault
     → ((to : Place) → (read_from line words to (at + 1)).fault ≡ Some fault → at + 1 ≤ fault.word) → at ≤ fault.word
 later_past line words place at (Ok taken) fault e k = let more = k taken.after e in omega arith
 later_past line words place at (Err kind) fault e k = at_word line at (Some kind) fault e
@@ -33,7 +34,7 @@ later line [] place at fault e = at_word line at (end place) fault e
 later line (word ∷ words) place at fault e =
     later_past line words place at (step place word) fault e (λ to h. later line words to (at + 1) fault h)
 
-stands_past : (line : ℕ) (words others : List (List ℕ)) (place : Place) (at : ℕ) (r : Result Step ℕ) (fault : ConfPlace)
+stands_past : (line : ℕ) (words others : List (List ℕ)) (place : Place) (at : ℕ) (r : Result Step ConfKind) (fault : ConfPlace)
     → (past line words place at r).fault ≡ Some fault
     → ((to : Place) → (read_from line words to (at + 1)).fault ≡ Some fault → read_from line others to (at + 1) ≡ read_from line words to (at + 1))
     → past line others place at r ≡ past line words place at r

@@ -5,6 +5,7 @@ use Rattle.line_text.specs.Lines.{line_len, joined, longest_line}
 use Rattle.line_text.specs.Addresses.{ip4_of, ip6_of}
 use Rattle.line_text.specs.Numbers.{number, cut, whole_of, rate_of}
 use Rattle.line_text.specs.Words.{words_of}
+use Rattle.conf_lines.specs.declared.fault.ConfKind.{ConfKind}
 use Rattle.conf_lines.specs.declared.grammar.Next.{Next}
 use Rattle.conf_lines.specs.declared.grammar.Next.TheVariants as next
 use Rattle.conf_lines.specs.declared.grammar.Place.{Place}
@@ -23,7 +24,8 @@ use Rattle.conf_lines.specs.declared.statement.Form.TheVariants as form
 use Rattle.conf_lines.specs.declared.statement.Statement.{Statement}
 use Rattle.conf_lines.specs.Grammar.{says, reads, counts, refused, begins, at_statement, at_discipline, after_interface, at_parent, behind_option, chosen, is_convex, at_bend, at_slope, at_last_slope, keyword, address_of, then_address, at_address, after_port, at_port, at_ruleno_or_address, at_name_or_address, at_mask_or_port, tos_word, mask_word, word_or_end, step_from, step, end_from, end, start}
 use Rattle.conf_lines.specs.Options.{most_rate, most_bend, most_ruleno, most_port, most_tos, word_of_key, slots_of, option_of}
-use Rattle.conf_lines.specs.Slots.{is_text, are_plain, within, checked, rate_in, whole_in, skipped_in, name_in, protocol_in, found_in, as_ip4, mask_in, address_in, as_ip6, prefix_in, address6_in, is_name, unknown_word, missing_word, bad_byte, convex_first}
+use Rattle.conf_lines.specs.Slots.{is_text, are_plain, within, checked, rate_in, whole_in, skipped_in, name_in, protocol_in, found_in, as_ip4, mask_in, address_in, as_ip6, prefix_in, address6_in, is_name}
+use Rattle.conf_lines.specs.declared.fault.ConfKind.TheVariants.{UnknownWord, MissingWord, BadNumber, RateRange, BadByte, ConvexFirst}
 use Rattle.conf_lines.specs.Texts.{Reading, fault_at, stops, item_of, behind, read_from, by_words, line_too_long, statement_of, line_feeds, before, statements_in, statements_of}
 use Rattle.conf_lines.specs.Laws.{says_at, HasNumber, HasCurve, HasMask, HasSlots, IsWhole, AreWhole, AreAllWhole}
 
@@ -64,31 +66,31 @@ Owed _ items = Unit {0}
 abbrev Held : Next → List Item → Type 0
 Held next items = AreWhole items × Owed next items
 
-abbrev HeldIfOk : Next → Result Step ℕ → Type 0
+abbrev HeldIfOk : Next → Result Step ConfKind → Type 0
 HeldIfOk next (Ok taken) = (at : ℕ) (rest : List Item) → Held taken.after.next rest → Held next (item_of at taken.what ++ rest)
 HeldIfOk next (Err kind) = Unit {0}
 
 -- numbers of a range
-abbrev IsNumber : ℕ → ℕ → Result ℕ ℕ → Type 0
+abbrev IsNumber : ℕ → ℕ → Result ℕ ConfKind → Type 0
 IsNumber low high (Ok n) = (low ≤ n) × (n ≤ high)
 IsNumber low high (Err kind) = Unit {0}
 
-within_number : (low high out : ℕ) (o : Option ℕ) → IsNumber low high (within low high out o)
+within_number : (low high : ℕ) (out : ConfKind) (o : Option ℕ) → IsNumber low high (within low high out o)
 within_number low high out None = tt
 within_number low high out (Some n) =
     cond_both (nat_le low n && nat_le n high) (Ok n) (Err out) (IsNumber low high) (λ e.
     let parts = and_parts (nat_le low n) (nat_le n high) e in (leb-true low n parts.0, leb-true n high parts.1)) (λ e. tt)
 
-checked_number : (low high : ℕ) (word : List ℕ) (r : Result ℕ ℕ) → IsNumber low high r → IsNumber low high (checked word r)
-checked_number low high word r h = cond_both (are_plain word) r (Err bad_byte) (IsNumber low high) (λ e. h) (λ e. tt)
+checked_number : (low high : ℕ) (word : List ℕ) (r : Result ℕ ConfKind) → IsNumber low high r → IsNumber low high (checked word r)
+checked_number low high word r h = cond_both (are_plain word) r (Err BadByte) (IsNumber low high) (λ e. h) (λ e. tt)
 
 rate_number : (low high : ℕ) (word : List ℕ) → IsNumber low high (rate_in low high word)
 unfolding rate_in
-rate_number low high word = checked_number low high word (within low high 4 (rate_of word)) (within_number low high 4 (rate_of word))
+rate_number low high word = checked_number low high word (within low high RateRange (rate_of word)) (within_number low high RateRange (rate_of word))
 
 whole_number : (low high : ℕ) (word : List ℕ) → IsNumber low high (whole_in low high word)
 unfolding whole_in
-whole_number low high word = checked_number low high word (within low high 3 (whole_of word)) (within_number low high 3 (whole_of word))
+whole_number low high word = checked_number low high word (within low high BadNumber (whole_of word)) (within_number low high BadNumber (whole_of word))
 
 -- a word that says no option
 abbrev IsPlain : What → Type 0
@@ -99,7 +101,7 @@ plain_whole : (says : What) (items : List Item) → IsPlain says → IsWhole say
 plain_whole (what.Key key) items plain = absurd plain
 plain_whole _ items plain = tt
 
-abbrev IsPlainRead : Result What ℕ → Type 0
+abbrev IsPlainRead : Result What ConfKind → Type 0
 IsPlainRead (Ok says) = IsPlain says
 IsPlainRead (Err kind) = Unit {0}
 
@@ -109,11 +111,11 @@ pick P false x y p q = q
 
 name_plain : (word : List ℕ) → IsPlainRead (name_in word)
 unfolding name_in
-name_plain word = pick IsPlainRead (is_name word) (Ok (what.Name word)) (Err bad_byte) tt tt
+name_plain word = pick IsPlainRead (is_name word) (Ok (what.Name word)) (Err BadByte) tt tt
 
 mask_plain : (word : List ℕ) → IsPlainRead (mask_in word)
 unfolding mask_in
-mask_plain word = pick IsPlainRead (are_plain word) (found_in (as_ip4 (ip4_of word))) (Err bad_byte) (of (ip4_of word)) tt
+mask_plain word = pick IsPlainRead (are_plain word) (found_in (as_ip4 (ip4_of word))) (Err BadByte) (of (ip4_of word)) tt
   where
     of : (o : Option (List ℕ)) → IsPlainRead (found_in (as_ip4 o))
     of None = tt
@@ -141,29 +143,29 @@ address6_plain : (word : List ℕ) → IsPlainRead (address6_in word)
 unfolding address6_in
 address6_plain word =
     let read = found_in (prefix_in word (cut 47 word)) in
-    pick IsPlainRead (is_text (codes "0") word) (Ok what.Any) (cond (are_plain word) read (Err bad_byte)) tt
-    (pick IsPlainRead (are_plain word) read (Err bad_byte) (prefix_plain word (cut 47 word)) tt)
+    pick IsPlainRead (is_text (codes "0") word) (Ok what.Any) (cond (are_plain word) read (Err BadByte)) tt
+    (pick IsPlainRead (are_plain word) read (Err BadByte) (prefix_plain word (cut 47 word)) tt)
 
 form_plain : (form : Form) (word : List ℕ) → IsPlainRead (address_of form word)
 form_plain form.Filter word = address_plain word
 form_plain _ word = address6_plain word
 
 -- a word without effect, and a mask
-abbrev IsSkippedRead : Result What ℕ → Type 0
+abbrev IsSkippedRead : Result What ConfKind → Type 0
 IsSkippedRead (Ok says) = says ≡ what.Skipped
 IsSkippedRead (Err kind) = Unit {0}
 
 skipped_read : (word : List ℕ) → IsSkippedRead (skipped_in word)
 unfolding skipped_in
-skipped_read word = pick IsSkippedRead (are_plain word) (Ok what.Skipped) (Err bad_byte) refl tt
+skipped_read word = pick IsSkippedRead (are_plain word) (Ok what.Skipped) (Err BadByte) refl tt
 
-abbrev IsMaskRead : Result What ℕ → Type 0
+abbrev IsMaskRead : Result What ConfKind → Type 0
 IsMaskRead (Ok says) = (mask : List ℕ) × (says ≡ what.Ip4 mask)
 IsMaskRead (Err kind) = Unit {0}
 
 mask_read : (word : List ℕ) → IsMaskRead (mask_in word)
 unfolding mask_in
-mask_read word = pick IsMaskRead (are_plain word) (found_in (as_ip4 (ip4_of word))) (Err bad_byte) (of (ip4_of word)) tt
+mask_read word = pick IsMaskRead (are_plain word) (found_in (as_ip4 (ip4_of word))) (Err BadByte) (of (ip4_of word)) tt
   where
     of : (o : Option (List ℕ)) → IsMaskRead (found_in (as_ip4 o))
     of None = tt
@@ -173,37 +175,37 @@ mask_read word = pick IsMaskRead (are_plain word) (found_in (as_ip4 (ip4_of word
 abbrev IsFree : Next → Type 0
 IsFree at = (items : List Item) → Owed at items
 
-reads_held : (at to : Next) (place : Place) (r : Result What ℕ) → IsFree at → IsPlainRead r → HeldIfOk at (reads r place to)
+reads_held : (at to : Next) (place : Place) (r : Result What ConfKind) → IsFree at → IsPlainRead r → HeldIfOk at (reads r place to)
 reads_held at to place (Ok says) free plain = λ word rest held. ((plain_whole says rest plain, held.0), free (record { word = word; what = says } ∷ rest))
 reads_held at to place (Err kind) free plain = tt
 
-skips_held : (at to : Next) (place : Place) (r : Result What ℕ) → IsSkippedRead r → ((items : List Item) → says_at 0 items ≡ Some what.Skipped → Owed at items)
+skips_held : (at to : Next) (place : Place) (r : Result What ConfKind) → IsSkippedRead r → ((items : List Item) → says_at 0 items ≡ Some what.Skipped → Owed at items)
     → HeldIfOk at (reads r place to)
 skips_held at to place (Ok says) skipped owed = λ word rest held.
     ((subst (λ x. IsWhole x rest) (sym skipped) tt, held.0), owed (record { word = word; what = says } ∷ rest) (ap (λ x. Some x) skipped))
 skips_held at to place (Err kind) skipped owed = tt
 
-masks_held : (side : Side) (to : Next) (place : Place) (r : Result What ℕ) → IsMaskRead r → HeldIfOk (next.Mask side) (reads r place to)
+masks_held : (side : Side) (to : Next) (place : Place) (r : Result What ConfKind) → IsMaskRead r → HeldIfOk (next.Mask side) (reads r place to)
 masks_held side to place (Ok says) mask = λ word rest held.
     ((subst (λ x. IsWhole x rest) (sym mask.1) tt, held.0), record { mask = mask.0; says = ap (λ x. Some x) mask.1 })
 masks_held side to place (Err kind) mask = tt
 
-counts_held : (at to : Next) (place : Place) (low high : ℕ) (r : Result ℕ ℕ) → IsNumber low high r
+counts_held : (at to : Next) (place : Place) (low high : ℕ) (r : Result ℕ ConfKind) → IsNumber low high r
     → ((items : List Item) → HasNumber what.Whole low high items → Owed at items) → HeldIfOk at (counts what.Whole r place to)
 counts_held at to place low high (Ok n) is owed = λ word rest held.
     ((tt, held.0), owed (record { word = word; what = what.Whole n } ∷ rest) (record { number = n; says = refl; least = is.0; most = is.1 }))
 counts_held at to place low high (Err kind) is owed = tt
 
-free_held : (at to : Next) (place : Place) (r : Result ℕ ℕ) → IsFree at → HeldIfOk at (counts what.Whole r place to)
+free_held : (at to : Next) (place : Place) (r : Result ℕ ConfKind) → IsFree at → HeldIfOk at (counts what.Whole r place to)
 free_held at to place (Ok n) free = λ word rest held. ((tt, held.0), free (record { word = word; what = what.Whole n } ∷ rest))
 free_held at to place (Err kind) free = tt
 
-rates_held : (low high : ℕ) (place : Place) (r : Result ℕ ℕ) → IsNumber low high r → HeldIfOk (next.Rate low high) (counts what.Rate r place next.Choice)
+rates_held : (low high : ℕ) (place : Place) (r : Result ℕ ConfKind) → IsNumber low high r → HeldIfOk (next.Rate low high) (counts what.Rate r place next.Choice)
 rates_held low high place (Ok n) is = λ word rest held. ((tt, held.0), record { number = n; says = refl; least = is.0; most = is.1 })
 rates_held low high place (Err kind) is = tt
 
 refused_held : (at : Next) (word : List ℕ) → HeldIfOk at (refused word)
-refused_held at word = pick (HeldIfOk at) (are_plain word) (Err unknown_word) (Err bad_byte) tt tt
+refused_held at word = pick (HeldIfOk at) (are_plain word) (Err UnknownWord) (Err BadByte) tt tt
 
 begins_held : (at to : Next) (form : Form) → IsFree at → HeldIfOk at (begins form to)
 begins_held at to form free = λ word rest held. (held.0, free rest)
@@ -251,7 +253,7 @@ parent_held : (place : Place) (word : List ℕ) → HeldIfOk next.Parent (at_par
 unfolding at_parent
 parent_held place word = reads_held next.Parent next.Choice _ (name_in word) (λ items. tt) (name_plain word)
 
-slope_held : (low least : ℕ) (place : Place) (r : Result ℕ ℕ) → IsNumber low most_rate r → HeldIfOk (next.Slope low least) (at_slope least r place)
+slope_held : (low least : ℕ) (place : Place) (r : Result ℕ ConfKind) → IsNumber low most_rate r → HeldIfOk (next.Slope low least) (at_slope least r place)
 slope_held low least place (Ok m1) is = λ word rest held. (
   (tt, held.0),
   record {
@@ -271,7 +273,7 @@ slope_held low least place (Ok m1) is = λ word rest held. (
 )
 slope_held low least place (Err kind) is = tt
 
-bend_held : (least m1 : ℕ) (place : Place) (r : Result ℕ ℕ) → IsNumber 0 most_bend r → HeldIfOk (next.Bend least m1) (at_bend least r place m1)
+bend_held : (least m1 : ℕ) (place : Place) (r : Result ℕ ConfKind) → IsNumber 0 most_bend r → HeldIfOk (next.Bend least m1) (at_bend least r place m1)
 bend_held least m1 place (Ok d) is = λ word rest held. (
   (tt, held.0),
   record {
@@ -287,13 +289,13 @@ bend_held least m1 place (Ok d) is = λ word rest held. (
 )
 bend_held least m1 place (Err kind) is = tt
 
-second_held : (least m1 d : ℕ) (place : Place) (r : Result ℕ ℕ) → IsNumber least most_rate r → HeldIfOk (next.LastSlope least m1 d) (at_last_slope m1 d r place)
+second_held : (least m1 d : ℕ) (place : Place) (r : Result ℕ ConfKind) → IsNumber least most_rate r → HeldIfOk (next.LastSlope least m1 d) (at_last_slope m1 d r place)
 second_held least m1 d place (Ok m2) is =
-    cond_both (is_convex m1 d m2) (Err convex_first) (says (what.Rate m2) place next.Choice) (HeldIfOk (next.LastSlope least m1 d)) (λ e. tt)
+    cond_both (is_convex m1 d m2) (Err ConvexFirst) (says (what.Rate m2) place next.Choice) (HeldIfOk (next.LastSlope least m1 d)) (λ e. tt)
     (λ e. λ word rest held. ((tt, held.0), record { m2 = m2; second = refl; second_least = is.0; second_most = is.1; upward = e }))
 second_held least m1 d place (Err kind) is = tt
 
-then_held : (at : Next) (r : Result What ℕ) (place : Place) (side : Side) → IsFree at → IsPlainRead r → HeldIfOk at (then_address r place side)
+then_held : (at : Next) (r : Result What ConfKind) (place : Place) (side : Side) → IsFree at → IsPlainRead r → HeldIfOk at (then_address r place side)
 then_held at (Ok says) place side free plain = λ word rest held. ((plain_whole says rest plain, held.0), free (record { word = word; what = says } ∷ rest))
 then_held at (Err kind) place side free plain = tt
 
@@ -380,36 +382,36 @@ some_is : {A : Type 0} (x : A) → Some x ≡ None → ⊥
 some_is x e = cc
 
 none_owed : (at : Next) (place : Place) → end_from at place ≡ None → Owed at []
-none_owed next.Skipped place e = absurd (some_is missing_word e)
-none_owed next.NameWord place e = absurd (some_is missing_word e)
-none_owed (next.Rate low high) place e = absurd (some_is missing_word e)
-none_owed (next.Whole low high) place e = absurd (some_is missing_word e)
-none_owed (next.Slope low least) place e = absurd (some_is missing_word e)
-none_owed (next.Bend least m1) place e = absurd (some_is missing_word e)
-none_owed (next.LastSlope least m1 d) place e = absurd (some_is missing_word e)
-none_owed next.Ruleno place e = absurd (some_is missing_word e)
-none_owed (next.Mask side) place e = absurd (some_is missing_word e)
-none_owed next.Tos place e = absurd (some_is missing_word e)
-none_owed next.TosMask place e = absurd (some_is missing_word e)
+none_owed next.Skipped place e = absurd (some_is MissingWord e)
+none_owed next.NameWord place e = absurd (some_is MissingWord e)
+none_owed (next.Rate low high) place e = absurd (some_is MissingWord e)
+none_owed (next.Whole low high) place e = absurd (some_is MissingWord e)
+none_owed (next.Slope low least) place e = absurd (some_is MissingWord e)
+none_owed (next.Bend least m1) place e = absurd (some_is MissingWord e)
+none_owed (next.LastSlope least m1 d) place e = absurd (some_is MissingWord e)
+none_owed next.Ruleno place e = absurd (some_is MissingWord e)
+none_owed (next.Mask side) place e = absurd (some_is MissingWord e)
+none_owed next.Tos place e = absurd (some_is MissingWord e)
+none_owed next.TosMask place e = absurd (some_is MissingWord e)
 none_owed _ place e = tt
 
 end_owed : (place : Place) → end place ≡ None → Owed place.next []
 unfolding end
 end_owed place e = none_owed place.next place e
 
-no_kind : (line at : ℕ) (o : Option ℕ) → fault_at line at o ≡ None → o ≡ None
+no_kind : (line at : ℕ) (o : Option ConfKind) → fault_at line at o ≡ None → o ≡ None
 no_kind line at None e = refl
 no_kind line at (Some kind) e = cc
 
 -- a line
-abbrev past : ℕ → List (List ℕ) → Place → ℕ → Result Step ℕ → Reading
+abbrev past : ℕ → List (List ℕ) → Place → ℕ → Result Step ConfKind → Reading
 past line words place at r =
     elim r [
       | Ok taken ↦ behind (item_of at taken.what) (read_from line words taken.after (at + 1))
       | Err kind ↦ stops place (fault_at line at (Some kind))
     ]
 
-held_past : (line : ℕ) (words : List (List ℕ)) (place : Place) (at : ℕ) (r : Result Step ℕ) → HeldIfOk place.next r → (past line words place at r).fault ≡ None
+held_past : (line : ℕ) (words : List (List ℕ)) (place : Place) (at : ℕ) (r : Result Step ConfKind) → HeldIfOk place.next r → (past line words place at r).fault ≡ None
     → ((to : Place) → (read_from line words to (at + 1)).fault ≡ None → Held to.next (read_from line words to (at + 1)).items)
     → Held place.next (past line words place at r).items
 held_past line words place at (Ok taken) h e k = h at (read_from line words taken.after (at + 1)).items (k taken.after e)

@@ -1,4 +1,5 @@
 pub mod Grammar
+pub mod Kinds
 pub mod Laws
 pub mod Options
 pub mod Slots

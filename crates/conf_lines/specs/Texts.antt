@@ -3,6 +3,7 @@
 use Rattle.std.specs.Prelude.{ℕ, zero, suc, ◌+◌, ◌==◌, List, [], ◌∷◌, ◌++◌, length, take, drop, count_by, nat_lt, if◌then◌else◌, Option, Some, None, Ok, Err}
 use Rattle.line_text.specs.Lines.{line_len, joined, longest_line}
 use Rattle.line_text.specs.Words.{words_of}
+use Rattle.conf_lines.specs.declared.fault.ConfKind.{ConfKind}
 use Rattle.conf_lines.specs.declared.fault.ConfPlace.{ConfPlace}
 use Rattle.conf_lines.specs.declared.grammar.Place.{Place}
 use Rattle.conf_lines.specs.declared.item.Item.{Item}
@@ -11,7 +12,7 @@ use Rattle.conf_lines.specs.declared.statement.Form.{Form}
 use Rattle.conf_lines.specs.declared.statement.Form.TheVariants.{Unread}
 use Rattle.conf_lines.specs.declared.statement.Statement.{Statement}
 use Rattle.conf_lines.specs.Grammar.{step, end, start}
-use Rattle.conf_lines.specs.Slots.{too_long}
+use Rattle.conf_lines.specs.declared.fault.ConfKind.TheVariants.{TooLong}
 
 -- what the words from a place on say: the form where the reading stops, the items up to there, and the first fault
 pub record Reading : Type 0 where
@@ -20,7 +21,7 @@ pub record Reading : Type 0 where
   pub fault : Option ConfPlace
 
 -- the fault of a kind at a word of a line
-abbrev pub fault_at : ℕ → ℕ → Option ℕ → Option ConfPlace
+abbrev pub fault_at : ℕ → ℕ → Option ConfKind → Option ConfPlace
 fault_at line at None = None
 fault_at line at (Some kind) = Some (record { line = line; word = at; kind = kind })
 
@@ -58,7 +59,7 @@ by_words line (word ∷ words) = Some (as_statement line (length (word ∷ words
 
 abbrev pub line_too_long : ℕ → List (List ℕ) → Statement
 line_too_long line words =
-    record { line = line; form = Unread; items = []; end = length words + 1; fault = fault_at line 0 (Some too_long) }
+    record { line = line; form = Unread; items = []; end = length words + 1; fault = fault_at line 0 (Some TooLong) }
 
 abbrev pub statement_of : ℕ → List ℕ → Option Statement
 statement_of line bytes =

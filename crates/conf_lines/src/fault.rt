@@ -1,4 +1,125 @@
-//! The faults of a configuration, by the numbers of their kinds.
+//! The faults of a configuration.
+ghost use Rattle.std.specs.Prelude.{◌≡◌};
+ghost use Rattle.conf_lines.specs.Kinds.{kind_name, kind_number};
+
+/// What is wrong with a configuration.
+#[derive(Clone, Copy, Debug, PartialEq, Eq)]
+pub enum ConfKind {
+    /// A word is no statement, no option of its statement, or stands past the statement's end.
+    UnknownWord,
+    /// A statement ends where a word is needed.
+    MissingWord,
+    /// A number is not of its form, or a WHOLE is out of its range.
+    BadNumber,
+    /// A RATE, or the rate of `pbandwidth`, is out of its range.
+    RateRange,
+    /// An address, a mask or a prefix length is not of its form.
+    BadAddress,
+    /// A word has a byte outside 33 to 126, or a NAME is not of its form.
+    BadByte,
+    /// The joined line passes 4,096 bytes.
+    TooLong,
+    /// `interface` names an interface a second time.
+    InterfaceTwice,
+    /// A class or a filter names an interface that does not stand earlier, or the interface asked for is absent.
+    NoInterface,
+    /// `class hfsc` names a `cbq` interface, or the reverse.
+    WrongDiscipline,
+    /// A class name stands earlier on this interface.
+    NameTaken,
+    /// The parent is no earlier class of this interface.
+    NoParent,
+    /// A second class has the parent `NULL`.
+    TwoRoots,
+    /// The class would be on level 9, the root being level 1.
+    TooDeep,
+    /// The 257th class of an interface.
+    TooManyClasses,
+    /// The 1,025th filter of an interface.
+    TooManyFilters,
+    /// The 17th interface.
+    TooManyInterfaces,
+    /// A curve begins slowly and then rises.
+    ConvexFirst,
+    /// A class of HFSC other than the root has no link-sharing curve.
+    NoShare,
+    /// A class that is named as a parent has a real-time curve that `rt` or `grate` set last.
+    RealTimeInside,
+    /// On an HFSC interface a parent would hold packets, or a filter names a parent.
+    InnerQueue,
+    /// A second `default` on an interface.
+    TwoDefaults,
+    /// An interface has classes and no default.
+    NoDefault,
+    /// A filter names no earlier class of its interface.
+    NoClass,
+}
+
+impl ConfKind {
+    /// The kind's number, from 1 to 24, as a status gives it.
+    pub fn number(self) -> u8
+        ensures { result ≡ kind_number self }
+    {
+        match self {
+            ConfKind::UnknownWord => 1,
+            ConfKind::MissingWord => 2,
+            ConfKind::BadNumber => 3,
+            ConfKind::RateRange => 4,
+            ConfKind::BadAddress => 5,
+            ConfKind::BadByte => 6,
+            ConfKind::TooLong => 7,
+            ConfKind::InterfaceTwice => 8,
+            ConfKind::NoInterface => 9,
+            ConfKind::WrongDiscipline => 10,
+            ConfKind::NameTaken => 11,
+            ConfKind::NoParent => 12,
+            ConfKind::TwoRoots => 13,
+            ConfKind::TooDeep => 14,
+            ConfKind::TooManyClasses => 15,
+            ConfKind::TooManyFilters => 16,
+            ConfKind::TooManyInterfaces => 17,
+            ConfKind::ConvexFirst => 18,
+            ConfKind::NoShare => 19,
+            ConfKind::RealTimeInside => 20,
+            ConfKind::InnerQueue => 21,
+            ConfKind::TwoDefaults => 22,
+            ConfKind::NoDefault => 23,
+            ConfKind::NoClass => 24,
+        }
+    }
+
+    /// The kind's name, as a message gives it.
+    pub fn name(self) -> &'static str
+        ensures { result.now ≡ kind_name self }
+    {
+        match self {
+            ConfKind::UnknownWord => "UnknownWord",
+            ConfKind::MissingWord => "MissingWord",
+            ConfKind::BadNumber => "BadNumber",
+            ConfKind::RateRange => "RateRange",
+            ConfKind::BadAddress => "BadAddress",
+            ConfKind::BadByte => "BadByte",
+            ConfKind::TooLong => "TooLong",
+            ConfKind::InterfaceTwice => "InterfaceTwice",
+            ConfKind::NoInterface => "NoInterface",
+            ConfKind::WrongDiscipline => "WrongDiscipline",
+            ConfKind::NameTaken => "NameTaken",
+            ConfKind::NoParent => "NoParent",
+            ConfKind::TwoRoots => "TwoRoots",
+            ConfKind::TooDeep => "TooDeep",
+            ConfKind::TooManyClasses => "TooManyClasses",
+            ConfKind::TooManyFilters => "TooManyFilters",
+            ConfKind::TooManyInterfaces => "TooManyInterfaces",
+            ConfKind::ConvexFirst => "ConvexFirst",
+            ConfKind::NoShare => "NoShare",
+            ConfKind::RealTimeInside => "RealTimeInside",
+            ConfKind::InnerQueue => "InnerQueue",
+            ConfKind::TwoDefaults => "TwoDefaults",
+            ConfKind::NoDefault => "NoDefault",
+            ConfKind::NoClass => "NoClass",
+        }
+    }
+}
 
 /// Where a configuration has a fault, and which.
 #[derive(Clone, Copy, Debug, PartialEq, Eq)]
@@ -8,8 +129,8 @@ pub struct ConfPlace {
     /// The number of the word in its logical line, from 1. It is 0 where the line is too long, and the count of words and 1
     /// where a word is missing.
     pub word: u64,
-    /// The number of the kind, from 1 to 24.
-    pub kind: u8,
+    /// What is wrong there.
+    pub kind: ConfKind,
 }
 
 /// Why a configuration cannot be had.
@@ -20,30 +141,3 @@ pub enum ConfFault {
     /// Memory ran out.
     NoMemory,
 }
-
-/// A word is no statement, no option of its statement, or stands past the statement's end.
-pub(crate) const UNKNOWN_WORD: u8 = 1;
-
-/// A statement ends where a word is needed.
-pub(crate) const MISSING_WORD: u8 = 2;
-
-/// A number is not of its form, or a WHOLE is out of its range.
-pub(crate) const BAD_NUMBER: u8 = 3;
-
-/// A RATE is out of its range.
-pub(crate) const RATE_RANGE: u8 = 4;
-
-/// An address, a mask or a prefix length is not of its form.
-pub(crate) const BAD_ADDRESS: u8 = 5;
-
-/// A word has a byte outside 33 to 126, or a NAME is not of its form.
-pub(crate) const BAD_BYTE: u8 = 6;
-
-/// The joined line passes 4,096 bytes.
-pub(crate) const TOO_LONG: u8 = 7;
-
-/// A curve begins slowly and then rises.
-pub(crate) const CONVEX_FIRST: u8 = 18;
-
-/// A class other than the root has no link-sharing curve.
-pub(crate) const NO_SHARE: u8 = 19;

@@ -1,5 +1,6 @@
 //! What may stand where in a statement. A `Place` is a state of its parser.
 
+use crate::fault::ConfKind;
 use crate::item::What;
 use crate::statement::Form;
 
@@ -91,7 +92,7 @@ pub(crate) struct Step {
 #[derive(Clone, Copy, Debug)]
 pub(crate) enum Refusal {
     /// It is a fault of this kind.
-    Kind(u8),
+    Kind(ConfKind),
     /// Memory ran out.
     NoMemory,
 }

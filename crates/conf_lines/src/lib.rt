@@ -11,7 +11,7 @@ mod slot;
 mod statement;
 mod step;
 
-pub use fault::{ConfFault, ConfPlace};
+pub use fault::{ConfFault, ConfKind, ConfPlace};
 pub use item::{Item, Items, Key, Text, What};
 pub use laws::{items_are_sound, line_faults_stand, options_are_whole};
 pub use options::{MOST_BEND, MOST_PORT, MOST_PROTOCOL, MOST_RATE, MOST_RULENO, MOST_TOS, Slots};

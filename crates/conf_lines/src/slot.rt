@@ -1,9 +1,9 @@
-//! What one word says where a word of a kind is wanted, or the number of the kind of its fault.
+//! What one word says where a word of a kind is wanted, or the kind of its fault.
 ghost use Rattle.std.specs.Prelude.{◌≡◌, ◌≤◌};
 ghost use Rattle.conf_lines.specs.Slots.{is_text, are_plain, is_name_byte, is_name, rate_in, whole_in, skipped_in, protocol_in, mask_in, address_in, address6_in, prefix_in};
 ghost use Rattle.line_text.specs.Numbers.{cut};
 
-use crate::fault::{BAD_ADDRESS, BAD_BYTE, BAD_NUMBER, RATE_RANGE};
+use crate::fault::ConfKind;
 use crate::item::What;
 use line_text::{Word, cut, decimal, ip4, ip6, rate, whole};
 
@@ -53,46 +53,46 @@ pub(crate) fn is_name(word: &[u8]) -> bool
 
 /// A RATE in a range, in bits per second.
 #[tactic(auto, unfolding(crate::specs::Slots::rate_in))]
-pub(crate) fn rate_in(low: u64, high: u64, word: &Word) -> Result<u64, u8>
+pub(crate) fn rate_in(low: u64, high: u64, word: &Word) -> Result<u64, ConfKind>
     ensures { result ≡ rate_in low high word.now.parts.now }
 {
     match rate(word) {
-        _ if !are_plain(word.parts) => Err(BAD_BYTE),
-        None => Err(BAD_NUMBER),
-        Some(value) if value < low || value > high => Err(RATE_RANGE),
+        _ if !are_plain(word.parts) => Err(ConfKind::BadByte),
+        None => Err(ConfKind::BadNumber),
+        Some(value) if value < low || value > high => Err(ConfKind::RateRange),
         Some(value) => Ok(value),
     }
 }
 
 /// A WHOLE in a range.
 #[tactic(auto, unfolding(crate::specs::Slots::whole_in))]
-pub(crate) fn whole_in(low: u64, high: u64, word: &Word) -> Result<u64, u8>
+pub(crate) fn whole_in(low: u64, high: u64, word: &Word) -> Result<u64, ConfKind>
     ensures { result ≡ whole_in low high word.now.parts.now }
 {
     if !are_plain(word.parts) {
-        return Err(BAD_BYTE);
+        return Err(ConfKind::BadByte);
     }
     match whole(word) {
         Some(value) if value >= low && value <= high => Ok(value),
-        _ => Err(BAD_NUMBER),
+        _ => Err(ConfKind::BadNumber),
     }
 }
 
 /// A WORD without effect.
 #[tactic(auto, unfolding(crate::specs::Slots::skipped_in))]
-pub(crate) fn skipped_in(word: &Word) -> Result<What, u8>
+pub(crate) fn skipped_in(word: &Word) -> Result<What, ConfKind>
     ensures { result ≡ skipped_in word.now.parts.now }
 {
     if are_plain(word.parts) {
         Ok(What::Skipped)
     } else {
-        Err(BAD_BYTE)
+        Err(ConfKind::BadByte)
     }
 }
 
 /// A protocol: a number of 0 to 255, or one of three words.
 #[tactic(auto, unfolding(crate::specs::Slots::protocol_in))]
-pub(crate) fn protocol_in(word: &Word) -> Result<u64, u8>
+pub(crate) fn protocol_in(word: &Word) -> Result<u64, ConfKind>
     ensures { result ≡ protocol_in word.now.parts.now }
 {
     if is_text("icmp", word.parts) {
@@ -108,21 +108,21 @@ pub(crate) fn protocol_in(word: &Word) -> Result<u64, u8>
 
 /// A mask of an IPv4 address.
 #[tactic(auto, unfolding(crate::specs::Slots::mask_in))]
-pub(crate) fn mask_in(word: &Word) -> Result<What, u8>
+pub(crate) fn mask_in(word: &Word) -> Result<What, ConfKind>
     ensures { result ≡ mask_in word.now.parts.now }
 {
     if !are_plain(word.parts) {
-        return Err(BAD_BYTE);
+        return Err(ConfKind::BadByte);
     }
     match ip4(word) {
-        None => Err(BAD_ADDRESS),
+        None => Err(ConfKind::BadAddress),
         Some(address) => Ok(What::Ip4(address)),
     }
 }
 
 /// An address of a `filter`: `0`, or an IPv4 address.
 #[tactic(auto, unfolding(crate::specs::Slots::address_in))]
-pub(crate) fn address_in(word: &Word) -> Result<What, u8>
+pub(crate) fn address_in(word: &Word) -> Result<What, ConfKind>
     ensures { result ≡ address_in word.now.parts.now }
 {
     if is_text("0", word.parts) {
@@ -134,17 +134,17 @@ pub(crate) fn address_in(word: &Word) -> Result<What, u8>
 
 /// An address of a `filter6`: `0`, or an IPv6 address with its prefix length.
 #[tactic(auto, unfolding(crate::specs::Slots::address6_in))]
-pub(crate) fn address6_in(word: &Word) -> Result<What, u8>
+pub(crate) fn address6_in(word: &Word) -> Result<What, ConfKind>
     ensures { result ≡ address6_in word.now.parts.now }
 {
     if is_text("0", word.parts) {
         return Ok(What::Any);
     }
     if !are_plain(word.parts) {
-        return Err(BAD_BYTE);
+        return Err(ConfKind::BadByte);
     }
     match prefix_in(word) {
-        None => Err(BAD_ADDRESS),
+        None => Err(ConfKind::BadAddress),
         Some(what) => Ok(what),
     }
 }

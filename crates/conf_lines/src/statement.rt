@@ -4,7 +4,7 @@ ghost use Rattle.line_text.specs.Words.{bytes_of, parts_of};
 ghost use Rattle.conf_lines.specs.Grammar.{start};
 ghost use Rattle.conf_lines.specs.Texts.{statements_of, statement_of, line_feeds, read_from, as_statement, fault_at, item_of, before};
 
-use crate::fault::{ConfPlace, TOO_LONG};
+use crate::fault::{ConfKind, ConfPlace};
 use crate::grammar::{Next, Place, Refusal, Step};
 use crate::item::{Item, Items, What};
 use crate::step::step;
@@ -111,7 +111,7 @@ fn statement_of(alloc: Global, text: &[u8], line: &Line) -> Result<Option<Statem
             fault: Some(ConfPlace {
                 line: line.number,
                 word: 0,
-                kind: TOO_LONG,
+                kind: ConfKind::TooLong,
             }),
         })),
         Err(LineFault::NoMemory) => Err(NoMemory),
@@ -166,7 +166,7 @@ fn read(alloc: Global, line: u64, end: u64, words: &[Word]) -> Result<Statement,
 }
 
 /// The fault of a kind at a word of a line.
-fn fault_at(line: u64, word: u64, kind: Option<u8>) -> Option<ConfPlace>
+fn fault_at(line: u64, word: u64, kind: Option<ConfKind>) -> Option<ConfPlace>
     ensures { result ≡ fault_at line word kind }
 {
     match kind {

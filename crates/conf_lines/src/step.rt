@@ -4,7 +4,7 @@ ghost use Rattle.conf_lines.specs.Grammar.{step, at_statement, at_discipline, af
 ghost use Rattle.conf_lines.specs.Options.{option_of, most_rate, most_bend};
 ghost use Rattle.conf_lines.specs.Slots.{rate_in, whole_in, skipped_in, name_in, protocol_in, mask_in, is_text, is_name};
 
-use crate::fault::{BAD_BYTE, CONVEX_FIRST, MISSING_WORD, NO_SHARE, UNKNOWN_WORD};
+use crate::fault::ConfKind;
 use crate::grammar::{Next, Place, Refusal, Side, Step};
 use crate::item::{Key, Text, What};
 use crate::options::{MOST_BEND, MOST_PORT, MOST_RATE, MOST_RULENO, MOST_TOS, Slots, option_of};
@@ -31,18 +31,18 @@ fn says(what: What, place: Place, next: Next) -> Step
 }
 
 /// The refusal of a word that is not allowed at its place.
-fn refused(word: &Word) -> Result<Step, u8>
+fn refused(word: &Word) -> Result<Step, ConfKind>
     ensures { result ≡ refused word.now.parts.now }
 {
     if are_plain(word.parts) {
-        Err(UNKNOWN_WORD)
+        Err(ConfKind::UnknownWord)
     } else {
-        Err(BAD_BYTE)
+        Err(ConfKind::BadByte)
     }
 }
 
 /// A word that only says which statement it is.
-fn begins(form: Form, next: Next) -> Result<Step, u8>
+fn begins(form: Form, next: Next) -> Result<Step, ConfKind>
     ensures { result ≡ begins form next }
 {
     Ok(Step {
@@ -56,7 +56,7 @@ fn begins(form: Form, next: Next) -> Result<Step, u8>
 }
 
 /// A word that was read, and then another is next.
-fn reads(read: Result<What, u8>, place: Place, next: Next) -> Result<Step, u8>
+fn reads(read: Result<What, ConfKind>, place: Place, next: Next) -> Result<Step, ConfKind>
     ensures { result ≡ reads read place next }
 {
     match read {
@@ -66,7 +66,7 @@ fn reads(read: Result<What, u8>, place: Place, next: Next) -> Result<Step, u8>
 }
 
 /// A whole number that was read, and then another word is next.
-fn counts(read: Result<u64, u8>, place: Place, next: Next) -> Result<Step, u8>
+fn counts(read: Result<u64, ConfKind>, place: Place, next: Next) -> Result<Step, ConfKind>
     ensures { result ≡ counts What.Whole read place next }
 {
     match read {
@@ -76,7 +76,7 @@ fn counts(read: Result<u64, u8>, place: Place, next: Next) -> Result<Step, u8>
 }
 
 /// A rate that was read, and then another word is next.
-fn flows(read: Result<u64, u8>, place: Place, next: Next) -> Result<Step, u8>
+fn flows(read: Result<u64, ConfKind>, place: Place, next: Next) -> Result<Step, ConfKind>
     ensures { result ≡ counts What.Rate read place next }
 {
     match read {
@@ -86,14 +86,14 @@ fn flows(read: Result<u64, u8>, place: Place, next: Next) -> Result<Step, u8>
 }
 
 /// A keyword of the statement, and then another word is next.
-fn keyword(key: Key, place: Place, next: Next) -> Result<Step, u8>
+fn keyword(key: Key, place: Place, next: Next) -> Result<Step, ConfKind>
     ensures { result ≡ keyword key place next }
 {
     Ok(says(What::Key(key), place, next))
 }
 
 #[tactic(auto, unfolding(crate::specs::Grammar::at_statement))]
-fn at_statement(word: &Word) -> Result<Step, u8>
+fn at_statement(word: &Word) -> Result<Step, ConfKind>
     ensures { result ≡ at_statement word.now.parts.now }
 {
     if is_text("interface", word.parts) {
@@ -110,7 +110,7 @@ fn at_statement(word: &Word) -> Result<Step, u8>
 }
 
 #[tactic(auto, unfolding(crate::specs::Grammar::at_discipline))]
-fn at_discipline(word: &Word) -> Result<Step, u8>
+fn at_discipline(word: &Word) -> Result<Step, ConfKind>
     ensures { result ≡ at_discipline word.now.parts.now }
 {
     if is_text("hfsc", word.parts) {
@@ -147,7 +147,7 @@ fn behind_option(slots: Slots) -> Next
 }
 
 /// An option of the statement, or a word that it does not have.
-fn at_choice(place: Place, word: &Word) -> Result<Step, u8>
+fn at_choice(place: Place, word: &Word) -> Result<Step, ConfKind>
     ensures { result ≡ chosen place word.now.parts.now (option_of place.form word.now.parts.now) }
 {
     match option_of(place.form, word.parts) {
@@ -164,7 +164,7 @@ fn at_choice(place: Place, word: &Word) -> Result<Step, u8>
     }
 }
 
-fn at_slope(low: u64, least: u64, place: Place, word: &Word) -> Result<Step, u8>
+fn at_slope(low: u64, least: u64, place: Place, word: &Word) -> Result<Step, ConfKind>
     ensures { result ≡ at_slope least (rate_in low most_rate word.now.parts.now) place }
 {
     match rate_in(low, MOST_RATE, word) {
@@ -173,7 +173,7 @@ fn at_slope(low: u64, least: u64, place: Place, word: &Word) -> Result<Step, u8>
     }
 }
 
-fn at_bend(least: u64, first: u64, place: Place, word: &Word) -> Result<Step, u8>
+fn at_bend(least: u64, first: u64, place: Place, word: &Word) -> Result<Step, ConfKind>
     ensures { result ≡ at_bend least (whole_in 0 most_bend word.now.parts.now) place first }
 {
     match whole_in(0, MOST_BEND, word) {
@@ -186,13 +186,19 @@ fn at_bend(least: u64, first: u64, place: Place, word: &Word) -> Result<Step, u8
     }
 }
 
-fn at_last_slope(least: u64, first: u64, time: u64, place: Place, word: &Word) -> Result<Step, u8>
+fn at_last_slope(
+    least: u64,
+    first: u64,
+    time: u64,
+    place: Place,
+    word: &Word,
+) -> Result<Step, ConfKind>
     ensures { result ≡ at_last_slope first time (rate_in least most_rate word.now.parts.now) place }
 {
     match rate_in(least, MOST_RATE, word) {
         Ok(last) => {
             if time > 0 && first > 0 && first < last {
-                return Err(CONVEX_FIRST);
+                return Err(ConfKind::ConvexFirst);
             }
             Ok(says(What::Rate(last), place, Next::Choice))
         }
@@ -200,7 +206,7 @@ fn at_last_slope(least: u64, first: u64, time: u64, place: Place, word: &Word) -
     }
 }
 
-fn address_of(form: Form, word: &Word) -> Result<What, u8>
+fn address_of(form: Form, word: &Word) -> Result<What, ConfKind>
     ensures { result ≡ address_of form word.now.parts.now }
 {
     match form {
@@ -222,7 +228,7 @@ fn after_address(form: Form, what: &What, side: Side) -> Next
 }
 
 #[tactic(auto, unfolding(crate::specs::Grammar::at_address))]
-fn at_address(place: Place, side: Side, word: &Word) -> Result<Step, u8>
+fn at_address(place: Place, side: Side, word: &Word) -> Result<Step, ConfKind>
     ensures { result ≡ at_address place side word.now.parts.now }
 {
     match address_of(place.form, word) {
@@ -244,14 +250,14 @@ fn after_port(side: Side) -> Next
 }
 
 #[tactic(auto, unfolding(crate::specs::Grammar::at_port))]
-fn at_port(place: Place, side: Side, word: &Word) -> Result<Step, u8>
+fn at_port(place: Place, side: Side, word: &Word) -> Result<Step, ConfKind>
     ensures { result ≡ at_port place side word.now.parts.now }
 {
     counts(whole_in(0, MOST_PORT, word), place, after_port(side))
 }
 
 #[tactic(auto, unfolding(crate::specs::Grammar::at_ruleno_or_address))]
-fn at_ruleno_or_address(place: Place, word: &Word) -> Result<Step, u8>
+fn at_ruleno_or_address(place: Place, word: &Word) -> Result<Step, ConfKind>
     ensures { result ≡ at_ruleno_or_address place word.now.parts.now }
 {
     if is_text(Key::Ruleno.word(), word.parts) {
@@ -262,7 +268,7 @@ fn at_ruleno_or_address(place: Place, word: &Word) -> Result<Step, u8>
 }
 
 #[tactic(auto, unfolding(crate::specs::Grammar::at_name_or_address))]
-fn at_name_or_address(place: Place, word: &Word) -> Result<Step, u8>
+fn at_name_or_address(place: Place, word: &Word) -> Result<Step, ConfKind>
     ensures { result ≡ at_name_or_address place word.now.parts.now }
 {
     if is_text(Key::Name.word(), word.parts) {
@@ -273,7 +279,7 @@ fn at_name_or_address(place: Place, word: &Word) -> Result<Step, u8>
 }
 
 #[tactic(auto, unfolding(crate::specs::Grammar::at_mask_or_port))]
-fn at_mask_or_port(place: Place, side: Side, word: &Word) -> Result<Step, u8>
+fn at_mask_or_port(place: Place, side: Side, word: &Word) -> Result<Step, ConfKind>
     ensures { result ≡ at_mask_or_port place side word.now.parts.now }
 {
     if is_text(Key::Netmask.word(), word.parts) {
@@ -325,7 +331,7 @@ fn mask_word(form: Form, word: &Word) -> Option<Key>
     }
 }
 
-fn word_or_end(key: Option<Key>, place: Place, next: Next, word: &Word) -> Result<Step, u8>
+fn word_or_end(key: Option<Key>, place: Place, next: Next, word: &Word) -> Result<Step, ConfKind>
     ensures { result ≡ word_or_end key place next word.now.parts.now }
 {
     match key {
@@ -336,7 +342,7 @@ fn word_or_end(key: Option<Key>, place: Place, next: Next, word: &Word) -> Resul
 
 /// What a plain word leads to from a place where no NAME is next.
 #[tactic(auto, unfolding(crate::specs::Grammar::step))]
-fn plain_step(place: Place, word: &Word) -> Result<Step, u8>
+fn plain_step(place: Place, word: &Word) -> Result<Step, ConfKind>
     requires { IsPlain place.next }
     ensures { result ≡ step place word.now.parts.now }
 {
@@ -356,7 +362,7 @@ fn plain_step(place: Place, word: &Word) -> Result<Step, u8>
 
 /// What a word leads to from a place of a filter where no NAME is next.
 #[tactic(auto, unfolding(crate::specs::Grammar::step))]
-fn filter_step(place: Place, word: &Word) -> Result<Step, u8>
+fn filter_step(place: Place, word: &Word) -> Result<Step, ConfKind>
     requires { IsOfFilter place.next }
     ensures { result ≡ step place word.now.parts.now }
 {
@@ -390,7 +396,7 @@ fn named(alloc: Global, place: Place, next: Next, word: &Word) -> Result<Step, R
     ensures { Gives result (reads (name_in word.now.parts.now) place next) }
 {
     if !is_name(word.parts) {
-        return Err(Refusal::Kind(BAD_BYTE));
+        return Err(Refusal::Kind(ConfKind::BadByte));
     }
     match text_of(alloc, word.parts) {
         Ok(text) => Ok(says(What::Name(text), place, next)),
@@ -443,7 +449,7 @@ pub(crate) fn step(alloc: Global, place: Place, word: &Word) -> Result<Step, Ref
 
 /// The kind of the fault of a statement that ends at a place, if it may not end there.
 #[tactic(auto, unfolding(crate::specs::Grammar::end))]
-pub(crate) fn end(place: Place) -> Option<u8>
+pub(crate) fn end(place: Place) -> Option<ConfKind>
     ensures { result ≡ end place }
 {
     match place.next {
@@ -455,16 +461,16 @@ pub(crate) fn end(place: Place) -> Option<u8>
             }
         }
         Next::TosOrEnd | Next::TosMaskOrEnd | Next::End => None,
-        _ => Some(MISSING_WORD),
+        _ => Some(ConfKind::MissingWord),
     }
 }
 
 /// The kind of the fault of a statement without what it must have.
-fn unsettled(form: Form) -> u8
+fn unsettled(form: Form) -> ConfKind
     ensures { result ≡ unsettled form }
 {
     match form {
-        Form::ClassHfsc => NO_SHARE,
-        _ => MISSING_WORD,
+        Form::ClassHfsc => ConfKind::NoShare,
+        _ => ConfKind::MissingWord,
     }
 }

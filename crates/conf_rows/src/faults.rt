@@ -1,11 +1,11 @@
 //! Literal cases of every kind of fault and of the limits, by `conf_tree`.
-use conf_lines::{ConfFault, ConfPlace, statements};
+use conf_lines::{ConfFault, ConfKind, ConfPlace, statements};
 use conf_tree::Conf;
 use std::alloc::Global;
 use std::test::Fail;
 
 /// The configuration of a text, or its first fault.
-pub(crate) fn built(alloc: Global, text: &str) -> Result<Result<Conf, (u64, u64, u8)>, Fail> {
+pub(crate) fn built(alloc: Global, text: &str) -> Result<Result<Conf, (u64, u64, ConfKind)>, Fail> {
     let found = statements(alloc, text.as_bytes())?;
     match Conf::build(alloc, found.as_slice()) {
         Ok(conf) => Ok(Ok(conf)),
@@ -15,7 +15,7 @@ pub(crate) fn built(alloc: Global, text: &str) -> Result<Result<Conf, (u64, u64,
 }
 
 /// The first fault of a text.
-fn first_fault(alloc: Global, text: &str) -> Result<Option<(u64, u64, u8)>, Fail> {
+fn first_fault(alloc: Global, text: &str) -> Result<Option<(u64, u64, ConfKind)>, Fail> {
     match built(alloc, text)? {
         Ok(_) => Ok(None),
         Err(fault) => Ok(Some(fault)),
@@ -28,7 +28,7 @@ fn faults_at_their_words(rt: HostRuntime) -> Result<(), Fail> {
         rt.alloc(),
         "interface if0 bandwidth 8M hfsc\nclass hfsc if0 root NULL pshare 100\nclass hfsc if0 a root rt 1M 10 2M\n",
     )?;
-    assert_eq!(rt; convex, Some((3, 9, 18)));
+    assert_eq!(rt; convex, Some((3, 9, ConfKind::ConvexFirst)));
     let mut text = String::from_str(
         rt.alloc(),
         "interface if0 bandwidth 8M hfsc\nclass hfsc if0 root NULL\n",
@@ -38,12 +38,12 @@ fn faults_at_their_words(rt: HostRuntime) -> Result<(), Fail> {
         text.push_str(class.as_str())?;
     }
     let many = first_fault(rt.alloc(), text.as_str())?;
-    assert_eq!(rt; many, Some((258, 4, 15)));
+    assert_eq!(rt; many, Some((258, 4, ConfKind::TooManyClasses)));
     let big = first_fault(
         rt.alloc(),
         "interface if0 bandwidth 18446744073709551616 hfsc",
     )?;
-    assert_eq!(rt; big, Some((1, 4, 3)));
+    assert_eq!(rt; big, Some((1, 4, ConfKind::BadNumber)));
     Ok(())
 }
 
@@ -53,34 +53,79 @@ fn faults_at_their_words(rt: HostRuntime) -> Result<(), Fail> {
 fn each_kind_at_its_words(rt: HostRuntime) -> Result<(), Fail> {
     let cases = [
         ("class hfsc if0 a root pshare 1 default", None),
-        ("classes hfsc if0", Some((5, 1, 1))),
-        ("class hfsc if0 a root pshare 1 quick", Some((5, 8, 1))),
-        ("interface", Some((5, 2, 2))),
-        ("class cbq if1 a top", Some((5, 6, 2))),
-        ("class hfsc if0 a root pshare 1 qlimit 0", Some((5, 9, 3))),
-        ("class hfsc if0 a root ls 0 0 0", Some((5, 9, 4))),
-        ("class cbq if1 a top pbandwidth 0", Some((5, 7, 4))),
-        ("filter if0 root 1.2.3 0 0 0 0", Some((5, 4, 5))),
-        ("filter6 if0 root ::/129 0 0 0 0", Some((5, 4, 5))),
-        ("class hfsc if0 a@ root pshare 1", Some((5, 4, 6))),
-        ("interface if0 cbq", Some((5, 2, 8))),
-        ("interface if0 bandwidth 1", Some((5, 2, 8))),
-        ("class hfsc if9 a root pshare 1", Some((5, 3, 9))),
-        ("filter if9 a 0 0 0 0 0", Some((5, 2, 9))),
-        ("class cbq if0 a root", Some((5, 3, 10))),
-        ("class hfsc if1 a top", Some((5, 3, 10))),
-        ("class hfsc if0 root root pshare 1", Some((5, 4, 11))),
-        ("class hfsc if0 a b pshare 1", Some((5, 5, 12))),
-        ("class cbq if1 a a pbandwidth 5", Some((5, 5, 12))),
-        ("class hfsc if0 a NULL", Some((5, 5, 13))),
-        ("class hfsc if0 a root", Some((5, 6, 19))),
+        ("classes hfsc if0", Some((5, 1, ConfKind::UnknownWord))),
+        (
+            "class hfsc if0 a root pshare 1 quick",
+            Some((5, 8, ConfKind::UnknownWord)),
+        ),
+        ("interface", Some((5, 2, ConfKind::MissingWord))),
+        ("class cbq if1 a top", Some((5, 6, ConfKind::MissingWord))),
+        (
+            "class hfsc if0 a root pshare 1 qlimit 0",
+            Some((5, 9, ConfKind::BadNumber)),
+        ),
+        (
+            "class hfsc if0 a root ls 0 0 0",
+            Some((5, 9, ConfKind::RateRange)),
+        ),
+        (
+            "class cbq if1 a top pbandwidth 0",
+            Some((5, 7, ConfKind::RateRange)),
+        ),
+        (
+            "filter if0 root 1.2.3 0 0 0 0",
+            Some((5, 4, ConfKind::BadAddress)),
+        ),
+        (
+            "filter6 if0 root ::/129 0 0 0 0",
+            Some((5, 4, ConfKind::BadAddress)),
+        ),
+        (
+            "class hfsc if0 a@ root pshare 1",
+            Some((5, 4, ConfKind::BadByte)),
+        ),
+        ("interface if0 cbq", Some((5, 2, ConfKind::InterfaceTwice))),
+        (
+            "interface if0 bandwidth 1",
+            Some((5, 2, ConfKind::InterfaceTwice)),
+        ),
+        (
+            "class hfsc if9 a root pshare 1",
+            Some((5, 3, ConfKind::NoInterface)),
+        ),
+        (
+            "filter if9 a 0 0 0 0 0",
+            Some((5, 2, ConfKind::NoInterface)),
+        ),
+        (
+            "class cbq if0 a root",
+            Some((5, 3, ConfKind::WrongDiscipline)),
+        ),
+        (
+            "class hfsc if1 a top",
+            Some((5, 3, ConfKind::WrongDiscipline)),
+        ),
+        (
+            "class hfsc if0 root root pshare 1",
+            Some((5, 4, ConfKind::NameTaken)),
+        ),
+        (
+            "class hfsc if0 a b pshare 1",
+            Some((5, 5, ConfKind::NoParent)),
+        ),
+        (
+            "class cbq if1 a a pbandwidth 5",
+            Some((5, 5, ConfKind::NoParent)),
+        ),
+        ("class hfsc if0 a NULL", Some((5, 5, ConfKind::TwoRoots))),
+        ("class hfsc if0 a root", Some((5, 6, ConfKind::NoShare))),
         (
             "class hfsc if0 a root grate 1M ls 1 0 1\nclass hfsc if0 b a quick",
-            Some((6, 5, 20)),
+            Some((6, 5, ConfKind::RealTimeInside)),
         ),
         (
             "class hfsc if0 a root rt 0 0 0 ls 1 0 1\nclass hfsc if0 b a pshare 1",
-            Some((6, 5, 20)),
+            Some((6, 5, ConfKind::RealTimeInside)),
         ),
         (
             "class hfsc if0 a root sc 1M 0 1M\nclass hfsc if0 b a pshare 1 default",
@@ -92,25 +137,34 @@ fn each_kind_at_its_words(rt: HostRuntime) -> Result<(), Fail> {
         ),
         (
             "class hfsc if0 a root pshare 1 default\nclass hfsc if0 b a pshare 1",
-            Some((6, 5, 21)),
+            Some((6, 5, ConfKind::InnerQueue)),
         ),
         (
             "class hfsc if0 a root pshare 1\nfilter if0 a 0 0 0 0 0\nclass hfsc if0 b a pshare 1",
-            Some((7, 5, 21)),
+            Some((7, 5, ConfKind::InnerQueue)),
         ),
         (
             "class hfsc if0 a root pshare 1\nfilter if0 root 0 0 0 0 0",
-            Some((6, 3, 21)),
+            Some((6, 3, ConfKind::InnerQueue)),
         ),
         (
             "class hfsc if0 a root pshare 1 default default",
-            Some((5, 9, 22)),
+            Some((5, 9, ConfKind::TwoDefaults)),
         ),
-        ("class cbq if1 a top default", Some((5, 6, 22))),
-        ("class cbq if1 a top pbandwidth 5", Some((1, 0, 23))),
-        ("filter if0 a 0 0 0 0 x", Some((5, 3, 24))),
-        ("filter if1 a 0 0 0 0 0", Some((5, 3, 24))),
-        ("filter if1 top 0 0 0 0 x", Some((5, 8, 3))),
+        (
+            "class cbq if1 a top default",
+            Some((5, 6, ConfKind::TwoDefaults)),
+        ),
+        (
+            "class cbq if1 a top pbandwidth 5",
+            Some((1, 0, ConfKind::NoDefault)),
+        ),
+        ("filter if0 a 0 0 0 0 x", Some((5, 3, ConfKind::NoClass))),
+        ("filter if1 a 0 0 0 0 0", Some((5, 3, ConfKind::NoClass))),
+        (
+            "filter if1 top 0 0 0 0 x",
+            Some((5, 8, ConfKind::BadNumber)),
+        ),
     ];
     for (text, expected) in cases {
         let all = format!(in rt.alloc();
@@ -138,10 +192,10 @@ fn seventeenth_interface(rt: HostRuntime) -> Result<(), Fail> {
     let sixteen = first_fault(rt.alloc(), text.as_str())?;
     assert_eq!(rt; sixteen, None);
     for (line, expected) in [
-        ("interface i0 hfsc", (17, 2, 17)),
-        ("interface @", (17, 2, 17)),
-        ("interface", (17, 2, 2)),
-        ("interfaces", (17, 1, 1)),
+        ("interface i0 hfsc", (17, 2, ConfKind::TooManyInterfaces)),
+        ("interface @", (17, 2, ConfKind::TooManyInterfaces)),
+        ("interface", (17, 2, ConfKind::MissingWord)),
+        ("interfaces", (17, 1, ConfKind::UnknownWord)),
     ] {
         let all = format!(in rt.alloc(); "{text}{line}\n")?;
         let fault = first_fault(rt.alloc(), all.as_str())?;
@@ -168,7 +222,7 @@ fn classes_to_their_limits(rt: HostRuntime) -> Result<(), Fail> {
     assert_eq!(rt; eight, None);
     let nine = format!(in rt.alloc(); "{text}class hfsc if0 c8 c7 ls 1 0 1\n")?;
     let fault = first_fault(rt.alloc(), nine.as_str())?;
-    assert_eq!(rt; fault, Some((11, 5, 14)));
+    assert_eq!(rt; fault, Some((11, 5, ConfKind::TooDeep)));
     for i in 9..256u32 {
         let line = format!(in rt.alloc(); "class hfsc if0 c{i} c0 ls 1 0 1\n")?;
         text.push_str(line.as_str())?;
@@ -176,10 +230,10 @@ fn classes_to_their_limits(rt: HostRuntime) -> Result<(), Fail> {
     let all = first_fault(rt.alloc(), text.as_str())?;
     assert_eq!(rt; all, None);
     for (line, expected) in [
-        ("class hfsc if0 c0 NULL", (258, 4, 15)),
-        ("class hfsc if0 @", (258, 4, 15)),
-        ("class hfsc if0", (258, 4, 2)),
-        ("class cbq if0 c0", (258, 3, 10)),
+        ("class hfsc if0 c0 NULL", (258, 4, ConfKind::TooManyClasses)),
+        ("class hfsc if0 @", (258, 4, ConfKind::TooManyClasses)),
+        ("class hfsc if0", (258, 4, ConfKind::MissingWord)),
+        ("class cbq if0 c0", (258, 3, ConfKind::WrongDiscipline)),
     ] {
         let more = format!(in rt.alloc(); "{text}{line}\n")?;
         let fault = first_fault(rt.alloc(), more.as_str())?;
@@ -201,6 +255,6 @@ fn filter_1025(rt: HostRuntime) -> Result<(), Fail> {
     assert_eq!(rt; all, None);
     text.push_str("filter6 if0 b\n")?;
     let fault = first_fault(rt.alloc(), text.as_str())?;
-    assert_eq!(rt; fault, Some((1027, 2, 16)));
+    assert_eq!(rt; fault, Some((1027, 2, ConfKind::TooManyFilters)));
     Ok(())
 }

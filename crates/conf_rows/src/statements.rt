@@ -1,10 +1,10 @@
 //! Literal cases of every statement and every kind of `conf_lines`.
-use conf_lines::{Items, Statement, Text, statements};
+use conf_lines::{ConfKind, Items, Statement, Text, statements};
 use std::alloc::Global;
 use std::test::Fail;
 
 /// The place and kind of the first fault of a text.
-fn first_fault(alloc: Global, text: &str) -> Result<Option<(u64, u64, u8)>, Fail> {
+fn first_fault(alloc: Global, text: &str) -> Result<Option<(u64, u64, ConfKind)>, Fail> {
     let found = statements(alloc, text.as_bytes())?;
     for statement in &found {
         if let Some(place) = statement.fault {
@@ -22,105 +22,225 @@ fn faults_at_their_words(rt: HostRuntime) -> Result<(), Fail> {
         ("interface if0 hfsc", None),
         (
             "interface if0 bandwidth 18446744073709551616 hfsc",
-            Some((1, 4, 3)),
+            Some((1, 4, ConfKind::BadNumber)),
         ),
-        ("interfaces if0 hfsc", Some((1, 1, 1))),
-        ("\n\ninterface\n", Some((3, 2, 2))),
-        ("interface if0", Some((1, 3, 2))),
-        ("interface if0 bandwidth", Some((1, 4, 2))),
-        ("interface if0 hfsc bandwith 1M", Some((1, 4, 1))),
-        ("interface if0 bandwidth 999 hfsc", Some((1, 4, 4))),
+        ("interfaces if0 hfsc", Some((1, 1, ConfKind::UnknownWord))),
+        ("\n\ninterface\n", Some((3, 2, ConfKind::MissingWord))),
+        ("interface if0", Some((1, 3, ConfKind::MissingWord))),
+        (
+            "interface if0 bandwidth",
+            Some((1, 4, ConfKind::MissingWord)),
+        ),
+        (
+            "interface if0 hfsc bandwith 1M",
+            Some((1, 4, ConfKind::UnknownWord)),
+        ),
+        (
+            "interface if0 bandwidth 999 hfsc",
+            Some((1, 4, ConfKind::RateRange)),
+        ),
         ("interface if0 bandwidth 1000G hfsc", None),
         (
             "interface if0 bandwidth 1000.000000001G hfsc",
-            Some((1, 4, 4)),
+            Some((1, 4, ConfKind::RateRange)),
         ),
-        ("interface if0 bandwidth 1.5 hfsc", Some((1, 4, 3))),
-        ("interface if0 bandwidth 1\u{1}5 hfsc", Some((1, 4, 6))),
-        ("interface if0 tbrsize \u{7f}", Some((1, 4, 6))),
-        ("interface if@ hfsc", Some((1, 2, 6))),
-        ("interface if0 bandwidth 1 bandwidth x foo", Some((1, 4, 4))),
-        ("\u{1}", Some((1, 1, 6))),
-        ("class", Some((1, 2, 2))),
-        ("class jobs if0 a root", Some((1, 2, 1))),
-        ("class \u{e9}", Some((1, 2, 6))),
+        (
+            "interface if0 bandwidth 1.5 hfsc",
+            Some((1, 4, ConfKind::BadNumber)),
+        ),
+        (
+            "interface if0 bandwidth 1\u{1}5 hfsc",
+            Some((1, 4, ConfKind::BadByte)),
+        ),
+        (
+            "interface if0 tbrsize \u{7f}",
+            Some((1, 4, ConfKind::BadByte)),
+        ),
+        ("interface if@ hfsc", Some((1, 2, ConfKind::BadByte))),
+        (
+            "interface if0 bandwidth 1 bandwidth x foo",
+            Some((1, 4, ConfKind::RateRange)),
+        ),
+        ("\u{1}", Some((1, 1, ConfKind::BadByte))),
+        ("class", Some((1, 2, ConfKind::MissingWord))),
+        ("class jobs if0 a root", Some((1, 2, ConfKind::UnknownWord))),
+        ("class \u{e9}", Some((1, 2, ConfKind::BadByte))),
         ("class hfsc if0 root NULL", None),
-        ("class hfsc if0 a root", Some((1, 6, 19))),
-        ("class hfsc if0 a root rt 1M 10 2M", Some((1, 9, 18))),
-        ("class hfsc if0 a root rt 0 10 2M", Some((1, 10, 19))),
+        ("class hfsc if0 a root", Some((1, 6, ConfKind::NoShare))),
+        (
+            "class hfsc if0 a root rt 1M 10 2M",
+            Some((1, 9, ConfKind::ConvexFirst)),
+        ),
+        (
+            "class hfsc if0 a root rt 0 10 2M",
+            Some((1, 10, ConfKind::NoShare)),
+        ),
         ("class hfsc if0 a root rt 1M 0 2M pshare 1", None),
-        ("class hfsc if0 a root sc 1M 10 0", Some((1, 9, 4))),
+        (
+            "class hfsc if0 a root sc 1M 10 0",
+            Some((1, 9, ConfKind::RateRange)),
+        ),
         ("class hfsc if0 a root rt 1M 10 0 ls 1M 10 1", None),
-        ("class hfsc if0 a root sc 1M 1000001 1M", Some((1, 8, 3))),
-        ("class hfsc if0 a root sc 1001G 10 1M", Some((1, 7, 4))),
+        (
+            "class hfsc if0 a root sc 1M 1000001 1M",
+            Some((1, 8, ConfKind::BadNumber)),
+        ),
+        (
+            "class hfsc if0 a root sc 1001G 10 1M",
+            Some((1, 7, ConfKind::RateRange)),
+        ),
         ("class hfsc if0 root NULL ul 1K 0 1K", None),
         ("class hfsc if0 root NULL ul 1000G 1000000 1000G", None),
-        ("class hfsc if0 root NULL ul 999 0 1K", Some((1, 7, 4))),
-        ("class hfsc if0 root NULL ul 1K 0 999", Some((1, 9, 4))),
-        ("class hfsc if0 root NULL ul 1M 1 1000001", Some((1, 9, 18))),
-        ("class hfsc if0 a root ul 1M 0 1M", Some((1, 10, 19))),
-        ("class cbq if0 root NULL ul 1M 0 1M", Some((1, 6, 1))),
+        (
+            "class hfsc if0 root NULL ul 999 0 1K",
+            Some((1, 7, ConfKind::RateRange)),
+        ),
+        (
+            "class hfsc if0 root NULL ul 1K 0 999",
+            Some((1, 9, ConfKind::RateRange)),
+        ),
+        (
+            "class hfsc if0 root NULL ul 1M 1 1000001",
+            Some((1, 9, ConfKind::ConvexFirst)),
+        ),
+        (
+            "class hfsc if0 a root ul 1M 0 1M",
+            Some((1, 10, ConfKind::NoShare)),
+        ),
+        (
+            "class cbq if0 root NULL ul 1M 0 1M",
+            Some((1, 6, ConfKind::UnknownWord)),
+        ),
         ("class hfsc if0 root NULL ecn cleardscp", None),
         ("class cbq if0 root NULL cleardscp ecn", None),
-        ("interface if0 hfsc ecn", Some((1, 4, 1))),
-        ("class hfsc if0 a root pshare 101", Some((1, 7, 3))),
-        ("class hfsc if0 a root pshare 0", Some((1, 7, 3))),
+        (
+            "interface if0 hfsc ecn",
+            Some((1, 4, ConfKind::UnknownWord)),
+        ),
+        (
+            "class hfsc if0 a root pshare 101",
+            Some((1, 7, ConfKind::BadNumber)),
+        ),
+        (
+            "class hfsc if0 a root pshare 0",
+            Some((1, 7, ConfKind::BadNumber)),
+        ),
         (
             "class hfsc if0 a root pshare 50 qlimit 10001",
-            Some((1, 9, 3)),
+            Some((1, 9, ConfKind::BadNumber)),
         ),
-        ("class hfsc if0 a root pshare 50 borrow", Some((1, 8, 1))),
-        ("class hfsc if0 a", Some((1, 5, 2))),
+        (
+            "class hfsc if0 a root pshare 50 borrow",
+            Some((1, 8, ConfKind::UnknownWord)),
+        ),
+        ("class hfsc if0 a", Some((1, 5, ConfKind::MissingWord))),
         ("class cbq if0 root NULL", None),
-        ("class cbq if0 a root", Some((1, 6, 2))),
-        ("class cbq if0 a root pbandwidth 101", Some((1, 7, 3))),
+        ("class cbq if0 a root", Some((1, 6, ConfKind::MissingWord))),
+        (
+            "class cbq if0 a root pbandwidth 101",
+            Some((1, 7, ConfKind::BadNumber)),
+        ),
         (
             "class cbq if0 a root pbandwidth 0 priority 8",
-            Some((1, 9, 3)),
+            Some((1, 9, ConfKind::BadNumber)),
         ),
-        ("class cbq if0 a root exactbandwidth 999", Some((1, 7, 4))),
+        (
+            "class cbq if0 a root exactbandwidth 999",
+            Some((1, 7, ConfKind::RateRange)),
+        ),
         (
             "class cbq if0 a root exactbandwidth 1k maxburst 1001",
-            Some((1, 9, 3)),
+            Some((1, 9, ConfKind::BadNumber)),
         ),
         (
             "class cbq if0 a root exactbandwidth 1k packetsize 262145",
-            Some((1, 9, 3)),
+            Some((1, 9, ConfKind::BadNumber)),
         ),
         (
             "class cbq if0 a root pbandwidth 5 sc 1 1 1",
-            Some((1, 8, 1)),
+            Some((1, 8, ConfKind::UnknownWord)),
         ),
         ("filter if0 a 0 0 0 0 0", None),
-        ("filter if0 a 0 0 0 0", Some((1, 8, 2))),
-        ("filter if0 a 0 netmask 0 0 0 0", Some((1, 5, 3))),
-        ("filter if0 a 10.0.0.256 0 0 0 0", Some((1, 4, 5))),
+        ("filter if0 a 0 0 0 0", Some((1, 8, ConfKind::MissingWord))),
+        (
+            "filter if0 a 0 netmask 0 0 0 0",
+            Some((1, 5, ConfKind::BadNumber)),
+        ),
+        (
+            "filter if0 a 10.0.0.256 0 0 0 0",
+            Some((1, 4, ConfKind::BadAddress)),
+        ),
         (
             "filter if0 a 10.0.0.1 netmask 255.0.0 0 0 0 0",
-            Some((1, 6, 5)),
+            Some((1, 6, ConfKind::BadAddress)),
         ),
-        ("filter if0 a 0 65536 0 0 0", Some((1, 5, 3))),
-        ("filter if0 a 0 0 0 0 256", Some((1, 8, 3))),
-        ("filter if0 a 0 0 0 0 igmp", Some((1, 8, 3))),
-        ("filter if0 a ruleno 4294967296 0 0 0 0 0", Some((1, 5, 3))),
-        ("filter if0 a ruleno 1 name x 0 0 0 0", Some((1, 6, 5))),
-        ("filter if0 a 0 0 0 0 17 tosmask 1", Some((1, 9, 1))),
-        ("filter if0 a 0 0 0 0 17 tos 256", Some((1, 10, 3))),
+        (
+            "filter if0 a 0 65536 0 0 0",
+            Some((1, 5, ConfKind::BadNumber)),
+        ),
+        (
+            "filter if0 a 0 0 0 0 256",
+            Some((1, 8, ConfKind::BadNumber)),
+        ),
+        (
+            "filter if0 a 0 0 0 0 igmp",
+            Some((1, 8, ConfKind::BadNumber)),
+        ),
+        (
+            "filter if0 a ruleno 4294967296 0 0 0 0 0",
+            Some((1, 5, ConfKind::BadNumber)),
+        ),
+        (
+            "filter if0 a ruleno 1 name x 0 0 0 0",
+            Some((1, 6, ConfKind::BadAddress)),
+        ),
+        (
+            "filter if0 a 0 0 0 0 17 tosmask 1",
+            Some((1, 9, ConfKind::UnknownWord)),
+        ),
+        (
+            "filter if0 a 0 0 0 0 17 tos 256",
+            Some((1, 10, ConfKind::BadNumber)),
+        ),
         (
             "filter if0 a 0 0 0 0 17 tos 1 tosmask 255 x",
-            Some((1, 13, 1)),
+            Some((1, 13, ConfKind::UnknownWord)),
         ),
-        ("filter if0 a 0 0 0 0 17 tclass 1", Some((1, 9, 1))),
-        ("filter6 if0 a ::/129 0 0 0 0", Some((1, 4, 5))),
-        ("filter6 if0 a 0/0 0 0 0 0", Some((1, 4, 5))),
-        ("filter6 if0 a ::1/0x1 0 0 0 0", Some((1, 4, 5))),
-        ("filter6 if0 a 10.0.0.1 0 0 0 0", Some((1, 4, 5))),
-        ("filter6 if0 a :: 0 0 0 17 tos 1", Some((1, 9, 1))),
-        ("filter6 if0 a :: netmask 0 0 0", Some((1, 5, 3))),
-        ("interface \\\nif0 # a\ninterface if0\n", Some((1, 3, 2))),
+        (
+            "filter if0 a 0 0 0 0 17 tclass 1",
+            Some((1, 9, ConfKind::UnknownWord)),
+        ),
+        (
+            "filter6 if0 a ::/129 0 0 0 0",
+            Some((1, 4, ConfKind::BadAddress)),
+        ),
+        (
+            "filter6 if0 a 0/0 0 0 0 0",
+            Some((1, 4, ConfKind::BadAddress)),
+        ),
+        (
+            "filter6 if0 a ::1/0x1 0 0 0 0",
+            Some((1, 4, ConfKind::BadAddress)),
+        ),
+        (
+            "filter6 if0 a 10.0.0.1 0 0 0 0",
+            Some((1, 4, ConfKind::BadAddress)),
+        ),
+        (
+            "filter6 if0 a :: 0 0 0 17 tos 1",
+            Some((1, 9, ConfKind::UnknownWord)),
+        ),
+        (
+            "filter6 if0 a :: netmask 0 0 0",
+            Some((1, 5, ConfKind::BadNumber)),
+        ),
+        (
+            "interface \\\nif0 # a\ninterface if0\n",
+            Some((1, 3, ConfKind::MissingWord)),
+        ),
         (
             "interface \\\nif0 hfsc # a\ninterface if0\n",
-            Some((3, 3, 2)),
+            Some((3, 3, ConfKind::MissingWord)),
         ),
     ];
     for (text, expected) in cases {
@@ -133,7 +253,7 @@ fn faults_at_their_words(rt: HostRuntime) -> Result<(), Fail> {
 #[test]
 fn convex_limit_is_refused(rt: HostRuntime) -> Result<(), Fail> {
     let fault = first_fault(rt.alloc(), "class hfsc if0 a root ls 1M 0 1M ul 1M 10 2M")?;
-    assert_eq!(rt; fault, Some((1, 13, 18)));
+    assert_eq!(rt; fault, Some((1, 13, ConfKind::ConvexFirst)));
     Ok(())
 }
 
@@ -206,7 +326,7 @@ fn line_of_4097_bytes(rt: HostRuntime) -> Result<(), Fail> {
     let found = statements(rt.alloc(), text.as_str().as_bytes())?;
     let faults = first_fault(rt.alloc(), text.as_str())?;
     assert_eq!(rt; found.len(), 2);
-    assert_eq!(rt; faults, Some((3, 0, 7)));
+    assert_eq!(rt; faults, Some((3, 0, ConfKind::TooLong)));
     assert_eq!(rt; found[0].end, 2050);
     Ok(())
 }
@@ -220,14 +340,20 @@ fn long_lines_keep_their_words(rt: HostRuntime) -> Result<(), Fail> {
     let found = statements(rt.alloc(), text.as_str().as_bytes())?;
     assert_eq!(rt; found.len(), 1);
     assert_eq!(rt; found[0].end, 2001);
-    assert_eq!(rt; first_fault(rt.alloc(), text.as_str())?, Some((1, 1, 1)));
+    assert_eq!(rt;
+        first_fault(rt.alloc(), text.as_str())?,
+        Some((1, 1, ConfKind::UnknownWord))
+    );
     let mut text = String::from_str(rt.alloc(), "class hfsc if0 a NULL")?;
     for _ in 6..300 {
         text.push_str(" red")?;
     }
     assert_eq!(rt; first_fault(rt.alloc(), text.as_str())?, None);
     text.push_str(" quick red")?;
-    assert_eq!(rt; first_fault(rt.alloc(), text.as_str())?, Some((1, 300, 1)));
+    assert_eq!(rt;
+        first_fault(rt.alloc(), text.as_str())?,
+        Some((1, 300, ConfKind::UnknownWord))
+    );
     Ok(())
 }
 

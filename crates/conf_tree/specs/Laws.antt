@@ -2,7 +2,7 @@
 use Rattle.std.specs.Prelude.{◌≡◌, ◌⊎◌, List, ◌++◌, Err}
 use Rattle.conf_lines.specs.declared.fault.ConfPlace.{ConfPlace}
 use Rattle.conf_lines.specs.declared.statement.Statement.{Statement}
-use Rattle.conf_tree.specs.Kinds.{no_default}
+use Rattle.conf_lines.specs.declared.fault.ConfKind.TheVariants.{NoDefault}
 use Rattle.conf_tree.specs.Reading.{reading}
 
 -- No continuation mends a fault: what follows the statements changes it only where it is that of their end, which a class
@@ -10,4 +10,4 @@ use Rattle.conf_tree.specs.Reading.{reading}
 abbrev pub FaultsStand : Type 0
 FaultsStand =
     (statements more : List Statement) (fault : ConfPlace) → reading statements ≡ Err fault
-    → (fault.kind ≡ no_default) ⊎ (reading (statements ++ more) ≡ Err fault)
+    → (fault.kind ≡ NoDefault) ⊎ (reading (statements ++ more) ≡ Err fault)

@@ -7,10 +7,10 @@ pub mod Filters
 pub mod Fits
 pub mod Interfaces
 pub mod Items
-pub mod Kinds
 pub mod Laws
 pub mod Masks
 pub mod Options
+pub mod Places
 pub mod Reading
 pub mod Settings
 pub mod Tree

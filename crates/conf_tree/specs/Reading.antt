@@ -10,7 +10,7 @@ use Rattle.conf_tree.specs.declared.interface.Kind.TheVariants.{Hfsc, Cbq}
 use Rattle.conf_tree.specs.Classes.{read_class}
 use Rattle.conf_tree.specs.FilterStatements.{read_filter}
 use Rattle.conf_tree.specs.Interfaces.{read_interface}
-use Rattle.conf_tree.specs.Kinds.{own_fault}
+use Rattle.conf_tree.specs.Places.{own_fault}
 use Rattle.conf_tree.specs.Tree.{Begun}
 use Rattle.conf_tree.specs.Whole.{finished}
 

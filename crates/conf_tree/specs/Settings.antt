@@ -16,7 +16,8 @@ use Rattle.conf_tree.specs.declared.class.DropRule.TheVariants.{Tail, Red, Ecn, 
 use Rattle.conf_tree.specs.declared.settings.Scope.{Scope}
 use Rattle.conf_tree.specs.declared.settings.Settings.{Settings}
 use Rattle.conf_tree.specs.Items.{number_at, number_behind, word_at}
-use Rattle.conf_tree.specs.Kinds.{fault_at, rate_range, two_defaults}
+use Rattle.conf_tree.specs.Places.{fault_at}
+use Rattle.conf_lines.specs.declared.fault.ConfKind.TheVariants.{RateRange, TwoDefaults}
 
 -- before the first option
 abbrev pub unset : Settings
@@ -66,12 +67,12 @@ abbrev pub set_percent : Scope → Settings → ℕ → Option ℕ → Result Se
 set_percent scope s word None = Ok s
 set_percent scope s word (Some n) =
     if nat_le 1000 (percent scope.rate n) && nat_le (percent scope.rate n) most_rate then Ok (record s { rate = Some (percent scope.rate n) })
-    else Err (fault_at scope.line word rate_range)
+    else Err (fault_at scope.line word RateRange)
 
 -- default: one on each interface
 abbrev pub set_default : Scope → Settings → ℕ → Result Settings ConfPlace
 set_default scope s word =
-    if scope.chosen || s.is_default then Err (fault_at scope.line word two_defaults) else Ok (record s { is_default = true })
+    if scope.chosen || s.is_default then Err (fault_at scope.line word TwoDefaults) else Ok (record s { is_default = true })
 
 -- What the option word at a word of the line sets, by the items behind it: an option of both kinds of classes
 abbrev pub set_queue : Scope → Settings → ℕ → Key → List Item → Result Settings ConfPlace

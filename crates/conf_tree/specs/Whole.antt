@@ -9,7 +9,8 @@ use Rattle.conf_tree.specs.declared.class.DropRule.TheVariants.{Tail}
 use Rattle.conf_tree.specs.declared.interface.Interface.{Interface}
 use Rattle.conf_tree.specs.declared.interface.Kind.{Kind}
 use Rattle.conf_tree.specs.declared.interface.Kind.TheVariants.{Hfsc, Cbq}
-use Rattle.conf_tree.specs.Kinds.{fault_at, no_default}
+use Rattle.conf_tree.specs.Places.{fault_at}
+use Rattle.conf_lines.specs.declared.fault.ConfKind.TheVariants.{NoDefault}
 use Rattle.conf_tree.specs.Tree.{Begun}
 
 -- a class that is implied: the default class is the one with a parent
@@ -79,7 +80,7 @@ undecided b = not (is_empty b.classes) && not b.chosen
 
 abbrev pub first_undecided : List Begun → Option ConfPlace
 first_undecided [] = None
-first_undecided (b ∷ interfaces) = if undecided b then Some (fault_at b.line 0 no_default) else first_undecided interfaces
+first_undecided (b ∷ interfaces) = if undecided b then Some (fault_at b.line 0 NoDefault) else first_undecided interfaces
 
 abbrev pub finished_unless : List Begun → Option ConfPlace → Result (List Interface) ConfPlace
 finished_unless interfaces (Some fault) = Err fault

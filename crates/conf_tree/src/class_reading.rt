@@ -3,21 +3,19 @@ ghost use Rattle.std.specs.Prelude.{◌≡◌, ◌<◌, IfOk, None, Some, length
 ghost use Rattle.conf_tree.specs.Answers.{Answers, Gains};
 ghost use Rattle.conf_tree.specs.Classes.{is_hfsc, same_kind, is_queue, below, spot_of, hfsc_shape, cbq_shape, shape_unless, shape_at, shape_named, branch_of, read_branch, read_class};
 ghost use Rattle.conf_tree.specs.Fits.{Fits};
-ghost use Rattle.conf_tree.specs.Kinds.{at_word, own_fault, too_many_classes};
+ghost use Rattle.conf_tree.specs.Places.{at_word, own_fault};
+ghost use Rattle.conf_lines.specs.declared.fault.ConfKind.TheVariants.{TooManyClasses};
 ghost use Rattle.conf_tree.specs.Tree.{class_number};
 
 use crate::branch::{Branch, branch_of};
 use crate::draft::Draft;
 use crate::interface::Kind;
 use crate::items::{behind, name_at};
-use crate::kinds::{
-    INNER_QUEUE, MISSING_WORD, NAME_TAKEN, NO_INTERFACE, NO_PARENT, NO_SHARE, REAL_TIME_INSIDE,
-    TOO_DEEP, TOO_MANY_CLASSES, TWO_ROOTS, WRONG_DISCIPLINE, at_word, own_fault,
-};
 use crate::options::set_options;
+use crate::places::{at_word, own_fault};
 use crate::settings::{Scope, Settings, Shape, Spot, unset};
 use crate::tree::Tree;
-use conf_lines::{ConfFault, ConfPlace, Statement};
+use conf_lines::{ConfFault, ConfKind, ConfPlace, Statement};
 use play_base::NoMemory;
 use std::alloc::Global;
 
@@ -51,11 +49,11 @@ fn below(kind: Kind, statement: &Statement, number: u32, branch: &Branch) -> Res
     ensures { result ≡ below kind statement.now number branch.now }
 {
     if branch.level >= 8 {
-        Err(at_word(statement, 5, TOO_DEEP))
+        Err(at_word(statement, 5, ConfKind::TooDeep))
     } else if branch.fixed {
-        Err(at_word(statement, 5, REAL_TIME_INSIDE))
+        Err(at_word(statement, 5, ConfKind::RealTimeInside))
     } else if is_queue(kind, branch) {
-        Err(at_word(statement, 5, INNER_QUEUE))
+        Err(at_word(statement, 5, ConfKind::InnerQueue))
     } else {
         Ok(Spot {
             parent: Some(number),
@@ -70,7 +68,7 @@ fn spot_of(draft: &Draft, statement: &Statement, parent: &str) -> Result<Spot, C
 {
     if parent == "NULL" {
         if draft.rooted {
-            return Err(at_word(statement, 5, TWO_ROOTS));
+            return Err(at_word(statement, 5, ConfKind::TwoRoots));
         }
         return Ok(Spot {
             parent: None,
@@ -78,11 +76,11 @@ fn spot_of(draft: &Draft, statement: &Statement, parent: &str) -> Result<Spot, C
         });
     }
     let Some(number) = draft.class_number(parent) else {
-        return Err(at_word(statement, 5, NO_PARENT));
+        return Err(at_word(statement, 5, ConfKind::NoParent));
     };
     match draft.classes.get(number as usize) {
         Some(branch) => below(draft.kind, statement, number, branch),
-        None => Err(at_word(statement, 5, NO_PARENT)),
+        None => Err(at_word(statement, 5, ConfKind::NoParent)),
     }
 }
 
@@ -91,7 +89,7 @@ fn hfsc_shape(statement: &Statement, spot: Spot, settings: Settings) -> Result<S
     ensures { result ≡ hfsc_shape statement.now spot settings }
 {
     if spot.parent.is_some() && settings.share.is_none() {
-        return Err(at_word(statement, statement.end, NO_SHARE));
+        return Err(at_word(statement, statement.end, ConfKind::NoShare));
     }
     Ok(Shape {
         spot,
@@ -117,7 +115,7 @@ fn cbq_shape(
         });
     }
     if spot.parent.is_some() {
-        return Err(at_word(statement, statement.end, MISSING_WORD));
+        return Err(at_word(statement, statement.end, ConfKind::MissingWord));
     }
     Ok(Shape {
         spot,
@@ -165,7 +163,7 @@ fn shape_named(draft: &Draft, statement: &Statement, name: &str) -> Result<Shape
     ensures new { IfOk result (λ _. class_number name.now draft.now.classes ≡ None) }
 {
     if draft.class_number(name).is_some() {
-        return Err(at_word(statement, 4, NAME_TAKEN));
+        return Err(at_word(statement, 4, ConfKind::NameTaken));
     }
     let Some(parent) = name_at(statement.items.as_slice(), 2) else {
         return Err(own_fault(statement));
@@ -178,10 +176,10 @@ fn shape_named(draft: &Draft, statement: &Statement, name: &str) -> Result<Shape
 
 /// The fault of a class without a NAME, on an interface that is full or not.
 fn unnamed(statement: &Statement, is_full: bool) -> ConfPlace
-    ensures { result ≡ (if is_full && nat_lt 4 statement.now.end then at_word statement.now 4 too_many_classes else own_fault statement.now) }
+    ensures { result ≡ (if is_full && nat_lt 4 statement.now.end then at_word statement.now 4 TooManyClasses else own_fault statement.now) }
 {
     if is_full && 4 < statement.end {
-        at_word(statement, 4, TOO_MANY_CLASSES)
+        at_word(statement, 4, ConfKind::TooManyClasses)
     } else {
         own_fault(statement)
     }
@@ -198,14 +196,14 @@ fn read_branch(
     ensures fits { IfOk result (λ branch. Fits draft.now statement.now branch) }
 {
     if !same_kind(kind, draft.kind) {
-        return Err(ConfFault::At(at_word(statement, 3, WRONG_DISCIPLINE)));
+        return Err(ConfFault::At(at_word(statement, 3, ConfKind::WrongDiscipline)));
     }
     let is_full = draft.classes.len() >= 256;
     let Some(name) = name_at(statement.items.as_slice(), 1) else {
         return Err(ConfFault::At(unnamed(statement, is_full)));
     };
     if is_full {
-        return Err(ConfFault::At(at_word(statement, 4, TOO_MANY_CLASSES)));
+        return Err(ConfFault::At(at_word(statement, 4, ConfKind::TooManyClasses)));
     }
     match shape_named(draft, statement, name) {
         Ok(shape) => match branch_of(alloc, draft.kind, name, shape) {
@@ -229,10 +227,10 @@ pub(crate) fn read_class<'a>(
         return Err(ConfFault::At(own_fault(statement)));
     };
     let Some(number) = tree.interface_number(interface) else {
-        return Err(ConfFault::At(at_word(statement, 3, NO_INTERFACE)));
+        return Err(ConfFault::At(at_word(statement, 3, ConfKind::NoInterface)));
     };
     let Some(draft) = tree.interfaces().get(number) else {
-        return Err(ConfFault::At(at_word(statement, 3, NO_INTERFACE)));
+        return Err(ConfFault::At(at_word(statement, 3, ConfKind::NoInterface)));
     };
     let branch = match read_branch(alloc, draft, kind, statement) {
         Ok(branch) => branch,

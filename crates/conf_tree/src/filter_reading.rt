@@ -9,9 +9,9 @@ use crate::filter::Filter;
 use crate::filter_parts::filter_of;
 use crate::interface::Kind;
 use crate::items::{behind, name_at};
-use crate::kinds::{INNER_QUEUE, NO_CLASS, NO_INTERFACE, TOO_MANY_FILTERS, at_word, own_fault};
+use crate::places::{at_word, own_fault};
 use crate::tree::Tree;
-use conf_lines::{ConfFault, ConfPlace, Statement};
+use conf_lines::{ConfFault, ConfKind, ConfPlace, Statement};
 use play_base::NoMemory;
 
 /// The filter of a class, where the statement has no fault of its own.
@@ -34,7 +34,7 @@ fn filter_to(
     ensures { result ≡ filter_to kind statement.now number (Some branch.now) }
 {
     match kind {
-        Kind::Hfsc if branch.inner => Err(at_word(statement, 3, INNER_QUEUE)),
+        Kind::Hfsc if branch.inner => Err(at_word(statement, 3, ConfKind::InnerQueue)),
         _ => filter_unless(statement, number),
     }
 }
@@ -43,18 +43,19 @@ fn filter_to(
 fn filter_read(draft: &Draft, statement: &Statement) -> Result<Filter, ConfPlace>
     ensures { result ≡ filter_read draft.now statement.now }
 {
-    if draft.filters.len() >= 1024 {
-        return Err(at_word(statement, 2, TOO_MANY_FILTERS));
+    let is_full = draft.filters.len() >= 1024;
+    if is_full {
+        return Err(at_word(statement, 2, ConfKind::TooManyFilters));
     }
     let Some(name) = name_at(statement.items.as_slice(), 1) else {
         return Err(own_fault(statement));
     };
     let Some(number) = draft.class_number(name) else {
-        return Err(at_word(statement, 3, NO_CLASS));
+        return Err(at_word(statement, 3, ConfKind::NoClass));
     };
     match draft.classes.get(number as usize) {
         Some(branch) => filter_to(draft.kind, statement, number, branch),
-        None => Err(at_word(statement, 3, NO_CLASS)),
+        None => Err(at_word(statement, 3, ConfKind::NoClass)),
     }
 }
 
@@ -66,10 +67,10 @@ pub(crate) fn read_filter(tree: &mut Tree, statement: &Statement) -> Result<(), 
         return Err(ConfFault::At(own_fault(statement)));
     };
     let Some(number) = tree.interface_number(interface) else {
-        return Err(ConfFault::At(at_word(statement, 2, NO_INTERFACE)));
+        return Err(ConfFault::At(at_word(statement, 2, ConfKind::NoInterface)));
     };
     let Some(draft) = tree.interfaces().get(number) else {
-        return Err(ConfFault::At(at_word(statement, 2, NO_INTERFACE)));
+        return Err(ConfFault::At(at_word(statement, 2, ConfKind::NoInterface)));
     };
     let filter = match filter_read(draft, statement) {
         Ok(filter) => filter,

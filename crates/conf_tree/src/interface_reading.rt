@@ -2,16 +2,17 @@
 ghost use Rattle.std.specs.Prelude.{◌≡◌, ◌&&◌, IfOk, None, nat_lt, if◌then◌else◌};
 ghost use Rattle.conf_tree.specs.Answers.{Gains};
 ghost use Rattle.conf_tree.specs.Interfaces.{kind_unless, interface_kind, interface_rate, read_interface};
-ghost use Rattle.conf_tree.specs.Kinds.{at_word, own_fault, too_many_interfaces};
+ghost use Rattle.conf_tree.specs.Places.{at_word, own_fault};
+ghost use Rattle.conf_lines.specs.declared.fault.ConfKind.TheVariants.{TooManyInterfaces};
 ghost use Rattle.conf_tree.specs.Tree.{interface_number};
 
 use crate::draft::Draft;
 use crate::interface::Kind;
 use crate::items::{behind, name_at};
-use crate::kinds::{INTERFACE_TWICE, MISSING_WORD, TOO_MANY_INTERFACES, at_word, own_fault};
 use crate::options::{kind_by_options, rate_by_options};
+use crate::places::{at_word, own_fault};
 use crate::tree::Tree;
-use conf_lines::{ConfFault, ConfPlace, Statement};
+use conf_lines::{ConfFault, ConfKind, ConfPlace, Statement};
 use play_base::NoMemory;
 use std::alloc::Global;
 
@@ -23,7 +24,7 @@ fn kind_unless(statement: &Statement) -> Result<Kind, ConfPlace>
         Some(fault) => Err(fault),
         None => match kind_by_options(behind(statement, 1)) {
             Some(kind) => Ok(kind),
-            None => Err(at_word(statement, statement.end, MISSING_WORD)),
+            None => Err(at_word(statement, statement.end, ConfKind::MissingWord)),
         },
     }
 }
@@ -34,17 +35,17 @@ fn interface_kind(tree: &Tree, statement: &Statement, name: &str) -> Result<Kind
     ensures new { IfOk result (λ _. interface_number name.now tree.now ≡ None) }
 {
     match tree.interface_number(name) {
-        Some(_) => Err(at_word(statement, 2, INTERFACE_TWICE)),
+        Some(_) => Err(at_word(statement, 2, ConfKind::InterfaceTwice)),
         None => kind_unless(statement),
     }
 }
 
 /// The fault of an interface without a NAME, behind 16 interfaces or not.
 fn unnamed(statement: &Statement, are_full: bool) -> ConfPlace
-    ensures { result ≡ (if are_full && nat_lt 2 statement.now.end then at_word statement.now 2 too_many_interfaces else own_fault statement.now) }
+    ensures { result ≡ (if are_full && nat_lt 2 statement.now.end then at_word statement.now 2 TooManyInterfaces else own_fault statement.now) }
 {
     if are_full && 2 < statement.end {
-        at_word(statement, 2, TOO_MANY_INTERFACES)
+        at_word(statement, 2, ConfKind::TooManyInterfaces)
     } else {
         own_fault(statement)
     }
@@ -63,7 +64,7 @@ pub(crate) fn read_interface<'a>(
         return Err(ConfFault::At(unnamed(statement, are_full)));
     };
     if are_full {
-        return Err(ConfFault::At(at_word(statement, 2, TOO_MANY_INTERFACES)));
+        return Err(ConfFault::At(at_word(statement, 2, ConfKind::TooManyInterfaces)));
     }
     let kind = match interface_kind(tree, statement, name) {
         Ok(kind) => kind,

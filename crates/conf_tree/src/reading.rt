@@ -6,7 +6,7 @@ use crate::class_reading::read_class;
 use crate::filter_reading::read_filter;
 use crate::interface::Kind;
 use crate::interface_reading::read_interface;
-use crate::kinds::own_fault;
+use crate::places::own_fault;
 use crate::tree::Tree;
 use conf_lines::{ConfFault, Form, Statement};
 use std::alloc::Global;

@@ -7,8 +7,8 @@ ghost use Rattle.std.specs.Option.{option_or};
 
 use crate::class::DropRule;
 use crate::items::{count_behind, number_at, number_behind, word_at};
-use crate::kinds::{RATE_RANGE, TWO_DEFAULTS, fault_at};
-use conf_lines::{ConfPlace, Item, Key, MOST_BEND, MOST_RATE, Slots};
+use crate::places::fault_at;
+use conf_lines::{ConfKind, ConfPlace, Item, Key, MOST_BEND, MOST_RATE, Slots};
 use service_curve::Curve;
 
 /// What the options of a class have set so far; `None` and false where they have not.
@@ -170,7 +170,7 @@ fn set_percent(
             ..settings
         })
     } else {
-        Err(fault_at(scope.line, word, RATE_RANGE))
+        Err(fault_at(scope.line, word, ConfKind::RateRange))
     }
 }
 
@@ -179,7 +179,7 @@ fn set_default(scope: Scope, settings: Settings, word: u64) -> Result<Settings, 
     ensures { result ≡ set_default scope settings word }
 {
     if scope.chosen || settings.is_default {
-        Err(fault_at(scope.line, word, TWO_DEFAULTS))
+        Err(fault_at(scope.line, word, ConfKind::TwoDefaults))
     } else {
         Ok(Settings {
             is_default: true,

@@ -6,8 +6,8 @@ use crate::branch::{Branch, text_of};
 use crate::class::{Class, DropRule};
 use crate::draft::Draft;
 use crate::interface::{ClassList, FilterList, Interface, Kind};
-use crate::kinds::{NO_DEFAULT, fault_at};
-use conf_lines::{ConfPlace, Text};
+use crate::places::fault_at;
+use conf_lines::{ConfKind, ConfPlace, Text};
 use play_base::NoMemory;
 use service_curve::Curve;
 use std::alloc::Global;
@@ -124,7 +124,7 @@ pub(crate) fn first_undecided(drafts: &[Draft]) -> Option<ConfPlace>
 {
     for draft in drafts {
         if !draft.classes.is_empty() && !draft.chosen {
-            return Some(fault_at(draft.line, 0, NO_DEFAULT));
+            return Some(fault_at(draft.line, 0, ConfKind::NoDefault));
         }
     }
     None
