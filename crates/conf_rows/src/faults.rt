@@ -54,24 +54,69 @@ fn each_kind_at_its_words(rt: HostRuntime) -> Result<(), Fail> {
     let cases = [
         ("class hfsc if0 a root pshare 1 default", None),
         ("classes hfsc if0", Some((5, 1, ConfKind::UnknownWord))),
-        ("class hfsc if0 a root pshare 1 quick", Some((5, 8, ConfKind::UnknownWord))),
+        (
+            "class hfsc if0 a root pshare 1 quick",
+            Some((5, 8, ConfKind::UnknownWord)),
+        ),
         ("interface", Some((5, 2, ConfKind::MissingWord))),
         ("class cbq if1 a top", Some((5, 6, ConfKind::MissingWord))),
-        ("class hfsc if0 a root pshare 1 qlimit 0", Some((5, 9, ConfKind::BadNumber))),
-        ("class hfsc if0 a root ls 0 0 0", Some((5, 9, ConfKind::RateRange))),
-        ("class cbq if1 a top pbandwidth 0", Some((5, 7, ConfKind::RateRange))),
-        ("filter if0 root 1.2.3 0 0 0 0", Some((5, 4, ConfKind::BadAddress))),
-        ("filter6 if0 root ::/129 0 0 0 0", Some((5, 4, ConfKind::BadAddress))),
-        ("class hfsc if0 a@ root pshare 1", Some((5, 4, ConfKind::BadByte))),
+        (
+            "class hfsc if0 a root pshare 1 qlimit 0",
+            Some((5, 9, ConfKind::BadNumber)),
+        ),
+        (
+            "class hfsc if0 a root ls 0 0 0",
+            Some((5, 9, ConfKind::RateRange)),
+        ),
+        (
+            "class cbq if1 a top pbandwidth 0",
+            Some((5, 7, ConfKind::RateRange)),
+        ),
+        (
+            "filter if0 root 1.2.3 0 0 0 0",
+            Some((5, 4, ConfKind::BadAddress)),
+        ),
+        (
+            "filter6 if0 root ::/129 0 0 0 0",
+            Some((5, 4, ConfKind::BadAddress)),
+        ),
+        (
+            "class hfsc if0 a@ root pshare 1",
+            Some((5, 4, ConfKind::BadByte)),
+        ),
         ("interface if0 cbq", Some((5, 2, ConfKind::InterfaceTwice))),
-        ("interface if0 bandwidth 1", Some((5, 2, ConfKind::InterfaceTwice))),
-        ("class hfsc if9 a root pshare 1", Some((5, 3, ConfKind::NoInterface))),
-        ("filter if9 a 0 0 0 0 0", Some((5, 2, ConfKind::NoInterface))),
-        ("class cbq if0 a root", Some((5, 3, ConfKind::WrongDiscipline))),
-        ("class hfsc if1 a top", Some((5, 3, ConfKind::WrongDiscipline))),
-        ("class hfsc if0 root root pshare 1", Some((5, 4, ConfKind::NameTaken))),
-        ("class hfsc if0 a b pshare 1", Some((5, 5, ConfKind::NoParent))),
-        ("class cbq if1 a a pbandwidth 5", Some((5, 5, ConfKind::NoParent))),
+        (
+            "interface if0 bandwidth 1",
+            Some((5, 2, ConfKind::InterfaceTwice)),
+        ),
+        (
+            "class hfsc if9 a root pshare 1",
+            Some((5, 3, ConfKind::NoInterface)),
+        ),
+        (
+            "filter if9 a 0 0 0 0 0",
+            Some((5, 2, ConfKind::NoInterface)),
+        ),
+        (
+            "class cbq if0 a root",
+            Some((5, 3, ConfKind::WrongDiscipline)),
+        ),
+        (
+            "class hfsc if1 a top",
+            Some((5, 3, ConfKind::WrongDiscipline)),
+        ),
+        (
+            "class hfsc if0 root root pshare 1",
+            Some((5, 4, ConfKind::NameTaken)),
+        ),
+        (
+            "class hfsc if0 a b pshare 1",
+            Some((5, 5, ConfKind::NoParent)),
+        ),
+        (
+            "class cbq if1 a a pbandwidth 5",
+            Some((5, 5, ConfKind::NoParent)),
+        ),
         ("class hfsc if0 a NULL", Some((5, 5, ConfKind::TwoRoots))),
         ("class hfsc if0 a root", Some((5, 6, ConfKind::NoShare))),
         (
@@ -106,11 +151,20 @@ fn each_kind_at_its_words(rt: HostRuntime) -> Result<(), Fail> {
             "class hfsc if0 a root pshare 1 default default",
             Some((5, 9, ConfKind::TwoDefaults)),
         ),
-        ("class cbq if1 a top default", Some((5, 6, ConfKind::TwoDefaults))),
-        ("class cbq if1 a top pbandwidth 5", Some((1, 0, ConfKind::NoDefault))),
+        (
+            "class cbq if1 a top default",
+            Some((5, 6, ConfKind::TwoDefaults)),
+        ),
+        (
+            "class cbq if1 a top pbandwidth 5",
+            Some((1, 0, ConfKind::NoDefault)),
+        ),
         ("filter if0 a 0 0 0 0 x", Some((5, 3, ConfKind::NoClass))),
         ("filter if1 a 0 0 0 0 0", Some((5, 3, ConfKind::NoClass))),
-        ("filter if1 top 0 0 0 0 x", Some((5, 8, ConfKind::BadNumber))),
+        (
+            "filter if1 top 0 0 0 0 x",
+            Some((5, 8, ConfKind::BadNumber)),
+        ),
     ];
     for (text, expected) in cases {
         let all = format!(in rt.alloc();

@@ -27,58 +27,127 @@ fn faults_at_their_words(rt: HostRuntime) -> Result<(), Fail> {
         ("interfaces if0 hfsc", Some((1, 1, ConfKind::UnknownWord))),
         ("\n\ninterface\n", Some((3, 2, ConfKind::MissingWord))),
         ("interface if0", Some((1, 3, ConfKind::MissingWord))),
-        ("interface if0 bandwidth", Some((1, 4, ConfKind::MissingWord))),
-        ("interface if0 hfsc bandwith 1M", Some((1, 4, ConfKind::UnknownWord))),
-        ("interface if0 bandwidth 999 hfsc", Some((1, 4, ConfKind::RateRange))),
+        (
+            "interface if0 bandwidth",
+            Some((1, 4, ConfKind::MissingWord)),
+        ),
+        (
+            "interface if0 hfsc bandwith 1M",
+            Some((1, 4, ConfKind::UnknownWord)),
+        ),
+        (
+            "interface if0 bandwidth 999 hfsc",
+            Some((1, 4, ConfKind::RateRange)),
+        ),
         ("interface if0 bandwidth 1000G hfsc", None),
         (
             "interface if0 bandwidth 1000.000000001G hfsc",
             Some((1, 4, ConfKind::RateRange)),
         ),
-        ("interface if0 bandwidth 1.5 hfsc", Some((1, 4, ConfKind::BadNumber))),
-        ("interface if0 bandwidth 1\u{1}5 hfsc", Some((1, 4, ConfKind::BadByte))),
-        ("interface if0 tbrsize \u{7f}", Some((1, 4, ConfKind::BadByte))),
+        (
+            "interface if0 bandwidth 1.5 hfsc",
+            Some((1, 4, ConfKind::BadNumber)),
+        ),
+        (
+            "interface if0 bandwidth 1\u{1}5 hfsc",
+            Some((1, 4, ConfKind::BadByte)),
+        ),
+        (
+            "interface if0 tbrsize \u{7f}",
+            Some((1, 4, ConfKind::BadByte)),
+        ),
         ("interface if@ hfsc", Some((1, 2, ConfKind::BadByte))),
-        ("interface if0 bandwidth 1 bandwidth x foo", Some((1, 4, ConfKind::RateRange))),
+        (
+            "interface if0 bandwidth 1 bandwidth x foo",
+            Some((1, 4, ConfKind::RateRange)),
+        ),
         ("\u{1}", Some((1, 1, ConfKind::BadByte))),
         ("class", Some((1, 2, ConfKind::MissingWord))),
         ("class jobs if0 a root", Some((1, 2, ConfKind::UnknownWord))),
         ("class \u{e9}", Some((1, 2, ConfKind::BadByte))),
         ("class hfsc if0 root NULL", None),
         ("class hfsc if0 a root", Some((1, 6, ConfKind::NoShare))),
-        ("class hfsc if0 a root rt 1M 10 2M", Some((1, 9, ConfKind::ConvexFirst))),
-        ("class hfsc if0 a root rt 0 10 2M", Some((1, 10, ConfKind::NoShare))),
+        (
+            "class hfsc if0 a root rt 1M 10 2M",
+            Some((1, 9, ConfKind::ConvexFirst)),
+        ),
+        (
+            "class hfsc if0 a root rt 0 10 2M",
+            Some((1, 10, ConfKind::NoShare)),
+        ),
         ("class hfsc if0 a root rt 1M 0 2M pshare 1", None),
-        ("class hfsc if0 a root sc 1M 10 0", Some((1, 9, ConfKind::RateRange))),
+        (
+            "class hfsc if0 a root sc 1M 10 0",
+            Some((1, 9, ConfKind::RateRange)),
+        ),
         ("class hfsc if0 a root rt 1M 10 0 ls 1M 10 1", None),
-        ("class hfsc if0 a root sc 1M 1000001 1M", Some((1, 8, ConfKind::BadNumber))),
-        ("class hfsc if0 a root sc 1001G 10 1M", Some((1, 7, ConfKind::RateRange))),
+        (
+            "class hfsc if0 a root sc 1M 1000001 1M",
+            Some((1, 8, ConfKind::BadNumber)),
+        ),
+        (
+            "class hfsc if0 a root sc 1001G 10 1M",
+            Some((1, 7, ConfKind::RateRange)),
+        ),
         ("class hfsc if0 root NULL ul 1K 0 1K", None),
         ("class hfsc if0 root NULL ul 1000G 1000000 1000G", None),
-        ("class hfsc if0 root NULL ul 999 0 1K", Some((1, 7, ConfKind::RateRange))),
-        ("class hfsc if0 root NULL ul 1K 0 999", Some((1, 9, ConfKind::RateRange))),
-        ("class hfsc if0 root NULL ul 1M 1 1000001", Some((1, 9, ConfKind::ConvexFirst))),
-        ("class hfsc if0 a root ul 1M 0 1M", Some((1, 10, ConfKind::NoShare))),
-        ("class cbq if0 root NULL ul 1M 0 1M", Some((1, 6, ConfKind::UnknownWord))),
+        (
+            "class hfsc if0 root NULL ul 999 0 1K",
+            Some((1, 7, ConfKind::RateRange)),
+        ),
+        (
+            "class hfsc if0 root NULL ul 1K 0 999",
+            Some((1, 9, ConfKind::RateRange)),
+        ),
+        (
+            "class hfsc if0 root NULL ul 1M 1 1000001",
+            Some((1, 9, ConfKind::ConvexFirst)),
+        ),
+        (
+            "class hfsc if0 a root ul 1M 0 1M",
+            Some((1, 10, ConfKind::NoShare)),
+        ),
+        (
+            "class cbq if0 root NULL ul 1M 0 1M",
+            Some((1, 6, ConfKind::UnknownWord)),
+        ),
         ("class hfsc if0 root NULL ecn cleardscp", None),
         ("class cbq if0 root NULL cleardscp ecn", None),
-        ("interface if0 hfsc ecn", Some((1, 4, ConfKind::UnknownWord))),
-        ("class hfsc if0 a root pshare 101", Some((1, 7, ConfKind::BadNumber))),
-        ("class hfsc if0 a root pshare 0", Some((1, 7, ConfKind::BadNumber))),
+        (
+            "interface if0 hfsc ecn",
+            Some((1, 4, ConfKind::UnknownWord)),
+        ),
+        (
+            "class hfsc if0 a root pshare 101",
+            Some((1, 7, ConfKind::BadNumber)),
+        ),
+        (
+            "class hfsc if0 a root pshare 0",
+            Some((1, 7, ConfKind::BadNumber)),
+        ),
         (
             "class hfsc if0 a root pshare 50 qlimit 10001",
             Some((1, 9, ConfKind::BadNumber)),
         ),
-        ("class hfsc if0 a root pshare 50 borrow", Some((1, 8, ConfKind::UnknownWord))),
+        (
+            "class hfsc if0 a root pshare 50 borrow",
+            Some((1, 8, ConfKind::UnknownWord)),
+        ),
         ("class hfsc if0 a", Some((1, 5, ConfKind::MissingWord))),
         ("class cbq if0 root NULL", None),
         ("class cbq if0 a root", Some((1, 6, ConfKind::MissingWord))),
-        ("class cbq if0 a root pbandwidth 101", Some((1, 7, ConfKind::BadNumber))),
+        (
+            "class cbq if0 a root pbandwidth 101",
+            Some((1, 7, ConfKind::BadNumber)),
+        ),
         (
             "class cbq if0 a root pbandwidth 0 priority 8",
             Some((1, 9, ConfKind::BadNumber)),
         ),
-        ("class cbq if0 a root exactbandwidth 999", Some((1, 7, ConfKind::RateRange))),
+        (
+            "class cbq if0 a root exactbandwidth 999",
+            Some((1, 7, ConfKind::RateRange)),
+        ),
         (
             "class cbq if0 a root exactbandwidth 1k maxburst 1001",
             Some((1, 9, ConfKind::BadNumber)),
@@ -93,31 +162,82 @@ fn faults_at_their_words(rt: HostRuntime) -> Result<(), Fail> {
         ),
         ("filter if0 a 0 0 0 0 0", None),
         ("filter if0 a 0 0 0 0", Some((1, 8, ConfKind::MissingWord))),
-        ("filter if0 a 0 netmask 0 0 0 0", Some((1, 5, ConfKind::BadNumber))),
-        ("filter if0 a 10.0.0.256 0 0 0 0", Some((1, 4, ConfKind::BadAddress))),
+        (
+            "filter if0 a 0 netmask 0 0 0 0",
+            Some((1, 5, ConfKind::BadNumber)),
+        ),
+        (
+            "filter if0 a 10.0.0.256 0 0 0 0",
+            Some((1, 4, ConfKind::BadAddress)),
+        ),
         (
             "filter if0 a 10.0.0.1 netmask 255.0.0 0 0 0 0",
             Some((1, 6, ConfKind::BadAddress)),
         ),
-        ("filter if0 a 0 65536 0 0 0", Some((1, 5, ConfKind::BadNumber))),
-        ("filter if0 a 0 0 0 0 256", Some((1, 8, ConfKind::BadNumber))),
-        ("filter if0 a 0 0 0 0 igmp", Some((1, 8, ConfKind::BadNumber))),
-        ("filter if0 a ruleno 4294967296 0 0 0 0 0", Some((1, 5, ConfKind::BadNumber))),
-        ("filter if0 a ruleno 1 name x 0 0 0 0", Some((1, 6, ConfKind::BadAddress))),
-        ("filter if0 a 0 0 0 0 17 tosmask 1", Some((1, 9, ConfKind::UnknownWord))),
-        ("filter if0 a 0 0 0 0 17 tos 256", Some((1, 10, ConfKind::BadNumber))),
+        (
+            "filter if0 a 0 65536 0 0 0",
+            Some((1, 5, ConfKind::BadNumber)),
+        ),
+        (
+            "filter if0 a 0 0 0 0 256",
+            Some((1, 8, ConfKind::BadNumber)),
+        ),
+        (
+            "filter if0 a 0 0 0 0 igmp",
+            Some((1, 8, ConfKind::BadNumber)),
+        ),
+        (
+            "filter if0 a ruleno 4294967296 0 0 0 0 0",
+            Some((1, 5, ConfKind::BadNumber)),
+        ),
+        (
+            "filter if0 a ruleno 1 name x 0 0 0 0",
+            Some((1, 6, ConfKind::BadAddress)),
+        ),
+        (
+            "filter if0 a 0 0 0 0 17 tosmask 1",
+            Some((1, 9, ConfKind::UnknownWord)),
+        ),
+        (
+            "filter if0 a 0 0 0 0 17 tos 256",
+            Some((1, 10, ConfKind::BadNumber)),
+        ),
         (
             "filter if0 a 0 0 0 0 17 tos 1 tosmask 255 x",
             Some((1, 13, ConfKind::UnknownWord)),
         ),
-        ("filter if0 a 0 0 0 0 17 tclass 1", Some((1, 9, ConfKind::UnknownWord))),
-        ("filter6 if0 a ::/129 0 0 0 0", Some((1, 4, ConfKind::BadAddress))),
-        ("filter6 if0 a 0/0 0 0 0 0", Some((1, 4, ConfKind::BadAddress))),
-        ("filter6 if0 a ::1/0x1 0 0 0 0", Some((1, 4, ConfKind::BadAddress))),
-        ("filter6 if0 a 10.0.0.1 0 0 0 0", Some((1, 4, ConfKind::BadAddress))),
-        ("filter6 if0 a :: 0 0 0 17 tos 1", Some((1, 9, ConfKind::UnknownWord))),
-        ("filter6 if0 a :: netmask 0 0 0", Some((1, 5, ConfKind::BadNumber))),
-        ("interface \\\nif0 # a\ninterface if0\n", Some((1, 3, ConfKind::MissingWord))),
+        (
+            "filter if0 a 0 0 0 0 17 tclass 1",
+            Some((1, 9, ConfKind::UnknownWord)),
+        ),
+        (
+            "filter6 if0 a ::/129 0 0 0 0",
+            Some((1, 4, ConfKind::BadAddress)),
+        ),
+        (
+            "filter6 if0 a 0/0 0 0 0 0",
+            Some((1, 4, ConfKind::BadAddress)),
+        ),
+        (
+            "filter6 if0 a ::1/0x1 0 0 0 0",
+            Some((1, 4, ConfKind::BadAddress)),
+        ),
+        (
+            "filter6 if0 a 10.0.0.1 0 0 0 0",
+            Some((1, 4, ConfKind::BadAddress)),
+        ),
+        (
+            "filter6 if0 a :: 0 0 0 17 tos 1",
+            Some((1, 9, ConfKind::UnknownWord)),
+        ),
+        (
+            "filter6 if0 a :: netmask 0 0 0",
+            Some((1, 5, ConfKind::BadNumber)),
+        ),
+        (
+            "interface \\\nif0 # a\ninterface if0\n",
+            Some((1, 3, ConfKind::MissingWord)),
+        ),
         (
             "interface \\\nif0 hfsc # a\ninterface if0\n",
             Some((3, 3, ConfKind::MissingWord)),
@@ -220,14 +340,20 @@ fn long_lines_keep_their_words(rt: HostRuntime) -> Result<(), Fail> {
     let found = statements(rt.alloc(), text.as_str().as_bytes())?;
     assert_eq!(rt; found.len(), 1);
     assert_eq!(rt; found[0].end, 2001);
-    assert_eq!(rt; first_fault(rt.alloc(), text.as_str())?, Some((1, 1, ConfKind::UnknownWord)));
+    assert_eq!(rt;
+        first_fault(rt.alloc(), text.as_str())?,
+        Some((1, 1, ConfKind::UnknownWord))
+    );
     let mut text = String::from_str(rt.alloc(), "class hfsc if0 a NULL")?;
     for _ in 6..300 {
         text.push_str(" red")?;
     }
     assert_eq!(rt; first_fault(rt.alloc(), text.as_str())?, None);
     text.push_str(" quick red")?;
-    assert_eq!(rt; first_fault(rt.alloc(), text.as_str())?, Some((1, 300, ConfKind::UnknownWord)));
+    assert_eq!(rt;
+        first_fault(rt.alloc(), text.as_str())?,
+        Some((1, 300, ConfKind::UnknownWord))
+    );
     Ok(())
 }
 

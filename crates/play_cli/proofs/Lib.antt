@@ -2,7 +2,9 @@ pub mod CheckLemmas
 pub mod ClosingLemmas
 pub mod ConfLemmas
 pub mod EndLemmas
+pub mod FailureLemmas
 pub mod FilesLemmas
+pub mod KindNames
 pub mod LateLemmas
 pub mod Laws
 pub mod NameLemmas

@@ -4,6 +4,7 @@ use Rattle.std.specs.Prelude.{IsTrue}
 use Rattle.play_base.specs.View.{View}
 use Rattle.play_base.specs.declared.trouble.Trouble.{Trouble}
 use Rattle.play_base.specs.declared.trouble.Trouble.TheVariants as trouble
+use Rattle.conf_lines.specs.Kinds.{kind_number}
 use Rattle.conf_tree.specs.declared.interface.Interface.{Interface}
 use Rattle.play_loop.specs.declared.fault.Limit.{Limit}
 use Rattle.play_loop.specs.declared.fault.Limit.TheVariants as limit
@@ -153,12 +154,12 @@ after_done (inr (inr (inr e))) = absurd (omega (arith, e.0))
 pub config_comes : (u v : View) (n : Names) (seed : ℕ) (c : ConfigFault) → ConfigCauses u v n.config n.interface c → PlayComes u v n seed (config_status c)
 config_comes u v n seed (conf.At place) x = record {
   done = λ e. absurd (omega (arith, e));
-  configuration = λ e. x;
+  configuration = λ e t. record { place = place; told = record { code = refl; line = refl; word = refl; kind = refl }; says = x t };
   damaged = λ e. absurd (omega (arith, e));
   read = λ e. absurd (omega (arith, e));
   write = λ e. absurd (omega (arith, e));
   limit = λ e. absurd (omega (arith, e));
-  accepted_first = λ e. after_three place.kind e;
+  accepted_first = λ e. after_three (kind_number place.kind) e;
 }
 config_comes u v n seed conf.TooLong x = record {
   done = λ e. absurd (omega (arith, e));

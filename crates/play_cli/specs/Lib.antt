@@ -2,6 +2,7 @@ pub mod Causes
 pub mod Checked
 pub mod Configuration
 pub mod Ending
+pub mod Failure
 pub mod Input
 pub mod InterfaceSetup
 pub mod Message

@@ -10,18 +10,17 @@ ghost use Rattle.play_words.specs.Words.{IsCheck, IsPlay, refusal, seed_of};
 ghost use Rattle.play_cli.specs.Causes.{IsAfterConfig, names_of};
 ghost use Rattle.play_cli.specs.Checked.{HasChecked, IsCheckable};
 ghost use Rattle.play_cli.specs.Configuration.{Accepts, AcceptsNone, Refused, Says, TooLong};
-ghost use Rattle.play_cli.specs.Ending.{Tells, TellsDamage, TellsPlace, place_of};
+ghost use Rattle.play_cli.specs.Ending.{Tells, TellsDamage, TellsPlace, TellsRefusal};
 ghost use Rattle.play_cli.specs.Message.{message_text, out_of_memory};
 ghost use Rattle.play_cli.specs.Opening.{CannotRead, KeepsOthers};
 ghost use Rattle.play_cli.specs.Order.{IsInOrder, KeepUncreated, TakesFew};
 ghost use Rattle.play_cli.specs.Run.{HasPlayed, Fronts, IsDamagedAt, IsLimited, IsLate, IsPlayable, EndsWith, EndsLate, IsQuiet, IsCode};
 ghost use Rattle.play_cli.specs.Telling.{OnlySays, SaysOrFails, SaysOrNot};
 
-use crate::Status;
 use crate::checking::check;
 use crate::playing::play;
-use crate::status::ended;
 use crate::telling::told;
+use crate::{Failure, Status};
 use play_base::{Files, SteadyFiles};
 use play_words::{Command, Unread, read_words};
 use std::alloc::Global;
@@ -63,7 +62,7 @@ pub fn run<F: Files>(alloc: Global, words: &[String], files: &mut F) -> Status
 
     // When each fault comes, and that the configuration is accepted before any of the other files is looked at.
     ensures configuration { result.code ≡ 3 → IsTrue (F.view files.old).tells →
-        Says (F.view files.old) (names_of words.now).config (names_of words.now).interface (Refused (place_of result)) }
+        TellsRefusal (F.view files.old) (names_of words.now).config (names_of words.now).interface result }
     ensures damaged { result.code ≡ 4 → IsPlay words.now × (IsTrue (F.view files.old).tells →
         (seed : ℕ) → seed_of words.now ≡ Some seed →
         IsDamagedAt (F.view files.old) (F.view files.new) (names_of words.now) seed result.place result.kind) }
@@ -142,8 +141,8 @@ pub fn run<F: Files>(alloc: Global, words: &[String], files: &mut F) -> Status
     match read_words(alloc, words) {
         Ok(Command::Play(read)) => play(alloc, files, &read),
         Ok(Command::Check(read)) => check(alloc, files, &read),
-        Err(Unread::Refused(fault)) => told(alloc, files, ended(2, fault.kind())),
-        Err(Unread::NoMemory) => told(alloc, files, ended(8, 0)),
+        Err(Unread::Refused(fault)) => told(alloc, files, Err(Failure::Words(fault))),
+        Err(Unread::NoMemory) => told(alloc, files, Err(Failure::NoMemory)),
     }
 }
 
