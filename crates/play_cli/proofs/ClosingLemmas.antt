@@ -42,7 +42,7 @@ play_done u v n seed done nothing absent files = record {
   };
 }
 
-play_unread : (f : PlayFault) {A : Type 0} → (play_status f).code ≡ 5 → (play_status f).kind ≡ 1 → A
+pub play_unread : (f : PlayFault) {A : Type 0} → (play_status f).code ≡ 5 → (play_status f).kind ≡ 1 → A
 play_unread play.Read e k = absurd (omega (arith, k))
 play_unread (play.Write output) e k = absurd (omega (arith, e))
 play_unread (play.Capture d) e k = absurd (omega (arith, e))

@@ -4,6 +4,7 @@ pub mod Configuration
 pub mod Ending
 pub mod Input
 pub mod InterfaceSetup
+pub mod Making
 pub mod Message
 pub mod Opening
 pub mod Order

@@ -3,8 +3,10 @@
 
 mod checking;
 mod fault;
+mod found;
 mod input;
 mod interface;
+mod making;
 mod message;
 mod opening;
 mod playing;

@@ -73,6 +73,7 @@ fn written_name(kind: u8) -> &'static str
         1 => "departures",
         2 => "fates",
         3 => "statistics",
+        4 => "arrivals",
         _ => "result",
     }
 }
