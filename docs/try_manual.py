@@ -2,9 +2,9 @@
 """Compares the man page and the completions of altqplay with docs/MANUAL.md.
 
 docs/altqplay.1 is rendered by groff and by mandoc, where each is there. Neither may warn, and what comes out must
-have these of docs/MANUAL.md: the two commands, each option with what it names, each status with its meaning and
+have these of docs/MANUAL.md: the commands, each option with what it names, each status with its meaning and
 kinds, each message, the head rows of fates and statistics, and the words of the fates. Case and blanks are not
-compared. The completion for bash must offer the two commands, exactly the options of each, each once, and behind
+compared. The completion for bash must offer the commands, exactly the options of each, each once, and behind
 an option names of files, names of interfaces or nothing. That for zsh must name the same options; it is not run.
 
 With --quiet it says nothing but what is wrong. Where neither groff nor mandoc is there the man page is left out,
@@ -24,6 +24,8 @@ COMPLETIONS = DOCS.parent / "example" / "completions"
 MANUAL = (DOCS / "MANUAL.md").read_text(encoding="utf-8")
 # Of each command its options, each with the word for its value.
 COMMANDS = {name: dict(re.findall(r"(--\w+) (\w+)", line)) for name, line in re.findall(r"^    altqplay (\w+) (--.*)$", MANUAL, re.M)}
+# All options, each with the word for its value.
+OPTIONS = {option: value for options in COMMANDS.values() for option, value in options.items()}
 # Of each tool the commands that look at the page, the last of which gives its text.
 TOOLS = {"groff": [["groff", "-man", "-Tutf8", "-ww", PAGE], ["groff", "-man", "-Tutf8", "-ww", "-P-c", "-rHY=0", PAGE]],
          "mandoc": [["mandoc", "-T", "lint", "-W", "warning", PAGE], ["mandoc", "-T", "utf8", PAGE]]}
@@ -52,7 +54,7 @@ def wanted():
     for name, options in COMMANDS.items():
         yield "SYNOPSIS", " ".join([f"altqplay {name}"] + [f"{option} {value}" for option, value in options.items()])
     for option, what in tables("The commands")[0]:
-        yield "OPTIONS", f"{option} {COMMANDS['play'][option.strip('`')]} {what}."
+        yield "OPTIONS", f"{option} {OPTIONS[option.strip('`')]} {what}."
     for code, meaning, kinds in tables("Statuses")[1]:
         yield "EXIT STATUS", f"{code} {meaning}. Kinds: {kinds}."
     for code, cell in tables("Statuses")[0]:
@@ -107,7 +109,7 @@ def main(words):
         return 2
     tools, has_bash = [tool for tool in TOOLS if shutil.which(tool)], shutil.which("bash")
     wrong = [fault for tool in tools for fault in page_faults(tool)] + (list(completion_faults()) if has_bash else [])
-    if sorted(re.findall(r"'(--\w+)=\[", (COMPLETIONS / "_altqplay").read_text(encoding="utf-8"))) != sorted(COMMANDS["play"]):
+    if sorted(re.findall(r"'(--\w+)=\[", (COMPLETIONS / "_altqplay").read_text(encoding="utf-8"))) != sorted(OPTIONS):
         wrong.append("_altqplay does not name the options of the manual")
     notes = ["docs/altqplay.1: " + (f"rendered by {' and '.join(tools)}" if tools else "left out, since there is no groff and no mandoc"),
              "altqplay.bash: " + ("tried" if has_bash else "left out, since there is no bash")]

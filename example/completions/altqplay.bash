@@ -43,6 +43,7 @@ _altqplay() {
     # Which options are given, and of which the value stands at the cursor.
     case ${words[1]} in
         play) options=(--config --interface --arrivals --departures --fates --stats --seed) ;;
+        make) options=(--count --config --interface --arrivals --departures --fates --stats --seed) ;;
         check) options=(--config --interface) ;;
     esac
     for ((i = 2; i < ${#words[@]}; i++)); do
@@ -63,7 +64,7 @@ _altqplay() {
     fi
 
     if ((here == 1)); then
-        found=(play check)
+        found=(play check make)
     elif [[ -z $option ]]; then
         for part in "${options[@]}"; do
             [[ $given == *" $part "* ]] || found+=("$part")
@@ -72,7 +73,7 @@ _altqplay() {
         while read -r part; do
             [[ -z $name && $part == -* ]] || found+=("$name$part") # a name with - at its front needs the equals sign
         done < <(_altqplay_interfaces "$config")
-    elif [[ $option != --seed && " ${options[*]} " == *" $option "* ]]; then
+    elif [[ $option != --seed && $option != --count && " ${options[*]} " == *" $option "* ]]; then
         compopt -o default # nothing is found here, so bash offers the names of files
     fi
     for part in "${found[@]}"; do

@@ -42,7 +42,9 @@ fn piece_at(records: &[u8], part: u8, at: u64) -> &[u8] {
     if at >= END {
         return &[];
     }
-    let piece = records.get((at - 24) as usize % 65_536..).unwrap_or_default();
+    let piece = records
+        .get((at - 24) as usize % 65_536..)
+        .unwrap_or_default();
     let left = (END - at) as usize;
     piece.get(..left).unwrap_or(piece)
 }

@@ -1,6 +1,6 @@
 // What is wrong with a capture.
 ghost use Rattle.std.specs.Prelude.{◌≡◌};
-ghost use Rattle.capture_model.specs.Numbers.{damage_number};
+ghost use Rattle.capture_model.specs.Numbers.{damage_name, damage_number};
 
 /// The kind of the first test that a capture fails, in the order of the tests of the header and then of a record.
 #[derive(Clone, Copy, Debug, PartialEq, Eq)]
@@ -34,6 +34,21 @@ impl DamageKind {
             DamageKind::ShortRecord => 5,
             DamageKind::EmptyRecord => 6,
             DamageKind::LongRecord => 7,
+        }
+    }
+
+    /// The kind's name, as a message gives it.
+    pub fn name(self) -> &'static str
+        ensures { result.now ≡ damage_name self }
+    {
+        match self {
+            DamageKind::ShortHead => "ShortHead",
+            DamageKind::BadMagic => "BadMagic",
+            DamageKind::BadVersion => "BadVersion",
+            DamageKind::BadLink => "BadLink",
+            DamageKind::ShortRecord => "ShortRecord",
+            DamageKind::EmptyRecord => "EmptyRecord",
+            DamageKind::LongRecord => "LongRecord",
         }
     }
 }

@@ -11,7 +11,7 @@ use Rattle.play_loop.specs.declared.fault.PlayFault.TheVariants as play
 use Rattle.play_cli.specs.Causes.{Causes, CheckCauses, IsAfterConfigFault, SayCauses, play_status, status_of, ended}
 use Rattle.play_cli.specs.Checked.{IsCheckable}
 use Rattle.play_cli.specs.Configuration.{Accepts, AcceptsNone, Refused, Says, TooLong}
-use Rattle.play_cli.specs.Ending.{CheckEnds, FilesEnd, PlayEnds, Tells, TellsPlace, place_of}
+use Rattle.play_cli.specs.Ending.{CheckEnds, FilesEnd, PlayEnds, Tells, TellsPlace, TellsRefusal}
 use Rattle.play_cli.specs.Input.{OnlyReads}
 use Rattle.play_cli.specs.Opening.{CannotRead}
 use Rattle.play_cli.specs.Run.{Names, HasPlayed, Fronts, IsQuiet}
@@ -42,7 +42,7 @@ play_done u v n seed done nothing absent files = record {
   };
 }
 
-play_unread : (f : PlayFault) {A : Type 0} → (play_status f).code ≡ 5 → (play_status f).kind ≡ 1 → A
+pub play_unread : (f : PlayFault) {A : Type 0} → (play_status f).code ≡ 5 → (play_status f).kind ≡ 1 → A
 play_unread play.Read e k = absurd (omega (arith, k))
 play_unread (play.Write output) e k = absurd (omega (arith, e))
 play_unread (play.Capture d) e k = absurd (omega (arith, e))
@@ -84,8 +84,9 @@ say_failed u v config interface trouble.NoMemory found r a = tt
 
 -- what a status of a check says of the fault
 check_place : (u v : View) (config interface : List ℕ) (f : RunFault) → CheckCauses u v config interface f → (status_of f).code ≡ 3 → IsTrue u.tells
-    → Says u config interface (Refused (place_of (status_of f)))
-check_place u v config interface (fault.Config (conf.At place)) x e t = x t
+    → TellsRefusal u config interface (status_of f)
+check_place u v config interface (fault.Config (conf.At place)) x e t =
+    record { place = place; told = record { code = refl; line = refl; word = refl; kind = refl }; says = x t }
 check_place u v config interface (fault.Config conf.TooLong) x e t = absurd (omega (arith, e))
 check_place u v config interface (fault.Config conf.Read) x e t = absurd (omega (arith, e))
 check_place u v config interface (fault.Config conf.NoMemory) x e t = absurd (omega (arith, e))

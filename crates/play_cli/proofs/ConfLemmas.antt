@@ -2,6 +2,7 @@
 use Rattle.std.proofs.Common.{◌≡◌, ◌≤◌, ◌∙◌, ◌⊎◌, ℕ, Bool, true, false, length, List, None, Some, Result, ap, sym, refl, inl, inr, arith}
 use Rattle.std.specs.Prelude.{IsSome, IsTrue, nat_lt, if◌then◌else◌}
 use Rattle.std.specs.declared.option.Option.{Option}
+use Rattle.conf_lines.specs.Kinds.{kind_number}
 use Rattle.conf_lines.specs.declared.fault.ConfPlace.{ConfPlace}
 use Rattle.conf_lines.specs.Texts.{statements_of}
 use Rattle.conf_tree.specs.declared.interface.Interface.{Interface}
@@ -99,7 +100,7 @@ tells_place p q e = record {
   code = refl;
   line = ap (λ (c : ConfPlace). c.line) e;
   word = ap (λ (c : ConfPlace). c.word) e;
-  kind = ap (λ (c : ConfPlace). c.kind) e;
+  kind = ap (λ (c : ConfPlace). kind_number c.kind) e;
 }
 
 pub told_place : (u v : View) (config interface : List ℕ) (place : ConfPlace) (f : ConfigFault) → IsTrue u.tells → IsQuiet u v

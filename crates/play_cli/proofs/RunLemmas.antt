@@ -4,6 +4,7 @@ use Rattle.std.specs.Prelude.{IsTrue}
 use Rattle.play_base.specs.View.{View}
 use Rattle.play_base.specs.declared.trouble.Trouble.{Trouble}
 use Rattle.play_base.specs.declared.trouble.Trouble.TheVariants as trouble
+use Rattle.conf_lines.specs.Kinds.{kind_number}
 use Rattle.conf_tree.specs.declared.interface.Interface.{Interface}
 use Rattle.play_loop.specs.declared.fault.Limit.{Limit}
 use Rattle.play_loop.specs.declared.fault.Limit.TheVariants as limit
@@ -80,7 +81,7 @@ play_is_status (play.Capture d) = record {
 play_is_status (play.Limit limit) = with_kind 7 (limit_number limit) seven (λ e. omega (arith, e)) (λ e. omega (arith, e))
 play_is_status play.NoMemory = plain 8 0 eight (λ e. omega (arith, e)) (λ e. refl)
 
-say_is_status : (t : Trouble) → IsStatus (say_status t)
+pub say_is_status : (t : Trouble) → IsStatus (say_status t)
 say_is_status trouble.Failed = with_kind 6 10 six (λ e. omega (arith, e)) (λ e. omega (arith, e))
 say_is_status trouble.NoMemory = plain 8 0 eight (λ e. omega (arith, e)) (λ e. refl)
 
@@ -102,7 +103,7 @@ config_not_done conf.TooLong e = not_zero 6 e
 config_not_done conf.Read e = not_zero 4 e
 config_not_done conf.NoMemory e = not_zero 7 e
 
-play_not_done : (f : PlayFault) {A : Type 0} → (play_status f).code ≡ 0 → A
+pub play_not_done : (f : PlayFault) {A : Type 0} → (play_status f).code ≡ 0 → A
 play_not_done play.Read e = not_zero 4 e
 play_not_done (play.Write output) e = not_zero 5 e
 play_not_done (play.Capture d) e = not_zero 3 e
@@ -119,31 +120,31 @@ fault_is_not_done (fault.Play f) e = play_not_done f e
 fault_is_not_done (fault.Say t) e = say_not_done t e
 
 -- a status that comes behind the configuration comes behind one that is accepted
-after_three : (kind : ℕ) {A : Type 0} → IsAfterConfig 3 kind → A
+pub after_three : (kind : ℕ) {A : Type 0} → IsAfterConfig 3 kind → A
 after_three kind (inl e) = absurd (omega (arith, e))
 after_three kind (inr (inl e)) = absurd (omega (arith, e))
 after_three kind (inr (inr (inl e))) = absurd (omega (arith, e.0))
 after_three kind (inr (inr (inr e))) = absurd (omega (arith, e.0))
 
-after_too_long : {A : Type 0} → IsAfterConfig 7 3 → A
+pub after_too_long : {A : Type 0} → IsAfterConfig 7 3 → A
 after_too_long (inl e) = absurd (omega (arith, e))
 after_too_long (inr (inl e)) = absurd (omega (arith, e))
 after_too_long (inr (inr (inl e))) = absurd (e.1 refl)
 after_too_long (inr (inr (inr e))) = absurd (omega (arith, e.0))
 
-after_read : {A : Type 0} → IsAfterConfig 5 1 → A
+pub after_read : {A : Type 0} → IsAfterConfig 5 1 → A
 after_read (inl e) = absurd (omega (arith, e))
 after_read (inr (inl e)) = absurd (omega (arith, e))
 after_read (inr (inr (inl e))) = absurd (omega (arith, e.0))
 after_read (inr (inr (inr e))) = absurd (omega (arith, e.1))
 
-after_memory : {A : Type 0} → IsAfterConfig 8 0 → A
+pub after_memory : {A : Type 0} → IsAfterConfig 8 0 → A
 after_memory (inl e) = absurd (omega (arith, e))
 after_memory (inr (inl e)) = absurd (omega (arith, e))
 after_memory (inr (inr (inl e))) = absurd (omega (arith, e.0))
 after_memory (inr (inr (inr e))) = absurd (omega (arith, e.0))
 
-after_done : {A : Type 0} → IsAfterConfig 0 0 → A
+pub after_done : {A : Type 0} → IsAfterConfig 0 0 → A
 after_done (inl e) = absurd (omega (arith, e))
 after_done (inr (inl e)) = absurd (omega (arith, e))
 after_done (inr (inr (inl e))) = absurd (omega (arith, e.0))
@@ -153,12 +154,12 @@ after_done (inr (inr (inr e))) = absurd (omega (arith, e.0))
 pub config_comes : (u v : View) (n : Names) (seed : ℕ) (c : ConfigFault) → ConfigCauses u v n.config n.interface c → PlayComes u v n seed (config_status c)
 config_comes u v n seed (conf.At place) x = record {
   done = λ e. absurd (omega (arith, e));
-  configuration = λ e. x;
+  configuration = λ e t. record { place = place; told = record { code = refl; line = refl; word = refl; kind = refl }; says = x t };
   damaged = λ e. absurd (omega (arith, e));
   read = λ e. absurd (omega (arith, e));
   write = λ e. absurd (omega (arith, e));
   limit = λ e. absurd (omega (arith, e));
-  accepted_first = λ e. after_three place.kind e;
+  accepted_first = λ e. after_three (kind_number place.kind) e;
 }
 config_comes u v n seed conf.TooLong x = record {
   done = λ e. absurd (omega (arith, e));

@@ -21,7 +21,7 @@ there_before v w f p o e = there_then v w f p o.none o.keeps.part e (there_or_no
 untouched_before : (u v w : View) (part : ℕ) → OnlySays v w → Untouched u w part → Untouched u v part
 untouched_before u v w part o x = λ f fresh e. x f fresh (o.keeps.part f part e)
 
-untouched_after : (u v w : View) (part : ℕ) → OnlySays v w → Untouched u v part → Untouched u w part
+pub untouched_after : (u v w : View) (part : ℕ) → OnlySays v w → Untouched u v part → Untouched u w part
 untouched_after u v w part o x = λ f fresh e. x f fresh (there_before v w f part o e)
 
 -- the counts that rose before have risen after
@@ -39,7 +39,7 @@ pub write_after : (u v w : View) (part : ℕ) → OnlySays v w → Rose (u.write
 write_after u v w part o r = rose_before _ _ _ r (o.keeps.later.write part)
 
 -- the files
-in_order_after : (u v w : View) → OnlySays v w → IsInOrder u v → IsInOrder u w
+pub in_order_after : (u v w : View) → OnlySays v w → IsInOrder u v → IsInOrder u w
 in_order_after u v w o x = record {
   departures = λ y. untouched_after u v w 3 o (x.departures (untouched_before u v w 2 o y));
   fates = λ y. untouched_after u v w 4 o (x.fates (untouched_before u v w 3 o y));
@@ -47,14 +47,14 @@ in_order_after u v w o x = record {
   no_more = λ f p fresh e. x.no_more f p fresh (there_before v w f p o e);
 }
 
-uncreated_after : (u v w : View) (d f s : List ℕ) → OnlySays v w → KeepUncreated u v d f s → KeepUncreated u w d f s
+pub uncreated_after : (u v w : View) (d f s : List ℕ) → OnlySays v w → KeepUncreated u v d f s → KeepUncreated u w d f s
 uncreated_after u v w d f s o x = record {
   departures_kept = λ y. o.keeps.bytes d tt ∙ x.departures_kept (untouched_before u v w 3 o y);
   fates_kept = λ y. o.keeps.bytes f tt ∙ x.fates_kept (untouched_before u v w 4 o y);
   stats_kept = λ y. o.keeps.bytes s tt ∙ x.stats_kept (untouched_before u v w 5 o y);
 }
 
-few_after : (u v w : View) (config : List ℕ) → OnlySays v w → TakesFew u v config → TakesFew u w config
+pub few_after : (u v w : View) (config : List ℕ) → OnlySays v w → TakesFew u v config → TakesFew u w config
 few_after u v w config o x = λ t f fresh e text at.
     let there : v.part f ≡ Some 1 = there_before v w f 1 o e in
     let y = x t f fresh there text at in
@@ -75,7 +75,7 @@ files_after u v w n o x = record {
 }
 
 -- the texts
-front_after : (u v w : View) (part : ℕ) (name text : List ℕ) → OnlySays v w → IsFrontAt u v part name text → IsFrontAt u w part name text
+pub front_after : (u v w : View) (part : ℕ) (name text : List ℕ) → OnlySays v w → IsFrontAt u v part name text → IsFrontAt u w part name text
 front_after u v w part name text o (inl x) = inl (untouched_after u v w part o x.0, o.keeps.bytes name tt ∙ x.1)
 front_after u v w part name text o (inr x) = inr (x.0, x.1, o.keeps.bytes name tt ∙ x.2, x.3)
 

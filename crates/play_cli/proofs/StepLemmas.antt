@@ -202,6 +202,11 @@ done_of u a b c n i o seed s totals p t =
       promises = promises_kept s.laws i s.configured seed found.0.bytes x.0 End x.1 y.history y.play.play.events;
     }
 
+pub done_totals : (u a b c : View) (n : Names) (i : Interface) (o : Opened) (seed : ℕ) (s : Steps u a b c n i o) (totals : Totals)
+    (p : Plays (setup_of i seed) Untold b c o totals) (t : IsTrue u.tells) → (done_of u a b c n i o seed s totals p t).played.totals ≡ totals
+unfolding done_of
+done_totals u a b c n i o seed s totals p t = refl
+
 front_at : (u c : View) (part : ℕ) (name text : List ℕ) (written rest : List ℕ) → c.bytes name ≡ Some written → written ++ rest ≡ text → IsFrontAt u c part name text
 front_at u c part name text written rest e s = inr (written, rest, e, s)
 

@@ -1,6 +1,7 @@
 -- When each fault of a run comes, in the words of its names.
 use Rattle.std.specs.Prelude.{◌≡◌, ◌≢◌, ◌+◌, ◌⊎◌, ℕ, List, IsTrue}
 use Rattle.capture_model.specs.Numbers.{damage_number}
+use Rattle.conf_lines.specs.Kinds.{kind_number}
 use Rattle.conf_tree.specs.declared.interface.Interface.{Interface}
 use Rattle.play_base.specs.declared.trouble.Trouble.{Trouble}
 use Rattle.play_base.specs.declared.trouble.Trouble.TheVariants as trouble
@@ -84,7 +85,7 @@ ended code kind = record { code = code; line = 0; word = 0; place = 0; kind = ki
 
 -- the status of each fault
 abbrev pub config_status : ConfigFault → Status
-config_status (conf.At place) = record { code = 3; line = place.line; word = place.word; place = 0; kind = place.kind }
+config_status (conf.At place) = record { code = 3; line = place.line; word = place.word; place = 0; kind = kind_number place.kind }
 config_status conf.TooLong = ended 7 3
 config_status conf.Read = ended 5 1
 config_status conf.NoMemory = ended 8 0

@@ -3,7 +3,8 @@ use Rattle.std.specs.Prelude.{◌≡◌, ◌^◌, ℕ, List, length, find, nat_l
 use Rattle.conf_lines.specs.declared.fault.ConfPlace.{ConfPlace}
 use Rattle.conf_lines.specs.Texts.{statements_of}
 use Rattle.conf_tree.specs.declared.interface.Interface.{Interface}
-use Rattle.conf_tree.specs.Kinds.{fault_at, no_interface}
+use Rattle.conf_tree.specs.Places.{fault_at}
+use Rattle.conf_lines.specs.declared.fault.ConfKind.TheVariants.{NoInterface}
 use Rattle.conf_tree.specs.Reading.{IsConfiguration, reading}
 use Rattle.play_base.specs.View.{View}
 
@@ -15,7 +16,7 @@ pub data Configuration : Type 0 where
 
 -- an interface that is absent is NoInterface at line 0, word 0
 abbrev pub absent : ConfPlace
-absent = fault_at 0 0 no_interface
+absent = fault_at 0 0 NoInterface
 
 abbrev pub interface_of : List ℕ → List Interface → Option Interface
 interface_of name interfaces = find (λ i. bytes_eq name i.name) interfaces

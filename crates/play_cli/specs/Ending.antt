@@ -3,6 +3,7 @@ use Rattle.std.specs.Prelude.{◌≡◌, ◌≢◌, ◌≤◌, ◌+◌, ◌⊎�
 use Rattle.capture_model.specs.declared.damage.Damage.{Damage}
 use Rattle.capture_model.specs.Capture.{Fault, Limit}
 use Rattle.capture_model.specs.Numbers.{damage_number}
+use Rattle.conf_lines.specs.Kinds.{kind_number}
 use Rattle.conf_lines.specs.declared.fault.ConfPlace.{ConfPlace}
 use Rattle.conf_tree.specs.declared.interface.Interface.{Interface}
 use Rattle.play_base.specs.View.{View, Any, Keeps, IsAbsent, Rose}
@@ -15,16 +16,18 @@ use Rattle.play_cli.specs.Opening.{CannotRead, KeepsOthers}
 use Rattle.play_cli.specs.Order.{IsInOrder, KeepUncreated, TakesFew}
 use Rattle.play_cli.specs.Run.{Names, HasPlayed, Fronts, IsDamagedAt, IsLimited, IsLate, IsPlayable, EndsWith, EndsLate, IsQuiet, IsCode}
 
--- the place and kind of a status of code 3
-abbrev pub place_of : Status → ConfPlace
-place_of s = record { line = s.line; word = s.word; kind = s.kind }
-
 -- the status names this fault of the configuration
 pub record TellsPlace (s : Status) (place : ConfPlace) : Type 0 where
   pub code : s.code ≡ 3
   pub line : s.line ≡ place.line
   pub word : s.word ≡ place.word
-  pub kind : s.kind ≡ place.kind
+  pub kind : s.kind ≡ kind_number place.kind
+
+-- the configuration is refused, and the status names the fault
+pub record TellsRefusal (old : View) (config interface : List ℕ) (s : Status) : Type 0 where
+  pub place : ConfPlace
+  pub told : TellsPlace s place
+  pub says : Says old config interface (Refused place)
 
 -- the status names this damage of the arrivals
 pub record TellsDamage (s : Status) (damage : Damage) : Type 0 where
@@ -49,7 +52,7 @@ pub record IsStatus (s : Status) : Type 0 where
 -- When a status of a play comes, in the words of its names and its seed.
 pub record PlayComes (old new : View) (n : Names) (seed : ℕ) (s : Status) : Type 0 where
   pub done : s.code ≡ 0 → IsTrue old.tells → HasPlayed old new n seed
-  pub configuration : s.code ≡ 3 → IsTrue old.tells → Says old n.config n.interface (Refused (place_of s))
+  pub configuration : s.code ≡ 3 → IsTrue old.tells → TellsRefusal old n.config n.interface s
   pub damaged : s.code ≡ 4 → IsTrue old.tells → IsDamagedAt old new n seed s.place s.kind
   pub read : s.code ≡ 5 → ((s.kind ≡ 1) × CannotRead old new 1 n.config) ⊎ ((s.kind ≡ 2) × CannotRead old new 2 n.arrivals)
   pub write : s.code ≡ 6 → (1 ≤ s.kind) × (s.kind ≤ 3) × Rose (old.write_faults (s.kind + 2)) (new.write_faults (s.kind + 2))
@@ -99,7 +102,7 @@ pub record CheckEnds (old new : View) (config interface : List ℕ) (s : Status)
   pub status : IsStatus s
   pub done : s.code ≡ 0 → IsTrue old.tells → HasChecked old new config interface s.kind
   pub kind : s.code ≡ 0 → s.kind ≤ 1
-  pub configuration : s.code ≡ 3 → IsTrue old.tells → Says old config interface (Refused (place_of s))
+  pub configuration : s.code ≡ 3 → IsTrue old.tells → TellsRefusal old config interface s
   pub read : s.code ≡ 5 → (s.kind ≡ 1) × CannotRead old new 1 config
   pub write : s.code ≡ 6 → (s.kind ≡ 10) × Rose (old.write_faults 0) (new.write_faults 0)
   pub limit : s.code ≡ 7 → (s.kind ≡ 3) × (IsTrue old.tells → Says old config interface TooLong)

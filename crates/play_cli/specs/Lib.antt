@@ -2,8 +2,10 @@ pub mod Causes
 pub mod Checked
 pub mod Configuration
 pub mod Ending
+pub mod Failure
 pub mod Input
 pub mod InterfaceSetup
+pub mod Making
 pub mod Message
 pub mod Opening
 pub mod Order

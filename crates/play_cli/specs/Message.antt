@@ -50,6 +50,7 @@ written_name kind =
     if kind == 1 then codes "departures"
     else if kind == 2 then codes "fates"
     else if kind == 3 then codes "statistics"
+    else if kind == 4 then codes "arrivals"
     else codes "result"
 
 -- the message where there is no memory takes none

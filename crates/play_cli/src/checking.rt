@@ -6,13 +6,14 @@ ghost use Rattle.play_base.specs.View.{View, Any, Keeps};
 ghost use Rattle.play_cli.specs.Causes.{CheckCauses};
 ghost use Rattle.play_cli.specs.Checked.{HasChecked};
 ghost use Rattle.play_cli.specs.Ending.{CheckEnds};
+ghost use Rattle.play_cli.specs.Failure.{end_status};
 ghost use Rattle.play_cli.specs.Input.{OnlyReads};
 ghost use Rattle.play_cli.specs.Telling.{HasMessage};
 
+use crate::failure::failure_of;
 use crate::input::{absent, read_conf};
-use crate::status::{ended, status_of};
 use crate::telling::told;
-use crate::{ConfigFault, RunFault, Status};
+use crate::{ConfigFault, Done, Failure, RunFault, Status};
 use admission::Fit;
 use conf_laws::configurations_fit;
 use conf_tree::Conf;
@@ -29,16 +30,6 @@ fn checked_text(alloc: Global, conf: &Conf, fit: Fit) -> Result<Vec<u8>, NoMemor
     let mut text = conf.text(alloc)?;
     text.extend_from_slice(line.as_bytes())?;
     Ok(text)
-}
-
-// The number of an answer.
-fn fit_kind(fit: Fit) -> u8
-    ensures { result ≡ fit_kind fit }
-{
-    match fit {
-        Fit::Fits => 0,
-        Fit::Exceeds { .. } => 1,
-    }
 }
 
 // Says the canonical text of the configuration, where it has the interface asked for, and how the curves of that fit its link.
@@ -79,13 +70,13 @@ fn check_files<F: Files>(
 }
 
 // Checks, and answers how it ended.
-fn checked<F: Files>(alloc: Global, files: &mut F, words: &CheckWords<'_>) -> Status
-    ensures ends { CheckEnds (F.view files.old) (F.view files.new) words.now.config.now words.now.interface.now result }
-    ensures silent { result.code ≢ 0 → (F.view files.new).said ≡ (F.view files.old).said }
+fn checked<F: Files>(alloc: Global, files: &mut F, words: &CheckWords<'_>) -> Result<Done, Failure>
+    ensures ends { CheckEnds (F.view files.old) (F.view files.new) words.now.config.now words.now.interface.now (end_status result) }
+    ensures silent { (end_status result).code ≢ 0 → (F.view files.new).said ≡ (F.view files.old).said }
 {
     match check_files(alloc, files, words) {
-        Ok(fit) => ended(0, fit_kind(fit)),
-        Err(fault) => status_of(fault),
+        Ok(fit) => Ok(Done::Checked(fit)),
+        Err(fault) => Err(failure_of(fault)),
     }
 }
 
@@ -94,6 +85,6 @@ pub fn check<F: Files>(alloc: Global, files: &mut F, words: &CheckWords<'_>) -> 
     ensures ends { CheckEnds (F.view files.old) (F.view files.new) words.now.config.now words.now.interface.now result }
     ensures message { HasMessage (F.view files.old) (F.view files.new) result }
 {
-    let status = checked(alloc, files, words);
-    told(alloc, files, status)
+    let end = checked(alloc, files, words);
+    told(alloc, files, end)
 }

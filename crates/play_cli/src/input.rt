@@ -8,16 +8,13 @@ ghost use Rattle.play_cli.specs.Configuration.{absent, most_bytes};
 ghost use Rattle.play_cli.specs.Input.{BytesCauses, HadLeft, HadMore, InputCauses, IsOfFile, IsRead, OnlyReads, TookFew};
 
 use crate::ConfigFault;
-use conf_lines::{ConfFault, ConfPlace, statements};
+use conf_lines::{ConfFault, ConfKind, ConfPlace, statements};
 use conf_tree::Conf;
 use play_base::{Files, Trouble};
 use std::alloc::Global;
 
 /// The most bytes of a configuration.
 const LIMIT: usize = 1 << 20;
-
-/// The number of the kind NoInterface.
-const NO_INTERFACE: u8 = 9;
 
 // How many bytes to ask for after `taken` bytes: a piece, but never more than one byte past the limit.
 fn wanted(taken: usize) -> usize
@@ -118,6 +115,6 @@ pub fn absent() -> ConfPlace
     ConfPlace {
         line: 0,
         word: 0,
-        kind: NO_INTERFACE,
+        kind: ConfKind::NoInterface,
     }
 }

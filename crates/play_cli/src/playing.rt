@@ -6,16 +6,17 @@ ghost use Rattle.play_words.specs.Words.{AreDistinct};
 ghost use Rattle.play_cli.specs.Causes.{Causes, IsAfterConfigFault, names_read};
 ghost use Rattle.play_cli.specs.Configuration.{Accepts, AcceptsNone};
 ghost use Rattle.play_cli.specs.Ending.{PlayEnds, SilentEnd};
+ghost use Rattle.play_cli.specs.Failure.{end_status};
 ghost use Rattle.play_cli.specs.Run.{HasPlayed, Fronts};
 ghost use Rattle.play_cli.specs.Telling.{HasMessage};
 ghost use Rattle.play_cli.specs.declared.fault.ConfigFault.{ConfigFault};
 
+use crate::failure::failure_of;
 use crate::input::{absent, read_conf};
 use crate::interface::play_interface;
 use crate::opening::open_files;
-use crate::status::{ended, status_of};
 use crate::telling::told;
-use crate::{ConfigFault, RunFault, Status};
+use crate::{ConfigFault, Done, Failure, RunFault, Status};
 use conf_laws::configurations_fit;
 use frame_classes::frames_have_classes;
 use interface_policy::interfaces_keep_their_promises;
@@ -61,17 +62,17 @@ fn play_files<F: Files>(alloc: Global, files: &mut F, words: &PlayWords<'_>) -> 
 }
 
 // Plays, and answers how it ended.
-fn played<F: Files>(alloc: Global, files: &mut F, words: &PlayWords<'_>) -> Status
+fn played<F: Files>(alloc: Global, files: &mut F, words: &PlayWords<'_>) -> Result<Done, Failure>
     requires { AreDistinct words.now.config.now words.now.arrivals.now words.now.departures.now words.now.fates.now words.now.stats.now }
-    ensures ends { PlayEnds (F.view files.old) (F.view files.new) (names_read words.now) words.now.seed result }
+    ensures ends { PlayEnds (F.view files.old) (F.view files.new) (names_read words.now) words.now.seed (end_status result) }
     ensures silent { (F.view files.new).said ≡ (F.view files.old).said }
 {
     configurations_fit();
     frames_have_classes();
     interfaces_keep_their_promises();
     match play_files(alloc, files, words) {
-        Ok(()) => ended(0, 0),
-        Err(fault) => status_of(fault),
+        Ok(()) => Ok(Done::Played),
+        Err(fault) => Err(failure_of(fault)),
     }
 }
 
@@ -82,6 +83,6 @@ pub fn play<F: Files>(alloc: Global, files: &mut F, words: &PlayWords<'_>) -> St
     ensures said { result.code ≡ 0 → (F.view files.new).said ≡ (F.view files.old).said }
     ensures message { HasMessage (F.view files.old) (F.view files.new) result }
 {
-    let status = played(alloc, files, words);
-    told(alloc, files, status)
+    let end = played(alloc, files, words);
+    told(alloc, files, end)
 }

@@ -3,33 +3,11 @@ ghost use Rattle.std.specs.Prelude.{◌≡◌, ◌≤◌, [], List, ℕ, IsSome,
 ghost use Rattle.play_base.specs.View.{Wrote, WroteFront, WriteFault};
 ghost use Rattle.play_loop.specs.Gathered.{Grew, Stopped};
 
-use play_base::{Files, Trouble};
+use play_base::{Files, Trouble, write_all};
 use play_text::Rows;
 
 /// How many bytes are gathered at most.
 const BOUND: usize = 65_536;
-
-/// Writes all the bytes, or after an error a front of them. `Failed` comes only where the count of write faults of the file's
-/// part rose in this call.
-pub fn write_all<F: Files>(files: &mut F, file: u32, bytes: &[u8]) -> Result<(), Trouble>
-    requires { IsSome ((F.view files.old).part file) }
-    ensures wrote { OnOk result (Wrote (F.view files.old) (F.view files.new) file bytes.now) }
-    ensures front { OnErr result (WroteFront (F.view files.old) (F.view files.new) file bytes.now) }
-    ensures failed { IsErrOf result Trouble.Failed → WriteFault (F.view files.old) (F.view files.new) file }
-{
-    let mut at = 0;
-    while at < bytes.len() {
-        let count = match files.write(file, &bytes[at..]) {
-            Ok(count) => count,
-            Err(trouble) => return Err(trouble),
-        };
-        if count == 0 {
-            return Err(Trouble::Failed);
-        }
-        at += count;
-    }
-    Ok(())
-}
 
 /// Adds bytes to those that are gathered for a file; where they would be too many, those before them are written first. A
 /// text longer than the bound is written by itself. After an error a front of all of it was written.

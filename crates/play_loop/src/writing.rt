@@ -14,13 +14,13 @@ ghost use Rattle.play_loop.specs.Kept.{OnlyWrote};
 ghost use Rattle.play_loop.specs.Outputs.{HasFronts, HasTexts, IsStatsCause, IsWriteCause, SameFiles, dropped_row, record_of, sent_row};
 
 use crate::counting::{Counted, count};
-use crate::gathered::{flush, flush_rows, gather, write_all};
+use crate::gathered::{flush, flush_rows, gather};
 use crate::outputs::{Outputs, output_fault};
 use crate::{Output, PlayFault};
 use altq_model::{Counts, Fate};
 use discipline_laws::Classify;
 use pcap_files::record_head;
-use play_base::{Files, Packet, Trouble};
+use play_base::{Files, Packet, Trouble, write_all};
 use play_core::{Departure, Dropped};
 use play_text::{Names, Rows, stats_text};
 use std::alloc::Global;

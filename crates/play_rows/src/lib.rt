@@ -28,6 +28,8 @@ mod limits;
 #[cfg(test)]
 mod loops;
 #[cfg(test)]
+mod made;
+#[cfg(test)]
 mod marks;
 #[cfg(test)]
 mod messages;

@@ -3,7 +3,7 @@
 use crate::arrivals::HEAD;
 use crate::runs::{IMPLIED, check_words, run_words, words_but};
 use play_base::{Call, MemoryFiles, NoMemory};
-use play_cli::{Status, told};
+use play_cli::{Failure, told};
 use std::alloc::Global;
 use std::process::Abort;
 use std::test::Fail;
@@ -181,14 +181,8 @@ fn message_that_is_not_said_changes_no_status(rt: HostRuntime) -> Result<(), Fai
 #[test]
 fn no_memory(rt: HostRuntime) -> Result<(), Fail> {
     let mut files = MemoryFiles::new(rt.alloc());
-    let status = Status {
-        code: 8,
-        line: 0,
-        word: 0,
-        place: 0,
-        kind: 0,
-    };
-    assert_eq!(rt; told(rt.alloc(), &mut files, status), status);
+    let status = told(rt.alloc(), &mut files, Err(Failure::NoMemory));
+    assert_eq!(rt; (status.code, status.kind), (8, 0));
     assert!(rt; files.said() == b"altqplay: out of memory\n".as_slice());
     Ok(())
 }

@@ -26,6 +26,26 @@ const PLAY: [&str; 15] = [
     "42",
 ];
 
+const MAKE: [&str; 17] = [
+    "make",
+    "--count",
+    "60",
+    "--config",
+    "conf",
+    "--interface",
+    "if0",
+    "--arrivals",
+    "in",
+    "--departures",
+    "out",
+    "--fates",
+    "fates",
+    "--stats",
+    "stats",
+    "--seed",
+    "42",
+];
+
 const CHECK: [&str; 5] = ["check", "--config", "conf", "--interface", "if0"];
 
 // The words of a command.
@@ -49,6 +69,13 @@ pub fn words_but(alloc: Global, place: usize, word: &str) -> Result<Vec<String>,
 /// The words of a check.
 pub fn check_words(alloc: Global) -> Result<Vec<String>, NoMemory> {
     words_of(alloc, &CHECK)
+}
+
+/// Makes 60 packets of seed 42 under a configuration, and plays them.
+pub fn make_over(alloc: Global, files: &mut MemoryFiles, config: &str) -> Result<Status, NoMemory> {
+    files.put("conf", config.as_bytes())?;
+    let words = words_of(alloc, &MAKE)?;
+    Ok(run(alloc, &words, files))
 }
 
 /// A run.

@@ -1,11 +1,13 @@
-//! The texts of a play: the names of its classes, the rows of its fates, and its statistics.
+//! The texts of a play: the names of its classes, the rows of its fates, its statistics, and its summary.
 #![tactic(auto)]
 
 mod names;
 mod rows;
 mod stats;
+mod summary;
 
 pub use altq_model::Counts;
 pub use names::Names;
 pub use rows::{Rows, fate_row, fates_header};
 pub use stats::stats_text;
+pub use summary::summary_text;

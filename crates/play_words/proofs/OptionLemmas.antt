@@ -1,9 +1,9 @@
 -- The options as they are built, and what is read of them.
-use Rattle.std.proofs.Common.{◌≡◌, ◌∙◌, ◌⊎◌, ◌&&◌, List, [], ◌∷◌, Option, Some, None, Bool, true, false, Result, Ok, Err, IfErr, IsErrAnd, refl, sym, ap, ap₂, inl, inr, cond, arith}
+use Rattle.std.proofs.Common.{◌≡◌, ◌∙◌, ◌⊎◌, ◌&&◌, List, [], ◌∷◌, Option, Some, None, Bool, true, false, Result, Ok, Err, IfErr, IsErrAnd, refl, sym, ap, ap₂, inl, inr, cond, arith, subst, ℕ}
 use Rattle.std.proofs.lemmas.Bool.{ne_eqb}
 use Rattle.clap.specs.Simple.{is_simple}
 use Rattle.clap.specs.Faults.{is_free_app}
-use Rattle.std.specs.Prelude.{codes, option_map, unwrap_or}
+use Rattle.std.specs.Prelude.{codes, is_none, option_map, unwrap_or}
 use Rattle.std.specs.Borrow.{Bor}
 use Rattle.clap.specs.Kinds.{IsAmong, Kinds}
 use Rattle.clap.specs.Walk.{is_empty}
@@ -17,8 +17,9 @@ use Rattle.play_words.specs.declared.words.Unread.{Unread}
 use Rattle.play_words.specs.declared.words.Unread.TheVariants.{Refused, NoMemory}
 use Rattle.play_words.specs.declared.words.WordsFault.TheVariants.{Options}
 use Rattle.play_words.specs.Causes.{Explains, cause_of, is_memory}
-use Rattle.play_words.specs.Options.{check_app, play_app, required_option, with_options, options_of, value_of}
-use Rattle.play_words.specs.Words.{IsPlay, Named, Words, option_of, options_by}
+use Rattle.play_words.specs.Options.{check_app, make_app, play_app, takes_options, required_option, with_options, options_of, value_of}
+use Rattle.line_text.specs.Numbers.{number}
+use Rattle.play_words.specs.Words.{IsMake, IsPlay, Named, Words, count_in, count_of, make_refusal, options_by, play_refusal, rows_read, rows_refusal}
 
 -- one more option
 pub added : (old new : Command) (a : Arg) (app : App) (name : Text) → AddsArg old a new → a.global ≡ false → app_of old ≡ app
@@ -33,6 +34,15 @@ pub play_built : with_options (new_app (codes "play"))
     (codes "config" ∷ codes "interface" ∷ codes "arrivals" ∷ codes "departures" ∷ codes "fates" ∷ codes "stats" ∷ codes "seed" ∷ []) ≡ play_app
 unfolding play_app
 play_built = refl
+
+pub make_built : with_options (new_app (codes "make"))
+    (codes "count" ∷ codes "config" ∷ codes "interface" ∷ codes "arrivals" ∷ codes "departures" ∷ codes "fates" ∷ codes "stats" ∷ codes "seed" ∷ []) ≡ make_app
+unfolding make_app
+make_built = refl
+
+pub make_is_simple : is_simple_and_free make_app ≡ true
+unfolding make_app clap_on_literals
+make_is_simple = refl
 
 pub check_is_simple : is_simple_and_free check_app ≡ true
 unfolding check_app clap_on_literals
@@ -73,7 +83,34 @@ pub refused_by : {T : Type 0} (r : Result T Unread) (kinds : Kinds) (kind : Erro
 refused_by (Ok x) kinds kind e h = tt
 refused_by (Err cause) kinds kind e h = rw e (explained kinds kind h)
 
--- the options of a play are those of the words
-pub play_value : (words : Words) (name : Text) (rows : List Row) → IsPlay words → rows ≡ options_of play_app words
-    → value_of name rows ≡ option_of name words
-play_value words name rows play is = ap (value_of name) (is ∙ sym (ap (λ (n : Named). options_by n words) play))
+-- the options of a command are those of the words
+pub play_rows : (words : Words) (rows : List Row) → IsPlay words → rows ≡ options_of play_app words → rows ≡ rows_read words
+play_rows words rows play is = is ∙ sym (ap (λ (n : Named). options_by n words) play)
+
+pub make_rows : (words : Words) (rows : List Row) → IsMake words → rows ≡ options_of make_app words → rows ≡ rows_read words
+make_rows words rows make is = is ∙ sym (ap (λ (n : Named). options_by n words) make)
+
+-- what is refused of options that clap takes
+pub play_kind : (words : Words) (rows : List Row) (kind : Option ℕ) → IsPlay words → takes_options play_app words ≡ true → rows ≡ options_of play_app words
+    → rows_refusal rows ≡ kind → play_refusal words ≡ kind
+play_kind words rows kind play taken is refused =
+    let P : List Row → Type 0 = λ r. rows_refusal r ≡ kind in
+    let there : rows_refusal (rows_read words) ≡ kind = subst P (play_rows words rows play is) refused in
+    rw taken there
+
+pub make_kind : (words : Words) (rows : List Row) (kind : Option ℕ) → IsMake words → takes_options make_app words ≡ true → rows ≡ options_of make_app words
+    → is_none (count_of words) ≡ false → rows_refusal rows ≡ kind → make_refusal words ≡ kind
+make_kind words rows kind make taken is counted refused =
+    let P : List Row → Type 0 = λ r. rows_refusal r ≡ kind in
+    let there : rows_refusal (rows_read words) ≡ kind = subst P (make_rows words rows make is) refused in
+    rw (taken, counted) there
+
+pub make_uncounted : (words : Words) → takes_options make_app words ≡ true → count_of words ≡ None → make_refusal words ≡ Some 4
+make_uncounted words taken none = rw (taken, none) refl
+
+-- the count that was read is that of the words
+pub count_read : (words : Words) (rows : List Row) (text : Text) (o : Option ℕ) → IsMake words → rows ≡ options_of make_app words
+    → text ≡ value_of (codes "count") rows → o ≡ count_in (number 10 text) → o ≡ count_of words
+count_read words rows text o make is at read =
+    let P : List Row → Type 0 = λ r. text ≡ value_of (codes "count") r in
+    read ∙ ap (λ (t : Text). count_in (number 10 t)) (subst P (make_rows words rows make is) at)

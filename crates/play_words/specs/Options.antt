@@ -22,6 +22,10 @@ unfoldable pub play_app : App
 play_app = with_options (new_app (codes "play"))
     (codes "config" ∷ codes "interface" ∷ codes "arrivals" ∷ codes "departures" ∷ codes "fates" ∷ codes "stats" ∷ codes "seed" ∷ [])
 
+unfoldable pub make_app : App
+make_app = with_options (new_app (codes "make"))
+    (codes "count" ∷ codes "config" ∷ codes "interface" ∷ codes "arrivals" ∷ codes "departures" ∷ codes "fates" ∷ codes "stats" ∷ codes "seed" ∷ [])
+
 unfoldable pub check_app : App
 check_app = with_options (new_app (codes "check")) (codes "config" ∷ codes "interface" ∷ [])
 

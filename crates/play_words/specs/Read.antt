@@ -1,22 +1,33 @@
 -- What is read of the words.
-use Rattle.std.specs.Prelude.{◌≡◌, Some}
+use Rattle.std.specs.Prelude.{◌≡◌, List, Some, codes}
+use Rattle.clap.specs.Words.{Row}
 use Rattle.play_words.specs.declared.words.CheckWords.{CheckWords}
 use Rattle.play_words.specs.declared.words.Command.{Command}
-use Rattle.play_words.specs.declared.words.Command.TheVariants.{Play, Check}
+use Rattle.play_words.specs.declared.words.Command.TheVariants.{Play, Check, Make}
+use Rattle.play_words.specs.declared.words.MakeWords.{MakeWords}
 use Rattle.play_words.specs.declared.words.PlayWords.{PlayWords}
-use Rattle.play_words.specs.Words.{Words, IsPlay, IsCheck, AreDistinct, seed_of, config_name, interface_name, arrivals_name, departures_name, fates_name, stats_name}
+use Rattle.play_words.specs.Options.{value_of}
+use Rattle.play_words.specs.Words.{Words, IsPlay, IsCheck, IsMake, AreDistinct, rows_read, seed_in, count_of, config_name, interface_name}
 
--- the names and the seed are those of the words, and no two of the file names are equal
+-- the names and the seed are those of the options, and no two of the file names are equal
+pub record ReadsRows (rows : List Row) (w : PlayWords) : Type 0 where
+  pub config : w.config.now ≡ value_of (codes "config") rows
+  pub interface : w.interface.now ≡ value_of (codes "interface") rows
+  pub arrivals : w.arrivals.now ≡ value_of (codes "arrivals") rows
+  pub departures : w.departures.now ≡ value_of (codes "departures") rows
+  pub fates : w.fates.now ≡ value_of (codes "fates") rows
+  pub stats : w.stats.now ≡ value_of (codes "stats") rows
+  pub seed : seed_in rows ≡ Some w.seed
+  pub distinct : AreDistinct w.config.now w.arrivals.now w.departures.now w.fates.now w.stats.now
+
 pub record ReadsPlay (words : Words) (w : PlayWords) : Type 0 where
   pub command : IsPlay words
-  pub config : w.config.now ≡ config_name words
-  pub interface : w.interface.now ≡ interface_name words
-  pub arrivals : w.arrivals.now ≡ arrivals_name words
-  pub departures : w.departures.now ≡ departures_name words
-  pub fates : w.fates.now ≡ fates_name words
-  pub stats : w.stats.now ≡ stats_name words
-  pub seed : seed_of words ≡ Some w.seed
-  pub distinct : AreDistinct w.config.now w.arrivals.now w.departures.now w.fates.now w.stats.now
+  pub read : ReadsRows (rows_read words) w
+
+pub record ReadsMake (words : Words) (w : MakeWords) : Type 0 where
+  pub command : IsMake words
+  pub read : ReadsRows (rows_read words) w.play
+  pub count : count_of words ≡ Some w.count
 
 pub record ReadsCheck (words : Words) (w : CheckWords) : Type 0 where
   pub command : IsCheck words
@@ -26,3 +37,4 @@ pub record ReadsCheck (words : Words) (w : CheckWords) : Type 0 where
 abbrev pub Reads : Words → Command → Type 0
 Reads words (Play w) = ReadsPlay words w
 Reads words (Check w) = ReadsCheck words w
+Reads words (Make w) = ReadsMake words w

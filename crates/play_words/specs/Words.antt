@@ -1,11 +1,11 @@
--- The words behind the program's name: a command, `play` or `check`, and its options, as clap reads them.
-use Rattle.std.specs.Prelude.{◌≡◌, ◌≢◌, ◌&&◌, ℕ, Bool, not, is_none, List, [], slice_get, string_bytes, codes, if◌then◌else◌, None, Some}
+-- The words behind the program's name: a command, `play`, `check` or `make`, and its options, as clap reads them.
+use Rattle.std.specs.Prelude.{◌≡◌, ◌≢◌, ◌&&◌, ℕ, Bool, nat_le, not, is_none, List, [], slice_get, string_bytes, codes, if◌then◌else◌, None, Some}
 use Rattle.std.specs.Option.{option_map_or}
 use Rattle.std.specs.Str.{bytes_eq}
 use Rattle.std.specs.declared.option.Option.{Option}
 use Rattle.clap.specs.Words.{Row}
 use Rattle.line_text.specs.Numbers.{number}
-use Rattle.play_words.specs.Options.{check_app, options_of, options_refusal, play_app, takes_options, value_of}
+use Rattle.play_words.specs.Options.{check_app, make_app, options_of, options_refusal, play_app, takes_options, value_of}
 pub use Rattle.play_words.specs.Options.{Words}
 
 -- a word, or no text where there are fewer
@@ -19,12 +19,14 @@ is_word words i text = bytes_eq (word_at words i) text
 pub data Named : Type 0 where
   Play : Named
   Check : Named
+  Make : Named
   NoCommand : Named
 
 abbrev pub named : Words → Named
 named words =
     if is_word words 0 (codes "play") then Play
     else if is_word words 0 (codes "check") then Check
+    else if is_word words 0 (codes "make") then Make
     else NoCommand
 
 abbrev pub IsPlay : Words → Type 0
@@ -33,14 +35,21 @@ IsPlay words = named words ≡ Play
 abbrev pub IsCheck : Words → Type 0
 IsCheck words = named words ≡ Check
 
+abbrev pub IsMake : Words → Type 0
+IsMake words = named words ≡ Make
+
 -- the options that are read of the words behind the command
 abbrev pub options_by : Named → Words → List Row
 options_by Play words = options_of play_app words
 options_by Check words = options_of check_app words
+options_by Make words = options_of make_app words
 options_by NoCommand words = []
 
+abbrev pub rows_read : Words → List Row
+rows_read words = options_by (named words) words
+
 abbrev pub option_of : List ℕ → Words → List ℕ
-option_of name words = value_of name (options_by (named words) words)
+option_of name words = value_of name (rows_read words)
 
 abbrev pub config_name : Words → List ℕ
 config_name = option_of (codes "config")
@@ -61,8 +70,22 @@ abbrev pub stats_name : Words → List ℕ
 stats_name = option_of (codes "stats")
 
 -- the seed: one or more decimal digits and nothing else, below 2^64
+abbrev pub seed_in : List Row → Option ℕ
+seed_in rows = number 10 (value_of (codes "seed") rows)
+
 abbrev pub seed_of : Words → Option ℕ
-seed_of words = number 10 (option_of (codes "seed") words)
+seed_of words = seed_in (rows_read words)
+
+-- the count of packets to make: such digits, 1 to 1,000,000
+abbrev pub most_packets : ℕ
+most_packets = 1000000
+
+abbrev pub count_in : Option ℕ → Option ℕ
+count_in None = None
+count_in (Some n) = if nat_le 1 n && nat_le n most_packets then Some n else None
+
+abbrev pub count_of : Words → Option ℕ
+count_of words = count_in (number 10 (option_of (codes "count") words))
 
 abbrev pub differ : List ℕ → List ℕ → Bool
 differ a b = not (bytes_eq a b)
@@ -76,17 +99,28 @@ are_distinct_names config arrivals departures fates stats =
     differ config arrivals && (differ_from config departures fates stats && (differ_from arrivals departures fates stats
     && (differ departures fates && (differ departures stats && differ fates stats))))
 
-abbrev pub are_distinct : Words → Bool
-are_distinct words = are_distinct_names (config_name words) (arrivals_name words) (departures_name words) (fates_name words) (stats_name words)
+abbrev pub are_distinct_in : List Row → Bool
+are_distinct_in rows =
+    are_distinct_names (value_of (codes "config") rows) (value_of (codes "arrivals") rows) (value_of (codes "departures") rows)
+    (value_of (codes "fates") rows) (value_of (codes "stats") rows)
+
+-- what is wrong with options that were read: a bad seed (4), or two names equal (3)
+abbrev pub rows_refusal : List Row → Option ℕ
+rows_refusal rows =
+    if is_none (seed_in rows) then Some 4
+    else if not (are_distinct_in rows) then Some 3
+    else None
 
 -- the kind of the first test that the words fail: no such command (1), options (2), a bad number (4), two names equal (3); None where
 -- they are accepted
 abbrev pub play_refusal : Words → Option ℕ
-play_refusal words =
-    if not (takes_options play_app words) then Some 2
-    else if is_none (seed_of words) then Some 4
-    else if not (are_distinct words) then Some 3
-    else None
+play_refusal words = if not (takes_options play_app words) then Some 2 else rows_refusal (rows_read words)
+
+abbrev pub make_refusal : Words → Option ℕ
+make_refusal words =
+    if not (takes_options make_app words) then Some 2
+    else if is_none (count_of words) then Some 4
+    else rows_refusal (rows_read words)
 
 abbrev pub check_refusal : Words → Option ℕ
 check_refusal = options_refusal check_app
@@ -94,6 +128,7 @@ check_refusal = options_refusal check_app
 abbrev pub refusal_by : Named → Words → Option ℕ
 refusal_by Play words = play_refusal words
 refusal_by Check words = check_refusal words
+refusal_by Make words = make_refusal words
 refusal_by NoCommand words = Some 1
 
 abbrev pub refusal : Words → Option ℕ

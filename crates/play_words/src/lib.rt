@@ -4,4 +4,4 @@
 mod options;
 mod words;
 
-pub use words::{CheckWords, Command, PlayWords, Unread, WordsFault, read_words};
+pub use words::{CheckWords, Command, MakeWords, PlayWords, Unread, WordsFault, read_words};

@@ -2,7 +2,7 @@
 ghost use Rattle.std.specs.Prelude.{◌≡◌, IfOk, IfErr, OnOk, false, true};
 ghost use Rattle.clap.specs.Words.{app_of, found_of, is_simple_and_free, rows_of, rule_of};
 ghost use Rattle.play_words.specs.Causes.{Explains};
-ghost use Rattle.play_words.specs.Options.{check_app, options_of, options_refusal, play_app, required_option, takes_options, value_of};
+ghost use Rattle.play_words.specs.Options.{check_app, make_app, options_of, options_refusal, play_app, required_option, takes_options, value_of};
 
 use crate::Unread;
 use clap::{Arg, ArgAction, ArgMatches, Command};
@@ -24,6 +24,21 @@ fn play_options<'a>(alloc: Global) -> Result<Command<'a>, AllocError>
     ensures { IfOk result (λ command. app_of command ≡ play_app) }
 {
     Command::new(alloc, "play")
+        .arg(required(alloc, "config"))?
+        .arg(required(alloc, "interface"))?
+        .arg(required(alloc, "arrivals"))?
+        .arg(required(alloc, "departures"))?
+        .arg(required(alloc, "fates"))?
+        .arg(required(alloc, "stats"))?
+        .arg(required(alloc, "seed"))
+}
+
+// The options of `make`.
+fn make_options<'a>(alloc: Global) -> Result<Command<'a>, AllocError>
+    ensures { IfOk result (λ command. app_of command ≡ make_app) }
+{
+    Command::new(alloc, "make")
+        .arg(required(alloc, "count"))?
         .arg(required(alloc, "config"))?
         .arg(required(alloc, "interface"))?
         .arg(required(alloc, "arrivals"))?
@@ -59,6 +74,15 @@ pub(crate) fn play_matches<'a>(alloc: Global, words: &'a [String]) -> Result<Arg
     ensures refused { IfErr result (Explains (options_refusal play_app words.now)) }
 {
     read(play_options(alloc)?, words)
+}
+
+/// What clap reads of the options of `make`.
+pub(crate) fn make_matches<'a>(alloc: Global, words: &'a [String]) -> Result<ArgMatches<'a>, Unread>
+    ensures taken { OnOk result (takes_options make_app words.now ≡ true) }
+    ensures read { IfOk result (λ m. rows_of (found_of m) ≡ options_of make_app words.now) }
+    ensures refused { IfErr result (Explains (options_refusal make_app words.now)) }
+{
+    read(make_options(alloc)?, words)
 }
 
 /// What clap reads of the options of `check`.

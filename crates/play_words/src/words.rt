@@ -2,14 +2,15 @@
 ghost use Rattle.std.specs.Prelude.{◌≡◌, ◌<◌, length, Some, None, IfOk, IfErr, OnOk, IsOk};
 ghost use Rattle.std.specs.Str.{bytes_eq};
 ghost use Rattle.line_text.specs.Numbers.{number};
-ghost use Rattle.clap.specs.Words.{kind_of};
+ghost use Rattle.clap.specs.Words.{found_of, kind_of, rows_of};
 ghost use Rattle.play_words.specs.Causes.{Explains, cause_of};
-ghost use Rattle.play_words.specs.Words.{AreDistinct, IsPlay, IsCheck, is_word, are_distinct_names, differ_from, play_refusal, check_refusal, refusal, seed_of, config_name, interface_name, arrivals_name, departures_name, fates_name, stats_name};
-ghost use Rattle.play_words.specs.Read.{Reads, ReadsPlay, ReadsCheck};
+ghost use Rattle.play_words.specs.Words.{AreDistinct, IsPlay, IsCheck, IsMake, is_word, are_distinct_names, differ_from, play_refusal, check_refusal, make_refusal, refusal, rows_refusal, count_in};
+ghost use Rattle.play_words.specs.Read.{Reads, ReadsPlay, ReadsCheck, ReadsMake, ReadsRows};
 ghost use Rattle.play_words.specs.Kinds.{words_kind};
 ghost use Rattle.play_words.specs.declared.words.Unread.TheVariants.{NoMemory};
 
-use crate::options::{check_matches, play_matches, value};
+use crate::options::{check_matches, make_matches, play_matches, value};
+use clap::ArgMatches;
 use clap::error::ErrorKind;
 use line_text::{Word, whole};
 use std::alloc::{AllocError, Global};
@@ -21,7 +22,7 @@ pub enum WordsFault {
     NoCommand,
     /// The words behind the command are not its options, each given once with its value; so is a call for help.
     Options,
-    /// The seed is not decimal digits, or it is 2^64 or more.
+    /// The seed is not decimal digits, or it is 2^64 or more; or the count of `make` is not such digits, 1 to 1,000,000.
     BadNumber,
     /// Two file names are equal as texts.
     NamesEqual,
@@ -81,12 +82,22 @@ pub struct PlayWords<'a> {
     pub seed: u64,
 }
 
+/// The words of `make`: how many packets to generate, and the words of the play of them.
+#[derive(Clone, Copy)]
+pub struct MakeWords<'a> {
+    pub play: PlayWords<'a>,
+    pub count: u32,
+}
+
 /// The words of `check`: the name of the configuration, and the interface asked for.
 #[derive(Clone, Copy)]
 pub struct CheckWords<'a> {
     pub config: &'a str,
     pub interface: &'a str,
 }
+
+/// The most packets that are made.
+const MOST: u64 = 1_000_000;
 
 /// What the words ask for.
 #[derive(Clone, Copy)]
@@ -95,6 +106,8 @@ pub enum Command<'a> {
     Play(PlayWords<'a>),
     /// To say what a configuration means.
     Check(CheckWords<'a>),
+    /// To generate a capture, and to play it.
+    Make(MakeWords<'a>),
 }
 
 // Whether a word is there and is this text, which isn't empty.
@@ -138,6 +151,46 @@ fn decimal(text: &str) -> Option<u64>
     whole(&Word { index: 1, parts })
 }
 
+// The count of packets that a text gives.
+fn count(text: &str) -> Option<u32>
+    ensures { result ≡ count_in (number 10 text.now) }
+{
+    match decimal(text) {
+        Some(count) => {
+            if 1 <= count && count <= MOST {
+                Some(count as u32)
+            } else {
+                None
+            }
+        }
+        None => None,
+    }
+}
+
+// The names and the seed of options that were read.
+fn names_read<'a>(matches: &ArgMatches<'a>) -> Result<PlayWords<'a>, WordsFault>
+    ensures accepted { OnOk result (rows_refusal (rows_of (found_of matches.now)) ≡ None) }
+    ensures refused { IfErr result (λ fault. rows_refusal (rows_of (found_of matches.now)) ≡ Some (words_kind fault)) }
+    ensures read { IfOk result (λ w. ReadsRows (rows_of (found_of matches.now)) w) }
+{
+    let Some(seed) = decimal(value(matches, "seed")) else {
+        return Err(WordsFault::BadNumber);
+    };
+    let read = PlayWords {
+        config: value(matches, "config"),
+        interface: value(matches, "interface"),
+        arrivals: value(matches, "arrivals"),
+        departures: value(matches, "departures"),
+        fates: value(matches, "fates"),
+        stats: value(matches, "stats"),
+        seed,
+    };
+    if !are_distinct(&read) {
+        return Err(WordsFault::NamesEqual);
+    }
+    Ok(read)
+}
+
 // Reads the options of `play`.
 fn play_words<'a>(alloc: Global, words: &'a [String]) -> Result<PlayWords<'a>, Unread>
     requires { IsPlay words.now }
@@ -146,22 +199,27 @@ fn play_words<'a>(alloc: Global, words: &'a [String]) -> Result<PlayWords<'a>, U
     ensures read { IfOk result (λ w. ReadsPlay words.now w) }
 {
     let matches = play_matches(alloc, words)?;
-    let Some(seed) = decimal(value(&matches, "seed")) else {
+    match names_read(&matches) {
+        Ok(read) => Ok(read),
+        Err(fault) => Err(Unread::Refused(fault)),
+    }
+}
+
+// Reads the options of `make`.
+fn make_words<'a>(alloc: Global, words: &'a [String]) -> Result<MakeWords<'a>, Unread>
+    requires { IsMake words.now }
+    ensures accepted { OnOk result (make_refusal words.now ≡ None) }
+    ensures refused { IfErr result (Explains (make_refusal words.now)) }
+    ensures read { IfOk result (λ w. ReadsMake words.now w) }
+{
+    let matches = make_matches(alloc, words)?;
+    let Some(count) = count(value(&matches, "count")) else {
         return Err(Unread::Refused(WordsFault::BadNumber));
     };
-    let read = PlayWords {
-        config: value(&matches, "config"),
-        interface: value(&matches, "interface"),
-        arrivals: value(&matches, "arrivals"),
-        departures: value(&matches, "departures"),
-        fates: value(&matches, "fates"),
-        stats: value(&matches, "stats"),
-        seed,
-    };
-    if !are_distinct(&read) {
-        return Err(Unread::Refused(WordsFault::NamesEqual));
+    match names_read(&matches) {
+        Ok(play) => Ok(MakeWords { play, count }),
+        Err(fault) => Err(Unread::Refused(fault)),
     }
-    Ok(read)
 }
 
 // Reads the options of `check`.
@@ -177,9 +235,10 @@ fn check_words<'a>(alloc: Global, words: &'a [String]) -> Result<CheckWords<'a>,
 }
 
 /// Reads the words behind the program's name: `play --config C --interface I --arrivals A --departures D --fates T --stats Z
-/// --seed N`, or `check --config C --interface I`. The options stand in any order, each once, as `--name VALUE` or
-/// `--name=VALUE`. The seed is one or more decimal digits, below 2^64. No two of the file names C, A, D, T and Z are equal as
-/// texts. A refusal is the first test that fails, in the order of `WordsFault`.
+/// --seed N`, `make --count K` with the same options, or `check --config C --interface I`. The options stand in any order, each once,
+/// as `--name VALUE` or `--name=VALUE`. The seed is one or more decimal digits, below 2^64, and the count such digits, 1 to
+/// 1,000,000. No two of the file names C, A, D, T and Z are equal as texts. A refusal is the first test that fails, in the order of
+/// `WordsFault`.
 pub fn read_words<'a>(alloc: Global, words: &'a [String]) -> Result<Command<'a>, Unread>
     ensures accepted { OnOk result (refusal words.now ≡ None) }
     ensures refused { IfErr result (Explains (refusal words.now)) }
@@ -194,6 +253,12 @@ pub fn read_words<'a>(alloc: Global, words: &'a [String]) -> Result<Command<'a>,
     if is(words, 0, "check") {
         return match check_words(alloc, words) {
             Ok(read) => Ok(Command::Check(read)),
+            Err(cause) => Err(cause),
+        };
+    }
+    if is(words, 0, "make") {
+        return match make_words(alloc, words) {
+            Ok(read) => Ok(Command::Make(read)),
             Err(cause) => Err(cause),
         };
     }

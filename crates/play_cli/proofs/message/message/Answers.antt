@@ -1,15 +1,20 @@
--- The text of a code.
-use Rattle.std.proofs.Common.{◌≡◌, IfOk, List, ℕ, ap, subst, sym, string_bytes}
-use Rattle.play_cli.specs.Message.{conf_message, message_by}
+-- The text of a fault of the configuration, and of a limit.
+use Rattle.std.proofs.Common.{◌≡◌, ◌∙◌, ◌++◌, IfOk, List, ℕ, ap, codes, decimal, subst, sym, string_bytes}
+use Rattle.play_cli.specs.declared.failure.Failure.{Failure}
+use Rattle.play_cli.specs.Failure.{failure_status}
+use Rattle.play_cli.specs.Message.{conf_message, message_text}
+use Rattle.play_cli.proofs.KindNames.{conf_named}
 use Rattle.play_cli.proofs.message.message.Goals as goal
 
-pub returns-in-3 : goal.returns-in-3
-returns-in-3 c =
-    let P : List ℕ → Type 0 = λ t. IfOk c.format-in-3.result (λ m. string_bytes m ≡ t) in
-    let Q : List ℕ → Type 0 = λ name. P (conf_message c.args.status.line c.args.status.word name) in
-    subst P (sym (ap (λ (n : ℕ). message_by n c.args.status) c.in-3.is)) (subst Q c.conf_name-name.ensures (search (c)))
+pub returns-in-Configuration : goal.returns-in-Configuration
+returns-in-Configuration c =
+    let P : List ℕ → Type 0 = λ t. IfOk c.format-in-Configuration.result (λ m. string_bytes m ≡ t) in
+    let Q : List ℕ → Type 0 = λ name. P (conf_message c.in-Configuration.place.line c.in-Configuration.place.word name) in
+    subst P (sym (ap (λ (f : Failure). message_text (failure_status f)) c.in-Configuration.is))
+    (subst Q (c.name-name.ensures ∙ sym (conf_named c.in-Configuration.place.kind)) (search (c)))
 
-pub returns-in-7 : goal.returns-in-7
-returns-in-7 c =
-    let P : List ℕ → Type 0 = λ t. IfOk c.format-in-7.result (λ m. string_bytes m ≡ t) in
-    subst P (sym (ap (λ (n : ℕ). message_by n c.args.status) c.in-7.is)) (search (c))
+pub returns-in-Limit : goal.returns-in-Limit
+returns-in-Limit c =
+    let P : List ℕ → Type 0 = λ t. IfOk c.format-in-Limit.result (λ m. string_bytes m ≡ t) in
+    let Q : ℕ → Type 0 = λ n. P (codes "altqplay: limit " ++ (decimal n ++ codes " reached\n")) in
+    subst P (sym (ap (λ (f : Failure). message_text (failure_status f)) c.in-Limit.is)) (subst Q c.number-number.ensures (search (c)))

@@ -1,8 +1,9 @@
 use Rattle.play_cli.specs.Causes.{names_read}
+use Rattle.play_cli.specs.Failure.{end_status}
 use Rattle.play_cli.proofs.ToldOver.{play_told}
 use Rattle.play_cli.proofs.playing.play.Goals as goal
 
 pub returns-clause-ends : goal.returns-clause-ends
 returns-clause-ends g c =
-    play_told (g.F.Files.view c.args.files.now) (g.F.Files.view c.played-status.new.files) (g.F.Files.view c.told.new.files) (names_read c.args.words.now)
-    c.args.words.now.seed c.played-status.result c.told.result c.told.ensures c.played-status.ensures.ends
+    play_told (g.F.Files.view c.args.files.now) (g.F.Files.view c.played-end.new.files) (g.F.Files.view c.told.new.files) (names_read c.args.words.now)
+    c.args.words.now.seed (end_status c.played-end.result) c.told.result c.told.ensures c.played-end.ensures.ends

@@ -10,14 +10,13 @@ use Rattle.play_cli.proofs.playing.played.Goals as goal
 
 pub returns-in-Ok-clause-ends : goal.returns-in-Ok-clause-ends
 returns-in-Ok-clause-ends g c =
-    let P : Status → Type 0 = λ s. PlayEnds (g.F.Files.view c.args.files.now) (g.F.Files.view c.play_files.new.files) (names_read c.args.words.now) c.args.words.now.seed s in
-    subst P (sym c.ended.ensures) (play_done (g.F.Files.view c.args.files.now) (g.F.Files.view c.play_files.new.files) (names_read c.args.words.now) c.args.words.now.seed
-    c.in-Ok.ensures.done c.in-Ok.ensures.nothing c.in-Ok.ensures.absent c.in-Ok.ensures.files.files)
+    play_done (g.F.Files.view c.args.files.now) (g.F.Files.view c.play_files.new.files) (names_read c.args.words.now) c.args.words.now.seed
+    c.in-Ok.ensures.done c.in-Ok.ensures.nothing c.in-Ok.ensures.absent c.in-Ok.ensures.files.files
 
 pub returns-in-Err-clause-ends : goal.returns-in-Err-clause-ends
 returns-in-Err-clause-ends g c =
     let P : Status → Type 0 = λ s. PlayEnds (g.F.Files.view c.args.files.now) (g.F.Files.view c.play_files.new.files) (names_read c.args.words.now) c.args.words.now.seed s in
-    subst P (sym c.status_of.ensures) (play_failed (g.F.Files.view c.args.files.now) (g.F.Files.view c.play_files.new.files) (names_read c.args.words.now) c.args.words.now.seed
+    subst P (sym c.failure_of.ensures) (play_failed (g.F.Files.view c.args.files.now) (g.F.Files.view c.play_files.new.files) (names_read c.args.words.now) c.args.words.now.seed
     c.in-Err.fault
     (have_laws c.configurations_fit.ensures c.frames_have_classes.ensures.class c.interfaces_keep_their_promises.ensures.lawful
     c.interfaces_keep_their_promises.ensures.held c.interfaces_keep_their_promises.ensures.named c.interfaces_keep_their_promises.ensures.promises)

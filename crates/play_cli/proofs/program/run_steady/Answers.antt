@@ -6,3 +6,6 @@ returns-clause-done c = λ e command seed is. c.run.ensures.done e command refl 
 
 pub returns-clause-complete : goal.returns-clause-complete
 returns-clause-complete c = λ r command seed is p. c.run.ensures.complete refl r command seed is p (λ part. ((λ h. omega (arith, h)), (λ l h. omega (arith, h))))
+
+pub returns-clause-made : goal.returns-clause-made
+returns-clause-made c = λ e command seed count is counted. c.run.ensures.made e command refl seed count is counted
