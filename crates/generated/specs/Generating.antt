@@ -6,7 +6,7 @@ use Rattle.play_base.specs.View.{View, Wrote}
 use Rattle.generated.specs.Packets.{generated_capture, moment}
 use Rattle.generated.specs.declared.generator.GeneratedPacket.{GeneratedPacket}
 
--- of the packets of this seed so many are made
+-- the seed of the packets, and how many of them are made
 pub record Making : Type 0 where
   pub seed : ℕ
   pub made : ℕ

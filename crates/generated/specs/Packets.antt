@@ -13,7 +13,7 @@ first_word seed made = word seed (2 * made)
 abbrev pub second_word : (seed made : ℕ) → ℕ
 second_word seed made = word seed (2 * made + 1)
 
--- the arrival of the last of so many packets, in nanoseconds; 0 before the first
+-- the arrival of the last of the first `made` packets, in nanoseconds; 0 before the first
 abbrev pub moment : (seed made : ℕ) → ℕ
 moment seed zero = 0
 moment seed (suc made) = moment seed made + first_word seed made % 200000

@@ -33,8 +33,8 @@ pub fn worked_examples()
     ensures full_first { ruled thresholds true 31457280 (pos 3) 0 ≡ dropped Reason.Full 0 }
     ensures full_below_the_lower { ruled thresholds true 0 (negsuc 0) 0 ≡ dropped Reason.Full 0 }
 
-    // At ten packets, with the first two random words of seed 42, and after so many kept packets that the spacing is used up
-    // and no word is drawn.
+    // At ten packets, with the first two random words of seed 42; and where the kept packets have used up the spacing, and no
+    // word is drawn.
     ensures red_draws_words { ruled thresholds false 20971520 (negsuc 0) 0xa15c02b7 ≡ kept (pos 0) 1 }
     ensures red_draws_another { ruled thresholds false 20971520 (pos 0) 0x7b47f409 ≡ kept (pos 1) 1 }
     ensures chance_of_one_in_20 { ruled thresholds false 20971520 (negsuc 0) 214748364 ≡ dropped Reason.Early 1 }
