@@ -326,19 +326,24 @@ def config(rng):
     return noise(rng) if how == 4 and chance(rng, 3) else text
 
 
+COUNTS = [b"0", b"1", b"1000001", b"18446744073709551617", b"007", b"", b"-1", b"+1", b" 1", b"1x", b"0x1"]
 SEEDS = [b"0", b"1", b"42", b"18446744073709551615", b"18446744073709551616", b"007", b"", b"-1", b"+1", b" 1", b"1x", b"0x1", "\u0661".encode(), b"9" * 40]
+OF_CHECK = (b"config", b"interface")
+OF_MAKE_ALONE = b"count"
 NAMES = {b"config": b"altq.conf", b"arrivals": b"arrivals.pcap", b"departures": b"departures.pcap", b"fates": b"fates.csv", b"stats": b"stats.csv"}
 
 
 def options(rng):
     """The options of a command that may be accepted, as pairs, and the command."""
-    values = {**NAMES, b"interface": b"if0", b"seed": b"%d" % rng.randrange(2**64)}
+    values = {**NAMES, b"interface": b"if0", b"seed": b"%d" % rng.randrange(2**64), OF_MAKE_ALONE: b"%d" % rng.randrange(1, 300)}
     if chance(rng, 10):
         values[rng.choice(list(values))] = rng.choice([b"absent/file", b"absent", b"", b"-", b"altq.conf", b"fates.csv", b"if1", b"a b", "\u00fc".encode(), b"x" * 300])
     if chance(rng, 20):
         values[b"seed"] = rng.choice(SEEDS)
-    command = b"check" if chance(rng, 6) else b"play"
-    taken = list(values) if command == b"play" else [b"config", b"interface"]
+    if chance(rng, 10):
+        values[OF_MAKE_ALONE] = rng.choice(COUNTS)
+    command = b"check" if chance(rng, 6) else b"make" if chance(rng, 6) else b"play"
+    taken = [name for name in values if (name in OF_CHECK or command != b"check") and (name != OF_MAKE_ALONE or command == b"make")]
     rng.shuffle(taken)
     return command, [(name, values[name]) for name in taken]
 

@@ -206,12 +206,24 @@ def wrong_untouched(before, after, allowed=()):
     return f"{changed[0].decode(errors='replace')} has changed" if changed else None
 
 
-def wrong_refusal(said, names, before, after):
-    """What is wrong after a status 6: what was created before holds its head at most, the rest what it held."""
-    place = ["departures", "fates", "statistics"].index(re.search(rb"writing (\w+)", said)[1].decode())
-    created = [names[name] for name in OUTPUTS[:place]]
+def wrong_refusal(said, names, before, after, made):
+    """What is wrong after a status 6: what was created before holds its head at most, the rest what it held. `made` are the names
+    that `make` writes before them: none, or that of the arrivals."""
+    place = ["arrivals", "departures", "fates", "statistics"].index(re.search(rb"writing (\w+)", said)[1].decode())
+    created = [names[name] for name in OUTPUTS[:max(place - 1, 0)]]
     fault = next((f"{name.decode()} is not empty" for name in created if after.get(name) != b""), None)
-    return fault or wrong_untouched(before, after, created)
+    return fault or wrong_untouched(before, after, created + (made if place > 0 else []))
+
+
+def wrong_made(said, count, capture, files):
+    """What is wrong with the capture that `make` wrote, and with the line that it said of its play."""
+    if capture.end is not None or len(capture.arrivals) != count:
+        return "arrivals: damaged, or not as many as were to be made"
+    rows = read_fates(files["fates"]) or []
+    sent = [row for row in rows if row.start is not None]
+    last = max((row.end for row in sent), default=0)
+    line = f"packets {count} sent {len(sent)} dropped {len(rows) - len(sent)} end {last}\n"
+    return None if said == line.encode() else "another line than its files tell"
 
 
 def wrong(words, before, after, run, is_text=True):
@@ -228,9 +240,12 @@ def wrong(words, before, after, run, is_text=True):
     if run.status in (2, 3, 5) or run.said == b"altqplay: limit 3 reached\n" or command == b"check":
         return wrong_untouched(before, after)
     names = values(words)
+    made = [names["arrivals"]] if command == b"make" else []
     if run.status == 6:
-        return wrong_refusal(run.said, names, before, after)
-    capture = read_capture(before[names["arrivals"]])
+        return wrong_refusal(run.said, names, before, after, made)
+    capture = read_capture((after if made else before)[names["arrivals"]])
+    outputs = {name: after[names[name]] for name in OUTPUTS}
     return (expected_end(run.status, run.said, capture)
-            or wrong_untouched(before, after, [names[name] for name in OUTPUTS])
-            or wrong_play(run.status, run.said, capture, {name: after[names[name]] for name in OUTPUTS}))
+            or wrong_untouched(before, after, [names[name] for name in OUTPUTS] + made)
+            or made and wrong_made(run.said, int(names["count"]), capture, outputs)
+            or wrong_play(run.status, run.said, capture, outputs))

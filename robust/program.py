@@ -35,17 +35,19 @@ MESSAGES = {
     3: rb"altqplay: configuration line \d+ word \d+: (?:%s)\n" % "|".join(CONFIGURATION_FAULTS).encode(),
     4: rb"altqplay: capture byte \d+: (?:%s)\n" % "|".join(CAPTURE_FAULTS).encode(),
     5: rb"altqplay: reading (?:configuration|arrivals) failed\n",
-    6: rb"altqplay: writing (?:departures|fates|statistics|result) failed\n",
+    6: rb"altqplay: writing (?:arrivals|departures|fates|statistics|result) failed\n",
     7: rb"altqplay: limit [123] reached\n",
     8: rb"altqplay: out of memory\n",
 }
+MADE = re.compile(rb"packets \d+ sent \d+ dropped \d+ end \d+\n")
 CHECKED = re.compile(rb"(?:(?:interface|class|filter6?) [^\n]+\n)*(?:fits|exceeds at \d+ by \d+)\n")
 
 
 def is_stated(status, said, command):
     """Whether this may stand on standard output after this status of this command, where standard output takes all."""
     if status == 0:
-        return CHECKED.fullmatch(said) is not None if command == b"check" else said == b""
+        form = {b"check": CHECKED, b"make": MADE}.get(command)
+        return said == b"" if form is None else form.fullmatch(said) is not None
     return status in MESSAGES and re.fullmatch(MESSAGES[status], said) is not None
 
 
