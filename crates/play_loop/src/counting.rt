@@ -48,56 +48,47 @@ pub fn no_counts(alloc: Global, names: &Names) -> Result<Vec<Counts>, NoMemory>
     Ok(counts)
 }
 
-// Counts with one more drop.
-fn with_drop(counts: Counts, reason: Reason) -> Counts
-    requires { IsCountable counts }
-    ensures { result ≡ with_drop counts reason }
+// Counts one more drop.
+#[inline]
+fn add_drop(counts: &mut Counts, reason: Reason)
+    requires { IsCountable counts.old }
+    ensures { counts.new ≡ with_drop counts.old reason }
 {
     match reason {
-        Reason::Full => Counts {
-            full: counts.full + 1,
-            ..counts
-        },
-        Reason::Early => Counts {
-            early: counts.early + 1,
-            ..counts
-        },
-        Reason::Forced => Counts {
-            forced: counts.forced + 1,
-            ..counts
-        },
+        Reason::Full => counts.full += 1,
+        Reason::Early => counts.early += 1,
+        Reason::Forced => counts.forced += 1,
     }
 }
 
-// Counts with one more of what is counted.
-fn with_one(counts: Counts, what: Counted) -> Counts
-    requires { IsCountable counts }
-    ensures { result ≡ with_one counts what }
+// Counts one more of what is counted. Each caller says what, so the other arms go away where it is inlined.
+#[inline]
+fn add_one(counts: &mut Counts, what: Counted)
+    requires { IsCountable counts.old }
+    ensures { counts.new ≡ with_one counts.old what }
 {
     match what {
-        Counted::Arrived { len, raised } => Counts {
-            arrived: counts.arrived + 1,
-            arrived_bytes: counts.arrived_bytes + len as u64,
-            raised: counts.raised + raised as u64,
-            ..counts
-        },
-        Counted::Sent { len } => Counts {
-            sent: counts.sent + 1,
-            sent_bytes: counts.sent_bytes + len as u64,
-            ..counts
-        },
-        Counted::Dropped(reason) => with_drop(counts, reason),
+        Counted::Arrived { len, raised } => {
+            counts.arrived += 1;
+            counts.arrived_bytes += len as u64;
+            counts.raised += raised as u64;
+        }
+        Counted::Sent { len } => {
+            counts.sent += 1;
+            counts.sent_bytes += len as u64;
+        }
+        Counted::Dropped(reason) => add_drop(counts, reason),
     }
 }
 
 /// Counts one more of a class. Takes no memory, in the time of a search for the class.
+#[inline]
 pub fn count(counts: &mut Vec<Counts>, names: &Names, class: u32, what: Counted)
     requires named { HasClass names.now class }
     requires countable { AreCountable names.now counts.old.items }
     ensures { counts.new.items ≡ count_at names.now class what counts.old.items }
 {
     if let Some(place) = names.place(class) {
-        let place = place as usize;
-        counts[place] = with_one(counts[place], what);
+        add_one(&mut counts[place as usize], what);
     }
 }

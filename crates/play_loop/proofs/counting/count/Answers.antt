@@ -7,5 +7,5 @@ use Rattle.play_loop.proofs.counting.count.Goals as goal
 
 pub returns-in-Some : goal.returns-in-Some
 returns-in-Some c =
-    ap (λ (k : Counts). slice_set c.args.counts.now.items c.in-Some.place k) (c.with_one.ensures ∙ ap (λ (k : Counts). with_one k c.args.what) c.index.ensures)
-    ∙ set_counts c.args.names.now c.args.class c.in-Some.place c.args.what c.args.counts.now.items c.index.result.now c.requires.countable.each (sym c.in-Some.ensures)
+    ap (λ (k : Counts). slice_set c.args.counts.now.items c.in-Some.place k) (c.add_one.ensures ∙ ap (λ (k : Counts). with_one k c.args.what) c.index_mut.ensures.value)
+    ∙ set_counts c.args.names.now c.args.class c.in-Some.place c.args.what c.args.counts.now.items c.index_mut.result.now c.requires.countable.each (sym c.in-Some.ensures)
