@@ -291,3 +291,12 @@ departing_differs clear marked frame bytes =
     (packet_bytes frame (packet_place frame) bytes) in
     retagged_differs frame (departing_tos clear marked (tos_of (flow frame))) bytes
     (departing_bound clear marked (tos_of (flow frame)) bound)
+
+-- a frame that is neither cleared nor marked leaves as it came
+retagged_as_own : (f : Flow) (frame : List ℕ) → frame ≡ retagged_as f frame (tos_of f)
+retagged_as_own (V4 heads) frame = grind (arith, nat_tests)
+retagged_as_own (V6 heads) frame = grind (arith, nat_tests)
+retagged_as_own Other frame = refl
+
+pub departing_plain : (frame : List ℕ) → frame ≡ departing false false frame
+departing_plain frame = retagged_as_own (flow frame) frame

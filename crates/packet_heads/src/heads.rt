@@ -103,10 +103,12 @@ fn type_place(frame: &[u8]) -> usize
     ensures value { result ≡ type_place frame.now }
     ensures bound { result ≤ 20 }
 {
-    match (is_tag_at(frame, 12), is_tag_at(frame, 16)) {
-        (false, _) => 12,
-        (true, false) => 16,
-        (true, true) => 20,
+    if !is_tag_at(frame, 12) {
+        12
+    } else if !is_tag_at(frame, 16) {
+        16
+    } else {
+        20
     }
 }
 

@@ -94,6 +94,9 @@ pub fn dress(frame: &mut [u8], clear: bool, marked: bool)
     ensures value { frame.new ≡ departing clear marked frame.old }
     ensures long { length frame.new ≡ length frame.old }
 {
+    if !clear && !marked {
+        return;
+    }
     let tos = tos_of(&flow(frame));
     retag(frame, departing_tos(clear, marked, tos));
 }
