@@ -82,8 +82,29 @@ pub(crate) fn filed_by_port(
     Ok(entries)
 }
 
-/// The first of those filed under a port whose filter matches a flow.
+/// The first of those filed under a port whose filter matches a flow. It is the mere test where none is filed on that side.
+#[inline]
 pub(crate) fn first_under(
+    entries: &[Filed],
+    port: u16,
+    filters: &[Filter],
+    places: &[u32],
+    heads: &FlowHeads,
+) -> Option<u32>
+    requires { IsInOrder entries.now }
+    ensures agrees { IfSome result (λ rank. matches_at filters.now places.now (flow_of heads.now) rank ≡ true) }
+    ensures first { (rank : ℕ) → Contains entries.now (record { port = port; rank = rank })
+        → matches_at filters.now places.now (flow_of heads.now) rank ≡ true → IsAtMost result rank }
+{
+    if entries.is_empty() {
+        return None;
+    }
+    first_of(entries, port, filters, places, heads)
+}
+
+/// The same, by a search.
+#[inline(never)]
+fn first_of(
     entries: &[Filed],
     port: u16,
     filters: &[Filter],

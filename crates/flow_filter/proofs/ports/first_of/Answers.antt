@@ -4,7 +4,7 @@ use Rattle.packet_heads.specs.Heads.{flow_of}
 use Rattle.flow_filter.specs.declared.ports.Filed.{Filed}
 use Rattle.flow_filter.specs.Ranked.{matches_at}
 use Rattle.flow_filter.proofs.Scans.{at_rest, in_rest, found_first, none_at_another, scanned_more, scanned_none}
-use Rattle.flow_filter.proofs.ports.first_under.Goals as goal
+use Rattle.flow_filter.proofs.ports.first_of.Goals as goal
 
 pub loop-entry-init : goal.loop-entry-init
 loop-entry-init c =
