@@ -60,6 +60,7 @@ impl Ahead {
 
     // Takes bytes from the file until `need` are there, or the file is at its end. Bytes that were passed are dropped
     // before the first read; so the others are moved at most once in a call, and only in one that has to read.
+    #[inline]
     pub fn fill<F: Files>(&mut self, files: &mut F, file: u32, need: usize) -> Result<(), Trouble>
         requires there { IsSome ((F.view files.old).part file) }
         requires small { need < 2 ^ 40 }
@@ -72,6 +73,19 @@ impl Ahead {
         if self.buffer.len() - self.from >= need {
             return Ok(());
         }
+        self.refill(files, file, need)
+    }
+
+    #[inline(never)]
+    fn refill<F: Files>(&mut self, files: &mut F, file: u32, need: usize) -> Result<(), Trouble>
+        requires there { IsSome ((F.view files.old).part file) }
+        requires small { need < 2 ^ 40 }
+        ensures took { OnOk result (TookInto (F.view files.old) (F.view files.new) file self.old self.new) }
+        ensures enough { OnOk result ((need ≤ length self.new) ⊎ IsAtEnd (F.view files.new) file) }
+        ensures bounded { OnOk result (length self.new ≤ max (length self.old) (need + 65535)) }
+        ensures some { OnErr result (TookSome (F.view files.old) (F.view files.new) file) }
+        ensures failed { IsErrOf result Trouble.Failed → ReadFault (F.view files.old) (F.view files.new) file }
+    {
         drop_front(&mut self.buffer, self.from);
         self.from = 0;
         match take_pieces(files, file, &mut self.buffer, &mut self.piece, need) {

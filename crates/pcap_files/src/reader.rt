@@ -167,7 +167,7 @@ impl Reader {
             let damage = damage_at(u64::from(place), DamageKind::ShortRecord);
             return Err(CaptureFault::Damage(damage));
         }
-        let Ok(bytes) = ahead[RECORD_HEAD..whole].to_vec(self.alloc) else {
+        let Ok(bytes) = Vec::from_slice(self.alloc, &ahead[RECORD_HEAD..whole]) else {
             return Err(CaptureFault::NoMemory);
         };
         self.ahead.pass(whole);

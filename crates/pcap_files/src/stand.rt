@@ -32,6 +32,7 @@ pub enum Stand {
 }
 
 // The stamp of the record that begins these bytes, in nanoseconds. A fraction of a second or more is carried.
+#[inline(always)]
 fn stamp(head: Head, bytes: &[u8]) -> u64
     requires { 8 ≤ length bytes.now }
     ensures value { result ≡ stamp (form head) bytes.now 0 }
