@@ -74,8 +74,3 @@ put_found keys xs c k found = put_at keys xs c k found.within found.before found
 
 pub taken_found : (keys : List (Option ℕ)) (xs : List ℕ) (c k : ℕ) → IsRanked keys xs → is_in c xs ≡ true → IsFound keys xs c k k → IsTakenAt xs c k
 taken_found keys xs c k r i found = taken_at keys xs c k r i found.before found.from
-
--- what an insert that did not fail left
-pub inserted : (b : Bool) (xs ys zs : List ℕ) → zs ≡ (if b then xs else ys) → b ≡ true → zs ≡ xs
-inserted true xs ys zs e h = e
-inserted false xs ys zs e h = absurd cc

@@ -2,9 +2,9 @@
 use Rattle.std.proofs.Common.{◌≡◌, ◌<◌, ◌≤◌, ◌+◌, ◌⊎◌, inl, inr, ℕ, Bool, true, false, List, [], ◌∷◌, Some, length, refl, sym, ap, arith, get_or, ◌∙◌}
 use Rattle.std.specs.Prelude.{Option, slice_get}
 use Rattle.std.proofs.lemmas.Bool.{cases_lt}
-use Rattle.ranking.specs.Order.{is_before, is_ranked}
+use Rattle.ranking.specs.Order.{is_before, is_ranked, key_of}
 use Rattle.ranking.specs.Search.{IsFound, IsRanked}
-use Rattle.ranking.proofs.Ordered.{before_trans, in_order}
+use Rattle.ranking.proofs.Ordered.{before_trans, goes_not, in_order}
 use Rattle.ranking.proofs.Ranks.{ranked_true}
 
 pub found_above : (keys : List (Option ℕ)) (xs : List ℕ) (c low mid high : ℕ) → IsRanked keys xs → IsFound keys xs c low high
@@ -55,3 +55,7 @@ front_below keys [] c x r e b = absurd cc
 front_below keys (y ∷ ys) c x r e b =
     let same : y ≡ x = cc in
     found_below keys (y ∷ ys) c 0 0 (length (y ∷ ys)) (ranked_true keys (y ∷ ys) r) (found_all keys (y ∷ ys) c) (omega arith) (omega arith) (ap (λ n. is_before keys n c) same ∙ b)
+
+-- where the front is the class itself
+pub front_found : (keys : List (Option ℕ)) (xs : List ℕ) (c x : ℕ) → is_ranked keys xs ≡ true → slice_get xs 0 ≡ Some x → x ≡ c → IsFound keys xs c 0 0
+front_found keys xs c x r e same = front_below keys xs c x r e (ap (λ n. is_before keys n c) same ∙ goes_not (key_of keys c) c)

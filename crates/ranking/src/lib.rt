@@ -1,11 +1,12 @@
 //! Classes in the order of their keys.
 //!
 //! A key is a moment or a virtual time. One of `None` comes after all others, and of equal keys the class that stands
-//! earlier in the file goes first. Places are found by binary search, the front first, and `reserve` takes all memory.
+//! earlier in the file goes first. Places are found by binary search, and `reserve` takes all memory.
 #![tactic(auto)]
 
 ghost use Rattle.std.specs.Prelude.{◌≡◌, ◌==◌, ◌<◌, ◌≤◌, ◌^◌, ℕ, [], length, true, false, slice_set, None, IfOk, if◌then◌else◌};
 ghost use Rattle.std.specs.Vec.{vec_len, vec_capacity};
+ghost use Rattle.std.specs.List.{insert, remove};
 ghost use Rattle.ranking.specs.Order.{is_ranked, are_below, is_in, key_of, with_class, without};
 
 use play_base::NoMemory;
@@ -13,7 +14,7 @@ use std::alloc::Global;
 
 mod search;
 
-use search::place_of;
+use search::{place_in, place_of};
 
 /// Some of the classes from 0 on, in the order of their keys.
 ///
@@ -65,7 +66,7 @@ impl Ranking {
     {
         self.keys[class as usize] = key;
         let place = place_of(&self.order, &self.keys, class);
-        let _ = self.order.insert(place, class);
+        put_at(&mut self.order, place, class);
     }
 
     /// Takes out a class that is there. It takes the logarithm of the classes to find it, and moves those that stand
@@ -75,9 +76,10 @@ impl Ranking {
         ensures keys { keys_of self.new ≡ keys_of self.old }
         ensures order { order_of self.new ≡ without (order_of self.old) class }
     {
-        let place = place_of(&self.order, &self.keys, class);
-        let _ = self.order.remove(place);
+        let place = place_in(&self.order, &self.keys, class);
+        take_at(&mut self.order, place);
     }
+
     /// Takes a class out where it `was` there, and puts it in with a key where it `is` to be there. It takes the time of
     /// `take` and `put`, and constant time where the class stays with the key that it has.
     pub fn replace(&mut self, class: u32, was: bool, is: bool, key: Option<u128>)
@@ -115,5 +117,32 @@ impl Ranking {
         if is {
             self.put(class, key);
         }
+    }
+}
+
+/// Puts a class in at a place. At the end nothing moves.
+fn put_at(order: &mut Vec<u32>, place: usize, class: u32)
+    requires place { place ≤ length order.old.items }
+    requires room { vec_len order.old < vec_capacity order.old }
+    ensures items { order.new.items ≡ insert order.old.items place class }
+    ensures capacity { vec_capacity order.old ≤ vec_capacity order.new }
+{
+    if place == order.len() {
+        let _ = order.push(class);
+    } else {
+        let _ = order.insert(place, class);
+    }
+}
+
+/// Takes out what stands at a place. At the end nothing moves.
+fn take_at(order: &mut Vec<u32>, place: usize)
+    requires { place < length order.old.items }
+    ensures items { order.new.items ≡ remove order.old.items place }
+    ensures capacity { vec_capacity order.new ≡ vec_capacity order.old }
+{
+    if place + 1 == order.len() {
+        let _ = order.pop();
+    } else {
+        let _ = order.remove(place);
     }
 }

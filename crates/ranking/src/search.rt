@@ -40,28 +40,13 @@ fn goes_first(a: Option<u128>, one: u32, b: Option<u128>, other: u32) -> bool
     one < other
 }
 
-/// How many classes of the list go before a class. The front is tried first: there most classes stand that change.
+/// How many classes of the list go before a class.
 pub fn place_of(order: &[u32], keys: &[Option<u128>], class: u32) -> usize
     requires { is_ranked keys.now order.now ≡ true }
     ensures { IsFound keys.now order.now class result result }
 {
-    let Some(first) = order.first() else {
-        return 0;
-    };
-    if goes_first(key_of(keys, *first), *first, key_of(keys, class), class) {
-        return place_behind(order, keys, class);
-    }
-    0
-}
-
-/// The same where the first of the list goes before the class.
-fn place_behind(order: &[u32], keys: &[Option<u128>], class: u32) -> usize
-    requires ranked { is_ranked keys.now order.now ≡ true }
-    requires behind { IsFound keys.now order.now class 1 (length order.now) }
-    ensures { IsFound keys.now order.now class result result }
-{
     let key = key_of(keys, class);
-    let mut low = 1;
+    let mut low = 0;
     let mut high = order.len();
     while low < high {
         let middle = low + (high - low) / 2;
@@ -73,4 +58,17 @@ fn place_behind(order: &[u32], keys: &[Option<u128>], class: u32) -> usize
         }
     }
     low
+}
+
+/// The same of a class that is in the list. The front is tried first: there most classes stand that leave.
+pub fn place_in(order: &[u32], keys: &[Option<u128>], class: u32) -> usize
+    requires { is_ranked keys.now order.now ≡ true }
+    ensures { IsFound keys.now order.now class result result }
+{
+    if let Some(first) = order.first() {
+        if *first == class {
+            return 0;
+        }
+    }
+    place_of(order, keys, class)
 }

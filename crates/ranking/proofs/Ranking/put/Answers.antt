@@ -1,9 +1,7 @@
-use Rattle.std.proofs.Common.{◌≡◌, ◌<◌, ◌∙◌, List, ℕ, length, ap, arith}
+use Rattle.std.proofs.Common.{◌≡◌, ◌∙◌, List, ℕ, ap, arith}
 use Rattle.std.specs.Prelude.{slice_set, Option}
-use Rattle.std.specs.Vec.{vec_len, vec_capacity}
 use Rattle.std.proofs.lemmas.List.{length-set}
 use Rattle.ranking.specs.Order.{is_ranked, with_class}
-use Rattle.ranking.proofs.Placed.{inserted}
 use Rattle.ranking.proofs.Kept.{put_before, put_in, put_ranked, put_below, put_room}
 use Rattle.ranking.proofs.Ranking.put.Goals as goal
 
@@ -14,37 +12,31 @@ place_of-place-requires c =
     ∙ ap (λ (xs : List ℕ). is_ranked (slice_set c.args.self.now.keys.items c.args.class c.args.key) xs) c.deref.ensures.value
     ∙ e
 
-spare : (c : goal.After-insert) → vec_len c.args.self.now.order < vec_capacity c.args.self.now.order
-spare c =
+pub put_at-requires-clause-room : goal.put_at-requires-clause-room
+put_at-requires-clause-room c =
     let short = put_room c.args.self.now.keys.items c.args.self.now.order.items c.args.class c.args.self.now.ranked c.args.self.now.below c.requires.class c.requires.absent in
-    let same = ap (λ (xs : List ℕ). length xs) c.deref.ensures.value in
-    let len = c.deref.ensures.len in
     let room = c.args.self.now.room in
     omega arith
 
-items : (c : goal.After-insert) → c.insert.new.self.items ≡ with_class (slice_set c.args.self.now.keys.items c.args.class c.args.key) c.args.self.now.order.items c.args.class
+items : (c : goal.After-put_at) → c.put_at.new.order.items ≡ with_class (slice_set c.args.self.now.keys.items c.args.class c.args.key) c.args.self.now.order.items c.args.class
 items c =
-    inserted _ _ _ _ c.insert.ensures.items (c.insert.ensures.succeeds (spare c))
+    c.put_at.ensures.items
     ∙ put_in (slice_set c.args.self.now.keys.items c.args.class c.args.key) c.deref-2.result.now c.args.self.now.order.items c.deref.result.now c.args.class
     c.place_of-place.result c.deref-2.ensures.value c.deref.ensures.value c.place_of-place.ensures
 
 pub invariant_of-self : goal.invariant_of-self
 invariant_of-self c = record {
-  ranked = put_ranked c.args.self.now.keys.items c.args.self.now.order.items c.insert.new.self.items c.args.class c.args.key (items c) c.requires.absent c.args.self.now.ranked;
-  below = put_below c.args.self.now.keys.items c.args.self.now.order.items c.insert.new.self.items c.args.class c.args.key (items c) c.requires.class c.args.self.now.below;
+  ranked = put_ranked c.args.self.now.keys.items c.args.self.now.order.items c.put_at.new.order.items c.args.class c.args.key (items c) c.requires.absent c.args.self.now.ranked;
+  below = put_below c.args.self.now.keys.items c.args.self.now.order.items c.put_at.new.order.items c.args.class c.args.key (items c) c.requires.class c.args.self.now.below;
   room =
       let room = c.args.self.now.room in
-      let more = c.insert.ensures.capacity in
+      let more = c.put_at.ensures.capacity in
       let same = length-set c.args.self.now.keys.items c.args.class c.args.key in
       omega arith;
 }
 
 pub returns-clause-order : goal.returns-clause-order
 returns-clause-order c =
-    let short = put_room c.args.self.now.keys.items c.args.self.now.order.items c.args.class c.args.self.now.ranked c.args.self.now.below c.requires.class c.requires.absent in
-    let same = ap (λ (xs : List ℕ). length xs) c.deref.ensures.value in
-    let len = c.deref.ensures.len in
-    let room = c.args.self.now.room in
-    inserted _ _ _ _ c.insert.ensures.items (c.insert.ensures.succeeds (omega arith))
+    c.put_at.ensures.items
     ∙ put_in (slice_set c.args.self.now.keys.items c.args.class c.args.key) c.deref-2.result.now c.args.self.now.order.items c.deref.result.now c.args.class
     c.place_of-place.result c.deref-2.ensures.value c.deref.ensures.value c.place_of-place.ensures

@@ -1,6 +1,6 @@
 use Rattle.std.proofs.Common.{◌-◌}
 use Rattle.ranking.specs.Search.{IsFound}
-use Rattle.ranking.proofs.search.place_behind.Given as goal
+use Rattle.ranking.proofs.search.place_of.Given as goal
 
 abbrev pub invariant-loop-low : goal.invariant-loop-low
 invariant-loop-low l = IsFound l.keys l.order l.class l.low l.high
