@@ -18,7 +18,8 @@ pub fn has_come(moment: Option<u128>, now: u128) -> bool
     }
 }
 
-/// Puts a class anew into the lists by deadline and by moment; `was` says whether it was there.
+/// Puts a class anew into the lists by deadline and by moment; `was` says whether it was there. A class without a curve is
+/// in neither, and costs nothing.
 pub fn rank(deadlines: &mut Ranking, moments: &mut Ranking, class: u32, was: bool, slot: &Slot)
     requires deadline_place { class < length (keys_of deadlines.old) }
     requires moment_place { class < length (keys_of moments.old) }
@@ -28,6 +29,9 @@ pub fn rank(deadlines: &mut Ranking, moments: &mut Ranking, class: u32, was: boo
     ensures moments { IsReplaced class (slot_has_head slot.now) (slot_soonest slot.now) moments.old moments.new }
 {
     let is = slot.has_head();
+    if !was && !is {
+        return;
+    }
     deadlines.replace(class, was, is, slot.deadline());
     moments.replace(class, was, is, slot.soonest());
 }
