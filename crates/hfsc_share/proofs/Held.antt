@@ -8,12 +8,12 @@ use Rattle.ranking.specs.Order.{is_in, key_of}
 use Rattle.ranking.specs.Ranking.{IsReplaced, keys_of, order_of}
 use Rattle.ranking.proofs.Ranks.{same_test}
 use Rattle.hfsc_model.specs.Tree.{is_number}
+use Rattle.hfsc_laws.proofs.Tree.{and_true}
 use Rattle.hfsc_share.specs.declared.node.Node.{Node}
 use Rattle.hfsc_share.specs.declared.group.Group.{Group}
-use Rattle.hfsc_share.specs.Lists.{MayReplace}
 use Rattle.hfsc_share.specs.Curves.{IsBy}
 use Rattle.hfsc_share.specs.Node.{parent_in, active_in, time_in, opens_in, is_child_in, is_active_child, AreParentsFirst, AreLimitsBy}
-use Rattle.hfsc_share.specs.Group.{Ranks, IsHigh, GroupHolds, GroupsHold, IsChanged, MayChange, AreRanked, time_key}
+use Rattle.hfsc_share.specs.Group.{Delays, IsDelayed, is_late, Ranks, IsHigh, GroupHolds, GroupsHold, IsChanged, MayChange, AreRanked, time_key}
 use Rattle.hfsc_share.proofs.Places.{get_here, get_other}
 
 -- one class is put into its place: its parent stays, and its virtual time does not fall
@@ -78,6 +78,37 @@ ranks_changed key nodes class x p old new put of ranks r = record {
         (λ n a. let there = get_other nodes class c x n in
         r.others c n ∙ ranks.keys c (sym (ap (λ (o : Option Node). is_number p (parent_in o) && active_in o) there) ∙ a) ∙ sym (ap key there))
 
+-- the same of the list by moments
+delays_changed : (nodes : List Node) (class : ℕ) (x : Node) (p : ℕ) (old new : Ranking) → IsPut nodes class x → x.parent ≡ Some p
+    → Delays nodes p old → IsDelayed class x.active x.opens old new → Delays (slice_set nodes class x) p new
+delays_changed nodes class x p old new put of delays r = record {
+  room = λ c k. let n = r.count in let m = delays.room c (sym (child_kept nodes class x p c put) ∙ k) in omega arith;
+  exactly = λ c. r.classes c ∙ exactly c (class == c) refl;
+  keys = keys;
+}
+  where
+    put_in : slice_get (slice_set nodes class x) class ≡ Some x
+    put_in = get_here nodes class x put.within
+
+    is_of : is_number p x.parent ≡ true
+    is_of = ap (is_number p) of ∙ same_test p
+
+    exactly : (c : ℕ) (b : Bool) → (class == c) ≡ b → (if b then x.active && is_late x.opens else is_in c (order_of old))
+        ≡ (is_active_child (slice_set nodes class x) p c && is_late (opens_in (slice_get (slice_set nodes class x) c)))
+    exactly c true e =
+        let same : class ≡ c = grind (arith, nat_tests, e) in
+        sym (ap (λ n. is_active_child (slice_set nodes class x) p n && is_late (opens_in (slice_get (slice_set nodes class x) n))) (sym same)
+        ∙ ap (λ (o : Option Node). (is_number p (parent_in o) && active_in o) && is_late (opens_in o)) put_in ∙ ap (λ b. (b && x.active) && is_late x.opens) is_of)
+    exactly c false e =
+        let there = get_other nodes class c x (λ s. grind (arith, nat_tests, e, s)) in
+        delays.exactly c ∙ sym (ap (λ (o : Option Node). (is_number p (parent_in o) && active_in o) && is_late (opens_in o)) there)
+
+    keys : (c : ℕ) → is_active_child (slice_set nodes class x) p c ≡ true → key_of (keys_of new) c ≡ opens_in (slice_get (slice_set nodes class x) c)
+    keys c = split (λ d. is_active_child (slice_set nodes class x) p d ≡ true → key_of (keys_of new) d ≡ opens_in (slice_get (slice_set nodes class x) d)) class c
+        (λ a. r.keyed ∙ sym (ap opens_in put_in))
+        (λ n a. let there = get_other nodes class c x n in
+        r.others c n ∙ delays.keys c (sym (ap (λ (o : Option Node). is_number p (parent_in o) && active_in o) there) ∙ a) ∙ sym (ap opens_in there))
+
 high_changed : (nodes : List Node) (class : ℕ) (x : Node) (p high : ℕ) → IsPut nodes class x → x.parent ≡ Some p → IsHigh nodes p high
     → IsHigh (slice_set nodes class x) p (max high x.time)
 high_changed nodes class x p high put of h = record {
@@ -101,7 +132,7 @@ pub group_changed : (nodes : List Node) (class : ℕ) (x : Node) (p : ℕ) (old 
     → GroupHolds nodes p old → IsChanged class x.active x.time x.opens old new → GroupHolds (slice_set nodes class x) p new
 group_changed nodes class x p old new put of holds r = record {
   times = ranks_changed time_key nodes class x p old.times new.times put of holds.times r.times;
-  moments = ranks_changed opens_in nodes class x p old.moments new.moments put of holds.moments r.moments;
+  moments = delays_changed nodes class x p old.moments new.moments put of holds.moments r.moments;
   high = subst (λ n. IsHigh (slice_set nodes class x) p n) (sym r.high) (high_changed nodes class x p old.high put of holds.high);
 }
 
@@ -142,6 +173,29 @@ ranks_kept key nodes class x p r put other ranks = record {
     child_of : (c : ℕ) → c ≡ class → is_active_child nodes p c ≡ true → is_child_in nodes p class ≡ true
     child_of c s a = ap (λ n. is_child_in nodes p n) (sym s) ∙ front (is_child_in nodes p c) (active_in (slice_get nodes c)) a
 
+delays_kept : (nodes : List Node) (class : ℕ) (x : Node) (p : ℕ) (r : Ranking) → IsPut nodes class x → (x.parent ≡ Some p → ⊥)
+    → Delays nodes p r → Delays (slice_set nodes class x) p r
+delays_kept nodes class x p r put other delays = record {
+  room = λ c k. delays.room c (sym (child_kept nodes class x p c put) ∙ k);
+  exactly = λ c. delays.exactly c ∙ same c (is_active_child nodes p c) refl;
+  keys = λ c a.
+      let was = sym (active_kept nodes class x p c put other) ∙ a in
+      delays.keys c was ∙ sym (ap opens_in (get_other nodes class c x (apart c was)));
+}
+  where
+    apart : (c : ℕ) → is_active_child nodes p c ≡ true → c ≡ class → ⊥
+    apart c a s = no_child nodes class x p put other
+        (ap (λ n. is_child_in nodes p n) (sym s) ∙ (and_true (is_child_in nodes p c) (active_in (slice_get nodes c)) a).0)
+
+    same : (c : ℕ) (b : Bool) → is_active_child nodes p c ≡ b → (is_active_child nodes p c && is_late (opens_in (slice_get nodes c)))
+        ≡ (is_active_child (slice_set nodes class x) p c && is_late (opens_in (slice_get (slice_set nodes class x) c)))
+    same c true e =
+        ap (λ b. b && is_late (opens_in (slice_get nodes c))) (sym (active_kept nodes class x p c put other))
+        ∙ ap (λ (o : Option Node). is_active_child (slice_set nodes class x) p c && is_late (opens_in o)) (sym (get_other nodes class c x (apart c e)))
+    same c false e =
+        ap (λ b. b && is_late (opens_in (slice_get nodes c))) e
+        ∙ sym (ap (λ b. b && is_late (opens_in (slice_get (slice_set nodes class x) c))) (active_kept nodes class x p c put other ∙ e))
+
 high_kept : (nodes : List Node) (class : ℕ) (x : Node) (p high : ℕ) → IsPut nodes class x → (x.parent ≡ Some p → ⊥) → IsHigh nodes p high
     → IsHigh (slice_set nodes class x) p high
 high_kept nodes class x p high put other h = record {
@@ -161,19 +215,32 @@ pub group_kept : (nodes : List Node) (class : ℕ) (x : Node) (p : ℕ) (g : Gro
     → GroupHolds nodes p g → GroupHolds (slice_set nodes class x) p g
 group_kept nodes class x p g put other holds = record {
   times = ranks_kept time_key nodes class x p g.times put other holds.times;
-  moments = ranks_kept opens_in nodes class x p g.moments put other holds.moments;
+  moments = delays_kept nodes class x p g.moments put other holds.moments;
   high = high_kept nodes class x p g.high put other holds.high;
 }
 
 -- a class has a place in the lists of its parent, where it stands if it is active
 pub may_change : (nodes : List Node) (class p : ℕ) (g : Group) (was : Bool) → parent_in (slice_get nodes class) ≡ Some p → active_in (slice_get nodes class) ≡ was
     → GroupHolds nodes p g → MayChange class was g
-may_change nodes class p g was of is holds = record { times = one time_key g.times holds.times; moments = one opens_in g.moments holds.moments }
+may_change nodes class p g was of is holds = record {
+  times = record { room = holds.times.room class child; there = holds.times.exactly class ∙ active };
+  moments = record {
+    room = holds.moments.room class child;
+    there = holds.moments.exactly class ∙ keyed (is_active_child nodes p class) refl ∙ ap (λ b. b && is_late (key_of (keys_of g.moments) class)) active;
+  };
+}
   where
-    one : (key : Option Node → Option ℕ) (r : Ranking) → Ranks nodes p key r → MayReplace class was r
-    one key r ranks =
-        let child : is_child_in nodes p class ≡ true = ap (is_number p) of ∙ same_test p in
-        record { room = ranks.room class child; there = ranks.exactly class ∙ ap (λ b. b && active_in (slice_get nodes class)) child ∙ is }
+    child : is_child_in nodes p class ≡ true
+    child = ap (is_number p) of ∙ same_test p
+
+    active : is_active_child nodes p class ≡ was
+    active = ap (λ b. b && active_in (slice_get nodes class)) child ∙ is
+
+    keyed : (b : Bool) → is_active_child nodes p class ≡ b → (is_active_child nodes p class && is_late (opens_in (slice_get nodes class)))
+        ≡ (is_active_child nodes p class && is_late (key_of (keys_of g.moments) class))
+    keyed true e = ap (λ (k : Option ℕ). is_active_child nodes p class && is_late k) (sym (holds.moments.keys class e))
+    keyed false e =
+        ap (λ b. b && is_late (opens_in (slice_get nodes class))) e ∙ sym (ap (λ b. b && is_late (key_of (keys_of g.moments) class)) e)
 
 -- the parents stand first, and no limit knows of a later arrival
 pub parents_put : (nodes : List Node) (class : ℕ) (x : Node) → IsPut nodes class x → AreParentsFirst nodes → AreParentsFirst (slice_set nodes class x)

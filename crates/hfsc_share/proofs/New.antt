@@ -13,7 +13,7 @@ use Rattle.hfsc_share.specs.declared.group.Group.{Group}
 use Rattle.hfsc_share.specs.declared.Shares.{Shares}
 use Rattle.hfsc_share.specs.Classes.{AreClasses}
 use Rattle.hfsc_share.specs.Node.{active_in, parent_in, time_in, opens_in, is_child_in, is_active_child, AreNew, AreParentsFirst, AreLimitsBy, IsNewNode}
-use Rattle.hfsc_share.specs.Group.{AreEmpty, GroupsHold, IsEmpty, Ranks, time_key}
+use Rattle.hfsc_share.specs.Group.{AreEmpty, Delays, GroupsHold, IsEmpty, Ranks, is_late, time_key}
 use Rattle.hfsc_share.specs.Shares.{StandsFor, IsNew}
 use Rattle.hfsc_share.proofs.Opening.{active_is, waits_is}
 use Rattle.hfsc_share.proofs.Walking.{outside_parent}
@@ -61,6 +61,14 @@ empty_ranks cs nodes p key r new empty room = record {
   keys = λ c a. let no = no_active cs nodes p c new in absurd cc;
 }
 
+empty_delays : (cs : List HfscClass) (nodes : List Node) (p : ℕ) (r : Ranking) → AreNew cs nodes → order_of r ≡ []
+    → ((c : ℕ) → is_child cs p c ≡ true → c < length (keys_of r)) → Delays nodes p r
+empty_delays cs nodes p r new empty room = record {
+  room = λ c k. room c (sym (ap (is_number p) (parent_is cs nodes c new)) ∙ k);
+  exactly = λ c. ap (λ (xs : List ℕ). is_in c xs) empty ∙ sym (ap (λ b. b && is_late (opens_in (slice_get nodes c))) (no_active cs nodes p c new));
+  keys = λ c a. let no = no_active cs nodes p c new in absurd cc;
+}
+
 pub new_holds : (cs : List HfscClass) (nodes : List Node) (groups : List Group) → AreNew cs nodes → AreEmpty cs groups → GroupsHold nodes groups
 new_holds cs nodes groups new empty = record {
   count = empty.count ∙ sym new.count;
@@ -68,7 +76,7 @@ new_holds cs nodes groups new empty = record {
       let x = new_group cs groups p g empty e in
       record {
         times = empty_ranks cs nodes p time_key g.times new x.times x.time_keys;
-        moments = empty_ranks cs nodes p opens_in g.moments new x.moments x.moment_keys;
+        moments = empty_delays cs nodes p g.moments new x.moments x.moment_keys;
         high = record {
           highest = λ c k. let zero_is = time_zero cs nodes c new in omega arith;
           least = λ other up. let none = x.high in omega arith;

@@ -102,7 +102,7 @@ taken cs h g last leaf c nodes groups x y z next new s n set =
     opens a =
         subst (λ (o : Option Group). OpensAt cs g last c (later_of (limit_opens (class_of cs c).limit (arrivals_of cs g c) (total cs g c)) (moment_of o))) (sym group.at)
         (opens_at cs g last c nodes group.group s.walks.classes.tree (limit_is cs c s.walks.classes) (s.walks.arrivals c)
-        (walks_children cs h g last leaf c nodes s.walks) (s.holds.each c group.group group.at).moments a)
+        (walks_children cs h g last leaf c nodes s.walks) (s.holds.each c group.group group.at) a)
 
 -- a packet is kept
 pub record IsWakeOf (last : ℕ) (nodes : List Node) (groups : List Group) (c : ℕ) (x y z : Node) : Type 0 where

@@ -1,5 +1,6 @@
--- The children of a class in the order of their virtual times and in that of the moments from which they open.
-use Rattle.std.specs.Prelude.{◌≡◌, ◌≤◌, ◌<◌, ℕ, max, Bool, true, List, [], ◌∷◌, length, Option, None, Some, slice_get, slice_set, slice_index_or}
+-- The children of a class in the order of their virtual times, and those that open late in that of the moments from which
+-- they open.
+use Rattle.std.specs.Prelude.{◌≡◌, ◌≤◌, ◌<◌, ◌&&◌, ◌==◌, ℕ, max, nat_lt, Bool, true, List, [], ◌∷◌, length, Option, None, Some, slice_get, slice_set, slice_index_or, if◌then◌else◌}
 use Rattle.std.specs.List.{find}
 use Rattle.ranking.specs.Order.{is_in, key_of}
 use Rattle.ranking.specs.Ranking.{IsReplaced, keys_of, order_of}
@@ -18,6 +19,17 @@ pub record Ranks (nodes : List Node) (p : ℕ) (key : Option Node → Option ℕ
   pub exactly : (c : ℕ) → is_in c (order_of ranking) ≡ is_active_child nodes p c
   pub keys : (c : ℕ) → is_active_child nodes p c ≡ true → key_of (keys_of ranking) c ≡ key (slice_get nodes c)
 
+-- a moment is after 0 or never comes
+abbrev pub is_late : Option ℕ → Bool
+is_late None = true
+is_late (Some t) = nat_lt 0 t
+
+-- exactly the active children of p that open late stand in a list; each that is active has its key
+pub record Delays (nodes : List Node) (p : ℕ) (ranking : Ranking) : Type 0 where
+  pub room : (c : ℕ) → is_child_in nodes p c ≡ true → c < length (keys_of ranking)
+  pub exactly : (c : ℕ) → is_in c (order_of ranking) ≡ (is_active_child nodes p c && is_late (opens_in (slice_get nodes c)))
+  pub keys : (c : ℕ) → is_active_child nodes p c ≡ true → key_of (keys_of ranking) c ≡ opens_in (slice_get nodes c)
+
 -- no child of p has a greater virtual time
 abbrev pub IsHighest : List Node → ℕ → ℕ → Type 0
 IsHighest nodes p high = (c : ℕ) → is_child_in nodes p c ≡ true → time_in (slice_get nodes c) ≤ high
@@ -32,7 +44,7 @@ time_key o = Some (time_in o)
 
 pub record GroupHolds (nodes : List Node) (p : ℕ) (g : Group) : Type 0 where
   pub times : Ranks nodes p time_key g.times
-  pub moments : Ranks nodes p opens_in g.moments
+  pub moments : Delays nodes p g.moments
   pub high : IsHigh nodes p g.high
 
 -- the groups hold the children of the classes
@@ -60,14 +72,25 @@ pub record AreEmpty (cs : List HfscClass) (groups : List Group) : Type 0 where
   pub count : length groups ≡ length cs
   pub each : (p : ℕ) (d : Group) → p < length groups → IsEmpty cs p (slice_index_or groups p d)
 
+-- what holds before a child is placed anew in the list by moments, and after
+pub record MayDelay (class : ℕ) (was : Bool) (old : Ranking) : Type 0 where
+  pub room : class < length (keys_of old)
+  pub there : is_in class (order_of old) ≡ (was && is_late (key_of (keys_of old) class))
+
+pub record IsDelayed (class : ℕ) (is : Bool) (opens : Option ℕ) (old new : Ranking) : Type 0 where
+  pub count : length (keys_of new) ≡ length (keys_of old)
+  pub classes : (c : ℕ) → is_in c (order_of new) ≡ (if class == c then is && is_late opens else is_in c (order_of old))
+  pub keyed : key_of (keys_of new) class ≡ opens
+  pub others : (c : ℕ) → (c ≡ class → ⊥) → key_of (keys_of new) c ≡ key_of (keys_of old) c
+
 -- what holds before a child is placed anew in both lists, and after
 pub record MayChange (class : ℕ) (was : Bool) (g : Group) : Type 0 where
   pub times : MayReplace class was g.times
-  pub moments : MayReplace class was g.moments
+  pub moments : MayDelay class was g.moments
 
 pub record IsChanged (class : ℕ) (is : Bool) (time : ℕ) (opens : Option ℕ) (old new : Group) : Type 0 where
   pub times : IsReplaced class is (Some time) old.times new.times
-  pub moments : IsReplaced class is opens old.moments new.moments
+  pub moments : IsDelayed class is opens old.moments new.moments
   pub high : new.high ≡ max old.high time
 
 -- its answers, by what it holds
@@ -78,8 +101,9 @@ abbrev pub first_key : List (Option ℕ) → List ℕ → Option ℕ
 first_key keys [] = Some 0
 first_key keys (c ∷ cs) = key_of keys c
 
+-- the first moment from which a child opens; 0 where one opens at once, or none is active
 abbrev pub first_moment : Group → Option ℕ
-first_moment g = first_key (keys_of g.moments) (order_of g.moments)
+first_moment g = if length (order_of g.moments) == length (order_of g.times) then first_key (keys_of g.moments) (order_of g.moments) else Some 0
 
 -- the first child in the order of virtual times that is open at a moment
 abbrev pub first_open : ℕ → Group → Option ℕ

@@ -1,14 +1,16 @@
-//! The children of a class: those that are active in the order of their virtual times, and in that of the moments from which
-//! they open; and the high mark of all.
+//! The children of a class: those that are active in the order of their virtual times, those of them that open late in that
+//! of the moments from which they open, and the high mark of all.
 ghost use Rattle.std.specs.Prelude.{◌≡◌, ℕ, Option, [], max, true, IfOk};
 ghost use Rattle.hfsc_model.specs.RealTime.{has_come};
 ghost use Rattle.hfsc_share.specs.Lists.{HasKeys};
+ghost use Rattle.hfsc_share.specs.Group.{IsDelayed, MayDelay, is_late};
 
 use play_base::NoMemory;
 use ranking::Ranking;
 use std::alloc::Global;
 
-/// The active children of a class in two lists, and the greatest virtual time of all its children.
+/// The active children of a class by virtual time, those of them that open after moment 0 by moment, and the greatest virtual
+/// time of all its children. Where no limit holds a child back the second list is empty.
 #[derive(Debug, Drop)]
 pub struct Group {
     times: Ranking,
@@ -46,13 +48,15 @@ impl Group {
         self.high
     }
 
-    /// The first moment from which a child opens, 0 where no child is active.
+    /// The first moment from which a child opens, 0 where no child is active. One that opens at once stands in the first list
+    /// alone, so the second is shorter then.
     pub fn first_moment(&self) -> Option<u128>
         ensures { result ≡ first_moment self.now }
     {
-        match self.moments.as_slice().first() {
-            None => Some(0),
-            Some(class) => self.moments.key(*class),
+        let late = self.moments.as_slice();
+        match late.first() {
+            Some(class) if late.len() == self.times.as_slice().len() => self.moments.key(*class),
+            _ => Some(0),
         }
     }
 
@@ -69,14 +73,14 @@ impl Group {
         None
     }
 
-    /// Puts a child anew into both lists, with its virtual time, not less than before, and the moment from which it opens.
+    /// Puts a child anew into its lists, with its virtual time, not less than before, and the moment from which it opens.
     /// `was` and `is` say whether it was active, and is now.
     pub fn replace(&mut self, class: u32, was: bool, is: bool, time: u128, opens: Option<u128>)
         requires { MayChange class was self.old }
         ensures { IsChanged class is time opens self.old self.new }
     {
         self.times.replace(class, was, is, Some(time));
-        self.moments.replace(class, was, is, opens);
+        delay(&mut self.moments, class, was, is, opens);
         self.high = self.high.max(time);
     }
 }
@@ -88,5 +92,31 @@ pub fn has_come(moment: Option<u128>, now: u128) -> bool
     match moment {
         None => false,
         Some(moment) => moment <= now,
+    }
+}
+
+/// A moment is after 0 or never comes.
+fn is_late(moment: Option<u128>) -> bool
+    ensures { result ≡ is_late moment }
+{
+    match moment {
+        None => true,
+        Some(moment) => moment > 0,
+    }
+}
+
+/// Puts a child anew into the list by the moments from which children open, where those that open at once do not stand;
+/// `was` and `is` say whether it was active, and is now.
+fn delay(moments: &mut Ranking, class: u32, was: bool, is: bool, opens: Option<u128>)
+    requires { MayDelay class was moments.old }
+    ensures { IsDelayed class is opens moments.old moments.new }
+{
+    let was_late = was && is_late(moments.key(class));
+    let late = is && is_late(opens);
+    if was_late || late {
+        moments.replace(class, was_late, late, opens);
+    }
+    if !late {
+        moments.note(class, opens);
     }
 }

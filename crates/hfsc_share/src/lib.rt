@@ -2,9 +2,9 @@
 //!
 //! The choice goes down from the root, to the active child of least virtual time among those on whose path a packet waits
 //! within all upper limits. A class keeps the units sent in it and below it, and its virtual time is the first at which its
-//! link-sharing curve, over all its activations, reaches them. The active children of each class stand in two lists, by
-//! virtual time and by the moment from which the limits let a leaf below be served; `build` takes all memory. Moments are
-//! nanoseconds, lengths bytes. The source is Stoica, Zhang and Ng, "A Hierarchical Fair Service Curve Algorithm for
+//! link-sharing curve, over all its activations, reaches them. The active children of each class stand in a list by
+//! virtual time, and those that limits hold back in one by the moment from which a leaf below may be served; `build` takes all
+//! memory. Moments are nanoseconds, lengths bytes. The source is Stoica, Zhang and Ng, "A Hierarchical Fair Service Curve Algorithm for
 //! Link-Sharing, Real-Time and Priority Services", SIGCOMM 1997; upper limits are those of altq.conf(5).
 #![tactic(auto)]
 

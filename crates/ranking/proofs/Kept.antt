@@ -54,3 +54,6 @@ put_below keys order new c k e h b =
 pub put_room : (keys : List (Option ℕ)) (order : List ℕ) (c : ℕ) → is_ranked keys order ≡ true → are_below (length keys) order ≡ true
     → c < length keys → is_in c order ≡ false → length order < length keys
 put_room keys order c r b h i = has_room keys (length keys) order c (ranked_true keys order r) (below_true (length keys) order b) h i
+
+pub noted_below : (keys : List (Option ℕ)) (order : List ℕ) (c : ℕ) (k : Option ℕ) → are_below (length keys) order ≡ true → are_below (length (slice_set keys c k)) order ≡ true
+noted_below keys order c k b = ap (λ n. are_below n order) (length-set keys c k) ∙ b

@@ -4,3 +4,4 @@ pub mod Searched
 pub mod Ranks
 pub mod Kept
 pub mod Orders
+pub mod Subsets

@@ -77,7 +77,7 @@ without_ranked keys (x ∷ xs) c r = go (x == c) (without_ranked keys xs c r.1)
     go false w = (before_without keys x c xs r.0, w)
 
 -- a class does not stand behind itself
-not_behind : (keys : List (Option ℕ)) (x : ℕ) (xs : List ℕ) (b : Bool) → is_in x xs ≡ b → IsBeforeAll keys x xs → b ≡ false
+pub not_behind : (keys : List (Option ℕ)) (x : ℕ) (xs : List ℕ) (b : Bool) → is_in x xs ≡ b → IsBeforeAll keys x xs → b ≡ false
 not_behind keys x xs false e r = refl
 not_behind keys x xs true e r =
     let yes : is_before keys x x ≡ true = before_in keys x x xs r e in
@@ -101,7 +101,7 @@ without_in keys (x ∷ xs) c d r = go (x == c) (x == d) (c == d) refl refl refl 
     go false false true f g h rest = rw g (rest ∙ rw h refl)
     go false false false f g h rest = rw g (rest ∙ rw h refl)
 
-without_length : (xs : List ℕ) (c : ℕ) → is_in c xs ≡ true → length (without xs c) + 1 ≡ length xs
+pub without_length : (xs : List ℕ) (c : ℕ) → is_in c xs ≡ true → length (without xs c) + 1 ≡ length xs
 without_length [] c i = absurd cc
 without_length (x ∷ xs) c i = go (x == c) i (without_length xs c)
   where

@@ -94,6 +94,17 @@ impl Ranking {
         self.put_if(class, is, key);
     }
 
+    /// Gives a class that is not there a key. Constant time.
+    pub fn note(&mut self, class: u32, key: Option<u128>)
+        requires class { class < length (keys_of self.old) }
+        requires absent { is_in class (order_of self.old) ≡ false }
+        ensures keys { keys_of self.new ≡ slice_set (keys_of self.old) class key }
+        ensures order { order_of self.new ≡ order_of self.old }
+    {
+        let place = class as usize;
+        self.keys[place] = key;
+    }
+
     /// Takes a class out, where it is there.
     fn take_if(&mut self, class: u32, was: bool)
         requires { is_in class (order_of self.old) ≡ was }
