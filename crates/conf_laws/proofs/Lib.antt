@@ -7,6 +7,7 @@ pub mod ConfigurationsRead
 pub mod CurvesRead
 pub mod Dotted
 pub mod Each
+pub mod FaultLines
 pub mod FilterLines
 pub mod FilterParts
 pub mod FilterPartsRead
@@ -45,6 +46,8 @@ pub mod ReadLines
 pub mod SpotsRead
 pub mod StatementLines
 pub mod StatementsRead
+pub mod TextCuts
+pub mod TextFaults
 pub mod TextLines
 pub mod Types
 pub mod WordParts

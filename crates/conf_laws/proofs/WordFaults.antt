@@ -204,7 +204,7 @@ by_lines before line m end other r t fault agree h k early e =
         let there = close_to m (read_form of before (said line end r)) (read_form of before (said line other t)) fault close here early in
         subst (λ x. read_form x before (said line other t) ≡ Err fault) (sym s.right_form) there
 
-line_stands : (before : List Begun) (line : ℕ) (words more other : List (List ℕ)) (fault : ConfPlace) → fault.word ≤ length words
+pub line_stands : (before : List Begun) (line : ℕ) (words more other : List (List ℕ)) (fault : ConfPlace) → fault.word ≤ length words
     → read_statement before (line_of_words line (words ++ more)) ≡ Err fault → read_statement before (line_of_words line (words ++ other)) ≡ Err fault
 line_stands before line words more other fault within e =
     by_lines before line (1 + length words) (length (words ++ more) + 1) (length (words ++ other) + 1) (read_from line (words ++ more) start 1)
@@ -221,11 +221,11 @@ undecided_word : (bs : List Begun) (fault : ConfPlace) → first_undecided bs �
 undecided_word [] fault e = cc
 undecided_word (b ∷ bs) fault e = undecided_by b.line (undecided b) (first_undecided bs) fault e (λ h. undecided_word bs fault h)
 
-finished_word : (bs : List Begun) (o : Option ConfPlace) (fault : ConfPlace) → first_undecided bs ≡ o → finished_unless bs o ≡ Err fault → fault.word ≡ 0
+pub finished_word : (bs : List Begun) (o : Option ConfPlace) (fault : ConfPlace) → first_undecided bs ≡ o → finished_unless bs o ≡ Err fault → fault.word ≡ 0
 finished_word bs None fault e h = cc
 finished_word bs (Some f) fault e h = let same : f ≡ fault = cc in undecided_word bs fault (e ∙ ap (λ x. Some x) same)
 
-abbrev then_read : Result (List Begun) ConfPlace → List Statement → Result (List Interface) ConfPlace
+abbrev pub then_read : Result (List Begun) ConfPlace → List Statement → Result (List Interface) ConfPlace
 then_read read statements = elim read [ Ok before ↦ reading_from before statements | Err fault ↦ Err fault ]
 
 at_last : (r : Result (List Begun) ConfPlace) (fault : ConfPlace) → 1 ≤ fault.word → then_read r [] ≡ Err fault → r ≡ Err fault

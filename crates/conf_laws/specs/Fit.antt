@@ -1,5 +1,5 @@
 -- What the numbers, the names and the tree of a configuration keep to, after altq.conf(5): each configuration that a text has is so.
-use Rattle.std.specs.Prelude.{◌≡◌, ◌≢◌, ◌≤◌, ◌<◌, ◌*◌, ◌^◌, ◌⊎◌, ℕ, true, false, List, [], length, All, Option, Some, None, slice_get, codes, bit_and}
+use Rattle.std.specs.Prelude.{◌≡◌, ◌≢◌, ◌≤◌, ◌<◌, ◌*◌, ◌^◌, ◌⊎◌, ℕ, true, false, List, [], length, Option, Some, None, slice_get, codes, bit_and}
 use Rattle.service_curve.specs.declared.Curve.{Curve}
 use Rattle.conf_lines.specs.Laws.{AreBytes}
 use Rattle.conf_lines.specs.Slots.{is_name}

@@ -1,5 +1,8 @@
 -- What holds of every configuration, and of its canonical text.
-use Rattle.std.specs.Prelude.{◌≡◌, ◌+◌, ◌≤◌, List, [], ◌∷◌, ◌++◌, ℕ, length, true, Ok, Err, Some, slice_get}
+use Rattle.std.specs.Prelude.{◌≡◌, ◌⊎◌, ◌+◌, ◌≤◌, ◌<◌, ◌==◌, ◌&&◌, ◌||◌, Bool, true, false, not, List, [], ◌∷◌, ◌++◌, ℕ, length, Contains, Ok, Err, Some, slice_get}
+use Rattle.line_text.specs.Lines.{ends}
+use Rattle.line_text.specs.Words.{is_blank}
+use Rattle.conf_lines.specs.declared.fault.ConfKind.TheVariants.{TooLong}
 use Rattle.conf_lines.specs.declared.fault.ConfPlace.{ConfPlace}
 use Rattle.conf_lines.specs.declared.statement.Statement.{Statement}
 use Rattle.conf_lines.specs.Grammar.{start}
@@ -9,7 +12,7 @@ use Rattle.conf_tree.specs.declared.filter.Filter.{Filter}
 use Rattle.conf_tree.specs.declared.interface.Interface.{Interface}
 use Rattle.conf_tree.specs.Canonical.{canonical_text}
 use Rattle.conf_tree.specs.Family.{default_class, is_queue_class}
-use Rattle.conf_tree.specs.Reading.{reading, IsConfiguration}
+use Rattle.conf_tree.specs.Reading.{reading, IsConfiguration, HasFirstFault}
 use Rattle.conf_laws.specs.Fit.{AreFit}
 use Rattle.conf_laws.specs.Statements.{canonical_statements}
 
@@ -54,3 +57,26 @@ FaultsStandAtWords =
     (statements rest : List Statement) (line : ℕ) (words more other : List (List ℕ)) (fault : ConfPlace) → 1 ≤ fault.word → fault.word ≤ length words
     → reading (statements ++ line_of_words line (words ++ more) ∷ []) ≡ Err fault
     → reading (statements ++ line_of_words line (words ++ other) ∷ rest) ≡ Err fault
+
+-- A text ends behind a word: with a blank, a line feed or the '#' of a comment. A carriage return behind a backslash is not enough,
+-- since with a line feed it is a continuation.
+abbrev pub ends_word : List ℕ → Bool
+ends_word [] = false
+ends_word (byte ∷ []) = is_blank byte || ends byte
+ends_word (byte ∷ next ∷ []) = (is_blank next || ends next) && not ((byte == 92) && (next == 13))
+ends_word (byte ∷ next ∷ third ∷ text) = ends_word (next ∷ third ∷ text)
+
+-- the word of a fault stands in a text
+pub record StandsIn (text : List ℕ) (fault : ConfPlace) : Type 0 where
+  pub statement : Statement
+  pub is : Contains (statements_of text) statement
+  pub line : fault.line ≡ statement.line
+  pub some : 1 ≤ fault.word
+  pub word : fault.word < statement.end
+
+-- THE SAME OF BYTES: two texts that agree up to and with the word of a fault, and the byte that ends it, have the same fault, or the
+-- line is too long in the other. So no continuation of a text mends a fault.
+abbrev pub FaultsStandInTexts : Type 0
+FaultsStandInTexts =
+    (text more other : List ℕ) (fault : ConfPlace) → ends_word text ≡ true → StandsIn text fault → HasFirstFault (text ++ more) fault
+    → HasFirstFault (text ++ other) fault ⊎ HasFirstFault (text ++ other) (record { line = fault.line; word = 0; kind = TooLong })

@@ -1,5 +1,5 @@
 //! Laws of configurations and of their canonical text.
-ghost use Rattle.conf_laws.specs.Laws.{ConfigurationsFit, FaultsStandAtWords, InterfacesHaveQueues, StatementsAreRead, TextHasItsStatements, TextsReadBack};
+ghost use Rattle.conf_laws.specs.Laws.{ConfigurationsFit, FaultsStandAtWords, FaultsStandInTexts, InterfacesHaveQueues, StatementsAreRead, TextHasItsStatements, TextsReadBack};
 
 use conf_lines::items_are_sound;
 
@@ -41,4 +41,10 @@ pub fn texts_read_back()
 /// to and with this word have the same fault, whatever follows.
 pub fn faults_stand_at_words()
     ensures { FaultsStandAtWords }
+{}
+
+/// The same of bytes: two texts that agree up to and with the word of a fault, and the byte that ends it, have the same first
+/// fault, or in the other text its line is too long. So no continuation of a text mends a fault.
+pub fn faults_stand_in_texts()
+    ensures { FaultsStandInTexts }
 {}

@@ -5,7 +5,7 @@ mod laws;
 mod rows;
 
 pub use laws::{
-    configurations_fit, faults_stand_at_words, interfaces_have_queues, statements_are_read,
-    text_has_its_statements, texts_read_back,
+    configurations_fit, faults_stand_at_words, faults_stand_in_texts, interfaces_have_queues,
+    statements_are_read, text_has_its_statements, texts_read_back,
 };
 pub use rows::worked_rows;

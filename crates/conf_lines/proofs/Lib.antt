@@ -6,5 +6,5 @@ pub mod SoundAddresses
 pub mod SoundItems
 pub mod Steps
 pub mod LineSplit
-mod StandingWords
+pub mod StandingWords
 mod WholeOptions

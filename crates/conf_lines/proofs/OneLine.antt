@@ -10,7 +10,7 @@ some_by true hash m n = omega arith
 some_by false true m n = omega arith
 some_by false false m n = omega arith
 
-line_len-some : (byte : ℕ) (text : List ℕ) → 0 < line_len (byte ∷ text)
+pub line_len-some : (byte : ℕ) (text : List ℕ) → 0 < line_len (byte ∷ text)
 line_len-some byte text = some_by (byte == 10) (byte == 35) (through_line_feed text) (line_len_after (joint (byte ∷ text) - 1) text)
 
 -- as many turns as bytes are enough
@@ -27,7 +27,7 @@ turns (suc m) (suc n) line (byte ∷ text) h k =
     ap (before (statement_of line (take (line_len (byte ∷ text)) (byte ∷ text))))
     (turns m n (line + line_feeds (take (line_len (byte ∷ text)) (byte ∷ text))) (drop (line_len (byte ∷ text)) (byte ∷ text)) (omega arith) (omega arith))
 
-one_line : (turn line : ℕ) (rest : List ℕ) → 0 < length rest → length rest ≤ turn
+pub one_line : (turn line : ℕ) (rest : List ℕ) → 0 < length rest → length rest ≤ turn
     → statements_in turn line rest ≡ before (statement_of line (take (line_len rest) rest)) (statements_in (length rest - line_len rest) (line + line_feeds (take (line_len rest) rest)) (drop (line_len rest) rest))
 one_line zero line rest some h = absurd (omega arith)
 one_line (suc turn) line [] some h = absurd (omega arith)

@@ -14,6 +14,24 @@ past line words place at r =
       | Err kind ↦ stops place (fault_at line at (Some kind))
     ]
 
+-- it stands on this line
+abbrev pub IsOn : ℕ → Option ConfPlace → Type 0
+IsOn line None = Unit {0}
+IsOn line (Some fault) = fault.line ≡ line
+
+on_line : (line at : ℕ) (o : Option ConfKind) → IsOn line (fault_at line at o)
+on_line line at None = tt
+on_line line at (Some kind) = refl
+
+on_line_past : (line : ℕ) (words : List (List ℕ)) (place : Place) (at : ℕ) (r : Result Step ConfKind) → ((to : Place) → IsOn line (read_from line words to (at + 1)).fault)
+    → IsOn line (past line words place at r).fault
+on_line_past line words place at (Ok taken) k = k taken.after
+on_line_past line words place at (Err kind) k = refl
+
+pub faults_on_line : (line : ℕ) (words : List (List ℕ)) (place : Place) (at : ℕ) → IsOn line (read_from line words place at).fault
+faults_on_line line [] place at = on_line line at (end place)
+faults_on_line line (word ∷ words) place at = on_line_past line words place at (step place word) (λ to. faults_on_line line words to (at + 1))
+
 at_word : (line at : ℕ) (o : Option ConfKind) (fault : ConfPlace) → fault_at line at o ≡ Some fault → at ≤ fault.word
 at_word line at None fault e = cc
 at_word line at (Some kind) fault e =
