@@ -11,6 +11,7 @@ pub mod Waking
 pub mod Serving
 pub mod Walking
 pub mod Steps
+pub mod Staying
 pub mod Picks
 pub mod Ends
 pub mod New

@@ -66,7 +66,7 @@ pub record IsGroup (groups : List Group) (c : ℕ) : Type 0 where
   pub group : Group
   pub at : slice_get groups c ≡ Some group
 
-group_of : (groups : List Group) (c : ℕ) → c < length groups → IsGroup groups c
+pub group_of : (groups : List Group) (c : ℕ) → c < length groups → IsGroup groups c
 group_of groups c h = go (slice_get groups c) refl
   where
     absent : (xs : List Group) (i : ℕ) → i < length xs → slice_get xs i ≡ None → ⊥

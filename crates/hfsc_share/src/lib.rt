@@ -4,8 +4,8 @@
 //! within all upper limits. A class keeps the units sent in it and below it, and its virtual time is the first at which its
 //! link-sharing curve, over all its activations, reaches them. The active children of each class stand in a list by
 //! virtual time, and those that limits hold back in one by the moment from which a leaf below may be served; `build` takes all
-//! memory. Moments are nanoseconds, lengths bytes. The source is Stoica, Zhang and Ng, "A Hierarchical Fair Service Curve Algorithm for
-//! Link-Sharing, Real-Time and Priority Services", SIGCOMM 1997; upper limits are those of altq.conf(5).
+//! memory. Moments are nanoseconds, lengths bytes. The source is Stoica, Zhang and Ng, "A Hierarchical Fair Service Curve
+//! Algorithm for Link-Sharing, Real-Time and Priority Services", SIGCOMM 1997; upper limits are those of altq.conf(5).
 #![tactic(auto)]
 
 ghost use Rattle.std.specs.Prelude.{◌≡◌, ◌==◌, ◌<◌, ◌≤◌, ◌^◌, ◌&&◌, ◌||◌, ◌∷◌, [], ℕ, not, List, Option, None, Some, All, Bool, true, false, length, slice_get, IfOk};
@@ -155,9 +155,11 @@ impl Shares {
         let below = self.first_moment_below(class);
         let node = &mut self.nodes[class as usize];
         let was = node.is_active();
+        let opens = node.opens();
         node.wake(self.woken, start);
         node.reopen(below);
-        rank(&mut self.groups, class, was, node);
+        let same = was && node.opens() == opens;
+        rank_unless(same, &mut self.groups, class, was, node);
         node.parent()
     }
 
@@ -292,6 +294,17 @@ fn rank(groups: &mut Vec<Group>, class: u32, was: bool, node: &Node)
 {
     if let Some(parent) = node.parent() {
         groups[parent as usize].replace(class, was, node.is_active(), node.time(), node.opens());
+    }
+}
+
+/// The same, unless the class is the `same` to its parent as before: then its lists stay.
+fn rank_unless(same: bool, groups: &mut Vec<Group>, class: u32, was: bool, node: &Node)
+    requires change { MayRank class was node.now groups.old.items }
+    requires same { same ≡ true → AreRanked class node.now groups.old.items groups.old.items }
+    ensures { AreRanked class node.now groups.old.items groups.new.items }
+{
+    if !same {
+        rank(groups, class, was, node);
     }
 }
 

@@ -118,7 +118,7 @@ impl Node {
         ensures { IsReopened below self.old self.new }
     {
         self.opens = if self.active {
-            later_of(limit_opens(&self.limit, self.total), below)
+            opens_with(&self.limit, self.total, below)
         } else {
             None
         };
@@ -190,15 +190,15 @@ fn begin(running: &mut Option<Running>, at: u128, count: u128)
     }
 }
 
-/// The moment from which a limit lets a class of this total be served.
-fn limit_opens(limit: &Option<Running>, total: u128) -> Option<u128>
+/// The moment from which a limit lets a class of this total be served, or that below it where this is later.
+fn opens_with(limit: &Option<Running>, total: u128, below: Option<u128>) -> Option<u128>
     requires total { total < 2 ^ 100 }
     requires opened { IsOpen true limit.now }
-    ensures { (o : Option Curve) (os : List Opening) → RunningStands limit.now o os → result ≡ limit_opens o os total }
+    ensures { (o : Option Curve) (os : List Opening) → RunningStands limit.now o os → result ≡ later_of (limit_opens o os total) below }
 {
     match limit {
-        None => Some(0),
-        Some(limit) => limit.soonest(total),
+        None => below,
+        Some(limit) => later_of(limit.soonest(total), below),
     }
 }
 

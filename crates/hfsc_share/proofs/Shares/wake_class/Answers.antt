@@ -1,4 +1,6 @@
-use Rattle.std.proofs.Common.{true, refl, ap, sym, subst, ◌∙◌}
+use Rattle.std.proofs.Common.{◌≡◌, ℕ, true, None, Some, eqb, refl, ap, sym, subst, arith, ◌∙◌}
+use Rattle.std.proofs.lemmas.Bool.Decides.{nat_tests}
+use Rattle.std.specs.Option.{option_eq}
 use Rattle.std.specs.Prelude.{Option, slice_set}
 use Rattle.runtime_curve.specs.declared.Running.{Running}
 use Rattle.hfsc_share.specs.Curves.{IsBy}
@@ -6,16 +8,19 @@ use Rattle.hfsc_share.specs.Node.{active_in, parent_in}
 use Rattle.hfsc_share.specs.Walk.{start_below}
 use Rattle.hfsc_share.proofs.Places.{get_read}
 use Rattle.hfsc_share.proofs.Held.{held_ranked, is_put, limits_put, may_change, parent_within, parents_put}
+use Rattle.hfsc_share.specs.declared.node.Node.{Node}
+use Rattle.hfsc_share.proofs.Staying.{same_ranked}
 use Rattle.hfsc_share.proofs.Steps.{awake_by, stepped, set_active, wake_step, reopened_by}
 use Rattle.hfsc_share.proofs.Shares.wake_class.Goals as goal
+use Rattle.hfsc_share.proofs.Shares.wake_class.Goals.{then-was, else-was}
 
 pub wake-requires : goal.wake-requires
 wake-requires c =
     c.args.self.now.limits_by c.args.class c.index_mut-node.result.now
     (get_read c.args.self.now.nodes.items c.args.class c.index_mut-node.result.now c.requires c.index_mut-node.ensures.value)
 
-pub rank-requires : goal.rank-requires
-rank-requires c =
+pub rank_unless-requires-clause-change : goal.rank_unless-requires-clause-change
+rank_unless-requires-clause-change c =
     let at = get_read c.args.self.now.nodes.items c.args.class c.index_mut-node.result.now c.requires c.index_mut-node.ensures.value in
     let put = is_put c.args.self.now.nodes.items c.args.class c.index_mut-node.result.now c.wake.new.self c.reopen.new.self c.requires at c.wake.ensures.parent c.wake.ensures.later c.reopen.ensures.parent c.reopen.ensures.time in
     record {
@@ -24,13 +29,40 @@ rank-requires c =
           (c.args.self.now.groups_hold.each p g held);
     }
 
+equal : (a b : Option ℕ) → option_eq eqb a b ≡ true → a ≡ b
+equal None None e = refl
+equal None (Some y) e = absurd cc
+equal (Some x) None e = absurd cc
+equal (Some x) (Some y) e = let same : x ≡ y = grind (arith, nat_tests, e) in ap (λ n. Some n) same
+
+kept : (c : goal.After-rank_unless-arg-1) → c.if-was.same ≡ true
+    → (c.index_mut-node.result.now.active ≡ true) × (c.reopen.new.self.opens ≡ c.index_mut-node.result.now.opens)
+kept c e = elim c.if-was.branch [
+  | then-was w ↦ (sym c.is_active-was.ensures ∙ w.if-was.true, sym w.opens.ensures ∙ equal w.opens.result c.opens-opens.result (sym w.eq-same.ensures ∙ sym w.same-is ∙ e) ∙ c.opens-opens.ensures)
+  | else-was w ↦ absurd (let no = w.same-is in cc)
+]
+
+pub rank_unless-requires-clause-same : goal.rank_unless-requires-clause-same
+rank_unless-requires-clause-same c = λ e.
+    let at = get_read c.args.self.now.nodes.items c.args.class c.index_mut-node.result.now c.requires c.index_mut-node.ensures.value in
+    let a = (kept c e).0 in
+    same_ranked c.args.self.now.nodes.items c.args.self.now.groups.items c.args.class c.index_mut-node.result.now c.reopen.new.self at c.args.self.now.groups_hold
+    (λ p f. parent_within c.args.self.now.nodes.items c.args.self.now.groups.items c.args.class p c.requires c.args.self.now.parents_first c.args.self.now.groups_hold (ap parent_in at ∙ f))
+    a
+    (record {
+      parent = c.reopen.ensures.parent ∙ c.wake.ensures.parent;
+      active = c.reopen.ensures.active ∙ c.wake.ensures.active ∙ sym a;
+      time = c.reopen.ensures.time ∙ ap (λ (n : Node). n.time) (c.wake.ensures.same a);
+      opens = (kept c e).1;
+    })
+
 pub invariant_of-self : goal.invariant_of-self
 invariant_of-self c =
     let at = get_read c.args.self.now.nodes.items c.args.class c.index_mut-node.result.now c.requires c.index_mut-node.ensures.value in
     let put = is_put c.args.self.now.nodes.items c.args.class c.index_mut-node.result.now c.wake.new.self c.reopen.new.self c.requires at c.wake.ensures.parent c.wake.ensures.later c.reopen.ensures.parent c.reopen.ensures.time in
     record {
-      groups_hold = held_ranked c.args.self.now.nodes.items c.args.self.now.groups.items c.rank.new.groups.items c.args.class c.reopen.new.self put
-          c.args.self.now.parents_first c.args.self.now.groups_hold c.rank.ensures;
+      groups_hold = held_ranked c.args.self.now.nodes.items c.args.self.now.groups.items c.rank_unless.new.groups.items c.args.class c.reopen.new.self put
+          c.args.self.now.parents_first c.args.self.now.groups_hold c.rank_unless.ensures;
       parents_first = parents_put c.args.self.now.nodes.items c.args.class c.reopen.new.self put c.args.self.now.parents_first;
       limits_by = limits_put c.args.self.now.woken c.args.self.now.nodes.items c.args.class c.reopen.new.self put
           (subst (λ (k : Option Running). IsBy c.args.self.now.woken k) (sym c.reopen.ensures.limit) c.wake.ensures.by)
