@@ -1,6 +1,6 @@
 -- The canonical text line by line.
 use Rattle.std.proofs.Common.{◌≡◌, ℕ, ◌+◌, Bool, true, false, List, [], ◌∷◌, ◌++◌, length, Option, Some, None, slice_get, if◌then◌else◌, codes, refl, ap, arith}
-use Rattle.conf_lines.specs.Slots.{is_name}
+use Rattle.line_text.specs.Names.{is_name}
 use Rattle.conf_tree.specs.declared.class.Class.{Class}
 use Rattle.conf_tree.specs.declared.filter.Filter.{Filter}
 use Rattle.conf_tree.specs.declared.interface.Interface.{Interface}
@@ -17,7 +17,6 @@ use Rattle.conf_laws.proofs.TextLines.{TextLines, no_lines, one_line, join, as_t
 
 -- what holds of a class is what its line is read by
 null_is_name : IsName (codes "NULL")
-unfolding is_name
 null_is_name = refl
 
 parent_is_name : (kind : Kind) (classes : List Class) (k : ℕ) (parent : Option ℕ) → HasParent kind classes k parent

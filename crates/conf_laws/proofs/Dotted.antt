@@ -3,7 +3,7 @@ use Rattle.std.proofs.Common.{◌≡◌, ℕ, ◌+◌, ◌<◌, ◌≤◌, ◌++
 use Rattle.std.proofs.lemmas.Fmt.{decimal_is_IsNumeral, length-decimal-le}
 use Rattle.std.proofs.lemmas.List.{length-append}
 use Rattle.line_text.specs.Addresses.{octet, ip4_of}
-use Rattle.conf_lines.specs.Slots.{are_name_bytes}
+use Rattle.line_text.specs.Names.{are_name_bytes}
 use Rattle.conf_tree.specs.Canonical.{ip4_word}
 use Rattle.conf_lines.specs.Laws.{AreBytes}
 use Rattle.conf_laws.proofs.Marks.{Lacks, cut-front}

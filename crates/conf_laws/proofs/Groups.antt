@@ -7,7 +7,7 @@ use Rattle.std.specs.Fmt.{digits, digits_onto, digit_glyph}
 use Rattle.line_text.specs.Addresses.{pieces, gap_from}
 use Rattle.line_text.specs.Addresses.{group as group_bytes}
 use Rattle.line_text.specs.Words.{with_first}
-use Rattle.conf_lines.specs.Slots.{are_name_bytes}
+use Rattle.line_text.specs.Names.{are_name_bytes}
 use Rattle.conf_tree.specs.Canonical.{hex}
 use Rattle.conf_laws.proofs.Marks.{Lacks}
 use Rattle.conf_laws.proofs.NameBytes.{digits-name_bytes}

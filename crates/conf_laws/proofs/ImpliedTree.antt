@@ -1,7 +1,7 @@
 -- The implied classes keep to the tree like any other.
 use Rattle.std.proofs.Common.{◌≡◌, ◌≢◌, ◌⊎◌, inl, inr, ⊎_elim, ℕ, zero, suc, true, false, List, [], ◌∷◌, Some, None, codes, bytes_eq, slice_get, refl, sym, ap, subst, ◌∙◌, arith}
 use Rattle.conf_lines.specs.Options.{most_rate}
-use Rattle.conf_lines.specs.Slots.{is_name}
+use Rattle.line_text.specs.Names.{is_name}
 use Rattle.conf_tree.specs.declared.class.Class.{Class}
 use Rattle.conf_tree.specs.declared.interface.Kind.{Kind}
 use Rattle.conf_tree.specs.declared.interface.Kind.TheVariants.{Hfsc, Cbq}
@@ -43,7 +43,6 @@ some_is : {A : Type 0} (x : A) → Some x ≢ None
 some_is x e = cc
 
 top_is : (kind : Kind) (rate : ℕ) → IsWithin 1000 most_rate rate → IsClass kind (pair kind rate) 0 (top kind rate)
-unfolding is_name
 top_is Hfsc rate h = record {
   name = refl;
   parent = refl;
@@ -83,7 +82,6 @@ top_is Cbq rate h = record {
 }
 
 leaf_is : (kind : Kind) (rate : ℕ) → IsWithin 1000 most_rate rate → IsClass kind (pair kind rate) 1 (leaf kind rate)
-unfolding is_name
 leaf_is Hfsc rate h = record {
   name = refl;
   parent = (omega arith, top Hfsc rate, refl, record { named = root_differs; real = refl; inner = λ e. refl });

@@ -5,7 +5,8 @@ use Rattle.std.proofs.lemmas.Bool.Decides.{nat_tests}
 use Rattle.std.proofs.lemmas.Fmt.{decimal_is_IsNumeral}
 use Rattle.std.specs.Char.{digit_value}
 use Rattle.std.specs.Str.Parse.{AllDigits}
-use Rattle.conf_lines.specs.Slots.{is_name_byte, are_name_bytes, are_plain, is_name}
+use Rattle.line_text.specs.Names.{is_name_byte, are_name_bytes, is_name}
+use Rattle.conf_lines.specs.Slots.{are_plain}
 use Rattle.conf_laws.proofs.Lines.{is_word_byte, is_word, IsWord}
 
 name_byte-plain : (byte : ℕ) → is_name_byte byte ≡ true → (nat_le 33 byte && nat_le byte 126) ≡ true
@@ -54,7 +55,6 @@ pub record HasName (word : List ℕ) : Type 0 where
   pub bytes : are_name_bytes word ≡ true
 
 pub name_has : (word : List ℕ) → is_name word ≡ true → HasName word
-unfolding is_name
 name_has word h =
     let parts = and_parts (nat_le 1 (length word) && nat_le (length word) 64) (are_name_bytes word) h in
     let lengths = and_parts (nat_le 1 (length word)) (nat_le (length word) 64) parts.0 in

@@ -3,7 +3,8 @@ use Rattle.std.proofs.Common.{◌≡◌, ◌≢◌, ℕ, ◌≤◌, ◌<◌, ◌
 use Rattle.std.proofs.lemmas.Fmt.{decimal_is_IsNumeral, length-decimal-le}
 use Rattle.std.proofs.lemmas.List.{length-append}
 use Rattle.conf_lines.specs.declared.item.What.TheVariants.{Name, Ip4, Ip6}
-use Rattle.conf_lines.specs.Slots.{are_name_bytes, are_plain, rate_in, whole_in, name_in, protocol_in, mask_in, address_in, address6_in}
+use Rattle.line_text.specs.Names.{are_name_bytes}
+use Rattle.conf_lines.specs.Slots.{are_plain, rate_in, whole_in, name_in, protocol_in, mask_in, address_in, address6_in}
 use Rattle.conf_tree.specs.Canonical.{ip4_word, ip6_word}
 use Rattle.conf_lines.specs.Laws.{AreBytes}
 use Rattle.conf_laws.specs.Fit.{IsName}

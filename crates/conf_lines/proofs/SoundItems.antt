@@ -22,7 +22,8 @@ use Rattle.conf_lines.specs.declared.statement.Form.TheVariants as form
 use Rattle.conf_lines.specs.declared.statement.Statement.{Statement}
 use Rattle.conf_lines.specs.Grammar.{says, reads, counts, refused, begins, at_statement, at_discipline, after_interface, at_parent, chosen, is_convex, at_bend, at_slope, at_last_slope, keyword, address_of, then_address, at_address, after_port, at_port, at_ruleno_or_address, at_name_or_address, at_mask_or_port, tos_word, mask_word, word_or_end, step_from, step, start}
 use Rattle.conf_lines.specs.Options.{most_rate, most_bend, most_ruleno, most_port, most_tos, word_of_key, option_of}
-use Rattle.conf_lines.specs.Slots.{is_text, are_plain, is_name, rate_in, whole_in, skipped_in, name_in, protocol_in, found_in, as_ip4, mask_in, address_in, as_ip6, prefix_in, address6_in}
+use Rattle.line_text.specs.Names.{is_name}
+use Rattle.conf_lines.specs.Slots.{is_text, are_plain, rate_in, whole_in, skipped_in, name_in, protocol_in, found_in, as_ip4, mask_in, address_in, as_ip6, prefix_in, address6_in}
 use Rattle.conf_lines.specs.declared.fault.ConfKind.TheVariants.{UnknownWord, BadByte, ConvexFirst}
 use Rattle.conf_lines.specs.Texts.{Reading, fault_at, stops, item_of, behind, read_from, by_words, line_too_long, statement_of, line_feeds, before, statements_in, statements_of}
 use Rattle.conf_lines.specs.Laws.{AreBytes, IsSound, AreSound, AreAllSound}

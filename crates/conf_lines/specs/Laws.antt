@@ -10,7 +10,7 @@ use Rattle.conf_lines.specs.declared.options.Slots.TheVariants as slots
 use Rattle.conf_lines.specs.declared.statement.Statement.{Statement}
 use Rattle.conf_lines.specs.Grammar.{is_convex, start}
 use Rattle.conf_lines.specs.Options.{most_rate, most_bend, slots_of}
-use Rattle.conf_lines.specs.Slots.{is_name}
+use Rattle.line_text.specs.Names.{is_name}
 use Rattle.conf_lines.specs.Texts.{read_from, statements_of}
 
 -- a list of `n` bytes

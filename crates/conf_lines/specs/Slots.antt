@@ -3,6 +3,7 @@
 use Rattle.std.specs.Prelude.{ℕ, ◌==◌, ◌&&◌, ◌||◌, Bool, true, List, [], ◌∷◌, length, nat_eq, nat_le, if◌then◌else◌, Option, Some, None, Result, Ok, Err, codes}
 use Rattle.std.specs.Cmp.Lexicographic.{pointwise}
 use Rattle.line_text.specs.Addresses.{ip4_of, ip6_of}
+use Rattle.line_text.specs.Names.{is_name}
 use Rattle.line_text.specs.Numbers.{number, cut, whole_of, rate_of}
 use Rattle.conf_lines.specs.declared.fault.ConfKind.{ConfKind}
 use Rattle.conf_lines.specs.declared.fault.ConfKind.TheVariants.{BadNumber, RateRange, BadAddress, BadByte}
@@ -17,19 +18,6 @@ is_text text word = pointwise nat_eq word text
 unfoldable pub are_plain : List ℕ → Bool
 are_plain [] = true
 are_plain (byte ∷ word) = nat_le 33 byte && nat_le byte 126 && are_plain word
-
--- a letter, a digit, '_', '-', '.', ':' or '/'
-abbrev pub is_name_byte : ℕ → Bool
-is_name_byte byte =
-    (nat_le 97 byte && nat_le byte 122) || (nat_le 65 byte && nat_le byte 90) || (nat_le 45 byte && nat_le byte 58) || (byte == 95)
-
-abbrev pub are_name_bytes : List ℕ → Bool
-are_name_bytes [] = true
-are_name_bytes (byte ∷ word) = is_name_byte byte && are_name_bytes word
-
--- NAME: 1 to 64 of them
-unfoldable pub is_name : List ℕ → Bool
-is_name word = nat_le 1 (length word) && nat_le (length word) 64 && are_name_bytes word
 
 -- a word whose bytes are tested first
 abbrev pub checked : {A : Type 0} → List ℕ → Result A ConfKind → Result A ConfKind

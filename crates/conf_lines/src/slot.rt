@@ -1,6 +1,7 @@
 //! What one word says where a word of a kind is wanted, or the kind of its fault.
 ghost use Rattle.std.specs.Prelude.{◌≡◌, ◌≤◌};
-ghost use Rattle.conf_lines.specs.Slots.{is_text, are_plain, is_name_byte, is_name, rate_in, whole_in, skipped_in, protocol_in, mask_in, address_in, address6_in, prefix_in};
+ghost use Rattle.line_text.specs.Names.{is_name_byte, is_name};
+ghost use Rattle.conf_lines.specs.Slots.{is_text, are_plain, rate_in, whole_in, skipped_in, protocol_in, mask_in, address_in, address6_in, prefix_in};
 ghost use Rattle.line_text.specs.Numbers.{cut};
 
 use crate::fault::ConfKind;
@@ -36,7 +37,6 @@ fn is_name_byte(byte: u8) -> bool
 }
 
 /// Whether a word is a NAME: 1 to 64 letters, digits, `_`, `-`, `.`, `:` or `/`.
-#[tactic(auto, unfolding(crate::specs::Slots::is_name))]
 pub(crate) fn is_name(word: &[u8]) -> bool
     ensures { result ≡ is_name word.now }
 {

@@ -2,7 +2,8 @@
 ghost use Rattle.std.specs.Prelude.{◌≡◌, ◌||◌, IfOk, true};
 ghost use Rattle.conf_lines.specs.Grammar.{step, at_statement, at_discipline, after_interface, at_address, after_address, address_of, at_port, after_port, at_ruleno_or_address, at_name_or_address, at_mask_or_port, tos_word, mask_word, word_or_end, chosen, at_slope, at_bend, at_last_slope, behind_option, refused, begins, says, reads, counts, keyword, moved, end, unsettled, Gives, Fails, IsPlain, IsOfFilter, at_parent};
 ghost use Rattle.conf_lines.specs.Options.{option_of, most_rate, most_bend};
-ghost use Rattle.conf_lines.specs.Slots.{rate_in, whole_in, skipped_in, name_in, protocol_in, mask_in, is_text, is_name};
+ghost use Rattle.line_text.specs.Names.{is_name};
+ghost use Rattle.conf_lines.specs.Slots.{rate_in, whole_in, skipped_in, name_in, protocol_in, mask_in, is_text};
 
 use crate::fault::ConfKind;
 use crate::grammar::{Next, Place, Refusal, Side, Step};

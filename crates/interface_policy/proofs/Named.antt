@@ -12,32 +12,10 @@ use Rattle.conf_tree.specs.declared.interface.Interface.{Interface}
 use Rattle.conf_tree.specs.declared.interface.Kind.{Kind}
 use Rattle.conf_tree.specs.declared.interface.Kind.TheVariants.{Hfsc, Cbq}
 use Rattle.conf_tree.specs.Family.{is_leaf, is_queue_class}
-use Rattle.conf_lines.specs.Slots.{are_name_bytes, is_name, is_name_byte}
 use Rattle.conf_laws.specs.Fit.{IsInterface}
 use Rattle.conf_laws.proofs.Each.{element}
-use Rattle.conf_laws.proofs.NameBytes.{name_has}
-use Rattle.play_text.specs.Names.{NameList, HasClass, is_name as is_text_name, is_name_byte as is_text_byte}
+use Rattle.play_text.specs.Names.{NameList, HasClass}
 use Rattle.interface_policy.specs.Policy.{queue_names}
-
--- a name of a configuration is one of a text
-name_byte : (byte : ℕ) → is_name_byte byte ≡ true → is_text_byte byte ≡ true
-name_byte byte h = grind (arith, nat_tests)
-
-name_bytes : (word : List ℕ) → are_name_bytes word ≡ true → list_all is_text_byte word ≡ true
-name_bytes [] h = refl
-name_bytes (byte ∷ word) h =
-    let parts = and_parts (is_name_byte byte) (are_name_bytes word) h in
-    rw (name_byte byte parts.0, name_bytes word parts.1) refl
-
-all_three : (a b c : Bool) → a ≡ true → b ≡ true → c ≡ true → (a && (b && c)) ≡ true
-all_three a b c d e f = rw (d, e, f) refl
-
-pub text_name : (word : List ℕ) → is_name word ≡ true → is_text_name word ≡ true
-text_name word h =
-    let has = name_has word h in
-    let some = has.some in
-    let most = has.most in
-    all_three (nat_le 1 (length word)) (nat_le (length word) 64) (list_all is_text_byte word) (grind (arith, nat_tests)) (grind (arith, nat_tests)) (name_bytes word has.bytes)
 
 -- a numbered class with its name
 abbrev named : ℕ × Class → ℕ × List ℕ

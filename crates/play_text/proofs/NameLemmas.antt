@@ -15,7 +15,8 @@ use Rattle.std.proofs.lemmas.List.Quantifiers.{position-Some, all_pairs_push}
 use Rattle.std.proofs.lemmas.Option.{slice_get-get_or}
 use Rattle.std.proofs.lemmas.Bool.Decides.{nat_tests}
 use Rattle.std.proofs.lemmas.Grind.{common_steps}
-use Rattle.play_text.specs.Names.{NameList, AreNames, place_of, name_of, is_name}
+use Rattle.line_text.specs.Names.{is_name}
+use Rattle.play_text.specs.Names.{NameList, AreNames, place_of, name_of}
 
 -- a place at which a class stands, and before which it does not, is its place
 place_is : (names : NameList) (class at : ℕ) (d : ℕ × List ℕ) → at < length names → (get_or names at d).0 ≡ class

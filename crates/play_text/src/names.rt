@@ -1,6 +1,7 @@
 // The names of the queue classes.
 ghost use Rattle.std.specs.Prelude.{◌≡◌, ◌≢◌, ◌<◌, ◌++◌, ◌∷◌, [], length, All, IfSome, IsTrue, OnOk, OnErr, Some, option_map, slice_get};
-ghost use Rattle.play_text.specs.Names.{AreNames, HasClass, is_name, name_of, place_of};
+ghost use Rattle.line_text.specs.Names.{is_name};
+ghost use Rattle.play_text.specs.Names.{AreNames, HasClass, name_of, place_of};
 
 use play_base::NoMemory;
 use std::alloc::Global;

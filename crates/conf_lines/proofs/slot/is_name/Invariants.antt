@@ -1,5 +1,5 @@
 use Rattle.std.proofs.Common.{◌≡◌, drop}
-use Rattle.conf_lines.specs.Slots.{are_name_bytes}
+use Rattle.line_text.specs.Names.{are_name_bytes}
 use Rattle.conf_lines.proofs.slot.is_name.Given as goal
 
 abbrev pub invariant-loop-byte : goal.invariant-loop-byte

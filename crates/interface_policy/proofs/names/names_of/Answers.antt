@@ -1,8 +1,9 @@
 use Rattle.std.proofs.Common.{◌≡◌, ◌≢◌, ◌<◌, ◌∙◌, ◌++◌, ◌∷◌, [], List, ℕ, true, length, sym, subst, ap, arith}
 use Rattle.std.specs.Prelude.{All}
 use Rattle.conf_tree.specs.declared.class.Class.{Class}
-use Rattle.play_text.specs.Names.{NameList, is_name}
-use Rattle.interface_policy.proofs.Named.{are_before, are_few, are_others, class_at, first_names, next_names, no_name, text_name}
+use Rattle.conf_laws.specs.Fit.{IsName}
+use Rattle.play_text.specs.Names.{NameList}
+use Rattle.interface_policy.proofs.Named.{are_before, are_few, are_others, class_at, first_names, next_names, no_name}
 use Rattle.interface_policy.proofs.names.names_of.Goals as goal
 use Rattle.interface_policy.proofs.names.names_of.Goals.{then-is_queue_class+in_ok-add, else-is_queue_class}
 
@@ -18,7 +19,7 @@ add-requires-clause-named c =
     let class = c.index-classes-number.result in
     let at = class_at i c.as_slice-classes.result.now n class c.as_slice-classes.ensures (omega arith) c.index-classes-number.is in
     let is = c.as_str.ensures ∙ ap (λ (x : Class). x.name) (sym c.index-classes-number.is) in
-    subst (λ (name : List ℕ). is_name name ≡ true) (sym is) (text_name class.name (c.requires.tree.class n class at).name)
+    subst IsName (sym is) (c.requires.tree.class n class at).name
 
 pub add-requires-clause-fresh : goal.add-requires-clause-fresh
 add-requires-clause-fresh c =
