@@ -8,3 +8,5 @@ pub mod Steps
 pub mod LineSplit
 pub mod StandingWords
 mod WholeOptions
+mod WholeParts
+mod WholeStatements

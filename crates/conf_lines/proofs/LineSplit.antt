@@ -23,21 +23,21 @@ use Rattle.conf_lines.specs.Slots.{is_text, are_plain, rate_in, whole_in, skippe
 use Rattle.conf_lines.specs.declared.fault.ConfKind.TheVariants.{UnknownWord, BadByte, ConvexFirst}
 use Rattle.conf_lines.specs.Texts.{Reading, fault_at, stops, item_of, behind, read_from}
 
-pick : {A : Type 0} (P : A → Type 0) (b : Bool) (x y : A) → P x → P y → P (cond b x y)
+pub pick : {A : Type 0} (P : A → Type 0) (b : Bool) (x y : A) → P x → P y → P (cond b x y)
 pick P true x y p q = p
 pick P false x y p q = q
 
 -- A PLACE WHOSE FORM IS KNOWN leads to another of the same form, by an item
-abbrev IsFormed : Next → Type 0
+abbrev pub IsFormed : Next → Type 0
 IsFormed next.Statement = ⊥
 IsFormed next.Discipline = ⊥
 IsFormed _ = Unit {0}
 
-abbrev IsItem : Option What → Type 0
+abbrev pub IsItem : Option What → Type 0
 IsItem None = ⊥
 IsItem (Some says) = Unit {0}
 
-abbrev MovesIfOk : Form → Result Step ConfKind → Type 0
+abbrev pub MovesIfOk : Form → Result Step ConfKind → Type 0
 MovesIfOk form (Ok taken) = IsItem taken.what × (taken.after.form ≡ form) × IsFormed taken.after.next
 MovesIfOk form (Err kind) = Unit {0}
 
@@ -164,7 +164,7 @@ from_moves next.TosMaskOrEnd place word f = end_moves (mask_word place.form word
 from_moves next.TosMask place word f = whole_moves (whole_in 0 most_tos word) place next.End tt
 from_moves next.End place word f = refused_moves place.form word
 
-moves : (place : Place) (word : List ℕ) → IsFormed place.next → MovesIfOk place.form (step place word)
+pub moves : (place : Place) (word : List ℕ) → IsFormed place.next → MovesIfOk place.form (step place word)
 unfolding step
 moves place word f = from_moves place.next place word f
 

@@ -1,10 +1,8 @@
--- In a statement without a fault each option has behind it what the table of options says.
-use Rattle.std.proofs.Common.{◌≡◌, ℕ, zero, suc, ◌+◌, ◌≤◌, ◌&&◌, Bool, true, false, cond, List, [], ◌∷◌, ◌++◌, length, take, drop, Option, Some, None, Result, Ok, Err, nat_le, nat_lt, leb-true, refl, sym, ap, subst, codes}
+-- In a line without a fault each option has behind it what the table of options says.
+use Rattle.std.proofs.Common.{◌≡◌, ℕ, ◌+◌, ◌≤◌, ◌&&◌, Bool, true, false, cond, List, [], ◌∷◌, ◌++◌, Option, Some, None, Result, Ok, Err, nat_le, leb-true, refl, sym, ap, subst, codes}
 use Rattle.std.proofs.lemmas.Bool.{and_parts, cond_both}
-use Rattle.line_text.specs.Lines.{line_len, joined, longest_line}
 use Rattle.line_text.specs.Addresses.{ip4_of, ip6_of}
 use Rattle.line_text.specs.Numbers.{number, cut, whole_of, rate_of}
-use Rattle.line_text.specs.Words.{words_of}
 use Rattle.conf_lines.specs.declared.fault.ConfKind.{ConfKind}
 use Rattle.conf_lines.specs.declared.grammar.Next.{Next}
 use Rattle.conf_lines.specs.declared.grammar.Next.TheVariants as next
@@ -21,14 +19,13 @@ use Rattle.conf_lines.specs.declared.options.Slots.{Slots}
 use Rattle.conf_lines.specs.declared.options.Slots.TheVariants as slots
 use Rattle.conf_lines.specs.declared.statement.Form.{Form}
 use Rattle.conf_lines.specs.declared.statement.Form.TheVariants as form
-use Rattle.conf_lines.specs.declared.statement.Statement.{Statement}
 use Rattle.conf_lines.specs.Grammar.{says, reads, counts, refused, begins, at_statement, at_discipline, after_interface, at_parent, behind_option, chosen, is_convex, at_bend, at_slope, at_last_slope, keyword, address_of, then_address, at_address, after_port, at_port, at_ruleno_or_address, at_name_or_address, at_mask_or_port, tos_word, mask_word, word_or_end, step_from, step, end_from, end, start}
 use Rattle.conf_lines.specs.Options.{most_rate, most_bend, most_ruleno, most_port, most_tos, word_of_key, slots_of, option_of}
 use Rattle.line_text.specs.Names.{is_name}
 use Rattle.conf_lines.specs.Slots.{is_text, are_plain, within, checked, rate_in, whole_in, skipped_in, name_in, protocol_in, found_in, as_ip4, mask_in, address_in, as_ip6, prefix_in, address6_in}
 use Rattle.conf_lines.specs.declared.fault.ConfKind.TheVariants.{UnknownWord, MissingWord, BadNumber, RateRange, BadByte, ConvexFirst}
-use Rattle.conf_lines.specs.Texts.{Reading, fault_at, stops, item_of, behind, read_from, by_words, line_too_long, statement_of, line_feeds, before, statements_in, statements_of}
-use Rattle.conf_lines.specs.Laws.{says_at, HasNumber, HasCurve, HasMask, HasSlots, IsWhole, AreWhole, AreAllWhole}
+use Rattle.conf_lines.specs.Texts.{Reading, fault_at, stops, item_of, behind, read_from}
+use Rattle.conf_lines.specs.Laws.{says_at, HasNumber, HasCurve, HasMask, HasSlots, IsWhole, AreWhole}
 
 -- what stands behind a bend, and behind a first slope
 record HasSecond (least m1 d : ℕ) (items : List Item) : Type 0 where
@@ -72,7 +69,7 @@ HeldIfOk next (Ok taken) = (at : ℕ) (rest : List Item) → Held taken.after.ne
 HeldIfOk next (Err kind) = Unit {0}
 
 -- numbers of a range
-abbrev IsNumber : ℕ → ℕ → Result ℕ ConfKind → Type 0
+abbrev pub IsNumber : ℕ → ℕ → Result ℕ ConfKind → Type 0
 IsNumber low high (Ok n) = (low ≤ n) × (n ≤ high)
 IsNumber low high (Err kind) = Unit {0}
 
@@ -89,7 +86,7 @@ rate_number : (low high : ℕ) (word : List ℕ) → IsNumber low high (rate_in 
 unfolding rate_in
 rate_number low high word = checked_number low high word (within low high RateRange (rate_of word)) (within_number low high RateRange (rate_of word))
 
-whole_number : (low high : ℕ) (word : List ℕ) → IsNumber low high (whole_in low high word)
+pub whole_number : (low high : ℕ) (word : List ℕ) → IsNumber low high (whole_in low high word)
 unfolding whole_in
 whole_number low high word = checked_number low high word (within low high BadNumber (whole_of word)) (within_number low high BadNumber (whole_of word))
 
@@ -152,19 +149,19 @@ form_plain form.Filter word = address_plain word
 form_plain _ word = address6_plain word
 
 -- a word without effect, and a mask
-abbrev IsSkippedRead : Result What ConfKind → Type 0
+abbrev pub IsSkippedRead : Result What ConfKind → Type 0
 IsSkippedRead (Ok says) = says ≡ what.Skipped
 IsSkippedRead (Err kind) = Unit {0}
 
-skipped_read : (word : List ℕ) → IsSkippedRead (skipped_in word)
+pub skipped_read : (word : List ℕ) → IsSkippedRead (skipped_in word)
 unfolding skipped_in
 skipped_read word = pick IsSkippedRead (are_plain word) (Ok what.Skipped) (Err BadByte) refl tt
 
-abbrev IsMaskRead : Result What ConfKind → Type 0
+abbrev pub IsMaskRead : Result What ConfKind → Type 0
 IsMaskRead (Ok says) = (mask : List ℕ) × (says ≡ what.Ip4 mask)
 IsMaskRead (Err kind) = Unit {0}
 
-mask_read : (word : List ℕ) → IsMaskRead (mask_in word)
+pub mask_read : (word : List ℕ) → IsMaskRead (mask_in word)
 unfolding mask_in
 mask_read word = pick IsMaskRead (are_plain word) (found_in (as_ip4 (ip4_of word))) (Err BadByte) (of (ip4_of word)) tt
   where
@@ -379,7 +376,7 @@ unfolding step
 held_step place word = from_step place.next place word
 
 -- a statement that may end there owes nothing
-some_is : {A : Type 0} (x : A) → Some x ≡ None → ⊥
+pub some_is : {A : Type 0} (x : A) → Some x ≡ None → ⊥
 some_is x e = cc
 
 none_owed : (at : Next) (place : Place) → end_from at place ≡ None → Owed at []
@@ -400,7 +397,7 @@ end_owed : (place : Place) → end place ≡ None → Owed place.next []
 unfolding end
 end_owed place e = none_owed place.next place e
 
-no_kind : (line at : ℕ) (o : Option ConfKind) → fault_at line at o ≡ None → o ≡ None
+pub no_kind : (line at : ℕ) (o : Option ConfKind) → fault_at line at o ≡ None → o ≡ None
 no_kind line at None e = refl
 no_kind line at (Some kind) e = cc
 
@@ -424,33 +421,6 @@ held_from line [] place at e = (tt, end_owed place (no_kind line at (end place) 
 held_from line (word ∷ words) place at e =
     held_past line words place at (step place word) (held_step place word) e (λ to h. held_from line words to (at + 1) h)
 
--- the statements of a text
-abbrev IsWholeStatement : Option Statement → Type 0
-IsWholeStatement None = Unit {0}
-IsWholeStatement (Some s) = s.fault ≡ None → AreWhole s.items
-
-whole_words : (line : ℕ) (words : List (List ℕ)) → IsWholeStatement (by_words line words)
-whole_words line [] = tt
-whole_words line (word ∷ words) = λ e. (held_from line (word ∷ words) start 1 e).0
-
-whole_statement : (line : ℕ) (bytes : List ℕ) → IsWholeStatement (statement_of line bytes)
-whole_statement line bytes =
-    pick IsWholeStatement (nat_lt longest_line (length (joined bytes))) (Some (line_too_long line (words_of (joined bytes))))
-    (by_words line (words_of (joined bytes))) (λ e. tt) (whole_words line (words_of (joined bytes)))
-
-whole_before : (o : Option Statement) (rest : List Statement) → IsWholeStatement o → AreAllWhole rest → AreAllWhole (before o rest)
-whole_before None rest h k = k
-whole_before (Some s) rest h k = (h, k)
-
-whole_in_text : (lines line : ℕ) (text : List ℕ) → AreAllWhole (statements_in lines line text)
-whole_in_text zero line text = tt
-whole_in_text (suc lines) line [] = tt
-whole_in_text (suc lines) line (byte ∷ text) =
-    let len : ℕ = line_len (byte ∷ text) in
-    let bytes = take len (byte ∷ text) in
-    whole_before (statement_of line bytes) (statements_in lines (line + line_feeds bytes) (drop len (byte ∷ text)))
-    (whole_statement line bytes) (whole_in_text lines (line + line_feeds bytes) (drop len (byte ∷ text)))
-
-pub options_whole : (text : List ℕ) → AreAllWhole (statements_of text)
-unfolding statements_of
-options_whole text = whole_in_text (length text) 1 text
+-- the options of a line
+pub whole_options : (line : ℕ) (words : List (List ℕ)) → (read_from line words start 1).fault ≡ None → AreWhole (read_from line words start 1).items
+whole_options line words e = (held_from line words start 1 e).0

@@ -1,5 +1,5 @@
--- What the items of the statements of every text keep to, after altq.conf(5): each has its form, and an option in a statement
--- without a fault has behind it what the table of options says.
+-- What the items of the statements of every text keep to, after altq.conf(5): each has its form, and in a statement without a
+-- fault each option has behind it what the table of options says, and each name and each part of a filter is there.
 use Rattle.std.specs.Prelude.{◌≡◌, ◌<◌, ◌≤◌, ℕ, true, false, List, [], ◌∷◌, ◌++◌, length, All, Option, Some, None, option_map, slice_get}
 use Rattle.conf_lines.specs.declared.fault.ConfPlace.{ConfPlace}
 use Rattle.conf_lines.specs.declared.item.Item.{Item}
@@ -10,6 +10,7 @@ use Rattle.conf_lines.specs.declared.options.Slots.TheVariants as slots
 use Rattle.conf_lines.specs.declared.statement.Statement.{Statement}
 use Rattle.conf_lines.specs.Grammar.{is_convex, start}
 use Rattle.conf_lines.specs.Options.{most_rate, most_bend, slots_of}
+use Rattle.conf_lines.specs.Parts.{HasParts}
 use Rattle.line_text.specs.Names.{is_name}
 use Rattle.conf_lines.specs.Texts.{read_from, statements_of}
 
@@ -87,7 +88,7 @@ AreWhole (item ∷ items) = IsWhole item.what items × AreWhole items
 
 abbrev pub AreAllWhole : List Statement → Type 0
 AreAllWhole [] = Unit {0}
-AreAllWhole (s ∷ statements) = (s.fault ≡ None → AreWhole s.items) × AreAllWhole statements
+AreAllWhole (s ∷ statements) = (s.fault ≡ None → AreWhole s.items × HasParts s.form s.items) × AreAllWhole statements
 
 abbrev pub OptionsAreWhole : Type 0
 OptionsAreWhole = (text : List ℕ) → AreAllWhole (statements_of text)

@@ -1,6 +1,6 @@
 -- What one word says where a word of a kind is wanted, or the kind of its fault. At one word a byte outside 33
 -- to 126 is tested first, then the form, then the range.
-use Rattle.std.specs.Prelude.{ℕ, ◌==◌, ◌&&◌, ◌||◌, Bool, true, List, [], ◌∷◌, length, nat_eq, nat_le, if◌then◌else◌, Option, Some, None, Result, Ok, Err, codes}
+use Rattle.std.specs.Prelude.{ℕ, ◌&&◌, Bool, true, List, [], ◌∷◌, nat_eq, nat_le, if◌then◌else◌, Option, Some, None, Result, Ok, Err, codes}
 use Rattle.std.specs.Cmp.Lexicographic.{pointwise}
 use Rattle.line_text.specs.Addresses.{ip4_of, ip6_of}
 use Rattle.line_text.specs.Names.{is_name}

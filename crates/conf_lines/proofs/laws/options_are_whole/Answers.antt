@@ -1,4 +1,4 @@
-use Rattle.conf_lines.proofs.WholeOptions.{options_whole}
+use Rattle.conf_lines.proofs.WholeStatements.{options_whole}
 use Rattle.conf_lines.proofs.laws.options_are_whole.Goals as goal
 
 pub returns : goal.returns
