@@ -43,7 +43,7 @@ pub interface_is_line : (i : Interface) → IsName i.name → IsWithin 1000 most
 interface_is_line i is_name is_rate =
     same_line
     (one_first (codes "interface") begins_interface (printed_by (codes "interface") refl) (interface_part i is_name is_rate)
-    (ends_at_option form.Interface) (omega arith))
+    (ends_at_option form.Interface) (omega arith) refl)
     (simp append_assoc)
 
 -- what the line of a class is read by
@@ -100,7 +100,7 @@ class_is_line Hfsc interface all c is_interface is =
     >> drop_part Hfsc c.drop
     >> clear_part Hfsc c.clear
     >> default_part Hfsc c.is_default)
-    (ends_hfsc all c is) (omega arith))
+    (ends_hfsc all c is) (omega arith) refl)
     (simp append_assoc)
 class_is_line Cbq interface all c is_interface is =
     same_line
@@ -113,5 +113,5 @@ class_is_line Cbq interface all c is_interface is =
     >> clear_part Cbq c.clear
     >> control_part c.control
     >> default_part Cbq c.is_default)
-    (ends_at_option form.ClassCbq) (omega arith))
+    (ends_at_option form.ClassCbq) (omega arith) refl)
     (simp append_assoc)

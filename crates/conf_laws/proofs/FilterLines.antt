@@ -10,6 +10,7 @@ use Rattle.conf_tree.specs.declared.filter.Filter.{Filter}
 use Rattle.conf_tree.specs.Canonical.{class_word, filter_line, filter_line_by}
 use Rattle.conf_laws.specs.Fit.{IsName, AreAddresses, IsTos}
 use Rattle.conf_laws.specs.Statements.{statement_at, filter_whats_by, filter_form, filter_statement}
+use Rattle.conf_laws.specs.Printed.{form_words}
 use Rattle.conf_laws.proofs.FilterParts.{filter_part, end4_part, end6_part, protocol_part, tos_part, tclass_part, ends_behind_tos, form_behind_tos}
 use Rattle.conf_laws.proofs.Parts.{◌>>◌}
 use Rattle.conf_laws.proofs.Printed.{name_is_read}
@@ -37,7 +38,7 @@ by_addresses interface all f (V4 target target_mask source source_mask) is_inter
     >> end4_part source source_mask f.source_port are.1.address are.1.mask is.source_port
     >> protocol_part f.protocol is.protocol
     >> tos_part f.tos is.tos)
-    (ends_behind_tos form.Filter f.tos) (omega arith))
+    (ends_behind_tos form.Filter f.tos) (omega arith) (ap form_words (form_behind_tos form.Filter f.tos)))
     (simp append_assoc))
     (λ line. ap (λ (form : Form). statement_at line form 2 (filter_whats_by interface (class_word all f.class) f (V4 target target_mask source source_mask))) (form_behind_tos form.Filter f.tos))
 by_addresses interface all f (V6 target target_len source source_len) is_interface is are =
@@ -49,7 +50,7 @@ by_addresses interface all f (V6 target target_len source source_len) is_interfa
     >> end6_part source source_len f.source_port are.1.address are.1.bits is.source_port
     >> protocol_part f.protocol is.protocol
     >> tclass_part f.tos is.tos)
-    (ends_behind_tos form.Filter6 f.tos) (omega arith))
+    (ends_behind_tos form.Filter6 f.tos) (omega arith) (ap form_words (form_behind_tos form.Filter6 f.tos)))
     (simp append_assoc))
     (λ line. ap (λ (form : Form). statement_at line form 2 (filter_whats_by interface (class_word all f.class) f (V6 target target_len source source_len))) (form_behind_tos form.Filter6 f.tos))
 

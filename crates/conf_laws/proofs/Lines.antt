@@ -1,23 +1,11 @@
 -- Lines of words, as the canonical text has them.
-use Rattle.std.specs.Prelude.{◌≡◌, ◌≤◌, ◌+◌, ◌==◌, ◌&&◌, ℕ, Bool, true, not, List, [], ◌∷◌, ◌++◌, length, All}
+use Rattle.std.specs.Prelude.{◌≡◌, ◌≤◌, ◌+◌, ◌==◌, ◌&&◌, ℕ, Bool, true, not, List, [], ◌∷◌, length, All}
 use Rattle.line_text.specs.Lines.{ends}
 use Rattle.line_text.specs.Words.{is_blank}
 use Rattle.conf_lines.specs.declared.statement.Statement.{Statement}
 use Rattle.conf_lines.specs.Grammar.{start}
 use Rattle.conf_lines.specs.Texts.{read_from, as_statement}
-
--- a space before each word, and a line feed behind the last
-abbrev pub rest_of : List (List ℕ) → List ℕ
-rest_of [] = 10 ∷ []
-rest_of (word ∷ words) = 32 ∷ (word ++ rest_of words)
-
-abbrev pub line_of : List (List ℕ) → List ℕ
-line_of [] = 10 ∷ []
-line_of (word ∷ words) = word ++ rest_of words
-
-abbrev pub lines_text : List (List (List ℕ)) → List ℕ
-lines_text [] = []
-lines_text (words ∷ lines) = line_of words ++ lines_text lines
+use Rattle.conf_laws.specs.Printed.{line_of}
 
 -- a byte of a word that ends no line and begins neither a comment nor a continuation
 abbrev pub is_word_byte : ℕ → Bool

@@ -1,27 +1,14 @@
 -- Parts of a line: words that lead from a place of the grammar to another, with what they say and how they are written.
-use Rattle.std.proofs.Common.{◌≡◌, ℕ, ◌+◌, ◌*◌, ◌≤◌, List, [], ◌∷◌, ◌++◌, map, length, All, None, codes, decimal, refl, ap, sym, ◌∙◌, arith, append_assoc, append-nil, length-append}
+use Rattle.std.proofs.Common.{◌≡◌, ℕ, ◌+◌, ◌*◌, ◌≤◌, List, [], ◌∷◌, ◌++◌, map, length, All, None, refl, ap, sym, ◌∙◌, arith, append_assoc, append-nil, length-append}
 use Rattle.std.proofs.lemmas.List.{map-append}
 use Rattle.std.proofs.lemmas.List.Elements.{All-nil, All-cons}
 use Rattle.conf_lines.specs.declared.item.What.{What}
-use Rattle.conf_lines.specs.declared.item.What.TheVariants as what
 use Rattle.conf_lines.specs.Grammar.{end}
-use Rattle.conf_lines.specs.Options.{word_of_key}
 use Rattle.conf_lines.specs.Texts.{read_from, behind}
 use Rattle.conf_lines.proofs.GrammarPlaces.{GrammarPlace, Tells}
-use Rattle.conf_tree.specs.Canonical.{ip4_word, ip6_word}
 use Rattle.conf_laws.specs.Statements.{numbered}
-use Rattle.conf_laws.proofs.Lines.{IsWord, rest_of}
-
--- the word that says this
-abbrev pub word_of : What → List ℕ
-word_of (what.Name name) = name
-word_of (what.Key key) = word_of_key key
-word_of (what.Rate n) = decimal n
-word_of (what.Whole n) = decimal n
-word_of (what.Ip4 a) = ip4_word a
-word_of (what.Ip6 a bits) = ip6_word a ++ (codes "/" ++ decimal bits)
-word_of what.Any = codes "0"
-word_of what.Skipped = []
+use Rattle.conf_laws.specs.Printed.{rest_of, word_of}
+use Rattle.conf_laws.proofs.Lines.{IsWord}
 
 -- a word of a line, of at most 64 bytes
 pub record IsPrinted (bytes : List ℕ) : Type 0 where

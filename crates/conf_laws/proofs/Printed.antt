@@ -87,9 +87,6 @@ decimal_is_word n small = name_bytes-word (decimal n) (decimal_is_IsNumeral n sm
 pub decimal_len : (n : ℕ) → n < 2 ^ 64 → length (decimal n) ≤ 20
 decimal_len n small = length-decimal-le 20 n (omega arith) (omega arith) small
 
-pub rate_len : (n : ℕ) → n ≤ 10 ^ 12 → length (decimal n) ≤ 13
-rate_len n most = length-decimal-le 13 n (omega arith) (omega arith) (omega arith)
-
 pub name_is_word : (name : List ℕ) → IsName name → IsWord name
 name_is_word name is = let has = name_has name is in name_bytes-word name has.some has.bytes
 

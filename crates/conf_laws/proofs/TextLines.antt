@@ -1,10 +1,12 @@
 -- Lines of the text with the statements that are read from them.
-use Rattle.std.proofs.Common.{◌≡◌, ℕ, suc, ◌+◌, List, [], ◌∷◌, ◌++◌, length, All, refl, ap, ap₂, sym, ◌∙◌, arith, append_assoc, append-nil, length-append, add-zero}
+use Rattle.std.proofs.Common.{◌≡◌, ℕ, suc, ◌+◌, List, [], ◌∷◌, ◌++◌, map, length, All, refl, ap, ap₂, sym, ◌∙◌, arith, append_assoc, append-nil, length-append, add-zero}
+use Rattle.std.proofs.lemmas.List.{map-append}
 use Rattle.std.proofs.lemmas.List.Elements.{All-nil, All-cons, All-append}
 use Rattle.conf_lines.specs.declared.statement.Statement.{Statement}
 use Rattle.conf_lines.specs.Grammar.{start}
 use Rattle.conf_lines.specs.Texts.{statements_of, as_statement, read_from}
-use Rattle.conf_laws.proofs.Lines.{IsLine, line_of, lines_text, line_statements}
+use Rattle.conf_laws.specs.Printed.{line_of, lines_text, statement_words, printed}
+use Rattle.conf_laws.proofs.Lines.{IsLine, line_statements}
 use Rattle.conf_laws.proofs.ReadLines.{lines_are_read}
 use Rattle.conf_laws.proofs.StatementLines.{Line}
 
@@ -15,9 +17,10 @@ pub record TextLines (bytes : List ℕ) (count : ℕ) (says : ℕ → List State
   pub are : All IsLine lines
   pub many : length lines ≡ count
   pub read : (line : ℕ) → line_statements line lines ≡ says line
+  pub prints : (line : ℕ) → lines ≡ map statement_words (says line)
 
 pub no_lines : TextLines [] 0 (λ line. [])
-no_lines = record { lines = []; text = refl; are = All-nil IsLine; many = refl; read = λ line. refl }
+no_lines = record { lines = []; text = refl; are = All-nil IsLine; many = refl; read = λ line. refl; prints = λ line. refl }
 
 pub one_line : {bytes : List ℕ} {says : ℕ → Statement} → Line bytes says → TextLines bytes 1 (λ line. says line ∷ [])
 one_line {bytes} {says} l = record {
@@ -26,6 +29,7 @@ one_line {bytes} {says} l = record {
   are = All-cons IsLine l.words [] l.is (All-nil IsLine);
   many = refl;
   read = λ line. ap (λ (s : Statement). s ∷ []) (l.read line);
+  prints = λ line. ap (λ words. words ∷ []) (l.prints line);
 }
 
 texts_join : (a b : List (List (List ℕ))) → lines_text (a ++ b) ≡ lines_text a ++ lines_text b
@@ -47,6 +51,7 @@ join {a} {b} {m} {n} {f} {g} first second = record {
   read = λ line.
       statements_join line first.lines second.lines
       ∙ ap₂ (λ s t. s ++ t) (first.read line) (ap (λ k. line_statements (line + k) second.lines) first.many ∙ second.read (line + m));
+  prints = λ line. ap₂ (λ s t. s ++ t) (first.prints line) (second.prints (line + m)) ∙ sym (map-append statement_words (f line) (g (line + m)));
 }
 
 pub as_these : {bytes : List ℕ} {m n : ℕ} {f g : ℕ → List Statement} → TextLines bytes m f → m ≡ n → ((line : ℕ) → f line ≡ g line) → TextLines bytes n g
@@ -56,8 +61,13 @@ as_these lines count says = record {
   are = lines.are;
   many = lines.many ∙ count;
   read = λ line. lines.read line ∙ says line;
+  prints = λ line. lines.prints line ∙ ap (map statement_words) (says line);
 }
 
 -- the statements of a text of such lines
 pub has_statements : {bytes : List ℕ} {count : ℕ} {says : ℕ → List Statement} → TextLines bytes count says → statements_of bytes ≡ says 1
 has_statements lines = ap statements_of (sym lines.text) ∙ lines_are_read lines.lines lines.are ∙ lines.read 1
+
+-- the text as its statements printed
+pub is_printed : {bytes : List ℕ} {count : ℕ} {says : ℕ → List Statement} → TextLines bytes count says → bytes ≡ printed (says 1)
+is_printed lines = sym lines.text ∙ ap lines_text (lines.prints 1)

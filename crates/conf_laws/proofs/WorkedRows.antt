@@ -3,7 +3,6 @@ use Rattle.std.proofs.Common.{refl}
 use Rattle.std.specs.Fmt.{digits}
 use Rattle.line_text.specs.Lines.{joint}
 use Rattle.conf_lines.specs.Grammar.{at_statement, at_discipline, at_parent, at_address, at_port, at_ruleno_or_address, at_name_or_address, at_mask_or_port, step, end}
-use Rattle.line_text.specs.Names.{is_name}
 use Rattle.conf_lines.specs.Slots.{is_text, are_plain, rate_in, whole_in, skipped_in, name_in, protocol_in, mask_in, address_in, address6_in}
 use Rattle.conf_lines.specs.Texts.{statements_of}
 use Rattle.conf_laws.specs.Rows.{LinesAre, NamesAre, RangesAre, OrdersAre, LaterAre, FiltersAre, ImpliedAre}

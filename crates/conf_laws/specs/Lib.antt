@@ -1,4 +1,5 @@
 pub mod Fit
 pub mod Laws
+pub mod Printed
 pub mod Rows
 pub mod Statements
