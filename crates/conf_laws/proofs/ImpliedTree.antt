@@ -1,7 +1,6 @@
 -- The implied classes keep to the tree like any other.
 use Rattle.std.proofs.Common.{◌≡◌, ◌≢◌, ◌⊎◌, inl, inr, ⊎_elim, ℕ, zero, suc, true, false, List, [], ◌∷◌, Some, None, codes, bytes_eq, slice_get, refl, sym, ap, subst, ◌∙◌, arith}
 use Rattle.conf_lines.specs.Options.{most_rate}
-use Rattle.line_text.specs.Names.{is_name}
 use Rattle.conf_tree.specs.declared.class.Class.{Class}
 use Rattle.conf_tree.specs.declared.interface.Kind.{Kind}
 use Rattle.conf_tree.specs.declared.interface.Kind.TheVariants.{Hfsc, Cbq}
@@ -133,14 +132,6 @@ each_is kind rate h k c at =
     (λ e. rw e.0 (subst (λ x. IsClass kind (pair kind rate) 0 x) e.1 (top_is kind rate h)))
     (λ e. rw e.0 (subst (λ x. IsClass kind (pair kind rate) 1 x) e.1 (leaf_is kind rate h)))
     (one_of (top kind rate) (leaf kind rate) k c at)
-
-top_name : (kind : Kind) (rate : ℕ) → (top kind rate).name ≡ codes "root"
-top_name Hfsc rate = refl
-top_name Cbq rate = refl
-
-leaf_name : (kind : Kind) (rate : ℕ) → (leaf kind rate).name ≡ codes "default"
-leaf_name Hfsc rate = refl
-leaf_name Cbq rate = refl
 
 apart : (kind : Kind) (rate : ℕ) → (top kind rate).name ≢ (leaf kind rate).name
 apart Hfsc rate = names_differ

@@ -77,9 +77,6 @@ PacketSide = Side
 abbrev pub target_side : Side
 target_side = side.Target
 
-abbrev pub source_side : Side
-source_side = side.Source
-
 abbrev pub at_address_of : Form → Side → Place
 at_address_of form side = before_settled form (next.Address side)
 

@@ -54,8 +54,3 @@ line_more text from to line found more all some inside is h m =
     let left : length (drop from text) - (to - from) ≡ length text - to = omega arith in
     rw m (before-list (statement_of line (take (to - from) (drop from text))) found (statements_in (length text - to) (line + line_feeds (take (to - from) (drop from text))) (drop to text))
     ∙ rw (e, n, past, left) at h)
-
-pub statements_all : (text : List ℕ) (line : ℕ) (found all : List Statement) → found ++ statements_in (length text - length text) line (drop (length text) text) ≡ all → found ≡ all
-statements_all text line found all h =
-    let none : length text - length text ≡ 0 = omega arith in
-    rw (none, append-nil) at h
