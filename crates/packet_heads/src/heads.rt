@@ -1,6 +1,7 @@
 // The flow of a frame.
 ghost use Rattle.std.specs.Prelude.{◌≡◌, ◌≤◌, ◌+◌, ◌*◌, IsTrue, length, slice_index};
 ghost use Rattle.packet_heads.specs.Flow.{two_at, has_bytes, is_tag_at, type_place, flow, flow_by_type, is_head_4, flow_4, is_head_6, flow_6, packet_place, HasAddresses, ports_4, ports_at, traffic_class};
+ghost use Rattle.packet_heads.specs.Departing.{tos_of};
 ghost use Rattle.packet_heads.specs.Heads.{flow_of};
 
 /// The flow of a frame. The addresses are parts of the frame, four bytes each in `V4` and sixteen in `V6`. `tos` is the
@@ -53,6 +54,29 @@ pub fn flow(frame: &[u8]) -> FlowHeads<'_>
         return FlowHeads::Other;
     }
     flow_by_type(two_at(frame, place), &frame[place + 2..])
+}
+
+/// The type of service or traffic class in the flow of a frame, 0 where that is `Other`. Nothing else of the flow is read.
+/// Constant time; takes no memory.
+pub fn tos(frame: &[u8]) -> u8
+    ensures { result ≡ tos_of (flow frame.now) }
+{
+    let place = type_place(frame);
+    if !has_bytes(2, frame, place) {
+        return 0;
+    }
+    tos_by_type(two_at(frame, place), &frame[place + 2..])
+}
+
+// The same of the packet that a frame of a type holds.
+fn tos_by_type(kind: u16, packet: &[u8]) -> u8
+    ensures { result ≡ tos_of (flow_by_type kind packet.now) }
+{
+    match kind {
+        IPV4 if is_head_4(packet) => packet[1],
+        IPV6 if is_head_6(packet) => traffic_class(packet),
+        _ => 0,
+    }
 }
 
 // Where the packet begins, behind the type.

@@ -10,8 +10,8 @@ mod marking;
 mod points;
 mod rows;
 
-pub use heads::{FlowHeads, flow};
+pub use heads::{FlowHeads, flow, tos};
 pub use laws::tos_alone_changes;
 pub use marking::{dress, retag};
-pub use points::precedence;
+pub use points::{precedence, precedence_of};
 pub use rows::worked_examples;

@@ -2,10 +2,9 @@
 ghost use Rattle.std.specs.Prelude.{◌≡◌, ◌≤◌, ◌<◌, ◌+◌, ◌^◌, IsTrue, length};
 ghost use Rattle.packet_heads.specs.Flow.{has_bytes};
 ghost use Rattle.packet_heads.specs.Retagged.{checksum_after, first_word_4, first_word_6, ones_sum, retagged, retagged_4, retagged_6, with_two};
-ghost use Rattle.packet_heads.specs.Departing.{departing, departing_tos, tos_of};
-ghost use Rattle.packet_heads.specs.Heads.{flow_of};
+ghost use Rattle.packet_heads.specs.Departing.{departing, departing_tos};
 
-use crate::heads::{FlowHeads, flow, packet_place, two_at};
+use crate::heads::{FlowHeads, flow, packet_place, tos, two_at};
 
 /// Gives a frame the type of service, or traffic class, `tos`. A frame whose flow is `Other`, or that has it already, stays
 /// as it is. In IPv4 the header's checksum follows; whether it was right is not looked at, and one that was wrong stays wrong.
@@ -97,19 +96,7 @@ pub fn dress(frame: &mut [u8], clear: bool, marked: bool)
     if !clear && !marked {
         return;
     }
-    let tos = tos_of(&flow(frame));
-    retag(frame, departing_tos(clear, marked, tos));
-}
-
-// The type of service or traffic class of a flow, 0 of `Other`.
-fn tos_of(heads: &FlowHeads) -> u8
-    ensures { result ≡ tos_of (flow_of heads.now) }
-{
-    match heads {
-        FlowHeads::V4 { tos, .. } => *tos,
-        FlowHeads::V6 { tos, .. } => *tos,
-        FlowHeads::Other => 0,
-    }
+    retag(frame, departing_tos(clear, marked, tos(frame)));
 }
 
 // The type of service with which a packet departs.

@@ -18,8 +18,8 @@ pub fn precedence(heads: &FlowHeads) -> u8
     }
 }
 
-// The precedence of a code point.
-fn precedence_of(point: u8) -> u8
+/// The drop precedence of a code point, as `precedence` says it. Constant time.
+pub fn precedence_of(point: u8) -> u8
     ensures value { result ≡ precedence_of point }
     ensures bound { result < 3 }
 {
