@@ -12,6 +12,7 @@ use Rattle.cbq_model.specs.Tree.{each_from, no_class, numbers, quantum_of}
 use Rattle.cbq_model.proofs.Lawful.{cbq_lawful, cbq_steady}
 use Rattle.cbq_rounds.specs.Fresh.{HasEarlierParents, IsClass, fresh, fresh_estimate}
 use Rattle.cbq_rounds.specs.Looked.{AreSized}
+use Rattle.cbq_rounds.specs.Rings.{AreRings}
 use Rattle.cbq_rounds.specs.Shared.{IsShared, Shared, no_estimate}
 use Rattle.cbq_rounds.specs.Stands.{IsRuling, Stands}
 use Rattle.cbq_rounds.specs.Waiting.{marked, waits}
@@ -112,9 +113,10 @@ module _ {Q : Type 0} (stands : Q → List QueueEvent → Type 0) (says : Q → 
   tree_is = ap (λ (s : Shared). s.tree) is
 
   pub is_ruling : (words : List ℕ) → rows.first ≡ 0 → length rows.queues ≡ length cs → length cs ≤ 256 → ((c : ℕ) → marked words c ≡ 0)
-      → IsRuling shares rows words
-  is_ruling words first count few none =
+      → (sets : List (List ℕ)) (tops : List ℕ) → AreRings cs sets tops → IsRuling shares rows words sets tops
+  is_ruling words first count few none sets tops rings =
       let S : List Entry → Type 0 = λ xs. AreSized xs in
+      let R : List CbqClass → Type 0 = λ ks. AreRings ks sets tops in
       record {
         first = first;
         count = count ∙ ap (λ (ks : List CbqClass). length ks) (sym tree_is);
@@ -124,6 +126,7 @@ module _ {Q : Type 0} (stands : Q → List QueueEvent → Type 0) (says : Q → 
         others = λ c l. all_empty stands rows told c;
         few = omega (arith, few, ap (λ (ks : List CbqClass). length ks) tree_is);
         waiting = λ c. none c ∙ ap waits (sym (all_empty stands rows told c));
+        rings = subst R (sym tree_is) rings;
       }
 
   pub stands_empty : 0 < rate → Stands stands says (record { shares = shares; rows = rows }) []

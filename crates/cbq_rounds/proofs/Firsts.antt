@@ -6,14 +6,9 @@ use Rattle.altq_model.specs.Play.{lesser}
 use Rattle.cbq_model.specs.declared.CbqClass.{CbqClass}
 use Rattle.cbq_model.specs.Tree.{each_from}
 use Rattle.cbq_rounds.specs.Due.{first_of}
+use Rattle.cbq_rounds.specs.Looked.{IsNoLater, IsOfOne}
 
 -- it is that of one of them
-pub record IsOfOne (f : ℕ → Option ℕ) (b n u : ℕ) : Type 0 where
-  pub class : ℕ
-  pub low : b ≤ class
-  pub high : class < b + n
-  pub is : f class ≡ Some u
-
 from_rest : (f : ℕ → Option ℕ) (b n u : ℕ) → IsOfOne f (b + 1) n u → IsOfOne f b (suc n) u
 from_rest f b n u x = record { class = x.class; low = omega (arith, x.low); high = omega (arith, x.high); is = x.is }
 
@@ -40,11 +35,6 @@ of_one f b (k ∷ ks) u e =
     one_case f b (length ks) u (f b) (first_of (each_from (λ c x. f c) (b + 1) ks)) refl e (λ v m. of_one f (b + 1) ks v m)
 
 -- and no later than any
-pub record IsNoLater (o : Option ℕ) (v : ℕ) : Type 0 where
-  pub first : ℕ
-  pub is : o ≡ Some first
-  pub most : first ≤ v
-
 here_case : (o p : Option ℕ) (v : ℕ) → o ≡ Some v → IsNoLater (lesser o p) v
 here_case None p v e = absurd (cc)
 here_case (Some w) None v e = let same : w ≡ v = cc in record { first = w; is = refl; most = omega (arith, same) }

@@ -238,19 +238,18 @@ module _ (d : Shared) (lists : ℕ → List Entry) (clock : Clock) (x : Sending)
     pub head : head_len (lists i) ≡ Some len
     pub start_is : start ≡ start_now_in now clock.rate clock.link i x.start len
 
-  pub due_now : (i len start mine theirs : ℕ) (now : Shared) → IsLookedAt i len start now → start ≡ x.start
-      → mine ≡ (class_of now.tree i).priority → theirs ≡ priority x.class → mine ≡ theirs → IsDueNow i len
-  due_now i len start mine theirs now q e m t alike = record {
+  pub due_now : (i len start : ℕ) (now : Shared) → IsLookedAt i len start now → start ≡ x.start → priority i ≡ priority x.class → IsDueNow i len
+  due_now i len start now q e alike = record {
     free = q.free;
     rate = q.rate;
     due = q.due;
     place = q.place;
     head = q.head;
     now = sym (start_by i len start now q.gone q.start_is) ∙ e;
-    alike = sym (ap (λ (k : Shared). (class_of k.tree i).priority) q.gone.same) ∙ sym m ∙ alike ∙ t;
+    alike = alike;
   }
 
-  -- it may not be sent now, or is of another priority
+  -- it may not be sent now
   pub later_gains_nothing : (i len start : ℕ) (now : Shared) → IsLookedAt i len start now → (start ≡ x.start → ⊥)
       → gained_by d lists clock x i ≡ get_or d.credits i 0
   later_gains_nothing i len start now q other =
@@ -261,26 +260,9 @@ module _ (d : Shared) (lists : ℕ → List Entry) (clock : Clock) (x : Sending)
       ∙ ne_eqb (start_now_in d d.rate clock.link i x.start len) x.start (λ e. other (is ∙ e)) in
       gains_nothing i (not_able i late)
 
-  -- a sending whose gains have come to a class
-  pub record IsUnderWay (i : ℕ) (now : Shared) : Type 0 where
-    pub gone : HasGained d lists clock x i now
-    pub free : clock.link.free ≤ x.start
-    pub rate : clock.rate ≡ d.rate
-    pub due : due_in d lists clock x.start ≡ Send x.ticket x.class x.len x.rule
-
-  pub other_gains_nothing : (i mine theirs : ℕ) (now : Shared) → IsUnderWay i now → mine ≡ (class_of now.tree i).priority → theirs ≡ priority x.class
-      → (mine ≡ theirs → ⊥) → gained_by d lists clock x i ≡ get_or d.credits i 0
-  other_gains_nothing i mine theirs now q m t other =
-      let y = sends_picked d lists clock x.start x.class x.len x.ticket x.rule q.free q.rate q.due in
-      let is : mine ≡ priority i = m ∙ ap (λ (k : Shared). (class_of k.tree i).priority) q.gone.same in
-      gains_nothing i (other_priority i (λ e. other (is ∙ e ∙ ap priority y.of_class ∙ sym t)))
-
+  -- nothing waits in it
   pub empty_gains_nothing : (i : ℕ) → i < length d.tree → head_len (lists i) ≡ None → gained_by d lists clock x i ≡ get_or d.credits i 0
   empty_gains_nothing i l e = gains_nothing i (not_able i (may_not d lists clock.link i x.start l e))
-
-  pub kept_on : (i : ℕ) (now after : Shared) → HasGained d lists clock x i now → gained_by d lists clock x i ≡ get_or d.credits i 0 → after ≡ now
-      → HasGained d lists clock x (i + 1) after
-  kept_on i now after g e f = let P : Shared → Type 0 = λ k. HasGained d lists clock x (i + 1) k in subst P (sym f) (gain_kept i now g e)
 
   pub gained_on : (i len r : ℕ) (now after : Shared) → HasGained d lists clock x i now → IsDueNow i len → length d.credits ≡ length d.tree
       → r ≡ rounds_for (get_or d.credits x.class 0) (quantum_of d.rate (class_of d.tree x.class)) x.len

@@ -1,10 +1,11 @@
 -- Bits of words, as a set of classes keeps them.
-use Rattle.std.proofs.Common.{◌≡◌, ◌≢◌, ◌≤◌, ◌<◌, ◌-◌, ◌*◌, ◌/◌, ◌%◌, ◌^◌, ◌∙◌, inl, inr, ℕ, List, length, get_or, ap, sym, arith, min, bit_and, bit_or, w64, get_or-set_same, get_or-set_other}
+use Rattle.std.proofs.Common.{◌≡◌, ◌≢◌, ◌≤◌, ◌<◌, ◌-◌, ◌*◌, ◌/◌, ◌%◌, ◌^◌, ◌∙◌, inl, inr, ℕ, zero, suc, List, [], ◌∷◌, length, get_or, ap, sym, arith, min, bit_and, bit_or, w64, get_or-set_same, get_or-set_other}
 use Rattle.std.specs.Prelude.{slice_set}
 use Rattle.std.specs.Int.{bit_at, bit_not, trailing_zeros}
 use Rattle.std.proofs.lemmas.Bool.{cases_eq, cases_lt}
 use Rattle.std.proofs.lemmas.Nat.Bits.{bit_at-trailing_zeros, bit_at-zero, bit_at_and, bit_at_clear_other, bit_at_clear_same, bit_at_mask_below, bit_at_mask_inside, bit_at-lt, bit_at_set_other, bit_at_set_same, ones_shl}
 use Rattle.cbq_rounds.specs.Waiting.{IsLowest, marked}
+use Rattle.cbq_rounds.proofs.Places.{past_end}
 
 abbrev with_bit : ℕ → ℕ → ℕ
 with_bit n i = bit_or n (1 * 2 ^ i % 2 ^ 64)
@@ -89,3 +90,28 @@ lowest_left n p h some fits =
       is = sym (rest_from n p i h low x.0) ∙ x.1;
       below = λ j a b. let m : j < 64 = omega (arith, b, x.0) in sym (rest_from n p j h a m) ∙ x.2 j b;
     }
+
+-- no class from 256 on is marked
+pub marked_past : (words : List ℕ) (c : ℕ) → length words ≡ 4 → 256 ≤ c → marked words c ≡ 0
+marked_past words c l h =
+    let past : length words ≤ c / 64 = omega (arith, l, h) in
+    ap (λ (n : ℕ). bit_at n (c % 64)) (past_end words (c / 64) 0 past) ∙ bit_at-zero (c % 64)
+
+-- the words of two sets
+and_word : (a b : List ℕ) (q i : ℕ) → length a ≡ 4 → length b ≡ 4
+    → bit_at (get_or (bit_and (get_or a 0 0) (get_or b 0 0) ∷ bit_and (get_or a 1 0) (get_or b 1 0) ∷ bit_and (get_or a 2 0) (get_or b 2 0) ∷ bit_and (get_or a 3 0) (get_or b 3 0) ∷ []) q 0) i
+    ≡ min (bit_at (get_or a q 0) i) (bit_at (get_or b q 0) i)
+and_word a b zero i l m = bit_at_and (get_or a 0 0) (get_or b 0 0) i
+and_word a b (suc zero) i l m = bit_at_and (get_or a 1 0) (get_or b 1 0) i
+and_word a b (suc (suc zero)) i l m = bit_at_and (get_or a 2 0) (get_or b 2 0) i
+and_word a b (suc (suc (suc zero))) i l m = bit_at_and (get_or a 3 0) (get_or b 3 0) i
+and_word a b (suc (suc (suc (suc q)))) i l m =
+    let none : bit_at (get_or a (suc (suc (suc (suc q)))) 0) i ≡ 0 =
+    ap (λ (n : ℕ). bit_at n i) (past_end a (suc (suc (suc (suc q)))) 0 (omega (arith, l))) ∙ bit_at-zero i in
+    let least : 0 ≡ min (bit_at (get_or a (suc (suc (suc (suc q)))) 0) i) (bit_at (get_or b (suc (suc (suc (suc q)))) 0) i) = omega (arith, none) in
+    bit_at-zero i ∙ least
+
+pub marked_in_both : (a b : List ℕ) (c : ℕ) → length a ≡ 4 → length b ≡ 4
+    → marked (bit_and (get_or a 0 0) (get_or b 0 0) ∷ bit_and (get_or a 1 0) (get_or b 1 0) ∷ bit_and (get_or a 2 0) (get_or b 2 0) ∷ bit_and (get_or a 3 0) (get_or b 3 0) ∷ []) c
+    ≡ min (marked a c) (marked b c)
+marked_in_both a b c l m = and_word a b (c / 64) (c % 64) l m

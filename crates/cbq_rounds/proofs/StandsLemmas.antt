@@ -32,6 +32,7 @@ use Rattle.cbq_rounds.specs.Looked.{AreSized}
 use Rattle.cbq_rounds.specs.Due.{due_in}
 use Rattle.cbq_rounds.specs.Gained.{gained_by, transmission, with_gains}
 use Rattle.cbq_rounds.specs.Sent.{told_up, with_credit, with_estimates, with_last}
+use Rattle.cbq_rounds.specs.Rings.{AreRings}
 use Rattle.cbq_rounds.specs.Shared.{IsTree, Shared, head_len, situation_in}
 use Rattle.cbq_rounds.proofs.DueLemmas.{SendsPicked, front_len, member_from, sends_picked}
 use Rattle.cbq_rounds.proofs.PolicyLemmas.{each_same, first_is, shown, situation_is}
@@ -275,13 +276,14 @@ length_all f b (k ∷ ks) = let more = length_all f (b + 1) ks in omega (arith, 
 
 -- the classes keep their form after a sending
 pub ruling_after : {Q : Type 0} (stands : Q → List QueueEvent → Type 0) (says : Q → Saying) (most : Q → ℕ) (d : Ruling Q) (rows : Rowed Q) (clock : Clock) (x : Sending) (end : ℕ) (emptied : Bool)
-    (after : Shared) (before words : List ℕ) → IsRuling d.shares d.rows before → SameRow most says d.rows rows
+    (after : Shared) (before words : List ℕ) (sets : List (List ℕ)) (tops : List ℕ) → IsRuling d.shares d.rows before sets tops → SameRow most says d.rows rows
     → ((c : ℕ) → list_in rows c ≡ after_sent x.class (list_in d.rows) c)
-    → IsAfter stands says d clock x end emptied after → AreWaiting words (list_in rows) → IsRuling after rows words
-ruling_after stands says most d rows clock x end emptied after before words r same lists i waiting =
+    → IsAfter stands says d clock x end emptied after → AreWaiting words (list_in rows) → IsRuling after rows words sets tops
+ruling_after stands says most d rows clock x end emptied after before words sets tops r same lists i waiting =
     let f : ℕ → ℕ = gained_by d.shares (list_in d.rows) clock x in
     let tree : length after.tree ≡ length d.shares.tree = ap (λ (cs : List CbqClass). length cs) i.tree in
     let S : List Entry → Type 0 = λ xs. AreSized xs in
+    let R : List CbqClass → Type 0 = λ cs. AreRings cs sets tops in
     record {
       first = same.first ∙ r.first;
       count = same.count ∙ r.count ∙ sym tree;
@@ -292,6 +294,7 @@ ruling_after stands says most d rows clock x end emptied after before words r sa
       others = λ c l. lists c ∙ sent_others x.class c (list_in d.rows) (r.others c (omega (arith, l, tree)));
       few = omega (arith, tree, r.few);
       waiting = waiting;
+      rings = subst R (sym i.tree) r.rings;
     }
 
 -- an option is none exactly where it is not some

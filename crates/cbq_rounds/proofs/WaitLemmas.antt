@@ -1,23 +1,18 @@
 -- The classes that wait, and those between them, which have nothing.
-use Rattle.std.proofs.Common.{◌≡◌, ◌≢◌, ◌≤◌, ◌<◌, ◌+◌, ◌-◌, ◌∙◌, inl, inr, ℕ, zero, suc, Bool, true, false, List, [], ◌∷◌, ◌++◌, None, length, drop, refl, ap, sym, subst, arith, eqb}
+use Rattle.std.proofs.Common.{◌≡◌, ◌≢◌, ◌≤◌, ◌<◌, ◌+◌, ◌-◌, ◌∙◌, inl, inr, ℕ, zero, suc, Bool, true, false, List, [], ◌∷◌, ◌++◌, None, length, get_or, drop, refl, ap, sym, subst, arith, eqb}
 use Rattle.std.specs.declared.option.Option.{Option}
 use Rattle.std.specs.Prelude.{◌&&◌, if◌then◌else◌, is_none, slice_get}
 use Rattle.std.proofs.lemmas.Bool.{cases_eq, cases_lt, eq-eqb, ne_eqb}
 use Rattle.altq_model.specs.declared.Verdict.{Verdict}
 use Rattle.altq_model.specs.History.{is_kept}
-use Rattle.cbq_model.specs.declared.Rank.{Rank}
-use Rattle.cbq_model.specs.Choice.{able, best}
 use Rattle.discipline_laws.specs.Laws.{after_offer, after_sent}
 use Rattle.discipline_laws.specs.declared.pick.Sending.{Sending}
 use Rattle.leaf_queue.specs.declared.node.Entry.{Entry}
 use Rattle.link_clock.specs.Clock.{Clock}
-use Rattle.cbq_rounds.specs.Due.{first_in}
-use Rattle.cbq_rounds.specs.Gained.{HasGained, with_gains}
-use Rattle.cbq_rounds.specs.Looked.{HasLooked}
-use Rattle.cbq_rounds.specs.Shared.{Shared, head_len, situation_in}
+use Rattle.cbq_rounds.specs.Gained.{HasGained, gained_by, with_gains}
+use Rattle.cbq_rounds.specs.Shared.{Shared, head_len}
 use Rattle.cbq_rounds.specs.Waiting.{AreWaiting, marked, waits}
-use Rattle.cbq_rounds.proofs.GainLemmas.{empty_gains_nothing, gain_all_is, gain_kept}
-use Rattle.cbq_rounds.proofs.LookLemmas.{looked_all, looked_none}
+use Rattle.cbq_rounds.proofs.GainLemmas.{gain_all_is, gain_kept}
 
 no_waits : (xs : List Entry) → waits xs ≡ 0 → xs ≡ []
 no_waits [] e = refl
@@ -92,41 +87,10 @@ sent_waiting class emptied before after old new w lists k here others c = elim (
       others c d ∙ w c ∙ ap (λ (b : Bool). waits (if b then drop 1 (old c) else old c)) (sym other) ∙ ap waits (sym (lists c))
 ]
 
--- a look passes by the classes that have nothing
-look_over : (d : Shared) (lists : ℕ → List Entry) (clock : Clock) (now from more : ℕ) (at : Option ℕ) (found : Option Rank)
-    → HasLooked d lists clock now from at found → from + more ≤ length d.tree → ((c : ℕ) → from ≤ c → c < from + more → lists c ≡ [])
-    → HasLooked d lists clock now (from + more) at found
-look_over d lists clock now from zero at found x l none =
-    let P : ℕ → Type 0 = λ n. HasLooked d lists clock now n at found in
-    let same : from ≡ from + 0 = omega arith in
-    subst P same x
-look_over d lists clock now from (suc more) at found x l none =
-    let before = look_over d lists clock now from more at found x (omega (arith, l)) (λ c a b. none c a (omega (arith, b))) in
-    let P : ℕ → Type 0 = λ n. HasLooked d lists clock now n at found in
-    let same : from + more + 1 ≡ from + suc more = omega arith in
-    subst P same (looked_none d lists clock now (from + more) at found before (omega (arith, l)) (no_head lists (from + more) (none (from + more) (omega arith) (omega arith))))
-
-pub look_to : (d : Shared) (lists : ℕ → List Entry) (clock : Clock) (now from class : ℕ) (at : Option ℕ) (found : Option Rank)
-    → HasLooked d lists clock now from at found → from ≤ class → class ≤ length d.tree → ((c : ℕ) → from ≤ c → c < class → lists c ≡ [])
-    → HasLooked d lists clock now class at found
-look_to d lists clock now from class at found x low high none =
-    let same : from + (class - from) ≡ class = omega (arith, low) in
-    let P : ℕ → Type 0 = λ n. HasLooked d lists clock now n at found in
-    subst P same (look_over d lists clock now from (class - from) at found x (omega (arith, low, high)) (λ c a b. none c a (omega (arith, b, low))))
-
-pub look_rest : (d : Shared) (lists : ℕ → List Entry) (clock : Clock) (now from : ℕ) (at : Option ℕ) (found : Option Rank)
-    → HasLooked d lists clock now from at found → ((c : ℕ) → from ≤ c → lists c ≡ []) → (at ≡ first_in d lists clock now)
-    × (found ≡ best d.tree d.rate (situation_in d lists clock.link) None (able d.tree d.rate (situation_in d lists clock.link) now))
-look_rest d lists clock now from at found x none = elim (cases_lt from (length d.tree)) [
-  | inl m ↦
-      looked_all d lists clock now (length d.tree) at found
-      (look_to d lists clock now from (length d.tree) at found x (omega (arith, m)) (omega arith) (λ c a b. none c a)) (omega arith)
-  | inr m ↦ looked_all d lists clock now from at found x m
-]
-
--- and so do gains
+-- gains pass by the classes that gain nothing
 gain_over : (d : Shared) (lists : ℕ → List Entry) (clock : Clock) (x : Sending) (from more : ℕ) (now : Shared) → HasGained d lists clock x from now
-    → from + more ≤ length d.tree → ((c : ℕ) → from ≤ c → c < from + more → lists c ≡ []) → HasGained d lists clock x (from + more) now
+    → from + more ≤ length d.tree → ((c : ℕ) → from ≤ c → c < from + more → gained_by d lists clock x c ≡ get_or d.credits c 0)
+    → HasGained d lists clock x (from + more) now
 gain_over d lists clock x from zero now g l none =
     let P : ℕ → Type 0 = λ n. HasGained d lists clock x n now in
     let same : from ≡ from + 0 = omega arith in
@@ -135,21 +99,22 @@ gain_over d lists clock x from (suc more) now g l none =
     let before = gain_over d lists clock x from more now g (omega (arith, l)) (λ c a b. none c a (omega (arith, b))) in
     let P : ℕ → Type 0 = λ n. HasGained d lists clock x n now in
     let same : from + more + 1 ≡ from + suc more = omega arith in
-    subst P same (gain_kept d lists clock x (from + more) now before
-    (empty_gains_nothing d lists clock x (from + more) (omega (arith, l)) (no_head lists (from + more) (none (from + more) (omega arith) (omega arith)))))
+    subst P same (gain_kept d lists clock x (from + more) now before (none (from + more) (omega arith) (omega arith)))
 
 pub gain_to : (d : Shared) (lists : ℕ → List Entry) (clock : Clock) (x : Sending) (from class : ℕ) (now : Shared) → HasGained d lists clock x from now
-    → from ≤ class → class ≤ length d.tree → ((c : ℕ) → from ≤ c → c < class → lists c ≡ []) → HasGained d lists clock x class now
+    → from ≤ class → class ≤ length d.tree → ((c : ℕ) → from ≤ c → c < class → gained_by d lists clock x c ≡ get_or d.credits c 0)
+    → HasGained d lists clock x class now
 gain_to d lists clock x from class now g low high none =
     let same : from + (class - from) ≡ class = omega (arith, low) in
     let P : ℕ → Type 0 = λ n. HasGained d lists clock x n now in
     subst P same (gain_over d lists clock x from (class - from) now g (omega (arith, low, high)) (λ c a b. none c a (omega (arith, b, low))))
 
 pub gain_rest : (d : Shared) (lists : ℕ → List Entry) (clock : Clock) (x : Sending) (from : ℕ) (now : Shared) → HasGained d lists clock x from now
-    → ((c : ℕ) → from ≤ c → lists c ≡ []) → length d.credits ≡ length d.tree → now ≡ with_gains d lists clock x
+    → ((c : ℕ) → from ≤ c → c < length d.tree → gained_by d lists clock x c ≡ get_or d.credits c 0) → length d.credits ≡ length d.tree
+    → now ≡ with_gains d lists clock x
 gain_rest d lists clock x from now g none all = elim (cases_lt from (length d.tree)) [
   | inl m ↦
-      gain_all_is d lists clock x (length d.tree) now
-      (gain_to d lists clock x from (length d.tree) now g (omega (arith, m)) (omega arith) (λ c a b. none c a)) (omega arith) all
+      gain_all_is d lists clock x (length d.tree) now (gain_to d lists clock x from (length d.tree) now g (omega (arith, m)) (omega arith) none)
+      (omega arith) all
   | inr m ↦ gain_all_is d lists clock x from now g m all
 ]

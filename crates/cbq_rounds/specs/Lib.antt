@@ -3,6 +3,7 @@ pub mod Fresh
 pub mod Gained
 pub mod Kept
 pub mod Looked
+pub mod Rings
 pub mod Sent
 pub mod Shared
 pub mod Stands

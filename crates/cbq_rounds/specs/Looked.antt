@@ -1,13 +1,12 @@
--- What a look at the first classes has found.
-use Rattle.std.specs.Prelude.{◌≡◌, ◌≤◌, ℕ, nat_lt, Bool, false, List, [], ◌∷◌, Option, None, Some, drop}
-use Rattle.std.specs.List.{filter}
-use Rattle.altq_model.specs.Play.{lesser}
+-- What a look at some classes has found.
+use Rattle.std.specs.Prelude.{◌≡◌, ◌≤◌, ◌<◌, ◌+◌, ℕ, true, false, List, [], ◌∷◌, length, Option, Some}
+use Rattle.cbq_model.specs.declared.CbqClass.{CbqClass}
 use Rattle.cbq_model.specs.declared.Rank.{Rank}
-use Rattle.cbq_model.specs.Choice.{able, best, may}
-use Rattle.cbq_model.specs.Tree.{each_from}
+use Rattle.cbq_model.specs.Choice.{goes_before, may, rank_in}
+use Rattle.cbq_model.specs.Tree.{class_of}
 use Rattle.leaf_queue.specs.declared.node.Entry.{Entry}
 use Rattle.link_clock.specs.Clock.{Clock}
-use Rattle.cbq_rounds.specs.Due.{first_in, first_of, start_in}
+use Rattle.cbq_rounds.specs.Due.{start_in}
 use Rattle.cbq_rounds.specs.Shared.{Shared, situation_in}
 
 -- every waiting packet is 1 to 262,144 bytes long
@@ -15,17 +14,45 @@ abbrev pub AreSized : List Entry → Type 0
 AreSized [] = Unit {0}
 AreSized (x ∷ xs) = (1 ≤ x.len) × (x.len ≤ 262144) × AreSized xs
 
--- a class of this priority cannot win against the best one so far
-abbrev pub is_behind : Option Rank → (priority : ℕ) → Bool
-is_behind None p = false
-is_behind (Some b) p = nat_lt p b.priority
+-- it is that of one of the classes from b on, b + n excluded
+pub record IsOfOne (f : ℕ → Option ℕ) (b n u : ℕ) : Type 0 where
+  pub class : ℕ
+  pub low : b ≤ class
+  pub high : class < b + n
+  pub is : f class ≡ Some u
 
--- what the classes before `class` gave, and what those from it on give, make the first moment and the best class of all
-pub record HasLooked (d : Shared) (lists : ℕ → List Entry) (clock : Clock) (now class : ℕ) (at : Option ℕ) (found : Option Rank) : Type 0 where
-  pub till : lesser at (first_of (each_from (λ c k. start_in d lists clock now c) class (drop class d.tree))) ≡ first_in d lists clock now
-  pub best : best d.tree d.rate (situation_in d lists clock.link) found
-      (filter (λ c. may d.tree d.rate (situation_in d lists clock.link) c now) (each_from (λ c k. c) class (drop class d.tree)))
-      ≡ best d.tree d.rate (situation_in d lists clock.link) None (able d.tree d.rate (situation_in d lists clock.link) now)
+-- a moment is there, and is no later
+pub record IsNoLater (o : Option ℕ) (v : ℕ) : Type 0 where
+  pub first : ℕ
+  pub is : o ≡ Some first
+  pub most : first ≤ v
+
+-- its priority is at least p, and a class of p stands before `from`
+pub record IsSeen (cs : List CbqClass) (p from c : ℕ) : Type 0 where
+  pub low : p ≤ (class_of cs c).priority
+  pub before : (class_of cs c).priority ≡ p → c < from
+
+-- it is the rank of a class of a priority of at least p that may send now
+pub record IsAble (d : Shared) (lists : ℕ → List Entry) (clock : Clock) (now p : ℕ) (r : Rank) : Type 0 where
+  pub class : ℕ
+  pub place : class < length d.tree
+  pub able : may d.tree d.rate (situation_in d lists clock.link) class now ≡ true
+  pub is : r ≡ rank_in d.tree d.rate (situation_in d lists clock.link) class
+  pub low : p ≤ (class_of d.tree class).priority
+
+-- one was found that another does not go before
+pub record IsLed (found : Option Rank) (r : Rank) : Type 0 where
+  pub one : Rank
+  pub is : found ≡ Some one
+  pub behind : goes_before r one ≡ false
+
+-- the first moment and the best class of those that were seen
+pub record HasSeen (d : Shared) (lists : ℕ → List Entry) (clock : Clock) (now p from : ℕ) (at : Option ℕ) (found : Option Rank) : Type 0 where
+  pub of_one : (u : ℕ) → at ≡ Some u → IsOfOne (start_in d lists clock now) 0 (length d.tree) u
+  pub no_later : (c v : ℕ) → c < length d.tree → IsSeen d.tree p from c → start_in d lists clock now c ≡ Some v → IsNoLater at v
+  pub of_able : (r : Rank) → found ≡ Some r → IsAble d lists clock now p r
+  pub led : (c : ℕ) → c < length d.tree → IsSeen d.tree p from c → may d.tree d.rate (situation_in d lists clock.link) c now ≡ true
+      → IsLed found (rank_in d.tree d.rate (situation_in d lists clock.link) c)
 
 -- no moment before now was found, and where a class was found that may send, now is the first
 pub record AreFrom (now : ℕ) (at : Option ℕ) (found : Option Rank) : Type 0 where

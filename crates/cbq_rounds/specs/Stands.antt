@@ -12,6 +12,7 @@ use Rattle.cbq_model.specs.Capped.{AreSendings}
 use Rattle.cbq_model.specs.Rounds.{cbq, credits, cursors, estimates}
 use Rattle.cbq_model.specs.Tree.{numbers}
 use Rattle.cbq_rounds.specs.Looked.{AreSized}
+use Rattle.cbq_rounds.specs.Rings.{AreRings}
 use Rattle.cbq_rounds.specs.Shared.{Shared}
 use Rattle.cbq_rounds.specs.Waiting.{AreWaiting}
 
@@ -20,8 +21,9 @@ pub record Ruling (Q : Type 0) : Type 0 where
   pub shares : Shared
   pub rows : Rowed Q
 
--- the classes are numbered from 0 on, each is a queue class, no other number has a packet, and those in which a packet waits are marked
-pub record IsRuling {Q : Type 0} (d : Shared) (rows : Rowed Q) (words : List ℕ) : Type 0 where
+-- the classes are numbered from 0 on, each is a queue class, no other number has a packet, those in which a packet waits are marked, and those
+-- of each priority are known
+pub record IsRuling {Q : Type 0} (d : Shared) (rows : Rowed Q) (words : List ℕ) (sets : List (List ℕ)) (tops : List ℕ) : Type 0 where
   pub first : rows.first ≡ 0
   pub count : length rows.queues ≡ length d.tree
   pub credit_each : length d.credits ≡ length d.tree
@@ -30,6 +32,7 @@ pub record IsRuling {Q : Type 0} (d : Shared) (rows : Rowed Q) (words : List ℕ
   pub others : (c : ℕ) → length d.tree ≤ c → list_in rows c ≡ []
   pub few : length d.tree ≤ 256
   pub waiting : AreWaiting words (list_in rows)
+  pub rings : AreRings d.tree sets tops
 
 -- its policy
 abbrev pub cbq_of : {Q : Type 0} → (Q → Saying) → Ruling Q → Policy

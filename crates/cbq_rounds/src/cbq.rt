@@ -13,6 +13,7 @@ ghost use Rattle.cbq_rounds.specs.Stands.{IsRuling, Ruling};
 
 use crate::gains::gain_all;
 use crate::look::{Found, look};
+use crate::rings::Rings;
 use crate::sharing::Shares;
 use crate::waiting::Waiting;
 use altq_model::{Rule, Verdict};
@@ -31,6 +32,7 @@ pub struct Cbq<Q: QueueRule + Drop> {
     shares: Shares,
     rows: Rows<Q>,
     waiting: Waiting,
+    rings: Rings,
 }
 
 impl<Q: QueueRule + Drop> Model for Cbq<Q> {
@@ -38,7 +40,7 @@ impl<Q: QueueRule + Drop> Model for Cbq<Q> {
 
     ghost view = { λ d. record { shares = d.shares; rows = d.rows } };
 
-    ghost invariant = { λ d. IsRuling d.shares d.rows d.waiting };
+    ghost invariant = { λ d. IsRuling d.shares d.rows d.waiting d.rings.sets.items d.rings.tops.items };
 }
 
 impl<Q: QueueRule + Drop> Cbq<Q> {
@@ -67,10 +69,12 @@ impl<Q: QueueRule + Drop> Cbq<Q> {
         let holds = vec![in alloc; true; queues.len()]?;
         let rows = Rows::build(alloc, 0, queues, holds)?;
         let shares = Shares::build(alloc, classes, rate)?;
+        let rings = Rings::build(alloc, classes)?;
         Ok(Cbq {
             shares,
             rows,
             waiting: Waiting::none(),
+            rings,
         })
     }
 }
@@ -168,7 +172,14 @@ impl<Q: QueueRule + Drop> Discipline for Cbq<Q> {
     }
 
     fn next(&mut self, now: u64, clock: &LinkClock) -> Pick {
-        let found = look(&self.shares, &self.rows, &self.waiting, now, clock);
+        let found = look(
+            &self.shares,
+            &self.rows,
+            &self.waiting,
+            &self.rings,
+            now,
+            clock,
+        );
         pick_of(&self.shares, &self.rows, &found, now, clock)
     }
 
@@ -176,7 +187,14 @@ impl<Q: QueueRule + Drop> Discipline for Cbq<Q> {
         let end = clock
             .end_of(sending.start, sending.len)
             .max(self.shares.ended);
-        gain_all(&mut self.shares, &self.rows, &self.waiting, &sending, clock);
+        gain_all(
+            &mut self.shares,
+            &self.rows,
+            &self.waiting,
+            &self.rings,
+            &sending,
+            clock,
+        );
         self.rows.take(sending.class, sending.start);
         let emptied = self.rows.head(sending.class).is_none();
         self.waiting.take(sending.class, emptied);

@@ -5,8 +5,10 @@ ghost use Rattle.discipline_laws.specs.declared.pick.Pick.{Pick};
 ghost use Rattle.cbq_rounds.specs.Due.{due_in};
 ghost use Rattle.cbq_rounds.specs.Looked.{AreSized};
 ghost use Rattle.cbq_rounds.specs.Gained.{with_gains};
+ghost use Rattle.cbq_rounds.specs.Rings.{AreRings};
 ghost use Rattle.cbq_rounds.specs.Waiting.{AreWaiting};
 
+use crate::rings::Rings;
 use crate::sharing::Shares;
 use crate::waiting::Waiting;
 use class_rows::Rows;
@@ -20,6 +22,7 @@ pub fn gain_all<Q: QueueRule + Drop>(
     shares: &mut Shares,
     rows: &Rows<Q>,
     waiting: &Waiting,
+    rings: &Rings,
     sending: &Sending,
     clock: &LinkClock,
 )
@@ -28,6 +31,8 @@ pub fn gain_all<Q: QueueRule + Drop>(
     requires credits { length shares.old.credits ≡ length shares.old.tree }
     requires sized { (c : ℕ) → AreSized (list_in rows.now c) }
     requires waiting { AreWaiting waiting.now (list_in rows.now) }
+    requires rings { AreRings shares.old.tree rings.now.sets.items rings.now.tops.items }
+    requires few { length shares.old.tree ≤ 256 }
     requires others { (c : ℕ) → length shares.old.tree ≤ c → list_in rows.now c ≡ [] }
     requires free { clock.now.link.free ≤ sending.now.start }
     requires early { sending.now.start < 2 ^ 63 }
@@ -41,12 +46,10 @@ pub fn gain_all<Q: QueueRule + Drop>(
         return;
     }
     let priority = shares.priority(sending.class);
+    let some = rings.among(waiting, priority);
     let mut from = 0;
-    'classes: while let Some(class) = waiting.first_from(from) {
+    'classes: while let Some(class) = some.first_from(from) {
         from = class + 1;
-        if shares.priority(class) != priority {
-            continue;
-        }
         if let Some(head) = rows.head(class) {
             let start = shares.start_of(class, head.len, sending.start, clock);
             if start == sending.start {

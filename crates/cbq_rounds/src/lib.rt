@@ -9,6 +9,7 @@ mod cbq;
 mod gains;
 mod laws;
 mod look;
+mod rings;
 mod sent;
 mod sharing;
 mod waiting;

@@ -181,6 +181,9 @@ impl Shares {
         ensures { result ≡ rounds_for (get_or self.now.credits class 0) (quantum_of self.now.rate (class_of self.now.tree class)) len }
     {
         let missing = u64::from(len).saturating_sub(self.credits[class as usize]);
+        if missing == 0 {
+            return 0;
+        }
         let quantum = self.quantum(class);
         (missing + (quantum - 1)) / quantum
     }

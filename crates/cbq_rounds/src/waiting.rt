@@ -1,5 +1,5 @@
 // Which classes wait.
-ghost use Rattle.std.specs.Prelude.{◌≡◌, ◌≢◌, ◌≤◌, ◌<◌, ℕ, IfNone, IfSome, if◌then◌else◌};
+ghost use Rattle.std.specs.Prelude.{◌≡◌, ◌≢◌, ◌≤◌, ◌<◌, ℕ, IfNone, IfSome, min, if◌then◌else◌};
 ghost use Rattle.std.specs.Int.{bit_at};
 ghost use Rattle.cbq_rounds.specs.Waiting.{IsFirst, IsLowest, marked};
 
@@ -65,14 +65,32 @@ impl Waiting {
         }
     }
 
+    /// The classes that are in both sets.
+    pub fn within(&self, other: &Waiting) -> Waiting
+        ensures { (c : ℕ) → marked result c ≡ min (marked self.now c) (marked other.now c) }
+    {
+        let a = &self.words;
+        let b = &other.words;
+        Waiting {
+            words: [a[0] & b[0], a[1] & b[1], a[2] & b[2], a[3] & b[3]],
+        }
+    }
+
     /// The first class from one on that is there. It looks at no more than four words.
     pub fn first_from(&self, from: u32) -> Option<u32>
         ensures some { IfSome result (λ class. IsFirst self.now from class) }
         ensures none { IfNone result ((c : ℕ) → from ≤ c → marked self.now c ≡ 0) }
     {
-        for at in from / 64..4 {
-            let place = from.saturating_sub(64 * at);
-            if let Some(bit) = lowest_from(self.words[at as usize], place) {
+        let words = &self.words;
+        let first = from / 64;
+        if first >= 4 {
+            return None;
+        }
+        if let Some(bit) = lowest_from(words[first as usize], from % 64) {
+            return Some(64 * first + bit);
+        }
+        for at in first + 1..4 {
+            if let Some(bit) = lowest_from(words[at as usize], 0) {
                 return Some(64 * at + bit);
             }
         }

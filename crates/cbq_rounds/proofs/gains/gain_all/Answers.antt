@@ -1,14 +1,34 @@
-use Rattle.std.proofs.Common.{◌≡◌, ◌<◌, ◌∙◌, ℕ, List, Some, ap, arith, length, sym}
+use Rattle.std.proofs.Common.{◌≡◌, ◌<◌, ◌∙◌, ℕ, List, [], Some, ap, arith, get_or, length, sym}
 use Rattle.std.specs.declared.option.Option.{Option}
 use Rattle.std.specs.Prelude.{option_map}
 use Rattle.leaf_queue.specs.declared.node.Entry.{Entry}
 use Rattle.class_rows.specs.Rows.{list_in}
+use Rattle.discipline_laws.specs.declared.pick.Sending.{Sending}
 use Rattle.cbq_rounds.specs.Gained.{HasGained}
+use Rattle.cbq_rounds.specs.Rings.{IsRing}
 use Rattle.cbq_rounds.specs.Shared.{Shared, head_len}
-use Rattle.cbq_rounds.proofs.GainLemmas.{due_now, few_now, gain_kept, gained_on, later_gains_nothing, no_gains, other_gains_nothing}
+use Rattle.cbq_rounds.proofs.DueLemmas.{sends_picked}
+use Rattle.cbq_rounds.proofs.GainLemmas.{due_now, few_now, gained_on, gain_kept, later_gains_nothing, no_gains}
 use Rattle.cbq_rounds.proofs.LookLemmas.{first_sized, head_of}
-use Rattle.cbq_rounds.proofs.WaitLemmas.{gain_rest, gain_to, marked_inside, not_marked}
+use Rattle.cbq_rounds.proofs.RingLemmas.{inside, never_none, of_ring, unmarked_gains_nothing}
+use Rattle.cbq_rounds.proofs.WaitLemmas.{gain_rest, gain_to}
 use Rattle.cbq_rounds.proofs.gains.gain_all.Goals as goal
+
+pub head-requires-clause-high : goal.head-requires-clause-high
+head-requires-clause-high g c =
+    let d : Shared = c.args.shares.now in
+    let lists : ℕ → List Entry = list_in c.args.rows.now in
+    let x : Sending = c.args.sending.now in
+    let i : ℕ = c.in-Some.class in
+    let first = c.in-Some.ensures.some in
+    let p : ℕ = c.priority-priority.result in
+    let ring : List ℕ = get_or c.args.rings.now.sets.items p [] in
+    let both : List ℕ = c.among-some.result in
+    let sends = sends_picked d lists c.args.clock.now x.start x.class x.len x.ticket x.rule c.requires.free c.requires.rate c.requires.due in
+    let few = c.requires.rings.few x.class sends.place in
+    let is : IsRing d.tree p ring = c.requires.rings.ring_of p (omega (arith, few, c.priority-priority.ensures)) in
+    let place : i < length d.tree = inside d.tree lists c.args.waiting.now ring both p c.requires.waiting is c.requires.others c.among-some.ensures i first.is in
+    omega (arith, place, c.requires.count, c.requires.first)
 
 pub gain-requires-clause-short : goal.gain-requires-clause-short
 gain-requires-clause-short g c =
@@ -18,70 +38,96 @@ pub gain-requires-clause-few : goal.gain-requires-clause-few
 gain-requires-clause-few g c =
     let d : Shared = c.args.shares.now in
     let lists : ℕ → List Entry = list_in c.args.rows.now in
+    let x : Sending = c.args.sending.now in
     let i : ℕ = c.in-Some.class in
     let first = c.in-Some.ensures.some in
-    let place : i < length d.tree = marked_inside c.args.waiting.now lists i (length d.tree) c.requires.waiting c.requires.others first.is in
-    let here : HasGained d lists c.args.clock.now c.args.sending.now i c.classes.shares =
-    gain_to d lists c.args.clock.now c.args.sending.now c.classes.from i c.classes.shares c.classes.invariant first.low (omega (arith, place))
-    (λ k a b. not_marked c.args.waiting.now lists k c.requires.waiting (first.before k a b)) in
+    let p : ℕ = c.priority-priority.result in
+    let ring : List ℕ = get_or c.args.rings.now.sets.items p [] in
+    let both : List ℕ = c.among-some.result in
+    let sends = sends_picked d lists c.args.clock.now x.start x.class x.len x.ticket x.rule c.requires.free c.requires.rate c.requires.due in
+    let few = c.requires.rings.few x.class sends.place in
+    let is : IsRing d.tree p ring = c.requires.rings.ring_of p (omega (arith, few, c.priority-priority.ensures)) in
+    let place : i < length d.tree = inside d.tree lists c.args.waiting.now ring both p c.requires.waiting is c.requires.others c.among-some.ensures i first.is in
+    let here : HasGained d lists c.args.clock.now x i c.classes.shares =
+    gain_to d lists c.args.clock.now x c.classes.from i c.classes.shares c.classes.invariant first.low (omega (arith, place)) (λ k a b.
+    unmarked_gains_nothing d lists c.args.clock.now x c.args.waiting.now ring both p k c.requires.waiting is c.requires.others c.among-some.ensures c.requires.free
+    c.requires.rate c.requires.due c.priority-priority.ensures (first.before k a b) (omega (arith, b, place))) in
     let head : head_len (lists i) ≡ Some c.in-Some-head.head.len =
-    head_of (lists i) c.head.result c.head.ensures ∙ ap (λ (o : Option Entry). option_map (λ (x : Entry). x.len) o) c.in-Some-head.is in
-    let at = due_now d lists c.args.clock.now c.args.sending.now i c.in-Some-head.head.len c.start_of-start.result c.priority.result c.priority-priority.result
-    c.classes.shares
+    head_of (lists i) c.head.result c.head.ensures ∙ ap (λ (o : Option Entry). option_map (λ (y : Entry). y.len) o) c.in-Some-head.is in
+    let alike = of_ring d.tree lists c.args.waiting.now ring both p c.requires.waiting is c.requires.others c.among-some.ensures i first.is in
+    let at = due_now d lists c.args.clock.now x i c.in-Some-head.head.len c.start_of-start.result c.classes.shares
     (record { gone = here; free = c.requires.free; rate = c.requires.rate; due = c.requires.due; place = place; head = head; start_is = c.start_of-start.ensures })
-    c.if-start-sending.true c.priority.ensures c.priority-priority.ensures c.if-priority.false in
-    few_now d lists c.args.clock.now c.args.sending.now i c.in-Some-head.head.len c.rounds-rounds.result c.classes.shares here at c.rounds-rounds.ensures
-
-pub classes-preserved-then-priority : goal.classes-preserved-then-priority
-classes-preserved-then-priority g c =
-    let d : Shared = c.args.shares.now in
-    let lists : ℕ → List Entry = list_in c.args.rows.now in
-    let i : ℕ = c.in-Some.class in
-    let first = c.in-Some.ensures.some in
-    let place : i < length d.tree = marked_inside c.args.waiting.now lists i (length d.tree) c.requires.waiting c.requires.others first.is in
-    let here : HasGained d lists c.args.clock.now c.args.sending.now i c.classes.shares =
-    gain_to d lists c.args.clock.now c.args.sending.now c.classes.from i c.classes.shares c.classes.invariant first.low (omega (arith, place))
-    (λ k a b. not_marked c.args.waiting.now lists k c.requires.waiting (first.before k a b)) in
-    gain_kept d lists c.args.clock.now c.args.sending.now i c.classes.shares here
-    (other_gains_nothing d lists c.args.clock.now c.args.sending.now i c.priority.result c.priority-priority.result
-    c.classes.shares (record { gone = here; free = c.requires.free; rate = c.requires.rate; due = c.requires.due }) c.priority.ensures
-    c.priority-priority.ensures c.if-priority.true)
+    c.if-start-sending.true (alike ∙ c.priority-priority.ensures) in
+    few_now d lists c.args.clock.now x i c.in-Some-head.head.len c.rounds-rounds.result c.classes.shares here at c.rounds-rounds.ensures
 
 pub classes-preserved-then-start-sending : goal.classes-preserved-then-start-sending
 classes-preserved-then-start-sending g c =
     let d : Shared = c.args.shares.now in
     let lists : ℕ → List Entry = list_in c.args.rows.now in
+    let x : Sending = c.args.sending.now in
     let i : ℕ = c.in-Some.class in
     let first = c.in-Some.ensures.some in
-    let place : i < length d.tree = marked_inside c.args.waiting.now lists i (length d.tree) c.requires.waiting c.requires.others first.is in
-    let here : HasGained d lists c.args.clock.now c.args.sending.now i c.classes.shares =
-    gain_to d lists c.args.clock.now c.args.sending.now c.classes.from i c.classes.shares c.classes.invariant first.low (omega (arith, place))
-    (λ k a b. not_marked c.args.waiting.now lists k c.requires.waiting (first.before k a b)) in
+    let p : ℕ = c.priority-priority.result in
+    let ring : List ℕ = get_or c.args.rings.now.sets.items p [] in
+    let both : List ℕ = c.among-some.result in
+    let sends = sends_picked d lists c.args.clock.now x.start x.class x.len x.ticket x.rule c.requires.free c.requires.rate c.requires.due in
+    let few = c.requires.rings.few x.class sends.place in
+    let is : IsRing d.tree p ring = c.requires.rings.ring_of p (omega (arith, few, c.priority-priority.ensures)) in
+    let place : i < length d.tree = inside d.tree lists c.args.waiting.now ring both p c.requires.waiting is c.requires.others c.among-some.ensures i first.is in
+    let here : HasGained d lists c.args.clock.now x i c.classes.shares =
+    gain_to d lists c.args.clock.now x c.classes.from i c.classes.shares c.classes.invariant first.low (omega (arith, place)) (λ k a b.
+    unmarked_gains_nothing d lists c.args.clock.now x c.args.waiting.now ring both p k c.requires.waiting is c.requires.others c.among-some.ensures c.requires.free
+    c.requires.rate c.requires.due c.priority-priority.ensures (first.before k a b) (omega (arith, b, place))) in
     let head : head_len (lists i) ≡ Some c.in-Some-head.head.len =
-    head_of (lists i) c.head.result c.head.ensures ∙ ap (λ (o : Option Entry). option_map (λ (x : Entry). x.len) o) c.in-Some-head.is in
-    let at = due_now d lists c.args.clock.now c.args.sending.now i c.in-Some-head.head.len c.start_of-start.result c.priority.result c.priority-priority.result
-    c.classes.shares
+    head_of (lists i) c.head.result c.head.ensures ∙ ap (λ (o : Option Entry). option_map (λ (y : Entry). y.len) o) c.in-Some-head.is in
+    let alike = of_ring d.tree lists c.args.waiting.now ring both p c.requires.waiting is c.requires.others c.among-some.ensures i first.is in
+    let at = due_now d lists c.args.clock.now x i c.in-Some-head.head.len c.start_of-start.result c.classes.shares
     (record { gone = here; free = c.requires.free; rate = c.requires.rate; due = c.requires.due; place = place; head = head; start_is = c.start_of-start.ensures })
-    c.if-start-sending.true c.priority.ensures c.priority-priority.ensures c.if-priority.false in
-    gained_on d lists c.args.clock.now c.args.sending.now i c.in-Some-head.head.len c.rounds-rounds.result c.classes.shares c.gain.new.self
+    c.if-start-sending.true (alike ∙ c.priority-priority.ensures) in
+    gained_on d lists c.args.clock.now x i c.in-Some-head.head.len c.rounds-rounds.result c.classes.shares c.gain.new.self
     here at c.requires.credits c.rounds-rounds.ensures c.gain.ensures
 
 pub classes-preserved-else-start-sending : goal.classes-preserved-else-start-sending
 classes-preserved-else-start-sending g c =
     let d : Shared = c.args.shares.now in
     let lists : ℕ → List Entry = list_in c.args.rows.now in
+    let x : Sending = c.args.sending.now in
     let i : ℕ = c.in-Some.class in
     let first = c.in-Some.ensures.some in
-    let place : i < length d.tree = marked_inside c.args.waiting.now lists i (length d.tree) c.requires.waiting c.requires.others first.is in
-    let here : HasGained d lists c.args.clock.now c.args.sending.now i c.classes.shares =
-    gain_to d lists c.args.clock.now c.args.sending.now c.classes.from i c.classes.shares c.classes.invariant first.low (omega (arith, place))
-    (λ k a b. not_marked c.args.waiting.now lists k c.requires.waiting (first.before k a b)) in
+    let p : ℕ = c.priority-priority.result in
+    let ring : List ℕ = get_or c.args.rings.now.sets.items p [] in
+    let both : List ℕ = c.among-some.result in
+    let sends = sends_picked d lists c.args.clock.now x.start x.class x.len x.ticket x.rule c.requires.free c.requires.rate c.requires.due in
+    let few = c.requires.rings.few x.class sends.place in
+    let is : IsRing d.tree p ring = c.requires.rings.ring_of p (omega (arith, few, c.priority-priority.ensures)) in
+    let place : i < length d.tree = inside d.tree lists c.args.waiting.now ring both p c.requires.waiting is c.requires.others c.among-some.ensures i first.is in
+    let here : HasGained d lists c.args.clock.now x i c.classes.shares =
+    gain_to d lists c.args.clock.now x c.classes.from i c.classes.shares c.classes.invariant first.low (omega (arith, place)) (λ k a b.
+    unmarked_gains_nothing d lists c.args.clock.now x c.args.waiting.now ring both p k c.requires.waiting is c.requires.others c.among-some.ensures c.requires.free
+    c.requires.rate c.requires.due c.priority-priority.ensures (first.before k a b) (omega (arith, b, place))) in
     let head : head_len (lists i) ≡ Some c.in-Some-head.head.len =
-    head_of (lists i) c.head.result c.head.ensures ∙ ap (λ (o : Option Entry). option_map (λ (x : Entry). x.len) o) c.in-Some-head.is in
-    gain_kept d lists c.args.clock.now c.args.sending.now i c.classes.shares here
-    (later_gains_nothing d lists c.args.clock.now c.args.sending.now i c.in-Some-head.head.len c.start_of-start.result c.classes.shares
+    head_of (lists i) c.head.result c.head.ensures ∙ ap (λ (o : Option Entry). option_map (λ (y : Entry). y.len) o) c.in-Some-head.is in
+    gain_kept d lists c.args.clock.now x i c.classes.shares here
+    (later_gains_nothing d lists c.args.clock.now x i c.in-Some-head.head.len c.start_of-start.result c.classes.shares
     (record { gone = here; free = c.requires.free; rate = c.requires.rate; due = c.requires.due; place = place; head = head; start_is = c.start_of-start.ensures })
     c.if-start-sending.false)
+
+pub classes-preserved : goal.classes-preserved
+classes-preserved g c =
+    let d : Shared = c.args.shares.now in
+    let lists : ℕ → List Entry = list_in c.args.rows.now in
+    let x : Sending = c.args.sending.now in
+    let i : ℕ = c.in-Some.class in
+    let first = c.in-Some.ensures.some in
+    let p : ℕ = c.priority-priority.result in
+    let ring : List ℕ = get_or c.args.rings.now.sets.items p [] in
+    let both : List ℕ = c.among-some.result in
+    let sends = sends_picked d lists c.args.clock.now x.start x.class x.len x.ticket x.rule c.requires.free c.requires.rate c.requires.due in
+    let few = c.requires.rings.few x.class sends.place in
+    let is : IsRing d.tree p ring = c.requires.rings.ring_of p (omega (arith, few, c.priority-priority.ensures)) in
+    let place : i < length d.tree = inside d.tree lists c.args.waiting.now ring both p c.requires.waiting is c.requires.others c.among-some.ensures i first.is in
+    absurd (never_none d.tree lists c.args.waiting.now ring both p c.requires.waiting is c.requires.others c.among-some.ensures i first.is
+    (head_of (lists i) c.head.result c.head.ensures ∙ ap (λ (o : Option Entry). option_map (λ (y : Entry). y.len) o) c.in_default-head.is))
 
 pub returns-then-rounds-eq0 : goal.returns-then-rounds-eq0
 returns-then-rounds-eq0 g c =
@@ -90,6 +136,15 @@ returns-then-rounds-eq0 g c =
 
 pub returns : goal.returns
 returns g c =
+    let d : Shared = c.args.shares.now in
     let lists : ℕ → List Entry = list_in c.args.rows.now in
-    gain_rest c.args.shares.now lists c.args.clock.now c.args.sending.now c.classes.from c.classes.shares c.classes.invariant
-    (λ k a. not_marked c.args.waiting.now lists k c.requires.waiting (c.in_default.ensures.none k a)) c.requires.credits
+    let x : Sending = c.args.sending.now in
+    let p : ℕ = c.priority-priority.result in
+    let ring : List ℕ = get_or c.args.rings.now.sets.items p [] in
+    let both : List ℕ = c.among-some.result in
+    let sends = sends_picked d lists c.args.clock.now x.start x.class x.len x.ticket x.rule c.requires.free c.requires.rate c.requires.due in
+    let few = c.requires.rings.few x.class sends.place in
+    let is : IsRing d.tree p ring = c.requires.rings.ring_of p (omega (arith, few, c.priority-priority.ensures)) in
+    gain_rest d lists c.args.clock.now x c.classes.from c.classes.shares c.classes.invariant
+    (λ k a l. unmarked_gains_nothing d lists c.args.clock.now x c.args.waiting.now ring both p k c.requires.waiting is c.requires.others c.among-some.ensures
+    c.requires.free c.requires.rate c.requires.due c.priority-priority.ensures (c.in_default.ensures.none k a) l) c.requires.credits

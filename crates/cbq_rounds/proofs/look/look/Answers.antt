@@ -1,86 +1,70 @@
-use Rattle.std.proofs.Common.{◌<◌, ◌∙◌, ℕ, List, Some, ap, arith, length, refl, sym}
+use Rattle.std.proofs.Common.{◌≡◌, ◌-◌, ℕ, Bool, true, List, None, Some, arith, get_or}
 use Rattle.std.specs.declared.option.Option.{Option}
-use Rattle.std.specs.Prelude.{option_map}
+use Rattle.std.specs.Prelude.{is_some}
 use Rattle.leaf_queue.specs.declared.node.Entry.{Entry}
 use Rattle.class_rows.specs.Rows.{list_in}
-use Rattle.cbq_rounds.specs.Looked.{HasLooked, is_behind}
+use Rattle.cbq_model.specs.declared.Rank.{Rank}
 use Rattle.cbq_rounds.specs.Shared.{Shared}
-use Rattle.cbq_rounds.proofs.LookLemmas.{Waiting, from_later, from_now, head_of, looked_behind, looked_later, looked_now}
-use Rattle.cbq_rounds.proofs.WaitLemmas.{look_rest, look_to, marked_inside, not_marked}
+use Rattle.cbq_rounds.proofs.FoundLemmas.{IsDone, done_best, done_till}
+use Rattle.cbq_rounds.proofs.RingLemmas.{seen_above}
 use Rattle.cbq_rounds.proofs.look.look.Goals as goal
 
-pub classes-preserved-then-is_behind : goal.classes-preserved-then-is_behind
-classes-preserved-then-is_behind g c =
-    let d : Shared = c.args.shares.now in
-    let lists : ℕ → List Entry = list_in c.args.rows.now in
-    let i : ℕ = c.in-Some.class in
-    let first = c.in-Some.ensures.some in
-    let place : i < length d.tree = marked_inside c.args.waiting.now lists i (length d.tree) c.requires.waiting c.requires.others first.is in
-    let here : HasLooked d lists c.args.clock.now c.args.now i c.classes.till c.classes.best =
-    look_to d lists c.args.clock.now c.args.now c.classes.from i c.classes.till c.classes.best c.classes.invariant.0 first.low (omega (arith, place))
-    (λ k a b. not_marked c.args.waiting.now lists k c.requires.waiting (first.before k a b)) in (
-      looked_behind d lists c.args.clock.now c.args.now i c.classes.till c.classes.best (here, c.classes.invariant.1)
-          (ap (λ (p : ℕ). is_behind c.classes.best p) (sym c.priority.ensures) ∙ sym c.is_behind.ensures ∙ c.if-is_behind.true) place c.requires.free c.requires.rate,
-      c.classes.invariant.1,
-    )
+some_found : (found : Option Rank) (b : Bool) → b ≡ is_some found → b ≡ true → found ≡ None → ⊥
+some_found None b e f n = absurd (cc)
+some_found (Some r) b e f n = absurd (cc)
 
-pub classes-preserved-then-start-now : goal.classes-preserved-then-start-now
-classes-preserved-then-start-now g c =
-    let d : Shared = c.args.shares.now in
-    let lists : ℕ → List Entry = list_in c.args.rows.now in
-    let i : ℕ = c.in-Some.class in
-    let first = c.in-Some.ensures.some in
-    let place : i < length d.tree = marked_inside c.args.waiting.now lists i (length d.tree) c.requires.waiting c.requires.others first.is in
-    let here : HasLooked d lists c.args.clock.now c.args.now i c.classes.till c.classes.best =
-    look_to d lists c.args.clock.now c.args.now c.classes.from i c.classes.till c.classes.best c.classes.invariant.0 first.low (omega (arith, place))
-    (λ k a b. not_marked c.args.waiting.now lists k c.requires.waiting (first.before k a b)) in (
-      looked_now d lists c.args.clock.now c.args.now i c.in-Some-head.head.len c.start_of-start.result c.classes.till (Some c.earlier.result)
-          c.classes.best (Some c.better.result) c.rank.result here
-          (record {
-            place = place;
-            free = c.requires.free;
-            rate = c.requires.rate;
-            head = head_of (lists i) c.head.result c.head.ensures ∙ ap (λ (o : Option Entry). option_map (λ (x : Entry). x.len) o) c.in-Some-head.is;
-            start_is = c.start_of-start.ensures;
-          })
-          c.if-start-now.true
-          (record { of_priority = c.rank.ensures.priority; of_rounds = c.rank.ensures.rounds; of_wraps = c.rank.ensures.wraps; of_class = c.rank.ensures.class })
-          (sym c.earlier.ensures) (sym c.better.ensures),
-      from_now c.args.now c.start_of-start.result c.classes.till (Some c.earlier.result) c.classes.best (Some c.better.result) c.classes.invariant.1
-          c.if-start-now.true (sym c.earlier.ensures),
-    )
+pub look_at-found-requires-clause-seen : goal.look_at-found-requires-clause-seen
+look_at-found-requires-clause-seen g c =
+    seen_above c.args.shares.now (list_in c.args.rows.now) c.args.clock.now c.args.now c.levels.level c.levels.till None c.levels.invariant.0 c.requires.few
 
-pub classes-preserved-else-start-now : goal.classes-preserved-else-start-now
-classes-preserved-else-start-now g c =
+pub returns-then-is_some-clause-till : goal.returns-then-is_some-clause-till
+returns-then-is_some-clause-till g c =
     let d : Shared = c.args.shares.now in
     let lists : ℕ → List Entry = list_in c.args.rows.now in
-    let i : ℕ = c.in-Some.class in
-    let first = c.in-Some.ensures.some in
-    let place : i < length d.tree = marked_inside c.args.waiting.now lists i (length d.tree) c.requires.waiting c.requires.others first.is in
-    let here : HasLooked d lists c.args.clock.now c.args.now i c.classes.till c.classes.best =
-    look_to d lists c.args.clock.now c.args.now c.classes.from i c.classes.till c.classes.best c.classes.invariant.0 first.low (omega (arith, place))
-    (λ k a b. not_marked c.args.waiting.now lists k c.requires.waiting (first.before k a b)) in
-    let at : Waiting d lists c.args.clock.now c.args.now i c.in-Some-head.head.len c.start_of-start.result = record {
-      place = place;
+    let done : IsDone d lists c.args.clock.now c.args.now (get_or c.args.rings.now.tops.items (c.levels.level - 1) 0) c.look_at-found.result.till c.look_at-found.result.best = record {
+      few = c.requires.few;
       free = c.requires.free;
-      rate = c.requires.rate;
-      head = head_of (lists i) c.head.result c.head.ensures ∙ ap (λ (o : Option Entry). option_map (λ (x : Entry). x.len) o) c.in-Some-head.is;
-      start_is = c.start_of-start.ensures;
-    } in (
-      looked_later d lists c.args.clock.now c.args.now i c.in-Some-head.head.len c.start_of-start.result c.classes.till (Some c.earlier.result)
-          c.classes.best c.classes.best here at c.if-start-now.false (sym c.earlier.ensures) refl,
-      from_later d lists c.args.clock.now c.args.now i c.in-Some-head.head.len c.start_of-start.result c.classes.till (Some c.earlier.result)
-          c.classes.best c.classes.best c.classes.invariant.1 at (sym c.earlier.ensures) refl,
-    )
+      seen = c.look_at-found.ensures.seen;
+      from = c.look_at-found.ensures.from;
+      all = λ e. absurd (some_found c.look_at-found.result.best c.is_some.result c.is_some.ensures c.if-is_some.true e);
+    } in
+    done_till d lists c.args.clock.now c.args.now (get_or c.args.rings.now.tops.items (c.levels.level - 1) 0) c.look_at-found.result.till c.look_at-found.result.best done
+
+pub returns-then-is_some-clause-best : goal.returns-then-is_some-clause-best
+returns-then-is_some-clause-best g c =
+    let d : Shared = c.args.shares.now in
+    let lists : ℕ → List Entry = list_in c.args.rows.now in
+    let done : IsDone d lists c.args.clock.now c.args.now (get_or c.args.rings.now.tops.items (c.levels.level - 1) 0) c.look_at-found.result.till c.look_at-found.result.best = record {
+      few = c.requires.few;
+      free = c.requires.free;
+      seen = c.look_at-found.ensures.seen;
+      from = c.look_at-found.ensures.from;
+      all = λ e. absurd (some_found c.look_at-found.result.best c.is_some.result c.is_some.ensures c.if-is_some.true e);
+    } in
+    done_best d lists c.args.clock.now c.args.now (get_or c.args.rings.now.tops.items (c.levels.level - 1) 0) c.look_at-found.result.till c.look_at-found.result.best done
 
 pub returns-clause-till : goal.returns-clause-till
 returns-clause-till g c =
+    let d : Shared = c.args.shares.now in
     let lists : ℕ → List Entry = list_in c.args.rows.now in
-    (look_rest c.args.shares.now lists c.args.clock.now c.args.now c.classes.from c.classes.till c.classes.best c.classes.invariant.0
-    (λ k a. not_marked c.args.waiting.now lists k c.requires.waiting (c.in_default.ensures.none k a))).0
+    let done : IsDone d lists c.args.clock.now c.args.now c.levels.level c.levels.till None = record {
+      few = c.requires.few;
+      free = c.requires.free;
+      seen = c.levels.invariant.0;
+      from = c.levels.invariant.1;
+      all = λ e. omega (arith, c.levels-test.false);
+    } in
+    done_till d lists c.args.clock.now c.args.now c.levels.level c.levels.till None done
 
 pub returns-clause-best : goal.returns-clause-best
 returns-clause-best g c =
+    let d : Shared = c.args.shares.now in
     let lists : ℕ → List Entry = list_in c.args.rows.now in
-    (look_rest c.args.shares.now lists c.args.clock.now c.args.now c.classes.from c.classes.till c.classes.best c.classes.invariant.0
-    (λ k a. not_marked c.args.waiting.now lists k c.requires.waiting (c.in_default.ensures.none k a))).1
+    let done : IsDone d lists c.args.clock.now c.args.now c.levels.level c.levels.till None = record {
+      few = c.requires.few;
+      free = c.requires.free;
+      seen = c.levels.invariant.0;
+      from = c.levels.invariant.1;
+      all = λ e. omega (arith, c.levels-test.false);
+    } in
+    done_best d lists c.args.clock.now c.args.now c.levels.level c.levels.till None done

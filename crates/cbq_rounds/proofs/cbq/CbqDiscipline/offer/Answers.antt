@@ -31,6 +31,7 @@ invariant_of-self g c =
       few = c.self.invariant.few;
       waiting = offer_waiting c.offer-verdict.result c.args.class x c.is_kept.result c.self.inside.waiting c.put.new.self (list_in c.self.inside.rows) (list_in c.offer-verdict.new.self)
           c.self.invariant.waiting c.offer-verdict.ensures.lists c.is_kept.ensures c.put.ensures.here c.put.ensures.others;
+      rings = c.self.invariant.rings;
     }
 
 pub put-requires : goal.put-requires

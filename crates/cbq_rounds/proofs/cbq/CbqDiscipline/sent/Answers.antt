@@ -1,4 +1,4 @@
-use Rattle.std.proofs.Common.{◌≡◌, ◌∙◌, ℕ, List, ◌∷◌, ap, arith, max, refl, subst, sym}
+use Rattle.std.proofs.Common.{◌≡◌, ◌∙◌, ℕ, List, ◌∷◌, ap, arith, length, max, refl, subst, sym}
 use Rattle.std.specs.Prelude.{is_none}
 use Rattle.std.specs.declared.option.Option.{Option}
 use Rattle.altq_model.specs.History.{Happened, bare}
@@ -9,7 +9,7 @@ use Rattle.discipline_laws.specs.Laws.{sent_of}
 use Rattle.discipline_laws.specs.Moments.{IsChoice}
 use Rattle.cbq_rounds.specs.Due.{due_in}
 use Rattle.cbq_rounds.specs.declared.cbq.Cbq.TheInside.{Inside}
-use Rattle.cbq_rounds.specs.Shared.{IsTree}
+use Rattle.cbq_rounds.specs.Shared.{IsTree, Shared}
 use Rattle.cbq_rounds.proofs.LookLemmas.{first_sized}
 use Rattle.cbq_rounds.specs.Stands.{Ruling, Stands}
 use Rattle.cbq_rounds.proofs.DueLemmas.{sends_picked}
@@ -20,6 +20,27 @@ use Rattle.cbq_rounds.proofs.cbq.CbqDiscipline.sent.Goals as goal
 pub gain_all-requires-clause-due : goal.gain_all-requires-clause-due
 gain_all-requires-clause-due g c =
     ap (λ (d : Ruling g.row.Q.Denot). due_in d.shares (list_in d.rows) c.args.clock.now c.args.sending.start) c.self.view_is ∙ c.requires.due
+
+pub set_last-requires-clause-class : goal.set_last-requires-clause-class
+set_last-requires-clause-class g c =
+    let d : Ruling g.row.Q.Denot = record { shares = c.self.inside.shares; rows = c.self.inside.rows } in
+    let rate : c.args.clock.now.rate ≡ d.shares.rate = c.requires.rate ∙ ap (λ (v : Ruling g.row.Q.Denot). v.shares.rate) (sym c.self.view_is) in
+    let due = ap (λ (v : Ruling g.row.Q.Denot). due_in v.shares (list_in v.rows) c.args.clock.now c.args.sending.start) c.self.view_is ∙ c.requires.due in
+    let sends = sends_picked d.shares (list_in d.rows) c.args.clock.now c.args.sending.start c.args.sending.class c.args.sending.len c.args.sending.ticket c.args.sending.rule
+    c.requires.free rate due in
+    let tree : length c.pay.new.self.tree ≡ length d.shares.tree = ap (λ (s : Shared). length s.tree) c.pay.ensures ∙ ap (λ (s : Shared). length s.tree) c.gain_all.ensures in
+    omega (arith, sends.place, tree)
+
+pub tell-requires-clause-class : goal.tell-requires-clause-class
+tell-requires-clause-class g c =
+    let d : Ruling g.row.Q.Denot = record { shares = c.self.inside.shares; rows = c.self.inside.rows } in
+    let rate : c.args.clock.now.rate ≡ d.shares.rate = c.requires.rate ∙ ap (λ (v : Ruling g.row.Q.Denot). v.shares.rate) (sym c.self.view_is) in
+    let due = ap (λ (v : Ruling g.row.Q.Denot). due_in v.shares (list_in v.rows) c.args.clock.now c.args.sending.start) c.self.view_is ∙ c.requires.due in
+    let sends = sends_picked d.shares (list_in d.rows) c.args.clock.now c.args.sending.start c.args.sending.class c.args.sending.len c.args.sending.ticket c.args.sending.rule
+    c.requires.free rate due in
+    let tree : length c.set_last.new.self.tree ≡ length d.shares.tree =
+    ap (λ (s : Shared). length s.tree) c.set_last.ensures ∙ ap (λ (s : Shared). length s.tree) c.pay.ensures ∙ ap (λ (s : Shared). length s.tree) c.gain_all.ensures in
+    omega (arith, sends.place, tree)
 
 pub tell-requires-clause-some_bytes : goal.tell-requires-clause-some_bytes
 tell-requires-clause-some_bytes g c =
@@ -49,7 +70,7 @@ invariant_of-self g c =
     let sends = sends_picked d.shares (list_in d.rows) c.args.clock.now c.args.sending.start c.args.sending.class c.args.sending.len c.args.sending.ticket c.args.sending.rule
     c.requires.free rate due in
     ruling_after g.Q.QueueRule.stands g.Q.QueueRule.says g.Q.QueueRule.most d c.take.new.self c.args.clock.now c.args.sending c.max-end.result c.is_none-emptied.result
-    c.tell.new.self c.self.inside.waiting c.take-2.new.self c.self.invariant c.take.ensures.same c.take.ensures.lists
+    c.tell.new.self c.self.inside.waiting c.take-2.new.self c.self.inside.rings.sets.items c.self.inside.rings.tops.items c.self.invariant c.take.ensures.same c.take.ensures.lists
     (after_steps g.Q.QueueRule.stands g.Q.QueueRule.says d c.args.clock.now c.args.sending c.max-end.result c.is_none-emptied.result c.gain_all.new.shares c.pay.new.self
     c.set_last.new.self c.tell.new.self sends.place c.gain_all.ensures c.pay.ensures c.set_last.ensures c.tell.ensures)
     (sent_waiting c.args.sending.class c.is_none-emptied.result c.self.inside.waiting c.take-2.new.self (list_in c.self.inside.rows) (list_in c.take.new.self)
