@@ -5,7 +5,7 @@ use Rattle.line_text.specs.Lines.{joint}
 use Rattle.conf_lines.specs.Grammar.{at_statement, at_discipline, at_parent, at_address, at_port, at_ruleno_or_address, at_name_or_address, at_mask_or_port, step, end}
 use Rattle.conf_lines.specs.Slots.{is_text, are_plain, rate_in, whole_in, skipped_in, name_in, protocol_in, mask_in, address_in, address6_in}
 use Rattle.conf_lines.specs.Texts.{statements_of}
-use Rattle.conf_laws.specs.Rows.{LinesAre, NamesAre, RangesAre, OrdersAre, LaterAre, FiltersAre, ImpliedAre}
+use Rattle.conf_laws.specs.Rows.{LinesAre, EndsAre, NamesAre, RangesAre, OrdersAre, LaterAre, FiltersAre, ImpliedAre}
 
 pub lines_are : LinesAre
 unfolding statements_of is_text are_plain rate_in whole_in skipped_in name_in protocol_in mask_in address_in address6_in at_statement at_discipline at_parent at_address at_port at_ruleno_or_address at_name_or_address at_mask_or_port step end joint digits
@@ -16,6 +16,24 @@ lines_are = record {
   later_discipline_holds = refl;
   later_bandwidth_holds = refl;
   earlier_discipline_goes = refl;
+}
+
+pub ends_are : EndsAre
+unfolding statements_of is_text are_plain rate_in whole_in skipped_in name_in protocol_in mask_in address_in address6_in at_statement at_discipline at_parent at_address at_port at_ruleno_or_address at_name_or_address at_mask_or_port step end joint digits
+ends_are = record {
+  blank_ends_a_word = refl;
+  return_ends_a_word = refl;
+  line_feed_ends_a_word = refl;
+  comment_ends_a_word = refl;
+  continuation_ends_a_word = refl;
+  continuation_with_a_return_ends_a_word = refl;
+  letter_ends_none = refl;
+  backslash_ends_none = refl;
+  return_behind_a_backslash_ends_none = refl;
+  unended_word_is_faulty = refl;
+  unended_word_is_mended = refl;
+  ended_word_is_faulty = refl;
+  words_are_printed = refl;
 }
 
 pub names_are : NamesAre

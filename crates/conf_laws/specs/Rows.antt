@@ -10,6 +10,8 @@ use Rattle.conf_tree.specs.declared.class.DropRule.TheVariants.{Tail}
 use Rattle.conf_tree.specs.declared.interface.Interface.{Interface}
 use Rattle.conf_tree.specs.Canonical.{canonical_text}
 use Rattle.conf_tree.specs.Reading.{reading}
+use Rattle.conf_laws.specs.Laws.{ends_word}
+use Rattle.conf_laws.specs.Printed.{printed}
 
 abbrev pub fault_of : List ℕ → Option ConfPlace
 fault_of text = elim (reading (statements_of text)) [ Ok interfaces ↦ None | Err fault ↦ Some fault ]
@@ -39,6 +41,22 @@ pub record LinesAre : Type 0 where
   pub later_discipline_holds : Means (codes "interface if0 hfsc cbq") (codes "interface if0 bandwidth 100000000 cbq\n")
   pub later_bandwidth_holds : Means (codes "interface if0 bandwidth 1K hfsc bandwidth 2K") (codes "interface if0 bandwidth 2000 hfsc\n")
   pub earlier_discipline_goes : Means (codes "interface if0 cbq hfsc") (codes "interface if0 bandwidth 100000000 hfsc\n")
+
+-- where a word has ended, whatever follows
+pub record EndsAre : Type 0 where
+  pub blank_ends_a_word : ends_word (codes "class ") ≡ true
+  pub return_ends_a_word : ends_word (codes "class\r") ≡ true
+  pub line_feed_ends_a_word : ends_word (codes "class\n") ≡ true
+  pub comment_ends_a_word : ends_word (codes "class#") ≡ true
+  pub continuation_ends_a_word : ends_word (codes "class\\\n") ≡ true
+  pub continuation_with_a_return_ends_a_word : ends_word (codes "class\\\r\n") ≡ true
+  pub letter_ends_none : ends_word (codes "class") ≡ false
+  pub backslash_ends_none : ends_word (codes "class\\") ≡ false
+  pub return_behind_a_backslash_ends_none : ends_word (codes "class\\\r") ≡ false
+  pub unended_word_is_faulty : Faulty (codes "class hfs") 1 2 UnknownWord
+  pub unended_word_is_mended : Faulty (codes "class hfsc") 1 3 MissingWord
+  pub ended_word_is_faulty : Faulty (codes "class hfs c") 1 2 UnknownWord
+  pub words_are_printed : printed (statements_of (codes "interface\tif0  hfsc # a\n")) ≡ codes "interface if0 hfsc\n"
 
 -- NAME: 1 to 64 letters, digits and signs
 pub record NamesAre : Type 0 where
