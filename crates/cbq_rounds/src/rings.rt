@@ -60,6 +60,7 @@ impl Rings {
         }
         Ok(Rings { sets, tops })
     }
+
     /// Those of a priority among the classes that wait.
     pub fn among(&self, waiting: &Waiting, priority: u8) -> Waiting
         requires { priority < length self.now.sets.items }
