@@ -1,8 +1,9 @@
 //! The filters of an interface.
-ghost use Rattle.std.specs.Prelude.{◌≡◌, IfOk};
+ghost use Rattle.std.specs.Prelude.{◌≡◌, IfOk, IfSome};
 ghost use Rattle.flow_filter.specs.Ranked.{IsRanked};
 ghost use Rattle.flow_filter.specs.Rules.{rules_of};
 ghost use Rattle.flow_filter.specs.Winner.{class_of};
+ghost use Rattle.packet_heads.specs.Flow.{Flow};
 ghost use Rattle.packet_heads.specs.Heads.{flow_of};
 
 use crate::control::{default_class, push_control};
@@ -69,6 +70,17 @@ impl Filters {
         match winner(self.filters.as_slice(), &self.index, heads) {
             Some(filter) => filter.class,
             None => self.otherwise,
+        }
+    }
+
+    /// The class of every flow where there are no filters: the default class. None where there are any. Constant time.
+    pub fn only_class(&self) -> Option<u32>
+        ensures { IfSome result (λ class. (flow : Flow) → class_of self.now flow ≡ class) }
+    {
+        if self.filters.is_empty() {
+            Some(self.otherwise)
+        } else {
+            None
         }
     }
 

@@ -7,7 +7,7 @@ use Rattle.flow_filter.specs.Rules.{Rules, rules_of}
 use Rattle.flow_filter.specs.Winner.{class_of}
 use Rattle.packet_heads.specs.Departing.{departing}
 use Rattle.packet_heads.specs.Flow.{Flow, V4, V6, Other, flow}
-use Rattle.packet_heads.specs.Points.{precedence}
+use Rattle.packet_heads.specs.Points.{code_point, precedence, precedence_of}
 use Rattle.frame_classes.specs.declared.handling.Handling.{Handling}
 use Rattle.frame_classes.specs.Handlings.{handling_of, handling_at}
 
@@ -28,6 +28,10 @@ is_capable Other = false
 -- in a class that marks the precedence says that, 1 or 0; in each other one it is that of the code point
 abbrev pub precedence_in : (marks : Bool) → Flow → ℕ
 precedence_in marks f = if marks then (if is_capable f then 1 else 0) else precedence f
+
+-- the same by the type of service or traffic class alone, 0 where the flow is Other
+abbrev pub precedence_by : (marks : Bool) → (tos : ℕ) → ℕ
+precedence_by marks tos = if marks then (if not (tos % 4 == 0) then 1 else 0) else precedence_of (code_point tos)
 
 -- a flow in its class
 abbrev pub placed_flow : Classes → Flow → Placed

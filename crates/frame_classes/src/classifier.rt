@@ -1,6 +1,7 @@
 // Where an interface puts its frames.
 ghost use Rattle.std.specs.Prelude.{◌≡◌, IfOk};
-ghost use Rattle.frame_classes.specs.Frames.{classes_of, dress_in, is_capable, place_in, placed_flow, precedence_in};
+ghost use Rattle.frame_classes.specs.Frames.{classes_of, dress_in, is_capable, place_in, placed_flow, precedence_by, precedence_in};
+ghost use Rattle.frame_classes.specs.Handlings.{handling_at};
 ghost use Rattle.packet_heads.specs.Heads.{flow_of};
 
 use crate::handling::{Handling, handling_at, handlings};
@@ -8,7 +9,7 @@ use altq_model::Placed;
 use conf_tree::Interface;
 use discipline_laws::Classify;
 use flow_filter::Filters;
-use packet_heads::{FlowHeads, dress, flow, precedence};
+use packet_heads::{FlowHeads, dress, flow, precedence, precedence_of, tos};
 use play_base::NoMemory;
 use std::alloc::Global;
 use std::marker::Model;
@@ -40,6 +41,17 @@ impl Classifier {
         let filters = Filters::build(alloc, interface)?;
         let handlings = handlings(alloc, interface.classes.as_slice())?;
         Ok(Classifier { filters, handlings })
+    }
+
+    // Where a packet of a class belongs by its type of service or traffic class.
+    fn place_plain(&self, class: u32, tos: u8) -> Placed
+        ensures { result ≡ record { class = class; prec = precedence_by (handling_at self.now.handlings class).marks tos } }
+    {
+        let handling = handling_at(self.handlings.as_slice(), class);
+        Placed {
+            class,
+            prec: precedence_by(handling.marks, tos),
+        }
     }
 
     // Where a flow belongs.
@@ -77,6 +89,17 @@ fn precedence_in(marks: bool, heads: &FlowHeads) -> u8
     }
 }
 
+// The same by the type of service or traffic class alone, 0 of `Other`.
+fn precedence_by(marks: bool, tos: u8) -> u8
+    ensures { result ≡ precedence_by marks tos }
+{
+    if marks {
+        u8::from(tos % 4 != 0)
+    } else {
+        precedence_of(tos >> 2)
+    }
+}
+
 impl Classify for Classifier {
     ghost use Rattle.frame_classes.specs.Frames.{dressed_by, placed_by};
     ghost use Rattle.frame_classes.specs.Handlings.{handling_at};
@@ -86,9 +109,13 @@ impl Classify for Classifier {
 
     ghost dressed = { dressed_by };
 
-    /// Takes no memory. Of the filters that fix a port only those of the flow's ports are asked, and found by bisection.
+    /// Takes no memory. Of the filters that fix a port only those of the flow's ports are asked, and found by bisection. Where there
+    /// are no filters, of the flow the type of service or traffic class alone is read.
     fn class(&self, frame: &[u8]) -> Placed {
-        self.place(&flow(frame))
+        match self.filters.only_class() {
+            Some(class) => self.place_plain(class, tos(frame)),
+            None => self.place(&flow(frame)),
+        }
     }
 
     /// Clears the code point in a class that asks for it, and marks the packet where its queue did. Takes no memory; constant time.
