@@ -6,6 +6,7 @@ use byteorder::{BigEndian, ByteOrder, LittleEndian};
 
 // The number in four bytes.
 #[tactic(auto, using(crate::proofs::WordLemmas::big_word, crate::proofs::WordLemmas::little_word))]
+#[inline(always)]
 pub fn word(big: bool, bytes: &[u8], at: usize) -> u32
     requires { at + 4 ≤ length bytes.now }
     ensures { result ≡ word big bytes.now at }
