@@ -26,6 +26,9 @@ use play_base::time_of;
 pub use rows::worked_examples;
 use std::marker::Model;
 
+// The units of a byte: a rate of R bits per second carries R·t units in t nanoseconds.
+const BYTE: u64 = 8_000_000_000;
+
 /// The average idle time of a class, which contracts see with the class's pace and the last end. It stands for the list of
 /// the ends that it was told of.
 #[derive(Drop)]
@@ -48,6 +51,16 @@ impl Model for Estimator {
     } };
 
     ghost invariant = { λ e. IsBounded e.rate e.cap e.average e.last };
+}
+
+// The time that a packet takes at a class's rate. Its units fit 64 bits, so a division of 64 bits will do.
+fn own_time(len: u32, rate: u64) -> u64
+    requires short { len ≤ 262144 }
+    requires least { 1000 ≤ rate }
+    requires most { rate ≤ 10 ^ 12 }
+    ensures { result ≡ time_of len rate }
+{
+    (u64::from(len) * BYTE + (rate - 1)) / rate
 }
 
 // An average less 1/32 of it, rounded towards zero.
@@ -129,7 +142,7 @@ impl Estimator {
         ensures value { result ≡ wanted_now self.now len }
         ensures history { (h : List Ended) → StandsFor self.now h → result ≡ wanted self.now.pace h len }
     {
-        self.last.unwrap_or(0) + time_of(u64::from(len), self.rate) + enough(self.average)
+        self.last.unwrap_or(0) + own_time(len, self.rate) + enough(self.average)
     }
 
     /// 32 times the average idle time, in nanoseconds.
@@ -177,7 +190,7 @@ impl Estimator {
         ensures history { (h : List Ended) → StandsFor self.old h → StandsFor self.new (record { end = end; len = len } ∷ h) }
     {
         if let Some(last) = self.last {
-            let idle = idle_time(last, end, time_of(u64::from(len), self.rate));
+            let idle = idle_time(last, end, own_time(len, self.rate));
             self.average = sum_below(self.cap, decayed(self.average), idle);
         }
         self.last = Some(end);

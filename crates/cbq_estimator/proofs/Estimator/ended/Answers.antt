@@ -5,5 +5,4 @@ use Rattle.cbq_estimator.proofs.Estimator.ended.Goals as goal
 
 pub idle_time-idle-requires-clause-short : goal.idle_time-idle-requires-clause-short
 idle_time-idle-requires-clause-short c =
-    let few : c.from.result ≤ 262144 = omega arith in
-    omega (arith, own_time c.from.result c.self.inside.rate c.self.invariant.least_rate few)
+    omega (arith, own_time c.args.len c.self.inside.rate c.self.invariant.least_rate c.requires.few_bytes)
