@@ -21,12 +21,12 @@ use Rattle.conf_tree.specs.Interfaces.{kind_unless, begin_by, are_full, begin_na
 use Rattle.conf_tree.specs.Items.{name_in, name_at, number_behind}
 use Rattle.conf_tree.specs.Places.{fault_at, at_word, own_fault}
 use Rattle.conf_lines.specs.declared.fault.ConfKind.{ConfKind}
-use Rattle.conf_lines.specs.declared.fault.ConfKind.TheVariants.{RateRange, InterfaceTwice, NoInterface, WrongDiscipline, NameTaken, NoParent, TwoRoots, TooManyClasses, TooManyFilters, TooManyInterfaces, InnerQueue, TwoDefaults, NoClass}
+use Rattle.conf_lines.specs.declared.fault.ConfKind.TheVariants.{MissingWord, RateRange, InterfaceTwice, NoInterface, WrongDiscipline, NameTaken, NoParent, TwoRoots, TooManyClasses, TooManyFilters, TooManyInterfaces, InnerQueue, TwoDefaults, NoClass}
 use Rattle.conf_tree.specs.Options.{set_by_word, set_options}
 use Rattle.conf_tree.specs.Reading.{read_form}
 use Rattle.conf_tree.specs.Settings.{unset, percent, set_percent, set_default, set_option}
 use Rattle.conf_tree.specs.Tree.{Begun, interface_number, class_number}
-use Rattle.conf_laws.proofs.LateFaults.{Late, IsBehind, late_own, by_late, percent_late, after, after_late, options_late, under_late, branch_late, added_late, class_late, filter_unless_late, filter_name_late, filter_added_late, filter_late, kind_unless_late, begin_late, interface_late, drop_past}
+use Rattle.conf_laws.proofs.LateFaults.{From, Late, late_words, late_each, IsBehind, so_own, by_so, percent_so, after, after_so, options_so, under_so, branch_so, added_so, class_so, filter_unless_so, filter_name_so, filter_added_so, filter_so, kind_unless_so, begin_so, interface_so, drop_past}
 use Rattle.conf_laws.proofs.Types.{Branch, Settings, Scope, Spot, Shape}
 
 -- the same answer, or both from a word on
@@ -97,7 +97,7 @@ alike_close m (Err f) (Ok v) e = absurd e
 last_option : (m : ℕ) (scope : Scope) (s t : Settings) (word : ℕ) (option : Key) (left right : List Item) → s.is_default ≡ t.is_default → AreLate m left
     → AreLate m right → Close m (set_option scope s word option left) (set_option scope t word option right)
 last_option m scope s t word key.Default left right e h k = alike_close m (set_default scope s word) (set_default scope t word) (default_alike scope s t word e)
-last_option m scope s t word key.Pbandwidth left right e h k = inr (percent_late m scope s left h, percent_late m scope t right k)
+last_option m scope s t word key.Pbandwidth left right e h k = inr (percent_so (From m) scope s left (late_each m scope.line left h), percent_so (From m) scope t right (late_each m scope.line right k))
 last_option m scope s t word _ left right e h k = inr (tt, tt)
 
 last_word : (m : ℕ) (scope : Scope) (s t : Settings) (word : ℕ) (says : What) (left right : List Item) → s.is_default ≡ t.is_default → AreLate m left
@@ -107,7 +107,7 @@ last_word m scope s t word _ left right e h k = inr (tt, tt)
 
 same_after : (m : ℕ) (scope : Scope) (left right : List Item) (r : Result Settings ConfPlace) → AreLate m left → AreLate m right
     → Close m (after scope left r) (after scope right r)
-same_after m scope left right (Ok u) h k = inr (options_late m scope u left h, options_late m scope u right k)
+same_after m scope left right (Ok u) h k = inr (options_so (From m) scope u left (late_each m scope.line left h), options_so (From m) scope u right (late_each m scope.line right k))
 same_after m scope left right (Err f) h k = inl refl
 
 last_after : (m : ℕ) (scope : Scope) (left right : List Item) (r t : Result Settings ConfPlace) → AreLate m left → AreLate m right → Close m r t
@@ -115,12 +115,12 @@ last_after : (m : ℕ) (scope : Scope) (left right : List Item) (r t : Result Se
 last_after m scope left right r t h k close =
     ⊎_elim
     (λ e. subst (λ x. Close m (after scope left r) (after scope right x)) e (same_after m scope left right r h k))
-    (λ late. inr (after_late m scope left r late.0 (λ u. options_late m scope u left h), after_late m scope right t late.1 (λ u. options_late m scope u right k)))
+    (λ late. inr (after_so (From m) scope left r late.0 (λ u. options_so (From m) scope u left (late_each m scope.line left h)), after_so (From m) scope right t late.1 (λ u. options_so (From m) scope u right (late_each m scope.line right k))))
     close
 
 options_close : (m : ℕ) (scope : Scope) (s t : Settings) (common left right : List Item) → s.is_default ≡ t.is_default → AreLate m left → AreLate m right
     → Close m (set_options scope s (common ++ left)) (set_options scope t (common ++ right))
-options_close m scope s t [] left right e h k = inr (options_late m scope s left h, options_late m scope t right k)
+options_close m scope s t [] left right e h k = inr (options_so (From m) scope s left (late_each m scope.line left h), options_so (From m) scope t right (late_each m scope.line right k))
 options_close m scope s t (item ∷ []) left right e h k =
     last_after m scope left right (set_by_word scope s item.word item.what left) (set_by_word scope t item.word item.what right) h k
     (last_word m scope s t item.word item.what left right e h k)
@@ -137,8 +137,8 @@ pub record Two (m : ℕ) (common left right : List Item) (s t : Statement) : Typ
   pub right_items : t.items ≡ common ++ right
   pub left_late : AreLate m left
   pub right_late : AreLate m right
-  pub left_behind : IsBehind m s
-  pub right_behind : IsBehind m t
+  pub left_behind : IsBehind (From m) s
+  pub right_behind : IsBehind (From m) t
 
 item_there : (i : ℕ) (common left right : List Item) → i < length common → slice_get (common ++ left) i ≡ slice_get (common ++ right) i
 item_there i [] left right h = absurd (omega arith)
@@ -186,17 +186,17 @@ same_spot b s t parent e =
     (same_cond b.rooted _ _ _ _ (ap (λ x. Err x) (same_place s t 5 TwoRoots e)) refl)
     (same_number b s t (class_number parent b.classes) e)
 
-by_close : (m : ℕ) (b : Begun) (s t : Statement) (spot : Spot) (r u : Result Settings ConfPlace) → IsBehind m s → IsBehind m t → Close m r u
+by_close : (m : ℕ) (b : Begun) (s t : Statement) (spot : Spot) (r u : Result Settings ConfPlace) → IsBehind (From m) s → IsBehind (From m) t → Close m r u
     → Close m (shape_by b s spot r) (shape_by b t spot u)
 by_close m b s t spot r u h k close =
     ⊎_elim
     (λ e. subst (λ x. Close m (shape_by b s spot r) (shape_by b t spot x)) e (same r))
-    (λ late. inr (by_late m b s spot r h late.0, by_late m b t spot u k late.1))
+    (λ late. inr (by_so (From m) b s spot r h late.0, by_so (From m) b t spot u k late.1))
     close
   where
     same : (r : Result Settings ConfPlace) → Close m (shape_by b s spot r) (shape_by b t spot r)
     same (Err fault) = inl refl
-    same (Ok settings) = inr (by_late m b s spot (Ok settings) h tt, by_late m b t spot (Ok settings) k tt)
+    same (Ok settings) = inr (by_so (From m) b s spot (Ok settings) h tt, by_so (From m) b t spot (Ok settings) k tt)
 
 set_close : (m : ℕ) (b : Begun) (common left right : List Item) (s t : Statement) → Two m common left right s t → 3 ≤ length common
     → Close m (set_options (scope_of b s) unset (drop 3 s.items)) (set_options (scope_of b t) unset (drop 3 t.items))
@@ -215,7 +215,7 @@ at_close m b common left right s t (Ok spot) two h =
 
 named_close : (m : ℕ) (b : Begun) (common left right : List Item) (s t : Statement) (o : Option (List ℕ)) → Two m common left right s t → 3 ≤ length common
     → Close m (shape_under b s o) (shape_under b t o)
-named_close m b common left right s t None two h = inr (late_own m s two.left_behind, late_own m t two.right_behind)
+named_close m b common left right s t None two h = inr (so_own (From m) s two.left_behind, so_own (From m) t two.right_behind)
 named_close m b common left right s t (Some parent) two h =
     subst (λ r. Close m (shape_at b s (spot_of b s parent)) (shape_at b t r)) (same_spot b s t parent two.line)
     (at_close m b common left right s t (spot_of b s parent) two h)
@@ -239,8 +239,8 @@ under_close m b common left right s t two few tests =
     let near : m ≤ 5 = omega arith in
     let all : length common ≤ 3 = omega arith in
     inr (
-      under_late m b s (name_at s.items 2) near two.left_behind (left_past m 3 common left right s t two all),
-      under_late m b t (name_at t.items 2) near two.right_behind (right_past m 3 common left right s t two all),
+      under_so (From m) b s (name_at s.items 2) (late_words m 5 s near) two.left_behind (late_each m s.line (drop 3 s.items) (left_past m 3 common left right s t two all)),
+      under_so (From m) b t (name_at t.items 2) (late_words m 5 t near) two.right_behind (late_each m t.line (drop 3 t.items) (right_past m 3 common left right s t two all)),
     ))
     tests
 
@@ -260,18 +260,18 @@ and_true : (a b : Bool) → b ≡ true → (a && b) ≡ a
 and_true true b e = e
 and_true false b e = refl
 
-full_close : (m : ℕ) (b : Begun) (s t : Statement) (a d : Bool) → s.line ≡ t.line → IsBehind m s → IsBehind m t → a ≡ d
+full_close : (m : ℕ) (b : Begun) (s t : Statement) (a d : Bool) → s.line ≡ t.line → IsBehind (From m) s → IsBehind (From m) t → a ≡ d
     → Close {A = Branch} m (cond a (Err (at_word s 4 TooManyClasses)) (Err (own_fault s))) (cond d (Err (at_word t 4 TooManyClasses)) (Err (own_fault t)))
 full_close m b s t true true line h k e = close_place m s t 4 TooManyClasses line
-full_close m b s t false false line h k e = inr (late_own m s h, late_own m t k)
+full_close m b s t false false line h k e = inr (so_own (From m) s h, so_own (From m) t k)
 full_close m b s t true false line h k e = cc
 full_close m b s t false true line h k e = cc
 
 branch_of_close : (m : ℕ) (b : Begun) (common left right : List Item) (s t : Statement) (o : Option (List ℕ)) → Two m common left right s t → Few m 3 common
     → 5 ≤ m → Close m (branch_named b s o) (branch_named b t o)
 branch_of_close m b common left right s t None two few far =
-    let end_left = two.left_behind.end in
-    let end_right = two.right_behind.end in
+    let end_left : m ≤ s.end = two.left_behind.end MissingWord in
+    let end_right : m ≤ t.end = two.right_behind.end MissingWord in
     let here : nat_lt 4 s.end ≡ true = grind (arith, nat_tests) in
     let there : nat_lt 4 t.end ≡ true = grind (arith, nat_tests) in
     full_close m b s t (is_full b && nat_lt 4 s.end) (is_full b && nat_lt 4 t.end) two.line two.left_behind two.right_behind (ap (λ x. is_full b && x) (here ∙ sym there))
@@ -296,8 +296,8 @@ branch_close m b common left right s t two few tests =
     let near : m ≤ 4 = omega arith in
     let all : length common ≤ 3 = omega arith in
     inr (
-      branch_late m b s (name_at s.items 1) near two.left_behind (left_past m 3 common left right s t two all),
-      branch_late m b t (name_at t.items 1) near two.right_behind (right_past m 3 common left right s t two all),
+      branch_so (From m) b s (name_at s.items 1) (late_words m 4 s near) two.left_behind (late_each m s.line (drop 3 s.items) (left_past m 3 common left right s t two all)),
+      branch_so (From m) b t (name_at t.items 1) (late_words m 4 t near) two.right_behind (late_each m t.line (drop 3 t.items) (right_past m 3 common left right s t two all)),
     ))
     tests
 
@@ -310,7 +310,7 @@ read_close m b kind common left right s t two few =
 added_close : (m : ℕ) (before : List Begun) (i : ℕ) (b : Begun) (r u : Result Branch ConfPlace) → Close m r u
     → Close m (class_added before i b r) (class_added before i b u)
 added_close m before i b r u close =
-    ⊎_elim (λ e. inl (ap (λ x. class_added before i b x) e)) (λ late. inr (added_late m before i b r late.0, added_late m before i b u late.1)) close
+    ⊎_elim (λ e. inl (ap (λ x. class_added before i b x) e)) (λ late. inr (added_so (From m) before i b r late.0, added_so (From m) before i b u late.1)) close
 
 in_close : (m : ℕ) (before : List Begun) (kind : Kind) (common left right : List Item) (s t : Statement) (i : ℕ) (o : Option Begun)
     → Two m common left right s t → Few m 3 common → Close m (class_in before kind s i o) (class_in before kind t i o)
@@ -325,7 +325,7 @@ number_close m before kind common left right s t (Some i) two few = in_close m b
 
 class_by_close : (m : ℕ) (before : List Begun) (kind : Kind) (common left right : List Item) (s t : Statement) (o : Option (List ℕ))
     → Two m common left right s t → Few m 3 common → Close m (class_of_interface before kind s o) (class_of_interface before kind t o)
-class_by_close m before kind common left right s t None two few = inr (late_own m s two.left_behind, late_own m t two.right_behind)
+class_by_close m before kind common left right s t None two few = inr (so_own (From m) s two.left_behind, so_own (From m) t two.right_behind)
 class_by_close m before kind common left right s t (Some name) two few = number_close m before kind common left right s t (interface_number name before) two few
 
 class_close : (m : ℕ) (before : List Begun) (kind : Kind) (common left right : List Item) (s t : Statement) → Two m common left right s t → Few m 3 common
@@ -342,8 +342,8 @@ class_close m before kind common left right s t two few tests =
     let near : m ≤ 3 = omega arith in
     let all : length common ≤ 3 = omega arith in
     inr (
-      class_late m before kind s (name_at s.items 0) near two.left_behind (left_past m 3 common left right s t two all),
-      class_late m before kind t (name_at t.items 0) near two.right_behind (right_past m 3 common left right s t two all),
+      class_so (From m) before kind s (name_at s.items 0) (late_words m 3 s near) two.left_behind (late_each m s.line (drop 3 s.items) (left_past m 3 common left right s t two all)),
+      class_so (From m) before kind t (name_at t.items 0) (late_words m 3 t near) two.right_behind (late_each m t.line (drop 3 t.items) (right_past m 3 common left right s t two all)),
     ))
     tests
 
@@ -353,7 +353,7 @@ to_close : (m : ℕ) (kind : Kind) (common left right : List Item) (s t : Statem
 to_close m kind common left right s t i None two = close_place m s t 3 NoClass two.line
 to_close m kind common left right s t i (Some c) two =
     close_cond m (is_hfsc kind && c.inner) _ _ _ _ (close_place m s t 3 InnerQueue two.line)
-    (inr (filter_unless_late m s i s.fault two.left_behind.fault, filter_unless_late m t i t.fault two.right_behind.fault))
+    (inr (filter_unless_so (From m) s i s.fault two.left_behind.fault, filter_unless_so (From m) t i t.fault two.right_behind.fault))
 
 to_number_close : (m : ℕ) (b : Begun) (common left right : List Item) (s t : Statement) (o : Option ℕ) → Two m common left right s t
     → Close m (filter_to_number b s o) (filter_to_number b t o)
@@ -362,7 +362,7 @@ to_number_close m b common left right s t (Some i) two = to_close m b.kind commo
 
 to_name_close : (m : ℕ) (b : Begun) (common left right : List Item) (s t : Statement) (o : Option (List ℕ)) → Two m common left right s t
     → Close m (filter_to_name b s o) (filter_to_name b t o)
-to_name_close m b common left right s t None two = inr (late_own m s two.left_behind, late_own m t two.right_behind)
+to_name_close m b common left right s t None two = inr (so_own (From m) s two.left_behind, so_own (From m) t two.right_behind)
 to_name_close m b common left right s t (Some name) two = to_number_close m b common left right s t (class_number name b.classes) two
 
 names_close : (m : ℕ) (b : Begun) (common left right : List Item) (s t : Statement) → Two m common left right s t → Few m 2 common
@@ -377,13 +377,13 @@ names_close m b common left right s t two few tests =
     (λ e.
     let none : length common ≤ 1 = grind (arith, nat_tests) in
     let near : m ≤ 3 = omega arith in
-    inr (filter_name_late m b s (name_at s.items 1) near two.left_behind, filter_name_late m b t (name_at t.items 1) near two.right_behind))
+    inr (filter_name_so (From m) b s (name_at s.items 1) (late_words m 3 s near) two.left_behind, filter_name_so (From m) b t (name_at t.items 1) (late_words m 3 t near) two.right_behind))
     tests
 
 filter_added_close : (m : ℕ) (before : List Begun) (i : ℕ) (b : Begun) (r u : Result Filter ConfPlace) → Close m r u
     → Close m (filter_added before i b r) (filter_added before i b u)
 filter_added_close m before i b r u close =
-    ⊎_elim (λ e. inl (ap (λ x. filter_added before i b x) e)) (λ late. inr (filter_added_late m before i b r late.0, filter_added_late m before i b u late.1)) close
+    ⊎_elim (λ e. inl (ap (λ x. filter_added before i b x) e)) (λ late. inr (filter_added_so (From m) before i b r late.0, filter_added_so (From m) before i b u late.1)) close
 
 filter_in_close : (m : ℕ) (before : List Begun) (common left right : List Item) (s t : Statement) (i : ℕ) (o : Option Begun)
     → Two m common left right s t → Few m 2 common → Close m (filter_in before s i o) (filter_in before t i o)
@@ -400,7 +400,7 @@ filter_at_close m before common left right s t (Some i) two few = filter_in_clos
 
 filter_by_close : (m : ℕ) (before : List Begun) (common left right : List Item) (s t : Statement) (o : Option (List ℕ))
     → Two m common left right s t → Few m 2 common → Close m (filter_of_interface before s o) (filter_of_interface before t o)
-filter_by_close m before common left right s t None two few = inr (late_own m s two.left_behind, late_own m t two.right_behind)
+filter_by_close m before common left right s t None two few = inr (so_own (From m) s two.left_behind, so_own (From m) t two.right_behind)
 filter_by_close m before common left right s t (Some name) two few = filter_at_close m before common left right s t (interface_number name before) two few
 
 filter_close : (m : ℕ) (before : List Begun) (common left right : List Item) (s t : Statement) → Two m common left right s t → Few m 2 common
@@ -415,32 +415,32 @@ filter_close m before common left right s t two few tests =
     (λ e.
     let none : length common ≤ 0 = grind (arith, nat_tests) in
     let near : m ≤ 2 = omega arith in
-    inr (filter_late m before s (name_at s.items 0) near two.left_behind, filter_late m before t (name_at t.items 0) near two.right_behind))
+    inr (filter_so (From m) before s (name_at s.items 0) (late_words m 2 s near) two.left_behind, filter_so (From m) before t (name_at t.items 0) (late_words m 2 t near) two.right_behind))
     tests
 
 -- AN INTERFACE
-begin_close : (m : ℕ) (before : List Begun) (s t : Statement) (name : List ℕ) (a : Bool) → s.line ≡ t.line → IsBehind m s → IsBehind m t
+begin_close : (m : ℕ) (before : List Begun) (s t : Statement) (name : List ℕ) (a : Bool) → s.line ≡ t.line → IsBehind (From m) s → IsBehind (From m) t
     → Close m (begin_by before s name (cond a (Err (at_word s 2 InterfaceTwice)) (kind_unless s s.fault)))
     (begin_by before t name (cond a (Err (at_word t 2 InterfaceTwice)) (kind_unless t t.fault)))
 begin_close m before s t name true line h k = inl (ap (λ x. Err x) (same_place s t 2 InterfaceTwice line))
 begin_close m before s t name false line h k =
     inr (
-      begin_late m before s name (kind_unless s s.fault) (kind_unless_late m s s.fault h.fault h.end),
-      begin_late m before t name (kind_unless t t.fault) (kind_unless_late m t t.fault k.fault k.end),
+      begin_so (From m) before s name (kind_unless s s.fault) (kind_unless_so (From m) s s.fault h.fault h.end),
+      begin_so (From m) before t name (kind_unless t t.fault) (kind_unless_so (From m) t t.fault k.fault k.end),
     )
 
-full_begin : (m : ℕ) (s t : Statement) (a d : Bool) → s.line ≡ t.line → IsBehind m s → IsBehind m t → a ≡ d
+full_begin : (m : ℕ) (s t : Statement) (a d : Bool) → s.line ≡ t.line → IsBehind (From m) s → IsBehind (From m) t → a ≡ d
     → Close {A = List Begun} m (cond a (Err (at_word s 2 TooManyInterfaces)) (Err (own_fault s))) (cond d (Err (at_word t 2 TooManyInterfaces)) (Err (own_fault t)))
 full_begin m s t true true line h k e = close_place m s t 2 TooManyInterfaces line
-full_begin m s t false false line h k e = inr (late_own m s h, late_own m t k)
+full_begin m s t false false line h k e = inr (so_own (From m) s h, so_own (From m) t k)
 full_begin m s t true false line h k e = cc
 full_begin m s t false true line h k e = cc
 
 begin_by_close : (m : ℕ) (before : List Begun) (common left right : List Item) (s t : Statement) (o : Option (List ℕ)) → Two m common left right s t → 3 ≤ m
     → Close m (begin_named before s o) (begin_named before t o)
 begin_by_close m before common left right s t None two far =
-    let end_left = two.left_behind.end in
-    let end_right = two.right_behind.end in
+    let end_left : m ≤ s.end = two.left_behind.end MissingWord in
+    let end_right : m ≤ t.end = two.right_behind.end MissingWord in
     let here : nat_lt 2 s.end ≡ true = grind (arith, nat_tests) in
     let there : nat_lt 2 t.end ≡ true = grind (arith, nat_tests) in
     full_begin m s t (are_full before && nat_lt 2 s.end) (are_full before && nat_lt 2 t.end) two.line two.left_behind two.right_behind
@@ -462,7 +462,7 @@ interface_close m before common left right s t two few tests =
     (λ e.
     let none : length common ≤ 0 = grind (arith, nat_tests) in
     let near : m ≤ 2 = omega arith in
-    inr (interface_late m before s (name_at s.items 0) near two.left_behind, interface_late m before t (name_at t.items 0) near two.right_behind))
+    inr (interface_so (From m) before s (name_at s.items 0) (late_words m 2 s near) two.left_behind, interface_so (From m) before t (name_at t.items 0) (late_words m 2 t near) two.right_behind))
     tests
 
 -- ANY STATEMENT
@@ -473,4 +473,4 @@ form_close m form.ClassHfsc before common left right s t two few = class_close m
 form_close m form.ClassCbq before common left right s t two few = class_close m before Cbq common left right s t two few (either (nat_lt 0 (length common)))
 form_close m form.Filter before common left right s t two few = filter_close m before common left right s t two few (either (nat_lt 0 (length common)))
 form_close m form.Filter6 before common left right s t two few = filter_close m before common left right s t two few (either (nat_lt 0 (length common)))
-form_close m form.Unread before common left right s t two few = inr (late_own m s two.left_behind, late_own m t two.right_behind)
+form_close m form.Unread before common left right s t two few = inr (so_own (From m) s two.left_behind, so_own (From m) t two.right_behind)

@@ -25,7 +25,7 @@ use Rattle.conf_tree.specs.Tree.{Begun, interface_number, class_number}
 use Rattle.conf_tree.specs.Whole.{undecided, first_undecided, finished_unless}
 use Rattle.conf_laws.specs.Laws.{line_of_words}
 use Rattle.conf_laws.proofs.CloseFaults.{Close, stmt, Two, same_spot, same_cond, form_close}
-use Rattle.conf_laws.proofs.LateFaults.{Late, form_late, drop_past}
+use Rattle.conf_laws.proofs.LateFaults.{From, Late, late_words, late_behind, late_each, form_so, drop_past}
 use Rattle.conf_laws.proofs.Types.{Branch, Settings, Spot}
 
 -- A STATEMENT THAT STOPS AT THE FAULT, whatever stands behind it
@@ -174,7 +174,8 @@ by_lines : (before : List Begun) (line m end other : ℕ) (r t : Reading) (fault
 by_lines before line m end other r t fault agree h k early e =
     ⊎_elim
     (λ u.
-    let late = form_late m r.form before (said line end r) u.short (record { fault = u.left.fault; end = h }) (drop_past m 3 [] r.items (omega arith) u.left.items) in
+    let late = form_so (From m) r.form before (said line end r) (late_words m 2 (said line end r) u.short) (late_behind m (said line end r) u.left.fault h)
+    (late_each m line (drop 3 r.items) (drop_past m 3 [] r.items (omega arith) u.left.items)) in
     let far = not_late m (read_statement before (said line end r)) fault late e in absurd (omega arith))
     (λ more. ⊎_elim
     (λ s. subst (λ x. read_statement before (said line other x) ≡ Err fault) (sym s.same) (sym (refused_same before line end other r.form r.items r.fault s.fault s.of_form s.is) ∙ e))
@@ -196,8 +197,8 @@ by_lines before line m end other r t fault agree h k early e =
           right_items = s.right_items;
           left_late = s.left_late;
           right_late = s.right_late;
-          left_behind = record { fault = s.left_fault; end = h };
-          right_behind = record { fault = s.right_fault; end = k };
+          left_behind = late_behind m (said line end r) s.left_fault h;
+          right_behind = late_behind m (said line other t) s.right_fault k;
         } in
         let close = form_close m of before s.common s.left s.right (said line end r) (said line other t) two s.count in
         let here : read_form of before (said line end r) ≡ Err fault = subst (λ x. read_form x before (said line end r) ≡ Err fault) s.left_form e in
