@@ -21,7 +21,8 @@ use Rattle.conf_lines.specs.Grammar.{says, reads, counts, refused, begins, at_st
 use Rattle.conf_lines.specs.Options.{most_rate, most_bend, most_ruleno, most_port, most_tos, word_of_key, slots_of, option_of}
 use Rattle.conf_lines.specs.Slots.{is_text, are_plain, rate_in, whole_in, skipped_in, name_in, protocol_in, mask_in}
 use Rattle.conf_lines.specs.declared.fault.ConfKind.TheVariants.{UnknownWord, BadByte, ConvexFirst}
-use Rattle.conf_lines.specs.Texts.{Reading, fault_at, stops, item_of, behind, read_from}
+use Rattle.conf_lines.specs.Texts.{Reading, fault_at, item_of, behind, read_from}
+use Rattle.conf_lines.proofs.StandingWords.{past}
 
 pub pick : {A : Type 0} (P : A → Type 0) (b : Bool) (x y : A) → P x → P y → P (cond b x y)
 pick P true x y p q = p
@@ -197,13 +198,6 @@ fault_late line at (Some kind) = omega arith
 pub record AllLate (m : ℕ) (r : Reading) : Type 0 where
   pub items : AreLate m r.items
   pub fault : IsLate m r.fault
-
-abbrev past : ℕ → List (List ℕ) → Place → ℕ → Result Step ConfKind → Reading
-past line words place at r =
-    elim r [
-      | Ok taken ↦ behind (item_of at taken.what) (read_from line words taken.after (at + 1))
-      | Err kind ↦ stops place (fault_at line at (Some kind))
-    ]
 
 late_past : (line : ℕ) (words : List (List ℕ)) (place : Place) (at : ℕ) (r : Result Step ConfKind)
     → ((to : Place) → AllLate (at + 1) (read_from line words to (at + 1))) → AllLate at (past line words place at r)

@@ -7,7 +7,8 @@ use Rattle.conf_lines.specs.declared.grammar.Step.{Step}
 use Rattle.conf_lines.specs.Grammar.{step, end}
 use Rattle.conf_lines.specs.Texts.{Reading, fault_at, stops, item_of, behind, read_from}
 
-abbrev past : ℕ → List (List ℕ) → Place → ℕ → Result Step ConfKind → Reading
+-- what a word that leads there, or to a fault, makes of a line
+abbrev pub past : ℕ → List (List ℕ) → Place → ℕ → Result Step ConfKind → Reading
 past line words place at r =
     elim r [
       | Ok taken ↦ behind (item_of at taken.what) (read_from line words taken.after (at + 1))

@@ -24,8 +24,9 @@ use Rattle.conf_lines.specs.Options.{most_rate, most_bend, most_ruleno, most_por
 use Rattle.line_text.specs.Names.{is_name}
 use Rattle.conf_lines.specs.Slots.{is_text, are_plain, within, checked, rate_in, whole_in, skipped_in, name_in, protocol_in, found_in, as_ip4, mask_in, address_in, as_ip6, prefix_in, address6_in}
 use Rattle.conf_lines.specs.declared.fault.ConfKind.TheVariants.{UnknownWord, MissingWord, BadNumber, RateRange, BadByte, ConvexFirst}
-use Rattle.conf_lines.specs.Texts.{Reading, fault_at, stops, item_of, behind, read_from}
+use Rattle.conf_lines.specs.Texts.{fault_at, item_of, read_from}
 use Rattle.conf_lines.specs.Laws.{says_at, HasNumber, HasCurve, HasMask, HasSlots, IsWhole, AreWhole}
+use Rattle.conf_lines.proofs.StandingWords.{past}
 
 -- what stands behind a bend, and behind a first slope
 record HasSecond (least m1 d : ℕ) (items : List Item) : Type 0 where
@@ -402,13 +403,6 @@ no_kind line at None e = refl
 no_kind line at (Some kind) e = cc
 
 -- a line
-abbrev past : ℕ → List (List ℕ) → Place → ℕ → Result Step ConfKind → Reading
-past line words place at r =
-    elim r [
-      | Ok taken ↦ behind (item_of at taken.what) (read_from line words taken.after (at + 1))
-      | Err kind ↦ stops place (fault_at line at (Some kind))
-    ]
-
 held_past : (line : ℕ) (words : List (List ℕ)) (place : Place) (at : ℕ) (r : Result Step ConfKind) → HeldIfOk place.next r → (past line words place at r).fault ≡ None
     → ((to : Place) → (read_from line words to (at + 1)).fault ≡ None → Held to.next (read_from line words to (at + 1)).items)
     → Held place.next (past line words place at r).items

@@ -22,8 +22,9 @@ use Rattle.conf_lines.specs.Options.{most_ruleno, most_port, most_protocol, most
 use Rattle.conf_lines.specs.Parts.{Then, May, Any, Ends, IsName, IsSkipped, IsUpTo, IsAny, IsIp4, IsIp6, FromMask, BehindTos, FromTos, BehindProtocol, FromProtocol, FromSourcePort, FromNetmask, BehindIp4, FromAddress, FromTargetPort, FromTarget, FromRuleno, BehindName, FromNameWord, BehindClass, FromFilterClass, HasParts}
 use Rattle.conf_lines.specs.Slots.{is_text, are_plain, whole_in, skipped_in, name_in, protocol_in, found_in, mask_in, address_in, as_ip6, prefix_in, address6_in}
 use Rattle.conf_lines.specs.declared.fault.ConfKind.TheVariants.{UnknownWord, MissingWord, BadByte}
-use Rattle.conf_lines.specs.Texts.{Reading, fault_at, stops, item_of, behind, read_from}
+use Rattle.conf_lines.specs.Texts.{Reading, item_of, read_from}
 use Rattle.conf_lines.proofs.LineSplit.{pick, IsFormed, MovesIfOk, moves}
+use Rattle.conf_lines.proofs.StandingWords.{past}
 use Rattle.conf_lines.proofs.WholeOptions.{IsNumber, whole_number, mask_read, IsMaskRead, skipped_read, IsSkippedRead, no_kind, some_is}
 
 -- what stands behind an address
@@ -279,13 +280,6 @@ end_owed place f e = none_owed place.form place.next place f e
 record Stays (of : Form) (parts : List Item → Type 0) (r : Reading) : Type 0 where
   form : r.form ≡ of
   owed : parts r.items
-
-abbrev past : ℕ → List (List ℕ) → Place → ℕ → Result Step ConfKind → Reading
-past line words place at r =
-    elim r [
-      | Ok taken ↦ behind (item_of at taken.what) (read_from line words taken.after (at + 1))
-      | Err kind ↦ stops place (fault_at line at (Some kind))
-    ]
 
 stays_past : (line : ℕ) (words : List (List ℕ)) (place : Place) (at : ℕ) (r : Result Step ConfKind) → MovesIfOk place.form r
     → OwesIfOk place.form (Owes place.form place.next) r → (past line words place at r).fault ≡ None
