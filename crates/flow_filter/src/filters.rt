@@ -1,5 +1,5 @@
 //! The filters of an interface.
-ghost use Rattle.std.specs.Prelude.{◌≡◌, IfOk, IfSome};
+ghost use Rattle.std.specs.Prelude.{◌≡◌, ◌==◌, IfOk, IfSome, None, Some, length, if◌then◌else◌};
 ghost use Rattle.flow_filter.specs.Ranked.{IsRanked};
 ghost use Rattle.flow_filter.specs.Rules.{rules_of};
 ghost use Rattle.flow_filter.specs.Winner.{class_of};
@@ -75,7 +75,8 @@ impl Filters {
 
     /// The class of every flow where there are no filters: the default class. None where there are any. Constant time.
     pub fn only_class(&self) -> Option<u32>
-        ensures { IfSome result (λ class. (flow : Flow) → class_of self.now flow ≡ class) }
+        ensures value { result ≡ (if length self.now.filters == 0 then Some self.now.otherwise else None) }
+        ensures class { IfSome result (λ class. (flow : Flow) → class_of self.now flow ≡ class) }
     {
         if self.filters.is_empty() {
             Some(self.otherwise)
