@@ -9,4 +9,4 @@ pub returns-in-Some : goal.returns-in-Some
 returns-in-Some c =
     let f = flow c.args.frame.now in
     placed_plain c.args.self.now f c.in-Some.class c.tos.result c.place_plain.result
-    (ap (λ (k : Classes). class_of k.rules f) (sym c.self.view_is) ∙ c.in-Some.ensures f) c.tos.ensures c.place_plain.ensures
+    (ap (λ (k : Classes). class_of k.rules f) (sym c.self.view_is) ∙ c.in-Some.ensures.class f) c.tos.ensures c.place_plain.ensures
