@@ -6,14 +6,14 @@ use Rattle.conf_lines.specs.declared.statement.Statement.{Statement}
 use Rattle.conf_tree.specs.declared.class.Class.{Class}
 use Rattle.conf_tree.specs.declared.interface.Kind.{Kind}
 use Rattle.conf_tree.specs.declared.interface.Kind.TheVariants.{Hfsc, Cbq}
-use Rattle.conf_tree.specs.Canonical.{parent_word}
+use Rattle.conf_tree.specs.Canonical.{parent_word, class_options}
 use Rattle.conf_tree.specs.Classes.{same_kind, spot_of, scope_of, shape_of_kind, branch_of, read_branch}
 use Rattle.conf_tree.specs.Options.{set_options}
 use Rattle.conf_tree.specs.Settings.{unset}
 use Rattle.conf_tree.specs.Tree.{Begun, class_number}
 use Rattle.conf_laws.specs.Fit.{IsOfKind, IsWithin, IsHfscClass}
-use Rattle.conf_laws.specs.Statements.{numbered, class_options, class_statement}
-use Rattle.conf_laws.proofs.OptionsRead.{settings_of, options_read}
+use Rattle.conf_laws.specs.Statements.{numbered, class_statement}
+use Rattle.conf_laws.proofs.ClassOptions.{settings_of, options_read}
 use Rattle.conf_laws.proofs.SpotsRead.{spot}
 use Rattle.conf_laws.proofs.Types.{Branch, Shape}
 

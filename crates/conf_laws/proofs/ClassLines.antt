@@ -1,5 +1,5 @@
--- The lines of interfaces and of classes.
-use Rattle.std.proofs.Common.{◌≡◌, ◌≢◌, ℕ, Bool, true, false, List, [], ◌∷◌, ◌++◌, Option, Some, None, codes, decimal, refl, arith, append_assoc}
+-- The lines of interfaces and of classes are legible.
+use Rattle.std.proofs.Common.{◌≡◌, ◌≢◌, ℕ, Bool, true, false, List, [], ◌∷◌, Option, Some, None, codes, refl, arith}
 use Rattle.service_curve.specs.declared.Curve.{Curve}
 use Rattle.conf_lines.specs.declared.item.Key.TheVariants as key
 use Rattle.conf_lines.specs.declared.item.What.TheVariants as what
@@ -14,16 +14,15 @@ use Rattle.conf_tree.specs.declared.class.Class.{Class}
 use Rattle.conf_tree.specs.declared.interface.Interface.{Interface}
 use Rattle.conf_tree.specs.declared.interface.Kind.{Kind}
 use Rattle.conf_tree.specs.declared.interface.Kind.TheVariants.{Hfsc, Cbq}
-use Rattle.conf_tree.specs.Canonical.{kind_word, interface_line, parent_word, class_line}
+use Rattle.conf_tree.specs.Canonical.{kind_key, parent_word, interface_whats, interface_line, class_names, class_form, class_line}
 use Rattle.conf_laws.specs.Fit.{IsName, IsWithin, IsOfKind}
-use Rattle.conf_laws.specs.Statements.{kind_key, interface_whats, interface_statement, class_names, class_form, class_statement}
-use Rattle.conf_laws.proofs.OptionParts.{option_part, settling_part, rt_part, settled_by, ls_part, ul_part, qlimit_part, drop_part, clear_part, default_part, borrow_part, control_part, cbq_rate_part, burst_part}
+use Rattle.conf_laws.proofs.ClassOptions.{option_part, settling_part, settled_by, hfsc_part, cbq_part}
 use Rattle.conf_laws.proofs.Parts.{Part, ◌>>◌}
 use Rattle.conf_laws.proofs.Printed.{name_is_read}
-use Rattle.conf_laws.proofs.StatementLines.{Line, same_line, one_first, two_first}
+use Rattle.conf_laws.proofs.StatementLines.{IsLegible, one_first, two_first}
 use Rattle.conf_laws.proofs.WordParts.{printed_by, name_part, rate_part}
 
-kind_part : (kind : Kind) → Part (at_option form.Interface false) (at_option form.Interface true) (32 ∷ kind_word kind) (what.Key (kind_key kind) ∷ []) 1
+kind_part : (kind : Kind) → Part (at_option form.Interface false) (at_option form.Interface true) (what.Key (kind_key kind) ∷ []) 1
 unfolding is_text
 kind_part Hfsc = settling_part key.Hfsc refl refl refl
 kind_part Cbq = settling_part key.Cbq refl refl refl
@@ -31,7 +30,7 @@ kind_part Cbq = settling_part key.Cbq refl refl refl
 -- NAME bandwidth R hfsc, or cbq
 interface_part : (i : Interface) → IsName i.name → IsWithin 1000 most_rate i.rate
     → Part (at_interface_name form.Interface) (at_option form.Interface true)
-    (32 ∷ (i.name ++ (codes " bandwidth " ++ (decimal i.rate ++ (32 ∷ kind_word i.kind))))) (interface_whats i) 4
+    (interface_whats i) 4
 unfolding is_text
 interface_part i is_name is_rate =
     name_part {from = at_interface_name form.Interface} (tells_interface (name_is_read i.name is_name)) is_name
@@ -39,12 +38,10 @@ interface_part i is_name is_rate =
     >> rate_part is_rate.0 is_rate.1 (omega arith)
     >> kind_part i.kind
 
-pub interface_is_line : (i : Interface) → IsName i.name → IsWithin 1000 most_rate i.rate → Line (interface_line i) (λ line. interface_statement line i)
-interface_is_line i is_name is_rate =
-    same_line
-    (one_first (codes "interface") begins_interface (printed_by (codes "interface") refl) (interface_part i is_name is_rate)
-    (ends_at_option form.Interface) (omega arith) refl)
-    (simp append_assoc)
+pub interface_is_legible : (i : Interface) → IsName i.name → IsWithin 1000 most_rate i.rate → IsLegible (interface_line i)
+interface_is_legible i is_name is_rate =
+    one_first (codes "interface") begins_interface (printed_by (codes "interface") refl) (interface_part i is_name is_rate)
+    (ends_at_option form.Interface) (omega arith)
 
 -- what the line of a class is read by
 pub record IsWritten (kind : Kind) (all : List Class) (c : Class) : Type 0 where
@@ -57,7 +54,7 @@ pub record IsWritten (kind : Kind) (all : List Class) (c : Class) : Type 0 where
 named_part : {form : Form} {interface name parent : List ℕ} → Tells (at_interface_name form) interface (what.Name interface) (at_class_name form)
     → IsName interface → IsName name → IsName parent
     → Part (at_interface_name form) (at_option form (is_text (codes "NULL") parent))
-    (32 ∷ (interface ++ (32 ∷ (name ++ (32 ∷ parent))))) (what.Name interface ∷ what.Name name ∷ what.Name parent ∷ []) 3
+    (what.Name interface ∷ what.Name name ∷ what.Name parent ∷ []) 3
 named_part {name} {parent} tells is_interface is_name is_parent =
     name_part tells is_interface
     >> name_part (tells_class (name_is_read name is_name)) is_name
@@ -65,7 +62,7 @@ named_part {name} {parent} tells is_interface is_name is_parent =
 
 names_part : (kind : Kind) (interface : List ℕ) (all : List Class) (c : Class) → IsName interface → IsWritten kind all c
     → Part (at_interface_name (class_form kind)) (at_option (class_form kind) (is_text (codes "NULL") (parent_word all c.parent)))
-    (32 ∷ (interface ++ (32 ∷ (c.name ++ (32 ∷ parent_word all c.parent))))) (class_names interface all c) 3
+    (class_names interface all c) 3
 names_part Hfsc interface all c is_interface is =
     named_part {form = form.ClassHfsc} (tells_interface (name_is_read interface is_interface)) is_interface is.name is.parent
 names_part Cbq interface all c is_interface is =
@@ -87,31 +84,13 @@ ends_hfsc : (all : List Class) (c : Class) → IsWritten Hfsc all c
 ends_hfsc all c is =
     ends_settled form.ClassHfsc (settled_by (is_text (codes "NULL") (parent_word all c.parent)) c.share) (settled all c.parent c.share is.own.shared)
 
-pub class_is_line : (kind : Kind) (interface : List ℕ) (all : List Class) (c : Class) → IsName interface → IsWritten kind all c
-    → Line (class_line kind interface all c) (λ line. class_statement line kind interface all c)
-class_is_line Hfsc interface all c is_interface is =
-    same_line
-    (two_first (codes "class") (codes "hfsc") begins_class begins_hfsc (printed_by (codes "class") refl) (printed_by (codes "hfsc") refl)
-    (names_part Hfsc interface all c is_interface is
-    >> rt_part c.real is.own.real
-    >> ls_part c.share is.own.share
-    >> ul_part c.upper is.own.upper
-    >> qlimit_part Hfsc c.limit is.limit
-    >> drop_part Hfsc c.drop
-    >> clear_part Hfsc c.clear
-    >> default_part Hfsc c.is_default)
-    (ends_hfsc all c is) (omega arith) refl)
-    (simp append_assoc)
-class_is_line Cbq interface all c is_interface is =
-    same_line
-    (two_first (codes "class") (codes "cbq") begins_class begins_cbq (printed_by (codes "class") refl) (printed_by (codes "cbq") refl)
-    (names_part Cbq interface all c is_interface is
-    >> cbq_rate_part c is.own
-    >> borrow_part c.borrow
-    >> (burst_part c is.own >> qlimit_part Cbq c.limit is.limit)
-    >> drop_part Cbq c.drop
-    >> clear_part Cbq c.clear
-    >> control_part c.control
-    >> default_part Cbq c.is_default)
-    (ends_at_option form.ClassCbq) (omega arith) refl)
-    (simp append_assoc)
+pub class_is_legible : (kind : Kind) (interface : List ℕ) (all : List Class) (c : Class) → IsName interface → IsWritten kind all c
+    → IsLegible (class_line kind interface all c)
+class_is_legible Hfsc interface all c is_interface is =
+    two_first (codes "class") (codes "hfsc") begins_class begins_hfsc (printed_by (codes "class") refl) (printed_by (codes "hfsc") refl)
+    (names_part Hfsc interface all c is_interface is >> hfsc_part c is.own is.limit)
+    (ends_hfsc all c is) (omega arith)
+class_is_legible Cbq interface all c is_interface is =
+    two_first (codes "class") (codes "cbq") begins_class begins_cbq (printed_by (codes "class") refl) (printed_by (codes "cbq") refl)
+    (names_part Cbq interface all c is_interface is >> cbq_part c is.own is.limit)
+    (ends_at_option form.ClassCbq) (omega arith)

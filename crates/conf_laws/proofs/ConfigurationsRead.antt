@@ -4,7 +4,7 @@ use Rattle.std.proofs.lemmas.List.{length-map, map-append}
 use Rattle.std.proofs.lemmas.Option.{slice_get-map, slice_get_within}
 use Rattle.conf_lines.specs.declared.fault.ConfPlace.{ConfPlace}
 use Rattle.conf_tree.specs.declared.interface.Interface.{Interface}
-use Rattle.conf_tree.specs.Canonical.{written_classes}
+use Rattle.conf_tree.specs.Canonical.{interface_lines, canonical_lines}
 use Rattle.conf_tree.specs.Reading.{reading_from}
 use Rattle.conf_tree.specs.Tree.{Begun}
 use Rattle.conf_tree.specs.Whole.{whole, undecided, first_undecided}
@@ -12,6 +12,7 @@ use Rattle.conf_laws.specs.Fit.{AreFit}
 use Rattle.conf_laws.specs.Statements.{canonical_statements}
 use Rattle.conf_laws.proofs.InterfacesRead.{interface_is_read}
 use Rattle.conf_laws.proofs.NamesRead.{IsNew}
+use Rattle.conf_laws.proofs.StatementsRead.{lines_append}
 use Rattle.conf_laws.proofs.ListPlaces.{get_front, get_pushed}
 
 -- these interfaces are read whole
@@ -56,11 +57,12 @@ all_are_read (i ∷ rest) done before line fit h =
     let counted : length before ≡ length done = sym (length-map before whole) ∙ ap (λ l. length l) h.as_are in
     let room : length before < 16 = omega (arith, fit.count, counted, slice_get_within (done ++ i ∷ rest) (length done) i at) in
     let one = interface_is_read before line i (fit.interface (length done) i at) (is_new done rest before i fit h.as_are) room in
-    let next = line + 1 + length (written_classes i) + length i.filters in
+    let next = line + length (interface_lines i) in
     let e : (done ++ i ∷ []) ++ rest ≡ done ++ (i ∷ rest) = append_assoc done (i ∷ []) rest in
     let others = all_are_read rest (done ++ i ∷ []) (before ++ one.last ∷ []) next (subst (λ l. AreFit l) (sym e) fit)
     (whole_more done before i one.last h one.as_is one.decided) in
-    one.reads.on (canonical_statements next rest) ∙ (others ∙ ap (λ l. Ok l) e)
+    ap (λ l. reading_from before l) (lines_append line (interface_lines i) (canonical_lines rest))
+    ∙ (one.reads.on (canonical_statements next rest) ∙ (others ∙ ap (λ l. Ok l) e))
 
 pub configuration_is_read : (interfaces : List Interface) (line : ℕ) → AreFit interfaces → reading_from [] (canonical_statements line interfaces) ≡ Ok interfaces
 configuration_is_read interfaces line fit = all_are_read interfaces [] [] line fit (record { as_are = refl; decided = refl })

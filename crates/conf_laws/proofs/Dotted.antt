@@ -4,7 +4,7 @@ use Rattle.std.proofs.lemmas.Fmt.{decimal_is_IsNumeral, length-decimal-le}
 use Rattle.std.proofs.lemmas.List.{length-append}
 use Rattle.line_text.specs.Addresses.{octet, ip4_of}
 use Rattle.line_text.specs.Names.{are_name_bytes}
-use Rattle.conf_tree.specs.Canonical.{ip4_word}
+use Rattle.conf_tree.specs.Printed.{ip4_word}
 use Rattle.conf_lines.specs.Laws.{AreBytes}
 use Rattle.conf_laws.proofs.Marks.{Lacks, cut-front}
 use Rattle.conf_laws.proofs.NameBytes.{name_bytes-append, decimal_bytes}

@@ -1,5 +1,5 @@
 -- The words of filters as parts of their lines.
-use Rattle.std.proofs.Common.{◌≡◌, ℕ, ◌-◌, ◌^◌, ◌<◌, ◌≤◌, true, List, [], ◌∷◌, ◌++◌, Option, Some, None, codes, decimal, refl, arith}
+use Rattle.std.proofs.Common.{◌≡◌, ℕ, ◌-◌, ◌^◌, ◌<◌, ◌≤◌, true, List, [], ◌∷◌, Option, Some, None, refl, arith}
 use Rattle.conf_lines.specs.declared.item.Key.{Key}
 use Rattle.conf_lines.specs.declared.item.Key.TheVariants as key
 use Rattle.conf_lines.specs.declared.item.What.TheVariants as what
@@ -8,10 +8,9 @@ use Rattle.conf_lines.specs.declared.statement.Form.TheVariants as form
 use Rattle.conf_lines.specs.Grammar.{end}
 use Rattle.conf_lines.proofs.GrammarPlaces.{GrammarPlace, PacketSide, target_side, at_interface_name, at_filter_class, at_address_of, at_port_of, behind_port_of, at_protocol, behind_protocol, at_tos, behind_tos, at_tos_mask, at_end, Tells}
 use Rattle.conf_lines.proofs.FilterSteps.{tells_filter_class, tells_ruleno, tells_rule_number, tells_address, tells_netmask, tells_mask, tells_prefix, tells_port, tells_protocol, tells_tos, tells_tosmask, tells_tclass, tells_tclassmask, tells_tos_number, tells_tos_mask, ends_at_protocol, ends_at_end}
-use Rattle.conf_tree.specs.Canonical.{ip6_word, end4_words, tos_words, tclass_words}
 use Rattle.conf_lines.specs.Laws.{AreBytes}
 use Rattle.conf_laws.specs.Fit.{IsName, IsTos}
-use Rattle.conf_laws.specs.Statements.{filter_names, end4_whats, end6_whats, tos_whats}
+use Rattle.conf_tree.specs.Canonical.{filter_names, end4_whats, end6_whats, tos_whats}
 use Rattle.conf_lines.specs.Options.{word_of_key}
 use Rattle.conf_laws.proofs.Parts.{Part, nothing, ◌>>◌}
 use Rattle.conf_laws.proofs.Printed.{whole_printed, protocol_printed, name_is_read, address_printed, mask_printed, prefix_printed}
@@ -21,7 +20,7 @@ use Rattle.conf_laws.proofs.WordParts.{is_printed, key_part, name_part, number_p
 pub filter_part : {form : Form} (interface class : List ℕ) (ruleno : ℕ) → Tells (at_interface_name form) interface (what.Name interface) (at_filter_class form)
     → IsName interface → IsName class → ruleno < 2 ^ 32
     → Part (at_interface_name form) (at_address_of form target_side)
-    (32 ∷ (interface ++ (32 ∷ (class ++ (codes " ruleno " ++ decimal ruleno))))) (filter_names interface class ruleno) 4
+    (filter_names interface class ruleno) 4
 filter_part interface class ruleno tells is_interface is_class small =
     name_part tells is_interface
     >> name_part (tells_filter_class (name_is_read class is_class)) is_class
@@ -29,12 +28,12 @@ filter_part interface class ruleno tells is_interface is_class small =
     >> number_part (tells_rule_number (whole_printed 0 (2 ^ 32 - 1) ruleno (omega arith) (omega arith) (omega arith))) (omega arith)
 
 port_part : {form : Form} {side : PacketSide} (port : ℕ) → port ≤ 65535
-    → Part (at_port_of form side) (behind_port_of form side) (32 ∷ decimal port) (what.Whole port ∷ []) 1
+    → Part (at_port_of form side) (behind_port_of form side) (what.Whole port ∷ []) 1
 port_part port most = number_part (tells_port (whole_printed 0 65535 port (omega arith) most (omega arith))) (omega arith)
 
 -- an end of a filter
 pub end4_part : {side : PacketSide} (address mask : List ℕ) (port : ℕ) → AreBytes 4 address → AreBytes 4 mask → port ≤ 65535
-    → Part (at_address_of form.Filter side) (behind_port_of form.Filter side) (end4_words address mask port) (end4_whats address mask port) 4
+    → Part (at_address_of form.Filter side) (behind_port_of form.Filter side) (end4_whats address mask port) 4
 end4_part {side} address mask port of_address of_mask most =
     ip4_part {from = at_address_of form.Filter side} (tells_address (address_printed address of_address)) of_address
     >> key_part tells_netmask refl
@@ -43,13 +42,13 @@ end4_part {side} address mask port of_address of_mask most =
 
 pub end6_part : {side : PacketSide} (address : List ℕ) (bits port : ℕ) → AreBytes 16 address → bits ≤ 128 → port ≤ 65535
     → Part (at_address_of form.Filter6 side) (behind_port_of form.Filter6 side)
-    ((32 ∷ (ip6_word address ++ (codes "/" ++ decimal bits))) ++ (32 ∷ decimal port)) (end6_whats address bits port) 2
+    (end6_whats address bits port) 2
 end6_part {side} address bits port of_address few most =
     ip6_part {from = at_address_of form.Filter6 side} (tells_prefix (prefix_printed address bits of_address few)) of_address few
     >> port_part port most
 
 pub protocol_part : {form : Form} (protocol : ℕ) → protocol ≤ 255
-    → Part (at_protocol form) (behind_protocol form) (32 ∷ decimal protocol) (what.Whole protocol ∷ []) 1
+    → Part (at_protocol form) (behind_protocol form) (what.Whole protocol ∷ []) 1
 protocol_part protocol most = number_part (tells_protocol (protocol_printed protocol most)) (omega arith)
 
 -- where a filter ends, which its type of service moves
@@ -73,7 +72,6 @@ masked_part : {form : Form} {k mask_key : Key} (tos mask : ℕ) → Tells (behin
     → Tells (behind_tos form) (word_of_key mask_key) (what.Key mask_key) (at_tos_mask form)
     → is_printed (word_of_key k) ≡ true → is_printed (word_of_key mask_key) ≡ true → tos ≤ 255 → mask ≤ 255
     → Part (behind_protocol form) (at_end form)
-    ((32 ∷ word_of_key k) ++ (32 ∷ (decimal tos ++ (32 ∷ (word_of_key mask_key ++ (32 ∷ decimal mask))))))
     (what.Key k ∷ what.Whole tos ∷ what.Key mask_key ∷ what.Whole mask ∷ []) 4
 masked_part tos mask tells tells_mask printed mask_printed most most_mask =
     key_part tells printed
@@ -82,11 +80,11 @@ masked_part tos mask tells tells_mask printed mask_printed most most_mask =
     >> number_part (tells_tos_mask (whole_printed 0 255 mask (omega arith) most_mask (omega arith))) (byte_small mask most_mask)
 
 pub tos_part : (o : Option (ℕ × ℕ)) → IsTos o
-    → Part (behind_protocol form.Filter) (behind_tos_of form.Filter o) (tos_words o) (tos_whats key.Tos key.Tosmask o) 4
+    → Part (behind_protocol form.Filter) (behind_tos_of form.Filter o) (tos_whats key.Tos key.Tosmask o) 4
 tos_part None is = nothing
 tos_part (Some (tos, mask)) is = masked_part tos mask tells_tos tells_tosmask refl refl is.0 is.1
 
 pub tclass_part : (o : Option (ℕ × ℕ)) → IsTos o
-    → Part (behind_protocol form.Filter6) (behind_tos_of form.Filter6 o) (tclass_words o) (tos_whats key.Tclass key.Tclassmask o) 4
+    → Part (behind_protocol form.Filter6) (behind_tos_of form.Filter6 o) (tos_whats key.Tclass key.Tclassmask o) 4
 tclass_part None is = nothing
 tclass_part (Some (tos, mask)) is = masked_part tos mask tells_tclass tells_tclassmask refl refl is.0 is.1

@@ -7,7 +7,8 @@ use Rattle.conf_tree.specs.declared.filter.Filter.{Filter}
 use Rattle.conf_tree.specs.Filters.{tos_in, filter_of}
 use Rattle.conf_tree.specs.Masks.{masked, prefix}
 use Rattle.conf_laws.specs.Fit.{AreAddresses, IsTos}
-use Rattle.conf_laws.specs.Statements.{numbered, tos_whats, filter_whats_by, filter_form}
+use Rattle.conf_tree.specs.Canonical.{tos_whats, filter_whats_by, filter_form}
+use Rattle.conf_laws.specs.Statements.{numbered}
 use Rattle.conf_laws.proofs.CurvesRead.{within_is}
 use Rattle.conf_lines.specs.declared.item.Key.TheVariants as key
 

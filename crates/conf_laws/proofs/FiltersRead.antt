@@ -3,8 +3,6 @@ use Rattle.std.proofs.Common.{◌≡◌, ⊎_elim, ℕ, ◌<◌, Bool, true, fal
 use Rattle.std.proofs.lemmas.Bool.Decides.{nat_tests}
 use Rattle.conf_lines.specs.declared.statement.Statement.{Statement}
 use Rattle.conf_tree.specs.declared.class.Class.{Class}
-use Rattle.conf_tree.specs.declared.filter.Addresses.{Addresses}
-use Rattle.conf_tree.specs.declared.filter.Addresses.TheVariants.{V4, V6}
 use Rattle.conf_tree.specs.declared.filter.Filter.{Filter}
 use Rattle.conf_tree.specs.declared.interface.Interface.{Interface}
 use Rattle.conf_tree.specs.declared.interface.Kind.{Kind}
@@ -12,10 +10,9 @@ use Rattle.conf_tree.specs.declared.interface.Kind.TheVariants.{Hfsc, Cbq}
 use Rattle.conf_tree.specs.Canonical.{class_word, name_or_null}
 use Rattle.conf_tree.specs.Classes.{is_hfsc}
 use Rattle.conf_tree.specs.FilterStatements.{filter_read}
-use Rattle.conf_tree.specs.Items.{name_at}
 use Rattle.conf_tree.specs.Tree.{Begun, as_filtered, add_filter, class_number}
 use Rattle.conf_laws.specs.Fit.{IsTree, IsFilter}
-use Rattle.conf_laws.specs.Statements.{numbered, filter_whats_by, filter_statement}
+use Rattle.conf_laws.specs.Statements.{filter_statement}
 use Rattle.conf_laws.proofs.ChangesRead.{IsChanged, length_changed, get_changed}
 use Rattle.conf_laws.proofs.ClassesRead.{IsInner}
 use Rattle.conf_laws.proofs.FilterPartsRead.{parts_read}
@@ -38,17 +35,6 @@ pub record HasFilters (i : Interface) (filters : List Filter) (b : Begun) : Type
   pub count : length b.classes ≡ length i.classes
   pub class : (j : ℕ) (r : Branch) → slice_get b.classes j ≡ Some r → IsKept i.classes j r
 
--- the names that a filter's statement begins with
-pub filter_interface : (interface class : List ℕ) (f : Filter) (addresses : Addresses)
-    → name_at (numbered 2 (filter_whats_by interface class f addresses)) 0 ≡ Some interface
-filter_interface interface class f (V4 target target_mask source source_mask) = refl
-filter_interface interface class f (V6 target target_len source source_len) = refl
-
-filter_class : (interface class : List ℕ) (f : Filter) (addresses : Addresses)
-    → name_at (numbered 2 (filter_whats_by interface class f addresses)) 1 ≡ Some class
-filter_class interface class f (V4 target target_mask source source_mask) = refl
-filter_class interface class f (V6 target target_len source source_len) = refl
-
 not_inner : (kind : Kind) (inner : Bool) → (kind ≡ Hfsc → inner ≡ true → ⊥) → (is_hfsc kind && inner) ≡ false
 not_inner Hfsc inner h = is_false inner (h refl)
 not_inner Cbq inner h = refl
@@ -66,9 +52,8 @@ filter_is_read i done b f line tree small h r =
     let room : nat_le 1024 (length b.filters) ≡ false = rw r.read (grind (arith, nat_tests)) in
     let outer : (is_hfsc b.kind && class.inner) ≡ false =
     not_inner b.kind class.inner (λ k_is t. let below = kept.inner t in h.outer (sym r.kind ∙ k_is) below.number below.class below.at below.parent) in
-    let named = filter_class i.name (class_word i.classes f.class) f f.addresses in
     let parts = parts_read f i.name (class_word i.classes f.class) f.addresses refl h.addresses h.ruleno h.target_port h.source_port h.protocol h.tos in
-    rw (room, named, number_is, found.1, outer) (ap (λ x. Ok x) parts)
+    rw (room, number_is, found.1, outer) (ap (λ x. Ok x) parts)
 
 kept_changed : (all : List Class) (classes : List Branch) (p j : ℕ) (r : Branch) → ((n : ℕ) (a : Branch) → slice_get classes n ≡ Some a → IsKept all n a)
     → IsChanged classes p as_filtered j r → IsKept all j r

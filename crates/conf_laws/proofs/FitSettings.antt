@@ -208,19 +208,13 @@ option_fit scope s word key.Grate items r h =
     real_fit scope.chosen s true (option_map (λ n. straight n) o) h
     (line_fit 0 (λ n. n) o (λ n e. if_some_at (IsWithin 0 most_rate) o n (number_fit 0 most_rate items 0) e))
 option_fit scope s word key.Qlimit items r h = limit_fit scope.chosen s (number_at 1 10000 items 0) h (number_fit 1 10000 items 0)
-option_fit scope s word key.Red items r h = assumption h
-option_fit scope s word key.Ecn items r h = assumption h
-option_fit scope s word key.Rio items r h = assumption h
-option_fit scope s word key.Cleardscp items r h = assumption h
 option_fit scope s word key.Default items r h = default_fit scope s word h
 option_fit scope s word key.Priority items r h = priority_fit scope.chosen s (number_at 0 7 items 0) h (number_fit 0 7 items 0)
 option_fit scope s word key.Pbandwidth items r h = percent_set scope s (word_at items 0) (number_at 0 100 items 0) h
 option_fit scope s word key.Exactbandwidth items r h = rate_fit scope.chosen s (number_at 1000 most_rate items 0) h (number_fit 1000 most_rate items 0)
-option_fit scope s word key.Borrow items r h = assumption h
-option_fit scope s word key.Control items r h = assumption h
 option_fit scope s word key.Maxburst items r h = maxburst_fit scope.chosen s (number_at 1 1000 items 0) h (number_fit 1 1000 items 0)
 option_fit scope s word key.Packetsize items r h = packetsize_fit scope.chosen s (number_at 1 262144 items 0) h (number_fit 1 262144 items 0)
-option_fit scope s word _ items r h = h
+option_fit scope s word _ items r h = assumption h
 
 word_fit : (scope : Scope) (s : Settings) (word : ℕ) (says : What) (items : List Item) → IsWithin 1000 most_rate scope.rate → AreSet scope.chosen s
     → AreSetIfOk scope.chosen (set_by_word scope s word says items)

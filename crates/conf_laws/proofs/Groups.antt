@@ -8,7 +8,7 @@ use Rattle.line_text.specs.Addresses.{pieces, gap_from}
 use Rattle.line_text.specs.Addresses.{group as group_bytes}
 use Rattle.line_text.specs.Words.{with_first}
 use Rattle.line_text.specs.Names.{are_name_bytes}
-use Rattle.conf_tree.specs.Canonical.{hex}
+use Rattle.conf_tree.specs.Printed.{hex}
 use Rattle.conf_laws.proofs.Marks.{Lacks}
 use Rattle.conf_laws.proofs.NameBytes.{digits-name_bytes}
 use Rattle.conf_laws.proofs.Numerals.{numeral_number, numeral_lacks}

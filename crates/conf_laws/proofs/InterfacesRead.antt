@@ -10,20 +10,20 @@ use Rattle.conf_tree.specs.declared.filter.Filter.{Filter}
 use Rattle.conf_tree.specs.declared.interface.Interface.{Interface}
 use Rattle.conf_tree.specs.declared.interface.Kind.{Kind}
 use Rattle.conf_tree.specs.declared.interface.Kind.TheVariants.{Hfsc, Cbq}
-use Rattle.conf_tree.specs.Canonical.{written_classes}
+use Rattle.conf_tree.specs.Canonical.{class_lines, filter_lines, written_classes}
 use Rattle.conf_tree.specs.Items.{within}
 use Rattle.conf_tree.specs.Interfaces.{interface_kind, interface_rate}
 use Rattle.conf_tree.specs.Reading.{read_statement}
 use Rattle.conf_tree.specs.Tree.{Begun, begun, add_class, add_filter}
 use Rattle.conf_tree.specs.Whole.{whole, undecided, is_empty, implied_classes, classes_of}
 use Rattle.conf_laws.specs.Fit.{IsTree, IsInterface, IsImplied}
-use Rattle.conf_laws.specs.Statements.{interface_statement, class_statement, class_statements, filter_statement, filter_statements, interface_statements}
+use Rattle.conf_laws.specs.Statements.{statements_from, interface_statement, class_statement, class_statements, filter_statement, filter_statements, interface_statements}
 use Rattle.conf_laws.proofs.ClassesRead.{HasRead, next_class}
 use Rattle.conf_laws.proofs.CurvesRead.{within_is}
-use Rattle.conf_laws.proofs.FiltersRead.{HasFilters, filter_interface, next_filter}
+use Rattle.conf_laws.proofs.FiltersRead.{HasFilters, next_filter}
 use Rattle.conf_laws.proofs.NamesRead.{IsNew, interface_is_new}
 use Rattle.conf_laws.proofs.ListPlaces.{get_pushed, same_places}
-use Rattle.conf_laws.proofs.StatementsRead.{Reads, reads_none, reads_one, reads_both, reads_class, reads_filter, class_of_last, filter_of_last}
+use Rattle.conf_laws.proofs.StatementsRead.{Reads, reads_none, reads_one, reads_lines, reads_class, reads_filter, class_of_last, filter_of_last}
 use Rattle.conf_laws.proofs.Types.{Branch}
 
 -- its first statement
@@ -90,7 +90,7 @@ filters_are_read i before tree small new (f ∷ rest) done b line e r =
     let s = filter_statement line i.name i.classes f in
     let reads : read_statement (before ++ b ∷ []) s ≡ Ok (before ++ add_filter b f ∷ []) =
     reads_filter f.addresses (before ++ b ∷ []) s
-    ∙ filter_of_last before b s i.name f (filter_interface i.name _ f f.addresses) (sym r.name) new next.read in
+    ∙ filter_of_last before b s i.name f refl (sym r.name) new next.read in
     let more : i.filters ≡ (done ++ f ∷ []) ++ rest = e ∙ sym (append_assoc done (f ∷ []) rest) in
     let others = filters_are_read i before tree small new rest (done ++ f ∷ []) (add_filter b f) (line + 1) more next.then_has in
     record { last = others.last; reads = reads_one reads others.reads; has = others.has }
@@ -125,7 +125,7 @@ pub record IsReadWhole (i : Interface) (before : List Begun) (statements : List 
 -- the statements behind the first, by the classes that are written
 abbrev tail : ℕ → Interface → List Class → List Filter → List Statement
 tail line i written filters =
-    class_statements (line + 1) i.kind i.name i.classes written ++ filter_statements (line + 1 + length written) i.name i.classes filters
+    statements_from (line + 1) (class_lines i.kind i.name i.classes written ++ filter_lines i.name i.classes filters)
 
 -- without classes of its own
 implied_is_read : (before : List Begun) (line : ℕ) (i : Interface) → IsInterface i → IsNew i.name before → length before < 16
@@ -192,11 +192,13 @@ tree_is_read before line i h new room e tree =
     let within = slice_get_within i.classes number tree.default.class tree.default.at in
     let classes = classes_are_read i before tree h.classes new i.classes [] b (line + 1) refl (nothing_read i number line) in
     let between = all_classes i number classes.last within classes.has in
-    let filters = filters_are_read i before tree h.filters new i.filters [] classes.last (line + 1 + length i.classes) refl between in
+    let class_texts = class_lines i.kind i.name i.classes i.classes in
+    let filters = filters_are_read i before tree h.filters new i.filters [] classes.last (line + 1 + length class_texts) refl between in
+    let all = reads_lines (line + 1) class_texts (filter_lines i.name i.classes i.filters) classes.reads filters.reads in
     let some : 0 < length i.classes = omega (arith, within) in
     let written : written_classes i ≡ i.classes = ap (λ x. cond x [] i.classes) e in
     let others : Reads (before ++ b ∷ []) (tail line i (written_classes i) i.filters) (before ++ filters.last ∷ []) =
-    subst (λ l. Reads (before ++ b ∷ []) (tail line i l i.filters) (before ++ filters.last ∷ [])) (sym written) (reads_both classes.reads filters.reads) in
+    subst (λ l. Reads (before ++ b ∷ []) (tail line i l i.filters) (before ++ filters.last ∷ [])) (sym written) all in
     record {
       last = filters.last;
       reads = reads_one (interface_begins before line i h new room) others;

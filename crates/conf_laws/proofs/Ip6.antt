@@ -4,7 +4,7 @@ use Rattle.std.proofs.lemmas.List.{append_assoc, length-append}
 use Rattle.std.proofs.lemmas.List.Elements.{All-head, All-tail}
 use Rattle.line_text.specs.Addresses.{groups, gap_from, gap, ip6_of}
 use Rattle.line_text.specs.Names.{are_name_bytes}
-use Rattle.conf_tree.specs.Canonical.{hex, ip6_word}
+use Rattle.conf_tree.specs.Printed.{hex, ip6_word}
 use Rattle.conf_lines.specs.Laws.{AreBytes}
 use Rattle.conf_laws.proofs.Groups.{AreGroups, hex_is_group, hex_bytes, with_colons, pieces-colons, no_gap-colons}
 use Rattle.conf_laws.proofs.Marks.{Lacks, lacks-append}

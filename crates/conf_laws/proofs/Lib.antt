@@ -35,8 +35,7 @@ pub mod Marks
 pub mod NameBytes
 pub mod NamesRead
 pub mod Numerals
-pub mod OptionParts
-pub mod OptionsRead
+pub mod ClassOptions
 pub mod OtherTexts
 pub mod Parts
 pub mod Places
@@ -48,7 +47,6 @@ pub mod StatementLines
 pub mod StatementsRead
 pub mod TextCuts
 pub mod TextFaults
-pub mod TextLines
 pub mod Types
 pub mod WordParts
 pub mod WorkedRows

@@ -5,7 +5,7 @@ use Rattle.line_text.specs.Words.{is_blank}
 use Rattle.conf_lines.specs.declared.statement.Statement.{Statement}
 use Rattle.conf_lines.specs.Grammar.{start}
 use Rattle.conf_lines.specs.Texts.{read_from, as_statement}
-use Rattle.conf_laws.specs.Printed.{line_of}
+use Rattle.conf_tree.specs.Printed.{line_of}
 
 -- a byte of a word that ends no line and begins neither a comment nor a continuation
 abbrev pub is_word_byte : ℕ → Bool

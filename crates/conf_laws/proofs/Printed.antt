@@ -5,7 +5,7 @@ use Rattle.std.proofs.lemmas.List.{length-append}
 use Rattle.conf_lines.specs.declared.item.What.TheVariants.{Name, Ip4, Ip6}
 use Rattle.line_text.specs.Names.{are_name_bytes}
 use Rattle.conf_lines.specs.Slots.{are_plain, rate_in, whole_in, name_in, protocol_in, mask_in, address_in, address6_in}
-use Rattle.conf_tree.specs.Canonical.{ip4_word, ip6_word}
+use Rattle.conf_tree.specs.Printed.{ip4_word, ip6_word}
 use Rattle.conf_lines.specs.Laws.{AreBytes}
 use Rattle.conf_laws.specs.Fit.{IsName}
 use Rattle.conf_laws.proofs.Dotted.{ip4_read, ip4_bytes, ip4_range}

@@ -10,7 +10,7 @@ use Rattle.line_text.specs.Words.{is_blank, words_of, word_list}
 use Rattle.line_text.proofs.Splitting.{ArePlain, words_of-blank, words_of-end}
 use Rattle.conf_lines.specs.Grammar.{start}
 use Rattle.conf_lines.specs.Texts.{as_statement, before, by_words, line_feeds, read_from, statement_of, statements_in, statements_of}
-use Rattle.conf_laws.specs.Printed.{rest_of, line_of, lines_text}
+use Rattle.conf_tree.specs.Printed.{rest_of, line_of, lines_text}
 use Rattle.conf_laws.proofs.Marks.{take-through, drop-front}
 use Rattle.conf_laws.proofs.Lines.{is_word_byte, is_word, IsWord, IsLine, line_statements}
 

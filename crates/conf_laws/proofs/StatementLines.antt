@@ -1,29 +1,21 @@
--- A line of the text with the statement that is read from it.
-use Rattle.std.proofs.Common.{◌≡◌, ℕ, ◌+◌, ◌≤◌, List, [], ◌∷◌, ◌++◌, map, length, None, refl, sym, ap, ap₂, ◌∙◌, arith, length-append}
+-- Lines of the canonical text that are read as what they say.
+use Rattle.std.proofs.Common.{◌≡◌, ℕ, ◌+◌, ◌≤◌, List, [], ◌∷◌, ◌++◌, map, length, All, None, refl, ap₂, ◌∙◌, arith, length-append}
 use Rattle.std.proofs.lemmas.List.{length-map}
-use Rattle.std.proofs.lemmas.List.Elements.{All-cons}
-use Rattle.conf_lines.specs.declared.item.Item.{Item}
+use Rattle.std.proofs.lemmas.List.Elements.{All-nil, All-cons, All-head, All-tail}
 use Rattle.conf_lines.specs.declared.item.What.{What}
-use Rattle.conf_lines.specs.declared.statement.Statement.{Statement}
 use Rattle.conf_lines.specs.Grammar.{start, end}
-use Rattle.conf_lines.specs.Texts.{read_from, as_statement}
+use Rattle.conf_lines.specs.Texts.{statements_of, read_from, as_statement}
 use Rattle.conf_lines.proofs.GrammarPlaces.{GrammarPlace, Begins}
-use Rattle.conf_laws.specs.Statements.{numbered, statement_at}
-use Rattle.conf_laws.specs.Printed.{line_of, rest_of, word_of, form_words, statement_words}
-use Rattle.conf_laws.proofs.Lines.{IsWord, IsLine}
-use Rattle.conf_laws.proofs.Parts.{IsPrinted, Part, ends_line, are_words, is_short, is_read}
+use Rattle.conf_tree.specs.Printed.{TextLine, line_words, rest_of, word_of, printed}
+use Rattle.conf_laws.specs.Statements.{statement_of_line, statements_from}
+use Rattle.conf_laws.proofs.Lines.{IsWord, IsLine, line_statements}
+use Rattle.conf_laws.proofs.Parts.{IsPrinted, Part, are_words, is_short, is_read}
+use Rattle.conf_laws.proofs.ReadLines.{lines_are_read}
 
--- bytes that are one line, which says a statement wherever it stands
-pub record Line (bytes : List ℕ) (says : ℕ → Statement) : Type 0 where
-  pub words : List (List ℕ)
-  pub text : line_of words ≡ bytes
-  pub is : IsLine words
-  pub read : (line : ℕ) → as_statement line (length words + 1) (read_from line words start 1) ≡ says line
-  pub prints : (line : ℕ) → words ≡ statement_words (says line)
-
-words_numbered : (at : ℕ) (whats : List What) → map (λ (item : Item). word_of item.what) (numbered at whats) ≡ map word_of whats
-words_numbered at [] = refl
-words_numbered at (says ∷ whats) = ap (λ words. word_of says ∷ words) (words_numbered (at + 1) whats)
+-- a line that is read as what it says, wherever it stands
+pub record IsLegible (l : TextLine) : Type 0 where
+  pub is : IsLine (line_words l)
+  pub read : (line : ℕ) → as_statement line (length (line_words l) + 1) (read_from line (line_words l) start 1) ≡ statement_of_line line l
 
 begun : (line at : ℕ) (word : List ℕ) (words : List (List ℕ)) (from to : GrammarPlace) → Begins from word to
     → read_from line (word ∷ words) from at ≡ read_from line words to (at + 1)
@@ -36,32 +28,26 @@ two_counted : (first second : List ℕ) (whats : List What) → length (first �
 two_counted first second whats = let e = length-map whats word_of in omega arith
 
 -- a line with one word before its part
-pub one_first : {from to : GrammarPlace} {text : List ℕ} {whats : List What} {most : ℕ} (word : List ℕ) → Begins start word from → IsPrinted word
-    → Part from to text whats most → end to ≡ None → most ≤ 60 → form_words to.form ≡ word ∷ []
-    → Line (word ++ (text ++ (10 ∷ []))) (λ line. statement_at line to.form 2 whats)
-one_first {from} {whats} word begins printed part done few starts =
+pub one_first : {from to : GrammarPlace} {whats : List What} {most : ℕ} (word : List ℕ) → Begins start word from → IsPrinted word
+    → Part from to whats most → end to ≡ None → most ≤ 60 → IsLegible (record { first = word ∷ []; form = to.form; whats = whats })
+one_first {from} {whats} word begins printed part done few =
     let words = map word_of whats in
     record {
-      words = word ∷ words;
-      text = ap (λ rest. word ++ rest) (ends_line part);
       is = record {
         some = omega arith;
         words = All-cons IsWord word words printed.word (are_words part);
         short = let a = printed.short in let b = is_short part in omega (arith, length-append word (rest_of words));
       };
       read = λ line. ap₂ (as_statement line) (one_counted word whats) (begun line 1 word words start from begins ∙ is_read part done line 2);
-      prints = λ line. sym (ap₂ (λ a b. a ++ b) starts (words_numbered 2 whats));
     }
 
 -- a line with two words before its part
-pub two_first : {mid from to : GrammarPlace} {text : List ℕ} {whats : List What} {most : ℕ} (first second : List ℕ) → Begins start first mid → Begins mid second from
-    → IsPrinted first → IsPrinted second → Part from to text whats most → end to ≡ None → most ≤ 60 → form_words to.form ≡ first ∷ second ∷ []
-    → Line (first ++ (32 ∷ (second ++ (text ++ (10 ∷ []))))) (λ line. statement_at line to.form 3 whats)
-two_first {mid} {from} {whats} first second begins goes_on of_first of_second part done few starts =
+pub two_first : {mid from to : GrammarPlace} {whats : List What} {most : ℕ} (first second : List ℕ) → Begins start first mid → Begins mid second from
+    → IsPrinted first → IsPrinted second → Part from to whats most → end to ≡ None → most ≤ 60
+    → IsLegible (record { first = first ∷ second ∷ []; form = to.form; whats = whats })
+two_first {mid} {from} {whats} first second begins goes_on of_first of_second part done few =
     let words = map word_of whats in
     record {
-      words = first ∷ second ∷ words;
-      text = ap (λ rest. first ++ (32 ∷ (second ++ rest))) (ends_line part);
       is = record {
         some = omega arith;
         words = All-cons IsWord first (second ∷ words) of_first.word (All-cons IsWord second words of_second.word (are_words part));
@@ -74,13 +60,18 @@ two_first {mid} {from} {whats} first second begins goes_on of_first of_second pa
       read = λ line.
           ap₂ (as_statement line) (two_counted first second whats)
           (begun line 1 first (second ∷ words) start mid begins ∙ begun line 2 second words mid from goes_on ∙ is_read part done line 3);
-      prints = λ line. sym (ap₂ (λ a b. a ++ b) starts (words_numbered 3 whats));
     }
 
--- the same bytes, parted otherwise
-pub same_line : {a b : List ℕ} {says : ℕ → Statement} → Line a says → a ≡ b → Line b says
-same_line line same = record { words = line.words; text = line.text ∙ same; is = line.is; read = line.read; prints = line.prints }
+-- a text of legible lines has the statements that they say
+are_lines : (lines : List TextLine) → All IsLegible lines → All IsLine (map line_words lines)
+are_lines [] legible = All-nil IsLine
+are_lines (l ∷ lines) legible =
+    All-cons IsLine (line_words l) (map line_words lines) (All-head IsLegible l lines legible).is (are_lines lines (All-tail IsLegible l lines legible))
 
--- the same line, which says the same
-pub same_says : {bytes : List ℕ} {f g : ℕ → Statement} → Line bytes f → ((line : ℕ) → f line ≡ g line) → Line bytes g
-same_says line same = record { words = line.words; text = line.text; is = line.is; read = λ n. line.read n ∙ same n; prints = λ n. line.prints n ∙ ap statement_words (same n) }
+say_these : (line : ℕ) (lines : List TextLine) → All IsLegible lines → line_statements line (map line_words lines) ≡ statements_from line lines
+say_these line [] legible = refl
+say_these line (l ∷ lines) legible =
+    ap₂ (λ s rest. s ∷ rest) ((All-head IsLegible l lines legible).read line) (say_these (line + 1) lines (All-tail IsLegible l lines legible))
+
+pub has_statements : (lines : List TextLine) → All IsLegible lines → statements_of (printed lines) ≡ statements_from 1 lines
+has_statements lines legible = lines_are_read (map line_words lines) (are_lines lines legible) ∙ say_these 1 lines legible

@@ -1,5 +1,5 @@
 -- Statements that are read one after the other, and those of the interface that is begun last.
-use Rattle.std.proofs.Common.{◌≡◌, ⊎_elim, ℕ, List, [], ◌∷◌, ◌++◌, length, Some, Result, Ok, Err, refl, ap, ◌∙◌, append_assoc}
+use Rattle.std.proofs.Common.{◌≡◌, ⊎_elim, ℕ, suc, ◌+◌, List, [], ◌∷◌, ◌++◌, length, Some, Result, Ok, Err, refl, ap, sym, ◌∙◌, subst, append_assoc, add-zero, arith}
 use Rattle.conf_lines.specs.declared.fault.ConfPlace.{ConfPlace}
 use Rattle.conf_lines.specs.declared.statement.Statement.{Statement}
 use Rattle.conf_tree.specs.declared.filter.Addresses.{Addresses}
@@ -13,7 +13,9 @@ use Rattle.conf_tree.specs.FilterStatements.{filter_read, read_filter}
 use Rattle.conf_tree.specs.Items.{name_at}
 use Rattle.conf_tree.specs.Reading.{read_form, read_statement, reading_from}
 use Rattle.conf_tree.specs.Tree.{Begun, interface_number, add_class, add_filter}
-use Rattle.conf_laws.specs.Statements.{class_form, filter_form}
+use Rattle.conf_tree.specs.Canonical.{class_form, filter_form}
+use Rattle.conf_tree.specs.Printed.{TextLine}
+use Rattle.conf_laws.specs.Statements.{statement_of_line, statements_from}
 use Rattle.conf_laws.proofs.NamesRead.{IsNew, interface_is}
 use Rattle.conf_laws.proofs.ListPlaces.{get_push, get_pushed, set_pushed}
 use Rattle.conf_laws.proofs.Types.{Branch}
@@ -36,6 +38,18 @@ pub reads_both : {before next last : List Begun} {xs ys : List Statement} → Re
 reads_both {before} {next} {last} {xs} {ys} a b = record {
   on = λ more. ap (λ l. reading_from before l) (append_assoc xs ys more) ∙ (a.on (ys ++ more) ∙ b.on more);
 }
+
+-- the statements of lines, and of those that follow them
+pub lines_append : (line : ℕ) (xs ys : List TextLine) → statements_from line (xs ++ ys) ≡ statements_from line xs ++ statements_from (line + length xs) ys
+lines_append line [] ys = ap (λ n. statements_from n ys) (sym (add-zero line))
+lines_append line (x ∷ xs) ys =
+    let n : line + 1 + length xs ≡ line + suc (length xs) = omega arith in
+    ap (λ rest. statement_of_line line x ∷ rest)
+    (lines_append (line + 1) xs ys ∙ ap (λ m. statements_from (line + 1) xs ++ statements_from m ys) n)
+
+pub reads_lines : {before next last : List Begun} (line : ℕ) (xs ys : List TextLine) → Reads before (statements_from line xs) next
+    → Reads next (statements_from (line + length xs) ys) last → Reads before (statements_from line (xs ++ ys)) last
+reads_lines {before} {last} line xs ys a b = subst (λ l. Reads before l last) (sym (lines_append line xs ys)) (reads_both a b)
 
 -- the forms of classes and of filters
 pub reads_class : (kind : Kind) (before : List Begun) (s : Statement) → read_form (class_form kind) before s ≡ read_class before kind s

@@ -33,7 +33,6 @@ ends_are = record {
   unended_word_is_faulty = refl;
   unended_word_is_mended = refl;
   ended_word_is_faulty = refl;
-  words_are_printed = refl;
 }
 
 pub names_are : NamesAre

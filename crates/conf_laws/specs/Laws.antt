@@ -14,7 +14,6 @@ use Rattle.conf_tree.specs.Canonical.{canonical_text}
 use Rattle.conf_tree.specs.Family.{default_class, is_queue_class}
 use Rattle.conf_tree.specs.Reading.{reading, IsConfiguration, HasFirstFault}
 use Rattle.conf_laws.specs.Fit.{AreFit}
-use Rattle.conf_laws.specs.Printed.{printed}
 use Rattle.conf_laws.specs.Statements.{canonical_statements}
 
 -- the interfaces of a text keep to the ranges, the limits and the tree
@@ -37,10 +36,6 @@ InterfacesHaveQueues =
 abbrev pub TextHasItsStatements : Type 0
 TextHasItsStatements = (interfaces : List Interface) → AreFit interfaces
     → statements_of (canonical_text interfaces) ≡ canonical_statements 1 interfaces
-
--- the canonical text is these statements printed: so text and items are one list of words
-abbrev pub TextIsPrinted : Type 0
-TextIsPrinted = (interfaces : List Interface) → AreFit interfaces → canonical_text interfaces ≡ printed (canonical_statements 1 interfaces)
 
 -- these statements are read as the configuration
 abbrev pub StatementsAreRead : Type 0

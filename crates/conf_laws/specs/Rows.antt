@@ -11,7 +11,6 @@ use Rattle.conf_tree.specs.declared.interface.Interface.{Interface}
 use Rattle.conf_tree.specs.Canonical.{canonical_text}
 use Rattle.conf_tree.specs.Reading.{reading}
 use Rattle.conf_laws.specs.Laws.{ends_word}
-use Rattle.conf_laws.specs.Printed.{printed}
 
 abbrev pub fault_of : List ℕ → Option ConfPlace
 fault_of text = elim (reading (statements_of text)) [ Ok interfaces ↦ None | Err fault ↦ Some fault ]
@@ -56,7 +55,6 @@ pub record EndsAre : Type 0 where
   pub unended_word_is_faulty : Faulty (codes "class hfs") 1 2 UnknownWord
   pub unended_word_is_mended : Faulty (codes "class hfsc") 1 3 MissingWord
   pub ended_word_is_faulty : Faulty (codes "class hfs c") 1 2 UnknownWord
-  pub words_are_printed : printed (statements_of (codes "interface\tif0  hfsc # a\n")) ≡ codes "interface if0 hfsc\n"
 
 -- NAME: 1 to 64 letters, digits and signs
 pub record NamesAre : Type 0 where

@@ -1,5 +1,5 @@
 //! Laws of configurations and of their canonical text.
-ghost use Rattle.conf_laws.specs.Laws.{ConfigurationsFit, FaultsStandAtWords, FaultsStandInTexts, InterfacesHaveQueues, StatementsAreRead, TextHasItsStatements, TextIsPrinted, TextsReadBack};
+ghost use Rattle.conf_laws.specs.Laws.{ConfigurationsFit, FaultsStandAtWords, FaultsStandInTexts, InterfacesHaveQueues, StatementsAreRead, TextHasItsStatements, TextsReadBack};
 
 use conf_lines::items_are_sound;
 
@@ -21,11 +21,6 @@ pub fn interfaces_have_queues()
 /// The canonical text has one statement on each line, which says what the configuration says.
 pub fn text_has_its_statements()
     ensures { TextHasItsStatements }
-{}
-
-/// The canonical text is its statements printed, word by word and line by line.
-pub fn text_is_printed()
-    ensures { TextIsPrinted }
 {}
 
 /// The statements of the canonical text are read as the configuration.

@@ -1,3 +1,4 @@
 pub mod Outcomes
 pub mod Positions
+pub mod PrintedLines
 pub mod StandingFaults

@@ -1,8 +1,13 @@
--- The canonical text of a configuration: for each interface its line, its classes and its filters, in the order of the text.
--- Words are parted by one space, each line ends with a line feed, and numbers are decimal. Implied classes are not written.
-use Rattle.std.specs.Prelude.{ℕ, ◌+◌, ◌*◌, ◌/◌, ◌^◌, Bool, true, false, List, [], ◌∷◌, ◌++◌, if◌then◌else◌, Option, Some, None, slice_get, slice_index, codes, decimal}
-use Rattle.std.specs.Fmt.{digits}
+-- The canonical text of a configuration: for each interface its line, its classes and its filters, in the order of the text. Each option
+-- that holds is written once; implied classes are not written.
+use Rattle.std.specs.Prelude.{ℕ, ◌/◌, ◌^◌, Bool, true, false, List, [], ◌∷◌, ◌++◌, if◌then◌else◌, Option, Some, None, slice_get, codes}
 use Rattle.service_curve.specs.declared.Curve.{Curve}
+use Rattle.conf_lines.specs.declared.item.Key.{Key}
+use Rattle.conf_lines.specs.declared.item.Key.TheVariants as key
+use Rattle.conf_lines.specs.declared.item.What.{What}
+use Rattle.conf_lines.specs.declared.item.What.TheVariants as what
+use Rattle.conf_lines.specs.declared.statement.Form.{Form}
+use Rattle.conf_lines.specs.declared.statement.Form.TheVariants as form
 use Rattle.conf_tree.specs.declared.class.Class.{Class}
 use Rattle.conf_tree.specs.declared.class.DropRule.{DropRule}
 use Rattle.conf_tree.specs.declared.class.DropRule.TheVariants.{Tail, Red, Ecn, Rio}
@@ -12,26 +17,7 @@ use Rattle.conf_tree.specs.declared.filter.Filter.{Filter}
 use Rattle.conf_tree.specs.declared.interface.Interface.{Interface}
 use Rattle.conf_tree.specs.declared.interface.Kind.{Kind}
 use Rattle.conf_tree.specs.declared.interface.Kind.TheVariants.{Hfsc, Cbq}
-
--- interface NAME bandwidth R hfsc, or cbq
-abbrev pub kind_word : Kind → List ℕ
-kind_word Hfsc = codes "hfsc"
-kind_word Cbq = codes "cbq"
-
-abbrev pub interface_line : Interface → List ℕ
-interface_line i =
-    codes "interface " ++ (i.name ++ (codes " bandwidth " ++ (decimal i.rate ++ (codes " " ++ (kind_word i.kind ++ codes "\n")))))
-
--- a word that is there if the condition is true
-abbrev pub word_where : List ℕ → Bool → List ℕ
-word_where word true = word
-word_where word false = []
-
-abbrev pub drop_word : DropRule → List ℕ
-drop_word Tail = []
-drop_word Red = codes " red"
-drop_word Ecn = codes " ecn"
-drop_word Rio = codes " rio"
+use Rattle.conf_tree.specs.Printed.{TextLine, printed}
 
 -- the name of the class of a number; NULL where there is none
 abbrev pub name_or_null : Option Class → List ℕ
@@ -45,127 +31,131 @@ abbrev pub parent_word : List Class → Option ℕ → List ℕ
 parent_word classes None = codes "NULL"
 parent_word classes (Some i) = class_word classes i
 
--- M1 D M2 behind a word, D in milliseconds
-abbrev pub curve_words : List ℕ → Option Curve → List ℕ
-curve_words word None = []
-curve_words word (Some s) =
-    word ++ (decimal s.m1 ++ (codes " " ++ (decimal (s.d / 10 ^ 6) ++ (codes " " ++ decimal s.m2))))
+-- interface NAME bandwidth R hfsc, or cbq
+abbrev pub kind_key : Kind → Key
+kind_key Hfsc = key.Hfsc
+kind_key Cbq = key.Cbq
 
--- class IF NAME PARENT, behind its first words
-abbrev pub class_words : List ℕ → List ℕ → List Class → Class → List ℕ
-class_words word interface classes c =
-    word ++ (interface ++ (codes " " ++ (c.name ++ (codes " " ++ parent_word classes c.parent))))
+abbrev pub interface_whats : Interface → List What
+interface_whats i = what.Name i.name ∷ what.Key key.Bandwidth ∷ what.Rate i.rate ∷ what.Key (kind_key i.kind) ∷ []
+
+abbrev pub interface_line : Interface → TextLine
+interface_line i = record { first = codes "interface" ∷ []; form = form.Interface; whats = interface_whats i }
+
+-- an option that is there if the condition is true
+abbrev pub key_where : Key → Bool → List What
+key_where key true = what.Key key ∷ []
+key_where key false = []
+
+abbrev pub drop_whats : DropRule → List What
+drop_whats Tail = []
+drop_whats Red = what.Key key.Red ∷ []
+drop_whats Ecn = what.Key key.Ecn ∷ []
+drop_whats Rio = what.Key key.Rio ∷ []
+
+-- a curve, with its bend in milliseconds
+abbrev pub curve_whats : Key → Option Curve → List What
+curve_whats key None = []
+curve_whats key (Some s) = what.Key key ∷ what.Rate s.m1 ∷ what.Whole (s.d / 10 ^ 6) ∷ what.Rate s.m2 ∷ []
 
 -- class hfsc IF NAME PARENT [rt M1 D M2] [ls M1 D M2] [ul M1 D M2] qlimit N [red | ecn | rio] [cleardscp] [default]
-abbrev pub hfsc_queue_words : Class → List ℕ
-hfsc_queue_words c =
-    codes " qlimit " ++ (decimal c.limit ++ (drop_word c.drop ++ (word_where (codes " cleardscp") c.clear ++ word_where (codes " default") c.is_default)))
+abbrev pub class_names : List ℕ → List Class → Class → List What
+class_names interface classes c = what.Name interface ∷ what.Name c.name ∷ what.Name (parent_word classes c.parent) ∷ []
 
-abbrev pub hfsc_line : List ℕ → List Class → Class → List ℕ
-hfsc_line interface classes c =
-    class_words (codes "class hfsc ") interface classes c
-    ++ (curve_words (codes " rt ") c.real ++ (curve_words (codes " ls ") c.share ++ (curve_words (codes " ul ") c.upper
-    ++ (hfsc_queue_words c ++ codes "\n"))))
+abbrev pub queue_options : Class → List What
+queue_options c = (what.Key key.Qlimit ∷ what.Whole c.limit ∷ []) ++ (drop_whats c.drop ++ key_where key.Cleardscp c.clear)
+
+abbrev pub hfsc_options : Class → List What
+hfsc_options c =
+    curve_whats key.Rt c.real ++ (curve_whats key.Ls c.share ++ (curve_whats key.Ul c.upper
+    ++ (queue_options c ++ key_where key.Default c.is_default)))
 
 -- class cbq IF NAME PARENT priority P exactbandwidth R [borrow] maxburst N packetsize N qlimit N [red | ecn | rio]
 -- [cleardscp] [control] [default]
-abbrev pub rate_words : Class → List ℕ
-rate_words c =
-    codes " priority " ++ (decimal c.priority ++ (codes " exactbandwidth " ++ (decimal c.rate ++ word_where (codes " borrow") c.borrow)))
+abbrev pub cbq_options : Class → List What
+cbq_options c =
+    (what.Key key.Priority ∷ what.Whole c.priority ∷ what.Key key.Exactbandwidth ∷ what.Rate c.rate ∷ [])
+    ++ (key_where key.Borrow c.borrow
+    ++ ((what.Key key.Maxburst ∷ what.Whole c.maxburst ∷ what.Key key.Packetsize ∷ what.Whole c.packetsize ∷ [])
+    ++ (queue_options c ++ (key_where key.Control c.control ++ key_where key.Default c.is_default))))
 
-abbrev pub burst_words : Class → List ℕ
-burst_words c = codes " maxburst " ++ (decimal c.maxburst ++ (codes " packetsize " ++ decimal c.packetsize))
+abbrev pub class_options : Kind → Class → List What
+class_options Hfsc c = hfsc_options c
+class_options Cbq c = cbq_options c
 
-abbrev pub cbq_queue_words : Class → List ℕ
-cbq_queue_words c =
-    codes " qlimit " ++ (decimal c.limit ++ (drop_word c.drop ++ (word_where (codes " cleardscp") c.clear
-    ++ (word_where (codes " control") c.control ++ word_where (codes " default") c.is_default))))
+abbrev pub class_form : Kind → Form
+class_form Hfsc = form.ClassHfsc
+class_form Cbq = form.ClassCbq
 
-abbrev pub cbq_line : List ℕ → List Class → Class → List ℕ
-cbq_line interface classes c =
-    class_words (codes "class cbq ") interface classes c ++ (rate_words c ++ (burst_words c ++ (cbq_queue_words c ++ codes "\n")))
+abbrev pub kind_word : Kind → List ℕ
+kind_word Hfsc = codes "hfsc"
+kind_word Cbq = codes "cbq"
 
-abbrev pub class_line : Kind → List ℕ → List Class → Class → List ℕ
-class_line Hfsc interface classes c = hfsc_line interface classes c
-class_line Cbq interface classes c = cbq_line interface classes c
+abbrev pub class_line : Kind → List ℕ → List Class → Class → TextLine
+class_line kind interface all c =
+    record { first = codes "class" ∷ kind_word kind ∷ []; form = class_form kind; whats = class_names interface all c ++ class_options kind c }
 
--- an IPv4 address: four numbers
-abbrev pub ip4_word : List ℕ → List ℕ
-ip4_word a =
-    decimal (slice_index a 0) ++ (codes "." ++ (decimal (slice_index a 1) ++ (codes "." ++ (decimal (slice_index a 2)
-    ++ (codes "." ++ decimal (slice_index a 3))))))
+-- filter IF CLASS ruleno N DST netmask M DPORT SRC netmask M SPORT PROTO [tos T tosmask M]
+-- filter6 IF CLASS ruleno N DST/L DPORT SRC/L SPORT PROTO [tclass T tclassmask M]
+abbrev pub tos_whats : Key → Key → Option (ℕ × ℕ) → List What
+tos_whats key mask_key None = []
+tos_whats key mask_key (Some (tos, mask)) = what.Key key ∷ what.Whole tos ∷ what.Key mask_key ∷ what.Whole mask ∷ []
 
--- an IPv6 address: eight groups in lower case, without leading zeros
-abbrev pub group : List ℕ → ℕ → ℕ
-group a i = slice_index a (2 * i) * 256 + slice_index a (2 * i + 1)
+abbrev pub end4_whats : List ℕ → List ℕ → ℕ → List What
+end4_whats address mask port = what.Ip4 address ∷ what.Key key.Netmask ∷ what.Ip4 mask ∷ what.Whole port ∷ []
 
-abbrev pub hex : ℕ → List ℕ
-hex n = digits 16 false n
+abbrev pub end6_whats : List ℕ → ℕ → ℕ → List What
+end6_whats address bits port = what.Ip6 address bits ∷ what.Whole port ∷ []
 
-abbrev pub groups : List ℕ → ℕ → List ℕ
-groups a i =
-    hex (group a i) ++ (codes ":" ++ (hex (group a (i + 1)) ++ (codes ":" ++ (hex (group a (i + 2)) ++ (codes ":" ++ hex (group a (i + 3)))))))
+abbrev pub filter_names : List ℕ → List ℕ → ℕ → List What
+filter_names interface class ruleno = what.Name interface ∷ what.Name class ∷ what.Key key.Ruleno ∷ what.Whole ruleno ∷ []
 
-abbrev pub ip6_word : List ℕ → List ℕ
-ip6_word a = groups a 0 ++ (codes ":" ++ groups a 4)
+abbrev pub parts_whats : Filter → Addresses → List What
+parts_whats f (V4 target target_mask source source_mask) =
+    end4_whats target target_mask f.target_port
+    ++ (end4_whats source source_mask f.source_port ++ (what.Whole f.protocol ∷ tos_whats key.Tos key.Tosmask f.tos))
+parts_whats f (V6 target target_len source source_len) =
+    end6_whats target target_len f.target_port
+    ++ (end6_whats source source_len f.source_port ++ (what.Whole f.protocol ∷ tos_whats key.Tclass key.Tclassmask f.tos))
 
--- tos T tosmask M, or tclass T tclassmask M, where given
-abbrev pub tos_words : Option (ℕ × ℕ) → List ℕ
-tos_words None = []
-tos_words (Some (tos, mask)) = codes " tos " ++ (decimal tos ++ (codes " tosmask " ++ decimal mask))
+abbrev pub filter_whats_by : List ℕ → List ℕ → Filter → Addresses → List What
+filter_whats_by interface class f addresses = filter_names interface class f.ruleno ++ parts_whats f addresses
 
-abbrev pub tclass_words : Option (ℕ × ℕ) → List ℕ
-tclass_words None = []
-tclass_words (Some (tos, mask)) = codes " tclass " ++ (decimal tos ++ (codes " tclassmask " ++ decimal mask))
+abbrev pub filter_form : Addresses → Form
+filter_form (V4 target target_mask source source_mask) = form.Filter
+filter_form (V6 target target_len source source_len) = form.Filter6
 
--- filter IF CLASS ruleno N, behind its first word
-abbrev pub filter_words : List ℕ → List ℕ → List ℕ → ℕ → List ℕ
-filter_words word interface class ruleno =
-    word ++ (interface ++ (codes " " ++ (class ++ (codes " ruleno " ++ decimal ruleno))))
+abbrev pub filter_word : Addresses → List ℕ
+filter_word (V4 target target_mask source source_mask) = codes "filter"
+filter_word (V6 target target_len source source_len) = codes "filter6"
 
--- DST netmask M DPORT, and so for the source
-abbrev pub end4_words : List ℕ → List ℕ → ℕ → List ℕ
-end4_words address mask port =
-    codes " " ++ (ip4_word address ++ (codes " netmask " ++ (ip4_word mask ++ (codes " " ++ decimal port))))
-
--- DST/L DPORT, and so for the source
-abbrev pub end6_words : List ℕ → ℕ → ℕ → List ℕ
-end6_words address bits port = codes " " ++ (ip6_word address ++ (codes "/" ++ (decimal bits ++ (codes " " ++ decimal port))))
-
--- PROTO, and then the TOS where given
-abbrev pub last_words : ℕ → List ℕ → List ℕ
-last_words protocol tos = codes " " ++ (decimal protocol ++ (tos ++ codes "\n"))
-
-abbrev pub filter_line_by : List ℕ → List ℕ → Filter → Addresses → List ℕ
-filter_line_by interface class f (V4 target target_mask source source_mask) =
-    filter_words (codes "filter ") interface class f.ruleno
-    ++ (end4_words target target_mask f.target_port
-    ++ (end4_words source source_mask f.source_port ++ last_words f.protocol (tos_words f.tos)))
-filter_line_by interface class f (V6 target target_len source source_len) =
-    filter_words (codes "filter6 ") interface class f.ruleno
-    ++ (end6_words target target_len f.target_port
-    ++ (end6_words source source_len f.source_port ++ last_words f.protocol (tclass_words f.tos)))
-
-abbrev pub filter_line : List ℕ → List Class → Filter → List ℕ
-filter_line interface classes f = filter_line_by interface (class_word classes f.class) f f.addresses
+abbrev pub filter_line : List ℕ → List Class → Filter → TextLine
+filter_line interface all f = record {
+  first = filter_word f.addresses ∷ [];
+  form = filter_form f.addresses;
+  whats = filter_whats_by interface (class_word all f.class) f f.addresses;
+}
 
 -- the lines of an interface
-abbrev pub class_lines : Kind → List ℕ → List Class → List Class → List ℕ
+abbrev pub class_lines : Kind → List ℕ → List Class → List Class → List TextLine
 class_lines kind interface all [] = []
-class_lines kind interface all (c ∷ classes) = class_line kind interface all c ++ class_lines kind interface all classes
+class_lines kind interface all (c ∷ classes) = class_line kind interface all c ∷ class_lines kind interface all classes
 
-abbrev pub filter_lines : List ℕ → List Class → List Filter → List ℕ
-filter_lines interface classes [] = []
-filter_lines interface classes (f ∷ filters) = filter_line interface classes f ++ filter_lines interface classes filters
+abbrev pub filter_lines : List ℕ → List Class → List Filter → List TextLine
+filter_lines interface all [] = []
+filter_lines interface all (f ∷ filters) = filter_line interface all f ∷ filter_lines interface all filters
 
 abbrev pub written_classes : Interface → List Class
 written_classes i = if i.implied then [] else i.classes
 
-abbrev pub interface_lines : Interface → List ℕ
+abbrev pub interface_lines : Interface → List TextLine
 interface_lines i =
-    interface_line i ++ (class_lines i.kind i.name i.classes (written_classes i) ++ filter_lines i.name i.classes i.filters)
+    interface_line i ∷ (class_lines i.kind i.name i.classes (written_classes i) ++ filter_lines i.name i.classes i.filters)
+
+abbrev pub canonical_lines : List Interface → List TextLine
+canonical_lines [] = []
+canonical_lines (i ∷ interfaces) = interface_lines i ++ canonical_lines interfaces
 
 -- the canonical text of a configuration
 abbrev pub canonical_text : List Interface → List ℕ
-canonical_text [] = []
-canonical_text (i ∷ interfaces) = interface_lines i ++ canonical_text interfaces
+canonical_text interfaces = printed (canonical_lines interfaces)

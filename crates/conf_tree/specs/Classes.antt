@@ -13,7 +13,7 @@ use Rattle.conf_tree.specs.Items.{name_at}
 use Rattle.conf_tree.specs.Places.{at_word, own_fault}
 use Rattle.conf_lines.specs.declared.fault.ConfKind.TheVariants.{MissingWord, NoInterface, WrongDiscipline, NameTaken, NoParent, TwoRoots, TooDeep, TooManyClasses, NoShare, RealTimeInside, InnerQueue}
 use Rattle.conf_tree.specs.Options.{set_options}
-use Rattle.conf_tree.specs.Settings.{unset}
+use Rattle.conf_tree.specs.Settings.{unset, rate_of_kind, of_kind, class_of}
 use Rattle.conf_tree.specs.Tree.{Begun, interface_number, class_number, add_class}
 
 abbrev pub is_hfsc : Kind → Bool
@@ -96,51 +96,12 @@ abbrev pub shape_named : Begun → Statement → List ℕ → Result Shape ConfP
 shape_named b s name =
     if is_some (class_number name b.classes) then Err (at_word s 4 NameTaken) else shape_under b s (name_at s.items 2)
 
--- the class of a name and a shape: what the other kind has is 0
+-- the class of a name and a shape, before others name it
 abbrev pub branch_of : Kind → List ℕ → Shape → Branch
-branch_of Hfsc name shape = record {
-  class = record {
-    name = name;
-    parent = shape.spot.parent;
-    real = shape.settings.real;
-    share = shape.settings.share;
-    upper = shape.settings.upper;
-    rate = 0;
-    priority = 0;
-    borrow = false;
-    control = false;
-    maxburst = 0;
-    packetsize = 0;
-    limit = shape.settings.limit;
-    drop = shape.settings.drop;
-    clear = shape.settings.clear;
-    is_default = shape.settings.is_default;
-  };
+branch_of kind name shape = record {
+  class = class_of name shape.spot.parent (rate_of_kind kind shape.rate) (of_kind kind shape.settings);
   level = shape.spot.level;
-  fixed = shape.settings.fixed;
-  inner = false;
-  filtered = false;
-}
-branch_of Cbq name shape = record {
-  class = record {
-    name = name;
-    parent = shape.spot.parent;
-    real = None;
-    share = None;
-    upper = None;
-    rate = shape.rate;
-    priority = shape.settings.priority;
-    borrow = shape.settings.borrow;
-    control = shape.settings.control;
-    maxburst = shape.settings.maxburst;
-    packetsize = shape.settings.packetsize;
-    limit = shape.settings.limit;
-    drop = shape.settings.drop;
-    clear = shape.settings.clear;
-    is_default = shape.settings.is_default;
-  };
-  level = shape.spot.level;
-  fixed = false;
+  fixed = (of_kind kind shape.settings).fixed;
   inner = false;
   filtered = false;
 }

@@ -11,6 +11,7 @@ pub mod Laws
 pub mod Masks
 pub mod Options
 pub mod Places
+pub mod Printed
 pub mod Reading
 pub mod Settings
 pub mod Tree

@@ -12,6 +12,9 @@ use Rattle.conf_lines.specs.Grammar.{is_convex}
 use Rattle.conf_lines.specs.declared.options.Slots.{Slots}
 use Rattle.conf_lines.specs.declared.options.Slots.TheVariants as slots
 use Rattle.conf_lines.specs.Options.{most_rate, most_bend, slots_of}
+use Rattle.conf_tree.specs.declared.class.Class.{Class}
+use Rattle.conf_tree.specs.declared.interface.Kind.{Kind}
+use Rattle.conf_tree.specs.declared.interface.Kind.TheVariants.{Hfsc, Cbq}
 use Rattle.conf_tree.specs.declared.class.DropRule.TheVariants.{Tail, Red, Ecn, Rio}
 use Rattle.conf_tree.specs.declared.settings.Scope.{Scope}
 use Rattle.conf_tree.specs.declared.settings.Settings.{Settings}
@@ -36,6 +39,35 @@ unset = record {
   drop = Tail;
   clear = false;
   is_default = false;
+}
+
+-- a class has nothing of what the options of the other kind set
+abbrev pub of_kind : Kind → Settings → Settings
+of_kind Hfsc s = record s { priority = 0; borrow = false; control = false; maxburst = 0; packetsize = 0 }
+of_kind Cbq s = record s { real = None; fixed = false; share = None; upper = None }
+
+abbrev pub rate_of_kind : Kind → ℕ → ℕ
+rate_of_kind Hfsc rate = 0
+rate_of_kind Cbq rate = rate
+
+-- the class of a name, a parent, a rate and settings
+abbrev pub class_of : List ℕ → Option ℕ → ℕ → Settings → Class
+class_of name parent rate s = record {
+  name = name;
+  parent = parent;
+  real = s.real;
+  share = s.share;
+  upper = s.upper;
+  rate = rate;
+  priority = s.priority;
+  borrow = s.borrow;
+  control = s.control;
+  maxburst = s.maxburst;
+  packetsize = s.packetsize;
+  limit = s.limit;
+  drop = s.drop;
+  clear = s.clear;
+  is_default = s.is_default;
 }
 
 -- the curve of m1, d in nanoseconds and m2: without a first piece, or with one slope, it is the line of slope m2

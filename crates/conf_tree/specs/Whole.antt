@@ -5,52 +5,20 @@ use Rattle.service_curve.specs.Curve.{straight}
 use Rattle.conf_lines.specs.declared.fault.ConfPlace.{ConfPlace}
 use Rattle.conf_tree.specs.declared.branch.Branch.{Branch}
 use Rattle.conf_tree.specs.declared.class.Class.{Class}
-use Rattle.conf_tree.specs.declared.class.DropRule.TheVariants.{Tail}
 use Rattle.conf_tree.specs.declared.interface.Interface.{Interface}
 use Rattle.conf_tree.specs.declared.interface.Kind.{Kind}
 use Rattle.conf_tree.specs.declared.interface.Kind.TheVariants.{Hfsc, Cbq}
 use Rattle.conf_tree.specs.Places.{fault_at}
 use Rattle.conf_lines.specs.declared.fault.ConfKind.TheVariants.{NoDefault}
+use Rattle.conf_tree.specs.Settings.{unset, of_kind, class_of}
 use Rattle.conf_tree.specs.Tree.{Begun}
 
 -- a class that is implied: the default class is the one with a parent
 abbrev pub implied_hfsc : List ℕ → Option ℕ → Option Curve → Class
-implied_hfsc name parent share = record {
-  name = name;
-  parent = parent;
-  real = None;
-  share = share;
-  upper = None;
-  rate = 0;
-  priority = 0;
-  borrow = false;
-  control = false;
-  maxburst = 0;
-  packetsize = 0;
-  limit = 50;
-  drop = Tail;
-  clear = false;
-  is_default = is_some parent;
-}
+implied_hfsc name parent share = class_of name parent 0 (record (of_kind Hfsc unset) { share = share; is_default = is_some parent })
 
 abbrev pub implied_cbq : List ℕ → Option ℕ → ℕ → Class
-implied_cbq name parent rate = record {
-  name = name;
-  parent = parent;
-  real = None;
-  share = None;
-  upper = None;
-  rate = rate;
-  priority = 0;
-  borrow = is_some parent;
-  control = false;
-  maxburst = 16;
-  packetsize = 1500;
-  limit = 50;
-  drop = Tail;
-  clear = false;
-  is_default = is_some parent;
-}
+implied_cbq name parent rate = class_of name parent rate (record (of_kind Cbq unset) { borrow = is_some parent; is_default = is_some parent })
 
 -- the implied classes: a root, and below it the default class with the whole bandwidth, which borrows in CBQ
 abbrev pub implied_classes : Kind → ℕ → List Class

@@ -4,7 +4,7 @@ ghost use Rattle.conf_tree.specs.Classes.{branch_of};
 
 use crate::class::Class;
 use crate::interface::Kind;
-use crate::settings::Shape;
+use crate::settings::{Shape, class_of, of_kind, rate_of_kind};
 use conf_lines::Text;
 use play_base::NoMemory;
 use std::alloc::Global;
@@ -33,72 +33,6 @@ pub(crate) fn text_of(alloc: Global, name: &str) -> Result<Text, NoMemory>
     }
 }
 
-/// An HFSC class.
-fn hfsc_class(name: Text, shape: Shape) -> Branch
-    ensures { result ≡ branch_of Kind.Hfsc name shape }
-{
-    let Shape { spot, settings, .. } = shape;
-    let class = Class {
-        name,
-        parent: spot.parent,
-        real: settings.real,
-        share: settings.share,
-        upper: settings.upper,
-        rate: 0,
-        priority: 0,
-        borrow: false,
-        control: false,
-        maxburst: 0,
-        packetsize: 0,
-        limit: settings.limit,
-        drop: settings.drop,
-        clear: settings.clear,
-        is_default: settings.is_default,
-    };
-    Branch {
-        class,
-        level: spot.level,
-        fixed: settings.fixed,
-        inner: false,
-        filtered: false,
-    }
-}
-
-/// A CBQ class.
-fn cbq_class(name: Text, shape: Shape) -> Branch
-    ensures { result ≡ branch_of Kind.Cbq name shape }
-{
-    let Shape {
-        spot,
-        settings,
-        rate,
-    } = shape;
-    let class = Class {
-        name,
-        parent: spot.parent,
-        real: None,
-        share: None,
-        upper: None,
-        rate,
-        priority: settings.priority,
-        borrow: settings.borrow,
-        control: settings.control,
-        maxburst: settings.maxburst,
-        packetsize: settings.packetsize,
-        limit: settings.limit,
-        drop: settings.drop,
-        clear: settings.clear,
-        is_default: settings.is_default,
-    };
-    Branch {
-        class,
-        level: spot.level,
-        fixed: false,
-        inner: false,
-        filtered: false,
-    }
-}
-
 /// The class of a name and a shape.
 pub(crate) fn branch_of(
     alloc: Global,
@@ -108,11 +42,18 @@ pub(crate) fn branch_of(
 ) -> Result<Branch, NoMemory>
     ensures { IfOk result (λ branch. branch ≡ branch_of kind name.now shape) }
 {
-    match text_of(alloc, name) {
-        Ok(name) => match kind {
-            Kind::Hfsc => Ok(hfsc_class(name, shape)),
-            Kind::Cbq => Ok(cbq_class(name, shape)),
-        },
-        Err(NoMemory) => Err(NoMemory),
-    }
+    let name = text_of(alloc, name)?;
+    let Shape {
+        spot,
+        settings,
+        rate,
+    } = shape;
+    let settings = of_kind(kind, settings);
+    Ok(Branch {
+        class: class_of(name, spot.parent, rate_of_kind(kind, rate), settings),
+        level: spot.level,
+        fixed: settings.fixed,
+        inner: false,
+        filtered: false,
+    })
 }

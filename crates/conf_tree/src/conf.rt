@@ -70,10 +70,8 @@ impl Conf {
     pub fn text(&self, alloc: Global) -> Result<Vec<u8>, NoMemory>
         ensures { IfOk result (λ text. text.items ≡ canonical_text self.now) }
     {
-        match text_of(alloc, self.interfaces.as_slice()) {
-            Ok(text) => Ok(text.into_bytes()),
-            Err(_) => Err(NoMemory),
-        }
+        let text = text_of(alloc, self.interfaces.as_slice())?;
+        Ok(text.into_bytes())
     }
 }
 

@@ -4,14 +4,14 @@
 
 mod branch;
 mod class;
+mod class_items;
 mod class_reading;
-mod class_text;
 mod conf;
 mod draft;
 mod filter;
+mod filter_items;
 mod filter_parts;
 mod filter_reading;
-mod filter_text;
 mod interface;
 mod interface_reading;
 mod items;
@@ -20,6 +20,7 @@ mod masks;
 mod names;
 mod options;
 mod places;
+mod printing;
 mod reading;
 mod settings;
 mod text;

@@ -2,13 +2,14 @@
 ghost use Rattle.std.specs.Prelude.{◌≡◌, ◌≤◌, IfSome, option_map, unwrap_or};
 ghost use Rattle.service_curve.specs.Curve.{straight};
 ghost use Rattle.conf_tree.specs.Items.{number_behind};
-ghost use Rattle.conf_tree.specs.Settings.{unset, made, curve_behind, percent, set_percent, set_default, set_queue, set_cbq, set_option, curve_in_slots};
+ghost use Rattle.conf_tree.specs.Settings.{unset, of_kind, rate_of_kind, class_of, made, curve_behind, percent, set_percent, set_default, set_queue, set_cbq, set_option, curve_in_slots};
 ghost use Rattle.std.specs.Option.{option_or};
 
-use crate::class::DropRule;
+use crate::class::{Class, DropRule};
+use crate::interface::Kind;
 use crate::items::{count_behind, number_at, number_behind, word_at};
 use crate::places::fault_at;
-use conf_lines::{ConfKind, ConfPlace, Item, Key, MOST_BEND, MOST_RATE, Slots};
+use conf_lines::{ConfKind, ConfPlace, Item, Key, MOST_BEND, MOST_RATE, Slots, Text};
 use service_curve::Curve;
 
 /// What the options of a class have set so far; `None` and false where they have not.
@@ -73,6 +74,62 @@ pub(crate) fn unset() -> Settings
         drop: DropRule::Tail,
         clear: false,
         is_default: false,
+    }
+}
+
+/// Without what the options of the other kind set.
+pub(crate) fn of_kind(kind: Kind, settings: Settings) -> Settings
+    ensures { result ≡ of_kind kind settings }
+{
+    match kind {
+        Kind::Hfsc => Settings {
+            priority: 0,
+            borrow: false,
+            control: false,
+            maxburst: 0,
+            packetsize: 0,
+            ..settings
+        },
+        Kind::Cbq => Settings {
+            real: None,
+            fixed: false,
+            share: None,
+            upper: None,
+            ..settings
+        },
+    }
+}
+
+/// The rate of a class, which is 0 in HFSC.
+pub(crate) fn rate_of_kind(kind: Kind, rate: u64) -> u64
+    ensures { result ≡ rate_of_kind kind rate }
+{
+    match kind {
+        Kind::Hfsc => 0,
+        Kind::Cbq => rate,
+    }
+}
+
+/// The class of a name, a parent, a rate and settings.
+pub(crate) fn class_of(name: Text, parent: Option<u32>, rate: u64, settings: Settings) -> Class
+    ensures { result ≡ class_of name parent rate settings }
+{
+    Class {
+        name,
+        parent,
+        real: settings.real,
+        share: settings.share,
+        upper: settings.upper,
+        rate,
+        priority: settings.priority,
+        borrow: settings.borrow,
+        control: settings.control,
+        maxburst: settings.maxburst,
+        packetsize: settings.packetsize,
+        limit: settings.limit,
+        drop: settings.drop,
+        clear: settings.clear,
+        is_default: settings.is_default,
     }
 }
 

@@ -1,29 +1,116 @@
 //! The canonical text.
-ghost use Rattle.std.specs.Prelude.{◌≡◌, ◌++◌, IfOk, OnOk, string_bytes};
-ghost use Rattle.conf_tree.specs.Canonical.{kind_word, interface_line, written_classes, interface_lines, canonical_text};
+ghost use Rattle.std.specs.Prelude.{◌≡◌, ◌∷◌, ◌++◌, [], IfOk, OnOk, string_bytes};
+ghost use Rattle.conf_tree.specs.Printed.{printed};
+ghost use Rattle.conf_tree.specs.Canonical.{kind_key, interface_whats, interface_line, class_line, class_lines, filter_line, filter_lines, written_classes, interface_lines, canonical_text};
 
+use crate::branch::text_of as name_of;
 use crate::class::Class;
-use crate::class_text::push_classes;
-use crate::filter_text::push_filters;
+use crate::class_items::{class_whats, push, push_with};
+use crate::filter::{Addresses, Filter};
+use crate::filter_items::filter_whats;
 use crate::interface::{Interface, Kind};
-use std::alloc::{AllocError, Global};
+use crate::printing::push_line;
+use conf_lines::{Key, What};
+use play_base::NoMemory;
+use std::alloc::Global;
 
-fn kind_word(kind: Kind) -> &'static str
-    ensures { result.now ≡ kind_word kind }
+/// What the line of an interface says.
+fn interface_whats(alloc: Global, interface: &Interface) -> Result<Vec<What>, NoMemory>
+    ensures { IfOk result (λ whats. whats.items ≡ interface_whats interface.now) }
 {
-    match kind {
-        Kind::Hfsc => "hfsc",
-        Kind::Cbq => "cbq",
-    }
+    let kind = match interface.kind {
+        Kind::Hfsc => Key::Hfsc,
+        Kind::Cbq => Key::Cbq,
+    };
+    let mut whats = Vec::new(alloc);
+    push(
+        &mut whats,
+        What::Name(name_of(alloc, interface.name.as_str())?),
+    )?;
+    push_with(&mut whats, Key::Bandwidth, What::Rate(interface.rate))?;
+    push(&mut whats, What::Key(kind))?;
+    Ok(whats)
 }
 
-fn interface_line(alloc: Global, interface: &Interface) -> Result<String, AllocError>
-    ensures { IfOk result (λ line. string_bytes line ≡ interface_line interface.now) }
+/// Writes the first line of an interface.
+fn push_first(alloc: Global, out: &mut String, interface: &Interface) -> Result<(), NoMemory>
+    ensures { OnOk result (string_bytes out.new ≡ string_bytes out.old ++ printed (interface_line interface.now ∷ [])) }
 {
-    let name = interface.name.as_str();
-    let rate = interface.rate;
-    let kind = kind_word(interface.kind);
-    format!(in alloc; "interface {name} bandwidth {rate} {kind}\n")
+    let whats = interface_whats(alloc, interface)?;
+    push_line(alloc, out, "interface", whats.as_slice())?;
+    Ok(())
+}
+
+/// Writes the line of a class of an interface, all of whose classes are given too.
+fn push_class(
+    alloc: Global,
+    out: &mut String,
+    kind: Kind,
+    interface: &str,
+    all: &[Class],
+    class: &Class,
+) -> Result<(), NoMemory>
+    ensures { OnOk result (string_bytes out.new ≡ string_bytes out.old ++ printed (class_line kind interface.now all.now class.now ∷ [])) }
+{
+    let first = match kind {
+        Kind::Hfsc => "class hfsc",
+        Kind::Cbq => "class cbq",
+    };
+    let whats = class_whats(alloc, kind, interface, all, class)?;
+    push_line(alloc, out, first, whats.as_slice())?;
+    Ok(())
+}
+
+/// Writes the lines of classes of an interface, all of whose classes are given too.
+fn push_classes(
+    alloc: Global,
+    out: &mut String,
+    kind: Kind,
+    interface: &str,
+    all: &[Class],
+    written: &[Class],
+) -> Result<(), NoMemory>
+    ensures { OnOk result (string_bytes out.new ≡ string_bytes out.old ++ printed (class_lines kind interface.now all.now written.now)) }
+{
+    for class in written {
+        push_class(alloc, out, kind, interface, all, class)?;
+    }
+    Ok(())
+}
+
+/// Writes the line of a filter of an interface with these classes.
+fn push_filter(
+    alloc: Global,
+    out: &mut String,
+    interface: &str,
+    all: &[Class],
+    filter: &Filter,
+) -> Result<(), NoMemory>
+    ensures { OnOk result (string_bytes out.new ≡ string_bytes out.old ++ printed (filter_line interface.now all.now filter.now ∷ [])) }
+{
+    let first = match filter.addresses {
+        Addresses::V4 { .. } => "filter",
+        Addresses::V6 { .. } => "filter6",
+    };
+    let whats = filter_whats(alloc, interface, all, filter)?;
+    push_line(alloc, out, first, whats.as_slice())?;
+    Ok(())
+}
+
+/// Writes the lines of filters of an interface with these classes.
+fn push_filters(
+    alloc: Global,
+    out: &mut String,
+    interface: &str,
+    all: &[Class],
+    filters: &[Filter],
+) -> Result<(), NoMemory>
+    ensures { OnOk result (string_bytes out.new ≡ string_bytes out.old ++ printed (filter_lines interface.now all.now filters.now)) }
+{
+    for filter in filters {
+        push_filter(alloc, out, interface, all, filter)?;
+    }
+    Ok(())
 }
 
 /// The classes that are written: none where they are implied.
@@ -38,11 +125,10 @@ fn written_classes(interface: &Interface) -> &[Class]
 }
 
 /// Writes the lines of an interface.
-fn push_interface(alloc: Global, out: &mut String, interface: &Interface) -> Result<(), AllocError>
-    ensures { OnOk result (string_bytes out.new ≡ string_bytes out.old ++ interface_lines interface.now) }
+fn push_interface(alloc: Global, out: &mut String, interface: &Interface) -> Result<(), NoMemory>
+    ensures { OnOk result (string_bytes out.new ≡ string_bytes out.old ++ printed (interface_lines interface.now)) }
 {
-    let line = interface_line(alloc, interface)?;
-    out.push_str(line.as_str())?;
+    push_first(alloc, out, interface)?;
     let name = interface.name.as_str();
     let all = interface.classes.as_slice();
     let written = written_classes(interface);
@@ -52,7 +138,7 @@ fn push_interface(alloc: Global, out: &mut String, interface: &Interface) -> Res
 }
 
 /// The canonical text of interfaces.
-pub(crate) fn text_of(alloc: Global, interfaces: &[Interface]) -> Result<String, AllocError>
+pub(crate) fn text_of(alloc: Global, interfaces: &[Interface]) -> Result<String, NoMemory>
     ensures { IfOk result (λ text. string_bytes text ≡ canonical_text interfaces.now) }
 {
     let mut out = String::new(alloc);

@@ -3,10 +3,11 @@ ghost use Rattle.std.specs.Prelude.{◌≡◌, ◌∷◌, [], IfOk, Some, None, 
 ghost use Rattle.conf_tree.specs.Whole.{implied_hfsc, implied_cbq, implied_classes, classes_of, whole, undecided, first_undecided};
 
 use crate::branch::{Branch, text_of};
-use crate::class::{Class, DropRule};
+use crate::class::Class;
 use crate::draft::Draft;
 use crate::interface::{ClassList, FilterList, Interface, Kind};
 use crate::places::fault_at;
+use crate::settings::{Settings, class_of, of_kind, unset};
 use conf_lines::{ConfKind, ConfPlace, Text};
 use play_base::NoMemory;
 use service_curve::Curve;
@@ -16,46 +17,24 @@ use std::alloc::Global;
 fn implied_hfsc(name: Text, parent: Option<u32>, share: Option<Curve>) -> Class
     ensures { result ≡ implied_hfsc name parent share }
 {
-    Class {
-        name,
-        parent,
-        real: None,
+    let settings = Settings {
         share,
-        upper: None,
-        rate: 0,
-        priority: 0,
-        borrow: false,
-        control: false,
-        maxburst: 0,
-        packetsize: 0,
-        limit: 50,
-        drop: DropRule::Tail,
-        clear: false,
         is_default: parent.is_some(),
-    }
+        ..of_kind(Kind::Hfsc, unset())
+    };
+    class_of(name, parent, 0, settings)
 }
 
 /// A class of CBQ that no statement names.
 fn implied_cbq(name: Text, parent: Option<u32>, rate: u64) -> Class
     ensures { result ≡ implied_cbq name parent rate }
 {
-    Class {
-        name,
-        parent,
-        real: None,
-        share: None,
-        upper: None,
-        rate,
-        priority: 0,
+    let settings = Settings {
         borrow: parent.is_some(),
-        control: false,
-        maxburst: 16,
-        packetsize: 1500,
-        limit: 50,
-        drop: DropRule::Tail,
-        clear: false,
         is_default: parent.is_some(),
-    }
+        ..of_kind(Kind::Cbq, unset())
+    };
+    class_of(name, parent, rate, settings)
 }
 
 /// The two implied classes of an interface.

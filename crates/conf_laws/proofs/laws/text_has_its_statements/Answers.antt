@@ -1,6 +1,7 @@
-use Rattle.conf_laws.proofs.CanonicalLines.{text_is_lines}
-use Rattle.conf_laws.proofs.TextLines.{has_statements}
+use Rattle.conf_tree.specs.Canonical.{canonical_lines}
+use Rattle.conf_laws.proofs.CanonicalLines.{lines_are_legible}
+use Rattle.conf_laws.proofs.StatementLines.{has_statements}
 use Rattle.conf_laws.proofs.laws.text_has_its_statements.Goals as goal
 
 pub returns : goal.returns
-returns c = λ interfaces fit. has_statements (text_is_lines interfaces fit)
+returns c = λ interfaces fit. has_statements (canonical_lines interfaces) (lines_are_legible interfaces fit)

@@ -1,0 +1,25 @@
+use Rattle.std.proofs.Common.{◌≡◌, ◌∷◌, ◌++◌, [], List, ℕ, string_bytes, append_assoc, ap, sym, ◌∙◌, refl}
+use Rattle.conf_tree.specs.declared.interface.Interface.{Interface}
+use Rattle.conf_tree.specs.Canonical.{interface_line, class_lines, filter_lines, written_classes, interface_lines}
+use Rattle.conf_tree.specs.Printed.{TextLine, printed}
+use Rattle.conf_tree.proofs.PrintedLines.{printed-append}
+use Rattle.conf_tree.proofs.text.push_interface.Goals as goal
+
+three : (old a b c : List ℕ) (first : TextLine) (classes filters : List TextLine) → a ≡ old ++ printed (first ∷ []) → b ≡ a ++ printed classes → c ≡ b ++ printed filters
+    → c ≡ old ++ printed (first ∷ (classes ++ filters))
+three old a b c first classes filters p q r =
+    let front = printed-append (first ∷ []) (classes ++ filters) in
+    let back = printed-append classes filters in
+    r ∙ ap (λ text. text ++ printed filters) (q ∙ ap (λ text. text ++ printed classes) p)
+    ∙ append_assoc (old ++ printed (first ∷ [])) (printed classes) (printed filters)
+    ∙ append_assoc old (printed (first ∷ [])) (printed classes ++ printed filters)
+    ∙ ap (λ text. old ++ text) (ap (λ text. printed (first ∷ []) ++ text) (sym back) ∙ sym front)
+
+pub returns : goal.returns
+returns c =
+    let i = c.args.interface.now in
+    three (string_bytes c.args.out.now) (string_bytes c.push_first.new.out) (string_bytes c.push_classes.new.out) (string_bytes c.push_filters.new.out)
+    (interface_line i) (class_lines i.kind i.name i.classes (written_classes i)) (filter_lines i.name i.classes i.filters)
+    c.in_ok-push_first.ensures
+    (rw (c.as_str-name.ensures, c.as_slice-all.ensures, c.written_classes-written.ensures) at c.in_ok-push_classes.ensures)
+    (rw (c.as_str-name.ensures, c.as_slice-all.ensures, c.as_slice.ensures) at c.in_ok-push_filters.ensures)
