@@ -7,7 +7,7 @@ use Rattle.conf_tree.specs.declared.class.Class.{Class}
 use Rattle.conf_tree.specs.declared.interface.Kind.{Kind}
 use Rattle.conf_tree.specs.declared.interface.Kind.TheVariants.{Hfsc, Cbq}
 use Rattle.conf_tree.specs.Canonical.{parent_word, class_options}
-use Rattle.conf_tree.specs.Classes.{same_kind, spot_of, scope_of, shape_of_kind, branch_of, read_branch}
+use Rattle.conf_tree.specs.Classes.{same_kind, spot_of, scope_of, rate_at_end, branch_of, read_branch}
 use Rattle.conf_tree.specs.Options.{set_options}
 use Rattle.conf_tree.specs.Settings.{unset}
 use Rattle.conf_tree.specs.Tree.{Begun, class_number}
@@ -41,10 +41,10 @@ some_share : (parent : Option ℕ) (c : Class) → c.parent ≡ parent → IsHfs
 some_share None c e h = refl
 some_share (Some p) c e h = has_some c.share (h.shared (λ n. let bad : None ≡ Some p = sym n ∙ e in cc))
 
-shape_is : (kind : Kind) (b : Begun) (s : Statement) (c : Class) (level : ℕ) → IsOfKind kind c
-    → shape_of_kind kind b s (spot c.parent level) (settings_of kind c) ≡ Ok (shape kind c level)
-shape_is Hfsc b s c level h = rw (some_share c.parent c refl h) refl
-shape_is Cbq b s c level h = refl
+rate_is : (kind : Kind) (b : Begun) (s : Statement) (c : Class) (level : ℕ) → IsOfKind kind c
+    → rate_at_end kind b s (spot c.parent level) (settings_of kind c) ≡ Ok (rate_of kind c)
+rate_is Hfsc b s c level h = rw (some_share c.parent c refl h) refl
+rate_is Cbq b s c level h = refl
 
 -- what the other kind has
 hfsc_is : (c : Class) (rate priority : ℕ) (borrow control : Bool) (maxburst packetsize : ℕ) → rate ≡ c.rate → priority ≡ c.priority → borrow ≡ c.borrow
@@ -72,5 +72,5 @@ branch_read b line interface all c level room new first limit own place =
     let full : nat_le 256 (length b.classes) ≡ false = grind (arith, nat_tests) in
     let set : set_options (scope_of b s) unset (numbered 6 (class_options b.kind c)) ≡ Ok (settings_of b.kind c) =
     options_read (scope_of b s) b.kind c 6 limit own first in
-    let made = shape_is b.kind b s c level own in
+    let made = rate_is b.kind b s c level own in
     rw (same_as_itself b.kind, full, new, place, set, made, branch_is b.kind c level own) refl

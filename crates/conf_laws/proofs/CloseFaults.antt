@@ -1,5 +1,5 @@
 -- Two statements that agree in their first items: where one has a fault among them, so has the other.
-use Rattle.std.proofs.Common.{◌≡◌, ◌⊎◌, inl, inr, ⊎_elim, ℕ, zero, suc, ◌+◌, ◌<◌, ◌≤◌, ◌&&◌, ◌||◌, ◌∙◌, Bool, true, false, cond, not, List, [], ◌∷◌, ◌++◌, length, drop, Option, Some, None, Result, Ok, Err, is_some, slice_get, bytes_eq, codes, nat_le, nat_lt, refl, sym, ap, subst, arith}
+use Rattle.std.proofs.Common.{◌≡◌, ◌⊎◌, inl, inr, ⊎_elim, ℕ, zero, suc, ◌+◌, ◌<◌, ◌≤◌, ◌&&◌, ◌||◌, ◌∙◌, Bool, true, false, cond, not, List, [], ◌∷◌, ◌++◌, length, drop, Option, Some, None, Result, Ok, Err, is_some, slice_get, nat_le, nat_lt, refl, sym, ap, subst, arith}
 use Rattle.std.proofs.lemmas.Bool.Decides.{nat_tests}
 use Rattle.conf_lines.specs.declared.fault.ConfPlace.{ConfPlace}
 use Rattle.conf_lines.specs.declared.item.Item.{Item}
@@ -12,30 +12,23 @@ use Rattle.conf_lines.specs.declared.statement.Form.TheVariants as form
 use Rattle.conf_lines.specs.declared.statement.Statement.{Statement}
 use Rattle.conf_lines.specs.Options.{most_rate}
 use Rattle.conf_lines.proofs.LineSplit.{AreLate, first_item}
-use Rattle.conf_tree.specs.declared.filter.Filter.{Filter}
 use Rattle.conf_tree.specs.declared.interface.Kind.{Kind}
 use Rattle.conf_tree.specs.declared.interface.Kind.TheVariants.{Hfsc, Cbq}
-use Rattle.conf_tree.specs.Classes.{is_hfsc, same_kind, below_at, below_number, spot_of, shape_by, scope_of, shape_at, shape_under, shape_named, branch_by, is_full, branch_named, read_branch, class_added, class_in, class_at, class_of_interface}
-use Rattle.conf_tree.specs.FilterStatements.{filter_to, filter_to_number, filter_to_name, filter_read, filter_added, filter_in, filter_at, filter_of_interface}
-use Rattle.conf_tree.specs.Interfaces.{kind_unless, begin_by, are_full, begin_named}
+use Rattle.conf_tree.specs.Classes.{is_hfsc, same_kind, spot_of, scope_of, shape_below, shape_of, is_full, class_named, read_branch, read_class}
+use Rattle.conf_tree.specs.FilterStatements.{filter_to, filter_named, filter_read, read_filter}
+use Rattle.conf_tree.specs.Interfaces.{interface_kind, are_full, read_interface}
 use Rattle.conf_tree.specs.Items.{name_in, name_at, number_behind}
 use Rattle.conf_tree.specs.Places.{fault_at, at_word, own_fault}
 use Rattle.conf_lines.specs.declared.fault.ConfKind.{ConfKind}
-use Rattle.conf_lines.specs.declared.fault.ConfKind.TheVariants.{MissingWord, RateRange, InterfaceTwice, NoInterface, WrongDiscipline, NameTaken, NoParent, TwoRoots, TooManyClasses, TooManyFilters, TooManyInterfaces, InnerQueue, TwoDefaults, NoClass}
+use Rattle.conf_lines.specs.declared.fault.ConfKind.TheVariants.{MissingWord, RateRange, InterfaceTwice, NoInterface, WrongDiscipline, NameTaken, TooManyClasses, TooManyFilters, TooManyInterfaces, InnerQueue, TwoDefaults, NoClass}
 use Rattle.conf_tree.specs.Options.{set_by_word, set_options}
 use Rattle.conf_tree.specs.Reading.{read_form}
 use Rattle.conf_tree.specs.Settings.{unset, percent, set_percent, set_default, set_option}
+use Rattle.conf_tree.specs.Tests.{◌>>=◌, some}
 use Rattle.conf_tree.specs.Tree.{Begun, interface_number, class_number}
-use Rattle.conf_laws.proofs.LateFaults.{From, Late, late_words, late_each, IsBehind, so_own, by_so, percent_so, after, after_so, options_so, under_so, branch_so, added_so, class_so, filter_unless_so, filter_name_so, filter_added_so, filter_so, kind_unless_so, begin_so, interface_so, drop_past}
-use Rattle.conf_laws.proofs.Types.{Branch, Settings, Scope, Spot, Shape}
-
--- the same answer, or both from a word on
-abbrev pub Close : {A : Type 0} → ℕ → Result A ConfPlace → Result A ConfPlace → Type 0
-Close m r t = (r ≡ t) ⊎ (Late m r × Late m t)
-
-close_cond : {A : Type 0} (m : ℕ) (t : Bool) (x y z w : Result A ConfPlace) → Close m x z → Close m y w → Close m (cond t x y) (cond t z w)
-close_cond m true x y z w p q = p
-close_cond m false x y z w p q = q
+use Rattle.conf_laws.proofs.InTurn.{so_whole, From, Close, CloseFault, close_some, close_refuse, close_next, close_late, close_same}
+use Rattle.conf_laws.proofs.LateFaults.{late_words, late_each, Each, IsBehind, so_own, percent_so, after, after_so, options_so, end_so, parent_so, named_so, class_so, filter_named_so, filter_so, kind_so, interface_so, drop_past}
+use Rattle.conf_laws.proofs.Types.{Branch, Settings, Scope}
 
 -- a statement by its parts
 abbrev pub stmt : ℕ → Form → List Item → ℕ → Option ConfPlace → Statement
@@ -164,39 +157,48 @@ drop_in (suc n) (item ∷ common) left h = drop_in n common left (omega arith)
 same_place : (s t : Statement) (word : ℕ) (kind : ConfKind) → s.line ≡ t.line → at_word s word kind ≡ at_word t word kind
 same_place s t word kind e = ap (λ line. fault_at line word kind) e
 
-close_place : {A : Type 0} (m : ℕ) (s t : Statement) (word : ℕ) (kind : ConfKind) → s.line ≡ t.line → Close {A = A} m (Err (at_word s word kind)) (Err (at_word t word kind))
-close_place m s t word kind e = inl (ap (λ x. Err x) (same_place s t word kind e))
+place_close : {m : ℕ} {common left right : List Item} {s t : Statement} → Two m common left right s t → (word : ℕ) (kind : ConfKind)
+    → CloseFault m (at_word s word kind) (at_word t word kind)
+place_close {s} {t} two word kind = inl (same_place s t word kind two.line)
+
+own_close : {m : ℕ} {common left right : List Item} {s t : Statement} → Two m common left right s t → CloseFault m (own_fault s) (own_fault t)
+own_close {m} {s} {t} two = inr (so_own (From m) s two.left_behind, so_own (From m) t two.right_behind)
+
+-- so many items agree, or the word is near
+abbrev Few : ℕ → ℕ → List Item → Type 0
+Few m offset common = offset + length common ≡ m
+
+within_or_not : (n k : ℕ) → (n < k) ⊎ (k ≤ n)
+within_or_not n k = by (nat_lt n k) refl
+  where
+    by : (b : Bool) → nat_lt n k ≡ b → (n < k) ⊎ (k ≤ n)
+    by true e = inl (grind (arith, nat_tests))
+    by false e = inr (grind (arith, nat_tests))
+
+-- what stands from a word on, of either
+far_items : {m : ℕ} {common left right : List Item} {s t : Statement} → Two m common left right s t → length common ≤ 3
+    → Each (From m) s.line (drop 3 s.items) × Each (From m) t.line (drop 3 t.items)
+far_items {m} {common} {left} {right} {s} {t} two few =
+    (late_each m s.line (drop 3 s.items) (left_past m 3 common left right s t two few), late_each m t.line (drop 3 t.items) (right_past m 3 common left right s t two few))
+
+cond_close : (m : ℕ) (a d : Bool) (f g h k : ConfPlace) → a ≡ d → CloseFault m f g → CloseFault m h k → CloseFault m (cond a f h) (cond d g k)
+cond_close m true true f g h k e p q = p
+cond_close m false false f g h k e p q = q
+cond_close m true false f g h k e p q = cc
+cond_close m false true f g h k e p q = cc
+
+-- both have a word of this number
+same_end : {m : ℕ} {common left right : List Item} {s t : Statement} → Two m common left right s t → (n : ℕ) → n < m → nat_lt n s.end ≡ nat_lt n t.end
+same_end {s} {t} two n far =
+    let end_left = two.left_behind.end MissingWord in
+    let end_right = two.right_behind.end MissingWord in
+    let here : nat_lt n s.end ≡ true = grind (arith, nat_tests) in
+    let there : nat_lt n t.end ≡ true = grind (arith, nat_tests) in
+    here ∙ sym there
 
 -- A CLASS
-same_at : (kind : Kind) (s t : Statement) (i : ℕ) (o : Option Branch) → s.line ≡ t.line → below_at kind s i o ≡ below_at kind t i o
-same_at kind s t i None e = ap (λ x. Err x) (same_place s t 5 NoParent e)
-same_at kind s t i (Some c) e = ap (λ line. below_at kind (stmt line s.form s.items s.end s.fault) i (Some c)) e
-
-same_number : (b : Begun) (s t : Statement) (o : Option ℕ) → s.line ≡ t.line → below_number b s o ≡ below_number b t o
-same_number b s t None e = ap (λ x. Err x) (same_place s t 5 NoParent e)
-same_number b s t (Some i) e = same_at b.kind s t i (slice_get b.classes i) e
-
-pub same_cond : {A : Type 0} (a : Bool) (x y z w : A) → x ≡ z → y ≡ w → cond a x y ≡ cond a z w
-same_cond true x y z w p q = p
-same_cond false x y z w p q = q
-
-pub same_spot : (b : Begun) (s t : Statement) (parent : List ℕ) → s.line ≡ t.line → spot_of b s parent ≡ spot_of b t parent
-same_spot b s t parent e =
-    same_cond (bytes_eq parent (codes "NULL")) _ _ _ _
-    (same_cond b.rooted _ _ _ _ (ap (λ x. Err x) (same_place s t 5 TwoRoots e)) refl)
-    (same_number b s t (class_number parent b.classes) e)
-
-by_close : (m : ℕ) (b : Begun) (s t : Statement) (spot : Spot) (r u : Result Settings ConfPlace) → IsBehind (From m) s → IsBehind (From m) t → Close m r u
-    → Close m (shape_by b s spot r) (shape_by b t spot u)
-by_close m b s t spot r u h k close =
-    ⊎_elim
-    (λ e. subst (λ x. Close m (shape_by b s spot r) (shape_by b t spot x)) e (same r))
-    (λ late. inr (by_so (From m) b s spot r h late.0, by_so (From m) b t spot u k late.1))
-    close
-  where
-    same : (r : Result Settings ConfPlace) → Close m (shape_by b s spot r) (shape_by b t spot r)
-    same (Err fault) = inl refl
-    same (Ok settings) = inr (by_so (From m) b s spot (Ok settings) h tt, by_so (From m) b t spot (Ok settings) k tt)
+same_spot : (b : Begun) (s t : Statement) (parent : List ℕ) → s.line ≡ t.line → spot_of b s parent ≡ spot_of b t parent
+same_spot b s t parent e = ap (λ line. spot_of b (stmt line s.form s.items s.end s.fault) parent) e
 
 set_close : (m : ℕ) (b : Begun) (common left right : List Item) (s t : Statement) → Two m common left right s t → 3 ≤ length common
     → Close m (set_options (scope_of b s) unset (drop 3 s.items)) (set_options (scope_of b t) unset (drop 3 t.items))
@@ -206,271 +208,125 @@ set_close m b common left right s t two h =
     let scope : scope_of b s ≡ scope_of b t = ap (λ line. scope_of b (stmt line s.form s.items s.end s.fault)) two.line in
     rw (here, there, scope) (options_close m (scope_of b t) unset unset (drop 3 common) left right refl two.left_late two.right_late)
 
-at_close : (m : ℕ) (b : Begun) (common left right : List Item) (s t : Statement) (r : Result Spot ConfPlace) → Two m common left right s t → 3 ≤ length common
-    → Close m (shape_at b s r) (shape_at b t r)
-at_close m b common left right s t (Err fault) two h = inl refl
-at_close m b common left right s t (Ok spot) two h =
-    by_close m b s t spot (set_options (scope_of b s) unset (drop 3 s.items)) (set_options (scope_of b t) unset (drop 3 t.items)) two.left_behind two.right_behind
-    (set_close m b common left right s t two h)
+below_close : {m : ℕ} {common left right : List Item} {s t : Statement} (b : Begun) (parent : List ℕ) → Two m common left right s t → 3 ≤ length common
+    → Close m (shape_below b s parent) (shape_below b t parent)
+below_close {m} {common} {left} {right} {s} {t} b parent two three =
+    close_next m (spot_of b s parent) (spot_of b t parent) _ _ (same_spot b s t parent two.line) (λ spot.
+    close_late m (set_options (scope_of b s) unset (drop 3 s.items)) (set_options (scope_of b t) unset (drop 3 t.items)) _ _
+    (set_close m b common left right s t two three)
+    (λ settings. end_so (From m) b s spot settings two.left_behind) (λ settings. end_so (From m) b t spot settings two.right_behind))
 
-named_close : (m : ℕ) (b : Begun) (common left right : List Item) (s t : Statement) (o : Option (List ℕ)) → Two m common left right s t → 3 ≤ length common
-    → Close m (shape_under b s o) (shape_under b t o)
-named_close m b common left right s t None two h = inr (so_own (From m) s two.left_behind, so_own (From m) t two.right_behind)
-named_close m b common left right s t (Some parent) two h =
-    subst (λ r. Close m (shape_at b s (spot_of b s parent)) (shape_at b t r)) (same_spot b s t parent two.line)
-    (at_close m b common left right s t (spot_of b s parent) two h)
-
--- so many items agree, or the word is near
-abbrev Few : ℕ → ℕ → List Item → Type 0
-Few m offset common = offset + length common ≡ m
-
-under_close : (m : ℕ) (b : Begun) (common left right : List Item) (s t : Statement) → Two m common left right s t → Few m 3 common
-    → (nat_lt 2 (length common) ≡ true) ⊎ (nat_lt 2 (length common) ≡ false)
-    → Close m (shape_under b s (name_at s.items 2)) (shape_under b t (name_at t.items 2))
-under_close m b common left right s t two few tests =
+parent_close : {m : ℕ} {common left right : List Item} {s t : Statement} (b : Begun) → Two m common left right s t → Few m 3 common
+    → Close m (some (name_at s.items 2) (own_fault s) >>= (λ parent. shape_below b s parent)) (some (name_at t.items 2) (own_fault t) >>= (λ parent. shape_below b t parent))
+parent_close {m} {common} {left} {right} {s} {t} b two few =
     ⊎_elim
-    (λ e.
-    let some : 2 < length common = grind (arith, nat_tests) in
-    let three : 3 ≤ length common = omega arith in
-    subst (λ o. Close m (shape_under b s (name_at s.items 2)) (shape_under b t o)) (name_there m 2 common left right s t two some)
-    (named_close m b common left right s t (name_at s.items 2) two three))
-    (λ e.
-    let none : length common ≤ 2 = grind (arith, nat_tests) in
+    (λ some.
+    close_some m (name_at s.items 2) (name_at t.items 2) _ _ _ _ (name_there m 2 common left right s t two some) (own_close two)
+    (λ parent. below_close b parent two (omega arith)))
+    (λ none.
     let near : m ≤ 5 = omega arith in
-    let all : length common ≤ 3 = omega arith in
-    inr (
-      under_so (From m) b s (name_at s.items 2) (late_words m 5 s near) two.left_behind (late_each m s.line (drop 3 s.items) (left_past m 3 common left right s t two all)),
-      under_so (From m) b t (name_at t.items 2) (late_words m 5 t near) two.right_behind (late_each m t.line (drop 3 t.items) (right_past m 3 common left right s t two all)),
-    ))
-    tests
+    let far = far_items two (omega arith) in
+    inr (parent_so (From m) b s (late_words m 5 s near) two.left_behind far.0, parent_so (From m) b t (late_words m 5 t near) two.right_behind far.1))
+    (within_or_not 2 (length common))
 
-either : (b : Bool) → (b ≡ true) ⊎ (b ≡ false)
-either true = inl refl
-either false = inr refl
-
-by_name_close : (m : ℕ) (kind : Kind) (name : List ℕ) (r u : Result Shape ConfPlace) → Close m r u → Close m (branch_by kind name r) (branch_by kind name u)
-by_name_close m kind name r u close =
-    ⊎_elim (λ e. inl (ap (λ x. branch_by kind name x) e)) (λ late. inr (one r late.0, one u late.1)) close
-  where
-    one : (r : Result Shape ConfPlace) → Late m r → Late m (branch_by kind name r)
-    one (Err fault) h = h
-    one (Ok shape) h = tt
-
-and_true : (a b : Bool) → b ≡ true → (a && b) ≡ a
-and_true true b e = e
-and_true false b e = refl
-
-full_close : (m : ℕ) (b : Begun) (s t : Statement) (a d : Bool) → s.line ≡ t.line → IsBehind (From m) s → IsBehind (From m) t → a ≡ d
-    → Close {A = Branch} m (cond a (Err (at_word s 4 TooManyClasses)) (Err (own_fault s))) (cond d (Err (at_word t 4 TooManyClasses)) (Err (own_fault t)))
-full_close m b s t true true line h k e = close_place m s t 4 TooManyClasses line
-full_close m b s t false false line h k e = inr (so_own (From m) s h, so_own (From m) t k)
-full_close m b s t true false line h k e = cc
-full_close m b s t false true line h k e = cc
-
-branch_of_close : (m : ℕ) (b : Begun) (common left right : List Item) (s t : Statement) (o : Option (List ℕ)) → Two m common left right s t → Few m 3 common
-    → 5 ≤ m → Close m (branch_named b s o) (branch_named b t o)
-branch_of_close m b common left right s t None two few far =
-    let end_left : m ≤ s.end = two.left_behind.end MissingWord in
-    let end_right : m ≤ t.end = two.right_behind.end MissingWord in
-    let here : nat_lt 4 s.end ≡ true = grind (arith, nat_tests) in
-    let there : nat_lt 4 t.end ≡ true = grind (arith, nat_tests) in
-    full_close m b s t (is_full b && nat_lt 4 s.end) (is_full b && nat_lt 4 t.end) two.line two.left_behind two.right_behind (ap (λ x. is_full b && x) (here ∙ sym there))
-branch_of_close m b common left right s t (Some name) two few far =
-    close_cond m (is_full b) _ _ _ _ (close_place m s t 4 TooManyClasses two.line)
-    (by_name_close m b.kind name (shape_named b s name) (shape_named b t name)
-    (close_cond m (is_some (class_number name b.classes)) _ _ _ _ (close_place m s t 4 NameTaken two.line)
-    (under_close m b common left right s t two few (either (nat_lt 2 (length common))))))
-
-branch_close : (m : ℕ) (b : Begun) (common left right : List Item) (s t : Statement) → Two m common left right s t → Few m 3 common
-    → (nat_lt 1 (length common) ≡ true) ⊎ (nat_lt 1 (length common) ≡ false)
-    → Close m (branch_named b s (name_at s.items 1)) (branch_named b t (name_at t.items 1))
-branch_close m b common left right s t two few tests =
+named_close : {m : ℕ} {common left right : List Item} {s t : Statement} (b : Begun) → Two m common left right s t → Few m 3 common
+    → Close m (class_named b s) (class_named b t)
+named_close {m} {common} {left} {right} {s} {t} b two few =
     ⊎_elim
-    (λ e.
-    let some : 1 < length common = grind (arith, nat_tests) in
-    let far : 5 ≤ m = omega arith in
-    subst (λ o. Close m (branch_named b s (name_at s.items 1)) (branch_named b t o)) (name_there m 1 common left right s t two some)
-    (branch_of_close m b common left right s t (name_at s.items 1) two few far))
-    (λ e.
-    let none : length common ≤ 1 = grind (arith, nat_tests) in
+    (λ some.
+    let ends = same_end two 4 (omega arith) in
+    close_some m (name_at s.items 1) (name_at t.items 1) _ _ _ _ (name_there m 1 common left right s t two some)
+    (cond_close m (is_full b && nat_lt 4 s.end) (is_full b && nat_lt 4 t.end) _ _ _ _ (ap (λ x. is_full b && x) ends) (place_close two 4 TooManyClasses) (own_close two))
+    (λ name.
+    close_refuse m (is_full b) _ _ _ _ (place_close two 4 TooManyClasses)
+    (close_same m (shape_of b s name) (shape_of b t name) _
+    (close_refuse m (is_some (class_number name b.classes)) _ _ _ _ (place_close two 4 NameTaken) (parent_close b two few)) (λ shape. tt))))
+    (λ none.
     let near : m ≤ 4 = omega arith in
-    let all : length common ≤ 3 = omega arith in
-    inr (
-      branch_so (From m) b s (name_at s.items 1) (late_words m 4 s near) two.left_behind (late_each m s.line (drop 3 s.items) (left_past m 3 common left right s t two all)),
-      branch_so (From m) b t (name_at t.items 1) (late_words m 4 t near) two.right_behind (late_each m t.line (drop 3 t.items) (right_past m 3 common left right s t two all)),
-    ))
-    tests
+    let far = far_items two (omega arith) in
+    inr (named_so (From m) b s (late_words m 4 s near) two.left_behind far.0, named_so (From m) b t (late_words m 4 t near) two.right_behind far.1))
+    (within_or_not 1 (length common))
 
-read_close : (m : ℕ) (b : Begun) (kind : Kind) (common left right : List Item) (s t : Statement) → Two m common left right s t → Few m 3 common
-    → Close m (read_branch b kind s) (read_branch b kind t)
-read_close m b kind common left right s t two few =
-    close_cond m (not (same_kind kind b.kind)) _ _ _ _ (close_place m s t 3 WrongDiscipline two.line)
-    (branch_close m b common left right s t two few (either (nat_lt 1 (length common))))
-
-added_close : (m : ℕ) (before : List Begun) (i : ℕ) (b : Begun) (r u : Result Branch ConfPlace) → Close m r u
-    → Close m (class_added before i b r) (class_added before i b u)
-added_close m before i b r u close =
-    ⊎_elim (λ e. inl (ap (λ x. class_added before i b x) e)) (λ late. inr (added_so (From m) before i b r late.0, added_so (From m) before i b u late.1)) close
-
-in_close : (m : ℕ) (before : List Begun) (kind : Kind) (common left right : List Item) (s t : Statement) (i : ℕ) (o : Option Begun)
-    → Two m common left right s t → Few m 3 common → Close m (class_in before kind s i o) (class_in before kind t i o)
-in_close m before kind common left right s t i None two few = close_place m s t 3 NoInterface two.line
-in_close m before kind common left right s t i (Some b) two few =
-    added_close m before i b (read_branch b kind s) (read_branch b kind t) (read_close m b kind common left right s t two few)
-
-number_close : (m : ℕ) (before : List Begun) (kind : Kind) (common left right : List Item) (s t : Statement) (o : Option ℕ)
-    → Two m common left right s t → Few m 3 common → Close m (class_at before kind s o) (class_at before kind t o)
-number_close m before kind common left right s t None two few = close_place m s t 3 NoInterface two.line
-number_close m before kind common left right s t (Some i) two few = in_close m before kind common left right s t i (slice_get before i) two few
-
-class_by_close : (m : ℕ) (before : List Begun) (kind : Kind) (common left right : List Item) (s t : Statement) (o : Option (List ℕ))
-    → Two m common left right s t → Few m 3 common → Close m (class_of_interface before kind s o) (class_of_interface before kind t o)
-class_by_close m before kind common left right s t None two few = inr (so_own (From m) s two.left_behind, so_own (From m) t two.right_behind)
-class_by_close m before kind common left right s t (Some name) two few = number_close m before kind common left right s t (interface_number name before) two few
-
-class_close : (m : ℕ) (before : List Begun) (kind : Kind) (common left right : List Item) (s t : Statement) → Two m common left right s t → Few m 3 common
-    → (nat_lt 0 (length common) ≡ true) ⊎ (nat_lt 0 (length common) ≡ false)
-    → Close m (class_of_interface before kind s (name_at s.items 0)) (class_of_interface before kind t (name_at t.items 0))
-class_close m before kind common left right s t two few tests =
+class_close : {m : ℕ} {common left right : List Item} {s t : Statement} (before : List Begun) (kind : Kind) → Two m common left right s t → Few m 3 common
+    → Close m (read_class before kind s) (read_class before kind t)
+class_close {m} {common} {left} {right} {s} {t} before kind two few =
     ⊎_elim
-    (λ e.
-    let some : 0 < length common = grind (arith, nat_tests) in
-    subst (λ o. Close m (class_of_interface before kind s (name_at s.items 0)) (class_of_interface before kind t o)) (name_there m 0 common left right s t two some)
-    (class_by_close m before kind common left right s t (name_at s.items 0) two few))
-    (λ e.
-    let none : length common ≤ 0 = grind (arith, nat_tests) in
+    (λ some.
+    close_some m (name_at s.items 0) (name_at t.items 0) _ _ _ _ (name_there m 0 common left right s t two some) (own_close two) (λ name.
+    close_some m (interface_number name before) (interface_number name before) _ _ _ _ refl (place_close two 3 NoInterface) (λ i.
+    close_some m (slice_get before i) (slice_get before i) _ _ _ _ refl (place_close two 3 NoInterface) (λ b.
+    close_same m (read_branch b kind s) (read_branch b kind t) _
+    (close_refuse m (not (same_kind kind b.kind)) _ _ _ _ (place_close two 3 WrongDiscipline) (named_close b two few)) (λ c. tt)))))
+    (λ none.
     let near : m ≤ 3 = omega arith in
-    let all : length common ≤ 3 = omega arith in
-    inr (
-      class_so (From m) before kind s (name_at s.items 0) (late_words m 3 s near) two.left_behind (late_each m s.line (drop 3 s.items) (left_past m 3 common left right s t two all)),
-      class_so (From m) before kind t (name_at t.items 0) (late_words m 3 t near) two.right_behind (late_each m t.line (drop 3 t.items) (right_past m 3 common left right s t two all)),
-    ))
-    tests
+    let far = far_items two (omega arith) in
+    inr (class_so (From m) before kind s (late_words m 3 s near) two.left_behind far.0, class_so (From m) before kind t (late_words m 3 t near) two.right_behind far.1))
+    (within_or_not 0 (length common))
 
 -- A FILTER
-to_close : (m : ℕ) (kind : Kind) (common left right : List Item) (s t : Statement) (i : ℕ) (o : Option Branch) → Two m common left right s t
-    → Close m (filter_to kind s i o) (filter_to kind t i o)
-to_close m kind common left right s t i None two = close_place m s t 3 NoClass two.line
-to_close m kind common left right s t i (Some c) two =
-    close_cond m (is_hfsc kind && c.inner) _ _ _ _ (close_place m s t 3 InnerQueue two.line)
-    (inr (filter_unless_so (From m) s i s.fault two.left_behind.fault, filter_unless_so (From m) t i t.fault two.right_behind.fault))
+to_close : {m : ℕ} {common left right : List Item} {s t : Statement} (kind : Kind) (i : ℕ) (c : Branch) → Two m common left right s t
+    → Close m (filter_to kind s i c) (filter_to kind t i c)
+to_close {m} {s} {t} kind i c two =
+    close_refuse m (is_hfsc kind && c.inner) _ _ _ _ (place_close two 3 InnerQueue)
+    (inr (so_whole (From m) s.fault _ two.left_behind.fault tt, so_whole (From m) t.fault _ two.right_behind.fault tt))
 
-to_number_close : (m : ℕ) (b : Begun) (common left right : List Item) (s t : Statement) (o : Option ℕ) → Two m common left right s t
-    → Close m (filter_to_number b s o) (filter_to_number b t o)
-to_number_close m b common left right s t None two = close_place m s t 3 NoClass two.line
-to_number_close m b common left right s t (Some i) two = to_close m b.kind common left right s t i (slice_get b.classes i) two
-
-to_name_close : (m : ℕ) (b : Begun) (common left right : List Item) (s t : Statement) (o : Option (List ℕ)) → Two m common left right s t
-    → Close m (filter_to_name b s o) (filter_to_name b t o)
-to_name_close m b common left right s t None two = inr (so_own (From m) s two.left_behind, so_own (From m) t two.right_behind)
-to_name_close m b common left right s t (Some name) two = to_number_close m b common left right s t (class_number name b.classes) two
-
-names_close : (m : ℕ) (b : Begun) (common left right : List Item) (s t : Statement) → Two m common left right s t → Few m 2 common
-    → (nat_lt 1 (length common) ≡ true) ⊎ (nat_lt 1 (length common) ≡ false)
-    → Close m (filter_to_name b s (name_at s.items 1)) (filter_to_name b t (name_at t.items 1))
-names_close m b common left right s t two few tests =
+filter_named_close : {m : ℕ} {common left right : List Item} {s t : Statement} (b : Begun) → Two m common left right s t → Few m 2 common
+    → Close m (filter_named b s) (filter_named b t)
+filter_named_close {m} {common} {left} {right} {s} {t} b two few =
     ⊎_elim
-    (λ e.
-    let some : 1 < length common = grind (arith, nat_tests) in
-    subst (λ o. Close m (filter_to_name b s (name_at s.items 1)) (filter_to_name b t o)) (name_there m 1 common left right s t two some)
-    (to_name_close m b common left right s t (name_at s.items 1) two))
-    (λ e.
-    let none : length common ≤ 1 = grind (arith, nat_tests) in
+    (λ some.
+    close_some m (name_at s.items 1) (name_at t.items 1) _ _ _ _ (name_there m 1 common left right s t two some) (own_close two) (λ name.
+    close_some m (class_number name b.classes) (class_number name b.classes) _ _ _ _ refl (place_close two 3 NoClass) (λ i.
+    close_some m (slice_get b.classes i) (slice_get b.classes i) _ _ _ _ refl (place_close two 3 NoClass) (λ c. to_close b.kind i c two))))
+    (λ none.
     let near : m ≤ 3 = omega arith in
-    inr (filter_name_so (From m) b s (name_at s.items 1) (late_words m 3 s near) two.left_behind, filter_name_so (From m) b t (name_at t.items 1) (late_words m 3 t near) two.right_behind))
-    tests
+    inr (filter_named_so (From m) b s (late_words m 3 s near) two.left_behind, filter_named_so (From m) b t (late_words m 3 t near) two.right_behind))
+    (within_or_not 1 (length common))
 
-filter_added_close : (m : ℕ) (before : List Begun) (i : ℕ) (b : Begun) (r u : Result Filter ConfPlace) → Close m r u
-    → Close m (filter_added before i b r) (filter_added before i b u)
-filter_added_close m before i b r u close =
-    ⊎_elim (λ e. inl (ap (λ x. filter_added before i b x) e)) (λ late. inr (filter_added_so (From m) before i b r late.0, filter_added_so (From m) before i b u late.1)) close
-
-filter_in_close : (m : ℕ) (before : List Begun) (common left right : List Item) (s t : Statement) (i : ℕ) (o : Option Begun)
-    → Two m common left right s t → Few m 2 common → Close m (filter_in before s i o) (filter_in before t i o)
-filter_in_close m before common left right s t i None two few = close_place m s t 2 NoInterface two.line
-filter_in_close m before common left right s t i (Some b) two few =
-    filter_added_close m before i b (filter_read b s) (filter_read b t)
-    (close_cond m (nat_le 1024 (length b.filters)) _ _ _ _ (close_place m s t 2 TooManyFilters two.line)
-    (names_close m b common left right s t two few (either (nat_lt 1 (length common)))))
-
-filter_at_close : (m : ℕ) (before : List Begun) (common left right : List Item) (s t : Statement) (o : Option ℕ)
-    → Two m common left right s t → Few m 2 common → Close m (filter_at before s o) (filter_at before t o)
-filter_at_close m before common left right s t None two few = close_place m s t 2 NoInterface two.line
-filter_at_close m before common left right s t (Some i) two few = filter_in_close m before common left right s t i (slice_get before i) two few
-
-filter_by_close : (m : ℕ) (before : List Begun) (common left right : List Item) (s t : Statement) (o : Option (List ℕ))
-    → Two m common left right s t → Few m 2 common → Close m (filter_of_interface before s o) (filter_of_interface before t o)
-filter_by_close m before common left right s t None two few = inr (so_own (From m) s two.left_behind, so_own (From m) t two.right_behind)
-filter_by_close m before common left right s t (Some name) two few = filter_at_close m before common left right s t (interface_number name before) two few
-
-filter_close : (m : ℕ) (before : List Begun) (common left right : List Item) (s t : Statement) → Two m common left right s t → Few m 2 common
-    → (nat_lt 0 (length common) ≡ true) ⊎ (nat_lt 0 (length common) ≡ false)
-    → Close m (filter_of_interface before s (name_at s.items 0)) (filter_of_interface before t (name_at t.items 0))
-filter_close m before common left right s t two few tests =
+filter_close : {m : ℕ} {common left right : List Item} {s t : Statement} (before : List Begun) → Two m common left right s t → Few m 2 common
+    → Close m (read_filter before s) (read_filter before t)
+filter_close {m} {common} {left} {right} {s} {t} before two few =
     ⊎_elim
-    (λ e.
-    let some : 0 < length common = grind (arith, nat_tests) in
-    subst (λ o. Close m (filter_of_interface before s (name_at s.items 0)) (filter_of_interface before t o)) (name_there m 0 common left right s t two some)
-    (filter_by_close m before common left right s t (name_at s.items 0) two few))
-    (λ e.
-    let none : length common ≤ 0 = grind (arith, nat_tests) in
+    (λ some.
+    close_some m (name_at s.items 0) (name_at t.items 0) _ _ _ _ (name_there m 0 common left right s t two some) (own_close two) (λ name.
+    close_some m (interface_number name before) (interface_number name before) _ _ _ _ refl (place_close two 2 NoInterface) (λ i.
+    close_some m (slice_get before i) (slice_get before i) _ _ _ _ refl (place_close two 2 NoInterface) (λ b.
+    close_same m (filter_read b s) (filter_read b t) _
+    (close_refuse m (nat_le 1024 (length b.filters)) _ _ _ _ (place_close two 2 TooManyFilters) (filter_named_close b two few)) (λ f. tt)))))
+    (λ none.
     let near : m ≤ 2 = omega arith in
-    inr (filter_so (From m) before s (name_at s.items 0) (late_words m 2 s near) two.left_behind, filter_so (From m) before t (name_at t.items 0) (late_words m 2 t near) two.right_behind))
-    tests
+    inr (filter_so (From m) before s (late_words m 2 s near) two.left_behind, filter_so (From m) before t (late_words m 2 t near) two.right_behind))
+    (within_or_not 0 (length common))
 
 -- AN INTERFACE
-begin_close : (m : ℕ) (before : List Begun) (s t : Statement) (name : List ℕ) (a : Bool) → s.line ≡ t.line → IsBehind (From m) s → IsBehind (From m) t
-    → Close m (begin_by before s name (cond a (Err (at_word s 2 InterfaceTwice)) (kind_unless s s.fault)))
-    (begin_by before t name (cond a (Err (at_word t 2 InterfaceTwice)) (kind_unless t t.fault)))
-begin_close m before s t name true line h k = inl (ap (λ x. Err x) (same_place s t 2 InterfaceTwice line))
-begin_close m before s t name false line h k =
-    inr (
-      begin_so (From m) before s name (kind_unless s s.fault) (kind_unless_so (From m) s s.fault h.fault h.end),
-      begin_so (From m) before t name (kind_unless t t.fault) (kind_unless_so (From m) t t.fault k.fault k.end),
-    )
+begun_close : {m : ℕ} {common left right : List Item} {s t : Statement} (before : List Begun) (name : List ℕ) → Two m common left right s t
+    → Close m (interface_kind before s name) (interface_kind before t name)
+begun_close {m} {s} {t} before name two =
+    close_refuse m (is_some (interface_number name before)) _ _ _ _ (place_close two 2 InterfaceTwice)
+    (inr (kind_so (From m) s two.left_behind, kind_so (From m) t two.right_behind))
 
-full_begin : (m : ℕ) (s t : Statement) (a d : Bool) → s.line ≡ t.line → IsBehind (From m) s → IsBehind (From m) t → a ≡ d
-    → Close {A = List Begun} m (cond a (Err (at_word s 2 TooManyInterfaces)) (Err (own_fault s))) (cond d (Err (at_word t 2 TooManyInterfaces)) (Err (own_fault t)))
-full_begin m s t true true line h k e = close_place m s t 2 TooManyInterfaces line
-full_begin m s t false false line h k e = inr (so_own (From m) s h, so_own (From m) t k)
-full_begin m s t true false line h k e = cc
-full_begin m s t false true line h k e = cc
-
-begin_by_close : (m : ℕ) (before : List Begun) (common left right : List Item) (s t : Statement) (o : Option (List ℕ)) → Two m common left right s t → 3 ≤ m
-    → Close m (begin_named before s o) (begin_named before t o)
-begin_by_close m before common left right s t None two far =
-    let end_left : m ≤ s.end = two.left_behind.end MissingWord in
-    let end_right : m ≤ t.end = two.right_behind.end MissingWord in
-    let here : nat_lt 2 s.end ≡ true = grind (arith, nat_tests) in
-    let there : nat_lt 2 t.end ≡ true = grind (arith, nat_tests) in
-    full_begin m s t (are_full before && nat_lt 2 s.end) (are_full before && nat_lt 2 t.end) two.line two.left_behind two.right_behind
-    (ap (λ x. are_full before && x) (here ∙ sym there))
-begin_by_close m before common left right s t (Some name) two far =
-    close_cond m (are_full before) _ _ _ _ (close_place m s t 2 TooManyInterfaces two.line)
-    (begin_close m before s t name (is_some (interface_number name before)) two.line two.left_behind two.right_behind)
-
-interface_close : (m : ℕ) (before : List Begun) (common left right : List Item) (s t : Statement) → Two m common left right s t → Few m 2 common
-    → (nat_lt 0 (length common) ≡ true) ⊎ (nat_lt 0 (length common) ≡ false)
-    → Close m (begin_named before s (name_at s.items 0)) (begin_named before t (name_at t.items 0))
-interface_close m before common left right s t two few tests =
+interface_close : {m : ℕ} {common left right : List Item} {s t : Statement} (before : List Begun) → Two m common left right s t → Few m 2 common
+    → Close m (read_interface before s) (read_interface before t)
+interface_close {m} {common} {left} {right} {s} {t} before two few =
     ⊎_elim
-    (λ e.
-    let some : 0 < length common = grind (arith, nat_tests) in
-    let far : 3 ≤ m = omega arith in
-    subst (λ o. Close m (begin_named before s (name_at s.items 0)) (begin_named before t o)) (name_there m 0 common left right s t two some)
-    (begin_by_close m before common left right s t (name_at s.items 0) two far))
-    (λ e.
-    let none : length common ≤ 0 = grind (arith, nat_tests) in
+    (λ some.
+    let ends = same_end two 2 (omega arith) in
+    close_some m (name_at s.items 0) (name_at t.items 0) _ _ _ _ (name_there m 0 common left right s t two some)
+    (cond_close m (are_full before && nat_lt 2 s.end) (are_full before && nat_lt 2 t.end) _ _ _ _ (ap (λ x. are_full before && x) ends) (place_close two 2 TooManyInterfaces) (own_close two))
+    (λ name.
+    close_refuse m (are_full before) _ _ _ _ (place_close two 2 TooManyInterfaces)
+    (close_late m (interface_kind before s name) (interface_kind before t name) _ _ (begun_close before name two) (λ kind. tt) (λ kind. tt))))
+    (λ none.
     let near : m ≤ 2 = omega arith in
-    inr (interface_so (From m) before s (name_at s.items 0) (late_words m 2 s near) two.left_behind, interface_so (From m) before t (name_at t.items 0) (late_words m 2 t near) two.right_behind))
-    tests
+    inr (interface_so (From m) before s (late_words m 2 s near) two.left_behind, interface_so (From m) before t (late_words m 2 t near) two.right_behind))
+    (within_or_not 0 (length common))
 
 -- ANY STATEMENT
 pub form_close : (m : ℕ) (of : Form) (before : List Begun) (common left right : List Item) (s t : Statement) → Two m common left right s t
     → first_item of + length common ≡ m → Close m (read_form of before s) (read_form of before t)
-form_close m form.Interface before common left right s t two few = interface_close m before common left right s t two few (either (nat_lt 0 (length common)))
-form_close m form.ClassHfsc before common left right s t two few = class_close m before Hfsc common left right s t two few (either (nat_lt 0 (length common)))
-form_close m form.ClassCbq before common left right s t two few = class_close m before Cbq common left right s t two few (either (nat_lt 0 (length common)))
-form_close m form.Filter before common left right s t two few = filter_close m before common left right s t two few (either (nat_lt 0 (length common)))
-form_close m form.Filter6 before common left right s t two few = filter_close m before common left right s t two few (either (nat_lt 0 (length common)))
+form_close m form.Interface before common left right s t two few = interface_close before two few
+form_close m form.ClassHfsc before common left right s t two few = class_close before Hfsc two few
+form_close m form.ClassCbq before common left right s t two few = class_close before Cbq two few
+form_close m form.Filter before common left right s t two few = filter_close before two few
+form_close m form.Filter6 before common left right s t two few = filter_close before two few
 form_close m form.Unread before common left right s t two few = inr (so_own (From m) s two.left_behind, so_own (From m) t two.right_behind)

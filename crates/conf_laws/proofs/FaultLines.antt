@@ -6,7 +6,8 @@ use Rattle.conf_lines.specs.declared.statement.Statement.{Statement}
 use Rattle.conf_lines.proofs.StandingWords.{IsOn}
 use Rattle.conf_tree.specs.Reading.{read_statement}
 use Rattle.conf_tree.specs.Tree.{Begun}
-use Rattle.conf_laws.proofs.LateFaults.{Faults, IfAny, Each, form_so}
+use Rattle.conf_laws.proofs.InTurn.{Faults, IfAny}
+use Rattle.conf_laws.proofs.LateFaults.{Each, form_so}
 
 abbrev OnLine : ℕ → ConfPlace → Type 0
 OnLine line fault = fault.line ≡ line

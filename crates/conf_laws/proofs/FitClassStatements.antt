@@ -1,11 +1,10 @@
 -- A class statement gives a class that may be added.
-use Rattle.std.proofs.Common.{◌≡◌, ◌≢◌, ℕ, ◌+◌, ◌<◌, ◌∙◌, true, false, cond, not, ◌&&◌, List, length, drop, Option, Some, None, Result, Ok, Err, IfSome, is_some, is_none, slice_get, bytes_eq, codes, nat_le, nat_lt, refl, sym, subst, leb-false}
+use Rattle.std.proofs.Common.{◌≡◌, ◌≢◌, ℕ, ◌<◌, ◌∙◌, true, false, cond, not, ◌&&◌, List, length, drop, Option, Some, None, IfOk, IfSome, is_some, is_none, slice_get, bytes_eq, codes, nat_le, refl, sym, subst, leb-false}
 use Rattle.std.proofs.lemmas.Bool.{or_parts, cond_both, both_ways}
 use Rattle.std.proofs.lemmas.List.Quantifiers.{position-Some}
 use Rattle.std.proofs.lemmas.Option.{get_or_from_slice_get}
 use Rattle.std.proofs.lemmas.Slice.Eq.{bytes_eq-Decides}
 use Rattle.service_curve.specs.declared.Curve.{Curve}
-use Rattle.conf_lines.specs.declared.fault.ConfPlace.{ConfPlace}
 use Rattle.conf_lines.specs.declared.item.Item.{Item}
 use Rattle.conf_lines.specs.declared.item.What.{What}
 use Rattle.conf_lines.specs.declared.item.What.TheVariants as what
@@ -14,17 +13,20 @@ use Rattle.conf_lines.specs.Laws.{IsSound, AreSound}
 use Rattle.conf_lines.specs.Options.{most_rate}
 use Rattle.conf_tree.specs.declared.interface.Kind.{Kind}
 use Rattle.conf_tree.specs.declared.interface.Kind.TheVariants.{Hfsc, Cbq}
-use Rattle.conf_tree.specs.Classes.{same_kind, is_queue, below, below_at, below_number, spot_of, cbq_shape, shape_of_kind, shape_unless, shape_by, scope_of, shape_at, shape_under, shape_named, branch_of, branch_by, is_full, branch_named, read_branch}
+use Rattle.conf_tree.specs.Classes.{same_kind, is_queue, below, root_spot, inner_spot, spot_of, rate_given, rate_at_end, scope_of, shape_below, shape_of, branch_of, is_full, read_branch}
 use Rattle.conf_tree.specs.Items.{name_of, name_in, name_at}
-use Rattle.conf_tree.specs.Places.{at_word, own_fault}
-use Rattle.conf_lines.specs.declared.fault.ConfKind.TheVariants.{MissingWord, WrongDiscipline, NameTaken, TwoRoots, TooDeep, TooManyClasses, NoShare, RealTimeInside, InnerQueue}
+use Rattle.conf_tree.specs.Places.{at_word}
+use Rattle.conf_tree.specs.Tests.{some}
+use Rattle.std.specs.Option.{option_or}
+use Rattle.conf_lines.specs.declared.fault.ConfKind.TheVariants.{MissingWord}
 use Rattle.conf_tree.specs.Options.{set_options}
 use Rattle.conf_tree.specs.Settings.{unset}
 use Rattle.conf_tree.specs.Tree.{Begun, class_number}
 use Rattle.conf_laws.specs.Fit.{IsName, IsWithin, IsOfKind, IsHfscClass, IsCbqClass}
 use Rattle.conf_laws.proofs.FitBegun.{IsBegun, StandsAt, IsNew}
 use Rattle.conf_laws.proofs.FitFilters.{IsSoundIn, sound_at}
-use Rattle.conf_laws.proofs.FitSettings.{AreSet, AreSetIfOk, unset_fit, options_fit}
+use Rattle.conf_laws.proofs.FitSettings.{AreSet, unset_fit, options_fit}
+use Rattle.conf_laws.proofs.InTurn.{fit_then, fit_map, fit_some, fit_refuse, fit_whole}
 use Rattle.conf_laws.proofs.Types.{Branch, Settings, Spot, Shape}
 
 -- a name has its form
@@ -44,21 +46,18 @@ none_by None e = refl
 none_by (Some x) e = cc
 
 -- where it stands
-abbrev IsSpotIfOk : Begun → Result Spot ConfPlace → Type 0
-IsSpotIfOk b (Ok spot) = StandsAt b spot.level spot.parent
-IsSpotIfOk b (Err fault) = Unit {0}
+abbrev IsSpot : Begun → Spot → Type 0
+IsSpot b spot = StandsAt b spot.level spot.parent
 
 queue_parts : (kind : Kind) (c : Branch) → is_queue kind c ≡ false → kind ≡ Hfsc → (c.class.is_default ≡ false) × (c.filtered ≡ false)
 queue_parts Hfsc c h e = or_parts c.class.is_default c.filtered h
 queue_parts Cbq c h e = cc
 
-below_fit : (b : Begun) (s : Statement) (i : ℕ) (c : Branch) → slice_get b.classes i ≡ Some c → c.class.name ≢ codes "NULL" → IsSpotIfOk b (below b.kind s i c)
+below_fit : (b : Begun) (s : Statement) (i : ℕ) (c : Branch) → slice_get b.classes i ≡ Some c → c.class.name ≢ codes "NULL" → IfOk (below b.kind s i c) (IsSpot b)
 below_fit b s i c at named =
-    let spot : Result Spot ConfPlace = Ok (record { parent = Some i; level = c.level + 1 }) in
-    let third = cond (is_queue b.kind c) (Err (at_word s 5 InnerQueue)) spot in
-    cond_both (nat_le 8 c.level) (Err (at_word s 5 TooDeep)) (cond c.fixed (Err (at_word s 5 RealTimeInside)) third) (IsSpotIfOk b) (λ e. tt) (λ deep.
-    cond_both c.fixed (Err (at_word s 5 RealTimeInside)) third (IsSpotIfOk b) (λ e. tt) (λ fixed.
-    cond_both (is_queue b.kind c) (Err (at_word s 5 InnerQueue)) spot (IsSpotIfOk b) (λ e. tt) (λ queue. record {
+    fit_refuse (IsSpot b) (nat_le 8 c.level) _ _ (λ deep.
+    fit_refuse (IsSpot b) c.fixed _ _ (λ fixed.
+    fit_refuse (IsSpot b) (is_queue b.kind c) _ _ (λ queue. record {
       parent = c;
       at = at;
       named = named;
@@ -76,23 +75,15 @@ parent_named parent classes i c e at =
     let P : Branch → Type 0 = λ x. bytes_eq parent x.class.name ≡ true in
     (bytes_eq-Decides parent c.class.name).0 (subst P same yes)
 
-below_at_fit : (b : Begun) (s : Statement) (parent : List ℕ) (i : ℕ) (o : Option Branch) → class_number parent b.classes ≡ Some i → slice_get b.classes i ≡ o
-    → parent ≢ codes "NULL" → IsSpotIfOk b (below_at b.kind s i o)
-below_at_fit b s parent i None e at named = tt
-below_at_fit b s parent i (Some c) e at named = below_fit b s i c at (λ null. named (parent_named parent b.classes i c e at ∙ null))
-
-below_number_fit : (b : Begun) (s : Statement) (parent : List ℕ) (o : Option ℕ) → class_number parent b.classes ≡ o → parent ≢ codes "NULL"
-    → IsSpotIfOk b (below_number b s o)
-below_number_fit b s parent None e named = tt
-below_number_fit b s parent (Some i) e named = below_at_fit b s parent i (slice_get b.classes i) e refl named
-
-spot_fit : (b : Begun) (s : Statement) (parent : List ℕ) → IsSpotIfOk b (spot_of b s parent)
+spot_fit : (b : Begun) (s : Statement) (parent : List ℕ) → IfOk (spot_of b s parent) (IsSpot b)
 spot_fit b s parent =
-    let top : Result Spot ConfPlace = Ok (record { parent = None; level = 1 }) in
-    cond_both (bytes_eq parent (codes "NULL")) (cond b.rooted (Err (at_word s 5 TwoRoots)) top) (below_number b s (class_number parent b.classes)) (IsSpotIfOk b)
-    (λ e. cond_both b.rooted (Err (at_word s 5 TwoRoots)) top (IsSpotIfOk b) (λ r. tt) (λ r. (r, refl)))
-    (λ e. below_number_fit b s parent (class_number parent b.classes) refl
-    (λ null. both_ways (bytes_eq parent (codes "NULL")) e ((bytes_eq-Decides parent (codes "NULL")).1 null)))
+    cond_both (bytes_eq parent (codes "NULL")) (root_spot b s) (inner_spot b s parent) (λ r. IfOk r (IsSpot b))
+    (λ null. fit_refuse (IsSpot b) b.rooted _ _ (λ first. (first, refl)))
+    (λ other.
+    fit_some (IsSpot b) (class_number parent b.classes) _ _ (λ i number.
+    fit_some (IsSpot b) (slice_get b.classes i) _ _ (λ c at.
+    below_fit b s i c at (λ null.
+    both_ways (bytes_eq parent (codes "NULL")) other ((bytes_eq-Decides parent (codes "NULL")).1 (parent_named parent b.classes i c number at ∙ null))))))
 
 -- its shape
 abbrev IsShapeOf : Kind → Shape → Type 0
@@ -104,48 +95,41 @@ record IsShape (kind : Kind) (b : Begun) (shape : Shape) : Type 0 where
   settings : AreSet b.chosen shape.settings
   own : IsShapeOf kind shape
 
-abbrev IsShapeIfOk : Kind → Begun → Result Shape ConfPlace → Type 0
-IsShapeIfOk kind b (Ok shape) = IsShape kind b shape
-IsShapeIfOk kind b (Err fault) = Unit {0}
-
 has_share : (parent : Option ℕ) (share : Option Curve) → (is_some parent && is_none share) ≡ false → parent ≢ None → share ≢ None
 has_share None share e child = absurd (child refl)
 has_share (Some p) None e child = cc
 has_share (Some p) (Some curve) e child = λ none. cc
 
-cbq_fit : (b : Begun) (s : Statement) (spot : Spot) (settings : Settings) (rate : Option ℕ) → IsWithin 1000 most_rate b.rate → StandsAt b spot.level spot.parent
-    → AreSet b.chosen settings → IfSome rate (IsWithin 1000 most_rate) → IsShapeIfOk Cbq b (cbq_shape b s spot settings rate)
-cbq_fit b s spot settings (Some rate) r h k within = record { spot = h; settings = k; own = within }
-cbq_fit b s spot settings None r h k within =
-    let shape : Result Shape ConfPlace = Ok (record { spot = spot; settings = settings; rate = b.rate }) in
-    cond_both (is_some spot.parent) (Err (at_word s s.end MissingWord)) shape (IsShapeIfOk Cbq b) (λ e. tt) (λ e. record { spot = h; settings = k; own = r })
+rate_fit : (rate : ℕ) (spot : Spot) (settings : Settings) (o : Option ℕ) → IsWithin 1000 most_rate rate → IfSome settings.rate (IsWithin 1000 most_rate)
+    → settings.rate ≡ o → IfSome (option_or o (cond (is_some spot.parent) None (Some rate))) (IsWithin 1000 most_rate)
+rate_fit rate spot settings (Some given) r k e = let P : Option ℕ → Type 0 = λ o. IfSome o (IsWithin 1000 most_rate) in subst P e k
+rate_fit rate spot settings None r k e = cond_both (is_some spot.parent) None (Some rate) (λ o. IfSome o (IsWithin 1000 most_rate)) (λ child. tt) (λ root. r)
 
-kind_fit : (kind : Kind) (b : Begun) (s : Statement) (spot : Spot) (settings : Settings) → IsWithin 1000 most_rate b.rate → StandsAt b spot.level spot.parent
-    → AreSet b.chosen settings → IsShapeIfOk kind b (shape_of_kind kind b s spot settings)
-kind_fit Hfsc b s spot settings r h k =
-    let shape : Result Shape ConfPlace = Ok (record { spot = spot; settings = settings; rate = 0 }) in
-    cond_both (is_some spot.parent && is_none settings.share) (Err (at_word s s.end NoShare)) shape (IsShapeIfOk Hfsc b) (λ e. tt)
-    (λ e. record { spot = h; settings = k; own = has_share spot.parent settings.share e })
-kind_fit Cbq b s spot settings r h k = cbq_fit b s spot settings settings.rate r h k k.rate
+pub if_some : {A : Type 0} (P : A → Type 0) (o : Option A) (x : A) → IfSome o P → o ≡ Some x → P x
+if_some P None x h e = cc
+if_some P (Some y) x h e = let same : y ≡ x = cc in subst P same h
 
-unless_fit : (b : Begun) (s : Statement) (spot : Spot) (settings : Settings) (fault : Option ConfPlace) → IsBegun b → StandsAt b spot.level spot.parent
-    → AreSet b.chosen settings → IsShapeIfOk b.kind b (shape_unless b s spot settings fault)
-unless_fit b s spot settings (Some fault) h stands k = tt
-unless_fit b s spot settings None h stands k = kind_fit b.kind b s spot settings h.rate stands k
+end_fit : (kind : Kind) (b : Begun) (s : Statement) (spot : Spot) (settings : Settings) → IsWithin 1000 most_rate b.rate → IsSpot b spot → AreSet b.chosen settings
+    → IfOk (rate_at_end kind b s spot settings) (λ rate. IsShape kind b (record { spot = spot; settings = settings; rate = rate }))
+end_fit Hfsc b s spot settings r h k =
+    fit_refuse (λ rate. IsShape Hfsc b (record { spot = spot; settings = settings; rate = rate })) (is_some spot.parent && is_none settings.share) _ _
+    (λ shared. record { spot = h; settings = k; own = has_share spot.parent settings.share shared })
+end_fit Cbq b s spot settings r h k = by (rate_given b.rate spot settings) refl
+  where
+    by : (o : Option ℕ) → rate_given b.rate spot settings ≡ o
+        → IfOk (some o (at_word s s.end MissingWord)) (λ rate. IsShape Cbq b (record { spot = spot; settings = settings; rate = rate }))
+    by None e = tt
+    by (Some rate) e =
+        record { spot = h; settings = k; own = if_some (IsWithin 1000 most_rate) (rate_given b.rate spot settings) rate (rate_fit b.rate spot settings settings.rate r k.rate refl) e }
 
-shape_by_fit : (b : Begun) (s : Statement) (spot : Spot) (r : Result Settings ConfPlace) → IsBegun b → StandsAt b spot.level spot.parent → AreSetIfOk b.chosen r
-    → IsShapeIfOk b.kind b (shape_by b s spot r)
-shape_by_fit b s spot (Err fault) h stands k = tt
-shape_by_fit b s spot (Ok settings) h stands k = unless_fit b s spot settings s.fault h stands k
-
-shape_at_fit : (b : Begun) (s : Statement) (r : Result Spot ConfPlace) → IsBegun b → IsSpotIfOk b r → IsShapeIfOk b.kind b (shape_at b s r)
-shape_at_fit b s (Err fault) h stands = tt
-shape_at_fit b s (Ok spot) h stands =
-    shape_by_fit b s spot (set_options (scope_of b s) unset (drop 3 s.items)) h stands (options_fit (scope_of b s) unset (drop 3 s.items) h.rate (unset_fit b.chosen))
-
-under_fit : (b : Begun) (s : Statement) (o : Option (List ℕ)) → IsBegun b → IsShapeIfOk b.kind b (shape_under b s o)
-under_fit b s None h = tt
-under_fit b s (Some parent) h = shape_at_fit b s (spot_of b s parent) h (spot_fit b s parent)
+shape_fit : (b : Begun) (s : Statement) (parent : List ℕ) → IsBegun b → IfOk (shape_below b s parent) (IsShape b.kind b)
+shape_fit b s parent h =
+    fit_then (IsSpot b) (IsShape b.kind b) (spot_of b s parent) _ (spot_fit b s parent) (λ spot stands.
+    fit_then (AreSet b.chosen) (IsShape b.kind b) (set_options (scope_of b s) unset (drop 3 s.items)) _
+    (options_fit (scope_of b s) unset (drop 3 s.items) h.rate (unset_fit b.chosen)) (λ settings set.
+    fit_whole (IsShape b.kind b) s.fault _
+    (fit_then (λ rate. IsShape b.kind b (record { spot = spot; settings = settings; rate = rate })) (IsShape b.kind b) (rate_at_end b.kind b s spot settings) _
+    (end_fit b.kind b s spot settings h.rate stands set) (λ rate is. is))))
 
 -- the class
 new_fit : (kind : Kind) (b : Begun) (name : List ℕ) (shape : Shape) → b.kind ≡ kind → IsName name → class_number name b.classes ≡ None → length b.classes < 256
@@ -180,26 +164,15 @@ new_fit Cbq b name shape e named new room h =
     } in
     record { name = named; new = new; room = room; stands = h.spot; is_default = set.is_default; limit = set.limit; own = subst P (sym e) own }
 
-abbrev pub IsNewIfOk : Begun → Result Branch ConfPlace → Type 0
-IsNewIfOk b (Ok c) = IsNew b c
-IsNewIfOk b (Err fault) = Unit {0}
-
-by_fit : (b : Begun) (name : List ℕ) (r : Result Shape ConfPlace) → IsName name → class_number name b.classes ≡ None → length b.classes < 256
-    → IsShapeIfOk b.kind b r → IsNewIfOk b (branch_by b.kind name r)
-by_fit b name (Err fault) named new room h = tt
-by_fit b name (Ok shape) named new room h = new_fit b.kind b name shape refl named new room h
-
-named_fit : (b : Begun) (s : Statement) (o : Option (List ℕ)) → IsBegun b → IfSome o IsName → IsNewIfOk b (branch_named b s o)
-named_fit b s None h named =
-    cond_both (is_full b && nat_lt 4 s.end) (Err (at_word s 4 TooManyClasses)) (Err (own_fault s)) (IsNewIfOk b) (λ e. tt) (λ e. tt)
-named_fit b s (Some name) h named =
-    cond_both (is_full b) (Err (at_word s 4 TooManyClasses)) (branch_by b.kind name (shape_named b s name)) (IsNewIfOk b) (λ e. tt) (λ room.
-    cond_both (is_some (class_number name b.classes)) (Err (at_word s 4 NameTaken)) (shape_under b s (name_at s.items 2))
-    (λ r. IsNewIfOk b (branch_by b.kind name r)) (λ e. tt) (λ free.
-    by_fit b name (shape_under b s (name_at s.items 2)) named (none_by (class_number name b.classes) free) (leb-false 256 (length b.classes) room)
-    (under_fit b s (name_at s.items 2) h)))
-
-pub branch_fit : (b : Begun) (kind : Kind) (s : Statement) → IsBegun b → AreSound s.items → IsNewIfOk b (read_branch b kind s)
+pub branch_fit : (b : Begun) (kind : Kind) (s : Statement) → IsBegun b → AreSound s.items → IfOk (read_branch b kind s) (IsNew b)
 branch_fit b kind s h sound =
-    cond_both (not (same_kind kind b.kind)) (Err (at_word s 3 WrongDiscipline)) (branch_named b s (name_at s.items 1)) (IsNewIfOk b) (λ e. tt)
-    (λ e. named_fit b s (name_at s.items 1) h (name_fit s.items 1 sound))
+    fit_refuse (IsNew b) (not (same_kind kind b.kind)) _ _ (λ same.
+    fit_some (IsNew b) (name_at s.items 1) _ _ (λ name named.
+    fit_refuse (IsNew b) (is_full b) _ _ (λ room.
+    fit_then (λ shape. IsNew b (branch_of b.kind name shape)) (IsNew b) (shape_of b s name) _
+    (fit_refuse (λ shape. IsNew b (branch_of b.kind name shape)) (is_some (class_number name b.classes)) _ _ (λ free.
+    fit_some (λ shape. IsNew b (branch_of b.kind name shape)) (name_at s.items 2) _ _ (λ parent there.
+    fit_map (IsShape b.kind b) (λ shape. IsNew b (branch_of b.kind name shape)) (shape_below b s parent) (shape_fit b s parent h) (λ shape is.
+    new_fit b.kind b name shape refl (if_some IsName (name_at s.items 1) name (name_fit s.items 1 sound) named) (none_by (class_number name b.classes) free)
+    (leb-false 256 (length b.classes) room) is))))
+    (λ shape is. is))))

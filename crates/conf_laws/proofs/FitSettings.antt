@@ -1,5 +1,5 @@
 -- What the options of a class set is in its range.
-use Rattle.std.proofs.Common.{◌≡◌, ◌⊎◌, inr, ℕ, ◌*◌, ◌/◌, ◌^◌, ◌<◌, ◌≤◌, ◌==◌, ◌&&◌, ◌||◌, Bool, true, false, cond, List, [], ◌∷◌, Option, Some, None, Result, Ok, Err, IfSome, option_map, unwrap_or, slice_get, refl, arith, nat_le, leb-true, le_refl, mul-le-mul, le-div_iff_mul-le}
+use Rattle.std.proofs.Common.{◌≡◌, ◌⊎◌, inr, ℕ, ◌*◌, ◌/◌, ◌^◌, ◌<◌, ◌≤◌, ◌==◌, ◌&&◌, ◌||◌, Bool, true, false, cond, List, [], ◌∷◌, Option, Some, None, Result, Ok, Err, IfOk, IfSome, option_map, unwrap_or, slice_get, refl, arith, nat_le, leb-true, le_refl, mul-le-mul, le-div_iff_mul-le}
 use Rattle.std.proofs.lemmas.Bool.{and_parts, or_parts, cond_both, eqb-false}
 use Rattle.std.proofs.Math.Nat.{div-le_of_le-mul}
 use Rattle.std.proofs.lemmas.Bool.Decides.{nat_tests}
@@ -127,8 +127,7 @@ pub record AreSet (chosen : Bool) (s : Settings) : Type 0 where
   pub is_default : s.is_default ≡ true → chosen ≡ false
 
 abbrev pub AreSetIfOk : Bool → Result Settings ConfPlace → Type 0
-AreSetIfOk chosen (Ok s) = AreSet chosen s
-AreSetIfOk chosen (Err fault) = Unit {0}
+AreSetIfOk chosen r = IfOk r (AreSet chosen)
 
 pub unset_fit : (chosen : Bool) → AreSet chosen unset
 unset_fit chosen = record {

@@ -24,6 +24,7 @@ pub mod FitSettings
 pub mod FitWhole
 pub mod Groups
 pub mod ImpliedTree
+pub mod InTurn
 pub mod InterfacesRead
 pub mod LateFaults
 pub mod CloseFaults

@@ -1,5 +1,5 @@
 -- Types of the reading that the crate below keeps to itself, named by what its definitions take.
-use Rattle.conf_tree.specs.Classes.{hfsc_shape, branch_of}
+use Rattle.conf_tree.specs.Classes.{rate_given, branch_of}
 use Rattle.conf_tree.specs.Options.{set_options}
 use Rattle.conf_tree.specs.Tree.{class_name}
 
@@ -22,7 +22,7 @@ Settings = takes_second set_options
 
 -- where a class stands, its shape, and a class as far as the statements say
 abbrev pub Spot : Type 0
-Spot = takes_second hfsc_shape
+Spot = takes_second rate_given
 
 abbrev pub Shape : Type 0
 Shape = takes_third branch_of

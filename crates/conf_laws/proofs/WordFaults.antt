@@ -1,5 +1,5 @@
 -- Two texts that agree up to and with the word of a fault have the same fault.
-use Rattle.std.proofs.Common.{◌≡◌, ⊎_elim, ℕ, ◌+◌, ◌<◌, ◌≤◌, ◌∙◌, Bool, true, false, cond, not, List, [], ◌∷◌, ◌++◌, length, drop, Option, Some, None, Result, Ok, Err, is_some, slice_get, nat_le, nat_lt, refl, sym, ap, subst, arith, length-append}
+use Rattle.std.proofs.Common.{◌≡◌, ⊎_elim, ℕ, ◌+◌, ◌<◌, ◌≤◌, ◌∙◌, Bool, true, false, cond, List, [], ◌∷◌, ◌++◌, length, drop, Option, Some, None, Result, Ok, Err, nat_lt, refl, sym, ap, subst, arith, length-append}
 use Rattle.std.proofs.lemmas.Bool.Decides.{nat_tests}
 use Rattle.conf_lines.specs.declared.fault.ConfPlace.{ConfPlace}
 use Rattle.conf_lines.specs.declared.item.Item.{Item}
@@ -12,136 +12,40 @@ use Rattle.conf_lines.proofs.LineSplit.{Stopped, Split, first_item, LinesAgree, 
 use Rattle.conf_tree.specs.declared.interface.Interface.{Interface}
 use Rattle.conf_tree.specs.declared.interface.Kind.{Kind}
 use Rattle.conf_tree.specs.declared.interface.Kind.TheVariants.{Hfsc, Cbq}
-use Rattle.conf_tree.specs.Classes.{same_kind, spot_of, shape_by, scope_of, shape_at, shape_under, branch_by, is_full, branch_named, class_added, class_in, class_at, class_of_interface}
-use Rattle.conf_tree.specs.FilterStatements.{filter_to, filter_to_number, filter_to_name, filter_added, filter_in, filter_at, filter_of_interface}
-use Rattle.conf_tree.specs.Interfaces.{begin_by, are_full, begin_named}
-use Rattle.conf_tree.specs.Items.{name_at}
+use Rattle.conf_tree.specs.Classes.{read_class}
+use Rattle.conf_tree.specs.Interfaces.{read_interface}
 use Rattle.conf_tree.specs.Places.{fault_at}
-use Rattle.conf_lines.specs.declared.fault.ConfKind.TheVariants.{InterfaceTwice, NoDefault}
-use Rattle.conf_tree.specs.Options.{set_options}
+use Rattle.conf_lines.specs.declared.fault.ConfKind.TheVariants.{NoDefault}
 use Rattle.conf_tree.specs.Reading.{read_form, read_statement, reading_from, reading}
-use Rattle.conf_tree.specs.Settings.{unset}
-use Rattle.conf_tree.specs.Tree.{Begun, interface_number, class_number}
+use Rattle.conf_tree.specs.Tree.{Begun}
 use Rattle.conf_tree.specs.Whole.{undecided, first_undecided, finished_unless}
 use Rattle.conf_laws.specs.Laws.{line_of_words}
-use Rattle.conf_laws.proofs.CloseFaults.{Close, stmt, Two, same_spot, same_cond, form_close}
-use Rattle.conf_laws.proofs.LateFaults.{From, Late, late_words, late_behind, late_each, form_so, drop_past}
-use Rattle.conf_laws.proofs.Types.{Branch, Settings, Spot}
+use Rattle.conf_laws.proofs.CloseFaults.{stmt, Two, form_close}
+use Rattle.conf_laws.proofs.InTurn.{From, Late, Close}
+use Rattle.conf_laws.proofs.LateFaults.{late_words, late_behind, late_each, form_so, drop_past}
 
 -- A STATEMENT THAT STOPS AT THE FAULT, whatever stands behind it
 abbrev stops : ℕ → Form → List Item → ConfPlace → ℕ → Statement
 stops line of items fault end = stmt line of items end (Some fault)
 
-by_same : (b : Begun) (line : ℕ) (of : Form) (items : List Item) (fault : ConfPlace) (end other : ℕ) (spot : Spot) (r : Result Settings ConfPlace)
-    → shape_by b (stops line of items fault end) spot r ≡ shape_by b (stops line of items fault other) spot r
-by_same b line of items fault end other spot (Err f) = refl
-by_same b line of items fault end other spot (Ok settings) = refl
-
-at_same : (b : Begun) (line : ℕ) (of : Form) (items : List Item) (fault : ConfPlace) (end other : ℕ) (r : Result Spot ConfPlace)
-    → shape_at b (stops line of items fault end) r ≡ shape_at b (stops line of items fault other) r
-at_same b line of items fault end other (Err f) = refl
-at_same b line of items fault end other (Ok spot) =
-    by_same b line of items fault end other spot (set_options (scope_of b (stops line of items fault end)) unset (drop 3 items))
-
-under_same : (b : Begun) (line : ℕ) (of : Form) (items : List Item) (fault : ConfPlace) (end other : ℕ) (o : Option (List ℕ))
-    → shape_under b (stops line of items fault end) o ≡ shape_under b (stops line of items fault other) o
-under_same b line of items fault end other None = refl
-under_same b line of items fault end other (Some parent) =
-    at_same b line of items fault end other (spot_of b (stops line of items fault end) parent)
-    ∙ ap (λ r. shape_at b (stops line of items fault other) r) (same_spot b (stops line of items fault end) (stops line of items fault other) parent refl)
-
-branch_same : (b : Begun) (line : ℕ) (of : Form) (items : List Item) (fault : ConfPlace) (end other : ℕ) (o : Option (List ℕ)) → nat_lt 4 end ≡ nat_lt 4 other
-    → branch_named b (stops line of items fault end) o ≡ branch_named b (stops line of items fault other) o
-branch_same b line of items fault end other None e = rw e refl
-branch_same b line of items fault end other (Some name) e =
-    same_cond (is_full b) _ _ _ _ refl
-    (ap (λ r. branch_by b.kind name r)
-    (same_cond (is_some (class_number name b.classes)) _ _ _ _ refl (under_same b line of items fault end other (name_at items 2))))
-
-in_same : (before : List Begun) (kind : Kind) (line : ℕ) (of : Form) (items : List Item) (fault : ConfPlace) (end other i : ℕ) (o : Option Begun)
-    → nat_lt 4 end ≡ nat_lt 4 other → class_in before kind (stops line of items fault end) i o ≡ class_in before kind (stops line of items fault other) i o
-in_same before kind line of items fault end other i None e = refl
-in_same before kind line of items fault end other i (Some b) e =
-    ap (λ r. class_added before i b r)
-    (same_cond (not (same_kind kind b.kind)) _ _ _ _ refl (branch_same b line of items fault end other (name_at items 1) e))
-
-number_same : (before : List Begun) (kind : Kind) (line : ℕ) (of : Form) (items : List Item) (fault : ConfPlace) (end other : ℕ) (o : Option ℕ)
-    → nat_lt 4 end ≡ nat_lt 4 other → class_at before kind (stops line of items fault end) o ≡ class_at before kind (stops line of items fault other) o
-number_same before kind line of items fault end other None e = refl
-number_same before kind line of items fault end other (Some i) e = in_same before kind line of items fault end other i (slice_get before i) e
-
-class_of_same : (before : List Begun) (kind : Kind) (line : ℕ) (of : Form) (items : List Item) (fault : ConfPlace) (end other : ℕ) (o : Option (List ℕ))
-    → nat_lt 4 end ≡ nat_lt 4 other
-    → class_of_interface before kind (stops line of items fault end) o ≡ class_of_interface before kind (stops line of items fault other) o
-class_of_same before kind line of items fault end other None e = refl
-class_of_same before kind line of items fault end other (Some name) e = number_same before kind line of items fault end other (interface_number name before) e
+-- the end of its line is looked at for one thing: whether a word stands where an interface or a class has its name
+has_word : (n end : ℕ) → n < end → nat_lt n end ≡ true
+has_word n end h = grind (arith, nat_tests)
 
 class_same : (before : List Begun) (kind : Kind) (line : ℕ) (of : Form) (items : List Item) (fault : ConfPlace) (m end other : ℕ) → 3 + length items ≡ fault.word
-    → fault.word < m → m ≤ end → m ≤ other
-    → class_of_interface before kind (stops line of items fault end) (name_at items 0) ≡ class_of_interface before kind (stops line of items fault other) (name_at items 0)
+    → fault.word < m → m ≤ end → m ≤ other → read_class before kind (stops line of items fault end) ≡ read_class before kind (stops line of items fault other)
 class_same before kind line of [] fault m end other count early h k = refl
 class_same before kind line of (item ∷ items) fault m end other count early h k =
-    let far : 4 < end = omega arith in
-    let far_other : 4 < other = omega arith in
-    let here : nat_lt 4 end ≡ true = grind (arith, nat_tests) in
-    let there : nat_lt 4 other ≡ true = grind (arith, nat_tests) in
-    class_of_same before kind line of (item ∷ items) fault end other (name_at (item ∷ items) 0) (here ∙ sym there)
-
--- a filter
-to_same : (kind : Kind) (line : ℕ) (of : Form) (items : List Item) (fault : ConfPlace) (end other i : ℕ) (o : Option Branch)
-    → filter_to kind (stops line of items fault end) i o ≡ filter_to kind (stops line of items fault other) i o
-to_same kind line of items fault end other i None = refl
-to_same kind line of items fault end other i (Some c) = refl
-
-to_number_same : (b : Begun) (line : ℕ) (of : Form) (items : List Item) (fault : ConfPlace) (end other : ℕ) (o : Option ℕ)
-    → filter_to_number b (stops line of items fault end) o ≡ filter_to_number b (stops line of items fault other) o
-to_number_same b line of items fault end other None = refl
-to_number_same b line of items fault end other (Some i) = to_same b.kind line of items fault end other i (slice_get b.classes i)
-
-to_name_same : (b : Begun) (line : ℕ) (of : Form) (items : List Item) (fault : ConfPlace) (end other : ℕ) (o : Option (List ℕ))
-    → filter_to_name b (stops line of items fault end) o ≡ filter_to_name b (stops line of items fault other) o
-to_name_same b line of items fault end other None = refl
-to_name_same b line of items fault end other (Some name) = to_number_same b line of items fault end other (class_number name b.classes)
-
-filter_in_same : (before : List Begun) (line : ℕ) (of : Form) (items : List Item) (fault : ConfPlace) (end other i : ℕ) (o : Option Begun)
-    → filter_in before (stops line of items fault end) i o ≡ filter_in before (stops line of items fault other) i o
-filter_in_same before line of items fault end other i None = refl
-filter_in_same before line of items fault end other i (Some b) =
-    ap (λ r. filter_added before i b r)
-    (same_cond (nat_le 1024 (length b.filters)) _ _ _ _ refl (to_name_same b line of items fault end other (name_at items 1)))
-
-filter_at_same : (before : List Begun) (line : ℕ) (of : Form) (items : List Item) (fault : ConfPlace) (end other : ℕ) (o : Option ℕ)
-    → filter_at before (stops line of items fault end) o ≡ filter_at before (stops line of items fault other) o
-filter_at_same before line of items fault end other None = refl
-filter_at_same before line of items fault end other (Some i) = filter_in_same before line of items fault end other i (slice_get before i)
-
-filter_same : (before : List Begun) (line : ℕ) (of : Form) (items : List Item) (fault : ConfPlace) (end other : ℕ) (o : Option (List ℕ))
-    → filter_of_interface before (stops line of items fault end) o ≡ filter_of_interface before (stops line of items fault other) o
-filter_same before line of items fault end other None = refl
-filter_same before line of items fault end other (Some name) = filter_at_same before line of items fault end other (interface_number name before)
-
--- an interface
-begin_same : (before : List Begun) (line : ℕ) (of : Form) (items : List Item) (fault : ConfPlace) (end other : ℕ) (name : List ℕ) (a : Bool)
-    → begin_by before (stops line of items fault end) name (cond a (Err (fault_at line 2 InterfaceTwice)) (Err fault))
-    ≡ begin_by before (stops line of items fault other) name (cond a (Err (fault_at line 2 InterfaceTwice)) (Err fault))
-begin_same before line of items fault end other name true = refl
-begin_same before line of items fault end other name false = refl
-
-begin_named_same : (before : List Begun) (line : ℕ) (of : Form) (items : List Item) (fault : ConfPlace) (end other : ℕ) (o : Option (List ℕ))
-    → nat_lt 2 end ≡ nat_lt 2 other → begin_named before (stops line of items fault end) o ≡ begin_named before (stops line of items fault other) o
-begin_named_same before line of items fault end other None e = rw e refl
-begin_named_same before line of items fault end other (Some name) e =
-    same_cond (are_full before) _ _ _ _ refl (begin_same before line of items fault end other name (is_some (interface_number name before)))
+    let here : nat_lt 4 end ≡ true = has_word 4 end (omega arith) in
+    let there : nat_lt 4 other ≡ true = has_word 4 other (omega arith) in
+    rw (here, there) refl
 
 interface_same : (before : List Begun) (line : ℕ) (of : Form) (items : List Item) (fault : ConfPlace) (m end other : ℕ) → 2 + length items ≡ fault.word
-    → fault.word < m → m ≤ end → m ≤ other
-    → begin_named before (stops line of items fault end) (name_at items 0) ≡ begin_named before (stops line of items fault other) (name_at items 0)
+    → fault.word < m → m ≤ end → m ≤ other → read_interface before (stops line of items fault end) ≡ read_interface before (stops line of items fault other)
 interface_same before line of items fault m end other count early h k =
-    let far : 2 < end = omega arith in
-    let far_other : 2 < other = omega arith in
-    let here : nat_lt 2 end ≡ true = grind (arith, nat_tests) in
-    let there : nat_lt 2 other ≡ true = grind (arith, nat_tests) in
-    begin_named_same before line of items fault end other (name_at items 0) (here ∙ sym there)
+    let here : nat_lt 2 end ≡ true = has_word 2 end (omega arith) in
+    let there : nat_lt 2 other ≡ true = has_word 2 other (omega arith) in
+    rw (here, there) refl
 
 form_same : (of said : Form) (before : List Begun) (line : ℕ) (items : List Item) (fault : ConfPlace) (m end other : ℕ) → first_item of + length items ≡ fault.word
     → fault.word < m → m ≤ end → m ≤ other
@@ -149,8 +53,8 @@ form_same : (of said : Form) (before : List Begun) (line : ℕ) (items : List It
 form_same form.Interface said before line items fault m end other count early h k = interface_same before line said items fault m end other count early h k
 form_same form.ClassHfsc said before line items fault m end other count early h k = class_same before Hfsc line said items fault m end other count early h k
 form_same form.ClassCbq said before line items fault m end other count early h k = class_same before Cbq line said items fault m end other count early h k
-form_same form.Filter said before line items fault m end other count early h k = filter_same before line said items fault end other (name_at items 0)
-form_same form.Filter6 said before line items fault m end other count early h k = filter_same before line said items fault end other (name_at items 0)
+form_same form.Filter said before line items fault m end other count early h k = refl
+form_same form.Filter6 said before line items fault m end other count early h k = refl
 form_same form.Unread said before line items fault m end other count early h k = refl
 
 -- ONE LINE

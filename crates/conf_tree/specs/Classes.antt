@@ -1,5 +1,6 @@
 -- class hfsc INTERFACE NAME PARENT (..)*, and class cbq: words 3, 4 and 5, and the options.
-use Rattle.std.specs.Prelude.{ℕ, ◌+◌, ◌&&◌, ◌||◌, Bool, true, false, not, List, length, drop, nat_lt, nat_le, if◌then◌else◌, Option, Some, None, Result, Ok, Err, is_some, is_none, slice_get, slice_set, codes, bytes_eq}
+use Rattle.std.specs.Option.{option_or}
+use Rattle.std.specs.Prelude.{ℕ, ◌+◌, ◌&&◌, ◌||◌, Bool, true, false, not, List, length, drop, nat_lt, nat_le, if◌then◌else◌, Option, Some, None, Result, Ok, is_some, is_none, slice_get, slice_set, codes, bytes_eq}
 use Rattle.conf_lines.specs.declared.fault.ConfPlace.{ConfPlace}
 use Rattle.conf_lines.specs.declared.statement.Statement.{Statement}
 use Rattle.conf_tree.specs.declared.branch.Branch.{Branch}
@@ -14,6 +15,7 @@ use Rattle.conf_tree.specs.Places.{at_word, own_fault}
 use Rattle.conf_lines.specs.declared.fault.ConfKind.TheVariants.{MissingWord, NoInterface, WrongDiscipline, NameTaken, NoParent, TwoRoots, TooDeep, TooManyClasses, NoShare, RealTimeInside, InnerQueue}
 use Rattle.conf_tree.specs.Options.{set_options}
 use Rattle.conf_tree.specs.Settings.{unset, rate_of_kind, of_kind, class_of}
+use Rattle.conf_tree.specs.Tests.{◌>>=◌, some, refuse, own}
 use Rattle.conf_tree.specs.Tree.{Begun, interface_number, class_number, add_class}
 
 abbrev pub is_hfsc : Kind → Bool
@@ -29,72 +31,61 @@ same_kind _ _ = false
 abbrev pub is_queue : Kind → Branch → Bool
 is_queue kind c = is_hfsc kind && (c.class.is_default || c.filtered)
 
--- below a class: on its level and 1, which is at most 8
+-- below the class of a number: on its level and 1, which is at most 8
 abbrev pub below : Kind → Statement → ℕ → Branch → Result Spot ConfPlace
-below kind s i c =
-    if nat_le 8 c.level then Err (at_word s 5 TooDeep)
-    else if c.fixed then Err (at_word s 5 RealTimeInside)
-    else if is_queue kind c then Err (at_word s 5 InnerQueue)
-    else Ok (record { parent = Some i; level = c.level + 1 })
+below kind s i c = do
+  high ← refuse (nat_le 8 c.level) (at_word s 5 TooDeep)
+  free ← refuse c.fixed (at_word s 5 RealTimeInside)
+  outer ← refuse (is_queue kind c) (at_word s 5 InnerQueue)
+  Ok (record { parent = Some i; level = c.level + 1 })
 
-abbrev pub below_at : Kind → Statement → ℕ → Option Branch → Result Spot ConfPlace
-below_at kind s i None = Err (at_word s 5 NoParent)
-below_at kind s i (Some c) = below kind s i c
+abbrev pub root_spot : Begun → Statement → Result Spot ConfPlace
+root_spot b s = do
+  first ← refuse b.rooted (at_word s 5 TwoRoots)
+  Ok (record { parent = None; level = 1 })
 
--- below the class of a number, if the parent is one
-abbrev pub below_number : Begun → Statement → Option ℕ → Result Spot ConfPlace
-below_number b s None = Err (at_word s 5 NoParent)
-below_number b s (Some i) = below_at b.kind s i (slice_get b.classes i)
+abbrev pub inner_spot : Begun → Statement → List ℕ → Result Spot ConfPlace
+inner_spot b s parent = do
+  i ← some (class_number parent b.classes) (at_word s 5 NoParent)
+  c ← some (slice_get b.classes i) (at_word s 5 NoParent)
+  below b.kind s i c
 
 -- the parent: NULL for the root, of which there is one
 abbrev pub spot_of : Begun → Statement → List ℕ → Result Spot ConfPlace
-spot_of b s parent =
-    if bytes_eq parent (codes "NULL") then
-    if b.rooted then Err (at_word s 5 TwoRoots) else Ok (record { parent = None; level = 1 })
-    else below_number b s (class_number parent b.classes)
+spot_of b s parent = if bytes_eq parent (codes "NULL") then root_spot b s else inner_spot b s parent
 
--- at the end an HFSC class but the root has a link-sharing curve
-abbrev pub hfsc_shape : Statement → Spot → Settings → Result Shape ConfPlace
-hfsc_shape s spot settings =
-    if is_some spot.parent && is_none settings.share then Err (at_word s s.end NoShare)
-    else Ok (record { spot = spot; settings = settings; rate = 0 })
+-- At its end an HFSC class but the root has a link-sharing curve. A CBQ class has a rate: the root that of the bandwidth, if it is not
+-- given.
+abbrev pub rate_given : ℕ → Spot → Settings → Option ℕ
+rate_given rate spot settings = option_or settings.rate (if is_some spot.parent then None else Some rate)
 
--- at the end a CBQ class has a rate: the root that of the bandwidth, if it is not given
-abbrev pub cbq_shape : Begun → Statement → Spot → Settings → Option ℕ → Result Shape ConfPlace
-cbq_shape b s spot settings (Some rate) = Ok (record { spot = spot; settings = settings; rate = rate })
-cbq_shape b s spot settings None =
-    if is_some spot.parent then Err (at_word s s.end MissingWord)
-    else Ok (record { spot = spot; settings = settings; rate = b.rate })
-
-abbrev pub shape_of_kind : Kind → Begun → Statement → Spot → Settings → Result Shape ConfPlace
-shape_of_kind Hfsc b s spot settings = hfsc_shape s spot settings
-shape_of_kind Cbq b s spot settings = cbq_shape b s spot settings settings.rate
-
-abbrev pub shape_unless : Begun → Statement → Spot → Settings → Option ConfPlace → Result Shape ConfPlace
-shape_unless b s spot settings (Some fault) = Err fault
-shape_unless b s spot settings None = shape_of_kind b.kind b s spot settings
-
--- by what the options set
-abbrev pub shape_by : Begun → Statement → Spot → Result Settings ConfPlace → Result Shape ConfPlace
-shape_by b s spot (Err fault) = Err fault
-shape_by b s spot (Ok settings) = shape_unless b s spot settings s.fault
+abbrev pub rate_at_end : Kind → Begun → Statement → Spot → Settings → Result ℕ ConfPlace
+rate_at_end Hfsc b s spot settings = do
+  shared ← refuse (is_some spot.parent && is_none settings.share) (at_word s s.end NoShare)
+  Ok 0
+rate_at_end Cbq b s spot settings = some (rate_given b.rate spot settings) (at_word s s.end MissingWord)
 
 abbrev pub scope_of : Begun → Statement → Scope
 scope_of b s = record { line = s.line; rate = b.rate; chosen = b.chosen }
 
--- where the class stands is known
-abbrev pub shape_at : Begun → Statement → Result Spot ConfPlace → Result Shape ConfPlace
-shape_at b s (Err fault) = Err fault
-shape_at b s (Ok spot) = shape_by b s spot (set_options (scope_of b s) unset (drop 3 s.items))
+-- a class at its end, below this parent, and of this name; but for the name
+abbrev pub shape_at_end : Begun → Statement → Spot → Settings → Result Shape ConfPlace
+shape_at_end b s spot settings = do
+  whole ← own s.fault
+  rate ← rate_at_end b.kind b s spot settings
+  Ok (record { spot = spot; settings = settings; rate = rate })
 
-abbrev pub shape_under : Begun → Statement → Option (List ℕ) → Result Shape ConfPlace
-shape_under b s None = Err (own_fault s)
-shape_under b s (Some parent) = shape_at b s (spot_of b s parent)
+abbrev pub shape_below : Begun → Statement → List ℕ → Result Shape ConfPlace
+shape_below b s parent = do
+  spot ← spot_of b s parent
+  settings ← set_options (scope_of b s) unset (drop 3 s.items)
+  shape_at_end b s spot settings
 
--- a class of this name
-abbrev pub shape_named : Begun → Statement → List ℕ → Result Shape ConfPlace
-shape_named b s name =
-    if is_some (class_number name b.classes) then Err (at_word s 4 NameTaken) else shape_under b s (name_at s.items 2)
+abbrev pub shape_of : Begun → Statement → List ℕ → Result Shape ConfPlace
+shape_of b s name = do
+  new ← refuse (is_some (class_number name b.classes)) (at_word s 4 NameTaken)
+  parent ← some (name_at s.items 2) (own_fault s)
+  shape_below b s parent
 
 -- the class of a name and a shape, before others name it
 abbrev pub branch_of : Kind → List ℕ → Shape → Branch
@@ -106,41 +97,30 @@ branch_of kind name shape = record {
   filtered = false;
 }
 
-abbrev pub branch_by : Kind → List ℕ → Result Shape ConfPlace → Result Branch ConfPlace
-branch_by kind name (Err fault) = Err fault
-branch_by kind name (Ok shape) = Ok (branch_of kind name shape)
-
--- the 257th class is refused at its name, whether or not the word there is a NAME
 abbrev pub is_full : Begun → Bool
 is_full b = nat_le 256 (length b.classes)
 
-abbrev pub branch_named : Begun → Statement → Option (List ℕ) → Result Branch ConfPlace
-branch_named b s None =
-    if is_full b && nat_lt 4 s.end then Err (at_word s 4 TooManyClasses) else Err (own_fault s)
-branch_named b s (Some name) =
-    if is_full b then Err (at_word s 4 TooManyClasses) else branch_by b.kind name (shape_named b s name)
+-- the 257th class is refused at its name, whether or not the word there is a NAME
+abbrev pub unnamed_class : Begun → Statement → ConfPlace
+unnamed_class b s = if is_full b && nat_lt 4 s.end then at_word s 4 TooManyClasses else own_fault s
+
+abbrev pub class_named : Begun → Statement → Result Branch ConfPlace
+class_named b s = do
+  name ← some (name_at s.items 1) (unnamed_class b s)
+  few ← refuse (is_full b) (at_word s 4 TooManyClasses)
+  shape ← shape_of b s name
+  Ok (branch_of b.kind name shape)
 
 -- the class of a statement of a kind
 abbrev pub read_branch : Begun → Kind → Statement → Result Branch ConfPlace
-read_branch b kind s =
-    if not (same_kind kind b.kind) then Err (at_word s 3 WrongDiscipline)
-    else branch_named b s (name_at s.items 1)
-
-abbrev pub class_added : List Begun → ℕ → Begun → Result Branch ConfPlace → Result (List Begun) ConfPlace
-class_added before i b (Err fault) = Err fault
-class_added before i b (Ok c) = Ok (slice_set before i (add_class b c))
-
-abbrev pub class_in : List Begun → Kind → Statement → ℕ → Option Begun → Result (List Begun) ConfPlace
-class_in before kind s i None = Err (at_word s 3 NoInterface)
-class_in before kind s i (Some b) = class_added before i b (read_branch b kind s)
-
-abbrev pub class_at : List Begun → Kind → Statement → Option ℕ → Result (List Begun) ConfPlace
-class_at before kind s None = Err (at_word s 3 NoInterface)
-class_at before kind s (Some i) = class_in before kind s i (slice_get before i)
-
-abbrev pub class_of_interface : List Begun → Kind → Statement → Option (List ℕ) → Result (List Begun) ConfPlace
-class_of_interface before kind s None = Err (own_fault s)
-class_of_interface before kind s (Some name) = class_at before kind s (interface_number name before)
+read_branch b kind s = do
+  same ← refuse (not (same_kind kind b.kind)) (at_word s 3 WrongDiscipline)
+  class_named b s
 
 abbrev pub read_class : List Begun → Kind → Statement → Result (List Begun) ConfPlace
-read_class before kind s = class_of_interface before kind s (name_at s.items 0)
+read_class before kind s = do
+  name ← some (name_at s.items 0) (own_fault s)
+  i ← some (interface_number name before) (at_word s 3 NoInterface)
+  b ← some (slice_get before i) (at_word s 3 NoInterface)
+  c ← read_branch b kind s
+  Ok (slice_set before i (add_class b c))

@@ -14,5 +14,6 @@ pub mod Places
 pub mod Printed
 pub mod Reading
 pub mod Settings
+pub mod Tests
 pub mod Tree
 pub mod Whole

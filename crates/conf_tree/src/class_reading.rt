@@ -1,10 +1,8 @@
 //! `class hfsc` and `class cbq`.
-ghost use Rattle.std.specs.Prelude.{◌≡◌, ◌<◌, IfOk, None, Some, length, nat_lt, ◌&&◌, if◌then◌else◌};
+ghost use Rattle.std.specs.Prelude.{◌≡◌, IfOk, None};
 ghost use Rattle.conf_tree.specs.Answers.{Answers, Gains};
-ghost use Rattle.conf_tree.specs.Classes.{is_hfsc, same_kind, is_queue, below, spot_of, hfsc_shape, cbq_shape, shape_unless, shape_at, shape_named, branch_of, read_branch, read_class};
+ghost use Rattle.conf_tree.specs.Classes.{is_hfsc, same_kind, is_queue, below, spot_of, rate_given, rate_at_end, shape_of, branch_of, unnamed_class, read_branch, read_class};
 ghost use Rattle.conf_tree.specs.Fits.{Fits};
-ghost use Rattle.conf_tree.specs.Places.{at_word, own_fault};
-ghost use Rattle.conf_lines.specs.declared.fault.ConfKind.TheVariants.{TooManyClasses};
 ghost use Rattle.conf_tree.specs.Tree.{class_number};
 
 use crate::branch::{Branch, branch_of};
@@ -19,7 +17,7 @@ use conf_lines::{ConfFault, ConfKind, ConfPlace, Statement};
 use play_base::NoMemory;
 use std::alloc::Global;
 
-fn is_hfsc(kind: Kind) -> bool
+pub(crate) fn is_hfsc(kind: Kind) -> bool
     ensures { result ≡ is_hfsc kind }
 {
     match kind {
@@ -84,82 +82,41 @@ fn spot_of(draft: &Draft, statement: &Statement, parent: &str) -> Result<Spot, C
     }
 }
 
-/// An HFSC class at its end.
-fn hfsc_shape(statement: &Statement, spot: Spot, settings: Settings) -> Result<Shape, ConfPlace>
-    ensures { result ≡ hfsc_shape statement.now spot settings }
+/// The rate that a CBQ class has at its end: the root that of the bandwidth, if it is not given.
+fn rate_given(rate: u64, spot: Spot, settings: Settings) -> Option<u64>
+    ensures { result ≡ rate_given rate spot settings }
 {
-    if spot.parent.is_some() && settings.share.is_none() {
-        return Err(at_word(statement, statement.end, ConfKind::NoShare));
+    match settings.rate {
+        Some(rate) => Some(rate),
+        None if spot.parent.is_some() => None,
+        None => Some(rate),
     }
-    Ok(Shape {
-        spot,
-        settings,
-        rate: 0,
-    })
 }
 
-/// A CBQ class at its end.
-fn cbq_shape(
+/// The rate of a class at its end, which is 0 in HFSC.
+fn rate_at_end(
     draft: &Draft,
     statement: &Statement,
     spot: Spot,
     settings: Settings,
-) -> Result<Shape, ConfPlace>
-    ensures { result ≡ cbq_shape draft.now statement.now spot settings settings.rate }
+) -> Result<u64, ConfPlace>
+    ensures { result ≡ rate_at_end draft.now.kind draft.now statement.now spot settings }
 {
-    if let Some(rate) = settings.rate {
-        return Ok(Shape {
-            spot,
-            settings,
-            rate,
-        });
-    }
-    if spot.parent.is_some() {
-        return Err(at_word(statement, statement.end, ConfKind::MissingWord));
-    }
-    Ok(Shape {
-        spot,
-        settings,
-        rate: draft.rate,
-    })
-}
-
-/// A class whose options are right, unless the statement has a fault of its own.
-fn shape_unless(
-    draft: &Draft,
-    statement: &Statement,
-    spot: Spot,
-    settings: Settings,
-) -> Result<Shape, ConfPlace>
-    ensures { result ≡ shape_unless draft.now statement.now spot settings statement.now.fault }
-{
-    match statement.fault {
-        Some(fault) => Err(fault),
-        None => match draft.kind {
-            Kind::Hfsc => hfsc_shape(statement, spot, settings),
-            Kind::Cbq => cbq_shape(draft, statement, spot, settings),
+    match draft.kind {
+        Kind::Hfsc if spot.parent.is_some() && settings.share.is_none() => {
+            Err(at_word(statement, statement.end, ConfKind::NoShare))
+        }
+        Kind::Hfsc => Ok(0),
+        Kind::Cbq => match rate_given(draft.rate, spot, settings) {
+            Some(rate) => Ok(rate),
+            None => Err(at_word(statement, statement.end, ConfKind::MissingWord)),
         },
     }
 }
 
-/// A class at its spot in the tree, by its options.
-fn shape_at(draft: &Draft, statement: &Statement, spot: Spot) -> Result<Shape, ConfPlace>
-    ensures { result ≡ shape_at draft.now statement.now (Ok spot) }
-{
-    let scope = Scope {
-        line: statement.line,
-        rate: draft.rate,
-        chosen: draft.chosen,
-    };
-    match set_options(scope, unset(), behind(statement, 3)) {
-        Ok(settings) => shape_unless(draft, statement, spot, settings),
-        Err(fault) => Err(fault),
-    }
-}
-
-/// A class of this name.
-fn shape_named(draft: &Draft, statement: &Statement, name: &str) -> Result<Shape, ConfPlace>
-    ensures shape { result ≡ shape_named draft.now statement.now name.now }
+/// A class of this name, but for the name.
+fn shape_of(draft: &Draft, statement: &Statement, name: &str) -> Result<Shape, ConfPlace>
+    ensures shape { result ≡ shape_of draft.now statement.now name.now }
     ensures new { IfOk result (λ _. class_number name.now draft.now.classes ≡ None) }
 {
     if draft.class_number(name).is_some() {
@@ -168,17 +125,29 @@ fn shape_named(draft: &Draft, statement: &Statement, name: &str) -> Result<Shape
     let Some(parent) = name_at(statement.items.as_slice(), 2) else {
         return Err(own_fault(statement));
     };
-    match spot_of(draft, statement, parent) {
-        Ok(spot) => shape_at(draft, statement, spot),
-        Err(fault) => Err(fault),
+    let spot = spot_of(draft, statement, parent)?;
+    let scope = Scope {
+        line: statement.line,
+        rate: draft.rate,
+        chosen: draft.chosen,
+    };
+    let settings = set_options(scope, unset(), behind(statement, 3))?;
+    if let Some(fault) = statement.fault {
+        return Err(fault);
     }
+    let rate = rate_at_end(draft, statement, spot, settings)?;
+    Ok(Shape {
+        spot,
+        settings,
+        rate,
+    })
 }
 
 /// The fault of a class without a NAME, on an interface that is full or not.
-fn unnamed(statement: &Statement, is_full: bool) -> ConfPlace
-    ensures { result ≡ (if is_full && nat_lt 4 statement.now.end then at_word statement.now 4 TooManyClasses else own_fault statement.now) }
+fn unnamed(draft: &Draft, statement: &Statement) -> ConfPlace
+    ensures { result ≡ unnamed_class draft.now statement.now }
 {
-    if is_full && 4 < statement.end {
+    if draft.classes.len() >= 256 && 4 < statement.end {
         at_word(statement, 4, ConfKind::TooManyClasses)
     } else {
         own_fault(statement)
@@ -198,14 +167,13 @@ fn read_branch(
     if !same_kind(kind, draft.kind) {
         return Err(ConfFault::At(at_word(statement, 3, ConfKind::WrongDiscipline)));
     }
-    let is_full = draft.classes.len() >= 256;
     let Some(name) = name_at(statement.items.as_slice(), 1) else {
-        return Err(ConfFault::At(unnamed(statement, is_full)));
+        return Err(ConfFault::At(unnamed(draft, statement)));
     };
-    if is_full {
+    if draft.classes.len() >= 256 {
         return Err(ConfFault::At(at_word(statement, 4, ConfKind::TooManyClasses)));
     }
-    match shape_named(draft, statement, name) {
+    match shape_of(draft, statement, name) {
         Ok(shape) => match branch_of(alloc, draft.kind, name, shape) {
             Ok(branch) => Ok(branch),
             Err(NoMemory) => Err(ConfFault::NoMemory),

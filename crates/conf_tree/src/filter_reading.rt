@@ -1,9 +1,10 @@
 //! `filter` and `filter6`.
 ghost use Rattle.std.specs.Prelude.{◌≡◌};
 ghost use Rattle.conf_tree.specs.Answers.{Gains};
-ghost use Rattle.conf_tree.specs.FilterStatements.{filter_unless, filter_to, filter_read, read_filter};
+ghost use Rattle.conf_tree.specs.FilterStatements.{filter_to, filter_read, read_filter};
 
 use crate::branch::Branch;
+use crate::class_reading::is_hfsc;
 use crate::draft::Draft;
 use crate::filter::Filter;
 use crate::filter_parts::filter_of;
@@ -14,16 +15,6 @@ use crate::tree::Tree;
 use conf_lines::{ConfFault, ConfKind, ConfPlace, Statement};
 use play_base::NoMemory;
 
-/// The filter of a class, where the statement has no fault of its own.
-fn filter_unless(statement: &Statement, number: u32) -> Result<Filter, ConfPlace>
-    ensures { result ≡ filter_unless statement.now number statement.now.fault }
-{
-    match statement.fault {
-        Some(fault) => Err(fault),
-        None => Ok(filter_of(statement.form, number, behind(statement, 2))),
-    }
-}
-
 /// The filter of a class that it names.
 fn filter_to(
     kind: Kind,
@@ -31,11 +22,14 @@ fn filter_to(
     number: u32,
     branch: &Branch,
 ) -> Result<Filter, ConfPlace>
-    ensures { result ≡ filter_to kind statement.now number (Some branch.now) }
+    ensures { result ≡ filter_to kind statement.now number branch.now }
 {
-    match kind {
-        Kind::Hfsc if branch.inner => Err(at_word(statement, 3, ConfKind::InnerQueue)),
-        _ => filter_unless(statement, number),
+    if is_hfsc(kind) && branch.inner {
+        return Err(at_word(statement, 3, ConfKind::InnerQueue));
+    }
+    match statement.fault {
+        Some(fault) => Err(fault),
+        None => Ok(filter_of(statement.form, number, behind(statement, 2))),
     }
 }
 
@@ -43,8 +37,7 @@ fn filter_to(
 fn filter_read(draft: &Draft, statement: &Statement) -> Result<Filter, ConfPlace>
     ensures { result ≡ filter_read draft.now statement.now }
 {
-    let is_full = draft.filters.len() >= 1024;
-    if is_full {
+    if draft.filters.len() >= 1024 {
         return Err(at_word(statement, 2, ConfKind::TooManyFilters));
     }
     let Some(name) = name_at(statement.items.as_slice(), 1) else {

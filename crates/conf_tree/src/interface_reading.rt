@@ -1,9 +1,7 @@
 //! `interface`.
-ghost use Rattle.std.specs.Prelude.{◌≡◌, ◌&&◌, IfOk, None, nat_lt, if◌then◌else◌};
+ghost use Rattle.std.specs.Prelude.{◌≡◌, IfOk, None};
 ghost use Rattle.conf_tree.specs.Answers.{Gains};
-ghost use Rattle.conf_tree.specs.Interfaces.{kind_unless, interface_kind, interface_rate, read_interface};
-ghost use Rattle.conf_tree.specs.Places.{at_word, own_fault};
-ghost use Rattle.conf_lines.specs.declared.fault.ConfKind.TheVariants.{TooManyInterfaces};
+ghost use Rattle.conf_tree.specs.Interfaces.{interface_kind, unnamed_interface, read_interface};
 ghost use Rattle.conf_tree.specs.Tree.{interface_number};
 
 use crate::draft::Draft;
@@ -16,35 +14,28 @@ use conf_lines::{ConfFault, ConfKind, ConfPlace, Statement};
 use play_base::NoMemory;
 use std::alloc::Global;
 
-/// The kind of an interface without another fault before its options.
-fn kind_unless(statement: &Statement) -> Result<Kind, ConfPlace>
-    ensures { result ≡ kind_unless statement.now statement.now.fault }
-{
-    match statement.fault {
-        Some(fault) => Err(fault),
-        None => match kind_by_options(behind(statement, 1)) {
-            Some(kind) => Ok(kind),
-            None => Err(at_word(statement, statement.end, ConfKind::MissingWord)),
-        },
-    }
-}
-
 /// The kind of an interface with this name.
 fn interface_kind(tree: &Tree, statement: &Statement, name: &str) -> Result<Kind, ConfPlace>
     ensures kind { result ≡ interface_kind tree.now statement.now name.now }
     ensures new { IfOk result (λ _. interface_number name.now tree.now ≡ None) }
 {
-    match tree.interface_number(name) {
-        Some(_) => Err(at_word(statement, 2, ConfKind::InterfaceTwice)),
-        None => kind_unless(statement),
+    if tree.interface_number(name).is_some() {
+        return Err(at_word(statement, 2, ConfKind::InterfaceTwice));
+    }
+    if let Some(fault) = statement.fault {
+        return Err(fault);
+    }
+    match kind_by_options(behind(statement, 1)) {
+        Some(kind) => Ok(kind),
+        None => Err(at_word(statement, statement.end, ConfKind::MissingWord)),
     }
 }
 
 /// The fault of an interface without a NAME, behind 16 interfaces or not.
-fn unnamed(statement: &Statement, are_full: bool) -> ConfPlace
-    ensures { result ≡ (if are_full && nat_lt 2 statement.now.end then at_word statement.now 2 TooManyInterfaces else own_fault statement.now) }
+fn unnamed(tree: &Tree, statement: &Statement) -> ConfPlace
+    ensures { result ≡ unnamed_interface tree.now statement.now }
 {
-    if are_full && 2 < statement.end {
+    if tree.interfaces().len() >= 16 && 2 < statement.end {
         at_word(statement, 2, ConfKind::TooManyInterfaces)
     } else {
         own_fault(statement)
@@ -59,11 +50,10 @@ pub(crate) fn read_interface<'a>(
 ) -> Result<(), ConfFault>
     ensures { Gains result tree.new (read_interface tree.old statement.now) }
 {
-    let are_full = tree.interfaces().len() >= 16;
     let Some(name) = name_at(statement.items.as_slice(), 0) else {
-        return Err(ConfFault::At(unnamed(statement, are_full)));
+        return Err(ConfFault::At(unnamed(tree, statement)));
     };
-    if are_full {
+    if tree.interfaces().len() >= 16 {
         return Err(ConfFault::At(at_word(statement, 2, ConfKind::TooManyInterfaces)));
     }
     let kind = match interface_kind(tree, statement, name) {

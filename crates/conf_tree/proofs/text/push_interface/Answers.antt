@@ -1,6 +1,5 @@
-use Rattle.std.proofs.Common.{◌≡◌, ◌∷◌, ◌++◌, [], List, ℕ, string_bytes, append_assoc, ap, sym, ◌∙◌, refl}
-use Rattle.conf_tree.specs.declared.interface.Interface.{Interface}
-use Rattle.conf_tree.specs.Canonical.{interface_line, class_lines, filter_lines, written_classes, interface_lines}
+use Rattle.std.proofs.Common.{◌≡◌, ◌∷◌, ◌++◌, [], List, ℕ, string_bytes, append_assoc, ap, sym, ◌∙◌}
+use Rattle.conf_tree.specs.Canonical.{interface_line, class_lines, filter_lines, written_classes}
 use Rattle.conf_tree.specs.Printed.{TextLine, printed}
 use Rattle.conf_tree.proofs.PrintedLines.{printed-append}
 use Rattle.conf_tree.proofs.text.push_interface.Goals as goal
