@@ -3,8 +3,8 @@ use Rattle.std.proofs.Common.{◌≡◌, ◌⊎◌, inl, inr, ⊎_elim, ℕ, zer
 use Rattle.std.proofs.lemmas.Bool.Decides.{nat_tests}
 use Rattle.conf_lines.specs.declared.fault.ConfPlace.{ConfPlace}
 use Rattle.conf_lines.specs.declared.item.Item.{Item}
-use Rattle.conf_lines.specs.declared.item.Key.{Key}
-use Rattle.conf_lines.specs.declared.item.Key.TheVariants as key
+use Rattle.conf_lines.specs.declared.options.Key.{Key}
+use Rattle.conf_lines.specs.declared.options.Key.TheVariants as key
 use Rattle.conf_lines.specs.declared.item.What.{What}
 use Rattle.conf_lines.specs.declared.item.What.TheVariants as what
 use Rattle.conf_lines.specs.declared.statement.Form.{Form}

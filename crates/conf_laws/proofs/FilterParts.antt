@@ -1,7 +1,7 @@
 -- The words of filters as parts of their lines.
 use Rattle.std.proofs.Common.{◌≡◌, ℕ, ◌-◌, ◌^◌, ◌<◌, ◌≤◌, true, List, [], ◌∷◌, Option, Some, None, refl, arith}
-use Rattle.conf_lines.specs.declared.item.Key.{Key}
-use Rattle.conf_lines.specs.declared.item.Key.TheVariants as key
+use Rattle.conf_lines.specs.declared.options.Key.{Key}
+use Rattle.conf_lines.specs.declared.options.Key.TheVariants as key
 use Rattle.conf_lines.specs.declared.item.What.TheVariants as what
 use Rattle.conf_lines.specs.declared.statement.Form.{Form}
 use Rattle.conf_lines.specs.declared.statement.Form.TheVariants as form
@@ -19,8 +19,7 @@ use Rattle.conf_laws.proofs.WordParts.{is_printed, key_part, name_part, number_p
 -- IF CLASS ruleno N
 pub filter_part : {form : Form} (interface class : List ℕ) (ruleno : ℕ) → Tells (at_interface_name form) interface (what.Name interface) (at_filter_class form)
     → IsName interface → IsName class → ruleno < 2 ^ 32
-    → Part (at_interface_name form) (at_address_of form target_side)
-    (filter_names interface class ruleno) 4
+    → Part (at_interface_name form) (at_address_of form (target_side form)) (filter_names interface class ruleno) 4
 filter_part interface class ruleno tells is_interface is_class small =
     name_part tells is_interface
     >> name_part (tells_filter_class (name_is_read class is_class)) is_class

@@ -1,6 +1,6 @@
 -- The parts of a filter, as the canonical text has them.
 use Rattle.std.proofs.Common.{◌≡◌, ℕ, ◌-◌, ◌^◌, ◌<◌, ◌≤◌, List, drop, Option, Some, None, unwrap_or, refl, sym, arith}
-use Rattle.conf_lines.specs.declared.item.Key.{Key}
+use Rattle.conf_lines.specs.declared.options.Key.{Key}
 use Rattle.conf_tree.specs.declared.filter.Addresses.{Addresses}
 use Rattle.conf_tree.specs.declared.filter.Addresses.TheVariants.{V4, V6}
 use Rattle.conf_tree.specs.declared.filter.Filter.{Filter}
@@ -10,7 +10,7 @@ use Rattle.conf_laws.specs.Fit.{AreAddresses, IsTos}
 use Rattle.conf_tree.specs.Canonical.{tos_whats, filter_whats_by, filter_form}
 use Rattle.conf_laws.specs.Statements.{numbered}
 use Rattle.conf_laws.proofs.CurvesRead.{within_is}
-use Rattle.conf_lines.specs.declared.item.Key.TheVariants as key
+use Rattle.conf_lines.specs.declared.options.Key.TheVariants as key
 
 tos_read : (word mask_word : Key) (at : ℕ) (tos : Option (ℕ × ℕ)) → IsTos tos → tos_in (numbered at (tos_whats word mask_word tos)) ≡ tos
 tos_read word mask_word at None h = refl

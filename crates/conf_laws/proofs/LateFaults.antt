@@ -4,8 +4,8 @@ use Rattle.std.proofs.Common.{ℕ, zero, suc, ◌≤◌, ◌&&◌, ◌||◌, Boo
 use Rattle.conf_lines.specs.declared.fault.ConfKind.{ConfKind}
 use Rattle.conf_lines.specs.declared.fault.ConfPlace.{ConfPlace}
 use Rattle.conf_lines.specs.declared.item.Item.{Item}
-use Rattle.conf_lines.specs.declared.item.Key.{Key}
-use Rattle.conf_lines.specs.declared.item.Key.TheVariants as key
+use Rattle.conf_lines.specs.declared.options.Key.{Key}
+use Rattle.conf_lines.specs.declared.options.Key.TheVariants as key
 use Rattle.conf_lines.specs.declared.item.What.{What}
 use Rattle.conf_lines.specs.declared.item.What.TheVariants as what
 use Rattle.conf_lines.specs.declared.statement.Form.{Form}

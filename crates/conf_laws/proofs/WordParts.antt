@@ -2,7 +2,7 @@
 use Rattle.std.proofs.Common.{◌≡◌, ℕ, ◌^◌, ◌<◌, ◌≤◌, ◌&&◌, Bool, true, List, [], ◌∷◌, ◌++◌, length, nat_le, codes, decimal, arith}
 use Rattle.std.proofs.lemmas.Bool.{and_parts}
 use Rattle.std.proofs.lemmas.Bool.Decides.{nat_tests}
-use Rattle.conf_lines.specs.declared.item.Key.{Key}
+use Rattle.conf_lines.specs.declared.options.Key.{Key}
 use Rattle.conf_lines.specs.declared.item.What.TheVariants as what
 use Rattle.conf_lines.specs.declared.statement.Form.{Form}
 use Rattle.conf_lines.proofs.GrammarPlaces.{GrammarPlace, Tells, at_option, at_rate, at_whole}

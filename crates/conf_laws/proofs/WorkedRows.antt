@@ -2,13 +2,13 @@
 use Rattle.std.proofs.Common.{refl}
 use Rattle.std.specs.Fmt.{digits}
 use Rattle.line_text.specs.Lines.{joint}
-use Rattle.conf_lines.specs.Grammar.{at_statement, at_discipline, at_parent, at_address, at_port, at_ruleno_or_address, at_name_or_address, at_mask_or_port, step, end}
+use Rattle.conf_lines.specs.Grammar.{at_statement, at_discipline, at_parent, step, end}
 use Rattle.conf_lines.specs.Slots.{is_text, are_plain, rate_in, whole_in, skipped_in, name_in, protocol_in, mask_in, address_in, address6_in}
 use Rattle.conf_lines.specs.Texts.{statements_of}
 use Rattle.conf_laws.specs.Rows.{LinesAre, EndsAre, NamesAre, RangesAre, OrdersAre, LaterAre, FiltersAre, ImpliedAre}
 
 pub lines_are : LinesAre
-unfolding statements_of is_text are_plain rate_in whole_in skipped_in name_in protocol_in mask_in address_in address6_in at_statement at_discipline at_parent at_address at_port at_ruleno_or_address at_name_or_address at_mask_or_port step end joint digits
+unfolding statements_of is_text are_plain rate_in whole_in skipped_in name_in protocol_in mask_in address_in address6_in at_statement at_discipline at_parent step end joint digits
 lines_are = record {
   comment_keeps_its_backslash = refl;
   backslash_continues = refl;
@@ -19,7 +19,7 @@ lines_are = record {
 }
 
 pub ends_are : EndsAre
-unfolding statements_of is_text are_plain rate_in whole_in skipped_in name_in protocol_in mask_in address_in address6_in at_statement at_discipline at_parent at_address at_port at_ruleno_or_address at_name_or_address at_mask_or_port step end joint digits
+unfolding statements_of is_text are_plain rate_in whole_in skipped_in name_in protocol_in mask_in address_in address6_in at_statement at_discipline at_parent step end joint digits
 ends_are = record {
   blank_ends_a_word = refl;
   return_ends_a_word = refl;
@@ -36,7 +36,7 @@ ends_are = record {
 }
 
 pub names_are : NamesAre
-unfolding statements_of is_text are_plain rate_in whole_in skipped_in name_in protocol_in mask_in address_in address6_in at_statement at_discipline at_parent at_address at_port at_ruleno_or_address at_name_or_address at_mask_or_port step end joint digits
+unfolding statements_of is_text are_plain rate_in whole_in skipped_in name_in protocol_in mask_in address_in address6_in at_statement at_discipline at_parent step end joint digits
 names_are = record {
   name_of_64 = refl;
   name_of_65 = refl;
@@ -51,7 +51,7 @@ names_are = record {
 }
 
 pub ranges_are : RangesAre
-unfolding statements_of is_text are_plain rate_in whole_in skipped_in name_in protocol_in mask_in address_in address6_in at_statement at_discipline at_parent at_address at_port at_ruleno_or_address at_name_or_address at_mask_or_port step end joint digits
+unfolding statements_of is_text are_plain rate_in whole_in skipped_in name_in protocol_in mask_in address_in address6_in at_statement at_discipline at_parent step end joint digits
 ranges_are = record {
   least_bandwidth = refl;
   below_the_bandwidth = refl;
@@ -105,7 +105,7 @@ ranges_are = record {
 }
 
 pub orders_are : OrdersAre
-unfolding statements_of is_text are_plain rate_in whole_in skipped_in name_in protocol_in mask_in address_in address6_in at_statement at_discipline at_parent at_address at_port at_ruleno_or_address at_name_or_address at_mask_or_port step end joint digits
+unfolding statements_of is_text are_plain rate_in whole_in skipped_in name_in protocol_in mask_in address_in address6_in at_statement at_discipline at_parent step end joint digits
 orders_are = record {
   real_time_before_queue = refl;
   queue_before_its_options = refl;
@@ -124,7 +124,7 @@ orders_are = record {
 }
 
 pub later_are : LaterAre
-unfolding statements_of is_text are_plain rate_in whole_in skipped_in name_in protocol_in mask_in address_in address6_in at_statement at_discipline at_parent at_address at_port at_ruleno_or_address at_name_or_address at_mask_or_port step end joint digits
+unfolding statements_of is_text are_plain rate_in whole_in skipped_in name_in protocol_in mask_in address_in address6_in at_statement at_discipline at_parent step end joint digits
 later_are = record {
   rt_then_grate = refl;
   grate_then_rt = refl;
@@ -159,7 +159,7 @@ later_are = record {
 }
 
 pub filters_are : FiltersAre
-unfolding statements_of is_text are_plain rate_in whole_in skipped_in name_in protocol_in mask_in address_in address6_in at_statement at_discipline at_parent at_address at_port at_ruleno_or_address at_name_or_address at_mask_or_port step end joint digits
+unfolding statements_of is_text are_plain rate_in whole_in skipped_in name_in protocol_in mask_in address_in address6_in at_statement at_discipline at_parent step end joint digits
 filters_are = record {
   under_its_masks = refl;
   under_its_prefix = refl;
@@ -172,7 +172,7 @@ filters_are = record {
 }
 
 pub implied_are : ImpliedAre
-unfolding statements_of is_text are_plain rate_in whole_in skipped_in name_in protocol_in mask_in address_in address6_in at_statement at_discipline at_parent at_address at_port at_ruleno_or_address at_name_or_address at_mask_or_port step end joint digits
+unfolding statements_of is_text are_plain rate_in whole_in skipped_in name_in protocol_in mask_in address_in address6_in at_statement at_discipline at_parent step end joint digits
 implied_are = record {
   leaf_of_hfsc = refl;
   root_of_hfsc = refl;

@@ -1,4 +1,7 @@
+mod EachStatement
 pub mod FilterSteps
+mod GoodSteps
+mod ReadWords
 pub mod GrammarPlaces
 pub mod Names
 pub mod OneLine
@@ -7,6 +10,4 @@ pub mod SoundItems
 pub mod Steps
 pub mod LineSplit
 pub mod StandingWords
-mod WholeOptions
-mod WholeParts
 mod WholeStatements

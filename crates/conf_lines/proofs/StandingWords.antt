@@ -2,9 +2,7 @@
 use Rattle.std.proofs.Common.{◌≡◌, ℕ, ◌+◌, ◌<◌, ◌≤◌, List, [], ◌∷◌, ◌++◌, length, Option, Some, None, Result, Ok, Err, refl, ap, arith}
 use Rattle.conf_lines.specs.declared.fault.ConfKind.{ConfKind}
 use Rattle.conf_lines.specs.declared.fault.ConfPlace.{ConfPlace}
-use Rattle.conf_lines.specs.declared.grammar.Place.{Place}
-use Rattle.conf_lines.specs.declared.grammar.Step.{Step}
-use Rattle.conf_lines.specs.Grammar.{step, end}
+use Rattle.conf_lines.specs.Grammar.{Place, Step, step, end}
 use Rattle.conf_lines.specs.Texts.{Reading, fault_at, stops, item_of, behind, read_from}
 
 -- what a word that leads there, or to a fault, makes of a line

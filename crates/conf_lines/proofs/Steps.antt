@@ -1,7 +1,7 @@
 -- What leads from one place of the grammar to another: the first words, the names and the options.
 use Rattle.std.proofs.Common.{◌≡◌, ℕ, ◌||◌, Bool, true, false, List, Some, None, Ok, codes, refl, subst}
 use Rattle.std.proofs.Math.Bool.{or-false, or-true}
-use Rattle.conf_lines.specs.declared.item.Key.{Key}
+use Rattle.conf_lines.specs.declared.options.Key.{Key}
 use Rattle.conf_lines.specs.declared.item.What.TheVariants as what
 use Rattle.conf_lines.specs.declared.statement.Form.{Form}
 use Rattle.conf_lines.specs.declared.statement.Form.TheVariants as form

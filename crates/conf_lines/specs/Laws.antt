@@ -1,16 +1,22 @@
 -- What the items of the statements of every text keep to, after altq.conf(5): each has its form, and in a statement without a
 -- fault each option has behind it what the table of options says, and each name and each part of a filter is there.
-use Rattle.std.specs.Prelude.{◌≡◌, ◌<◌, ◌≤◌, ℕ, true, false, List, [], ◌∷◌, ◌++◌, length, All, Option, Some, None, option_map, slice_get}
+use Rattle.std.specs.Prelude.{◌≡◌, ◌⊎◌, ◌<◌, ◌≤◌, ℕ, Bool, true, false, List, [], ◌∷◌, ◌++◌, length, drop, All, Option, Some, None, option_map, slice_get}
 use Rattle.conf_lines.specs.declared.fault.ConfPlace.{ConfPlace}
 use Rattle.conf_lines.specs.declared.item.Item.{Item}
 use Rattle.conf_lines.specs.declared.item.What.{What}
 use Rattle.conf_lines.specs.declared.item.What.TheVariants as what
+use Rattle.conf_lines.specs.declared.options.Key.{Key}
 use Rattle.conf_lines.specs.declared.options.Slots.{Slots}
 use Rattle.conf_lines.specs.declared.options.Slots.TheVariants as slots
+use Rattle.conf_lines.specs.declared.part.Part.{Part}
+use Rattle.conf_lines.specs.declared.part.Part.TheVariants.{Must, May, Behind}
+use Rattle.conf_lines.specs.declared.part.Slot.{Slot}
+use Rattle.conf_lines.specs.declared.part.Slot.TheVariants as slot
+use Rattle.conf_lines.specs.declared.statement.Form.{Form}
 use Rattle.conf_lines.specs.declared.statement.Statement.{Statement}
-use Rattle.conf_lines.specs.Grammar.{is_convex, start}
-use Rattle.conf_lines.specs.Options.{most_rate, most_bend, slots_of}
-use Rattle.conf_lines.specs.Parts.{HasParts}
+use Rattle.conf_lines.specs.Grammar.{stands_by, is_convex, start}
+use Rattle.conf_lines.specs.Options.{most_rate, most_bend, most_port, most_protocol, slots_of, options_of}
+use Rattle.conf_lines.specs.Parts.{parts_of}
 use Rattle.line_text.specs.Names.{is_name}
 use Rattle.conf_lines.specs.Texts.{read_from, statements_of}
 
@@ -85,6 +91,45 @@ IsWhole _ items = Unit {0}
 abbrev pub AreWhole : List Item → Type 0
 AreWhole [] = Unit {0}
 AreWhole (item ∷ items) = IsWhole item.what items × AreWhole items
+
+-- a word that must be there says what it is for
+abbrev pub Fills : Slot → What → Type 0
+Fills slot.Name (what.Name name) = Unit {0}
+Fills slot.Parent (what.Name name) = Unit {0}
+Fills slot.Address what.Any = Unit {0}
+Fills slot.Address (what.Ip4 address) = Unit {0}
+Fills slot.Address6 what.Any = Unit {0}
+Fills slot.Address6 (what.Ip6 address bits) = Unit {0}
+Fills slot.Port (what.Whole n) = n ≤ most_port
+Fills slot.Protocol (what.Whole n) = n ≤ most_protocol
+Fills _ _ = ⊥
+
+-- an option with what it asks for, and behind that the rest
+abbrev pub slot_count : Slots → ℕ
+slot_count slots.Nothing = 0
+slot_count (slots.Curve low least) = 3
+slot_count _ = 1
+
+abbrev pub HasOption : Key → (List Item → Type 0) → List Item → Type 0
+HasOption key rest [] = ⊥
+HasOption key rest (item ∷ items) =
+    (item.what ≡ what.Key key) × HasSlots (slots_of key) items × rest (drop (slot_count (slots_of key)) items)
+
+-- the parts are there in their order, and behind them nothing where the statement has no options
+abbrev pub Ends : List Key → List Item → Type 0
+Ends [] items = items ≡ []
+Ends (key ∷ keys) items = Unit {0}
+
+abbrev pub Has : Form → Bool → List Part → List Item → Type 0
+Has form stands [] items = Ends (options_of form) items
+Has form stands (Must slot ∷ parts) [] = ⊥
+Has form stands (Must slot ∷ parts) (item ∷ items) = Fills slot item.what × Has form (stands_by item.what) parts items
+Has form stands (May key ∷ parts) items = HasOption key (Has form true parts) items ⊎ Has form false parts items
+Has form true (Behind key ∷ parts) items = HasOption key (Has form true parts) items ⊎ Has form false parts items
+Has form false (Behind key ∷ parts) items = Has form false parts items
+
+abbrev pub HasParts : Form → List Item → Type 0
+HasParts form items = Has form true (parts_of form) items
 
 abbrev pub AreAllWhole : List Statement → Type 0
 AreAllWhole [] = Unit {0}

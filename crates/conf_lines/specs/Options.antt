@@ -1,8 +1,8 @@
 -- The options of the statements, as one table: the word of each, what stands behind it, and whether a statement has by it
 -- what it must have at its end. See altq.conf(5).
 use Rattle.std.specs.Prelude.{ℕ, ◌-◌, ◌^◌, Bool, true, false, List, [], ◌∷◌, find, Option, codes}
-use Rattle.conf_lines.specs.declared.item.Key.{Key}
-use Rattle.conf_lines.specs.declared.item.Key.TheVariants as key
+use Rattle.conf_lines.specs.declared.options.Key.{Key}
+use Rattle.conf_lines.specs.declared.options.Key.TheVariants as key
 use Rattle.conf_lines.specs.declared.options.Slots.{Slots}
 use Rattle.conf_lines.specs.declared.options.Slots.TheVariants.{Nothing, Word, Rate, Whole, Curve, Mask}
 use Rattle.conf_lines.specs.declared.statement.Form.{Form}

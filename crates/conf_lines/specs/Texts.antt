@@ -5,13 +5,12 @@ use Rattle.line_text.specs.Lines.{line_len, joined, longest_line}
 use Rattle.line_text.specs.Words.{words_of}
 use Rattle.conf_lines.specs.declared.fault.ConfKind.{ConfKind}
 use Rattle.conf_lines.specs.declared.fault.ConfPlace.{ConfPlace}
-use Rattle.conf_lines.specs.declared.grammar.Place.{Place}
 use Rattle.conf_lines.specs.declared.item.Item.{Item}
 use Rattle.conf_lines.specs.declared.item.What.{What}
 use Rattle.conf_lines.specs.declared.statement.Form.{Form}
 use Rattle.conf_lines.specs.declared.statement.Form.TheVariants.{Unread}
 use Rattle.conf_lines.specs.declared.statement.Statement.{Statement}
-use Rattle.conf_lines.specs.Grammar.{step, end, start}
+use Rattle.conf_lines.specs.Grammar.{Place, step, end, start}
 use Rattle.conf_lines.specs.declared.fault.ConfKind.TheVariants.{TooLong}
 
 -- what the words from a place on say: the form where the reading stops, the items up to there, and the first fault

@@ -1,6 +1,7 @@
 //! What the words of a statement say.
 ghost use Rattle.std.specs.Prelude.{◌≡◌, ℕ, List, string_bytes};
 
+use crate::options::Key;
 use std::marker::Model;
 
 /// A text of its own: a name of an interface or a class. Contracts see it as the list of its bytes.
@@ -37,44 +38,6 @@ impl Text {
         let Text { string } = self;
         string
     }
-}
-
-/// The words of options, one for each word of altq.conf(5) that this profile reads.
-#[derive(Clone, Copy, Debug, PartialEq, Eq)]
-pub enum Key {
-    Bandwidth,
-    Tbrsize,
-    Hfsc,
-    Cbq,
-    Efficient,
-    CbqWrr,
-    Sc,
-    Rt,
-    Ls,
-    Ul,
-    Pshare,
-    Grate,
-    Qlimit,
-    Red,
-    Ecn,
-    Rio,
-    Cleardscp,
-    Admission,
-    Default,
-    Priority,
-    Pbandwidth,
-    Exactbandwidth,
-    Borrow,
-    Control,
-    Maxburst,
-    Packetsize,
-    Name,
-    Ruleno,
-    Netmask,
-    Tos,
-    Tosmask,
-    Tclass,
-    Tclassmask,
 }
 
 /// What one word says.

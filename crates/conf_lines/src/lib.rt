@@ -7,12 +7,15 @@ mod grammar;
 mod item;
 mod laws;
 mod options;
+mod part;
 mod slot;
 mod statement;
 mod step;
 
 pub use fault::{ConfFault, ConfKind, ConfPlace};
-pub use item::{Item, Items, Key, Text, What};
+pub use item::{Item, Items, Text, What};
 pub use laws::{items_are_sound, line_faults_stand, options_are_whole};
-pub use options::{MOST_BEND, MOST_PORT, MOST_PROTOCOL, MOST_RATE, MOST_RULENO, MOST_TOS, Slots};
+pub use options::{
+    Key, MOST_BEND, MOST_PORT, MOST_PROTOCOL, MOST_RATE, MOST_RULENO, MOST_TOS, Slots,
+};
 pub use statement::{Form, Statement, statements};

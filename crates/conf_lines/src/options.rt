@@ -2,7 +2,6 @@
 ghost use Rattle.std.specs.Prelude.{◌≡◌};
 ghost use Rattle.conf_lines.specs.Options.{most_rate, most_bend, most_ruleno, most_port, most_protocol, most_tos, word_of_key, slots_of, settles, options_of, option_of};
 
-use crate::item::Key;
 use crate::slot::is_text;
 use crate::statement::Form;
 
@@ -39,6 +38,44 @@ pub enum Slots {
     Curve(u64, u64),
     /// A mask of an IPv4 address.
     Mask,
+}
+
+/// The words of options, one for each word of altq.conf(5) that this profile reads.
+#[derive(Clone, Copy, Debug, PartialEq, Eq)]
+pub enum Key {
+    Bandwidth,
+    Tbrsize,
+    Hfsc,
+    Cbq,
+    Efficient,
+    CbqWrr,
+    Sc,
+    Rt,
+    Ls,
+    Ul,
+    Pshare,
+    Grate,
+    Qlimit,
+    Red,
+    Ecn,
+    Rio,
+    Cleardscp,
+    Admission,
+    Default,
+    Priority,
+    Pbandwidth,
+    Exactbandwidth,
+    Borrow,
+    Control,
+    Maxburst,
+    Packetsize,
+    Name,
+    Ruleno,
+    Netmask,
+    Tos,
+    Tosmask,
+    Tclass,
+    Tclassmask,
 }
 
 impl Key {

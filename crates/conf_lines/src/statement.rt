@@ -127,6 +127,8 @@ fn read(alloc: Global, line: u64, end: u64, words: &[Word]) -> Result<Statement,
     let mut place = Place {
         form: Form::Unread,
         next: Next::Statement,
+        parts: &[],
+        stands: true,
         settled: false,
     };
     let mut at = 1;

@@ -1,7 +1,7 @@
 -- What the items of a statement say.
 use Rattle.std.specs.Prelude.{ℕ, ◌&&◌, List, nat_le, if◌then◌else◌, Option, Some, None, slice_get}
 use Rattle.conf_lines.specs.declared.item.Item.{Item}
-use Rattle.conf_lines.specs.declared.item.Key.{Key}
+use Rattle.conf_lines.specs.declared.options.Key.{Key}
 use Rattle.conf_lines.specs.declared.item.What.{What}
 use Rattle.conf_lines.specs.declared.item.What.TheVariants as what
 use Rattle.conf_lines.specs.declared.options.Slots.{Slots}

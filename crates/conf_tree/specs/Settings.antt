@@ -6,8 +6,8 @@ use Rattle.service_curve.specs.declared.Curve.{Curve}
 use Rattle.service_curve.specs.Curve.{curve, straight}
 use Rattle.conf_lines.specs.declared.fault.ConfPlace.{ConfPlace}
 use Rattle.conf_lines.specs.declared.item.Item.{Item}
-use Rattle.conf_lines.specs.declared.item.Key.{Key}
-use Rattle.conf_lines.specs.declared.item.Key.TheVariants as key
+use Rattle.conf_lines.specs.declared.options.Key.{Key}
+use Rattle.conf_lines.specs.declared.options.Key.TheVariants as key
 use Rattle.conf_lines.specs.Grammar.{is_convex}
 use Rattle.conf_lines.specs.declared.options.Slots.{Slots}
 use Rattle.conf_lines.specs.declared.options.Slots.TheVariants as slots
