@@ -8,7 +8,7 @@ use Rattle.service_curve.specs.declared.Curve.{Curve}
 use Rattle.ranking.specs.declared.Ranking.{Ranking}
 use Rattle.ranking.specs.Order.{is_in, key_of, IsOrderOf}
 use Rattle.ranking.specs.Ranking.{IsReplaced, keys_of, order_of}
-use Rattle.ranking.proofs.Orders.{is_order, outside}
+use Rattle.ranking.proofs.Orders.{is_order, key_in, outside}
 use Rattle.hfsc_model.specs.Event.{HfscHistory}
 use Rattle.hfsc_model.specs.Event.{Kept}
 use Rattle.hfsc_model.specs.Leaf.{Leaf, Waiting, leaf, head_len, is_waiting, opened, after_kept}
@@ -46,7 +46,7 @@ holds_changed f slots class x old new holds h r = record {
     keys c d true e k g =
         let same : class ≡ c = grind (arith, nat_tests, e) in
         let there : get_or (slice_set slots class x) c d ≡ x = ap (λ n. get_or (slice_set slots class x) n d) (sym same) ∙ get_or-set_same slots class x d h in
-        ap (λ n. key_of (keys_of new) n) (sym same) ∙ r.keyed (sym (ap slot_has_head there) ∙ g) ∙ sym (ap f there)
+        ap (λ n. key_of (keys_of new) n) (sym same) ∙ key_in class (slot_has_head x) (f x) old new r (sym (ap slot_has_head there) ∙ g) ∙ sym (ap f there)
     keys c d false e k g =
         let other : c ≡ class → ⊥ = λ s. grind (arith, nat_tests, e, s) in
         let there : get_or (slice_set slots class x) c d ≡ get_or slots c d = get_or-set_other slots class c x d other in

@@ -6,6 +6,7 @@ use Rattle.std.proofs.lemmas.List.{length-set}
 use Rattle.ranking.specs.declared.Ranking.{Ranking}
 use Rattle.ranking.specs.Order.{is_in, key_of}
 use Rattle.ranking.specs.Ranking.{IsReplaced, keys_of, order_of}
+use Rattle.ranking.proofs.Orders.{key_in}
 use Rattle.ranking.proofs.Ranks.{same_test}
 use Rattle.hfsc_model.specs.Tree.{is_number}
 use Rattle.hfsc_laws.proofs.Tree.{and_true}
@@ -74,7 +75,9 @@ ranks_changed key nodes class x p old new put of ranks r = record {
 
     keys : (c : ℕ) → is_active_child (slice_set nodes class x) p c ≡ true → key_of (keys_of new) c ≡ key (slice_get (slice_set nodes class x) c)
     keys c = split (λ d. is_active_child (slice_set nodes class x) p d ≡ true → key_of (keys_of new) d ≡ key (slice_get (slice_set nodes class x) d)) class c
-        (λ a. r.keyed (sym (ap (λ b. b && x.active) is_of) ∙ sym (ap (λ (o : Option Node). is_number p (parent_in o) && active_in o) put_in) ∙ a) ∙ sym (ap key put_in))
+        (λ a.
+        let is = sym (ap (λ b. b && x.active) is_of) ∙ sym (ap (λ (o : Option Node). is_number p (parent_in o) && active_in o) put_in) ∙ a in
+        key_in class x.active (key (Some x)) old new r is ∙ sym (ap key put_in))
         (λ n a. let there = get_other nodes class c x n in
         r.others c n ∙ ranks.keys c (sym (ap (λ (o : Option Node). is_number p (parent_in o) && active_in o) there) ∙ a) ∙ sym (ap key there))
 

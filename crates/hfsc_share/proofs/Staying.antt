@@ -4,8 +4,8 @@ use Rattle.std.specs.Prelude.{Option, ◌==◌, ◌&&◌, max, slice_get, slice_
 use Rattle.std.proofs.lemmas.Bool.Decides.{nat_tests}
 use Rattle.std.proofs.lemmas.List.{set-get_or}
 use Rattle.std.proofs.lemmas.Option.{get_or_from_slice_get}
-use Rattle.ranking.specs.Order.{is_in}
-use Rattle.ranking.specs.Ranking.{order_of}
+use Rattle.ranking.specs.Order.{is_in, key_of}
+use Rattle.ranking.specs.Ranking.{keys_of, order_of}
 use Rattle.ranking.proofs.Ranks.{same_test}
 use Rattle.hfsc_model.specs.Tree.{is_number}
 use Rattle.hfsc_share.specs.declared.node.Node.{Node}
@@ -38,7 +38,8 @@ group_same nodes class p g x y at holds of a s = record {
   times = record {
     count = refl;
     classes = stays class (order_of g.times) y.active (holds.times.exactly class ∙ here ∙ sym awake);
-    keyed = λ e. holds.times.keys class here ∙ ap (λ n. Some n) (ap time_in at ∙ sym s.time);
+    keyed = holds.times.keys class here ∙ ap (λ n. Some n) (ap time_in at ∙ sym s.time)
+        ∙ sym (ap (λ b. if b then Some y.time else key_of (keys_of g.times) class) awake);
     others = λ c n. refl;
   };
   moments = record {

@@ -7,6 +7,8 @@ use Rattle.std.proofs.lemmas.Bool.Decides.{nat_tests}
 use Rattle.hfsc_model.specs.RealTime.{goes_first}
 use Rattle.ranking.specs.Order.{key_of, is_ranked, are_below, is_in, GoesBefore, AreInOrder, IsOrderOf}
 use Rattle.ranking.specs.Search.{IsBeforeAll, IsRanked, AreBelow}
+use Rattle.ranking.specs.declared.Ranking.{Ranking}
+use Rattle.ranking.specs.Ranking.{IsReplaced, keys_of}
 use Rattle.ranking.proofs.Ranks.{ranked_true, below_true, same_test, in_more}
 
 goes_before : (keys : List (Option ℕ)) (key : ℕ → Option ℕ) (c : ℕ) (ds : List ℕ) → key_of keys c ≡ key c
@@ -140,3 +142,7 @@ in_below n c xs r i = go (cases_lt c n)
     go : (c < n) ⊎ (n ≤ c) → c < n
     go (inl h) = h
     go (inr h) = let no : is_in c xs ≡ false = outside n c xs r h in absurd cc
+
+-- a class that was put in has its new key
+pub key_in : (class : ℕ) (is : Bool) (key : Option ℕ) (old new : Ranking) → IsReplaced class is key old new → is ≡ true → key_of (keys_of new) class ≡ key
+key_in class is key old new r e = r.keyed ∙ ap (λ b. if b then key else key_of (keys_of old) class) e

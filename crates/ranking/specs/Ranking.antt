@@ -1,5 +1,5 @@
 -- What contracts see of a ranking.
-use Rattle.std.specs.Prelude.{◌≡◌, ◌==◌, ℕ, Bool, true, List, length, Option, if◌then◌else◌}
+use Rattle.std.specs.Prelude.{◌≡◌, ◌==◌, ℕ, Bool, List, length, Option, if◌then◌else◌}
 use Rattle.ranking.specs.declared.Ranking.{Ranking}
 use Rattle.ranking.specs.Order.{is_in, key_of}
 
@@ -11,9 +11,9 @@ keys_of r = r.keys.items
 abbrev pub order_of : Ranking → List ℕ
 order_of r = r.order.items
 
--- a class is there or is not, with its key; the others are as they were
+-- a class is there with its key, or is not there and keeps the key that it had; the others are as they were
 pub record IsReplaced (class : ℕ) (is : Bool) (key : Option ℕ) (old new : Ranking) : Type 0 where
   pub count : length (keys_of new) ≡ length (keys_of old)
   pub classes : (c : ℕ) → is_in c (order_of new) ≡ (if class == c then is else is_in c (order_of old))
-  pub keyed : is ≡ true → key_of (keys_of new) class ≡ key
+  pub keyed : key_of (keys_of new) class ≡ (if is then key else key_of (keys_of old) class)
   pub others : (c : ℕ) → (c ≡ class → ⊥) → key_of (keys_of new) c ≡ key_of (keys_of old) c

@@ -122,7 +122,7 @@ impl Ranking {
         requires absent { is_in class (order_of self.old) ≡ false }
         ensures count { length (keys_of self.new) ≡ length (keys_of self.old) }
         ensures classes { (c : ℕ) → is_in c (order_of self.new) ≡ (if class == c then is else is_in c (order_of self.old)) }
-        ensures key { is ≡ true → key_of (keys_of self.new) class ≡ key }
+        ensures key { key_of (keys_of self.new) class ≡ (if is then key else key_of (keys_of self.old) class) }
         ensures others { (c : ℕ) → (c ≡ class → ⊥) → key_of (keys_of self.new) c ≡ key_of (keys_of self.old) c }
     {
         if is {
