@@ -182,6 +182,30 @@ pub record FiltersAre : Type 0 where
   pub mask_above : Faulty (codes "interface if0 hfsc\nclass hfsc if0 r NULL\nclass hfsc if0 a r ls 1 0 1 default\nfilter if0 a 0 0 0 0 0 tos 0 tosmask 256") 4 12 BadNumber
   pub prefix_above : Faulty (codes "interface if0 hfsc\nclass hfsc if0 r NULL\nclass hfsc if0 a r ls 1 0 1 default\nfilter6 if0 a ::/129 0 0 0 0") 4 4 BadAddress
 
+-- which parts of a filter may stand where: an option only before what must be there next, a mask of an address only behind one that is
+-- not `0`, a mask of the type of service only behind it
+pub record PartsAre : Type 0 where
+  pub mask_behind_each_address : Means (codes "interface if0 hfsc\nclass hfsc if0 r NULL\nclass hfsc if0 a r ls 1 0 1 default\nfilter if0 a 10.1.2.3 netmask 255.0.0.0 1 10.4.5.6 netmask 255.255.0.0 2 6") (codes "interface if0 bandwidth 100000000 hfsc\nclass hfsc if0 r NULL qlimit 50\nclass hfsc if0 a r ls 1 0 1 qlimit 50 default\nfilter if0 a ruleno 0 10.0.0.0 netmask 255.0.0.0 1 10.4.0.0 netmask 255.255.0.0 2 6\n")
+  pub no_mask_is_needed : Means (codes "interface if0 hfsc\nclass hfsc if0 r NULL\nclass hfsc if0 a r ls 1 0 1 default\nfilter if0 a 10.1.2.3 1 10.4.5.6 2 6") (codes "interface if0 bandwidth 100000000 hfsc\nclass hfsc if0 r NULL qlimit 50\nclass hfsc if0 a r ls 1 0 1 qlimit 50 default\nfilter if0 a ruleno 0 10.1.2.3 netmask 255.255.255.255 1 10.4.5.6 netmask 255.255.255.255 2 6\n")
+  pub no_mask_behind_any_target : Faulty (codes "interface if0 hfsc\nclass hfsc if0 r NULL\nclass hfsc if0 a r ls 1 0 1 default\nfilter if0 a 0 netmask 255.0.0.0 1 0 2 6") 4 5 BadNumber
+  pub no_mask_behind_any_source : Faulty (codes "interface if0 hfsc\nclass hfsc if0 r NULL\nclass hfsc if0 a r ls 1 0 1 default\nfilter if0 a 0 1 0 netmask 255.0.0.0 2 6") 4 7 BadNumber
+  pub mask_behind_the_source_alone : Means (codes "interface if0 hfsc\nclass hfsc if0 r NULL\nclass hfsc if0 a r ls 1 0 1 default\nfilter if0 a 0 1 10.4.5.6 netmask 255.255.0.0 2 6") (codes "interface if0 bandwidth 100000000 hfsc\nclass hfsc if0 r NULL qlimit 50\nclass hfsc if0 a r ls 1 0 1 qlimit 50 default\nfilter if0 a ruleno 0 0.0.0.0 netmask 0.0.0.0 1 10.4.0.0 netmask 255.255.0.0 2 6\n")
+  pub mask_twice : Faulty (codes "interface if0 hfsc\nclass hfsc if0 r NULL\nclass hfsc if0 a r ls 1 0 1 default\nfilter if0 a 10.1.2.3 netmask 255.0.0.0 netmask 255.0.0.0 1 0 2 6") 4 7 BadNumber
+  pub no_mask_in_filter6 : Faulty (codes "interface if0 hfsc\nclass hfsc if0 r NULL\nclass hfsc if0 a r ls 1 0 1 default\nfilter6 if0 a ::1 netmask 255.0.0.0 1 0 2 6") 4 5 BadNumber
+  pub type_with_its_mask : Means (codes "interface if0 hfsc\nclass hfsc if0 r NULL\nclass hfsc if0 a r ls 1 0 1 default\nfilter if0 a 0 1 0 2 6 tos 31 tosmask 28") (codes "interface if0 bandwidth 100000000 hfsc\nclass hfsc if0 r NULL qlimit 50\nclass hfsc if0 a r ls 1 0 1 qlimit 50 default\nfilter if0 a ruleno 0 0.0.0.0 netmask 0.0.0.0 1 0.0.0.0 netmask 0.0.0.0 2 6 tos 28 tosmask 28\n")
+  pub no_mask_without_its_type : Faulty (codes "interface if0 hfsc\nclass hfsc if0 r NULL\nclass hfsc if0 a r ls 1 0 1 default\nfilter if0 a 0 1 0 2 6 tosmask 28") 4 9 UnknownWord
+  pub nothing_behind_the_last_mask : Faulty (codes "interface if0 hfsc\nclass hfsc if0 r NULL\nclass hfsc if0 a r ls 1 0 1 default\nfilter if0 a 0 1 0 2 6 tos 31 tosmask 28 tos") 4 13 UnknownWord
+  pub type_twice : Faulty (codes "interface if0 hfsc\nclass hfsc if0 r NULL\nclass hfsc if0 a r ls 1 0 1 default\nfilter if0 a 0 1 0 2 6 tos 31 tos 28") 4 11 UnknownWord
+  pub type_of_the_other_form : Faulty (codes "interface if0 hfsc\nclass hfsc if0 r NULL\nclass hfsc if0 a r ls 1 0 1 default\nfilter if0 a 0 1 0 2 6 tclass 31") 4 9 UnknownWord
+  pub no_class_mask_without_its_class : Faulty (codes "interface if0 hfsc\nclass hfsc if0 r NULL\nclass hfsc if0 a r ls 1 0 1 default\nfilter6 if0 a 0 1 0 2 6 tclassmask 28") 4 9 UnknownWord
+  pub name_then_rule_number : Means (codes "interface if0 hfsc\nclass hfsc if0 r NULL\nclass hfsc if0 a r ls 1 0 1 default\nfilter if0 a name x ruleno 7 0 1 0 2 6") (codes "interface if0 bandwidth 100000000 hfsc\nclass hfsc if0 r NULL qlimit 50\nclass hfsc if0 a r ls 1 0 1 qlimit 50 default\nfilter if0 a ruleno 7 0.0.0.0 netmask 0.0.0.0 1 0.0.0.0 netmask 0.0.0.0 2 6\n")
+  pub name_alone : Means (codes "interface if0 hfsc\nclass hfsc if0 r NULL\nclass hfsc if0 a r ls 1 0 1 default\nfilter if0 a name x 0 1 0 2 6") (codes "interface if0 bandwidth 100000000 hfsc\nclass hfsc if0 r NULL qlimit 50\nclass hfsc if0 a r ls 1 0 1 qlimit 50 default\nfilter if0 a ruleno 0 0.0.0.0 netmask 0.0.0.0 1 0.0.0.0 netmask 0.0.0.0 2 6\n")
+  pub name_behind_the_rule_number : Faulty (codes "interface if0 hfsc\nclass hfsc if0 r NULL\nclass hfsc if0 a r ls 1 0 1 default\nfilter if0 a ruleno 7 name x 0 1 0 2 6") 4 6 BadAddress
+  pub name_twice : Faulty (codes "interface if0 hfsc\nclass hfsc if0 r NULL\nclass hfsc if0 a r ls 1 0 1 default\nfilter if0 a name x name y 0 1 0 2 6") 4 6 BadAddress
+  pub end_before_the_protocol : Faulty (codes "interface if0 hfsc\nclass hfsc if0 r NULL\nclass hfsc if0 a r ls 1 0 1 default\nfilter if0 a 0 1 0 2") 4 8 MissingWord
+  pub end_before_a_mask : Faulty (codes "interface if0 hfsc\nclass hfsc if0 r NULL\nclass hfsc if0 a r ls 1 0 1 default\nfilter if0 a 10.1.2.3 netmask") 4 6 MissingWord
+  pub end_before_a_type : Faulty (codes "interface if0 hfsc\nclass hfsc if0 r NULL\nclass hfsc if0 a r ls 1 0 1 default\nfilter if0 a 0 1 0 2 6 tos") 4 10 MissingWord
+
 -- the implied classes
 pub record ImpliedAre : Type 0 where
   pub leaf_of_hfsc : class_of (codes "interface if0 bandwidth 8M hfsc") 1 ≡ Some (record { name = codes "default"; parent = Some 0; real = None; share = Some (record { m1 = 8000000; d = 0; m2 = 8000000 }); upper = None; rate = 0; priority = 0; borrow = false; control = false; maxburst = 0; packetsize = 0; limit = 50; drop = Tail; clear = false; is_default = true })

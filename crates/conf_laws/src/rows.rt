@@ -1,5 +1,5 @@
 //! Worked rows of the configuration.
-ghost use Rattle.conf_laws.specs.Rows.{LinesAre, EndsAre, NamesAre, RangesAre, OrdersAre, LaterAre, FiltersAre, ImpliedAre};
+ghost use Rattle.conf_laws.specs.Rows.{LinesAre, EndsAre, NamesAre, RangesAre, OrdersAre, LaterAre, FiltersAre, PartsAre, ImpliedAre};
 
 /// Worked rows, computed from the definitions: first faults with their places and kinds, and canonical texts.
 pub fn worked_rows()
@@ -10,5 +10,6 @@ pub fn worked_rows()
     ensures orders { OrdersAre }
     ensures later { LaterAre }
     ensures filters { FiltersAre }
+    ensures parts { PartsAre }
     ensures implied { ImpliedAre }
 {}
