@@ -1,88 +1,161 @@
 -- Each line of the canonical text is legible.
-use Rattle.std.proofs.Common.{◌≡◌, ℕ, Bool, true, false, List, [], ◌∷◌, ◌++◌, All, Option, Some, None, slice_get, if◌then◌else◌, codes, refl}
-use Rattle.std.proofs.lemmas.List.Elements.{All-nil, All-cons, All-append}
+use Rattle.std.proofs.Common.{◌≡◌, ◌≢◌, ℕ, suc, ◌-◌, ◌^◌, ◌<◌, ◌≤◌, ◌||◌, Bool, true, false, List, [], ◌∷◌, Option, Some, None, is_some, if◌then◌else◌, codes, decimal, Ok, refl, arith}
+use Rattle.std.specs.List.{AllByRecursion as Every}
+use Rattle.service_curve.specs.declared.Curve.{Curve}
+use Rattle.conf_lines.specs.Grammar.{step, end, at_statement, at_discipline, at_parent}
+use Rattle.conf_lines.specs.Options.{most_rate}
+use Rattle.conf_lines.specs.Slots.{is_text, whole_in}
+use Rattle.conf_lines.specs.declared.item.What.{What}
+use Rattle.conf_lines.specs.declared.item.What.TheVariants as what
+use Rattle.conf_tree.specs.Canonical.{parent_word, interface_line, class_options, kind_word, class_form, class_line, class_word, filter_word, filter_form, filter_whats_by, filter_line, class_lines, filter_lines, written_classes, interface_lines, canonical_lines}
+use Rattle.conf_tree.specs.Settings.{unset}
 use Rattle.conf_tree.specs.declared.class.Class.{Class}
+use Rattle.conf_tree.specs.declared.filter.Addresses.{Addresses}
+use Rattle.conf_tree.specs.declared.filter.Addresses.TheVariants.{V4, V6}
 use Rattle.conf_tree.specs.declared.filter.Filter.{Filter}
 use Rattle.conf_tree.specs.declared.interface.Interface.{Interface}
 use Rattle.conf_tree.specs.declared.interface.Kind.{Kind}
-use Rattle.conf_tree.specs.Canonical.{parent_word, interface_line, class_line, class_lines, filter_line, filter_lines, written_classes, interface_lines, canonical_lines}
-use Rattle.conf_laws.specs.Fit.{IsName, HasParent, IsClass, IsFilter, IsTree, IsInterface, AreFit}
-use Rattle.conf_laws.proofs.ClassLines.{interface_is_legible, class_is_legible}
-use Rattle.conf_laws.proofs.ClassLines as class
-use Rattle.conf_laws.proofs.Each.{Each, of_first, of_rest, of_none, element}
-use Rattle.conf_laws.proofs.FilterLines.{filter_is_legible}
-use Rattle.conf_laws.proofs.FilterLines as filter
-use Rattle.conf_laws.proofs.StatementLines.{IsLegible}
+use Rattle.conf_tree.specs.declared.interface.Kind.TheVariants.{Hfsc, Cbq}
+use Rattle.conf_laws.specs.Fit.{IsName, IsWithin, IsOfKind, IsFilter, IsTos, AreAddresses, IsInterface, AreFit, HasParent}
+use Rattle.conf_laws.proofs.Bytes.{every-append}
+use Rattle.conf_laws.proofs.ClassOptions.{Part, settings_of, hfsc_part, cbq_part, all_read}
+use Rattle.conf_laws.proofs.ListPlaces.{Each, element}
+use Rattle.conf_laws.proofs.Lines.{IsRead, IsLegible}
+use Rattle.conf_laws.proofs.Printed.{address_is_read, mask_is_read, prefix_is_read, name_is_read, rate_is_read, whole_is_read, protocol_is_read}
+use Rattle.conf_laws.proofs.Types.{Settings}
 
--- what holds of a class is what its line is read by
-null_is_name : IsName (codes "NULL")
-null_is_name = refl
+-- INTERFACES AND CLASSES
+interface_is_read : (i : Interface) (kind : Kind) → IsName i.name → IsWithin 1000 most_rate i.rate → IsRead (interface_line (record i { kind = kind }))
+unfolding step at_statement is_text end
+interface_is_read i Hfsc is_name is_rate = λ line. rw (name_is_read i.name is_name, rate_is_read 1000 most_rate i.rate is_rate (omega arith)) refl
+interface_is_read i Cbq is_name is_rate = λ line. rw (name_is_read i.name is_name, rate_is_read 1000 most_rate i.rate is_rate (omega arith)) refl
 
-parent_is_name : (kind : Kind) (classes : List Class) (k : ℕ) (parent : Option ℕ) → HasParent kind classes k parent
-    → ((j : ℕ) (c : Class) → slice_get classes j ≡ Some c → IsName c.name) → IsName (parent_word classes parent)
-parent_is_name kind classes k None has names = null_is_name
-parent_is_name kind classes k (Some p) (before, q, at, is) names = rw at (names p q at)
+interface_is_legible : (i : Interface) → IsName i.name → IsWithin 1000 most_rate i.rate → IsLegible (interface_line i)
+interface_is_legible i is_name is_rate = record { words = search arith; count = omega arith; read = interface_is_read i i.kind is_name is_rate }
 
-class_is_written : (kind : Kind) (classes : List Class) → Each (λ c. IsName c.name) classes → (k : ℕ) (c : Class) → IsClass kind classes k c
-    → class.IsWritten kind classes c
-class_is_written kind classes names k c is =
-    record { name = is.name; parent = parent_is_name kind classes k c.parent is.parent names; limit = is.limit; own = is.own }
+-- an HFSC class has what it must have: it is the root, or it has a link-sharing curve
+is_settled : (all : List Class) (parent : Option ℕ) (share : Option Curve) → (parent ≢ None → share ≢ None)
+    → (is_some share || is_text (codes "NULL") (parent_word all parent)) ≡ true
+unfolding is_text
+is_settled all parent (Some s) shared = refl
+is_settled all None None shared = refl
+is_settled all (Some p) None shared = absurd (shared (λ e. cc) refl)
 
-filter_is_written : (kind : Kind) (classes : List Class) → Each (λ c. IsName c.name) classes → (f : Filter) → IsFilter kind classes f → filter.IsWritten classes f
-filter_is_written kind classes names f is =
-    let (c, at) = element classes f.class is.class in
-    record {
-      class = rw at (names f.class c at);
-      ruleno = is.ruleno;
-      addresses = is.addresses;
-      target_port = is.target_port;
-      source_port = is.source_port;
-      protocol = is.protocol;
-      tos = is.tos;
-    }
+options_part : (kind : Kind) (all : List Class) (c : Class) → IsOfKind kind c → IsWithin 1 10000 c.limit
+    → Part (class_form kind) c.is_default (is_text (codes "NULL") (parent_word all c.parent)) true unset (settings_of kind c) (class_options kind c) 17
+options_part Hfsc all c own limit =
+    let part = hfsc_part {settled = is_text (codes "NULL") (parent_word all c.parent)} c own limit in
+    rw (is_settled all c.parent c.share own.shared) at part
+options_part Cbq all c own limit = let part = cbq_part c own limit in record { may = part.may; few = omega (arith, part.few); read = part.read; set = part.set }
 
-names_of : (kind : Kind) (classes : List Class) (filters : List Filter) → IsTree kind classes filters → Each (λ c. IsName c.name) classes
-names_of kind classes filters tree = λ k c at. (tree.class k c at).name
+-- class hfsc or class cbq, three names and the options
+class_is_legible : (kind : Kind) (interface name parent : List ℕ) {is_default : Bool} {s t : Settings} {options : List What} → IsName interface → IsName name
+    → IsName parent → Part (class_form kind) is_default (is_text (codes "NULL") parent) true s t options 17
+    → IsLegible (record {
+      first = codes "class" ∷ kind_word kind ∷ [];
+      form = class_form kind;
+      whats = what.Name interface ∷ what.Name name ∷ what.Name parent ∷ options;
+    })
+unfolding step at_statement at_discipline at_parent is_text
+class_is_legible Hfsc interface name parent is_interface is_name is_parent part = record {
+  words = ((refl, (refl, tt)), (is_interface, (is_name, (is_parent, part.may))));
+  count = omega (arith, part.few);
+  read = λ line. rw (name_is_read interface is_interface, name_is_read name is_name, name_is_read parent is_parent, all_read part line 6) refl;
+}
+class_is_legible Cbq interface name parent is_interface is_name is_parent part = record {
+  words = ((refl, (refl, tt)), (is_interface, (is_name, (is_parent, part.may))));
+  count = omega (arith, part.few);
+  read = λ line. rw (name_is_read interface is_interface, name_is_read name is_name, name_is_read parent is_parent, all_read part line 6) refl;
+}
 
-classes_are_written : (i : Interface) (implied : Bool) → IsTree i.kind i.classes i.filters
-    → Each (class.IsWritten i.kind i.classes) (if implied then [] else i.classes)
-classes_are_written i true is = of_none (class.IsWritten i.kind i.classes)
-classes_are_written i false is = λ k c at. class_is_written i.kind i.classes (names_of i.kind i.classes i.filters is) k c (is.class k c at)
+-- FILTERS
+-- the numbers of a filter
+ruleno_is_read : (n : ℕ) → n < 2 ^ 32 → whole_in 0 (2 ^ 32 - 1) (decimal n) ≡ Ok n
+ruleno_is_read n small = whole_is_read 0 (2 ^ 32 - 1) n (omega arith) (omega arith)
 
-filters_are_written : (i : Interface) → IsTree i.kind i.classes i.filters → Each (filter.IsWritten i.classes) i.filters
-filters_are_written i is = λ k f at. filter_is_written i.kind i.classes (names_of i.kind i.classes i.filters is) f (is.filter k f at)
+port_is_read : (n : ℕ) → n ≤ 65535 → whole_in 0 65535 (decimal n) ≡ Ok n
+port_is_read n most = whole_is_read 0 65535 n (omega arith) (omega arith)
 
--- the lines of classes and of filters
-classes_are_legible : (kind : Kind) (interface : List ℕ) (all classes : List Class) → IsName interface → Each (class.IsWritten kind all) classes
-    → All IsLegible (class_lines kind interface all classes)
-classes_are_legible kind interface all [] is each = All-nil IsLegible
-classes_are_legible kind interface all (c ∷ classes) is each =
-    All-cons IsLegible (class_line kind interface all c) (class_lines kind interface all classes)
-    (class_is_legible kind interface all c is (of_first (class.IsWritten kind all) c classes each))
-    (classes_are_legible kind interface all classes is (of_rest (class.IsWritten kind all) c classes each))
+tos_is_read : (n : ℕ) → n ≤ 255 → whole_in 0 255 (decimal n) ≡ Ok n
+tos_is_read n most = whole_is_read 0 255 n (omega arith) (omega arith)
 
-filters_are_legible : (interface : List ℕ) (all : List Class) (filters : List Filter) → IsName interface → Each (filter.IsWritten all) filters
-    → All IsLegible (filter_lines interface all filters)
-filters_are_legible interface all [] is each = All-nil IsLegible
-filters_are_legible interface all (f ∷ filters) is each =
-    All-cons IsLegible (filter_line interface all f) (filter_lines interface all filters)
-    (filter_is_legible interface all f is (of_first (filter.IsWritten all) f filters each))
-    (filters_are_legible interface all filters is (of_rest (filter.IsWritten all) f filters each))
+-- its words in their order
+ruleset words4 =
+    (name_is_read, name_is_read, ruleno_is_read, address_is_read, mask_is_read, port_is_read, address_is_read, mask_is_read, port_is_read, protocol_is_read)
 
-interface_lines_are_legible : (i : Interface) → IsInterface i → All IsLegible (interface_lines i)
-interface_lines_are_legible i is =
-    let classes = class_lines i.kind i.name i.classes (written_classes i) in
-    let filters = filter_lines i.name i.classes i.filters in
-    All-cons IsLegible (interface_line i) (classes ++ filters) (interface_is_legible i is.name is.rate)
-    (All-append IsLegible classes filters
-    (classes_are_legible i.kind i.name i.classes (written_classes i) is.name (classes_are_written i i.implied is.tree))
-    (filters_are_legible i.name i.classes i.filters is.name (filters_are_written i is.tree)))
+ruleset words6 = (name_is_read, name_is_read, ruleno_is_read, prefix_is_read, port_is_read, prefix_is_read, port_is_read, protocol_is_read)
 
-all_are_legible : (interfaces : List Interface) → Each IsInterface interfaces → All IsLegible (canonical_lines interfaces)
-all_are_legible [] each = All-nil IsLegible
+filter_is_legible : (interface class : List ℕ) {kind : Kind} {all : List Class} (f : Filter) (a : Addresses) (o : Option (ℕ × ℕ))
+    → IsName interface → IsName class → IsFilter kind all f → AreAddresses a → IsTos o
+    → IsLegible (record { first = filter_word a ∷ []; form = filter_form a; whats = filter_whats_by interface class (record f { tos = o }) a })
+unfolding step at_statement is_text end
+filter_is_legible interface class f (V4 target target_mask source source_mask) None is_interface is_class is (t, s) tos = record {
+  words = search arith;
+  count = omega arith;
+  read = λ line. rw (words4, is.ruleno, is.target_port, is.source_port, is.protocol, t.address, t.mask, s.address, s.mask);
+}
+filter_is_legible interface class f (V4 target target_mask source source_mask) (Some (service, mask)) is_interface is_class is (t, s) tos = record {
+  words = search arith;
+  count = omega arith;
+  read = λ line.
+      rw (words4, tos_is_read, tos_is_read, is.ruleno, is.target_port, is.source_port, is.protocol, t.address, t.mask, s.address, s.mask, tos.0, tos.1);
+}
+filter_is_legible interface class f (V6 target target_len source source_len) None is_interface is_class is (t, s) tos = record {
+  words = search arith;
+  count = omega arith;
+  read = λ line. rw (words6, is.ruleno, is.target_port, is.source_port, is.protocol, t.address, t.bits, s.address, s.bits);
+}
+filter_is_legible interface class f (V6 target target_len source source_len) (Some (service, mask)) is_interface is_class is (t, s) tos = record {
+  words = search arith;
+  count = omega arith;
+  read = λ line.
+      rw (words6, tos_is_read, tos_is_read, is.ruleno, is.target_port, is.source_port, is.protocol, t.address, t.bits, s.address, s.bits, tos.0, tos.1);
+}
+
+-- where the line of each element is legible, all lines are
+classes_are_legible : (kind : Kind) (interface : List ℕ) (all classes : List Class) → Each (λ c. IsLegible (class_line kind interface all c)) classes
+    → Every IsLegible (class_lines kind interface all classes)
+classes_are_legible kind interface all [] each = tt
+classes_are_legible kind interface all (c ∷ classes) each = (each 0 c refl, classes_are_legible kind interface all classes (λ k. each (suc k)))
+
+filters_are_legible : (interface : List ℕ) (all : List Class) (filters : List Filter) → Each (λ f. IsLegible (filter_line interface all f)) filters
+    → Every IsLegible (filter_lines interface all filters)
+filters_are_legible interface all [] each = tt
+filters_are_legible interface all (f ∷ filters) each = (each 0 f refl, filters_are_legible interface all filters (λ k. each (suc k)))
+
+module _ (i : Interface) (is : IsInterface i) where
+  parent_is_name : (k : ℕ) (parent : Option ℕ) → HasParent i.kind i.classes k parent → IsName (parent_word i.classes parent)
+  parent_is_name k None has = refl
+  parent_is_name k (Some p) (before, q, at, parent) = rw at (is.tree.class p q at).name
+
+  class_lines_are : (implied : Bool) → Every IsLegible (class_lines i.kind i.name i.classes (if implied then [] else i.classes))
+  class_lines_are true = tt
+  class_lines_are false =
+      classes_are_legible i.kind i.name i.classes i.classes (λ k c at.
+      let own = is.tree.class k c at in
+      let options = options_part i.kind i.classes c own.own own.limit in
+      class_is_legible i.kind i.name c.name (parent_word i.classes c.parent) is.name own.name (parent_is_name k c.parent own.parent) options)
+
+  filter_lines_are : Every IsLegible (filter_lines i.name i.classes i.filters)
+  filter_lines_are =
+      filters_are_legible i.name i.classes i.filters (λ k f at.
+      let own = is.tree.filter k f at in
+      let (c, class_at) = element i.classes f.class own.class in
+      let class_is_name : IsName (class_word i.classes f.class) = rw class_at (is.tree.class f.class c class_at).name in
+      filter_is_legible i.name (class_word i.classes f.class) f f.addresses f.tos is.name class_is_name own own.addresses own.tos)
+
+  lines_are : Every IsLegible (interface_lines i)
+  lines_are = (
+    interface_is_legible i is.name is.rate,
+    every-append IsLegible (class_lines i.kind i.name i.classes (written_classes i)) (filter_lines i.name i.classes i.filters)
+        (class_lines_are i.implied) filter_lines_are,
+  )
+
+all_are_legible : (interfaces : List Interface) → Each IsInterface interfaces → Every IsLegible (canonical_lines interfaces)
+all_are_legible [] each = tt
 all_are_legible (i ∷ interfaces) each =
-    All-append IsLegible (interface_lines i) (canonical_lines interfaces) (interface_lines_are_legible i (of_first IsInterface i interfaces each))
-    (all_are_legible interfaces (of_rest IsInterface i interfaces each))
+    every-append IsLegible (interface_lines i) (canonical_lines interfaces) (lines_are i (each 0 i refl))
+    (all_are_legible interfaces (λ k. each (suc k)))
 
-pub lines_are_legible : (interfaces : List Interface) → AreFit interfaces → All IsLegible (canonical_lines interfaces)
+pub lines_are_legible : (interfaces : List Interface) → AreFit interfaces → Every IsLegible (canonical_lines interfaces)
 lines_are_legible interfaces fit = all_are_legible interfaces fit.interface

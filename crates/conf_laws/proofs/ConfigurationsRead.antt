@@ -1,68 +1,181 @@
--- All interfaces of a configuration, and the end of the text.
-use Rattle.std.proofs.Common.{◌≡◌, ℕ, ◌+◌, ◌<◌, Bool, true, false, cond, List, [], ◌∷◌, ◌++◌, map, length, Option, Some, None, option_map, Ok, slice_get, refl, ap, sym, ◌∙◌, subst, append_assoc, append-nil, arith}
-use Rattle.std.proofs.lemmas.List.{length-map, map-append}
-use Rattle.std.proofs.lemmas.Option.{slice_get-map, slice_get_within}
-use Rattle.conf_lines.specs.declared.fault.ConfPlace.{ConfPlace}
+-- The lines of a configuration, read one after the other: the line of each interface, its classes and its filters, and then the end of
+-- the text.
+use Rattle.std.proofs.Common.{◌≡◌, ◌≢◌, ⊎_elim, ℕ, suc, ◌+◌, Bool, true, false, List, [], ◌∷◌, ◌++◌, map, length, Some, None, Ok, if◌then◌else◌, nat_le, slice_get, refl, ◌∙◌, append_assoc, length-append, arith}
+use Rattle.std.proofs.lemmas.Bool.{lt-leb, lt-ltb, ne_eqb}
+use Rattle.std.proofs.lemmas.Bool.Decides.{nat_tests}
+use Rattle.std.proofs.lemmas.Option.{slice_get_within}
+use Rattle.conf_lines.specs.declared.statement.Statement.{Statement}
+use Rattle.conf_lines.specs.Options.{most_rate}
+use Rattle.conf_tree.specs.declared.filter.Addresses.{Addresses}
+use Rattle.conf_tree.specs.declared.filter.Addresses.TheVariants.{V4, V6}
 use Rattle.conf_tree.specs.declared.interface.Interface.{Interface}
-use Rattle.conf_tree.specs.Canonical.{interface_lines, canonical_lines}
-use Rattle.conf_tree.specs.Reading.{reading_from}
-use Rattle.conf_tree.specs.Tree.{Begun}
-use Rattle.conf_tree.specs.Whole.{whole, undecided, first_undecided}
-use Rattle.conf_laws.specs.Fit.{AreFit}
-use Rattle.conf_laws.specs.Statements.{canonical_statements}
-use Rattle.conf_laws.proofs.InterfacesRead.{interface_is_read}
-use Rattle.conf_laws.proofs.NamesRead.{IsNew}
-use Rattle.conf_laws.proofs.StatementsRead.{lines_append}
-use Rattle.conf_laws.proofs.ListPlaces.{get_front, get_pushed}
+use Rattle.conf_tree.specs.declared.interface.Kind.{Kind}
+use Rattle.conf_tree.specs.declared.interface.Kind.TheVariants.{Hfsc, Cbq}
+use Rattle.conf_tree.specs.Canonical.{class_form, filter_form, class_lines, filter_lines, canonical_lines}
+use Rattle.conf_tree.specs.Classes.{read_class}
+use Rattle.conf_tree.specs.FilterStatements.{read_filter}
+use Rattle.conf_tree.specs.Items.{within}
+use Rattle.conf_tree.specs.Printed.{TextLine}
+use Rattle.conf_tree.specs.Reading.{read_form, read_statement, reading_from}
+use Rattle.conf_tree.specs.Tree.{Begun, begun, add_class, add_filter, interface_number}
+use Rattle.conf_tree.specs.Whole.{whole, undecided, first_undecided, is_empty}
+use Rattle.conf_laws.specs.Fit.{IsInterface, AreFit}
+use Rattle.conf_laws.specs.Statements.{statements_from, interface_statement, class_statement, filter_statement, canonical_statements}
+use Rattle.conf_laws.proofs.CurvesRead.{within_is}
+use Rattle.conf_laws.proofs.ListPlaces.{get_push, get_pushed, set_pushed, same_places, name_is_new, name_is_at}
+use Rattle.conf_laws.proofs.TreesRead.{HasRead, part_of, push_all, next_class, next_filter}
+use Rattle.conf_laws.proofs.Types.{Branch}
 
--- these interfaces are read whole
-record AreReadWhole (done : List Interface) (before : List Begun) : Type 0 where
-  as_are : map whole before ≡ done
-  decided : first_undecided before ≡ None
+-- IN TURN: what holds before the first element of a list, and behind each element if it did before it, holds behind the last, where the
+-- goal follows from it
+in_turn : {S X : Type 0} (Goal : S → List X → Type 0) (P : ℕ → S → Type 0) (xs : List X)
+    → ((k : ℕ) (x : X) (rest : List X) (s : S) → slice_get xs k ≡ Some x → P k s → ((t : S) → P (suc k) t → Goal t rest) → Goal s (x ∷ rest))
+    → ((s : S) → P (length xs) s → Goal s []) → (s : S) → P 0 s → Goal s xs
+in_turn Goal P [] step last s p = last s p
+in_turn Goal P (x ∷ xs) step last s p = step 0 x xs s refl p (in_turn Goal (λ k. P (suc k)) xs (λ k. step (suc k)) last)
 
-decided_parts : (b : Bool) (place : ConfPlace) (rest : Option ConfPlace) → cond b (Some place) rest ≡ None → (b ≡ false) × (rest ≡ None)
-decided_parts true place rest h = cc
-decided_parts false place rest h = (refl, h)
+-- a list whose elements stand for those of another
+maps_to : {X Y : Type 0} (f : X → Y) (xs : List X) (ys : List Y) → length xs ≡ length ys
+    → ((j : ℕ) (x : X) → slice_get xs j ≡ Some x → slice_get ys j ≡ Some (f x)) → map f xs ≡ ys
+maps_to f [] [] l h = refl
+maps_to f [] (y ∷ ys) l h = absurd (omega arith)
+maps_to f (x ∷ xs) [] l h = absurd (omega arith)
+maps_to f (x ∷ xs) (y ∷ ys) l h =
+    let first : Some y ≡ Some (f x) = h 0 x refl in
+    let rest : map f xs ≡ ys = maps_to f xs ys (omega arith) (λ j. h (suc j)) in
+    cc
 
-decided_more : (before : List Begun) (b : Begun) → first_undecided before ≡ None → undecided b ≡ false → first_undecided (before ++ b ∷ []) ≡ None
-decided_more [] b h e = rw e refl
-decided_more (a ∷ before) b h e =
-    let parts = decided_parts (undecided a) _ (first_undecided before) h in
-    let rest : first_undecided (before ++ b ∷ []) ≡ None = decided_more before b parts.1 e in
-    rw (parts.0, rest) refl
+-- lines that are read as these interfaces, behind those that are begun
+abbrev Reads : List Interface → List Begun → List TextLine → Type 0
+Reads all before lines = (line : ℕ) → reading_from before (statements_from line lines) ≡ Ok all
 
-whole_more : (done : List Interface) (before : List Begun) (i : Interface) (b : Begun) → AreReadWhole done before → whole b ≡ i → undecided b ≡ false
-    → AreReadWhole (done ++ i ∷ []) (before ++ b ∷ [])
-whole_more done before i b h e d = record {
-  as_are = map-append whole before (b ∷ []) ∙ (ap (λ l. l ++ whole b ∷ []) h.as_are ∙ ap (λ x. done ++ x ∷ []) e);
-  decided = decided_more before b h.decided d;
-}
+-- a name that no interface has so far
+abbrev IsNew : List ℕ → List Begun → Type 0
+IsNew name before = (j : ℕ) (b : Begun) → slice_get before j ≡ Some b → name ≢ b.name
 
-is_new : (done rest : List Interface) (before : List Begun) (i : Interface) → AreFit (done ++ i ∷ rest) → map whole before ≡ done → IsNew i.name before
-is_new done rest before i fit e j b g t =
-    let mapped : slice_get (map whole before) j ≡ Some (whole b) = slice_get-map whole before j ∙ ap (λ o. option_map whole o) g in
-    let there : slice_get done j ≡ Some (whole b) = sym (ap (λ l. slice_get l j) e) ∙ mapped in
-    let same : length done ≡ j =
-    fit.names (length done) j i (whole b) (get_pushed done i rest) (get_front done (i ∷ rest) j (whole b) there) t in
-    let early : j < length done = slice_get_within done j (whole b) there in
-    omega arith
+-- the interface that is begun last is found by its name
+last_is : (before : List Begun) (b : Begun) → IsNew b.name before → interface_number b.name (before ++ b ∷ []) ≡ Some (length before)
+last_is before b new =
+    name_is_at (λ (a : Begun). a.name) (before ++ b ∷ []) (length before) b (get_pushed before b [])
+    (λ j a g t. ⊎_elim (λ p. p.0) (λ old. absurd (new j a old t)) (get_push before b a j g))
 
-all_are_read : (rest done : List Interface) (before : List Begun) (line : ℕ) → AreFit (done ++ rest) → AreReadWhole done before
-    → reading_from before (canonical_statements line rest) ≡ Ok (done ++ rest)
-all_are_read [] done before line fit h =
-    let all : map whole before ≡ done ++ [] = h.as_are ∙ sym (append-nil done) in
-    rw (h.decided, all) refl
-all_are_read (i ∷ rest) done before line fit h =
-    let at : slice_get (done ++ i ∷ rest) (length done) ≡ Some i = get_pushed done i rest in
-    let counted : length before ≡ length done = sym (length-map before whole) ∙ ap (λ l. length l) h.as_are in
-    let room : length before < 16 = omega (arith, fit.count, counted, slice_get_within (done ++ i ∷ rest) (length done) i at) in
-    let one = interface_is_read before line i (fit.interface (length done) i at) (is_new done rest before i fit h.as_are) room in
-    let next = line + length (interface_lines i) in
-    let e : (done ++ i ∷ []) ++ rest ≡ done ++ (i ∷ rest) = append_assoc done (i ∷ []) rest in
-    let others = all_are_read rest (done ++ i ∷ []) (before ++ one.last ∷ []) next (subst (λ l. AreFit l) (sym e) fit)
-    (whole_more done before i one.last h one.as_is one.decided) in
-    ap (λ l. reading_from before l) (lines_append line (interface_lines i) (canonical_lines rest))
-    ∙ (one.reads.on (canonical_statements next rest) ∙ (others ∙ ap (λ l. Ok l) e))
+-- A LINE of each kind, behind the interfaces before it
+begins : (before : List Begun) (line : ℕ) (i : Interface) (kind : Kind) → interface_number i.name before ≡ None → nat_le 16 (length before) ≡ false
+    → within 1000 most_rate (Some i.rate) ≡ Some i.rate
+    → read_statement before (interface_statement line (record i { kind = kind })) ≡ Ok (before ++ begun line i.name i.rate kind ∷ [])
+begins before line i Hfsc new room rate = rw (new, room, rate) refl
+begins before line i Cbq new room rate = rw (new, room, rate) refl
 
-pub configuration_is_read : (interfaces : List Interface) (line : ℕ) → AreFit interfaces → reading_from [] (canonical_statements line interfaces) ≡ Ok interfaces
-configuration_is_read interfaces line fit = all_are_read interfaces [] [] line fit (record { as_are = refl; decided = refl })
+reads_class : (kind : Kind) (before : List Begun) (s : Statement) → read_form (class_form kind) before s ≡ read_class before kind s
+reads_class Hfsc before s = refl
+reads_class Cbq before s = refl
+
+reads_filter : (addresses : Addresses) (before : List Begun) (s : Statement) → read_form (filter_form addresses) before s ≡ read_filter before s
+reads_filter (V4 target target_mask source source_mask) before s = refl
+reads_filter (V6 target target_len source source_len) before s = refl
+
+-- AN INTERFACE WITH CLASSES
+module _ (all : List Interface) (before : List Begun) (i : Interface) (is : IsInterface i) (new : IsNew i.name before) where
+  -- so many of its classes and filters are read; lines that go on from there; and a statement that leads from there to the next
+  abbrev Has : ℕ → ℕ → Begun → Type 0
+  Has classes filters b = HasRead i is.tree.default.number classes filters b
+
+  abbrev ReadsOn : Begun → List TextLine → Type 0
+  ReadsOn b lines = Reads all (before ++ part_of i b ∷ []) lines
+
+  abbrev Leads : Begun → Statement → Begun → Type 0
+  Leads b s next = read_statement (before ++ part_of i b ∷ []) s ≡ Ok (before ++ part_of i next ∷ [])
+
+  -- its classes
+  classes_read : (rest : List TextLine) (b : Begun) → Has 0 0 b → ((b : Begun) → Has (length i.classes) 0 b → ReadsOn b rest)
+      → ReadsOn b (class_lines i.kind i.name i.classes i.classes ++ rest)
+  classes_read rest b r last =
+      in_turn (λ b classes. ReadsOn b (class_lines i.kind i.name i.classes classes ++ rest)) (λ k. Has k 0) i.classes
+      (λ k c others b at has on line.
+      let next = next_class i is.tree k b c line is.classes at has in
+      let read : Leads b (class_statement line i.kind i.name i.classes c) (add_class b next.class) =
+      rw (reads_class i.kind, last_is before (part_of i b) new, get_pushed before (part_of i b) [], next.read, set_pushed before) refl in
+      rw (read, reading_from) (on (add_class b next.class) next.then_has (line + 1)))
+      last b r
+
+  -- its filters
+  filters_read : (rest : List TextLine) (b : Begun) → Has (length i.classes) 0 b → ((b : Begun) → Has (length i.classes) (length i.filters) b → ReadsOn b rest)
+      → ReadsOn b (filter_lines i.name i.classes i.filters ++ rest)
+  filters_read rest b r last =
+      in_turn (λ b filters. ReadsOn b (filter_lines i.name i.classes filters ++ rest)) (Has (length i.classes)) i.filters
+      (λ m f others b at has on line.
+      let next = next_filter i is.tree is.tree.default.number m b f line is.filters at has in
+      let read : Leads b (filter_statement line i.name i.classes f) (add_filter b f) =
+      rw (reads_filter f.addresses, last_is before (part_of i b) new, get_pushed before (part_of i b) [], next.read, set_pushed before) refl in
+      rw (read, reading_from) (on (add_filter b f) next.then_has (line + 1)))
+      last b r
+
+  -- what is read is the interface
+  made_whole : (b : Begun) → i.implied ≡ false → Has (length i.classes) (length i.filters) b
+      → (whole (part_of i b) ≡ i) × (undecided (part_of i b) ≡ false)
+  made_whole b e r =
+      let one = is.tree.default in
+      let within = slice_get_within i.classes one.number one.class one.at in
+      let some : is_empty b.classes ≡ false = ne_eqb (length b.classes) 0 (λ none. omega (arith, r.class_count)) in
+      let classes = maps_to (λ (a : Branch). a.class) b.classes i.classes r.class_count (λ j a g. (r.class j a g).here) in
+      let filters : b.filters ≡ i.filters = same_places b.filters i.filters r.filter_count r.filter in
+      let chosen : b.chosen ≡ true = r.chosen ∙ lt-ltb one.number (length i.classes) within in
+      (rw (some, classes, filters, e) refl, rw (some, chosen) refl)
+
+  -- the lines behind the first
+  tail_read : (rest : List TextLine) (line : ℕ) (implied : Bool) → i.implied ≡ implied
+      → ((b : Begun) → whole b ≡ i → undecided b ≡ false → Reads all (before ++ b ∷ []) rest)
+      → Reads all (before ++ begun line i.name i.rate i.kind ∷ [])
+      ((class_lines i.kind i.name i.classes (if implied then [] else i.classes) ++ filter_lines i.name i.classes i.filters) ++ rest)
+  tail_read rest line true e last =
+      let implied = is.implied e in
+      rw implied.filters (last (begun line i.name i.rate i.kind) (rw (implied.classes, implied.filters, e) refl) refl)
+  tail_read rest line false e last =
+      let filters = filter_lines i.name i.classes i.filters in
+      let b = begun line i.name i.rate i.kind in
+      rw (append_assoc (class_lines i.kind i.name i.classes i.classes) filters rest)
+      (classes_read (filters ++ rest) b nothing_read (λ b r. filters_read rest b r (λ b r. let made = made_whole b e r in last (part_of i b) made.0 made.1)))
+    where
+      nothing_read : Has 0 0 (begun line i.name i.rate i.kind)
+      nothing_read = record {
+        rooted = λ none. refl;
+        chosen = grind (arith, nat_tests);
+        class_count = refl;
+        class = λ j r g. absurd (cc);
+        filter_count = refl;
+        filter = λ j f g. absurd (cc);
+      }
+
+-- THE CONFIGURATION: its interfaces as they are read
+record AreRead (interfaces : List Interface) (k : ℕ) (before : List Begun) : Type 0 where
+  count : length before ≡ k
+  each : (j : ℕ) (b : Begun) → slice_get before j ≡ Some b → (slice_get interfaces j ≡ Some (whole b)) × (undecided b ≡ false)
+
+none_undecided : (before : List Begun) → ((j : ℕ) (b : Begun) → slice_get before j ≡ Some b → undecided b ≡ false) → first_undecided before ≡ None
+none_undecided [] each = refl
+none_undecided (b ∷ before) each = rw (each 0 b refl) (none_undecided before (λ j. each (suc j)))
+
+next_interface : (all : List Interface) → AreFit all → (k : ℕ) (i : Interface) (rest : List Interface) (before : List Begun) → slice_get all k ≡ Some i
+    → AreRead all k before → ((next : List Begun) → AreRead all (suc k) next → Reads all next (canonical_lines rest))
+    → Reads all before (canonical_lines (i ∷ rest))
+next_interface all fit k i rest before at h on line =
+    let is = fit.interface k i at in
+    let new : IsNew i.name before = λ j b g t.
+    let same = fit.names k j i (whole b) at (h.each j b g).0 t in
+    omega (arith, h.count, slice_get_within before j b g) in
+    let room = lt-leb 16 (length before) (omega (arith, fit.count, h.count, slice_get_within all k i at)) in
+    let first = begins before line i i.kind (name_is_new (λ (b : Begun). b.name) i.name before new) room (within_is 1000 most_rate i.rate is.rate) in
+    rw (first, reading_from)
+    (tail_read all before i is new (canonical_lines rest) line i.implied refl (λ b as_is decided.
+    on (before ++ b ∷ []) (record {
+      count = omega (arith, length-append before (b ∷ []), h.count);
+      each = push_all (λ j a. (slice_get all j ≡ Some (whole a)) × (undecided a ≡ false)) before b h.each (rw (h.count, as_is) at, decided);
+    })) (line + 1))
+
+pub configuration_is_read : (interfaces : List Interface) (line : ℕ) → AreFit interfaces
+    → reading_from [] (canonical_statements line interfaces) ≡ Ok interfaces
+configuration_is_read interfaces line fit =
+    in_turn (λ before rest. Reads interfaces before (canonical_lines rest)) (AreRead interfaces) interfaces (next_interface interfaces fit)
+    (λ before h at.
+    rw (none_undecided before (λ j b g. (h.each j b g).1), maps_to whole before interfaces h.count (λ j b g. (h.each j b g).0)) refl)
+    [] (record { count = refl; each = λ j b g. absurd (cc) }) line

@@ -1,50 +1,59 @@
--- Tests one after the other: what holds of their first fault, what holds of what they come to, and when two of them are close.
-use Rattle.std.proofs.Common.{◌≡◌, ◌⊎◌, inl, inr, ⊎_elim, ℕ, ◌≤◌, Bool, true, false, Option, Some, None, Result, Ok, Err, IfOk, refl, ap, subst}
+-- Tests one after the other: what holds of their first fault, and what holds of what they come to.
+use Rattle.std.proofs.Common.{◌≡◌, ◌⊎◌, inl, inr, ⊎_elim, Bool, true, false, Option, Some, None, Result, Ok, Err, IfOk, refl}
+use Rattle.std.specs.Option.{IfSome}
+use Rattle.std.specs.Result.{IfErr}
 use Rattle.conf_lines.specs.declared.fault.ConfPlace.{ConfPlace}
 use Rattle.conf_tree.specs.Tests.{◌>>=◌, some, refuse, own}
 
--- ITS FAULT: a value, or a fault that is so
-abbrev pub Faults : {A : Type 0} → (ConfPlace → Type 0) → Result A ConfPlace → Type 0
-Faults P (Ok value) = Unit {0}
-Faults P (Err fault) = P fault
+-- ITS FAULT: `Q` holds of it, as it does of the fault of other tests that begin alike, or since `Far` holds: the tests are far enough
+-- on, and there it holds of each fault
+module _ (Q : ConfPlace → Type 0) where
+  pub so_option : {A B Far : Type 0} (o : Option A) (fault other : ConfPlace) (next more : A → Result B ConfPlace) → Far ⊎ IfErr (some o other >>= more) Q
+      → (Far ⊎ Q other → Q fault) → ((x : A) → Far ⊎ IfErr (more x) Q → IfErr (next x) Q) → IfErr (some o fault >>= next) Q
+  so_option None fault other next more link here k = here link
+  so_option (Some x) fault other next more link here k = k x link
 
-abbrev pub IfAny : (ConfPlace → Type 0) → Option ConfPlace → Type 0
-IfAny P None = Unit {0}
-IfAny P (Some fault) = P fault
+  pub so_some : {A B Far : Type 0} (o : Option A) (fault : ConfPlace) (next more : A → Result B ConfPlace) → Far ⊎ IfErr (some o fault >>= more) Q
+      → (Far → Q fault) → ((x : A) → Far ⊎ IfErr (more x) Q → IfErr (next x) Q) → IfErr (some o fault >>= next) Q
+  so_some o fault next more link far k = so_option o fault fault next more link (⊎_elim far (λ same. same)) k
 
-pub so_then : {A B : Type 0} (P : ConfPlace → Type 0) (r : Result A ConfPlace) (next : A → Result B ConfPlace) → Faults P r
-    → ((x : A) → Faults P (next x)) → Faults P (r >>= next)
-so_then P (Ok x) next h k = k x
-so_then P (Err fault) next h k = h
+  pub so_refuse : {B Far : Type 0} (t : Bool) (fault : ConfPlace) (next more : Unit {0} → Result B ConfPlace) → Far ⊎ IfErr (refuse t fault >>= more) Q
+      → (Far → Q fault) → (Far ⊎ IfErr (more tt) Q → IfErr (next tt) Q) → IfErr (refuse t fault >>= next) Q
+  so_refuse true fault next more link far k = ⊎_elim far (λ same. same) link
+  so_refuse false fault next more link far k = k link
 
-pub so_some : {A B : Type 0} (P : ConfPlace → Type 0) (o : Option A) (fault : ConfPlace) (next : A → Result B ConfPlace) → P fault
-    → ((x : A) → Faults P (next x)) → Faults P (some o fault >>= next)
-so_some P None fault next h k = h
-so_some P (Some x) fault next h k = k x
+  -- the same ones, and then others
+  pub so_both : {A B Far : Type 0} (r : Result A ConfPlace) (next more : A → Result B ConfPlace) → Far ⊎ IfErr (r >>= more) Q
+      → (Far ⊎ IfErr r Q → IfErr r Q) → ((x : A) → Far ⊎ IfErr (more x) Q → IfErr (next x) Q) → IfErr (r >>= next) Q
+  so_both (Ok x) next more link front k = k x link
+  so_both (Err fault) next more link front k = front link
 
-pub so_last : {A : Type 0} (P : ConfPlace → Type 0) (o : Option A) (fault : ConfPlace) → P fault → Faults P (some o fault)
-so_last P None fault h = h
-so_last P (Some x) fault h = tt
+  -- some, and then some of whose fault it holds at any rate
+  pub so_next : {A B : Type 0} (r : Result A ConfPlace) (next : A → Result B ConfPlace) → IfErr r Q → ((x : A) → IfErr (next x) Q) → IfErr (r >>= next) Q
+  so_next (Ok x) next h k = k x
+  so_next (Err fault) next h k = h
 
-pub so_refuse : {B : Type 0} (P : ConfPlace → Type 0) (t : Bool) (fault : ConfPlace) (next : Unit {0} → Result B ConfPlace) → P fault
-    → Faults P (next tt) → Faults P (refuse t fault >>= next)
-so_refuse P true fault next h k = h
-so_refuse P false fault next h k = k
+  pub so_front : {A B : Type 0} (r : Result A ConfPlace) (next : A → Result B ConfPlace) → IfErr (r >>= next) Q → IfErr r Q
+  so_front (Ok x) next h = tt
+  so_front (Err fault) next h = h
 
-pub so_whole : {B : Type 0} (P : ConfPlace → Type 0) (o : Option ConfPlace) (next : Unit {0} → Result B ConfPlace) → IfAny P o
-    → Faults P (next tt) → Faults P (own o >>= next)
-so_whole P None next h k = k
-so_whole P (Some fault) next h k = h
+  pub so_then : {A B Far : Type 0} (r t : Result A ConfPlace) (next more : A → Result B ConfPlace) → Far ⊎ IfErr (t >>= more) Q
+      → (Far ⊎ IfErr t Q → IfErr r Q) → ((x : A) → IfErr (next x) Q) → IfErr (r >>= next) Q
+  so_then r t next more link front k = so_next r next (front (⊎_elim inl (λ same. inr (so_front t more same)) link)) k
+
+  pub so_own : {B : Type 0} (o : Option ConfPlace) (next : Unit {0} → Result B ConfPlace) → IfSome o Q → IfErr (next tt) Q → IfErr (own o >>= next) Q
+  so_own None next h k = k
+  so_own (Some fault) next h k = h
+
+  pub so_last : {A : Type 0} (o : Option A) (fault : ConfPlace) → Q fault → IfErr (some o fault) Q
+  so_last None fault h = h
+  so_last (Some x) fault h = tt
 
 -- WHAT IT COMES TO
 pub fit_then : {A B : Type 0} (R : A → Type 0) (Q : B → Type 0) (r : Result A ConfPlace) (next : A → Result B ConfPlace) → IfOk r R
     → ((x : A) → R x → IfOk (next x) Q) → IfOk (r >>= next) Q
 fit_then R Q (Ok x) next h k = k x h
 fit_then R Q (Err fault) next h k = tt
-
-pub fit_map : {A : Type 0} (R Q : A → Type 0) (r : Result A ConfPlace) → IfOk r R → ((x : A) → R x → Q x) → IfOk r Q
-fit_map R Q (Ok x) h k = k x h
-fit_map R Q (Err fault) h k = tt
 
 pub fit_any : {A : Type 0} (Q : A → Type 0) (r : Result A ConfPlace) → ((x : A) → Q x) → IfOk r Q
 fit_any Q (Ok x) k = k x
@@ -63,56 +72,3 @@ fit_refuse Q false fault next k = k refl
 pub fit_whole : {B : Type 0} (Q : B → Type 0) (o : Option ConfPlace) (next : Unit {0} → Result B ConfPlace) → IfOk (next tt) Q → IfOk (own o >>= next) Q
 fit_whole Q None next k = k
 fit_whole Q (Some fault) next k = tt
-
--- TWO OF THEM: the same answer, or both from a word on
-abbrev pub From : ℕ → ConfPlace → Type 0
-From m fault = m ≤ fault.word
-
-abbrev pub Late : {A : Type 0} → ℕ → Result A ConfPlace → Type 0
-Late m r = Faults (From m) r
-
-abbrev pub Close : {A : Type 0} → ℕ → Result A ConfPlace → Result A ConfPlace → Type 0
-Close m r t = (r ≡ t) ⊎ (Late m r × Late m t)
-
--- the same fault, or two from a word on
-abbrev pub CloseFault : ℕ → ConfPlace → ConfPlace → Type 0
-CloseFault m f g = (f ≡ g) ⊎ (From m f × From m g)
-
-close_err : {A : Type 0} (m : ℕ) (f g : ConfPlace) → CloseFault m f g → Close {A = A} m (Err f) (Err g)
-close_err m f g h = ⊎_elim (λ e. inl (ap (λ x. Err x) e)) (λ late. inr late) h
-
-pub close_some : {A B : Type 0} (m : ℕ) (o p : Option A) (f g : ConfPlace) (h k : A → Result B ConfPlace) → o ≡ p → CloseFault m f g
-    → ((x : A) → Close m (h x) (k x)) → Close m (some o f >>= h) (some p g >>= k)
-close_some {A} m o p f g h k e c n = subst (λ x. Close m (some o f >>= h) (some x g >>= k)) e (same o)
-  where
-    same : (x : Option A) → Close m (some x f >>= h) (some x g >>= k)
-    same None = close_err m f g c
-    same (Some x) = n x
-
-pub close_refuse : {B : Type 0} (m : ℕ) (t : Bool) (f g : ConfPlace) (h k : Unit {0} → Result B ConfPlace) → CloseFault m f g
-    → Close m (h tt) (k tt) → Close m (refuse t f >>= h) (refuse t g >>= k)
-close_refuse m true f g h k c n = close_err m f g c
-close_refuse m false f g h k c n = n
-
--- the same ones, and then close ones
-close_both : {A B : Type 0} (m : ℕ) (r : Result A ConfPlace) (h k : A → Result B ConfPlace) → ((x : A) → Close m (h x) (k x)) → Close m (r >>= h) (r >>= k)
-close_both m (Ok x) h k n = n x
-close_both m (Err fault) h k n = inl refl
-
-pub close_next : {A B : Type 0} (m : ℕ) (r t : Result A ConfPlace) (h k : A → Result B ConfPlace) → r ≡ t → ((x : A) → Close m (h x) (k x))
-    → Close m (r >>= h) (t >>= k)
-close_next m r t h k e n = subst (λ x. Close m (r >>= h) (x >>= k)) e (close_both m r h k n)
-
--- close ones, and then some that are late or the same
-pub close_late : {A B : Type 0} (m : ℕ) (r t : Result A ConfPlace) (h k : A → Result B ConfPlace) → Close m r t → ((x : A) → Late m (h x)) → ((x : A) → Late m (k x))
-    → Close m (r >>= h) (t >>= k)
-close_late {A} {B} m r t h k c a b =
-    ⊎_elim
-    (λ e. close_next m r t h k e (λ x. inr (a x, b x)))
-    (λ late. inr (so_then (From m) r h late.0 a, so_then (From m) t k late.1 b))
-    c
-
-pub close_same : {A B : Type 0} (m : ℕ) (r t : Result A ConfPlace) (next : A → Result B ConfPlace) → Close m r t → ((x : A) → Late m (next x))
-    → Close m (r >>= next) (t >>= next)
-close_same {A} {B} m r t next c a =
-    ⊎_elim (λ e. inl (ap (λ x. x >>= next) e)) (λ late. inr (so_then (From m) r next late.0 a, so_then (From m) t next late.1 a)) c

@@ -1,31 +1,28 @@
 -- Types of the reading that the crate below keeps to itself, named by what its definitions take.
+use Rattle.std.proofs.Common.{[]}
+use Rattle.conf_tree.specs.declared.interface.Kind.TheVariants.{Hfsc}
 use Rattle.conf_tree.specs.Classes.{rate_given, branch_of}
 use Rattle.conf_tree.specs.Options.{set_options}
+use Rattle.conf_tree.specs.Settings.{of_kind}
 use Rattle.conf_tree.specs.Tree.{class_name}
 
--- what a function of one, two or three arguments takes
+-- what a function takes
 abbrev takes : {A B : Type 0} → (A → B) → Type 0
 takes {A} f = A
-
-abbrev takes_second : {A B C : Type 0} → (A → B → C) → Type 0
-takes_second {A} {B} f = B
-
-abbrev takes_third : {A B C D : Type 0} → (A → B → C → D) → Type 0
-takes_third {A} {B} {C} f = C
 
 -- what the options of a class are read under, and what they set
 abbrev pub Scope : Type 0
 Scope = takes set_options
 
 abbrev pub Settings : Type 0
-Settings = takes_second set_options
+Settings = takes (of_kind Hfsc)
 
 -- where a class stands, its shape, and a class as far as the statements say
 abbrev pub Spot : Type 0
-Spot = takes_second rate_given
+Spot = takes (rate_given 0)
 
 abbrev pub Shape : Type 0
-Shape = takes_third branch_of
+Shape = takes (branch_of Hfsc [])
 
 abbrev pub Branch : Type 0
 Branch = takes class_name

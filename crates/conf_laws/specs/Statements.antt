@@ -7,7 +7,7 @@ use Rattle.conf_tree.specs.declared.class.Class.{Class}
 use Rattle.conf_tree.specs.declared.filter.Filter.{Filter}
 use Rattle.conf_tree.specs.declared.interface.Interface.{Interface}
 use Rattle.conf_tree.specs.declared.interface.Kind.{Kind}
-use Rattle.conf_tree.specs.Canonical.{interface_line, class_line, class_lines, filter_line, filter_lines, interface_lines, canonical_lines}
+use Rattle.conf_tree.specs.Canonical.{interface_line, class_line, filter_line, canonical_lines}
 use Rattle.conf_tree.specs.Printed.{TextLine}
 
 -- words that say this, numbered from one on
@@ -38,15 +38,6 @@ class_statement line kind interface all c = statement_of_line line (class_line k
 
 abbrev pub filter_statement : ℕ → List ℕ → List Class → Filter → Statement
 filter_statement line interface all f = statement_of_line line (filter_line interface all f)
-
-abbrev pub class_statements : ℕ → Kind → List ℕ → List Class → List Class → List Statement
-class_statements line kind interface all classes = statements_from line (class_lines kind interface all classes)
-
-abbrev pub filter_statements : ℕ → List ℕ → List Class → List Filter → List Statement
-filter_statements line interface all filters = statements_from line (filter_lines interface all filters)
-
-abbrev pub interface_statements : ℕ → Interface → List Statement
-interface_statements line i = statements_from line (interface_lines i)
 
 abbrev pub canonical_statements : ℕ → List Interface → List Statement
 canonical_statements line interfaces = statements_from line (canonical_lines interfaces)

@@ -1,94 +1,34 @@
 -- Two lines that agree in their first words: they have the same fault among these, or none, and then the same items of them.
-use Rattle.std.proofs.Common.{◌≡◌, ◌⊎◌, inl, inr, ⊎_elim, ℕ, ◌+◌, ◌<◌, ◌≤◌, List, [], ◌∷◌, ◌++◌, length, Option, Some, None, Result, Ok, Err, refl, sym, ap, subst, ◌∙◌, arith, append_assoc}
+use Rattle.std.proofs.Common.{◌≡◌, ◌⊎◌, inl, inr, ⊎_elim, ℕ, ◌+◌, ◌<◌, ◌≤◌, List, [], ◌∷◌, ◌++◌, length, Option, Some, None, Result, Ok, Err, refl, ap, subst, ◌∙◌, arith}
 use Rattle.conf_lines.specs.declared.fault.ConfKind.{ConfKind}
 use Rattle.conf_lines.specs.declared.fault.ConfPlace.{ConfPlace}
 use Rattle.conf_lines.specs.declared.item.Item.{Item}
 use Rattle.conf_lines.specs.declared.item.What.{What}
 use Rattle.conf_lines.specs.declared.statement.Form.{Form}
 use Rattle.conf_lines.specs.declared.statement.Form.TheVariants as form
-use Rattle.conf_lines.specs.Grammar.{Place, Step, step, end, start}
-use Rattle.conf_lines.specs.Texts.{Reading, fault_at, item_of, behind, read_from}
+use Rattle.conf_lines.specs.Grammar.{Place, Step, step, start}
+use Rattle.conf_lines.specs.Texts.{Reading, item_of, behind, read_from}
 use Rattle.conf_lines.proofs.GoodSteps.{IsFormed, Owes, GoesBy, GoesIfOk, goes}
 use Rattle.conf_lines.proofs.GrammarPlaces.{at_interface_name, at_discipline_word}
 use Rattle.conf_lines.proofs.ReadWords.{statement_cases, discipline_cases}
-use Rattle.conf_lines.proofs.StandingWords.{past}
-
--- A PLACE WHOSE FORM IS KNOWN leads to another of the same form, by an item
-abbrev IsItem : Option What → Type 0
-IsItem None = ⊥
-IsItem (Some says) = Unit {0}
-
-abbrev MovesIfOk : Form → Result Step ConfKind → Type 0
-MovesIfOk form (Ok taken) = IsItem taken.what × (taken.after.form ≡ form) × IsFormed taken.after.next
-MovesIfOk form (Err kind) = Unit {0}
-
-what_moves : (form : Form) (owed : List Item → Type 0) (o : Option What) (after : Place) → GoesBy form owed o after
-    → IsItem o × (after.form ≡ form) × IsFormed after.next
-what_moves form owed None after h = absurd h
-what_moves form owed (Some says) after h = (tt, h.of, h.formed)
-
-moves_by : (form : Form) (owed : List Item → Type 0) (r : Result Step ConfKind) → GoesIfOk form owed r → MovesIfOk form r
-moves_by form owed (Ok taken) h = what_moves form owed taken.what taken.after h
-moves_by form owed (Err kind) h = tt
-
-moves : (place : Place) (word : List ℕ) → IsFormed place.next → MovesIfOk place.form (step place word)
-moves place word f = moves_by place.form (Owes place.next place) (step place word) (goes place word f)
-
--- WHAT STANDS FROM A WORD ON
-abbrev pub IsLate : ℕ → Option ConfPlace → Type 0
-IsLate m None = Unit {0}
-IsLate m (Some fault) = m ≤ fault.word
-
-abbrev pub AreLate : ℕ → List Item → Type 0
-AreLate m [] = Unit {0}
-AreLate m (item ∷ items) = (m ≤ item.word) × AreLate m items
-
-less_late : (m n : ℕ) (items : List Item) → m ≤ n → AreLate n items → AreLate m items
-less_late m n [] h k = tt
-less_late m n (item ∷ items) h k = (let first = k.0 in omega arith, less_late m n items h k.1)
-
-less_fault : (m n : ℕ) (o : Option ConfPlace) → m ≤ n → IsLate n o → IsLate m o
-less_fault m n None h k = tt
-less_fault m n (Some fault) h k = omega arith
-
-one_late : (m at : ℕ) (o : Option What) (items : List Item) → m ≤ at → AreLate m items → AreLate m (item_of at o ++ items)
-one_late m at None items h k = k
-one_late m at (Some says) items h k = (h, k)
-
-fault_late : (line at : ℕ) (o : Option ConfKind) → IsLate at (fault_at line at o)
-fault_late line at None = tt
-fault_late line at (Some kind) = omega arith
-
--- a reading from a word on
-pub record AllLate (m : ℕ) (r : Reading) : Type 0 where
-  pub items : AreLate m r.items
-  pub fault : IsLate m r.fault
-
-late_past : (line : ℕ) (words : List (List ℕ)) (place : Place) (at : ℕ) (r : Result Step ConfKind)
-    → ((to : Place) → AllLate (at + 1) (read_from line words to (at + 1))) → AllLate at (past line words place at r)
-late_past line words place at (Ok taken) k =
-    let more = k taken.after in
-    record {
-      items = one_late at at taken.what (read_from line words taken.after (at + 1)).items (omega arith)
-          (less_late at (at + 1) (read_from line words taken.after (at + 1)).items (omega arith) more.items);
-      fault = less_fault at (at + 1) (read_from line words taken.after (at + 1)).fault (omega arith) more.fault;
-    }
-late_past line words place at (Err kind) k = record { items = tt; fault = omega arith }
-
-late_from : (line : ℕ) (words : List (List ℕ)) (place : Place) (at : ℕ) → AllLate at (read_from line words place at)
-late_from line [] place at = record { items = tt; fault = fault_late line at (end place) }
-late_from line (word ∷ words) place at = late_past line words place at (step place word) (λ to. late_from line words to (at + 1))
+use Rattle.conf_lines.proofs.Readings.{past, IsLate, AreLate, AllLate, late_from}
 
 -- the form of a reading
-form_past : (line : ℕ) (words : List (List ℕ)) (place : Place) (at : ℕ) (r : Result Step ConfKind) → MovesIfOk place.form r
+form_behind : (form : Form) (owed : List Item → Type 0) (at : ℕ) (o : Option What) (after : Place) (r : Reading) → GoesBy form owed o after
+    → (IsFormed after.next → r.form ≡ after.form) → (behind (item_of at o) r).form ≡ form
+form_behind form owed at None after r h k = absurd h
+form_behind form owed at (Some says) after r h k = k h.formed ∙ h.of
+
+form_past : (line : ℕ) (words : List (List ℕ)) (place : Place) (at : ℕ) (r : Result Step ConfKind) → GoesIfOk place.form (Owes place.next place) r
     → ((to : Place) → IsFormed to.next → (read_from line words to (at + 1)).form ≡ to.form) → (past line words place at r).form ≡ place.form
-form_past line words place at (Ok taken) h k = k taken.after h.2 ∙ h.1
+form_past line words place at (Ok taken) h k =
+    form_behind place.form (Owes place.next place) at taken.what taken.after (read_from line words taken.after (at + 1)) h (k taken.after)
 form_past line words place at (Err kind) h k = refl
 
 form_from : (line : ℕ) (words : List (List ℕ)) (place : Place) (at : ℕ) → IsFormed place.next → (read_from line words place at).form ≡ place.form
 form_from line [] place at f = refl
 form_from line (word ∷ words) place at f =
-    form_past line words place at (step place word) (moves place word f) (λ to g. form_from line words to (at + 1) g)
+    form_past line words place at (step place word) (goes place word f) (λ to g. form_from line words to (at + 1) g)
 
 -- TWO READINGS of one form, the first words of which agree: both stop at one of these, or both go past them
 pub record Stopped (m at : ℕ) (form : Form) (r t : Reading) : Type 0 where
@@ -99,56 +39,55 @@ pub record Stopped (m at : ℕ) (form : Form) (r t : Reading) : Type 0 where
   pub count : at + length r.items ≡ fault.word
   pub of_form : r.form ≡ form
 
+-- what a reading has behind the items that both have
+pub record Rest (m : ℕ) (form : Form) (common : List Item) (r : Reading) : Type 0 where
+  pub rest : List Item
+  pub items : r.items ≡ common ++ rest
+  pub late : AreLate m rest
+  pub fault : IsLate m r.fault
+  pub of_form : r.form ≡ form
+
 pub record Split (m at : ℕ) (form : Form) (r t : Reading) : Type 0 where
   pub common : List Item
-  pub left : List Item
-  pub right : List Item
-  pub left_items : r.items ≡ common ++ left
-  pub right_items : t.items ≡ common ++ right
   pub count : at + length common ≡ m
-  pub left_late : AreLate m left
-  pub right_late : AreLate m right
-  pub left_fault : IsLate m r.fault
-  pub right_fault : IsLate m t.fault
-  pub left_form : r.form ≡ form
-  pub right_form : t.form ≡ form
+  pub left : Rest m form common r
+  pub right : Rest m form common t
 
 abbrev pub Agree : ℕ → ℕ → Form → Reading → Reading → Type 0
 Agree m at form r t = Stopped m at form r t ⊎ Split m at form r t
 
-item_count : (at : ℕ) (o : Option What) (items : List Item) → IsItem o → length (item_of at o ++ items) ≡ length items + 1
-item_count at None items is = absurd is
-item_count at (Some says) items is = omega arith
+rest_behind : (m : ℕ) (form of : Form) (common : List Item) (r : Reading) (item : Item) → of ≡ form → Rest m of common r
+    → Rest m form (item ∷ common) (behind (item ∷ []) r)
+rest_behind m form of common r item e s =
+    record { rest = s.rest; items = ap (λ items. item ∷ items) s.items; late = s.late; fault = s.fault; of_form = s.of_form ∙ e }
 
-agree_past : (m line : ℕ) (words others : List (List ℕ)) (place : Place) (at : ℕ) (r : Result Step ConfKind) → at < m → MovesIfOk place.form r
-    → ((to : Place) → IsFormed to.next → Agree m (at + 1) to.form (read_from line words to (at + 1)) (read_from line others to (at + 1)))
-    → Agree m at place.form (past line words place at r) (past line others place at r)
-agree_past m line words others place at (Ok taken) within h k =
-    let item = item_of at taken.what in
+agree_behind : (m at : ℕ) (form : Form) (owed : List Item → Type 0) (o : Option What) (after : Place) (r t : Reading) → GoesBy form owed o after
+    → (IsFormed after.next → Agree m (at + 1) after.form r t) → Agree m at form (behind (item_of at o) r) (behind (item_of at o) t)
+agree_behind m at form owed None after r t h k = absurd h
+agree_behind m at form owed (Some says) after r t h k =
+    let item : Item = record { word = at; what = says } in
     ⊎_elim
     (λ s. inl (record {
-      same = ap (behind item) s.same;
+      same = ap (behind (item ∷ [])) s.same;
       fault = s.fault;
       is = s.is;
       early = s.early;
-      count = let one = item_count at taken.what (read_from line words taken.after (at + 1)).items h.0 in let rest = s.count in omega arith;
-      of_form = s.of_form ∙ h.1;
+      count = omega (arith, s.count);
+      of_form = s.of_form ∙ h.of;
     }))
     (λ s. inr (record {
-      common = item ++ s.common;
-      left = s.left;
-      right = s.right;
-      left_items = ap (λ items. item ++ items) s.left_items ∙ sym (append_assoc item s.common s.left);
-      right_items = ap (λ items. item ++ items) s.right_items ∙ sym (append_assoc item s.common s.right);
-      count = let one = item_count at taken.what s.common h.0 in let rest = s.count in omega arith;
-      left_late = s.left_late;
-      right_late = s.right_late;
-      left_fault = s.left_fault;
-      right_fault = s.right_fault;
-      left_form = s.left_form ∙ h.1;
-      right_form = s.right_form ∙ h.1;
+      common = item ∷ s.common;
+      count = omega (arith, s.count);
+      left = rest_behind m form after.form s.common r item h.of s.left;
+      right = rest_behind m form after.form s.common t item h.of s.right;
     }))
-    (k taken.after h.2)
+    (k h.formed)
+
+agree_past : (m line : ℕ) (words others : List (List ℕ)) (place : Place) (at : ℕ) (r : Result Step ConfKind) → at < m → GoesIfOk place.form (Owes place.next place) r
+    → ((to : Place) → IsFormed to.next → Agree m (at + 1) to.form (read_from line words to (at + 1)) (read_from line others to (at + 1)))
+    → Agree m at place.form (past line words place at r) (past line others place at r)
+agree_past m line words others place at (Ok taken) within h k =
+    agree_behind m at place.form (Owes place.next place) taken.what taken.after _ _ h (k taken.after)
 agree_past m line words others place at (Err kind) within h k = inl (record {
   same = refl;
   fault = record { line = line; word = at; kind = kind };
@@ -158,28 +97,21 @@ agree_past m line words others place at (Err kind) within h k = inl (record {
   of_form = refl;
 })
 
+rest_here : (line : ℕ) (words : List (List ℕ)) (place : Place) (at m : ℕ) → IsFormed place.next → at ≡ m → Rest m place.form [] (read_from line words place at)
+rest_here line words place at m f here =
+    let late = subst (λ n. AllLate n (read_from line words place at)) here (late_from line words place at) in
+    record { rest = (read_from line words place at).items; items = refl; late = late.items; fault = late.fault; of_form = form_from line words place at f }
+
 agree_from : (m line : ℕ) (words more other : List (List ℕ)) (place : Place) (at : ℕ) → IsFormed place.next → m ≡ at + length words
     → Agree m at place.form (read_from line (words ++ more) place at) (read_from line (words ++ other) place at)
-agree_from m line [] more other place at f e =
-    let here : at ≡ m = omega arith in
-    let r = late_from line more place at in
-    let t = late_from line other place at in
-    inr (record {
-      common = [];
-      left = (read_from line more place at).items;
-      right = (read_from line other place at).items;
-      left_items = refl;
-      right_items = refl;
-      count = omega arith;
-      left_late = subst (λ n. AreLate n (read_from line more place at).items) here r.items;
-      right_late = subst (λ n. AreLate n (read_from line other place at).items) here t.items;
-      left_fault = subst (λ n. IsLate n (read_from line more place at).fault) here r.fault;
-      right_fault = subst (λ n. IsLate n (read_from line other place at).fault) here t.fault;
-      left_form = form_from line more place at f;
-      right_form = form_from line other place at f;
-    })
+agree_from m line [] more other place at f e = inr (record {
+  common = [];
+  count = omega arith;
+  left = rest_here line more place at m f (omega arith);
+  right = rest_here line other place at m f (omega arith);
+})
 agree_from m line (word ∷ words) more other place at f e =
-    agree_past m line (words ++ more) (words ++ other) place at (step place word) (omega arith) (moves place word f)
+    agree_past m line (words ++ more) (words ++ other) place at (step place word) (omega arith) (goes place word f)
     (λ to g. agree_from m line words more other to (at + 1) g (omega arith))
 
 -- THE LINE
@@ -245,3 +177,15 @@ lines_agree line (word ∷ words) more other =
     (λ kind. refused_agree m line (words ++ more) (words ++ other) start 1 kind refl)
     (begun_agree m line words more other form.Interface (omega arith)) (class_agree m line words more other (omega arith))
     (begun_agree m line words more other form.Filter (omega arith)) (begun_agree m line words more other form.Filter6 (omega arith))
+
+-- THE FAULT STANDS AT ITS WORD: of two readings that agree, one that has a fault among the words that they share is the other
+no_late : (m : ℕ) (o : Option ConfPlace) (fault : ConfPlace) → o ≡ Some fault → IsLate m o → m ≤ fault.word
+no_late m o fault e late = rw e at late
+
+pub stands : (line : ℕ) (words more other : List (List ℕ)) (fault : ConfPlace) → (read_from line (words ++ more) start 1).fault ≡ Some fault → fault.word ≤ length words
+    → read_from line (words ++ other) start 1 ≡ read_from line (words ++ more) start 1
+stands line words more other fault e within =
+    let m : ℕ = 1 + length words in
+    let r = read_from line (words ++ more) start 1 in
+    let far : IsLate m r.fault → read_from line (words ++ other) start 1 ≡ r = λ late. let beyond = no_late m r.fault fault e late in absurd (omega arith) in
+    ⊎_elim (λ s. far s.left.fault) (λ s. ⊎_elim (λ x. x.same) (λ x. ⊎_elim (λ y. y.same) (λ y. far y.left.fault) x.1) s) (lines_agree line words more other)

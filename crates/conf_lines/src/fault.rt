@@ -60,32 +60,7 @@ impl ConfKind {
     pub fn number(self) -> u8
         ensures { result ≡ kind_number self }
     {
-        match self {
-            ConfKind::UnknownWord => 1,
-            ConfKind::MissingWord => 2,
-            ConfKind::BadNumber => 3,
-            ConfKind::RateRange => 4,
-            ConfKind::BadAddress => 5,
-            ConfKind::BadByte => 6,
-            ConfKind::TooLong => 7,
-            ConfKind::InterfaceTwice => 8,
-            ConfKind::NoInterface => 9,
-            ConfKind::WrongDiscipline => 10,
-            ConfKind::NameTaken => 11,
-            ConfKind::NoParent => 12,
-            ConfKind::TwoRoots => 13,
-            ConfKind::TooDeep => 14,
-            ConfKind::TooManyClasses => 15,
-            ConfKind::TooManyFilters => 16,
-            ConfKind::TooManyInterfaces => 17,
-            ConfKind::ConvexFirst => 18,
-            ConfKind::NoShare => 19,
-            ConfKind::RealTimeInside => 20,
-            ConfKind::InnerQueue => 21,
-            ConfKind::TwoDefaults => 22,
-            ConfKind::NoDefault => 23,
-            ConfKind::NoClass => 24,
-        }
+        self as u8 + 1
     }
 
     /// The kind's name, as a message gives it.

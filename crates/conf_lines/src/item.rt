@@ -30,14 +30,6 @@ impl Text {
     {
         self.string.as_str()
     }
-
-    /// Gives the string back. Takes no memory.
-    pub fn into_string(self) -> String
-        ensures { string_bytes result ≡ self }
-    {
-        let Text { string } = self;
-        string
-    }
 }
 
 /// What one word says.
@@ -98,13 +90,5 @@ impl Items {
         ensures { result.now ≡ self.now }
     {
         self.items.as_slice()
-    }
-
-    /// Gives the vector back. Takes no memory.
-    pub fn into_vec(self) -> Vec<Item>
-        ensures { result.items ≡ self }
-    {
-        let Items { items } = self;
-        items
     }
 }

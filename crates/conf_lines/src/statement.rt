@@ -140,11 +140,7 @@ fn read(alloc: Global, line: u64, end: u64, words: &[Word]) -> Result<Statement,
                 place = after;
             }
             Err(Refusal::Kind(kind)) => {
-                let fault = Some(ConfPlace {
-                    line,
-                    word: at,
-                    kind,
-                });
+                let fault = fault_at(line, at, Some(kind));
                 return Ok(Statement {
                     line,
                     form: place.form,

@@ -1,6 +1,6 @@
 //! What a word leads to from a place of a statement.
 ghost use Rattle.std.specs.Prelude.{◌≡◌, ◌||◌, Ok, IfOk, true};
-ghost use Rattle.conf_lines.specs.Grammar.{seen, step, at_statement, at_discipline, at_parent, at_part, filled, took, chosen, at_slope, at_bend, at_last_slope, behind_option, refused, begins, says, reads, as_read, stands_by, is_filter, end, unsettled, Gives, Fails};
+ghost use Rattle.conf_lines.specs.Grammar.{seen, step, at_statement, at_discipline, at_parent, at_part, filled, took, chosen, at_slope, at_bend, at_last_slope, behind_option, refused, begins, says, reads, as_read, end, Gives, Fails};
 ghost use Rattle.conf_lines.specs.Options.{option_of, most_rate, most_bend};
 ghost use Rattle.conf_lines.specs.Parts.{reach};
 ghost use Rattle.line_text.specs.Names.{is_name};
@@ -20,11 +20,11 @@ use crate::statement::Form;
 use line_text::Word;
 use std::alloc::{AllocError, Global};
 
-/// A word that says something, and then another is next.
+/// A word that says something, and then another is next. No mask may stand behind the address `0`.
 fn says(what: What, place: Place, next: Next) -> Step
     ensures { Gives (Ok result) (says what (seen place) next) }
 {
-    let stands = stands_by(&what);
+    let stands = !matches!(what, What::Any);
     Step {
         what: Some(what),
         after: Place {
@@ -33,13 +33,6 @@ fn says(what: What, place: Place, next: Next) -> Step
             ..place
         },
     }
-}
-
-/// Whether what may stand only behind a word may stand behind this one: it is not the address `0`.
-fn stands_by(what: &What) -> bool
-    ensures { result ≡ stands_by what.now }
-{
-    !matches!(what, What::Any)
 }
 
 /// The refusal of a word that is not allowed at its place.
@@ -53,7 +46,7 @@ fn refused(word: &Word) -> Result<Step, Refusal>
     }
 }
 
-/// A word that only says which statement it is.
+/// A word that only says which statement it is. A filter has nothing to have besides its parts.
 fn begins(form: Form, next: Next) -> Result<Step, Refusal>
     ensures { Gives result (begins form next) }
 {
@@ -64,16 +57,9 @@ fn begins(form: Form, next: Next) -> Result<Step, Refusal>
             next,
             parts: parts_of(form),
             stands: true,
-            settled: is_filter(form),
+            settled: matches!(form, Form::Filter | Form::Filter6),
         },
     })
-}
-
-/// Whether a statement is a filter, which has nothing to have besides its parts.
-fn is_filter(form: Form) -> bool
-    ensures { result ≡ is_filter form }
-{
-    matches!(form, Form::Filter | Form::Filter6)
 }
 
 /// A word that was read, and then a part is next.
@@ -83,26 +69,6 @@ fn reads(read: Result<What, ConfKind>, place: Place) -> Result<Step, Refusal>
     match read {
         Ok(what) => Ok(says(what, place, Next::Part)),
         Err(kind) => Err(Refusal::Kind(kind)),
-    }
-}
-
-/// A whole number that was read, and then a part is next.
-fn counts(read: Result<u64, ConfKind>, place: Place) -> Result<Step, Refusal>
-    ensures { Gives result (reads (as_read what.Whole read) (seen place)) }
-{
-    match read {
-        Ok(value) => reads(Ok(What::Whole(value)), place),
-        Err(kind) => reads(Err(kind), place),
-    }
-}
-
-/// A rate that was read, and then a part is next.
-fn flows(read: Result<u64, ConfKind>, place: Place) -> Result<Step, Refusal>
-    ensures { Gives result (reads (as_read what.Rate read) (seen place)) }
-{
-    match read {
-        Ok(value) => reads(Ok(What::Rate(value)), place),
-        Err(kind) => reads(Err(kind), place),
     }
 }
 
@@ -258,8 +224,8 @@ fn filled(alloc: Global, slot: Slot, place: Place, word: &Word) -> Result<Step, 
         Slot::Parent => at_parent(alloc, place, word),
         Slot::Address => reads(address_in(word), place),
         Slot::Address6 => reads(address6_in(word), place),
-        Slot::Port => counts(whole_in(0, MOST_PORT, word), place),
-        Slot::Protocol => counts(protocol_in(word), place),
+        Slot::Port => reads(whole_in(0, MOST_PORT, word).map(What::Whole), place),
+        Slot::Protocol => reads(protocol_in(word).map(What::Whole), place),
     }
 }
 
@@ -296,8 +262,8 @@ pub(crate) fn step(alloc: Global, place: Place, word: &Word) -> Result<Step, Ref
         Next::Discipline => at_discipline(word),
         Next::Part => at_part(alloc, place, word),
         Next::Skipped => reads(skipped_in(word), place),
-        Next::Rate(low, high) => flows(rate_in(low, high, word), place),
-        Next::Whole(low, high) => counts(whole_in(low, high, word), place),
+        Next::Rate(low, high) => reads(rate_in(low, high, word).map(What::Rate), place),
+        Next::Whole(low, high) => reads(whole_in(low, high, word).map(What::Whole), place),
         Next::Mask => reads(mask_in(word), place),
         Next::Slope(low, least) => at_slope(low, least, place, word),
         Next::Bend(least, first) => at_bend(least, first, place, word),
@@ -313,17 +279,7 @@ pub(crate) fn end(place: Place) -> Option<ConfKind>
     match place.next {
         Next::Part if !may_end(place.parts) => Some(ConfKind::MissingWord),
         Next::Part if place.settled => None,
-        Next::Part => Some(unsettled(place.form)),
+        Next::Part if place.form == Form::ClassHfsc => Some(ConfKind::NoShare),
         _ => Some(ConfKind::MissingWord),
-    }
-}
-
-/// The kind of the fault of a statement without what it must have.
-fn unsettled(form: Form) -> ConfKind
-    ensures { result ≡ unsettled form }
-{
-    match form {
-        Form::ClassHfsc => ConfKind::NoShare,
-        _ => ConfKind::MissingWord,
     }
 }

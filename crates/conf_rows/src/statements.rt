@@ -1,5 +1,5 @@
 //! Literal cases of every statement and every kind of `conf_lines`.
-use conf_lines::{ConfKind, Items, Statement, Text, statements};
+use conf_lines::{ConfKind, statements};
 use std::alloc::Global;
 use std::test::Fail;
 
@@ -354,19 +354,5 @@ fn long_lines_keep_their_words(rt: HostRuntime) -> Result<(), Fail> {
         first_fault(rt.alloc(), text.as_str())?,
         Some((1, 300, ConfKind::UnknownWord))
     );
-    Ok(())
-}
-
-#[test]
-fn parts_are_given_back(rt: HostRuntime) -> Result<(), Fail> {
-    let text = Text::of(String::from_str(rt.alloc(), "if0")?);
-    assert_eq!(rt; text.as_str(), "if0");
-    assert_eq!(rt; text.into_string().as_str(), "if0");
-    let found = statements(rt.alloc(), b"interface if0 hfsc")?;
-    for statement in found {
-        let Statement { items, .. } = statement;
-        let items = Items::of(items.into_vec());
-        assert_eq!(rt; items.as_slice().len(), 2);
-    }
     Ok(())
 }

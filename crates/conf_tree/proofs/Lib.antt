@@ -1,4 +1,3 @@
-pub mod Outcomes
 pub mod Positions
 pub mod PrintedLines
 pub mod StandingFaults

@@ -106,11 +106,8 @@ fn push_cbq(whats: &mut Vec<What>, class: &Class) -> Result<(), NoMemory>
     push_with(whats, Key::Exactbandwidth, What::Rate(class.rate))?;
     push_where(whats, Key::Borrow, class.borrow)?;
     push_with(whats, Key::Maxburst, What::Whole(u64::from(class.maxburst)))?;
-    push_with(
-        whats,
-        Key::Packetsize,
-        What::Whole(u64::from(class.packetsize)),
-    )?;
+    let packetsize = What::Whole(u64::from(class.packetsize));
+    push_with(whats, Key::Packetsize, packetsize)?;
     push_queue(whats, class)?;
     push_where(whats, Key::Control, class.control)?;
     push_where(whats, Key::Default, class.is_default)
@@ -129,10 +126,8 @@ pub(crate) fn class_whats(
     let mut whats = Vec::new(alloc);
     push(&mut whats, What::Name(text_of(alloc, interface)?))?;
     push(&mut whats, What::Name(text_of(alloc, class.name.as_str())?))?;
-    push(
-        &mut whats,
-        What::Name(text_of(alloc, parent_word(all, class.parent))?),
-    )?;
+    let parent = parent_word(all, class.parent);
+    push(&mut whats, What::Name(text_of(alloc, parent)?))?;
     match kind {
         Kind::Hfsc => push_hfsc(&mut whats, class)?,
         Kind::Cbq => push_cbq(&mut whats, class)?,

@@ -1,7 +1,7 @@
 //! `class hfsc` and `class cbq`.
 ghost use Rattle.std.specs.Prelude.{◌≡◌, IfOk, None};
 ghost use Rattle.conf_tree.specs.Answers.{Answers, Gains};
-ghost use Rattle.conf_tree.specs.Classes.{is_hfsc, same_kind, is_queue, below, spot_of, rate_given, rate_at_end, shape_of, branch_of, unnamed_class, read_branch, read_class};
+ghost use Rattle.conf_tree.specs.Classes.{is_hfsc, is_queue, below, spot_of, rate_given, rate_at_end, shape_of, branch_of, unnamed_class, read_branch, read_class};
 ghost use Rattle.conf_tree.specs.Fits.{Fits};
 ghost use Rattle.conf_tree.specs.Tree.{class_number};
 
@@ -23,15 +23,6 @@ pub(crate) fn is_hfsc(kind: Kind) -> bool
     match kind {
         Kind::Hfsc => true,
         Kind::Cbq => false,
-    }
-}
-
-fn same_kind(kind: Kind, other: Kind) -> bool
-    ensures { result ≡ same_kind kind other }
-{
-    match kind {
-        Kind::Hfsc => is_hfsc(other),
-        Kind::Cbq => !is_hfsc(other),
     }
 }
 
@@ -164,7 +155,7 @@ fn read_branch(
     ensures read { Answers result (read_branch draft.now kind statement.now) }
     ensures fits { IfOk result (λ branch. Fits draft.now statement.now branch) }
 {
-    if !same_kind(kind, draft.kind) {
+    if kind != draft.kind {
         return Err(ConfFault::At(at_word(statement, 3, ConfKind::WrongDiscipline)));
     }
     let Some(name) = name_at(statement.items.as_slice(), 1) else {

@@ -90,15 +90,10 @@ pub(crate) fn filter_whats(
 {
     let mut whats = Vec::new(alloc);
     push(&mut whats, What::Name(text_of(alloc, interface)?))?;
-    push(
-        &mut whats,
-        What::Name(text_of(alloc, class_word(all, filter.class))?),
-    )?;
-    push_with(
-        &mut whats,
-        Key::Ruleno,
-        What::Whole(u64::from(filter.ruleno)),
-    )?;
+    let class = class_word(all, filter.class);
+    push(&mut whats, What::Name(text_of(alloc, class)?))?;
+    let ruleno = What::Whole(u64::from(filter.ruleno));
+    push_with(&mut whats, Key::Ruleno, ruleno)?;
     push_parts(&mut whats, filter)?;
     Ok(whats)
 }

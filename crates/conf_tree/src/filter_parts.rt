@@ -1,48 +1,37 @@
 //! The parts of a filter.
 ghost use Rattle.std.specs.Prelude.{◌≡◌, ◌≤◌, ◌-◌, ◌^◌, IfSome, drop};
-ghost use Rattle.conf_tree.specs.Filters.{is_key, is_skipped, has_option, has_name, past_option, past_name, option_number, part, mask_in, address4, address6, addresses, tos_in, filter_of};
+ghost use Rattle.conf_tree.specs.Filters.{has_option, has_name, past_option, past_name, option_number, part, mask_in, address4, address6, addresses, tos_in, filter_of};
 
 use crate::filter::{Addresses, Filter};
 use crate::items::{number_at, past};
 use crate::masks::{masked, prefix};
 use conf_lines::{Form, Item, MOST_PORT, MOST_PROTOCOL, MOST_RULENO, MOST_TOS, What};
 
-fn is_key(what: &What) -> bool
-    ensures { result ≡ is_key what.now }
-{
-    match what {
-        What::Key(_) => true,
-        _ => false,
-    }
-}
-
-fn is_skipped(what: &What) -> bool
-    ensures { result ≡ is_skipped what.now }
-{
-    match what {
-        What::Skipped => true,
-        _ => false,
-    }
-}
-
 /// Whether an option's word stands first.
 fn has_option(items: &[Item]) -> bool
     ensures { result ≡ has_option items.now }
 {
-    match items.get(0) {
-        Some(item) => is_key(&item.what),
-        None => false,
-    }
+    matches!(
+        items.get(0),
+        Some(Item {
+            what: What::Key(_),
+            ..
+        })
+    )
 }
 
 /// Whether `name` and its WORD stand first.
 fn has_name(items: &[Item]) -> bool
     ensures { result ≡ has_name items.now }
 {
-    match items.get(1) {
-        Some(item) => has_option(items) && is_skipped(&item.what),
-        None => false,
-    }
+    has_option(items)
+        && matches!(
+            items.get(1),
+            Some(Item {
+                what: What::Skipped,
+                ..
+            })
+        )
 }
 
 fn past_option(items: &[Item]) -> &[Item]
@@ -96,11 +85,13 @@ fn mask_in(items: &[Item]) -> [u8; 4]
         return [255; 4];
     }
     match items.get(1) {
-        Some(item) => match &item.what {
-            What::Ip4(mask) => *mask,
-            _ => [255; 4],
-        },
-        None => [255; 4],
+        Some(
+            Item {
+                what: What::Ip4(mask),
+                ..
+            },
+        ) => *mask,
+        _ => [255; 4],
     }
 }
 
@@ -109,14 +100,16 @@ fn address4(items: &[Item]) -> ([u8; 4], [u8; 4])
     ensures { result ≡ address4 items.now }
 {
     match items.get(0) {
-        Some(item) => match &item.what {
-            What::Ip4(address) => {
-                let mask = mask_in(past(items, 1));
-                (masked(*address, mask), mask)
-            }
-            _ => ([0; 4], [0; 4]),
-        },
-        None => ([0; 4], [0; 4]),
+        Some(
+            Item {
+                what: What::Ip4(address),
+                ..
+            },
+        ) => {
+            let mask = mask_in(past(items, 1));
+            (masked(*address, mask), mask)
+        }
+        _ => ([0; 4], [0; 4]),
     }
 }
 
@@ -125,11 +118,13 @@ fn address6(items: &[Item]) -> ([u8; 16], u8)
     ensures { result ≡ address6 items.now }
 {
     match items.get(0) {
-        Some(item) => match &item.what {
-            What::Ip6(address, bits) => (prefix(*bits, address), *bits),
-            _ => ([0; 16], 0),
-        },
-        None => ([0; 16], 0),
+        Some(
+            Item {
+                what: What::Ip6(address, bits),
+                ..
+            },
+        ) => (prefix(*bits, address), *bits),
+        _ => ([0; 16], 0),
     }
 }
 

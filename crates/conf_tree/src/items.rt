@@ -10,11 +10,13 @@ pub(crate) fn name_at<'a>(items: &'a [Item], at: usize) -> Option<&'a str>
     ensures { option_copied result ≡ name_at items.now at }
 {
     match items.get(at) {
-        Some(item) => match &item.what {
-            What::Name(name) => Some(name.as_str()),
-            _ => None,
-        },
-        None => None,
+        Some(
+            Item {
+                what: What::Name(name),
+                ..
+            },
+        ) => Some(name.as_str()),
+        _ => None,
     }
 }
 

@@ -47,10 +47,7 @@ fn rate_by_word(rate: u64, what: &What, items: &[Item]) -> u64
     ensures { result ≡ rate_by_word rate what.now items.now }
 {
     match what {
-        What::Key(key) => match key {
-            Key::Bandwidth => number_behind(Key::Bandwidth, items).unwrap_or(rate),
-            _ => rate,
-        },
+        What::Key(Key::Bandwidth) => number_behind(Key::Bandwidth, items).unwrap_or(rate),
         _ => rate,
     }
 }
@@ -73,11 +70,8 @@ fn kind_by_word(kind: Option<Kind>, what: &What) -> Option<Kind>
     ensures { result ≡ kind_by_word kind what.now }
 {
     match what {
-        What::Key(key) => match key {
-            Key::Hfsc => Some(Kind::Hfsc),
-            Key::Cbq => Some(Kind::Cbq),
-            _ => kind,
-        },
+        What::Key(Key::Hfsc) => Some(Kind::Hfsc),
+        What::Key(Key::Cbq) => Some(Kind::Cbq),
         _ => kind,
     }
 }

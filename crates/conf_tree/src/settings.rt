@@ -2,7 +2,7 @@
 ghost use Rattle.std.specs.Prelude.{◌≡◌, ◌≤◌, IfSome, option_map, unwrap_or};
 ghost use Rattle.service_curve.specs.Curve.{straight};
 ghost use Rattle.conf_tree.specs.Items.{number_behind};
-ghost use Rattle.conf_tree.specs.Settings.{unset, of_kind, rate_of_kind, class_of, made, curve_behind, percent, set_percent, set_default, set_queue, set_cbq, set_option, curve_in_slots};
+ghost use Rattle.conf_tree.specs.Settings.{unset, of_kind, rate_of_kind, class_of, curve_behind, percent, set_percent, set_default, set_queue, set_cbq, set_option, curve_in_slots};
 ghost use Rattle.std.specs.Option.{option_or};
 
 use crate::class::{Class, DropRule};
@@ -133,13 +133,6 @@ pub(crate) fn class_of(name: Text, parent: Option<u32>, rate: u64, settings: Set
     }
 }
 
-/// The curve of m1, d in nanoseconds and m2.
-fn made(m1: u64, d: u64, m2: u64) -> Curve
-    ensures { result ≡ made m1 d m2 }
-{
-    Curve::make(m1, d, m2)
-}
-
 /// The curve of the three numbers at the front, whose first slope is at least `low` and whose second at least `least`.
 fn curve_in(low: u64, least: u64, items: &[Item]) -> Option<Curve>
     ensures { result ≡ curve_in_slots (Slots.Curve low least) items.now }
@@ -156,7 +149,7 @@ fn curve_in(low: u64, least: u64, items: &[Item]) -> Option<Curve>
     if d > 0 && m1 > 0 && m1 < m2 {
         return None;
     }
-    Some(made(m1, d * 1_000_000, m2))
+    Some(Curve::make(m1, d * 1_000_000, m2))
 }
 
 /// The curve behind an option.
@@ -182,7 +175,7 @@ fn part_of(rate: u64, items: &[Item]) -> Option<Curve>
     ensures { result ≡ option_map (λ n. straight (percent rate n)) (number_behind Key.Pshare items.now) }
 {
     match number_behind(Key::Pshare, items) {
-        Some(n) => Some(made(0, 0, percent(rate, n))),
+        Some(n) => Some(Curve::make(0, 0, percent(rate, n))),
         None => None,
     }
 }
@@ -192,7 +185,7 @@ fn line_in(items: &[Item]) -> Option<Curve>
     ensures { result ≡ option_map (λ n. straight n) (number_behind Key.Grate items.now) }
 {
     match number_behind(Key::Grate, items) {
-        Some(n) => Some(made(0, 0, n)),
+        Some(n) => Some(Curve::make(0, 0, n)),
         None => None,
     }
 }

@@ -23,10 +23,8 @@ fn interface_whats(alloc: Global, interface: &Interface) -> Result<Vec<What>, No
         Kind::Cbq => Key::Cbq,
     };
     let mut whats = Vec::new(alloc);
-    push(
-        &mut whats,
-        What::Name(name_of(alloc, interface.name.as_str())?),
-    )?;
+    let name = name_of(alloc, interface.name.as_str())?;
+    push(&mut whats, What::Name(name))?;
     push_with(&mut whats, Key::Bandwidth, What::Rate(interface.rate))?;
     push(&mut whats, What::Key(kind))?;
     Ok(whats)

@@ -13,7 +13,7 @@ use Rattle.conf_tree.specs.declared.interface.Kind.{Kind}
 use Rattle.conf_tree.specs.declared.interface.Kind.TheVariants.{Hfsc, Cbq}
 use Rattle.conf_tree.specs.Family.{is_leaf, is_queue_class}
 use Rattle.conf_laws.specs.Fit.{IsInterface}
-use Rattle.conf_laws.proofs.Each.{element}
+use Rattle.conf_laws.proofs.ListPlaces.{element}
 use Rattle.play_text.specs.Names.{NameList, HasClass}
 use Rattle.interface_policy.specs.Policy.{queue_names}
 

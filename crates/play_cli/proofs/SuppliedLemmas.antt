@@ -5,7 +5,7 @@ use Rattle.std.specs.Prelude.{IsTrue, bytes_eq}
 use Rattle.altq_model.specs.History.{Happened}
 use Rattle.capture_model.specs.declared.damage.Damage.{Damage}
 use Rattle.capture_model.specs.Capture.{Record, Step, End, Fault, Limit, Reads, IsCapture, IsLast}
-use Rattle.conf_laws.proofs.NamesRead.{names_differ, names_equal}
+use Rattle.conf_laws.proofs.ListPlaces.{names_differ, names_equal}
 use Rattle.conf_tree.specs.declared.interface.Interface.{Interface}
 use Rattle.pcap_files.proofs.ReadingLaws.{one_reading}
 use Rattle.play_base.specs.View.{View, Rose}

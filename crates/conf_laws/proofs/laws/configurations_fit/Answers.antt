@@ -1,5 +1,5 @@
 use Rattle.conf_lines.specs.Texts.{statements_of}
-use Rattle.conf_laws.proofs.FitWhole.{configuration_fit}
+use Rattle.conf_laws.proofs.FitStatements.{configuration_fit}
 use Rattle.conf_laws.proofs.laws.configurations_fit.Goals as goal
 
 pub returns : goal.returns

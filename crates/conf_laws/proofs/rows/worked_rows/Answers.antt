@@ -1,26 +1,11 @@
-use Rattle.conf_laws.proofs.WorkedRows.{lines_are, ends_are, names_are, ranges_are, orders_are, later_are, filters_are, implied_are}
+use Rattle.std.specs.Fmt.{digits}
+use Rattle.line_text.specs.Lines.{joint}
+use Rattle.conf_lines.specs.Grammar.{at_statement, at_discipline, at_parent, step, end}
+use Rattle.conf_lines.specs.Slots.{is_text, are_plain, rate_in, whole_in, skipped_in, name_in, protocol_in, mask_in, address_in, address6_in}
+use Rattle.conf_lines.specs.Texts.{statements_of}
 use Rattle.conf_laws.proofs.rows.worked_rows.Goals as goal
 
-pub returns-clause-lines : goal.returns-clause-lines
-returns-clause-lines c = lines_are
-
-pub returns-clause-ends : goal.returns-clause-ends
-returns-clause-ends c = ends_are
-
-pub returns-clause-names : goal.returns-clause-names
-returns-clause-names c = names_are
-
-pub returns-clause-ranges : goal.returns-clause-ranges
-returns-clause-ranges c = ranges_are
-
-pub returns-clause-orders : goal.returns-clause-orders
-returns-clause-orders c = orders_are
-
-pub returns-clause-later : goal.returns-clause-later
-returns-clause-later c = later_are
-
-pub returns-clause-filters : goal.returns-clause-filters
-returns-clause-filters c = filters_are
-
-pub returns-clause-implied : goal.returns-clause-implied
-returns-clause-implied c = implied_are
+-- each row holds by computing its two sides
+pub returns : goal.returns
+unfolding statements_of is_text are_plain rate_in whole_in skipped_in name_in protocol_in mask_in address_in address6_in at_statement at_discipline at_parent step end joint digits
+returns c = assumption

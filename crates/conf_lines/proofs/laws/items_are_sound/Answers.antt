@@ -1,4 +1,4 @@
-use Rattle.conf_lines.proofs.SoundItems.{statements_sound}
+use Rattle.conf_lines.proofs.GoodSteps.{statements_sound}
 use Rattle.conf_lines.proofs.laws.items_are_sound.Goals as goal
 
 pub returns : goal.returns

@@ -1,4 +1,4 @@
-use Rattle.conf_lines.proofs.WholeStatements.{options_whole}
+use Rattle.conf_lines.proofs.GoodSteps.{options_whole}
 use Rattle.conf_lines.proofs.laws.options_are_whole.Goals as goal
 
 pub returns : goal.returns

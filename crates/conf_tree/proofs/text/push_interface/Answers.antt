@@ -1,4 +1,4 @@
-use Rattle.std.proofs.Common.{◌≡◌, ◌∷◌, ◌++◌, [], List, ℕ, string_bytes, append_assoc, ap, sym, ◌∙◌}
+use Rattle.std.proofs.Common.{◌≡◌, ◌∷◌, ◌++◌, [], List, ℕ, string_bytes, append_assoc, refl}
 use Rattle.conf_tree.specs.Canonical.{interface_line, class_lines, filter_lines, written_classes}
 use Rattle.conf_tree.specs.Printed.{TextLine, printed}
 use Rattle.conf_tree.proofs.PrintedLines.{printed-append}
@@ -7,12 +7,7 @@ use Rattle.conf_tree.proofs.text.push_interface.Goals as goal
 three : (old a b c : List ℕ) (first : TextLine) (classes filters : List TextLine) → a ≡ old ++ printed (first ∷ []) → b ≡ a ++ printed classes → c ≡ b ++ printed filters
     → c ≡ old ++ printed (first ∷ (classes ++ filters))
 three old a b c first classes filters p q r =
-    let front = printed-append (first ∷ []) (classes ++ filters) in
-    let back = printed-append classes filters in
-    r ∙ ap (λ text. text ++ printed filters) (q ∙ ap (λ text. text ++ printed classes) p)
-    ∙ append_assoc (old ++ printed (first ∷ [])) (printed classes) (printed filters)
-    ∙ append_assoc old (printed (first ∷ [])) (printed classes ++ printed filters)
-    ∙ ap (λ text. old ++ text) (ap (λ text. printed (first ∷ []) ++ text) (sym back) ∙ sym front)
+    rw (r, q, p, printed-append (first ∷ []) (classes ++ filters), printed-append classes filters) (simp append_assoc refl)
 
 pub returns : goal.returns
 returns c =

@@ -1,8 +1,8 @@
-use Rattle.std.proofs.Common.{◌≡◌, Some, slice_get, slice_set, refl, ap, sym, ◌∙◌, arith}
+use Rattle.std.proofs.Common.{◌≡◌, Some, slice_get, refl, ap, sym, ◌∙◌, arith}
 use Rattle.std.proofs.Math.Seq.{map-set_same}
 use Rattle.std.proofs.lemmas.Option.{slice_get-get_or}
 use Rattle.conf_tree.specs.Tree.{interface_name, add_filter}
-use Rattle.conf_tree.proofs.Outcomes.{on_ok}
+use Rattle.std.proofs.lemmas.Result.{on_ok_weaker}
 use Rattle.conf_tree.proofs.tree.Tree.add_filter.Goals as goal
 
 pub invariant_of-self : goal.invariant_of-self
@@ -18,5 +18,4 @@ returns-then-number-len c = λ b h.
     slice_get-get_or items c.args.number d (omega (arith, c.if-number-len.true, c.len.ensures)) ∙ ap Some (sym c.index_mut-draft.ensures.value) in
     let asked : slice_get items c.args.number ≡ Some b = rw (← c.self.view_is) at h in
     let same : d ≡ b = cc in
-    on_ok (c.add_filter.new.self ≡ add_filter d c.args.filter) (slice_set items c.args.number c.add_filter.new.self ≡ slice_set c.args.self.now c.args.number (add_filter b c.args.filter))
-    c.add_filter.result (λ e. rw (e, same, ← c.self.view_is) refl) c.add_filter.ensures.added
+    on_ok_weaker {P = c.add_filter.new.self ≡ add_filter d c.args.filter} c.add_filter.result (λ e. rw (e, same, ← c.self.view_is) refl) c.add_filter.ensures.added
