@@ -138,7 +138,7 @@ pending_same v f f' at at' ahead ahead' bytes ef ep ea p = record {
 -- a reader that came no further
 pub stands_with : (v w : View) (r n : Reader) (bytes : List ℕ) (records : List capture.Record) → StandsFor v r bytes records
     → n.head ≡ r.head → n.progress ≡ r.progress → (n.fault ≡ None → Pending w n.file n.progress.place n.ahead bytes)
-    → (n.fault ≡ None → length n.ahead ≤ 65536) → IsCause n.fault (step (form r.head) bytes (length records) (place_after 24 records))
+    → (n.fault ≡ None → length n.ahead ≤ 65535) → IsCause n.fault (step (form r.head) bytes (length records) (place_after 24 records))
     → StandsFor w n bytes records
 stands_with v w r n bytes records s eh ep pending ahead cause = record {
   formed = s.formed ∙ ap (λ h. Formed (form h)) (sym eh);
@@ -195,7 +195,7 @@ cut_reads v w r ahead bytes records stamp captured original fault.NoMemory s sou
 pub answered : (v w : View) (r n : Reader) (answer : Record) (ahead bytes : List ℕ) (records : List capture.Record) (stamp captured original : ℕ)
     → StandsFor v r bytes records → r.fault ≡ None → TookInto v w r.file r.ahead ahead
     → step (form r.head) bytes (length records) (place_after 24 records) ≡ step_of (Headed stamp captured original) r.progress.place (drop r.progress.place bytes)
-    → length ahead ≤ 65536 + (16 + captured) → IsTaken (holding r ahead) n answer stamp captured original
+    → length ahead ≤ 65535 + (16 + captured) → IsTaken (holding r ahead) n answer stamp captured original
     → (x : capture.Record) × Shows answer (length records) x × StandsFor w n bytes (records ++ x ∷ [])
 answered v w r n answer ahead bytes records stamp captured original s sound t here bound k =
     let p = pending_took v w r.file r.progress.place r.ahead ahead bytes (s.pending sound) t in

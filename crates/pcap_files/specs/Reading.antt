@@ -35,7 +35,7 @@ pub record StandsFor (v : View) (r : Reader) (bytes : List ℕ) (records : List 
   pub place : r.progress.place ≡ place_after 24 records
   -- what follows them was taken ahead, or is what the file has left
   pub pending : r.fault ≡ None → Pending v r.file r.progress.place r.ahead bytes
-  pub ahead : r.fault ≡ None → length r.ahead ≤ 65536
+  pub ahead : r.fault ≡ None → length r.ahead ≤ 65535
   pub cause : IsCause r.fault (step (form r.head) bytes (length records) (place_after 24 records))
 
 -- a record was answered: the one that follows those answered before

@@ -32,7 +32,7 @@ pub struct Reader {
 impl Reader {
     /// Reads the header of the capture that the file has left. `Damage` comes only where the header fails a test, and no
     /// reader is answered where it does; `Read` comes only where the count of read faults of the file's part rose in this
-    /// call, and `Limit` never. When a reader is answered, at most 65,536 bytes past the header were taken. `file` was
+    /// call, and `Limit` never. When a reader is answered, at most 65,535 bytes past the header were taken. `file` was
     /// answered by `files`.
     pub fn start<F: Files>(alloc: Global, files: &mut F, file: u32) -> Result<Reader, CaptureFault>
         requires there { IsSome ((F.view files.old).part file) }
@@ -72,7 +72,7 @@ impl Reader {
     /// The next record, or none where the file ends at a record's place. `Damage` and `Limit` come only where the bytes at
     /// that place fail a test, and neither a record nor the end is answered where they do; `Read` comes only where the
     /// count of read faults of the file's part rose in this call. After any fault the reader answers that fault again and
-    /// takes nothing. When a record is answered, at most 65,536 bytes past it were taken. Between this reader's calls
+    /// takes nothing. When a record is answered, at most 65,535 bytes past it were taken. Between this reader's calls
     /// nothing else may read from the file. Takes time in proportion to the bytes taken and the record's.
     pub fn next<F: Files>(&mut self, files: &mut F) -> Result<Option<Record>, CaptureFault>
         requires there { IsSome ((F.view files.old).part self.old.file) }
