@@ -69,6 +69,7 @@ impl Files for LongCapture {
       left = λ f. None;
       read_faults = λ p. 0;
       write_faults = λ p. 0;
+      fixed = [];
     } };
 
     fn open(&mut self, part: u8, _name: &str) -> Result<u32, Trouble> {

@@ -144,6 +144,7 @@ impl<'a, R: rt::Files + Print> Files for RealFiles<'a, R> {
       left = λ f. None;
       read_faults = slice_index s.read_faults;
       write_faults = slice_index s.write_faults;
+      fixed = [];
     } };
 
     fn open(&mut self, part: u8, name: &str) -> Result<u32, Trouble> {

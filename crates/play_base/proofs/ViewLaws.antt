@@ -2,13 +2,20 @@
 use Rattle.std.specs.Prelude.{◌≡◌, ◌≢◌, ℕ, List, ◌++◌, [], ◌≤◌, None, Some, IsTrue, IsSome}
 use Rattle.std.proofs.Common.{arith, ◌∙◌, ap, sym, refl, subst, append_assoc, append-nil}
 use Rattle.std.specs.declared.option.Option.{Option}
-use Rattle.play_base.specs.View.{View, Rose, Later, Keeps, Any, Unchanged, Took, Wrote, Opened, Created, OtherThan, NotNamed}
+use Rattle.play_base.specs.View.{View, Rose, Later, SameCounts, Keeps, Any, Unchanged, Took, Wrote, Opened, Created, OtherThan, NotNamed}
 
 pub later_trans : (a b c : View) → Later a b → Later b c → Later a c
 later_trans a b c x y = record {
   read = λ p. omega (arith, x.read p, y.read p);
   write = λ p. omega (arith, x.write p, y.write p);
+  fixed = y.fixed ∙ x.fixed;
 }
+
+pub same_trans : (a b c : View) → SameCounts a b → SameCounts b c → SameCounts a c
+same_trans a b c x y = record { read = λ p. y.read p ∙ x.read p; write = λ p. y.write p ∙ x.write p }
+
+pub same_refl : (a : View) → SameCounts a a
+same_refl a = record { read = λ _. refl; write = λ _. refl }
 
 -- what two calls keep is what both keep
 pub keeps_trans : (N : List ℕ → Type 0) (F : ℕ → Type 0) (a b c : View) → Keeps N F a b → Keeps N F b c → Keeps N F a c
@@ -47,7 +54,7 @@ keeps_refl N F v = record {
   left = λ _ _ _ _. refl;
   part = λ _ _ h. h;
   name = λ _ _ _. refl;
-  later = record { read = λ p. omega arith; write = λ p. omega arith };
+  later = record { read = λ p. omega arith; write = λ p. omega arith; fixed = refl };
 }
 
 pub took_nothing : (a : View) (file : ℕ) → Took a a file []

@@ -34,6 +34,7 @@ memory_view m = record {
   left = left_at m.opened.items;
   read_faults = slice_index m.read_faults;
   write_faults = slice_index m.write_faults;
+  fixed = [];
 }
 
 -- every file of the old list is in the new one as it was

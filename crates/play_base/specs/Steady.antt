@@ -17,6 +17,7 @@ steady_view m = record {
   left = left_at m.opened.items;
   read_faults = λ part. 0;
   write_faults = λ part. 0;
+  fixed = [];
 }
 
 -- how many calls of this kind were made

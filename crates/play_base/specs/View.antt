@@ -20,20 +20,33 @@ pub record View : Type 0 where
   -- the faults of each part
   pub read_faults : ℕ → ℕ
   pub write_faults : ℕ → ℕ
+  -- what no call changes of an object that borrows other files: the name of the reference, and more that it fixes; [] for all others
+  pub fixed : List ℕ
 
 -- a count rose, or is at its greatest value, 2^64 - 1
 abbrev pub Rose : ℕ → ℕ → Type 0
 Rose old new = min (old + 1) (2 ^ 64 - 1) ≤ new
 
--- no count falls
+-- no count falls, and what is fixed stays
 pub record Later (old new : View) : Type 0 where
   pub read : (part : ℕ) → old.read_faults part ≤ new.read_faults part
   pub write : (part : ℕ) → old.write_faults part ≤ new.write_faults part
+  pub fixed : new.fixed ≡ old.fixed
 
 -- every count stands
 pub record SameCounts (old new : View) : Type 0 where
   pub read : (part : ℕ) → new.read_faults part ≡ old.read_faults part
   pub write : (part : ℕ) → new.write_faults part ≡ old.write_faults part
+
+-- every count stands but that of the read faults of this part
+pub record SameButReads (part : ℕ) (old new : View) : Type 0 where
+  pub read : (p : ℕ) → p ≢ part → new.read_faults p ≡ old.read_faults p
+  pub write : (p : ℕ) → new.write_faults p ≡ old.write_faults p
+
+-- every count stands but that of the write faults of this part
+pub record SameButWrites (part : ℕ) (old new : View) : Type 0 where
+  pub read : (p : ℕ) → new.read_faults p ≡ old.read_faults p
+  pub write : (p : ℕ) → p ≢ part → new.write_faults p ≡ old.write_faults p
 
 -- The names in N keep their bytes and the files in F keep what they have left. No file changes its part or its name,
 -- and no count falls.

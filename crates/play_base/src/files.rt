@@ -1,6 +1,6 @@
 // The files of a play: each call's effect is stated on what the object tells.
 ghost use Rattle.std.specs.Prelude.{◌≡◌, ◌⊎◌, ◌<◌, ◌≤◌, ℕ, length, take, Some, IsSome, IfOk, OnErr, OnOk, IsErrOf};
-ghost use Rattle.play_base.specs.View.{View, Rose, Unchanged, Opened, Created, Took, Wrote, Said, ReadFault, WriteFault, IsMissed, IsAtEnd};
+ghost use Rattle.play_base.specs.View.{View, Rose, SameCounts, Unchanged, Opened, Created, Took, Wrote, Said, ReadFault, WriteFault, IsMissed, IsAtEnd};
 
 use crate::Trouble;
 
@@ -9,8 +9,9 @@ use crate::Trouble;
 /// part a count of read faults and one of write faults. A part is a number below 16. Each call changes only what it
 /// names here, and the counts.
 ///
-/// Every call may return `NoMemory`. After any error nothing has changed but counts, which never fall. A count saturates
-/// at 2^64 − 1; there "rose" holds of every call.
+/// Every call may return `NoMemory`. After any error nothing has changed but counts, which never fall. A call that
+/// succeeds leaves every count as it was, but for a `write` that moves nothing of a piece that isn't empty: so an object
+/// that met a fault in a call answers `Failed` in it. A count saturates at 2^64 − 1; there "rose" holds of every call.
 pub trait Files {
     ghost view: { Self → View };
 
@@ -20,6 +21,7 @@ pub trait Files {
     fn open(&mut self, part: u8, name: &str) -> Result<u32, Trouble>
         requires { part < 16 }
         ensures opened { IfOk result (λ file. Opened (view self.old) (view self.new) part name.now file) }
+        ensures counts { OnOk result (SameCounts (view self.old) (view self.new)) }
         ensures refused { OnErr result (Unchanged (view self.old) (view self.new)) }
         ensures failed { IsErrOf result Trouble.Failed →
             Rose ((view self.old).read_faults part) ((view self.new).read_faults part)
@@ -31,6 +33,7 @@ pub trait Files {
     fn create(&mut self, part: u8, name: &str) -> Result<u32, Trouble>
         requires { part < 16 }
         ensures created { IfOk result (λ file. Created (view self.old) (view self.new) part name.now file) }
+        ensures counts { OnOk result (SameCounts (view self.old) (view self.new)) }
         ensures refused { OnErr result (Unchanged (view self.old) (view self.new)) }
         ensures failed { IsErrOf result Trouble.Failed →
             Rose ((view self.old).write_faults part) ((view self.new).write_faults part) };
@@ -42,6 +45,7 @@ pub trait Files {
         requires { IsSome ((view self.old).part file) }
         ensures count { IfOk result (λ n. n ≤ length into.new) }
         ensures took { IfOk result (λ n. Took (view self.old) (view self.new) file (take n into.new)) }
+        ensures counts { OnOk result (SameCounts (view self.old) (view self.new)) }
         ensures end { IfOk result (λ n. n ≡ 0 → 0 < length into.new → IsAtEnd (view self.new) file) }
         ensures refused { OnErr result (Unchanged (view self.old) (view self.new)) }
         ensures failed { IsErrOf result Trouble.Failed → ReadFault (view self.old) (view self.new) file };
@@ -54,6 +58,7 @@ pub trait Files {
         requires { IsSome ((view self.old).part file) }
         ensures count { IfOk result (λ n. n ≤ length bytes.now) }
         ensures wrote { IfOk result (λ n. Wrote (view self.old) (view self.new) file (take n bytes.now)) }
+        ensures counts { IfOk result (λ n. 0 < n ⊎ (length bytes.now ≡ 0) → SameCounts (view self.old) (view self.new)) }
         ensures none { IfOk result (λ n. n ≡ 0 → 0 < length bytes.now → WriteFault (view self.old) (view self.new) file) }
         ensures refused { OnErr result (Unchanged (view self.old) (view self.new)) }
         ensures failed { IsErrOf result Trouble.Failed → WriteFault (view self.old) (view self.new) file };
@@ -61,6 +66,7 @@ pub trait Files {
     /// Prints the whole text. `Failed` comes only where part 0's count of write faults rose in this call.
     fn say(&mut self, text: &[u8]) -> Result<(), Trouble>
         ensures said { OnOk result (Said (view self.old) (view self.new) text.now) }
+        ensures counts { OnOk result (SameCounts (view self.old) (view self.new)) }
         ensures refused { OnErr result (Unchanged (view self.old) (view self.new)) }
         ensures failed { IsErrOf result Trouble.Failed →
             Rose ((view self.old).write_faults 0) ((view self.new).write_faults 0) };

@@ -1,6 +1,6 @@
 // Files in memory, which tell everything.
 ghost use Rattle.std.specs.Prelude.{◌≡◌, ◌≢◌, ◌≤◌, ◌<◌, ◌-◌, ◌^◌, ◌⊎◌, ◌++◌, ◌∷◌, [], ℕ, List, min, length, take, IsTrue, IsSome, Some, None, Err, IfOk, OnOk, OnErr, IsErrOf, option_map, slice_index};
-ghost use Rattle.play_base.specs.View.{Unchanged, SameCounts, Keeps, Any, IsFresh, Rose, Opened, Created, Took, Wrote, Said, ReadFault, WriteFault, IsMissed, IsAtEnd};
+ghost use Rattle.play_base.specs.View.{Unchanged, SameCounts, SameButReads, SameButWrites, Keeps, Any, IsFresh, Rose, Opened, Created, Took, Wrote, Said, ReadFault, WriteFault, IsMissed, IsAtEnd};
 ghost use Rattle.play_base.specs.Memory.{memory_view};
 ghost use Rattle.play_base.specs.Planned.{Counted, IsSamePlan, is_due, made};
 
@@ -159,6 +159,7 @@ impl Files for MemoryFiles {
     fn open(&mut self, part: u8, name: &str) -> Result<u32, Trouble>
         requires { part < 16 }
         ensures opened { IfOk result (λ file. Opened (memory_view self.old) (memory_view self.new) part name.now file) }
+        ensures counts { OnOk result (SameCounts (memory_view self.old) (memory_view self.new)) }
         ensures files { OnErr result (self.new.opened.items ≡ self.old.opened.items) }
         ensures refused { OnErr result (Unchanged (memory_view self.old) (memory_view self.new)) }
         ensures failed { IsErrOf result Trouble.Failed →
@@ -166,6 +167,7 @@ impl Files for MemoryFiles {
             ⊎ IsMissed (memory_view self.old) (memory_view self.new) name.now }
         ensures due { IsTrue (is_due self.old Call.Open) → (result ≡ Err Trouble.Failed)
             × Rose ((memory_view self.old).read_faults part) ((memory_view self.new).read_faults part) }
+        ensures elsewhere { SameButReads part (memory_view self.old) (memory_view self.new) }
         ensures quiet { (IsTrue (is_due self.old Call.Open) → ⊥) → SameCounts (memory_view self.old) (memory_view self.new) }
         ensures otherwise { IsErrOf result Trouble.Failed → IsTrue (is_due self.old Call.Open) ⊎ ((memory_view self.old).bytes name.now ≡ None) }
         ensures counted { Counted Call.Open self.old self.new }
@@ -187,12 +189,14 @@ impl Files for MemoryFiles {
     fn create(&mut self, part: u8, name: &str) -> Result<u32, Trouble>
         requires { part < 16 }
         ensures created { IfOk result (λ file. Created (memory_view self.old) (memory_view self.new) part name.now file) }
+        ensures counts { OnOk result (SameCounts (memory_view self.old) (memory_view self.new)) }
         ensures files { OnErr result (self.new.opened.items ≡ self.old.opened.items) }
         ensures refused { OnErr result (Unchanged (memory_view self.old) (memory_view self.new)) }
         ensures failed { IsErrOf result Trouble.Failed →
             Rose ((memory_view self.old).write_faults part) ((memory_view self.new).write_faults part) }
         ensures due { IsTrue (is_due self.old Call.Create) → (result ≡ Err Trouble.Failed)
             × Rose ((memory_view self.old).write_faults part) ((memory_view self.new).write_faults part) }
+        ensures elsewhere { SameButWrites part (memory_view self.old) (memory_view self.new) }
         ensures quiet { (IsTrue (is_due self.old Call.Create) → ⊥) → SameCounts (memory_view self.old) (memory_view self.new) }
         ensures otherwise { IsErrOf result Trouble.Failed → IsTrue (is_due self.old Call.Create) }
         ensures counted { Counted Call.Create self.old self.new }
@@ -208,10 +212,12 @@ impl Files for MemoryFiles {
         requires { IsSome ((memory_view self.old).part file) }
         ensures count { IfOk result (λ n. n ≤ length into.new) }
         ensures took { IfOk result (λ n. Took (memory_view self.old) (memory_view self.new) file (take n into.new)) }
+        ensures counts { OnOk result (SameCounts (memory_view self.old) (memory_view self.new)) }
         ensures end { IfOk result (λ n. n ≡ 0 → 0 < length into.new → IsAtEnd (memory_view self.new) file) }
         ensures refused { OnErr result (Unchanged (memory_view self.old) (memory_view self.new)) }
         ensures failed { IsErrOf result Trouble.Failed → ReadFault (memory_view self.old) (memory_view self.new) file }
         ensures due { IsTrue (is_due self.old Call.Read) → result ≡ Err Trouble.Failed }
+        ensures elsewhere { (p : ℕ) → (memory_view self.old).part file ≡ Some p → SameButReads p (memory_view self.old) (memory_view self.new) }
         ensures quiet { (IsTrue (is_due self.old Call.Read) → ⊥) → SameCounts (memory_view self.old) (memory_view self.new) }
         ensures otherwise { OnErr result (IsTrue (is_due self.old Call.Read)) }
         ensures bounded { IfOk result (λ n. (left : List ℕ) → (memory_view self.old).left file ≡ Some left →
@@ -230,10 +236,12 @@ impl Files for MemoryFiles {
         requires { IsSome ((memory_view self.old).part file) }
         ensures count { IfOk result (λ n. n ≤ length bytes.now) }
         ensures wrote { IfOk result (λ n. Wrote (memory_view self.old) (memory_view self.new) file (take n bytes.now)) }
+        ensures counts { IfOk result (λ n. 0 < n ⊎ (length bytes.now ≡ 0) → SameCounts (memory_view self.old) (memory_view self.new)) }
         ensures none { IfOk result (λ n. n ≡ 0 → 0 < length bytes.now → WriteFault (memory_view self.old) (memory_view self.new) file) }
         ensures refused { OnErr result (Unchanged (memory_view self.old) (memory_view self.new)) }
         ensures failed { IsErrOf result Trouble.Failed → WriteFault (memory_view self.old) (memory_view self.new) file }
         ensures due { IsTrue (is_due self.old Call.Write) → result ≡ Err Trouble.Failed }
+        ensures elsewhere { (p : ℕ) → (memory_view self.old).part file ≡ Some p → SameButWrites p (memory_view self.old) (memory_view self.new) }
         ensures quiet { (IsTrue (is_due self.old Call.Write) → ⊥) → SameCounts (memory_view self.old) (memory_view self.new) }
         ensures otherwise { IsErrOf result Trouble.Failed → IsTrue (is_due self.old Call.Write) }
         ensures bounded { IfOk result (λ n. n ≡ min (length bytes.now) self.old.short.most) }
@@ -253,11 +261,13 @@ impl Files for MemoryFiles {
 
     fn say(&mut self, text: &[u8]) -> Result<(), Trouble>
         ensures said { OnOk result (Said (memory_view self.old) (memory_view self.new) text.now) }
+        ensures counts { OnOk result (SameCounts (memory_view self.old) (memory_view self.new)) }
         ensures refused { OnErr result (Unchanged (memory_view self.old) (memory_view self.new)) }
         ensures failed { IsErrOf result Trouble.Failed →
             Rose ((memory_view self.old).write_faults 0) ((memory_view self.new).write_faults 0) }
         ensures due { IsTrue (is_due self.old Call.Say) → (result ≡ Err Trouble.Failed)
             × Rose ((memory_view self.old).write_faults 0) ((memory_view self.new).write_faults 0) }
+        ensures elsewhere { SameButWrites 0 (memory_view self.old) (memory_view self.new) }
         ensures quiet { (IsTrue (is_due self.old Call.Say) → ⊥) → SameCounts (memory_view self.old) (memory_view self.new) }
         ensures otherwise { IsErrOf result Trouble.Failed → IsTrue (is_due self.old Call.Say) }
         ensures counted { Counted Call.Say self.old self.new }

@@ -1,6 +1,6 @@
 // Files in memory that never fail.
-ghost use Rattle.std.specs.Prelude.{◌≡◌, ◌≢◌, ◌≤◌, ◌<◌, ◌-◌, ◌^◌, ℕ, List, [], min, length, take, IsSome, Some, None, IfOk, OnOk, OnErr, IsErrOf, option_map, unwrap_or};
-ghost use Rattle.play_base.specs.View.{Unchanged, Keeps, Any, IsFresh, Opened, Created, Took, Wrote, Said, WriteFault, IsAtEnd};
+ghost use Rattle.std.specs.Prelude.{◌≡◌, ◌≢◌, ◌≤◌, ◌<◌, ◌-◌, ◌^◌, ◌⊎◌, ℕ, List, [], min, length, take, IsSome, Some, None, IfOk, OnOk, OnErr, IsErrOf, option_map, unwrap_or};
+ghost use Rattle.play_base.specs.View.{Unchanged, SameCounts, Keeps, Any, IsFresh, Opened, Created, Took, Wrote, Said, WriteFault, IsAtEnd};
 ghost use Rattle.play_base.specs.Memory.{bytes_under};
 ghost use Rattle.play_base.specs.Steady.{HasSameBounds, IsCounted, steady_made, steady_view};
 ghost use Rattle.play_base.specs.declared.planned.Call.{Call};
@@ -135,6 +135,7 @@ impl Files for SteadyFiles {
     fn open(&mut self, part: u8, name: &str) -> Result<u32, Trouble>
         requires { part < 16 }
         ensures opened { IfOk result (λ file. Opened (steady_view self.old) (steady_view self.new) part name.now file) }
+        ensures counts { OnOk result (SameCounts (steady_view self.old) (steady_view self.new)) }
         ensures files { OnErr result (self.new.opened.items ≡ self.old.opened.items) }
         ensures refused { OnErr result (Unchanged (steady_view self.old) (steady_view self.new)) }
         ensures failed { IsErrOf result Trouble.Failed → ⊥ }
@@ -154,6 +155,7 @@ impl Files for SteadyFiles {
     fn create(&mut self, part: u8, name: &str) -> Result<u32, Trouble>
         requires { part < 16 }
         ensures created { IfOk result (λ file. Created (steady_view self.old) (steady_view self.new) part name.now file) }
+        ensures counts { OnOk result (SameCounts (steady_view self.old) (steady_view self.new)) }
         ensures files { OnErr result (self.new.opened.items ≡ self.old.opened.items) }
         ensures refused { OnErr result (Unchanged (steady_view self.old) (steady_view self.new)) }
         ensures failed { IsErrOf result Trouble.Failed → ⊥ }
@@ -167,6 +169,7 @@ impl Files for SteadyFiles {
         requires { IsSome ((steady_view self.old).part file) }
         ensures count { IfOk result (λ n. n ≤ length into.new) }
         ensures took { IfOk result (λ n. Took (steady_view self.old) (steady_view self.new) file (take n into.new)) }
+        ensures counts { OnOk result (SameCounts (steady_view self.old) (steady_view self.new)) }
         ensures end { IfOk result (λ n. n ≡ 0 → 0 < length into.new → IsAtEnd (steady_view self.new) file) }
         ensures refused { OnErr result (Unchanged (steady_view self.old) (steady_view self.new)) }
         ensures failed { IsErrOf result Trouble.Failed → ⊥ }
@@ -184,6 +187,7 @@ impl Files for SteadyFiles {
         ensures count { IfOk result (λ n. n ≤ length bytes.now) }
         ensures bounded { IfOk result (λ n. n ≡ min (length bytes.now) self.old.short.most) }
         ensures wrote { IfOk result (λ n. Wrote (steady_view self.old) (steady_view self.new) file (take n bytes.now)) }
+        ensures counts { IfOk result (λ n. 0 < n ⊎ (length bytes.now ≡ 0) → SameCounts (steady_view self.old) (steady_view self.new)) }
         ensures none { IfOk result (λ n. n ≡ 0 → 0 < length bytes.now → WriteFault (steady_view self.old) (steady_view self.new) file) }
         ensures refused { OnErr result (Unchanged (steady_view self.old) (steady_view self.new)) }
         ensures failed { IsErrOf result Trouble.Failed → ⊥ }
@@ -200,6 +204,7 @@ impl Files for SteadyFiles {
 
     fn say(&mut self, text: &[u8]) -> Result<(), Trouble>
         ensures said { OnOk result (Said (steady_view self.old) (steady_view self.new) text.now) }
+        ensures counts { OnOk result (SameCounts (steady_view self.old) (steady_view self.new)) }
         ensures refused { OnErr result (Unchanged (steady_view self.old) (steady_view self.new)) }
         ensures failed { IsErrOf result Trouble.Failed → ⊥ }
         ensures counted { IsCounted Call.Say self.old self.new }

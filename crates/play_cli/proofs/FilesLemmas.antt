@@ -98,9 +98,9 @@ pub course_keeps : (u a b c : View) (n : Names) → Course u a b c n
     → ((m : List ℕ) → OtherThree u n.departures n.fates n.stats m → c.bytes m ≡ b.bytes m)
     → ((f p : ℕ) → a.part f ≡ Some p → b.part f ≡ Some p → OtherThree u n.departures n.fates n.stats (b.name f) → c.left f ≡ b.left f)
     → ((f p : ℕ) → b.part f ≡ Some p → c.name f ≡ b.name f)
-    → ((p : ℕ) → b.read_faults p ≤ c.read_faults p) → ((p : ℕ) → b.write_faults p ≤ c.write_faults p)
+    → ((p : ℕ) → b.read_faults p ≤ c.read_faults p) → ((p : ℕ) → b.write_faults p ≤ c.write_faults p) → c.fixed ≡ b.fixed
     → KeepsOthers n.departures n.fates n.stats u c
-course_keeps u a b c n s bytes left name rs ws =
+course_keeps u a b c n s bytes left name rs ws fs =
     record {
       tells = s.tells ∙ s.far.keeps.tells ∙ s.read.tells;
       bytes = λ m h. bytes m h ∙ s.far.keeps.bytes m (s.read.tells ∙ h.0, h.1, h.2, h.3) ∙ s.read.bytes m tt;
@@ -119,6 +119,7 @@ course_keeps u a b c n s bytes left name rs ws =
       later = record {
         read = λ p. let x = s.read.later.read p in let y = s.far.keeps.later.read p in let z = rs p in omega (arith, x, y, z);
         write = λ p. let x = s.read.later.write p in let y = s.far.keeps.later.write p in let z = ws p in omega (arith, x, y, z);
+        fixed = fs ∙ s.far.keeps.later.fixed ∙ s.read.later.fixed;
       };
     }
 
@@ -135,7 +136,7 @@ files_opened u a b n s =
           stats_kept = λ x. s.far.stats_kept (ends_by u b s.far.end 5 parts (omega arith) x) ∙ s.read.bytes n.stats tt;
         };
         few = course_few u a b b n s (λ f e t m. refl);
-        others = course_keeps u a b b n s (λ m h. refl) (λ f p e d h. refl) (λ f p e. refl) (λ p. omega arith) (λ p. omega arith);
+        others = course_keeps u a b b n s (λ m h. refl) (λ f p e d h. refl) (λ f p e. refl) (λ p. omega arith) (λ p. omega arith) refl;
       };
       said = s.far.said ∙ s.told;
     }

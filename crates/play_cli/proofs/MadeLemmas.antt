@@ -70,7 +70,7 @@ begun_others u w n b = record {
   left = λ f p e h. b.left h.1.0 f p e h.0;
   part = b.part;
   name = b.name;
-  later = record { read = b.read; write = b.write };
+  later = record { read = b.read; write = b.write; fixed = b.fixed };
 }
 
 kept_low : (u w : View) (n : Names) (seed count : ℕ) (m : List ℕ) → HasBegun u w n → m ≢ n.arrivals → IsTrue u.tells
@@ -145,6 +145,7 @@ played_others u w c n b files =
       later = record {
         read = λ p. let x = b.read p in let y = o.later.read p in omega (arith, x, y);
         write = λ p. let x = b.write p in let y = o.later.write p in omega (arith, x, y);
+        fixed = o.later.fixed ∙ b.fixed;
       };
     }
 
@@ -210,6 +211,7 @@ begun_read u a n k o s = record {
   low = λ f p fresh e. let x = o.part f p fresh e in omega (arith, x);
   read = k.later.read;
   write = k.later.write;
+  fixed = k.later.fixed;
   config = λ t f fresh e. o.name t f 1 fresh e;
   few = λ t f fresh e text at. o.few t f 1 fresh e text at;
   said = s;
@@ -227,6 +229,7 @@ begun_written u a w n b d k new s = record {
   low = λ f p fresh e. low f p fresh e (there_or_not (a.part f));
   read = λ p. let x = b.read p in let y = k.later.read p in omega (arith, x, y);
   write = λ p. let x = b.write p in let y = k.later.write p in omega (arith, x, y);
+  fixed = k.later.fixed ∙ b.fixed;
   config = λ t f fresh e. let at = was f fresh e (there_or_not (a.part f)) in k.name f 1 at ∙ b.config t f fresh at;
   few = λ t f fresh e text at.
       let there = was f fresh e (there_or_not (a.part f)) in

@@ -177,6 +177,7 @@ keeps_created a b c dep fat stats name part file h x other = record {
   later = record {
     read = λ p. omega (arith, h.later.read p, x.keeps.later.read p);
     write = λ p. omega (arith, h.later.write p, x.keeps.later.write p);
+    fixed = x.keeps.later.fixed ∙ h.later.fixed;
   };
 }
 

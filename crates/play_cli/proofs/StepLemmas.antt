@@ -342,7 +342,7 @@ files_of u a b c n i o s =
       (λ x. none_some p (sym s.opened.arrivals_new ∙ ap a.part (sym x) ∙ at)),
       ((λ x. h.1 (x ∙ s.opened.departures_name told)), (λ x. h.2 (x ∙ s.opened.fates_name told)), (λ x. h.3 (x ∙ s.opened.stats_name told))),
     ))
-    (λ f p e. s.played.name f p e) s.played.later.read s.played.later.write)
+    (λ f p e. s.played.name f p e) s.played.later.read s.played.later.write s.played.later.fixed)
     s.said
 
 -- why the files are not all there

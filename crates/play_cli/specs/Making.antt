@@ -119,6 +119,7 @@ pub record HasBegun (old new : View) (n : Names) : Type 0 where
   pub low : (f p : ℕ) → old.part f ≡ None → new.part f ≡ Some p → p ≤ 2
   pub read : (p : ℕ) → old.read_faults p ≤ new.read_faults p
   pub write : (p : ℕ) → old.write_faults p ≤ new.write_faults p
+  pub fixed : new.fixed ≡ old.fixed
   pub config : IsTrue old.tells → (f : ℕ) → old.part f ≡ None → new.part f ≡ Some 1 → new.name f ≡ n.config
   pub few : TakesFew old new n.config
   pub said : new.said ≡ old.said

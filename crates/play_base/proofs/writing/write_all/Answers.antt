@@ -1,9 +1,9 @@
-use Rattle.std.proofs.Common.{◌≡◌, ◌+◌, ◌-◌, ◌++◌, arith, length, take, drop, subst, sym, List, ℕ}
+use Rattle.std.proofs.Common.{inl, ◌≡◌, ◌+◌, ◌-◌, ◌++◌, arith, length, take, drop, subst, sym, List, ℕ}
 use Rattle.std.specs.Prelude.{IsSome}
 use Rattle.std.proofs.Math.Seq.{take-add}
 use Rattle.std.proofs.lemmas.Grind.{common_steps}
 use Rattle.play_base.specs.View.{View, Wrote}
-use Rattle.play_base.proofs.ViewLaws.{wrote_unchanged, wrote_more_there, still_there}
+use Rattle.play_base.proofs.ViewLaws.{same_trans, wrote_unchanged, wrote_more_there, still_there}
 use Rattle.play_base.proofs.writing.write_all.Goals as goal
 
 step : (i k : ℕ) (s : List ℕ) → take i s ++ take k (take (length s - i) (drop i s)) ≡ take (i + k) s
@@ -26,4 +26,5 @@ loop-at-preserved g c = record {
   within = omega (arith, c.in-Ok.ensures.count);
   there = still_there _ _ _ _ _ c.in-Ok.ensures.wrote.keeps c.loop-at.invariant.there;
   wrote = one_more _ _ _ _ _ _ _ c.requires c.loop-at.invariant.wrote c.in-Ok.ensures.wrote;
+  counts = same_trans _ _ _ c.loop-at.invariant.counts (c.in-Ok.ensures.counts (inl (omega arith)));
 }

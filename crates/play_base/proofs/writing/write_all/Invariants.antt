@@ -1,6 +1,6 @@
 use Rattle.std.proofs.Common.{◌-◌, ◌≤◌, length, take}
 use Rattle.std.specs.Prelude.{IsSome}
-use Rattle.play_base.specs.View.{Wrote}
+use Rattle.play_base.specs.View.{SameCounts, Wrote}
 use Rattle.play_base.proofs.writing.write_all.Given as goal
 
 abbrev pub invariant-loop-at : goal.invariant-loop-at
@@ -8,6 +8,7 @@ invariant-loop-at g l = record {
   within : l.at ≤ length l.bytes;
   there : IsSome ((g.F.Files.view l.files).part l.file);
   wrote : Wrote (g.F.Files.view l.fn.files) (g.F.Files.view l.files) l.file (take l.at l.bytes);
+  counts : SameCounts (g.F.Files.view l.fn.files) (g.F.Files.view l.files);
 }
 
 abbrev pub decreases-loop-at : goal.decreases-loop-at
