@@ -10,7 +10,7 @@ use crate::runs::words_but;
 use altq_model::{Placed, Rule};
 use conf_lines::statements;
 use conf_tree::Conf;
-use discipline::{Classify, Discipline, Paced, Strict};
+use plain_disciplines::{Classify, Discipline, Paced, Strict};
 use frame_classes::Classifier;
 use leaf_queue::{Tail, Words};
 use play_base::{MemoryFiles, NoMemory};
