@@ -1,5 +1,6 @@
 use Rattle.std.proofs.Common.{◌≡◌, ◌≤◌, ◌∙◌, ap, refl, arith, length}
 use Rattle.pcap_files.proofs.ReaderLemmas.{started, started_head}
+use Rattle.pcap_files.proofs.PrefixLemmas.{failed_of, none_taken}
 use Rattle.pcap_files.proofs.reader.Reader.start.Goals as goal
 
 pub returns-in-Err-read-clause-damaged : goal.returns-in-Err-read-clause-damaged
