@@ -1,6 +1,6 @@
 -- A record that stands whole in some bytes stands so in longer ones, and in a prefix that holds it.
 use Rattle.std.proofs.Common.{◌≡◌, ◌≤◌, ◌<◌, ◌∙◌, ◌+◌, ◌⊎◌, ℕ, List, [], ◌∷◌, ◌++◌, length, take, drop, refl, sym, ap, subst, arith, inl, inr, append-nil, append_assoc, length-append, length-drop}
-use Rattle.std.specs.Prelude.{Bool, true, false, nat_lt, None, Some, if◌then◌else◌}
+use Rattle.std.specs.Prelude.{Bool, true, false, nat_lt, None, Some, Err, IsErrOf, if◌then◌else◌}
 use Rattle.std.proofs.lemmas.Bool.{ltb-false}
 use Rattle.std.proofs.lemmas.List.{drop-append-le, length-take, take-append-drop}
 use Rattle.play_base.specs.View.{View}
@@ -17,6 +17,7 @@ use Rattle.pcap_files.specs.Stand.{stand_at, step_of}
 use Rattle.pcap_files.specs.declared.stand.Stand.{Stand as Stands}
 use Rattle.pcap_files.specs.declared.stand.Stand.TheVariants as stands
 use Rattle.pcap_files.specs.declared.stand.Stand.TheVariants.{Headed}
+use Rattle.pcap_files.specs.declared.fault.CaptureFault.{CaptureFault}
 use Rattle.pcap_files.specs.declared.fault.CaptureFault.TheVariants as fault
 use Rattle.pcap_files.specs.declared.reader.Reader.{Reader}
 use Rattle.play_base.specs.declared.trouble.Trouble.{Trouble}
@@ -177,6 +178,7 @@ headed_taken v w r ahead bytes records stamp captured original s sound t here fe
     omega (arith, place, s.place, fewer))
 
 -- only a failed call is a fault of reading
-pub failed_of : (t : Trouble) → fault_of t ≡ fault.Read → t ≡ trouble.Failed
-failed_of trouble.Failed e = refl
-failed_of trouble.NoMemory e = absurd (cc)
+pub failed_of : {T : Type 0} (t : Trouble) (f : CaptureFault) → f ≡ fault_of t → IsErrOf {T = T} (Err f) fault.Read
+    → IsErrOf {T = Unit {0}} (Err t) trouble.Failed
+failed_of trouble.Failed f e h = refl
+failed_of trouble.NoMemory f e h = absurd (cc)

@@ -72,13 +72,13 @@ take_record-requires-clause-early g c =
 
 pub returns-in-Err-clause-cut : goal.returns-in-Err-clause-cut
 returns-in-Err-clause-cut g c = λ failed bytes records s.
-    let t = c.in-Err.ensures.stopped (failed_of c.in-Err.trouble (sym c.fault_of.ensures ∙ failed)) in
+    let t = c.in-Err.ensures.stopped (failed_of c.in-Err.trouble c.fault_of.result c.fault_of.ensures failed) in
     part_taken _ _ c.args.self.now c.fill.new.self bytes records s c.requires.sound t.took t.fewer
 
 pub returns-in-Err-fill-clause-cut : goal.returns-in-Err-fill-clause-cut
 returns-in-Err-fill-clause-cut g c = λ failed bytes records s.
     let self = c.args.self.now in
-    let t = c.in-Err-fill.ensures.stopped (failed_of c.in-Err-fill.trouble (sym c.fault_of-in-Err-fill.ensures ∙ failed)) in
+    let t = c.in-Err-fill.ensures.stopped (failed_of c.in-Err-fill.trouble c.fault_of-in-Err-fill.result c.fault_of-in-Err-fill.ensures failed) in
     headed_taken _ _ self c.fill-in-Headed.new.self bytes records c.in-Headed.stamp c.in-Headed.captured c.in-Headed.original s c.requires.sound
     (took_twice _ _ _ _ _ _ _ c.in_default.ensures.took t.took)
     (stands_at _ _ self c.fill.new.self _ bytes records _ s c.requires.sound c.in_default.ensures.took c.in_default.ensures.enough c.as_slice.ensures c.in-Headed.ensures.value)
