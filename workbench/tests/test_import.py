@@ -1,0 +1,167 @@
+"""`import` on twenty configurations of pf and tc; what they are to become was written before the importer."""
+
+import argparse
+import os
+import re
+import subprocess
+
+import pytest
+from hypothesis import given, settings, strategies
+
+from altqplay_workbench import importing
+from altqplay_workbench.altq_text import Word
+from altqplay_workbench.faults import Missing, Refused
+from altqplay_workbench.play import program
+
+HERE = os.path.join(os.path.dirname(os.path.abspath(__file__)), "import")
+CASES = sorted(name[:-5] for name in os.listdir(HERE) if name.endswith(".conf"))
+UNITS = {"K": 10**3, "M": 10**6, "G": 10**9}
+
+
+def options_of(name, **options):
+    """The options of a call."""
+    return argparse.Namespace(**{"file": name, "kind": None, "interface": None, "bandwidth": None, "default": None, **options})
+
+
+def made(text, **options):
+    """The altq.conf of a text, and its notes."""
+    conf, _, notes = importing.conf_of(text, options_of("text", **options))
+    return conf, notes
+
+
+def read(name):
+    with open(os.path.join(HERE, name), encoding="utf-8") as file:
+        return file.read()
+
+
+def number(word):
+    """A rate without its unit; any other word as it is."""
+    match = re.fullmatch(r"(\d+)([KMG])", word)
+    return str(int(match[1]) * UNITS[match[2]]) if match else word
+
+
+def statements(conf):
+    """The statements of an altq.conf by interface, rates as numbers, and the options of a class in any order."""
+    found = []
+    for line in conf.split("\n"):
+        words = [number(word) for word in line.split("#")[0].split()]
+        if words:
+            found.append(words[:5] + sorted(words[5:]) if words[0] == "class" else words)
+    return sorted(found, key=lambda words: words[2] if words[0] == "class" else words[1])
+
+
+def places(conf):
+    """The places of the notes of an altq.conf."""
+    return {(int(line), int(word)) for line, word in re.findall(r"^# line (\d+) word (\d+)", conf, re.M)}
+
+
+def source(name):
+    """The file of a case."""
+    return next(name + ending for ending in (".pf", ".tc") if os.path.exists(os.path.join(HERE, name + ending)))
+
+
+@pytest.mark.parametrize("name", CASES)
+def test_case(name):
+    expected, text = read(name + ".conf"), read(source(name))
+    refused = re.match(r"refused line (\d+) word (\d+)", expected)
+    if refused:
+        with pytest.raises(Refused, match=f"line {refused[1]} word {refused[2]}:"):
+            made(text)
+        return
+    options = re.match(r"--bandwidth (\S+)\n", expected)
+    conf, _ = made(text, bandwidth=options[1] if options else None)
+    expected = expected[options.end():] if options else expected
+    assert statements(conf) == statements(expected)
+    assert places(conf) == places(expected)
+
+
+@pytest.mark.parametrize("name", CASES)
+def test_check_accepts(name, tmp_path):
+    try:
+        path = program()
+    except (Missing, NotImplementedError):
+        pytest.skip("there is no program")
+    if read(name + ".conf").startswith("refused"):
+        pytest.skip("it is refused")
+    options = re.match(r"--bandwidth (\S+)\n", read(name + ".conf"))
+    conf, _ = made(read(source(name)), bandwidth=options[1] if options else None)
+    (tmp_path / "altq.conf").write_text(conf)
+    for interface in re.findall(r"^interface (\S+)", conf, re.M):
+        done = subprocess.run([path, "check", "--config", tmp_path / "altq.conf", "--interface", interface], capture_output=True, text=True)
+        assert done.returncode == 0, done.stdout
+
+
+PF = "altq on em0 cbq bandwidth 8Mb queue { a, b }\nqueue a bandwidth 1Mb cbq(default)\n"
+TC = "tc qdisc add dev eth0 root handle 1: hfsc default 1\n"
+# A file, the line and word at which it is refused, and a part of what is said.
+FAULTS = [
+    ("altq on em0 hfsc bandwidth 8Mbit queue { a }", 1, 6, "a bandwidth is a number"),
+    ("altq on em0 bandwidth 8Mb queue { a }", 1, 1, "no scheduler"),
+    ("altq on em0 hfsc queue { a }\nqueue a hfsc(default)", 1, 3, "--bandwidth"),
+    (PF, 1, 10, "no queue line"),
+    (PF + "queue b\nqueue c bandwidth 1Mb", 4, 2, "lists it"),
+    (PF + "queue b bandwidth 1Mb priority high", 3, 6, "whole number"),
+    (PF + "queue b bandwidth 1Mb cbq(realtime 1Mb)", 3, 5, "no option of cbq"),
+    (PF + "queue b bandwidth 1Mb hfsc", 3, 5, "its interface has cbq"),
+    (PF + "queue b bandwidth 1Mb cbq(default)", 3, 2, "second default"),
+    (PF + "queue b bandwidth", 3, 4, "is missing"),
+    (PF + "queue b bandwidth 999b", 3, 2, "1000 to 10"),
+    (PF + "queue b\npass out on $ext queue b", 4, 4, "defines this macro"),
+    (PF + "queue b\npass out on em0 sideways queue b", 4, 5, "no part of a rule"),
+    (PF + "queue b\npast out on em0 queue b", 4, 1, "no statement"),
+    ("altq on em0 hfsc bandwidth 8Mb queue { a }\nqueue a hfsc(default realtime (1Mb 10 2Mb))", 2, 4, "m1 is 0"),
+    (TC + "tc class add dev eth0 parent 1: classid 1:1 hfsc rt m2 10zbit", 2, 13, "no rate"),
+    (TC + "tc class add dev eth0 parent 1: classid 1:1 hfsc rt m1 1mbit", 2, 11, "m2 or rate is missing"),
+    (TC + "tc class add dev eth0 parent 1: classid 1:1 hfsc rt fast", 2, 12, "no part of a service curve"),
+    (TC + "tc class add dev eth0 parent 2: classid 1:1 hfsc rt m2 1mbit", 2, 7, "no class with this handle"),
+    (TC + "tc class add dev eth0 parent 1: classid 1:1 hfsc rt m2 10%", 2, 13, "--bandwidth"),
+    (TC + "tc class add dev $DEV parent 1: classid 1:1 hfsc rt m2 1mbit", 2, 5, "no line above gives DEV"),
+    (TC + "for i in 1 2; do tc class add; done", 2, 1, "loops of the shell"),
+    (TC + "tc class add dev eth0 parent 1: classid one hfsc rt m2 1mbit", 2, 9, "no handle"),
+    (TC + "tc class add dev eth0 parent 1: classid 1:1 hfsc rt m2 10tbit", 2, 9, "out of range"),
+    ("class hfsc 1:1 parent 1: ls m1 0bit d 0us m2 1Mbit", 1, 1, "--interface"),
+    (TC + "tc class add dev eth0 parent 1: classid 1:1 hfsc sc rate 1mbit\n"
+     "tc filter add dev eth0 parent 1: protocol ip u32 match ip dport x 0xffff flowid 1:1", 3, 14, "no number"),
+    (TC + "tc class add dev eth0 parent 1: classid 1:1 hfsc sc rate 1mbit\n"
+     "tc filter add dev eth0 parent 1: protocol ip flower dst_ip 10.0.0.256 classid 1:1", 3, 12, "no address"),
+]
+
+
+@pytest.mark.parametrize("text, line, word, said", FAULTS)
+def test_fault(text, line, word, said):
+    with pytest.raises(Refused) as fault:
+        made(text)
+    assert f"line {line} word {word}:" in str(fault.value) and said in str(fault.value)
+
+
+# Words, and bits per second: the table of tc(8), "RATES", and that of pf.conf(5), "bandwidth".
+@pytest.mark.parametrize("text, rate", [("8000", 8000), ("8bit", 8), ("1kbit", 1000), ("1.5mbit", 1500000), ("1gbit", 10**9), ("1bps", 8),
+                                        ("125kbps", 10**6), ("1kibit", 1024), ("1mibps", 8 * 2**20), ("10Mbit", 10**7)])
+def test_rates_of_tc(text, rate):
+    assert importing.tc_classes.quantity(Word(text, 1, 1), importing.tc_classes.RATES, "rate", None) == rate
+
+
+@pytest.mark.parametrize("text, rate", [("8000b", 8000), ("9", 9), ("1.5Kb", 1500), ("10Mb", 10**7), ("2Gb", 2 * 10**9), ("25%", 250)])
+def test_rates_of_pf(text, rate):
+    cursor = importing.pf_queues.Cursor([Word(text, 1, 1)], None)
+    assert importing.pf_queues.bandwidth(cursor).of(1000) == rate
+
+
+@pytest.mark.parametrize("text", ["10M", "10Mb", "10mbit", "10000K", "10000000"])
+def test_bandwidth_of_the_command_line(text):
+    assert importing.rate(text) == 10**7
+
+
+@settings(max_examples=400, deadline=None)
+@given(strategies.data())
+def test_changed_files_are_read_or_refused(data):
+    """Whatever a word of a case becomes, what comes out is an altq.conf or a refusal with its place."""
+    name = data.draw(strategies.sampled_from(CASES))
+    lines = [line.split(" ") for line in read(source(name)).split("\n")]
+    line = data.draw(strategies.sampled_from(lines))
+    others = sorted({word for words in lines for word in words} | {"", "$", "{", "(", "0", "10Mb", "match"})
+    line[data.draw(strategies.integers(0, len(line) - 1))] = data.draw(strategies.sampled_from(others))
+    try:
+        made("\n".join(" ".join(words) for words in lines), kind=source(name)[-2:])
+    except Refused as fault:
+        assert re.match(r"text: (line \d+ word \d+: .|no qdisc)", str(fault)), fault
