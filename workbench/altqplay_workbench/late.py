@@ -78,16 +78,22 @@ def losses(side):
     return side.is_late | ~side.is_sent
 
 
-def flow_table(sides, flows, most):
-    """The flows that lose most in the last play, with their numbers in each."""
-    of = flows.of[sides[-1].number - 1]
-    lost = numpy.bincount(of[losses(sides[-1])], minlength=len(flows.names))
-    lines = []
+def losing_flows(sides, flows, most):
+    """The flows that lose most in the last play, each with which packets of each play are of it."""
+    ofs = [flows.of[side.number - 1] for side in sides]
+    lost = numpy.bincount(ofs[-1][losses(sides[-1])], minlength=len(flows.names))
     for flow in numpy.argsort(-lost, kind="stable")[:most].tolist():
         if lost[flow]:
-            lines.append(flows.names[flow])
-            lines += [line(side.label, counts(side, of == flow)) for side in sides]
-    return (["flows that lose most:"] + lines) if lines else []
+            yield flow, [of == flow for of in ofs]
+
+
+def flow_table(sides, flows, most):
+    """The flows that lose most in the last play, with their numbers in each."""
+    lines = []
+    for flow, owns in losing_flows(sides, flows, most):
+        lines.append(flows.names[flow])
+        lines += [line(side.label, counts(side, own)) for side, own in zip(sides, owns)]
+    return ["flows that lose most:"] + lines if lines else []
 
 
 def write_rows(name, sides):
