@@ -8,7 +8,7 @@ import tempfile
 from .faults import Missing, Refused
 
 NAMES = ("chromium", "chromium-browser", "google-chrome")
-WIDTH, HEIGHT, SECONDS = 1240, 1480, 60
+WIDTH, SECONDS = 1210, 60
 
 
 def chromium():
@@ -30,13 +30,13 @@ def reduced(name):
     small.save(name, optimize=True)
 
 
-def picture(page, name):
-    """Writes what a page shows as PNG."""
+def picture(page, height, name):
+    """Writes what a page shows, down to a height in pixels, as PNG."""
     program = chromium()
     with tempfile.TemporaryDirectory(prefix="altqwork-") as room:
         made = os.path.join(room, "page.png")
         words = [program, "--headless", "--no-sandbox", "--disable-gpu", "--hide-scrollbars", f"--user-data-dir={room}",
-                 f"--window-size={WIDTH},{HEIGHT}", "--virtual-time-budget=10000", f"--screenshot={made}", "file://" + os.path.abspath(page)]
+                 f"--window-size={WIDTH},{height}", "--virtual-time-budget=10000", f"--screenshot={made}", "file://" + os.path.abspath(page)]
         try:
             done = subprocess.run(words, stdout=subprocess.DEVNULL, stderr=subprocess.PIPE, stdin=subprocess.DEVNULL, timeout=SECONDS, check=False)
         except subprocess.TimeoutExpired:

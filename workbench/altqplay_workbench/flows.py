@@ -48,8 +48,10 @@ def columns(heads):
     has_ports = (is_4 | is_6) & is_first & numpy.isin(protocol, WITH_PORTS)
     found = [kind, protocol]
     for at_4, at_6 in ((12, 8), (16, 24)):
-        found.append(numpy.where(is_6, heads.word(ip + at_6, 8), 0))
-        found.append(numpy.where(is_6, heads.word(ip + at_6 + 8, 8), numpy.where(is_4, heads.word(ip + at_4, 4), 0)))
+        low = numpy.where(is_4, heads.word(ip + at_4, 4), 0)
+        has_6 = is_6.any()
+        found.append(numpy.where(is_6, heads.word(ip + at_6, 8), 0) if has_6 else low * numpy.uint64(0))
+        found.append(numpy.where(is_6, heads.word(ip + at_6 + 8, 8), low) if has_6 else low)
     return found + [numpy.where(has_ports, heads.word(ports + offset), 0) for offset in (0, 2)]
 
 
@@ -74,5 +76,6 @@ class Flows:
         for values in found:
             codes, kinds = pandas.factorize(values)
             self.of = pandas.factorize(self.of * max(len(kinds), 1) + codes)[0]
-        first = numpy.unique(self.of, return_index=True)[1]
+        first = numpy.zeros(int(self.of.max()) + 1 if len(frames) else 0, dtype=numpy.int64)
+        first[self.of[::-1]] = numpy.arange(len(frames))[::-1]
         self.names = [named(*(int(values[place]) for values in found)) for place in first.tolist()]

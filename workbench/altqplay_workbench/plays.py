@@ -6,24 +6,17 @@ Columns of a `Side` stand by the packets' numbers, so those of two plays of the 
 import os
 import shutil
 import tempfile
+from concurrent.futures import ThreadPoolExecutor
 
 import numpy
 
 from .captures import CLASSIC, Frames, opened
 from .conf import read_conf
 from .convert import add_lengths, converted
-from .due import BYTE, due_moments
+from .due import BYTE, MOST, due_moments
 from .faults import Refused
 from .play import add_program, play
 from .rows import read_fates
-
-
-def column(values):
-    """Integers as a column: of 64 bits, or of any size where one of them needs more."""
-    try:
-        return numpy.array(values, dtype=numpy.int64)
-    except OverflowError:
-        return numpy.array(values, dtype=object)
 
 
 class Side:
@@ -43,9 +36,8 @@ class Side:
         longest = int(self.length[self.is_sent].max()) if self.is_sent.any() else 0
         self.longest = longest
         self.allowed = -(-longest * BYTE // interface.bandwidth) if allowed is None else allowed
-        due = due_of(interface, fates)
-        self.has_due = numpy.array([moment is not None for moment in due], dtype=bool)[order]
-        self.due = column([0 if moment is None else moment for moment in due])[order]
+        due, has_due = due_of(interface, fates)
+        self.due, self.has_due = due[order], has_due[order]
         self.missed = self.end - self.due
         self.is_late = self.has_due & (self.missed > self.allowed).astype(bool)
 
@@ -67,16 +59,17 @@ class Side:
 
 
 def due_of(interface, fates):
-    """The due moment of each fate, in their order; None where a packet has none."""
-    found = [None] * len(fates)
+    """The due moment of each fate, in their order, and which have one."""
+    due, has_due = numpy.zeros(len(fates), dtype=numpy.int64), numpy.zeros(len(fates), dtype=bool)
     for name in fates.classes:
         curve = interface.promised(name)
         if curve is not None:
             own = numpy.flatnonzero(fates.class_is(name) & fates.is_sent)
-            moments = due_moments(curve, fates.arrival[own].tolist(), fates.start[own].tolist(), fates.length[own].tolist())
-            for place, moment in zip(own.tolist(), moments):
-                found[place] = moment
-    return found
+            moments, has_due[own] = due_moments(curve, fates.arrival[own], fates.start[own], fates.length[own])
+            if moments.dtype == object and not (abs(moments) < MOST).all():
+                due = due.astype(object)
+            due[own] = moments
+    return due, has_due
 
 
 def same_arrivals(sides):
@@ -135,7 +128,8 @@ class Question:
         try:
             os.makedirs(self.folder, exist_ok=True)
             self.arrivals = self.capture()
-            self.sides = [self.side(number, label, config) for number, (label, config) in enumerate(self.configs)]
+            with ThreadPoolExecutor() as pool:
+                self.sides = list(pool.map(self.side, range(len(self.configs))))
             same_arrivals(self.sides)
         except BaseException:
             self.close()
@@ -153,8 +147,9 @@ class Question:
         self.told = converted(name, made, self.args).told()
         return made
 
-    def side(self, number, label, config):
+    def side(self, number):
         """The play of a configuration: made now, or read."""
+        label, config = self.configs[number]
         interface = read_conf(config, self.args.interface, self.args.program)
         if self.args.fates:
             fates = self.args.fates[number]

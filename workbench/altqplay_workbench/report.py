@@ -56,10 +56,10 @@ def run(args):
         whole = [span(side, args.begin, args.end) for side in sides]
         part = (min(begin for begin, _end in whole), max(end for _begin, end in whole))
         flows = Flows(question.frames) if question.frames else None
-        text = page.html(question, flows, args.flows, part)
+        text, height = page.html(question, flows, args.flows, part)
     with open(args.page, "w", encoding="utf-8") as file:
         file.write(text)
     print(f"{len(sides[0])} packets in {args.page}")
     if args.picture:
-        browser.picture(args.page, args.picture)
+        browser.picture(args.page, height, args.picture)
     return 0
