@@ -6,6 +6,7 @@ are the subcommand's own answers, 2 says that the words or an input were refused
 
 import argparse
 import importlib
+import os
 import sys
 
 from . import __version__
@@ -54,7 +55,12 @@ def main(words):
     """Runs the words of a command line and answers the exit status."""
     try:
         args = parser_of(words).parse_args(words)
-        return args.run(args)
+        status = args.run(args)
+        sys.stdout.flush()
+        return status
+    except BrokenPipeError:  # who reads wants no more: nothing is said of it, and nothing more written
+        os.dup2(os.open(os.devnull, os.O_WRONLY), sys.stdout.fileno())
+        return 0
     except (Refused, OSError) as fault:
         print(f"altqwork: {fault}", file=sys.stderr)
         return REFUSED

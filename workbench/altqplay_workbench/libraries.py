@@ -3,7 +3,7 @@
 import importlib.util
 import sys
 
-NEEDED = ["numpy", "pandas", "plotly", "scapy"]
+NEEDED = ["numpy", "pandas", "plotly"]
 
 
 def missing():
