@@ -8,7 +8,6 @@ import re
 from dataclasses import dataclass, field
 from typing import List, NamedTuple, Optional
 
-from .conf import Curve
 from .faults import Refused
 
 NAME = re.compile(r"[A-Za-z0-9_.:/-]{1,64}\Z")
@@ -22,6 +21,14 @@ class Word(NamedTuple):
     text: str
     line: int
     place: int
+
+
+class Curve(NamedTuple):
+    """A service curve: m1 bits per second for d milliseconds, then m2."""
+
+    m1: int
+    d: int
+    m2: int
 
 
 class Address(NamedTuple):

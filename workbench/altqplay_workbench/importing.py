@@ -7,16 +7,14 @@ and word; docs/PF-TC.md has the table. The exit status is 0 where it was written
 """
 
 import re
-import subprocess
 import sys
 import tempfile
 from fractions import Fraction
 
-from . import pf_queues, pf_rules, tc_classes, tc_filters
+from . import pf_queues, pf_rules, play, tc_classes, tc_filters
 from .altq_text import Notes, try_all, text_of
 from .faults import Missing, Refused
 from .pf_words import statements
-from .play import program
 from .tc_words import commands
 
 NAME = "import"
@@ -31,7 +29,7 @@ def add_arguments(parser):
     parser.add_argument("--interface", metavar="NAME", help="the device of what tc shows without one")
     parser.add_argument("--bandwidth", metavar="RATE", help="the link's bandwidth where FILE does not say it, as 10mbit or 10Mb")
     parser.add_argument("--default", metavar="CLASS", help="the default class where FILE names none")
-    parser.add_argument("--program", metavar="PATH", help="the altqplay that checks what was made")
+    parser.add_argument("--program", metavar="PATH", help="the program that checks what was made")
 
 
 def rate(text):
@@ -44,7 +42,7 @@ def rate(text):
     return int(Fraction(match[1]) * 1000 ** (1 + "kmgt".find(match[2][:1].lower() or "-")))
 
 
-def kind_of(text):
+def kind_of(text, name):
     """Whether a text is pf's or tc's, by the first line that tells."""
     for line in text.split("\n"):
         words = line.split("#")[0].replace("sudo", "").split()
@@ -54,12 +52,12 @@ def kind_of(text):
             return "tc"
         if words[0] in ("altq", "queue", "set", "pass", "match", "block", "scrub"):
             return "pf"
-    raise Refused("the file has no line of pf.conf or tc that tells what it is: say it by --as pf or --as tc")
+    raise Refused(f"{name}: it has no line of pf.conf or tc that tells what it is: say it by --as pf or --as tc")
 
 
 def imported(text, given, notes):
     """The interfaces of a text."""
-    if (given.kind or kind_of(text)) == "pf":
+    if (given.kind or kind_of(text, notes.name)) == "pf":
         lines = list(statements(text, notes))
         interfaces = pf_queues.interfaces_of(lines, given, notes)
         pf_rules.add_filters(lines, interfaces, notes)
@@ -87,16 +85,14 @@ def conf_of(text, given):
 def check(conf, interfaces, named):
     """Asks the program whether it accepts what was made; without a program nothing is asked."""
     try:
-        path = program(named)
-    except (Missing, NotImplementedError):
+        play.program(named)
+    except Missing:
         return
     with tempfile.NamedTemporaryFile("w", suffix=".conf") as file:
         file.write(conf)
         file.flush()
         for one in interfaces:
-            answer = subprocess.run([path, "check", "--config", file.name, "--interface", one.name], capture_output=True, text=True)
-            if answer.returncode:
-                raise Refused(f"a fault of this import: its text is refused: {answer.stdout.strip()}\n{conf}")
+            play.check(file.name, one.name, named)
 
 
 def run(args):

@@ -5,8 +5,7 @@ from dataclasses import dataclass, field
 from fractions import Fraction
 from typing import Dict, List, NamedTuple, Optional
 
-from .altq_text import Class, Interface, Word
-from .conf import Curve
+from .altq_text import Class, Curve, Interface, Word
 from .pf_words import Cursor
 
 BANDWIDTH = re.compile(r"(\d+(?:\.\d+)?)(b|Kb|Mb|Gb|%)?\Z")

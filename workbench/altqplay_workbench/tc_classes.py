@@ -4,8 +4,7 @@ import re
 from dataclasses import dataclass, field
 from typing import Dict, List, Optional
 
-from .altq_text import Class, Interface, Word
-from .conf import Curve
+from .altq_text import Class, Curve, Interface, Word
 from .tc_words import RATES, SIZES, TIMES, is_change, quantity, whole
 
 CURVES = ("rt", "ls", "ul", "sc")
