@@ -187,7 +187,7 @@ def test_fifo_is_one_queue_of_the_program(tmp_path, seed):
         pytest.skip("there is no program")
     chance, at, packets = random.Random(seed), 0, []
     for _ in range(400):
-        at += chance.choice([0, 0, 1, 266667, 1000000, 60000000])
+        at += chance.choice([0] * 30 + [1, 266667, 1000000] * 10 + [60000000])
         length = chance.randint(60, 1500)
         packets.append(Record(at, frame(length), length, 1))
     (tmp_path / "fifo.conf").write_text("interface if0 bandwidth 3M hfsc\n")
