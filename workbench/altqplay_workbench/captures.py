@@ -7,6 +7,7 @@ lengths disagree, is refused with the number of the record: nothing is made up.
 
 import gzip
 import struct
+import zlib
 from collections import namedtuple
 
 from .faults import Refused
@@ -40,12 +41,16 @@ class Bytes:
     def __init__(self, name):
         self.name, self.file, self.count = name, opened(name), 0
 
+    def read(self, size):
+        """The next bytes, fewer at the end of the file."""
+        try:
+            return self.file.read(size)
+        except (EOFError, gzip.BadGzipFile, zlib.error) as fault:
+            raise Refused(f"{self.name}: {fault}") from None
+
     def take(self, size, at_end=False):
         """The next bytes; b"" at the end of the file where it may end here."""
-        try:
-            data = self.file.read(size)
-        except (EOFError, gzip.BadGzipFile) as fault:
-            raise Refused(f"{self.name}: {fault}") from None
+        data = self.read(size)
         if len(data) < size and not (at_end and not data):
             raise self.fault("is cut: the file ends within it")
         return data
@@ -59,7 +64,7 @@ def records(name):
     """The records of a capture in order. `Refused` where it is none, is cut, or a record has no stamp or a faulty length."""
     source = Bytes(name)
     with source.file:
-        magic = source.file.read(4)
+        magic = source.read(4)
         if magic in CLASSIC:
             found = classic_records(source, *CLASSIC[magic])
         elif magic == struct.pack("<I", SECTION):

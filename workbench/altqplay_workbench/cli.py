@@ -36,18 +36,27 @@ def load(name):
         raise Missing(f"the Python library {fault.name} is not installed: run workbench/setup") from None
 
 
+def add_command(commands, name, module):
+    """Adds a subcommand to those of a parser, where its module is here."""
+    if module is not None:
+        command = commands.add_parser(name, help=module.HELP, description=module.__doc__, formatter_class=argparse.RawDescriptionHelpFormatter)
+        module.add_arguments(command)
+        command.set_defaults(run=module.run)
+
+
 def parser_of(words):
     """The parser: of the subcommand that the words name alone, or of all of them for help."""
     parser = argparse.ArgumentParser(prog="altqwork", description="Captures, plays and reports around altqplay.")
     parser.add_argument("--version", action="version", version=f"altqwork {__version__}")
     commands = parser.add_subparsers(metavar="SUBCOMMAND", required=True)
-    for name in words[:1] if words and words[0] in MODULES else MODULES:
-        module = load(name)
-        if module is not None:
-            command = commands.add_parser(name, help=module.HELP, description=module.__doc__,
-                                          formatter_class=argparse.RawDescriptionHelpFormatter)
-            module.add_arguments(command)
-            command.set_defaults(run=module.run)
+    is_named = bool(words) and words[0] in MODULES
+    for name in words[:1] if is_named else MODULES:
+        try:
+            add_command(commands, name, load(name))
+        except Missing as fault:
+            if is_named:
+                raise
+            commands.add_parser(name, help=str(fault))
     return parser
 
 

@@ -1,4 +1,5 @@
-"""The libraries that the workbench stands on. Run by itself, it ends with 0 where this Python sees all of them, else 1."""
+"""The libraries that the workbench stands on. Run by itself, it names those that this Python does not see, or those of its words,
+one a line, and ends with 0 where none is missing, else 1."""
 
 import importlib.util
 import sys
@@ -6,10 +7,12 @@ import sys
 NEEDED = ["numpy", "pandas", "plotly"]
 
 
-def missing():
-    """The libraries that this Python does not see."""
-    return [name for name in NEEDED if importlib.util.find_spec(name) is None]
+def missing(names):
+    """The libraries of some names that this Python does not see."""
+    return [name for name in names if importlib.util.find_spec(name) is None]
 
 
 if __name__ == "__main__":
-    sys.exit(1 if missing() else 0)
+    found = missing(sys.argv[1:] or NEEDED)
+    print("\n".join(found))
+    sys.exit(1 if found else 0)
