@@ -150,7 +150,7 @@ def test_bandwidth_of_the_command_line(text):
     assert importing.rate(text) == 10**7
 
 
-@settings(max_examples=400, deadline=None)
+@settings(max_examples=200, deadline=None)
 @given(strategies.data())
 def test_changed_files_are_read_or_refused(data):
     """Whatever a word of a case becomes, what comes out is an altq.conf or a refusal with its place."""
@@ -163,3 +163,70 @@ def test_changed_files_are_read_or_refused(data):
         made("\n".join(" ".join(words) for words in lines), kind=source(name)[-2:])
     except Refused as fault:
         assert re.match(r"text: (line \d+ word \d+: .|no qdisc)", str(fault)), fault
+
+
+def matches(one, flow):
+    """Whether a filter of IPv4 matches a flow: source and target, their ports, the protocol and the type of service."""
+    src, dst, sport, dport, protocol, tos = flow
+    return (one.family == 4 and src & one.src.mask == one.src.value & one.src.mask and dst & one.dst.mask == one.dst.value & one.dst.mask
+            and one.sport in (0, sport) and one.dport in (0, dport) and one.protocol in (0, protocol)
+            and (one.tos is None or tos & one.tos.mask == one.tos.value & one.tos.mask))
+
+
+def winner(interface, flow):
+    """The class of a flow by docs/CONFIGURATION.md, "Which filter wins"."""
+    found = [one for one in interface.filters if matches(one, flow)]
+    default = next(one.name for one in interface.classes if one.is_default)
+    return max(found, key=lambda one: one.rank).owner if found else default
+
+
+# A rule asks for a protocol, a target's port or 0 for any, and a source 10.0.0.N or 0 for any.
+ASKED = strategies.tuples(strategies.sampled_from(["udp", "tcp"]), strategies.sampled_from([0, 53, 80]), strategies.integers(0, 2))
+FLOWS = [(0x0A000000 + host, 0x0A000063, 4000, port, protocol, 0) for host in (1, 2, 3) for port in (53, 80, 99) for protocol in (6, 17)]
+
+
+def agrees(asked, flow):
+    """Whether a flow is what a rule asks for."""
+    protocol, port, host = asked
+    return flow[4] == {"tcp": 6, "udp": 17}[protocol] and port in (0, flow[3]) and host in (0, flow[0] & 0xFF)
+
+
+@settings(max_examples=60, deadline=None)
+@given(strategies.lists(strategies.tuples(ASKED, strategies.booleans(), strategies.sampled_from(["a", "b", "c", ""])), max_size=7))
+def test_filters_decide_as_pf(rules):
+    """By pf.conf(5) the last rule that matches holds, or the first that is quick; without a queue the default class is taken."""
+    text = "altq on em0 cbq bandwidth 8Mb queue { a b c }\nqueue a cbq(default)\nqueue b\nqueue c\n"
+    for (protocol, port, host), is_quick, queue in rules:
+        text += f"pass out {'quick ' * is_quick}on em0 inet proto {protocol} from {f'10.0.0.{host}' if host else 'any'} to any"
+        text += f" port {port}" * bool(port) + " no state" + f" queue {queue}" * bool(queue) + "\n"
+    _, (interface,), _ = importing.conf_of(text, options_of("text", kind="pf"))
+    for flow in FLOWS:
+        held = ""
+        for asked, is_quick, queue in rules:
+            if agrees(asked, flow):
+                held = queue
+                if is_quick:
+                    break
+        assert winner(interface, flow) == (held or "a"), (text, flow)
+
+
+@settings(max_examples=60, deadline=None)
+@given(strategies.lists(strategies.tuples(ASKED, strategies.integers(1, 3), strategies.sampled_from(["1:1", "1:2", "1:3"]), strategies.booleans()),
+                        max_size=7))
+def test_filters_decide_as_tc(rules):
+    """By tc(8) filters are asked in rising order of prio, those of one prio in the order of the file, and the first that matches holds."""
+    text = "tc qdisc add dev eth0 root handle 1: hfsc default 1\n"
+    text += "".join(f"tc class add dev eth0 parent 1: classid 1:{n} hfsc sc rate 1mbit\n" for n in (1, 2, 3))
+    for (protocol, port, host), prio, owner, is_flower in rules:
+        number = {"tcp": 6, "udp": 17}[protocol]
+        text += f"tc filter add dev eth0 parent 1: protocol ip prio {prio} "
+        if is_flower:
+            text += f"flower ip_proto {protocol}" + f" dst_port {port}" * bool(port) + f" src_ip 10.0.0.{host}" * bool(host)
+        else:
+            text += f"u32 match ip protocol {number} 0xff" + f" match ip dport {port} 0xffff" * bool(port)
+            text += f" match u32 0x0a00000{host} 0xffffffff at 12" * bool(host)
+        text += f" classid {owner}\n"
+    _, (interface,), _ = importing.conf_of(text, options_of("text", kind="tc"))
+    for flow in FLOWS:
+        held = [owner for (asked, prio, owner, _) in sorted(rules, key=lambda rule: rule[1]) if agrees(asked, flow)]
+        assert winner(interface, flow) == (held[0] if held else "1:1"), (text, flow)
