@@ -155,7 +155,7 @@ def test_random_plays(program, tmp_path, seed):
 
 @pytest.mark.parametrize("words, why", [
     (["--config", "C"], "name a capture"), (["--before", "C", "A"], "name one configuration"), (["--config", "C", "--before", "C", "--after", "C", "A"], "name one"),
-    (["--config", "C", "--fates", "A"], "first row is not that of fates"), (["--before", "C", "--after", "C", "--fates", "A", "A"], "1 fates for 2"),
+    (["--config", "C", "--fates", "A"], "first row is not number,arrival"), (["--before", "C", "--after", "C", "--fates", "A", "A"], "1 fates for 2"),
     (["--config", "C", "--fates", "F", "--capture", "x"], "--capture needs"), (["--config", "none.conf", "A"], "none.conf"), (["--config", "C", "none.pcap"], "none.pcap"),
     (["--config", "C", "--interface", "if9", "A"], "status 3"), (["--before", "C", "--after", "C", "--fates", "F", "--fates", "G"], "packet 2 stands in one play alone")])
 def test_what_is_refused(altqwork, program, tmp_path, words, why):
