@@ -31,12 +31,10 @@ class Interface:
                 self.classes[words[3]] = class_of(words)
 
     def promised(self, name):
-        """The real-time curve that holds of a class: a leaf's that is not 0 everywhere; else None."""
+        """The real-time curve that holds of a class, which is not 0 everywhere; else None. The text has none of a class with children."""
         found = self.classes.get(name)
-        if found is None or found.realtime is None or any(one.parent == name for one in self.classes.values()):
-            return None
-        curve = found.realtime
-        return curve if curve.m1 * curve.d or curve.m2 else None
+        curve = found and found.realtime
+        return curve if curve and (curve.m1 * curve.d or curve.m2) else None
 
 
 def class_of(words):
