@@ -16,12 +16,13 @@ Class = namedtuple("Class", "name parent realtime share limit is_default")
 
 
 class Interface:
-    """An interface: `bandwidth` in bits per second, `discipline`, `classes` by name in the file's order, `fit`, the last line of
-    `check`, and `text`, its canonical lines."""
+    """An interface: `bandwidth` in bits per second, `discipline`, `classes` by name in the file's order, `fit`, the line
+    of `check` on the real-time curves, and `text`, all of its lines."""
 
     def __init__(self, lines):
         _word, self.name, _bandwidth, number, self.discipline = lines[0].split()[:5]
-        self.bandwidth, self.fit = int(number), lines[-1]
+        self.bandwidth = int(number)
+        self.fit = next((line for line in lines if line == "fits" or line.startswith("exceeds ")), lines[-1])
         self.text = lines
         self.classes = {}
         for line in lines[1:]:
@@ -30,12 +31,10 @@ class Interface:
                 self.classes[words[3]] = class_of(words)
 
     def promised(self, name):
-        """The real-time curve that holds of a class: a leaf's that is not 0 everywhere; else None."""
+        """The real-time curve that holds of a class, which is not 0 everywhere; else None. The text has none of a class with children."""
         found = self.classes.get(name)
-        if found is None or found.realtime is None or any(one.parent == name for one in self.classes.values()):
-            return None
-        curve = found.realtime
-        return curve if curve.m1 * curve.d or curve.m2 else None
+        curve = found and found.realtime
+        return curve if curve and (curve.m1 * curve.d or curve.m2) else None
 
 
 def class_of(words):

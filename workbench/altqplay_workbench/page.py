@@ -163,7 +163,7 @@ def picture(sides, names, part):
             " up to where it stands.</p>")
     data = json.dumps(drawn).replace("</", "<\\/")
     return (f'{told}<div id="plot"></div><script>{plotly_source()}</script>'
-            f'<script>Plotly.newPlot("plot", {data}, {json.dumps(layout(drawn, sides, steps, origin))}, {{responsive: false}})</script>')
+            f'<script>Plotly.newPlot("plot", {data}, {json.dumps(layout(drawn, sides, steps, origin))}, {{displaylogo: false}})</script>')
 
 
 def html(question, flows, most, part):

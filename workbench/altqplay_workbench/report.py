@@ -61,5 +61,5 @@ def run(args):
         file.write(text)
     print(f"{len(sides[0])} packets in {args.page}")
     if args.picture:
-        browser.picture(args.page, height, args.picture)
+        browser.picture(args.page, height, page.COLOURS, args.picture)
     return 0

@@ -111,6 +111,13 @@ def test_lengths(altqwork, tmp_path, length, words, reckoned):
     assert [found[2] for found in frames(tmp_path / "made.pcap")] == [reckoned]
 
 
+def test_snap_cuts_what_was_captured_and_no_length(altqwork, tmp_path):
+    (tmp_path / "a.pcap").write_bytes(classic(1, [(5, bytes(size), 1000) for size in (95, 96, 97, 200)]))
+    said = altqwork("convert", "--snap", "96", "--overhead", "24", tmp_path / "a.pcap", tmp_path / "made.pcap")[1]
+    assert said == "4 packets of Ethernet\n24 bytes added to each length\ncaptured bytes of 2 packets cut to 96 or their length\n"
+    assert [(len(captured), length) for _at, captured, length in frames(tmp_path / "made.pcap")] == [(95, 1024), (96, 1024), (96, 1024), (96, 1024)]
+
+
 @pytest.mark.parametrize("length, words", [(262121, ["--overhead", "24"]), (262144, ["--atm"]), (40, ["--overhead", "-40"]), (262145, []), (40, ["--snap", "-1"])])
 def test_lengths_out_of_range(altqwork, tmp_path, length, words):
     (tmp_path / "a.pcap").write_bytes(classic(1, [(5, bytes(40), length)]))

@@ -76,10 +76,31 @@ def test_due_moments_are_those_of_the_definition(curve, origin, steps):
     # the second opens if it arrives later than the first starts, not if at that moment; but the first opening asks for as much
     (Curve(8_000_000, 0, 8_000_000), [(0, 500, 1000), (500, 1_000_500, 1000)], [1_000_000, 2_000_000]),
     (Curve(8_000_000, 0, 8_000_000), [(0, 500, 1000), (1_500_000, 2_500_000, 1000)], [1_000_000, 2_500_000]),
+    (Curve(8_000_000, 0, 8_000_000), [(0, 10_000_000, 1000), (10_000_000, 11_000_000, 1000)], [1_000_000, 2_000_000]),
+    (Curve(8_000_000, 0, 8_000_000), [(0, 10_000_000, 1000), (10_000_001, 11_000_001, 1000)], [1_000_000, 11_000_001]),
     # a third of a nanosecond is rounded up
     (Curve(3_000_000, 0, 3_000_000), [(0, 0, 1)], [2_667]), (Curve(3_000_000, 0, 3_000_000), [(0, 0, 3)], [8_000])])
 def test_worked_rows(curve, packets, due):
     assert reckoned(curve, packets) == due == by_definition(curve, packets)
+
+
+# One packet of 1,000 bytes on a link of 8 Mbit/s is due after 1,000,000, and late if it ends more than 1,000,000 after that.
+@pytest.mark.parametrize("end, words, numbers", [
+    (1_000_000, [], "1        0        1        0        0             0"), (1_000_001, [], "1        0        1        1        0             1"),
+    (2_000_000, [], "1        0        1        1        0       1000000"), (2_000_001, [], "1        0        1        1        1       1000001"),
+    (1_000_007, ["--allow", "7"], "1        0        1        1        0             7"), (1_000_007, ["--allow", "6"], "1        0        1        1        1             7")])
+def test_late_at_the_bound(altqwork, program, tmp_path, end, words, numbers):
+    (tmp_path / "c.conf").write_text("interface if0 bandwidth 8M hfsc\nclass hfsc if0 root NULL\nclass hfsc if0 a root sc 8M 0 8M default\n")
+    (tmp_path / "f.csv").write_text(f"number,arrival,length,class,fate,start,end\n1,0,1000,a,share,{end - 1_000_000},{end}\n")
+    status, said, _fault = altqwork("late", "--config", tmp_path / "c.conf", "--fates", tmp_path / "f.csv", *words)
+    assert said.splitlines()[3] == "  play            " + numbers and status == int(numbers.split()[4])
+
+
+def test_the_time_of_the_longest_packet_is_rounded_up(altqwork, program, tmp_path):
+    (tmp_path / "c.conf").write_text("interface if0 bandwidth 3M hfsc\n")
+    (tmp_path / "f.csv").write_text("number,arrival,length,class,fate,start,end\n1,0,1000,default,share,0,2666667\n2,0,1500,default,full,,\n")
+    said = altqwork("late", "--config", tmp_path / "c.conf", "--fates", tmp_path / "f.csv")[1]
+    assert said.startswith("play: fits; late is what ends more than 2666667 after its due moment (longest packet sent: 1000 bytes)")
 
 
 def office(altqwork, tmp_path):
@@ -155,7 +176,7 @@ def test_random_plays(program, tmp_path, seed):
 
 @pytest.mark.parametrize("words, why", [
     (["--config", "C"], "name a capture"), (["--before", "C", "A"], "name one configuration"), (["--config", "C", "--before", "C", "--after", "C", "A"], "name one"),
-    (["--config", "C", "--fates", "A"], "first row is not that of fates"), (["--before", "C", "--after", "C", "--fates", "A", "A"], "1 fates for 2"),
+    (["--config", "C", "--fates", "A"], "first row is not number,arrival"), (["--before", "C", "--after", "C", "--fates", "A", "A"], "1 fates for 2"),
     (["--config", "C", "--fates", "F", "--capture", "x"], "--capture needs"), (["--config", "none.conf", "A"], "none.conf"), (["--config", "C", "none.pcap"], "none.pcap"),
     (["--config", "C", "--interface", "if9", "A"], "status 3"), (["--before", "C", "--after", "C", "--fates", "F", "--fates", "G"], "packet 2 stands in one play alone")])
 def test_what_is_refused(altqwork, program, tmp_path, words, why):

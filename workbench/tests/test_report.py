@@ -140,9 +140,8 @@ def test_picture_shows_each_class_in_both_plays(altqwork, browse, office):
     for half in (picture.crop((0, 0, width // 2, height)), picture.crop((width // 2, 0, width, height))):
         counts = {colour: count for count, colour in half.getcolors(1 << 20)}
         for colour in COLOURS.values():
-            near = sum(count for shade, count in counts.items() if all(abs(a - b) <= 12 for a, b in zip(shade, colour)))
-            assert near > 150
-    assert 900 < height < 1700
+            assert counts.get(colour, 0) > 100
+    assert 900 < height < 1400
 
 
 def test_one_play_without_a_capture(altqwork, browse, office):

@@ -56,6 +56,13 @@ def test_a_configuration(program):
     assert found.classes["rest"].is_default and found.promised("rest") is None and found.promised("root") is None and found.promised("bulk")
 
 
+def test_a_curve_that_promises_nothing(program, tmp_path):
+    (tmp_path / "c.conf").write_text("interface if0 hfsc\nclass hfsc if0 root NULL\nclass hfsc if0 p root sc 4M 0 4M\n"
+                                     "class hfsc if0 a p sc 1M 0 1M default\nclass hfsc if0 b p rt 1M 0 0 ls 1M 0 1M\nclass hfsc if0 c p rt 0 5 0 ls 1M 0 1M\n")
+    found = conf.read_conf(str(tmp_path / "c.conf"))
+    assert [name for name in found.classes if found.promised(name)] == ["a"]
+
+
 @pytest.mark.parametrize("text, why", [
     ("interface if0 hfsc\ninterface if1 hfsc\n", "2 interfaces (if0, if1)"), ("# nothing\n", "0 interfaces"), ("interface if0 hfsc fast\n", "status 3")])
 def test_a_configuration_that_is_refused(program, tmp_path, text, why):
