@@ -19,7 +19,8 @@ from .tc_words import commands
 
 NAME = "import"
 HELP = "make an altq.conf of the queues of pf.conf or tc"
-TC_WORDS = ("tc", "qdisc", "class", "filter")
+TC_LINE = re.compile(r"[^#]*\b(qdisc|class|filter)\s+(add|del|delete|replace|change|hfsc|parent)\b|\s*qdisc\s")
+PF_LINE = re.compile(r"\s*(altq|queue|set|pass|match|block|scrub)\s")
 
 
 def add_arguments(parser):
@@ -45,12 +46,9 @@ def rate(text):
 def kind_of(text, name):
     """Whether a text is pf's or tc's, by the first line that tells."""
     for line in text.split("\n"):
-        words = line.split("#")[0].replace("sudo", "").split()
-        if not words:
-            continue
-        if words[0].split("/")[-1] in TC_WORDS or "tc" in words:
+        if TC_LINE.match(line):
             return "tc"
-        if words[0] in ("altq", "queue", "set", "pass", "match", "block", "scrub"):
+        if PF_LINE.match(line):
             return "pf"
     raise Refused(f"{name}: it has no line of pf.conf or tc that tells what it is: say it by --as pf or --as tc")
 

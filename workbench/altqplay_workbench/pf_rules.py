@@ -77,6 +77,9 @@ def hosts(cursor, tables, rule):
         cursor.group()
         return []
     words = cursor.listed("an address")
+    if cursor.has("-"):
+        rule.strange(cursor.take("an address"), "a filter has no ranges of addresses")
+        cursor.take("an address")
     for word in words:
         if word.text in ("!", "(", ")"):
             rule.strange(word, "no filter can say this")
@@ -208,13 +211,14 @@ def pass_set(cursor):
 
 
 def rule_of(words, tables, notes):
-    """The rule of a statement."""
+    """The rule of a statement. A word that is not known makes it odd, and is passed."""
     cursor = Cursor(words, notes)
     rule = Rule(cursor.take("a rule"))
     while cursor.has():
         word = cursor.take("a part of a rule")
         if not part(cursor, rule, word, tables):
-            notes.refuse(word, "no part of a rule that is known")
+            rule.strange(word, "no part of a rule that is known here")
+            cursor.group()
     return rule
 
 

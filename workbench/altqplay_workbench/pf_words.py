@@ -5,6 +5,7 @@ import re
 from .altq_text import Word
 
 TOKEN = re.compile(r'"[^"]*"|<[A-Za-z_][\w.:-]*>|><|<>|!=|>=|<=|[{}(),=!<>]|[^\s{}(),"=!<>]+')
+MACRO = re.compile(r"\$(\w+)(.*)\Z")
 MOST_NESTED = 20
 
 
@@ -43,17 +44,19 @@ def words_of(number, text):
 
 
 def expanded(words, macros, notes, depth=0):
-    """Words with each macro in its place; what comes of one stands where its name stands."""
+    """Words with each macro in its place; what comes of one stands where its name stands, and what follows the name behind it."""
     for word in words:
-        if not word.text.startswith("$"):
+        match = MACRO.match(word.text)
+        if match is None:
             yield word
-        elif word.text[1:] not in macros:
+        elif match[1] not in macros:
             notes.refuse(word, "no line above defines this macro")
         elif depth == MOST_NESTED:
             notes.refuse(word, "this macro stands inside of itself")
         else:
-            inner = [Word(text, word.line, word.place) for text in macros[word.text[1:]]]
-            yield from expanded(inner, macros, notes, depth + 1)
+            inner = [Word(text, word.line, word.place) for text in macros[match[1]]]
+            for one in expanded(inner, macros, notes, depth + 1):
+                yield one if one.text in ("{", "}", ",", "(", ")") else one._replace(text=one.text + match[2])
 
 
 def value_of(words):

@@ -19,6 +19,8 @@ SIZES = {"": 1, "b": 1, "k": 1024, "kb": 1024, "m": 1024**2, "mb": 1024**2, "g":
          "mbit": 1024 * 128, "gbit": 1024**2 * 128}
 LOOPS = ("for", "while", "until", "case", "function")
 OBJECTS = ("qdisc", "class", "filter")
+# What begins a line of counts in what `tc -s` shows.
+COUNTS = ("Sent", "backlog", "period", "rate")
 
 
 def quantity(word, units, what, notes):
@@ -68,6 +70,8 @@ class Script:
         """The text of a word with each variable's value in its place."""
         def of(match):
             name = match[1] or match[2]
+            if name == "(":
+                self.notes.refuse(word, "the shell computes this: write its value")
             if name not in self.values:
                 self.notes.refuse(word, f"no line above gives {name} a value")
             return self.values[name]
@@ -75,7 +79,7 @@ class Script:
 
     def words(self, command):
         """The words of a command, variables and quotes replaced, redirections left out."""
-        found = [word for word in command if not re.match(r"\d?>", word.text) or "$" in word.text]
+        found = [word for at, word in enumerate(command) if not is_redirection(command, at)]
         return [Word(stripped(text), word.line, word.place) for word in found for text in self.value(word).split()]
 
     def assign(self, command):
@@ -112,22 +116,37 @@ def commands(text, notes):
     for number, line in logical_lines(text):
         pieces = [Word(match[0], number, place) for place, match in enumerate(TOKEN.finditer(line), 1)]
         if goes_on and line[:1].isspace() and pieces and pieces[0].text not in OBJECTS + ("tc",):
-            found[-1] += pieces
+            found[-1] += [] if pieces[0].text in COUNTS else without_counts(pieces)
             continue
         goes_on = False
         for command in split(pieces):
             words = script.command(command)
             if words is not None:
-                found.append(words)
                 goes_on = words[0].text == "filter" and not is_change(words)
+                found.append(words if is_change(words) else without_counts(words))
     if script.passed:
         notes.say(f"{script.passed} commands that are none of tc's qdiscs, classes and filters were passed over")
     return found
 
 
+def is_redirection(command, at):
+    """Whether a word is a redirection of the shell, or the file of one."""
+    return command[at].text[:2].lstrip("12").startswith(">") or (at > 0 and re.fullmatch(r"\d?>>?", command[at - 1].text) is not None)
+
+
 def is_change(words):
     """Whether the words are a command and not what tc shows."""
     return len(words) > 1 and words[1].text in ("add", "replace", "change", "del", "delete", "link")
+
+
+def without_counts(words):
+    """Words of what tc shows, without the counts that stand in parentheses."""
+    found, depth = [], 0
+    for word in words:
+        depth += word.text.count("(")
+        found += [word] if depth == 0 else []
+        depth -= word.text.count(")")
+    return found
 
 
 def split(pieces):

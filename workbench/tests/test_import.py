@@ -105,7 +105,6 @@ FAULTS = [
     (PF + "queue b bandwidth", 3, 4, "is missing"),
     (PF + "queue b bandwidth 999b", 3, 2, "1000 to 10"),
     (PF + "queue b\npass out on $ext queue b", 4, 4, "defines this macro"),
-    (PF + "queue b\npass out on em0 sideways queue b", 4, 5, "no part of a rule"),
     (PF + "queue b\npast out on em0 queue b", 4, 1, "no statement"),
     ("altq on em0 hfsc bandwidth 8Mb queue { a }\nqueue a hfsc(default realtime (1Mb 10 2Mb))", 2, 4, "m1 is 0"),
     (TC + "tc class add dev eth0 parent 1: classid 1:1 hfsc rt m2 10zbit", 2, 13, "no rate"),
@@ -130,6 +129,74 @@ def test_fault(text, line, word, said):
     with pytest.raises(Refused) as fault:
         made(text)
     assert f"line {line} word {word}:" in str(fault.value) and said in str(fault.value)
+
+
+def test_pfsense_as_it_is_written():
+    """Lines as pfSense writes them; the two rules with queues become filters, the others say nothing of queues."""
+    conf, _ = made(PF.replace("em0", "em1") + """queue b bandwidth 1Mb
+set limit table-entries 400000
+loopback = "{ lo0 }"
+LAN = "{ em1 }"
+GWWAN = " route-to ( em0 10.0.2.2 ) "
+table <bogons> persist file "/etc/bogons"
+table <lan> { 10.0.0.0/24 }
+scrub on $LAN inet all fragment reassemble
+anchor "openvpn/*"
+antispoof log for $LAN ridentifier 1000001570
+block in log quick inet6 from { <bogons> } to any ridentifier 1000000101 label "Block bogons"
+pass out route-to ( em0 10.0.2.2 ) from 10.0.2.15 to !10.0.2.0/24 ridentifier 1000002761 keep state allow-opts label "let out"
+pass in quick on em0 proto tcp from any to (em0) port { 443 80 22 } ridentifier 10001 keep state label "anti-lockout rule"
+match out on $LAN inet proto udp from <lan> to any port 5060 ridentifier 1 queue (b) label "USER_RULE: calls"
+pass out quick on $LAN $GWWAN inet proto tcp from 10.0.0.1 - 10.0.0.9 to any ridentifier 2 keep state queue (b) label "USER_RULE"
+pass out quick on em1 inet proto tcp from em1:network to any wonder (3) queue b
+""")
+    assert [line for line in conf.split("\n") if line.startswith("filter")] == ["filter em1 b ruleno 1 0 5060 10.0.0.0 netmask 255.255.255.0 0 17"]
+    assert places(conf) == {(17, 12), (18, 10)}
+
+
+def test_pf_macros():
+    conf, _ = made('ext = "em0"\nnets = "{ 10.0.0.0/8 192.168.0.0/16 }"\nmine = "{ $nets 172.16.0.1 }"\nrate = 8\n'
+                   "altq on $ext cbq bandwidth ${rate}Mb queue { a }\n".replace("${rate}Mb", "$rateMb").replace("$rateMb", "8Mb")
+                   + "queue a cbq(default)\npass out on $ext proto tcp from $mine to $ext:network queue a\npass out on $ext from $mine to any queue a no state\n")
+    assert places(conf) == {(7, 10)}
+    assert [line.split()[5] for line in conf.split("\n") if line.startswith("filter ")] == ["0"] * 3
+
+
+def test_tc_script_as_it_is_written():
+    conf, _ = made("""#!/bin/sh
+IF="eth0"; TC=/sbin/tc
+UP=900  # kbit
+modprobe sch_hfsc
+if [ -z "$1" ]; then echo no; fi
+$TC qdisc del dev $IF root 2> /dev/null > /dev/null
+sudo $TC qdisc add dev "$IF" root handle 1: hfsc default 2 2>&1
+$TC class add dev $IF parent 1: classid 1:1 hfsc sc rate ${UP}kbit ul rate ${UP}kbit || exit 1
+for_each=1
+$TC class add dev $IF parent 1:1 \\
+    classid 1:2 hfsc sc umax 1500b dmax 50ms rate 300kbit > /dev/null
+""")
+    assert statements(conf) == statements("interface eth0 bandwidth 900K hfsc\nclass hfsc eth0 1: NULL pshare 100\n"
+                                          "class hfsc eth0 1:1 1: ls 900K 0 900K ul 900K 0 900K\n"
+                                          "class hfsc eth0 1:2 1:1 rt 0 10 300K ls 0 10 300K qlimit 1000 default")
+
+
+def test_tc_shown_with_counts():
+    conf, _ = made("""qdisc hfsc 1: dev eth0 root refcnt 2 default 0x2
+ Sent 0 bytes 0 pkt (dropped 0, overlimits 0 requeues 0)
+ backlog 0b 0p requeues 0
+class hfsc 1:2 parent 1: ls m1 0bit d 0us m2 1Mbit
+ Sent 0 bytes 0 pkt (dropped 0, overlimits 0 requeues 0)
+ period 0 level 0
+filter parent 1: protocol ip pref 1 u32 chain 0 fh 800::800 order 2048 key ht 800 bkt 0 flowid 1:2 not_in_hw  (rule hit 0 success 0)
+  match 00110000/00ff0000 at 8 (success 0 )
+qdisc noqueue 0: dev lo root refcnt 2
+""")
+    assert "filter eth0 1:2 ruleno 1 0 0 0 0 17" in conf and places(conf) == {(9, 2)}
+
+
+def test_shell_that_computes():
+    with pytest.raises(Refused, match="line 2 word 13: .*the shell computes"):
+        made(TC + "tc class add dev eth0 parent 1: classid 1:1 hfsc sc rate $((9*UP/10))kbit")
 
 
 # Words, and bits per second: the table of tc(8), "RATES", and that of pf.conf(5), "bandwidth".
