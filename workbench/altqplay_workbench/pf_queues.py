@@ -225,8 +225,10 @@ class Builder:
         """Puts a queue into an interface whose lists name it."""
         if queue.interfaces and interface.name not in {word.text for word in queue.interfaces}:
             return
-        if queue.word.text not in parents or self.is_there(queue, interface):
+        if queue.word.text not in parents:
             return
+        if any(one.name == queue.word.text for one in interface.classes):
+            self.notes.refuse(queue.word, f"it is there twice on {interface.name}")
         name, above, _ = parents[queue.word.text]
         own = queue.options["bandwidth"].of(above) if "bandwidth" in queue.options else above
         if queue.scheduler is not None and queue.scheduler.text != interface.discipline:
@@ -239,12 +241,6 @@ class Builder:
         interface.classes.append(one)
         self.placed.add(queue.word)
         parents.update({child.text: (queue.word.text, own, child) for child in queue.children})
-
-    def is_there(self, queue, interface):
-        """Refuses a queue that an interface has twice."""
-        if any(one.name == queue.word.text for one in interface.classes):
-            self.notes.refuse(queue.word, f"it is there twice on {interface.name}")
-        return False
 
     def all(self):
         """The interfaces of all `altq` lines that can be played."""

@@ -272,9 +272,10 @@ class Placer:
         elsewhere = not rule.interfaces or set(rule.interfaces) != {self.interface.name}
         goes_out, comes_in = rule.direction in (None, "out"), rule.direction in (None, "in")
         if rule.direction is None and not rule.interfaces:
-            return [(True, False)] + [(True, True)] * rule.has_state
-        found = [(True, False)] * (here and goes_out) + [(False, False)] * (elsewhere and comes_in)
-        return found + ([(True, True)] * (here and comes_in) + [(False, True)] * (elsewhere and goes_out)) * rule.has_state
+            elsewhere = False
+        ways = [(here and goes_out, (True, False)), (elsewhere and comes_in, (False, False)),
+                (here and comes_in and rule.has_state, (True, True)), (elsewhere and goes_out and rule.has_state, (False, True))]
+        return [side for is_so, side in ways if is_so]
 
     def owners(self, rule):
         """The class of a rule's packets by type of service: those of low delay first where there are two queues."""

@@ -201,7 +201,8 @@ def all_played(args, runs):
             found[run.key] = rows
             file.write(json.dumps({"key": run.key, "rows": rows}) + "\n")
             file.flush()
-            print(f"{count}/{len(missing)} {run.config} {run.settings} {os.path.basename(run.capture)} seed {run.seed}: {rows[0][-1]}", file=sys.stderr)
+            what = f"{run.config} {run.settings} {os.path.basename(run.capture)} seed {run.seed}"
+            print(f"{count}/{len(missing)} {what}: {rows[0][-1]}", file=sys.stderr)
     return found
 
 

@@ -77,6 +77,27 @@ def test_foreign_journal(files, capsys):
     assert "one packet at a time, ends): none fail; this is no proof" in capsys.readouterr().out
 
 
+# A program that has no command `verify`, as the first releases, and one that refutes.
+@pytest.mark.parametrize("answer, said, status", [
+    ("exit 2", "plain tests of the second (order, starts, one packet at a time, ends): none fail; this is no proof", 0),
+    ("echo verified", "altqplay verify: verified", 0),
+    ("echo 'row 3 kind 6'; exit 10", "altqplay verify: row 3 kind 6", 1),
+])
+def test_verify_is_asked_where_it_is(files, tmp_path, capsys, answer, said, status):
+    (tmp_path / "fake").write_text(f"""#!/bin/sh
+case $1 in
+check) printf '%s\\n' 'interface if0 bandwidth 8000000 hfsc' fits;;
+*) {answer};;
+esac
+""")
+    os.chmod(tmp_path / "fake", 0o755)
+    (tmp_path / "altq.conf").write_text("interface if0 hfsc\n")
+    write_ethernet(str(tmp_path / "a.pcap"), [Record(0, bytes(60), 1000, 1)] * 7)
+    assert main(["compare", "--foreign", "--program", str(tmp_path / "fake"), "--config", str(tmp_path / "altq.conf"), "--arrivals",
+                 str(tmp_path / "a.pcap"), files[0], files[0]]) == status
+    assert said in capsys.readouterr().out
+
+
 def journal(*fates):
     """A journal of fates that are told by number, class, arrival, start and end; each has 1,000 bytes."""
     return {number: Fate(number, arrival, 1000, name, "sent", start, end) for number, name, arrival, start, end in fates}
