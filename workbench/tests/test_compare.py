@@ -118,6 +118,12 @@ def test_faults(fates, odd):
     assert [fate.number for fate, _ in journals.faults(journal(*fates), 8 * 10**6)] == odd
 
 
+def test_drop_is_decided_before_a_sending_of_its_moment():
+    sent = Fate(1, 0, 1000, "a", "sent", 5, 1000005)
+    dropped = Fate(2, 5, 1000, "a", "dropped", None, None)
+    assert journals.by_moment({1: sent, 2: dropped}) == [dropped, sent]
+
+
 def test_fraction_of_a_run():
     """On 3 Mbit/s 100 bytes take 266,666 2/3 ns, and the run is rounded up once (docs/COMPARING.md, "The carried fraction")."""
     ends = [(1, 0, 266667), (2, 266667, 533334), (3, 533334, 800000), (4, 1000000, 1266667)]
@@ -179,6 +185,12 @@ def test_deficit_pays(tmp_path):
     assert order(skeleton("drr.py", 8000000, 50, 500, name)) == [1, 2, 3, 4]
     name = waits(tmp_path, ("a", 300), ("a", 701), ("b", 500), ("b", 500))
     assert order(skeleton("drr.py", 8000000, 50, 500, name)) == [1, 3, 4, 2]
+
+
+def test_deficit_is_spent(tmp_path):
+    """Of 500 the first 300 leave 200, too little for the second: b's 100 come between."""
+    name = waits(tmp_path, ("a", 300), ("a", 300), ("b", 100))
+    assert order(skeleton("drr.py", 8000000, 50, 500, name)) == [1, 3, 2]
 
 
 def test_limit_of_a_skeleton(tmp_path):

@@ -154,6 +154,30 @@ pass out quick on em1 inet proto tcp from em1:network to any wonder (3) queue b
     assert places(conf) == {(17, 12), (18, 10)}
 
 
+def test_queue_where_it_goes_out_counts_more():
+    """The rule of the interface on which a packet comes in stands behind and is quick, and yet counts less."""
+    _, (interface,), _ = importing.conf_of(PF + "queue b bandwidth 1Mb\npass out on em0 inet proto udp from any to any queue b no state\n"
+                                           "pass in quick on em1 inet proto udp from any to any queue a no state\n", options_of("text"))
+    assert winner(interface, (1, 2, 3, 4, 17, 0)) == "b" and sorted(one.owner for one in interface.filters) == ["a", "b"]
+
+
+def test_family_of_icmp():
+    conf, _ = made(PF + "queue b bandwidth 1Mb\npass out on em0 proto icmp all queue b\npass out on em0 proto icmp6 all queue b\n")
+    assert "filter em0 b ruleno 1 0 0 0 0 1\nfilter6 em0 b ruleno 2 0 0 0 0 58\n" in conf and conf.count("\nfilter") == 2
+
+
+@pytest.mark.parametrize("selector, line", [
+    ("match ip sport 53 0xffff", "0 0 0 53 0"), ("match 00350000/ffff0000 at 20", "0 0 0 53 0"), ("match 00351388/ffffffff at nexthdr+0", "0 5000 0 53 0"),
+    ("match u16 0x0035 0xffff at 20", "0 0 0 53 0"), ("match u16 0x0035 0xffff at 22", "0 53 0 0 0"), ("match u8 0x11 0xff at 9", "0 0 0 0 17"),
+    ("match tcp src 53 0xffff", "0 0 0 53 0"), ("match ip dsfield 0xb8 0xfc", "0 0 0 0 0 tos 184 tosmask 252"),
+    ("match ip dst 10.0.0.0/8", "10.0.0.0 netmask 255.0.0.0 0 0 0 0"),
+])
+def test_selectors_of_u32(selector, line):
+    """RFC 791: the type of service is byte 1, the protocol byte 9, the addresses are at 12 and 16; ports follow at 20, the source's first."""
+    conf, _ = made(TC + f"tc class add dev eth0 parent 1: classid 1:1 hfsc sc rate 1mbit\ntc filter add dev eth0 parent 1: protocol ip u32 {selector} flowid 1:1")
+    assert f"filter eth0 1:1 ruleno 1 {line}\n" in conf
+
+
 def test_pf_macros():
     conf, _ = made('ext = "em0"\nnets = "{ 10.0.0.0/8 192.168.0.0/16 }"\nmine = "{ $nets 172.16.0.1 }"\nrate = 8\n'
                    "altq on $ext cbq bandwidth ${rate}Mb queue { a }\n".replace("${rate}Mb", "$rateMb").replace("$rateMb", "8Mb")

@@ -120,6 +120,13 @@ def test_goes_on(place, monkeypatch):
     assert swept(place, "--seeds", "1-2") == whole
 
 
+def test_only_what_is_done_is_kept(tmp_path):
+    kept = tmp_path / "runs.jsonl"
+    done, failed = ["b", 1, 0, 5, 5, 5, "ok"], ["-", "", "", "", "", "", "out of memory"]
+    kept.write_text(json.dumps({"key": "x", "rows": [done]}) + "\n" + json.dumps({"key": "y", "rows": [failed]}) + "\n")
+    assert sweep.finished(str(kept)) == {"x": [done]} and sweep.finished(str(tmp_path / "none")) == {}
+
+
 def test_another_capture_is_played_again(place):
     before = swept(place)
     write_ethernet(str(place / "two.pcap"), [Record(0, bytes(60), 500, 1)] * 2)
