@@ -39,8 +39,8 @@ def picture(page, height, colours, name):
     program = chromium()
     with tempfile.TemporaryDirectory(prefix="altqwork-") as room:
         made = os.path.join(room, "page.png")
-        words = [program, "--headless", "--no-sandbox", "--disable-gpu", "--hide-scrollbars", f"--force-device-scale-factor={SCALE}", f"--user-data-dir={room}",
-                 f"--window-size={WIDTH},{height}", "--virtual-time-budget=10000", f"--screenshot={made}", "file://" + os.path.abspath(page)]
+        words = [program, "--headless", "--no-sandbox", "--disable-gpu", "--hide-scrollbars", f"--user-data-dir={room}",
+                 f"--force-device-scale-factor={SCALE}", f"--window-size={WIDTH},{height}", "--virtual-time-budget=10000", f"--screenshot={made}", "file://" + os.path.abspath(page)]
         try:
             done = subprocess.run(words, stdout=subprocess.DEVNULL, stderr=subprocess.PIPE, stdin=subprocess.DEVNULL, timeout=SECONDS, check=False)
         except subprocess.TimeoutExpired:

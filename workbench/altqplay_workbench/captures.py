@@ -6,6 +6,7 @@ lengths disagree, is refused with the number of the record: nothing is made up.
 """
 
 import gzip
+import os
 import struct
 import zlib
 from collections import namedtuple
@@ -214,6 +215,8 @@ class Frames:
 
     def write(self, name, numbers):
         """Writes the records of some numbers, counted from 1, as they stand here."""
+        if os.path.exists(name) and os.path.samefile(name, self.name):
+            raise Refused(f"{name}: the capture itself would be written over")
         with open(name, "wb") as file:
             file.write(self.data[:24])
             for number in numbers:

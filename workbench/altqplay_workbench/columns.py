@@ -73,7 +73,8 @@ def read(name):
     try:
         if not text.startswith(",".join(FATES_HEAD).encode() + b"\n") or not text.endswith(b"\n"):
             raise ValueError
-        table = pandas.read_csv(io.BytesIO(text.replace(b",,\n", b",-1,-1\n")), dtype=kinds, na_filter=False, quoting=csv.QUOTE_NONE, low_memory=False)
+        filled = io.BytesIO(text.replace(b",,\n", b",-1,-1\n"))
+        table = pandas.read_csv(filled, dtype=kinds, na_filter=False, quoting=csv.QUOTE_NONE, low_memory=False, lineterminator="\n")
         table = table if len(table) else table.astype({name: "int64" for name in FATES_HEAD if name not in kinds})
         if not are_fates(table, text):
             raise ValueError

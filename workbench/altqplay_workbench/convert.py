@@ -88,6 +88,8 @@ def converted(name, result, args):
     """Writes a capture's conversion; answers what was done. Where it is refused, no file of the result's name is made or changed."""
     if args.snap < 0:
         raise Refused(f"--snap {args.snap}: less than nothing cannot be kept")
+    if os.path.exists(result) and os.path.samefile(name, result):
+        raise Refused(f"{result}: the capture itself would be written over")
     conversion = Conversion(name, args.overhead, args.atm, args.snap)
     folder = os.path.dirname(os.path.abspath(result))
     with tempfile.TemporaryDirectory(prefix=".altqwork-", dir=folder) as room:

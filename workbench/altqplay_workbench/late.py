@@ -28,15 +28,14 @@ def add_arguments(parser):
     plays.add_arguments(parser)
     parser.add_argument("--flows", type=int, default=SHOWN, metavar="N", help=f"how many flows to tell, {SHOWN} by default")
     parser.add_argument("--rows", metavar="FILE", help="writes a row for each packet: number, class, arrival, end, due moment, missed by")
-    parser.add_argument("--capture", metavar="FILE", help="writes a capture of the packets that are late or dropped, after the change if there is one")
+    parser.add_argument("--capture", metavar="FILE", help="writes a capture of the packets that are late or dropped (after the change)")
 
 
 def counts(side, own):
-    """Of some packets of a play: how many, dropped, with a due moment, after it, late, and the worst, or None."""
-    due = own & side.has_due
-    missed = side.missed[due]
-    return [int(own.sum()), int((own & ~side.is_sent).sum()), int(due.sum()), int((missed > 0).sum()),
-            int((own & side.is_late).sum()), int(missed.max()) if due.any() else None]
+    """Of the packets at some places of a play: how many, dropped, with a due moment, after it, late, and the worst, or None."""
+    missed = side.missed[own[side.has_due[own]]]
+    return [len(own), int((~side.is_sent[own]).sum()), len(missed), int((missed > 0).sum()),
+            int(side.is_late[own].sum()), int(missed.max()) if len(missed) else None]
 
 
 def line(label, numbers):
@@ -54,11 +53,10 @@ def listed(numbers):
 
 
 def changed(first, second, own):
-    """What a change did to some packets: which became late, and how many are late or dropped no more."""
-    became = first.number[own & second.is_late & ~first.is_late]
-    lost = first.number[own & first.is_sent & ~second.is_sent]
-    won = int((own & ~first.is_sent & second.is_sent).sum())
-    mended = int((own & first.is_late & ~second.is_late).sum())
+    """What a change did to the packets at some places: which became late, and how many are late or dropped no more."""
+    was_late, is_late, was_sent, is_sent = first.is_late[own], second.is_late[own], first.is_sent[own], second.is_sent[own]
+    became, lost = first.number[own[is_late & ~was_late]], first.number[own[was_sent & ~is_sent]]
+    won, mended = int((~was_sent & is_sent).sum()), int((was_late & ~is_late).sum())
     return [f"  became late: {listed(became)}, late no more: {mended}", f"  dropped now: {listed(lost)}, sent now: {won}"]
 
 
@@ -69,7 +67,7 @@ def class_table(sides):
         lines.append(name)
         lines += [line(side.label, counts(side, side.class_is(name))) for side in sides]
         if len(sides) == 2:
-            lines += changed(*sides, sides[0].class_is(name) | sides[1].class_is(name))
+            lines += changed(*sides, numpy.union1d(*(side.class_is(name) for side in sides)))
     return lines
 
 
@@ -79,12 +77,12 @@ def losses(side):
 
 
 def losing_flows(sides, flows, most):
-    """The flows that lose most in the last play, each with which packets of each play are of it."""
+    """The flows that lose most in the last play, each with the places of its packets in each play."""
     ofs = [flows.of[side.number - 1] for side in sides]
     lost = numpy.bincount(ofs[-1][losses(sides[-1])], minlength=len(flows.names))
     for flow in numpy.argsort(-lost, kind="stable")[:most].tolist():
         if lost[flow]:
-            yield flow, [of == flow for of in ofs]
+            yield flow, [numpy.flatnonzero(of == flow) for of in ofs]
 
 
 def flow_table(sides, flows, most):

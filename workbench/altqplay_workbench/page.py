@@ -22,7 +22,7 @@ tr.after { font-weight: bold } tr.changed td { text-align: left; color: #555; pa
 PANELS = (("packets that wait", 0.76, 1.0, "linear"), ("drops in a step", 0.62, 0.72, "linear"),
           ("greatest delay, ms", 0.28, 0.58, "log"), (f"Mbit/s, {series.WIDE} steps", 0.0, 0.24, "linear"))
 RANKS = (("median", 50), ("99 in 100", 99))
-PICTURE = 900  # its height in pixels
+PICTURE, MOST_DRAWN = 900, 20  # the height of the picture in pixels, the most classes in it
 WORD = ' class="word"'
 CLASS_HEAD = ["packets", "sent", *DROPPED, "least", *(name for name, _parts in RANKS), "greatest", "due", "missed", "late", "worst"]
 FLOW_HEAD = ["packets", "dropped", "due", "missed", "late", "worst"]
@@ -37,10 +37,10 @@ def ranks(values):
 
 
 def class_numbers(side, own):
-    """A play's numbers of some packets, as CLASS_HEAD names them."""
+    """A play's numbers of the packets at some places, as CLASS_HEAD names them."""
     packets, _dropped, *lateness = late.counts(side, own)
-    sent = own & side.is_sent
-    return [packets, int(sent.sum()), *(int((own & side.fate_is(fate)).sum()) for fate in DROPPED),
+    sent = own[side.is_sent[own]]
+    return [packets, len(sent), *(side.count(own, fate) for fate in DROPPED),
             *ranks((side.end - side.arrival)[sent]), *lateness]
 
 
@@ -66,11 +66,11 @@ def class_table(sides, names):
     """The table by class, with the sum of all where there are several."""
     lines = []
     for name in names + (["all"] if len(names) > 1 else []):
-        owns = [numpy.ones(len(side), dtype=bool) if name == "all" and name not in names else side.class_is(name) for side in sides]
+        owns = [numpy.arange(len(side)) if name == "all" and name not in names else side.class_is(name) for side in sides]
         for side, own in zip(sides, owns):
             lines.append(row(side, [name, side.label], class_numbers(side, own), side is sides[0]))
         if len(sides) == 2:
-            told = "; ".join(line.strip() for line in late.changed(*sides, owns[0] | owns[1]))
+            told = "; ".join(line.strip() for line in late.changed(*sides, numpy.union1d(*owns)))
             lines.append(f'<tr class="changed"><td></td><td colspan="{len(CLASS_HEAD) + 1}">{markup.escape(told)}</td></tr>')
     return table("classes", ["class", "play", *CLASS_HEAD], lines)
 
@@ -133,8 +133,8 @@ def axes(drawn, columns, steps, origin):
                 "range": [(moment - origin) / 10**6 for moment in (steps.begin, steps.end)],
                 "title": {"text": "ms after the first arrival" if panel == len(PANELS) - 1 else ""}}
             found[y[0] + "axis" + y[1:]] = {
-                **grid, "domain": [bottom, top], "anchor": x, "type": kind, "range": scale(drawn, panel, kind), "title": {"text": title if column == 0 else ""},
-                **({"matches": axis("y", at - 1)} if column else {})}
+                **grid, "domain": [bottom, top], "anchor": x, "type": kind, "range": scale(drawn, panel, kind),
+                "title": {"text": title if column == 0 else ""}, **({"matches": axis("y", at - 1)} if column else {})}
     return found
 
 
@@ -154,13 +154,22 @@ def plotly_source():
     return get_plotlyjs()
 
 
+def most_packets(sides, names):
+    """The classes that are drawn: those with the most packets, in their order."""
+    counts = {name: max(len(side.class_is(name)) for side in sides) for name in names}
+    chosen = sorted(names, key=counts.get, reverse=True)[:MOST_DRAWN]
+    return [name for name in names if name in chosen]
+
+
 def picture(sides, names, part):
     """The pictures over time, as a part of the page."""
+    shown = most_packets(sides, names)
     steps = series.Steps(*part)
     origin = min((int(side.arrival.min()) for side in sides if len(side)), default=0)
-    drawn = [one for column, side in enumerate(sides) for one in traces(side, names, steps, origin, column)]
-    told = (f"<p>In {steps.count:,} steps of {steps.size:,} ns. A drop and a delay stand at the packet's arrival; a rate is that of the {series.WIDE} steps"
-            " up to where it stands.</p>")
+    drawn = [one for column, side in enumerate(sides) for one in traces(side, shown, steps, origin, column)]
+    part_drawn = f" Drawn are the {MOST_DRAWN} classes with the most packets." if len(shown) < len(names) else ""
+    told = (f"<p>In {steps.count:,} steps of {steps.size:,} ns. A drop and a delay stand at the packet's arrival; a rate is that of the"
+            f" {series.WIDE} steps up to where it stands.{part_drawn}</p>")
     data = json.dumps(drawn).replace("</", "<\\/")
     return (f'{told}<div id="plot"></div><script>{plotly_source()}</script>'
             f'<script>Plotly.newPlot("plot", {data}, {json.dumps(layout(drawn, sides, steps, origin))}, {{displaylogo: false}})</script>')

@@ -33,6 +33,8 @@ class Side:
         self.number, self.arrival, self.length, self.start, self.end, self.is_sent, self.of_class = (
             values[order] for values in (fates.number, fates.arrival, fates.length, fates.start, fates.end, fates.is_sent, fates.of_class))
         self.of_fate, self.fate_names, self.class_names = fates.of_fate[order], fates.fates, fates.classes
+        ends = numpy.cumsum(numpy.bincount(self.of_class, minlength=len(fates.classes)))
+        self.places = numpy.split(numpy.argsort(self.of_class, kind="stable"), ends[:-1])
         longest = int(self.length[self.is_sent].max()) if self.is_sent.any() else 0
         self.longest = longest
         self.allowed = -(-longest * BYTE // interface.bandwidth) if allowed is None else allowed
@@ -45,12 +47,12 @@ class Side:
         return len(self.number)
 
     def class_is(self, name):
-        """Which packets are of a class."""
-        return self.of_class == self.class_names.index(name) if name in self.class_names else numpy.zeros(len(self), dtype=bool)
+        """The places of the packets of a class, in rising order."""
+        return self.places[self.class_names.index(name)] if name in self.class_names else numpy.zeros(0, dtype=numpy.int64)
 
-    def fate_is(self, fate):
-        """Which packets have a fate."""
-        return self.of_fate == self.fate_names.index(fate) if fate in self.fate_names else numpy.zeros(len(self), dtype=bool)
+    def count(self, own, fate):
+        """How many of the packets at some places have a fate."""
+        return int((self.of_fate[own] == self.fate_names.index(fate)).sum()) if fate in self.fate_names else 0
 
     def classes(self):
         """The classes that packets are of, in the configuration's order."""

@@ -51,6 +51,8 @@ def span(side, begin, end):
 
 
 def run(args):
+    if not args.page.endswith((".html", ".htm")):
+        raise Refused(f"{args.page}: the last word is the page to write, whose name ends in .html")
     with plays.Question(args) as question:
         sides = question.sides
         whole = [span(side, args.begin, args.end) for side in sides]

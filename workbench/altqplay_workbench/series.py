@@ -33,7 +33,7 @@ class Steps:
 
 def waiting(side, own, steps):
     """The most packets that wait at once in each step, without the one that is being sent. What happens at one moment is one change."""
-    sent = own & side.is_sent
+    sent = own[side.is_sent[own]]
     arrival, start = side.arrival[sent], numpy.sort(side.start[sent])
 
     def count(moments):
@@ -44,18 +44,18 @@ def waiting(side, own, steps):
 
 def drops(side, own, steps):
     """The packets dropped in each step, by their arrivals."""
-    return numpy.diff(numpy.searchsorted(side.arrival[own & ~side.is_sent], steps.edges(), side="left"))
+    return numpy.diff(numpy.searchsorted(side.arrival[own[~side.is_sent[own]]], steps.edges(), side="left"))
 
 
 def delays(side, own, steps):
     """The greatest delay of the packets that arrive in each step, in nanoseconds; -1 where none of them is sent."""
-    sent = own & side.is_sent
+    sent = own[side.is_sent[own]]
     return steps.greatest(side.arrival[sent], (side.end - side.arrival)[sent], -1)
 
 
 def rate(side, own, steps):
     """The bits per second sent in the last ten steps up to each; a sending counts for the part of it that lies in them."""
-    sent = own & side.is_sent
+    sent = own[side.is_sent[own]]
     order = numpy.argsort(side.start[sent], kind="stable")
     corners = numpy.stack([side.start[sent][order], side.end[sent][order]], axis=1).ravel() - steps.begin
     bits = numpy.concatenate([[0], numpy.cumsum(side.length[sent][order] * 8)])

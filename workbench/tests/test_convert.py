@@ -1,6 +1,7 @@
 """`convert`: captures that tcpdump and editcap wrote, every link type by hand, lengths, and what is refused."""
 
 import gzip
+import random
 import struct
 
 import pytest
@@ -166,6 +167,31 @@ def test_the_program_reads_what_is_made(altqwork, program, tmp_path):
     (tmp_path / "c.conf").write_text("interface if0 bandwidth 8M hfsc\n")
     status, said, _fault = altqwork("late", "--config", tmp_path / "c.conf", made)
     assert status == 0 and "default\n  play            6        0" in said
+
+
+@pytest.mark.parametrize("name", ["cooked.pcap", "cooked2.pcapng", "cooked.pcap.gz", "raw.pcap"])
+def test_changed_bytes_never_end_but_in_an_answer(altqwork, tmp_path, name):
+    with open(data(name), "rb") as file:
+        text = file.read()
+    for seed in range(150):
+        chance, changed = random.Random(f"{name} {seed}"), bytearray(text)
+        for _ in range(chance.choice([1, 1, 2, 8])):
+            changed[chance.randrange(len(changed))] = chance.choice([0, 1, 255, chance.randrange(256)])
+        (tmp_path / "changed").write_bytes(changed)
+        status, said, fault = altqwork("convert", tmp_path / "changed", tmp_path / "made.pcap")
+        assert (status == 0 and fault == "") or (status == 2 and said == "" and fault.startswith("altqwork: "))
+
+
+def test_no_capture_is_written_over(altqwork, program, tmp_path):
+    raw = classic(101, [(0, IP, 200)])
+    (tmp_path / "arrivals.pcap").write_bytes(raw)
+    (tmp_path / "c.conf").write_text("interface if0 hfsc\n")
+    for words in (["convert", tmp_path / "arrivals.pcap", tmp_path / "arrivals.pcap"],
+                  ["late", "--config", tmp_path / "c.conf", "--keep", tmp_path, tmp_path / "arrivals.pcap"]):
+        status, _said, fault = altqwork(*words)
+        assert status == 2 and "written over" in fault and (tmp_path / "arrivals.pcap").read_bytes() == raw
+    (tmp_path / "b.pcap").write_bytes(classic(1, []))
+    assert altqwork("late", "--config", tmp_path / "c.conf", "--capture", tmp_path / "b.pcap", tmp_path / "b.pcap")[0] == 2
 
 
 def test_no_file_and_gzip_of_something_else(altqwork, tmp_path):

@@ -168,6 +168,12 @@ def test_words_that_are_refused(altqwork, words):
     assert ended.value.code == 2
 
 
+def test_a_capture_is_not_taken_for_the_page(altqwork, tmp_path):
+    (tmp_path / "a.pcap").write_bytes(b"kept")
+    assert altqwork("report", "--config", "c.conf", "--fates", "f.csv", tmp_path / "a.pcap")[0] == 2
+    assert (tmp_path / "a.pcap").read_bytes() == b"kept"
+
+
 def test_nothing_between(altqwork, program, office):
     folder, words = office
     assert altqwork(*words, folder / "no.html", "--from", "5", "--to", "5")[::2] == (2, "altqwork: nothing lies between --from and --to\n")

@@ -1,5 +1,7 @@
 """The readers of fates, statistics and configurations."""
 
+import random
+
 import pytest
 from conftest import example
 from hypothesis import given, settings
@@ -40,6 +42,26 @@ def test_what_is_no_fates(tmp_path, text, why):
     with pytest.raises(Refused) as fault:
         rows.read_fates(tmp_path / "f.csv")
     assert why in str(fault.value)
+
+
+def test_changed_bytes_are_read_alike_or_refused(tmp_path):
+    text = (HEAD + "1,0,60,a,share,0,48000\n2,5,60,b,full,,\n3,5,60,a,realtime,48000,96000\n").encode()
+    for seed in range(2000):
+        chance, changed = random.Random(seed), bytearray(text)
+        for _ in range(chance.choice([1, 1, 2])):
+            changed[chance.randrange(len(changed))] = chance.choice(b"0159,.- \n\r\"abe\0\xff")
+        (tmp_path / "f.csv").write_bytes(changed)
+        try:
+            slow = list(rows.fate_rows(tmp_path / "f.csv"))
+        except Refused as fault:
+            slow = str(fault)
+        try:
+            fast = rows.read_fates(tmp_path / "f.csv")
+        except Refused as fault:
+            assert str(fault) == slow or "two fates" in str(fault) and len({row.number for row in slow}) < len(slow)
+        else:
+            assert not isinstance(slow, str) and [row.number for row in slow] == fast.number.tolist()
+            assert [-1 if row.end is None else row.end for row in slow] == fast.end.tolist()
 
 
 def test_nineteen_digits_stay_whole(tmp_path):
