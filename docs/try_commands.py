@@ -2,16 +2,16 @@
 """Runs the commands that the pages show, and compares what comes out with what the pages show.
 
 Takes names of pages; without them all pages of docs/ and README.md are looked at. With --quiet before them it says
-nothing but what does not come out as shown. It takes seconds, 100 MB of disk and 200 MB of memory.
+nothing but what does not come out as shown and what was left out. It takes seconds, 100 MB of disk and 200 MB of memory.
 
 A block of a page that is marked `console` holds commands and what they print, on standard output and standard
 error together. A line that begins with `$ ` is a command, lines that begin with `> ` continue it, and a line `...`
 stands for any lines. The commands of a page are given to one bash, one after the other, in a new folder that
-holds example/ and docs/ of this repository, the built program and its data. So they change nothing here.
+holds example/, docs/ and workbench/ of this repository, the built program and its data. So they change nothing here.
 
-The program must be built: crates/altqplay/out/altqplay, which example/run and `rt ci` build. Where that, bash
-or a tool of TOOLS is missing, what needs it is left out. The exit status is 0 where what was run came out as
-shown, else 1, and 2 for other arguments.
+The program must be built: crates/altqplay/out/altqplay, which example/run and `rt ci` build. Where that, bash, a tool
+of TOOLS or what a subcommand of the workbench needs is missing, what needs it is left out, and named. The exit status
+is 0 where what was run came out as shown, else 1, and 2 for other arguments.
 """
 
 import os
@@ -22,9 +22,12 @@ import subprocess
 import sys
 import tempfile
 from collections import namedtuple
+from functools import lru_cache
 
 ROOT = os.path.dirname(os.path.dirname(os.path.abspath(__file__)))
 PROGRAM = os.path.join("crates", "altqplay", "out", "altqplay")
+WORKBENCH = os.path.join("workbench", "altqwork")
+MISSING = 77  # the status of a subcommand of the workbench whose libraries are not there
 TOOLS = ["tcpdump", "tshark", "capinfos", "editcap", "gnuplot"]
 SECONDS = 600
 MARK = "\x01end of a command\x01"
@@ -58,9 +61,21 @@ def commands(page):
     return found
 
 
+@lru_cache(maxsize=None)
+def has_libraries(subcommand):
+    """Whether a subcommand of the workbench has its libraries."""
+    done = subprocess.run([os.path.join(ROOT, WORKBENCH), subcommand, "--help"], stdout=subprocess.DEVNULL, stderr=subprocess.DEVNULL, check=False)
+    return done.returncode != MISSING
+
+
 def missing_tool(command):
-    """The tool that a command begins with, where this machine has it not."""
-    words = " ".join(command.text).split()
+    """The tool that a command begins with, or that the workbench needs for it, where this machine has it not."""
+    text = "\n".join(command.text)
+    if not all(map(has_libraries, re.findall(r"\baltqwork (\w+)", text))):
+        return "the workbench's libraries"
+    if "altqwork" in text and "--picture" in text and not (shutil.which("chromium") or shutil.which("chromium-browser")):
+        return "chromium"
+    words = text.split()
     return next((tool for tool in TOOLS if words[:1] == [tool] and shutil.which(tool) is None), None)
 
 
@@ -81,8 +96,8 @@ def are_same(lines, shown):
 
 def make_room(room):
     """Fills a new folder with what the commands of a page need."""
-    for name in ("example", "docs", os.path.join("crates", "altqplay", "data")):
-        shutil.copytree(os.path.join(ROOT, name), os.path.join(room, name), ignore=shutil.ignore_patterns("out", "__pycache__"))
+    for name in ("example", "docs", "workbench", os.path.join("crates", "altqplay", "data")):
+        shutil.copytree(os.path.join(ROOT, name), os.path.join(room, name), ignore=shutil.ignore_patterns("out", "venv", "__pycache__"))
     os.makedirs(os.path.join(room, os.path.dirname(PROGRAM)))
     shutil.copyfile(os.path.join(ROOT, PROGRAM), os.path.join(room, PROGRAM))
     os.chmod(os.path.join(room, PROGRAM), 0o755)
@@ -129,9 +144,9 @@ def judge(page, quiet):
     name = os.path.relpath(page, ROOT)
     for one in wrong:
         print(f"{name}, {one}")
-    if found and not quiet:
-        absent = sorted({missing_tool(one) for one in found} - {None})
-        left_out = f"; left out {len(found) - len(todo)}, since {', '.join(absent)} was not found" if absent else ""
+    absent = sorted({missing_tool(one) for one in found} - {None})
+    left_out = f"; left out {len(found) - len(todo)}, since {', '.join(absent)} was not found" if absent else ""
+    if found and (absent or not quiet):
         print(f"{name}: {len(todo) - len(wrong)} of {len(todo)} commands print what is shown{left_out}")
     return not wrong
 

@@ -18,7 +18,7 @@ from generate import MILLISECOND  # noqa: E402
 from make import IN, LEAVES, SECOND, make  # noqa: E402
 from reckon import (PACKET, agrees, bytes_until, earliest_deadline, frames, packets_until, percent_dropped, rates,  # noqa: E402
                     red_averages, sent)
-from plot import COLOURS, DASHES, SHAPES, NoPicture, backlog, block, milliseconds, read_fates, written  # noqa: E402
+from gnuplot import COLOURS, DASHES, SHAPES, NoPicture, backlog, block, milliseconds, read_fates, written  # noqa: E402
 
 HERE = os.path.dirname(os.path.abspath(__file__))
 OUT = os.path.join(os.path.dirname(HERE), "out", "figures")

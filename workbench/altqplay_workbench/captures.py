@@ -1,0 +1,224 @@
+"""Reads captures that libpcap writes, classic or pcapng, also by gzip, and writes classic ones of Ethernet.
+
+`records` gives the records of any of them, one by one; `Frames` holds a whole classic capture of Ethernet, as the
+program reads it, in columns. Sources: pcap-savefile(5), draft-ietf-opsawg-pcapng. A capture that is cut, or whose
+lengths disagree, is refused with the number of the record: nothing is made up.
+"""
+
+import gzip
+import os
+import struct
+import zlib
+from collections import namedtuple
+
+from .faults import Refused
+
+ETHERNET = 1
+LONGEST = 262_144
+NANOSECONDS = b"\x4d\x3c\xb2\xa1"
+# Magic: byte order, and nanoseconds a unit of the second word of a stamp.
+CLASSIC = {b"\xd4\xc3\xb2\xa1": ("<", 1000), b"\xa1\xb2\xc3\xd4": (">", 1000),
+           NANOSECONDS: ("<", 1), b"\xa1\xb2\x3c\x4d": (">", 1)}
+SECTION, INTERFACE, OLD_PACKET, SIMPLE_PACKET, PACKET = 0x0A0D0D0A, 1, 2, 3, 6
+HEAD = NANOSECONDS + struct.pack("<HHIIII", 2, 4, 0, 0, LONGEST, ETHERNET)
+
+# One record: the stamp in nanoseconds, the bytes captured, the original length in bytes, and the link type.
+Record = namedtuple("Record", "at data length link")
+# An interface of a pcapng section: link type, ticks a second, seconds to add to each stamp.
+Source = namedtuple("Source", "link ticks offset")
+
+
+def opened(name):
+    """A capture's file, through gzip where it is so packed."""
+    file = open(name, "rb")
+    is_packed = file.read(2) == b"\x1f\x8b"
+    file.seek(0)
+    return gzip.GzipFile(fileobj=file) if is_packed else file
+
+
+class Bytes:
+    """The bytes of a capture in order; what is cut is refused."""
+
+    def __init__(self, name):
+        self.name, self.file, self.count = name, opened(name), 0
+
+    def read(self, size):
+        """The next bytes, fewer at the end of the file."""
+        try:
+            return self.file.read(size)
+        except (EOFError, gzip.BadGzipFile, zlib.error) as fault:
+            raise Refused(f"{self.name}: {fault}") from None
+
+    def take(self, size, at_end=False):
+        """The next bytes; b"" at the end of the file where it may end here."""
+        data = self.read(size)
+        if len(data) < size and not (at_end and not data):
+            raise self.fault("is cut: the file ends within it")
+        return data
+
+    def fault(self, text):
+        """What is wrong with the record that is being read."""
+        return Refused(f"{self.name}: record {self.count + 1} {text}")
+
+
+def records(name):
+    """The records of a capture in order. `Refused` where it is none, is cut, or a record has no stamp or a faulty length."""
+    source = Bytes(name)
+    with source.file:
+        magic = source.read(4)
+        if magic in CLASSIC:
+            found = classic_records(source, *CLASSIC[magic])
+        elif magic == struct.pack("<I", SECTION):
+            found = section_records(source)
+        else:
+            raise Refused(f"{name}: neither a classic capture nor pcapng, it begins with {magic.hex() or 'nothing'}")
+        for record in found:
+            if max(record.length, len(record.data)) > LONGEST or record.at < 0:
+                raise source.fault(f"has a length above {LONGEST} or a stamp before 1970")
+            yield record
+            source.count += 1
+
+
+def classic_records(source, order, unit):
+    """The records behind the magic of a classic capture."""
+    major, minor, _zone, _accuracy, _snap, link = struct.unpack(order + "HHIIII", source.take(20))
+    if (major, minor) != (2, 4):
+        raise Refused(f"{source.name}: version {major}.{minor}, and not 2.4")
+    head = struct.Struct(order + "IIII")
+    while True:
+        words = source.take(16, at_end=True)
+        if not words:
+            return
+        seconds, fraction, captured, length = head.unpack(words)
+        if captured > LONGEST:
+            raise source.fault(f"has {captured} bytes captured, more than {LONGEST}")
+        yield Record(seconds * 10**9 + fraction * unit, source.take(captured), length, link & 0xFFFF)
+
+
+def section_records(source):
+    """The records of a pcapng file, of which the first four bytes were read."""
+    order, interfaces, kind = "<", [], SECTION
+    while True:
+        size = source.take(4)
+        if kind == SECTION:
+            magic = source.take(4)
+            order = {b"\x4d\x3c\x2b\x1a": "<", b"\x1a\x2b\x3c\x4d": ">"}.get(magic)
+            if order is None:
+                raise source.fault("follows a section without a byte order")
+            interfaces = []
+        body = block_body(source, order, size, 4 if kind == SECTION else 0)
+        if kind == INTERFACE:
+            interfaces.append(interface_of(source, order, body))
+        elif kind == SIMPLE_PACKET:
+            raise source.fault("is a simple packet block, which has no stamp")
+        elif kind in (PACKET, OLD_PACKET):
+            yield packet_of(source, order, body, interfaces, kind)
+        word = source.take(4, at_end=True)
+        if not word:
+            return
+        kind = struct.unpack(order + "I", word)[0]
+
+
+def block_body(source, order, size, taken):
+    """The rest of a block's body, of which some bytes were taken, with its two sizes compared."""
+    total = struct.unpack(order + "I", size)[0]
+    if total % 4 or not 12 + taken <= total <= 2**26:
+        raise source.fault(f"follows or is a block of {total} bytes")
+    body = source.take(total - 12 - taken)
+    if source.take(4) != size:
+        raise source.fault("follows or is a block whose two sizes differ")
+    return body
+
+
+def options_of(source, order, body):
+    """The options at the end of a block: the value of each by its code."""
+    found, at = {}, 0
+    while at + 4 <= len(body):
+        code, size = struct.unpack_from(order + "HH", body, at)
+        if code == 0:
+            return found
+        if at + 4 + size > len(body):
+            raise source.fault("follows or is a block with an option that is cut")
+        found[code] = body[at + 4:at + 4 + size]
+        at += 4 + size + -size % 4
+    return found
+
+
+def interface_of(source, order, body):
+    """An interface: its link type, its ticks (option if_tsresol) and its offset (if_tsoffset)."""
+    if len(body) < 8:
+        raise source.fault("follows an interface that is cut")
+    options = options_of(source, order, body[8:])
+    resolution = options.get(9, b"\x06")
+    offset = options.get(14, bytes(8))
+    if len(resolution) != 1 or len(offset) != 8:
+        raise source.fault("follows an interface whose resolution or offset of stamps has another size")
+    base = 2 if resolution[0] & 128 else 10
+    return Source(struct.unpack_from(order + "H", body)[0], base ** (resolution[0] & 127), struct.unpack(order + "q", offset)[0])
+
+
+def packet_of(source, order, body, interfaces, kind):
+    """The record of a packet's block; its stamp is rounded down to nanoseconds."""
+    if len(body) < 20:
+        raise source.fault("is a block that is cut")
+    number, high, low, captured, length = struct.unpack_from(order + ("IIIII" if kind == PACKET else "HxxIIII"), body)
+    if number >= len(interfaces):
+        raise source.fault(f"is of interface {number}, which the file does not have")
+    if captured > len(body) - 20:
+        raise source.fault("has more bytes captured than its block holds")
+    of = interfaces[number]
+    at = (high << 32 | low) * 10**9 // of.ticks + of.offset * 10**9
+    return Record(at, body[20:20 + captured], length, of.link)
+
+
+def write_ethernet(name, packets):
+    """Writes records, or what has `at`, `data` and `length`, as a classic capture of Ethernet with stamps in nanoseconds;
+    answers their number. `Refused` for a stamp of 2^32 seconds or more, which the format has no place for."""
+    count, head = 0, struct.Struct("<IIII")
+    with open(name, "wb") as file:
+        file.write(HEAD)
+        for packet in packets:
+            seconds, fraction = divmod(packet.at, 10**9)
+            if seconds >= 2**32:
+                raise Refused(f"{name}: the stamp of record {count + 1} is 2^32 seconds or more")
+            file.write(head.pack(seconds, fraction, len(packet.data), packet.length) + packet.data)
+            count += 1
+    return count
+
+
+class Frames:
+    """A classic capture of Ethernet that the program plays, whole: `data`, the place of each record in it, and its numbers."""
+
+    def __init__(self, name):
+        with opened(name) as file:
+            self.data = file.read()
+        order, _unit = CLASSIC.get(self.data[:4], (None, 0))
+        if order is None or len(self.data) < 24 or struct.unpack_from(order + "I", self.data, 20)[0] & 0xFFFF != ETHERNET:
+            raise Refused(f"{name}: not a classic capture of Ethernet; altqwork convert makes one")
+        self.name, self.places, self.captured = name, [], []
+        self.index(struct.Struct(order + "I").unpack_from)
+
+    def index(self, word):
+        """Finds the place of each record."""
+        data, end, at = self.data, len(self.data), 24
+        add_place, add_captured = self.places.append, self.captured.append
+        while at < end:
+            captured = word(data, at + 8)[0] if at + 16 <= end else LONGEST
+            if at + 16 + captured > end:
+                raise Refused(f"{self.name}: record {len(self.places) + 1} is cut")
+            add_place(at)
+            add_captured(captured)
+            at += 16 + captured
+
+    def __len__(self):
+        return len(self.places)
+
+    def write(self, name, numbers):
+        """Writes the records of some numbers, counted from 1, as they stand here."""
+        if os.path.exists(name) and os.path.samefile(name, self.name):
+            raise Refused(f"{name}: the capture itself would be written over")
+        with open(name, "wb") as file:
+            file.write(self.data[:24])
+            for number in numbers:
+                at = self.places[number - 1]
+                file.write(self.data[at:at + 16 + self.captured[number - 1]])

@@ -1,0 +1,78 @@
+"""The command line: finds the subcommand, runs it, and turns faults into a line and a status.
+
+A subcommand is a module with NAME, HELP, `add_arguments(parser)` and `run(args)`, which answers the exit status. 0 and 1
+are the subcommand's own answers, 2 says that the words or an input were refused, 77 that a tool or a library is missing.
+"""
+
+import argparse
+import importlib
+import os
+import sys
+
+from . import __version__
+from .faults import Missing, Refused
+
+# Each subcommand's module. One whose module is not here is no subcommand.
+MODULES = {
+    "convert": "convert",
+    "late": "late",
+    "report": "report",
+    "delays": "delays",
+    "import": "importing",
+    "compare": "compare",
+    "sweep": "sweep",
+}
+REFUSED, MISSING = 2, 77
+
+
+def load(name):
+    """The module of a subcommand, or None where this package has none. A library that is missing is `Missing`."""
+    path = f"{__package__}.{MODULES[name]}"
+    try:
+        return importlib.import_module(path)
+    except ModuleNotFoundError as fault:
+        if fault.name == path:
+            return None
+        raise Missing(f"the Python library {fault.name} is not installed: run workbench/setup") from None
+
+
+def add_command(commands, name, module):
+    """Adds a subcommand to those of a parser, where its module is here."""
+    if module is not None:
+        command = commands.add_parser(name, help=module.HELP, description=module.__doc__, formatter_class=argparse.RawDescriptionHelpFormatter)
+        module.add_arguments(command)
+        command.set_defaults(run=module.run)
+
+
+def parser_of(words):
+    """The parser: of the subcommand that the words name alone, or of all of them for help."""
+    parser = argparse.ArgumentParser(prog="altqwork", description="Captures, plays and reports around altqplay.")
+    parser.add_argument("--version", action="version", version=f"altqwork {__version__}")
+    commands = parser.add_subparsers(metavar="SUBCOMMAND", required=True)
+    is_named = bool(words) and words[0] in MODULES
+    for name in words[:1] if is_named else MODULES:
+        try:
+            add_command(commands, name, load(name))
+        except Missing as fault:
+            if is_named:
+                raise
+            commands.add_parser(name, help=str(fault))
+    return parser
+
+
+def main(words):
+    """Runs the words of a command line and answers the exit status."""
+    try:
+        args = parser_of(words).parse_args(words)
+        status = args.run(args)
+        sys.stdout.flush()
+        return status
+    except BrokenPipeError:  # who reads wants no more: nothing is said of it, and nothing more written
+        os.dup2(os.open(os.devnull, os.O_WRONLY), sys.stdout.fileno())
+        return 0
+    except (Refused, OSError) as fault:
+        print(f"altqwork: {fault}", file=sys.stderr)
+        return REFUSED
+    except Missing as fault:
+        print(f"altqwork: {fault}", file=sys.stderr)
+        return MISSING

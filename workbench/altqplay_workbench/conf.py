@@ -1,0 +1,63 @@
+"""What a configuration means, from the canonical text that `altqplay check` prints: each class with its curves."""
+
+import re
+from collections import namedtuple
+
+from .faults import Refused
+from .play import check
+
+CURVES = {"rt": "realtime", "ls": "share", "ul": "limit"}
+MILLISECOND = 10**6
+
+# A service curve: m1 bits per second for d nanoseconds, then m2.
+Curve = namedtuple("Curve", "m1 d m2")
+# One class: its parent's name or None, its curves or None each, and whether it is the default class.
+Class = namedtuple("Class", "name parent realtime share limit is_default")
+
+
+class Interface:
+    """An interface: `bandwidth` in bits per second, `discipline`, `classes` by name in the file's order, `fit`, the line
+    of `check` on the real-time curves, and `text`, all of its lines."""
+
+    def __init__(self, lines):
+        _word, self.name, _bandwidth, number, self.discipline = lines[0].split()[:5]
+        self.bandwidth = int(number)
+        self.fit = next((line for line in lines if line == "fits" or line.startswith("exceeds ")), lines[-1])
+        self.text = lines
+        self.classes = {}
+        for line in lines[1:]:
+            words = line.split()
+            if words[0] == "class":
+                self.classes[words[3]] = class_of(words)
+
+    def promised(self, name):
+        """The real-time curve that holds of a class, which is not 0 everywhere; else None. The text has none of a class with children."""
+        found = self.classes.get(name)
+        curve = found and found.realtime
+        return curve if curve and (curve.m1 * curve.d or curve.m2) else None
+
+
+def class_of(words):
+    """The class of a canonical line."""
+    curves = {"realtime": None, "share": None, "limit": None}
+    for at, word in enumerate(words[5:], 5):
+        if word in CURVES:
+            m1, d, m2 = (int(number) for number in words[at + 1:at + 4])
+            curves[CURVES[word]] = Curve(m1, d * MILLISECOND, m2)
+    return Class(words[3], None if words[4] == "NULL" else words[4], is_default="default" in words[5:], **curves)
+
+
+def interface_named(config, interface):
+    """The interface that was asked for, or the only one of a configuration."""
+    if interface is not None:
+        return interface
+    with open(config, encoding="ascii", errors="replace") as file:
+        names = list(dict.fromkeys(re.findall(r"^[ \t\r\[\]]*interface[ \t\r\[\]]+(\S+)", file.read(), re.MULTILINE)))
+    if len(names) != 1:
+        raise Refused(f"{config}: {len(names)} interfaces ({', '.join(names)}): name one with --interface")
+    return names[0]
+
+
+def read_conf(config, interface=None, program=None):
+    """The interface of a configuration. `Refused` with what `check` said where it is refused."""
+    return Interface(check(config, interface_named(config, interface), program))

@@ -1,0 +1,113 @@
+"""Makes an altq.conf of the queues of pf.conf (FreeBSD, pfSense) or of tc (Linux).
+
+FILE is a pf.conf(5) with altq and queue lines, or pfSense's /tmp/rules.debug; or a script of tc(8) commands, or what
+`tc qdisc show`, `tc -d class show` and `tc filter show` print, one behind the other. Of tc hfsc is read, with u32, flower
+and matchall. What has no equivalent, or means something else here, is a comment at the head of the altq.conf with its line
+and word; docs/PF-TC.md has the table. The exit status is 0 where it was written, 2 where FILE is refused.
+"""
+
+import re
+import sys
+import tempfile
+from fractions import Fraction
+
+from . import pf_queues, pf_rules, play, tc_classes, tc_filters
+from .altq_text import Notes, try_all, text_of
+from .faults import Missing, Refused
+from .pf_words import statements
+from .tc_words import commands
+
+NAME = "import"
+HELP = "make an altq.conf of the queues of pf.conf or tc"
+TC_LINE = re.compile(r"[^#]*\b(qdisc|class|filter)\s+(add|del|delete|replace|change|hfsc|parent)\b|\s*qdisc\s")
+PF_LINE = re.compile(r"\s*(altq|queue|set|pass|match|block|scrub)\s")
+
+
+def add_arguments(parser):
+    parser.add_argument("file", help="pf.conf, or lines of tc; - is standard input")
+    parser.add_argument("--as", dest="kind", choices=["pf", "tc"], help="what FILE is, where its words do not tell")
+    parser.add_argument("--to", metavar="CONF", help="the altq.conf to write; else it is printed")
+    parser.add_argument("--interface", metavar="NAME", help="the device of what tc shows without one")
+    parser.add_argument("--bandwidth", metavar="RATE", help="the link's bandwidth where FILE does not say it, as 10mbit or 10Mb")
+    parser.add_argument("--default", metavar="CLASS", help="the default class where FILE names none")
+    parser.add_argument("--program", metavar="PATH", help="the program that checks what was made")
+
+
+def rate(text):
+    """A rate of the command line in bits per second, in the units of this language, of pf or of tc."""
+    if text is None:
+        return None
+    match = re.fullmatch(r"(\d+(?:\.\d+)?)([KMG]?b?|[kmgt]?bit)", text)
+    if match is None:
+        raise Refused(f"--bandwidth {text}: no rate, as 10M, 10Mb or 10mbit")
+    return int(Fraction(match[1]) * 1000 ** (1 + "kmgt".find(match[2][:1].lower() or "-")))
+
+
+def kind_of(text, name):
+    """Whether a text is pf's or tc's, by the first line that tells."""
+    for line in text.split("\n"):
+        if TC_LINE.match(line):
+            return "tc"
+        if PF_LINE.match(line):
+            return "pf"
+    raise Refused(f"{name}: it has no line of pf.conf or tc that tells what it is: say it by --as pf or --as tc")
+
+
+def imported(text, given, notes):
+    """The interfaces of a text."""
+    if (given.kind or kind_of(text, notes.name)) == "pf":
+        lines = list(statements(text, notes))
+        interfaces = pf_queues.interfaces_of(lines, given, notes)
+        pf_rules.add_filters(lines, interfaces, notes)
+        return interfaces
+    devices = tc_classes.devices_of(commands(text, notes), given, notes)
+    if not devices:
+        raise Refused(f"{notes.name}: no qdisc, class or filter stands in it")
+    found = []
+    for device in devices:
+        interface = tc_classes.interface_of(device, given, notes)
+        tc_filters.add_filters(device, interface, notes)
+        found.append(interface)
+    return found
+
+
+def conf_of(text, given):
+    """The altq.conf of a text, with its interfaces and its notes."""
+    notes = Notes(given.file)
+    given.bandwidth = rate(given.bandwidth)
+    interfaces = imported(text, given, notes)
+    try_all(interfaces, notes)
+    return text_of(interfaces, notes), interfaces, notes
+
+
+def check(conf, interfaces, named):
+    """Asks the program whether it accepts what was made; without a program nothing is asked."""
+    try:
+        play.program(named)
+    except Missing:
+        return
+    with tempfile.NamedTemporaryFile("w", suffix=".conf") as file:
+        file.write(conf)
+        file.flush()
+        for one in interfaces:
+            play.check(file.name, one.name, named)
+
+
+def run(args):
+    if args.file == "-":
+        text = sys.stdin.read()
+    else:
+        with open(args.file, encoding="utf-8", errors="replace") as file:
+            text = file.read()
+    conf, interfaces, notes = conf_of(text, args)
+    check(conf, interfaces, args.program)
+    if args.to is None:
+        sys.stdout.write(conf)
+        return 0
+    with open(args.to, "w", encoding="utf-8") as file:
+        file.write(conf)
+    for line in notes.lines():
+        print(line)
+    names = ", ".join(one.name for one in interfaces)
+    print(f"{args.to}: {names}, {sum(len(one.classes) for one in interfaces)} classes, {sum(len(one.filters) for one in interfaces)} filters")
+    return 0

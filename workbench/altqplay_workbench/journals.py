@@ -1,0 +1,92 @@
+"""Journals: fates that another program may have written, by plain Python, and what every journal of one link keeps.
+
+A journal is a file of fates (docs/FORMATS.md). That of another program may say `sent` and `dropped` where it knows no rule, and
+its rows may stand in any order. The tests here are plain sums: that they pass is no proof of anything.
+"""
+
+import csv
+
+from .faults import Refused
+from .rows import DROPPED, FATES_HEAD, SENT, Fate, whole
+
+BYTE = 8 * 10**9
+SENT_WORDS, DROPPED_WORDS = (*SENT, "sent"), (*DROPPED, "dropped")
+
+
+def entry(name, line, row):
+    """The fate of a row."""
+    if len(row) != len(FATES_HEAD):
+        raise Refused(f"{name}: row {line}: {len(row)} words, and not {len(FATES_HEAD)}")
+    if row[4] not in SENT_WORDS + DROPPED_WORDS:
+        raise Refused(f"{name}: row {line}: no fate: {row[4]!r}; write sent or dropped where there is no rule")
+    is_sent = row[4] in SENT_WORDS
+    if not is_sent and row[5:] != ["", ""]:
+        raise Refused(f"{name}: row {line}: a packet that was dropped has a start or an end")
+    numbers = [whole(name, line, what, word) for what, word in zip(FATES_HEAD[:3], row)]
+    times = [whole(name, line, what, word) for what, word in zip(FATES_HEAD[5:], row[5:])] if is_sent else [None, None]
+    return Fate(*numbers, row[3], row[4], *times)
+
+
+def read_journal(name):
+    """The fates of a journal by number. `Refused` names the first row that is none, or the packet that has two."""
+    with open(name, newline="", encoding="ascii", errors="replace") as file:
+        rows, found = csv.reader(file), {}
+        if next(rows, None) != FATES_HEAD:
+            raise Refused(f"{name}: its first row is not that of fates")
+        for row in rows:
+            fate = entry(name, rows.line_num, row)
+            if fate.number in found:
+                raise Refused(f"{name}: row {rows.line_num}: packet {fate.number} has two fates")
+            found[fate.number] = fate
+    return found
+
+
+def moment(fate):
+    """When a fate was decided: a drop at its arrival, before a sending at its start."""
+    return (fate.arrival, 0, fate.number) if fate.start is None else (fate.start, 1, fate.number)
+
+
+def by_moment(journal):
+    """The fates in the order of decision."""
+    return sorted(journal.values(), key=moment)
+
+
+def row_text(fate):
+    """A fate as its row."""
+    return ",".join("" if value is None else str(value) for value in fate)
+
+
+def without_rule(fate):
+    """A fate that says only whether the packet was sent."""
+    return fate._replace(fate="dropped" if fate.start is None else "sent")
+
+
+def order_faults(sent):
+    """The sendings that overtake a packet of their class, or start before they arrive."""
+    last = {}
+    for fate in sent:
+        if fate.start < fate.arrival:
+            yield fate, f"starts before it arrives at {fate.arrival}"
+        if last.get(fate.name, 0) > fate.number:
+            yield fate, f"comes after packet {last[fate.name]} of its class, which arrived later"
+        last[fate.name] = max(fate.number, last.get(fate.name, 0))
+
+
+def link_faults(sent, bandwidth):
+    """The sendings that the link could not carry so: they overlap, or do not end as the run's bytes tell, rounded up once."""
+    free, run, length = -1, 0, 0
+    for fate in sent:
+        if fate.start < free:
+            yield fate, f"starts before the link is free at {free}"
+        run, length = (run, length + fate.length) if fate.start == free else (fate.start, fate.length)
+        end = None if bandwidth is None else run + -(-BYTE * length // bandwidth)
+        if end is not None and fate.end != end:
+            yield fate, f"ends otherwise than at {end}, as the bytes of its run since {run} tell"
+        free = fate.end
+
+
+def faults(journal, bandwidth):
+    """What of a journal no link with first-in-first-out classes can do, in the order of decision; ends by a bandwidth, or None."""
+    sent = [fate for fate in by_moment(journal) if fate.start is not None]
+    found = list(order_faults(sent)) + list(link_faults(sent, bandwidth))
+    return sorted(found, key=lambda pair: moment(pair[0]))

@@ -1,0 +1,58 @@
+"""Runs the program: finds it, asks `check`, plays a capture into a folder."""
+
+import os
+import shutil
+import subprocess
+from collections import namedtuple
+
+from .faults import Missing, Refused
+
+HERE = os.path.dirname(os.path.abspath(__file__))
+BUILT = os.path.join(os.path.dirname(os.path.dirname(HERE)), "crates", "altqplay", "out", "altqplay")
+
+# The files of a play.
+Played = namedtuple("Played", "departures fates stats")
+
+
+def program(named=None):
+    """The program's path: as named, else of ALTQPLAY, else of this repository, else on the path. `Missing` where there is none."""
+    asked = named or os.environ.get("ALTQPLAY")
+    if asked:
+        found = shutil.which(asked)
+        if found is None:
+            raise Missing(f"no program {asked}")
+        return found
+    found = BUILT if os.access(BUILT, os.X_OK) else shutil.which("altqplay")
+    if found is None:
+        raise Missing("altqplay is not built: run example/run, or name it with --program")
+    return found
+
+
+def answer(named, words):
+    """What the program says to some words. `Refused` with what it said where its status is not 0."""
+    done = subprocess.run([program(named), *words], stdout=subprocess.PIPE, stderr=subprocess.PIPE, stdin=subprocess.DEVNULL, check=False)
+    said = done.stdout.decode("ascii", "replace")
+    if done.returncode != 0:
+        told = (said + done.stderr.decode("ascii", "replace")).strip()
+        raise Refused(f"altqplay {words[0]}: status {done.returncode}: {told}")
+    return said
+
+
+def check(config, interface, named=None):
+    """The lines of `altqplay check`: the canonical text, and whether the curves fit."""
+    return answer(named, ["check", "--config", config, "--interface", interface]).splitlines()
+
+
+def play(config, interface, arrivals, folder, seed=42, named=None):
+    """Plays a capture that the program reads; answers its files, departures.pcap, fates.csv and stats.csv of the folder."""
+    os.makedirs(folder, exist_ok=True)
+    files = Played(*(os.path.join(folder, name) for name in ("departures.pcap", "fates.csv", "stats.csv")))
+    answer(named, ["play", "--config", config, "--interface", interface, "--arrivals", arrivals, "--departures", files.departures,
+                   "--fates", files.fates, "--stats", files.stats, "--seed", str(seed)])
+    return files
+
+
+def add_program(parser):
+    """The words that say what is played by what."""
+    parser.add_argument("--interface", metavar="NAME", default=None, help="the interface; not needed where the configuration has one")
+    parser.add_argument("--program", metavar="FILE", help="the program; else that of ALTQPLAY, of this repository, or on the path")

@@ -1,0 +1,74 @@
+"""Reads fates and statistics, the CSV files that a play writes (docs/FORMATS.md). Moments and lengths are exact integers.
+
+`fate_rows` gives row after row and needs no library. `read_fates` gives columns, a million rows in a second.
+"""
+
+import re
+from collections import namedtuple
+
+from .faults import Refused
+
+FATES_HEAD = ["number", "arrival", "length", "class", "fate", "start", "end"]
+STATS_HEAD = ["class", "arrived", "arrivedbytes", "raised", "sent", "sentbytes", "full", "early", "forced"]
+SENT = ("realtime", "share", "own", "borrow")
+DROPPED = ("full", "early", "forced")
+WHOLE, NAME = re.compile("0|[1-9][0-9]{0,18}"), re.compile(r"[A-Za-z0-9_.:/-]{1,64}")
+
+# One packet's fate. Times are in nanoseconds, the length in bytes; start and end are None where it was dropped.
+Fate = namedtuple("Fate", "number arrival length name fate start end")
+
+
+def whole(name, line, what, word):
+    """A whole number below 2^63 of a row."""
+    if not WHOLE.fullmatch(word) or int(word) >= 2**63:
+        raise Refused(f"{name}: row {line}: {what} is no whole number below 2^63: {word!r}")
+    return int(word)
+
+
+def fate_of(name, line, row):
+    """The fate of a row."""
+    if len(row) != len(FATES_HEAD):
+        raise Refused(f"{name}: row {line}: {len(row)} words, and not {len(FATES_HEAD)}")
+    numbers = [whole(name, line, what, word) for what, word in zip(FATES_HEAD[:3], row)]
+    if not NAME.fullmatch(row[3]):
+        raise Refused(f"{name}: row {line}: no name of a class: {row[3]!r}")
+    if row[4] not in SENT + DROPPED:
+        raise Refused(f"{name}: row {line}: no fate: {row[4]!r}")
+    if row[4] in DROPPED and row[5:] != ["", ""]:
+        raise Refused(f"{name}: row {line}: a packet that was dropped has a start or an end")
+    times = [whole(name, line, what, word) for what, word in zip(FATES_HEAD[5:], row[5:])] if row[4] in SENT else [None, None]
+    return Fate(*numbers, row[3], row[4], *times)
+
+
+def lines(name, head):
+    """The lines of a file behind its head, each as its number and its words."""
+    with open(name, newline="\n", encoding="ascii", errors="replace") as file:
+        if file.readline() != ",".join(head) + "\n":
+            raise Refused(f"{name}: its first row is not {','.join(head)}")
+        for number, line in enumerate(file, 2):
+            if not line.endswith("\n"):
+                raise Refused(f"{name}: row {number} is cut: no line feed ends it")
+            yield number, line[:-1].split(",")
+
+
+def fate_rows(name):
+    """The fates of a file, in its order. `Refused` names the first row that is none."""
+    for number, words in lines(name, FATES_HEAD):
+        yield fate_of(name, number, words)
+
+
+def read_fates(name):
+    """The fates of a file as `columns.Fates`; it needs numpy and pandas. `Refused` names the first row that is none."""
+    from .columns import read
+
+    return read(name)
+
+
+def read_stats(name):
+    """The statistics of a file: the name of each class with its counts as a dict, in the file's order; `*` has the sums."""
+    found = {}
+    for number, words in lines(name, STATS_HEAD):
+        if len(words) != len(STATS_HEAD):
+            raise Refused(f"{name}: row {number}: {len(words)} words, and not {len(STATS_HEAD)}")
+        found[words[0]] = {what: whole(name, number, what, word) for what, word in zip(STATS_HEAD[1:], words[1:])}
+    return found

@@ -1,0 +1,255 @@
+"""Plays a grid: configurations, each changed in a rate, over captures and seeds, on all processors, into one table and one plot.
+
+    altqwork sweep today.conf --set 'rest rt=1M,2M,2.8M,3.6M' --seeds 1-3 --into results --arrivals monday.pcap tuesday.pcap
+
+--set 'CLASS WORD=V,V' puts each value in the place of what the configurations say: of `rt`, `ls`, `sc` and `ul` the line of a rate,
+of `exactbandwidth`, `pbandwidth`, `pshare`, `priority` and `qlimit` the value itself. `bandwidth=V,V` without a class is that of
+the interface. Several --set make a grid. The captures are such as the program reads; altqwork convert makes them.
+
+table.csv in the folder has a row for each run and class, delays in nanoseconds, its last word `ok` or what failed. plot.html draws
+the greatest delay and the drops of each class. A sweep that was cut off goes on where it stopped: what is done stands in runs.jsonl,
+and is made again only where the configuration, the capture, the seed or the program is another. --scheduler HOST:PORT plays by
+dask.distributed in place of this machine's processors: the captures, the program and this package stand at one path on all
+machines then. The exit status is 0 where all runs are done, and 1 where one failed.
+"""
+
+import hashlib
+import itertools
+import json
+import os
+import re
+import sys
+import tempfile
+from collections import namedtuple
+from concurrent.futures import ProcessPoolExecutor, as_completed
+
+from .conf import interface_named
+from .faults import Missing, Refused
+from .play import add_program, play, program
+from .rows import read_stats
+
+NAME = "sweep"
+HELP = "many configurations, rates, captures and seeds into one table and one plot"
+CURVES = ("rt", "ls", "sc", "ul")
+VALUES = ("exactbandwidth", "pbandwidth", "pshare", "priority", "qlimit")
+HEAD = ["config", "settings", "capture", "seed", "class", "packets", "dropped", "median", "of99", "greatest", "answer"]
+SETTING = re.compile(r"(?:(\S+)\s+)?(\w+)=(\S+)\Z")
+
+# One run of the grid: what is played, and the key by which a sweep that goes on knows it again.
+Run = namedtuple("Run", "config settings text interface capture seed program key")
+
+
+def add_arguments(parser):
+    parser.add_argument("--set", dest="settings", action="append", default=[], metavar="'CLASS WORD=V,V,..'", help="values of one option")
+    parser.add_argument("--seeds", default="42", metavar="N,N-N", help="seeds, 42 by default")
+    parser.add_argument("--into", default="sweep", metavar="FOLDER", help="where the results stand, sweep by default")
+    parser.add_argument("--jobs", type=int, metavar="N", help="how many plays at a time; all processors by default")
+    parser.add_argument("--scheduler", metavar="HOST:PORT", help="plays on the machines of this scheduler of dask.distributed")
+    parser.add_argument("--no-plot", action="store_true", help="makes the table alone, which needs no library")
+    add_program(parser)
+    parser.add_argument("--arrivals", nargs="+", required=True, metavar="CAPTURE", help="the captures")
+    parser.add_argument("configs", nargs="+", metavar="CONFIG", help="the configurations")
+
+
+def numbers(text):
+    """The seeds of a text as 1,5-9."""
+    found = []
+    for part in text.split(","):
+        match = re.fullmatch(r"(\d+)(?:-(\d+))?", part)
+        if match is None or int(match[2] or match[1]) < int(match[1]):
+            raise Refused(f"--seeds {text}: no seeds, as 1,5-9")
+        found += range(int(match[1]), int(match[2] or match[1]) + 1)
+    return found
+
+
+def settings_of(texts):
+    """The grid: each choice of a value for each --set, as pairs of what is set and its value."""
+    axes = []
+    for text in texts:
+        match = SETTING.match(text)
+        if match is None or not (match[2] in CURVES or match[2] in VALUES or (match[2] == "bandwidth" and not match[1])):
+            raise Refused(f"--set {text!r}: not CLASS WORD=VALUES with rt, ls, sc, ul, {', '.join(VALUES)}, or bandwidth=VALUES")
+        if match[2] != "bandwidth" and not match[1]:
+            raise Refused(f"--set {text!r}: the class is missing")
+        axes.append([((match[1], match[2]), value) for value in match[3].split(",")])
+    return list(itertools.product(*axes))
+
+
+def changed(text, interface, settings, name):
+    """A configuration with settings behind what its statements say, since of two options the later one holds. `Refused` where it has
+    no such class."""
+    lines = text.replace("\\\n", " ").split("\n")
+    for (of, option), value in settings:
+        head, found = (["interface", interface] if of is None else [interface, of]), False
+        for at, line in enumerate(lines):
+            words = re.sub(r"[\[\]]", " ", line.split("#")[0]).split()
+            if (words[:2] if of is None else words[2:4] if words[:1] == ["class"] else None) == head:
+                lines[at], found = " ".join(words + ([option, value, "0", value] if option in CURVES else [option, value])), True
+        if not found:
+            raise Refused(f"{name}: interface {interface} has no class {of}" if of else f"{name}: no interface {interface}")
+    return "\n".join(lines)
+
+
+def label(settings):
+    """What is set, in words."""
+    return "; ".join(f"{of} {option}={value}" if of else f"{option}={value}" for (of, option), value in settings) or "-"
+
+
+def digest(name):
+    """What a file holds, in short."""
+    found = hashlib.sha256()
+    with open(name, "rb") as file:
+        for piece in iter(lambda: file.read(1 << 20), b""):
+            found.update(piece)
+    return found.hexdigest()
+
+
+def grid(args):
+    """All runs, in order."""
+    path = os.path.abspath(program(args.program))
+    held = {name: digest(name) for name in [*args.arrivals, path]}
+    found = []
+    for name in args.configs:
+        with open(name, encoding="ascii", errors="replace") as file:
+            text = file.read()
+        interface = interface_named(name, args.interface)
+        for settings in settings_of(args.settings):
+            made = changed(text, interface, settings, name)
+            for capture, seed in itertools.product(args.arrivals, numbers(args.seeds)):
+                key = hashlib.sha256("\0".join([made, interface, held[capture], held[path], str(seed)]).encode()).hexdigest()
+                found.append(Run(name, label(settings), made, interface, os.path.abspath(capture), seed, path, key))
+    return found
+
+
+def delays_of(name):
+    """The delays of each class of fates, in rising order."""
+    found = {}
+    with open(name, encoding="ascii") as file:
+        next(file)
+        for line in file:
+            _number, arrival, _length, of, _fate, _start, end = line.rstrip("\n").split(",")
+            if end:
+                found.setdefault(of, []).append(int(end) - int(arrival))
+    return {of: sorted(values) for of, values in found.items()}
+
+
+def ranks(values):
+    """The delays that half and 99 in 100 do not pass, and the greatest."""
+    return [values[-(-parts * len(values) // 100) - 1] for parts in (50, 99, 100)] if values else ["", "", ""]
+
+
+def played(run):
+    """One run: the rows of its classes, or one with its message. It is called in another process, or on another machine."""
+    try:
+        with tempfile.TemporaryDirectory(prefix="altqwork-") as folder:
+            config = os.path.join(folder, "altq.conf")
+            with open(config, "w", encoding="ascii", errors="replace") as file:
+                file.write(run.text)
+            files = play(config, run.interface, run.capture, folder, run.seed, run.program)
+            stats, delays = read_stats(files.stats), delays_of(files.fates)
+        return [[of, one["arrived"], one["full"] + one["early"] + one["forced"], *ranks(delays.get(of, [])), "ok"]
+                for of, one in stats.items() if of != "*"]
+    except (Refused, Missing, OSError) as fault:
+        return [["-", "", "", "", "", "", str(fault)]]
+
+
+def finished(name):
+    """The runs that a file of results holds: rows by key. A last line that was cut is none; a run that failed is made again."""
+    found = {}
+    if os.path.exists(name):
+        with open(name, encoding="utf-8") as file:
+            for line in file:
+                try:
+                    row = json.loads(line)
+                except ValueError:
+                    continue
+                if row["rows"][0][-1] == "ok":
+                    found[row["key"]] = row["rows"]
+    return found
+
+
+def local(runs, jobs):
+    """Plays on this machine's processors; each run with its rows, as it is done."""
+    with ProcessPoolExecutor(jobs) as pool:
+        waiting = {pool.submit(played, run): run for run in runs}
+        for done in as_completed(waiting):
+            yield waiting[done], done.result()
+
+
+def remote(runs, scheduler):
+    """Plays on the machines of a scheduler; each run with its rows, as it is done."""
+    try:
+        from dask import distributed
+    except ModuleNotFoundError:
+        raise Missing("dask.distributed is not installed: leave out --scheduler, or install it") from None
+    with distributed.Client(scheduler) as client:
+        waiting = {client.submit(played, run, pure=False): run for run in runs}
+        for future in distributed.as_completed(list(waiting)):
+            yield waiting[future], future.result()
+
+
+def all_played(args, runs):
+    """The rows of all runs by key: those that stand in the folder, and those that are made now."""
+    store = os.path.join(args.into, "runs.jsonl")
+    found = finished(store)
+    missing = list({run.key: run for run in runs if run.key not in found}.values())
+    print(f"{len(runs)} runs, {len(runs) - len(missing)} of them are there", file=sys.stderr)
+    made = remote(missing, args.scheduler) if args.scheduler else local(missing, args.jobs)
+    with open(store, "a", encoding="utf-8") as file:
+        file.write("\n")
+        for count, (run, rows) in enumerate(made, 1):
+            found[run.key] = rows
+            file.write(json.dumps({"key": run.key, "rows": rows}) + "\n")
+            file.flush()
+            what = f"{run.config} {run.settings} {os.path.basename(run.capture)} seed {run.seed}"
+            print(f"{count}/{len(missing)} {what}: {rows[0][-1]}", file=sys.stderr)
+    return found
+
+
+def table(runs, found):
+    """The rows of the table, in the order of the grid."""
+    return [[run.config, run.settings, os.path.basename(run.capture), run.seed, *row] for run in runs for row in found[run.key]]
+
+
+def quoted(value):
+    """A field of CSV (RFC 4180)."""
+    text = str(value)
+    return '"' + text.replace('"', '""') + '"' if re.search(r'[",\n\r]', text) else text
+
+
+def write_table(name, rows):
+    with open(name, "w", encoding="utf-8") as file:
+        file.writelines(",".join(map(quoted, row)) + "\n" for row in [HEAD, *rows])
+
+
+def plot(name, rows):
+    """Writes a page: for each class the greatest delay in milliseconds and the drops of each run."""
+    from plotly import graph_objects, subplots
+
+    figure = subplots.make_subplots(rows=2, cols=1, shared_xaxes=True, subplot_titles=["greatest delay, ms", "packets dropped"])
+    good = [row for row in rows if row[-1] == "ok"]
+    for number, of in enumerate(dict.fromkeys(row[4] for row in good)):
+        own = [row for row in good if row[4] == of]
+        where = [f"{row[0]} {row[1]}<br>{row[2]} seed {row[3]}" for row in own]
+        style = {"name": of, "mode": "markers+lines", "legendgroup": of, "marker": {"symbol": number % 8, "size": 9}}
+        heights = [row[9] / 10**6 if row[9] != "" else None for row in own]
+        figure.add_trace(graph_objects.Scatter(x=where, y=heights, **style), row=1, col=1)
+        figure.add_trace(graph_objects.Scatter(x=where, y=[row[6] for row in own], showlegend=False, **style), row=2, col=1)
+    figure.update_layout(template="plotly_white", height=800, title="altqwork sweep")
+    figure.write_html(name, include_plotlyjs=True)
+
+
+def run(args):
+    runs = grid(args)
+    os.makedirs(args.into, exist_ok=True)
+    found = all_played(args, runs)
+    rows = table(runs, found)
+    write_table(os.path.join(args.into, "table.csv"), rows)
+    failed = sum(row[-1] != "ok" for row in rows)
+    if not args.no_plot and failed < len(rows):
+        try:
+            plot(os.path.join(args.into, "plot.html"), rows)
+        except ModuleNotFoundError as fault:
+            raise Missing(f"the Python library {fault.name} is not installed: run workbench/setup, or say --no-plot") from None
+    print(f"{os.path.join(args.into, 'table.csv')}: {len(runs)} runs, {failed} failed")
+    return 1 if failed else 0

@@ -1,0 +1,69 @@
+"""The command line: its words, its statuses, and `delays`, which needs no library."""
+
+import os
+import subprocess
+import sys
+
+import pytest
+from conftest import ROOT, classic, example
+
+COMMAND = os.path.join(ROOT, "workbench", "altqwork")
+
+
+def called(words, **more):
+    done = subprocess.run([COMMAND, *words], stdout=subprocess.PIPE, stderr=subprocess.PIPE, check=False, env={**os.environ, **more})
+    return done.returncode, done.stdout.decode(), done.stderr.decode()
+
+
+def test_help_names_each_subcommand():
+    status, said, _fault = called(["--help"])
+    assert status == 0 and all(f"\n    {name} " in said for name in ("convert", "late", "report", "delays"))
+
+
+@pytest.mark.parametrize("words", [[], ["what"], ["late", "--seed", "x"], ["convert"], ["report", "--allow"]])
+def test_words_that_are_refused(words):
+    status, said, fault = called(words)
+    assert (status, said) == (2, "") and fault.startswith("usage: ")
+
+
+def test_a_library_that_is_missing(tmp_path):
+    # an interpreter that sees the standard library alone
+    script = tmp_path / "python3"
+    script.write_text(f'#!/bin/sh\nexec "{sys.executable}" -S "$@"\n')
+    script.chmod(0o755)
+    words = [str(script), "-B", os.path.join(ROOT, "workbench", "altqplay_workbench")]
+    done = subprocess.run([*words, "late", "--config", "c", "a"], stdout=subprocess.PIPE, stderr=subprocess.PIPE, check=False)
+    assert done.returncode == 77 and b"is not installed: run workbench/setup" in done.stderr
+    assert subprocess.run([*words, "--version"], stdout=subprocess.PIPE, check=False).returncode == 0
+    assert subprocess.run([*words, "delays", "--help"], stdout=subprocess.PIPE, check=False).returncode == 0
+
+
+def test_no_program(altqwork, tmp_path, monkeypatch):
+    monkeypatch.setenv("ALTQPLAY", str(tmp_path / "none"))
+    (tmp_path / "a.pcap").write_bytes(classic(1, []))
+    assert altqwork("late", "--config", example("office.conf"), tmp_path / "a.pcap")[::2] == (77, f"altqwork: no program {tmp_path / 'none'}\n")
+
+
+HEAD = "number,arrival,length,class,fate,start,end\n"
+
+
+def test_delays(altqwork, tmp_path):
+    # delays 10, 20, 30, 40 of class a: half do not pass 20, 99 in 100 do not pass 40; then 10 is dropped, 20 takes 50, 40 takes 35
+    (tmp_path / "first").write_text(HEAD + "".join(f"{n},100,60,a,share,{95 + 10 * n},{100 + 10 * n}\n" for n in (1, 2, 3, 4)))
+    (tmp_path / "second").write_text(HEAD + "1,100,60,a,full,,\n3,100,60,a,share,125,130\n4,100,60,a,share,130,135\n2,100,60,a,share,145,150\n")
+    status, said, _fault = altqwork("delays", tmp_path / "first", tmp_path / "second")
+    assert status == 1 and said.splitlines()[1:] == [
+        "a",
+        "  first          4        0           10           20           40           40",
+        "  second         4        1           30           35           50           50",
+        "  changed: 1 dropped now, 0 sent now, 1 sooner by up to 5, 1 later by up to 30"]
+    assert altqwork("delays", tmp_path / "first", tmp_path / "first")[0] == 0
+
+
+@pytest.mark.parametrize("text, why", [("", "first row"), (HEAD, "packet 1 stands in one file alone"), (HEAD + "1,101,60,a,full,,\n", "packet 1 has another arrival"),
+                                       (HEAD + "1,100,60,a,full,,\n" * 2, "packet 1 has two fates")])
+def test_delays_of_other_arrivals(altqwork, tmp_path, text, why):
+    (tmp_path / "first").write_text(HEAD + "1,100,60,a,full,,\n")
+    (tmp_path / "second").write_text(text)
+    status, said, fault = altqwork("delays", tmp_path / "first", tmp_path / "second")
+    assert (status, said) == (2, "") and why in fault

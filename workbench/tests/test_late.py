@@ -1,0 +1,189 @@
+"""`late`: due moments by their definition, worked rows, plays, and the command."""
+
+import random
+import subprocess
+
+import numpy
+import pytest
+from conftest import classic, data, example, frames, udp
+from hypothesis import example as row
+from hypothesis import given, settings
+from hypothesis import strategies as some
+
+from altqplay_workbench.conf import Curve, read_conf
+from altqplay_workbench.due import BYTE, due_moments
+from altqplay_workbench.play import play
+from altqplay_workbench.plays import Side
+from altqplay_workbench.rows import read_fates
+
+
+def first(curve, wanted):
+    """The least time in which a curve gives an amount, or None: in its first piece, never, or in its second piece."""
+    if wanted <= curve.m1 * curve.d:
+        return -(-wanted // curve.m1) if wanted else 0
+    return None if curve.m2 == 0 else curve.d + -(-(wanted - curve.m1 * curve.d) // curve.m2)
+
+
+def by_definition(curve, packets):
+    """The due moment of each packet (arrival, start, length), each opening by itself."""
+    found, openings, total, before = [], [], 0, None
+    for arrival, start, length in packets:
+        if before is None or arrival > before:
+            openings.append((arrival, total))
+        before, total = start, total + length * BYTE
+        times = [first(curve, total - sent) for _at, sent in openings]
+        found.append(None if None in times else max(at + time for (at, _sent), time in zip(openings, times)))
+    return found
+
+
+def reckoned(curve, packets):
+    columns = [numpy.array(values, dtype=numpy.int64) for values in zip(*packets)] if packets else [numpy.zeros(0, dtype=numpy.int64)] * 3
+    moments, has_due = due_moments(curve, *columns)
+    return [int(moment) if is_due else None for moment, is_due in zip(moments, has_due)]
+
+
+SLOPE = some.sampled_from([1, 7, 64_000, 1_000_000, 3_333_333, 40_000_000, 10**12]) | some.integers(1, 10**12)
+BEND = some.integers(0, 30).map(lambda d: d * 10**6) | some.integers(0, 10**6).map(lambda d: d * 10**6)
+CURVES = some.one_of(
+    some.tuples(SLOPE, BEND, SLOPE).map(lambda c: Curve(max(c[0], c[2]), c[1], min(c[0], c[2]))), some.tuples(BEND, SLOPE).map(lambda c: Curve(0, *c)),
+    some.tuples(SLOPE, BEND.filter(bool)).map(lambda c: Curve(*c, 0)), some.tuples(SLOPE, SLOPE).map(lambda c: Curve(c[0], 0, c[1])))
+STEP = some.integers(0, 3) | some.integers(0, 10**7) | some.integers(0, 10**15)
+PACKETS = some.lists(some.tuples(STEP, STEP, some.integers(1, 1514) | some.integers(1, 262_144)), max_size=30)
+
+
+@settings(max_examples=2000, deadline=None)
+@given(CURVES, some.integers(0, 2**62), PACKETS)
+@row(Curve(10**12, 10**15, 1), 2**61, [(0, 0, 262_144)] * 30)
+def test_due_moments_are_those_of_the_definition(curve, origin, steps):
+    packets, arrival, start = [], origin // 2, 0
+    for wait, held, length in steps:
+        arrival += wait
+        start = max(start, arrival) + held
+        packets.append((arrival, start, length))
+    assert reckoned(curve, packets) == by_definition(curve, packets)
+
+
+# A curve, packets (arrival, start, length), and when they are due, reckoned by hand. 1,000 bytes are 8*10^12 units.
+@pytest.mark.parametrize("curve, packets, due", [
+    # 200 bytes at 4,000,000 bits per second take 400,000: docs/HFSC.md, "Voice beside data"
+    (Curve(4_000_000, 5_000_000, 1_000_000), [(10_000_000, 10_000_000, 200)], [10_400_000]),
+    (Curve(0, 5_000_000, 4_000_000), [(0, 0, 1000), (0, 1_000_000, 1000)], [7_000_000, 9_000_000]),
+    # docs/OPERATING.md: two packets of 214 bytes at one moment
+    (Curve(1_000_000, 10_000_000, 200_000), [(0, 0, 214), (0, 428_000, 214)], [1_712_000, 3_424_000]),
+    # exactly the bend, and a byte more: 8,000 units a nanosecond for 1 ms are 1,000 bytes
+    (Curve(8_000_000, 1_000_000, 1_000_000), [(0, 0, 1000)], [1_000_000]), (Curve(8_000_000, 1_000_000, 1_000_000), [(0, 0, 1001)], [1_008_000]),
+    (Curve(8_000_000, 1_000_000, 0), [(0, 0, 1000)], [1_000_000]), (Curve(8_000_000, 1_000_000, 0), [(0, 0, 1001)], [None]),
+    # the second opens if it arrives later than the first starts, not if at that moment; but the first opening asks for as much
+    (Curve(8_000_000, 0, 8_000_000), [(0, 500, 1000), (500, 1_000_500, 1000)], [1_000_000, 2_000_000]),
+    (Curve(8_000_000, 0, 8_000_000), [(0, 500, 1000), (1_500_000, 2_500_000, 1000)], [1_000_000, 2_500_000]),
+    (Curve(8_000_000, 0, 8_000_000), [(0, 10_000_000, 1000), (10_000_000, 11_000_000, 1000)], [1_000_000, 2_000_000]),
+    (Curve(8_000_000, 0, 8_000_000), [(0, 10_000_000, 1000), (10_000_001, 11_000_001, 1000)], [1_000_000, 11_000_001]),
+    # a third of a nanosecond is rounded up
+    (Curve(3_000_000, 0, 3_000_000), [(0, 0, 1)], [2_667]), (Curve(3_000_000, 0, 3_000_000), [(0, 0, 3)], [8_000])])
+def test_worked_rows(curve, packets, due):
+    assert reckoned(curve, packets) == due == by_definition(curve, packets)
+
+
+# One packet of 1,000 bytes on a link of 8 Mbit/s is due after 1,000,000, and late if it ends more than 1,000,000 after that.
+@pytest.mark.parametrize("end, words, numbers", [
+    (1_000_000, [], "1        0        1        0        0             0"), (1_000_001, [], "1        0        1        1        0             1"),
+    (2_000_000, [], "1        0        1        1        0       1000000"), (2_000_001, [], "1        0        1        1        1       1000001"),
+    (1_000_007, ["--allow", "7"], "1        0        1        1        0             7"), (1_000_007, ["--allow", "6"], "1        0        1        1        1             7")])
+def test_late_at_the_bound(altqwork, program, tmp_path, end, words, numbers):
+    (tmp_path / "c.conf").write_text("interface if0 bandwidth 8M hfsc\nclass hfsc if0 root NULL\nclass hfsc if0 a root sc 8M 0 8M default\n")
+    (tmp_path / "f.csv").write_text(f"number,arrival,length,class,fate,start,end\n1,0,1000,a,share,{end - 1_000_000},{end}\n")
+    status, said, _fault = altqwork("late", "--config", tmp_path / "c.conf", "--fates", tmp_path / "f.csv", *words)
+    assert said.splitlines()[3] == "  play            " + numbers and status == int(numbers.split()[4])
+
+
+def test_the_time_of_the_longest_packet_is_rounded_up(altqwork, program, tmp_path):
+    (tmp_path / "c.conf").write_text("interface if0 bandwidth 3M hfsc\n")
+    (tmp_path / "f.csv").write_text("number,arrival,length,class,fate,start,end\n1,0,1000,default,share,0,2666667\n2,0,1500,default,full,,\n")
+    said = altqwork("late", "--config", tmp_path / "c.conf", "--fates", tmp_path / "f.csv")[1]
+    assert said.startswith("play: fits; late is what ends more than 2666667 after its due moment (longest packet sent: 1000 bytes)")
+
+
+def office(altqwork, tmp_path):
+    """The office of docs/OPERATING.md: its capture, and the configuration with a rate for `rest`."""
+    subprocess.run(["python3", example("office.py")], check=True, stdout=subprocess.DEVNULL)
+    with open(example("office.conf"), encoding="ascii") as file:
+        (tmp_path / "new.conf").write_text(file.read().replace("rest root", "rest root [rt 3.6M 0 3.6M]"))
+    return example("out/office.pcap"), example("office.conf"), tmp_path / "new.conf"
+
+
+def test_office(altqwork, program, tmp_path):
+    arrivals, before, after = office(altqwork, tmp_path)
+    status, said, _fault = altqwork("late", "--before", before, "--after", after, "--rows", tmp_path / "rows.csv", "--capture", tmp_path / "late.pcap",
+                                    "--keep", tmp_path / "kept", arrivals)
+    lines = said.splitlines()
+    assert status == 1 and lines[0].startswith("before: fits; late is what ends more than 3028000 ")
+    assert lines[1].startswith("after: exceeds at 10000000 by 16000000000000; ")
+    rows = {tuple(line.split(",")[:2]): line for line in (tmp_path / "rows.csv").read_text().splitlines()}
+    # docs/OPERATING.md: 521 is due at 2,401,712,000 and ends 1,704,000 after that; 477 at 2,288,712,000 and 7,100,000
+    assert rows["before", "521"] == "before,521,voice,2400000000,2403416000,2401712000,1704000"
+    assert rows["after", "477"] == "after,477,voice,2287000000,2295812000,2288712000,7100000"
+    lost = [line.split(",") for line in rows.values() if line.startswith("after") and (line.split(",")[4] == "" or line.split(",")[6] and int(line.split(",")[6]) > 3_028_000)]
+    whole = frames(arrivals)
+    assert frames(tmp_path / "late.pcap") == [whole[int(line[1]) - 1] for line in lost] and len(lost) == 77 + 7 + 30
+    fates = [tmp_path / "kept" / name / "fates.csv" for name in ("before", "after")]
+    assert altqwork("late", "--before", before, "--after", after, "--fates", fates[0], "--fates", fates[1], arrivals)[1] == said
+
+
+def test_any_capture_is_played(altqwork, program, tmp_path):
+    (tmp_path / "c.conf").write_text("interface if0 bandwidth 1M hfsc\nclass hfsc if0 root NULL\nclass hfsc if0 a root sc 100K 0 100K default\n")
+    status, said, _fault = altqwork("late", "--config", tmp_path / "c.conf", "--overhead", "24", data("raw.pcap"))
+    assert status == 0 and "5 packets of raw IP\n24 bytes added to each length\nplay: fits" in said
+    assert "longest packet sent: 206 bytes" in said  # 140 of data, 8 + 20 of heads, 14 of Ethernet, 24
+
+
+def random_play(chance, folder):
+    """A configuration and a capture."""
+    rate, leaves = chance.choice([64_000, 1_000_000, 8_000_000, 3_333_333, 10**9]), chance.randrange(1, 5)
+    lines = [f"interface if0 bandwidth {rate} hfsc", "class hfsc if0 root NULL"]
+    for n in range(leaves):
+        low, high = sorted(chance.randrange(1, rate) for _ in range(2))
+        curve = chance.choice([f"rt {high} {chance.randrange(30)} {low} ", f"rt 0 {chance.randrange(30)} {high} ", f"rt {low // leaves} 0 {low // leaves} ",
+                               f"rt {high} {chance.randrange(1, 30)} 0 ", ""])
+        limit = f"ul {rate} 0 {rate} " if chance.random() < 0.1 else ""
+        lines += [f"class hfsc if0 c{n} root {curve}ls {high} 0 {high} {limit}qlimit {chance.choice([1, 3, 50])}" + " default" * (n == 0)]
+        lines += [f"filter if0 c{n} 0 {5000 + n} 0 0 17"]
+    at, packets = chance.choice([0, 1764340000 * 10**9]), []
+    for _ in range(chance.randrange(80)):
+        length = chance.choice([60, 1000, chance.randrange(42, 2000)])
+        at += chance.choice([0, 1, chance.randrange(8 * 2000 * 10**9 // rate)])
+        packets.append((at, bytes(12) + b"\x08\x00" + udp(5000 + chance.randrange(leaves + 1), length - 14), length))
+    (folder / "c.conf").write_text("\n".join(lines) + "\n")
+    (folder / "a.pcap").write_bytes(classic(1, packets))
+
+
+@pytest.mark.parametrize("seed", range(10))
+def test_random_plays(program, tmp_path, seed):
+    for run in range(20):
+        random_play(random.Random(f"{seed} {run}"), tmp_path)
+        files = play(str(tmp_path / "c.conf"), "if0", str(tmp_path / "a.pcap"), str(tmp_path), seed)
+        interface, fates = read_conf(str(tmp_path / "c.conf")), read_fates(files.fates)
+        side = Side("play", interface, fates)
+        assert side.number.tolist() == list(range(1, len(side) + 1))
+        for name in side.class_names:
+            own = [(int(fates.arrival[n]), int(fates.start[n]), int(fates.length[n]), int(fates.number[n]))
+                   for n in range(len(fates)) if fates.is_sent[n] and fates.class_is(name)[n]]
+            curve = interface.promised(name)
+            due = by_definition(curve, [packet[:3] for packet in own]) if curve else [None] * len(own)
+            assert due == [int(side.due[packet[3] - 1]) if side.has_due[packet[3] - 1] else None for packet in own]
+        if interface.fit == "fits":
+            assert not side.is_late.any()
+
+
+@pytest.mark.parametrize("words, why", [
+    (["--config", "C"], "name a capture"), (["--before", "C", "A"], "name one configuration"), (["--config", "C", "--before", "C", "--after", "C", "A"], "name one"),
+    (["--config", "C", "--fates", "A"], "first row is not number,arrival"), (["--before", "C", "--after", "C", "--fates", "A", "A"], "1 fates for 2"),
+    (["--config", "C", "--fates", "F", "--capture", "x"], "--capture needs"), (["--config", "none.conf", "A"], "none.conf"), (["--config", "C", "none.pcap"], "none.pcap"),
+    (["--config", "C", "--interface", "if9", "A"], "status 3"), (["--before", "C", "--after", "C", "--fates", "F", "--fates", "G"], "packet 2 stands in one play alone")])
+def test_what_is_refused(altqwork, program, tmp_path, words, why):
+    head = "number,arrival,length,class,fate,start,end\n1,0,60,default,full,,\n"
+    names = {"C": "interface if0 hfsc\n", "F": head, "G": head + "2,0,60,default,full,,\n"}
+    for name, text in names.items():
+        (tmp_path / name).write_text(text)
+    (tmp_path / "A").write_bytes(classic(1, [(0, bytes(60), 60)]))
+    status, said, fault = altqwork("late", *(tmp_path / word if word in (*names, "A") else word for word in words))
+    assert (status, said) == (2, "") and why in fault

@@ -1,0 +1,146 @@
+"""`sweep`: the grid, what a setting does to a configuration, and a sweep that goes on."""
+
+import csv
+import json
+import os
+
+import pytest
+
+from altqplay_workbench import sweep
+from altqplay_workbench.captures import Record, write_ethernet
+from altqplay_workbench.cli import main
+from altqplay_workbench.faults import Missing, Refused
+from altqplay_workbench.play import program
+
+CONF = """interface if0 bandwidth 8M hfsc
+class hfsc if0 root NULL pshare 100
+class hfsc if0 a \\
+    root [sc 1M 0 1M]   # calls
+class hfsc if0 b root pshare 50 default
+"""
+
+
+def test_settings_are_a_grid():
+    grid = sweep.settings_of(["a rt=1M,2M", "bandwidth=8M,9M,10M"])
+    assert len(grid) == 6 and grid[0] == ((("a", "rt"), "1M"), ((None, "bandwidth"), "8M"))
+    assert sweep.settings_of([]) == [()]
+    assert sweep.label(grid[5]) == "a rt=2M; bandwidth=10M" and sweep.label(()) == "-"
+
+
+@pytest.mark.parametrize("text", ["a rt", "a rt=", "rt=1M", "a colour=red", "a bandwidth=1M", "a b rt=1M"])
+def test_faulty_settings(text):
+    with pytest.raises(Refused, match="--set"):
+        sweep.settings_of([text])
+
+
+@pytest.mark.parametrize("settings, line", [
+    ([(("a", "rt"), "2M")], "class hfsc if0 a root sc 1M 0 1M rt 2M 0 2M"),
+    ([(("a", "qlimit"), "9")], "class hfsc if0 a root sc 1M 0 1M qlimit 9"),
+    ([((None, "bandwidth"), "9M")], "interface if0 bandwidth 8M hfsc bandwidth 9M"),
+    ([(("a", "ul"), "3M"), (("a", "qlimit"), "7")], "class hfsc if0 a root sc 1M 0 1M ul 3M 0 3M qlimit 7"),
+])
+def test_setting_stands_behind_what_it_replaces(settings, line):
+    lines = sweep.changed(CONF, "if0", settings, "x.conf").split("\n")
+    assert line in lines and "class hfsc if0 b root pshare 50 default" in lines
+
+
+@pytest.mark.parametrize("of, interface", [("c", "if0"), ("a", "if1"), (None, "if1")])
+def test_setting_of_no_class(of, interface):
+    with pytest.raises(Refused, match="x.conf"):
+        sweep.changed(CONF, interface, [((of, "rt" if of else "bandwidth"), "2M")], "x.conf")
+
+
+def test_seeds():
+    assert sweep.numbers("1,5-7,2-2") == [1, 5, 6, 7, 2]
+    for text in ("", "x", "3-1", "1,", "-1"):
+        with pytest.raises(Refused, match="--seeds"):
+            sweep.numbers(text)
+
+
+def test_ranks():
+    """Of 200 delays the 100th and the 198th in rising order, and the last."""
+    assert sweep.ranks(list(range(1, 201))) == [100, 198, 200]
+    assert sweep.ranks([7]) == [7, 7, 7] and sweep.ranks([]) == ["", "", ""]
+
+
+@pytest.fixture
+def place(tmp_path):
+    """A folder with a configuration and two captures: two and three packets of 1,000 bytes at 0."""
+    try:
+        program()
+    except Missing:
+        pytest.skip("there is no program")
+    (tmp_path / "altq.conf").write_text(CONF)
+    for name, count in (("two", 2), ("three", 3)):
+        write_ethernet(str(tmp_path / f"{name}.pcap"), [Record(0, bytes(60), 1000, 1)] * count)
+    return tmp_path
+
+
+def swept(place, *words, status=0):
+    """The rows of the table of a sweep, and the lines of what is kept."""
+    into = place / "results"
+    asked = ["sweep", "--no-plot", "--into", str(into), *words, str(place / "altq.conf"), "--arrivals", str(place / "two.pcap")]
+    assert main(asked + [str(place / "three.pcap")]) == status
+    with open(into / "table.csv", newline="", encoding="utf-8") as file:
+        rows = list(csv.reader(file))
+    assert rows[0] == sweep.HEAD
+    return rows[1:]
+
+
+def test_table(place):
+    """On 8 and 4 Mbit/s 1,000 bytes take 1 and 2 ms; of two delays the first is the median, of three the second."""
+    rows = [row[1:] for row in swept(place, "--set", "bandwidth=8M,4M", "--seeds", "1-2") if row[4] == "b"]
+    assert len(rows) == 8
+    assert rows[0] == ["bandwidth=8M", "two.pcap", "1", "b", "2", "0", "1000000", "2000000", "2000000", "ok"]
+    assert rows[7] == ["bandwidth=4M", "three.pcap", "2", "b", "3", "0", "4000000", "6000000", "6000000", "ok"]
+
+
+def test_drops_are_counted(place):
+    """With a limit of 1 the second packet of one moment is dropped, and so is the third."""
+    rows = [row for row in swept(place, "--set", "b qlimit=1") if row[4] == "b"]
+    assert [row[5:7] for row in rows] == [["2", "1"], ["3", "2"]]
+
+
+def test_run_that_fails_is_a_row(place):
+    rows = swept(place, "--set", "b pshare=50,0", status=1)
+    failed = [row for row in rows if row[-1] != "ok"]
+    assert len(failed) == 2 and failed[0][1] == "b pshare=0" and "BadNumber" in failed[0][-1]
+
+
+def test_goes_on(place, monkeypatch):
+    """Of four runs the last is lost with half of the third's line: two are made again, and a third time none."""
+    whole = swept(place, "--seeds", "1-2")
+    kept = place / "results" / "runs.jsonl"
+    lines = [line for line in kept.read_text().split("\n") if line]
+    assert len(lines) == 4
+    kept.write_text("\n".join(lines[:2]) + "\n" + lines[2][:30])
+    assert swept(place, "--seeds", "1-2") == whole
+    assert len({json.loads(line)["key"] for line in kept.read_text().split("\n") if line.endswith("}")}) == 4
+    monkeypatch.setattr(sweep, "played", None)
+    assert swept(place, "--seeds", "1-2") == whole
+
+
+def test_only_what_is_done_is_kept(tmp_path):
+    kept = tmp_path / "runs.jsonl"
+    done, failed = ["b", 1, 0, 5, 5, 5, "ok"], ["-", "", "", "", "", "", "out of memory"]
+    kept.write_text(json.dumps({"key": "x", "rows": [done]}) + "\n" + json.dumps({"key": "y", "rows": [failed]}) + "\n")
+    assert sweep.finished(str(kept)) == {"x": [done]} and sweep.finished(str(tmp_path / "none")) == {}
+
+
+def test_another_capture_is_played_again(place):
+    before = swept(place)
+    write_ethernet(str(place / "two.pcap"), [Record(0, bytes(60), 500, 1)] * 2)
+    assert [row[9] for row in before if row[4] == "b"] == ["2000000", "3000000"]
+    assert [row[9] for row in swept(place) if row[4] == "b"] == ["1000000", "3000000"]
+
+
+def test_plot(place):
+    pytest.importorskip("plotly")
+    assert main(["sweep", "--into", str(place / "out"), str(place / "altq.conf"), "--arrivals", str(place / "two.pcap")]) == 0
+    page = (place / "out" / "plot.html").read_text()
+    assert "greatest delay, ms" in page and "<script src" not in page
+
+
+def test_missing_capture(place, capsys):
+    assert main(["sweep", str(place / "altq.conf"), "--arrivals", str(place / "none.pcap")]) == 2
+    assert "none.pcap" in capsys.readouterr().err and not os.path.exists("sweep")
