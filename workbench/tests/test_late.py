@@ -12,7 +12,8 @@ from hypothesis import strategies as some
 
 from altqplay_workbench.conf import Curve, read_conf
 from altqplay_workbench.due import BYTE, due_moments
-from altqplay_workbench.play import play
+from altqplay_workbench.faults import Refused
+from altqplay_workbench.play import answer, play
 from altqplay_workbench.plays import Side
 from altqplay_workbench.rows import read_fates
 
@@ -156,6 +157,17 @@ def random_play(chance, folder):
     (folder / "a.pcap").write_bytes(classic(1, packets))
 
 
+def verified(folder, files):
+    """What `altqplay verify` says of a play, the worst of each leaf by its name; None where the program has no such command."""
+    words = ["--config", folder / "c.conf", "--interface", "if0", "--arrivals", folder / "a.pcap", "--departures", files.departures, "--fates", files.fates]
+    try:
+        said = answer(None, ["verify", *map(str, words)])
+    except Refused as fault:
+        assert "status 2" in str(fault)
+        return None
+    return {line.split()[0]: line.split()[2] for line in said.splitlines() if " worst " in line}
+
+
 @pytest.mark.parametrize("seed", range(10))
 def test_random_plays(program, tmp_path, seed):
     for run in range(20):
@@ -170,6 +182,10 @@ def test_random_plays(program, tmp_path, seed):
             curve = interface.promised(name)
             due = by_definition(curve, [packet[:3] for packet in own]) if curve else [None] * len(own)
             assert due == [int(side.due[packet[3] - 1]) if side.has_due[packet[3] - 1] else None for packet in own]
+        said = verified(tmp_path, files)
+        if said is not None:
+            due = {name: side.missed[own[side.has_due[own]]] for name in interface.classes if interface.promised(name) for own in [side.class_is(name)]}
+            assert said == {name: str(int(missed.max())) if len(missed) else "none" for name, missed in due.items()}
         if interface.fit == "fits":
             assert not side.is_late.any()
 
