@@ -8,7 +8,7 @@ import re
 import struct
 from collections import Counter, namedtuple
 
-from program import CAPTURE_FAULTS, DEPARTURES_HEAD, FATES_HEAD, OUTPUTS, is_stated
+from program import CAPTURE_FAULTS, DEPARTURES_HEAD, FATES_HEAD, OUTPUTS, is_help, is_stated
 
 BILLION = 10**9
 LONGEST, MOST_RECORDS, MOST_BYTES = 262_144, 4_000_000, 2**30
@@ -229,8 +229,8 @@ def wrong_made(said, count, capture, files):
 def wrong(words, before, after, run, is_text=True):
     """What is wrong with a run, or None. `before` and `after` are the files of its folder, by their names."""
     command = words[0] if words else b""
-    if run.complaint:
-        return "something stands on standard error"
+    if not is_help(run):
+        return "what stands on standard error is not one to three printable lines, or the run is done"
     if not is_text:
         return wrong_untouched(before, after) if (run.status, run.said) == (2, b"") else "a word that is no UTF-8 was not refused, or something was said"
     if not is_stated(run.status, run.said, command):

@@ -15,6 +15,8 @@ capture that is cut, and `check`. Each run has to end by no signal, and
     or is a front of what the run with ample memory leaves in it; or
   - as with ample memory: the same status, standard output and outputs.
 
+Standard error has at most three printable lines, and none with status 0.
+
 It prints a line for each case, and one for each run that ended otherwise. The exit status is 0 where there is none.
 """
 
@@ -31,7 +33,7 @@ sys.path.insert(0, os.path.join(os.path.dirname(HERE), "example"))
 
 from capture import records  # noqa: E402
 from generate import capture_head  # noqa: E402
-from program import OUTPUTS, PROGRAM, content, prepare, run, store, words_of  # noqa: E402
+from program import OUTPUTS, PROGRAM, content, is_help, prepare, run, store, words_of  # noqa: E402
 
 # A configuration, the words of example/capture.py for the arrivals, how many bytes of these are cut off, and the command.
 Case = namedtuple("Case", "name config bursts cut command")
@@ -108,8 +110,8 @@ def ending(case, folder, program, environment):
 
 def wrong(found, ample):
     """What is wrong with how a run ended, or None."""
-    if found.run.complaint:
-        return "something stands on standard error"
+    if not is_help(found.run):
+        return f"{found.run.complaint!r} stands on standard error"
     if found.run.status != 8:
         is_ample = found.run[:2] == ample.run[:2] and found.outputs == ample.outputs
         return None if is_ample else f"it ended otherwise than with ample memory: status {found.run.status}, {found.run.said[-60:]!r}"

@@ -51,6 +51,12 @@ def is_stated(status, said, command):
     return status in MESSAGES and re.fullmatch(MESSAGES[status], said) is not None
 
 
+def is_help(run):
+    """Whether this may stand on standard error, where it is no terminal: nothing where the run is done, else one to three lines
+    of bytes 32 to 126; none where standard error is closed or a signal ended the run."""
+    return run.complaint == b"" if run.status == 0 else re.fullmatch(rb"(?:[ -~]+\n){0,3}", run.complaint) is not None
+
+
 def kind_of(run):
     """The status and what its message tells besides, in few words, for a count of how runs ended."""
     told = run.said.rsplit(b"\n", 2)[-2].decode(errors="replace") if run.status and run.said else ""

@@ -6,7 +6,7 @@
 With --quick, as the gate runs it, it leaves out what needs root or a disk of its own, and is silent where all is well. It
 takes a second or two. It tries full disks, names that are not there or may not be written, folders, pipes, devices, a
 capture that is cut while it is read, descriptors that are closed or run out, and one file under two names. For each it
-compares status, standard output, and what each output holds, in one word:
+compares status, standard output and the form of standard error, and what each output holds, in one word:
 
     as before   what it held when the program began, also that it was not there, or that it is the capture or the configuration
     empty       nothing, though it was created
@@ -34,7 +34,7 @@ sys.dont_write_bytecode = True
 sys.path.insert(0, os.path.join(os.path.dirname(os.path.dirname(os.path.abspath(__file__))), "example"))
 
 from generate import capture_head, captured_bytes, record  # noqa: E402
-from program import DEPARTURES_HEAD, FATES_HEAD, OUTPUTS, PROGRAM, ROOT, Late, content, prepare, run, store, words_of  # noqa: E402
+from program import DEPARTURES_HEAD, FATES_HEAD, OUTPUTS, PROGRAM, ROOT, Late, content, is_help, prepare, run, store, words_of  # noqa: E402
 
 # A row of the manual's table, a function that plays in a room, its further arguments, and what should come out: the
 # status, what is said, and what departures, fates and statistics hold.
@@ -108,6 +108,20 @@ def played(room, **others):
     """A play in a new room, with other names for some files."""
     room.lay()
     return finished(room, {**NAMES, **others})
+
+
+def made(room, suffix):
+    """A `make` whose descriptors are what a shell makes of `suffix`: what each output holds is told as of a play, if it is
+    what a `make` with open descriptors writes, to the arrivals too."""
+    found = []
+    for ending in ("", suffix):
+        room.lay()
+        words = ["/bin/sh", "-c", f'"$@" {ending}', "sh", room.program, "make", "--count", "3", *words_of(NAMES)[1:]]
+        ran = run(words, room.folder)
+        found.append((ran, outputs_in(room, NAMES), content(room.path(NAMES["arrivals"]))))
+    (_, whole, capture), (ran, outputs, arrivals) = found
+    as_whole = {name: room.whole[name] if outputs[name] == whole[name] and arrivals == capture else b"other" for name in OUTPUTS}
+    return Ending(ran, as_whole)
 
 
 def checked(room, suffix):
@@ -362,7 +376,10 @@ QUICK = [
     Try("statistics that are the arrivals by another name", by_another_name, ("stats", "name"), 6, writing("stats"), after_creation("stats")),
     Try("departures that are the configuration by another name", over, ("departures", "config"), 6, writing("departures"), UNTOUCHED),
     Try("fates that are the departures by another name", over, ("fates", "departures"), 6, writing("fates"), ("empty", "empty", "as before")),
-    Try("all outputs on `/dev/null`", on_device, (), 0, "", ("nothing",) * 3),
+    Try("all outputs on `/dev/null`, by three names as `/dev/./null` (twice the same name is refused: 2 kind 3)", on_device, (), 0, "", ("nothing",) * 3),
+    Try("`play` and `make` with standard input and output closed: `play`", redirected, ("<&- >&-",), 0, "", WHOLE),
+    Try("`play` and `make` with standard input and output closed: `make`", made, ("<&- >&-",), 6, "", WHOLE),
+    Try("`make` with all three standard descriptors closed", made, ("<&- >&- 2>&-",), 6, "", WHOLE),
 ]
 
 DEMANDING = [
@@ -392,8 +409,8 @@ def differences(room, one, found):
         told.append(f"status {found.run.status} for {one.status}")
     if found.run.said != one.said.encode():
         told.append(f"{found.run.said!r} was said")
-    if found.run.complaint:
-        told.append("something stands on standard error")
+    if not is_help(found.run):
+        told.append(f"{found.run.complaint!r} stands on standard error")
     for name, word in zip(OUTPUTS, one.holds):
         held = holding(name, found.outputs[name], room.whole[name], room.capture)
         if held != word and (held, word) != ("nothing", "as before"):

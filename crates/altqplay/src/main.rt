@@ -9,11 +9,18 @@ mod long;
 #[cfg(test)]
 mod plays;
 mod real;
+mod seen;
+mod talk;
 
 use play_cli::{Status, run};
+use play_hints::{OUT_OF_MEMORY, encoding_hint};
 use real::RealFiles;
+use seen::Seen;
+use std::fs::File;
+use std::io::IsTerminal;
+use std::os::fd::AsRawFd;
 use std::process::ExitCode;
-use std::{env, io};
+use std::{env, fs, io};
 
 /// The code of words that are refused: also where one is no UTF-8.
 const REFUSED: u8 = 2;
@@ -37,16 +44,43 @@ fn exit_of(status: Status) -> ExitCode
     ExitCode::from(status.code)
 }
 
+// A standard descriptor that was closed, on `/dev/null`.
+fn reserved(rt: &HostRuntime) -> Option<File> {
+    match fs::open(rt, "/dev/null") {
+        Ok(file) if file.as_raw_fd() <= 2 => Some(file),
+        _ => None,
+    }
+}
+
+// Says on standard error what a person needs after a run. Where it cannot be said the status stays.
+fn say_hint(rt: &HostRuntime, words: &[String], status: Status, seen: &Seen) {
+    let is_terminal = rt.stderr().is_terminal();
+    let _ = match talk::text(rt.alloc(), words, status, seen, is_terminal) {
+        Ok(text) => rt.eprint(text.as_str()),
+        Err(_) => rt.eprint(OUT_OF_MEMORY),
+    };
+}
+
+// The status of words that cannot be had, after what a person needs.
+fn without_words(rt: &HostRuntime, error: io::Error) -> ExitCode {
+    if error.kind() == io::ErrorKind::OutOfMemory {
+        let _ = rt.eprint(OUT_OF_MEMORY);
+        return ExitCode::from(NO_MEMORY);
+    }
+    let _ = rt.eprint(encoding_hint());
+    ExitCode::from(REFUSED)
+}
+
 fn main(rt: HostRuntime) -> io::Result<ExitCode> {
+    // A file of the run may not get the descriptor of a standard stream that is closed: what is said would go into it.
+    let _standard = [reserved(&rt), reserved(&rt), reserved(&rt)];
     let words = match words_of(&rt) {
         Ok(words) => words,
-        Err(error) if error.kind() == io::ErrorKind::OutOfMemory => {
-            return Ok(ExitCode::from(NO_MEMORY));
-        }
-        Err(_) => return Ok(ExitCode::from(REFUSED)),
+        Err(error) => return Ok(without_words(&rt, error)),
     };
     let alloc = rt.alloc();
     let mut files = RealFiles::new(alloc, &rt);
     let status = run(alloc, &words, &mut files);
+    say_hint(&rt, &words, status, files.seen());
     Ok(exit_of(status))
 }

@@ -5,6 +5,7 @@ ghost use Rattle.std.specs.Io.KnownBytes.{Appends, ReadConsumes};
 ghost use Rattle.altqplay.specs.Parts.{AreParts, AddedPart};
 ghost use Rattle.play_base.specs.View.{Rose};
 
+use crate::seen::Seen;
 use play_base::{Files, Trouble};
 use std::alloc::Global;
 use std::fs::{Metadata, OpenFile, OpenOptions};
@@ -21,6 +22,7 @@ pub struct RealFiles<'a, R: rt::Files + Print> {
     files: Vec<R::File>,
     read_faults: [u64; 16],
     write_faults: [u64; 16],
+    seen: Seen,
     ghost paired: { vec_len parts ≡ vec_len files },
     ghost small: { AreParts parts.items },
 }
@@ -33,7 +35,13 @@ impl<'a, R: rt::Files + Print> RealFiles<'a, R> {
             files: Vec::new(alloc),
             read_faults: [0; 16],
             write_faults: [0; 16],
+            seen: Seen::new(alloc),
         }
+    }
+
+    /// What it kept of the run for a message.
+    pub fn seen(&self) -> &Seen {
+        &self.seen
     }
 }
 
@@ -90,7 +98,10 @@ fn emptied<R: rt::Files>(rt: &R, opened: &[R::File], name: &str) -> io::Result<R
     let found = file.metadata()?;
     if found.is_file() {
         if opened.iter().any(|other| is_same(other, &found)) {
-            return Err(io::Error::from(ErrorKind::AlreadyExists));
+            return Err(io::Error::new(
+                ErrorKind::AlreadyExists,
+                "one file with another of these names: give each its own file",
+            ));
         }
         file.set_len(0)?;
     }
@@ -98,40 +109,32 @@ fn emptied<R: rt::Files>(rt: &R, opened: &[R::File], name: &str) -> io::Result<R
 }
 
 // Moves the next bytes of a reader to the front of `into`, and says how many. A failed read is no end.
-fn read_piece<T: Read>(reader: &mut T, into: &mut [u8]) -> Result<usize, Trouble>
+fn read_piece<T: Read>(reader: &mut T, into: &mut [u8]) -> io::Result<usize>
     ensures bound { ReadsAtMost result into.new }
     ensures bytes { ReadConsumes (T.remaining reader.old) (T.remaining reader.new) result into.new }
-    ensures memory { IsErrOf result Trouble.NoMemory → ⊥ }
 {
-    match reader.read(into) {
-        Ok(count) => Ok(count),
-        Err(_) => Err(Trouble::Failed),
-    }
+    reader.read(into)
 }
 
 // Appends a front of the bytes to what a writer holds, and says how long it was, 0 only where there are none. A short write is no
 // whole one.
-fn write_piece<T: Write>(writer: &mut T, bytes: &[u8]) -> Result<usize, Trouble>
+fn write_piece<T: Write>(writer: &mut T, bytes: &[u8]) -> io::Result<usize>
     ensures bound { WritesAtMost result bytes.now }
     ensures bytes { IfOk result (λ n. Appends (T.contents writer.old) (T.contents writer.new) (take n bytes.now)) }
     ensures some { IfOk result (λ n. n ≡ 0 → length bytes.now ≡ 0) }
-    ensures memory { IsErrOf result Trouble.NoMemory → ⊥ }
 {
     match writer.write(bytes) {
         Ok(count) if count > 0 || bytes.is_empty() => Ok(count),
-        _ => Err(Trouble::Failed),
+        Ok(_) => Err(io::Error::from(ErrorKind::WriteZero)),
+        Err(error) => Err(error),
     }
 }
 
 // Appends a whole text to what a writer holds, once.
-fn say_whole<T: Write>(writer: &mut T, text: &[u8]) -> Result<(), Trouble>
+fn say_whole<T: Write>(writer: &mut T, text: &[u8]) -> io::Result<()>
     ensures bytes { OnOk result (Appends (T.contents writer.old) (T.contents writer.new) text.now) }
-    ensures memory { IsErrOf result Trouble.NoMemory → ⊥ }
 {
-    match writer.write_all(text) {
-        Ok(()) => Ok(()),
-        Err(_) => Err(Trouble::Failed),
-    }
+    writer.write_all(text)
 }
 
 impl<'a, R: rt::Files + Print> Files for RealFiles<'a, R> {
@@ -150,7 +153,8 @@ impl<'a, R: rt::Files + Print> Files for RealFiles<'a, R> {
     fn open(&mut self, part: u8, name: &str) -> Result<u32, Trouble> {
         match fs::open(self.rt, name) {
             Ok(file) => add_file(&mut self.parts, &mut self.files, part, file),
-            Err(_) => {
+            Err(error) => {
+                self.seen.keep_error(error);
                 count_fault(&mut self.read_faults, part);
                 Err(Trouble::Failed)
             }
@@ -160,7 +164,8 @@ impl<'a, R: rt::Files + Print> Files for RealFiles<'a, R> {
     fn create(&mut self, part: u8, name: &str) -> Result<u32, Trouble> {
         match emptied(self.rt, &self.files, name) {
             Ok(file) => add_file(&mut self.parts, &mut self.files, part, file),
-            Err(_) => {
+            Err(error) => {
+                self.seen.keep_error(error);
                 count_fault(&mut self.write_faults, part);
                 Err(Trouble::Failed)
             }
@@ -170,10 +175,14 @@ impl<'a, R: rt::Files + Print> Files for RealFiles<'a, R> {
     fn read(&mut self, file: u32, into: &mut [u8]) -> Result<usize, Trouble> {
         let part = part_of(&self.parts, file);
         match read_piece(&mut self.files[file as usize], into) {
-            Ok(count) => Ok(count),
-            Err(trouble) => {
+            Ok(count) => {
+                self.seen.keep_read(part, &into[..count]);
+                Ok(count)
+            }
+            Err(error) => {
+                self.seen.keep_error(error);
                 count_fault(&mut self.read_faults, part);
-                Err(trouble)
+                Err(Trouble::Failed)
             }
         }
     }
@@ -181,10 +190,14 @@ impl<'a, R: rt::Files + Print> Files for RealFiles<'a, R> {
     fn write(&mut self, file: u32, bytes: &[u8]) -> Result<usize, Trouble> {
         let part = part_of(&self.parts, file);
         match write_piece(&mut self.files[file as usize], bytes) {
-            Ok(count) => Ok(count),
-            Err(trouble) => {
+            Ok(count) => {
+                self.seen.keep_written(part, &bytes[..count]);
+                Ok(count)
+            }
+            Err(error) => {
+                self.seen.keep_error(error);
                 count_fault(&mut self.write_faults, part);
-                Err(trouble)
+                Err(Trouble::Failed)
             }
         }
     }
@@ -192,9 +205,10 @@ impl<'a, R: rt::Files + Print> Files for RealFiles<'a, R> {
     fn say(&mut self, text: &[u8]) -> Result<(), Trouble> {
         match say_whole(&mut io::writer(self.rt), text) {
             Ok(()) => Ok(()),
-            Err(trouble) => {
+            Err(error) => {
+                self.seen.keep_error(error);
                 count_fault(&mut self.write_faults, 0);
-                Err(trouble)
+                Err(Trouble::Failed)
             }
         }
     }

@@ -1,13 +1,15 @@
 -- The options as they are built, and what is read of them.
-use Rattle.std.proofs.Common.{◌≡◌, ◌∙◌, ◌⊎◌, ◌&&◌, List, [], ◌∷◌, Option, Some, None, Bool, true, false, Result, Ok, Err, IfErr, IsErrAnd, refl, sym, ap, ap₂, inl, inr, cond, arith, subst, ℕ}
+use Rattle.std.proofs.Common.{◌≡◌, ◌∙◌, ◌⊎◌, ◌&&◌, List, [], ◌∷◌, Option, Some, None, Bool, true, false, Result, Ok, Err, IfErr, IfOk, IsErrAnd, ◌≢◌, refl, sym, ap, ap₂, inl, inr, cond, arith, subst, ℕ}
 use Rattle.std.proofs.lemmas.Bool.{ne_eqb}
 use Rattle.clap.specs.Simple.{is_simple}
 use Rattle.clap.specs.Faults.{is_free_app}
 use Rattle.std.specs.Prelude.{codes, is_none, option_map, unwrap_or}
 use Rattle.std.specs.Borrow.{Bor}
-use Rattle.clap.specs.Kinds.{IsAmong, Kinds}
+use Rattle.clap.specs.Kinds.{FailsBy, IsAmong, Kinds}
 use Rattle.clap.specs.Walk.{is_empty}
-use Rattle.clap.specs.Words.{AddsArg, App, Row, Text, app_of, built, is_simple_and_free, new_app, rule_of, with_rule}
+use Rattle.clap.specs.Words.{AddsArg, App, HasMatchesOf, Row, Text, app_of, built, found_of, is_simple_and_free, kind_of, matches_of, new_app, rows_of, rule_of, with_rule}
+use Rattle.clap.specs.declared.error.Error.{Error}
+use Rattle.clap.specs.declared.parser.matches.ArgMatches.{ArgMatches}
 use Rattle.clap.specs.declared.builder.arg.Arg.{Arg}
 use Rattle.clap.specs.declared.builder.command.Command.{Command}
 use Rattle.clap.specs.declared.error.kind.ErrorKind.{ErrorKind}
@@ -82,6 +84,22 @@ pub refused_by : {T : Type 0} (r : Result T Unread) (kinds : Kinds) (kind : Erro
     → (kind ≡ OutOfMemory) ⊎ IsAmong kind kinds → IfErr r (Explains (cond (is_empty kinds) None (Some 2)))
 refused_by (Ok x) kinds kind e h = tt
 refused_by (Err cause) kinds kind e h = rw e (explained kinds kind h)
+
+-- what clap reads, or its own error
+pub matches_read : (app : App) (texts : List Text) (r : Result ArgMatches Error) → is_simple app ≡ true → IfOk r (HasMatchesOf app texts)
+    → IfOk r (λ m. rows_of (found_of m) ≡ matches_of app texts)
+matches_read app texts (Ok m) simple h = (h simple).0
+matches_read app texts (Err e) simple h = tt
+
+pub matches_refused : (kinds : Kinds) (r : Result ArgMatches Error) → FailsBy kinds r
+    → IfErr r (λ e. kind_of e ≢ OutOfMemory → is_empty kinds ≡ false)
+matches_refused kinds (Ok m) h = tt
+matches_refused kinds (Err e) h = λ other. go kinds (kind_of e) h other
+  where
+    go : (kinds : Kinds) (kind : ErrorKind) → (kind ≡ OutOfMemory) ⊎ IsAmong kind kinds → kind ≢ OutOfMemory → is_empty kinds ≡ false
+    go [] kind (inl e) other = absurd (other e)
+    go [] kind (inr among) other = absurd among
+    go (x ∷ xs) kind h other = ne_eqb _ _ (λ e. omega arith)
 
 -- the options of a command are those of the words
 pub play_rows : (words : Words) (rows : List Row) → IsPlay words → rows ≡ options_of play_app words → rows ≡ rows_read words

@@ -4,4 +4,5 @@
 mod options;
 mod words;
 
-pub use words::{CheckWords, Command, MakeWords, PlayWords, Unread, WordsFault, read_words};
+pub use options::options_read;
+pub use words::{CheckWords, Command, MakeWords, PlayWords, Unread, WordsFault, count, read_words};

@@ -1,11 +1,15 @@
 // The options of each command, read by clap.
-ghost use Rattle.std.specs.Prelude.{◌≡◌, IfOk, IfErr, OnOk, false, true};
+ghost use Rattle.std.specs.Prelude.{◌≡◌, ◌≢◌, ◌⊎◌, IfOk, IfErr, IfSome, None, OnOk, Some, false, true};
+ghost use Rattle.clap.specs.Values.{kind_of};
 ghost use Rattle.clap.specs.Words.{app_of, found_of, is_simple_and_free, rows_of, rule_of};
+ghost use Rattle.clap.specs.declared.error.kind.ErrorKind.TheVariants.{OutOfMemory};
 ghost use Rattle.play_words.specs.Causes.{Explains};
 ghost use Rattle.play_words.specs.Options.{check_app, make_app, options_of, options_refusal, play_app, required_option, takes_options, value_of};
+ghost use Rattle.play_words.specs.Words.{IsCheck, IsMake, IsPlay, refusal, rows_read};
 
 use crate::Unread;
-use clap::{Arg, ArgAction, ArgMatches, Command};
+use crate::words::is;
+use clap::{Arg, ArgAction, ArgMatches, Command, Error};
 use std::alloc::{AllocError, Global};
 
 // An option that has to be given, with one value.
@@ -67,6 +71,39 @@ fn read<'a>(command: Command<'a>, words: &'a [String]) -> Result<ArgMatches<'a>,
     Ok(command.try_get_matches_from(words)?)
 }
 
+// What clap reads of the words by this command, with its own error.
+fn told<'a>(command: Command<'a>, words: &'a [String]) -> Result<ArgMatches<'a>, Error>
+    requires { is_simple_and_free (app_of command) ≡ true }
+    ensures read { IfOk result (λ m. rows_of (found_of m) ≡ options_of (app_of command.entry) words.entry.now) }
+    ensures refused { IfErr result (λ e. kind_of e ≢ OutOfMemory → takes_options (app_of command.entry) words.entry.now ≡ false) }
+{
+    command.try_get_matches_from(words)
+}
+
+/// What clap reads of the options of `play`, with its own error.
+pub(crate) fn play_told<'a>(alloc: Global, words: &'a [String]) -> Result<ArgMatches<'a>, Error>
+    ensures read { IfOk result (λ m. rows_of (found_of m) ≡ options_of play_app words.now) }
+    ensures refused { IfErr result (λ e. kind_of e ≢ OutOfMemory → takes_options play_app words.now ≡ false) }
+{
+    told(play_options(alloc)?, words)
+}
+
+/// What clap reads of the options of `make`, with its own error.
+pub(crate) fn make_told<'a>(alloc: Global, words: &'a [String]) -> Result<ArgMatches<'a>, Error>
+    ensures read { IfOk result (λ m. rows_of (found_of m) ≡ options_of make_app words.now) }
+    ensures refused { IfErr result (λ e. kind_of e ≢ OutOfMemory → takes_options make_app words.now ≡ false) }
+{
+    told(make_options(alloc)?, words)
+}
+
+/// What clap reads of the options of `check`, with its own error.
+pub(crate) fn check_told<'a>(alloc: Global, words: &'a [String]) -> Result<ArgMatches<'a>, Error>
+    ensures read { IfOk result (λ m. rows_of (found_of m) ≡ options_of check_app words.now) }
+    ensures refused { IfErr result (λ e. kind_of e ≢ OutOfMemory → takes_options check_app words.now ≡ false) }
+{
+    told(check_options(alloc)?, words)
+}
+
 /// What clap reads of the options of `play`.
 pub(crate) fn play_matches<'a>(alloc: Global, words: &'a [String]) -> Result<ArgMatches<'a>, Unread>
     ensures taken { OnOk result (takes_options play_app words.now ≡ true) }
@@ -102,4 +139,25 @@ pub(crate) fn value<'a>(matches: &ArgMatches<'a>, name: &str) -> &'a str
     ensures { result.now ≡ value_of name.now (rows_of (found_of matches.now)) }
 {
     matches.get_str(name).unwrap_or("")
+}
+
+/// What clap makes of the options behind the command that the first word names, for a message on them: each value as it was read,
+/// or clap's own error, also where `read_words` refuses the words by a later test. `None` exactly where the first word is no command.
+/// An error is a refusal of the options, or want of memory (`OutOfMemory`). Takes the words' length in time and memory.
+pub fn options_read<'a>(alloc: Global, words: &'a [String]) -> Option<Result<ArgMatches<'a>, Error>>
+    ensures none { result ≡ None → refusal words.now ≡ Some 1 }
+    ensures some { IfSome result (λ _. IsPlay words.now ⊎ IsCheck words.now ⊎ IsMake words.now) }
+    ensures read { IfSome result (λ told. IfOk told (λ m. rows_of (found_of m) ≡ rows_read words.now)) }
+    ensures refused { IfSome result (λ told. IfErr told (λ e. kind_of e ≢ OutOfMemory → refusal words.now ≡ Some 2)) }
+{
+    if is(words, 0, "play") {
+        return Some(play_told(alloc, words));
+    }
+    if is(words, 0, "check") {
+        return Some(check_told(alloc, words));
+    }
+    if is(words, 0, "make") {
+        return Some(make_told(alloc, words));
+    }
+    None
 }

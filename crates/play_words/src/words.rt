@@ -111,7 +111,7 @@ pub enum Command<'a> {
 }
 
 // Whether a word is there and is this text, which isn't empty.
-fn is(words: &[String], i: usize, text: &str) -> bool
+pub(crate) fn is(words: &[String], i: usize, text: &str) -> bool
     requires { 0 < length text.now }
     ensures { result ≡ is_word words.now i text.now }
 {
@@ -151,8 +151,8 @@ fn decimal(text: &str) -> Option<u64>
     whole(&Word { index: 1, parts })
 }
 
-// The count of packets that a text gives.
-fn count(text: &str) -> Option<u32>
+/// The count of packets that a text gives: decimal digits, 1 to 1,000,000. `None` exactly where it is anything else.
+pub fn count(text: &str) -> Option<u32>
     ensures { result ≡ count_in (number 10 text.now) }
 {
     match decimal(text) {

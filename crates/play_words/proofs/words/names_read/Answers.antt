@@ -1,4 +1,4 @@
-use Rattle.std.proofs.Common.{◌≡◌, ◌∙◌, rules, ap, sym}
+use Rattle.std.proofs.Common.{◌∙◌, rules, ap, sym}
 use Rattle.line_text.specs.Numbers.{number}
 use Rattle.play_words.proofs.words.names_read.Goals as goal
 

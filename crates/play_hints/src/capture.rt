@@ -1,0 +1,148 @@
+// What is wrong with a capture.
+
+use crate::printable::{one_line, shown};
+use std::alloc::{AllocError, Global};
+
+// What a file is that begins otherwise than a capture of the classic format: what unpacks or converts it.
+#[derive(Clone, Copy, Debug, PartialEq, Eq)]
+enum Format {
+    Packed(&'static str, &'static str),
+    Pcapng,
+    Modified,
+    Other,
+}
+
+// The format of a file by its first bytes: gzip (RFC 1952), zstd (RFC 8878), xz, bzip2, lz4, pcapng, and the capture format of
+// some old systems, which libpcap reads too.
+fn format_of(head: &[u8]) -> Format {
+    match head {
+        [0x1f, 0x8b, ..] => Format::Packed("gzip", "gzip -dk"),
+        [0x28, 0xb5, 0x2f, 0xfd, ..] => Format::Packed("zstd", "zstd -dk"),
+        [0xfd, b'7', b'z', b'X', ..] => Format::Packed("xz", "xz -dk"),
+        [b'B', b'Z', b'h', ..] => Format::Packed("bzip2", "bzip2 -dk"),
+        [0x04, 0x22, 0x4d, 0x18, ..] => Format::Packed("lz4", "lz4 -dk"),
+        [0x0a, 0x0d, 0x0d, 0x0a, ..] => Format::Pcapng,
+        [0x34, 0xcd, 0xb2, 0xa1, ..] | [0xa1, 0xb2, 0xcd, 0x34, ..] => Format::Modified,
+        _ => Format::Other,
+    }
+}
+
+// What to say of a file that begins with no magic of a capture.
+fn magic_hint(alloc: Global, name: &str, head: &[u8]) -> Result<String, AllocError> {
+    match format_of(head) {
+        Format::Packed(format, tool) => {
+            format!(in alloc; "{name}: {format}: unpack it first: {tool} {name}")
+        }
+        Format::Pcapng => {
+            format!(in alloc;
+                "{name}: pcapng: convert it first: editcap -F nsecpcap {name} out.pcap"
+            )
+        }
+        Format::Modified => {
+            format!(in alloc;
+                "{name}: modified libpcap: convert it first: editcap -F nsecpcap {name} out.pcap"
+            )
+        }
+        Format::Other => {
+            let begin = shown(alloc, head.get(..8).unwrap_or(head))?;
+            format!(in alloc;
+                "{name}: no capture, it begins with \"{begin}\": give a file that tcpdump -w wrote"
+            )
+        }
+    }
+}
+
+// Whether the numbers of a capture stand with the greatest byte first.
+fn is_big(head: &[u8]) -> bool {
+    matches!(head, [0xa1, ..])
+}
+
+// The number of 16 bits at a place.
+fn number_at(head: &[u8], at: usize) -> u16 {
+    match head.get(at..) {
+        Some([first, second, ..]) if is_big(head) => u16::from_be_bytes([*first, *second]),
+        Some([first, second, ..]) => u16::from_le_bytes([*first, *second]),
+        _ => 0,
+    }
+}
+
+// What a link type is called, and how to have Ethernet in its place. The numbers are those of the tcpdump group's list.
+fn link_name(link: u16) -> (&'static str, &'static str) {
+    let one_interface = "capture on one Ethernet interface";
+    match link {
+        0 | 108 => ("BSD loopback", one_interface),
+        9 | 50 => ("PPP", one_interface),
+        12 | 14 | 101 | 228 | 229 => ("raw IP", one_interface),
+        105 | 127 => ("802.11", one_interface),
+        113 => (
+            "Linux cooked",
+            "capture on one interface, not on any: tcpdump -i NAME",
+        ),
+        276 => (
+            "Linux cooked v2",
+            "capture on one interface, not on any: tcpdump -i NAME",
+        ),
+        _ => ("no Ethernet", one_interface),
+    }
+}
+
+// What to say of a capture of another link type, whose head has both bytes of the lower half.
+fn link_hint(alloc: Global, name: &str, head: &[u8]) -> Result<String, AllocError> {
+    let at = if is_big(head) { 22 } else { 20 };
+    let link = number_at(head, at);
+    let (called, remedy) = link_name(link);
+    format!(in alloc; "{name}: link type {link}, {called}: need 1, Ethernet: {remedy}")
+}
+
+// What to say of a damage by its kind.
+fn damage_line(
+    alloc: Global,
+    name: &str,
+    head: &[u8],
+    place: u64,
+    kind: u8,
+) -> Result<String, AllocError> {
+    match kind {
+        1 => {
+            format!(in alloc;
+                "{name}: {place} bytes, a capture has 24 at least: was it written to its end?"
+            )
+        }
+        2 => magic_hint(alloc, name, head),
+        3 => {
+            let (major, minor) = (number_at(head, 4), number_at(head, 6));
+            format!(in alloc;
+                "{name}: version {major}.{minor}: need 2.4: editcap -F nsecpcap {name} out.pcap"
+            )
+        }
+        4 => link_hint(alloc, name, head),
+        5 => {
+            format!(in alloc;
+                "{name}: the record at byte {place} is cut: all before it was decided; statistics stay empty"
+            )
+        }
+        6 => {
+            format!(in alloc;
+                "{name}: the record at byte {place} has no length: all before it was decided; statistics stay empty"
+            )
+        }
+        _ => {
+            format!(in alloc;
+                "{name}: the record at byte {place} is longer than 262144 bytes: all before it was decided; is the file damaged?"
+            )
+        }
+    }
+}
+
+/// What to say of a capture with a damage at a place, of a kind of status 4, by its first bytes, of which 24 tell all. `Err` comes
+/// only where there is no memory.
+pub fn capture_hint(
+    alloc: Global,
+    name: &str,
+    head: &[u8],
+    place: u64,
+    kind: u8,
+) -> Result<String, AllocError> {
+    let line = damage_line(alloc, name, head, place, kind)?;
+    one_line(alloc, line.as_str())
+}

@@ -1,0 +1,73 @@
+// Which option a word belongs to, by the table of options.
+
+use conf_lines::{Key, MOST_BEND, MOST_RATE, Slots};
+use line_text::Word;
+
+// The options with something behind them.
+const KEYS: [Key; 21] = [
+    Key::Bandwidth,
+    Key::Exactbandwidth,
+    Key::Tbrsize,
+    Key::Sc,
+    Key::Rt,
+    Key::Ls,
+    Key::Ul,
+    Key::Pshare,
+    Key::Grate,
+    Key::Priority,
+    Key::Pbandwidth,
+    Key::Maxburst,
+    Key::Packetsize,
+    Key::Qlimit,
+    Key::Ruleno,
+    Key::Netmask,
+    Key::Tos,
+    Key::Tosmask,
+    Key::Tclass,
+    Key::Tclassmask,
+    Key::Admission,
+];
+
+// What is wanted at a word.
+#[derive(Clone, Copy, Debug, PartialEq, Eq)]
+pub(crate) enum Wanted {
+    Rate(u64, u64),
+    Whole(u64, u64),
+    Other,
+}
+
+// The option of a word.
+fn key_of(word: &Word) -> Option<Key> {
+    for key in KEYS {
+        if key.word().as_bytes() == word.parts {
+            return Some(key);
+        }
+    }
+    None
+}
+
+// What is wanted so many words behind an option.
+fn behind(key: Key, back: usize) -> Option<Wanted> {
+    match (key.slots(), back) {
+        (Slots::Rate(low, high), 1) => Some(Wanted::Rate(low, high)),
+        (Slots::Whole(low, high), 1) => Some(Wanted::Whole(low, high)),
+        (Slots::Curve(low, _), 1) => Some(Wanted::Rate(low, MOST_RATE)),
+        (Slots::Curve(_, _), 2) => Some(Wanted::Whole(0, MOST_BEND)),
+        (Slots::Curve(_, low), 3) => Some(Wanted::Rate(low, MOST_RATE)),
+        _ => None,
+    }
+}
+
+// What is wanted at the word at a place of a line, by the nearest option before it.
+pub(crate) fn want_at(words: &[Word], at: usize) -> Wanted {
+    for back in 1usize..=3 {
+        let key = match words.get(at.wrapping_sub(back)) {
+            Some(word) => key_of(word),
+            None => None,
+        };
+        if let Some(key) = key {
+            return behind(key, back).unwrap_or(Wanted::Other);
+        }
+    }
+    Wanted::Other
+}
