@@ -10,4 +10,3 @@ pub mod Link
 pub mod Play
 pub mod Policies
 pub mod Rows
-pub mod Texts

@@ -1,5 +1,5 @@
 -- Worked examples.
-use Rattle.std.specs.Prelude.{ℕ, List, [], ◌∷◌, ◌++◌, drop, replicate, codes, if◌then◌else◌}
+use Rattle.std.specs.Prelude.{ℕ, List, [], ◌∷◌, ◌++◌, drop, replicate, if◌then◌else◌}
 use Rattle.altq_model.specs.declared.Placed.{Placed}
 use Rattle.altq_model.specs.declared.Counts.{Counts}
 use Rattle.altq_model.specs.declared.Rule.TheVariants.{Share}
@@ -11,15 +11,11 @@ use Rattle.altq_model.specs.Departures.{Dressing, departures}
 use Rattle.altq_model.specs.History.{Decision, Happened, journal}
 use Rattle.altq_model.specs.Play.{Policy, play}
 use Rattle.altq_model.specs.Policies.{one_queue, strict}
-use Rattle.altq_model.specs.Texts.{fate_rows}
 use Rattle.capture_model.specs.Rows.{plain}
 
 -- every frame is of the one class
 abbrev pub one_mark : List ℕ → Placed
 one_mark frame = record { class = 1; prec = 0 }
-
-abbrev pub default_name : ℕ → List ℕ
-default_name class = codes "default"
 
 abbrev pub play_of : Policy → (rate : ℕ) → List Record → List Happened
 play_of p rate records = play p rate 42 (comings (arrivals_of one_mark records))
@@ -27,10 +23,6 @@ play_of p rate records = play p rate 42 (comings (arrivals_of one_mark records))
 -- the journal of these records, played through one queue of 50
 abbrev pub journal_of : (rate : ℕ) → List Record → List Decision
 journal_of rate records = journal (play_of (one_queue 50) rate records)
-
--- the rows of its fates, without their header
-abbrev pub rows_of : (rate : ℕ) → List Record → List ℕ
-rows_of rate records = fate_rows default_name (arrivals_of one_mark records) (journal_of rate records)
 
 abbrev pub counts_in : (rate : ℕ) → List Record → Counts
 counts_in rate records = counts_of_all (arrivals_of one_mark records) (journal_of rate records)
@@ -61,7 +53,3 @@ three_packets = replicate 3 (plain 0 100)
 -- 51 packets of length 100 at 0
 abbrev pub many_packets : List Record
 many_packets = replicate 51 (plain 0 100)
-
--- a row of the fates
-abbrev pub line : List ℕ → List ℕ
-line text = text ++ 10 ∷ []

@@ -1,17 +1,14 @@
 // Worked examples, computed by the checker from the definitions.
-ghost use Rattle.std.specs.Prelude.{◌≡◌, ◌∷◌, ◌++◌, [], take, drop, codes, List, ℕ};
+ghost use Rattle.std.specs.Prelude.{◌≡◌, ◌∷◌, ◌++◌, [], take, drop, List, ℕ};
 ghost use Rattle.capture_model.specs.Header.{capture_header};
 ghost use Rattle.altq_model.specs.Policies.{one_queue};
-ghost use Rattle.altq_model.specs.Rows.{journal_of, rows_of, counts_in, departures_of, marking, line, one_packet, three_packets, many_packets, capable_packet};
+ghost use Rattle.altq_model.specs.Rows.{journal_of, counts_in, departures_of, marking, one_packet, three_packets, many_packets, capable_packet};
 
 use crate::{Counts, Fate, Reason, Rule};
 
 /// Worked examples of one queue of 50 packets: what the definitions make of them.
 pub fn worked_examples()
     ensures empty_capture { departures_of (one_queue 50) 8000000 [] ≡ capture_header }
-    ensures empty_fates { rows_of 8000000 [] ≡ [] }
-    ensures one_packet_at_five_seconds { rows_of 8000000 one_packet
-        ≡ line (codes "1,5000000000,1000,default,share,5000000000,5001000000") }
     ensures one_departure { take 16 (drop 24 (departures_of (one_queue 50) 8000000 one_packet))
         ≡ 5 ∷ 0 ∷ 0 ∷ 0 ∷ 64 ∷ 66 ∷ 15 ∷ 0 ∷ 60 ∷ 0 ∷ 0 ∷ 0 ∷ 232 ∷ 3 ∷ 0 ∷ 0 ∷ [] }
     ensures fraction_is_carried_in_a_run { journal_of 3000000 three_packets

@@ -5,7 +5,7 @@ use Rattle.std.proofs.lemmas.Bool.{cases_lt}
 use Rattle.leaf_queue.specs.Queue.{QueueEvent, Saying}
 use Rattle.leaf_queue.specs.declared.node.Entry.{Entry}
 use Rattle.class_rows.specs.Rows.{Rowed, Told, answering, classes_in, holding, list_in}
-use Rattle.discipline_laws.specs.Laws.{seen}
+use Rattle.discipline.specs.Laws.{seen}
 use Rattle.cbq_estimator.specs.Estimate.{Estimate}
 use Rattle.cbq_model.specs.declared.CbqClass.{CbqClass}
 use Rattle.cbq_model.specs.Tree.{each_from, no_class, numbers, quantum_of}

@@ -9,9 +9,9 @@ use Rattle.altq_model.specs.Play.{Choice, IsOneOf}
 use Rattle.play_base.specs.declared.packet.Ticket.{Ticket}
 use Rattle.leaf_queue.specs.declared.node.Entry.{Entry}
 use Rattle.link_clock.specs.Clock.{Clock}
-use Rattle.discipline_laws.specs.declared.pick.Pick.{Pick}
-use Rattle.discipline_laws.specs.declared.pick.Pick.TheVariants.{Send, Wait, Empty}
-use Rattle.discipline_laws.specs.Laws.{IsLeast, NamesHead, Sends, Waits}
+use Rattle.discipline.specs.declared.pick.Pick.{Pick}
+use Rattle.discipline.specs.declared.pick.Pick.TheVariants.{Send, Wait, Empty}
+use Rattle.discipline.specs.Laws.{IsLeast, NamesHead, Sends, Waits}
 use Rattle.cbq_model.specs.declared.CbqClass.{CbqClass}
 use Rattle.cbq_model.specs.declared.Rank.{Rank}
 use Rattle.cbq_model.specs.Choice.{Situation, able, allows_in, best, choice_of, class_in, head_in, may, picked, rank_in}

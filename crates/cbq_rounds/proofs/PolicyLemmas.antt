@@ -10,8 +10,8 @@ use Rattle.leaf_queue.specs.declared.node.Entry.{Entry}
 use Rattle.leaf_queue.specs.Queue.{QueueEvent, Saying}
 use Rattle.link_clock.specs.Clock.{Clock}
 use Rattle.class_rows.specs.Rows.{list_in}
-use Rattle.discipline_laws.specs.declared.pick.Pick.{Pick}
-use Rattle.discipline_laws.specs.Laws.{IsDue, seen, seen_of}
+use Rattle.discipline.specs.declared.pick.Pick.{Pick}
+use Rattle.discipline.specs.Laws.{IsDue, seen, seen_of}
 use Rattle.cbq_estimator.specs.Estimate.{Estimate}
 use Rattle.cbq_model.specs.declared.CbqClass.{CbqClass}
 use Rattle.cbq_model.specs.Choice.{Situation, choice_of, least_of, own_start, start_of, start_with}

@@ -5,8 +5,8 @@ use Rattle.std.specs.Prelude.{if◌then◌else◌}
 use Rattle.std.proofs.lemmas.Bool.{cases_eq, cases_lt, eq-eqb, eqb-true, ne_eqb}
 use Rattle.leaf_queue.specs.declared.node.Entry.{Entry}
 use Rattle.link_clock.specs.Clock.{Clock}
-use Rattle.discipline_laws.specs.declared.pick.Pick.TheVariants.{Send}
-use Rattle.discipline_laws.specs.declared.pick.Sending.{Sending}
+use Rattle.discipline.specs.declared.pick.Pick.TheVariants.{Send}
+use Rattle.discipline.specs.declared.pick.Sending.{Sending}
 use Rattle.cbq_model.specs.declared.CbqClass.{CbqClass}
 use Rattle.cbq_model.specs.declared.Rank.{Rank}
 use Rattle.cbq_model.specs.Tree.{class_of}

@@ -10,7 +10,7 @@ use Rattle.cbq_estimator.specs.Estimate.{Estimate}
 use Rattle.cbq_estimator.specs.Now.{after_end, estimate_of}
 use Rattle.cbq_estimator.proofs.Now as now
 use Rattle.leaf_queue.specs.declared.node.Entry.{Entry}
-use Rattle.discipline_laws.specs.Laws.{seen, seen_of}
+use Rattle.discipline.specs.Laws.{seen, seen_of}
 use Rattle.cbq_model.specs.declared.CbqClass.{CbqClass}
 use Rattle.cbq_model.specs.Rounds.{ends, estimates}
 use Rattle.cbq_model.specs.Tree.{class_of, each, each_from, is_under, pace_of, path_up}

@@ -14,10 +14,10 @@ use Rattle.leaf_queue.specs.Queue.{QueueEvent, Saying}
 use Rattle.leaf_queue.specs.declared.node.Entry.{Entry}
 use Rattle.class_rows.specs.Rows.{Answers, Rowed, SameRow, Told, answering, classes_in, holding, list_in}
 use Rattle.class_rows.proofs.RowLemmas.{holding_distinct}
-use Rattle.discipline_laws.specs.declared.pick.Pick.TheVariants.{Send}
-use Rattle.discipline_laws.specs.declared.pick.Sending.{Sending}
-use Rattle.discipline_laws.specs.Laws.{AreDistinct, after_offer, after_sent, IsAnswer, coming, entry, offer_of, sent_of}
-use Rattle.discipline_laws.specs.Moments.{IsChoice, IsOffer, IsOrderly, WasDue}
+use Rattle.discipline.specs.declared.pick.Pick.TheVariants.{Send}
+use Rattle.discipline.specs.declared.pick.Sending.{Sending}
+use Rattle.discipline.specs.Laws.{AreDistinct, after_offer, after_sent, IsAnswer, coming, entry, offer_of, sent_of}
+use Rattle.discipline.specs.Moments.{IsChoice, IsOffer, IsOrderly, WasDue}
 use Rattle.link_clock.specs.Clock.{Clock}
 use Rattle.play_laws.proofs.LinkLemmas.{end_later}
 use Rattle.cbq_estimator.specs.Estimate.{Estimate}

@@ -5,8 +5,8 @@ use Rattle.std.specs.Prelude.{◌&&◌, if◌then◌else◌, is_none, slice_get}
 use Rattle.std.proofs.lemmas.Bool.{cases_eq, cases_lt, eq-eqb, ne_eqb}
 use Rattle.altq_model.specs.declared.Verdict.{Verdict}
 use Rattle.altq_model.specs.History.{is_kept}
-use Rattle.discipline_laws.specs.Laws.{after_offer, after_sent}
-use Rattle.discipline_laws.specs.declared.pick.Sending.{Sending}
+use Rattle.discipline.specs.Laws.{after_offer, after_sent}
+use Rattle.discipline.specs.declared.pick.Sending.{Sending}
 use Rattle.leaf_queue.specs.declared.node.Entry.{Entry}
 use Rattle.link_clock.specs.Clock.{Clock}
 use Rattle.cbq_rounds.specs.Gained.{HasGained, gained_by, with_gains}

@@ -5,8 +5,8 @@ use Rattle.cbq_model.specs.Choice.{choice_of}
 use Rattle.cbq_model.specs.Tree.{each}
 use Rattle.leaf_queue.specs.declared.node.Entry.{Entry}
 use Rattle.link_clock.specs.Clock.{Clock}
-use Rattle.discipline_laws.specs.declared.pick.Pick.{Pick}
-use Rattle.discipline_laws.specs.declared.pick.Pick.TheVariants.{Send, Wait, Empty}
+use Rattle.discipline.specs.declared.pick.Pick.{Pick}
+use Rattle.discipline.specs.declared.pick.Pick.TheVariants.{Send, Wait, Empty}
 use Rattle.cbq_rounds.specs.Shared.{Shared, head_len, situation_in, start_now_in}
 
 -- the first of some moments

@@ -3,7 +3,7 @@ use Rattle.std.specs.Prelude.{◌≡◌, ◌≤◌, ◌<◌, ℕ, List, length, 
 use Rattle.altq_model.specs.History.{Transmission}
 use Rattle.leaf_queue.specs.declared.node.Entry.{Entry}
 use Rattle.link_clock.specs.Clock.{Clock}
-use Rattle.discipline_laws.specs.declared.pick.Sending.{Sending}
+use Rattle.discipline.specs.declared.pick.Sending.{Sending}
 use Rattle.cbq_model.specs.Choice.{candidates}
 use Rattle.cbq_model.specs.Rounds.{gained, rounds_needed}
 use Rattle.cbq_model.specs.Tree.{each}

@@ -6,8 +6,8 @@ use Rattle.altq_model.specs.Link.{link}
 use Rattle.altq_model.specs.Play.{Policy}
 use Rattle.leaf_queue.specs.Queue.{QueueEvent, Saying}
 use Rattle.class_rows.specs.Rows.{Rowed, Told, answering, classes_in, list_in}
-use Rattle.discipline_laws.specs.Laws.{AreDistinct}
-use Rattle.discipline_laws.specs.Moments.{IsOrderly}
+use Rattle.discipline.specs.Laws.{AreDistinct}
+use Rattle.discipline.specs.Moments.{IsOrderly}
 use Rattle.cbq_model.specs.Capped.{AreSendings}
 use Rattle.cbq_model.specs.Rounds.{cbq, credits, cursors, estimates}
 use Rattle.cbq_model.specs.Tree.{numbers}

@@ -19,7 +19,7 @@ use crate::waiting::Waiting;
 use altq_model::{Rule, Verdict};
 use cbq_model::CbqClass;
 use class_rows::Rows;
-use discipline_laws::{Discipline, Pick, Sending};
+use discipline::{Discipline, Pick, Sending};
 use leaf_queue::{Entry, QueueRule, Words};
 use link_clock::LinkClock;
 use play_base::{NoMemory, Ticket};

@@ -1,7 +1,7 @@
 // What the candidates of a sending gain.
 ghost use Rattle.std.specs.Prelude.{◌≡◌, ◌≤◌, ◌<◌, ◌^◌, ℕ, [], length};
 ghost use Rattle.class_rows.specs.Rows.{list_in};
-ghost use Rattle.discipline_laws.specs.declared.pick.Pick.{Pick};
+ghost use Rattle.discipline.specs.declared.pick.Pick.{Pick};
 ghost use Rattle.cbq_rounds.specs.Due.{due_in};
 ghost use Rattle.cbq_rounds.specs.Looked.{AreSized};
 ghost use Rattle.cbq_rounds.specs.Gained.{with_gains};
@@ -12,7 +12,7 @@ use crate::rings::Rings;
 use crate::sharing::Shares;
 use crate::waiting::Waiting;
 use class_rows::Rows;
-use discipline_laws::Sending;
+use discipline::Sending;
 use leaf_queue::QueueRule;
 use link_clock::LinkClock;
 

@@ -6,7 +6,7 @@ ghost use Rattle.cbq_model.specs.Tree.{class_of};
 ghost use Rattle.cbq_rounds.specs.Kept.{IsOwnStretch};
 
 use crate::Cbq;
-use discipline_laws::Discipline;
+use discipline::Discipline;
 use leaf_queue::QueueRule;
 
 /// In each history that CBQ stands for, a class without children that is not the root keeps to its rate while it does not borrow: within

@@ -16,5 +16,5 @@ mod waiting;
 
 pub use cbq::Cbq;
 pub use cbq_model::CbqClass;
-pub use discipline_laws::{Discipline, Pick, Rule, Sending, Verdict};
+pub use discipline::{Discipline, Pick, Rule, Sending, Verdict};
 pub use laws::classes_keep_their_rates;

@@ -14,7 +14,7 @@ use Rattle.leaf_queue.specs.declared.node.Entry.{Entry}
 use Rattle.leaf_queue.specs.Lists.{Listed, list_of, precs_in}
 use Rattle.leaf_queue.specs.Words.{Drew}
 use Rattle.leaf_queue.specs.Queue.{QueueEvent, Asked, Saying, by_queue, by_queues, queue_at, told_of, waiting_of, precs_of}
-use Rattle.discipline_laws.specs.Laws.{seen, seen_of, after_offer, after_sent, coming, held_in, room_of}
+use Rattle.discipline.specs.Laws.{seen, seen_of, after_offer, after_sent, coming, held_in, room_of}
 use Rattle.class_rows.specs.Leaf.{after_verdict, gone, HasPrecs}
 use Rattle.class_rows.specs.Rows.{Answers, Fit, IsRow, Rowed, RowsStand, SameRow, Told, answering, classes_in, limit_at, limit_in, limits_sum, list_at, list_in}
 use Rattle.class_rows.proofs.ShowsLemmas.{shows_offered, shows_sent, seen_precs, told_here, told_there, gone_here, gone_there, seen-offer, seen-sent}

@@ -12,7 +12,7 @@ use Rattle.leaf_queue.proofs.Linking.{once_same, once_other}
 use Rattle.leaf_queue.specs.declared.node.Entry.{Entry}
 use Rattle.leaf_queue.specs.Lists.{list_of, total_of}
 use Rattle.leaf_queue.specs.Queue.{QueueEvent}
-use Rattle.discipline_laws.specs.Laws.{AreDistinct, Shows, tickets, seen, held_in, room_of}
+use Rattle.discipline.specs.Laws.{AreDistinct, Shows, tickets, seen, held_in, room_of}
 use Rattle.class_rows.specs.Leaf.{after_verdict, HasPrecs}
 use Rattle.class_rows.specs.Rows.{Fit, RowsStand, holding, limit_at, limits_of, limits_sum, list_at, most_of}
 

@@ -8,7 +8,7 @@ use Rattle.altq_model.specs.History.{Coming, DrawnWords, Answer, Event, Offered,
 use Rattle.leaf_queue.specs.declared.node.Entry.{Entry}
 use Rattle.leaf_queue.specs.Lists.{precs_in}
 use Rattle.leaf_queue.specs.Queue.{QueueEvent, Asked, Gone, waiting_of, precs_of, told_of, head_gone}
-use Rattle.discipline_laws.specs.Laws.{Shows, tickets, seen, seen_of, after_offer, after_sent}
+use Rattle.discipline.specs.Laws.{Shows, tickets, seen, seen_of, after_offer, after_sent}
 use Rattle.class_rows.specs.Leaf.{gone}
 
 tickets-append : (xs : List Entry) (x : Entry) → tickets (xs ++ x ∷ []) ≡ tickets xs ++ x.ticket.0 ∷ []

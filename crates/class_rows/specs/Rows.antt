@@ -8,7 +8,7 @@ use Rattle.leaf_queue.specs.declared.node.Entry.{Entry}
 use Rattle.leaf_queue.specs.Lists.{Listed}
 use Rattle.leaf_queue.specs.Words.{Drew}
 use Rattle.leaf_queue.specs.Queue.{QueueEvent, Saying, by_queues, told_of}
-use Rattle.discipline_laws.specs.Laws.{Shows, coming, seen, seen_of}
+use Rattle.discipline.specs.Laws.{Shows, coming, seen, seen_of}
 use Rattle.class_rows.specs.Leaf.{HasPrecs}
 
 -- the numbers of the queue classes of a list whose first class has the number c

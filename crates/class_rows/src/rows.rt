@@ -3,7 +3,7 @@ ghost use Rattle.std.specs.Prelude.{◌≡◌, ◌≤◌, ◌<◌, ◌+◌, ◌-
 ghost use Rattle.altq_model.specs.declared.Reason.{Reason};
 ghost use Rattle.altq_model.specs.Lawful.{IsOneOf};
 ghost use Rattle.altq_model.specs.History.{Happened, Sent, Transmission};
-ghost use Rattle.discipline_laws.specs.Laws.{after_offer, after_sent, held_in, room_of};
+ghost use Rattle.discipline.specs.Laws.{after_offer, after_sent, held_in, room_of};
 ghost use Rattle.class_rows.specs.Rows.{Answers, IsNew, IsOther, IsRow, Rowed, SameRow, Told, classes_in, holding, limit_in, limits_of, limits_sum, list_in, most_of};
 
 use crate::leaf::{offer_to, take_from};

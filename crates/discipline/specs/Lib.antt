@@ -1,3 +1,2 @@
-pub mod Paced
-pub mod Plain
-pub mod Strict
+pub mod Laws
+pub mod Moments

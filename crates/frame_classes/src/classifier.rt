@@ -7,7 +7,7 @@ ghost use Rattle.packet_heads.specs.Heads.{flow_of};
 use crate::handling::{Handling, handling_at, handlings};
 use altq_model::Placed;
 use conf_tree::Interface;
-use discipline_laws::Classify;
+use discipline::Classify;
 use flow_filter::Filters;
 use packet_heads::{FlowHeads, dress, flow, precedence, precedence_of, tos};
 use play_base::NoMemory;

@@ -11,5 +11,5 @@ mod rows;
 
 pub use classifier::Classifier;
 pub use handling::Handling;
-pub use laws::frames_have_classes;
+pub use laws::{flows_have_classes, frames_have_classes};
 pub use rows::worked_examples;

@@ -2,7 +2,7 @@
 use altq_model::Placed;
 use conf_lines::statements;
 use conf_tree::Conf;
-use discipline_laws::Classify;
+use discipline::Classify;
 use frame_classes::Classifier;
 use std::alloc::Global;
 use std::test::Fail;

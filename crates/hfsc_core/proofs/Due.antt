@@ -4,9 +4,9 @@ use Rattle.std.specs.Prelude.{◌↔◌, slice_get}
 use Rattle.altq_model.specs.declared.Rule.{Rule}
 use Rattle.altq_model.specs.declared.Rule.TheVariants.{RealTime, Share}
 use Rattle.leaf_queue.specs.declared.node.Entry.{Entry}
-use Rattle.discipline_laws.specs.declared.pick.Pick.TheVariants.{Empty}
+use Rattle.discipline.specs.declared.pick.Pick.TheVariants.{Empty}
 use Rattle.altq_model.specs.History.{Coming, Happened, bare, waiting}
-use Rattle.discipline_laws.specs.Laws.{IsLeast, NamesHead, Sends, Shows, Waits, seen, seen_of}
+use Rattle.discipline.specs.Laws.{IsLeast, NamesHead, Sends, Shows, Waits, seen, seen_of}
 use Rattle.hfsc_policy.specs.Events.{hfsc_history}
 use Rattle.hfsc_policy.proofs.Histories.{waits_head}
 use Rattle.hfsc_model.specs.declared.HfscClass.{HfscClass}

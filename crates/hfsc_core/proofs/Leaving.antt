@@ -11,10 +11,10 @@ use Rattle.play_base.specs.declared.packet.Ticket.{Ticket}
 use Rattle.link_clock.specs.Clock.{Clock}
 use Rattle.leaf_queue.specs.declared.node.Entry.{Entry}
 use Rattle.leaf_queue.specs.Queue.{QueueEvent, Saying}
-use Rattle.discipline_laws.specs.declared.pick.Pick.TheVariants.{Send}
-use Rattle.discipline_laws.specs.declared.pick.Sending.{Sending}
-use Rattle.discipline_laws.specs.Laws.{after_sent, sent_of}
-use Rattle.discipline_laws.specs.Moments.{IsChoice, IsOrderly, WasDue}
+use Rattle.discipline.specs.declared.pick.Pick.TheVariants.{Send}
+use Rattle.discipline.specs.declared.pick.Sending.{Sending}
+use Rattle.discipline.specs.Laws.{after_sent, sent_of}
+use Rattle.discipline.specs.Moments.{IsChoice, IsOrderly, WasDue}
 use Rattle.class_rows.specs.Rows.{Rowed, SameRow, Told, answering, list_in}
 use Rattle.hfsc_model.specs.declared.HfscClass.{HfscClass}
 use Rattle.hfsc_model.specs.Event.{HfscHistory}

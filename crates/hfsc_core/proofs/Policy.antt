@@ -8,7 +8,7 @@ use Rattle.altq_model.specs.Play.{Policy, IsOneOf, lesser}
 use Rattle.altq_model.specs.Policies.{Answering}
 use Rattle.altq_model.specs.Lawful.{first_at, start_at}
 use Rattle.leaf_queue.specs.declared.node.Entry.{Entry}
-use Rattle.discipline_laws.specs.Laws.{IsDue}
+use Rattle.discipline.specs.Laws.{IsDue}
 use Rattle.hfsc_model.specs.declared.HfscClass.{HfscClass}
 use Rattle.hfsc_model.specs.Leaf.{leaf, is_waiting}
 use Rattle.hfsc_model.specs.RealTime.{has_come}

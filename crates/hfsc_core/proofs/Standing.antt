@@ -8,8 +8,8 @@ use Rattle.altq_model.specs.Policies.{Answering}
 use Rattle.play_base.specs.declared.packet.Ticket.{Ticket}
 use Rattle.leaf_queue.specs.declared.node.Entry.{Entry}
 use Rattle.leaf_queue.specs.Queue.{QueueEvent, Saying}
-use Rattle.discipline_laws.specs.Laws.{IsAnswer, seen, seen_of, after_offer, after_sent, coming, entry, offer_of}
-use Rattle.discipline_laws.specs.Moments.{IsOffer, IsOrderly}
+use Rattle.discipline.specs.Laws.{IsAnswer, seen, seen_of, after_offer, after_sent, coming, entry, offer_of}
+use Rattle.discipline.specs.Moments.{IsOffer, IsOrderly}
 use Rattle.class_rows.specs.Rows.{Answers, Rowed, SameRow, answering, classes_in, holding, list_in}
 use Rattle.hfsc_model.specs.declared.HfscClass.{HfscClass}
 use Rattle.hfsc_model.specs.Event.{HfscHistory, Kept, Sent}

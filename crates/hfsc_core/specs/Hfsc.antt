@@ -7,9 +7,9 @@ use Rattle.altq_model.specs.Lawful.{latest}
 use Rattle.altq_model.specs.Play.{Policy}
 use Rattle.leaf_queue.specs.declared.node.Entry.{Entry}
 use Rattle.leaf_queue.specs.Queue.{QueueEvent, Saying}
-use Rattle.discipline_laws.specs.declared.pick.Pick.{Pick}
-use Rattle.discipline_laws.specs.declared.pick.Pick.TheVariants.{Send, Wait, Empty}
-use Rattle.discipline_laws.specs.Moments.{IsOrderly}
+use Rattle.discipline.specs.declared.pick.Pick.{Pick}
+use Rattle.discipline.specs.declared.pick.Pick.TheVariants.{Send, Wait, Empty}
+use Rattle.discipline.specs.Moments.{IsOrderly}
 use Rattle.class_rows.specs.Rows.{Rowed, Told, answering, classes_in, list_in}
 use Rattle.hfsc_model.specs.Event.{HfscHistory}
 use Rattle.hfsc_model.specs.Leaf.{Waiting, leaf}

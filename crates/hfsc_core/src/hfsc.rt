@@ -13,7 +13,7 @@ use crate::HfscClass;
 use crate::chooser::{Chooser, Chosen};
 use crate::leaves::leaves_of;
 use class_rows::Rows;
-use discipline_laws::{Discipline, Pick, Rule, Sending, Verdict};
+use discipline::{Discipline, Pick, Rule, Sending, Verdict};
 use leaf_queue::{Entry, QueueRule, Words};
 use link_clock::LinkClock;
 use play_base::{NoMemory, Ticket};

@@ -13,7 +13,7 @@ use Rattle.hfsc_model.specs.Share.{total}
 use Rattle.hfsc_model.specs.Limit.{arrivals_of}
 use Rattle.service_curve.specs.declared.Curve.{Curve}
 use Rattle.runtime_curve.specs.Deadline.{later_of}
-use Rattle.discipline_laws.specs.Laws.{AreDistinct}
+use Rattle.discipline.specs.Laws.{AreDistinct}
 use Rattle.hfsc_model.specs.RealTime.{curve_of, has_come}
 use Rattle.hfsc_model.specs.Choice.{may_send, choice, Choice as Chosen}
 use Rattle.play_laws.proofs.LawfulLemmas.{when_lawful, when_steady}

@@ -8,7 +8,7 @@ use Rattle.altq_model.specs.Lawful.{AreRising}
 use Rattle.altq_model.specs.Link.{link, HasLinkEnds}
 use Rattle.altq_model.specs.Play.{Policy, Choice, AreDue}
 use Rattle.altq_model.specs.Policies.{Answering}
-use Rattle.discipline_laws.specs.Moments.{StartsBy}
+use Rattle.discipline.specs.Moments.{StartsBy}
 use Rattle.play_laws.specs.Events.{IsOffer, IsSending}
 use Rattle.play_laws.proofs.AllLaws.{due_laws}
 use Rattle.play_laws.proofs.BusyLemmas.{is_busy}

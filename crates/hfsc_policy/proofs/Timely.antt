@@ -12,7 +12,7 @@ use Rattle.altq_model.specs.Link.{Link, link, after_sending, run_on, HasLinkEnds
 use Rattle.altq_model.specs.Play.{Policy, Choice, IsOneOf, lesser}
 use Rattle.altq_model.specs.Policies.{Answering}
 use Rattle.link_clock.proofs.Rounded.{ceil_le}
-use Rattle.discipline_laws.specs.Moments.{StartsBy, IsOrderly}
+use Rattle.discipline.specs.Moments.{StartsBy, IsOrderly}
 use Rattle.hfsc_model.specs.declared.HfscClass.{HfscClass}
 use Rattle.hfsc_model.specs.Event.{HfscHistory, Kept}
 use Rattle.hfsc_model.specs.Leaf.{leaf}

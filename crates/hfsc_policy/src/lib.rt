@@ -14,8 +14,8 @@ ghost use Rattle.altq_model.specs.Lawful.{AreRising, IsLawful, IsSteady, NeverWa
 ghost use Rattle.altq_model.specs.Link.{HasLinkEnds};
 ghost use Rattle.altq_model.specs.Play.{AreDue};
 ghost use Rattle.altq_model.specs.Policies.{Answering};
-ghost use Rattle.discipline_laws.specs.Laws.{AreDistinct};
-ghost use Rattle.discipline_laws.specs.Moments.{IsOrderly};
+ghost use Rattle.discipline.specs.Laws.{AreDistinct};
+ghost use Rattle.discipline.specs.Moments.{IsOrderly};
 ghost use Rattle.hfsc_model.specs.declared.HfscClass.{HfscClass};
 ghost use Rattle.hfsc_model.specs.Choice.{may_send};
 ghost use Rattle.hfsc_model.specs.Event.{HfscHistory};

@@ -2,14 +2,14 @@
 ghost use Rattle.std.specs.Prelude.{◌≡◌, [], IfOk};
 ghost use Rattle.conf_laws.specs.Fit.{IsInterface};
 ghost use Rattle.conf_tree.specs.declared.interface.Kind.TheVariants as kind;
-ghost use Rattle.discipline_laws.specs.Laws.{HasRate};
+ghost use Rattle.discipline.specs.Laws.{HasRate};
 ghost use Rattle.interface_policy.specs.Policy.{policy_of};
 
 use crate::classes::{cbq_classes, hfsc_classes};
 use crate::queues::queues_of;
 use cbq_rounds::Cbq;
 use conf_tree::Interface;
-use discipline_laws::Discipline;
+use discipline::Discipline;
 use hfsc_core::Hfsc;
 use play_base::NoMemory;
 use rio_precedence::AnyQueue;

@@ -1,6 +1,6 @@
 // The play of an interface by its discipline.
 ghost use Rattle.std.specs.Prelude.{◌≡◌, [], IfOk, IfErr, OnErr};
-ghost use Rattle.discipline_laws.specs.Laws.{HasRate};
+ghost use Rattle.discipline.specs.Laws.{HasRate};
 ghost use Rattle.interface_policy.specs.Policy.{policy_of};
 ghost use Rattle.play_base.specs.View.{NoneAppears};
 ghost use Rattle.play_loop.specs.Kept.{KeepsPlayed};

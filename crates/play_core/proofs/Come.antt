@@ -9,8 +9,8 @@ use Rattle.altq_model.specs.Play.{Policy, Choice, due, due_from, first_start, of
 use Rattle.altq_model.specs.Lawful.{IsLawful, IsSteady, AreRising, first_at, latest}
 use Rattle.play_laws.proofs.LinkLemmas.{end_later}
 use Rattle.play_laws.proofs.TimeLemmas.{one_moment, next_later, rising_at}
-use Rattle.discipline_laws.specs.declared.pick.Sending.{Sending}
-use Rattle.discipline_laws.specs.Moments.{IsChoice, StartsBy, StartsBefore}
+use Rattle.discipline.specs.declared.pick.Sending.{Sending}
+use Rattle.discipline.specs.Moments.{IsChoice, StartsBy, StartsBefore}
 use Rattle.play_core.specs.declared.step.Step.TheVariants.{Send}
 use Rattle.play_core.specs.Ended.{IsBegun, IsPlayed}
 use Rattle.play_core.specs.Steps.{OffersFirst, SendsFirst, SendsHead, comes_by}

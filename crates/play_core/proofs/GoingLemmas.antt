@@ -20,9 +20,9 @@ use Rattle.play_base.specs.declared.packet.Packet.{Packet}
 use Rattle.leaf_queue.specs.declared.node.Entry.{Entry}
 use Rattle.leaf_queue.specs.Pool.{packet_of, is_marked, count_of}
 use Rattle.link_clock.specs.Clock.{Clock}
-use Rattle.discipline_laws.specs.declared.pick.Sending.{Sending}
-use Rattle.discipline_laws.specs.Laws.{AreDistinct, HasRate, Shows, after_sent, held_in, room_of, sent_of, tickets}
-use Rattle.discipline_laws.specs.Moments.{IsChoice, StartsBy}
+use Rattle.discipline.specs.declared.pick.Sending.{Sending}
+use Rattle.discipline.specs.Laws.{AreDistinct, HasRate, Shows, after_sent, held_in, room_of, sent_of, tickets}
+use Rattle.discipline.specs.Moments.{IsChoice, StartsBy}
 use Rattle.play_core.specs.declared.state.Progress.{Progress}
 use Rattle.play_core.specs.declared.totals.Totals.{Totals}
 use Rattle.play_core.specs.declared.step.Step.{Step}

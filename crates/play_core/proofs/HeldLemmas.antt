@@ -7,7 +7,7 @@ use Rattle.altq_model.specs.History.{is_kept}
 use Rattle.altq_model.specs.Lawful.{IsOneOf}
 use Rattle.altq_model.specs.Laws.{occurs}
 use Rattle.leaf_queue.specs.declared.node.Entry.{Entry}
-use Rattle.discipline_laws.specs.Laws.{AreDistinct, after_offer, after_sent, held_in}
+use Rattle.discipline.specs.Laws.{AreDistinct, after_offer, after_sent, held_in}
 use Rattle.play_core.specs.Going.{one_kept}
 
 pub held_same : (old new : ℕ → List Entry) (cs : List ℕ) → ((c : ℕ) → new c ≡ old c) → held_in new cs ≡ held_in old cs

@@ -1,7 +1,7 @@
 -- Moments of the sendings of a history.
 use Rattle.std.proofs.Common.{◌≤◌, ℕ, List, [], ◌∷◌, arith}
 use Rattle.altq_model.specs.History.{Event, Offered, Sent}
-use Rattle.discipline_laws.specs.Moments.{StartsBefore, StartsBy}
+use Rattle.discipline.specs.Moments.{StartsBefore, StartsBy}
 
 pub before_later : (t u : ℕ) (h : List Event) → t ≤ u → StartsBefore t h → StartsBefore u h
 before_later t u [] l s = tt

@@ -21,9 +21,9 @@ use Rattle.play_base.specs.declared.packet.Ticket.{Ticket}
 use Rattle.leaf_queue.specs.declared.node.Entry.{Entry}
 use Rattle.leaf_queue.specs.Pool.{Held, packet_of, is_marked, count_of}
 use Rattle.link_clock.specs.Clock.{Clock}
-use Rattle.discipline_laws.specs.Laws.{HasRate, IsAnswer, after_offer, held_in, room_of}
-use Rattle.discipline_laws.specs.Laws as discipline
-use Rattle.discipline_laws.specs.Moments.{IsOffer}
+use Rattle.discipline.specs.Laws.{HasRate, IsAnswer, after_offer, held_in, room_of}
+use Rattle.discipline.specs.Laws as discipline
+use Rattle.discipline.specs.Moments.{IsOffer}
 use Rattle.play_core.specs.declared.state.Progress.{Progress}
 use Rattle.play_core.specs.declared.totals.Totals.{Totals}
 use Rattle.play_core.specs.declared.turn.Dropped.{Dropped}

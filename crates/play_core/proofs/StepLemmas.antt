@@ -12,9 +12,9 @@ use Rattle.play_laws.proofs.LinkLemmas.{end_later}
 use Rattle.play_base.specs.declared.packet.Ticket.{Ticket}
 use Rattle.leaf_queue.specs.declared.node.Entry.{Entry}
 use Rattle.link_clock.specs.Clock.{Clock}
-use Rattle.discipline_laws.specs.declared.pick.Sending.{Sending}
-use Rattle.discipline_laws.specs.Laws.{Shows, entry, seen, seen_of}
-use Rattle.discipline_laws.specs.Moments.{IsChoice, StartsBy}
+use Rattle.discipline.specs.declared.pick.Sending.{Sending}
+use Rattle.discipline.specs.Laws.{Shows, entry, seen, seen_of}
+use Rattle.discipline.specs.Moments.{IsChoice, StartsBy}
 use Rattle.play_core.specs.declared.step.Step.{Step}
 use Rattle.play_core.specs.declared.step.Step.TheVariants.{End, Offer, Send, Late}
 use Rattle.play_core.specs.Steps.{IsSentAt, IsStep, OffersFirst, SendsFirst, comes_by, step_at}

@@ -11,7 +11,7 @@ use Rattle.altq_model.specs.Play.{Policy}
 use Rattle.play_base.specs.declared.packet.Packet.{Packet}
 use Rattle.leaf_queue.specs.declared.node.Entry.{Entry}
 use Rattle.leaf_queue.specs.Pool.{Held, packet_of, is_marked, count_of}
-use Rattle.discipline_laws.specs.Laws.{HasRate, held_in, room_of}
+use Rattle.discipline.specs.Laws.{HasRate, held_in, room_of}
 use Rattle.play_core.specs.declared.state.Progress.{Progress}
 use Rattle.play_core.specs.Ended.{IsBegun}
 use Rattle.play_core.specs.Totals.{AreTotals}

@@ -9,7 +9,7 @@ use Rattle.altq_model.specs.Play.{Policy}
 use Rattle.altq_model.specs.Lawful.{first_at}
 use Rattle.play_base.specs.declared.packet.Ticket.{Ticket}
 use Rattle.link_clock.specs.Clock.{Clock}
-use Rattle.discipline_laws.specs.declared.pick.Sending.{Sending}
+use Rattle.discipline.specs.declared.pick.Sending.{Sending}
 use Rattle.play_core.specs.declared.step.Step.{Step}
 use Rattle.play_core.specs.declared.step.Step.TheVariants.{End, Offer, Send, Late}
 

@@ -9,7 +9,7 @@ ghost use Rattle.play_core.specs.Finished.{EndsWithOffer, IsFinished, IsStopped}
 ghost use Rattle.play_core.specs.Going.{IsGoing};
 
 use crate::Progress;
-use discipline_laws::Discipline;
+use discipline::Discipline;
 
 /// The laws of a play that goes on. It does nothing. `read`: where all that had arrived was offered last, the play goes on with what
 /// is read next. `finished`: where nothing is due, it is the whole play, with all its laws. `stopped`: where the next sending would

@@ -2,12 +2,12 @@
 ghost use Rattle.std.specs.Prelude.{◌≡◌, ◌≤◌, ◌<◌, ◌*◌, ◌^◌, ℕ, IsSome, List, Some, slice_get};
 ghost use Rattle.altq_model.specs.History.{Happened, bare, labels};
 ghost use Rattle.altq_model.specs.Link.{end_of};
-ghost use Rattle.discipline_laws.specs.Laws.{HasRate, Sends};
-ghost use Rattle.discipline_laws.specs.Moments.{IsChoice};
+ghost use Rattle.discipline.specs.Laws.{HasRate, Sends};
+ghost use Rattle.discipline.specs.Moments.{IsChoice};
 ghost use Rattle.play_core.specs.Steps.{IsSentAt, IsStep, comes_by, step_at};
 
 use altq_model::Rule;
-use discipline_laws::{Discipline, Pick, Sending};
+use discipline::{Discipline, Pick, Sending};
 use link_clock::LinkClock;
 use play_base::Ticket;
 

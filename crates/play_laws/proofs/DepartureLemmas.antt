@@ -1,4 +1,4 @@
--- The departures of more events begin with those of the older ones, and no text of what was decided changes with what is read later.
+-- The departures of more events begin with those of the older ones, and no record of what was decided changes with what is read later.
 use Rattle.std.proofs.Common.{◌≡◌, ◌-◌, ◌∙◌, ℕ, zero, suc, List, [], ◌∷◌, ◌++◌, Some, refl, ap, sym, append_assoc}
 use Rattle.std.specs.Prelude.{slice_get, unwrap_or}
 use Rattle.std.specs.declared.option.Option.{Option}
@@ -6,17 +6,10 @@ use Rattle.std.proofs.lemmas.List.{append-nil}
 use Rattle.capture_model.specs.Capture.{Record}
 use Rattle.capture_model.specs.Header.{capture_header}
 use Rattle.capture_model.specs.Written.{record_text, record_texts, written}
-use Rattle.altq_model.specs.declared.Fate.{Fate}
-use Rattle.altq_model.specs.declared.Fate.TheVariants
-use Rattle.altq_model.specs.declared.Fate.TheVariants.{Dropped}
-use Rattle.altq_model.specs.declared.Verdict.{Verdict}
-use Rattle.altq_model.specs.declared.Verdict.TheVariants.{Keep, Mark, Drop}
 use Rattle.altq_model.specs.Arrivals.{Arrival, arrival, no_arrival, comings}
 use Rattle.altq_model.specs.Departures.{Dressing, departure, departed_by, departed, departures}
-use Rattle.altq_model.specs.History.{Coming, Event, Offered, Sent, Happened, was_marked, Decision, dropped_by, decided, journal}
-use Rattle.altq_model.specs.Texts.{Naming, fate_text, fate_rows}
+use Rattle.altq_model.specs.History.{Coming, Event, Offered, Sent, Happened, was_marked}
 use Rattle.play_laws.specs.Events.{IsOfArrival, AreOfArrivals}
-use Rattle.play_laws.proofs.TextLemmas.{fate_rows-append}
 
 pub texts-append : (xs ys : List Record) → record_texts (xs ++ ys) ≡ record_texts xs ++ record_texts ys
 texts-append [] ys = refl
@@ -49,33 +42,6 @@ there_stays (x ∷ xs) ys (suc k) a e = there_stays xs ys k a e
 
 pub arrival_stays : (xs ys : List Arrival) (n : ℕ) (a : Coming) → slice_get (comings xs) (n - 1) ≡ Some a → arrival (xs ++ ys) n ≡ arrival xs n
 arrival_stays xs ys n a e = ap (λ (o : Option Arrival). unwrap_or o no_arrival) (there_stays xs ys (n - 1) a e)
-
-row_stays : (names : Naming) (xs ys : List Arrival) (n : ℕ) (a : Coming) (f : Fate) → slice_get (comings xs) (n - 1) ≡ Some a
-    → fate_rows names (xs ++ ys) ((n, f) ∷ []) ≡ fate_rows names xs ((n, f) ∷ [])
-row_stays names xs ys n a f e = ap (λ (b : Arrival). fate_text n b.at b.len (names b.class) f ++ []) (arrival_stays xs ys n a e)
-
-drop_stays : (names : Naming) (xs ys : List Arrival) (n : ℕ) (a : Coming) (v : Verdict) → slice_get (comings xs) (n - 1) ≡ Some a
-    → fate_rows names (xs ++ ys) (dropped_by v n) ≡ fate_rows names xs (dropped_by v n)
-drop_stays names xs ys n a Keep e = refl
-drop_stays names xs ys n a Mark e = refl
-drop_stays names xs ys n a (Drop r) e = row_stays names xs ys n a (Dropped r) e
-
-event_stays : (names : Naming) (xs ys : List Arrival) (n : ℕ) (e : Event) → IsOfArrival (comings xs) n e
-    → fate_rows names (xs ++ ys) (decided n e) ≡ fate_rows names xs (decided n e)
-event_stays names xs ys n (Offered a w v) x = drop_stays names xs ys n a v.verdict x.1
-event_stays names xs ys n (Sent s) x = row_stays names xs ys n x.packet (TheVariants.Sent s.start s.end s.rule) x.arrival
-
-both : (as' bs cs ds : List ℕ) → as' ≡ cs → bs ≡ ds → as' ++ bs ≡ cs ++ ds
-both as' bs cs ds e f = cc
-
-pub rows_stay : (names : Naming) (xs ys : List Arrival) (g : List Happened) → AreOfArrivals (comings xs) g
-    → fate_rows names (xs ++ ys) (journal g) ≡ fate_rows names xs (journal g)
-rows_stay names xs ys [] f = refl
-rows_stay names xs ys (e ∷ g) f =
-    let d : List Decision = decided e.label e.what in
-    fate_rows-append names (xs ++ ys) (journal g) d
-    ∙ both _ _ _ _ (rows_stay names xs ys g f.1) (event_stays names xs ys e.label e.what f.0)
-    ∙ sym (fate_rows-append names xs (journal g) d)
 
 record_stays : (dress : Dressing) (xs ys : List Arrival) (n : ℕ) (e : Event) (g : List Happened) → IsOfArrival (comings xs) n e
     → departed_by dress (xs ++ ys) n e g ≡ departed_by dress xs n e g

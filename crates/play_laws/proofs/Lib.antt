@@ -1,3 +1,4 @@
+pub mod AgreeLemmas
 pub mod AllLaws
 pub mod ArrivalLemmas
 pub mod BusyLemmas
@@ -8,6 +9,7 @@ pub mod DueLemmas
 pub mod EndLemmas
 pub mod FewLemmas
 pub mod IdleLemmas
+pub mod JournalLemmas
 pub mod LawfulLemmas
 pub mod LinkLemmas
 pub mod OneLemmas
@@ -16,5 +18,4 @@ pub mod RunLemmas
 pub mod SizeLemmas
 pub mod Starts
 pub mod StrictLemmas
-pub mod TextLemmas
 pub mod TimeLemmas

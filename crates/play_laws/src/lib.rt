@@ -2,7 +2,7 @@
 //! nothing: each states its laws, and a caller that cites one calls nothing at run time.
 #![tactic(auto)]
 
-ghost use Rattle.std.specs.Prelude.{Bool, IsTrue, ◌≡◌, ◌≤◌, ◌<◌, ◌+◌, ◌-◌, ◌++◌, ◌∷◌, ℕ, max, List, drop, length, Some, slice_get};
+ghost use Rattle.std.specs.Prelude.{Bool, IsTrue, ◌↔◌, ◌≡◌, ◌≤◌, ◌<◌, ◌+◌, ◌-◌, ◌++◌, ◌∷◌, ℕ, max, List, drop, length, Some, slice_get};
 ghost use Rattle.altq_model.specs.declared.Placed.{Placed};
 ghost use Rattle.altq_model.specs.declared.Rule.{Rule};
 ghost use Rattle.altq_model.specs.Arrivals.{Arrival, arrival, arrivals_from, arrivals_of, coming_of, comings};
@@ -10,7 +10,7 @@ ghost use Rattle.capture_model.specs.Capture.{Reads, Record, Step};
 ghost use Rattle.altq_model.specs.History.{Coming, Decision, Happened, Event, bare, journal, offered};
 ghost use Rattle.altq_model.specs.Laws.{IsInTime, KeepsLaws, at_of};
 ghost use Rattle.capture_model.specs.Written.{AreWithin, record_texts, written};
-ghost use Rattle.altq_model.specs.Busy.{IsBusy};
+ghost use Rattle.altq_model.specs.Busy.{IsBusy, IsLeastStart};
 ghost use Rattle.altq_model.specs.declared.Fate.{Fate};
 ghost use Rattle.altq_model.specs.Counts.{of_arrivals, of_decisions};
 ghost use Rattle.altq_model.specs.Departures.{Dressing, KeepsLength, departed, departures};
@@ -18,7 +18,7 @@ ghost use Rattle.altq_model.specs.Idle.{NeverIdles};
 ghost use Rattle.altq_model.specs.Link.{HasLinkEnds, link};
 ghost use Rattle.altq_model.specs.Play.{AreDue, IsPlay, Policy, first_start, play};
 ghost use Rattle.altq_model.specs.Policies.{Answering, one_queue, strict};
-ghost use Rattle.altq_model.specs.Texts.{Naming, fate_rows, fates};
+ghost use Rattle.play_laws.specs.Heads.{ComeInOrder, StartsWithHead};
 ghost use Rattle.play_laws.specs.Events.{AreOfArrivals, HasLaws, IsWhole};
 ghost use Rattle.altq_model.specs.Lawful.{AreHeld, AreRising, IsLawful, IsOneOf, IsSteady, NeverWaits, SendsWhen, first_at, greatest, latest};
 ghost use Rattle.play_laws.specs.Sizes.{AreSized};
@@ -97,6 +97,16 @@ pub fn link_never_idles()
         → AreHeld p arrived → AreDue p rate seed arrived g → NeverIdles rate arrived g }
 {}
 
+/// Where any class may send at any moment, the least moment, not before the last end, such that after the offers of all arrivals up
+/// to it some waiting class may send at it, is simply the later of the last end and the earliest arrival of a waiting head. The
+/// offers of a play come in order, as this asks.
+pub fn busy_is_never_idle()
+    ensures same { (p : Policy) (free : ℕ) (h : List Event) (s : ℕ) → NeverWaits p → ComeInOrder free h
+        → IsLeastStart p free h s ↔ StartsWithHead p free h s }
+    ensures order { (p : Policy) (rate seed : ℕ) (arrived : List Coming) (g : List Happened) → 0 < rate → IsLawful p → AreRising arrived
+        → AreDue p rate seed arrived g → ComeInOrder (link rate (bare g)).free (bare g) }
+{}
+
 /// In a play a steady policy may be asked from one moment for all classes: the greater of the last end and the greatest arrival of
 /// what was offered. No class may send before that arrival, and what comes next is no earlier.
 pub fn one_moment_serves_all_classes()
@@ -145,21 +155,15 @@ pub fn counts_add_up()
         → of_decisions meant told amount (arrived ++ more) (journal g) ≡ of_decisions meant told amount arrived (journal g) }
 {}
 
-/// The journal of more events begins with that of the older ones, as do the records of their departures; the text of more decisions or
-/// records begins with that of the first of them. What is decided of packets that arrived keeps its texts, whatever arrives later.
-pub fn texts_extend()
+/// The journal of more events begins with that of the older ones, as do the records of their departures, and so does the text of more
+/// records. The departures of packets that arrived are the same, whatever arrives later.
+pub fn journals_extend()
     ensures journal { (es g : List Happened) → journal (es ++ g) ≡ journal g ++ journal es }
-    ensures fates { (names : Naming) (arrived : List Arrival) (xs ys : List Decision)
-        → fates names arrived (xs ++ ys) ≡ fates names arrived xs ++ fate_rows names arrived ys }
-    ensures rows { (names : Naming) (arrived : List Arrival) (xs ys : List Decision)
-        → fate_rows names arrived (xs ++ ys) ≡ fate_rows names arrived xs ++ fate_rows names arrived ys }
     ensures records { (xs ys : List Record) → written (xs ++ ys) ≡ written xs ++ record_texts ys }
     ensures departed { (dress : Dressing) (arrived : List Arrival) (es g : List Happened)
         → (more : List Record) × (departed dress arrived (es ++ g) ≡ departed dress arrived g ++ more) }
     ensures departures { (dress : Dressing) (arrived : List Arrival) (es g : List Happened)
         → (more : List Record) × (departures dress arrived (es ++ g) ≡ departures dress arrived g ++ record_texts more) }
-    ensures rows_stay { (names : Naming) (arrived more : List Arrival) (g : List Happened) → AreOfArrivals (comings arrived) g
-        → fate_rows names (arrived ++ more) (journal g) ≡ fate_rows names arrived (journal g) }
     ensures departed_stay { (dress : Dressing) (arrived more : List Arrival) (g : List Happened) → AreOfArrivals (comings arrived) g
         → departed dress (arrived ++ more) g ≡ departed dress arrived g }
 {}

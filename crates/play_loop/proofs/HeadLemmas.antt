@@ -1,6 +1,6 @@
 -- The heads of the two outputs.
 use Rattle.std.proofs.Common.{◌≡◌, ℕ, List, [], subst}
-use Rattle.altq_model.specs.Texts.{fates_header}
+use Rattle.play_text.specs.Texts.{fates_header}
 use Rattle.capture_model.specs.Header.{capture_header}
 use Rattle.play_base.specs.View.{View, Wrote, WroteFront}
 use Rattle.play_loop.specs.Outputs.{TextsAre, FrontsAre}

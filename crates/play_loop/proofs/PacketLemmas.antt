@@ -8,7 +8,7 @@ use Rattle.altq_model.specs.Arrivals.{Arrival, coming_of, comings}
 use Rattle.altq_model.specs.History.{Coming, DrawnWords, Happened, bare, drawn, offered, journal}
 use Rattle.altq_model.specs.Lawful.{latest}
 use Rattle.altq_model.specs.Play.{Policy, AreDue, offer_of}
-use Rattle.altq_model.specs.Texts.{Naming, fates}
+use Rattle.play_text.specs.Texts.{Naming, fates}
 use Rattle.play_base.specs.declared.packet.Packet.{Packet}
 use Rattle.play_laws.proofs.ArrivalLemmas.{comings_length}
 use Rattle.play_core.specs.declared.turn.Dropped.{Dropped}

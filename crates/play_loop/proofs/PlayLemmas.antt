@@ -7,7 +7,7 @@ use Rattle.altq_model.specs.Departures.{Dressing, departures}
 use Rattle.altq_model.specs.History.{Coming, Happened, bare, offered, journal}
 use Rattle.altq_model.specs.Lawful.{IsLawful, IsSteady, AreRising, RiseFrom, greatest}
 use Rattle.altq_model.specs.Play.{Policy, AreDue}
-use Rattle.altq_model.specs.Texts.{Naming, fates, fates_header}
+use Rattle.play_text.specs.Texts.{Naming, fates, fates_header}
 use Rattle.capture_model.specs.Capture.{Record, Step, End, Fault, Header, Reads, ReadsFrom, IsCapture, IsLast, place_after}
 use Rattle.capture_model.specs.Header.{capture_header}
 use Rattle.capture_model.specs.Written.{written}
@@ -23,7 +23,8 @@ use Rattle.play_laws.specs.Events.{HasLaws}
 use Rattle.play_laws.proofs.AllLaws.{due_laws}
 use Rattle.play_laws.proofs.ArrivalLemmas.{arrivals_append, arrivals_length, arrivals_rise, comings_append, comings_length}
 use Rattle.play_laws.proofs.BusyLemmas.{is_busy}
-use Rattle.play_laws.proofs.DepartureLemmas.{records_stay, rows_stay}
+use Rattle.play_laws.proofs.DepartureLemmas.{records_stay}
+use Rattle.play_text.proofs.TextLemmas.{rows_stay}
 use Rattle.play_core.specs.declared.totals.Totals.{Totals}
 use Rattle.play_core.specs.Ended.{IsBegun, IsCutOff}
 use Rattle.play_core.specs.Finished.{EndsWithOffer, IsStopped}

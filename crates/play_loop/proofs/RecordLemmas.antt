@@ -10,10 +10,10 @@ use Rattle.altq_model.specs.Laws.{IsLate}
 use Rattle.altq_model.specs.Lawful.{AreRising, RiseFrom, greatest, latest}
 use Rattle.altq_model.specs.Link.{link}
 use Rattle.altq_model.specs.Play.{Policy, AreDue, due, first_start}
-use Rattle.altq_model.specs.Texts.{Naming, fates}
+use Rattle.play_text.specs.Texts.{Naming, fates}
 use Rattle.capture_model.specs.Capture.{Record, Header, Step, Fault, ReadsFrom, Reads, IsCapture, IsLast, most_records}
 use Rattle.capture_model.specs.Written.{written}
-use Rattle.altq_model.specs.Texts.{fates_header}
+use Rattle.play_text.specs.Texts.{fates_header}
 use Rattle.leaf_queue.specs.declared.node.Entry.{Entry}
 use Rattle.pcap_files.specs.declared.fault.CaptureFault.{CaptureFault}
 use Rattle.pcap_files.specs.declared.fault.CaptureFault.TheVariants as fault
@@ -28,7 +28,8 @@ use Rattle.play_base.proofs.HoldsLaws.{holds_kept, apart_kept}
 use Rattle.play_laws.specs.Events.{IsOffer, IsSending}
 use Rattle.play_laws.proofs.AllLaws.{due_laws}
 use Rattle.play_laws.proofs.ArrivalLemmas.{arrivals_append, comings_append, comings_length}
-use Rattle.play_laws.proofs.DepartureLemmas.{records_stay, rows_stay}
+use Rattle.play_laws.proofs.DepartureLemmas.{records_stay}
+use Rattle.play_text.proofs.TextLemmas.{rows_stay}
 use Rattle.play_laws.proofs.TimeLemmas.{all_arrived}
 use Rattle.play_core.specs.declared.state.Progress.{Progress}
 use Rattle.play_core.specs.Ended.{IsBegun, IsCutOff}

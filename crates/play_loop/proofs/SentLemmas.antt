@@ -1,7 +1,7 @@
 -- The texts of a packet that leaves with other bytes than it came with.
 use Rattle.std.proofs.Common.{◌≡◌, ◌∙◌, ℕ, List, ap, subst}
 use Rattle.altq_model.specs.Departures.{Dressing}
-use Rattle.altq_model.specs.Texts.{Naming}
+use Rattle.play_text.specs.Texts.{Naming}
 use Rattle.capture_model.specs.Capture.{Record}
 use Rattle.capture_model.specs.Written.{record_text}
 use Rattle.play_base.specs.View.{View}

@@ -12,14 +12,14 @@ use Rattle.altq_model.specs.Arrivals.{Arrival, arrival, coming_of, comings, no_a
 use Rattle.altq_model.specs.Departures.{Dressing, departure, departed, departures}
 use Rattle.altq_model.specs.History.{Coming, Happened, bare, offered, drawn, was_marked, dropped_by, journal}
 use Rattle.altq_model.specs.Play.{Policy, offer_of}
-use Rattle.altq_model.specs.Texts.{Naming, fate_text, fate_row, fate_rows, fates}
+use Rattle.play_text.specs.Texts.{Naming, fate_text, fate_row, fate_rows, fates}
 use Rattle.capture_model.specs.Capture.{Record}
 use Rattle.capture_model.specs.Written.{record_text, record_texts, written}
 use Rattle.play_base.specs.declared.packet.Packet.{Packet}
 use Rattle.play_laws.specs.Events.{AreOfArrivals}
 use Rattle.play_laws.proofs.ArrivalLemmas.{coming_of_number}
 use Rattle.play_laws.proofs.DepartureLemmas.{written-append}
-use Rattle.play_laws.proofs.TextLemmas.{fates-append}
+use Rattle.play_text.proofs.TextLemmas.{fates-append}
 use Rattle.play_core.specs.declared.turn.Departure.{Departure}
 use Rattle.play_core.specs.declared.turn.Dropped.{Dropped}
 use Rattle.play_core.specs.Going.{numbered}

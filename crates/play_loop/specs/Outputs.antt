@@ -1,7 +1,7 @@
 -- The two output files of a play while their texts are gathered.
 use Rattle.std.specs.Prelude.{◌≡◌, ℕ, List}
 use Rattle.altq_model.specs.Departures.{Dressing}
-use Rattle.altq_model.specs.Texts.{Naming, fate_text}
+use Rattle.play_text.specs.Texts.{Naming, fate_text}
 use Rattle.altq_model.specs.declared.Fate.TheVariants as fate
 use Rattle.capture_model.specs.Capture.{Record}
 use Rattle.play_base.specs.declared.trouble.Trouble.{Trouble}

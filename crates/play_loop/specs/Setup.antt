@@ -5,7 +5,7 @@ use Rattle.altq_model.specs.Arrivals.{Arrival, arrivals_of}
 use Rattle.altq_model.specs.Departures.{Dressing, departures}
 use Rattle.altq_model.specs.History.{Happened, journal}
 use Rattle.altq_model.specs.Play.{Policy}
-use Rattle.altq_model.specs.Texts.{fates}
+use Rattle.play_text.specs.Texts.{fates}
 use Rattle.capture_model.specs.Capture.{Record}
 use Rattle.play_text.specs.Names.{NameList, name_of}
 use Rattle.play_text.specs.Statistics.{statistics}

@@ -7,7 +7,7 @@ use Rattle.altq_model.specs.Departures.{Dressing, departures}
 use Rattle.altq_model.specs.History.{Coming, DrawnWords, Happened, bare, offered, journal}
 use Rattle.altq_model.specs.Lawful.{latest}
 use Rattle.altq_model.specs.Play.{Policy, AreDue, due}
-use Rattle.altq_model.specs.Texts.{Naming, fates}
+use Rattle.play_text.specs.Texts.{Naming, fates}
 use Rattle.play_text.specs.Names.{NameList, name_of}
 use Rattle.leaf_queue.specs.declared.node.Entry.{Entry}
 use Rattle.play_base.specs.View.{View}

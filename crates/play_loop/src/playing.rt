@@ -1,13 +1,13 @@
 // The play of an interface, from a capture to departures and fates.
 ghost use Rattle.std.specs.Prelude.{◌≡◌, ◌≢◌, ◌≤◌, ◌^◌, [], ◌∷◌, ◌++◌, ℕ, List, None, Some, IsSome, IsTrue, IfOk, IfErr, IfSome, OnOk, OnErr, IsErrOf};
-ghost use Rattle.altq_model.specs.Texts.{fates_header};
+ghost use Rattle.play_text.specs.Texts.{fates_header};
 ghost use Rattle.capture_model.specs.Header.{capture_header};
 ghost use Rattle.altq_model.specs.Arrivals.{Arrival};
 ghost use Rattle.altq_model.specs.History.{Happened};
 ghost use Rattle.altq_model.specs.Lawful.{IsOneOf};
 ghost use Rattle.play_base.specs.Holds.{Apart};
 ghost use Rattle.play_base.specs.View.{NoneAppears, ReadFault, WriteFault};
-ghost use Rattle.discipline_laws.specs.Laws.{HasRate};
+ghost use Rattle.discipline.specs.Laws.{HasRate};
 ghost use Rattle.pcap_files.specs.Reading.{StandsFor, answered};
 ghost use Rattle.play_text.specs.Names.{HasClass, name_of};
 ghost use Rattle.play_loop.specs.Counting.{AreCountable, HasCounted};
@@ -27,7 +27,7 @@ use crate::writing::{finish, write_stats};
 use crate::{Limit, Opened, Output, PlayFault};
 use altq_model::Counts;
 use capture_model::every_file_has_a_reading;
-use discipline_laws::{Classify, Discipline};
+use discipline::{Classify, Discipline};
 use leaf_queue::Words;
 use pcap_files::{CaptureFault, Reader, head_bytes};
 use play_base::{Files, write_all};

@@ -15,7 +15,7 @@ use crate::arriving::Arriving;
 use crate::ending::Due;
 use crate::outputs::Outputs;
 use crate::writing::{add_dropped, add_sent};
-use discipline_laws::{Classify, Discipline};
+use discipline::{Classify, Discipline};
 use leaf_queue::Words;
 use play_base::Files;
 use play_core::{Progress, Turn};

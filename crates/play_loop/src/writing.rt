@@ -1,7 +1,7 @@
 // Writing what was decided: a record for each sending, and a row for each fate.
 ghost use Rattle.std.specs.Prelude.{◌≡◌, ◌≤◌, ◌<◌, ◌*◌, ◌^◌, ◌++◌, ℕ, List, [], length, IsSome, IfErr, IfOk, IfSome, OnOk, OnErr, IsErrOf};
 ghost use Rattle.std.specs.Option.{option_map_or};
-ghost use Rattle.altq_model.specs.Texts.{fate_text};
+ghost use Rattle.play_text.specs.Texts.{fate_text};
 ghost use Rattle.capture_model.specs.Written.{record_text};
 ghost use Rattle.play_base.specs.View.{WriteFault, Wrote, WroteFront};
 ghost use Rattle.play_base.specs.Holds.{HoldsAt};
@@ -18,7 +18,7 @@ use crate::gathered::{flush, flush_rows, gather};
 use crate::outputs::{Outputs, output_fault};
 use crate::{Output, PlayFault};
 use altq_model::{Counts, Fate};
-use discipline_laws::Classify;
+use discipline::Classify;
 use pcap_files::record_head;
 use play_base::{Files, Packet, Trouble, write_all};
 use play_core::{Departure, Dropped};

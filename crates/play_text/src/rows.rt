@@ -1,7 +1,7 @@
 // The rows of the fates.
 ghost use Rattle.std.specs.Prelude.{◌≡◌, ◌∷◌, ◌++◌, [], true, IfOk, OnErr, OnOk, map};
 ghost use Rattle.csv.specs.Writing.{default_writer, row_text, writer_under};
-ghost use Rattle.altq_model.specs.Texts.{fate_text, fates_header, rule_word, reason_word};
+ghost use Rattle.play_text.specs.Texts.{fate_text, fates_header, rule_word, reason_word};
 ghost use Rattle.play_text.specs.Names.{HasClass, name_of};
 ghost use Rattle.play_text.specs.Ready.{IsReady};
 

@@ -1,8 +1,8 @@
 //! Literal sendings of the two plain disciplines of `discipline`.
 ghost use Rattle.std.specs.Prelude.{◌≡◌, ◌≤◌, ◌<◌, ◌^◌};
-ghost use Rattle.discipline_laws.specs.Laws.{HasRate};
+ghost use Rattle.discipline.specs.Laws.{HasRate};
 
-use discipline::{Discipline, Paced, Pick, Rule, Sending, Strict, Verdict};
+use plain_disciplines::{Discipline, Paced, Pick, Rule, Sending, Strict, Verdict};
 use leaf_queue::{Tail, Words};
 use link_clock::LinkClock;
 use play_base::Ticket;

@@ -1,5 +1,5 @@
 use Rattle.std.proofs.Common.{◌∙◌, ap, arith, sym}
-use Rattle.discipline_laws.specs.declared.pick.Pick.TheVariants.{Send}
+use Rattle.discipline.specs.declared.pick.Pick.TheVariants.{Send}
 use Rattle.class_rows.specs.Rows.{list_in}
 use Rattle.cbq_rounds.proofs.DueLemmas.{found_head, found_is, found_sent, same_rank}
 use Rattle.cbq_rounds.proofs.LookLemmas.{first_sized}

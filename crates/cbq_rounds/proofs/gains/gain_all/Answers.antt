@@ -3,7 +3,7 @@ use Rattle.std.specs.declared.option.Option.{Option}
 use Rattle.std.specs.Prelude.{option_map}
 use Rattle.leaf_queue.specs.declared.node.Entry.{Entry}
 use Rattle.class_rows.specs.Rows.{list_in}
-use Rattle.discipline_laws.specs.declared.pick.Sending.{Sending}
+use Rattle.discipline.specs.declared.pick.Sending.{Sending}
 use Rattle.cbq_rounds.specs.Gained.{HasGained}
 use Rattle.cbq_rounds.specs.Rings.{IsRing}
 use Rattle.cbq_rounds.specs.Shared.{Shared, head_len}

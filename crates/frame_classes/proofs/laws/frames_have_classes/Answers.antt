@@ -7,6 +7,7 @@ use Rattle.packet_heads.specs.Points.{precedence}
 use Rattle.packet_heads.proofs.Lengths.{length-departing}
 use Rattle.frame_classes.specs.Frames.{classes_of, is_capable, precedence_in}
 use Rattle.frame_classes.specs.Handlings.{handling_at}
+use Rattle.frame_classes.proofs.Queues.{at_most_two}
 use Rattle.frame_classes.proofs.laws.frames_have_classes.Goals as goal
 
 one_or_none : (capable : Bool) → (if capable then 1 else 0) ≤ 2
@@ -19,7 +20,7 @@ three false f h = h
 
 pub returns-clause-prec : goal.returns-clause-prec
 returns-clause-prec c = λ i frame.
-    three (handling_at (classes_of i).handlings (class_of (rules_of i) (flow frame))).marks (flow frame) (c.precedences_are_three.ensures (flow frame))
+    three (handling_at (classes_of i).handlings (class_of (rules_of i) (flow frame))).marks (flow frame) (at_most_two (flow frame))
 
 pub returns-clause-length : goal.returns-clause-length
 returns-clause-length c = λ i class marked frame. length-departing (handling_at (classes_of i).handlings class).clears marked frame

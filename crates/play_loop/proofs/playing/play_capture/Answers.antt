@@ -6,7 +6,7 @@ use Rattle.altq_model.specs.Departures.{departed, departures}
 use Rattle.altq_model.specs.History.{journal}
 use Rattle.altq_model.specs.Lawful.{AreHeld}
 use Rattle.altq_model.specs.Play.{Policy, due}
-use Rattle.altq_model.specs.Texts.{fates}
+use Rattle.play_text.specs.Texts.{fates}
 use Rattle.capture_model.specs.Capture.{outcome}
 use Rattle.pcap_files.specs.declared.fault.CaptureFault.{CaptureFault}
 use Rattle.pcap_files.specs.declared.fault.CaptureFault.TheVariants as capture

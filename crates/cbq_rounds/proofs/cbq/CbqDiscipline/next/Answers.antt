@@ -2,9 +2,9 @@ use Rattle.std.proofs.Common.{◌≡◌, ◌≤◌, ◌∙◌, ℕ, [], ap, leng
 use Rattle.std.specs.Prelude.{◌↔◌}
 use Rattle.altq_model.specs.History.{bare}
 use Rattle.altq_model.specs.Link.{link}
-use Rattle.discipline_laws.specs.declared.pick.Pick.{Pick}
-use Rattle.discipline_laws.specs.declared.pick.Pick.TheVariants.{Empty}
-use Rattle.discipline_laws.specs.Laws.{IsDue, NamesHead, Waits}
+use Rattle.discipline.specs.declared.pick.Pick.{Pick}
+use Rattle.discipline.specs.declared.pick.Pick.TheVariants.{Empty}
+use Rattle.discipline.specs.Laws.{IsDue, NamesHead, Waits}
 use Rattle.class_rows.specs.Rows.{list_in}
 use Rattle.cbq_rounds.specs.Due.{due_in}
 use Rattle.cbq_rounds.specs.Stands.{Ruling, cbq_of}

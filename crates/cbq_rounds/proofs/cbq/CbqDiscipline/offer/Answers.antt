@@ -2,8 +2,8 @@ use Rattle.std.proofs.Common.{◌≡◌, ◌<◌, ◌-◌, ◌^◌, ◌∙◌, L
 use Rattle.altq_model.specs.History.{Happened, bare}
 use Rattle.leaf_queue.specs.declared.node.Entry.{Entry}
 use Rattle.class_rows.specs.Rows.{list_in}
-use Rattle.discipline_laws.specs.Laws.{IsAnswer, coming, entry, offer_of}
-use Rattle.discipline_laws.specs.Moments.{IsOffer}
+use Rattle.discipline.specs.Laws.{IsAnswer, coming, entry, offer_of}
+use Rattle.discipline.specs.Moments.{IsOffer}
 use Rattle.cbq_model.proofs.Places.{is_below}
 use Rattle.cbq_rounds.specs.Looked.{AreSized}
 use Rattle.cbq_rounds.specs.Stands.{Ruling, Stands, cbq_of}

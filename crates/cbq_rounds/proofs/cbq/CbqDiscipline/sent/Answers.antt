@@ -5,8 +5,8 @@ use Rattle.altq_model.specs.History.{Happened, bare}
 use Rattle.altq_model.specs.Link.{end_of}
 use Rattle.leaf_queue.specs.declared.node.Entry.{Entry}
 use Rattle.class_rows.specs.Rows.{list_in}
-use Rattle.discipline_laws.specs.Laws.{sent_of}
-use Rattle.discipline_laws.specs.Moments.{IsChoice}
+use Rattle.discipline.specs.Laws.{sent_of}
+use Rattle.discipline.specs.Moments.{IsChoice}
 use Rattle.cbq_rounds.specs.Due.{due_in}
 use Rattle.cbq_rounds.specs.declared.cbq.Cbq.TheInside.{Inside}
 use Rattle.cbq_rounds.specs.Shared.{IsTree, Shared}

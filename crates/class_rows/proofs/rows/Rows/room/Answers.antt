@@ -1,5 +1,5 @@
 use Rattle.std.proofs.Common.{◌≡◌, ◌≤◌, subst}
-use Rattle.discipline_laws.specs.Laws.{held_in, room_of}
+use Rattle.discipline.specs.Laws.{held_in, room_of}
 use Rattle.class_rows.specs.Rows.{Rowed, classes_in, limit_in, list_in}
 use Rattle.class_rows.proofs.RowHistory.{room_row, within_row}
 use Rattle.class_rows.proofs.rows.Rows.room.Goals as goal

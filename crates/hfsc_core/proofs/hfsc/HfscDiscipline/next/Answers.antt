@@ -1,9 +1,9 @@
 use Rattle.std.proofs.Common.{◌≡◌, ◌≤◌, ◌∙◌, ap, sym, subst, ℕ, []}
 use Rattle.std.specs.Prelude.{◌↔◌}
 use Rattle.altq_model.specs.History.{bare}
-use Rattle.discipline_laws.specs.declared.pick.Pick.{Pick}
-use Rattle.discipline_laws.specs.declared.pick.Pick.TheVariants.{Empty}
-use Rattle.discipline_laws.specs.Laws.{IsDue, NamesHead, Waits}
+use Rattle.discipline.specs.declared.pick.Pick.{Pick}
+use Rattle.discipline.specs.declared.pick.Pick.TheVariants.{Empty}
+use Rattle.discipline.specs.Laws.{IsDue, NamesHead, Waits}
 use Rattle.class_rows.specs.Rows.{answering, list_in}
 use Rattle.hfsc_policy.specs.Events.{hfsc_history}
 use Rattle.hfsc_core.specs.declared.chooser.Chosen.{Chosen}

@@ -1,8 +1,8 @@
 use Rattle.std.proofs.Common.{◌≤◌, ◌<◌, ◌+◌, ◌-◌, ◌^◌, ◌∙◌, ◌∷◌, sym, subst, List}
 use Rattle.altq_model.specs.History.{Happened, bare}
 use Rattle.altq_model.specs.Play.{IsOneOf}
-use Rattle.discipline_laws.specs.Laws.{IsAnswer, coming, offer_of}
-use Rattle.discipline_laws.specs.Moments.{IsOffer}
+use Rattle.discipline.specs.Laws.{IsAnswer, coming, offer_of}
+use Rattle.discipline.specs.Moments.{IsOffer}
 use Rattle.class_rows.specs.Rows.{list_in}
 use Rattle.hfsc_policy.specs.Classes.{leaves}
 use Rattle.hfsc_policy.specs.Events.{hfsc_history}

@@ -1,7 +1,7 @@
 use Rattle.std.proofs.Common.{◌≤◌, ◌∙◌, ◌∷◌, ap, arith, sym, subst, Bool, List, refl}
 use Rattle.altq_model.specs.History.{Happened, bare}
-use Rattle.discipline_laws.specs.Laws.{sent_of}
-use Rattle.discipline_laws.specs.Moments.{IsChoice}
+use Rattle.discipline.specs.Laws.{sent_of}
+use Rattle.discipline.specs.Moments.{IsChoice}
 use Rattle.class_rows.specs.Rows.{list_in}
 use Rattle.hfsc_policy.specs.Events.{hfsc_history}
 use Rattle.hfsc_policy.proofs.Lawful.{leaf_one}

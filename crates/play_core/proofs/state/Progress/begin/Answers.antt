@@ -1,6 +1,6 @@
 use Rattle.std.proofs.Common.{◌≡◌, ◌∙◌, ℕ, [], refl, ap, sym, subst, arith}
 use Rattle.link_clock.specs.Clock.{Clock}
-use Rattle.discipline_laws.specs.Laws.{HasRate}
+use Rattle.discipline.specs.Laws.{HasRate}
 use Rattle.play_core.proofs.HeldLemmas.{held_none}
 use Rattle.play_core.proofs.GoingLemmas.{no_tickets}
 use Rattle.play_core.proofs.state.Progress.begin.Goals as goal

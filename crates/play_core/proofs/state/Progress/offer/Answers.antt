@@ -5,7 +5,7 @@ use Rattle.altq_model.specs.Arrivals.{Arrival, coming_of}
 use Rattle.altq_model.specs.History.{Event, Happened, bare, offered}
 use Rattle.altq_model.specs.Play.{Policy}
 use Rattle.play_base.specs.declared.packet.Packet.{Packet}
-use Rattle.discipline_laws.specs.Laws.{entry}
+use Rattle.discipline.specs.Laws.{entry}
 use Rattle.play_core.specs.Turns.{handed_back}
 use Rattle.play_core.proofs.Moves.{before_by}
 use Rattle.play_core.proofs.GoingLemmas.{IsPromised, few_counts, renamed, within_old}

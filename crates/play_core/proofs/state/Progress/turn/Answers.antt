@@ -3,7 +3,7 @@ use Rattle.std.specs.Prelude.{slice_get}
 use Rattle.altq_model.specs.Arrivals.{coming_of, comings}
 use Rattle.altq_model.specs.History.{bare, offered}
 use Rattle.altq_model.specs.Play.{Policy}
-use Rattle.discipline_laws.specs.declared.pick.Sending.{Sending}
+use Rattle.discipline.specs.declared.pick.Sending.{Sending}
 use Rattle.play_core.specs.declared.step.Step.TheVariants.{End, Offer, Send, Late}
 use Rattle.play_core.proofs.Come.{come_end, due_offer}
 use Rattle.play_core.proofs.CutLemmas.{come_cut}

@@ -1,9 +1,0 @@
--- A row of text is computed through the words of csv and of std, which do not unfold by themselves.
-use Rattle.std.proofs.Common.{refl}
-use Rattle.csv.specs.Writing.{escaped, fields_text, is_blank}
-use Rattle.std.specs.Fmt.{digits}
-use Rattle.altq_model.proofs.rows.worked_examples.Goals as goal
-
-pub returns-clause-one_packet_at_five_seconds : goal.returns-clause-one_packet_at_five_seconds
-unfolding digits escaped fields_text is_blank
-returns-clause-one_packet_at_five_seconds c = refl

@@ -1,6 +1,0 @@
-use Rattle.std.proofs.Common.{◌≡◌, ◌≤◌, ◌<◌, ℕ, []}
-use Rattle.class_rows.specs.Rows.{list_in}
-use Rattle.discipline.proofs.strict.pick_from.Given as goal
-
-abbrev pub invariant-loop-class : goal.invariant-loop-class
-invariant-loop-class g l = (j : ℕ) → l.rows.first ≤ j → j < l.class → list_in l.rows j ≡ []

@@ -1,0 +1,3 @@
+pub mod Paced
+pub mod Plain
+pub mod Strict
