@@ -82,7 +82,7 @@ module _ {Q : Type 0} (stands : Q → List QueueEvent → Type 0) (says : Q → 
 
   -- an offer
   pub offer_stands : (most : Q → ℕ) (d : Ruling Q) (rows : Rowed Q) (h : List Happened) (ticket : Ticket) (class len prec now : ℕ) (w z : DrawnWords) (v : Verdict)
-      → SameRow most says d.rows rows → Stands stands says d h → IsOffer now (bare h)
+      → SameRow most says d.rows rows → Stands stands says d h → IsOffer (coming class len prec now) (bare h)
       → Answers stands says d.rows rows h class (entry ticket len prec) now w v z
       → IsAnswer (cbq_of says d) (bare h) w (coming class len prec now) v z
       × Stands stands says (record { shares = d.shares; rows = rows }) (offer_of (cbq_of says d) h ticket w (coming class len prec now) ∷ h)
@@ -168,6 +168,9 @@ module _ {Q : Type 0} (stands : Q → List QueueEvent → Type 0) (says : Q → 
 
     was_due : WasDue (cbq_of says d) b (transmission x)
     was_due = record {
+      packet = waits_here.packet;
+      front = waits_here.front;
+      len = waits_here.len;
       arrived = o.arrived;
       started = o.started;
       first = first_is stands says d h k clock same_rate same_link x.start free ∙ sends.first;

@@ -84,7 +84,7 @@ pub trait Discipline {
         ensures full { (result ≡ Verdict.Drop Reason.Full) ↔ (length (lists self.old class) ≡ limits self.old class) }
 
         // after a history that it stood for: the verdict, the random words drawn, and the history with this offer
-        ensures history { (h : List Happened) → stands self.old h → IsOffer now (bare h) → words.old.drawn < 2 ^ 64 - 1
+        ensures history { (h : List Happened) → stands self.old h → IsOffer (coming class len prec now) (bare h) → words.old.drawn < 2 ^ 64 - 1
             → IsAnswer (policy self.old) (bare h) words.old (coming class len prec now) result words.new
             × stands self.new (offer_of (policy self.old) h ticket words.old (coming class len prec now) ∷ h) }
 

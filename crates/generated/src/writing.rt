@@ -1,7 +1,7 @@
 // Writing the capture of the packets in pieces.
-ghost use Rattle.std.specs.Prelude.{◌≡◌, ◌≤◌, ◌<◌, ◌+◌, ◌*◌, ◌^◌, ◌++◌, [], ℕ, List, IsSome, OnOk, OnErr, IsErrOf};
+ghost use Rattle.std.specs.Prelude.{◌≡◌, ◌≤◌, ◌<◌, ◌+◌, ◌*◌, ◌^◌, ◌++◌, [], ℕ, List, vec_len, IsSome, OnOk, OnErr, IsErrOf};
 ghost use Rattle.capture_model.specs.Written.{record_text};
-ghost use Rattle.play_base.specs.View.{Wrote, WroteFront, WriteFault};
+ghost use Rattle.play_base.specs.View.{SameCounts, Wrote, WroteFront, WriteFault};
 ghost use Rattle.generated.specs.Generating.{Continues, StoppedIn, WroteFrontOf, WroteMore, record_of};
 ghost use Rattle.generated.specs.Packets.{generated_capture, most_packets};
 
@@ -16,7 +16,8 @@ const PIECE: u32 = 65_536 / 58;
 // Adds the record of a packet to a piece.
 fn add_record(piece: &mut Vec<u8>, packet: &GeneratedPacket) -> Result<(), AllocError>
     requires { packet.now.at < 2 ^ 32 * 10 ^ 9 }
-    ensures { OnOk result (piece.new.items ≡ piece.old.items ++ record_text (record_of packet.now)) }
+    ensures long { OnOk result (vec_len piece.new ≡ vec_len piece.old + 58) }
+    ensures behind { OnOk result (piece.new.items ≡ piece.old.items ++ record_text (record_of packet.now)) }
 {
     let head = record_head(packet.at, packet.frame.len() as u32, packet.len);
     piece.extend_from_slice(&head)?;
@@ -29,6 +30,7 @@ fn add_records(generator: &mut Generator, piece: &mut Vec<u8>, more: u32) -> Res
     requires few { generator.old.made + more ≤ most_packets }
     requires empty { piece.old.items ≡ [] }
     ensures behind { OnOk result (Continues generator.old.seed generator.old.made piece.new.items (generator.old.made + more)) }
+    ensures long { OnOk result (vec_len piece.new ≡ 58 * more) }
     ensures seed { OnOk result (generator.new.seed ≡ generator.old.seed) }
     ensures made { OnOk result (generator.new.made ≡ generator.old.made + more) }
 {
@@ -51,9 +53,12 @@ fn write_records<F: Files>(
 ) -> Result<(), Trouble>
     requires there { IsSome ((F.view files.old).part file) }
     requires few { generator.old.made + more ≤ most_packets }
+    requires short { more ≤ 1129 }
     ensures wrote { OnOk result (WroteMore (F.view files.old) (F.view files.new) file generator.old.seed generator.old.made (generator.old.made + more)) }
     ensures front { OnErr result (StoppedIn (F.view files.old) (F.view files.new) file generator.old.seed generator.old.made (generator.old.made + more)) }
     ensures failed { IsErrOf result Trouble.Failed → WriteFault (F.view files.old) (F.view files.new) file }
+    ensures counts { OnOk result (SameCounts (F.view files.old) (F.view files.new)) }
+    ensures piece { OnOk result (vec_len piece.new ≤ 65536) }
     ensures seed { OnOk result (generator.new.seed ≡ generator.old.seed) }
     ensures made { OnOk result (generator.new.made ≡ generator.old.made + more) }
 {
@@ -68,8 +73,9 @@ fn write_records<F: Files>(
 }
 
 /// Writes the capture of the first `count` packets of a seed, at most 1,000,000, to a file that is there, in pieces of at most
-/// 65,536 bytes. After an error a front of it was written. `Failed` comes only where the count of write faults of the file's part
+/// 65,536 bytes; then no count rose. After an error a front of it was written. `Failed` comes only where the count of write faults of the file's part
 /// rose in this call, `NoMemory` where there was no memory.
+#[tactic(auto, using(play_base::proofs::ViewLaws::same_trans))]
 pub fn write_capture<F: Files>(
     alloc: Global,
     files: &mut F,
@@ -80,6 +86,7 @@ pub fn write_capture<F: Files>(
     requires there { IsSome ((F.view files.old).part file) }
     requires few { count ≤ most_packets }
     ensures wrote { OnOk result (Wrote (F.view files.old) (F.view files.new) file (generated_capture seed count)) }
+    ensures counts { OnOk result (SameCounts (F.view files.old) (F.view files.new)) }
     ensures front { OnErr result (WroteFrontOf (F.view files.old) (F.view files.new) file (generated_capture seed count)) }
     ensures failed { IsErrOf result Trouble.Failed → WriteFault (F.view files.old) (F.view files.new) file }
 {

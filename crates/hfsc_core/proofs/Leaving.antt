@@ -30,6 +30,7 @@ use Rattle.hfsc_core.specs.declared.chooser.Chosen.{Chosen}
 use Rattle.hfsc_core.specs.declared.chooser.Chosen.TheVariants.{Real, Shared, Later, Nothing}
 use Rattle.hfsc_core.specs.Chooser.{MayLeave, Stands, chosen_now, classes_of, woken_at}
 use Rattle.hfsc_core.specs.Hfsc.{Held, HfscStands, Known, due_of, lens, lens_of, pick_of, policy_of, send_head}
+use Rattle.class_rows.proofs.FrontLemmas.{front_shown}
 use Rattle.hfsc_core.proofs.Choosing.{ChosenIs, chosen_is}
 use Rattle.hfsc_core.proofs.Policy.{now_first}
 use Rattle.hfsc_core.proofs.Standing.{same_policy}
@@ -105,7 +106,11 @@ module _ {Q : Type 0} (stands : Q → List QueueEvent → Type 0) (says : Q → 
       → HfscStands stands says (record { chooser = y; rows = rows; kept = d.kept }) (sent_of s ∷ h)
   sent_stands d y rows h clock s same k told o x classes woken t =
       let n : Held Q = record { chooser = y; rows = rows; kept = d.kept } in
+      let f = front_shown s.class (list_in d.rows s.class) h x.front (k.told.shown s.class) x.here in
       let was : WasDue (policy_of says d) (bare h) (record { class = s.class; len = s.len; rule = s.rule; start = s.start; end = s.end }) = record {
+        packet = f.packet;
+        front = f.front;
+        len = sym x.long ∙ f.len;
         arrived = o.arrived;
         started = o.started;
         first = now_first (classes_of d.chooser) (answering says d.rows) (bare h) k.chooser.tree s.start s.class x.sender;

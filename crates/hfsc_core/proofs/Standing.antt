@@ -142,7 +142,7 @@ module _ {Q : Type 0} (stands : Q → List QueueEvent → Type 0) (says : Q → 
 
   -- an offer that is dropped
   pub offer_dropped : (d : Held Q) (rows : Rowed Q) (h : List Happened) (ticket : Ticket) (class len prec now : ℕ) (w z : DrawnWords) (v : Verdict) → SameRow most says d.rows rows
-      → HfscStands stands says d h → IsOffer now (bare h) → Answers stands says d.rows rows h class (entry ticket len prec) now w v z → is_kept v ≡ false
+      → HfscStands stands says d h → IsOffer (coming class len prec now) (bare h) → Answers stands says d.rows rows h class (entry ticket len prec) now w v z → is_kept v ≡ false
       → IsAnswer (policy_of says d) (bare h) w (coming class len prec now) v z
       × HfscStands stands says (record { chooser = d.chooser; rows = rows; kept = d.kept }) (offer_of (policy_of says d) h ticket w (coming class len prec now) ∷ h)
   offer_dropped d rows h ticket class len prec now w z v same k o a e =
@@ -164,7 +164,7 @@ module _ {Q : Type 0} (stands : Q → List QueueEvent → Type 0) (says : Q → 
 
   -- an offer that is kept
   pub offer_kept : (d : Held Q) (y : Chooser) (rows : Rowed Q) (h : List Happened) (ticket : Ticket) (class len prec now : ℕ) (w z : DrawnWords) (v : Verdict) → SameRow most says d.rows rows
-      → HfscStands stands says d h → IsOffer now (bare h) → Answers stands says d.rows rows h class (entry ticket len prec) now w v z → is_kept v ≡ true
+      → HfscStands stands says d h → IsOffer (coming class len prec now) (bare h) → Answers stands says d.rows rows h class (entry ticket len prec) now w v z → is_kept v ≡ true
       → classes_of y ≡ classes_of d.chooser → woken_at y ≤ now → Stands y (Kept class now len ∷ hfsc_history (bare h))
       → IsAnswer (policy_of says d) (bare h) w (coming class len prec now) v z
       × HfscStands stands says (record { chooser = y; rows = rows; kept = d.kept + 1 }) (offer_of (policy_of says d) h ticket w (coming class len prec now) ∷ h)

@@ -7,7 +7,9 @@
 
 mod chooser;
 mod hfsc;
+mod laws;
 mod leaves;
 
 pub use hfsc::Hfsc;
 pub use hfsc_model::HfscClass;
+pub use laws::leaves_are_timely;

@@ -8,3 +8,4 @@ pub mod Timely
 pub mod Plays
 pub mod Few
 pub mod Small
+pub mod Orderly

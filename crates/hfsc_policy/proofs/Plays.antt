@@ -53,7 +53,7 @@ sized_at (b ∷ rest) (suc i) a x e = sized_at rest i a x.1 e
 parts : (x y : Choice) → y.class ≡ x.class → y.rule ≡ x.rule → x ≡ y
 parts x y c r = ap (λ n. record { class = n; rule = x.rule }) (sym c) ∙ ap (λ z. record { class = y.class; rule = z }) (sym r)
 
-heads_after : (v : Verdict) (a : Coming) (h : HfscHistory) → IsSized a.len → AreHeads h → AreHeads (with_offer v a h)
+pub heads_after : (v : Verdict) (a : Coming) (h : HfscHistory) → IsSized a.len → AreHeads h → AreHeads (with_offer v a h)
 heads_after v a h z x = go (is_kept v)
   where
     go : (b : Bool) → AreHeads (if b then Kept a.class a.at a.len ∷ h else h)
@@ -61,7 +61,7 @@ heads_after v a h z x = go (is_kept v)
     go false = x
 
 -- what is sent is the head
-front_head : (ws : List Coming) (b : Coming) (len : ℕ) → slice_get ws 0 ≡ Some b → len ≡ b.len → IsHead (waits ws) len
+pub front_head : (ws : List Coming) (b : Coming) (len : ℕ) → slice_get ws 0 ≡ Some b → len ≡ b.len → IsHead (waits ws) len
 front_head [] b len e f = absurd cc
 front_head (w ∷ ws) b len e f = let same : w ≡ b = cc in ap (λ (z : Coming). z.len) same ∙ sym f
 

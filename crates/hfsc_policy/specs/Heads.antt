@@ -2,17 +2,10 @@
 use Rattle.std.specs.Prelude.{◌≤◌, ◌+◌, ℕ, List, [], ◌∷◌}
 use Rattle.play_base.specs.Units.{units}
 use Rattle.altq_model.specs.History.{Coming}
+pub use Rattle.discipline.specs.Moments.{IsSized, longest}
 use Rattle.hfsc_model.specs.Event.{HfscHistory, Kept, Sent}
 use Rattle.hfsc_model.specs.Leaf.{leaf}
 use Rattle.hfsc_model.specs.Timely.{IsHead}
-
--- the longest packet, in bytes
-abbrev pub longest : ℕ
-longest = 262144
-
-pub record IsSized (len : ℕ) : Type 0 where
-  pub least : 1 ≤ len
-  pub most : len ≤ longest
 
 -- no packet that arrives is empty or longer than the longest
 abbrev pub AreSized : List Coming → Type 0

@@ -49,12 +49,13 @@ pub fn hfsc_sees_what_waits()
 
 /// Where the real-time curves never exceed the link, each packet of a leaf with such a curve ends at most the time of the longest
 /// packet, rounded up, after each moment that is due for it, whatever packets come and whatever the queues answer. It holds of
-/// every history of the policy with the link's ends in which the link never idles while a leaf may send, and of every play. Every
-/// prefix of such a history is one too.
-#[tactic(auto, using(crate::proofs::Timely::orderly_timely, crate::proofs::Plays::play_timely))]
+/// every history in order with the link's ends in which the link never idles while a leaf may send, and of every play. Every
+/// prefix of such a history is one too. In a history in order packets have lengths that may be, and each sending is of a head.
+#[tactic(auto, using(crate::proofs::Orderly::timely_in_order, crate::proofs::Orderly::orderly_heads, crate::proofs::Plays::play_timely))]
 pub fn leaves_are_timely()
+    ensures heads { (cs : List HfscClass) (answer : Answering) (h : List Event) → IsOrderly (hfsc_policy cs answer) h → AreHeads (hfsc_history h) }
     ensures histories { (cs : List HfscClass) (answer : Answering) (rate : ℕ) (h : List Event) → 0 < rate → IsClassTree cs
-        → IsOrderly (hfsc_policy cs answer) h → AreHeads (hfsc_history h) → HasLinkEnds rate h → IsBusy (hfsc_policy cs answer) rate h
+        → IsOrderly (hfsc_policy cs answer) h → HasLinkEnds rate h → IsBusy (hfsc_policy cs answer) rate h
         → FitLink rate (reals cs) → IsTimely rate (reals cs) (hfsc_history h) }
     ensures plays { (cs : List HfscClass) (answer : Answering) (rate seed : ℕ) (arrived : List Coming) → 0 < rate → IsClassTree cs
         → AreSized arrived → (g : List Happened) → AreRising arrived → AreDue (hfsc_policy cs answer) rate seed arrived g

@@ -3,3 +3,4 @@ pub mod ReaderLemmas
 pub mod ReadingLaws
 pub mod WordLemmas
 pub mod WritingLemmas
+pub mod PrefixLemmas

@@ -1,11 +1,11 @@
 -- What a reader stands for, as it takes bytes and answers records.
 use Rattle.std.proofs.Common.{◌≡◌, ◌≤◌, ◌<◌, ◌∙◌, ℕ, ◌+◌, List, [], ◌∷◌, ◌++◌, length, take, drop, refl, sym, ap, subst, arith, inl, inr, append-nil, append_assoc, length-append, length-drop}
-use Rattle.std.specs.Prelude.{◌⊎◌, Bool, true, false, nat_lt, max, None, Some}
+use Rattle.std.specs.Prelude.{◌⊎◌, ◌≢◌, IsSome, Bool, true, false, nat_lt, max, None, Some}
 use Rattle.std.specs.declared.option.Option.{Option}
 use Rattle.std.specs.Int.{w16, from_be_bytes, from_le_bytes}
 use Rattle.std.proofs.lemmas.List.{drop-append-le, drop-drop, length-take}
-use Rattle.play_base.specs.View.{View, IsAtEnd}
-use Rattle.play_base.proofs.ViewLaws.{took_more}
+use Rattle.play_base.specs.View.{View, Any, IsAtEnd, Took, Unchanged}
+use Rattle.play_base.proofs.ViewLaws.{keeps_fewer, keeps_trans, part_of_there, still_there, took_more}
 use Rattle.capture_model.specs.declared.damage.DamageKind.TheVariants.{ShortRecord}
 use Rattle.capture_model.specs.Capture.{Form, Step, Next, Fault, Stand, Formed, Unformed, Header, half, word, header, header_in, form_of, damage, step, place_after, Reads, ReadsFrom, ReadsAs}
 use Rattle.capture_model.specs.Capture as capture
@@ -21,7 +21,7 @@ use Rattle.pcap_files.specs.declared.reader.Reader.{Reader}
 use Rattle.pcap_files.specs.declared.record.Record.{Record}
 use Rattle.pcap_files.proofs.PlaceLemmas.{seen, word_seen, length_here, step_here}
 
-is_less : (m n : ℕ) → m < n → nat_lt m n ≡ true
+pub is_less : (m n : ℕ) → m < n → nat_lt m n ≡ true
 is_less m n h = grind (arith, h)
 
 -- the head of a file is told by its first 24 bytes
@@ -41,6 +41,17 @@ head_seen xs (y ∷ ys) (inl h) =
     let long : nat_lt (length (xs ++ y ∷ ys)) 24 ≡ false = grind (arith, length-append xs (y ∷ ys), h) in
     let long_front : nat_lt (length xs) 24 ≡ false = grind (arith, h) in
     rw (long, long_front, word_seen true xs (y ∷ ys) 0 (omega (arith, h))) (head_in_seen (form_of (word true xs 0)) xs (y ∷ ys) h)
+
+-- what was taken stands, where the next call changes nothing but counts
+pub took_unchanged : (a b c : View) (file : ℕ) (xs : List ℕ) → IsSome (a.part file) → Took a b file xs → Unchanged b c → Took a c file xs
+took_unchanged a b c file xs there x y =
+    let p = part_of_there (b.part file) (still_there _ _ a b file x.keeps there) in
+    record {
+      left = λ all h. let one = x.left all h in (one.0, one.1, y.keeps.left file p.0 p.1 tt ∙ one.2);
+      keeps = keeps_trans Any (λ f. f ≢ file) a b c x.keeps (keeps_fewer Any Any Any (λ f. f ≢ file) b c (λ n h. h) (λ f h. tt) y.keeps);
+      none = λ f h. y.none f (x.none f h);
+      said = y.said ∙ x.said;
+    }
 
 -- bytes that are taken stand behind those taken before
 pub took_twice : (a b c : View) (file : ℕ) (xs ys zs : List ℕ) → TookInto a b file xs ys → TookInto b c file ys zs → TookInto a c file xs zs
@@ -128,7 +139,7 @@ reads_back : (f : Form) (bytes : List ℕ) (records : List capture.Record) (last
     → Reads bytes records last → ReadsAs f bytes records last
 reads_back f bytes records last e x = subst (λ (h : Header). ReadsFrom h bytes records last) e x
 
-pending_same : (v : View) (f f' at at' : ℕ) (ahead ahead' bytes : List ℕ) → f' ≡ f → at' ≡ at → ahead' ≡ ahead
+pub pending_same : (v : View) (f f' at at' : ℕ) (ahead ahead' bytes : List ℕ) → f' ≡ f → at' ≡ at → ahead' ≡ ahead
     → Pending v f at ahead bytes → Pending v f' at' ahead' bytes
 pending_same v f f' at at' ahead ahead' bytes ef ep ea p = record {
   place = rw ep p.place;

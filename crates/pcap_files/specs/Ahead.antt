@@ -1,5 +1,5 @@
 -- Bytes that were taken from a file before they are asked for.
-use Rattle.std.specs.Prelude.{◌≡◌, ◌≤◌, ℕ, List, ◌++◌, length, drop, Some}
+use Rattle.std.specs.Prelude.{◌≡◌, ◌≤◌, ◌<◌, ℕ, List, ◌++◌, length, drop, Some}
 use Rattle.play_base.specs.View.{View, Took}
 
 -- some bytes were taken from the file, and nothing else changed but counts
@@ -9,6 +9,11 @@ TookSome old new file = (bytes : List ℕ) × Took old new file bytes
 -- the bytes that were taken from the file stand behind those that were there
 abbrev pub TookInto : View → View → ℕ → List ℕ → List ℕ → Type 0
 TookInto old new file before after = (bytes : List ℕ) × Took old new file bytes × (after ≡ before ++ bytes)
+
+-- and those are fewer than were needed
+pub record TookFewer (need : ℕ) (old new : View) (file : ℕ) (before after : List ℕ) : Type 0 where
+  pub took : TookInto old new file before after
+  pub fewer : length after < need
 
 -- From this place of the bytes on, `ahead` was taken from the file, and the rest is what the file has left.
 pub record Pending (v : View) (file place_at : ℕ) (ahead bytes : List ℕ) : Type 0 where

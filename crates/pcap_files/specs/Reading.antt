@@ -3,10 +3,12 @@ use Rattle.std.specs.Prelude.{◌≡◌, ◌≤◌, ◌<◌, ◌+◌, ℕ, max, 
 use Rattle.std.specs.declared.option.Option.{Option}
 use Rattle.play_base.specs.View.{View}
 use Rattle.capture_model.specs.declared.damage.DamageKind.TheVariants.{ShortRecord}
-use Rattle.capture_model.specs.Capture.{Step, End, Fault, damage, Limit, Formed, Unformed, header, step, Stand, place_after, Reads, IsCapture}
+use Rattle.capture_model.specs.Capture.{Step, End, Fault, damage, Limit, Formed, Unformed, header, step, Stand, place_after, Reads, IsCapture, IsLast}
 use Rattle.capture_model.specs.Capture as capture
 use Rattle.pcap_files.specs.Ahead.{Pending}
 use Rattle.pcap_files.specs.Forms.{form}
+use Rattle.pcap_files.specs.Stand.{stand_at}
+use Rattle.pcap_files.specs.declared.stand.Stand.TheVariants.{Headed}
 use Rattle.pcap_files.specs.declared.fault.CaptureFault.{CaptureFault}
 use Rattle.pcap_files.specs.declared.fault.CaptureFault.TheVariants as fault
 use Rattle.pcap_files.specs.declared.reader.Reader.{Reader}
@@ -60,6 +62,26 @@ Stays old_view new_view old new = (bytes : List ℕ) (records : List capture.Rec
 -- the records answered are all of a capture
 abbrev pub IsWhole : View → Reader → Type 0
 IsWhole v r = (bytes : List ℕ) (records : List capture.Record) → StandsFor v r bytes records → IsCapture bytes records
+
+-- of the bytes that were taken from the file, these records are the complete ones
+pub record AreAllTaken (v : View) (file : ℕ) (bytes : List ℕ) (records : List capture.Record) : Type 0 where
+  pub taken : List ℕ
+  pub rest : List ℕ
+  pub split : bytes ≡ taken ++ rest
+  pub left : v.left file ≡ Some rest
+  pub last : Step
+  pub reads : Reads taken records last
+  pub ended : IsLast last
+
+-- a read that failed cut the reader off: it has answered all complete records of the bytes that were taken from the file
+abbrev pub IsCutOff : View → View → Reader → Type 0
+IsCutOff old_view new_view r = (bytes : List ℕ) (records : List capture.Record) → StandsFor old_view r bytes records → AreAllTaken new_view r.file bytes records
+
+-- the header of a record stands in the bytes ahead, and so does all that it announces
+pub record HoldsNext (r : Reader) : Type 0 where
+  pub head : 16 ≤ length r.ahead
+  pub whole : (stamp captured original : ℕ) → stand_at (form r.head) r.progress.count r.progress.place r.ahead ≡ Headed stamp captured original
+      → 16 + captured ≤ length r.ahead
 
 -- what these bytes read as, where the fault is told by the bytes
 abbrev pub ReadsTo : CaptureFault → List ℕ → List capture.Record → Type 0

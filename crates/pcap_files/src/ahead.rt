@@ -1,7 +1,7 @@
 // Bytes that are taken from a file in pieces, ahead of their use.
 ghost use Rattle.std.specs.Prelude.{◌≡◌, ◌≤◌, ◌<◌, ◌+◌, ◌⊎◌, ◌^◌, ◌++◌, [], max, length, drop, vec_len, IsSome, IfOk, OnOk, OnErr, IsErrOf};
-ghost use Rattle.play_base.specs.View.{ReadFault, IsAtEnd};
-ghost use Rattle.pcap_files.specs.Ahead.{TookSome, TookInto};
+ghost use Rattle.play_base.specs.View.{ReadFault, SameCounts, IsAtEnd};
+ghost use Rattle.pcap_files.specs.Ahead.{TookFewer, TookSome, TookInto};
 
 use play_base::{Files, NoMemory, Trouble};
 use std::alloc::Global;
@@ -58,17 +58,20 @@ impl Ahead {
         self.from += count;
     }
 
-    // Takes bytes from the file until `need` are there, or the file is at its end. Bytes that were passed are dropped
+    // Takes bytes from the file until `need` are there, or the file is at its end; where they are there, it asks the file nothing. Bytes that were passed are dropped
     // before the first read; so the others are moved at most once in a call, and only in one that has to read.
     #[inline]
     pub fn fill<F: Files>(&mut self, files: &mut F, file: u32, need: usize) -> Result<(), Trouble>
         requires there { IsSome ((F.view files.old).part file) }
         requires small { need < 2 ^ 40 }
         ensures took { OnOk result (TookInto (F.view files.old) (F.view files.new) file self.old self.new) }
+        ensures counts { OnOk result (SameCounts (F.view files.old) (F.view files.new)) }
         ensures enough { OnOk result ((need ≤ length self.new) ⊎ IsAtEnd (F.view files.new) file) }
         ensures bounded { OnOk result (length self.new ≤ max (length self.old) (need + 65535)) }
         ensures some { OnErr result (TookSome (F.view files.old) (F.view files.new) file) }
         ensures failed { IsErrOf result Trouble.Failed → ReadFault (F.view files.old) (F.view files.new) file }
+        ensures stopped { IsErrOf result Trouble.Failed → TookFewer need (F.view files.old) (F.view files.new) file self.old self.new }
+        ensures idle { need ≤ length self.old → (F.view files.new ≡ F.view files.old) × (self.new ≡ self.old) }
     {
         if self.buffer.len() - self.from >= need {
             return Ok(());
@@ -81,10 +84,12 @@ impl Ahead {
         requires there { IsSome ((F.view files.old).part file) }
         requires small { need < 2 ^ 40 }
         ensures took { OnOk result (TookInto (F.view files.old) (F.view files.new) file self.old self.new) }
+        ensures counts { OnOk result (SameCounts (F.view files.old) (F.view files.new)) }
         ensures enough { OnOk result ((need ≤ length self.new) ⊎ IsAtEnd (F.view files.new) file) }
         ensures bounded { OnOk result (length self.new ≤ max (length self.old) (need + 65535)) }
         ensures some { OnErr result (TookSome (F.view files.old) (F.view files.new) file) }
         ensures failed { IsErrOf result Trouble.Failed → ReadFault (F.view files.old) (F.view files.new) file }
+        ensures stopped { IsErrOf result Trouble.Failed → TookFewer need (F.view files.old) (F.view files.new) file self.old self.new }
     {
         drop_front(&mut self.buffer, self.from);
         self.from = 0;
@@ -117,10 +122,13 @@ fn take_pieces<F: Files>(
     requires small { need < 2 ^ 40 }
     requires room { length piece.old ≡ 65536 }
     ensures took { OnOk result (TookInto (F.view files.old) (F.view files.new) file buffer.old.items buffer.new.items) }
+    ensures counts { OnOk result (SameCounts (F.view files.old) (F.view files.new)) }
     ensures enough { OnOk result ((need ≤ vec_len buffer.new) ⊎ IsAtEnd (F.view files.new) file) }
     ensures bounded { OnOk result (vec_len buffer.new ≤ max (vec_len buffer.old) (need + 65535)) }
     ensures some { OnErr result (TookSome (F.view files.old) (F.view files.new) file) }
     ensures failed { IsErrOf result Trouble.Failed → ReadFault (F.view files.old) (F.view files.new) file }
+    ensures stopped { IsErrOf result Trouble.Failed →
+        TookFewer need (F.view files.old) (F.view files.new) file buffer.old.items buffer.new.items }
     ensures room { length piece.new ≡ length piece.old }
 {
     while buffer.len() < need {

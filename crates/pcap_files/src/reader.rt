@@ -1,8 +1,8 @@
 // Reads the records of a capture one by one.
 ghost use Rattle.std.specs.Prelude.{◌≡◌, ◌≤◌, ◌<◌, ◌+◌, ◌^◌, ◌⊎◌, ℕ, List, [], max, length, None, Some, Err, IsSome, IfOk, IfErr, IfSome, IfNone, OnOk, OnErr, IsErrOf};
-ghost use Rattle.play_base.specs.View.{ReadFault};
+ghost use Rattle.play_base.specs.View.{ReadFault, SameCounts};
 ghost use Rattle.pcap_files.specs.Ahead.{TookSome};
-ghost use Rattle.pcap_files.specs.Reading.{StandsFor, Answers, Counts, Stays, IsWhole, IsFault, IsHeadFault, SameBut, IsTaken, IsCut};
+ghost use Rattle.pcap_files.specs.Reading.{StandsFor, Answers, AreAllTaken, Counts, HoldsNext, IsCutOff, Stays, IsWhole, IsFault, IsHeadFault, SameBut, IsTaken, IsCut};
 
 use crate::ahead::Ahead;
 use crate::fault::fault_of;
@@ -32,7 +32,8 @@ pub struct Reader {
 impl Reader {
     /// Reads the header of the capture that the file has left. `Damage` comes only where the header fails a test, and no
     /// reader is answered where it does; `Read` comes only where the count of read faults of the file's part rose in this
-    /// call, and `Limit` never. When a reader is answered, at most 65,535 bytes past the header were taken. `file` was
+    /// call, and `Limit` never; then no more than a part of the header was taken. When a reader is answered, at most 65,535 bytes past
+    /// the header were taken, and no count rose. `file` was
     /// answered by `files`.
     pub fn start<F: Files>(alloc: Global, files: &mut F, file: u32) -> Result<Reader, CaptureFault>
         requires there { IsSome ((F.view files.old).part file) }
@@ -43,6 +44,9 @@ impl Reader {
         ensures damaged { IfErr result (λ fault. (bytes : List ℕ) → (F.view files.old).left file ≡ Some bytes →
             IsHeadFault fault bytes) }
         ensures read { IsErrOf result CaptureFault.Read → ReadFault (F.view files.old) (F.view files.new) file }
+        ensures cut { IsErrOf result CaptureFault.Read → (bytes : List ℕ) → (F.view files.old).left file ≡ Some bytes →
+            AreAllTaken (F.view files.new) file bytes [] }
+        ensures counts { OnOk result (SameCounts (F.view files.old) (F.view files.new)) }
         ensures some { TookSome (F.view files.old) (F.view files.new) file }
     {
         let Ok(mut ahead) = Ahead::new(alloc) else {
@@ -71,9 +75,10 @@ impl Reader {
 
     /// The next record, or none where the file ends at a record's place. `Damage` and `Limit` come only where the bytes at
     /// that place fail a test, and neither a record nor the end is answered where they do; `Read` comes only where the
-    /// count of read faults of the file's part rose in this call. After any fault the reader answers that fault again and
-    /// takes nothing. When a record is answered, at most 65,535 bytes past it were taken. Between this reader's calls
-    /// nothing else may read from the file. Takes time in proportion to the bytes taken and the record's.
+    /// count of read faults of the file's part rose in this call, and then the records answered are all that stand complete in
+    /// the bytes that were taken. After any fault the reader answers that fault again and takes nothing. When a record is
+    /// answered, at most 65,535 bytes past it were taken, and none where it stood in those taken before. Between this
+    /// reader's calls nothing else may read from the file. Takes time in proportion to the bytes taken and the record's.
     pub fn next<F: Files>(&mut self, files: &mut F) -> Result<Option<Record>, CaptureFault>
         requires there { IsSome ((F.view files.old).part self.old.file) }
         ensures record { IfOk result (λ answer. IfSome answer (λ r.
@@ -85,6 +90,9 @@ impl Reader {
         ensures stays { OnErr result (Stays (F.view files.old) (F.view files.new) self.old self.new) }
         ensures read { IsErrOf result CaptureFault.Read →
             ReadFault (F.view files.old) (F.view files.new) self.old.file ⊎ (self.old.fault ≡ Some CaptureFault.Read) }
+        ensures cut { IsErrOf result CaptureFault.Read → self.old.fault ≡ None → IsCutOff (F.view files.old) (F.view files.new) self.old }
+        ensures counts { OnOk result (SameCounts (F.view files.old) (F.view files.new)) }
+        ensures ahead { HoldsNext self.old → F.view files.new ≡ F.view files.old }
         ensures again { (fault : CaptureFault) → self.old.fault ≡ Some fault → result ≡ Err fault }
         ensures idle { IsSome self.old.fault → F.view files.new ≡ F.view files.old }
         ensures kept { IfErr result (λ fault. self.new.fault ≡ Some fault) }
@@ -116,6 +124,9 @@ impl Reader {
         ensures fault { IfErr result (λ fault. IsFault (F.view files.old) self.old fault) }
         ensures same { OnErr result (SameBut self.old self.new) }
         ensures read { IsErrOf result CaptureFault.Read → ReadFault (F.view files.old) (F.view files.new) self.old.file }
+        ensures cut { IsErrOf result CaptureFault.Read → IsCutOff (F.view files.old) (F.view files.new) self.old }
+        ensures counts { OnOk result (SameCounts (F.view files.old) (F.view files.new)) }
+        ensures ahead { HoldsNext self.old → F.view files.new ≡ F.view files.old }
         ensures sound { OnOk result (self.new.fault ≡ None) }
         ensures file { self.new.file ≡ self.old.file }
         ensures some { TookSome (F.view files.old) (F.view files.new) self.old.file }

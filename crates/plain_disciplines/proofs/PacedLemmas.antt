@@ -25,6 +25,7 @@ use Rattle.discipline.specs.declared.pick.Sending.{Sending}
 use Rattle.discipline.specs.Laws.{AreDistinct, IsAnswer, IsLeast, Sends, coming, entry, offer_of, seen, seen_of, sent_of}
 use Rattle.discipline.specs.Moments.{IsChoice, IsOffer, IsOrderly, WasDue}
 use Rattle.class_rows.specs.Rows.{Answers, IsOther, Rowed, SameRow, Told, answering, list_in}
+use Rattle.class_rows.proofs.FrontLemmas.{front_shown}
 use Rattle.plain_disciplines.specs.Plain.{IsPlain}
 use Rattle.plain_disciplines.specs.Paced.{Pacing, Stands, due_at, due_of, multiple_from, paced, paced_due, paced_of}
 
@@ -199,25 +200,27 @@ pub choice_is : (class c : ℕ) (r : Rule) → c ≡ class → choice class r �
 choice_is class c r e = sym (ap (λ (n : ℕ). choice n r) e)
 
 -- what is sent is the head, at a multiple
-pub record SendsHead (class gap : ℕ) (xs : List Entry) (now class_sent : ℕ) (rule : Rule) : Type 0 where
+pub record SendsHead (class gap : ℕ) (xs : List Entry) (now class_sent len_sent : ℕ) (rule : Rule) : Type 0 where
   pub head_entry : Entry
   pub front : slice_get xs 0 ≡ Some head_entry
   pub multiple : multiple_from gap now ≡ now
   pub same_class : class_sent ≡ class
   pub same_rule : rule ≡ Own
+  pub same_len : head_entry.len ≡ len_sent
 
 sends_head_at : (class gap : ℕ) (x : Entry) (xs : List Entry) (now c l : ℕ) (t : Ticket) (r : Rule) (b : Bool) → eqb (multiple_from gap now) now ≡ b
-    → due_at b class (multiple_from gap now) x ≡ Send t c l r → SendsHead class gap (x ∷ xs) now c r
+    → due_at b class (multiple_from gap now) x ≡ Send t c l r → SendsHead class gap (x ∷ xs) now c l r
 sends_head_at class gap x xs now c l t r true m e = record {
   head_entry = x;
   front = refl;
   multiple = eqb-true (multiple_from gap now) now m;
   same_class = let n : class ≡ c = cc in sym n;
   same_rule = let n : Own ≡ r = cc in sym n;
+  same_len = cc;
 }
 sends_head_at class gap x xs now c l t r false m e = absurd (cc)
 
-pub sends_head : (class gap : ℕ) (xs : List Entry) (now c l : ℕ) (t : Ticket) (r : Rule) → paced_due class gap xs now ≡ Send t c l r → SendsHead class gap xs now c r
+pub sends_head : (class gap : ℕ) (xs : List Entry) (now c l : ℕ) (t : Ticket) (r : Rule) → paced_due class gap xs now ≡ Send t c l r → SendsHead class gap xs now c l r
 sends_head class gap [] now c l t r e = absurd (cc)
 sends_head class gap (x ∷ xs) now c l t r e = sends_head_at class gap x xs now c l t r (eqb (multiple_from gap now) now) refl e
 
@@ -246,7 +249,11 @@ module _ {Q : Type 0} (stands : Q → List QueueEvent → Type 0) (says : Q → 
       let xs : List Entry = list_in d.rows class in
       let x = sends_head class d.gap xs s.start s.class s.len s.ticket s.rule due in
       let e : Pacing Q = record { gap = d.gap; rows = rows } in
+      let f = front_shown class xs h x.head_entry (k.told.shown class) x.front in
       let was : WasDue (paced_of says d) (bare h) (record { class = s.class; len = s.len; rule = s.rule; start = s.start; end = s.end }) = record {
+        packet = f.packet;
+        front = ap (λ (n : ℕ). slice_get (waiting n (bare h)) 0) x.same_class ∙ f.front;
+        len = sym x.same_len ∙ f.len;
         arrived = o.arrived;
         started = o.started;
         first = first_some class d.gap (answering says d.rows) xs x.head_entry (bare h) s.start (packets_here d h k) x.front ∙ ap Some x.multiple;
@@ -257,7 +264,7 @@ module _ {Q : Type 0} (stands : Q → List QueueEvent → Type 0) (says : Q → 
 
   -- an offer
   pub offer_stands : (most : Q → ℕ) (d : Pacing Q) (rows : Rowed Q) (h : List Happened) (ticket : Ticket) (class len prec now : ℕ) (w z : DrawnWords) (v : Verdict)
-      → SameRow most says d.rows rows → Stands stands says d h → IsOffer now (bare h) → Answers stands says d.rows rows h class (entry ticket len prec) now w v z
+      → SameRow most says d.rows rows → Stands stands says d h → IsOffer (coming class len prec now) (bare h) → Answers stands says d.rows rows h class (entry ticket len prec) now w v z
       → IsAnswer (paced_of says d) (bare h) w (coming class len prec now) v z
       × Stands stands says (record { gap = d.gap; rows = rows }) (offer_of (paced_of says d) h ticket w (coming class len prec now) ∷ h)
   offer_stands most d rows h ticket class len prec now w z v same k o a =

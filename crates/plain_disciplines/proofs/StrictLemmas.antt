@@ -21,6 +21,7 @@ use Rattle.discipline.specs.Laws.{IsAnswer, IsDue, NamesHead, Waits, coming, ent
 use Rattle.discipline.specs.Moments.{IsChoice, IsOffer, IsOrderly, WasDue}
 use Rattle.class_rows.specs.Rows.{Answers, Rowed, SameRow, Told, answering, classes_in, holding, list_in}
 use Rattle.class_rows.proofs.RowLemmas.{holding_distinct}
+use Rattle.class_rows.proofs.FrontLemmas.{front_shown}
 use Rattle.plain_disciplines.specs.Plain.{IsPlain}
 use Rattle.plain_disciplines.specs.Strict.{IsStrict, Ordered, Stands, classes_from, first_pick, pick_head, strict_due, strict_of}
 
@@ -142,6 +143,26 @@ due_by rule cs answer now b (Send t class len r) d = (d.0, choice_is (first_wait
 due_by rule cs answer now b (Wait till) d = absurd d
 due_by rule cs answer now b Empty d = d
 
+-- what is sent is the front of its list
+record SendsFront (xs : List Entry) (length_is : ℕ) : Type 0 where
+  entry_is : Entry
+  front : slice_get xs 0 ≡ Some entry_is
+  long : entry_is.len ≡ length_is
+
+front_case_of : (rule : Rule) (lists : ℕ → List Entry) (c : ℕ) (xs : List Entry) (other : Pick) (t : Ticket) (class len : ℕ) (r : Rule) → xs ≡ lists c
+    → (other ≡ Send t class len r → SendsFront (lists class) len) → pick_head c rule xs other ≡ Send t class len r → SendsFront (lists class) len
+front_case_of rule lists c [] other t class len r e f p = f p
+front_case_of rule lists c (x ∷ xs) other t class len r e f p =
+    let here : c ≡ class = cc in
+    let long : x.len ≡ len = cc in
+    record { entry_is = x; front = ap (λ (n : ℕ). slice_get (lists n) 0) (sym here) ∙ ap (λ (ys : List Entry). slice_get ys 0) (sym e); long = long }
+
+sends_front : (rule : Rule) (lists : ℕ → List Entry) (cs : List ℕ) (t : Ticket) (class len : ℕ) (r : Rule) → first_pick rule lists cs ≡ Send t class len r
+    → SendsFront (lists class) len
+sends_front rule lists [] t class len r p = absurd (cc)
+sends_front rule lists (c ∷ cs) t class len r p =
+    front_case_of rule lists c (lists c) (first_pick rule lists cs) t class len r refl (sends_front rule lists cs t class len r) p
+
 module _ {Q : Type 0} (stands : Q → List QueueEvent → Type 0) (says : Q → Saying) where
   what_is : (d : Ordered Q) (h : List Happened) (now : ℕ) → Stands stands says d h
       → DueIs d.rule now (first_at (strict_of says d) now (bare h) (classes_in d.rows)) (first_waiting (classes_in d.rows) (bare h)) (strict_due d)
@@ -173,7 +194,12 @@ module _ {Q : Type 0} (stands : Q → List QueueEvent → Type 0) (says : Q → 
       let D : Pick → Type 0 = λ z. DueIs d.rule s.start (first_at (strict_of says d) s.start (bare h) (classes_in d.rows)) (first_waiting (classes_in d.rows) (bare h)) z in
       let is = subst D due (what_is d h s.start k) in
       let e : Ordered Q = record { rule = d.rule; rows = rows } in
+      let x = sends_front d.rule (list_in d.rows) (classes_in d.rows) s.ticket s.class s.len s.rule due in
+      let f = front_shown s.class (list_in d.rows s.class) h x.entry_is (k.told.shown s.class) x.front in
       let was : WasDue (strict_of says d) (bare h) (record { class = s.class; len = s.len; rule = s.rule; start = s.start; end = s.end }) = record {
+        packet = f.packet;
+        front = f.front;
+        len = sym x.long ∙ f.len;
         arrived = o.arrived;
         started = o.started;
         first = is.0;
@@ -184,7 +210,7 @@ module _ {Q : Type 0} (stands : Q → List QueueEvent → Type 0) (says : Q → 
 
   -- an offer
   pub offer_stands : (most : Q → ℕ) (d : Ordered Q) (rows : Rowed Q) (h : List Happened) (ticket : Ticket) (class len prec now : ℕ) (w z : DrawnWords) (v : Verdict)
-      → SameRow most says d.rows rows → Stands stands says d h → IsOffer now (bare h) → Answers stands says d.rows rows h class (entry ticket len prec) now w v z
+      → SameRow most says d.rows rows → Stands stands says d h → IsOffer (coming class len prec now) (bare h) → Answers stands says d.rows rows h class (entry ticket len prec) now w v z
       → IsAnswer (strict_of says d) (bare h) w (coming class len prec now) v z
       × Stands stands says (record { rule = d.rule; rows = rows }) (offer_of (strict_of says d) h ticket w (coming class len prec now) ∷ h)
   offer_stands most d rows h ticket class len prec now w z v same k o a =

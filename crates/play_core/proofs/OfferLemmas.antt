@@ -23,7 +23,7 @@ use Rattle.leaf_queue.specs.Pool.{Held, packet_of, is_marked, count_of}
 use Rattle.link_clock.specs.Clock.{Clock}
 use Rattle.discipline.specs.Laws.{HasRate, IsAnswer, after_offer, held_in, room_of}
 use Rattle.discipline.specs.Laws as discipline
-use Rattle.discipline.specs.Moments.{IsOffer}
+use Rattle.discipline.specs.Moments.{IsOffer, IsSized}
 use Rattle.play_core.specs.declared.state.Progress.{Progress}
 use Rattle.play_core.specs.declared.totals.Totals.{Totals}
 use Rattle.play_core.specs.declared.turn.Dropped.{Dropped}
@@ -41,7 +41,7 @@ use Rattle.play_core.proofs.TotalLemmas.{one_lost, sent_offer, dropped_offer}
 pub record IsTaken (stood stood' : List Happened → Type 0) (lists lists' : ℕ → List Entry) (limits : ℕ → ℕ) (p : Policy) (w w' : DrawnWords) (x x' : Progress)
     (class at : ℕ) (b : Coming) (packet : Packet) (ticket : Ticket) (v : Verdict) : Type 0 where
   pub entry : Entry
-  pub history : (h : List Happened) → stood h → IsOffer at (bare h) → w.drawn < 2 ^ 64 - 1
+  pub history : (h : List Happened) → stood h → IsOffer b (bare h) → w.drawn < 2 ^ 64 - 1
       → IsAnswer p (bare h) w b v w' × stood' (discipline.offer_of p h ticket w b ∷ h)
   pub one_of : IsOneOf class p.classes
   pub lists_are : (c : ℕ) → lists' c ≡ after_offer v class entry lists c
@@ -94,12 +94,13 @@ pub record IsAnswered (p : Policy) (stood' : List Happened → Type 0) (w w' : D
 
 pub may_offer : (p : Policy) (stood : List Happened → Type 0) (lists : ℕ → List Entry) (limits : ℕ → ℕ) (rate : Option ℕ) (arrived : List Arrival) (w : DrawnWords) (x : Progress)
     (g : List Happened) (a : Arrival) → IsPromised p x.clock.rate → (y : IsGoing p stood lists limits rate arrived w x g) → slice_get arrived (offered (bare g)) ≡ Some a
-    → IsOffer a.at (bare y.told)
-may_offer p stood lists limits rate arrived w x g a m y e =
+    → IsSized a.len → IsOffer (coming_of a) (bare y.told)
+may_offer p stood lists limits rate arrived w x g a m y e sized =
     let c = is_coming arrived g a e in
     let come = come_of p stood lists limits rate arrived w x g m y in
-    let P : List Event → Type 0 = λ h. IsOffer a.at h in
+    let P : List Event → Type 0 = λ h. IsOffer (coming_of a) h in
     subst P (sym y.same) (record {
+      sized = sized;
       arrived = next_later p x.clock.rate w.seed (comings arrived) g m.positive m.lawful y.rising y.begun.events (coming_of a) c.seen;
       started = come.passed (coming_of a) (ap (slice_get (comings arrived)) y.totals.arrived ∙ c.seen);
     })
@@ -110,12 +111,12 @@ few_drawn p stood lists limits rate arrived w x g a y e = omega (arith, y.one_ea
 
 pub answered : (p : Policy) (stood stood' : List Happened → Type 0) (lists : ℕ → List Entry) (limits : ℕ → ℕ) (rate : Option ℕ) (arrived : List Arrival) (w w' : DrawnWords) (x : Progress)
     (g : List Happened) (a : Arrival) (ticket : Ticket) (v : Verdict) → IsPromised p x.clock.rate → (y : IsGoing p stood lists limits rate arrived w x g)
-    → slice_get arrived (offered (bare g)) ≡ Some a
-    → ((h : List Happened) → stood h → IsOffer a.at (bare h) → w.drawn < 2 ^ 64 - 1
+    → slice_get arrived (offered (bare g)) ≡ Some a → IsSized a.len
+    → ((h : List Happened) → stood h → IsOffer (coming_of a) (bare h) → w.drawn < 2 ^ 64 - 1
     → IsAnswer p (bare h) w (coming_of a) v w' × stood' (discipline.offer_of p h ticket w (coming_of a) ∷ h))
     → IsAnswered p stood' w w' g y.told (coming_of a) ticket v
-answered p stood stood' lists limits rate arrived w w' x g a ticket v m y e f =
-    let r = f y.told y.stands (may_offer p stood lists limits rate arrived w x g a m y e) (few_drawn p stood lists limits rate arrived w x g a y e) in
+answered p stood stood' lists limits rate arrived w w' x g a ticket v m y e sized f =
+    let r = f y.told y.stands (may_offer p stood lists limits rate arrived w x g a m y e sized) (few_drawn p stood lists limits rate arrived w x g a y e) in
     let t = ap (λ (h : List Event). (p.answer h w (coming_of a)).took) y.same in
     record {
       verdict = r.0.verdict ∙ ap (λ (h : List Event). (p.answer h w (coming_of a)).verdict) y.same;
@@ -176,11 +177,11 @@ pub record HasOffered (p : Policy) (stood' : List Happened → Type 0) (lists' :
 
 pub going_offered : (p : Policy) (stood stood' : List Happened → Type 0) (lists lists' : ℕ → List Entry) (limits : ℕ → ℕ) (rate : Option ℕ) (arrived : List Arrival) (w w' : DrawnWords)
     (x x' : Progress) (g : List Happened) (a : Arrival) (packet : Packet) (placed : Placed) (ticket : Ticket) (v : Verdict) → IsPromised p x.clock.rate
-    → (y : IsGoing p stood lists limits rate arrived w x g) → Offers p x.clock.rate w.seed arrived g a packet placed
+    → (y : IsGoing p stood lists limits rate arrived w x g) → Offers p x.clock.rate w.seed arrived g a packet placed → IsSized a.len
     → IsTaken stood stood' lists lists' limits p w w' x x' a.class a.at (coming_of a) packet ticket v → HasOffered p stood' lists' limits rate arrived w w' x' g (coming_of a) v
-going_offered p stood stood' lists lists' limits rate arrived w w' x x' g a packet placed ticket v m y o z =
+going_offered p stood stood' lists lists' limits rate arrived w w' x x' g a packet placed ticket v m y o sized z =
     let b : Coming = coming_of a in
-    let r = answered p stood stood' lists limits rate arrived w w' x g a ticket v m y o.next.there z.history in
+    let r = answered p stood stood' lists limits rate arrived w w' x g a ticket v m y o.next.there sized z.history in
     let c = is_coming arrived g a o.next.there in
     let n : ℕ = offered (bare g) + 1 in
     let first : DrawnWords = record { seed = w.seed; drawn = drawn (bare g) } in
@@ -241,13 +242,16 @@ pub same_coming : (n : ℕ) (a : Arrival) (packet : Packet) (placed : Placed) �
 same_coming n a packet placed e f =
     ap (λ (k : Packet). discipline.coming placed.class k.len placed.prec k.at) e ∙ ap (λ (k : Placed). discipline.coming k.class a.len k.prec a.at) f
 
-pub history_for : (p : Policy) (stood stood' : List Happened → Type 0) (w w' : DrawnWords) (ticket : Ticket) (v : Verdict) (at t : ℕ) (b d : Coming) → at ≡ t → b ≡ d
-    → ((h : List Happened) → stood h → IsOffer at (bare h) → w.drawn < 2 ^ 64 - 1 → IsAnswer p (bare h) w b v w' × stood' (discipline.offer_of p h ticket w b ∷ h))
-    → ((h : List Happened) → stood h → IsOffer t (bare h) → w.drawn < 2 ^ 64 - 1 → IsAnswer p (bare h) w d v w' × stood' (discipline.offer_of p h ticket w d ∷ h))
-history_for p stood stood' w w' ticket v at t b d e f y =
-    let P : ℕ → Type 0 = λ k. (h : List Happened) → stood h → IsOffer k (bare h) → w.drawn < 2 ^ 64 - 1 → IsAnswer p (bare h) w b v w' × stood' (discipline.offer_of p h ticket w b ∷ h) in
-    let Q : Coming → Type 0 = λ k. (h : List Happened) → stood h → IsOffer t (bare h) → w.drawn < 2 ^ 64 - 1 → IsAnswer p (bare h) w k v w' × stood' (discipline.offer_of p h ticket w k ∷ h) in
-    subst Q f (subst P e y)
+pub history_for : (p : Policy) (stood stood' : List Happened → Type 0) (w w' : DrawnWords) (ticket : Ticket) (v : Verdict) (b d : Coming) → b ≡ d
+    → ((h : List Happened) → stood h → IsOffer b (bare h) → w.drawn < 2 ^ 64 - 1 → IsAnswer p (bare h) w b v w' × stood' (discipline.offer_of p h ticket w b ∷ h))
+    → ((h : List Happened) → stood h → IsOffer d (bare h) → w.drawn < 2 ^ 64 - 1 → IsAnswer p (bare h) w d v w' × stood' (discipline.offer_of p h ticket w d ∷ h))
+history_for p stood stood' w w' ticket v b d e y =
+    let P : Coming → Type 0 = λ k. (h : List Happened) → stood h → IsOffer k (bare h) → w.drawn < 2 ^ 64 - 1 → IsAnswer p (bare h) w k v w' × stood' (discipline.offer_of p h ticket w k ∷ h) in
+    subst P e y
+
+-- the length of an arrival is that of its packet
+pub sized : (n : ℕ) (a : Arrival) (packet : Packet) → packet ≡ numbered n a → 1 ≤ packet.len → packet.len ≤ 262144 → IsSized a.len
+sized n a packet e least most = let l = ap (λ (k : Packet). k.len) e in record { least = omega (arith, l, least); most = omega (arith, l, most) }
 
 -- what is handed back tells of a drop
 pub lost : (r : Option Dropped) (v : Verdict) (packet : Packet) → r ≡ handed_back v packet → cond (is_some r) 1 0 ≡ one_lost v

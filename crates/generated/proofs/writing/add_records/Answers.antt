@@ -21,6 +21,7 @@ loop-added-preserved c =
       seed = c.next-packet.ensures.seed ∙ h.seed;
       made = omega (arith, c.next-packet.ensures.made, h.made);
       behind = continues_by c.args.generator.now.seed c.args.generator.now.made c.loop-added.added c.loop-added.generator.seed c.loop-added.generator.made
-          c.loop-added.piece.items c.add_record.new.piece.items (record_of c.next-packet.result) c.in_ok-add_record.ensures c.next-packet.ensures.packet h.seed
+          c.loop-added.piece.items c.add_record.new.piece.items (record_of c.next-packet.result) c.in_ok-add_record.ensures.behind c.next-packet.ensures.packet h.seed
           h.made h.behind;
+      long = omega (arith, c.in_ok-add_record.ensures.long, h.long);
     }

@@ -1,6 +1,6 @@
 use Rattle.std.proofs.Common.{◌≡◌, ◌≤◌, ◌+◌, ◌∙◌, List, ℕ, ap, arith, subst}
 use Rattle.play_base.specs.View.{Wrote}
-use Rattle.play_base.proofs.ViewLaws.{still_there}
+use Rattle.play_base.proofs.ViewLaws.{same_trans, still_there}
 use Rattle.generated.specs.Generating.{Making}
 use Rattle.generated.specs.Packets.{generated_capture}
 use Rattle.generated.proofs.PacketLemmas.{none_stopped, piece_stopped, piece_wrote, stopped_same, wrote_same}
@@ -18,6 +18,7 @@ loop-made-init g c =
       made = ap (λ (m : Making). m.made) c.new-generator.ensures;
       there = still_there _ _ _ _ _ c.in-Ok.ensures.wrote.keeps c.requires.there;
       wrote = subst P c.head_bytes.ensures c.in-Ok.ensures.wrote;
+      counts = c.in-Ok.ensures.counts;
     }
 
 pub returns-in-Err-write_records-clause-front : goal.returns-in-Err-write_records-clause-front
@@ -37,6 +38,7 @@ loop-made-preserved g c =
       made = c.in-Ok-write_records.ensures.made ∙ ap (λ (k : ℕ). k + c.min-more.result) h.made;
       there = still_there _ _ _ _ _ x.wrote.keeps h.there;
       wrote = piece_wrote _ _ _ c.args.file c.args.seed c.loop-made.made (c.loop-made.made + c.min-more.result) c.requires.there h.wrote x;
+      counts = same_trans _ _ _ h.counts c.in-Ok-write_records.ensures.counts;
     }
 
 pub returns-clause-wrote : goal.returns-clause-wrote

@@ -1,6 +1,7 @@
 use Rattle.std.proofs.Common.{◌≡◌, ◌++◌, ◌∙◌, ℕ, List, [], ap, sym, arith, take, append_assoc, append-nil}
 use Rattle.std.proofs.lemmas.Grind.{common_steps}
-use Rattle.play_base.proofs.ViewLaws.{took_more, still_there}
+use Rattle.play_base.proofs.ViewLaws.{same_trans, took_more, still_there}
+use Rattle.pcap_files.proofs.ReaderLemmas.{took_unchanged}
 use Rattle.pcap_files.proofs.ahead.take_pieces.Goals as goal
 
 pub loop-files-preserved : goal.loop-files-preserved
@@ -9,6 +10,7 @@ loop-files-preserved g c =
     let next = take c.in-Ok.count c.read.new.into in
     let grown : c.extend_from_slice.new.self.items ≡ c.loop-files.buffer.items ++ next = grind (arith, common_steps) in
     record {
+      counts = same_trans _ _ _ c.loop-files.invariant.counts c.in-Ok.ensures.counts;
       there = still_there _ _ _ _ _ c.in-Ok.ensures.took.keeps c.loop-files.invariant.there;
       room = grind (arith, common_steps);
       bounded = grind (arith, common_steps, c.in-Ok.ensures.count);
@@ -34,3 +36,11 @@ returns-then-is_err-clause-some g c =
     let before = c.loop-files.invariant.took in
     let next = take c.in-Ok.count c.read.new.into in
     (before.0 ++ next, took_more _ _ _ _ before.0 next before.1 c.in-Ok.ensures.took)
+
+pub returns-then-count-eq0-clause-counts : goal.returns-then-count-eq0-clause-counts
+returns-then-count-eq0-clause-counts g c = same_trans _ _ _ c.loop-files.invariant.counts c.in-Ok.ensures.counts
+
+pub returns-in-Err-clause-stopped : goal.returns-in-Err-clause-stopped
+returns-in-Err-clause-stopped g c = λ failed.
+    let before = c.loop-files.invariant.took in
+    record { took = (before.0, took_unchanged _ _ _ _ _ c.requires.there before.1 c.in-Err.ensures.refused, before.2); fewer = omega (arith, c.loop-files-test.true) }

@@ -1,5 +1,5 @@
 use Rattle.std.proofs.Common.{◌≡◌, ◌≤◌, ◌+◌, ◌-◌, ◌++◌, List, ℕ, max, length, vec_len, IsSome}
-use Rattle.play_base.specs.View.{Took}
+use Rattle.play_base.specs.View.{SameCounts, Took}
 use Rattle.pcap_files.proofs.ahead.take_pieces.Given as goal
 
 abbrev pub invariant-loop-files : goal.invariant-loop-files
@@ -8,6 +8,7 @@ invariant-loop-files g l = record {
   room : length l.piece ≡ 65536;
   bounded : vec_len l.buffer ≤ max (vec_len l.fn.buffer) (l.need + 65535);
   took : (bytes : List ℕ) × Took (g.F.Files.view l.fn.files) (g.F.Files.view l.files) l.file bytes × (l.buffer.items ≡ l.fn.buffer.items ++ bytes);
+  counts : SameCounts (g.F.Files.view l.fn.files) (g.F.Files.view l.files);
 }
 
 abbrev pub decreases-loop-files : goal.decreases-loop-files

@@ -41,7 +41,7 @@ put-requires g c =
 
 pub returns-clause-history : goal.returns-clause-history
 returns-clause-history g c =
-    let P : Ruling g.row.Q.Denot → Type 0 = λ d. (h : List Happened) → Stands g.Q.QueueRule.stands g.Q.QueueRule.says d h → IsOffer c.args.now (bare h)
+    let P : Ruling g.row.Q.Denot → Type 0 = λ d. (h : List Happened) → Stands g.Q.QueueRule.stands g.Q.QueueRule.says d h → IsOffer (coming c.args.class c.args.len c.args.prec c.args.now) (bare h)
     → c.args.words.now.drawn < 2 ^ 64 - 1
     → IsAnswer (cbq_of g.Q.QueueRule.says d) (bare h) c.args.words.now (coming c.args.class c.args.len c.args.prec c.args.now) c.offer-verdict.result c.offer-verdict.new.words
     × Stands g.Q.QueueRule.stands g.Q.QueueRule.says (record { shares = c.self.inside.shares; rows = c.offer-verdict.new.self })

@@ -20,7 +20,7 @@ head-requires-clause-high g c =
 pub returns-then-not-is_kept-clause-history : goal.returns-then-not-is_kept-clause-history
 returns-then-not-is_kept-clause-history g c =
     let i = c.self.inside in
-    let P : Held g.row.Q.Denot → Type 0 = λ d. (h : List Happened) → HfscStands g.Q.QueueRule.stands g.Q.QueueRule.says d h → IsOffer c.args.now (bare h)
+    let P : Held g.row.Q.Denot → Type 0 = λ d. (h : List Happened) → HfscStands g.Q.QueueRule.stands g.Q.QueueRule.says d h → IsOffer (coming c.args.class c.args.len c.args.prec c.args.now) (bare h)
     → c.args.words.now.drawn < 2 ^ 64 - 1
     → IsAnswer (policy_of g.Q.QueueRule.says d) (bare h) c.args.words.now (coming c.args.class c.args.len c.args.prec c.args.now) c.offer-verdict.result c.offer-verdict.new.words
     × HfscStands g.Q.QueueRule.stands g.Q.QueueRule.says (record { chooser = i.chooser; rows = c.offer-verdict.new.self; kept = i.kept })
@@ -64,7 +64,7 @@ returns-clause-history g c =
     let of = subst (λ (v : Held g.row.Q.Denot). IsOneOf c.args.class (leaves (classes_of v.chooser))) (sym c.self.view_is) c.requires.class in
     let later = subst (λ (v : Held g.row.Q.Denot). woken_at v.chooser ≤ c.args.now) (sym c.self.view_is) c.requires.later in
     let fewer = subst (λ (v : Held g.row.Q.Denot). v.kept < 4000000) (sym c.self.view_is) c.requires.few in
-    let P : Held g.row.Q.Denot → Type 0 = λ d. (h : List Happened) → HfscStands g.Q.QueueRule.stands g.Q.QueueRule.says d h → IsOffer c.args.now (bare h)
+    let P : Held g.row.Q.Denot → Type 0 = λ d. (h : List Happened) → HfscStands g.Q.QueueRule.stands g.Q.QueueRule.says d h → IsOffer (coming c.args.class c.args.len c.args.prec c.args.now) (bare h)
     → c.args.words.now.drawn < 2 ^ 64 - 1
     → IsAnswer (policy_of g.Q.QueueRule.says d) (bare h) c.args.words.now (coming c.args.class c.args.len c.args.prec c.args.now) c.offer-verdict.result c.offer-verdict.new.words
     × HfscStands g.Q.QueueRule.stands g.Q.QueueRule.says (record { chooser = c.kept.new.self; rows = c.offer-verdict.new.self; kept = i.kept + 1 })

@@ -1,5 +1,6 @@
 use Rattle.std.proofs.Common.{◌≡◌, ◌≤◌, ◌∙◌, ap, refl, arith, length}
 use Rattle.pcap_files.proofs.ReaderLemmas.{started, started_head}
+use Rattle.pcap_files.proofs.PrefixLemmas.{failed_of, none_taken}
 use Rattle.pcap_files.proofs.reader.Reader.start.Goals as goal
 
 pub returns-in-Err-read-clause-damaged : goal.returns-in-Err-read-clause-damaged
@@ -17,3 +18,8 @@ returns-clause-stands g c = λ bytes h.
     c.pass.ensures refl refl refl
     (started_head _ _ c.args.file c.in-Ok.ahead c.fill.new.self _ bytes c.in-Ok.ensures.none h c.in_default-fill.ensures.took c.in_default-fill.ensures.enough c.as_slice.ensures
     ∙ c.in-Ok-read.ensures.ok)
+
+pub returns-in-Err-clause-cut : goal.returns-in-Err-clause-cut
+returns-in-Err-clause-cut g c = λ failed bytes h.
+    let t = c.in-Err.ensures.stopped (failed_of c.in-Err.trouble c.fault_of.result c.fault_of.ensures failed) in
+    none_taken _ _ c.args.file c.in-Ok.ahead c.fill.new.self bytes c.in-Ok.ensures.none h t.took t.fewer

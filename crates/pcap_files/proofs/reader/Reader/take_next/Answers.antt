@@ -1,8 +1,12 @@
-use Rattle.std.proofs.Common.{◌≡◌, ℕ, ◌∙◌, ap, sym, subst, refl, arith, length}
+use Rattle.std.proofs.Common.{◌≡◌, ℕ, List, ◌∙◌, ap, sym, subst, refl, arith, length}
 use Rattle.capture_model.specs.Capture.{step, place_after, Fault, damage}
 use Rattle.pcap_files.specs.Forms.{form}
 use Rattle.pcap_files.specs.Reading.{IsCause}
 use Rattle.pcap_files.proofs.ReaderLemmas.{took_some, took_into, took_twice, pending_took, stands_at, stands_reads, stands_with, cut_reads, answered}
+use Rattle.play_base.proofs.ViewLaws.{same_trans}
+use Rattle.pcap_files.specs.Stand.{stand_at}
+use Rattle.pcap_files.specs.declared.stand.Stand.{Stand as Stands}
+use Rattle.pcap_files.proofs.PrefixLemmas.{failed_of, headed_taken, part_taken}
 use Rattle.pcap_files.proofs.reader.Reader.take_next.Goals as goal
 
 pub returns-in-Err-fill-clause-some : goal.returns-in-Err-fill-clause-some
@@ -65,3 +69,30 @@ returns-in-Err-take_record-clause-some g c = took_into _ _ _ _ _ (took_twice _ _
 pub take_record-requires-clause-early : goal.take_record-requires-clause-early
 take_record-requires-clause-early g c =
     (c.stand_at.ensures.headed c.in-Headed.stamp c.in-Headed.captured c.in-Headed.original c.in-Headed.is).0
+
+pub returns-in-Err-clause-cut : goal.returns-in-Err-clause-cut
+returns-in-Err-clause-cut g c = λ failed bytes records s.
+    let t = c.in-Err.ensures.stopped (failed_of c.in-Err.trouble c.fault_of.result c.fault_of.ensures failed) in
+    part_taken _ _ c.args.self.now c.fill.new.self bytes records s c.requires.sound t.took t.fewer
+
+pub returns-in-Err-fill-clause-cut : goal.returns-in-Err-fill-clause-cut
+returns-in-Err-fill-clause-cut g c = λ failed bytes records s.
+    let self = c.args.self.now in
+    let t = c.in-Err-fill.ensures.stopped (failed_of c.in-Err-fill.trouble c.fault_of-in-Err-fill.result c.fault_of-in-Err-fill.ensures failed) in
+    headed_taken _ _ self c.fill-in-Headed.new.self bytes records c.in-Headed.stamp c.in-Headed.captured c.in-Headed.original s c.requires.sound
+    (took_twice _ _ _ _ _ _ _ c.in_default.ensures.took t.took)
+    (stands_at _ _ self c.fill.new.self _ bytes records _ s c.requires.sound c.in_default.ensures.took c.in_default.ensures.enough c.as_slice.ensures c.in-Headed.ensures.value)
+    t.fewer
+
+pub returns-in-Ok-clause-counts : goal.returns-in-Ok-clause-counts
+returns-in-Ok-clause-counts g c = same_trans _ _ _ c.in_default.ensures.counts c.in_default-fill.ensures.counts
+
+pub returns-in-Ok-clause-ahead : goal.returns-in-Ok-clause-ahead
+returns-in-Ok-clause-ahead g c = λ holds.
+    let self = c.args.self.now in
+    let one = c.fill.ensures.idle holds.head in
+    let at : List ℕ → Stands = stand_at (form self.head) self.progress.count self.progress.place in
+    let headed = ap at (sym one.1) ∙ ap at (sym c.as_slice.ensures) ∙ sym c.in-Headed.ensures.value in
+    let whole = holds.whole c.in-Headed.stamp c.in-Headed.captured c.in-Headed.original headed in
+    let two = c.fill-in-Headed.ensures.idle (omega (arith, whole, ap length one.1)) in
+    two.0 ∙ one.0

@@ -8,7 +8,7 @@ use Rattle.plain_disciplines.proofs.strict.StrictDiscipline.offer.Goals as goal
 
 pub returns-clause-history : goal.returns-clause-history
 returns-clause-history g c =
-    let P : Ordered g.row.Q.Denot → Type 0 = λ d. (h : List Happened) → Stands g.Q.QueueRule.stands g.Q.QueueRule.says d h → IsOffer c.args.now (bare h)
+    let P : Ordered g.row.Q.Denot → Type 0 = λ d. (h : List Happened) → Stands g.Q.QueueRule.stands g.Q.QueueRule.says d h → IsOffer (coming c.args.class c.args.len c.args.prec c.args.now) (bare h)
     → c.args.words.now.drawn < 2 ^ 64 - 1
     → IsAnswer (strict_of g.Q.QueueRule.says d) (bare h) c.args.words.now (coming c.args.class c.args.len c.args.prec c.args.now) c.offer.result c.offer.new.words
     × Stands g.Q.QueueRule.stands g.Q.QueueRule.says (record { rule = c.self.inside.rule; rows = c.offer.new.self })

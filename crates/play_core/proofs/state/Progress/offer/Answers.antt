@@ -9,7 +9,7 @@ use Rattle.discipline.specs.Laws.{entry}
 use Rattle.play_core.specs.Turns.{handed_back}
 use Rattle.play_core.proofs.Moves.{before_by}
 use Rattle.play_core.proofs.GoingLemmas.{IsPromised, few_counts, renamed, within_old}
-use Rattle.play_core.proofs.OfferLemmas.{same_taken, may_offer, is_coming, going_offered, answered, history_for, same_coming, most_lost, lost}
+use Rattle.play_core.proofs.OfferLemmas.{same_taken, may_offer, is_coming, going_offered, answered, history_for, same_coming, sized, most_lost, lost}
 use Rattle.play_core.proofs.state.Progress.offer.Goals as goal
 
 pub offer-verdict-requires-clause-few : goal.offer-verdict-requires-clause-few
@@ -29,7 +29,8 @@ offer-verdict-requires-clause-later g c =
       distinct = g.met.D.Discipline.distinct c.args.discipline.now y.told y.stands;
     } in
     let a : Arrival = c.requires.next.2 in
-    let o = may_offer _ _ _ _ _ c.requires.next.0 c.args.words.now c.args.self.now c.requires.next.1 a m y c.requires.next.4.next.there in
+    let o = may_offer _ _ _ _ _ c.requires.next.0 c.args.words.now c.args.self.now c.requires.next.1 a m y c.requires.next.4.next.there
+    (sized (offered (bare c.requires.next.1) + 1) a c.args.packet c.requires.next.4.packet_is c.requires.some c.requires.short) in
     let l = g.met.D.Discipline.moments c.args.discipline.now y.told y.stands a.at o.arrived (before_by a.at (bare y.told) o.started) in
     omega (arith, l, ap (λ (k : Packet). k.at) c.requires.next.4.packet_is)
 
@@ -63,6 +64,7 @@ returns-clause-offered g c = λ arrived g' a y o.
     renamed p _ _ _ _ _ _ _ arrived c.offer-verdict.new.words _ _ e.policy e.limits e.rate
     (going_offered p _ _ _ _ (g.D.Discipline.limits c.args.discipline.now) _ arrived c.args.words.now c.offer-verdict.new.words c.args.self.now _ g' a c.args.packet c.args.placed
     c.put-ticket.result c.offer-verdict.result m y o
+    (sized (offered (bare g') + 1) a c.args.packet o.packet_is c.requires.some c.requires.short)
     (same_taken _ _ _ _ _ p _ _ _ _ c.args.placed.class a.class c.args.packet.at a.at _ (coming_of a) c.args.packet c.put-ticket.result c.offer-verdict.result
     (ap (λ (k : Placed). k.class) o.placed_is) (ap (λ (k : Packet). k.at) o.packet_is)
     (same_coming (offered (bare g') + 1) a c.args.packet c.args.placed o.packet_is o.placed_is) (record {
@@ -97,7 +99,8 @@ returns-clause-told g c = λ arrived g' a y o.
     let p : Policy = g.D.Discipline.policy c.args.discipline.now in
     let after : List Happened → Type 0 = g.D.Discipline.stands c.offer-verdict.new.self in
     let r = answered p _ after _ _ _ arrived c.args.words.now c.offer-verdict.new.words c.args.self.now g' a c.put-ticket.result c.offer-verdict.result m y o.next.there
-    (history_for p (g.D.Discipline.stands c.args.discipline.now) after _ _ c.put-ticket.result c.offer-verdict.result c.args.packet.at a.at _ (coming_of a) (ap (λ (k : Packet). k.at) o.packet_is)
+    (sized (offered (bare g') + 1) a c.args.packet o.packet_is c.requires.some c.requires.short)
+    (history_for p (g.D.Discipline.stands c.args.discipline.now) after _ _ c.put-ticket.result c.offer-verdict.result _ (coming_of a)
     (same_coming (offered (bare g') + 1) a c.args.packet c.args.placed o.packet_is o.placed_is) c.offer-verdict.ensures.history) in
     c.settle-dropped.ensures.told c.args.packet c.put-ticket.ensures.put ∙ ap (λ (v : Verdict). handed_back v c.args.packet) r.verdict
 
@@ -116,5 +119,6 @@ returns-clause-seed g c =
     let p : Policy = g.D.Discipline.policy c.args.discipline.now in
     let after : List Happened → Type 0 = g.D.Discipline.stands c.offer-verdict.new.self in
     (answered p _ after _ _ _ arrived c.args.words.now c.offer-verdict.new.words c.args.self.now c.requires.next.1 a c.put-ticket.result c.offer-verdict.result m y o.next.there
-    (history_for p (g.D.Discipline.stands c.args.discipline.now) after _ _ c.put-ticket.result c.offer-verdict.result c.args.packet.at a.at _ (coming_of a) (ap (λ (k : Packet). k.at) o.packet_is)
+    (sized (offered (bare c.requires.next.1) + 1) a c.args.packet o.packet_is c.requires.some c.requires.short)
+    (history_for p (g.D.Discipline.stands c.args.discipline.now) after _ _ c.put-ticket.result c.offer-verdict.result _ (coming_of a)
     (same_coming (offered (bare c.requires.next.1) + 1) a c.args.packet c.args.placed o.packet_is o.placed_is) c.offer-verdict.ensures.history)).seed
