@@ -1,3 +1,4 @@
+#!/usr/bin/env python3
 """Draws the cases of crates/agreed_plays: random plays, with the answers of a program that is given.
 
     robust/agreed.py SEED COUNT PROGRAM > crates/agreed_plays/stdin

@@ -1,9 +1,10 @@
+#!/usr/bin/env python3
 """Answers a transcript of worked plays by a program with the command line of altqplay, so that two programs can be compared.
 
     robust/transcript.py PROGRAM < crates/worked_plays/stdin | diff crates/worked_plays/stdin -
 
 The form is that of crates/transcript/README.md. What only the crate can answer, single calls and calls that are made to fail, is
-printed with the answer that stands there.
+printed with the answer that stands there. No part of any test.
 """
 
 import ipaddress
