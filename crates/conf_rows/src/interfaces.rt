@@ -22,30 +22,6 @@ fn filter_at(interface: &Interface, at: usize) -> Result<Filter, Fail> {
 }
 
 #[test]
-fn control_on_the_last_of_256(rt: HostRuntime) -> Result<(), Fail> {
-    let mut text = String::from_str(
-        rt.alloc(),
-        "interface if0 cbq\nclass cbq if0 c0 NULL default\n",
-    )?;
-    for i in 1..256u32 {
-        let control = if i == 255 { " control" } else { "" };
-        let line = format!(in rt.alloc(); "class cbq if0 c{i} c0 exactbandwidth 1k{control}\n")?;
-        text.push_str(line.as_str())?;
-    }
-    let conf = match built(rt.alloc(), text.as_str())? {
-        Ok(conf) => conf,
-        Err(_) => return Err(Fail::new("refused")),
-    };
-    let Some(interface) = conf.interface("if0") else {
-        return Err(Fail::new("no if0"));
-    };
-    assert_eq!(rt; interface.classes.as_slice().len(), 256);
-    assert!(rt; class_at(interface, 255)?.control);
-    assert!(rt; !class_at(interface, 254)?.control);
-    Ok(())
-}
-
-#[test]
 fn implied_classes(rt: HostRuntime) -> Result<(), Fail> {
     let conf = match built(
         rt.alloc(),
@@ -176,34 +152,6 @@ fn canonical_text_of_voice_and_data(rt: HostRuntime) -> Result<(), Fail> {
     )?;
     let expected =
         "interface if0 bandwidth 8000000 hfsc\nclass hfsc if0 root NULL ls 8000000 0 8000000 qlimit 50\nclass hfsc if0 voice root rt 4000000 5 1000000 ls 4000000 5 1000000 qlimit 50\nclass hfsc if0 data root rt 0 5 4000000 ls 0 5 4000000 qlimit 50 default\nfilter if0 voice ruleno 0 0.0.0.0 netmask 0.0.0.0 5004 0.0.0.0 netmask 0.0.0.0 0 17\n";
-    assert_eq!(rt; text.as_slice(), expected.as_bytes());
-    let again = canonical(rt.alloc(), expected)?;
-    assert_eq!(rt; again.as_slice(), expected.as_bytes());
-    Ok(())
-}
-
-#[test]
-fn canonical_text_of_limits_and_marks(rt: HostRuntime) -> Result<(), Fail> {
-    let text = canonical(
-        rt.alloc(),
-        "interface if0 hfsc\nclass hfsc if0 r NULL ul 9M 0 8M cleardscp red ecn\nclass hfsc if0 a r ul 1M 0 1M default ecn rio ls 0 3 2 ul 3M 4 2K\nclass hfsc if0 b r red cleardscp ecn sc 1 0 1\n",
-    )?;
-    let expected =
-        "interface if0 bandwidth 100000000 hfsc\nclass hfsc if0 r NULL ul 8000000 0 8000000 qlimit 50 ecn cleardscp\nclass hfsc if0 a r ls 0 3 2 ul 3000000 4 2000 qlimit 50 rio default\nclass hfsc if0 b r rt 1 0 1 ls 1 0 1 qlimit 50 ecn cleardscp\n";
-    assert_eq!(rt; text.as_slice(), expected.as_bytes());
-    let again = canonical(rt.alloc(), expected)?;
-    assert_eq!(rt; again.as_slice(), expected.as_bytes());
-    Ok(())
-}
-
-#[test]
-fn canonical_text_of_every_option(rt: HostRuntime) -> Result<(), Fail> {
-    let text = canonical(
-        rt.alloc(),
-        "interface if1 hfsc\ninterface if0 bandwidth 150M cbq\nclass cbq if0 a NULL red\nclass cbq if0 b a pbandwidth 7 priority 3 borrow control default red rio\nclass cbq if0 c a exactbandwidth 2M ecn cleardscp\nfilter if0 b name x ruleno 7 10.1.2.3 netmask 255.0.15.0 80 0 0 tcp tos 0x1f tosmask 0x1c\nfilter6 if0 a fEff::10/12 0 1:2:3:4:5:6:7:8 53 udp tclass 8\n",
-    )?;
-    let expected =
-        "interface if1 bandwidth 100000000 hfsc\ninterface if0 bandwidth 150000000 cbq\nclass cbq if0 a NULL priority 0 exactbandwidth 150000000 maxburst 16 packetsize 1500 qlimit 50 red\nclass cbq if0 b a priority 3 exactbandwidth 10500000 borrow maxburst 16 packetsize 1500 qlimit 50 rio control default\nclass cbq if0 c a priority 0 exactbandwidth 2000000 maxburst 16 packetsize 1500 qlimit 50 ecn cleardscp\nfilter if0 b ruleno 7 10.0.2.0 netmask 255.0.15.0 80 0.0.0.0 netmask 0.0.0.0 0 6 tos 28 tosmask 28\nfilter6 if0 a ruleno 0 fef0:0:0:0:0:0:0:0/12 0 1:2:3:4:5:6:7:8/128 53 17 tclass 8 tclassmask 255\n";
     assert_eq!(rt; text.as_slice(), expected.as_bytes());
     let again = canonical(rt.alloc(), expected)?;
     assert_eq!(rt; again.as_slice(), expected.as_bytes());

@@ -1,9 +1,7 @@
-//! Literal curves, and choices by them: sums against a link, deadlines, link sharing, and the pace of a class of CBQ. There are
+//! Literal choices by curves: sums against a link, deadlines, link sharing, and the pace of a class of CBQ. There are
 //! tests alone.
 #![tactic(auto)]
 
-#[cfg(test)]
-mod curves;
 #[cfg(test)]
 mod deadlines;
 #[cfg(test)]

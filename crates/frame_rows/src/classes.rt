@@ -52,16 +52,3 @@ fn code_point_is_cleared(rt: HostRuntime) -> Result<(), Fail> {
     assert!(rt; frame[24..26] == [0x00, 0x28]);
     Ok(())
 }
-
-#[test]
-fn checksum_follows_the_mark(rt: HostRuntime) -> Result<(), Fail> {
-    let classifier = built(rt.alloc())?;
-    let mut frame = GENERATED;
-    frame[15] = 0x02;
-    frame[24] = 0xb1;
-    frame[25] = 0xe6;
-    classifier.dress(1, true, &mut frame);
-    assert!(rt; frame[14..16] == [0x45, 0x03]);
-    assert!(rt; frame[24..26] == [0xb1, 0xe5]);
-    Ok(())
-}

@@ -3,14 +3,9 @@
 use play_base::NoMemory;
 use std::alloc::Global;
 
-/// The header of a capture.
-pub const HEAD: [u8; 24] = [
+// The header of a capture.
+const HEAD: [u8; 24] = [
     0x4d, 0x3c, 0xb2, 0xa1, 2, 0, 4, 0, 0, 0, 0, 0, 0, 0, 0, 0, 0, 0, 4, 0, 1, 0, 0, 0,
-];
-
-/// The same in big-endian microseconds.
-pub const BIG_HEAD: [u8; 24] = [
-    0xa1, 0xb2, 0xc3, 0xd4, 0, 2, 0, 4, 0, 0, 0, 0, 0, 0, 0, 0, 0, 4, 0, 0, 0, 0, 0, 1,
 ];
 
 /// A capture without a record.

@@ -1,42 +1,18 @@
-//! Worked plays and checks of whole interfaces: literal configurations and captures in memory through `run`, or through `play` over
-//! plain disciplines, and the bytes that they leave. There are tests alone; each expected number is reckoned by hand from the rules
-//! of the disciplines, as the comments say.
+//! Plays through `run` over files in memory, and through `play` over plain disciplines, that a transcript of the crate `worked_plays`
+//! cannot reach: files that tell nothing, each call that fails, each length of a capture, and how far a capture is read. There are
+//! tests alone; each expected number is reckoned by hand from the rules, as the comments say.
 #![tactic(auto)]
 
 #[cfg(test)]
 mod arrivals;
 #[cfg(test)]
-mod cbq;
-#[cfg(test)]
-mod damages;
-#[cfg(test)]
-mod extremes;
-#[cfg(test)]
-mod fates;
-#[cfg(test)]
-mod faults;
-#[cfg(test)]
-mod filters;
-#[cfg(test)]
-mod fit;
+mod cuts;
 #[cfg(test)]
 mod frames;
 #[cfg(test)]
-mod hfsc;
-#[cfg(test)]
-mod limits;
-#[cfg(test)]
 mod loops;
 #[cfg(test)]
-mod made;
-#[cfg(test)]
-mod marks;
-#[cfg(test)]
-mod messages;
-#[cfg(test)]
 mod one_queue;
-#[cfg(test)]
-mod refusals;
 #[cfg(test)]
 mod runs;
 #[cfg(test)]

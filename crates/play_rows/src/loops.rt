@@ -1,21 +1,20 @@
-// The loop itself over plain disciplines: classes in strict order, and one that starts at multiples of a gap.
-ghost use Rattle.std.specs.Prelude.{◌≡◌, ◌∷◌, [], codes, IfOk};
+// The loop itself over classes in strict order.
+ghost use Rattle.std.specs.Prelude.{◌≡◌, ◌≤◌, ◌^◌, ◌∷◌, [], codes, IfOk};
 ghost use Rattle.play_base.specs.Memory.{memory_view};
 ghost use Rattle.play_loop.specs.Played.{AreReady};
 
-use crate::arrivals::{arrive, no_arrivals, packets};
-use crate::frames::{PLAIN, datagram};
-use crate::hfsc::VOICE_AND_DATA;
-use crate::runs::words_but;
+use crate::arrivals::{arrive, no_arrivals, packets, push_packet};
+use crate::frames::datagram;
+use crate::runs::{VOICE_AND_DATA, play_words};
 use altq_model::{Placed, Rule};
 use conf_lines::statements;
 use conf_tree::Conf;
-use plain_disciplines::{Classify, Discipline, Paced, Strict};
 use frame_classes::Classifier;
 use leaf_queue::{Tail, Words};
-use play_base::{MemoryFiles, NoMemory};
+use plain_disciplines::{Classify, Discipline, Strict};
+use play_base::{Call, MemoryFiles, NoMemory};
 use play_cli::open_files;
-use play_loop::{Opened, PlayFault, Totals, play};
+use play_loop::{Limit, Opened, PlayFault, Totals, play};
 use play_text::Names;
 use play_words::{Command, read_words};
 use std::alloc::Global;
@@ -51,29 +50,6 @@ impl Classify for TwoClasses {
     ghost lengths = { λ c class marked frame. refl };
 }
 
-// Every packet is of the one class, and leaves as it came.
-#[derive(Drop)]
-struct OneClass;
-
-impl Classify for OneClass {
-    ghost use Rattle.std.proofs.Common.{refl};
-
-    ghost placed = { λ c frame. record {
-      class = 1;
-      prec = 0;
-    } };
-
-    ghost dressed = { λ c class marked frame. frame };
-
-    fn class(&self, _frame: &[u8]) -> Placed {
-        Placed { class: 1, prec: 0 }
-    }
-
-    fn dress(&self, _class: u32, _marked: bool, _frame: &mut [u8]) {}
-
-    ghost lengths = { λ c class marked frame. refl };
-}
-
 // Voice and data.
 fn two_names(alloc: Global) -> Result<Names, NoMemory>
     ensures { IfOk result (λ names. names ≡ (1, codes "voice") ∷ (2, codes "data") ∷ []) }
@@ -95,22 +71,17 @@ fn two_queues(alloc: Global) -> Result<Strict<Tail>, NoMemory>
     Strict::build(alloc, 1, Rule::Share, queues)
 }
 
-// One class that starts at multiples of a millisecond.
-fn one_paced(alloc: Global) -> Result<Paced<Tail>, NoMemory>
-    ensures empty { IfOk result (λ p. ⟦<Paced<Tail> as Discipline>⟧.stands p []) }
-    ensures classes { IfOk result (λ p. (⟦<Paced<Tail> as Discipline>⟧.policy p).classes ≡ 1 ∷ []) }
-{
-    Paced::build(alloc, 1, 1_000_000, Tail { limit: 50 })
-}
-
-// Plays the opened capture through both, on a link of 8 megabits per second.
+// Plays the opened capture through both.
 fn play_two(
     alloc: Global,
     files: &mut MemoryFiles,
     classes: &TwoClasses,
+    rate: u64,
     opened: &Opened,
 ) -> Result<Totals, PlayFault>
-    requires { AreReady (memory_view files.old) opened.now }
+    requires ready { AreReady (memory_view files.old) opened.now }
+    requires least { 1000 ≤ rate }
+    requires most { rate ≤ 10 ^ 12 }
 {
     let Ok(names) = two_names(alloc) else {
         return Err(PlayFault::NoMemory);
@@ -124,26 +95,10 @@ fn play_two(
         &mut queues,
         classes,
         &names,
-        8_000_000,
+        rate,
         &mut words,
         opened,
         files,
-    )
-}
-
-// The same through the paced class.
-fn play_paced(alloc: Global, files: &mut MemoryFiles, opened: &Opened) -> Result<Totals, PlayFault>
-    requires { AreReady (memory_view files.old) opened.now }
-{
-    let Ok(names) = two_names(alloc) else {
-        return Err(PlayFault::NoMemory);
-    };
-    let Ok(mut paced) = one_paced(alloc) else {
-        return Err(PlayFault::NoMemory);
-    };
-    let mut words = Words::new(42);
-    play(
-        alloc, &mut paced, &OneClass, &names, 8_000_000, &mut words, opened, files,
     )
 }
 
@@ -164,7 +119,7 @@ fn voice_and_data(alloc: Global) -> Result<TwoClasses, Fail> {
 fn opened(alloc: Global, files: &mut MemoryFiles) -> Result<Opened, Fail>
     ensures { IfOk result (λ o. AreReady (memory_view files.new) o) }
 {
-    let words = words_but(alloc, 0, "play")?;
+    let words = play_words(alloc)?;
     let Ok(Command::Play(read)) = read_words(alloc, words.as_slice()) else {
         return Err(Fail::new("words"));
     };
@@ -172,25 +127,6 @@ fn opened(alloc: Global, files: &mut MemoryFiles) -> Result<Opened, Fail>
         Ok(opened) => Ok(opened),
         Err(_) => Err(Fail::new("files")),
     }
-}
-
-// Packet 1 is for data and packet 2 for voice, which goes first. The filters of the interface tell them apart.
-#[test]
-fn strict_sends_the_first_class(rt: HostRuntime) -> Result<(), Fail> {
-    let alloc = rt.alloc();
-    let classes = voice_and_data(alloc)?;
-    let mut arrivals = no_arrivals(alloc)?;
-    arrive(&mut arrivals, 1, 0, 1000, &PLAIN)?;
-    arrive(&mut arrivals, 1, 0, 1000, &datagram(alloc, 5004)?)?;
-    let mut files = MemoryFiles::new(alloc);
-    files.put("in", &arrivals)?;
-    let opened = opened(alloc, &mut files)?;
-    let played = play_two(alloc, &mut files, &classes, &opened);
-    assert!(rt; played.is_ok());
-    let rows =
-        b"number,arrival,length,class,fate,start,end\n2,0,1000,voice,share,0,1000000\n1,0,1000,data,share,1000000,2000000\n";
-    assert!(rt; files.get("fates").unwrap_or_default() == rows.as_slice());
-    Ok(())
 }
 
 // Two datagrams, to ports 5001 and 5004: the filter takes the second alone.
@@ -204,7 +140,7 @@ fn filters_over_strict(rt: HostRuntime) -> Result<(), Fail> {
     let mut files = MemoryFiles::new(alloc);
     files.put("in", &arrivals)?;
     let opened = opened(alloc, &mut files)?;
-    let played = play_two(alloc, &mut files, &classes, &opened);
+    let played = play_two(alloc, &mut files, &classes, 8_000_000, &opened);
     assert!(rt; played.is_ok());
     let rows =
         b"number,arrival,length,class,fate,start,end\n2,0,1000,voice,share,0,1000000\n1,0,1000,data,share,1000000,2000000\n";
@@ -212,17 +148,24 @@ fn filters_over_strict(rt: HostRuntime) -> Result<(), Fail> {
     Ok(())
 }
 
-// The second packet waits from 100,000 on for the next multiple of a millisecond.
+// The first packet ends at the end of the clock, so nothing behind the second record needs to be read: at most 65,536 bytes are, past
+// its end at byte 176. Each read moves one byte, so at least 86,388 of the 152,100 bytes are left.
 #[test]
-fn paced_waits_for_its_gap(rt: HostRuntime) -> Result<(), Fail> {
+fn reading_stops_at_the_late_sending(rt: HostRuntime) -> Result<(), Fail> {
     let alloc = rt.alloc();
+    let classes = voice_and_data(alloc)?;
+    let mut arrivals = packets(alloc, 1, 4_294_965_198, 848_000_000, 262_144)?;
+    for _ in 0..2_000 {
+        push_packet(&mut arrivals, 4_294_965_198, 848_000_001, 100)?;
+    }
+    assert_eq!(rt; arrivals.len(), 152_100);
     let mut files = MemoryFiles::new(alloc);
-    files.put("in", &packets(alloc, 2, 0, 0, 100)?)?;
+    files.put("in", &arrivals)?;
+    files.chunk(1);
     let opened = opened(alloc, &mut files)?;
-    let played = play_paced(alloc, &mut files, &opened);
-    assert!(rt; played.is_ok());
-    let rows =
-        b"number,arrival,length,class,fate,start,end\n1,0,100,voice,own,0,100000\n2,0,100,voice,own,1000000,1100000\n";
-    assert!(rt; files.get("fates").unwrap_or_default() == rows.as_slice());
+    let played = play_two(alloc, &mut files, &classes, 1_000, &opened);
+    assert!(rt; played.err() == Some(PlayFault::Limit(Limit::Clock)));
+    assert!(rt; files.calls(Call::Read) <= 176 + 65_536);
+    assert_eq!(rt; files.get("fates").unwrap_or_default().len(), 43);
     Ok(())
 }

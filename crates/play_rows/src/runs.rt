@@ -1,5 +1,7 @@
 // Runs over files in memory.
 
+use crate::arrivals::{arrive, no_arrivals};
+use crate::frames::{PLAIN, datagram};
 use play_base::{MemoryFiles, NoMemory};
 use play_cli::{Status, run};
 use std::alloc::Global;
@@ -7,6 +9,18 @@ use std::test::Fail;
 
 /// An interface without classes, on a link of 8 megabits a second.
 pub const IMPLIED: &str = "interface if0 bandwidth 8M hfsc";
+
+/// A leaf for voice beside one for data.
+pub const VOICE_AND_DATA: &str =
+    "interface if0 bandwidth 8M hfsc\nclass hfsc if0 root NULL pshare 100\nclass hfsc if0 voice root [sc 4M 5 1M]\nclass hfsc if0 data root [sc 0 5 4M] default\nfilter if0 voice 0 5004 0 0 17\n";
+
+/// 50 packets of data at 0, and one of voice after 10 ms.
+pub fn voice_and_data(alloc: Global) -> Result<Vec<u8>, NoMemory> {
+    let mut arrivals = no_arrivals(alloc)?;
+    arrive(&mut arrivals, 50, 0, 1000, &PLAIN)?;
+    arrive(&mut arrivals, 1, 10_000_000, 200, &datagram(alloc, 5004)?)?;
+    Ok(arrivals)
+}
 
 const PLAY: [&str; 15] = [
     "play",
@@ -26,61 +40,13 @@ const PLAY: [&str; 15] = [
     "42",
 ];
 
-const MAKE: [&str; 17] = [
-    "make",
-    "--count",
-    "60",
-    "--config",
-    "conf",
-    "--interface",
-    "if0",
-    "--arrivals",
-    "in",
-    "--departures",
-    "out",
-    "--fates",
-    "fates",
-    "--stats",
-    "stats",
-    "--seed",
-    "42",
-];
-
-const CHECK: [&str; 5] = ["check", "--config", "conf", "--interface", "if0"];
-
-// The words of a command.
-fn words_of(alloc: Global, texts: &[&str]) -> Result<Vec<String>, NoMemory> {
+/// The words of a play.
+pub fn play_words(alloc: Global) -> Result<Vec<String>, NoMemory> {
     let mut words = Vec::new(alloc);
-    for text in texts {
+    for text in PLAY {
         words.push(String::from_str(alloc, text)?)?;
     }
     Ok(words)
-}
-
-/// The words of a play, but for one.
-pub fn words_but(alloc: Global, place: usize, word: &str) -> Result<Vec<String>, NoMemory> {
-    let mut texts = PLAY;
-    if let Some(there) = texts.get_mut(place) {
-        *there = word;
-    }
-    words_of(alloc, &texts)
-}
-
-/// The words of a check.
-pub fn check_words(alloc: Global) -> Result<Vec<String>, NoMemory> {
-    words_of(alloc, &CHECK)
-}
-
-/// Makes 60 packets of seed 42 under a configuration, and plays them.
-pub fn make_over(alloc: Global, files: &mut MemoryFiles, config: &str) -> Result<Status, NoMemory> {
-    files.put("conf", config.as_bytes())?;
-    let words = words_of(alloc, &MAKE)?;
-    Ok(run(alloc, &words, files))
-}
-
-/// A run.
-pub fn run_words(alloc: Global, words: &[String], files: &mut MemoryFiles) -> Status {
-    run(alloc, words, files)
 }
 
 /// Plays a capture under a configuration.
@@ -92,18 +58,7 @@ pub fn play_over(
 ) -> Result<Status, NoMemory> {
     files.put("conf", config.as_bytes())?;
     files.put("in", capture)?;
-    let words = words_of(alloc, &PLAY)?;
-    Ok(run(alloc, &words, files))
-}
-
-/// Checks a configuration.
-pub fn check_over(
-    alloc: Global,
-    files: &mut MemoryFiles,
-    config: &str,
-) -> Result<Status, NoMemory> {
-    files.put("conf", config.as_bytes())?;
-    let words = words_of(alloc, &CHECK)?;
+    let words = play_words(alloc)?;
     Ok(run(alloc, &words, files))
 }
 
@@ -127,11 +82,4 @@ pub fn played(alloc: Global, config: &str, capture: &[u8]) -> Result<MemoryFiles
     } else {
         Err(Fail::new("not done"))
     }
-}
-
-/// The files after a check, and its status.
-pub fn checked(alloc: Global, config: &str) -> Result<(MemoryFiles, Status), Fail> {
-    let mut files = MemoryFiles::new(alloc);
-    let status = check_over(alloc, &mut files, config)?;
-    Ok((files, status))
 }

@@ -1,7 +1,6 @@
 // Each call of a play that fails in turn.
 
-use crate::hfsc::{VOICE_AND_DATA, voice_and_data};
-use crate::runs::{ended, play_over, played};
+use crate::runs::{VOICE_AND_DATA, ended, play_over, played, voice_and_data};
 use play_base::{Call, MemoryFiles, NoMemory};
 use play_cli::Status;
 use std::alloc::Global;
