@@ -66,6 +66,7 @@ impl Meter {
         requires { self.old.buckets.moment ≤ moment }
         ensures rule { self.new.rule ≡ self.old.rule }
         ensures buckets { self.new.buckets ≡ filled self.old.rule self.old.buckets moment }
+        ensures moment { self.new.buckets.moment ≡ moment }
     {
         let gap = moment - self.moment;
         self.moment = moment;
@@ -109,6 +110,7 @@ impl Meter {
         requires { colour ≡ judged self.old.rule self.old.buckets amount }
         ensures rule { self.new.rule ≡ self.old.rule }
         ensures buckets { self.new.buckets ≡ paid self.old.rule colour self.old.buckets amount }
+        ensures moment { self.new.buckets.moment ≡ self.old.buckets.moment }
     {
         match (colour, self.rule) {
             (Colour::Red, _) => {}
@@ -128,6 +130,7 @@ impl Meter {
         ensures rule { self.new.rule ≡ self.old.rule }
         ensures colour { result ≡ colour_of self.old.rule self.old.buckets (record { moment = moment; len = len }) }
         ensures buckets { self.new.buckets ≡ after self.old.rule self.old.buckets (record { moment = moment; len = len }) }
+        ensures moment { self.new.buckets.moment ≡ moment }
         ensures history_colour { (h : List Arrival) → StandsFor self.old h
             → result ≡ colour_after self.old.rule h (record { moment = moment; len = len }) }
         ensures history { (h : List Arrival) → StandsFor self.old h
