@@ -27,8 +27,8 @@ pub enum MeterRule {
 pub enum Colour {
     /// It keeps to the committed rate and burst.
     Green,
-    /// It passes those, and keeps to the excess burst, or to the peak rate and burst.
+    /// It exceeds those, and keeps to the excess burst, or to the peak rate and burst.
     Yellow,
-    /// It passes these too.
+    /// It exceeds these too.
     Red,
 }
