@@ -1,0 +1,4 @@
+pub mod Buckets
+pub mod Conforming
+pub mod Green
+pub mod Red
