@@ -1,0 +1,5 @@
+pub mod CutLemmas
+pub mod FieldLemmas
+pub mod NameLemmas
+pub mod NumberLemmas
+pub mod RowLemmas

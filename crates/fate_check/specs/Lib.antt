@@ -1,0 +1,4 @@
+pub mod Fault
+pub mod RowFields
+pub mod Parse
+pub mod Text
