@@ -2,4 +2,5 @@ pub mod CutLemmas
 pub mod FieldLemmas
 pub mod NameLemmas
 pub mod NumberLemmas
+pub mod OneLemmas
 pub mod RowLemmas

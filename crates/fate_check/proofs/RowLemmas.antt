@@ -25,19 +25,19 @@ use Rattle.fate_check.proofs.NameLemmas.{class_is, name_found, of_name}
 use Rattle.fate_check.proofs.NumberLemmas.{number_is, number_of_decimal}
 
 -- the fields of a row's text
-abbrev fate_word : Fate → List ℕ
+abbrev pub fate_word : Fate → List ℕ
 fate_word (Dropped reason) = reason_word reason
 fate_word (Sent start end rule) = rule_word rule
 
-abbrev fate_start : Fate → List ℕ
+abbrev pub fate_start : Fate → List ℕ
 fate_start (Dropped reason) = []
 fate_start (Sent start end rule) = decimal start
 
-abbrev fate_end : Fate → List ℕ
+abbrev pub fate_end : Fate → List ℕ
 fate_end (Dropped reason) = []
 fate_end (Sent start end rule) = decimal end
 
-abbrev texts : NameList → Row → Texts
+abbrev pub texts : NameList → Row → Texts
 texts names r = record {
   number = decimal r.number;
   at = decimal r.at;
@@ -76,7 +76,7 @@ plain_class : (names : NameList) (class : ℕ) → AreNames names → IsPlain (n
 plain_class names class good =
     of_name IsPlain names class refl (recursion_from_All (λ (q : ℕ × List ℕ). IsPlain q.1) names (λ k d inside. plain_name (get_or names k d).1 (good.named k d inside)))
 
-plain_row : (names : NameList) (r : Row) → AreNames names → IsRow names r → ArePlain (texts names r)
+pub plain_row : (names : NameList) (r : Row) → AreNames names → IsRow names r → ArePlain (texts names r)
 plain_row names r good is =
     let f = plain_fate r.fate is.fate in
     record {
@@ -129,14 +129,18 @@ len_read : (n : ℕ) → n < 2 ^ 32 → len_of (decimal n) ≡ Some n
 unfolding len_of
 len_read n small = rw (number_of_decimal n (omega arith), lt-ltb n (2 ^ 32) small) refl
 
-row_read : (names : NameList) (r : Row) → IsRow names r → (s : Row) × (row_in names (texts names r) ≡ Some s)
+pub row_given : (names : NameList) (r : Row) (c : ℕ) → IsRow names r → class_named names (name_of names r.class) ≡ Some c
+    → row_in names (texts names r) ≡ Some (record { number = r.number; at = r.at; len = r.len; class = c; fate = r.fate })
 unfolding row_in
+row_given names r c is named =
+    rw (number_of_decimal r.number is.number, number_of_decimal r.at is.at, len_read r.len is.len, named, fate_read r.fate is.fate) refl
+
+row_read : (names : NameList) (r : Row) → IsRow names r → (s : Row) × (row_in names (texts names r) ≡ Some s)
 row_read names r is =
     let c = name_found names r.class is.class in
-    let s : Row = record { number = r.number; at = r.at; len = r.len; class = c.0; fate = r.fate } in
-    (s, rw (number_of_decimal r.number is.number, number_of_decimal r.at is.at, len_read r.len is.len, c.1, fate_read r.fate is.fate) refl)
+    (record { number = r.number; at = r.at; len = r.len; class = c.0; fate = r.fate }, row_given names r c.0 is c.1)
 
-no_some : {A : Type 0} (a : A) → Some a ≡ None → ⊥
+pub no_some : {A : Type 0} (a : A) → Some a ≡ None → ⊥
 no_some a e = cc
 
 -- where a row stands at the front of a text, one is read

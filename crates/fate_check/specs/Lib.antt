@@ -1,4 +1,6 @@
 pub mod Fault
-pub mod RowFields
+pub mod Given
 pub mod Parse
+pub mod RowFields
+pub mod Rows
 pub mod Text
