@@ -1,12 +1,14 @@
 -- What a binary search finds among entries whose classes rise, and what is read at the place that it found.
-use Rattle.std.proofs.Common.{◌≡◌, ℕ, ◌<◌, ◌≤◌, ◌≢◌, List, [], ◌∷◌, ◌++◌, length, get_or, map, Option, Some, None, Result, Ok, Err, eqb, refl, sym, ◌∙◌, ap, arith, IsTrue}
+use Rattle.std.proofs.Common.{◌≡◌, ℕ, ◌+◌, ◌<◌, ◌≤◌, ◌≢◌, Bool, true, false, cond, suc, List, [], ◌∷◌, ◌++◌, length, get_or, map, drop, add-one, Option, Some, None, Result, Ok, Err, eqb, refl, sym, ◌∙◌, ap, arith, IsTrue}
 use Rattle.std.specs.List.{All, AllPairs, position_or_len, slice_get, find}
 use Rattle.std.specs.Option.{unwrap_or, option_map}
 use Rattle.std.specs.List.Sorted.{IsSearchInRange, IsBinarySearchResult, IsNonDecreasingBy}
 use Rattle.std.specs.Ordering.{nat_cmp, ordering_index}
 use Rattle.std.specs.Result.{result_ok}
 use Rattle.std.proofs.lemmas.Cmp.{ranked}
-use Rattle.std.proofs.lemmas.List.{get_or-map, length-map}
+use Rattle.std.proofs.lemmas.List.{get_or-map, length-map, drop_all}
+use Rattle.std.proofs.Math.Seq.{drop-cons}
+use Rattle.std.specs.Str.{bytes_eq}
 use Rattle.std.proofs.lemmas.List.Sums.{position_or_len_is}
 use Rattle.std.proofs.lemmas.List.Sorted.{IsNonDecreasingBy-from_default}
 use Rattle.std.proofs.lemmas.List.Folds.{find_at}
@@ -16,7 +18,7 @@ use Rattle.std.proofs.lemmas.Option.{slice_get-get_or}
 use Rattle.std.proofs.lemmas.Bool.Decides.{nat_tests}
 use Rattle.std.proofs.lemmas.Grind.{common_steps}
 use Rattle.line_text.specs.Names.{is_name}
-use Rattle.play_text.specs.Names.{NameList, AreNames, place_of, name_of}
+use Rattle.play_text.specs.Names.{NameList, AreNames, class_named, place_of, name_of}
 
 -- a place at which a class stands, and before which it does not, is its place
 place_is : (names : NameList) (class at : ℕ) (d : ℕ × List ℕ) → at < length names → (get_or names at d).0 ≡ class
@@ -89,6 +91,31 @@ name_at pair xs class at x place read =
     let first_pair : find (λ e. eqb e.0 class) names ≡ slice_get names at = find_at (λ e. eqb e.0 class) names ∙ ap (slice_get names) first in
     let found_pair : slice_get names at ≡ Some (pair x) = slice_get-get_or names at (0, []) here.0 ∙ ap (λ (e : ℕ × List ℕ). Some e) pair_read in
     ap (λ (o : Option (ℕ × List ℕ)). unwrap_or (option_map (λ e. e.1) o) []) (first_pair ∙ found_pair)
+
+-- the search for a name, entry by entry
+module _ {X : Type 0} (pair : X → ℕ × List ℕ) (xs : List X) (name : List ℕ) (i : ℕ) where
+  -- those from i on decide
+  abbrev pub Decide : (i : ℕ) → Type 0
+  Decide i = class_named (map pair (drop i xs)) name ≡ class_named (map pair xs) name
+
+  here_first : (x : X) → i < length xs → x ≡ get_or xs i x → map pair (drop i xs) ≡ pair x ∷ map pair (drop (i + 1) xs)
+  here_first x inside read =
+      let parted : drop i xs ≡ get_or xs i x ∷ drop (suc i) xs = drop-cons xs i x inside in
+      let same : drop i xs ≡ x ∷ drop (i + 1) xs = rw add-one (parted ∙ ap (λ (y : X). y ∷ drop (suc i) xs) (sym read)) in
+      ap (map pair) same
+
+  named_here : (x : X) (b : Bool) → bytes_eq (pair x).1 name ≡ b → class_named (pair x ∷ map pair (drop (i + 1) xs)) name ≡ cond b (Some (pair x).0) (class_named (map pair (drop (i + 1) xs)) name)
+  named_here x true t = rw t refl
+  named_here x false t = rw t refl
+
+  pub named_found : (x : X) → i < length xs → x ≡ get_or xs i x → bytes_eq (pair x).1 name ≡ true → Decide i → Some (pair x).0 ≡ class_named (map pair xs) name
+  named_found x inside read same decide = sym (named_here x true same) ∙ ap (λ names. class_named names name) (sym (here_first x inside read)) ∙ decide
+
+  pub named_passed : (x : X) → i < length xs → x ≡ get_or xs i x → bytes_eq (pair x).1 name ≡ false → Decide i → Decide (i + 1)
+  named_passed x inside read other decide = sym (named_here x false other) ∙ ap (λ names. class_named names name) (sym (here_first x inside read)) ∙ decide
+
+  pub named_nowhere : length xs ≤ i → Decide i → None ≡ class_named (map pair xs) name
+  named_nowhere past decide = let none : drop i xs ≡ [] = drop_all i xs past in ap (λ (ys : List X). class_named (map pair ys) name) (sym none) ∙ decide
 
 -- one more class after the others, with a name that is not there
 pub names_grow : (names : NameList) (class : ℕ) (name : List ℕ) → AreNames names → All (λ pair. pair.0 < class) names → IsTrue (is_name name)

@@ -1,7 +1,7 @@
 // The names of the queue classes.
 ghost use Rattle.std.specs.Prelude.{◌≡◌, ◌≢◌, ◌<◌, ◌++◌, ◌∷◌, [], length, All, IfSome, IsTrue, OnOk, OnErr, Some, option_map, slice_get};
 ghost use Rattle.line_text.specs.Names.{is_name};
-ghost use Rattle.play_text.specs.Names.{AreNames, HasClass, name_of, place_of};
+ghost use Rattle.play_text.specs.Names.{AreNames, HasClass, class_named, name_of, place_of};
 
 use play_base::NoMemory;
 use std::alloc::Global;
@@ -76,6 +76,18 @@ impl Names {
             Some(at) => Some(at as u32),
             None => None,
         }
+    }
+
+    /// The class of a name; None exactly where no class has it. Takes no memory, and compares the name with at most 256 others.
+    pub fn class(&self, name: &[u8]) -> Option<u32>
+        ensures { result ≡ class_named self.now name.now }
+    {
+        for named in &self.entries {
+            if named.name.as_bytes() == name {
+                return Some(named.class);
+            }
+        }
+        None
     }
 
     // The name of a class.

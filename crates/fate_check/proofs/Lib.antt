@@ -1,0 +1,6 @@
+pub mod CutLemmas
+pub mod FieldLemmas
+pub mod NameLemmas
+pub mod NumberLemmas
+pub mod OneLemmas
+pub mod RowLemmas

@@ -1,0 +1,11 @@
+//! Given fates against the arrivals, whoever made them.
+#![tactic(auto)]
+
+mod laws;
+mod parse;
+mod reading;
+mod worked;
+
+pub use laws::texts_are_read_one_way;
+pub use reading::{Row, RowFault, rows};
+pub use worked::worked_rows;
