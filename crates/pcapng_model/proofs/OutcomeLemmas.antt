@@ -45,7 +45,7 @@ end_case : (a : Bool) (rest : Step) → a ≡ true → (if a then End else rest)
 end_case true rest h = refl
 end_case false rest h = absurd (cc)
 
-at_end : (bytes : List ℕ) (p : Place) → length bytes ≤ p.at → step bytes p ≡ End
+pub at_end : (bytes : List ℕ) (p : Place) → length bytes ≤ p.at → step bytes p ≡ End
 at_end bytes p h = end_case (nat_le (length bytes) p.at) _ (le-leb (length bytes) p.at h)
 
 is_last_end : (s : Step) → s ≡ End → IsLast s

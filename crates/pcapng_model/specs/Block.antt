@@ -2,11 +2,10 @@
 use Rattle.std.specs.Prelude.{◌==◌, ◌||◌, ◌&&◌, ◌+◌, ◌-◌, ◌*◌, ◌%◌, ◌^◌, ℕ, Bool, true, false, not, nat_lt, List, length, take, drop, slice_get, if◌then◌else◌, None, Some}
 use Rattle.std.specs.declared.option.Option.{Option}
 use Rattle.capture_model.specs.Capture.{Record, longest, most_records}
-use Rattle.pcapng_model.specs.Interface.{Settings, options, units_of, offset_of, stamp}
+use Rattle.pcapng_model.specs.Interface.{Interface, Settings, options, units_of, offset_of, stamp}
 use Rattle.pcapng_model.specs.Number.{number, padded}
 use Rattle.pcapng_model.specs.declared.fault.NgKind.{NgKind}
 use Rattle.pcapng_model.specs.declared.fault.NgKind.TheVariants.{ShortBlock, BadBlock, BadMagic, BadVersion, BadResolution, OldPacket, UnknownInterface, BadLink, LongRecord, EmptyRecord, BadStamp}
-use Rattle.pcapng_model.specs.declared.interface.Interface.{Interface}
 
 -- the type of a section header, alike in both orders
 abbrev pub section_type : ℕ

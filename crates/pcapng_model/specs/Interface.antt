@@ -2,9 +2,17 @@
 use Rattle.std.specs.Prelude.{◌==◌, ◌||◌, ◌+◌, ◌-◌, ◌*◌, ◌/◌, ◌^◌, ℕ, zero, suc, Bool, true, false, not, nat_lt, List, length, drop, slice_index, if◌then◌else◌, None, Some}
 use Rattle.std.specs.declared.option.Option.{Option}
 use Rattle.pcapng_model.specs.Number.{number, padded}
-use Rattle.pcapng_model.specs.declared.interface.Interface.{Interface}
-use Rattle.pcapng_model.specs.declared.interface.Offset.{Offset}
-use Rattle.pcapng_model.specs.declared.interface.Offset.TheVariants.{Later, Earlier}
+
+-- what is added to every stamp, in whole seconds: stamps are later or earlier than their counts say
+pub data Offset : Type 0 where
+  Later : (seconds : ℕ) → Offset
+  Earlier : (seconds : ℕ) → Offset
+
+-- an interface of a section: its link type, the units that its counts have in a second, and its offset
+pub record Interface : Type 0 where
+  pub link : ℕ
+  pub units : ℕ
+  pub offset : Offset
 
 -- the values of options 9 (if_tsresol) and 14 (if_tsoffset)
 pub record Settings : Type 0 where

@@ -3,9 +3,9 @@
 use Rattle.std.specs.Prelude.{◌≡◌, ◌+◌, ◌++◌, ℕ, zero, suc, Bool, true, false, nat_lt, nat_le, List, [], ◌∷◌, length, if◌then◌else◌}
 use Rattle.capture_model.specs.Capture.{Record, most_bytes}
 use Rattle.pcapng_model.specs.Block.{Framed, Whole, Broken, Found, NewSection, NewInterface, Packet, Passed, Told, Tells, Refuses, TooMany, framed, told}
+use Rattle.pcapng_model.specs.Interface.{Interface}
 use Rattle.pcapng_model.specs.declared.fault.NgKind.{NgKind}
 use Rattle.pcapng_model.specs.declared.fault.NgPlace.{NgPlace}
-use Rattle.pcapng_model.specs.declared.interface.Interface.{Interface}
 
 -- how far a file was read: the order of bytes and the interfaces of the section, the count of the packets, and the next place
 pub record Place : Type 0 where

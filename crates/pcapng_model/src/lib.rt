@@ -3,12 +3,10 @@
 #![tactic(auto)]
 
 mod fault;
-mod interface;
 mod laws;
 mod rows;
 
 pub use fault::{NgKind, NgPlace};
-pub use interface::{Interface, Offset};
 pub use laws::{every_pcapng_has_a_reading, long_files_are_a_limit, pcapng_reads_one_way};
 pub use rows::{
     worked_faults, worked_interface_faults, worked_limits, worked_packet_faults, worked_pcapng,

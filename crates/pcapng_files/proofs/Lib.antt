@@ -1,0 +1,4 @@
+pub mod ConvertingLemmas
+pub mod OptionLemmas
+pub mod PacketLemmas
+pub mod StampLemmas
