@@ -6,6 +6,7 @@ mod block;
 mod conversion;
 mod converting;
 mod fault;
+mod front;
 mod interface;
 mod numbers;
 mod options;
@@ -14,4 +15,5 @@ mod units;
 
 pub use converting::convert;
 pub use fault::NgFault;
+pub use front::{Front, FrontFiles};
 pub use pcapng_model::{NgKind, NgPlace};
