@@ -7,7 +7,7 @@ use Rattle.std.proofs.lemmas.List.{map-append}
 use Rattle.std.proofs.lemmas.List.Elements.{All-nil, All-cons, All-append, All-same}
 use Rattle.capture_model.specs.Capture.{Record, IsCapture, most_bytes, most_records}
 use Rattle.capture_model.specs.Header.{capture_header}
-use Rattle.capture_model.specs.Written.{IsWithin, AreWithin, record_text, record_texts, written}
+use Rattle.capture_model.specs.Written.{IsWithin, record_text, record_texts, written}
 use Rattle.pcap_files.proofs.WritingLemmas.{reads_written}
 use Rattle.pcapng_model.specs.Block.{Whole, framed, told, Found, NewSection, NewInterface, Packet, Passed, Told, Tells}
 use Rattle.pcapng_model.specs.Interface as model

@@ -1,7 +1,7 @@
 -- A stamp by whole seconds and the part of one.
-use Rattle.std.specs.Prelude.{◌≡◌, ◌≤◌, ◌<◌, ◌+◌, ◌-◌, ◌*◌, ◌/◌, ◌%◌, ◌^◌, ℕ, nat_lt, true, false, None, Some}
+use Rattle.std.specs.Prelude.{◌≡◌, ◌≤◌, ◌<◌, ◌+◌, ◌-◌, ◌*◌, ◌/◌, ◌%◌, ◌^◌, ℕ, None, Some}
 use Rattle.std.specs.declared.option.Option.{Option}
-use Rattle.std.proofs.Common.{◌∙◌, refl, ap, sym, arith, inl, inr}
+use Rattle.std.proofs.Common.{◌∙◌, refl, ap, arith, inl, inr}
 use Rattle.std.proofs.Math.Nat.{add-mul-div_left, div-add-mod}
 use Rattle.std.proofs.lemmas.Bool.{cases_lt}
 use Rattle.pcapng_model.specs.Interface.{Offset, Later, Earlier, early, moved}

@@ -1,4 +1,4 @@
-use Rattle.std.proofs.Common.{rules, arith, vec_len, length}
+use Rattle.std.proofs.Common.{rules, arith, vec_len}
 use Rattle.pcapng_files.proofs.ConvertingLemmas.{cause_of, converting_more, converting_none, fits, whole}
 use Rattle.pcapng_files.proofs.converting.convert.Goals as goal
 

@@ -1,4 +1,4 @@
-use Rattle.std.proofs.Common.{◌≡◌, ◌≤◌, ◌<◌, ◌+◌, ◌-◌, ◌*◌, ◌^◌, length, vec_len}
+use Rattle.std.proofs.Common.{◌≤◌, ◌<◌, ◌+◌, ◌-◌, ◌*◌, ◌^◌, length, vec_len}
 use Rattle.pcapng_files.proofs.ConvertingLemmas.{IsConverting}
 use Rattle.pcapng_files.proofs.converting.convert.Given as goal
 

@@ -1,4 +1,4 @@
-use Rattle.std.proofs.Common.{◌≡◌, ◌∙◌, sym, arith, rules}
+use Rattle.std.proofs.Common.{◌∙◌, sym, rules}
 use Rattle.pcapng_files.specs.Views.{settings}
 use Rattle.pcapng_files.proofs.OptionLemmas.{ends_coded, ends_short, forbidden, follows}
 use Rattle.pcapng_files.proofs.options.options.Goals as goal

@@ -1,7 +1,7 @@
-use Rattle.std.proofs.Common.{rules, ◌≡◌, ◌∙◌, ap, sym, map, Some, slice_get, arith, ◌+◌, ◌≤◌, ◌≢◌, length}
+use Rattle.std.proofs.Common.{rules, ◌∙◌, ap, sym, map, Some, slice_get}
 use Rattle.std.specs.Option.{option_map}
 use Rattle.std.proofs.lemmas.Option.{slice_get-map}
-use Rattle.pcapng_model.specs.Number.{number, padded}
+use Rattle.pcapng_model.specs.Number.{number}
 use Rattle.pcapng_files.specs.Views.{interface}
 use Rattle.pcapng_files.proofs.PacketLemmas.{told_on}
 use Rattle.pcapng_files.proofs.packet.packet_in.Goals as goal
