@@ -1,5 +1,5 @@
 -- What is converted, and why something is not.
-use Rattle.std.specs.Prelude.{◌≡◌, ℕ, List, [], ◌∷◌}
+use Rattle.std.specs.Prelude.{◌≡◌, ℕ, List}
 use Rattle.capture_model.specs.Capture.{Record, IsCapture}
 use Rattle.capture_model.specs.Written.{written}
 use Rattle.pcapng_model.specs.Block.{Told, Refuses, TooMany}
@@ -27,10 +27,6 @@ abbrev pub IsFault : NgFault → Step → Type 0
 IsFault (ng.At found) s = s ≡ Fault found
 IsFault ng.Limit s = s ≡ reading.Limit
 IsFault ng.NoMemory s = Unit {0}
-
--- what a pcapng file begins with: the type of a section header
-abbrev pub section_bytes : List ℕ
-section_bytes = 0x0a ∷ 0x0d ∷ 0x0d ∷ 0x0a ∷ []
 
 -- the classic capture of a pcapng capture: both read as these packets
 pub record IsConversion (bytes capture : List ℕ) : Type 0 where

@@ -14,7 +14,7 @@ pub record Place : Type 0 where
   pub count : ℕ
   pub at : ℕ
 
--- a file begins with a section header, which shows its order: so the order before it is never used
+-- A pcapng file begins with a section header, which shows its order of bytes: the order here is that of no such file.
 abbrev pub start : Place
 start = record { big = false; interfaces = []; count = 0; at = 0 }
 
