@@ -1,6 +1,6 @@
 -- The outcome of a file is a reading of it.
-use Rattle.std.specs.Prelude.{◌≡◌, ◌≤◌, ◌+◌, ◌++◌, ℕ, zero, suc, Bool, true, false, nat_lt, nat_le, List, [], ◌∷◌, length, if◌then◌else◌}
-use Rattle.std.proofs.Common.{◌∙◌, refl, ap, subst, sym, arith}
+use Rattle.std.specs.Prelude.{◌≡◌, ◌≤◌, ◌+◌, ◌++◌, ℕ, zero, suc, Bool, true, false, nat_le, List, [], ◌∷◌, length, if◌then◌else◌}
+use Rattle.std.proofs.Common.{refl, ap, subst, sym, arith}
 use Rattle.std.proofs.lemmas.Bool.{le-leb}
 use Rattle.capture_model.specs.Capture.{Record}
 use Rattle.pcapng_model.specs.Reading.{Place, Block, Step, End, Next, Fault, Limit, Outcome, more, outcome, outcome_on, step, past, packets_in, IsLast, ReadsFrom, Reads, start}

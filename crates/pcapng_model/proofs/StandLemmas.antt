@@ -6,8 +6,7 @@ use Rattle.std.proofs.lemmas.Bool.{ltb-false}
 use Rattle.capture_model.specs.Capture.{Record}
 use Rattle.pcapng_model.specs.Block.{Framed, Whole, Broken, Told, Tells, Refuses, TooMany, framed, framed_by, order_at, told}
 use Rattle.pcapng_model.specs.Number.{number}
-use Rattle.pcapng_model.specs.Reading.{Place, Block, Step, End, Next, Fault, Limit, step, step_by, step_in, past, past_all, packets, packets_in, Stand, IsLast, ReadsFrom, Reads}
-use Rattle.pcapng_model.specs.declared.fault.NgKind.{NgKind}
+use Rattle.pcapng_model.specs.Reading.{Place, Block, Step, End, Next, Fault, Limit, step, step_by, step_in, past, past_all, packets, packets_in, Stand, IsLast, Reads}
 use Rattle.pcapng_model.specs.declared.fault.NgKind.TheVariants.{ShortBlock, BadBlock}
 
 -- one more block behind those that stand

@@ -1,5 +1,5 @@
 -- An interface description and the stamps of its packets (pcapng, "Interface Description Block", "Options").
-use Rattle.std.specs.Prelude.{◌==◌, ◌||◌, ◌+◌, ◌-◌, ◌*◌, ◌/◌, ◌^◌, ℕ, zero, suc, Bool, true, false, not, nat_lt, List, length, drop, slice_index, if◌then◌else◌, None, Some}
+use Rattle.std.specs.Prelude.{◌==◌, ◌||◌, ◌+◌, ◌-◌, ◌*◌, ◌/◌, ◌^◌, ℕ, zero, suc, Bool, true, false, nat_lt, List, length, drop, slice_index, if◌then◌else◌, None, Some}
 use Rattle.std.specs.declared.option.Option.{Option}
 use Rattle.pcapng_model.specs.Number.{number, padded}
 

@@ -1,6 +1,6 @@
 -- The reading of a file in the pcapng format (IETF draft-ietf-opsawg-pcapng): blocks one after another, in sections that begin with a
 -- section header. Interfaces are counted from 0 in each section.
-use Rattle.std.specs.Prelude.{◌≡◌, ◌+◌, ◌++◌, ℕ, zero, suc, Bool, true, false, nat_lt, nat_le, List, [], ◌∷◌, length, if◌then◌else◌}
+use Rattle.std.specs.Prelude.{◌≡◌, ◌+◌, ◌++◌, ℕ, zero, suc, Bool, false, nat_lt, nat_le, List, [], ◌∷◌, length, if◌then◌else◌}
 use Rattle.capture_model.specs.Capture.{Record, most_bytes}
 use Rattle.pcapng_model.specs.Block.{Framed, Whole, Broken, Found, NewSection, NewInterface, Packet, Passed, Told, Tells, Refuses, TooMany, framed, told}
 use Rattle.pcapng_model.specs.Interface.{Interface}
