@@ -1,0 +1,6 @@
+pub mod BackLaws
+pub mod ConvertingLemmas
+pub mod FrontLaws
+pub mod OptionLemmas
+pub mod PacketLemmas
+pub mod StampLemmas

@@ -1,0 +1,4 @@
+pub mod Converted
+pub mod Converting
+pub mod Fronts
+pub mod Views

@@ -1,0 +1,71 @@
+// Units of a second and offsets, of which stamps are made.
+ghost use Rattle.std.specs.Prelude.{◌≡◌, ◌≤◌, ◌<◌, ◌*◌, ◌/◌, ◌^◌, IfSome};
+ghost use Rattle.pcapng_model.specs.Interface.{offset_of, units_of};
+ghost use Rattle.pcapng_files.specs.Views.{offset, seconds_by};
+
+// Nanoseconds in a second.
+pub const NANOS: u64 = 1_000_000_000;
+
+// What is added to every stamp of an interface, in whole seconds.
+#[derive(Clone, Copy)]
+pub enum Offset {
+    Later(u64),
+    Earlier(u64),
+}
+
+impl Offset {
+    // The seconds that an offset makes of these; None before the epoch, or from 2^32 on.
+    pub fn moved(self, seconds: u64) -> Option<u64>
+        ensures value { result ≡ seconds_by (offset self) seconds }
+        ensures early { IfSome result (λ moved. moved < 2 ^ 32) }
+    {
+        let moved = match self {
+            Offset::Later(more) => seconds.checked_add(more),
+            Offset::Earlier(less) => seconds.checked_sub(less),
+        };
+        match moved {
+            Some(moved) if moved < 1 << 32 => Some(moved),
+            _ => None,
+        }
+    }
+}
+
+// The nanoseconds of a part of a second, rounded down.
+pub fn fraction(part: u64, units: u64) -> u64
+    requires { part < units }
+    ensures value { result ≡ part * 10 ^ 9 / units }
+    ensures part { result < 10 ^ 9 }
+{
+    match part.checked_mul(NANOS) {
+        Some(nanos) => nanos / units,
+        None => (u128::from(part) * u128::from(NANOS) / u128::from(units)) as u64,
+    }
+}
+
+// The offset of 64 bits, a signed number.
+pub fn offset_of(bits: u64) -> Offset
+    ensures { offset result ≡ offset_of bits }
+{
+    if bits < 1 << 63 {
+        Offset::Later(bits)
+    } else {
+        Offset::Earlier(u64::MAX - bits + 1)
+    }
+}
+
+// The units of a second that a resolution gives.
+pub fn units_of(resolution: u8) -> Option<u64>
+    ensures value { result ≡ units_of resolution }
+    ensures some { IfSome result (λ units. 1 ≤ units) }
+{
+    if resolution < 128 {
+        if resolution > 18 {
+            return None;
+        }
+        return Some(10u64.pow(resolution as u32));
+    }
+    if resolution - 128 > 63 {
+        return None;
+    }
+    Some(1 << (resolution - 128))
+}
