@@ -9,7 +9,7 @@ use Rattle.std.proofs.lemmas.List.Elements.{recursion_from_All}
 use Rattle.std.proofs.lemmas.Slice.Eq.{bytes_eq-Decides}
 use Rattle.altq_model.specs.Arrivals.{Arrival}
 use Rattle.altq_model.specs.History.{Decision}
-use Rattle.altq_model.specs.Texts.{fate_row, fate_rows, fates, fates_header}
+use Rattle.play_text.specs.Texts.{fate_row, fate_rows, fates, fates_header}
 use Rattle.fate_check.specs.Given.{rows_for}
 use Rattle.play_text.specs.Names.{NameList, AreNames, HasClass, class_named, name_of}
 use Rattle.fate_check.specs.declared.reading.Row.{Row}

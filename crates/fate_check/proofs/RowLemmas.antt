@@ -15,7 +15,7 @@ use Rattle.altq_model.specs.declared.Reason.{Reason}
 use Rattle.altq_model.specs.declared.Reason.TheVariants.{Full, Early, Forced}
 use Rattle.altq_model.specs.declared.Rule.{Rule}
 use Rattle.altq_model.specs.declared.Rule.TheVariants.{RealTime, Share, Own, Borrow}
-use Rattle.altq_model.specs.Texts.{fate_fields, reason_word, rule_word}
+use Rattle.play_text.specs.Texts.{fate_fields, reason_word, rule_word}
 use Rattle.play_text.specs.Names.{NameList, AreNames, class_named, name_of}
 use Rattle.fate_check.specs.declared.reading.Row.{Row}
 use Rattle.fate_check.specs.Parse.{Texts, dropped_of, fate_by, fate_of, fields_of, len_of, number_of, reason_of, row_in, row_of, rule_of, sent_of}

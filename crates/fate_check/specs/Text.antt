@@ -2,7 +2,7 @@
 use Rattle.std.specs.Prelude.{◌≡◌, ◌≢◌, ◌<◌, ◌+◌, ◌^◌, ◌⊎◌, ℕ, List, [], ◌∷◌, ◌++◌, length}
 use Rattle.altq_model.specs.declared.Fate.{Fate}
 use Rattle.altq_model.specs.declared.Fate.TheVariants.{Dropped, Sent}
-use Rattle.altq_model.specs.Texts.{fate_text, fates_header}
+use Rattle.play_text.specs.Texts.{fate_text, fates_header}
 use Rattle.play_text.specs.Names.{NameList, HasClass, name_of}
 use Rattle.fate_check.specs.declared.reading.Row.{Row}
 

@@ -2,7 +2,7 @@
 ghost use Rattle.std.specs.Prelude.{◌≡◌, ◌++◌, ℕ, List};
 ghost use Rattle.altq_model.specs.Arrivals.{Arrival};
 ghost use Rattle.altq_model.specs.History.{Decision};
-ghost use Rattle.altq_model.specs.Texts.{fates};
+ghost use Rattle.play_text.specs.Texts.{fates};
 ghost use Rattle.play_text.specs.Names.{AreNames, NameList};
 ghost use Rattle.play_text.specs.Names.{name_of};
 ghost use Rattle.fate_check.specs.Given.{rows_for};

@@ -1,12 +1,8 @@
 -- The queue classes of an interface and their names, as texts give them. A list of pairs: a class and its name.
 use Rattle.std.specs.Prelude.{◌≢◌, ◌<◌, ◌≤◌, ◌==◌, ℕ, IsTrue, IsSome, List, [], length, All, AllPairs, position, find, option_map, unwrap_or}
 use Rattle.std.specs.declared.option.Option.{Option}
-<<<<<<< HEAD
-use Rattle.play_text.specs.Texts.{Naming}
-=======
 use Rattle.std.specs.Str.{bytes_eq}
-use Rattle.altq_model.specs.Texts.{Naming}
->>>>>>> h_verify
+use Rattle.play_text.specs.Texts.{Naming}
 use Rattle.line_text.specs.Names.{is_name}
 
 abbrev pub NameList : Type 0

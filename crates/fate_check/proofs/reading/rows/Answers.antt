@@ -1,7 +1,7 @@
 use Rattle.std.proofs.Common.{◌≡◌, ◌∙◌, ◌+◌, ◌++◌, ◌∷◌, [], ℕ, List, Some, None, inr, sym, ap, arith, vec_len, length}
 use Rattle.std.proofs.lemmas.Bool.Decides.{Decides-eqb}
 use Rattle.std.proofs.lemmas.Slice.Eq.{strip_prefix_is}
-use Rattle.altq_model.specs.Texts.{fates_header}
+use Rattle.play_text.specs.Texts.{fates_header}
 use Rattle.fate_check.specs.Parse.{row_of}
 use Rattle.fate_check.proofs.RowLemmas.{no_row, read_all, row_shorter, row_stands, rows_more, some_left, whole_more}
 use Rattle.fate_check.proofs.reading.rows.Goals as goal

@@ -1,5 +1,5 @@
 use Rattle.std.proofs.Common.{◌≡◌, ◌+◌, ◌≤◌, ◌++◌, length, vec_len}
-use Rattle.altq_model.specs.Texts.{fates_header}
+use Rattle.play_text.specs.Texts.{fates_header}
 use Rattle.fate_check.specs.Text.{AreRows, texts_of}
 use Rattle.fate_check.proofs.reading.rows.Given as goal
 
