@@ -14,7 +14,7 @@ use Rattle.capture_model.specs.Written.{written}
 use Rattle.pcap_files.specs.declared.fault.CaptureFault.{CaptureFault}
 use Rattle.pcap_files.specs.declared.fault.CaptureFault.TheVariants as capture
 use Rattle.pcap_files.specs.declared.reader.Reader.{Reader}
-use Rattle.pcap_files.specs.Reading.{IsHeadFault, ReadsTo, StandsFor}
+use Rattle.pcap_files.specs.Reading.{AreAllTaken, IsHeadFault, ReadsTo, StandsFor}
 use Rattle.pcap_files.proofs.ReadingLaws.{answered_front, one_reading, taken}
 use Rattle.play_base.specs.View.{View, Keeps, ReadFault}
 use Rattle.play_base.specs.Holds.{Apart, HoldsAt}
@@ -32,7 +32,7 @@ use Rattle.play_core.specs.Totals.{AreTotals}
 use Rattle.play_text.specs.Names.{name_of}
 use Rattle.play_loop.specs.declared.fault.Opened.{Opened}
 use Rattle.play_loop.specs.declared.fault.PlayFault.{PlayFault}
-use Rattle.play_loop.specs.Ending.{IsAhead, IsAll, IsPast, capture_fault}
+use Rattle.play_loop.specs.Ending.{IsAhead, IsAll, IsCut, IsPast, capture_fault}
 use Rattle.play_loop.specs.Kept.{OnlyWrote}
 use Rattle.play_loop.specs.declared.fault.Output.TheVariants as output
 use Rattle.play_loop.specs.declared.fault.PlayFault.TheVariants as play
@@ -141,21 +141,49 @@ offered_all x stood v o records arrived g e b n l y z s =
 
 -- when a fault of the capture comes
 abbrev pub Offered : Setup → (List Happened → Type 0) → View → View → Opened → CaptureFault → Type 0
-Offered x stood old new o f = OfArrivals old o (λ bytes. (records : List Record) × ReadsTo f bytes records × HasOffered x stood new o records)
+Offered x stood old new o f = OfArrivals old o (λ bytes. (records : List Record) × IsCut f new o.arrivals bytes records × HasOffered x stood new o records)
 
 pub explains_capture : (x : Setup) (stood : List Happened → Type 0) (u w : View) (o : Opened) (f : CaptureFault) → Offered x stood u w o f
     → (f ≡ capture.Read → ReadFault u w o.arrivals) → Explains x stood u w o (capture_fault f)
 explains_capture x stood u w o (capture.Damage d) h r = h
 explains_capture x stood u w o capture.Limit h r = h
-explains_capture x stood u w o capture.Read h r = r refl
+explains_capture x stood u w o capture.Read h r = (r refl, h)
 explains_capture x stood u w o capture.NoMemory h r = tt
 
 -- a file with a bad head has no complete record
-pub head_fault : (f : CaptureFault) (bytes : List ℕ) → IsHeadFault f bytes → ReadsTo f bytes []
-head_fault (capture.Damage d) bytes h = let P : Header → Type 0 = λ k. ReadsFrom k bytes [] (Fault d) in subst P (sym h) (refl, refl)
-head_fault capture.Limit bytes h = absurd h
-head_fault capture.Read bytes h = tt
-head_fault capture.NoMemory bytes h = tt
+pub head_fault : (f : CaptureFault) (v : View) (file : ℕ) (bytes : List ℕ) → IsHeadFault f bytes → (f ≡ capture.Read → AreAllTaken v file bytes [])
+    → IsCut f v file bytes []
+head_fault (capture.Damage d) v file bytes h taken = let P : Header → Type 0 = λ k. ReadsFrom k bytes [] (Fault d) in subst P (sym h) (refl, refl)
+head_fault capture.Limit v file bytes h taken = absurd h
+head_fault capture.Read v file bytes h taken = taken refl
+head_fault capture.NoMemory v file bytes h taken = tt
+
+-- why a reader answered a fault
+pub cut_by : (f : CaptureFault) (v : View) (file arr : ℕ) (bytes : List ℕ) (rs : List Record) → arr ≡ file → ReadsTo f bytes rs
+    → (f ≡ capture.Read → AreAllTaken v file bytes rs) → IsCut f v arr bytes rs
+cut_by (capture.Damage d) v file arr bytes rs e h taken = h
+cut_by capture.Limit v file arr bytes rs e h taken = h
+cut_by capture.Read v file arr bytes rs e h taken = subst (λ (n : ℕ). AreAllTaken v n bytes rs) (sym e) (taken refl)
+cut_by capture.NoMemory v file arr bytes rs e h taken = tt
+
+-- it stays why, where the file has the same left
+taken_later : (v w : View) (file arr : ℕ) (bytes : List ℕ) (rs : List Record) → w.left arr ≡ v.left arr → file ≡ arr → AreAllTaken v file bytes rs → AreAllTaken w arr bytes rs
+taken_later v w file arr bytes rs left same x = record {
+  taken = x.taken;
+  rest = x.rest;
+  split = x.split;
+  left = left ∙ ap v.left (sym same) ∙ x.left;
+  last = x.last;
+  reads = x.reads;
+  ended = x.ended;
+}
+
+pub cut_later : (f : CaptureFault) (v w : View) (file arr : ℕ) (bytes : List ℕ) (rs : List Record) → w.left arr ≡ v.left arr → file ≡ arr → IsCut f v file bytes rs
+    → IsCut f w arr bytes rs
+cut_later (capture.Damage d) v w file arr bytes rs left same x = x
+cut_later capture.Limit v w file arr bytes rs left same x = x
+cut_later capture.Read v w file arr bytes rs left same x = taken_later v w file arr bytes rs left same x
+cut_later capture.NoMemory v w file arr bytes rs left same x = tt
 
 -- what writes to files of other names leave
 pub left_kept : (u v : View) (arr dep fat : ℕ) → IsSome (u.part arr) → Apart u arr dep → Apart u arr fat → IsTrue u.tells → OnlyWrote dep fat u v → v.left arr ≡ u.left arr

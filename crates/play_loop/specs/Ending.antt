@@ -5,11 +5,11 @@ use Rattle.altq_model.specs.Arrivals.{Arrival, arrivals_of, comings}
 use Rattle.altq_model.specs.History.{Happened, bare, offered}
 use Rattle.altq_model.specs.Lawful.{greatest}
 use Rattle.altq_model.specs.Play.{Policy, AreDue, due}
-use Rattle.capture_model.specs.Capture.{Record, Step, Reads, IsLast, IsCapture, place_after, most_bytes}
+use Rattle.capture_model.specs.Capture.{Record, Step, Fault, Limit, Reads, IsLast, IsCapture, place_after, most_bytes}
 use Rattle.pcap_files.specs.declared.fault.CaptureFault.{CaptureFault}
 use Rattle.pcap_files.specs.declared.fault.CaptureFault.TheVariants as capture
 use Rattle.pcap_files.specs.declared.reader.Reader.{Reader}
-use Rattle.pcap_files.specs.Reading.{ReadsTo, StandsFor}
+use Rattle.pcap_files.specs.Reading.{AreAllTaken, StandsFor}
 use Rattle.play_base.specs.View.{View}
 use Rattle.play_core.specs.Ended.{IsCutOff}
 use Rattle.play_core.specs.Finished.{EndsWithOffer}
@@ -39,11 +39,19 @@ pub record IsPast (place : List ℕ → Placed) (bytes : List ℕ) (arrived : Li
   pub all : IsAll place bytes arrived
   pub passed : greatest 0 all.records ≤ moment
 
+-- what ended the reading of a file's bytes after these records: what stands there, or a read that failed, and then they are the
+-- complete ones of the bytes that were taken
+abbrev pub IsCut : CaptureFault → View → (file : ℕ) → (bytes : List ℕ) → List Record → Type 0
+IsCut (capture.Damage found) v file bytes records = Reads bytes records (Fault found)
+IsCut capture.Limit v file bytes records = Reads bytes records Limit
+IsCut capture.Read v file bytes records = AreAllTaken v file bytes records
+IsCut capture.NoMemory v file bytes records = Unit {0}
+
 -- they are the arrivals of all records before a fault
-pub record IsFaulty (place : List ℕ → Placed) (bytes : List ℕ) (arrived : List Arrival) (fault : CaptureFault) : Type 0 where
+pub record IsFaulty (place : List ℕ → Placed) (v : View) (file : ℕ) (bytes : List ℕ) (arrived : List Arrival) (fault : CaptureFault) : Type 0 where
   pub records : List Record
   pub arrivals : arrived ≡ arrivals_of place records
-  pub reads : ReadsTo fault bytes records
+  pub reads : IsCut fault v file bytes records
 
 -- they are the arrivals of the records that a reader answered, and the last alone arrives after `moment`
 pub record IsAhead (place : List ℕ → Placed) (v : View) (r : Reader) (bytes : List ℕ) (arrived : List Arrival) (moment : ℕ) : Type 0 where
@@ -66,10 +74,10 @@ pub record IsDone (place : List ℕ → Placed) (p : Policy) (rate seed : ℕ) (
   pub all : (bytes : List ℕ) → told bytes → IsAll place bytes arrived
 
 -- every complete record was offered, the last of them last
-pub record IsStuck (place : List ℕ → Placed) (told : List ℕ → Type 0) (arrived : List Arrival) (g : List Happened) (fault : CaptureFault) : Type 0 where
+pub record IsStuck (place : List ℕ → Placed) (told : List ℕ → Type 0) (v : View) (file : ℕ) (arrived : List Arrival) (g : List Happened) (fault : CaptureFault) : Type 0 where
   pub offers : offered (bare g) ≡ length arrived
   pub last : EndsWithOffer g
-  pub faulty : (bytes : List ℕ) → told bytes → IsFaulty place bytes arrived fault
+  pub faulty : (bytes : List ℕ) → told bytes → IsFaulty place v file bytes arrived fault
 
 -- the next sending would end too late, and starts before the last arrival that was read, or no more arrive
 pub record IsOverdue (place : List ℕ → Placed) (p : Policy) (rate seed : ℕ) (told : List ℕ → Type 0) (v : View) (r : Reader) (arrived : List Arrival) (g : List Happened) : Type 0 where
@@ -77,7 +85,13 @@ pub record IsOverdue (place : List ℕ → Placed) (p : Policy) (rate seed : ℕ
   pub first : AreFirst place p rate seed told arrived (cut.next ∷ g)
   pub ahead : (bytes : List ℕ) → told bytes → IsPast place bytes arrived (start_of cut.next.what) ⊎ IsAhead place v r bytes arrived (start_of cut.next.what)
 
+-- no fault of reading ended it
+abbrev pub IsClean : Ending → Type 0
+IsClean Whole = Unit {0}
+IsClean (Cut fault) = ⊥
+IsClean Late = Unit {0}
+
 abbrev pub EndsAs : Ending → (place : List ℕ → Placed) → Policy → (rate seed : ℕ) → (told : List ℕ → Type 0) → View → Reader → List Arrival → List Happened → Type 0
 EndsAs Whole place p rate seed told v r arrived g = IsDone place p rate seed told arrived g
-EndsAs (Cut fault) place p rate seed told v r arrived g = IsStuck place told arrived g fault
+EndsAs (Cut fault) place p rate seed told v r arrived g = IsStuck place told v r.file arrived g fault
 EndsAs Late place p rate seed told v r arrived g = IsOverdue place p rate seed told v r arrived g

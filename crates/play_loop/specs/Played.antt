@@ -5,6 +5,7 @@ use Rattle.altq_model.specs.Departures.{departed}
 use Rattle.altq_model.specs.History.{Event, Offered, Sent, Happened, bare, offered, journal}
 use Rattle.altq_model.specs.Lawful.{greatest}
 use Rattle.capture_model.specs.Capture.{Record, Step, End, Fault, Limit, Reads, IsCapture, IsLast, place_after}
+use Rattle.pcap_files.specs.Reading.{AreAllTaken}
 use Rattle.play_base.specs.View.{View, ReadFault, WriteFault}
 use Rattle.play_base.specs.Holds.{HoldsAt, Apart}
 use Rattle.play_core.specs.declared.totals.Totals.{Totals}
@@ -134,6 +135,10 @@ Fronts x old new o = OfArrivals old o (λ bytes. (records : List Record) (last :
 abbrev pub Offers : Setup → (List Happened → Type 0) → View → View → Opened → Step → Type 0
 Offers x stood old new o last = OfArrivals old o (λ bytes. (records : List Record) × Reads bytes records last × HasOffered x stood new o records)
 
+-- the complete records of the bytes that were taken from the arrivals were all offered
+abbrev pub OffersTaken : Setup → (List Happened → Type 0) → View → View → Opened → Type 0
+OffersTaken x stood old new o = OfArrivals old o (λ bytes. (records : List Record) × AreAllTaken new o.arrivals bytes records × HasOffered x stood new o records)
+
 -- the play of its complete records was cut off
 abbrev pub IsLate : Setup → (List Happened → Type 0) → View → View → Opened → Type 0
 IsLate x stood old new o = OfArrivals old o (λ bytes. (records : List Record) × ((last : Step) × Reads bytes records last × IsLast last
@@ -142,7 +147,7 @@ IsLate x stood old new o = OfArrivals old o (λ bytes. (records : List Record) �
 -- when each fault of a play comes
 abbrev pub Explains : Setup → (List Happened → Type 0) → View → View → Opened → PlayFault → Type 0
 Explains x stood old new o (play.Capture damage) = Offers x stood old new o (Fault damage)
-Explains x stood old new o play.Read = ReadFault old new o.arrivals
+Explains x stood old new o play.Read = ReadFault old new o.arrivals × OffersTaken x stood old new o
 Explains x stood old new o (play.Write output.Departures) = WriteFault old new o.departures
 Explains x stood old new o (play.Write output.Fates) = WriteFault old new o.fates
 Explains x stood old new o (play.Write output.Statistics) = WriteFault old new o.stats

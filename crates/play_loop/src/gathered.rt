@@ -1,6 +1,6 @@
 // Writing in pieces: short texts are gathered, up to 65,536 bytes, and then written at once.
 ghost use Rattle.std.specs.Prelude.{◌≡◌, ◌≤◌, [], List, ℕ, IsSome, OnOk, OnErr, IsErrOf, max, vec_len};
-ghost use Rattle.play_base.specs.View.{Wrote, WroteFront, WriteFault};
+ghost use Rattle.play_base.specs.View.{SameCounts, Wrote, WroteFront, WriteFault};
 ghost use Rattle.play_loop.specs.Gathered.{Grew, Stopped};
 
 use play_base::{Files, Trouble, write_all};
@@ -11,6 +11,7 @@ const BOUND: usize = 65_536;
 
 /// Adds bytes to those that are gathered for a file; where they would be too many, those before them are written first. A
 /// text longer than the bound is written by itself. After an error a front of all of it was written.
+#[tactic(auto, using(play_base::proofs::ViewLaws::same_trans, play_base::proofs::ViewLaws::same_refl))]
 pub fn gather<F: Files>(
     files: &mut F,
     file: u32,
@@ -20,6 +21,7 @@ pub fn gather<F: Files>(
     requires { IsSome ((F.view files.old).part file) }
     ensures grew { OnOk result (Grew (F.view files.old) (F.view files.new) file pending.old.items pending.new.items bytes.now) }
     ensures bounded { OnOk result (vec_len pending.new ≤ max (vec_len pending.old) 65536) }
+    ensures no_fault { OnOk result (SameCounts (F.view files.old) (F.view files.new)) }
     ensures stopped { OnErr result (Stopped (F.view files.old) (F.view files.new) file pending.old.items bytes.now) }
     ensures failed { IsErrOf result Trouble.Failed → WriteFault (F.view files.old) (F.view files.new) file }
 {
@@ -46,10 +48,12 @@ pub fn gather<F: Files>(
 }
 
 /// Writes what is gathered for a file. After an error a front of it was written.
+#[tactic(auto, using(play_base::proofs::ViewLaws::same_trans, play_base::proofs::ViewLaws::same_refl))]
 pub fn flush<F: Files>(files: &mut F, file: u32, pending: &mut Vec<u8>) -> Result<(), Trouble>
     requires { IsSome ((F.view files.old).part file) }
     ensures wrote { OnOk result (Wrote (F.view files.old) (F.view files.new) file pending.old.items) }
     ensures empty { OnOk result (pending.new.items ≡ []) }
+    ensures no_fault { OnOk result (SameCounts (F.view files.old) (F.view files.new)) }
     ensures front { OnErr result (WroteFront (F.view files.old) (F.view files.new) file pending.old.items) }
     ensures failed { IsErrOf result Trouble.Failed → WriteFault (F.view files.old) (F.view files.new) file }
 {
@@ -63,10 +67,12 @@ pub fn flush<F: Files>(files: &mut F, file: u32, pending: &mut Vec<u8>) -> Resul
 }
 
 /// Writes the rows that are gathered for a file, and takes them away. After an error a front of them was written.
+#[tactic(auto, using(play_base::proofs::ViewLaws::same_trans, play_base::proofs::ViewLaws::same_refl))]
 pub fn flush_rows<F: Files>(files: &mut F, file: u32, rows: &mut Rows) -> Result<(), Trouble>
     requires { IsSome ((F.view files.old).part file) }
     ensures wrote { OnOk result (Wrote (F.view files.old) (F.view files.new) file rows.old) }
     ensures empty { OnOk result (rows.new ≡ []) }
+    ensures no_fault { OnOk result (SameCounts (F.view files.old) (F.view files.new)) }
     ensures front { OnErr result (WroteFront (F.view files.old) (F.view files.new) file rows.old) }
     ensures failed { IsErrOf result Trouble.Failed → WriteFault (F.view files.old) (F.view files.new) file }
 {

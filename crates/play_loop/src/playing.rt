@@ -6,12 +6,12 @@ ghost use Rattle.altq_model.specs.Arrivals.{Arrival};
 ghost use Rattle.altq_model.specs.History.{Happened};
 ghost use Rattle.altq_model.specs.Lawful.{IsOneOf};
 ghost use Rattle.play_base.specs.Holds.{Apart};
-ghost use Rattle.play_base.specs.View.{NoneAppears, ReadFault, WriteFault};
+ghost use Rattle.play_base.specs.View.{NoneAppears, SameCounts, ReadFault, WriteFault};
 ghost use Rattle.discipline.specs.Laws.{HasRate};
 ghost use Rattle.pcap_files.specs.Reading.{StandsFor, answered};
 ghost use Rattle.play_text.specs.Names.{HasClass, name_of};
 ghost use Rattle.play_loop.specs.Counting.{AreCountable, HasCounted};
-ghost use Rattle.play_loop.specs.Ending.{AreFirst, EndsAs};
+ghost use Rattle.play_loop.specs.Ending.{AreFirst, EndsAs, IsClean};
 ghost use Rattle.play_loop.specs.Kept.{KeepsBeside, KeepsPlayed, OnlyPlayed, OnlyWrote};
 ghost use Rattle.play_loop.specs.Outputs.{FrontsAre, IsWriteCause, SameFiles, TextsAre};
 ghost use Rattle.play_loop.specs.Played.{AreEmpty, AreReady, Explains, Fronts, LeavesStats, Plays, Writes};
@@ -36,11 +36,13 @@ use play_text::{Names, Rows, fates_header};
 use std::alloc::Global;
 
 // Writes the header of the departures, and then the header row of the fates.
+#[tactic(auto, using(play_base::proofs::ViewLaws::same_trans, play_base::proofs::ViewLaws::same_refl))]
 fn write_heads<F: Files>(files: &mut F, departures: u32, fates: u32) -> Result<(), PlayFault>
     requires departures { IsSome ((F.view files.old).part departures) }
     requires fates { IsSome ((F.view files.old).part fates) }
     ensures wrote { OnOk result (AreEmpty (F.view files.old) departures fates →
         TextsAre (F.view files.new) departures fates [] [] capture_header fates_header) }
+    ensures no_fault { OnOk result (SameCounts (F.view files.old) (F.view files.new)) }
     ensures stopped { OnErr result (AreEmpty (F.view files.old) departures fates →
         FrontsAre (F.view files.new) departures fates capture_header fates_header) }
     ensures others { OnlyWrote departures fates (F.view files.old) (F.view files.new) }
@@ -69,6 +71,7 @@ fn write_heads<F: Files>(files: &mut F, departures: u32, fates: u32) -> Result<(
 /// or lack of memory, maybe a front. Holds one packet besides those that wait, a piece of 65,536 bytes of the capture, what is
 /// gathered, and the counts of each class: nothing that grows with the capture. Costs a few steps and the bytes of each packet, and
 /// what the discipline and `classify` cost.
+#[tactic(auto, using(play_base::proofs::ViewLaws::same_trans, play_base::proofs::ViewLaws::same_refl))]
 pub fn play<D: Discipline, C: Classify, F: Files>(
     alloc: Global,
     discipline: &mut D,
@@ -90,6 +93,7 @@ pub fn play<D: Discipline, C: Classify, F: Files>(
     requires named { (frame : List ℕ) → HasClass names.now (C.placed classify.now frame).class }
     ensures done { IfOk result (Plays (setup_of (D.policy discipline.old) (C.placed classify.now) (C.dressed classify.now) names.now rate words.old.seed)
         (D.stands discipline.new) (F.view files.old) (F.view files.new) opened.now) }
+    ensures no_fault { OnOk result (SameCounts (F.view files.old) (F.view files.new)) }
     ensures why { IfErr result (Explains (setup_of (D.policy discipline.old) (C.placed classify.now) (C.dressed classify.now) names.now rate words.old.seed)
         (D.stands discipline.new) (F.view files.old) (F.view files.new) opened.now) }
     ensures front { OnErr result (Fronts (setup_of (D.policy discipline.old) (C.placed classify.now) (C.dressed classify.now) names.now rate words.old.seed)
@@ -116,6 +120,7 @@ pub fn play<D: Discipline, C: Classify, F: Files>(
 }
 
 // Plays a capture, and writes all but the statistics.
+#[tactic(auto, using(play_base::proofs::ViewLaws::same_trans, play_base::proofs::ViewLaws::same_refl))]
 fn play_capture<D: Discipline, C: Classify, F: Files>(
     alloc: Global,
     discipline: &mut D,
@@ -140,6 +145,7 @@ fn play_capture<D: Discipline, C: Classify, F: Files>(
     ensures done { IfOk result (Writes (setup_of (D.policy discipline.old) (C.placed classify.now) (C.dressed classify.now) names.now rate words.old.seed)
         (D.stands discipline.new) (F.view files.old) (F.view files.new) opened.now) }
     ensures countable { IfOk result (λ tally. AreCountable names.now tally.counts.items) }
+    ensures no_fault { OnOk result (SameCounts (F.view files.old) (F.view files.new)) }
     ensures why { IfErr result (Explains (setup_of (D.policy discipline.old) (C.placed classify.now) (C.dressed classify.now) names.now rate words.old.seed)
         (D.stands discipline.new) (F.view files.old) (F.view files.new) opened.now) }
     ensures front { OnErr result (Fronts (setup_of (D.policy discipline.old) (C.placed classify.now) (C.dressed classify.now) names.now rate words.old.seed)
@@ -198,6 +204,7 @@ fn play_capture<D: Discipline, C: Classify, F: Files>(
 }
 
 // Plays the records that a reader has not answered yet: each before the next is read, and at the end of the capture what is left.
+#[tactic(auto, using(play_base::proofs::ViewLaws::same_trans, play_base::proofs::ViewLaws::same_refl))]
 fn play_records<D: Discipline, C: Classify, F: Files>(
     reader: &mut Reader,
     progress: &mut Progress,
@@ -221,6 +228,7 @@ fn play_records<D: Discipline, C: Classify, F: Files>(
         × EndsAs ending (C.placed classify.now) (D.policy discipline.old) progress.old.clock.rate words.old.seed (λ bytes. IsTrue (F.view files.old).tells × StandsFor (F.view files.old) reader.old bytes [])
         (F.view files.new) reader.new arrived g
         × AreFirst (C.placed classify.now) (D.policy discipline.old) progress.old.clock.rate words.old.seed (λ bytes. IsTrue (F.view files.old).tells × StandsFor (F.view files.old) reader.old bytes []) arrived g) }
+    ensures no_fault { IfOk result (λ ending. IsClean ending → SameCounts (F.view files.old) (F.view files.new)) }
     ensures broken { OnErr result ((arrived : List Arrival) × (g : List Happened)
         × IsBroken (C.dressed classify.now) (name_of names.now) (D.policy discipline.old) progress.old.clock.rate words.old.seed (F.view files.new) outputs.old arrived g
         × AreFirst (C.placed classify.now) (D.policy discipline.old) progress.old.clock.rate words.old.seed (λ bytes. IsTrue (F.view files.old).tells × StandsFor (F.view files.old) reader.old bytes []) arrived g) }

@@ -1,8 +1,9 @@
 // The turns of a play: the sendings that are due before an arrival, and then its offer.
-ghost use Rattle.std.specs.Prelude.{◌≡◌, ◌≤◌, ℕ, List, Some, IfErr, IfOk, OnErr};
+ghost use Rattle.std.specs.Prelude.{◌≡◌, ◌≤◌, ℕ, List, Some, IfErr, IfOk, OnErr, OnOk};
 ghost use Rattle.altq_model.specs.Arrivals.{Arrival};
 ghost use Rattle.altq_model.specs.History.{DrawnWords, Happened};
 ghost use Rattle.altq_model.specs.Lawful.{IsOneOf};
+ghost use Rattle.play_base.specs.View.{SameCounts};
 ghost use Rattle.play_core.specs.Turns.{arrives};
 ghost use Rattle.play_text.specs.Names.{HasClass, name_of};
 ghost use Rattle.play_loop.specs.Kept.{OnlyWrote};
@@ -23,6 +24,7 @@ use play_text::Names;
 
 /// Makes every sending that is due before an arrival, or all where none is to come, and adds their texts; stops before one that
 /// would end too late. After an error each file holds a front of its text.
+#[tactic(auto, using(play_base::proofs::ViewLaws::same_trans, play_base::proofs::ViewLaws::same_refl))]
 pub fn send_due<D: Discipline, C: Classify, F: Files>(
     progress: &mut Progress,
     discipline: &mut D,
@@ -41,6 +43,7 @@ pub fn send_due<D: Discipline, C: Classify, F: Files>(
         → arrival ≡ arrives arrived g → (k : List Happened)
         × IsUnderway (C.placed classify.now) (C.dressed classify.now) names.now (D.policy discipline.new) (D.stands discipline.new) (D.lists discipline.new) (D.limits discipline.new) (D.link_rate discipline.new) (F.view files.new) outputs.new progress.new arrived w k
         × SameOffers g k × DueIs due (D.policy discipline.old) progress.old.clock.rate w.seed arrived k arrival) }
+    ensures no_fault { OnOk result (SameCounts (F.view files.old) (F.view files.new)) }
     ensures broken { OnErr result ((arrived : List Arrival) (w : DrawnWords) (g : List Happened)
         → IsUnderway (C.placed classify.now) (C.dressed classify.now) names.now (D.policy discipline.old) (D.stands discipline.old) (D.lists discipline.old) (D.limits discipline.old) (D.link_rate discipline.old) (F.view files.old) outputs.old progress.old arrived w g
         → arrival ≡ arrives arrived g → (k : List Happened)
@@ -67,6 +70,7 @@ pub fn send_due<D: Discipline, C: Classify, F: Files>(
 
 /// Plays a packet that was read: makes every sending that is due before it, and offers it; stops before a sending that would end
 /// too late. After an error each file holds a front of its text.
+#[tactic(auto, using(play_base::proofs::ViewLaws::same_trans, play_base::proofs::ViewLaws::same_refl))]
 pub fn play_packet<D: Discipline, C: Classify, F: Files>(
     progress: &mut Progress,
     discipline: &mut D,
@@ -89,6 +93,7 @@ pub fn play_packet<D: Discipline, C: Classify, F: Files>(
         → IsHeld (C.placed classify.now) arrived g arriving → (k : List Happened)
         × IsUnderway (C.placed classify.now) (C.dressed classify.now) names.now (D.policy discipline.new) (D.stands discipline.new) (D.lists discipline.new) (D.limits discipline.new) (D.link_rate discipline.new) (F.view files.new) outputs.new progress.new arrived words.new k
         × OfferedIs due (D.policy discipline.old) progress.old.clock.rate words.old.seed arrived arriving.packet.at g k) }
+    ensures no_fault { OnOk result (SameCounts (F.view files.old) (F.view files.new)) }
     ensures broken { OnErr result ((arrived : List Arrival) (g : List Happened)
         → IsUnderway (C.placed classify.now) (C.dressed classify.now) names.now (D.policy discipline.old) (D.stands discipline.old) (D.lists discipline.old) (D.limits discipline.old) (D.link_rate discipline.old) (F.view files.old) outputs.old progress.old arrived words.old g
         → IsHeld (C.placed classify.now) arrived g arriving → (k : List Happened)

@@ -3,7 +3,7 @@ ghost use Rattle.std.specs.Prelude.{◌≡◌, ◌≤◌, ◌<◌, ◌*◌, ◌^
 ghost use Rattle.std.specs.Option.{option_map_or};
 ghost use Rattle.play_text.specs.Texts.{fate_text};
 ghost use Rattle.capture_model.specs.Written.{record_text};
-ghost use Rattle.play_base.specs.View.{WriteFault, Wrote, WroteFront};
+ghost use Rattle.play_base.specs.View.{SameCounts, WriteFault, Wrote, WroteFront};
 ghost use Rattle.play_base.specs.Holds.{HoldsAt};
 ghost use Rattle.play_text.specs.Names.{HasClass, name_of};
 ghost use Rattle.play_text.specs.Statistics.{stats_of};
@@ -29,6 +29,7 @@ use std::alloc::Global;
 const ROWS_BOUND: usize = 65_536 - 256;
 
 // Adds the record of a packet of `len` bytes that was sent: its header, and then these bytes of it.
+#[tactic(auto, using(play_base::proofs::ViewLaws::same_trans, play_base::proofs::ViewLaws::same_refl))]
 fn add_record<F: Files>(
     files: &mut F,
     file: u32,
@@ -42,6 +43,7 @@ fn add_record<F: Files>(
     requires within { length bytes.now ≤ len }
     ensures grew { OnOk result (Grew (F.view files.old) (F.view files.new) file pending.old.items pending.new.items
         (record_text (record { stamp = end; captured = bytes.now; original = len }))) }
+    ensures no_fault { OnOk result (SameCounts (F.view files.old) (F.view files.new)) }
     ensures stopped { OnErr result (Stopped (F.view files.old) (F.view files.new) file pending.old.items
         (record_text (record { stamp = end; captured = bytes.now; original = len }))) }
     ensures failed { IsErrOf result Trouble.Failed → WriteFault (F.view files.old) (F.view files.new) file }
@@ -58,6 +60,7 @@ fn add_record<F: Files>(
 }
 
 // Adds the row of a packet's fate, and writes the rows once they are too many.
+#[tactic(auto, using(play_base::proofs::ViewLaws::same_trans, play_base::proofs::ViewLaws::same_refl))]
 fn add_row<F: Files>(
     files: &mut F,
     file: u32,
@@ -72,6 +75,7 @@ fn add_row<F: Files>(
     ensures grew { OnOk result (Grew (F.view files.old) (F.view files.new) file rows.old rows.new
         (fate_text packet.now.number packet.now.at packet.now.len (name_of names.now class) fate.now)) }
     ensures bounded { OnOk result (length rows.new ≤ 65280) }
+    ensures no_fault { OnOk result (SameCounts (F.view files.old) (F.view files.new)) }
     ensures stopped { OnErr result (Stopped (F.view files.old) (F.view files.new) file rows.old
         (fate_text packet.now.number packet.now.at packet.now.len (name_of names.now class) fate.now)) }
     ensures failed { IsErrOf result Trouble.Failed → WriteFault (F.view files.old) (F.view files.new) file }
@@ -109,6 +113,7 @@ fn dress_packet<C: Classify>(classify: &C, departure: &mut Departure)
 
 /// Counts a packet that was sent, and adds its record, with the bytes with which it leaves, and then its row. After an error each file
 /// holds a front of its text.
+#[tactic(auto, using(play_base::proofs::ViewLaws::same_trans, play_base::proofs::ViewLaws::same_refl))]
 pub fn add_sent<C: Classify, F: Files>(
     files: &mut F,
     outputs: &mut Outputs,
@@ -124,6 +129,7 @@ pub fn add_sent<C: Classify, F: Files>(
     requires fates { IsSome ((F.view files.old).part outputs.old.fates) }
     ensures wrote { OnOk result ((ds ts : List ℕ) → HasTexts (F.view files.old) outputs.old ds ts → HasTexts (F.view files.new) outputs.new
         (ds ++ record_text (record_of (C.dressed classify.now) departure)) (ts ++ sent_row (name_of names.now) departure)) }
+    ensures no_fault { OnOk result (SameCounts (F.view files.old) (F.view files.new)) }
     ensures stopped { OnErr result ((ds ts : List ℕ) → HasTexts (F.view files.old) outputs.old ds ts → HasFronts (F.view files.new) outputs.old
         (ds ++ record_text (record_of (C.dressed classify.now) departure)) (ts ++ sent_row (name_of names.now) departure)) }
     ensures counted { OnOk result (outputs.new.counts.items ≡ count_at names.now departure.class (Counted.Sent departure.packet.len) outputs.old.counts.items) }
@@ -174,6 +180,7 @@ pub fn add_sent<C: Classify, F: Files>(
 }
 
 /// Counts a packet that was offered to a class, if it was dropped, and adds its row. After an error each file holds a front of its text.
+#[tactic(auto, using(play_base::proofs::ViewLaws::same_trans, play_base::proofs::ViewLaws::same_refl))]
 pub fn add_dropped<F: Files>(
     files: &mut F,
     outputs: &mut Outputs,
@@ -187,6 +194,7 @@ pub fn add_dropped<F: Files>(
     requires fates { IsSome ((F.view files.old).part outputs.old.fates) }
     ensures wrote { OnOk result ((ds ts : List ℕ) → HasTexts (F.view files.old) outputs.old ds ts → HasTexts (F.view files.new) outputs.new
         ds (ts ++ option_map_or (dropped_row (name_of names.now) class) dropped [])) }
+    ensures no_fault { OnOk result (SameCounts (F.view files.old) (F.view files.new)) }
     ensures stopped { OnErr result ((ds ts : List ℕ) → HasTexts (F.view files.old) outputs.old ds ts → HasFronts (F.view files.new) outputs.old
         ds (ts ++ option_map_or (dropped_row (name_of names.now) class) dropped [])) }
     ensures counted { OnOk result (outputs.new.counts.items ≡ option_map_or (λ d. count_at names.now class (Counted.Dropped d.reason) outputs.old.counts.items) dropped outputs.old.counts.items) }
@@ -207,6 +215,7 @@ pub fn add_dropped<F: Files>(
 }
 
 /// Writes what is gathered, the departures first. After an error each file holds a front of its text.
+#[tactic(auto, using(play_base::proofs::ViewLaws::same_trans, play_base::proofs::ViewLaws::same_refl))]
 pub fn finish<F: Files>(files: &mut F, outputs: &mut Outputs) -> Result<(), PlayFault>
     requires departures { IsSome ((F.view files.old).part outputs.old.departures) }
     requires fates { IsSome ((F.view files.old).part outputs.old.fates) }
@@ -215,6 +224,7 @@ pub fn finish<F: Files>(files: &mut F, outputs: &mut Outputs) -> Result<(), Play
     ensures fates_whole { OnOk result ((ds ts : List ℕ) → HasTexts (F.view files.old) outputs.old ds ts →
         HoldsAt (F.view files.new) outputs.old.fates ts) }
     ensures counts { outputs.new.counts.items ≡ outputs.old.counts.items }
+    ensures no_fault { OnOk result (SameCounts (F.view files.old) (F.view files.new)) }
     ensures stopped { OnErr result ((ds ts : List ℕ) → HasTexts (F.view files.old) outputs.old ds ts →
         HasFronts (F.view files.new) outputs.old ds ts) }
     ensures others { OnlyWrote outputs.old.departures outputs.old.fates (F.view files.old) (F.view files.new) }
@@ -231,6 +241,7 @@ pub fn finish<F: Files>(files: &mut F, outputs: &mut Outputs) -> Result<(), Play
 }
 
 /// Writes the statistics of these counts. After an error the file holds a front of them.
+#[tactic(auto, using(play_base::proofs::ViewLaws::same_trans, play_base::proofs::ViewLaws::same_refl))]
 pub fn write_stats<F: Files>(
     alloc: Global,
     files: &mut F,
@@ -241,6 +252,7 @@ pub fn write_stats<F: Files>(
     requires there { IsSome ((F.view files.old).part file) }
     requires countable { AreCountable names.now counts.now }
     ensures wrote { OnOk result (Wrote (F.view files.old) (F.view files.new) file (stats_of names.now counts.now)) }
+    ensures no_fault { OnOk result (SameCounts (F.view files.old) (F.view files.new)) }
     ensures front { OnErr result (WroteFront (F.view files.old) (F.view files.new) file (stats_of names.now counts.now)) }
     ensures why { IfErr result (IsStatsCause file (F.view files.old) (F.view files.new)) }
 {

@@ -36,7 +36,7 @@ use Rattle.play_loop.specs.Reading.{AreFit}
 use Rattle.play_loop.specs.Setup.{Setup, arrivals_in, setup_of}
 use Rattle.play_loop.proofs.KeptLemmas.{first_wrote, then_played, then_took, then_wrote}
 use Rattle.play_loop.proofs.OutputLemmas.{fronts_files, fronts_of_texts, there_same}
-use Rattle.play_loop.proofs.PlayLemmas.{IsSound, explains_capture, explains_write, head_fault, head_records, head_rows, head_texts, held_by, left_kept, offered_all, read_before, stopped, stopped_heads, was_cut, whole_fronts}
+use Rattle.play_loop.proofs.PlayLemmas.{IsSound, cut_later, explains_capture, explains_write, head_fault, head_records, head_rows, head_texts, held_by, left_kept, offered_all, read_before, stopped, stopped_heads, was_cut, whole_fronts}
 use Rattle.play_loop.proofs.RecordLemmas.{cause_since, read_since, texts_kept}
 use Rattle.play_loop.proofs.TurnLemmas.{going_laws, same_play, under_countable}
 use Rattle.play_loop.proofs.WeightLemmas.{departures_read}
@@ -54,7 +54,8 @@ returns-in-Err-start-clause-why g c =
     (explains_capture x (g.D.Discipline.stands c.args.discipline.now) (g.F.Files.view c.args.files.now) (g.F.Files.view c.start.new.files) c.args.opened.now c.in-Err-start.fault
     (λ t bytes l. (
       [],
-      head_fault c.in-Err-start.fault bytes (c.in-Err-start.ensures.damaged bytes (left_kept (g.F.Files.view c.args.files.now) (g.F.Files.view c.write_heads.new.files) c.args.opened.now.arrivals c.args.opened.now.departures c.args.opened.now.fates c.requires.ready.arrivals c.requires.ready.from_departures c.requires.ready.from_fates t c.in-Ok.ensures.others ∙ l)),
+      head_fault c.in-Err-start.fault (g.F.Files.view c.start.new.files) c.args.opened.now.arrivals bytes (c.in-Err-start.ensures.damaged bytes (left_kept (g.F.Files.view c.args.files.now) (g.F.Files.view c.write_heads.new.files) c.args.opened.now.arrivals c.args.opened.now.departures c.args.opened.now.fates c.requires.ready.arrivals c.requires.ready.from_departures c.requires.ready.from_fates t c.in-Ok.ensures.others ∙ l))
+          (λ q. c.in-Err-start.ensures.cut (ap {B = Result Reader CaptureFault} (λ (f : CaptureFault). Err f) q) bytes (left_kept (g.F.Files.view c.args.files.now) (g.F.Files.view c.write_heads.new.files) c.args.opened.now.arrivals c.args.opened.now.departures c.args.opened.now.fates c.requires.ready.arrivals c.requires.ready.from_departures c.requires.ready.from_fates t c.in-Ok.ensures.others ∙ l)),
       offered_all x (g.D.Discipline.stands c.args.discipline.now) (g.F.Files.view c.start.new.files) c.args.opened.now [] [] [] refl (record { events = tt; in_time = tt }) refl tt
           (head_records (g.C.Classify.dressed c.args.classify.now) (g.F.Files.view c.start.new.files) c.args.opened.now.departures c.args.opened.now.fates heads) (head_rows (name_of c.args.names.now) (g.F.Files.view c.start.new.files) c.args.opened.now.departures c.args.opened.now.fates heads) ([], c.requires.new, refl),
     ))
@@ -251,12 +252,18 @@ returns-in-Cut-clause-why g c =
     let z = held_by (g.F.Files.view c.finish.new.files) c.args.opened.now.fates c.play_records.new.outputs.fates _ c.in-Ok-play_records.ensures.same.fates (c.in-Ok-finish.ensures.fates_whole _ _ e.2.given) in
     let Q : Ending → Type 0 = λ k. EndsAs k (g.C.Classify.placed c.args.classify.now) (g.D.Discipline.policy c.args.discipline.now) c.in-Ok-begin.progress.clock.rate c.args.words.now.seed (λ bytes. IsTrue (g.F.Files.view c.start.new.files).tells × StandsFor (g.F.Files.view c.start.new.files) c.in-Ok-start.reader bytes []) (g.F.Files.view c.play_records.new.files) c.play_records.new.reader e.0 e.1 in
     let d = subst Q c.in-Cut.is e.3 in
+    let k = then_played (g.F.Files.view c.args.files.now) (g.F.Files.view c.start.new.files) (g.F.Files.view c.play_records.new.files) c.args.opened.now.arrivals c.args.opened.now.departures c.args.opened.now.fates c.in-Ok-start.reader.file c.args.opened.now.departures c.args.opened.now.fates c.requires.ready.empty.departures.there c.requires.ready.empty.fates.there c.in-Ok-start.ensures.file refl refl (then_took (g.F.Files.view c.args.files.now) (g.F.Files.view c.write_heads.new.files) (g.F.Files.view c.start.new.files) c.args.opened.now.arrivals c.args.opened.now.departures c.args.opened.now.fates c.args.opened.now.arrivals c.requires.ready.empty.departures.there c.requires.ready.empty.fates.there refl (first_wrote (g.F.Files.view c.args.files.now) (g.F.Files.view c.write_heads.new.files) c.args.opened.now.arrivals c.args.opened.now.departures c.args.opened.now.fates c.in-Ok.ensures.others) c.start.ensures.some) c.in-Ok-play_records.ensures.others in
+    let file : c.play_records.new.reader.file ≡ c.args.opened.now.arrivals = c.in-Ok-play_records.ensures.file ∙ c.in-Ok-start.ensures.file in
+    let D : ℕ → Type 0 = λ n. Apart (g.F.Files.view c.play_records.new.files) c.args.opened.now.arrivals n in
+    let from_departures = subst D (sym c.in-Ok-play_records.ensures.same.departures) (apart_kept _ _ (g.F.Files.view c.args.files.now) (g.F.Files.view c.play_records.new.files) c.args.opened.now.arrivals c.args.opened.now.departures c.requires.ready.arrivals c.requires.ready.empty.departures.there c.requires.ready.from_departures k.keeps) in
+    let from_fates = subst D (sym c.in-Ok-play_records.ensures.same.fates) (apart_kept _ _ (g.F.Files.view c.args.files.now) (g.F.Files.view c.play_records.new.files) c.args.opened.now.arrivals c.args.opened.now.fates c.requires.ready.arrivals c.requires.ready.empty.fates.there c.requires.ready.from_fates k.keeps) in
     let P : PlayFault → Type 0 = λ f. Explains x (g.D.Discipline.stands c.play_records.new.discipline) (g.F.Files.view c.args.files.now) (g.F.Files.view c.finish.new.files) c.args.opened.now f in
     subst P (sym c.capture_fault-in-Cut.ensures)
     (explains_capture x (g.D.Discipline.stands c.play_records.new.discipline) (g.F.Files.view c.args.files.now) (g.F.Files.view c.finish.new.files) c.args.opened.now c.in-Cut.fault
     (λ t bytes l. (let f = d.faulty bytes (told bytes t l) in (
       f.records,
-      f.reads,
+      cut_later c.in-Cut.fault (g.F.Files.view c.play_records.new.files) (g.F.Files.view c.finish.new.files) c.play_records.new.reader.file c.args.opened.now.arrivals bytes f.records
+          (left_kept (g.F.Files.view c.play_records.new.files) (g.F.Files.view c.finish.new.files) c.args.opened.now.arrivals c.play_records.new.outputs.departures c.play_records.new.outputs.fates (still_there _ _ _ _ _ k.keeps c.requires.ready.arrivals) from_departures from_fates (k.keeps.tells ∙ t) c.in-Ok-finish.ensures.others) file f.reads,
       offered_all x (g.D.Discipline.stands c.play_records.new.discipline) (g.F.Files.view c.finish.new.files) c.args.opened.now f.records e.0 e.1 f.arrivals begun d.offers d.last y z (e.2.going.told, e.2.going.stands, e.2.going.same),
     )))
     (λ q. read_before c.play_records.new.outputs.departures c.play_records.new.outputs.fates c.args.opened.now.arrivals (g.F.Files.view c.args.files.now) (g.F.Files.view c.play_records.new.files) (g.F.Files.view c.finish.new.files) c.in-Ok-finish.ensures.others

@@ -13,7 +13,7 @@ use Rattle.pcap_files.specs.declared.fault.CaptureFault.TheVariants as fault
 use Rattle.pcap_files.specs.declared.record.Record.{Record as Read}
 use Rattle.pcap_files.specs.Reading.{Answers, Counts, IsWhole, StandsFor}
 use Rattle.play_base.specs.View.{ReadFault}
-use Rattle.play_base.proofs.ViewLaws.{still_there}
+use Rattle.play_base.proofs.ViewLaws.{same_refl, same_trans as same_counts, still_there}
 use Rattle.play_laws.proofs.ArrivalLemmas.{comings_length}
 use Rattle.play_laws.proofs.OneLemmas.{later_arrivals}
 use Rattle.play_core.specs.declared.totals.Totals.{Totals}
@@ -32,12 +32,14 @@ use Rattle.play_loop.specs.Underway.{DueIs, OfferedIs, StayDue}
 use Rattle.play_loop.proofs.KeptLemmas.{played_nothing, then_took, then_wrote}
 use Rattle.play_loop.proofs.OutputLemmas.{fronts_files, same_trans, there_same}
 use Rattle.play_loop.proofs.PacketLemmas.{before_stays, held_same}
+use Rattle.play_loop.proofs.PlayLemmas.{cut_by}
 use Rattle.play_loop.proofs.RecordLemmas.{IsRead, ahead_of, apart_played, cause_since, cut_starts, first_of_all, first_of_read, held_more, last_more, none_arrives, other_same, read_kept, read_record, read_since, under_kept, under_more}
 use Rattle.play_loop.proofs.TurnLemmas.{offered_stays, same_begun, same_play, under_countable}
 use Rattle.play_loop.proofs.playing.play_records.Goals as goal
 
 pub records-init : goal.records-init
 records-init g c = record {
+  no_fault = same_refl (g.F.Files.view c.args.files.now);
   file = refl;
   sound = c.requires.sound;
   same = record { departures = refl; fates = refl };
@@ -73,7 +75,8 @@ returns-in-Err-clause-ended g c =
       record {
         offers = z.2.offers;
         last = z.2.last;
-        faulty = λ bytes t. (let h = z.2.read bytes t in record { records = h.records; arrivals = h.arrivals; reads = c.in-Err.ensures.fault bytes h.records h.stands });
+        faulty = λ bytes t. (let h = z.2.read bytes t in record { records = h.records; arrivals = h.arrivals; reads = cut_by c.in-Err.fault (g.F.Files.view c.next.new.files) c.records.reader.file c.next.new.self.file bytes h.records c.next.ensures.file (c.in-Err.ensures.fault bytes h.records h.stands)
+            (λ q. c.in-Err.ensures.cut (ap {B = Result (Option Read) CaptureFault} (λ (f : CaptureFault). Err f) q) c.records.invariant.sound bytes h.records h.stands) });
       },
       same_play (λ (p : Policy) (k l : ℕ). AreFirst (g.C.Classify.placed c.args.classify.now) p k l (λ bytes. IsTrue (g.F.Files.view c.args.files.now).tells × StandsFor (g.F.Files.view c.args.files.now) c.args.reader.now bytes []) z.0 z.1) _ _ _ _ _ _ c.records.invariant.policy c.records.invariant.rate c.records.invariant.seed x,
     )
@@ -251,6 +254,7 @@ records-preserved g c =
     record {
       file = file;
       sound = c.in-Ok.ensures.sound;
+      no_fault = same_counts _ _ _ (same_counts _ _ _ c.records.invariant.no_fault c.in-Ok.ensures.counts) c.in-Ok-Made-play_packet.ensures.no_fault;
       same = record {
         departures = c.in-Ok-Made-play_packet.ensures.same.departures ∙ c.records.invariant.same.departures;
         fates = c.in-Ok-Made-play_packet.ensures.same.fates ∙ c.records.invariant.same.fates;

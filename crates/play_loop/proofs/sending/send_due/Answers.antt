@@ -3,6 +3,7 @@ use Rattle.std.proofs.Common.{◌≡◌, ◌∙◌, ◌∷◌, ◌≤◌, ℕ, L
 use Rattle.altq_model.specs.Arrivals.{Arrival, arrival, comings}
 use Rattle.altq_model.specs.History.{Happened, journal}
 use Rattle.altq_model.specs.Play.{Policy}
+use Rattle.play_base.proofs.ViewLaws.{same_trans as same_counts}
 use Rattle.play_core.specs.Going.{IsGoing}
 use Rattle.play_core.specs.Turns.{arrives, departs}
 use Rattle.play_core.proofs.GoingLemmas.{IsPromised}
@@ -113,6 +114,7 @@ turns-smaller g c =
 
 pub turns-preserved : goal.turns-preserved
 turns-preserved g c = record {
+  no_fault = same_counts _ _ _ c.turns.invariant.no_fault c.in-Ok.ensures.no_fault;
   same = same_trans _ _ _ c.turns.invariant.same c.in-Ok.ensures.same;
   others = (let v = c.requires.under.3.given in
       only_trans _ _ _ _ _ _ _ v.departures.holds.there v.fates.holds.there c.turns.invariant.same.departures c.turns.invariant.same.fates c.turns.invariant.others c.in-Ok.ensures.others);

@@ -2,6 +2,7 @@ use Rattle.std.proofs.Common.{◌≡◌, ◌-◌, ℕ, List}
 use Rattle.altq_model.specs.Arrivals.{Arrival}
 use Rattle.altq_model.specs.History.{DrawnWords, Happened}
 use Rattle.play_core.specs.Turns.{arrives}
+use Rattle.play_base.specs.View.{SameCounts}
 use Rattle.play_loop.specs.Kept.{OnlyWrote}
 use Rattle.play_loop.specs.Outputs.{SameFiles}
 use Rattle.play_loop.specs.Underway.{IsUnderway, SameOffers}
@@ -11,6 +12,7 @@ abbrev pub invariant-turns : goal.invariant-turns
 invariant-turns g l = record {
   same : SameFiles l.fn.outputs l.outputs;
   others : OnlyWrote l.fn.outputs.departures l.fn.outputs.fates (g.F.Files.view l.fn.files) (g.F.Files.view l.files);
+  no_fault : SameCounts (g.F.Files.view l.fn.files) (g.F.Files.view l.files);
   policy : g.D.Discipline.policy l.discipline ≡ g.D.Discipline.policy l.fn.discipline;
   rate : l.progress.clock.rate ≡ l.fn.progress.clock.rate;
   under : (arrived : List Arrival) (w : DrawnWords) (k : List Happened)
