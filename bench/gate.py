@@ -2,7 +2,8 @@
 """Runs the gate and says what processor time it took for each crate: its proof, the proof of its tests, and its edits.
 
 Takes no argument, and then runs `rt ci` at the top of the repository; or the words of another command, as
-`rt must-fail link_clock`. What that prints goes to bench/out/gate.log. It looks at /proc every 2 seconds, so of each
+`rt must-fail link_clock`. What that prints goes to bench/out/gate.log. `--beside` runs nothing: it looks on until it is
+ended by SIGTERM, and then says the three dearest crates and the sum in one line, as .ci/run has it do. It looks at /proc every 2 seconds, so of each
 check up to 2 seconds are missed, about one in the mean; of an edit that takes 8 that is one in eight. What builds and
 runs programs is not counted, and edits that another run tries meanwhile are. It needs Linux, and is no part of any test.
 
@@ -11,6 +12,7 @@ check of a crate on which an edit is tried counts among its edits. The exit stat
 """
 
 import os
+import signal
 import subprocess
 import sys
 import time
@@ -51,16 +53,35 @@ def watched(process):
     return found.values()
 
 
+def summed(found):
+    """The minutes and the number of the checks of each crate and kind, and the crates, the dearest first."""
+    took, count = defaultdict(float), defaultdict(int)
+    for what, seconds in found:
+        took[what] += seconds / 60
+        count[what] += 1
+    crates = sorted({crate for crate, _ in took}, key=lambda crate: -sum(took[crate, kind] for kind in KINDS))
+    return took, count, crates
+
+
+def beside():
+    """Looks on beside a command that another runs, until SIGTERM; then says the dearest crates."""
+    found, ended = {}, []
+    signal.signal(signal.SIGTERM, lambda *_: ended.append(True))
+    while not ended:
+        found.update((key, (what, seconds)) for key, what, seconds in checks())
+        time.sleep(2)
+    took, _, crates = summed(found.values())
+    if crates:
+        dearest = ", ".join(f"{crate} {sum(took[crate, kind] for kind in KINDS):.1f}" for crate in crates[:3])
+        print(f"processor-minutes of checks: {sum(took.values()):.1f}; the dearest: {dearest}")
+
+
 def main(words):
     os.makedirs(os.path.dirname(LOG), exist_ok=True)
     began = time.time()
     with open(LOG, "w", encoding="utf-8") as log:
         process = subprocess.Popen(words or ["rt", "ci"], cwd=ROOT, stdout=log, stderr=subprocess.STDOUT)
-        took, count = defaultdict(float), defaultdict(int)
-        for what, seconds in watched(process):
-            took[what] += seconds / 60
-            count[what] += 1
-    crates = sorted({crate for crate, _ in took}, key=lambda crate: -sum(took[crate, kind] for kind in KINDS))
+        took, count, crates = summed(watched(process))
     for crate in crates:
         print(f"{crate:18}" + "".join(f"{kind:>8} {took[crate, kind]:6.1f} ({count[crate, kind]})" for kind in KINDS))
     sums = [sum(took[crate, kind] for crate in crates) for kind in KINDS]
@@ -70,4 +91,4 @@ def main(words):
 
 
 if __name__ == "__main__":
-    sys.exit(main(sys.argv[1:]))
+    sys.exit(beside() if sys.argv[1:] == ["--beside"] else main(sys.argv[1:]))
