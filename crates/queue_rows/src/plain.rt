@@ -2,9 +2,9 @@
 ghost use Rattle.std.specs.Prelude.{◌≡◌, ◌≤◌, ◌<◌, ◌^◌};
 ghost use Rattle.discipline.specs.Laws.{HasRate};
 
-use plain_disciplines::{Discipline, Paced, Pick, Rule, Sending, Strict, Verdict};
 use leaf_queue::{Tail, Words};
 use link_clock::LinkClock;
+use plain_disciplines::{Discipline, Paced, Pick, Rule, Sending, Strict, Verdict};
 use play_base::Ticket;
 use std::test::Fail;
 

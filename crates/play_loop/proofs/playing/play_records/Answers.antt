@@ -75,8 +75,12 @@ returns-in-Err-clause-ended g c =
       record {
         offers = z.2.offers;
         last = z.2.last;
-        faulty = λ bytes t. (let h = z.2.read bytes t in record { records = h.records; arrivals = h.arrivals; reads = cut_by c.in-Err.fault (g.F.Files.view c.next.new.files) c.records.reader.file c.next.new.self.file bytes h.records c.next.ensures.file (c.in-Err.ensures.fault bytes h.records h.stands)
-            (λ q. c.in-Err.ensures.cut (ap {B = Result (Option Read) CaptureFault} (λ (f : CaptureFault). Err f) q) c.records.invariant.sound bytes h.records h.stands) });
+        faulty = λ bytes t. (let h = z.2.read bytes t in record {
+          records = h.records;
+          arrivals = h.arrivals;
+          reads = cut_by c.in-Err.fault (g.F.Files.view c.next.new.files) c.records.reader.file c.next.new.self.file bytes h.records c.next.ensures.file (c.in-Err.ensures.fault bytes h.records h.stands)
+              (λ q. c.in-Err.ensures.cut (ap {B = Result (Option Read) CaptureFault} (λ (f : CaptureFault). Err f) q) c.records.invariant.sound bytes h.records h.stands);
+        });
       },
       same_play (λ (p : Policy) (k l : ℕ). AreFirst (g.C.Classify.placed c.args.classify.now) p k l (λ bytes. IsTrue (g.F.Files.view c.args.files.now).tells × StandsFor (g.F.Files.view c.args.files.now) c.args.reader.now bytes []) z.0 z.1) _ _ _ _ _ _ c.records.invariant.policy c.records.invariant.rate c.records.invariant.seed x,
     )
