@@ -86,10 +86,15 @@ def hosts(cursor, tables, rule):
     return [one for word in words for one in address(word, tables, rule)]
 
 
+def port_number(text):
+    """The number of a port, or None."""
+    return PORTS.get(text, int(text) if text.isdecimal() else None)
+
+
 def port(word, rule):
     """The ports of a word."""
     least, _, most = word.text.partition(":")
-    ends = [PORTS.get(text, int(text) if text.isdecimal() else None) for text in (least, most or least)]
+    ends = [port_number(text) for text in (least, most or least)]
     if None in ends or not 0 <= ends[0] <= ends[1] <= 65535:
         rule.strange(word, "no port that is known: write its number")
         return []
@@ -99,6 +104,18 @@ def port(word, rule):
     return list(range(ends[0], ends[1] + 1))
 
 
+def with_ranges(words):
+    """The words of ports, each `a >< b`, to which neither end belongs, as the one word `a+1:b-1`."""
+    found = []
+    for word in words:
+        found.append(word)
+        if len(found) > 2 and found[-2].text == "><":
+            least, most = port_number(found[-3].text), port_number(word.text)
+            is_known = None not in (least, most)
+            found[-3:] = [found[-3]._replace(text=f"{least + 1}:{most - 1}" if is_known else "><")]
+    return found
+
+
 def ports(cursor, rule):
     """The ports behind `port`, or any."""
     if not cursor.skip("port"):
@@ -106,11 +123,13 @@ def ports(cursor, rule):
     cursor.skip("=")
     if cursor.has("!=", ">", "<", ">=", "<="):
         rule.strange(cursor.take("a port"), "a filter has one port")
-    found = [one for word in cursor.listed("a port") if word.text != "=" for one in port(word, rule)]
-    if cursor.has("><", "<>"):
+    words = [word for word in cursor.listed("a port") if word.text != "="]
+    if cursor.has("><"):
+        words += [cursor.take("a port"), cursor.take("a port")]
+    if cursor.has("<>"):
         rule.strange(cursor.take("a port"), "a filter has one port")
         cursor.take("a port")
-    return found
+    return [one for word in with_ranges(words) for one in port(word, rule)]
 
 
 def protocols(cursor, rule):
@@ -292,12 +311,15 @@ class Placer:
         return key, turned(filters) if is_answer else filters
 
     def rows(self):
-        """The rows of all rules, those of rules without a queue where they take packets back to the default class."""
+        """The rows of all rules, those of rules without a queue where they take packets back to the default class.
+
+        What a `match` says of a queue holds until another rule names one, so a rule without a queue takes packets of a `pass` alone.
+        """
         seen = [(at, rule, side) for at, rule in enumerate(self.rules) if rule.odd is None for side in self.sides(rule)]
         rows = [self.row(at, rule, side) for at, rule, side in seen if rule.queues and self.owners(rule)]
         places = {key[:2] for key, _ in rows}
-        least = min((key for key, _ in rows), default=None)
-        for at, rule, side in seen if rows else []:
+        least = min((key for key, _ in rows if key[0]), default=None)
+        for at, rule, side in seen if least else []:
             key, filters = self.row(at, rule, side)
             if rule.queues or rule.word.text == "match" or key < least:
                 continue

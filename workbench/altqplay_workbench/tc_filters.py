@@ -15,7 +15,9 @@ MOST_PORTS = 64
 FIRST_AUTO = 0xC000
 # Words that place no packet, with how many stand behind each.
 PASSED = {"skip_hw": 0, "skip_sw": 0, "not_in_hw": 0, "in_hw": 0, "order": 1, "key": 0, "bkt": 1, "terminal": 0, "chain": 1, "handle": 1, "fh": 1,
-          "in_hw_count": 1, "verbose": 0, "*flowid": 0}
+          "in_hw_count": 1, "verbose": 0}
+# Words before the class of a filter; `tc filter show` writes the last.
+CLASS_WORDS = ("classid", "flowid", "*flowid")
 
 
 class Odd(Exception):
@@ -72,10 +74,11 @@ class Selector:
         raise Odd(kind, "no filter can ask for this")
 
     def raw(self, words, at, pair, kind):
-        """A value under a mask at a byte; 16 and 8 bits are moved to their place in 32."""
-        if at + 1 >= len(words) or words[at].text != "at":
+        """A value under a mask at a byte, the first where none is named; 16 and 8 bits are moved to their place in 32."""
+        is_named = at < len(words) and words[at].text == "at"
+        if is_named and at + 1 == len(words):
             raise Odd(kind, "the byte it is at is missing")
-        place_word = words[at + 1]
+        place_word = words[at + 1] if is_named else kind._replace(text="0")
         is_next = place_word.text.startswith("nexthdr+")
         place = whole(place_word._replace(text=place_word.text.split("+")[-1]), 0, self.notes)
         bits = {"u16": 16, "u8": 8}.get(kind.text, 32)
@@ -85,7 +88,7 @@ class Selector:
         value, mask = pair[0] << move, pair[1] << move
         place = place // 4 * 4 + (0 if not is_next else {4: 20, 6: 40}[self.match.family])
         self.field(place, value & mask, mask, kind)
-        return at + 2
+        return at + 2 if is_named else at
 
     def field(self, place, value, mask, kind):
         """Puts 32 bits of the header at a byte into the match."""
@@ -205,7 +208,7 @@ def flower(words, family, notes):
     while at < len(words):
         if words[at].text in PASSED:
             at += 1 + PASSED[words[at].text]
-        elif words[at].text in ("classid", "flowid"):
+        elif words[at].text in CLASS_WORDS:
             at += 2
         elif at + 1 == len(words):
             raise Odd(words[at], "no filter can ask for this")
@@ -226,7 +229,7 @@ def u32(words, family, notes):
             at = selector.read(words, at + 1)
         elif text in PASSED:
             at += 1 + PASSED[text]
-        elif text in ("classid", "flowid") or (text == "ht" and is_kernels_table(words, at)):
+        elif text in CLASS_WORDS or (text == "ht" and is_kernels_table(words, at)):
             at += 2
         else:
             raise Odd(words[at], "no filter can ask for this")
@@ -241,7 +244,7 @@ def is_kernels_table(words, at):
 def matchall(words, family, notes):
     """The match of all packets."""
     for at, word in enumerate(words):
-        if word.text not in PASSED and word.text not in ("classid", "flowid") and (at == 0 or words[at - 1].text not in ("classid", "flowid")):
+        if word.text not in PASSED and word.text not in CLASS_WORDS and (at == 0 or words[at - 1].text not in CLASS_WORDS):
             raise Odd(word, "no filter can ask for this")
     return Match(family)
 
@@ -275,9 +278,14 @@ def head_of(words, notes):
     if at >= len(words):
         notes.refuse(words[0], "it names no kind of filter")
     rest = words[at + 1:]
-    owner = next((rest[n + 1] for n, word in enumerate(rest[:-1]) if word.text in ("classid", "flowid")), None)
+    owner = next((rest[n + 1] for n, word in enumerate(rest[:-1]) if word.text in CLASS_WORDS), None)
     prio = values.get("prio") or values.get("pref") or values.get("preference")
     return Head(words, words[at], rest, values.get("protocol"), prio, values.get("parent"), owner)
+
+
+def is_heading(words):
+    """Whether `tc filter show` begins a list of filters with a line, or shows a hash table: filters have `handle` or `order`."""
+    return not is_change(words) and not {"handle", "order"} & {word.text for word in words}
 
 
 def port_list(one, some, word):
@@ -352,7 +360,7 @@ class Reader:
     def row(self, words):
         """The priority and the filters of one filter, or None where it places no packets."""
         head = head_of(words, self.notes)
-        if head.owner is None and not is_change(words):
+        if head.owner is None and is_heading(words):
             return None
         if head.kind.text not in KINDS:
             raise Odd(head.kind, "no filter can ask for this")
