@@ -298,8 +298,8 @@ class Placer:
 
     def owners(self, rule):
         """The class of a rule's packets by type of service: those of low delay first where there are two queues."""
-        second = [(rule.queues[1].text, LOWDELAY)] if len(rule.queues) == 2 and rule.tos is None else []
-        found = second + [(rule.queues[0].text, rule.tos)]
+        second = [(rule.queues[1].text, LOWDELAY)] if len(rule.queues) == 2 and rule.tos in (None, LOWDELAY) else []
+        found = second if second and rule.tos else second + [(rule.queues[0].text, rule.tos)]
         return [(name, service) for name, service in found if name in self.names and name not in self.inner]
 
     def row(self, at, rule, side):

@@ -105,6 +105,13 @@ def test_check_says_the_same(source, tmp_path):
     assert said[0] == said[1]
 
 
+@pytest.mark.parametrize("tos, owners", [("", ["b", "a"]), ("tos lowdelay", ["b"]), ("tos 0x08", ["a"])])
+def test_second_queue_takes_low_delay(tos, owners):
+    """By pf.conf(5) packets of low delay go to the second of two queues, those of a rule that asks for them too."""
+    conf, _ = made(PF + f"queue b bandwidth 1Mb\npass out on em0 inet proto tcp all {tos} no state queue (a, b)\n")
+    assert [line.split()[2] for line in conf.split("\n") if line.startswith("filter")] == owners
+
+
 CLASS = "tc class add dev eth0 parent 1: classid 1:1 hfsc sc rate 1mbit\n"
 
 
