@@ -41,7 +41,7 @@ offered_untold x stood v o records z =
 
 explains_untold : (x : Setup) (stood : List Happened → Type 0) (u v : View) (o : Opened) (f : PlayFault) → Explains x stood u v o f → Explains x Untold u v o f
 explains_untold x stood u v o (play.Capture d) h = λ told bytes l. let y = h told bytes l in (y.0, y.1, offered_untold x stood v o y.0 y.2)
-explains_untold x stood u v o play.Read h = h
+explains_untold x stood u v o play.Read h = (h.0, λ told bytes l. let y = h.1 told bytes l in (y.0, y.1, offered_untold x stood v o y.0 y.2))
 explains_untold x stood u v o (play.Write output.Departures) h = h
 explains_untold x stood u v o (play.Write output.Fates) h = h
 explains_untold x stood u v o (play.Write output.Statistics) h = h

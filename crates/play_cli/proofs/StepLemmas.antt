@@ -276,7 +276,7 @@ pub causes_of : (u a b c : View) (n : Names) (i : Interface) (o : Opened) (seed 
 unfolding accepted_of
 causes_of u a b c n i o seed (play.Capture d) s x q = λ t.
     record { damage = d; decided = offered_of u a b c n i o seed (Fault d) s x q t; at = refl; what = refl }
-causes_of u a b c n i o seed play.Read s x q = inl (rose_later _ _ _ (s.read.later.read 2) (rose_later _ _ _ (s.far.keeps.later.read 2) (x 2 s.opened.arrivals_part)))
+causes_of u a b c n i o seed play.Read s x q = inl (rose_later _ _ _ (s.read.later.read 2) (rose_later _ _ _ (s.far.keeps.later.read 2) (x.0 2 s.opened.arrivals_part)))
 causes_of u a b c n i o seed (play.Write output.Departures) s x q = rose_since u a b c n i o 3 s (x 3 s.opened.departures_part)
 causes_of u a b c n i o seed (play.Write output.Fates) s x q = rose_since u a b c n i o 4 s (x 4 s.opened.fates_part)
 causes_of u a b c n i o seed (play.Write output.Statistics) s x q = rose_since u a b c n i o 5 s (x 5 s.opened.stats_part)

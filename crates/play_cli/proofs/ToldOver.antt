@@ -1,7 +1,7 @@
 -- How a play or a check ends is how it ended before its message was said.
 use Rattle.std.proofs.Common.{◌≡◌, ◌≢◌, ◌≤◌, ◌∙◌, ◌+◌, ◌++◌, ◌⊎◌, ℕ, List, ap, sym, subst, refl, inl, inr, arith}
 use Rattle.std.specs.Prelude.{IsTrue}
-use Rattle.play_base.specs.View.{View, Keeps, Rose}
+use Rattle.play_base.specs.View.{View, Keeps, Rose, SameCounts}
 use Rattle.play_base.proofs.ViewLaws.{keeps_trans, rose_later}
 use Rattle.play_cli.specs.declared.status.Status.{Status}
 use Rattle.play_cli.specs.declared.fault.ConfigFault.TheVariants as conf
@@ -181,3 +181,10 @@ message_behind N F u v w s t d k silent = record {
       or_fails u v w (message_text t) (silent (not_done v w s t d other)) (k.later.write 0) (d.says.message other some (k.tells ∙ tells));
   memory = λ e tells. or_not u v w (message_text t) (silent (not_done v w s t d (eight_other t e))) (d.says.memory e (k.tells ∙ tells));
 }
+
+-- a run that is done said nothing more, and met no fault where none was met before
+pub done_behind : (u v w : View) (s t : Status) → IsTold v w s t → (s.code ≡ 0 → SameCounts u v) → t.code ≡ 0 → SameCounts u w
+done_behind u v w s t d h e = elim d.same [
+  | inl same ↦ let zero : s.code ≡ 0 = ap (λ (x : Status). x.code) (sym same) ∙ e in subst (λ (x : View). SameCounts u x) (sym (d.done zero).0) (h zero)
+  | inr other ↦ absurd (let eight : t.code ≡ 8 = ap (λ (x : Status). x.code) other.1 in omega (arith, eight, e))
+]

@@ -1,8 +1,8 @@
 // Saying what a configuration means, and whether its curves fit.
-ghost use Rattle.std.specs.Prelude.{◌≡◌, ◌≢◌, ◌++◌, IfErr, IfOk, OnErr, IsTrue};
+ghost use Rattle.std.specs.Prelude.{◌≡◌, ◌≢◌, ◌++◌, IfErr, IfOk, OnErr, IsTrue, OnOk};
 ghost use Rattle.conf_tree.specs.Canonical.{canonical_text};
 ghost use Rattle.link_fit.specs.Lines.{fit_kind, fit_line};
-ghost use Rattle.play_base.specs.View.{View, Any, Keeps};
+ghost use Rattle.play_base.specs.View.{Any, Keeps, SameCounts, View};
 ghost use Rattle.play_cli.specs.Causes.{CheckCauses};
 ghost use Rattle.play_cli.specs.Checked.{HasChecked};
 ghost use Rattle.play_cli.specs.Ending.{CheckEnds};
@@ -33,6 +33,7 @@ fn checked_text(alloc: Global, conf: &Conf, fit: Fit) -> Result<Vec<u8>, NoMemor
 }
 
 // Says the canonical text of the configuration, where it has the interface asked for, and how the curves of that fit its link.
+#[tactic(auto, using(play_base::proofs::ViewLaws::same_trans, play_base::proofs::ViewLaws::same_refl))]
 fn check_files<F: Files>(
     alloc: Global,
     files: &mut F,
@@ -45,6 +46,7 @@ fn check_files<F: Files>(
     ensures only { OnlyReads (F.view files.old) (F.view files.new) words.now.config.now }
     ensures keeps { Keeps Any Any (F.view files.old) (F.view files.new) }
     ensures silent { OnErr result ((F.view files.new).said ≡ (F.view files.old).said) }
+    ensures no_fault { OnOk result (SameCounts (F.view files.old) (F.view files.new)) }
 {
     let conf = match read_conf(alloc, files, words.config) {
         Ok(conf) => conf,
@@ -70,9 +72,11 @@ fn check_files<F: Files>(
 }
 
 // Checks, and answers how it ended.
+#[tactic(auto, using(crate::proofs::FailureLemmas::failure_is_not_done, play_base::proofs::ViewLaws::same_trans, play_base::proofs::ViewLaws::same_refl))]
 fn checked<F: Files>(alloc: Global, files: &mut F, words: &CheckWords<'_>) -> Result<Done, Failure>
     ensures ends { CheckEnds (F.view files.old) (F.view files.new) words.now.config.now words.now.interface.now (end_status result) }
     ensures silent { (end_status result).code ≢ 0 → (F.view files.new).said ≡ (F.view files.old).said }
+    ensures no_fault { (end_status result).code ≡ 0 → SameCounts (F.view files.old) (F.view files.new) }
 {
     match check_files(alloc, files, words) {
         Ok(fit) => Ok(Done::Checked(fit)),
@@ -84,6 +88,7 @@ fn checked<F: Files>(alloc: Global, files: &mut F, words: &CheckWords<'_>) -> Re
 pub fn check<F: Files>(alloc: Global, files: &mut F, words: &CheckWords<'_>) -> Status
     ensures ends { CheckEnds (F.view files.old) (F.view files.new) words.now.config.now words.now.interface.now result }
     ensures message { HasMessage (F.view files.old) (F.view files.new) result }
+    ensures no_fault { result.code ≡ 0 → SameCounts (F.view files.old) (F.view files.new) }
 {
     let end = checked(alloc, files, words);
     told(alloc, files, end)

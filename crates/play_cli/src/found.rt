@@ -1,5 +1,6 @@
 // The play of an interface that the configuration gives.
-ghost use Rattle.std.specs.Prelude.{◌≡◌, ◌≤◌, ℕ, None, Some, IsTrue, IfErr, IfOk};
+ghost use Rattle.play_base.specs.View.{SameCounts};
+ghost use Rattle.std.specs.Prelude.{◌≡◌, ◌≤◌, ℕ, None, Some, IsTrue, IfErr, IfOk, OnOk};
 ghost use Rattle.play_words.specs.Words.{AreDistinct};
 ghost use Rattle.play_cli.specs.Causes.{names_read, play_status};
 ghost use Rattle.play_cli.specs.Configuration.{Accepts, IsConfigured};
@@ -18,6 +19,7 @@ use play_words::PlayWords;
 use std::alloc::Global;
 
 /// Opens the files of a play, and plays an interface that the configuration gives.
+#[tactic(auto, using(play_base::proofs::ViewLaws::same_trans, play_base::proofs::ViewLaws::same_refl))]
 pub(crate) fn play_found<F: Files>(
     alloc: Global,
     files: &mut F,
@@ -32,6 +34,7 @@ pub(crate) fn play_found<F: Files>(
     ensures ends { IfErr result (λ fault. PlayEnds (F.view files.old) (F.view files.new) (names_read words.now) words.now.seed (play_status fault)) }
     ensures files { SilentEnd (F.view files.old) (F.view files.new) (names_read words.now) }
     ensures high { (f p : ℕ) → (F.view files.old).part f ≡ None → (F.view files.new).part f ≡ Some p → 2 ≤ p }
+    ensures no_fault { OnOk result (SameCounts (F.view files.old) (F.view files.new)) }
 {
     configurations_fit();
     frames_have_classes();

@@ -1,9 +1,9 @@
 // Reading the configuration.
-ghost use Rattle.std.specs.Prelude.{◌≡◌, ◌≢◌, ◌≤◌, ◌<◌, ◌+◌, ℕ, List, length, Some, Ok, IsTrue, IsSome, IfOk, IfErr, IsErrOf};
+ghost use Rattle.std.specs.Prelude.{◌≡◌, ◌≢◌, ◌≤◌, ◌<◌, ◌+◌, ℕ, List, length, Some, Ok, IsTrue, IsSome, IfOk, IfErr, IsErrOf, OnOk};
 ghost use Rattle.conf_lines.specs.Texts.{statements_of};
 ghost use Rattle.conf_tree.specs.Answers.{Fails};
 ghost use Rattle.conf_tree.specs.Reading.{reading};
-ghost use Rattle.play_base.specs.View.{View, ReadFault, Keeps, Any, NoneAppears};
+ghost use Rattle.play_base.specs.View.{Any, Keeps, NoneAppears, ReadFault, SameCounts, View};
 ghost use Rattle.play_cli.specs.Configuration.{absent, most_bytes};
 ghost use Rattle.play_cli.specs.Input.{BytesCauses, HadLeft, HadMore, InputCauses, IsOfFile, IsRead, OnlyReads, TookFew};
 
@@ -31,6 +31,7 @@ fn wanted(taken: usize) -> usize
 }
 
 // All that a file has left, if that is at most 2^20 bytes. No more than one more is taken of it.
+#[tactic(auto, using(play_base::proofs::ViewLaws::same_trans, play_base::proofs::ViewLaws::same_refl))]
 fn read_whole<F: Files>(alloc: Global, files: &mut F, file: u32) -> Result<Vec<u8>, ConfigFault>
     requires { IsSome ((F.view files.old).part file) }
     ensures whole { IfOk result (λ all. HadLeft (F.view files.old) file all.items) }
@@ -42,6 +43,7 @@ fn read_whole<F: Files>(alloc: Global, files: &mut F, file: u32) -> Result<Vec<u
     ensures keeps { Keeps Any (λ f. f ≢ file) (F.view files.old) (F.view files.new) }
     ensures none { NoneAppears (F.view files.old) (F.view files.new) }
     ensures said { (F.view files.new).said ≡ (F.view files.old).said }
+    ensures no_fault { OnOk result (SameCounts (F.view files.old) (F.view files.new)) }
 {
     let mut all = Vec::new(alloc);
     let mut piece = [0u8; 4096];
@@ -63,6 +65,7 @@ fn read_whole<F: Files>(alloc: Global, files: &mut F, file: u32) -> Result<Vec<u
 }
 
 // The bytes under a name, if there are at most 2^20.
+#[tactic(auto, using(play_base::proofs::ViewLaws::same_trans, play_base::proofs::ViewLaws::same_refl))]
 fn read_input<F: Files>(alloc: Global, files: &mut F, name: &str) -> Result<Vec<u8>, ConfigFault>
     ensures whole { IfOk result (λ all. IsTrue (F.view files.old).tells → (F.view files.old).bytes name.now ≡ Some all.items) }
     ensures short { IfOk result (λ all. length all.items ≤ most_bytes) }
@@ -70,6 +73,7 @@ fn read_input<F: Files>(alloc: Global, files: &mut F, name: &str) -> Result<Vec<
     ensures only { OnlyReads (F.view files.old) (F.view files.new) name.now }
     ensures keeps { Keeps Any Any (F.view files.old) (F.view files.new) }
     ensures said { (F.view files.new).said ≡ (F.view files.old).said }
+    ensures no_fault { OnOk result (SameCounts (F.view files.old) (F.view files.new)) }
 {
     match files.open(1, name) {
         Ok(file) => read_whole(alloc, files, file),
@@ -90,12 +94,14 @@ fn conf_of(alloc: Global, text: &[u8]) -> Result<Conf, ConfFault>
 }
 
 /// The configuration under a name.
+#[tactic(auto, using(play_base::proofs::ViewLaws::same_trans, play_base::proofs::ViewLaws::same_refl))]
 pub fn read_conf<F: Files>(alloc: Global, files: &mut F, config: &str) -> Result<Conf, ConfigFault>
     ensures read { IfOk result (λ conf. IsRead (F.view files.old) config.now (Ok conf)) }
     ensures why { IfErr result (InputCauses (F.view files.old) (F.view files.new) config.now) }
     ensures only { OnlyReads (F.view files.old) (F.view files.new) config.now }
     ensures keeps { Keeps Any Any (F.view files.old) (F.view files.new) }
     ensures said { (F.view files.new).said ≡ (F.view files.old).said }
+    ensures no_fault { OnOk result (SameCounts (F.view files.old) (F.view files.new)) }
 {
     let text = match read_input(alloc, files, config) {
         Ok(text) => text,

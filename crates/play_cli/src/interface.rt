@@ -1,8 +1,8 @@
 // The play of an interface by its discipline.
-ghost use Rattle.std.specs.Prelude.{◌≡◌, [], IfOk, IfErr, OnErr};
+ghost use Rattle.std.specs.Prelude.{◌≡◌, [], IfOk, IfErr, OnErr, OnOk};
 ghost use Rattle.discipline.specs.Laws.{HasRate};
 ghost use Rattle.interface_policy.specs.Policy.{policy_of};
-ghost use Rattle.play_base.specs.View.{NoneAppears};
+ghost use Rattle.play_base.specs.View.{NoneAppears, SameCounts};
 ghost use Rattle.play_loop.specs.Kept.{KeepsPlayed};
 ghost use Rattle.play_loop.specs.Played.{AreReady, Explains, Fronts, LeavesStats, Plays};
 ghost use Rattle.play_cli.specs.Configuration.{IsConfigured};
@@ -20,6 +20,7 @@ use play_loop::{Opened, PlayFault, Totals, play};
 use std::alloc::Global;
 
 // Plays an interface by a discipline that keeps its policy, to which nothing was offered yet.
+#[tactic(auto, using(play_base::proofs::ViewLaws::same_trans, play_base::proofs::ViewLaws::same_refl))]
 fn play_by<D: Discipline, F: Files>(
     alloc: Global,
     files: &mut F,
@@ -40,6 +41,7 @@ fn play_by<D: Discipline, F: Files>(
     ensures keeps { KeepsPlayed opened.now (F.view files.old) (F.view files.new) }
     ensures none { NoneAppears (F.view files.old) (F.view files.new) }
     ensures said { (F.view files.new).said ≡ (F.view files.old).said }
+    ensures no_fault { OnOk result (SameCounts (F.view files.old) (F.view files.new)) }
 {
     configurations_fit();
     frames_have_classes();
@@ -69,6 +71,7 @@ fn play_by<D: Discipline, F: Files>(
 
 /// Plays the capture that the arrivals have left through the queues of an interface and a link of its rate, by HFSC or CBQ as it
 /// says, and by the random words of a seed. What each error means, and when it comes, `PlayFault` says.
+#[tactic(auto, using(play_base::proofs::ViewLaws::same_trans, play_base::proofs::ViewLaws::same_refl))]
 pub fn play_interface<F: Files>(
     alloc: Global,
     files: &mut F,
@@ -85,6 +88,7 @@ pub fn play_interface<F: Files>(
     ensures keeps { KeepsPlayed opened.now (F.view files.old) (F.view files.new) }
     ensures none { NoneAppears (F.view files.old) (F.view files.new) }
     ensures said { (F.view files.new).said ≡ (F.view files.old).said }
+    ensures no_fault { OnOk result (SameCounts (F.view files.old) (F.view files.new)) }
 {
     configurations_fit();
     match interface.kind {

@@ -1,7 +1,7 @@
 // Generating a capture, and playing it.
 ghost use Rattle.std.specs.Prelude.{◌≡◌, ◌≢◌, ◌≤◌, ℕ, None, Some, IsTrue, IsErrOf, IfErr, OnOk, OnErr};
 ghost use Rattle.generated.specs.Packets.{generated_capture, most_packets};
-ghost use Rattle.play_base.specs.View.{Keeps, OtherThan, NotNamed, Rose, Said, Unchanged};
+ghost use Rattle.play_base.specs.View.{Keeps, NotNamed, OtherThan, Rose, Said, SameCounts, Unchanged};
 ghost use Rattle.play_words.specs.Words.{AreDistinct};
 ghost use Rattle.play_cli.specs.Causes.{ended, names_read};
 ghost use Rattle.play_cli.specs.Failure.{end_status, failure_status};
@@ -43,6 +43,7 @@ fn make_failure(fault: MakeFault) -> Failure
 }
 
 // Creates the arrivals, and writes their capture.
+#[tactic(auto, using(play_base::proofs::ViewLaws::same_trans, play_base::proofs::ViewLaws::same_refl))]
 fn write_arrivals<F: Files>(
     alloc: Global,
     files: &mut F,
@@ -58,6 +59,7 @@ fn write_arrivals<F: Files>(
         (F.view files.old) (F.view files.new) }
     ensures new { (f p : ℕ) → (F.view files.old).part f ≡ None → (F.view files.new).part f ≡ Some p → p ≡ 2 }
     ensures said { (F.view files.new).said ≡ (F.view files.old).said }
+    ensures no_fault { OnOk result (SameCounts (F.view files.old) (F.view files.new)) }
 {
     let file = match files.create(2, words.play.arrivals) {
         Ok(file) => file,
@@ -70,10 +72,12 @@ fn write_arrivals<F: Files>(
 }
 
 // Says the summary of a play.
+#[tactic(auto, using(play_base::proofs::ViewLaws::same_trans, play_base::proofs::ViewLaws::same_refl))]
 fn say_summary<F: Files>(alloc: Global, files: &mut F, totals: Totals) -> Result<(), Trouble>
     ensures said { OnOk result (Said (F.view files.old) (F.view files.new) (summary_of totals)) }
     ensures refused { OnErr result (Unchanged (F.view files.old) (F.view files.new)) }
     ensures failed { IsErrOf result Trouble.Failed → Rose ((F.view files.old).write_faults 0) ((F.view files.new).write_faults 0) }
+    ensures no_fault { OnOk result (SameCounts (F.view files.old) (F.view files.new)) }
 {
     match summary_text(
         alloc,
@@ -88,6 +92,7 @@ fn say_summary<F: Files>(alloc: Global, files: &mut F, totals: Totals) -> Result
 }
 
 // Reads the configuration, writes the arrivals, plays them, and says the summary.
+#[tactic(auto, using(play_base::proofs::ViewLaws::same_trans, play_base::proofs::ViewLaws::same_refl))]
 fn make_files<F: Files>(
     alloc: Global,
     files: &mut F,
@@ -101,6 +106,7 @@ fn make_files<F: Files>(
     ensures ends { IfErr result (λ fault. MakeEnds (F.view files.old) (F.view files.new) (names_read words.now.play)
         words.now.play.seed words.now.count (make_status fault)) }
     ensures silent { OnErr result ((F.view files.new).said ≡ (F.view files.old).said) }
+    ensures no_fault { OnOk result (SameCounts (F.view files.old) (F.view files.new)) }
 {
     let conf = match read_conf(alloc, files, words.play.config) {
         Ok(conf) => conf,
@@ -125,12 +131,14 @@ fn make_files<F: Files>(
 }
 
 // Makes, and answers how it ended.
+#[tactic(auto, using(crate::proofs::FailureLemmas::failure_is_not_done, play_base::proofs::ViewLaws::same_trans, play_base::proofs::ViewLaws::same_refl))]
 fn made<F: Files>(alloc: Global, files: &mut F, words: &MakeWords<'_>) -> Result<Done, Failure>
     requires distinct { AreDistinct words.now.play.config.now words.now.play.arrivals.now words.now.play.departures.now
         words.now.play.fates.now words.now.play.stats.now }
     requires few { words.now.count ≤ most_packets }
     ensures ends { MakeEnds (F.view files.old) (F.view files.new) (names_read words.now.play) words.now.play.seed words.now.count (end_status result) }
     ensures silent { (end_status result).code ≢ 0 → (F.view files.new).said ≡ (F.view files.old).said }
+    ensures no_fault { (end_status result).code ≡ 0 → SameCounts (F.view files.old) (F.view files.new) }
 {
     match make_files(alloc, files, words) {
         Ok(()) => Ok(Done::Made),
@@ -145,6 +153,7 @@ pub fn make<F: Files>(alloc: Global, files: &mut F, words: &MakeWords<'_>) -> St
     requires few { words.now.count ≤ most_packets }
     ensures ends { MakeEnds (F.view files.old) (F.view files.new) (names_read words.now.play) words.now.play.seed words.now.count result }
     ensures message { HasMessage (F.view files.old) (F.view files.new) result }
+    ensures no_fault { result.code ≡ 0 → SameCounts (F.view files.old) (F.view files.new) }
 {
     let end = made(alloc, files, words);
     told(alloc, files, end)

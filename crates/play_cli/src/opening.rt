@@ -1,6 +1,6 @@
 // Opening and creating the files of a play.
-ghost use Rattle.std.specs.Prelude.{◌≡◌, ℕ, List, IfOk, IfErr};
-ghost use Rattle.play_base.specs.View.{View, IsAbsent};
+ghost use Rattle.std.specs.Prelude.{◌≡◌, ℕ, List, IfOk, IfErr, OnOk};
+ghost use Rattle.play_base.specs.View.{IsAbsent, SameCounts, View};
 ghost use Rattle.play_words.specs.Words.{AreDistinct};
 ghost use Rattle.play_cli.specs.Opening.{AreOpened, OpenCauses, OpenedFar, create_fault};
 
@@ -19,6 +19,7 @@ fn create_fault(output: Output, trouble: Trouble) -> PlayFault
 }
 
 /// Opens the arrivals, and then creates departures, fates and statistics, in this order.
+#[tactic(auto, using(play_base::proofs::ViewLaws::same_trans, play_base::proofs::ViewLaws::same_refl))]
 pub fn open_files<F: Files>(files: &mut F, words: &PlayWords<'_>) -> Result<Opened, PlayFault>
     requires { AreDistinct words.now.config.now words.now.arrivals.now words.now.departures.now words.now.fates.now words.now.stats.now }
     ensures opened { IfOk result (AreOpened (F.view files.old) (F.view files.new) words.now.arrivals.now words.now.departures.now
@@ -26,6 +27,7 @@ pub fn open_files<F: Files>(files: &mut F, words: &PlayWords<'_>) -> Result<Open
     ensures far { OpenedFar (F.view files.old) (F.view files.new) words.now.departures.now words.now.fates.now words.now.stats.now }
     ensures why { IfErr result (OpenCauses (F.view files.old) (F.view files.new) words.now.arrivals.now) }
     ensures absent { IsAbsent (F.view files.old) words.now.arrivals.now → (n : List ℕ) → (F.view files.new).bytes n ≡ (F.view files.old).bytes n }
+    ensures no_fault { OnOk result (SameCounts (F.view files.old) (F.view files.new)) }
 {
     let arrivals = match files.open(2, words.arrivals) {
         Ok(file) => file,

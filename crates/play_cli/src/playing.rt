@@ -1,7 +1,7 @@
 // Playing a capture.
 ghost use Rattle.std.specs.Prelude.{◌≡◌, ℕ, List, IsTrue, IsErrOf, IfErr, OnOk, OnErr};
 ghost use Rattle.conf_tree.specs.declared.interface.Interface.{Interface};
-ghost use Rattle.play_base.specs.View.{View, IsAbsent};
+ghost use Rattle.play_base.specs.View.{IsAbsent, SameCounts, View};
 ghost use Rattle.play_words.specs.Words.{AreDistinct};
 ghost use Rattle.play_cli.specs.Causes.{Causes, IsAfterConfigFault, names_read};
 ghost use Rattle.play_cli.specs.Configuration.{Accepts, AcceptsNone};
@@ -25,6 +25,7 @@ use play_words::PlayWords;
 use std::alloc::Global;
 
 // Reads the configuration, opens the files and plays.
+#[tactic(auto, using(play_base::proofs::ViewLaws::same_trans, play_base::proofs::ViewLaws::same_refl))]
 fn play_files<F: Files>(alloc: Global, files: &mut F, words: &PlayWords<'_>) -> Result<(), RunFault>
     requires { AreDistinct words.now.config.now words.now.arrivals.now words.now.departures.now words.now.fates.now words.now.stats.now }
     ensures done { OnOk result (IsTrue (F.view files.old).tells →
@@ -40,6 +41,7 @@ fn play_files<F: Files>(alloc: Global, files: &mut F, words: &PlayWords<'_>) -> 
     ensures nothing { IsTrue (F.view files.old).tells → AcceptsNone (F.view files.old) words.now.config.now words.now.interface.now →
         (n : List ℕ) → (F.view files.new).bytes n ≡ (F.view files.old).bytes n }
     ensures files { SilentEnd (F.view files.old) (F.view files.new) (names_read words.now) }
+    ensures no_fault { OnOk result (SameCounts (F.view files.old) (F.view files.new)) }
 {
     let conf = match read_conf(alloc, files, words.config) {
         Ok(conf) => conf,
@@ -62,10 +64,12 @@ fn play_files<F: Files>(alloc: Global, files: &mut F, words: &PlayWords<'_>) -> 
 }
 
 // Plays, and answers how it ended.
+#[tactic(auto, using(crate::proofs::FailureLemmas::failure_is_not_done, play_base::proofs::ViewLaws::same_trans, play_base::proofs::ViewLaws::same_refl))]
 fn played<F: Files>(alloc: Global, files: &mut F, words: &PlayWords<'_>) -> Result<Done, Failure>
     requires { AreDistinct words.now.config.now words.now.arrivals.now words.now.departures.now words.now.fates.now words.now.stats.now }
     ensures ends { PlayEnds (F.view files.old) (F.view files.new) (names_read words.now) words.now.seed (end_status result) }
     ensures silent { (F.view files.new).said ≡ (F.view files.old).said }
+    ensures no_fault { (end_status result).code ≡ 0 → SameCounts (F.view files.old) (F.view files.new) }
 {
     configurations_fit();
     frames_have_classes();
@@ -82,6 +86,7 @@ pub fn play<F: Files>(alloc: Global, files: &mut F, words: &PlayWords<'_>) -> St
     ensures ends { PlayEnds (F.view files.old) (F.view files.new) (names_read words.now) words.now.seed result }
     ensures said { result.code ≡ 0 → (F.view files.new).said ≡ (F.view files.old).said }
     ensures message { HasMessage (F.view files.old) (F.view files.new) result }
+    ensures no_fault { result.code ≡ 0 → SameCounts (F.view files.old) (F.view files.new) }
 {
     let end = played(alloc, files, words);
     told(alloc, files, end)

@@ -5,7 +5,7 @@ ghost use Rattle.capture_model.specs.Capture.{Fault, Limit};
 ghost use Rattle.conf_lines.specs.declared.fault.ConfPlace.{ConfPlace};
 ghost use Rattle.conf_tree.specs.declared.interface.Interface.{Interface};
 ghost use Rattle.play_base.specs.Steady.{steady_view};
-ghost use Rattle.play_base.specs.View.{View, Any, IsAbsent, Keeps, Rose};
+ghost use Rattle.play_base.specs.View.{View, Any, IsAbsent, Keeps, Rose, SameCounts};
 ghost use Rattle.generated.specs.Packets.{generated_capture};
 ghost use Rattle.play_words.specs.Words.{AreDistinct, IsCheck, IsMake, IsPlay, count_of, refusal, seed_of};
 ghost use Rattle.play_cli.specs.Causes.{IsAfterConfig, names_of};
@@ -58,6 +58,9 @@ pub fn run<F: Files>(alloc: Global, words: &[String], files: &mut F) -> Status
         count_of words.now ≡ Some count → HasMade (F.view files.old) (F.view files.new) (names_of words.now) seed count }
     ensures checked { result.code ≡ 0 → IsCheck words.now → IsTrue (F.view files.old).tells →
         HasChecked (F.view files.old) (F.view files.new) (names_of words.now).config (names_of words.now).interface result.kind }
+
+    // A run that is done met no fault: every count of every part is as it was. This holds of a real disk too.
+    ensures no_fault { result.code ≡ 0 → SameCounts (F.view files.old) (F.view files.new) }
 
     // Fields that a status does not use are 0.
     ensures no_line { result.code ≢ 3 → result.line ≡ 0 }
