@@ -1,0 +1,4 @@
+pub mod Nearness
+pub mod Rulings
+pub mod Counting
+pub mod Rules
