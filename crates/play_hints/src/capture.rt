@@ -69,19 +69,14 @@ fn number_at(head: &[u8], at: usize) -> u16 {
 // What a link type is called, and how to have Ethernet in its place. The numbers are those of the tcpdump group's list.
 fn link_name(link: u16) -> (&'static str, &'static str) {
     let one_interface = "capture on one Ethernet interface";
+    let convert = "use altqwork convert";
     match link {
-        0 | 108 => ("BSD loopback", one_interface),
-        9 | 50 => ("PPP", one_interface),
-        12 | 14 | 101 | 228 | 229 => ("raw IP", one_interface),
+        0 | 108 => ("BSD loopback", convert),
+        9 | 50 => ("PPP", convert),
+        12 | 14 | 101 | 228 | 229 => ("raw IP", convert),
         105 | 127 => ("802.11", one_interface),
-        113 => (
-            "Linux cooked",
-            "capture on one interface, not on any: tcpdump -i NAME",
-        ),
-        276 => (
-            "Linux cooked v2",
-            "capture on one interface, not on any: tcpdump -i NAME",
-        ),
+        113 => ("Linux cooked", convert),
+        276 => ("Linux cooked v2", convert),
         _ => ("no Ethernet", one_interface),
     }
 }

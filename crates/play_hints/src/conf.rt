@@ -105,9 +105,9 @@ fn absent_hint(
 fn foreign(words: &[Word]) -> &'static str {
     match word_at(words, 0) {
         b"altq" | b"queue" | b"pass" | b"block" | b"match" | b"set" | b"scrub" | b"table" => {
-            " this is pf.conf: docs/CONFIGURATION.md has the language"
+            " this is pf.conf: see docs/PF-TC.md"
         }
-        b"tc" | b"qdisc" => " this is of tc: docs/CONFIGURATION.md has the language",
+        b"tc" | b"qdisc" => " this is of tc: see docs/PF-TC.md",
         b"conditioner" => " no conditioners here: leave this line out",
         _ => "",
     }

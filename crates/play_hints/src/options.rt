@@ -46,7 +46,7 @@ fn key_of(word: &Word) -> Option<Key> {
     None
 }
 
-// What is wanted so many words behind an option.
+// What is wanted at a place behind an option's word, 1 being the next word.
 fn behind(key: Key, back: usize) -> Option<Wanted> {
     match (key.slots(), back) {
         (Slots::Rate(low, high), 1) => Some(Wanted::Rate(low, high)),
