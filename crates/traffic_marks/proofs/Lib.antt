@@ -1,0 +1,4 @@
+pub mod Steps
+pub mod Lengths
+pub mod Reading
+pub mod Stays
