@@ -1,0 +1,22 @@
+use Rattle.std.proofs.Common.{List, sym, subst}
+use Rattle.fate_check.specs.declared.reading.Row.{Row}
+use Rattle.fate_judge.specs.Reading.{IsRead}
+use Rattle.fate_judge.specs.Tests.{IsFree, IsInTime}
+use Rattle.fate_judge.proofs.Walking.{at_row, before_at, before_more, first_fails, one_more}
+use Rattle.fate_judge.proofs.moments.first_early.Goals as goal
+
+pub returns-then-not-passes : goal.returns-then-not-passes
+returns-then-not-passes c = λ classes arrived read.
+    let rows = c.args.rows.now in let i = c.loop-i.i in
+    first_fails (IsInTime arrived) rows i c.loop-i-test.true (c.loop-i.invariant.each classes arrived read)
+    (c.passes.ensures.fails c.if-not-passes.true classes arrived (before_at rows i) (at_row (IsRead classes arrived) rows i c.loop-i-test.true read) c.loop-i.invariant.stands)
+
+pub loop-i-preserved : goal.loop-i-preserved
+loop-i-preserved c =
+    let rows = c.args.rows.now in let i = c.loop-i.i in let before = before_at rows i in
+    let P : List Row → Type 0 = λ b. IsFree b c.passes.new.self.end in
+    record {
+      stands = subst P (sym (before_more rows i c.loop-i-test.true)) (c.passes.ensures.stands c.if-not-passes.false before c.loop-i.invariant.stands);
+      each = λ classes arrived read. one_more (IsInTime arrived) rows i c.loop-i-test.true (c.loop-i.invariant.each classes arrived read)
+          (c.passes.ensures.passes c.if-not-passes.false classes arrived before (at_row (IsRead classes arrived) rows i c.loop-i-test.true read) c.loop-i.invariant.stands);
+    }
