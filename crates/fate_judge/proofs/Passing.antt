@@ -18,7 +18,7 @@ class_there [] class fate e = absurd cc
 class_there (c ∷ classes) zero fate e = omega arith
 class_there (c ∷ classes) (suc k) fate e = omega (arith, class_there classes k fate e)
 
-count_of : (arrived : List Arrived) → length (comings arrived) ≡ length arrived
+pub count_of : (arrived : List Arrived) → length (comings arrived) ≡ length arrived
 count_of [] = refl
 count_of (a ∷ arrived) = omega (arith, count_of arrived)
 

@@ -1,0 +1,32 @@
+-- The captured bytes of the packets that arrived.
+use Rattle.std.specs.Prelude.{◌==◌, ◌&&◌, ◌-◌, ℕ, Bool, false, List, [], take, drop, map, slice_get}
+use Rattle.std.specs.Option.{option_map_or}
+use Rattle.altq_model.specs.History.{Coming}
+use Rattle.fate_judge.specs.Given.{comings}
+use Rattle.fate_departures.specs.declared.frames.Frames.{Frames}
+use Rattle.fate_departures.specs.declared.frames.Place.{Place}
+
+-- packets in order of number, and which classes have a queue that marks
+pub record Packets : Type 0 where
+  pub arrived : List Coming
+  pub frames : List (List ℕ)
+  pub marks : List Bool
+
+-- the bytes at a place, as far as there are any
+abbrev pub part : List ℕ → Place → List ℕ
+part bytes place = take place.count (drop place.from bytes)
+
+abbrev pub frames_in : Frames → Packets
+frames_in f = record { arrived = comings f.arrived.now; frames = map (part f.bytes.now) f.places.now; marks = f.marks.now }
+
+-- the captured bytes of the packet of a number
+abbrev pub frame_of : Packets → (n : ℕ) → List ℕ
+frame_of p n = option_map_or (λ (frame : List ℕ). frame) (slice_get p.frames (n - 1)) []
+
+abbrev pub precedence_of : List Coming → (n : ℕ) → ℕ
+precedence_of arrived n = option_map_or (λ (a : Coming). a.prec) (slice_get arrived (n - 1)) 0
+
+-- a packet may have been marked in a class: the class's queue marks, and the packet has precedence 1, which says there that its
+-- transport is capable of explicit congestion notification (RFC 3168)
+abbrev pub is_markable : Packets → (n class : ℕ) → Bool
+is_markable p n class = option_map_or (λ (marks : Bool). marks) (slice_get p.marks class) false && (precedence_of p.arrived n == 1)

@@ -1,0 +1,89 @@
+// Records at the front of departures.
+ghost use Rattle.std.specs.Prelude.{◌≡◌, ◌<◌, ◌*◌, ◌^◌, ◌++◌, ℕ, List, IfOk, MatchOption, length};
+ghost use Rattle.altq_model.specs.Laws.{clock_end};
+ghost use Rattle.capture_model.specs.Written.{record_text};
+ghost use Rattle.fate_departures.specs.Departures.{LeavesFront, LeavesNoFront, leaving};
+ghost use Rattle.fate_departures.specs.Frames.{frame_of, frames_in};
+
+use crate::frames::Frames;
+use altq_model::Fate;
+use discipline::Classify;
+use fate_check::Row;
+use pcap_files::record_head;
+use play_base::NoMemory;
+use std::alloc::Global;
+
+// The end of the clock, 2^32 seconds in nanoseconds: no capture stamps it.
+const CLOCK_END: u64 = 4_294_967_296_000_000_000;
+
+// The bytes with which a frame departs.
+fn dressed<C: Classify>(
+    alloc: Global,
+    classify: &C,
+    class: u32,
+    marked: bool,
+    frame: &[u8],
+) -> Result<Vec<u8>, NoMemory>
+    ensures { IfOk result (λ bytes. bytes.items ≡ C.dressed classify.now class marked frame.now) }
+{
+    let mut bytes = frame.to_vec(alloc)?;
+    classify.dress(class, marked, &mut bytes);
+    Ok(bytes)
+}
+
+// What stands behind a head and bytes, if they stand at the front.
+fn behind_both<'a>(rest: &'a [u8], head: &[u8], bytes: &[u8]) -> Option<&'a [u8]>
+    ensures { MatchOption result ((more : List ℕ) → rest.now ≡ (head.now ++ bytes.now) ++ more → ⊥) (λ more. rest.now ≡ (head.now ++ bytes.now) ++ more.now) }
+{
+    match rest.strip_prefix(head) {
+        Some(more) => more.strip_prefix(bytes),
+        None => None,
+    }
+}
+
+// What stands behind the record of a sending, marked or not, if it stands at the front.
+fn behind_one<'a, C: Classify>(
+    alloc: Global,
+    classify: &C,
+    frames: &Frames<'_>,
+    row: &Row,
+    end: u64,
+    marked: bool,
+    rest: &'a [u8],
+) -> Result<Option<&'a [u8]>, NoMemory>
+    requires { end < clock_end }
+    ensures { IfOk result (λ o. MatchOption o ((more : List ℕ) → rest.now ≡ record_text (leaving (C.dressed classify.now) (frames_in frames.now) row.now end marked) ++ more → ⊥)
+        (λ more. rest.now ≡ record_text (leaving (C.dressed classify.now) (frames_in frames.now) row.now end marked) ++ more.now)) }
+{
+    let frame = frames.frame(row.number);
+    let bytes = dressed(alloc, classify, row.class, marked, frame)?;
+    let head = record_head(end, frame.len() as u32, row.len);
+    Ok(behind_both(rest, &head, &bytes))
+}
+
+/// What stands behind what a row leaves, if that stands at the front.
+pub(crate) fn behind<'a, C: Classify>(
+    alloc: Global,
+    classify: &C,
+    frames: &Frames<'_>,
+    row: &Row,
+    rest: &'a [u8],
+) -> Result<Option<&'a [u8]>, NoMemory>
+    ensures { IfOk result (λ o. MatchOption o (LeavesNoFront (C.dressed classify.now) (frames_in frames.now) row.now rest.now)
+        (λ more. LeavesFront (C.dressed classify.now) (frames_in frames.now) row.now rest.now more.now)) }
+{
+    let Fate::Sent { end, .. } = row.fate else {
+        return Ok(Some(rest));
+    };
+    if end >= CLOCK_END {
+        return Ok(None);
+    }
+    let plain = behind_one(alloc, classify, frames, row, end, false, rest)?;
+    if plain.is_some() {
+        return Ok(plain);
+    }
+    if !frames.is_markable(row.number, row.class) {
+        return Ok(None);
+    }
+    behind_one(alloc, classify, frames, row, end, true, rest)
+}

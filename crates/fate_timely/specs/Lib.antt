@@ -1,0 +1,4 @@
+pub mod Dues
+pub mod Leaf
+pub mod Overdue
+pub mod Timely
