@@ -1,0 +1,4 @@
+pub mod Leads
+pub mod Held
+pub mod Ranges
+pub mod Updates

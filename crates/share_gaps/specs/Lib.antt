@@ -1,0 +1,4 @@
+pub mod Greatest
+pub mod Leads
+pub mod Rows
+pub mod Serve
