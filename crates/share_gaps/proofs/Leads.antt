@@ -119,11 +119,11 @@ lead_there cs c d rate other (Sent l len real start ∷ h) =
     go false e b f x y = no_stretch cs c d rate other (Sent l len real start ∷ h) 0 refl
 
 -- over all stretches
-leads_in : (cs : List HfscClass) (c d rate other : ℕ) (h : HfscHistory) → lead cs c d rate other h ≤ most_lead cs c d rate other h
+pub leads_in : (cs : List HfscClass) (c d rate other : ℕ) (h : HfscHistory) → lead cs c d rate other h ≤ most_lead cs c d rate other h
 leads_in cs c d rate other [] = omega arith
 leads_in cs c d rate other (e ∷ h) = omega arith
 
-leads_back : (cs : List HfscClass) (c d rate other : ℕ) (h : HfscHistory) → lead cs d c other rate h ≤ most_lead cs c d rate other h
+pub leads_back : (cs : List HfscClass) (c d rate other : ℕ) (h : HfscHistory) → lead cs d c other rate h ≤ most_lead cs c d rate other h
 leads_back cs c d rate other [] = omega arith
 leads_back cs c d rate other (e ∷ h) = omega arith
 

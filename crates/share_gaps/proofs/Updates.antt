@@ -1,5 +1,5 @@
 -- Places of a list that are changed one after another.
-use Rattle.std.proofs.Common.{◌≡◌, ◌≤◌, ◌<◌, ◌+◌, ◌⊎◌, inl, inr, ℕ, zero, suc, Bool, true, false, List, [], ◌∷◌, ◌++◌, None, Some, length, drop, get_or, refl, ap, sym, arith, ◌∙◌}
+use Rattle.std.proofs.Common.{◌≡◌, ◌≤◌, ◌<◌, ◌+◌, ◌⊎◌, inl, inr, ℕ, zero, suc, Bool, true, false, List, [], ◌∷◌, ◌++◌, None, Some, length, drop, take, get_or, refl, ap, sym, arith, ◌∙◌}
 use Rattle.std.specs.Prelude.{Option, option_map, slice_get, slice_set, if◌then◌else◌, ◌==◌, ◌||◌}
 use Rattle.std.proofs.lemmas.Bool.Decides.{nat_tests}
 use Rattle.std.proofs.lemmas.List.{length-set}
@@ -65,3 +65,19 @@ updated {X} f (i ∷ is) xs c apart = updated f is (update_at f i xs) c apart.1 
         ap (λ m. slice_get (update_at f i xs) m) same ∙ get_at f i xs ∙ ap (λ m. option_map (f m) (slice_get xs m)) (sym same)
     go false e true k = ap (option_map (f c)) (get_off f i c xs (λ s. grind (arith, nat_tests, e, s)))
     go false e false k = get_off f i c xs (λ s. grind (arith, nat_tests, e, s))
+
+-- a list that was written back whole
+pub taken : {X : Type 0} (n : ℕ) (xs ys : List X) → length xs ≡ n → take n (xs ++ ys) ≡ xs
+taken {X} n xs ys e = ap (λ (m : ℕ). take m (xs ++ ys)) (sym e) ∙ all xs
+  where
+    all : (zs : List X) → take (length zs) (zs ++ ys) ≡ zs
+    all [] = take_none ys
+      where
+        take_none : (ws : List X) → take 0 ws ≡ []
+        take_none [] = refl
+        take_none (w ∷ ws) = refl
+    all (z ∷ zs) = ap (λ (ws : List X). z ∷ ws) (all zs)
+
+pub length_if : {X : Type 0} (f : ℕ → X → X) (b : Bool) (is : List ℕ) (xs : List X) → length {A = X} (if b then update_all f is xs else xs) ≡ length xs
+length_if {X} f true is xs = length_all f is xs
+length_if {X} f false is xs = refl

@@ -7,13 +7,17 @@ ghost use Rattle.hfsc_model.specs.Event.{HfscHistory};
 ghost use Rattle.share_gaps.specs.Greatest.{IsGreatest};
 ghost use Rattle.share_gaps.specs.Leads.{most_lead};
 
+mod gap;
 mod lead;
 mod place;
 mod serve;
 mod siblings;
+mod watch;
 
+pub use gap::Gap;
 pub use lead::Lead;
 pub use siblings::Siblings;
+pub use watch::Watch;
 
 /// The greatest difference is that which is computed event by event.
 pub fn leads_are_greatest()
