@@ -1,0 +1,6 @@
+pub mod Leads
+pub mod Held
+pub mod Ranges
+pub mod Updates
+pub mod Pairs
+pub mod Steps
