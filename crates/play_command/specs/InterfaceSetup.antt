@@ -1,0 +1,16 @@
+-- What is played of an interface: its policy, where its frames are placed and how they are dressed, its names and its rate.
+use Rattle.std.specs.Prelude.{ℕ}
+use Rattle.conf_tree.specs.declared.interface.Interface.{Interface}
+use Rattle.frame_classes.specs.Frames.{dress_in, place_in}
+use Rattle.interface_policy.specs.Policy.{policy_of, queue_names}
+use Rattle.play_loop.specs.Setup.{Setup}
+
+abbrev pub setup_of : Interface → (seed : ℕ) → Setup
+setup_of i seed = record {
+  policy = policy_of i;
+  place = place_in i;
+  dress = dress_in i;
+  names = queue_names i;
+  rate = i.rate;
+  seed = seed;
+}
