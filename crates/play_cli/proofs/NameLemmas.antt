@@ -1,23 +1,25 @@
 -- The names of the words are those that were read.
-use Rattle.std.proofs.Common.{◌≡◌, ◌≤◌, ◌∙◌, ◌⊎◌, ℕ, Bool, true, false, List, Option, None, Some, ap, refl, subst, inl, inr, arith}
-use Rattle.play_base.specs.View.{Rose, View}
-use Rattle.play_cli.specs.declared.status.Status.{Status}
-use Rattle.std.specs.Prelude.{◌&&◌, IsTrue, codes, if◌then◌else◌, nat_le}
+use Rattle.std.proofs.Common.{◌≡◌, ◌≢◌, ◌≤◌, ◌∙◌, ℕ, Bool, true, false, List, Option, None, Some, ap, refl, sym, subst, arith}
+use Rattle.std.specs.Prelude.{◌&&◌, bytes_eq, codes, if◌then◌else◌, is_none, nat_le, not}
+use Rattle.conf_laws.proofs.ListPlaces.{names_equal}
 use Rattle.line_text.specs.Numbers.{number}
-use Rattle.play_words.specs.Read.{Reads, ReadsPlay, ReadsCheck, ReadsMake}
-use Rattle.play_words.specs.declared.words.MakeWords.{MakeWords}
+use Rattle.play_base.specs.View.{View}
+use Rattle.play_words.specs.Read.{Reads, ReadsCheck, ReadsMake, ReadsPlay}
+use Rattle.play_words.specs.declared.words.CheckWords.{CheckWords}
 use Rattle.play_words.specs.declared.words.Command.{Command}
 use Rattle.play_words.specs.declared.words.Command.TheVariants as asks
-use Rattle.play_words.specs.Words.{Words, IsCheck, IsMake, IsPlay, Named, NoCommand, Play, Check, Make, count_in, count_of, most_packets, named, option_of, refusal, refusal_by, seed_of}
+use Rattle.play_words.specs.declared.words.MakeWords.{MakeWords}
 use Rattle.play_words.specs.declared.words.PlayWords.{PlayWords}
-use Rattle.play_words.specs.declared.words.CheckWords.{CheckWords}
-use Rattle.play_cli.specs.Causes.{names_of, names_read}
-use Rattle.play_cli.specs.Ending.{PlayEnds, CheckEnds}
-use Rattle.play_cli.specs.Configuration.{Says, TooLong}
-use Rattle.play_cli.specs.Making.{MakeEnds, supplied}
-use Rattle.play_cli.specs.Opening.{CannotRead}
-use Rattle.play_cli.specs.Run.{Names, IsLate, IsLimited}
-use Rattle.play_cli.proofs.ConfLemmas.{same_number}
+use Rattle.play_words.specs.Options.{make_app, takes_options}
+use Rattle.play_words.specs.Words.{AreDistinct, IsMake, Named, Words, are_distinct_in, are_distinct_names, count_in, count_of, differ, differ_from, make_refusal, most_packets, option_of, refusal, refusal_by, rows_read, seed_in, seed_of}
+use Rattle.command_base.specs.Names.{Names, names_of, names_read}
+use Rattle.command_base.specs.Outcome.{Outcome}
+use Rattle.command_base.specs.Telling.{Ends}
+use Rattle.command_base.specs.declared.status.Status.{Status}
+use Rattle.command_base.proofs.ConfLemmas.{same_number}
+use Rattle.check_command.specs.Checking.{CheckEnds}
+use Rattle.make_command.specs.Making.{MakeEnds}
+use Rattle.play_command.specs.Ending.{PlayEnds}
 
 names_same : (x y : Names) → x.config ≡ y.config → x.interface ≡ y.interface → x.arrivals ≡ y.arrivals → x.departures ≡ y.departures
     → x.fates ≡ y.fates → x.stats ≡ y.stats → x ≡ y
@@ -36,80 +38,35 @@ play_read words command w e r = let P : Command → Type 0 = λ c. Reads words c
 pub check_read : (words : Words) (command : Command) (w : CheckWords) → command ≡ asks.Check w → Reads words command → ReadsCheck words w
 check_read words command w e r = let P : Command → Type 0 = λ c. Reads words c in subst P e r
 
--- a play of the words as they stand
-pub play_of_words : (u v : View) (words : Words) (w : PlayWords) (s : Status) → ReadsPlay words w → PlayEnds u v (names_read w) w.seed s
-    → PlayEnds u v (names_of words) w.seed s
-play_of_words u v words w s r x =
-    let P : Names → Type 0 = λ n. PlayEnds u v n w.seed s in
-    subst P (names_same (names_read w) (names_of words) r.read.config r.read.interface r.read.arrivals r.read.departures r.read.fates r.read.stats) x
-
--- and of the seed of the words
-pub play_of_seed : (u v : View) (words : Words) (w : PlayWords) (s : Status) → ReadsPlay words w → PlayEnds u v (names_read w) w.seed s
-    → (seed : ℕ) → seed_of words ≡ Some seed → PlayEnds u v (names_of words) seed s
-play_of_seed u v words w s r x seed is =
-    let P : ℕ → Type 0 = λ k. PlayEnds u v (names_of words) k s in
-    subst P (same_number (seed_of words) w.seed seed r.read.seed is) (play_of_words u v words w s r x)
-
-pub check_of_words : (u v : View) (words : Words) (w : CheckWords) (s : Status) → ReadsCheck words w → CheckEnds u v w.config.now w.interface.now s
-    → CheckEnds u v (names_of words).config (names_of words).interface s
-check_of_words u v words w s r x =
-    let P : List ℕ → Type 0 = λ c. CheckEnds u v c w.interface.now s in
-    let Q : List ℕ → Type 0 = λ i. CheckEnds u v (names_of words).config i s in
-    subst Q r.interface (subst P r.config x)
-
--- the limits in the words of the command line
-abbrev pub LimitOf : (u v : View) (words : Words) (kind : ℕ) → Type 0
-LimitOf u v words kind =
-    ((kind ≡ 1) × IsPlay words × (IsTrue u.tells → (seed : ℕ) → seed_of words ≡ Some seed → IsLimited u v (names_of words) seed))
-    ⊎ ((kind ≡ 2) × IsPlay words × (IsTrue u.tells → (seed : ℕ) → seed_of words ≡ Some seed → IsLate u v (names_of words) seed))
-    ⊎ ((kind ≡ 3) × (IsTrue u.tells → Says u (names_of words).config (names_of words).interface TooLong))
-    ⊎ (IsMake words × (((kind ≡ 1) × (IsTrue u.tells → ⊥))
-    ⊎ ((kind ≡ 2) × (IsTrue u.tells → (seed count : ℕ) → seed_of words ≡ Some seed → count_of words ≡ Some count →
-    IsLate (supplied u (names_of words) seed count) v (names_of words) seed))))
-
-limits : (u v : View) (words : Words) (w : PlayWords) (kind : ℕ) → ReadsPlay words w
-    → ((kind ≡ 1) × (IsTrue u.tells → IsLimited u v (names_of words) w.seed))
-    ⊎ ((kind ≡ 2) × (IsTrue u.tells → IsLate u v (names_of words) w.seed))
-    ⊎ ((kind ≡ 3) × (IsTrue u.tells → Says u (names_of words).config (names_of words).interface TooLong))
-    → LimitOf u v words kind
-limits u v words w kind r (inl x) = inl (
-  x.0,
-  r.command,
-  λ t seed is.
-      let P : ℕ → Type 0 = λ k. IsLimited u v (names_of words) k in
-      subst P (same_number (seed_of words) w.seed seed r.read.seed is) (x.1 t),
-)
-limits u v words w kind r (inr (inl x)) = inr (inl (
-  x.0,
-  r.command,
-  λ t seed is.
-      let P : ℕ → Type 0 = λ k. IsLate u v (names_of words) k in
-      subst P (same_number (seed_of words) w.seed seed r.read.seed is) (x.1 t),
-))
-limits u v words w kind r (inr (inr x)) = inr (inr (inl x))
-
-pub limit_of_words : (u v : View) (words : Words) (w : PlayWords) (s : Status) → ReadsPlay words w → PlayEnds u v (names_read w) w.seed s → s.code ≡ 7
-    → LimitOf u v words s.kind
-limit_of_words u v words w s r x e = limits u v words w s.kind r ((play_of_words u v words w s r x).comes.limit e)
-
--- what was made of the words
 pub make_read : (words : Words) (command : Command) (w : MakeWords) → command ≡ asks.Make w → Reads words command → ReadsMake words w
 make_read words command w e r = let P : Command → Type 0 = λ c. Reads words c in subst P e r
 
-pub make_of_words : (u v : View) (words : Words) (w : MakeWords) (s : Status) → ReadsMake words w
-    → MakeEnds u v (names_read w.play) w.play.seed w.count s → MakeEnds u v (names_of words) w.play.seed w.count s
-make_of_words u v words w s r x =
-    let P : Names → Type 0 = λ n. MakeEnds u v n w.play.seed w.count s in
-    subst P (names_same (names_read w.play) (names_of words) r.read.config r.read.interface r.read.arrivals r.read.departures r.read.fates r.read.stats) x
+-- a play of the words as they stand
+pub play_of : (u v : View) (words : Words) (w : PlayWords) (s : Status) → ReadsPlay words w → Ends (PlayEnds u v (names_read w) w.seed) u v s
+    → (seed : ℕ) → seed_of words ≡ Some seed → Ends (PlayEnds u v (names_of words) seed) u v s
+play_of u v words w s r x seed is =
+    let P : Names → Type 0 = λ n. Ends (PlayEnds u v n w.seed) u v s in
+    let Q : ℕ → Type 0 = λ k. Ends (PlayEnds u v (names_of words) k) u v s in
+    subst Q (same_number (seed_of words) w.seed seed r.read.seed is)
+    (subst P (names_same (names_read w) (names_of words) r.read.config r.read.interface r.read.arrivals r.read.departures r.read.fates r.read.stats) x)
 
-pub make_of_seed : (u v : View) (words : Words) (w : MakeWords) (s : Status) → ReadsMake words w
-    → MakeEnds u v (names_read w.play) w.play.seed w.count s → (seed count : ℕ) → seed_of words ≡ Some seed → count_of words ≡ Some count
-    → MakeEnds u v (names_of words) seed count s
-make_of_seed u v words w s r x seed count is counted =
-    let P : ℕ → Type 0 = λ k. MakeEnds u v (names_of words) k w.count s in
-    let Q : ℕ → Type 0 = λ k. MakeEnds u v (names_of words) seed k s in
-    subst Q (same_number (count_of words) w.count count r.count counted)
-    (subst P (same_number (seed_of words) w.play.seed seed r.read.seed is) (make_of_words u v words w s r x))
+pub check_of : (u v : View) (words : Words) (w : CheckWords) (s : Status) → ReadsCheck words w
+    → Ends (CheckEnds u v w.config.now w.interface.now) u v s → Ends (CheckEnds u v (names_of words).config (names_of words).interface) u v s
+check_of u v words w s r x =
+    let P : List ℕ → Type 0 = λ c. Ends (CheckEnds u v c w.interface.now) u v s in
+    let Q : List ℕ → Type 0 = λ i. Ends (CheckEnds u v (names_of words).config i) u v s in
+    subst Q r.interface (subst P r.config x)
+
+pub make_of : (u v : View) (words : Words) (w : MakeWords) (s : Status) → ReadsMake words w
+    → Ends (MakeEnds u v (names_read w.play) w.play.seed w.count) u v s → (seed count : ℕ) → seed_of words ≡ Some seed → count_of words ≡ Some count
+    → Ends (MakeEnds u v (names_of words) seed count) u v s
+make_of u v words w s r x seed count is counted =
+    let P : Names → Type 0 = λ n. Ends (MakeEnds u v n w.play.seed w.count) u v s in
+    let Q : ℕ → Type 0 = λ k. Ends (MakeEnds u v (names_of words) k w.count) u v s in
+    let R : ℕ → Type 0 = λ k. Ends (MakeEnds u v (names_of words) seed k) u v s in
+    subst R (same_number (count_of words) w.count count r.count counted)
+    (subst Q (same_number (seed_of words) w.play.seed seed r.read.seed is)
+    (subst P (names_same (names_read w.play) (names_of words) r.read.config r.read.interface r.read.arrivals r.read.departures r.read.fates r.read.stats) x))
 
 -- at most 1,000,000 packets are made
 same_count : (m k : ℕ) → Some m ≡ Some k → m ≡ k
@@ -130,55 +87,79 @@ within (Some m) k e = by_bounds (nat_le 1 m) (nat_le m most_packets) m k refl e
 pub count_within : (words : Words) (w : MakeWords) → ReadsMake words w → w.count ≤ most_packets
 count_within words w r = within (number 10 (option_of (codes "count") words)) w.count r.count
 
-make_limits : (u v : View) (words : Words) (w : MakeWords) (s : Status) → ReadsMake words w → MakeEnds u v (names_read w.play) w.play.seed w.count s
-    → s.code ≡ 7
-    → ((s.kind ≡ 1) × (IsTrue u.tells → ⊥))
-    ⊎ ((s.kind ≡ 2) × (IsTrue u.tells → IsLate (supplied u (names_of words) w.play.seed w.count) v (names_of words) w.play.seed))
-    ⊎ ((s.kind ≡ 3) × (IsTrue u.tells → Says u (names_of words).config (names_of words).interface TooLong))
-    → LimitOf u v words s.kind
-make_limits u v words w s r x e (inl y) = inr (inr (inr (r.command, inl y)))
-make_limits u v words w s r x e (inr (inl y)) = inr (inr (inr (
-  r.command,
-  inr (
-    y.0,
-    λ t seed count is counted.
-        let P : ℕ → Type 0 = λ k. IsLate (supplied u (names_of words) k w.count) v (names_of words) k in
-        let Q : ℕ → Type 0 = λ k. IsLate (supplied u (names_of words) seed k) v (names_of words) seed in
-        subst Q (same_number (count_of words) w.count count r.count counted)
-        (subst P (same_number (seed_of words) w.play.seed seed r.read.seed is) (y.1 t)),
-  ),
-)))
-make_limits u v words w s r x e (inr (inr y)) = inr (inr (inl y))
+some_none : (k : ℕ) → Some k ≡ None → ⊥
+some_none k e = cc
 
-pub limit_of_make : (u v : View) (words : Words) (w : MakeWords) (s : Status) → ReadsMake words w → MakeEnds u v (names_read w.play) w.play.seed w.count s
-    → s.code ≡ 7 → LimitOf u v words s.kind
-limit_of_make u v words w s r x e = make_limits u v words w s r x e ((make_of_words u v words w s r x).comes.limit e)
+-- the names of words that are accepted are not equal
+differ_not : (a b : List ℕ) → differ a b ≡ true → a ≢ b
+differ_not a b h e = by (bytes_eq a b) refl h
+  where
+    by : (x : Bool) → bytes_eq a b ≡ x → not x ≡ true → ⊥
+    by true same h = no h
+      where
+        no : false ≡ true → ⊥
+        no e = cc
+    by false same h = let equal : bytes_eq a b ≡ true = names_equal a b e in no (sym same ∙ equal)
+      where
+        no : false ≡ true → ⊥
+        no e = cc
 
--- a read that fails
-pub read_of_make : (u v : View) (words : Words) (kind : ℕ) → IsMake words
-    → ((kind ≡ 1) × CannotRead u v 1 (names_of words).config) ⊎ ((kind ≡ 2) × Rose (u.read_faults 2) (v.read_faults 2))
-    → ((kind ≡ 1) × CannotRead u v 1 (names_of words).config) ⊎ ((kind ≡ 2) × IsPlay words × CannotRead u v 2 (names_of words).arrivals)
-    ⊎ ((kind ≡ 2) × IsMake words × Rose (u.read_faults 2) (v.read_faults 2))
-read_of_make u v words kind make (inl x) = inl x
-read_of_make u v words kind make (inr x) = inr (inr (x.0, make, x.1))
+both : (a b : Bool) → (a && b) ≡ true → (a ≡ true) × (b ≡ true)
+both true b h = (refl, h)
+both false b h = absurd (no h)
+  where
+    no : false ≡ true → ⊥
+    no e = cc
 
-pub read_of_play : (u v : View) (words : Words) (kind : ℕ) → IsPlay words
-    → ((kind ≡ 1) × CannotRead u v 1 (names_of words).config) ⊎ ((kind ≡ 2) × CannotRead u v 2 (names_of words).arrivals)
-    → ((kind ≡ 1) × CannotRead u v 1 (names_of words).config) ⊎ ((kind ≡ 2) × IsPlay words × CannotRead u v 2 (names_of words).arrivals)
-    ⊎ ((kind ≡ 2) × IsMake words × Rose (u.read_faults 2) (v.read_faults 2))
-read_of_play u v words kind play (inl x) = inl x
-read_of_play u v words kind play (inr x) = inr (inl (x.0, play, x.1))
+three : (a b c d : List ℕ) → differ_from a b c d ≡ true → (a ≢ b) × (a ≢ c) × (a ≢ d)
+three a b c d h =
+    let x = both (differ a b) _ h in
+    let y = both (differ a c) _ x.1 in
+    (differ_not a b x.0, differ_not a c y.0, differ_not a d y.1)
 
--- the words name a command, or none
-by_named : {A : Type 0} (words : Words) (x : Named) → named words ≡ x → (IsPlay words → A) → (IsCheck words → A) → (IsMake words → A)
-    → (named words ≡ NoCommand → A) → A
-by_named words Play e p c m n = p e
-by_named words Check e p c m n = c e
-by_named words Make e p c m n = m e
-by_named words NoCommand e p c m n = n e
+pub distinct_by : (config arrivals departures fates stats : List ℕ) → are_distinct_names config arrivals departures fates stats ≡ true
+    → AreDistinct config arrivals departures fates stats
+distinct_by config arrivals departures fates stats h =
+    let a = both (differ config arrivals) _ h in
+    let b = both (differ_from config departures fates stats) _ a.1 in
+    let c = both (differ_from arrivals departures fates stats) _ b.1 in
+    let d = both (differ departures fates) _ c.1 in
+    let e = both (differ departures stats) _ d.1 in
+    let x = three config departures fates stats b.0 in
+    let y = three arrivals departures fates stats c.0 in
+    record {
+      config_arrivals = differ_not config arrivals a.0;
+      config_departures = x.0;
+      config_fates = x.1;
+      config_stats = x.2;
+      arrivals_departures = y.0;
+      arrivals_fates = y.1;
+      arrivals_stats = y.2;
+      departures_fates = differ_not departures fates d.0;
+      departures_stats = differ_not departures stats e.0;
+      fates_stats = differ_not fates stats e.1;
+    }
 
-pub by_command : {A : Type 0} (words : Words) → (IsPlay words → A) → (IsCheck words → A) → (IsMake words → A) → (named words ≡ NoCommand → A) → A
-by_command words p c m n = by_named words (named words) refl p c m n
+-- so those of a make that is not refused
+accepted_rest : (b : Bool) (k : ℕ) (rest : Option ℕ) → (if b then Some k else rest) ≡ None → (b ≡ false) × (rest ≡ None)
+accepted_rest true k rest h = absurd (some_none k h)
+accepted_rest false k rest h = (refl, h)
 
-pub no_command : (words : Words) → named words ≡ NoCommand → refusal words ≡ Some 1
-no_command words e = ap (λ (x : Named). refusal_by x words) e
+is_true : (b : Bool) → not b ≡ false → b ≡ true
+is_true true h = refl
+is_true false h = absurd (no h)
+  where
+    no : true ≡ false → ⊥
+    no e = cc
+
+pub make_distinct : (words : Words) → refusal words ≡ None → IsMake words
+    → AreDistinct (names_of words).config (names_of words).arrivals (names_of words).departures (names_of words).fates (names_of words).stats
+make_distinct words r command =
+    let P : Named → Type 0 = λ x. refusal_by x words ≡ None in
+    let made : make_refusal words ≡ None = subst P command r in
+    let options = accepted_rest (not (takes_options make_app words)) 2 _ made in
+    let count = accepted_rest (is_none (count_of words)) 4 _ options.1 in
+    let seed = accepted_rest (is_none (seed_in (rows_read words))) 4 _ count.1 in
+    let names = accepted_rest (not (are_distinct_in (rows_read words))) 3 None seed.1 in
+    distinct_by (names_of words).config (names_of words).arrivals (names_of words).departures (names_of words).fates (names_of words).stats
+    (is_true (are_distinct_in (rows_read words)) names.0)

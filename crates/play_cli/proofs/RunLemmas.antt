@@ -1,273 +1,233 @@
--- What the status of a fault tells, and that it is told.
-use Rattle.std.proofs.Common.{◌≡◌, ◌≢◌, ◌≤◌, ℕ, suc, refl, inl, inr, arith}
-use Rattle.std.specs.Prelude.{IsTrue}
-use Rattle.play_base.specs.View.{View}
-use Rattle.play_base.specs.declared.trouble.Trouble.{Trouble}
-use Rattle.play_base.specs.declared.trouble.Trouble.TheVariants as trouble
-use Rattle.conf_lines.specs.Kinds.{kind_number}
-use Rattle.conf_tree.specs.declared.interface.Interface.{Interface}
-use Rattle.play_loop.specs.declared.fault.Limit.{Limit}
-use Rattle.play_loop.specs.declared.fault.Limit.TheVariants as limit
-use Rattle.play_loop.specs.declared.fault.Output.{Output}
-use Rattle.play_loop.specs.declared.fault.Output.TheVariants as output
-use Rattle.play_loop.specs.declared.fault.PlayFault.{PlayFault}
-use Rattle.play_loop.specs.declared.fault.PlayFault.TheVariants as play
-use Rattle.play_cli.specs.Causes.{Causes, ConfigCauses, IsAfterConfig, IsAfterConfigFault, LimitCauses, PlayCauses, config_status, limit_number, play_status, say_status, status_of, ended}
-use Rattle.play_cli.specs.Configuration.{Accepts}
-use Rattle.play_cli.specs.Ending.{IsStatus, PlayComes}
-use Rattle.play_cli.specs.Opening.{output_number}
-use Rattle.play_cli.specs.Run.{Names, HasPlayed, IsCode}
-use Rattle.play_cli.specs.declared.fault.ConfigFault.{ConfigFault}
-use Rattle.play_cli.specs.declared.fault.ConfigFault.TheVariants as conf
-use Rattle.play_cli.specs.declared.fault.RunFault.{RunFault}
-use Rattle.play_cli.specs.declared.fault.RunFault.TheVariants as fault
+-- How a run ends, by how its command ended or why its words were not read.
+use Rattle.std.proofs.Common.{◌≡◌, ◌∙◌, ◌⊎◌, ℕ, List, Option, None, Some, Ok, Err, ap, sym, subst, refl, inl, inr, arith}
+use Rattle.play_base.specs.declared.steady.SteadyFiles.{SteadyFiles}
+use Rattle.play_base.specs.Steady.{steady_view}
+use Rattle.play_base.specs.View.{View, SameCounts}
+use Rattle.play_words.specs.Causes.{Explains}
+use Rattle.play_words.specs.Kinds.{words_kind}
+use Rattle.play_words.specs.declared.words.Unread.{Unread}
+use Rattle.play_words.specs.declared.words.Unread.TheVariants as why
+use Rattle.play_words.specs.declared.words.WordsFault.{WordsFault}
+use Rattle.command_base.specs.Faults.{CannotRead}
+use Rattle.command_base.specs.Names.{Names}
+use Rattle.command_base.specs.Outcome.{Outcome, failure_status, status_of}
+use Rattle.command_base.specs.Telling.{Ends, FailsTold, OnlySays}
+use Rattle.command_base.specs.declared.done.Done.{Done}
+use Rattle.command_base.specs.declared.done.Done.TheVariants as done
+use Rattle.command_base.specs.declared.failure.Failure.{Failure}
+use Rattle.command_base.specs.declared.failure.Failure.TheVariants as failure
+use Rattle.command_base.specs.declared.parts.ReadPart.{ReadPart}
+use Rattle.command_base.specs.declared.parts.ReadPart.TheVariants as read
+use Rattle.command_base.specs.declared.parts.WrittenPart.{WrittenPart}
+use Rattle.command_base.specs.declared.parts.WrittenPart.TheVariants as written
+use Rattle.command_base.specs.declared.status.Status.{Status}
+use Rattle.check_command.specs.Checking.{CheckEnds}
+use Rattle.make_command.specs.Making.{MakeEnds}
+use Rattle.play_command.specs.Ending.{IsUnread, PlayEnds}
+use Rattle.play_cli.specs.Run.{IsRefused, MeetsReadFault, MeetsWriteFault, RefusedAs}
 
--- the statuses of the program
-abbrev three : IsCode 3
-three = inr (inr (inl refl))
+-- the words were refused
+refused_as : (kind : ℕ) (fault : WordsFault) (g : Failure) → words_kind fault ≡ kind → (g ≡ failure.Words fault) ⊎ (g ≡ failure.NoMemory) → RefusedAs kind g
+refused_as kind fault g k (inl e) = subst (RefusedAs kind) (sym e) k
+refused_as kind fault g k (inr e) = subst (RefusedAs kind) (sym e) tt
 
-abbrev four : IsCode 4
-four = inr (inr (inr (inl refl)))
-
-abbrev five : IsCode 5
-five = inr (inr (inr (inr (inl refl))))
-
-abbrev six : IsCode 6
-six = inr (inr (inr (inr (inr (inl refl)))))
-
-abbrev seven : IsCode 7
-seven = inr (inr (inr (inr (inr (inr (inl refl))))))
-
-abbrev eight : IsCode 8
-eight = inr (inr (inr (inr (inr (inr (inr refl))))))
-
-plain : (code kind : ℕ) → IsCode code → code ≢ 2 → (code ≡ 8 → kind ≡ 0) → IsStatus (ended code kind)
-plain code kind c n k = record {
-  code = c;
-  accepted = n;
-  no_line = λ e. refl;
-  no_word = λ e. refl;
-  no_place = λ e. refl;
-  no_kind = k;
+pub refused_ends : (u w : View) (kind : ℕ) (fault : WordsFault) (s : Status) → words_kind fault ≡ kind → FailsTold u w (failure.Words fault) s
+    → Ends (IsRefused u w kind) u w s
+refused_ends u w kind fault s k x = record {
+  outcome = Err x.told;
+  ends = (refused_as kind fault x.told k x.same, x.only);
+  printed = x.message;
+  status = x.status;
 }
 
-abbrev with_kind : (code kind : ℕ) → IsCode code → code ≢ 2 → code ≢ 8 → IsStatus (ended code kind)
-with_kind code kind c n m = plain code kind c n (λ e. absurd (m e))
+-- memory ran out while they were read
+memory_is : (g : Failure) → (g ≡ failure.NoMemory) ⊎ (g ≡ failure.NoMemory) → g ≡ failure.NoMemory
+memory_is g (inl e) = e
+memory_is g (inr e) = e
 
-config_is_status : (c : ConfigFault) → IsStatus (config_status c)
-config_is_status (conf.At place) = record {
-  code = three;
-  accepted = λ e. omega (arith, e);
-  no_line = λ n. absurd (n refl);
-  no_word = λ n. absurd (n refl);
-  no_place = λ n. refl;
-  no_kind = λ e. omega (arith, e);
-}
-config_is_status conf.TooLong = with_kind 7 3 seven (λ e. omega (arith, e)) (λ e. omega (arith, e))
-config_is_status conf.Read = with_kind 5 1 five (λ e. omega (arith, e)) (λ e. omega (arith, e))
-config_is_status conf.NoMemory = plain 8 0 eight (λ e. omega (arith, e)) (λ e. refl)
+pub unread_ends : (E : Outcome → Type 0) (u w : View) (s : Status) → FailsTold u w failure.NoMemory s → (OnlySays u w → E (Err failure.NoMemory)) → Ends E u w s
+unread_ends E u w s x ends =
+    let e : x.told ≡ failure.NoMemory = memory_is x.told x.same in
+    let P : Failure → Type 0 = λ g. E (Err g) in
+    record { outcome = Err x.told; ends = subst P (sym e) (ends x.only); printed = x.message; status = x.status }
 
-play_is_status : (f : PlayFault) → IsStatus (play_status f)
-play_is_status play.Read = with_kind 5 2 five (λ e. omega (arith, e)) (λ e. omega (arith, e))
-play_is_status (play.Write output) = with_kind 6 (output_number output) six (λ e. omega (arith, e)) (λ e. omega (arith, e))
-play_is_status (play.Capture d) = record {
-  code = four;
-  accepted = λ e. omega (arith, e);
-  no_line = λ n. refl;
-  no_word = λ n. refl;
-  no_place = λ n. absurd (n refl);
-  no_kind = λ e. omega (arith, e);
-}
-play_is_status (play.Limit limit) = with_kind 7 (limit_number limit) seven (λ e. omega (arith, e)) (λ e. omega (arith, e))
-play_is_status play.NoMemory = plain 8 0 eight (λ e. omega (arith, e)) (λ e. refl)
+pub memory_refused : (u w : View) (kind : ℕ) → OnlySays u w → IsRefused u w kind (Err failure.NoMemory)
+memory_refused u w kind o = (tt, o)
 
-pub say_is_status : (t : Trouble) → IsStatus (say_status t)
-say_is_status trouble.Failed = with_kind 6 10 six (λ e. omega (arith, e)) (λ e. omega (arith, e))
-say_is_status trouble.NoMemory = plain 8 0 eight (λ e. omega (arith, e)) (λ e. refl)
+-- why words are not read
+pub refused_why : (o : Option ℕ) (unread : Unread) (fault : WordsFault) → unread ≡ why.Refused fault → Explains o unread → o ≡ Some (words_kind fault)
+refused_why o unread fault e x = let P : Unread → Type 0 = λ y. Explains o y in subst P e x
 
-pub is_status : (f : RunFault) → IsStatus (status_of f)
-is_status (fault.Config c) = config_is_status c
-is_status (fault.Play f) = play_is_status f
-is_status (fault.Say t) = say_is_status t
+-- one kind is the first
+pub same_kind : (o : Option ℕ) (a b : ℕ) → o ≡ Some a → o ≡ Some b → a ≡ b
+same_kind o a b h k = let e : Some a ≡ Some b = sym h ∙ k in cc
 
-pub done_is_status : (kind : ℕ) → IsStatus (ended 0 kind)
-done_is_status kind = with_kind 0 kind (inl refl) (λ e. omega (arith, e)) (λ e. omega (arith, e))
+pub not_refused : (o : Option ℕ) (a : ℕ) {A : Type 0} → o ≡ None → o ≡ Some a → A
+not_refused o a h k = absurd (no (sym h ∙ k))
+  where
+    no : None ≡ Some a → ⊥
+    no e = cc
 
--- a fault is not told as done
-not_zero : (n : ℕ) {A : Type 0} → (suc n) ≡ 0 → A
-not_zero n e = absurd (omega (arith, e))
+-- what a status says of an outcome
+words_of : (o : Outcome) → (status_of o).code ≡ 2 → (fault : WordsFault) × (o ≡ Err (failure.Words fault))
+words_of (Ok done.Played) e = absurd (omega (arith, e))
+words_of (Ok done.Made) e = absurd (omega (arith, e))
+words_of (Ok (done.Checked fit)) e = absurd (omega (arith, e))
+words_of (Err (failure.Words fault)) e = (fault, refl)
+words_of (Err (failure.Configuration place)) e = absurd (omega (arith, e))
+words_of (Err (failure.Capture damage)) e = absurd (omega (arith, e))
+words_of (Err (failure.Read part)) e = absurd (omega (arith, e))
+words_of (Err (failure.Write part)) e = absurd (omega (arith, e))
+words_of (Err (failure.Limit limit)) e = absurd (omega (arith, e))
+words_of (Err failure.NoMemory) e = absurd (omega (arith, e))
 
-config_not_done : (c : ConfigFault) {A : Type 0} → (config_status c).code ≡ 0 → A
-config_not_done (conf.At place) e = not_zero 2 e
-config_not_done conf.TooLong e = not_zero 6 e
-config_not_done conf.Read e = not_zero 4 e
-config_not_done conf.NoMemory e = not_zero 7 e
+done_of : (o : Outcome) → (status_of o).code ≡ 0 → (d : Done) × (o ≡ Ok d)
+done_of (Ok d) e = (d, refl)
+done_of (Err (failure.Words fault)) e = absurd (omega (arith, e))
+done_of (Err (failure.Configuration place)) e = absurd (omega (arith, e))
+done_of (Err (failure.Capture damage)) e = absurd (omega (arith, e))
+done_of (Err (failure.Read part)) e = absurd (omega (arith, e))
+done_of (Err (failure.Write part)) e = absurd (omega (arith, e))
+done_of (Err (failure.Limit limit)) e = absurd (omega (arith, e))
+done_of (Err failure.NoMemory) e = absurd (omega (arith, e))
 
-pub play_not_done : (f : PlayFault) {A : Type 0} → (play_status f).code ≡ 0 → A
-play_not_done play.Read e = not_zero 4 e
-play_not_done (play.Write output) e = not_zero 5 e
-play_not_done (play.Capture d) e = not_zero 3 e
-play_not_done (play.Limit limit) e = not_zero 6 e
-play_not_done play.NoMemory e = not_zero 7 e
+read_of : (o : Outcome) → (status_of o).code ≡ 5 → (part : ReadPart) × (o ≡ Err (failure.Read part))
+read_of (Ok done.Played) e = absurd (omega (arith, e))
+read_of (Ok done.Made) e = absurd (omega (arith, e))
+read_of (Ok (done.Checked fit)) e = absurd (omega (arith, e))
+read_of (Err (failure.Words fault)) e = absurd (omega (arith, e))
+read_of (Err (failure.Configuration place)) e = absurd (omega (arith, e))
+read_of (Err (failure.Capture damage)) e = absurd (omega (arith, e))
+read_of (Err (failure.Read part)) e = (part, refl)
+read_of (Err (failure.Write part)) e = absurd (omega (arith, e))
+read_of (Err (failure.Limit limit)) e = absurd (omega (arith, e))
+read_of (Err failure.NoMemory) e = absurd (omega (arith, e))
 
-say_not_done : (t : Trouble) {A : Type 0} → (say_status t).code ≡ 0 → A
-say_not_done trouble.Failed e = not_zero 5 e
-say_not_done trouble.NoMemory e = not_zero 7 e
+written_of : (o : Outcome) → (status_of o).code ≡ 6 → (part : WrittenPart) × (o ≡ Err (failure.Write part))
+written_of (Ok done.Played) e = absurd (omega (arith, e))
+written_of (Ok done.Made) e = absurd (omega (arith, e))
+written_of (Ok (done.Checked fit)) e = absurd (omega (arith, e))
+written_of (Err (failure.Words fault)) e = absurd (omega (arith, e))
+written_of (Err (failure.Configuration place)) e = absurd (omega (arith, e))
+written_of (Err (failure.Capture damage)) e = absurd (omega (arith, e))
+written_of (Err (failure.Read part)) e = absurd (omega (arith, e))
+written_of (Err (failure.Write part)) e = (part, refl)
+written_of (Err (failure.Limit limit)) e = absurd (omega (arith, e))
+written_of (Err failure.NoMemory) e = absurd (omega (arith, e))
 
-pub fault_is_not_done : (f : RunFault) {A : Type 0} → (status_of f).code ≡ 0 → A
-fault_is_not_done (fault.Config c) e = config_not_done c e
-fault_is_not_done (fault.Play f) e = play_not_done f e
-fault_is_not_done (fault.Say t) e = say_not_done t e
+code_is : (E : Outcome → Type 0) (u w : View) (s : Status) (k : ℕ) (x : Ends E u w s) → s.code ≡ k → (status_of x.outcome).code ≡ k
+code_is E u w s k x e = ap (λ (t : Status). t.code) (sym x.status) ∙ e
 
--- a status that comes behind the configuration comes behind one that is accepted
-pub after_three : (kind : ℕ) {A : Type 0} → IsAfterConfig 3 kind → A
-after_three kind (inl e) = absurd (omega (arith, e))
-after_three kind (inr (inl e)) = absurd (omega (arith, e))
-after_three kind (inr (inr (inl e))) = absurd (omega (arith, e.0))
-after_three kind (inr (inr (inr e))) = absurd (omega (arith, e.0))
+-- so of the run of a command: its words are not refused, a run that is done met no fault, and a fault that is told was met
+pub not_two : (E : Outcome → Type 0) (u w : View) (s : Status) {A : Type 0} → Ends E u w s → ((fault : WordsFault) → E (Err (failure.Words fault)) → ⊥)
+    → s.code ≡ 2 → A
+not_two E u w s x refuses e = let y = words_of x.outcome (code_is E u w s 2 x e) in absurd (refuses y.0 (subst E y.1 x.ends))
 
-pub after_too_long : {A : Type 0} → IsAfterConfig 7 3 → A
-after_too_long (inl e) = absurd (omega (arith, e))
-after_too_long (inr (inl e)) = absurd (omega (arith, e))
-after_too_long (inr (inr (inl e))) = absurd (e.1 refl)
-after_too_long (inr (inr (inr e))) = absurd (omega (arith, e.0))
+pub no_fault : (E : Outcome → Type 0) (u w : View) (s : Status) → Ends E u w s → ((d : Done) → E (Ok d) → SameCounts u w) → s.code ≡ 0 → SameCounts u w
+no_fault E u w s x means e = let y = done_of x.outcome (code_is E u w s 0 x e) in means y.0 (subst E y.1 x.ends)
 
-pub after_read : {A : Type 0} → IsAfterConfig 5 1 → A
-after_read (inl e) = absurd (omega (arith, e))
-after_read (inr (inl e)) = absurd (omega (arith, e))
-after_read (inr (inr (inl e))) = absurd (omega (arith, e.0))
-after_read (inr (inr (inr e))) = absurd (omega (arith, e.1))
+pub read_met : (E : Outcome → Type 0) (u w : View) (s : Status) → Ends E u w s → ((part : ReadPart) → E (Err (failure.Read part)) → MeetsReadFault u w)
+    → s.code ≡ 5 → MeetsReadFault u w
+read_met E u w s x means e = let y = read_of x.outcome (code_is E u w s 5 x e) in means y.0 (subst E y.1 x.ends)
 
-pub after_memory : {A : Type 0} → IsAfterConfig 8 0 → A
-after_memory (inl e) = absurd (omega (arith, e))
-after_memory (inr (inl e)) = absurd (omega (arith, e))
-after_memory (inr (inr (inl e))) = absurd (omega (arith, e.0))
-after_memory (inr (inr (inr e))) = absurd (omega (arith, e.0))
+pub write_met : (E : Outcome → Type 0) (u w : View) (s : Status) → Ends E u w s → ((part : WrittenPart) → E (Err (failure.Write part)) → MeetsWriteFault u w)
+    → s.code ≡ 6 → MeetsWriteFault u w
+write_met E u w s x means e = let y = written_of x.outcome (code_is E u w s 6 x e) in means y.0 (subst E y.1 x.ends)
 
-pub after_done : {A : Type 0} → IsAfterConfig 0 0 → A
-after_done (inl e) = absurd (omega (arith, e))
-after_done (inr (inl e)) = absurd (omega (arith, e))
-after_done (inr (inr (inl e))) = absurd (omega (arith, e.0))
-after_done (inr (inr (inr e))) = absurd (omega (arith, e.0))
+pub play_counts : (u w : View) (n : Names) (seed : ℕ) (d : Done) → PlayEnds u w n seed (Ok d) → SameCounts u w
+play_counts u w n seed done.Played x = x.comes.no_fault
+play_counts u w n seed done.Made x = absurd x.comes
+play_counts u w n seed (done.Checked fit) x = absurd x.comes
 
--- when a status comes
-pub config_comes : (u v : View) (n : Names) (seed : ℕ) (c : ConfigFault) → ConfigCauses u v n.config n.interface c → PlayComes u v n seed (config_status c)
-config_comes u v n seed (conf.At place) x = record {
-  done = λ e. absurd (omega (arith, e));
-  configuration = λ e t. record { place = place; told = record { code = refl; line = refl; word = refl; kind = refl }; says = x t };
-  damaged = λ e. absurd (omega (arith, e));
-  read = λ e. absurd (omega (arith, e));
-  write = λ e. absurd (omega (arith, e));
-  limit = λ e. absurd (omega (arith, e));
-  accepted_first = λ e. after_three (kind_number place.kind) e;
-}
-config_comes u v n seed conf.TooLong x = record {
-  done = λ e. absurd (omega (arith, e));
-  configuration = λ e. absurd (omega (arith, e));
-  damaged = λ e. absurd (omega (arith, e));
-  read = λ e. absurd (omega (arith, e));
-  write = λ e. absurd (omega (arith, e));
-  limit = λ e. inr (inr (refl, x));
-  accepted_first = λ e. after_too_long e;
-}
-config_comes u v n seed conf.Read x = record {
-  done = λ e. absurd (omega (arith, e));
-  configuration = λ e. absurd (omega (arith, e));
-  damaged = λ e. absurd (omega (arith, e));
-  read = λ e. inl (refl, x);
-  write = λ e. absurd (omega (arith, e));
-  limit = λ e. absurd (omega (arith, e));
-  accepted_first = λ e. after_read e;
-}
-config_comes u v n seed conf.NoMemory x = record {
-  done = λ e. absurd (omega (arith, e));
-  configuration = λ e. absurd (omega (arith, e));
-  damaged = λ e. absurd (omega (arith, e));
-  read = λ e. absurd (omega (arith, e));
-  write = λ e. absurd (omega (arith, e));
-  limit = λ e. absurd (omega (arith, e));
-  accepted_first = λ e. after_memory e;
-}
+pub check_counts : (u w : View) (config interface : List ℕ) (d : Done) → CheckEnds u w config interface (Ok d) → SameCounts u w
+check_counts u w config interface done.Played x = absurd x.comes
+check_counts u w config interface done.Made x = absurd x.comes
+check_counts u w config interface (done.Checked fit) x = x.comes.no_fault
 
-output_bounds : (o : Output) → (1 ≤ output_number o) × (output_number o ≤ 3)
-output_bounds output.Departures = (omega arith, omega arith)
-output_bounds output.Fates = (omega arith, omega arith)
-output_bounds output.Statistics = (omega arith, omega arith)
+pub make_counts : (u w : View) (n : Names) (seed count : ℕ) (d : Done) → MakeEnds u w n seed count (Ok d) → SameCounts u w
+make_counts u w n seed count done.Played x = absurd x.comes
+make_counts u w n seed count done.Made x = x.comes.no_fault
+make_counts u w n seed count (done.Checked fit) x = absurd x.comes
 
-limit_comes : (u v : View) (n : Names) (seed : ℕ) (l : Limit) → LimitCauses u v n seed l → (found : Interface) × Accepts u n.config n.interface found
-    → PlayComes u v n seed (play_status (play.Limit l))
-limit_comes u v n seed limit.Capture x a = record {
-  done = λ e. absurd (omega (arith, e));
-  configuration = λ e. absurd (omega (arith, e));
-  damaged = λ e. absurd (omega (arith, e));
-  read = λ e. absurd (omega (arith, e));
-  write = λ e. absurd (omega (arith, e));
-  limit = λ e. inl (refl, x);
-  accepted_first = λ e. a;
-}
-limit_comes u v n seed limit.Clock x a = record {
-  done = λ e. absurd (omega (arith, e));
-  configuration = λ e. absurd (omega (arith, e));
-  damaged = λ e. absurd (omega (arith, e));
-  read = λ e. absurd (omega (arith, e));
-  write = λ e. absurd (omega (arith, e));
-  limit = λ e. inr (inl (refl, x));
-  accepted_first = λ e. a;
-}
+cannot_met : (u w : View) (part : ℕ) (name : List ℕ) → CannotRead u w part name → MeetsReadFault u w
+cannot_met u w part name (inl r) = inl (part, r)
+cannot_met u w part name (inr a) = inr (name, a)
 
-play_comes : (u v : View) (n : Names) (seed : ℕ) (f : PlayFault) → PlayCauses u v n seed f → (found : Interface) × Accepts u n.config n.interface found
-    → PlayComes u v n seed (play_status f)
-play_comes u v n seed play.Read x a = record {
-  done = λ e. absurd (omega (arith, e));
-  configuration = λ e. absurd (omega (arith, e));
-  damaged = λ e. absurd (omega (arith, e));
-  read = λ e. inr (refl, x);
-  write = λ e. absurd (omega (arith, e));
-  limit = λ e. absurd (omega (arith, e));
-  accepted_first = λ e. a;
-}
-play_comes u v n seed (play.Write o) x a = record {
-  done = λ e. absurd (omega (arith, e));
-  configuration = λ e. absurd (omega (arith, e));
-  damaged = λ e. absurd (omega (arith, e));
-  read = λ e. absurd (omega (arith, e));
-  write = λ e. let b = output_bounds o in (b.0, b.1, x);
-  limit = λ e. absurd (omega (arith, e));
-  accepted_first = λ e. a;
-}
-play_comes u v n seed (play.Capture d) x a = record {
-  done = λ e. absurd (omega (arith, e));
-  configuration = λ e. absurd (omega (arith, e));
-  damaged = λ e. x;
-  read = λ e. absurd (omega (arith, e));
-  write = λ e. absurd (omega (arith, e));
-  limit = λ e. absurd (omega (arith, e));
-  accepted_first = λ e. a;
-}
-play_comes u v n seed (play.Limit l) x a = limit_comes u v n seed l x a
-play_comes u v n seed play.NoMemory x a = record {
-  done = λ e. absurd (omega (arith, e));
-  configuration = λ e. absurd (omega (arith, e));
-  damaged = λ e. absurd (omega (arith, e));
-  read = λ e. absurd (omega (arith, e));
-  write = λ e. absurd (omega (arith, e));
-  limit = λ e. absurd (omega (arith, e));
-  accepted_first = λ e. a;
-}
+unread_met : (u w : View) (n : Names) (seed : ℕ) → IsUnread u w n seed → MeetsReadFault u w
+unread_met u w n seed (inl x) = cannot_met u w 2 n.arrivals x.1
+unread_met u w n seed (inr x) = inl (2, x.0)
 
-pub fault_comes : (u v : View) (n : Names) (seed : ℕ) (f : RunFault) → Causes u v n seed f
-    → (IsAfterConfigFault f → (found : Interface) × Accepts u n.config n.interface found) → PlayComes u v n seed (status_of f)
-fault_comes u v n seed (fault.Config c) x a = config_comes u v n seed c x
-fault_comes u v n seed (fault.Play f) x a = play_comes u v n seed f x (a tt)
-fault_comes u v n seed (fault.Say t) x a = absurd x
+pub play_read_met : (u w : View) (n : Names) (seed : ℕ) (part : ReadPart) → PlayEnds u w n seed (Err (failure.Read part)) → MeetsReadFault u w
+play_read_met u w n seed read.Configuration x = cannot_met u w 1 n.config x.comes.1
+play_read_met u w n seed read.Arrivals x = unread_met u w n seed x.comes.1
 
-pub done_comes : (u v : View) (n : Names) (seed : ℕ) → (IsTrue u.tells → HasPlayed u v n seed) → PlayComes u v n seed (ended 0 0)
-done_comes u v n seed x = record {
-  done = λ e. x;
-  configuration = λ e. absurd (omega (arith, e));
-  damaged = λ e. absurd (omega (arith, e));
-  read = λ e. absurd (omega (arith, e));
-  write = λ e. absurd (omega (arith, e));
-  limit = λ e. absurd (omega (arith, e));
-  accepted_first = λ e. after_done e;
-}
+pub play_write_met : (u w : View) (n : Names) (seed : ℕ) (part : WrittenPart) → PlayEnds u w n seed (Err (failure.Write part)) → MeetsWriteFault u w
+play_write_met u w n seed written.Departures x = (3, x.comes.1)
+play_write_met u w n seed written.Fates x = (4, x.comes.1)
+play_write_met u w n seed written.Statistics x = (5, x.comes.1)
+play_write_met u w n seed written.Arrivals x = absurd x.comes
+play_write_met u w n seed written.Answer x = absurd x.comes
+
+pub check_read_met : (u w : View) (config interface : List ℕ) (part : ReadPart) → CheckEnds u w config interface (Err (failure.Read part)) → MeetsReadFault u w
+check_read_met u w config interface read.Configuration x = cannot_met u w 1 config x.comes
+check_read_met u w config interface read.Arrivals x = absurd x.comes
+
+pub check_write_met : (u w : View) (config interface : List ℕ) (part : WrittenPart) → CheckEnds u w config interface (Err (failure.Write part)) → MeetsWriteFault u w
+check_write_met u w config interface written.Departures x = absurd x.comes
+check_write_met u w config interface written.Fates x = absurd x.comes
+check_write_met u w config interface written.Statistics x = absurd x.comes
+check_write_met u w config interface written.Arrivals x = absurd x.comes
+check_write_met u w config interface written.Answer x = (0, x.comes.0)
+
+pub make_read_met : (u w : View) (n : Names) (seed count : ℕ) (part : ReadPart) → MakeEnds u w n seed count (Err (failure.Read part)) → MeetsReadFault u w
+make_read_met u w n seed count read.Configuration x = cannot_met u w 1 n.config x.comes.1
+make_read_met u w n seed count read.Arrivals x = inl (2, x.comes.1)
+
+pub make_write_met : (u w : View) (n : Names) (seed count : ℕ) (part : WrittenPart) → MakeEnds u w n seed count (Err (failure.Write part)) → MeetsWriteFault u w
+make_write_met u w n seed count written.Departures x = (3, x.comes.1)
+make_write_met u w n seed count written.Fates x = (4, x.comes.1)
+make_write_met u w n seed count written.Statistics x = (5, x.comes.1)
+make_write_met u w n seed count written.Arrivals x = (2, x.comes.1)
+make_write_met u w n seed count written.Answer x = (0, x.comes.1)
+
+-- what a refusal tells
+kind_by : (o : Option ℕ) (fault : WordsFault) (g : Failure) (s : Status) → o ≡ Some (words_kind fault) → s ≡ failure_status g
+    → (g ≡ failure.Words fault) ⊎ (g ≡ failure.NoMemory) → s.code ≡ 2 → o ≡ Some s.kind
+kind_by o fault g s k t (inl e) c =
+    let same : s ≡ failure_status (failure.Words fault) = t ∙ ap failure_status e in
+    k ∙ ap (λ (x : Status). Some x.kind) (sym same)
+kind_by o fault g s k t (inr e) c =
+    let same : s ≡ failure_status failure.NoMemory = t ∙ ap failure_status e in
+    let code : 2 ≡ 8 = sym c ∙ ap (λ (x : Status). x.code) same in absurd (omega (arith, code))
+
+pub kind_told : (u w : View) (o : Option ℕ) (fault : WordsFault) (s : Status) → o ≡ Some (words_kind fault) → FailsTold u w (failure.Words fault) s
+    → s.code ≡ 2 → o ≡ Some s.kind
+kind_told u w o fault s k x c = kind_by o fault x.told s k x.status x.same c
+
+pub memory_code : (u w : View) (s : Status) → FailsTold u w failure.NoMemory s → s.code ≡ 8
+memory_code u w s x = ap (λ (t : Status). t.code) (x.status ∙ ap failure_status (memory_is x.told x.same))
+
+-- nor has a run of words that are not read the status of another outcome
+pub refused_code : (u w : View) (fault : WordsFault) (s : Status) {A : Type 0} → FailsTold u w (failure.Words fault) s → (s.code ≡ 2 → A) → (s.code ≡ 8 → A) → A
+refused_code u w fault s x two eight = elim x.same [
+  | inl e ↦ two (ap (λ (t : Status). t.code) (x.status ∙ ap failure_status e))
+  | inr e ↦ eight (ap (λ (t : Status). t.code) (x.status ∙ ap failure_status e))
+]
+
+pub not_code : (a b : ℕ) {A : Type 0} (s : Status) → (a ≡ b → ⊥) → s.code ≡ a → s.code ≡ b → A
+not_code a b s differ x y = absurd (differ (sym x ∙ y))
+
+pub refused_not : (u w : View) (fault : WordsFault) (s : Status) (k : ℕ) {A : Type 0} → (2 ≡ k → ⊥) → (8 ≡ k → ⊥) → FailsTold u w (failure.Words fault) s
+    → s.code ≡ k → A
+refused_not u w fault s k two eight x e = refused_code u w fault s x (λ c. not_code 2 k s two c e) (λ c. not_code 8 k s eight c e)
+
+-- files that never fail count no fault, and each name is there
+some_bytes_none : (xs : List ℕ) → Some xs ≡ None → ⊥
+some_bytes_none xs e = cc
+
+pub steady_read : (u w : SteadyFiles) → MeetsReadFault (steady_view u) (steady_view w) → ⊥
+steady_read u w (inl r) = let x = r.1 in omega (arith, x)
+steady_read u w (inr a) = some_bytes_none _ a.1.1
+
+pub steady_write : (u w : SteadyFiles) → MeetsWriteFault (steady_view u) (steady_view w) → ⊥
+steady_write u w r = let x = r.1 in omega (arith, x)

@@ -1,177 +1,30 @@
--- What a run of the program leaves, and when each of its statuses comes.
-use Rattle.std.specs.Prelude.{◌≡◌, ◌≤◌, ◌<◌, ◌⊎◌, ℕ, List, [], ◌++◌, length, None, Some, IsTrue}
-use Rattle.altq_model.specs.Arrivals.{comings}
-use Rattle.altq_model.specs.Departures.{departed}
-use Rattle.altq_model.specs.History.{Happened, bare, offered}
-use Rattle.altq_model.specs.Lawful.{greatest}
-use Rattle.altq_model.specs.Play.{IsPlay}
-use Rattle.capture_model.specs.declared.damage.Damage.{Damage}
-use Rattle.capture_model.specs.Capture.{Record, Step, End, Fault, Limit, Reads, IsCapture, IsLast}
-use Rattle.capture_model.specs.Numbers.{damage_number}
-use Rattle.conf_tree.specs.declared.interface.Interface.{Interface}
-use Rattle.interface_policy.specs.Promises.{KeepsPromises}
-use Rattle.play_base.specs.View.{View, Rose}
-use Rattle.play_core.specs.declared.totals.Totals.{Totals}
-use Rattle.play_core.specs.Ended.{IsBegun, IsCutOff}
-use Rattle.play_core.specs.Finished.{EndsWithOffer, IsFinished, IsStopped}
-use Rattle.play_loop.specs.Played.{Streams, start_of}
-use Rattle.play_loop.specs.Setup.{Setup, arrivals_in, departures_of, fates_of, statistics_of}
-use Rattle.play_cli.specs.Configuration.{Configures}
-use Rattle.play_cli.specs.InterfaceSetup.{setup_of}
-use Rattle.play_cli.specs.Order.{Untouched}
+-- How a run ends whose words are refused, and which faults a run meets.
+use Rattle.std.specs.Prelude.{◌≡◌, ◌⊎◌, ℕ, List, Ok, Err}
+use Rattle.play_base.specs.View.{View, IsAbsent, Rose}
+use Rattle.play_words.specs.Kinds.{words_kind}
+use Rattle.command_base.specs.Outcome.{Outcome}
+use Rattle.command_base.specs.Telling.{OnlySays}
+use Rattle.command_base.specs.declared.failure.Failure.{Failure}
+use Rattle.command_base.specs.declared.failure.Failure.TheVariants as failure
 
--- the names of the words
-pub record Names : Type 0 where
-  pub config : List ℕ
-  pub interface : List ℕ
-  pub arrivals : List ℕ
-  pub departures : List ℕ
-  pub fates : List ℕ
-  pub stats : List ℕ
+-- as that refusal, with this kind, or as a want of memory
+abbrev pub RefusedAs : (kind : ℕ) → Failure → Type 0
+RefusedAs kind (failure.Words fault) = words_kind fault ≡ kind
+RefusedAs kind (failure.Configuration place) = ⊥
+RefusedAs kind (failure.Capture damage) = ⊥
+RefusedAs kind (failure.Read part) = ⊥
+RefusedAs kind (failure.Write part) = ⊥
+RefusedAs kind (failure.Limit limit) = ⊥
+RefusedAs kind failure.NoMemory = Unit {0}
 
--- what is accepted: the configuration says that the interface asked for is this one, and these are the bytes under the name of the
--- arrivals
-pub record Accepted (v : View) (n : Names) : Type 0 where
-  pub interface : Interface
-  pub bytes : List ℕ
-  pub configuration : Configures v n.config n.interface interface
-  pub arrivals : v.bytes n.arrivals ≡ Some bytes
+-- and no file is touched
+abbrev pub IsRefused : View → View → (kind : ℕ) → Outcome → Type 0
+IsRefused old new kind (Ok done) = ⊥
+IsRefused old new kind (Err failure) = RefusedAs kind failure × OnlySays old new
 
--- departures and fates hold exactly the texts of this history
-pub record HoldTexts (v : View) (n : Names) (x : Setup) (records : List Record) (g : List Happened) : Type 0 where
-  pub departures : v.bytes n.departures ≡ Some (departures_of x (arrivals_in x records) g)
-  pub fates : v.bytes n.fates ≡ Some (fates_of x (arrivals_in x records) g)
+-- a count of read faults rose, or a name is told not to be there; a count of write faults rose
+abbrev pub MeetsReadFault : View → View → Type 0
+MeetsReadFault old new = ((part : ℕ) × Rose (old.read_faults part) (new.read_faults part)) ⊎ ((name : List ℕ) × IsAbsent old name)
 
--- These bytes are a capture of these records, and this is the history of their play. Departures, fates and statistics hold its texts.
--- Departures are a capture of the packets that were sent, in the order of decision.
-pub record WasPlayed (v : View) (n : Names) (x : Setup) (bytes : List ℕ) : Type 0 where
-  pub records : List Record
-  pub history : List Happened
-  pub totals : Totals
-  pub capture : IsCapture bytes records
-  pub play : IsFinished x.policy x.rate x.seed (arrivals_in x records) history totals
-  pub texts : HoldTexts v n x records history
-  pub stats : v.bytes n.stats ≡ Some (statistics_of x (arrivals_in x records) history)
-  pub reads : IsCapture (departures_of x (arrivals_in x records) history) (departed x.dress (arrivals_in x records) history)
-
--- THE HEADLINE. The configuration gives the interface, and the arrivals are a capture; this is the history of its play by the
--- interface and the seed of the words. In it each arrival has one fate, each class departs in the order of arrival, no packet starts
--- before it arrived, each end is that of its run, each event is the one that the policy makes due, each start is the least moment,
--- not before the last end, at which a class may send, nothing waits at the end, and every packet ends before the clock does. It keeps
--- what the interface promises: of HFSC the due moments where the real-time curves fit the link, and that the link never idles while
--- a packet waits where no class has an upper limit; of CBQ the cap on a class that does not borrow.
-pub record HasPlayed (old new : View) (n : Names) (seed : ℕ) : Type 0 where
-  pub accepted : Accepted old n
-  pub played : WasPlayed new n (setup_of accepted.interface seed) accepted.bytes
-  pub promises : KeepsPromises accepted.interface (comings (arrivals_in (setup_of accepted.interface seed) played.records)) played.history
-
--- the name was not created and holds what it held before the run, or it holds a front of this text
-abbrev pub IsFrontAt : View → View → (part : ℕ) → (name text : List ℕ) → Type 0
-IsFrontAt old new part name text =
-    (Untouched old new part × (new.bytes name ≡ old.bytes name))
-    ⊎ ((front : List ℕ) × (rest : List ℕ) × (new.bytes name ≡ Some front) × (front ++ rest ≡ text))
-
--- the statistics hold nothing, or a front of those of the whole play of these records
-abbrev pub HasStatsFront : View → View → Names → Setup → List Record → Type 0
-HasStatsFront old new n x records =
-    IsFrontAt old new 5 n.stats []
-    ⊎ ((g : List Happened) × IsPlay x.policy x.rate x.seed (comings (arrivals_in x records)) g
-    × IsFrontAt old new 5 n.stats (statistics_of x (arrivals_in x records) g))
-
--- departures and fates hold fronts of the texts of the first events of the play of these records
-pub record HasFronts (old new : View) (n : Names) (x : Setup) (records : List Record) : Type 0 where
-  pub history : List Happened
-  pub begun : IsBegun x.policy x.rate x.seed (comings (arrivals_in x records)) history
-  pub departures : IsFrontAt old new 3 n.departures (departures_of x (arrivals_in x records) history)
-  pub fates : IsFrontAt old new 4 n.fates (fates_of x (arrivals_in x records) history)
-  pub stats : HasStatsFront old new n x records
-
--- what is accepted and can be read: of its complete records
-abbrev pub Fronts : View → View → Names → (seed : ℕ) → Type 0
-Fronts old new n seed = IsTrue old.tells → (a : Accepted old n) (records : List Record) (last : Step)
-    → Reads a.bytes records last → IsLast last → HasFronts old new n (setup_of a.interface seed) records
-
--- the first events of the play of these records, up to and with the offer of the last of them, each sending in time: departures and
--- fates hold exactly their texts, and the statistics nothing. These are all drops of these records, and all sendings that start before
--- the last of them arrives
-pub record HasOffered (v : View) (n : Names) (x : Setup) (records : List Record) : Type 0 where
-  pub history : List Happened
-  pub begun : IsBegun x.policy x.rate x.seed (comings (arrivals_in x records)) history
-  pub all : offered (bare history) ≡ length records
-  pub last : EndsWithOffer history
-  pub texts : HoldTexts v n x records history
-  pub stats : v.bytes n.stats ≡ Some []
-
--- what is accepted reads to this end, and its complete records were offered
-pub record IsOffered (old new : View) (n : Names) (seed : ℕ) (last : Step) : Type 0 where
-  pub accepted : Accepted old n
-  pub records : List Record
-  pub reads : Reads accepted.bytes records last
-  pub decided : HasOffered new n (setup_of accepted.interface seed) records
-
--- this is the place and the kind of the first test that the arrivals fail
-pub record IsDamagedAt (old new : View) (n : Names) (seed place kind : ℕ) : Type 0 where
-  pub damage : Damage
-  pub decided : IsOffered old new n seed (Fault damage)
-  pub at : place ≡ damage.place
-  pub what : kind ≡ damage_number damage.kind
-
--- the arrivals reach a limit of captures
-abbrev pub IsLimited : View → View → Names → (seed : ℕ) → Type 0
-IsLimited old new n seed = IsOffered old new n seed Limit
-
--- a sending that is due next would end too late. It starts before the last of these records arrives, or these are a whole capture
-pub record IsCutEarly (x : Setup) (records : List Record) (last : Step) (g : List Happened) : Type 0 where
-  pub cut : IsCutOff x.policy x.rate x.seed (comings (arrivals_in x records)) g
-  pub before : (last ≡ End) ⊎ (start_of cut.next.what < greatest 0 records)
-
--- the play of what is accepted is cut off so. Departures and fates hold exactly the texts of the events before that sending, and
--- the statistics nothing. If a complete record arrives later than it starts, the bytes that were taken of the arrivals end at most
--- 65,536 bytes past the first such record
-pub record IsLate (old new : View) (n : Names) (seed : ℕ) : Type 0 where
-  pub accepted : Accepted old n
-  pub records : List Record
-  pub last : Step
-  pub history : List Happened
-  pub totals : Totals
-  pub reads : Reads accepted.bytes records last
-  pub is_last : IsLast last
-  pub early : IsCutEarly (setup_of accepted.interface seed) records last history
-  pub play : IsStopped (setup_of accepted.interface seed).policy accepted.interface.rate seed
-      (arrivals_in (setup_of accepted.interface seed) records) history totals
-  pub texts : HoldTexts new n (setup_of accepted.interface seed) records history
-  pub stats : new.bytes n.stats ≡ Some []
-  pub file : ℕ
-  pub fresh : old.part file ≡ None
-  pub part : new.part file ≡ Some 2
-  pub streams : Streams new file accepted.bytes records (start_of early.cut.next.what)
-
--- no count of faults rose, but perhaps that of texts that could not be printed: the write faults of part 0
-abbrev pub IsQuiet : View → View → Type 0
-IsQuiet old new = (part : ℕ) → (Rose (old.read_faults part) (new.read_faults part) → ⊥)
-    × (1 ≤ part → Rose (old.write_faults part) (new.write_faults part) → ⊥)
-
--- what is accepted reads to this end, and no sending of its play comes before that and would end too late
-pub record EndsWith (old : View) (n : Names) (seed : ℕ) (last : Step) : Type 0 where
-  pub accepted : Accepted old n
-  pub records : List Record
-  pub reads : Reads accepted.bytes records last
-  pub in_time : (history : List Happened) → IsCutEarly (setup_of accepted.interface seed) records last history → ⊥
-
--- the configuration is accepted, the arrivals are a capture, and every packet of its play ends in time
-abbrev pub IsPlayable : View → Names → (seed : ℕ) → Type 0
-IsPlayable old n seed = EndsWith old n seed End
-
--- the statuses of this program
-abbrev pub IsCode : ℕ → Type 0
-IsCode c = (c ≡ 0) ⊎ (c ≡ 2) ⊎ (c ≡ 3) ⊎ (c ≡ 4) ⊎ (c ≡ 5) ⊎ (c ≡ 6) ⊎ (c ≡ 7) ⊎ (c ≡ 8)
-
--- a sending of the play would end too late
-pub record EndsLate (old : View) (n : Names) (seed : ℕ) : Type 0 where
-  pub accepted : Accepted old n
-  pub records : List Record
-  pub last : Step
-  pub history : List Happened
-  pub reads : Reads accepted.bytes records last
-  pub is_last : IsLast last
-  pub early : IsCutEarly (setup_of accepted.interface seed) records last history
+abbrev pub MeetsWriteFault : View → View → Type 0
+MeetsWriteFault old new = (part : ℕ) × Rose (old.write_faults part) (new.write_faults part)

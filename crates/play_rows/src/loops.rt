@@ -13,7 +13,7 @@ use frame_classes::Classifier;
 use leaf_queue::{Tail, Words};
 use plain_disciplines::{Classify, Discipline, Strict};
 use play_base::{Call, MemoryFiles, NoMemory};
-use play_cli::open_files;
+use play_command::open_files;
 use play_loop::{Limit, Opened, PlayFault, Totals, play};
 use play_text::Names;
 use play_words::{Command, read_words};

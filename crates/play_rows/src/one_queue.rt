@@ -2,8 +2,9 @@
 
 use crate::arrivals::packets;
 use crate::runs::{IMPLIED, ended, play_over, play_words};
+use command_base::{Failure, told};
 use play_base::{MemoryFiles, SteadyFiles};
-use play_cli::{Failure, run_steady, told};
+use play_cli::run_steady;
 use std::test::Fail;
 
 #[test]

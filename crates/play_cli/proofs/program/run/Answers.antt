@@ -1,159 +1,125 @@
 -- Each clause is that of the command that the words name, in the words of its names.
-use Rattle.std.proofs.Common.{inl, inr}
-use Rattle.play_base.specs.View.{View}
-use Rattle.play_cli.specs.Causes.{names_of}
-use Rattle.play_cli.proofs.FilesLemmas.{reads_few}
-use Rattle.play_cli.proofs.NameLemmas.{check_of_words, check_read, count_within, limit_of_make, limit_of_words, make_of_seed, make_of_words, make_read, play_of_seed, play_of_words, play_read, read_of_make, read_of_play}
-use Rattle.play_cli.proofs.SayingLemmas.{fronts_after}
-use Rattle.play_cli.proofs.StepLemmas.{fronts_kept}
-use Rattle.play_cli.proofs.UnreadLemmas.{fronts_unread, others_unread}
+use Rattle.std.proofs.Common.{arith}
+use Rattle.command_base.specs.Names.{names_of, names_read}
+use Rattle.check_command.proofs.CheckLemmas.{check_told, check_unread}
+use Rattle.make_command.proofs.TellLemmas.{make_told, make_unread}
+use Rattle.play_command.proofs.BehindLemmas.{play_unread}
+use Rattle.play_command.proofs.TellLemmas.{play_told}
+use Rattle.play_cli.proofs.NameLemmas.{check_of, check_read, count_within, make_distinct, make_of, make_read, play_of, play_read}
+use Rattle.play_cli.proofs.RunLemmas.{check_counts, check_read_met, check_write_met, kind_told, make_counts, make_read_met, make_write_met, memory_code, memory_refused, no_fault, not_code, not_refused, not_two, play_counts, play_read_met, play_write_met, read_met, refused_ends, refused_not, refused_why, same_kind, unread_ends, write_met}
 use Rattle.play_cli.proofs.program.run.Goals as goal
 
-pub returns-in-Ok-Play-clause-limit : goal.returns-in-Ok-Play-clause-limit
-returns-in-Ok-Play-clause-limit g c =
-    limit_of_words (g.F.Files.view c.args.files.now) (g.F.Files.view c.play.new.files) c.args.words.now c.in-Ok-Play.read c.play.result (play_read c.args.words.now c.in-Ok-Play.field-0 c.in-Ok-Play.read c.in-Ok-Play.field-0-is c.in-Ok-Play.ensures.read) c.play.ensures.ends
+pub play-end-requires : goal.play-end-requires
+play-end-requires g c = (play_read c.args.words.now c.in-Ok-Play.field-0 c.in-Ok-Play.read c.in-Ok-Play.field-0-is c.in-Ok-Play.ensures.read).read.distinct
 
-pub returns-in-Ok-Play-clause-done : goal.returns-in-Ok-Play-clause-done
-returns-in-Ok-Play-clause-done g c = λ e command t seed is.
-    (play_of_seed (g.F.Files.view c.args.files.now) (g.F.Files.view c.play.new.files) c.args.words.now c.in-Ok-Play.read c.play.result (play_read c.args.words.now c.in-Ok-Play.field-0 c.in-Ok-Play.read c.in-Ok-Play.field-0-is c.in-Ok-Play.ensures.read) c.play.ensures.ends seed is).comes.done e t
+pub returns-in-Ok-Play-clause-plays : goal.returns-in-Ok-Play-clause-plays
+returns-in-Ok-Play-clause-plays g c = λ r command seed is.
+    play_of (g.F.Files.view c.args.files.now) (g.F.Files.view c.told.new.files) c.args.words.now c.in-Ok-Play.read c.told.result (play_read c.args.words.now c.in-Ok-Play.field-0 c.in-Ok-Play.read c.in-Ok-Play.field-0-is c.in-Ok-Play.ensures.read)
+    (play_told (g.F.Files.view c.args.files.now) (g.F.Files.view c.play-end.new.files) (g.F.Files.view c.told.new.files) (names_read c.in-Ok-Play.read) c.in-Ok-Play.read.seed c.play-end.result c.told.result c.play-end.ensures.ends c.play-end.ensures.silent c.told.ensures) seed is
 
-pub returns-in-Ok-Play-clause-accepted_first : goal.returns-in-Ok-Play-clause-accepted_first
-returns-in-Ok-Play-clause-accepted_first g c = λ command e.
-    (play_of_words (g.F.Files.view c.args.files.now) (g.F.Files.view c.play.new.files) c.args.words.now c.in-Ok-Play.read c.play.result (play_read c.args.words.now c.in-Ok-Play.field-0 c.in-Ok-Play.read c.in-Ok-Play.field-0-is c.in-Ok-Play.ensures.read) c.play.ensures.ends).comes.accepted_first e
+pub returns-in-Ok-Play-clause-words : goal.returns-in-Ok-Play-clause-words
+returns-in-Ok-Play-clause-words g c = λ e. not_two _ (g.F.Files.view c.args.files.now) (g.F.Files.view c.told.new.files) c.told.result (play_told (g.F.Files.view c.args.files.now) (g.F.Files.view c.play-end.new.files) (g.F.Files.view c.told.new.files) (names_read c.in-Ok-Play.read) c.in-Ok-Play.read.seed c.play-end.result c.told.result c.play-end.ensures.ends c.play-end.ensures.silent c.told.ensures) (λ fault x. x.comes) e
 
-pub returns-in-Ok-Play-clause-complete : goal.returns-in-Ok-Play-clause-complete
-returns-in-Ok-Play-clause-complete g c = λ t r command seed is p q.
-    ((play_of_seed (g.F.Files.view c.args.files.now) (g.F.Files.view c.play.new.files) c.args.words.now c.in-Ok-Play.read c.play.result (play_read c.args.words.now c.in-Ok-Play.field-0 c.in-Ok-Play.read c.in-Ok-Play.field-0-is c.in-Ok-Play.ensures.read) c.play.ensures.ends seed is).told t q).complete p
-
-pub returns-in-Ok-Play-clause-damage_told : goal.returns-in-Ok-Play-clause-damage_told
-returns-in-Ok-Play-clause-damage_told g c = λ t r command seed is d p q.
-    ((play_of_seed (g.F.Files.view c.args.files.now) (g.F.Files.view c.play.new.files) c.args.words.now c.in-Ok-Play.read c.play.result (play_read c.args.words.now c.in-Ok-Play.field-0 c.in-Ok-Play.read c.in-Ok-Play.field-0-is c.in-Ok-Play.ensures.read) c.play.ensures.ends seed is).told t q).damage d p
-
-pub returns-in-Ok-Play-clause-limit_told : goal.returns-in-Ok-Play-clause-limit_told
-returns-in-Ok-Play-clause-limit_told g c = λ t r command seed is p q.
-    ((play_of_seed (g.F.Files.view c.args.files.now) (g.F.Files.view c.play.new.files) c.args.words.now c.in-Ok-Play.read c.play.result (play_read c.args.words.now c.in-Ok-Play.field-0 c.in-Ok-Play.read c.in-Ok-Play.field-0-is c.in-Ok-Play.ensures.read) c.play.ensures.ends seed is).told t q).limit p
-
-pub returns-in-Ok-Play-clause-late_told : goal.returns-in-Ok-Play-clause-late_told
-returns-in-Ok-Play-clause-late_told g c = λ t r command seed is p q.
-    ((play_of_seed (g.F.Files.view c.args.files.now) (g.F.Files.view c.play.new.files) c.args.words.now c.in-Ok-Play.read c.play.result (play_read c.args.words.now c.in-Ok-Play.field-0 c.in-Ok-Play.read c.in-Ok-Play.field-0-is c.in-Ok-Play.ensures.read) c.play.ensures.ends seed is).told t q).late p
-
-pub returns-in-Ok-Play-clause-front : goal.returns-in-Ok-Play-clause-front
-returns-in-Ok-Play-clause-front g c = λ other command seed is.
-    (play_of_seed (g.F.Files.view c.args.files.now) (g.F.Files.view c.play.new.files) c.args.words.now c.in-Ok-Play.read c.play.result (play_read c.args.words.now c.in-Ok-Play.field-0 c.in-Ok-Play.read c.in-Ok-Play.field-0-is c.in-Ok-Play.ensures.read) c.play.ensures.ends seed is).leaves.front other
-
-pub returns-in-Ok-Play-clause-nothing : goal.returns-in-Ok-Play-clause-nothing
-returns-in-Ok-Play-clause-nothing g c = λ t x.
-    (play_of_words (g.F.Files.view c.args.files.now) (g.F.Files.view c.play.new.files) c.args.words.now c.in-Ok-Play.read c.play.result (play_read c.args.words.now c.in-Ok-Play.field-0 c.in-Ok-Play.read c.in-Ok-Play.field-0-is c.in-Ok-Play.ensures.read) c.play.ensures.ends).leaves.nothing t x
-
-pub returns-in-Ok-Play-clause-few : goal.returns-in-Ok-Play-clause-few
-returns-in-Ok-Play-clause-few g c =
-    (play_of_words (g.F.Files.view c.args.files.now) (g.F.Files.view c.play.new.files) c.args.words.now c.in-Ok-Play.read c.play.result (play_read c.args.words.now c.in-Ok-Play.field-0 c.in-Ok-Play.read c.in-Ok-Play.field-0-is c.in-Ok-Play.ensures.read) c.play.ensures.ends).leaves.files.few
-
-pub returns-in-Err-Refused-clause-front : goal.returns-in-Err-Refused-clause-front
-returns-in-Err-Refused-clause-front g c = λ other command seed is.
-    let old : View = g.F.Files.view c.args.files.now in
-    fronts_after old old (g.F.Files.view c.told.new.files) (names_of c.args.words.now) seed c.told.ensures.only (fronts_kept old (names_of c.args.words.now) seed)
-
-pub returns-in-Err-NoMemory-clause-front : goal.returns-in-Err-NoMemory-clause-front
-returns-in-Err-NoMemory-clause-front g c = λ other command seed is.
-    let old : View = g.F.Files.view c.args.files.now in
-    fronts_after old old (g.F.Files.view c.told-in-Err-NoMemory.new.files) (names_of c.args.words.now) seed c.told-in-Err-NoMemory.ensures.only (fronts_kept old (names_of c.args.words.now) seed)
-
-pub returns-in-Ok-Check-clause-few : goal.returns-in-Ok-Check-clause-few
-returns-in-Ok-Check-clause-few g c = reads_few (g.F.Files.view c.args.files.now) (g.F.Files.view c.check.new.files) (names_of c.args.words.now).config
-    (check_of_words (g.F.Files.view c.args.files.now) (g.F.Files.view c.check.new.files) c.args.words.now c.in-Ok-Check.read c.check.result
-    (check_read c.args.words.now c.in-Ok-Check.field-0 c.in-Ok-Check.read c.in-Ok-Check.field-0-is c.in-Ok-Check.ensures.read) c.check.ensures.ends).only
-
-pub make-requires-clause-distinct : goal.make-requires-clause-distinct
-make-requires-clause-distinct g c = (make_read c.args.words.now c.in-Ok-Make.field-0 c.in-Ok-Make.read c.in-Ok-Make.field-0-is c.in-Ok-Make.ensures.read).read.distinct
-
-pub make-requires-clause-few : goal.make-requires-clause-few
-make-requires-clause-few g c = count_within c.args.words.now c.in-Ok-Make.read (make_read c.args.words.now c.in-Ok-Make.field-0 c.in-Ok-Make.read c.in-Ok-Make.field-0-is c.in-Ok-Make.ensures.read)
-
-pub returns-in-Ok-Make-clause-made : goal.returns-in-Ok-Make-clause-made
-returns-in-Ok-Make-clause-made g c = λ e command t seed count is counted. (make_of_seed (g.F.Files.view c.args.files.now) (g.F.Files.view c.make.new.files) c.args.words.now c.in-Ok-Make.read c.make.result (make_read c.args.words.now c.in-Ok-Make.field-0 c.in-Ok-Make.read c.in-Ok-Make.field-0-is c.in-Ok-Make.ensures.read) c.make.ensures.ends seed count is counted).comes.done e t
-
-pub returns-in-Ok-Make-clause-configuration : goal.returns-in-Ok-Make-clause-configuration
-returns-in-Ok-Make-clause-configuration g c = λ e t. (make_of_words (g.F.Files.view c.args.files.now) (g.F.Files.view c.make.new.files) c.args.words.now c.in-Ok-Make.read c.make.result (make_read c.args.words.now c.in-Ok-Make.field-0 c.in-Ok-Make.read c.in-Ok-Make.field-0-is c.in-Ok-Make.ensures.read) c.make.ensures.ends).comes.configuration e t
-
-pub returns-in-Ok-Make-clause-damaged : goal.returns-in-Ok-Make-clause-damaged
-returns-in-Ok-Make-clause-damaged g c = λ e. inr ((make_read c.args.words.now c.in-Ok-Make.field-0 c.in-Ok-Make.read c.in-Ok-Make.field-0-is c.in-Ok-Make.ensures.read).command, (make_of_words (g.F.Files.view c.args.files.now) (g.F.Files.view c.make.new.files) c.args.words.now c.in-Ok-Make.read c.make.result (make_read c.args.words.now c.in-Ok-Make.field-0 c.in-Ok-Make.read c.in-Ok-Make.field-0-is c.in-Ok-Make.ensures.read) c.make.ensures.ends).comes.whole e)
-
-pub returns-in-Ok-Make-clause-read : goal.returns-in-Ok-Make-clause-read
-returns-in-Ok-Make-clause-read g c = λ e.
-    read_of_make (g.F.Files.view c.args.files.now) (g.F.Files.view c.make.new.files) c.args.words.now c.make.result.kind (make_read c.args.words.now c.in-Ok-Make.field-0 c.in-Ok-Make.read c.in-Ok-Make.field-0-is c.in-Ok-Make.ensures.read).command ((make_of_words (g.F.Files.view c.args.files.now) (g.F.Files.view c.make.new.files) c.args.words.now c.in-Ok-Make.read c.make.result (make_read c.args.words.now c.in-Ok-Make.field-0 c.in-Ok-Make.read c.in-Ok-Make.field-0-is c.in-Ok-Make.ensures.read) c.make.ensures.ends).comes.read e)
-
-pub returns-in-Ok-Make-clause-unwritten : goal.returns-in-Ok-Make-clause-unwritten
-returns-in-Ok-Make-clause-unwritten g c = λ e command. (make_of_words (g.F.Files.view c.args.files.now) (g.F.Files.view c.make.new.files) c.args.words.now c.in-Ok-Make.read c.make.result (make_read c.args.words.now c.in-Ok-Make.field-0 c.in-Ok-Make.read c.in-Ok-Make.field-0-is c.in-Ok-Make.ensures.read) c.make.ensures.ends).comes.write e
-
-pub returns-in-Ok-Make-clause-limit : goal.returns-in-Ok-Make-clause-limit
-returns-in-Ok-Make-clause-limit g c = λ e.
-    limit_of_make (g.F.Files.view c.args.files.now) (g.F.Files.view c.make.new.files) c.args.words.now c.in-Ok-Make.read c.make.result (make_read c.args.words.now c.in-Ok-Make.field-0 c.in-Ok-Make.read c.in-Ok-Make.field-0-is c.in-Ok-Make.ensures.read) c.make.ensures.ends e
-
-pub returns-in-Ok-Make-clause-make_accepted_first : goal.returns-in-Ok-Make-clause-make_accepted_first
-returns-in-Ok-Make-clause-make_accepted_first g c = λ command e. (make_of_words (g.F.Files.view c.args.files.now) (g.F.Files.view c.make.new.files) c.args.words.now c.in-Ok-Make.read c.make.result (make_read c.args.words.now c.in-Ok-Make.field-0 c.in-Ok-Make.read c.in-Ok-Make.field-0-is c.in-Ok-Make.ensures.read) c.make.ensures.ends).comes.accepted_first e
-
-pub returns-in-Ok-Make-clause-make_complete : goal.returns-in-Ok-Make-clause-make_complete
-returns-in-Ok-Make-clause-make_complete g c = λ t r command seed count is counted p q. ((make_of_seed (g.F.Files.view c.args.files.now) (g.F.Files.view c.make.new.files) c.args.words.now c.in-Ok-Make.read c.make.result (make_read c.args.words.now c.in-Ok-Make.field-0 c.in-Ok-Make.read c.in-Ok-Make.field-0-is c.in-Ok-Make.ensures.read) c.make.ensures.ends seed count is counted).told t q).complete p
-
-pub returns-in-Ok-Make-clause-make_late_told : goal.returns-in-Ok-Make-clause-make_late_told
-returns-in-Ok-Make-clause-make_late_told g c = λ t r command seed count is counted p q. ((make_of_seed (g.F.Files.view c.args.files.now) (g.F.Files.view c.make.new.files) c.args.words.now c.in-Ok-Make.read c.make.result (make_read c.args.words.now c.in-Ok-Make.field-0 c.in-Ok-Make.read c.in-Ok-Make.field-0-is c.in-Ok-Make.ensures.read) c.make.ensures.ends seed count is counted).told t q).late p
-
-pub returns-in-Ok-Make-clause-configuration_told : goal.returns-in-Ok-Make-clause-configuration_told
-returns-in-Ok-Make-clause-configuration_told g c = λ t r place y q. ((make_of_words (g.F.Files.view c.args.files.now) (g.F.Files.view c.make.new.files) c.args.words.now c.in-Ok-Make.read c.make.result (make_read c.args.words.now c.in-Ok-Make.field-0 c.in-Ok-Make.read c.in-Ok-Make.field-0-is c.in-Ok-Make.ensures.read) c.make.ensures.ends).told t q).configuration place y
-
-pub returns-in-Ok-Make-clause-long_told : goal.returns-in-Ok-Make-clause-long_told
-returns-in-Ok-Make-clause-long_told g c = λ t r y q. ((make_of_words (g.F.Files.view c.args.files.now) (g.F.Files.view c.make.new.files) c.args.words.now c.in-Ok-Make.read c.make.result (make_read c.args.words.now c.in-Ok-Make.field-0 c.in-Ok-Make.read c.in-Ok-Make.field-0-is c.in-Ok-Make.ensures.read) c.make.ensures.ends).told t q).long y
-
-pub returns-in-Ok-Make-clause-nothing : goal.returns-in-Ok-Make-clause-nothing
-returns-in-Ok-Make-clause-nothing g c = λ t x. (make_of_words (g.F.Files.view c.args.files.now) (g.F.Files.view c.make.new.files) c.args.words.now c.in-Ok-Make.read c.make.result (make_read c.args.words.now c.in-Ok-Make.field-0 c.in-Ok-Make.read c.in-Ok-Make.field-0-is c.in-Ok-Make.ensures.read) c.make.ensures.ends).leaves.nothing t x
-
-pub returns-in-Ok-Make-clause-unread : goal.returns-in-Ok-Make-clause-unread
-returns-in-Ok-Make-clause-unread g c = λ e k. (make_of_words (g.F.Files.view c.args.files.now) (g.F.Files.view c.make.new.files) c.args.words.now c.in-Ok-Make.read c.make.result (make_read c.args.words.now c.in-Ok-Make.field-0 c.in-Ok-Make.read c.in-Ok-Make.field-0-is c.in-Ok-Make.ensures.read) c.make.ensures.ends).unread e k
-
-pub returns-in-Ok-Make-clause-few : goal.returns-in-Ok-Make-clause-few
-returns-in-Ok-Make-clause-few g c = (make_of_words (g.F.Files.view c.args.files.now) (g.F.Files.view c.make.new.files) c.args.words.now c.in-Ok-Make.read c.make.result (make_read c.args.words.now c.in-Ok-Make.field-0 c.in-Ok-Make.read c.in-Ok-Make.field-0-is c.in-Ok-Make.ensures.read) c.make.ensures.ends).leaves.few
-
-pub returns-in-Ok-Make-clause-make_arrivals : goal.returns-in-Ok-Make-clause-make_arrivals
-returns-in-Ok-Make-clause-make_arrivals g c = λ command t seed count is counted. (make_of_seed (g.F.Files.view c.args.files.now) (g.F.Files.view c.make.new.files) c.args.words.now c.in-Ok-Make.read c.make.result (make_read c.args.words.now c.in-Ok-Make.field-0 c.in-Ok-Make.read c.in-Ok-Make.field-0-is c.in-Ok-Make.ensures.read) c.make.ensures.ends seed count is counted).leaves.arrivals t
-
-pub returns-in-Ok-Make-clause-make_front : goal.returns-in-Ok-Make-clause-make_front
-returns-in-Ok-Make-clause-make_front g c = λ other command distinct seed count is counted. (make_of_seed (g.F.Files.view c.args.files.now) (g.F.Files.view c.make.new.files) c.args.words.now c.in-Ok-Make.read c.make.result (make_read c.args.words.now c.in-Ok-Make.field-0 c.in-Ok-Make.read c.in-Ok-Make.field-0-is c.in-Ok-Make.ensures.read) c.make.ensures.ends seed count is counted).leaves.front
-
-pub returns-in-Ok-Make-clause-make_behind : goal.returns-in-Ok-Make-clause-make_behind
-returns-in-Ok-Make-clause-make_behind g c = λ command seed count is counted. (make_of_seed (g.F.Files.view c.args.files.now) (g.F.Files.view c.make.new.files) c.args.words.now c.in-Ok-Make.read c.make.result (make_read c.args.words.now c.in-Ok-Make.field-0 c.in-Ok-Make.read c.in-Ok-Make.field-0-is c.in-Ok-Make.ensures.read) c.make.ensures.ends seed count is counted).leaves.behind
-
-pub returns-in-Ok-Make-clause-make_order : goal.returns-in-Ok-Make-clause-make_order
-returns-in-Ok-Make-clause-make_order g c = λ command. (make_of_words (g.F.Files.view c.args.files.now) (g.F.Files.view c.make.new.files) c.args.words.now c.in-Ok-Make.read c.make.result (make_read c.args.words.now c.in-Ok-Make.field-0 c.in-Ok-Make.read c.in-Ok-Make.field-0-is c.in-Ok-Make.ensures.read) c.make.ensures.ends).leaves.order
-
-pub returns-in-Ok-Make-clause-make_uncreated : goal.returns-in-Ok-Make-clause-make_uncreated
-returns-in-Ok-Make-clause-make_uncreated g c = λ command t. (make_of_words (g.F.Files.view c.args.files.now) (g.F.Files.view c.make.new.files) c.args.words.now c.in-Ok-Make.read c.make.result (make_read c.args.words.now c.in-Ok-Make.field-0 c.in-Ok-Make.read c.in-Ok-Make.field-0-is c.in-Ok-Make.ensures.read) c.make.ensures.ends).leaves.uncreated t
-
-pub returns-in-Ok-Make-clause-make_others : goal.returns-in-Ok-Make-clause-make_others
-returns-in-Ok-Make-clause-make_others g c = λ command. (make_of_words (g.F.Files.view c.args.files.now) (g.F.Files.view c.make.new.files) c.args.words.now c.in-Ok-Make.read c.make.result (make_read c.args.words.now c.in-Ok-Make.field-0 c.in-Ok-Make.read c.in-Ok-Make.field-0-is c.in-Ok-Make.ensures.read) c.make.ensures.ends).leaves.others
-
-pub returns-in-Ok-Play-clause-damaged : goal.returns-in-Ok-Play-clause-damaged
-returns-in-Ok-Play-clause-damaged g c = λ e. inl ((play_read c.args.words.now c.in-Ok-Play.field-0 c.in-Ok-Play.read c.in-Ok-Play.field-0-is c.in-Ok-Play.ensures.read).command, λ t seed is. (play_of_seed (g.F.Files.view c.args.files.now) (g.F.Files.view c.play.new.files) c.args.words.now c.in-Ok-Play.read c.play.result (play_read c.args.words.now c.in-Ok-Play.field-0 c.in-Ok-Play.read c.in-Ok-Play.field-0-is c.in-Ok-Play.ensures.read) c.play.ensures.ends seed is).comes.damaged e t)
+pub returns-in-Ok-Play-clause-no_fault : goal.returns-in-Ok-Play-clause-no_fault
+returns-in-Ok-Play-clause-no_fault g c = λ e. no_fault _ (g.F.Files.view c.args.files.now) (g.F.Files.view c.told.new.files) c.told.result (play_told (g.F.Files.view c.args.files.now) (g.F.Files.view c.play-end.new.files) (g.F.Files.view c.told.new.files) (names_read c.in-Ok-Play.read) c.in-Ok-Play.read.seed c.play-end.result c.told.result c.play-end.ensures.ends c.play-end.ensures.silent c.told.ensures) (λ d x. play_counts _ _ _ _ d x) e
 
 pub returns-in-Ok-Play-clause-read : goal.returns-in-Ok-Play-clause-read
-returns-in-Ok-Play-clause-read g c = λ e.
-    read_of_play (g.F.Files.view c.args.files.now) (g.F.Files.view c.play.new.files) c.args.words.now c.play.result.kind (play_read c.args.words.now c.in-Ok-Play.field-0 c.in-Ok-Play.read c.in-Ok-Play.field-0-is c.in-Ok-Play.ensures.read).command ((play_of_words (g.F.Files.view c.args.files.now) (g.F.Files.view c.play.new.files) c.args.words.now c.in-Ok-Play.read c.play.result (play_read c.args.words.now c.in-Ok-Play.field-0 c.in-Ok-Play.read c.in-Ok-Play.field-0-is c.in-Ok-Play.ensures.read) c.play.ensures.ends).comes.read e)
+returns-in-Ok-Play-clause-read g c = λ e. read_met _ (g.F.Files.view c.args.files.now) (g.F.Files.view c.told.new.files) c.told.result (play_told (g.F.Files.view c.args.files.now) (g.F.Files.view c.play-end.new.files) (g.F.Files.view c.told.new.files) (names_read c.in-Ok-Play.read) c.in-Ok-Play.read.seed c.play-end.result c.told.result c.play-end.ensures.ends c.play-end.ensures.silent c.told.ensures) (λ part x. play_read_met _ _ _ _ part x) e
 
-pub returns-in-Ok-Play-clause-absent : goal.returns-in-Ok-Play-clause-absent
-returns-in-Ok-Play-clause-absent g c = λ command a. (play_of_words (g.F.Files.view c.args.files.now) (g.F.Files.view c.play.new.files) c.args.words.now c.in-Ok-Play.read c.play.result (play_read c.args.words.now c.in-Ok-Play.field-0 c.in-Ok-Play.read c.in-Ok-Play.field-0-is c.in-Ok-Play.ensures.read) c.play.ensures.ends).leaves.absent a
+pub returns-in-Ok-Play-clause-write : goal.returns-in-Ok-Play-clause-write
+returns-in-Ok-Play-clause-write g c = λ e. write_met _ (g.F.Files.view c.args.files.now) (g.F.Files.view c.told.new.files) c.told.result (play_told (g.F.Files.view c.args.files.now) (g.F.Files.view c.play-end.new.files) (g.F.Files.view c.told.new.files) (names_read c.in-Ok-Play.read) c.in-Ok-Play.read.seed c.play-end.result c.told.result c.play-end.ensures.ends c.play-end.ensures.silent c.told.ensures) (λ part x. play_write_met _ _ _ _ part x) e
 
-pub returns-in-Ok-Play-clause-others : goal.returns-in-Ok-Play-clause-others
-returns-in-Ok-Play-clause-others g c = λ other. (play_of_words (g.F.Files.view c.args.files.now) (g.F.Files.view c.play.new.files) c.args.words.now c.in-Ok-Play.read c.play.result (play_read c.args.words.now c.in-Ok-Play.field-0 c.in-Ok-Play.read c.in-Ok-Play.field-0-is c.in-Ok-Play.ensures.read) c.play.ensures.ends).leaves.files.others
+pub returns-in-Ok-Play-clause-refused : goal.returns-in-Ok-Play-clause-refused
+returns-in-Ok-Play-clause-refused g c = λ kind r. not_refused _ kind c.in-Ok-Play.ensures.accepted r
 
-pub returns-in-Err-Refused-clause-make_front : goal.returns-in-Err-Refused-clause-make_front
-returns-in-Err-Refused-clause-make_front g c = λ other command distinct seed count is counted.
-    fronts_unread (g.F.Files.view c.args.files.now) (g.F.Files.view c.told.new.files) (names_of c.args.words.now) seed count distinct c.told.ensures.only
+pub returns-in-Ok-Check-clause-checks : goal.returns-in-Ok-Check-clause-checks
+returns-in-Ok-Check-clause-checks g c = λ r command.
+    check_of (g.F.Files.view c.args.files.now) (g.F.Files.view c.told-in-Ok-Check.new.files) c.args.words.now c.in-Ok-Check.read c.told-in-Ok-Check.result (check_read c.args.words.now c.in-Ok-Check.field-0 c.in-Ok-Check.read c.in-Ok-Check.field-0-is c.in-Ok-Check.ensures.read)
+    (check_told (g.F.Files.view c.args.files.now) (g.F.Files.view c.check-end.new.files) (g.F.Files.view c.told-in-Ok-Check.new.files) c.in-Ok-Check.read.config.now c.in-Ok-Check.read.interface.now c.check-end.result c.told-in-Ok-Check.result c.check-end.ensures.ends c.check-end.ensures.silent c.told-in-Ok-Check.ensures)
 
-pub returns-in-Err-Refused-clause-make_others : goal.returns-in-Err-Refused-clause-make_others
-returns-in-Err-Refused-clause-make_others g c = λ command.
-    others_unread (g.F.Files.view c.args.files.now) (g.F.Files.view c.told.new.files) (names_of c.args.words.now) c.told.ensures.only
+pub returns-in-Ok-Check-clause-words : goal.returns-in-Ok-Check-clause-words
+returns-in-Ok-Check-clause-words g c = λ e. not_two _ (g.F.Files.view c.args.files.now) (g.F.Files.view c.told-in-Ok-Check.new.files) c.told-in-Ok-Check.result (check_told (g.F.Files.view c.args.files.now) (g.F.Files.view c.check-end.new.files) (g.F.Files.view c.told-in-Ok-Check.new.files) c.in-Ok-Check.read.config.now c.in-Ok-Check.read.interface.now c.check-end.result c.told-in-Ok-Check.result c.check-end.ensures.ends c.check-end.ensures.silent c.told-in-Ok-Check.ensures) (λ fault x. x.comes) e
 
-pub returns-in-Err-NoMemory-clause-make_front : goal.returns-in-Err-NoMemory-clause-make_front
-returns-in-Err-NoMemory-clause-make_front g c = λ other command distinct seed count is counted.
-    fronts_unread (g.F.Files.view c.args.files.now) (g.F.Files.view c.told-in-Err-NoMemory.new.files) (names_of c.args.words.now) seed count distinct
-    c.told-in-Err-NoMemory.ensures.only
+pub returns-in-Ok-Check-clause-no_fault : goal.returns-in-Ok-Check-clause-no_fault
+returns-in-Ok-Check-clause-no_fault g c = λ e. no_fault _ (g.F.Files.view c.args.files.now) (g.F.Files.view c.told-in-Ok-Check.new.files) c.told-in-Ok-Check.result (check_told (g.F.Files.view c.args.files.now) (g.F.Files.view c.check-end.new.files) (g.F.Files.view c.told-in-Ok-Check.new.files) c.in-Ok-Check.read.config.now c.in-Ok-Check.read.interface.now c.check-end.result c.told-in-Ok-Check.result c.check-end.ensures.ends c.check-end.ensures.silent c.told-in-Ok-Check.ensures) (λ d x. check_counts _ _ _ _ d x) e
+
+pub returns-in-Ok-Check-clause-read : goal.returns-in-Ok-Check-clause-read
+returns-in-Ok-Check-clause-read g c = λ e. read_met _ (g.F.Files.view c.args.files.now) (g.F.Files.view c.told-in-Ok-Check.new.files) c.told-in-Ok-Check.result (check_told (g.F.Files.view c.args.files.now) (g.F.Files.view c.check-end.new.files) (g.F.Files.view c.told-in-Ok-Check.new.files) c.in-Ok-Check.read.config.now c.in-Ok-Check.read.interface.now c.check-end.result c.told-in-Ok-Check.result c.check-end.ensures.ends c.check-end.ensures.silent c.told-in-Ok-Check.ensures) (λ part x. check_read_met _ _ _ _ part x) e
+
+pub returns-in-Ok-Check-clause-write : goal.returns-in-Ok-Check-clause-write
+returns-in-Ok-Check-clause-write g c = λ e. write_met _ (g.F.Files.view c.args.files.now) (g.F.Files.view c.told-in-Ok-Check.new.files) c.told-in-Ok-Check.result (check_told (g.F.Files.view c.args.files.now) (g.F.Files.view c.check-end.new.files) (g.F.Files.view c.told-in-Ok-Check.new.files) c.in-Ok-Check.read.config.now c.in-Ok-Check.read.interface.now c.check-end.result c.told-in-Ok-Check.result c.check-end.ensures.ends c.check-end.ensures.silent c.told-in-Ok-Check.ensures) (λ part x. check_write_met _ _ _ _ part x) e
+
+pub returns-in-Ok-Check-clause-refused : goal.returns-in-Ok-Check-clause-refused
+returns-in-Ok-Check-clause-refused g c = λ kind r. not_refused _ kind c.in-Ok-Check.ensures.accepted r
+
+pub make-end-requires-clause-distinct : goal.make-end-requires-clause-distinct
+make-end-requires-clause-distinct g c = (make_read c.args.words.now c.in-Ok-Make.field-0 c.in-Ok-Make.read c.in-Ok-Make.field-0-is c.in-Ok-Make.ensures.read).read.distinct
+
+pub make-end-requires-clause-few : goal.make-end-requires-clause-few
+make-end-requires-clause-few g c = count_within c.args.words.now c.in-Ok-Make.read (make_read c.args.words.now c.in-Ok-Make.field-0 c.in-Ok-Make.read c.in-Ok-Make.field-0-is c.in-Ok-Make.ensures.read)
+
+pub returns-in-Ok-Make-clause-makes : goal.returns-in-Ok-Make-clause-makes
+returns-in-Ok-Make-clause-makes g c = λ r command seed count is counted.
+    make_of (g.F.Files.view c.args.files.now) (g.F.Files.view c.told-in-Ok-Make.new.files) c.args.words.now c.in-Ok-Make.read c.told-in-Ok-Make.result (make_read c.args.words.now c.in-Ok-Make.field-0 c.in-Ok-Make.read c.in-Ok-Make.field-0-is c.in-Ok-Make.ensures.read)
+    (make_told (g.F.Files.view c.args.files.now) (g.F.Files.view c.make-end.new.files) (g.F.Files.view c.told-in-Ok-Make.new.files) (names_read c.in-Ok-Make.read.play) c.in-Ok-Make.read.play.seed c.in-Ok-Make.read.count c.make-end.result c.told-in-Ok-Make.result c.make-end.ensures.ends c.make-end.ensures.silent c.told-in-Ok-Make.ensures) seed count is counted
+
+pub returns-in-Ok-Make-clause-words : goal.returns-in-Ok-Make-clause-words
+returns-in-Ok-Make-clause-words g c = λ e. not_two _ (g.F.Files.view c.args.files.now) (g.F.Files.view c.told-in-Ok-Make.new.files) c.told-in-Ok-Make.result (make_told (g.F.Files.view c.args.files.now) (g.F.Files.view c.make-end.new.files) (g.F.Files.view c.told-in-Ok-Make.new.files) (names_read c.in-Ok-Make.read.play) c.in-Ok-Make.read.play.seed c.in-Ok-Make.read.count c.make-end.result c.told-in-Ok-Make.result c.make-end.ensures.ends c.make-end.ensures.silent c.told-in-Ok-Make.ensures) (λ fault x. x.comes) e
+
+pub returns-in-Ok-Make-clause-no_fault : goal.returns-in-Ok-Make-clause-no_fault
+returns-in-Ok-Make-clause-no_fault g c = λ e. no_fault _ (g.F.Files.view c.args.files.now) (g.F.Files.view c.told-in-Ok-Make.new.files) c.told-in-Ok-Make.result (make_told (g.F.Files.view c.args.files.now) (g.F.Files.view c.make-end.new.files) (g.F.Files.view c.told-in-Ok-Make.new.files) (names_read c.in-Ok-Make.read.play) c.in-Ok-Make.read.play.seed c.in-Ok-Make.read.count c.make-end.result c.told-in-Ok-Make.result c.make-end.ensures.ends c.make-end.ensures.silent c.told-in-Ok-Make.ensures) (λ d x. make_counts _ _ _ _ _ d x) e
+
+pub returns-in-Ok-Make-clause-read : goal.returns-in-Ok-Make-clause-read
+returns-in-Ok-Make-clause-read g c = λ e. read_met _ (g.F.Files.view c.args.files.now) (g.F.Files.view c.told-in-Ok-Make.new.files) c.told-in-Ok-Make.result (make_told (g.F.Files.view c.args.files.now) (g.F.Files.view c.make-end.new.files) (g.F.Files.view c.told-in-Ok-Make.new.files) (names_read c.in-Ok-Make.read.play) c.in-Ok-Make.read.play.seed c.in-Ok-Make.read.count c.make-end.result c.told-in-Ok-Make.result c.make-end.ensures.ends c.make-end.ensures.silent c.told-in-Ok-Make.ensures) (λ part x. make_read_met _ _ _ _ _ part x) e
+
+pub returns-in-Ok-Make-clause-write : goal.returns-in-Ok-Make-clause-write
+returns-in-Ok-Make-clause-write g c = λ e. write_met _ (g.F.Files.view c.args.files.now) (g.F.Files.view c.told-in-Ok-Make.new.files) c.told-in-Ok-Make.result (make_told (g.F.Files.view c.args.files.now) (g.F.Files.view c.make-end.new.files) (g.F.Files.view c.told-in-Ok-Make.new.files) (names_read c.in-Ok-Make.read.play) c.in-Ok-Make.read.play.seed c.in-Ok-Make.read.count c.make-end.result c.told-in-Ok-Make.result c.make-end.ensures.ends c.make-end.ensures.silent c.told-in-Ok-Make.ensures) (λ part x. make_write_met _ _ _ _ _ part x) e
+
+pub returns-in-Ok-Make-clause-refused : goal.returns-in-Ok-Make-clause-refused
+returns-in-Ok-Make-clause-refused g c = λ kind r. not_refused _ kind c.in-Ok-Make.ensures.accepted r
+
+pub returns-in-Err-Refused-clause-refused : goal.returns-in-Err-Refused-clause-refused
+returns-in-Err-Refused-clause-refused g c = λ kind r.
+    refused_ends (g.F.Files.view c.args.files.now) (g.F.Files.view c.told-in-Err-Refused.new.files) kind c.in-Err-Refused.fault c.told-in-Err-Refused.result (same_kind _ _ kind (refused_why _ c.in-Err-Refused.field-0 c.in-Err-Refused.fault c.in-Err-Refused.field-0-is c.in-Err-Refused.ensures.refused) r) c.told-in-Err-Refused.ensures
+
+pub returns-in-Err-Refused-clause-words : goal.returns-in-Err-Refused-clause-words
+returns-in-Err-Refused-clause-words g c = λ e. kind_told (g.F.Files.view c.args.files.now) (g.F.Files.view c.told-in-Err-Refused.new.files) _ c.in-Err-Refused.fault c.told-in-Err-Refused.result (refused_why _ c.in-Err-Refused.field-0 c.in-Err-Refused.fault c.in-Err-Refused.field-0-is c.in-Err-Refused.ensures.refused) c.told-in-Err-Refused.ensures e
+
+pub returns-in-Err-Refused-clause-no_fault : goal.returns-in-Err-Refused-clause-no_fault
+returns-in-Err-Refused-clause-no_fault g c = λ e.
+    refused_not (g.F.Files.view c.args.files.now) (g.F.Files.view c.told-in-Err-Refused.new.files) c.in-Err-Refused.fault c.told-in-Err-Refused.result 0 (λ h. omega (arith, h)) (λ h. omega (arith, h)) c.told-in-Err-Refused.ensures e
+
+pub returns-in-Err-Refused-clause-read : goal.returns-in-Err-Refused-clause-read
+returns-in-Err-Refused-clause-read g c = λ e.
+    refused_not (g.F.Files.view c.args.files.now) (g.F.Files.view c.told-in-Err-Refused.new.files) c.in-Err-Refused.fault c.told-in-Err-Refused.result 5 (λ h. omega (arith, h)) (λ h. omega (arith, h)) c.told-in-Err-Refused.ensures e
+
+pub returns-in-Err-Refused-clause-write : goal.returns-in-Err-Refused-clause-write
+returns-in-Err-Refused-clause-write g c = λ e.
+    refused_not (g.F.Files.view c.args.files.now) (g.F.Files.view c.told-in-Err-Refused.new.files) c.in-Err-Refused.fault c.told-in-Err-Refused.result 6 (λ h. omega (arith, h)) (λ h. omega (arith, h)) c.told-in-Err-Refused.ensures e
+
+pub returns-in-Err-NoMemory-clause-refused : goal.returns-in-Err-NoMemory-clause-refused
+returns-in-Err-NoMemory-clause-refused g c = λ kind r. unread_ends _ (g.F.Files.view c.args.files.now) (g.F.Files.view c.told-in-Err-NoMemory.new.files) c.told-in-Err-NoMemory.result c.told-in-Err-NoMemory.ensures (λ o. memory_refused _ _ kind o)
+
+pub returns-in-Err-NoMemory-clause-plays : goal.returns-in-Err-NoMemory-clause-plays
+returns-in-Err-NoMemory-clause-plays g c = λ r command seed is.
+    unread_ends _ (g.F.Files.view c.args.files.now) (g.F.Files.view c.told-in-Err-NoMemory.new.files) c.told-in-Err-NoMemory.result c.told-in-Err-NoMemory.ensures (λ o. play_unread _ _ (names_of c.args.words.now) seed o)
+
+pub returns-in-Err-NoMemory-clause-checks : goal.returns-in-Err-NoMemory-clause-checks
+returns-in-Err-NoMemory-clause-checks g c = λ r command.
+    unread_ends _ (g.F.Files.view c.args.files.now) (g.F.Files.view c.told-in-Err-NoMemory.new.files) c.told-in-Err-NoMemory.result c.told-in-Err-NoMemory.ensures (λ o. check_unread _ _ (names_of c.args.words.now).config (names_of c.args.words.now).interface o)
+
+pub returns-in-Err-NoMemory-clause-makes : goal.returns-in-Err-NoMemory-clause-makes
+returns-in-Err-NoMemory-clause-makes g c = λ r command seed count is counted.
+    unread_ends _ (g.F.Files.view c.args.files.now) (g.F.Files.view c.told-in-Err-NoMemory.new.files) c.told-in-Err-NoMemory.result c.told-in-Err-NoMemory.ensures (λ o. make_unread _ _ (names_of c.args.words.now) seed count (make_distinct c.args.words.now r command) o)
+
+pub returns-in-Err-NoMemory-clause-words : goal.returns-in-Err-NoMemory-clause-words
+returns-in-Err-NoMemory-clause-words g c = λ e. not_code 8 2 c.told-in-Err-NoMemory.result (λ h. omega (arith, h)) (memory_code (g.F.Files.view c.args.files.now) (g.F.Files.view c.told-in-Err-NoMemory.new.files) c.told-in-Err-NoMemory.result c.told-in-Err-NoMemory.ensures) e
+
+pub returns-in-Err-NoMemory-clause-no_fault : goal.returns-in-Err-NoMemory-clause-no_fault
+returns-in-Err-NoMemory-clause-no_fault g c = λ e. not_code 8 0 c.told-in-Err-NoMemory.result (λ h. omega (arith, h)) (memory_code (g.F.Files.view c.args.files.now) (g.F.Files.view c.told-in-Err-NoMemory.new.files) c.told-in-Err-NoMemory.result c.told-in-Err-NoMemory.ensures) e
+
+pub returns-in-Err-NoMemory-clause-read : goal.returns-in-Err-NoMemory-clause-read
+returns-in-Err-NoMemory-clause-read g c = λ e. not_code 8 5 c.told-in-Err-NoMemory.result (λ h. omega (arith, h)) (memory_code (g.F.Files.view c.args.files.now) (g.F.Files.view c.told-in-Err-NoMemory.new.files) c.told-in-Err-NoMemory.result c.told-in-Err-NoMemory.ensures) e
+
+pub returns-in-Err-NoMemory-clause-write : goal.returns-in-Err-NoMemory-clause-write
+returns-in-Err-NoMemory-clause-write g c = λ e. not_code 8 6 c.told-in-Err-NoMemory.result (λ h. omega (arith, h)) (memory_code (g.F.Files.view c.args.files.now) (g.F.Files.view c.told-in-Err-NoMemory.new.files) c.told-in-Err-NoMemory.result c.told-in-Err-NoMemory.ensures) e

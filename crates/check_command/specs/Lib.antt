@@ -1,0 +1,2 @@
+pub mod Checking
+pub use Rattle.command_base.specs.Configuration

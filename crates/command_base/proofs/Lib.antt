@@ -1,0 +1,5 @@
+pub mod ConfLemmas
+pub mod PartLemmas
+pub mod ReadingLemmas
+pub mod SayingLemmas
+pub mod TellingLemmas

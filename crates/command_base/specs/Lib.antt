@@ -1,0 +1,7 @@
+pub mod Configuration
+pub mod Faults
+pub mod Input
+pub mod Message
+pub mod Names
+pub mod Outcome
+pub mod Telling

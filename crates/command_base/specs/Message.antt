@@ -1,0 +1,41 @@
+-- The message of what ended a command early.
+use Rattle.std.specs.Prelude.{ℕ, List, ◌++◌, codes, decimal}
+use Rattle.capture_model.specs.Numbers.{damage_name}
+use Rattle.conf_lines.specs.Kinds.{kind_name}
+use Rattle.play_words.specs.Kinds.{words_kind}
+use Rattle.command_base.specs.Outcome.{run_limit_number}
+use Rattle.command_base.specs.declared.failure.Failure.{Failure}
+use Rattle.command_base.specs.declared.failure.Failure.TheVariants as failure
+use Rattle.command_base.specs.declared.parts.ReadPart.{ReadPart}
+use Rattle.command_base.specs.declared.parts.ReadPart.TheVariants as read
+use Rattle.command_base.specs.declared.parts.WrittenPart.{WrittenPart}
+use Rattle.command_base.specs.declared.parts.WrittenPart.TheVariants as written
+
+-- what could not be read, and what could not be written
+abbrev pub read_name : ReadPart → List ℕ
+read_name read.Configuration = codes "configuration"
+read_name read.Arrivals = codes "arrivals"
+
+abbrev pub written_name : WrittenPart → List ℕ
+written_name written.Departures = codes "departures"
+written_name written.Fates = codes "fates"
+written_name written.Statistics = codes "statistics"
+written_name written.Arrivals = codes "arrivals"
+written_name written.Answer = codes "result"
+
+-- the message where there is no memory takes none
+abbrev pub out_of_memory : List ℕ
+out_of_memory = codes "altqplay: out of memory\n"
+
+-- the message of each failure: a line
+abbrev pub message_of : Failure → List ℕ
+message_of (failure.Words fault) = codes "altqplay: words refused, kind " ++ (decimal (words_kind fault) ++ codes "\n")
+message_of (failure.Configuration place) =
+    codes "altqplay: configuration line " ++ (decimal place.line
+    ++ (codes " word " ++ (decimal place.word ++ (codes ": " ++ (kind_name place.kind ++ codes "\n")))))
+message_of (failure.Capture damage) =
+    codes "altqplay: capture byte " ++ (decimal damage.place ++ (codes ": " ++ (damage_name damage.kind ++ codes "\n")))
+message_of (failure.Read part) = codes "altqplay: reading " ++ (read_name part ++ codes " failed\n")
+message_of (failure.Write part) = codes "altqplay: writing " ++ (written_name part ++ codes " failed\n")
+message_of (failure.Limit limit) = codes "altqplay: limit " ++ (decimal (run_limit_number limit) ++ codes " reached\n")
+message_of failure.NoMemory = out_of_memory

@@ -1,0 +1,41 @@
+// What a command did.
+ghost use Rattle.std.specs.Prelude.{◌≡◌};
+ghost use Rattle.link_fit.specs.Lines.{fit_kind};
+ghost use Rattle.command_base.specs.Outcome.{done_status};
+
+use crate::Status;
+use crate::status::ended;
+use admission::Fit;
+
+/// What a command did.
+#[derive(Clone, Copy, Debug, PartialEq, Eq)]
+pub enum Done {
+    /// It played the capture.
+    Played,
+    /// It generated a capture, played it and said its summary.
+    Made,
+    /// It checked the configuration, and this is how the curves fit the link.
+    Checked(Fit),
+}
+
+impl Done {
+    /// Its status: code 0, and of a check kind 0 where the curves fit and 1 where they exceed the link.
+    pub fn status(self) -> Status
+        ensures { result ≡ done_status self }
+    {
+        match self {
+            Done::Played | Done::Made => ended(0, 0),
+            Done::Checked(fit) => ended(0, fit_kind(fit)),
+        }
+    }
+}
+
+// The number of an answer.
+fn fit_kind(fit: Fit) -> u8
+    ensures { result ≡ fit_kind fit }
+{
+    match fit {
+        Fit::Fits => 0,
+        Fit::Exceeds { .. } => 1,
+    }
+}

@@ -1,0 +1,69 @@
+// What ended a command early.
+ghost use Rattle.std.specs.Prelude.{◌≡◌};
+ghost use Rattle.command_base.specs.Outcome.{failure_status, say_failure};
+
+use crate::Status;
+use crate::parts::{ReadPart, RunLimit, WrittenPart};
+use crate::status::ended;
+use capture_model::Damage;
+use conf_lines::ConfPlace;
+use play_base::Trouble;
+use play_words::WordsFault;
+
+/// What ended a command early, as its status and its message tell it.
+#[derive(Clone, Copy, Debug, PartialEq, Eq)]
+pub enum Failure {
+    /// The words are refused.
+    Words(WordsFault),
+    /// The configuration has this fault first, or lacks the interface asked for.
+    Configuration(ConfPlace),
+    /// The arrivals fail this test first.
+    Capture(Damage),
+    /// This could not be read.
+    Read(ReadPart),
+    /// This could not be written or said.
+    Write(WrittenPart),
+    /// This limit was reached.
+    Limit(RunLimit),
+    /// No memory was left.
+    NoMemory,
+}
+
+impl Failure {
+    /// Its status: the code of its variant, and the place and the kind that the code's own table gives it.
+    pub fn status(self) -> Status
+        ensures { result ≡ failure_status self }
+    {
+        match self {
+            Failure::Words(fault) => ended(2, fault.kind()),
+            Failure::Configuration(place) => Status {
+                code: 3,
+                line: place.line,
+                word: place.word,
+                place: 0,
+                kind: place.kind.number(),
+            },
+            Failure::Capture(damage) => Status {
+                code: 4,
+                line: 0,
+                word: 0,
+                place: damage.place,
+                kind: damage.kind.number(),
+            },
+            Failure::Read(part) => ended(5, part.number()),
+            Failure::Write(part) => ended(6, part.number()),
+            Failure::Limit(limit) => ended(7, limit.number()),
+            Failure::NoMemory => ended(8, 0),
+        }
+    }
+}
+
+/// What an answer that cannot be said ends a command as.
+pub fn say_failure(trouble: Trouble) -> Failure
+    ensures { result ≡ say_failure trouble }
+{
+    match trouble {
+        Trouble::Failed => Failure::Write(WrittenPart::Answer),
+        Trouble::NoMemory => Failure::NoMemory,
+    }
+}

@@ -1,0 +1,42 @@
+// The message of what ended a command early.
+ghost use Rattle.std.specs.Prelude.{◌≡◌, IfOk, string_bytes};
+ghost use Rattle.command_base.specs.Message.{message_of};
+
+use crate::Failure;
+use std::alloc::{AllocError, Global};
+
+/// The message where memory ran out; it takes none.
+pub(crate) const OUT_OF_MEMORY: &str = "altqplay: out of memory\n";
+
+/// The message of what ended a command early. `Err` comes only where there is no memory.
+pub(crate) fn message(alloc: Global, failure: Failure) -> Result<String, AllocError>
+    ensures { IfOk result (λ m. string_bytes m ≡ message_of failure) }
+{
+    match failure {
+        Failure::Words(fault) => {
+            let kind = fault.kind();
+            format!(in alloc; "altqplay: words refused, kind {kind}\n")
+        }
+        Failure::Configuration(place) => {
+            let (line, word, name) = (place.line, place.word, place.kind.name());
+            format!(in alloc; "altqplay: configuration line {line} word {word}: {name}\n")
+        }
+        Failure::Capture(damage) => {
+            let (place, name) = (damage.place, damage.kind.name());
+            format!(in alloc; "altqplay: capture byte {place}: {name}\n")
+        }
+        Failure::Read(part) => {
+            let name = part.name();
+            format!(in alloc; "altqplay: reading {name} failed\n")
+        }
+        Failure::Write(part) => {
+            let name = part.name();
+            format!(in alloc; "altqplay: writing {name} failed\n")
+        }
+        Failure::Limit(limit) => {
+            let number = limit.number();
+            format!(in alloc; "altqplay: limit {number} reached\n")
+        }
+        Failure::NoMemory => String::from_str(alloc, OUT_OF_MEMORY),
+    }
+}

@@ -1,0 +1,5 @@
+pub mod MadeLemmas
+pub mod MakeLemmas
+pub mod SuppliedLemmas
+pub mod TellLemmas
+pub mod WrittenLemmas

@@ -1,0 +1,6 @@
+//! The command `make`: a generated capture, and its play.
+#![tactic(auto)]
+
+mod making;
+
+pub use making::make;

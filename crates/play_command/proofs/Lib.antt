@@ -1,0 +1,14 @@
+pub mod BehindLemmas
+pub mod EndLemmas
+pub mod FilesLemmas
+pub mod FoundLemmas
+pub mod InputLemmas
+pub mod LateLemmas
+pub mod Laws
+pub mod NamedLemmas
+pub mod OpeningLemmas
+pub mod SayingLemmas
+pub mod SetupLemmas
+pub mod StepLemmas
+pub mod TellLemmas
+pub mod ToldLemmas

@@ -1,0 +1,288 @@
+-- The files of a play as they come to be, one after another.
+use Rattle.std.proofs.Common.{◌≡◌, ◌≢◌, ◌≤◌, ◌<◌, ◌+◌, ◌∙◌, ◌⊎◌, ℕ, List, [], None, Some, ap, sym, refl, subst, inl, inr, arith}
+use Rattle.std.specs.Prelude.{IsTrue}
+use Rattle.std.specs.declared.option.Option.{Option}
+use Rattle.play_base.specs.View.{View, Any, Unchanged, IsMissed, IsNew, Opened, Created, Rose}
+use Rattle.play_base.proofs.HoldsLaws.{holds_beside_created, holds_created}
+use Rattle.play_base.proofs.ViewLaws.{is_some_of, keeps_refl, keeps_trans, keeps_fewer}
+use Rattle.play_base.specs.Holds.{HoldsAt}
+use Rattle.play_words.specs.Words.{AreDistinct}
+use Rattle.command_base.proofs.PartLemmas.{fresh_before, new_part, none_some, same_part, short_or_long, there_or_not}
+use Rattle.command_base.specs.Faults.{CannotRead, Untouched}
+use Rattle.play_command.specs.Opening.{AreOpened, HaveParts, KeepsOthers, OpenedFar, OtherThree}
+
+parts_none : (a : View) → HaveParts a a 2
+parts_none a = record {
+  some = omega arith;
+  few = omega arith;
+  kept = λ f p h. h;
+  only = λ f p fresh e. absurd (none_some p (sym fresh ∙ e));
+  each = λ p l m. absurd (omega (arith, l, m));
+}
+
+only_more : (a b c : View) (end : ℕ) (name : List ℕ) (file f p : ℕ) → HaveParts a b end → IsNew b c end name file
+    → ((f p : ℕ) → b.part f ≡ Some p → c.part f ≡ Some p) → a.part f ≡ None → c.part f ≡ Some p
+    → (b.part f ≡ None) ⊎ ((q : ℕ) × (b.part f ≡ Some q)) → (1 ≤ p) × (p < end + 1)
+only_more a b c end name file f p h x k fresh e (inl n) =
+    let y = (new_part b c end name file f p x n e).0 in (omega (arith, y, h.some), omega (arith, y))
+only_more a b c end name file f p h x k fresh e (inr m) =
+    let same : p ≡ m.0 = same_part p m.0 (sym e ∙ k f m.0 m.1) in
+    let y = h.only f m.0 fresh m.1 in (omega (arith, y.0, same), omega (arith, y.1, same))
+
+each_more : (a b c : View) (end : ℕ) (name : List ℕ) (file p : ℕ) → HaveParts a b end → IsNew b c end name file
+    → ((f p : ℕ) → b.part f ≡ Some p → c.part f ≡ Some p) → 2 ≤ p → (p < end) ⊎ (end ≤ p) → p < end + 1
+    → (f : ℕ) × (a.part f ≡ None) × (c.part f ≡ Some p)
+each_more a b c end name file p h x k l (inl m) u = let y = h.each p l m in (y.0, y.1, k y.0 p y.2)
+each_more a b c end name file p h x k l (inr m) u =
+    let same : end ≡ p = omega (arith, m, u) in
+    (file, was (a.part file) (there_or_not (a.part file)), x.part ∙ ap (λ (n : ℕ). Some n) same)
+  where
+    was : (o : Option ℕ) → (a.part file ≡ None) ⊎ ((q : ℕ) × (a.part file ≡ Some q)) → a.part file ≡ None
+    was o (inl e) = e
+    was o (inr e) = absurd (none_some e.0 (sym x.fresh ∙ h.kept file e.0 e.1))
+
+pub parts_more : (a b c : View) (end : ℕ) (name : List ℕ) (file : ℕ) → HaveParts a b end → IsNew b c end name file
+    → ((f p : ℕ) → b.part f ≡ Some p → c.part f ≡ Some p) → end < 6 → HaveParts a c (end + 1)
+parts_more a b c end name file h x k l = record {
+  some = omega (arith, h.some);
+  few = omega (arith, l);
+  kept = λ f p e. k f p (h.kept f p e);
+  only = λ f p fresh e. only_more a b c end name file f p h x k fresh e (there_or_not (b.part f));
+  each = λ p m u. each_more a b c end name file p h x k m (short_or_long p end) u;
+}
+
+-- calls by which no file came to be
+parts_same : (a b c : View) (end : ℕ) → HaveParts a b end → ((f : ℕ) → b.part f ≡ None → c.part f ≡ None)
+    → ((f p : ℕ) → b.part f ≡ Some p → c.part f ≡ Some p) → HaveParts a c end
+parts_same a b c end h n k = record {
+  some = h.some;
+  few = h.few;
+  kept = λ f p e. k f p (h.kept f p e);
+  only = λ f p fresh e. by f p fresh e (there_or_not (b.part f));
+  each = λ p l m. let y = h.each p l m in (y.0, y.1, k y.0 p y.2);
+}
+  where
+    by : (f p : ℕ) → a.part f ≡ None → c.part f ≡ Some p → (b.part f ≡ None) ⊎ ((q : ℕ) × (b.part f ≡ Some q)) → (1 ≤ p) × (p < end)
+    by f p fresh e (inl m) = absurd (none_some p (sym (n f m) ∙ e))
+    by f p fresh e (inr m) =
+        let same : p ≡ m.0 = same_part p m.0 (sym e ∙ k f m.0 m.1) in
+        let y = h.only f m.0 fresh m.1 in (omega (arith, y.0, same), omega (arith, y.1, same))
+
+not_config_more : (a b c : View) (end part : ℕ) (name : List ℕ) (file : ℕ) → HaveParts a b end → 2 ≤ part
+    → ((f p : ℕ) → a.part f ≡ None → b.part f ≡ Some p → 2 ≤ p) → IsNew b c part name file
+    → ((f p : ℕ) → b.part f ≡ Some p → c.part f ≡ Some p)
+    → (f p : ℕ) → a.part f ≡ None → c.part f ≡ Some p → (b.part f ≡ None) ⊎ ((q : ℕ) × (b.part f ≡ Some q)) → 2 ≤ p
+not_config_more a b c end part name file h l n x k f p fresh e (inl m) =
+    let y = (new_part b c part name file f p x m e).0 in omega (arith, y, l)
+not_config_more a b c end part name file h l n x k f p fresh e (inr m) =
+    let same : p ≡ m.0 = same_part p m.0 (sym e ∙ k f m.0 m.1) in
+    let y = n f m.0 fresh m.1 in omega (arith, y, same)
+
+-- none yet
+pub far_none : (a : View) (dep fat stats : List ℕ) → OpenedFar a a dep fat stats
+far_none a dep fat stats = record {
+  end = 2;
+  parts = parts_none a;
+  not_config = λ f p fresh e. absurd (none_some p (sym fresh ∙ e));
+  departures_kept = λ l. refl;
+  fates_kept = λ l. refl;
+  stats_kept = λ l. refl;
+  departures_empty = λ l. absurd (omega (arith, l));
+  fates_empty = λ l. absurd (omega (arith, l));
+  stats_empty = λ l. absurd (omega (arith, l));
+  keeps = keeps_refl _ _ a;
+  said = refl;
+}
+
+-- a call that changed nothing
+pub far_unchanged : (a b c : View) (dep fat stats : List ℕ) → OpenedFar a b dep fat stats → Unchanged b c → OpenedFar a c dep fat stats
+far_unchanged a b c dep fat stats h x = record {
+  end = h.end;
+  parts = parts_same a b c h.end h.parts x.none x.keeps.part;
+  not_config = λ f p fresh e. by f p fresh e (there_or_not (b.part f));
+  departures_kept = λ l. x.keeps.bytes dep tt ∙ h.departures_kept l;
+  fates_kept = λ l. x.keeps.bytes fat tt ∙ h.fates_kept l;
+  stats_kept = λ l. x.keeps.bytes stats tt ∙ h.stats_kept l;
+  departures_empty = λ l t. x.keeps.bytes dep tt ∙ h.departures_empty l t;
+  fates_empty = λ l t. x.keeps.bytes fat tt ∙ h.fates_empty l t;
+  stats_empty = λ l t. x.keeps.bytes stats tt ∙ h.stats_empty l t;
+  keeps = keeps_trans _ _ a b c h.keeps (keeps_fewer Any _ Any _ b c (λ n k. tt) (λ f k. tt) x.keeps);
+  said = x.said ∙ h.said;
+}
+  where
+    by : (f p : ℕ) → a.part f ≡ None → c.part f ≡ Some p → (b.part f ≡ None) ⊎ ((q : ℕ) × (b.part f ≡ Some q)) → 2 ≤ p
+    by f p fresh e (inl m) = absurd (none_some p (sym (x.none f m) ∙ e))
+    by f p fresh e (inr m) =
+        let same : p ≡ m.0 = same_part p m.0 (sym e ∙ x.keeps.part f m.0 m.1) in
+        let y = h.not_config f m.0 fresh m.1 in omega (arith, y, same)
+
+-- the arrivals are opened
+pub far_opened : (a b : View) (dep fat stats name : List ℕ) (file : ℕ) → Opened a b 2 name file → OpenedFar a b dep fat stats
+far_opened a b dep fat stats name file x = record {
+  end = 3;
+  parts = parts_more a a b 2 name file (parts_none a) x.is_new x.keeps.part (omega arith);
+  not_config = λ f p fresh e. let y = (new_part a b 2 name file f p x.is_new fresh e).0 in omega (arith, y);
+  departures_kept = λ l. x.keeps.bytes dep tt;
+  fates_kept = λ l. x.keeps.bytes fat tt;
+  stats_kept = λ l. x.keeps.bytes stats tt;
+  departures_empty = λ l. absurd (omega (arith, l));
+  fates_empty = λ l. absurd (omega (arith, l));
+  stats_empty = λ l. absurd (omega (arith, l));
+  keeps = keeps_fewer Any _ Any _ a b (λ n k. tt) (λ f k. tt) x.keeps;
+  said = x.is_new.said;
+}
+
+-- an output is created
+keeps_created : (a b c : View) (dep fat stats name : List ℕ) (part file : ℕ) → KeepsOthers dep fat stats a b → Created b c part name file
+    → ((n : List ℕ) → OtherThree a dep fat stats n → n ≢ name) → KeepsOthers dep fat stats a c
+keeps_created a b c dep fat stats name part file h x other = record {
+  tells = x.keeps.tells ∙ h.tells;
+  bytes = λ n k. x.keeps.bytes n (other n k) ∙ h.bytes n k;
+  left = λ f p e k. x.keeps.left f p (h.part f p e) (λ s. other (a.name f) k (sym (h.name f p e) ∙ s)) ∙ h.left f p e k;
+  part = λ f p e. x.keeps.part f p (h.part f p e);
+  name = λ f p e. x.keeps.name f p (h.part f p e) ∙ h.name f p e;
+  later = record {
+    read = λ p. omega (arith, h.later.read p, x.keeps.later.read p);
+    write = λ p. omega (arith, h.later.write p, x.keeps.later.write p);
+    fixed = x.keeps.later.fixed ∙ h.later.fixed;
+  };
+}
+
+created_parts : (a b c : View) (dep fat stats name : List ℕ) (end file : ℕ) (h : OpenedFar a b dep fat stats) → h.end ≡ end → end < 6
+    → Created b c end name file → HaveParts a c (end + 1)
+created_parts a b c dep fat stats name end file h e l x =
+    let P : ℕ → Type 0 = λ k. HaveParts a b k in
+    parts_more a b c end name file (subst P e h.parts) x.is_new x.keeps.part l
+
+created_not_config : (a b c : View) (dep fat stats name : List ℕ) (part file : ℕ) → OpenedFar a b dep fat stats → 2 ≤ part
+    → Created b c part name file → (f p : ℕ) → a.part f ≡ None → c.part f ≡ Some p → 2 ≤ p
+created_not_config a b c dep fat stats name part file h l x = λ f p fresh e.
+    not_config_more a b c h.end part name file h.parts l h.not_config x.is_new x.keeps.part f p fresh e (there_or_not (b.part f))
+
+pub far_departures : (a b c : View) (dep fat stats : List ℕ) (file : ℕ) → dep ≢ fat → dep ≢ stats → (h : OpenedFar a b dep fat stats) → h.end ≡ 3
+    → Created b c 3 dep file → OpenedFar a c dep fat stats
+far_departures a b c dep fat stats file df ds h e x = record {
+  end = 4;
+  parts = created_parts a b c dep fat stats dep 3 file h e (omega arith) x;
+  not_config = created_not_config a b c dep fat stats dep 3 file h (omega arith) x;
+  departures_kept = λ l. absurd (omega (arith, l));
+  fates_kept = λ l. x.keeps.bytes fat (λ s. df (sym s)) ∙ h.fates_kept (omega (arith, e));
+  stats_kept = λ l. x.keeps.bytes stats (λ s. ds (sym s)) ∙ h.stats_kept (omega (arith, e));
+  departures_empty = λ l t. (x.empty (h.keeps.tells ∙ t)).0;
+  fates_empty = λ l. absurd (omega (arith, l));
+  stats_empty = λ l. absurd (omega (arith, l));
+  keeps = keeps_created a b c dep fat stats dep 3 file h.keeps x (λ n k. k.1);
+  said = x.is_new.said ∙ h.said;
+}
+
+pub far_fates : (a b c : View) (dep fat stats : List ℕ) (file : ℕ) → dep ≢ fat → fat ≢ stats → (h : OpenedFar a b dep fat stats) → h.end ≡ 4
+    → Created b c 4 fat file → OpenedFar a c dep fat stats
+far_fates a b c dep fat stats file df fs h e x = record {
+  end = 5;
+  parts = created_parts a b c dep fat stats fat 4 file h e (omega arith) x;
+  not_config = created_not_config a b c dep fat stats fat 4 file h (omega arith) x;
+  departures_kept = λ l. absurd (omega (arith, l));
+  fates_kept = λ l. absurd (omega (arith, l));
+  stats_kept = λ l. x.keeps.bytes stats (λ s. fs (sym s)) ∙ h.stats_kept (omega (arith, e));
+  departures_empty = λ l t. x.keeps.bytes dep df ∙ h.departures_empty (omega (arith, e)) t;
+  fates_empty = λ l t. (x.empty (h.keeps.tells ∙ t)).0;
+  stats_empty = λ l. absurd (omega (arith, l));
+  keeps = keeps_created a b c dep fat stats fat 4 file h.keeps x (λ n k. k.2);
+  said = x.is_new.said ∙ h.said;
+}
+
+pub far_stats : (a b c : View) (dep fat stats : List ℕ) (file : ℕ) → dep ≢ stats → fat ≢ stats → (h : OpenedFar a b dep fat stats) → h.end ≡ 5
+    → Created b c 5 stats file → OpenedFar a c dep fat stats
+far_stats a b c dep fat stats file ds fs h e x = record {
+  end = 6;
+  parts = created_parts a b c dep fat stats stats 5 file h e (omega arith) x;
+  not_config = created_not_config a b c dep fat stats stats 5 file h (omega arith) x;
+  departures_kept = λ l. absurd (omega (arith, l));
+  fates_kept = λ l. absurd (omega (arith, l));
+  stats_kept = λ l. absurd (omega (arith, l));
+  departures_empty = λ l t. x.keeps.bytes dep ds ∙ h.departures_empty (omega (arith, e)) t;
+  fates_empty = λ l t. x.keeps.bytes fat fs ∙ h.fates_empty (omega (arith, e)) t;
+  stats_empty = λ l t. (x.empty (h.keeps.tells ∙ t)).0;
+  keeps = keeps_created a b c dep fat stats stats 5 file h.keeps x (λ n k. k.3);
+  said = x.is_new.said ∙ h.said;
+}
+
+-- the arrivals, and then one output, two or three
+pub far_two : (a b c : View) (dep fat stats name : List ℕ) (f g : ℕ) → dep ≢ fat → dep ≢ stats → Opened a b 2 name f → Created b c 3 dep g → OpenedFar a c dep fat stats
+unfolding far_opened
+far_two a b c dep fat stats name f g df ds x y = far_departures a b c dep fat stats g df ds (far_opened a b dep fat stats name f x) refl y
+
+pub far_three : (a b c d : View) (dep fat stats name : List ℕ) (f g h : ℕ) → dep ≢ fat → dep ≢ stats → fat ≢ stats → Opened a b 2 name f → Created b c 3 dep g
+    → Created c d 4 fat h → OpenedFar a d dep fat stats
+unfolding far_two far_departures
+far_three a b c d dep fat stats name f g h df ds fs x y z =
+    far_fates a c d dep fat stats h df fs (far_two a b c dep fat stats name f g df ds x y) refl z
+
+pub far_four : (a b c d e : View) (dep fat stats name : List ℕ) (f g h k : ℕ) → dep ≢ fat → dep ≢ stats → fat ≢ stats → Opened a b 2 name f → Created b c 3 dep g
+    → Created c d 4 fat h → Created d e 5 stats k → OpenedFar a e dep fat stats
+unfolding far_three far_fates
+far_four a b c d e dep fat stats name f g h k df ds fs x y z w =
+    far_stats a d e dep fat stats k ds fs (far_three a b c d dep fat stats name f g h df ds fs x y z) refl w
+
+-- all four
+pub are_opened : (a b c d e : View) (config arr dep fat stats : List ℕ) (f g h k : ℕ) → AreDistinct config arr dep fat stats → Opened a b 2 arr f → Created b c 3 dep g
+    → Created c d 4 fat h → Created d e 5 stats k → AreOpened a e arr dep fat stats (record { arrivals = f; departures = g; fates = h; stats = k })
+are_opened a b c d e config arr dep fat stats f g h k q x y z w =
+    let fc : c.part f ≡ Some 2 = y.keeps.part f 2 x.is_new.part in
+    let fd : d.part f ≡ Some 2 = z.keeps.part f 2 fc in
+    let fe : e.part f ≡ Some 2 = w.keeps.part f 2 fd in
+    let gd : d.part g ≡ Some 3 = z.keeps.part g 3 y.is_new.part in
+    let ge : e.part g ≡ Some 3 = w.keeps.part g 3 gd in
+    let he : e.part h ≡ Some 4 = w.keeps.part h 4 z.is_new.part in
+    let tc : IsTrue a.tells → IsTrue c.tells = λ t. y.keeps.tells ∙ x.keeps.tells ∙ t in
+    let td : IsTrue a.tells → IsTrue d.tells = λ t. z.keeps.tells ∙ tc t in
+    let back : IsTrue e.tells → IsTrue a.tells = λ t. sym (w.keeps.tells ∙ z.keeps.tells ∙ y.keeps.tells ∙ x.keeps.tells) ∙ t in
+    let nf : IsTrue a.tells → b.name f ≡ arr = λ t. x.is_new.name t in
+    let nfc : IsTrue a.tells → c.name f ≡ arr = λ t. y.keeps.name f 2 x.is_new.part ∙ nf t in
+    let nfd : IsTrue a.tells → d.name f ≡ arr = λ t. z.keeps.name f 2 fc ∙ nfc t in
+    let nfe : IsTrue a.tells → e.name f ≡ arr = λ t. w.keeps.name f 2 fd ∙ nfd t in
+    let ngd : IsTrue a.tells → d.name g ≡ dep = λ t. z.keeps.name g 3 y.is_new.part ∙ y.is_new.name (x.keeps.tells ∙ t) in
+    let nge : IsTrue a.tells → e.name g ≡ dep = λ t. w.keeps.name g 3 gd ∙ ngd t in
+    let nhe : IsTrue a.tells → e.name h ≡ fat = λ t. w.keeps.name h 4 z.is_new.part ∙ z.is_new.name (tc t) in
+    let nke : IsTrue a.tells → e.name k ≡ stats = λ t. w.is_new.name (td t) in
+    let one : HoldsAt d g [] =
+    holds_beside_created c d 4 fat h g [] (holds_created b c 3 dep g y)
+    (λ t s. q.departures_fates (sym (y.is_new.name (sym y.keeps.tells ∙ t)) ∙ s)) z in
+    record {
+      ready = record {
+        arrivals = is_some_of (e.part f) 2 fe;
+        empty = record {
+          departures = holds_beside_created d e 5 stats k g [] one (λ t s. q.departures_stats (sym (ngd (back (w.keeps.tells ∙ t))) ∙ s)) w;
+          fates = holds_beside_created d e 5 stats k h [] (holds_created c d 4 fat h z)
+              (λ t s. q.fates_stats (sym (z.is_new.name (sym z.keeps.tells ∙ t)) ∙ s)) w;
+          apart = λ t s. q.departures_fates (sym (nge (back t)) ∙ s ∙ nhe (back t));
+        };
+        from_departures = λ t s. q.arrivals_departures (sym (nfe (back t)) ∙ s ∙ nge (back t));
+        from_fates = λ t s. q.arrivals_fates (sym (nfe (back t)) ∙ s ∙ nhe (back t));
+        stats = holds_created d e 5 stats k w;
+        departures_from_stats = λ t s. q.departures_stats (sym (nge (back t)) ∙ s ∙ nke (back t));
+        fates_from_stats = λ t s. q.fates_stats (sym (nhe (back t)) ∙ s ∙ nke (back t));
+      };
+      there = λ t. (x.left t).0;
+      left = λ t. w.keeps.left f 2 fd (λ s. q.arrivals_stats (sym (nfd t) ∙ s)) ∙ z.keeps.left f 2 fc (λ s. q.arrivals_fates (sym (nfc t) ∙ s))
+          ∙ y.keeps.left f 2 x.is_new.part (λ s. q.arrivals_departures (sym (nf t) ∙ s)) ∙ (x.left t).1;
+      departures_name = λ t. nge t;
+      fates_name = λ t. nhe t;
+      stats_name = λ t. nke t;
+      arrivals_new = x.is_new.fresh;
+      departures_new = fresh_before a b g x.keeps.part y.is_new.fresh;
+      fates_new = fresh_before a b h x.keeps.part (fresh_before b c h y.keeps.part z.is_new.fresh);
+      stats_new = fresh_before a b k x.keeps.part (fresh_before b c k y.keeps.part (fresh_before c d k z.keeps.part w.is_new.fresh));
+      arrivals_part = fe;
+      departures_part = ge;
+      fates_part = he;
+      stats_part = w.is_new.part;
+    }
+
+-- where the arrivals are not opened no output is created
+pub unopened : (a b : View) → Unchanged a b → Untouched a b 3
+unopened a b x = λ f fresh e. none_some 3 (sym (x.none f fresh) ∙ e)
+
+pub cannot_read : (a b : View) (part : ℕ) (name : List ℕ) → Rose (a.read_faults part) (b.read_faults part) ⊎ IsMissed a b name → CannotRead a b part name
+cannot_read a b part name (inl r) = inl r
+cannot_read a b part name (inr m) = inr m.0

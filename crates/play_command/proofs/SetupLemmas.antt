@@ -1,0 +1,128 @@
+-- What was built of an interface is what is played of it.
+use Rattle.std.proofs.Common.{◌≡◌, ◌∙◌, ℕ, List, refl, ap, sym, subst}
+use Rattle.altq_model.specs.declared.Placed.{Placed}
+use Rattle.altq_model.specs.Departures.{Dressing}
+use Rattle.altq_model.specs.History.{Happened}
+use Rattle.altq_model.specs.Play.{IsOneOf, Policy}
+use Rattle.capture_model.specs.Capture.{Record}
+use Rattle.conf_tree.specs.declared.interface.Interface.{Interface}
+use Rattle.frame_classes.specs.Frames.{dress_in, place_in}
+use Rattle.interface_policy.specs.Policy.{policy_of, queue_names}
+use Rattle.play_base.specs.View.{View}
+use Rattle.play_core.specs.declared.totals.Totals.{Totals}
+use Rattle.play_text.specs.Names.{HasClass, NameList}
+use Rattle.play_loop.specs.declared.fault.Limit.TheVariants as limit
+use Rattle.play_loop.specs.declared.fault.Opened.{Opened}
+use Rattle.play_loop.specs.declared.fault.Output.TheVariants as output
+use Rattle.play_loop.specs.declared.fault.PlayFault.{PlayFault}
+use Rattle.play_loop.specs.declared.fault.PlayFault.TheVariants as play
+use Rattle.play_loop.specs.Played.{Explains, Fronts, HasOffered, IsStanding, LeavesStats, Plays}
+use Rattle.play_loop.specs.Setup.{Setup}
+use Rattle.play_loop.specs.Setup as loop
+use Rattle.command_base.specs.Configuration.{IsConfigured}
+use Rattle.play_command.proofs.Laws.{HaveLaws, is_held, is_named}
+use Rattle.play_command.specs.InterfaceSetup.{setup_of}
+use Rattle.play_command.specs.Opening.{Untold}
+
+-- where nothing is told of what stands for a history
+untold : (g : List Happened) → IsStanding Untold g
+untold g = (g, tt, refl)
+
+plays_untold : (x : Setup) (stood : List Happened → Type 0) (u v : View) (o : Opened) (t : Totals) → Plays x stood u v o t → Plays x Untold u v o t
+plays_untold x stood u v o t h = λ told bytes l.
+    let y = h told bytes l in
+    let z = y.2 in
+    (y.0, y.1, record { history = z.history; play = z.play; texts = z.texts; stats = z.stats; reads = z.reads; stands = untold z.history })
+
+offered_untold : (x : Setup) (stood : List Happened → Type 0) (v : View) (o : Opened) (records : List Record) → HasOffered x stood v o records
+    → HasOffered x Untold v o records
+offered_untold x stood v o records z =
+    record { history = z.history; begun = z.begun; all = z.all; last = z.last; texts = z.texts; stands = untold z.history }
+
+explains_untold : (x : Setup) (stood : List Happened → Type 0) (u v : View) (o : Opened) (f : PlayFault) → Explains x stood u v o f → Explains x Untold u v o f
+explains_untold x stood u v o (play.Capture d) h = λ told bytes l. let y = h told bytes l in (y.0, y.1, offered_untold x stood v o y.0 y.2)
+explains_untold x stood u v o play.Read h = (h.0, λ told bytes l. let y = h.1 told bytes l in (y.0, y.1, offered_untold x stood v o y.0 y.2))
+explains_untold x stood u v o (play.Write output.Departures) h = h
+explains_untold x stood u v o (play.Write output.Fates) h = h
+explains_untold x stood u v o (play.Write output.Statistics) h = h
+explains_untold x stood u v o (play.Limit limit.Capture) h = λ told bytes l. let y = h told bytes l in (y.0, y.1, offered_untold x stood v o y.0 y.2)
+explains_untold x stood u v o (play.Limit limit.Clock) h = λ told bytes l.
+    let y = h told bytes l in
+    let w = y.1 in
+    let z = w.3 in (
+      y.0,
+      (
+        w.0,
+        w.1,
+        w.2,
+        record {
+          history = z.history;
+          totals = z.totals;
+          play = z.play;
+          texts = z.texts;
+          stands = untold z.history;
+          before = z.before;
+          streams = z.streams;
+        },
+      ),
+    )
+explains_untold x stood u v o play.NoMemory h = tt
+
+-- what an interface was made of, for its play
+pub record IsBuilt (i : Interface) (p : Policy) (place : List ℕ → Placed) (dress : Dressing) (names : NameList) (given seed : ℕ) : Type 0 where
+  pub policy : p ≡ policy_of i
+  pub placed : place ≡ place_in i
+  pub dressed : dress ≡ dress_in i
+  pub named : names ≡ queue_names i
+  pub seed_is : given ≡ seed
+
+setup_is : (i : Interface) (p : Policy) (place : List ℕ → Placed) (dress : Dressing) (names : NameList) (given seed : ℕ)
+    → IsBuilt i p place dress names given seed → loop.setup_of p place dress names i.rate given ≡ setup_of i seed
+setup_is i p place dress names given seed b =
+    ap (λ (k : ℕ). loop.setup_of p place dress names i.rate k) b.seed_is
+    ∙ ap (λ (q : Policy). loop.setup_of q place dress names i.rate seed) b.policy
+    ∙ ap (λ (f : List ℕ → Placed). loop.setup_of (policy_of i) f dress names i.rate seed) b.placed
+    ∙ ap (λ (d : Dressing). loop.setup_of (policy_of i) (place_in i) d names i.rate seed) b.dressed
+    ∙ ap (λ (l : NameList). loop.setup_of (policy_of i) (place_in i) (dress_in i) l i.rate seed) b.named
+
+-- each frame is placed in a class of the policy, which has a name
+pub held_of : (laws : HaveLaws) (i : Interface) (p : Policy) (place : List ℕ → Placed) → IsConfigured i → p ≡ policy_of i → place ≡ place_in i
+    → (frame : List ℕ) → IsOneOf (place frame).class p.classes
+held_of laws i p place x e f frame =
+    let P : Policy → Type 0 = λ q. IsOneOf (place frame).class q.classes in
+    let Q : (List ℕ → Placed) → Type 0 = λ m. IsOneOf (m frame).class (policy_of i).classes in
+    subst P (sym e) (subst Q (sym f) (is_held laws i x frame))
+
+pub named_of : (laws : HaveLaws) (i : Interface) (names : NameList) (place : List ℕ → Placed) → IsConfigured i → names ≡ queue_names i → place ≡ place_in i
+    → (frame : List ℕ) → HasClass names (place frame).class
+named_of laws i names place x e f frame =
+    let N : NameList → Type 0 = λ l. HasClass l (place frame).class in
+    let Q : (List ℕ → Placed) → Type 0 = λ m. HasClass (queue_names i) (m frame).class in
+    subst N (sym e) (subst Q (sym f) (is_named laws i x frame))
+
+-- what the loop says of what was built
+pub plays_of : (i : Interface) (p : Policy) (place : List ℕ → Placed) (dress : Dressing) (names : NameList) (given seed : ℕ)
+    → IsBuilt i p place dress names given seed → (stood : List Happened → Type 0) (u v : View) (o : Opened) (t : Totals)
+    → Plays (loop.setup_of p place dress names i.rate given) stood u v o t → Plays (setup_of i seed) Untold u v o t
+plays_of i p place dress names given seed b stood u v o t h =
+    let P : Setup → Type 0 = λ x. Plays x stood u v o t in
+    plays_untold (setup_of i seed) stood u v o t (subst P (setup_is i p place dress names given seed b) h)
+
+pub explains_of : (i : Interface) (p : Policy) (place : List ℕ → Placed) (dress : Dressing) (names : NameList) (given seed : ℕ)
+    → IsBuilt i p place dress names given seed → (stood : List Happened → Type 0) (u v : View) (o : Opened) (f : PlayFault)
+    → Explains (loop.setup_of p place dress names i.rate given) stood u v o f → Explains (setup_of i seed) Untold u v o f
+explains_of i p place dress names given seed b stood u v o f h =
+    let P : Setup → Type 0 = λ x. Explains x stood u v o f in
+    explains_untold (setup_of i seed) stood u v o f (subst P (setup_is i p place dress names given seed b) h)
+
+pub fronts_built : (i : Interface) (p : Policy) (place : List ℕ → Placed) (dress : Dressing) (names : NameList) (given seed : ℕ)
+    → IsBuilt i p place dress names given seed → (u v : View) (o : Opened)
+    → Fronts (loop.setup_of p place dress names i.rate given) u v o → Fronts (setup_of i seed) u v o
+fronts_built i p place dress names given seed b u v o h =
+    let P : Setup → Type 0 = λ x. Fronts x u v o in subst P (setup_is i p place dress names given seed b) h
+
+pub stats_of : (i : Interface) (p : Policy) (place : List ℕ → Placed) (dress : Dressing) (names : NameList) (given seed : ℕ)
+    → IsBuilt i p place dress names given seed → (u v : View) (o : Opened) (f : PlayFault)
+    → LeavesStats (loop.setup_of p place dress names i.rate given) u v o f → LeavesStats (setup_of i seed) u v o f
+stats_of i p place dress names given seed b u v o f h =
+    let P : Setup → Type 0 = λ x. LeavesStats x u v o f in subst P (setup_is i p place dress names given seed b) h

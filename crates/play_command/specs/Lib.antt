@@ -1,0 +1,9 @@
+pub mod Ending
+pub mod Failing
+pub mod Found
+pub mod InterfaceSetup
+pub mod Opening
+pub mod Order
+pub mod Played
+pub use Rattle.command_base.specs.Configuration
+pub use Rattle.command_base.specs.Names

@@ -1,0 +1,96 @@
+-- The files of a play: which are opened and created, and what stands where one of these fails.
+use Rattle.std.specs.Prelude.{◌≡◌, ◌≢◌, ◌≤◌, ◌<◌, ◌⊎◌, ℕ, List, [], None, Some, IsTrue, IsSome}
+use Rattle.altq_model.specs.History.{Happened}
+use Rattle.play_base.specs.declared.trouble.Trouble.{Trouble}
+use Rattle.play_base.specs.declared.trouble.Trouble.TheVariants as trouble
+use Rattle.play_base.specs.View.{View, Keeps, Rose}
+use Rattle.play_loop.specs.declared.fault.Opened.{Opened}
+use Rattle.play_loop.specs.declared.fault.Output.{Output}
+use Rattle.play_loop.specs.declared.fault.Output.TheVariants as output
+use Rattle.play_loop.specs.declared.fault.PlayFault.{PlayFault}
+use Rattle.play_loop.specs.declared.fault.PlayFault.TheVariants as play
+use Rattle.play_loop.specs.Played.{AreReady}
+use Rattle.command_base.specs.Faults.{CannotRead, Untouched}
+
+-- nothing is claimed of a history
+abbrev pub Untold : List Happened → Type 0
+Untold g = Unit {0}
+
+-- where the object tells: every name but the three
+abbrev pub OtherThree : View → (dep fat stats : List ℕ) → List ℕ → Type 0
+OtherThree v dep fat stats n = IsTrue v.tells × (n ≢ dep) × (n ≢ fat) × (n ≢ stats)
+
+-- every name keeps its bytes but the three, and every file of another name what it has left
+abbrev pub KeepsOthers : (dep fat stats : List ℕ) → View → View → Type 0
+KeepsOthers dep fat stats old new =
+    Keeps (OtherThree old dep fat stats) (λ f. OtherThree old dep fat stats (old.name f)) old new
+
+-- there is a new file of each of the parts 2 to `end` - 1, and every other new file is of one of these or of part 1
+pub record HaveParts (old new : View) (end : ℕ) : Type 0 where
+  pub some : 2 ≤ end
+  pub few : end ≤ 6
+  pub kept : (f p : ℕ) → old.part f ≡ Some p → new.part f ≡ Some p
+  pub only : (f p : ℕ) → old.part f ≡ None → new.part f ≡ Some p → (1 ≤ p) × (p < end)
+  pub each : (p : ℕ) → 2 ≤ p → p < end → (f : ℕ) × (old.part f ≡ None) × (new.part f ≡ Some p)
+
+-- of the arrivals, the departures, the fates and the statistics, in this order, those before part `end` were opened or created, and
+-- nothing was written: an output that was not created keeps its bytes, and one that was is empty where the object tells
+pub record OpenedFar (old new : View) (dep fat stats : List ℕ) : Type 0 where
+  pub end : ℕ
+  pub parts : HaveParts old new end
+  pub not_config : (f p : ℕ) → old.part f ≡ None → new.part f ≡ Some p → 2 ≤ p
+  pub departures_kept : end ≤ 3 → new.bytes dep ≡ old.bytes dep
+  pub fates_kept : end ≤ 4 → new.bytes fat ≡ old.bytes fat
+  pub stats_kept : end ≤ 5 → new.bytes stats ≡ old.bytes stats
+  pub departures_empty : 3 < end → IsTrue old.tells → new.bytes dep ≡ Some []
+  pub fates_empty : 4 < end → IsTrue old.tells → new.bytes fat ≡ Some []
+  pub stats_empty : 5 < end → IsTrue old.tells → new.bytes stats ≡ Some []
+  pub keeps : KeepsOthers dep fat stats old new
+  pub said : new.said ≡ old.said
+
+-- the name of each part of a play
+abbrev pub IsNamed : (arr dep fat stats : List ℕ) → (part : ℕ) → (name : List ℕ) → Type 0
+IsNamed arr dep fat stats part name =
+    ((part ≡ 2) × (name ≡ arr)) ⊎ ((part ≡ 3) × (name ≡ dep)) ⊎ ((part ≡ 4) × (name ≡ fat)) ⊎ ((part ≡ 5) × (name ≡ stats))
+
+-- each new file has a part below `end` and, where the object tells, the name of that part; and no two have one part
+pub record AreNamed (old new : View) (arr dep fat stats : List ℕ) (end : ℕ) : Type 0 where
+  pub below : (f p : ℕ) → old.part f ≡ None → new.part f ≡ Some p → p < end
+  pub once : (f g p : ℕ) → old.part f ≡ None → old.part g ≡ None → new.part f ≡ Some p → new.part g ≡ Some p → f ≡ g
+  pub named : IsTrue old.tells → (f p : ℕ) → old.part f ≡ None → new.part f ≡ Some p → IsNamed arr dep fat stats p (new.name f)
+
+-- the part of an output
+abbrev pub output_part : Output → ℕ
+output_part output.Departures = 3
+output_part output.Fates = 4
+output_part output.Statistics = 5
+
+-- what trouble with the creation of an output means for the play
+abbrev pub create_fault : Output → Trouble → PlayFault
+create_fault output trouble.Failed = play.Write output
+create_fault output trouble.NoMemory = play.NoMemory
+
+-- why the files of a play are not all there
+abbrev pub OpenCauses : View → View → (arrivals : List ℕ) → PlayFault → Type 0
+OpenCauses old new arrivals (play.Capture damage) = ⊥
+OpenCauses old new arrivals play.Read = Untouched old new 3 × CannotRead old new 2 arrivals
+OpenCauses old new arrivals (play.Write output) = Rose (old.write_faults (output_part output)) (new.write_faults (output_part output))
+OpenCauses old new arrivals (play.Limit limit) = ⊥
+OpenCauses old new arrivals play.NoMemory = Unit {0}
+
+-- the four files are there, new, under their parts and names; the arrivals have left what stands under their name
+pub record AreOpened (old new : View) (arrivals departures fates stats : List ℕ) (o : Opened) : Type 0 where
+  pub ready : AreReady new o
+  pub there : IsTrue old.tells → IsSome (old.bytes arrivals)
+  pub left : IsTrue old.tells → new.left o.arrivals ≡ old.bytes arrivals
+  pub departures_name : IsTrue old.tells → new.name o.departures ≡ departures
+  pub fates_name : IsTrue old.tells → new.name o.fates ≡ fates
+  pub stats_name : IsTrue old.tells → new.name o.stats ≡ stats
+  pub arrivals_new : old.part o.arrivals ≡ None
+  pub departures_new : old.part o.departures ≡ None
+  pub fates_new : old.part o.fates ≡ None
+  pub stats_new : old.part o.stats ≡ None
+  pub arrivals_part : new.part o.arrivals ≡ Some 2
+  pub departures_part : new.part o.departures ≡ Some 3
+  pub fates_part : new.part o.fates ≡ Some 4
+  pub stats_part : new.part o.stats ≡ Some 5

@@ -1,0 +1,104 @@
+// The play of an interface by its discipline.
+ghost use Rattle.std.specs.Prelude.{◌≡◌, [], IfOk, IfErr, OnErr, OnOk};
+ghost use Rattle.discipline.specs.Laws.{HasRate};
+ghost use Rattle.interface_policy.specs.Policy.{policy_of};
+ghost use Rattle.play_base.specs.View.{NoneAppears, SameCounts};
+ghost use Rattle.play_loop.specs.Kept.{KeepsPlayed};
+ghost use Rattle.play_loop.specs.Played.{AreReady, Explains, Fronts, LeavesStats, Plays};
+ghost use Rattle.command_base.specs.Configuration.{IsConfigured};
+ghost use Rattle.play_command.specs.InterfaceSetup.{setup_of};
+ghost use Rattle.play_command.specs.Opening.{Untold};
+
+use conf_laws::configurations_fit;
+use conf_tree::{Interface, Kind};
+use discipline::Discipline;
+use frame_classes::{Classifier, frames_have_classes};
+use interface_policy::{cbq_of, hfsc_of, interfaces_keep_their_promises, names_of};
+use leaf_queue::Words;
+use play_base::{Files, NoMemory};
+use play_loop::{Opened, PlayFault, Totals, play};
+use std::alloc::Global;
+
+// Plays an interface by a discipline that keeps its policy, to which nothing was offered yet.
+#[tactic(auto, using(play_base::proofs::ViewLaws::same_trans, play_base::proofs::ViewLaws::same_refl))]
+fn play_by<D: Discipline, F: Files>(
+    alloc: Global,
+    files: &mut F,
+    interface: &Interface,
+    discipline: &mut D,
+    seed: u64,
+    opened: &Opened,
+) -> Result<Totals, PlayFault>
+    requires configured { IsConfigured interface.now }
+    requires new { D.stands discipline.old [] }
+    requires policy { D.policy discipline.old ≡ policy_of interface.now }
+    requires rate { HasRate (D.link_rate discipline.old) interface.now.rate }
+    requires ready { AreReady (F.view files.old) opened.now }
+    ensures done { IfOk result (Plays (setup_of interface.now seed) Untold (F.view files.old) (F.view files.new) opened.now) }
+    ensures why { IfErr result (Explains (setup_of interface.now seed) Untold (F.view files.old) (F.view files.new) opened.now) }
+    ensures front { OnErr result (Fronts (setup_of interface.now seed) (F.view files.old) (F.view files.new) opened.now) }
+    ensures stats { IfErr result (LeavesStats (setup_of interface.now seed) (F.view files.old) (F.view files.new) opened.now) }
+    ensures keeps { KeepsPlayed opened.now (F.view files.old) (F.view files.new) }
+    ensures none { NoneAppears (F.view files.old) (F.view files.new) }
+    ensures said { (F.view files.new).said ≡ (F.view files.old).said }
+    ensures no_fault { OnOk result (SameCounts (F.view files.old) (F.view files.new)) }
+{
+    configurations_fit();
+    frames_have_classes();
+    interfaces_keep_their_promises();
+    let Ok(classifier) = Classifier::build(alloc, interface) else {
+        return Err(PlayFault::NoMemory);
+    };
+    let Ok(names) = names_of(alloc, interface) else {
+        return Err(PlayFault::NoMemory);
+    };
+    let mut words = Words::new(seed);
+    let played = play(
+        alloc,
+        discipline,
+        &classifier,
+        &names,
+        interface.rate,
+        &mut words,
+        opened,
+        files,
+    );
+    match played {
+        Ok(totals) => Ok(totals),
+        Err(fault) => Err(fault),
+    }
+}
+
+/// Plays the capture that the arrivals have left through the queues of an interface and a link of its rate, by HFSC or CBQ as it
+/// says, and by the random words of a seed. What each error means, and when it comes, `PlayFault` says.
+#[tactic(auto, using(play_base::proofs::ViewLaws::same_trans, play_base::proofs::ViewLaws::same_refl))]
+pub(crate) fn play_interface<F: Files>(
+    alloc: Global,
+    files: &mut F,
+    interface: &Interface,
+    seed: u64,
+    opened: &Opened,
+) -> Result<Totals, PlayFault>
+    requires configured { IsConfigured interface.now }
+    requires ready { AreReady (F.view files.old) opened.now }
+    ensures done { IfOk result (Plays (setup_of interface.now seed) Untold (F.view files.old) (F.view files.new) opened.now) }
+    ensures why { IfErr result (Explains (setup_of interface.now seed) Untold (F.view files.old) (F.view files.new) opened.now) }
+    ensures front { OnErr result (Fronts (setup_of interface.now seed) (F.view files.old) (F.view files.new) opened.now) }
+    ensures stats { IfErr result (LeavesStats (setup_of interface.now seed) (F.view files.old) (F.view files.new) opened.now) }
+    ensures keeps { KeepsPlayed opened.now (F.view files.old) (F.view files.new) }
+    ensures none { NoneAppears (F.view files.old) (F.view files.new) }
+    ensures said { (F.view files.new).said ≡ (F.view files.old).said }
+    ensures no_fault { OnOk result (SameCounts (F.view files.old) (F.view files.new)) }
+{
+    configurations_fit();
+    match interface.kind {
+        Kind::Hfsc => match hfsc_of(alloc, interface) {
+            Ok(mut hfsc) => play_by(alloc, files, interface, &mut hfsc, seed, opened),
+            Err(NoMemory) => Err(PlayFault::NoMemory),
+        },
+        Kind::Cbq => match cbq_of(alloc, interface) {
+            Ok(mut cbq) => play_by(alloc, files, interface, &mut cbq, seed, opened),
+            Err(NoMemory) => Err(PlayFault::NoMemory),
+        },
+    }
+}
