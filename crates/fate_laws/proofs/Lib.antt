@@ -1,0 +1,3 @@
+pub mod Departing
+pub mod Passing
+pub mod Turns

@@ -1,0 +1,36 @@
+// Laws of rows and of the files of plays.
+ghost use Rattle.std.specs.Prelude.{◌≡◌, ◌≤◌, ℕ, List, [], length};
+ghost use Rattle.altq_model.specs.Arrivals.{Arrival, comings};
+ghost use Rattle.altq_model.specs.Departures.{Dressing, departures};
+ghost use Rattle.altq_model.specs.History.{Decision, Happened, journal};
+ghost use Rattle.altq_model.specs.Laws.{IsInTime};
+ghost use Rattle.fate_busy.specs.Busy.{StartsAtOnce};
+ghost use Rattle.fate_check.specs.Given.{rows_for};
+ghost use Rattle.fate_departures.specs.Departures.{AreDepartures};
+ghost use Rattle.fate_departures.specs.Frames.{Packets};
+ghost use Rattle.fate_judge.specs.Judged.{Case, PassesAll};
+ghost use Rattle.fate_judge.specs.Walk.{EachRow};
+ghost use Rattle.fate_judge.specs.declared.given.Allowed.{Allowed};
+ghost use Rattle.fate_laws.specs.Plays.{AreSome, CanOccur, HasFrames, MarksAreAllowed};
+ghost use Rattle.fate_timely.specs.Timely.{StartsInTurn};
+ghost use Rattle.journal_laws.specs.Journal.{IsBusy, IsJournal};
+
+/// Rows that pass the tests of rows are at most as many as the packets; and where no packet is empty they are in turn: none starts
+/// before it arrives, nor before an earlier row. The function does nothing: it states its laws.
+pub fn rows_that_pass()
+    ensures in_turn { (c : Case) → AreSome c.arrived → PassesAll c → EachRow StartsInTurn [] c.rows }
+    ensures few { (c : Case) → PassesAll c → length c.rows ≤ length c.arrived }
+{}
+
+/// The rows of a journal that keeps the laws pass the tests of rows, where each fate can occur in its class; and those of a busy one
+/// start as soon as they can. The departures of a history whose sendings end in time are those of its rows, where it marked only
+/// packets that may be marked. The function does nothing: it states its laws.
+pub fn files_of_plays_pass()
+    ensures rows { (rate : ℕ) (classes : List Allowed) (arrived : List Arrival) (js : List Decision) → IsJournal rate (comings arrived) js
+        → CanOccur classes (comings arrived) js
+        → PassesAll (record { rate = rate; classes = classes; arrived = comings arrived; rows = rows_for arrived js }) }
+    ensures busy { (arrived : List Arrival) (js : List Decision) → IsBusy (comings arrived) js
+        → EachRow (StartsAtOnce (comings arrived) (rows_for arrived js)) [] (rows_for arrived js) }
+    ensures departures { (dress : Dressing) (p : Packets) (arrived : List Arrival) (g : List Happened) → HasFrames p arrived → IsInTime g
+        → MarksAreAllowed p arrived g → AreDepartures dress p (rows_for arrived (journal g)) (departures dress arrived g) }
+{}
