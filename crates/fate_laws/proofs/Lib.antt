@@ -1,3 +1,4 @@
 pub mod Departing
+pub mod OneDeparture
 pub mod Passing
 pub mod Turns
