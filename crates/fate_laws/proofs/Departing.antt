@@ -30,7 +30,7 @@ frame_is : (p : Packets) (arrived : List Arrival) (n : ℕ) → HasFrames p arri
 frame_is p arrived n e =
     ap (λ (fs : List (List ℕ)). option_map_or (λ (frame : List ℕ). frame) (slice_get fs (n - 1)) []) e ∙ frame_at arrived (n - 1)
 
-rows_append : (arrived : List Arrival) (xs ys : List Decision) → rows_for arrived (xs ++ ys) ≡ rows_for arrived xs ++ rows_for arrived ys
+pub rows_append : (arrived : List Arrival) (xs ys : List Decision) → rows_for arrived (xs ++ ys) ≡ rows_for arrived xs ++ rows_for arrived ys
 rows_append arrived [] ys = refl
 rows_append arrived (d ∷ xs) ys = ap (λ (rs : List Row). row_for arrived d ∷ rs) (rows_append arrived xs ys)
 

@@ -38,13 +38,13 @@ field_at f h same none [] k = none
 field_at f h same none (a ∷ arrived) zero = same a
 field_at f h same none (a ∷ arrived) (suc k) = field_at f h same none arrived k
 
-at_is : (arrived : List Arrival) (n : ℕ) → (arrival arrived n).at ≡ at_of (comings arrived) n
+pub at_is : (arrived : List Arrival) (n : ℕ) → (arrival arrived n).at ≡ at_of (comings arrived) n
 at_is arrived n = field_at (λ a. a.at) (λ a. a.at) (λ a. refl) refl arrived (n - 1)
 
-len_is : (arrived : List Arrival) (n : ℕ) → (arrival arrived n).len ≡ len_of (comings arrived) n
+pub len_is : (arrived : List Arrival) (n : ℕ) → (arrival arrived n).len ≡ len_of (comings arrived) n
 len_is arrived n = field_at (λ a. a.len) (λ a. a.len) (λ a. refl) refl arrived (n - 1)
 
-class_is : (arrived : List Arrival) (n : ℕ) → (arrival arrived n).class ≡ class_of (comings arrived) n
+pub class_is : (arrived : List Arrival) (n : ℕ) → (arrival arrived n).class ≡ class_of (comings arrived) n
 class_is arrived n = field_at (λ a. a.class) (λ a. a.class) (λ a. refl) refl arrived (n - 1)
 
 -- the numbers of a journal
