@@ -14,7 +14,7 @@ pub record Stands (dress : Dressing) (p : Packets) (rows : List Row) (i : ℕ) (
   pub whole : departures ≡ capture_header ++ (left ++ rest)
   pub passed : Leave dress p (take i rows) left
 
-leave_more : (dress : Dressing) (p : Packets) (rows : List Row) (r : Row) (left piece : List ℕ) → Leave dress p rows left → Leaves dress p r piece
+pub leave_more : (dress : Dressing) (p : Packets) (rows : List Row) (r : Row) (left piece : List ℕ) → Leave dress p rows left → Leaves dress p r piece
     → Leave dress p (rows ++ r ∷ []) (left ++ piece)
 leave_more dress p [] r left piece none l =
     (piece, [], ap (λ (xs : List ℕ). xs ++ piece) none ∙ sym (append-nil piece), l, refl)

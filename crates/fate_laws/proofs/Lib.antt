@@ -1,0 +1,5 @@
+pub mod Departing
+pub mod OneDeparture
+pub mod Passing
+pub mod Timing
+pub mod Turns
