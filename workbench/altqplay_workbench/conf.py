@@ -16,19 +16,15 @@ Class = namedtuple("Class", "name parent realtime share limit is_default")
 
 
 class Interface:
-    """An interface: `bandwidth` in bits per second, `discipline`, `classes` by name in the file's order, `fit`, the line
-    of `check` on the real-time curves, and `text`, all of its lines."""
+    """The interface of a name: `bandwidth` in bits per second, `discipline`, `classes` by name in the file's order, `fit`, the line
+    of `check` on the real-time curves, and `lines`, the canonical lines of its classes, each as its words."""
 
-    def __init__(self, lines):
-        _word, self.name, _bandwidth, number, self.discipline = lines[0].split()[:5]
-        self.bandwidth = int(number)
-        self.fit = next((line for line in lines if line == "fits" or line.startswith("exceeds ")), lines[-1])
-        self.text = lines
-        self.classes = {}
-        for line in lines[1:]:
-            words = line.split()
-            if words[0] == "class":
-                self.classes[words[3]] = class_of(words)
+    def __init__(self, text, name):
+        own = next(words for words in map(str.split, text) if words[:2] == ["interface", name])
+        self.name, self.bandwidth, self.discipline = name, int(own[3]), own[4]
+        self.fit = next((line for line in text if line == "fits" or line.startswith("exceeds ")), text[-1])
+        self.lines = [words for words in map(str.split, text) if words[0] == "class" and words[2] == name]
+        self.classes = {words[3]: class_of(words) for words in self.lines}
 
     def promised(self, name):
         """The real-time curve that holds of a class, which is not 0 everywhere; else None. The text has none of a class with children."""
@@ -60,4 +56,5 @@ def interface_named(config, interface):
 
 def read_conf(config, interface=None, program=None):
     """The interface of a configuration. `Refused` with what `check` said where it is refused."""
-    return Interface(check(config, interface_named(config, interface), program))
+    name = interface_named(config, interface)
+    return Interface(check(config, name, program), name)
