@@ -20,6 +20,7 @@ MODULES = {
     "delays": "delays",
     "import": "importing",
     "compare": "compare",
+    "why": "why",
     "sweep": "sweep",
 }
 REFUSED, MISSING = 2, 77

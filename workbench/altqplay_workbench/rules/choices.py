@@ -1,0 +1,46 @@
+"""What a discipline says of a choice, for those who ask why."""
+
+from __future__ import annotations
+
+from dataclasses import dataclass
+
+
+@dataclass
+class Contest:
+    """Candidates of a choice by a number of each, the first of whom was taken.
+
+    `measure` is what is compared, as "deadline", and `where` among whom: the children of a class, a priority, or all leaves. `first`
+    and `second` are names; the second and its number are None where there was no other candidate. `tie` says what decides
+    between equal numbers.
+    """
+
+    measure: str
+    where: str
+    first: str
+    value: int | None
+    second: str | None = None
+    second_value: int | None = None
+    tie: str = ""
+
+    @property
+    def by(self):
+        """By how much the second came behind; None where there was none, or one of both has no number."""
+        return None if self.second is None or None in (self.value, self.second_value) else self.second_value - self.value
+
+
+def contest(measure, where, ranked, tie):
+    """The contest of candidates in their order, each a name and a number."""
+    first, second = ranked[0], ranked[1] if len(ranked) > 1 else (None, None)
+    return Contest(measure, where, *first, *second, tie)
+
+
+@dataclass
+class Choice:
+    """Who is sent next: which member of a discipline, by which rule, and when it starts. `rivals` are the candidates where a choice
+    changes them too, as that of CBQ does."""
+
+    __slots__ = ("of", "rule", "start", "rivals")
+    of: object
+    rule: str
+    start: int
+    rivals: list

@@ -1,0 +1,171 @@
+"""HFSC (docs/HFSC.md): real time among the leaves, link sharing down the tree, and upper limits.
+
+A `Node` is a class with what its history makes of it. Moments that may never come are None.
+"""
+
+from collections import deque
+
+from .choices import Choice, contest
+from .curves import Openings
+from .units import BYTE
+
+NEVER = 2**200
+FILE_ORDER = "the class that stands earlier in the file"
+
+
+def openings_of(curve):
+    return None if curve is None else Openings(curve)
+
+
+class Node:
+    """A class: what waits in it, its real-time count and openings, its total, its virtual time, and its limit.
+
+    `soonest` and `deadline` are those of its head, NEVER where there is none. `within` is the moment from which it is within its limit, and
+    `opens` that from which some leaf at or below it is on an open path, as far as the classes from it down say.
+    """
+
+    def __init__(self, place, given):
+        self.place, self.name = place, given.name
+        self.parent, self.children, self.level = None, [], 0
+        self.waiting, self.is_active = deque(), False
+        self.real, self.count = openings_of(given.realtime), 0
+        self.soonest = self.deadline = NEVER
+        self.sharing, self.total, self.virtual, self.high = openings_of(given.share), 0, 0, 0
+        self.limiter, self.within, self.opens = openings_of(given.limit), 0, 0
+
+    def path(self):
+        """The class and those above it, up to the root."""
+        node = self
+        while node is not None:
+            yield node
+            node = node.parent
+
+    def renew_head(self):
+        """Reckons when the head is eligible, and its deadline."""
+        if self.real is not None and self.waiting:
+            soonest = self.real.soonest(self.count)
+            deadline = self.real.reaches(self.count + BYTE * self.waiting[0].length)
+            self.soonest = NEVER if soonest is None else soonest
+            self.deadline = NEVER if deadline is None else deadline
+        else:
+            self.soonest = self.deadline = NEVER
+
+    def renew_opens(self):
+        """Reckons from when on a leaf at or below may be served by share."""
+        below = min((child.opens for child in self.children if child.is_active), default=0)
+        self.opens = max(self.within, below)
+
+    def backlog(self):
+        """How many packets wait at or below it."""
+        return len(self.waiting) + sum(child.backlog() for child in self.children)
+
+
+class Wake:
+    """That a class becomes active: the virtual time that it takes, and from which numbers. `least` and `greatest` are those of
+    its active siblings, None where none is; then `high` is the high mark of its parent."""
+
+    def __init__(self, node):
+        self.node = node
+        active = [child.virtual for child in node.parent.children if child.is_active] if node.parent else []
+        self.least, self.greatest = (min(active), max(active)) if active else (None, None)
+        self.high, self.own = node.parent.high if node.parent else 0, node.virtual
+        self.virtual = max(self.own, (self.least + self.greatest) // 2 if active else self.high)
+
+
+class Hfsc:
+    """The choices of an interface with HFSC, over all that was kept and sent so far."""
+
+    def __init__(self, classes, link):
+        self.link = link
+        self.members = [Node(place, given) for place, given in enumerate(classes)]
+        for node, given in zip(self.members, classes):
+            if given.parent is not None:
+                node.parent = self.members[given.parent]
+                node.parent.children.append(node)
+                node.level = node.parent.level + 1
+        self.root = self.members[0]
+        self.real = [node for node in self.members if node.real is not None and not node.children]
+        self.has_limits = any(node.limiter for node in self.members)
+
+    def wakes(self, node):
+        """What becomes active where a packet is kept in a leaf, from the leaf up."""
+        return [Wake(above) for above in node.path() if not above.is_active]
+
+    def kept(self, node, packet):
+        """Takes a packet that a leaf's queue kept."""
+        node.waiting.append(packet)
+        if len(node.waiting) > 1:
+            return
+        for wake in self.wakes(node):
+            self.activate(wake.node, wake.virtual, packet.arrival)
+        if node.real is not None:
+            node.real.begin(packet.arrival, node.count)
+            node.renew_head()
+        self.renew_path(node)
+
+    def activate(self, node, virtual, arrival):
+        """Makes a class active. The root takes no virtual time."""
+        node.is_active = True
+        if node.parent is not None:
+            node.sharing.begin(virtual, node.total)
+            node.virtual = virtual
+            node.parent.high = max(node.parent.high, virtual)
+        if node.limiter is not None:
+            node.limiter.begin(arrival, node.total)
+            node.within = node.limiter.reaches(node.total)
+
+    def renew_path(self, node):
+        if self.has_limits:
+            for above in node.path():
+                above.renew_opens()
+
+    def least(self, now):
+        """The least moment from `now` on at which a leaf may send; None where nothing waits."""
+        if not self.root.is_active:
+            return None
+        if not self.has_limits:
+            return now
+        return max(now, min(self.root.opens, min((node.soonest for node in self.real), default=NEVER)))
+
+    def pick(self, start):
+        """Who sends at a moment at which some leaf may: the choice by real time, else by share."""
+        found = None
+        for node in self.real:
+            if node.soonest <= start and (found is None or node.deadline < found.deadline):
+                found = node
+        if found is not None:
+            return Choice(found, "realtime", start, [])
+        node = self.root
+        while node.children:
+            node = min((child for child in node.children if child.is_active and child.opens <= start), key=lambda child: (child.virtual, child.place))
+        return Choice(node, "share", start, [])
+
+    def sent(self, choice, packet, _end):
+        """Takes that the head of the choice is sent."""
+        node, units = choice.of, BYTE * packet.length
+        node.waiting.popleft()
+        for above in node.path():
+            above.total += units
+            above.is_active = bool(above.waiting) or any(child.is_active for child in above.children)
+            if above.parent is not None:
+                above.virtual = max(above.sharing.last[0], above.sharing.reaches(above.total))
+                above.parent.high = max(above.parent.high, above.virtual)
+            if above.limiter is not None:
+                above.within = above.limiter.reaches(above.total)
+        if choice.rule == "realtime":
+            node.count += units
+        node.renew_head()
+        self.renew_path(node)
+
+    def contests(self, choice):
+        """Among whom a choice was made: by real time the eligible leaves, by share the children of each class on the way down."""
+        if choice.rule == "realtime":
+            eligible = sorted((node for node in self.real if node.soonest <= choice.start), key=lambda node: (node.deadline, node.place))
+            ranked = [(node.name, None if node.deadline == NEVER else node.deadline) for node in eligible]
+            return [contest("deadline", "the eligible heads", ranked, FILE_ORDER)]
+        found = []
+        for node in list(choice.of.path())[-2::-1]:
+            rivals = [child for child in node.parent.children if child.is_active and child.opens <= choice.start]
+            rivals.sort(key=lambda child: (child.virtual, child.place))
+            found.append(contest("virtual time", f"the children of {node.parent.name}", [(child.name, child.virtual) for child in rivals], FILE_ORDER))
+        return found

@@ -1,0 +1,34 @@
+"""The link: one packet at a time, and the ends of its runs (docs/MANUAL.md, "What is played")."""
+
+from .units import time_of
+
+
+class Link:
+    """A link of a rate. It is free from `free` on; None before its first sending."""
+
+    __slots__ = ("rate", "free", "run", "length", "times")
+
+    def __init__(self, rate):
+        self.rate, self.free = rate, None
+        self.run, self.length = 0, 0  # when the last run began, and its bytes so far
+        self.times = {}
+
+    def time(self, length):
+        """The time of a packet by itself, rounded up."""
+        if length not in self.times:
+            self.times[length] = time_of(length, self.rate)
+        return self.times[length]
+
+    def end(self, start, length):
+        """When a packet would end that starts at a moment: that of its run, rounded up once."""
+        if start == self.free:
+            return self.run + time_of(self.length + length, self.rate)
+        return start + self.time(length)
+
+    def send(self, start, length):
+        """Sends a packet; answers its end."""
+        if start != self.free:
+            self.run, self.length = start, 0
+        self.length += length
+        self.free = self.run + time_of(self.length, self.rate)
+        return self.free

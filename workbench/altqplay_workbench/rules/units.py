@@ -1,0 +1,13 @@
+"""Units and what is reckoned with them. A slope of m bits per second gives m units in a nanosecond."""
+
+BYTE = 8 * 10**9  # units
+
+
+def ceil_div(number, divisor):
+    """A quotient, rounded up."""
+    return -(-number // divisor)
+
+
+def time_of(length, rate):
+    """The nanoseconds that some bytes take at a rate in bits per second, rounded up."""
+    return ceil_div(BYTE * length, rate)

@@ -1,0 +1,60 @@
+"""A decision with the numbers behind it, as lines."""
+
+from .why_tables import queue_table, table_of
+from .why_words import VERBS, of_opening, of_sending, of_verdict
+from .rules.play import Offer
+from .rules.queues import KEPT, MARKED
+
+
+def packet_text(packet, name):
+    return f"packet {packet.number} of {name}, {packet.length} bytes"
+
+
+class OfferPicture:
+    """An offer: made before it is taken, told behind that."""
+
+    def __init__(self, play, offer):
+        self.play, self.offer = play, offer
+        self.opening = of_opening(play, offer)
+
+    def lines(self):
+        return offer_lines(self.play, self.offer, self.opening)
+
+
+def offer_lines(play, offer, opening):
+    """An offer that was taken, with the lines on what it opened."""
+    verdict, packet, queue = offer.verdict, offer.packet, play.queues[offer.packet.place]
+    lines = [f"{packet.arrival}: {packet_text(packet, offer.of.name)}, {VERBS[verdict.word]}: {verdict.waiting} of at most {verdict.limit} wait"]
+    if verdict.moves:
+        lines += queue_table(queue, verdict)
+    lines += [f"  {line}" for line in of_verdict(offer, play.words.drawn)]
+    return lines + ([f"  {line}" for line in opening] if verdict.word in (KEPT, MARKED) else [])
+
+
+class SendingPicture:
+    """A sending: its table and its words are those before it is taken."""
+
+    def __init__(self, play, sending):
+        packet, choice = sending.packet, sending.choice
+        self.head = (f"{choice.start}: {packet_text(packet, choice.of.name)}, arrived at {packet.arrival}, is sent by {choice.rule}, to {sending.end}")
+        self.table, self.words = table_of(play, choice.start, sending), of_sending(play, sending)
+
+    def lines(self):
+        return [self.head, *self.table.lines(True), *(f"  {line}" for line in self.words)]
+
+
+def picture_of(play, decision):
+    """The picture of a decision that is not taken yet."""
+    return (OfferPicture if isinstance(decision, Offer) else SendingPicture)(play, decision)
+
+
+def state_lines(play, moment):
+    """What holds at a moment at which nothing is decided, behind all decisions before it."""
+    free = play.link.free
+    if free is not None and moment < free:
+        what = f"the link is busy until {free}"
+    elif play.discipline.least(moment) is None:
+        what = "nothing waits"
+    else:
+        what = f"the link waits until {play.discipline.least(moment)}, the least moment at which a class may send"
+    return [f"{moment}: nothing is decided: {what}", *table_of(play, moment).lines(False)]

@@ -1,0 +1,103 @@
+"""The numbers of each class as a table, as they were before a decision, for `why`. `-` stands where a class has no such number."""
+
+from .rules.hfsc import NEVER
+from .rules.units import BYTE
+
+
+def shown(value):
+    """A number of a table, or a word for one."""
+    return "-" if value is None else "none" if value == NEVER else str(value)
+
+
+def table(head, rows):
+    """The lines of a table: names to the left, numbers to the right. Columns without a number are left out."""
+    kept = [n for n in range(len(head)) if n == 0 or any(row[n] is not None for row in rows)]
+    texts = [[head[n] for n in kept]] + [[row[0] if n == 0 else shown(row[n]) for n in kept] for row in rows]
+    widths = [max(len(line[n]) for line in texts) for n in range(len(kept))]
+    return [("  " + line[0].ljust(widths[0]) + "".join("  " + text.rjust(width) for text, width in zip(line[1:], widths[1:]))).rstrip() for line in texts]
+
+
+def name_of(node):
+    """A class's name, moved in by its level."""
+    return "  " * node.level + node.name
+
+
+class HfscTable:
+    """Of each class: its backlog; of a leaf with a real-time curve its count, its eligible curve now, when its head is eligible and
+    its deadline; its total and virtual time; the moment from which its limit lets it be served; and its virtual time behind
+    the decision.
+    """
+
+    HEAD = ["class", "backlog", "count", "line", "eligible", "deadline", "total", "virtual", "limit", "open", "after"]
+
+    def __init__(self, discipline, moment, _decision):
+        self.discipline, self.moment = discipline, moment
+        self.rows = [self.row(node) for node in discipline.members]
+
+    def row(self, node):
+        real = node.real if node in self.discipline.real else None
+        line = real.eligible(self.moment) if real and real.last else None
+        waits = real is not None and bool(node.waiting)
+        limits = self.discipline.has_limits and node.is_active
+        return [name_of(node), node.backlog(), node.count if real else None, line, node.soonest if waits else None, node.deadline if waits else None,
+                node.total, node.virtual if node.parent else None, node.within if node.limiter and node.is_active else None,
+                node.opens if limits else None]
+
+    def lines(self, is_sending):
+        """The table behind the decision."""
+        after = [node.virtual if node.parent and is_sending else None for node in self.discipline.members]
+        return table(self.HEAD, [row + [value] for row, value in zip(self.rows, after)])
+
+
+class CbqTable:
+    """Of each class: its backlog, priority, average, the idle time of the packet that is sent where it is of the class or below it, and its
+    average behind that; the least moments at which it may send its head itself and on a loan; its credit, the rounds that its head needs,
+    and what is left of it behind the decision."""
+
+    HEAD = ["class", "backlog", "priority", "average", "idle", "after", "own", "loan", "quantum", "credit", "rounds", "left"]
+
+    def __init__(self, discipline, moment, decision):
+        self.discipline, self.moment, self.decision = discipline, moment, decision
+        self.path = list(decision.choice.of.path()) if decision else []
+        self.rows = [self.row(node) for node in discipline.members]
+
+    def row(self, node):
+        waits, has_average = bool(node.waiting), node.parent is not None
+        own = self.discipline.own_moment(node, self.moment) if waits else None
+        loan = self.discipline.loan(node, self.moment) if waits else None
+        idle = node.idle(self.decision.packet.length, self.decision.end) if node in self.path and has_average else None
+        return [name_of(node), node.backlog(), node.given.priority, node.average if has_average else None, idle, own, loan and loan[0],
+                node.quantum, node.credit, node.rounds() if waits else None]
+
+    def lines(self, is_sending):
+        """The table behind the decision."""
+        found = []
+        for node, row in zip(self.discipline.members, self.rows):
+            after = node.average if node in self.path and node.parent else None
+            found.append(row[:5] + [after] + row[5:] + [node.credit if is_sending else None])
+        return table(self.HEAD, found)
+
+
+def table_of(play, moment, sending=None):
+    """The table of a play's classes as they are at a moment, before a sending if there is one."""
+    is_cbq = play.discipline.__class__.__name__ == "Cbq"
+    return (CbqTable if is_cbq else HfscTable)(play.discipline, moment, sending)
+
+
+def queue_table(queue, verdict):
+    """How an arrival moved the averages of a queue; lines."""
+    moved, rows = {move.precedence: move for move in verdict.moves}, []
+    for place, (lower, upper) in enumerate(queue.thresholds):
+        move = moved.get(place)
+        if move is None:
+            rows.append([f"{place}", None, None, None, None, queue.averages[place], lower, upper, "not moved"])
+        else:
+            gain, taken = 4096 * move.waiting, move.before + 4096 * move.waiting - move.after
+            rows.append([f"{place}", move.waiting, None if move.waiting else move.steps, gain, taken, move.after, lower, upper, None])
+    head = ["precedence", "waits", "steps", "4096*q", "A/512", "average", "lower", "upper", ""]
+    return table(head, rows)
+
+
+def bytes_of(units):
+    """Units as bytes, where they are whole."""
+    return f"{units // BYTE} bytes" if units % BYTE == 0 else f"{units} units"
