@@ -40,11 +40,12 @@ def main(argv):
     for number in range(args.first, args.first + args.runs):
         with tempfile.TemporaryDirectory(prefix="altqplay-why-") as folder:
             replay = random_plays.replayed(random.Random(f"{args.seed} {number}"), number, folder, args.program)
-            counts.update(fate.fate for _row, fate in replay.question.rows)
-            if replay.otherwise is None:
+            counts.update([fate.fate for _row, fate in replay.question.rows] + ["marked"] * len(random_plays.marked(replay.play)))
+            found = random_plays.difference(replay, folder)
+            if found is None:
                 continue
             differing.append(number)
-            print(f"case {number} differs: row {replay.otherwise.row}: {replay.otherwise.fate}; by the rules {replay.otherwise.ours}", flush=True)
+            print(f"case {number} differs: {found}", flush=True)
             if args.keep:
                 shutil.copytree(folder, os.path.join(args.keep, str(number)))
     told = ", ".join(f"{count} {fate}" for fate, count in sorted(counts.items()))

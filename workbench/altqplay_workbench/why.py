@@ -58,7 +58,7 @@ class Told:
 
     def look(self, decision):
         """Looks at a decision before it is taken."""
-        moment, self.last_before = moment_of(decision), self.last
+        moment = moment_of(decision)
         if self.moments and self.moments[-1] < moment:
             self.passed(moment)
         self.last = decision

@@ -1,7 +1,8 @@
 """The numbers of each class as a table, as they were before a decision, for `why`. `-` stands where a class has no such number."""
 
+from .rules.cbq import Cbq
 from .rules.hfsc import NEVER
-from .rules.units import BYTE
+from .rules.queues import GAIN
 
 
 def shown(value):
@@ -57,7 +58,7 @@ class CbqTable:
     HEAD = ["class", "backlog", "priority", "average", "idle", "after", "own", "loan", "quantum", "credit", "rounds", "left"]
 
     def __init__(self, discipline, moment, decision):
-        self.discipline, self.moment, self.decision = discipline, moment, decision
+        self.discipline, self.moment, self.decision = discipline, max(moment, discipline.link.free or 0), decision
         self.path = list(decision.choice.of.path()) if decision else []
         self.rows = [self.row(node) for node in discipline.members]
 
@@ -80,24 +81,18 @@ class CbqTable:
 
 def table_of(play, moment, sending=None):
     """The table of a play's classes as they are at a moment, before a sending if there is one."""
-    is_cbq = play.discipline.__class__.__name__ == "Cbq"
-    return (CbqTable if is_cbq else HfscTable)(play.discipline, moment, sending)
+    return (CbqTable if isinstance(play.discipline, Cbq) else HfscTable)(play.discipline, moment, sending)
 
 
 def queue_table(queue, verdict):
-    """How an arrival moved the averages of a queue; lines."""
+    """How an arrival moved the averages of a queue; lines. An arrival moves that of its precedence and of the worse ones."""
     moved, rows = {move.precedence: move for move in verdict.moves}, []
+    is_rio = len(moved) < len(queue.thresholds)
     for place, (lower, upper) in enumerate(queue.thresholds):
-        move = moved.get(place)
-        if move is None:
-            rows.append([f"{place}", None, None, None, None, queue.averages[place], lower, upper, "not moved"])
-        else:
-            gain, taken = 4096 * move.waiting, move.before + 4096 * move.waiting - move.after
-            rows.append([f"{place}", move.waiting, None if move.waiting else move.steps, gain, taken, move.after, lower, upper, None])
-    head = ["precedence", "waits", "steps", "4096*q", "A/512", "average", "lower", "upper", ""]
-    return table(head, rows)
-
-
-def bytes_of(units):
-    """Units as bytes, where they are whole."""
-    return f"{units // BYTE} bytes" if units % BYTE == 0 else f"{units} units"
+        row = [None] * 4 + [queue.averages[place]]
+        if place in moved:
+            move = moved[place]
+            gain = GAIN * move.waiting
+            row = [move.waiting, None if move.waiting else move.steps, gain, move.before + gain - move.after, move.after]
+        rows.append([str(place), *row, lower, upper, ("yes" if place in moved else "no") if is_rio else None])
+    return table(["precedence", "waits", "steps", "4096*q", "A/512", "average", "lower", "upper", "moved"], rows)

@@ -18,6 +18,11 @@ def of_contest(contest, at):
     return text if contest.by is None else f"{text}, by {contest.by}"
 
 
+def by_file_order(contests):
+    """Who came second, where of equal ones the class that stands earlier in the file goes first."""
+    return [of_contest(one, f"{one.first} stands earlier in the file") for one in contests]
+
+
 def waited(play, sending):
     """The line on that the link waited, or none."""
     start = sending.choice.start
@@ -27,8 +32,8 @@ def waited(play, sending):
 def of_realtime(discipline, choice):
     """The lines on a sending by real time."""
     later = [node for node in discipline.real if node.waiting and choice.start < node.soonest]
-    lines = ["realtime: the eligible head of least deadline"] + [of_contest(one, f"{one.first} stands earlier in the file") for one in discipline.contests(choice)]
-    return lines + [not_eligible(later)] if later else lines
+    lines = ["realtime: the eligible head of least deadline"] + by_file_order(discipline.contests(choice))
+    return lines + ([not_eligible(later)] if later else [])
 
 
 def not_eligible(nodes):
@@ -42,7 +47,7 @@ def of_share(discipline, choice):
     waiting = [node for node in discipline.real if node.waiting]
     lines = ["share: no head is eligible" + ("" if waiting else "; none has a real-time curve")]
     lines += [not_eligible(waiting)] if waiting else []
-    lines += [of_contest(one, f"{one.first} stands earlier in the file") for one in discipline.contests(choice)]
+    lines += by_file_order(discipline.contests(choice))
     return lines + (["beyond their limits: " + ", ".join(f"{node.name} until {node.within}" for node in held)] if held else [])
 
 

@@ -37,6 +37,14 @@ def altqwork(capsys):
     return run
 
 
+@pytest.fixture
+def played(altqwork, program, tmp_path):
+    """Plays bursts of example/capture.py by the lines of a configuration; answers the play, which `why` can be asked of."""
+    from worked import Played
+
+    return lambda lines, bursts, seed=42: Played(altqwork, tmp_path, lines, bursts, seed)
+
+
 def data(name):
     """A stored file."""
     return os.path.join(HERE, "data", name)

@@ -9,7 +9,9 @@ from argparse import Namespace
 
 from conftest import classic, udp
 
+from altqplay_workbench.captures import records
 from altqplay_workbench.play import play
+from altqplay_workbench.rules.frames import type_of_service
 from altqplay_workbench.why_inputs import question
 from altqplay_workbench.why_replay import Replay
 
@@ -73,6 +75,24 @@ def tree(chance):
     return parents
 
 
+def crowded(chance):
+    """The statements of an interface with one to three classes that drop by RED, RED that marks or RIO, and packets that keep them full."""
+    rate, kind = chance.choice([3_000_000, 8_000_000]), chance.choice(["hfsc", "cbq"])
+    takers = list(range(1, chance.choice([2, 2, 3, 4])))
+    lines = [f"interface if0 bandwidth {rate} {kind}", f"class {kind} if0 c0 NULL"]
+    for place in takers:
+        part = rate // len(takers)
+        share = f"ls {part} 0 {part}" if kind == "hfsc" else f"exactbandwidth {part} borrow"
+        queue = f"{chance.choice(['red', 'ecn', 'rio'])} qlimit {chance.choice([60, 200, 300])}"
+        lines += [f"class {kind} if0 c{place} c0 {share} {queue}" + " default" * (place == 1), f"filter if0 c{place} 0 {5000 + place} 0 0 17"]
+    length, at, found = chance.choice([100, 1000]), chance.choice(ORIGINS), []
+    one, first = -(-8 * 10**9 * length // rate), chance.choice([30, 80, 150, 250])
+    for number in range(first + chance.choice([50, 200, 400])):
+        at += 0 if number < first else chance.choice([0, one, one, one + 1, chance.randrange(2 * one), chance.choice([0, 0, 0, 40 * one])])
+        found.append((at, frame(chance, 5000 + chance.choice(takers), length), length))
+    return lines, found
+
+
 def statements(chance):
     """The statements of an interface, and the places of the classes that take packets: UDP by port 5000 and its place."""
     rate, kind = chance.choice(RATES), chance.choice(["hfsc", "cbq"])
@@ -129,8 +149,12 @@ def packets(chance, rate, takers):
 
 def draw(chance):
     """The text of a configuration and the bytes of a capture."""
-    lines, rate, takers = statements(chance)
-    return "\n".join(lines) + "\n", classic(1, packets(chance, rate, takers))
+    if chance.random() < 0.2:
+        lines, found = crowded(chance)
+    else:
+        lines, rate, takers = statements(chance)
+        found = packets(chance, rate, takers)
+    return "\n".join(lines) + "\n", classic(1, found)
 
 
 def replayed(chance, seed, folder, program=None):
@@ -145,3 +169,27 @@ def replayed(chance, seed, folder, program=None):
     replay = Replay(question(Namespace(fates=fates, config=config, interface=None, program=program, arrivals=arrivals, seed=seed)))
     replay.decisions(lambda _decision: None)
     return replay
+
+
+def marked(play):
+    """The numbers of the packets that the queues of a play marked."""
+    return {number for queue in play.queues for number in getattr(queue, "marked", [])}
+
+
+def services(name):
+    """The type of service of each record of a capture, None where it has none."""
+    return [type_of_service(record.data) for record in records(name)]
+
+
+def difference(replay, folder):
+    """What differs between a play in a folder and the rules, in words, or None: a fate, or the mark of a packet that leaves."""
+    found = replay.otherwise
+    if found is not None:
+        return f"row {found.row}: {found.fate}; by the rules {found.ours}"
+    came, left = (services(os.path.join(folder, name)) for name in ("a.pcap", "departures.pcap"))
+    marks, sent = marked(replay.play), [fate.number for _row, fate in replay.question.rows if fate.start is not None]
+    for number, service in zip(sent, left):
+        own = came[number - 1]
+        if service != (own | 3 if number in marks and own is not None else own):
+            return f"packet {number} came with type of service {own} and leaves with {service}; by the rules " + ("marked" if number in marks else "as it came")
+    return None if len(left) == len(sent) else f"{len(sent)} sendings, {len(left)} departures"

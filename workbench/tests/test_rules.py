@@ -91,7 +91,7 @@ def test_worked_averages():
     ecn = queue_of(Queueing(50, "ecn"), 8 * MBIT)
     for capable, word in ((True, "marked"), (False, "early")):
         ecn.averages, ecn.counts, ecn.waiting = [20971520], [19], [10]
-        assert ecn.arrive(10, 0, SimpleNamespace(precedence=1, is_capable=capable), None).word == word and ecn.counts == [0]
+        assert ecn.arrive(10, 0, SimpleNamespace(number=1, precedence=1, is_capable=capable), None).word == word and ecn.counts == [0]
     rio = queue_of(Queueing(50, "rio"), 8 * MBIT)
     for waiting, packet in enumerate(SimpleNamespace(precedence=n, is_capable=False) for n in range(3)):
         assert rio.arrive(waiting, 0, packet, None).word == "kept"
@@ -120,7 +120,7 @@ def test_random_plays(program, tmp_path):
     @given(some.integers(0, 10**9))
     def holds(seed):
         replay = random_plays.replayed(random.Random(seed), seed, str(tmp_path))
-        assert replay.otherwise is None and replay.at == len(replay.question.rows)
+        assert random_plays.difference(replay, str(tmp_path)) is None and replay.at == len(replay.question.rows)
 
     holds()
 

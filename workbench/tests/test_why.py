@@ -1,81 +1,6 @@
-"""`why`: each worked row of docs/HFSC.md, CBQ.md and QUEUE-RULES.md is printed, and a play with one decision changed is caught at its row."""
+"""`why`: each worked row of docs/HFSC.md, CBQ.md and QUEUE-RULES.md is printed."""
 
-import subprocess
-
-import pytest
-from conftest import classic, example, udp
-
-from altqplay_workbench.play import play
-
-HFSC = ["interface if0 bandwidth 8M hfsc", "class hfsc if0 root NULL pshare 100"]
-CBQ = ["interface if0 bandwidth 8M cbq", "class cbq if0 root NULL pbandwidth 100"]
-TO_A = "filter if0 a 0 5004 0 0 udp"
-VOICE = HFSC + ["class hfsc if0 voice root [sc 4M 5 1M]", "class hfsc if0 data root [sc 0 5 4M] default", "filter if0 voice 0 5004 0 0 17"]
-QUARTER = HFSC + ["class hfsc if0 a root pshare 25", "class hfsc if0 b root pshare 75 default", TO_A]
-SURPLUS = HFSC + ["class hfsc if0 a root [sc 4M 0 4M]", "class hfsc if0 b root [sc 4M 0 4M] default", TO_A]
-HALVES = HFSC + ["class hfsc if0 a root pshare 50", "class hfsc if0 b root pshare 50 default", TO_A]
-LIMIT = HFSC + ["class hfsc if0 a root ls 8M 0 8M ul 2M 0 2M default"]
-PACED = CBQ + ["class cbq if0 a root exactbandwidth 1M maxburst 1 default"]
-ROUNDS = CBQ + ["class cbq if0 a root exactbandwidth 4M borrow default", "class cbq if0 b root exactbandwidth 2M borrow", "filter if0 b 0 5004 0 0 udp"]
-LOANS = CBQ + ["class cbq if0 org root exactbandwidth 4M maxburst 1 packetsize 512", "class cbq if0 a org exactbandwidth 250K maxburst 1 packetsize 1000 default"]
-BURST = HFSC + ["class hfsc if0 a root pshare 100 qlimit 4 red default"]
-
-
-def with_words(lines, place, words):
-    """A configuration with words more in one of its lines."""
-    return lines[:place] + [f"{lines[place]} {words}"] + lines[place + 1:]
-
-
-class Played:
-    """A play in a folder, and what `why` says of it."""
-
-    def __init__(self, altqwork, folder, lines, bursts, seed=42):
-        self.altqwork, self.seed = altqwork, seed
-        self.config, self.arrivals = folder / "c.conf", folder / "a.pcap"
-        self.config.write_text("\n".join(lines) + "\n")
-        subprocess.run(["python3", example("capture.py"), self.arrivals, *bursts.split()], check=True)
-        self.fates = play(str(self.config), "if0", str(self.arrivals), str(folder), seed).fates
-
-    def why(self, *words):
-        return self.altqwork("why", self.fates, self.config, "--arrivals", self.arrivals, "--seed", self.seed, *words)
-
-    def told(self, *words):
-        """What is said, where all fates are those of the rules."""
-        status, said, fault = self.why(*words)
-        assert (status, fault) == (0, "") and said.splitlines()[-1].endswith(" fates, all of them those of the rules")
-        return said
-
-    def sending(self, moment):
-        """The head, the numbers by class and column, and the words of the sending at a moment."""
-        lines = self.told("--at", moment).splitlines()
-        at = next(n for n, line in enumerate(lines) if " is sent by " in line)
-        return lines[at], numbers(lines[at + 1:]), "\n".join(lines[at + 2:-1])
-
-    def offer(self, packet):
-        """The head, the numbers by precedence and column, and the words of a packet's offer."""
-        lines = self.told("--packet", packet).splitlines()
-        end = next((n for n, line in enumerate(lines) if " is sent by " in line), len(lines) - 1)
-        return lines[0], numbers(lines[1:end]), "\n".join(lines[1:end])
-
-
-def numbers(lines):
-    """The numbers of a table, by the first word of each row and the head."""
-    found, head = {}, lines[0].split() if lines else []
-    for line in lines[1:]:
-        words = line.split()
-        if len(words) < len(head) or not all(word.lstrip("-").isdigit() or word in ("-", "none") for word in words[1:len(head)]):
-            break
-        found[words[0]] = dict(zip(head, words))
-    return found
-
-
-@pytest.fixture
-def played(altqwork, program, tmp_path):
-    return lambda lines, bursts, seed=42: Played(altqwork, tmp_path, lines, bursts, seed)
-
-
-def picked(numbers, *columns):
-    return [numbers[column] for column in columns]
+from worked import BURST, HALVES, LIMIT, LOANS, PACED, QUARTER, ROUNDS, SURPLUS, VOICE, picked, with_words
 
 
 def test_voice_beside_data(played):
@@ -136,8 +61,8 @@ def test_exercise_of_hfsc(played):
 
 def test_one_play_of_cbq(played):
     one = played(PACED, "5x1500@0")
-    rows = [(12000000, 0, 1500000, None, 12000000), (12000000, 1500000, 3000000, -10500000, 1125000), (1125000, 3000000, 4500000, -10500000, -9410156),
-            (-9410156, 24116089, 25616089, 9116089, 0), (0, 36116089, 37616089, 0, 0)]
+    rows = [(12000000, 0, 1500000, None, 12000000), (12000000, 1500000, 3000000, -10500000, 1125000),
+            (1125000, 3000000, 4500000, -10500000, -9410156), (-9410156, 24116089, 25616089, 9116089, 0), (0, 36116089, 37616089, 0, 0)]
     for before, start, end, idle, after in rows:
         head, by, words = one.sending(start)
         assert head.endswith(f"is sent by own, to {end}") and picked(by["a"], "average", "after") == [str(before), str(after)]
@@ -157,14 +82,16 @@ def test_rounds(played):
     rows = [(0, "a", 2, 4), (1500000, "a", 2, 2), (3000000, "b", 2, 0), (4500000, "a", 2, 4)]
     for start, name, of_a, of_b in rows:
         head, by, words = one.sending(start)
-        assert f" of {name}, " in head and picked(by["a"], "quantum", "rounds") == ["750", str(of_a)] and picked(by["b"], "quantum", "rounds") == ["375", str(of_b)]
+        assert f" of {name}, " in head and picked(by["a"], "quantum", "rounds") == ["750", str(of_a)]
+        assert picked(by["b"], "quantum", "rounds") == ["375", str(of_b)]
     assert "second b, rounds 4, by 2" in one.sending(0)[2] and "equal: the ring begins at a, which was sent last" in one.sending(1500000)[2]
 
 
 def test_exercise_of_cbq(played):
     one = played(LOANS, "4x1000@0")
     head, by, words = one.sending(1_000_000)
-    assert picked(by["a"], "average", "idle", "after") == ["32000000", "-31000000", "0"] and picked(by["org"], "average", "idle", "after") == ["1024000", "-1000000", "-8000"]
+    assert picked(by["a"], "average", "idle", "after") == ["32000000", "-31000000", "0"]
+    assert picked(by["org"], "average", "idle", "after") == ["1024000", "-1000000", "-8000"]
     assert one.sending(33_000_000)[0].endswith("to 34000000") and one.sending(65_000_000)[1]["a"]["after"] == "0"
     one = played(with_words(LOANS, 3, "borrow"), "4x1000@0")
     head, by, words = one.sending(3_007_750)
@@ -176,15 +103,16 @@ def test_exercise_of_cbq(played):
 
 def test_control_class_goes_first(played):
     lines = ["interface if0 bandwidth 10M cbq", "class cbq if0 root_class NULL priority 0 admission none pbandwidth 100",
-             "class cbq if0 ctl_class root_class priority 6 admission none pbandwidth 4 control", "class cbq if0 def_class root_class priority 1 borrow pbandwidth 95 default"]
+             "class cbq if0 ctl_class root_class priority 6 admission none pbandwidth 4 control",
+             "class cbq if0 def_class root_class priority 1 borrow pbandwidth 95 default"]
     head, by, words = played(lines, "1x1500@0:tcp 1x60@0:arp 1x98@0:icmp").sending(0)
     assert "packet 3 of ctl_class" in head and by["ctl_class"]["priority"] == "6" and "of lesser priority: def_class" in words
 
 
 def test_exercise_for_red(played):
     one = played(BURST, "6x1000@0 2x1000@8000000")
-    rows = [(0, 0, 0, 0, "is kept"), (1, 4096, 0, 4096, "is kept"), (2, 8192, 8, 12280, "is kept"), (3, 12288, 23, 24545, "is kept"), (4, 16384, 47, 40882, "is dropped full"),
-            (4, 16384, 79, 57187, "is dropped full"), (0, 0, 4 * 111 + 110, 56633, "is kept"), (1, 4096, 110, 60619, "is kept")]
+    rows = [(0, 0, 0, 0, "is kept"), (1, 4096, 0, 4096, "is kept"), (2, 8192, 8, 12280, "is kept"), (3, 12288, 23, 24545, "is kept"),
+            (4, 16384, 47, 40882, "is dropped full"), (4, 16384, 79, 57187, "is dropped full"), (0, 0, 4 * 111 + 110, 56633, "is kept"), (1, 4096, 110, 60619, "is kept")]
     for number, (waits, added, taken, average, verdict) in enumerate(rows, 1):
         head, by, words = one.offer(number)
         assert verdict in head and f": {waits} of at most 4 wait" in head
@@ -214,107 +142,3 @@ def test_words_of_red(played):
     assert "is kept and marked" in one.offer(99)[0] and "its transport is capable" in one.offer(99)[2]
     one = played([line.replace("qlimit 200 red", "qlimit 300 rio") for line in lines], "140x100@0:9000:0x38 140x100@0:9000:0x28")
     assert "is dropped early" in one.offer(99)[0] and "is dropped forced" in one.offer(140)[0] and "is kept" in one.offer(280)[0]
-
-
-# Plays in which a decision is changed by hand.
-PLAYS = [(VOICE, "12x1000@0 2x200@3000000:5004"), (QUARTER, "3x1000@0:5004 6x1000@0"), (LIMIT, "3x1000@0"), (PACED, "5x1500@0"),
-         (with_words(PACED, 2, "borrow"), "5x1500@0"), (ROUNDS, "3x1500@0 3x1500@0:5004"), (BURST, "6x1000@0 2x1000@8000000"),
-         ([line.replace("qlimit 4 red", "qlimit 90 ecn") for line in BURST], "140x100@0")]
-OTHER = {"realtime": "share", "share": "realtime", "own": "borrow", "borrow": "own", "full": "early", "early": "forced", "forced": "full"}
-
-
-def changes(row):
-    """A row with one decision changed: its rule, its start, its end, and whether it is sent at all."""
-    words = row.split(",")
-    found = [words[:4] + [OTHER[words[4]]] + words[5:]]
-    if words[5]:
-        found += [words[:5] + [str(int(words[5]) + 1), words[6]], words[:6] + [str(int(words[6]) + 1)], words[:4] + ["full", "", ""]]
-    else:
-        found += [words[:4] + ["share", words[1], str(int(words[1]) + 800000)]]
-    return [",".join(one) for one in found]
-
-
-@pytest.mark.parametrize("number", range(len(PLAYS)))
-def test_a_changed_decision_is_caught_at_its_row(played, tmp_path, number):
-    one = played(*PLAYS[number])
-    with open(one.fates, encoding="ascii") as file:
-        rows = file.read().splitlines()
-    one.told()
-    one.fates = str(tmp_path / "changed.csv")
-    for at in range(1, len(rows), 1 + len(rows) // 12):
-        for row in changes(rows[at]):
-            (tmp_path / "changed.csv").write_text("\n".join(rows[:at] + [row] + rows[at + 1:]) + "\n")
-            status, said, fault = one.why()
-            assert (status, fault) == (1, "") and f"changed.csv: row {at + 1}: {row}\nby the rules: " in said
-
-
-def test_two_sendings_that_changed_places(played, tmp_path):
-    one = played(QUARTER, "3x1000@0:5004 6x1000@0")
-    with open(one.fates, encoding="ascii") as file:
-        text = file.read()
-    one.fates = str(tmp_path / "theirs.csv")
-    (tmp_path / "theirs.csv").write_text(text.replace("2,0,1000,a,share,4", "X,0,1000,b,sent,4").replace("7,0,1000,b,share", "2,0,1000,a,sent").replace("X", "7"))
-    status, said, _fault = one.why()
-    assert status == 1 and "row 6: 7,0,1000,b,sent,4000000,5000000\nby the rules: 2,0,1000,a,share,4000000,5000000\npacket 2 stands in row 7\n" in said
-    assert "the children of root: a, virtual time 4000000; second b, virtual time 4000000, equal: a stands earlier in the file" in said
-
-
-def test_words_of_another_program(played, tmp_path):
-    one = played(BURST, "6x1000@0 2x1000@8000000")
-    with open(one.fates, encoding="ascii") as file:
-        text = file.read()
-    one.fates = str(tmp_path / "theirs.csv")
-    (tmp_path / "theirs.csv").write_text(text.replace(",share,", ",sent,").replace(",full,", ",dropped,"))
-    one.told()
-
-
-def test_rows_of_all_decisions(played, tmp_path):
-    one = played(VOICE, "12x1000@0 1x200@10000000:5004")
-    one.told("--csv", tmp_path / "d.csv")
-    rows = [line.split(",") for line in (tmp_path / "d.csv").read_text().splitlines()]
-    assert len(rows) == 1 + 2 * 13 and all(len(row) == len(rows[0]) for row in rows)
-    row = dict(zip(rows[0], next(row for row in rows if row[1:5] == ["10000000", "13", "voice", "realtime"])))
-    assert picked(row, "measure", "value", "second", "secondvalue", "by") == ["deadline", "10400000", "data", "17000000", "6600000"]
-    assert picked(row, "eligible", "deadline", "count", "virtual") == ["10000000", "10400000", "0", "25000000"]
-    assert [row[4] for row in rows[1:13]] == ["kept"] * 12
-
-
-def test_states_between_decisions(played):
-    one = played(QUARTER, "1x1000@0:5004 1x1000@5000000")
-    lines = one.told("--at", 500_000, "--at", 2_000_000, "--at", 7_000_000).splitlines()
-    assert [line for line in lines if "nothing is decided" in line] == [
-        "500000: nothing is decided: the link is busy until 1000000", "2000000: nothing is decided: nothing waits", "7000000: nothing is decided: nothing waits"]
-    assert numbers(lines[1:])["a"] == {"class": "a", "backlog": "0", "total": "8000000000000", "virtual": "4000000"}
-
-
-def test_an_interface_among_others(altqwork, program, tmp_path):
-    (tmp_path / "c.conf").write_text("\n".join(["interface if1 bandwidth 1M cbq", "class cbq if1 root NULL", "class cbq if1 a root pbandwidth 10 default", *QUARTER]) + "\n")
-    (tmp_path / "a.pcap").write_bytes(classic(1, [(0, bytes(12) + b"\x08\x00" + udp(5004, 986), 1000)]))
-    for name, rule in (("if0", "share"), ("if1", "own")):
-        fates = play(str(tmp_path / "c.conf"), name, str(tmp_path / "a.pcap"), str(tmp_path)).fates
-        status, said, _fault = altqwork("why", fates, tmp_path / "c.conf", "--interface", name, "--packet", 1)
-        assert status == 0 and f"is sent by {rule}" in said
-
-
-HEAD = "number,arrival,length,class,fate,start,end\n"
-
-
-@pytest.mark.parametrize("rows, words, why", [
-    ("1,0,60,b,share,0,60000\n1,0,60,b,full,,\n", [], "packet 1 has two fates"), ("2,0,60,b,share,0,60000\n", [], "packet 1 has no fate: a play that was cut off"),
-    ("1,0,60,c,share,0,60000\n", [], "row 2: c is no class of if0 that holds packets"), ("1,0,60,root,share,0,60000\n", [], "root is no class"),
-    ("1,5,60,b,share,5,60005\n2,4,60,b,full,,\n", [], "row 3: packet 2 arrives before packet 1"), ("1,0,0,b,share,0,0\n", [], "has no length"),
-    ("1,0,60,b,late,0,60000\n", [], "no fate: 'late'"), ("1,0,60,b,share,0,60000\n", ["--packet", "2"], "no packet 2: it has 1"),
-    ("1,0,60,b,share,0,60000\n", ["--arrivals", "A"], "record 1 arrives at 7 with 60 bytes, and the fates say otherwise"),
-    ("1,7,60,b,share,7,60007\n2,7,60,b,share,60007,120007\n", ["--arrivals", "A"], "1 records, and packet 2 has a fate")])
-def test_what_is_refused(altqwork, program, tmp_path, rows, words, why):
-    (tmp_path / "c.conf").write_text("\n".join(QUARTER) + "\n")
-    (tmp_path / "f.csv").write_text(HEAD + rows)
-    (tmp_path / "A").write_bytes(classic(1, [(7, bytes(60), 60)]))
-    status, said, fault = altqwork("why", tmp_path / "f.csv", tmp_path / "c.conf", *(tmp_path / word if word == "A" else word for word in words))
-    assert (status, said) == (2, "") and why in fault
-
-
-def test_what_looks_at_frames_needs_them(altqwork, program, tmp_path):
-    (tmp_path / "c.conf").write_text("\n".join(BURST).replace("red", "ecn") + "\n")
-    (tmp_path / "f.csv").write_text(HEAD)
-    assert "class a has ecn, which looks at each frame: name the capture with --arrivals" in altqwork("why", tmp_path / "f.csv", tmp_path / "c.conf")[2]

@@ -171,4 +171,4 @@ class Cbq:
     def contests(self, choice):
         """Among whom a choice was made: the classes of the greatest priority that may send, by their rounds."""
         ranked = [(node.name, node.rounds()) for node in choice.rivals]
-        return [contest("rounds", f"the classes of priority {choice.of.given.priority} that may send", ranked, "the ring")]
+        return [contest("rounds", f"the classes of priority {choice.of.given.priority} that may send", ranked)]

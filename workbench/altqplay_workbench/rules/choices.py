@@ -10,8 +10,7 @@ class Contest:
     """Candidates of a choice by a number of each, the first of whom was taken.
 
     `measure` is what is compared, as "deadline", and `where` among whom: the children of a class, a priority, or all leaves. `first`
-    and `second` are names; the second and its number are None where there was no other candidate. `tie` says what decides
-    between equal numbers.
+    and `second` are names; the second and its number are None where there was no other candidate.
     """
 
     measure: str
@@ -20,7 +19,6 @@ class Contest:
     value: int | None
     second: str | None = None
     second_value: int | None = None
-    tie: str = ""
 
     @property
     def by(self):
@@ -28,10 +26,10 @@ class Contest:
         return None if self.second is None or None in (self.value, self.second_value) else self.second_value - self.value
 
 
-def contest(measure, where, ranked, tie):
+def contest(measure, where, ranked):
     """The contest of candidates in their order, each a name and a number."""
     first, second = ranked[0], ranked[1] if len(ranked) > 1 else (None, None)
-    return Contest(measure, where, *first, *second, tie)
+    return Contest(measure, where, *first, *second)
 
 
 @dataclass

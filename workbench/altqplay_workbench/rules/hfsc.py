@@ -1,6 +1,6 @@
 """HFSC (docs/HFSC.md): real time among the leaves, link sharing down the tree, and upper limits.
 
-A `Node` is a class with what its history makes of it. Moments that may never come are None.
+A `Node` is a class with what its history makes of it. A moment that never comes is NEVER.
 """
 
 from collections import deque
@@ -10,7 +10,6 @@ from .curves import Openings
 from .units import BYTE
 
 NEVER = 2**200
-FILE_ORDER = "the class that stands earlier in the file"
 
 
 def openings_of(curve):
@@ -162,10 +161,10 @@ class Hfsc:
         if choice.rule == "realtime":
             eligible = sorted((node for node in self.real if node.soonest <= choice.start), key=lambda node: (node.deadline, node.place))
             ranked = [(node.name, None if node.deadline == NEVER else node.deadline) for node in eligible]
-            return [contest("deadline", "the eligible heads", ranked, FILE_ORDER)]
+            return [contest("deadline", "the eligible heads", ranked)]
         found = []
         for node in list(choice.of.path())[-2::-1]:
             rivals = [child for child in node.parent.children if child.is_active and child.opens <= choice.start]
             rivals.sort(key=lambda child: (child.virtual, child.place))
-            found.append(contest("virtual time", f"the children of {node.parent.name}", [(child.name, child.virtual) for child in rivals], FILE_ORDER))
+            found.append(contest("virtual time", f"the children of {node.parent.name}", [(child.name, child.virtual) for child in rivals]))
         return found

@@ -84,7 +84,7 @@ class Red:
     """
 
     def __init__(self, limit, rate, rule):
-        self.limit, self.marks = limit, rule == "ecn"
+        self.limit, self.marks, self.marked = limit, rule == "ecn", []  # the numbers of the packets that were marked
         self.thresholds = [(lower * PACKET, upper * PACKET) for lower, upper in (RIO if rule == "rio" else RED)]
         self.step = time_of(TYPICAL, rate)
         places = len(self.thresholds)
@@ -114,6 +114,7 @@ class Red:
         self.counts[place] = verdict.count
         if verdict.word == EARLY and self.marks and packet.is_capable:
             verdict.word = MARKED
+            self.marked.append(packet.number)
         return verdict
 
     def decide(self, verdict, average, words):
