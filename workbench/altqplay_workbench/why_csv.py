@@ -6,7 +6,7 @@ from .rules.hfsc import NEVER
 from .rules.play import Offer
 
 HEAD = ["decision", "moment", "packet", "class", "decided", "backlog", "measure", "value", "second", "secondvalue", "by",
-        "count", "eligible", "deadline", "total", "virtual", "limit", "average", "credit", "rounds", "precedence", "lower", "upper", "red", "word"]
+        "count", "eligible", "deadline", "total", "virtual", "limit", "average", "credit", "rounds", "precedence", "lower", "upper", "redcount", "word"]
 
 
 def number(value):
