@@ -13,22 +13,26 @@ others are those before it. A class with `ecn` or `rio` needs the capture, `red`
 is of, the fates tell. It needs no library, but altqplay, which says what the configuration means.
 """
 
+from __future__ import annotations
+
+from argparse import ArgumentParser, Namespace
+
 from .faults import Refused
 from .journals import row_text
 from .play import add_program
-from .rules.play import Offer
+from .rules.play import Offer, Sending
 from .why_csv import Rows
 from .why_inputs import question
 from .why_pictures import offer_lines, picture_of, state_lines
-from .why_replay import Replay
+from .why_replay import Behind, Replay
 
 NAME = "why"
 HELP = "the numbers behind a decision, and whether the fates are those of the rules"
 
 
-def add_arguments(parser):
+def add_arguments(parser: ArgumentParser) -> None:
     parser.add_argument("--packet", type=int, action="append", default=[], metavar="N", help="tells the offer and the sending of packet N")
-    parser.add_argument("--at", type=int, action="append", default=[], metavar="MOMENT", help="tells what is decided at this moment, or what holds then")
+    parser.add_argument("--at", type=int, action="append", default=[], metavar="MOMENT", help="tells what is decided at a moment, or holds then")
     parser.add_argument("--csv", metavar="FILE", help="writes a row for each decision, also for each packet that is kept")
     parser.add_argument("--arrivals", metavar="FILE", help="the capture that was played; only ecn and rio need it")
     parser.add_argument("--seed", type=int, default=42, metavar="N", help="the seed of the play, 42 by default")
@@ -37,26 +41,27 @@ def add_arguments(parser):
     parser.add_argument("config", metavar="CONFIG", help="its configuration")
 
 
-def moment_of(decision):
+def moment_of(decision: Offer | Sending) -> int:
+    """When a decision is made."""
     return decision.packet.arrival if isinstance(decision, Offer) else decision.choice.start
 
 
 class Told:
     """What is told of a replay: the pictures of the decisions that are asked for."""
 
-    def __init__(self, replay, args):
+    def __init__(self, replay: Replay, args: Namespace) -> None:
         self.replay, self.play, self.packets = replay, replay.play, set(args.packet)
         self.moments = sorted(set(args.at), reverse=True)  # those that are not passed yet, the next one last
         self.lines, self.last, self.has_picture = [], None, False
 
-    def passed(self, moment):
+    def passed(self, moment: int) -> None:
         """Tells what holds at the moments before one at which nothing was decided."""
         while self.moments and self.moments[-1] < moment:
             asked = self.moments.pop()
             if self.last is None or moment_of(self.last) != asked:
                 self.lines += state_lines(self.play, asked)
 
-    def look(self, decision):
+    def look(self, decision: Offer | Sending) -> Behind | None:
         """Looks at a decision before it is taken."""
         moment = moment_of(decision)
         if self.moments and self.moments[-1] < moment:
@@ -70,21 +75,21 @@ class Told:
         return lambda _decision: self.lines.extend(picture.lines())
 
 
-def otherwise_lines(told, name):
+def otherwise_lines(told: Told, name: str) -> list[str]:
     """The lines on the first difference."""
     found = told.replay.otherwise
-    lines = [f"{name}: row {found.row}: " + (row_text(found.fate) if found.fate else "no row, and the rules decide more")]
+    lines = [f"{name}: row {found.row}: {row_text(found.fate)}"]
     packet = told.last.packet
     if found.ours is not None:
         lines.append(f"by the rules: {row_text(found.ours)}")
         own = next((row for row, fate in told.replay.question.rows if fate.number == packet.number), None)
         lines += [f"packet {packet.number} stands in row {own}"] if own not in (None, found.row) else []
     else:
-        lines.append(f"by the rules: packet {packet.number} is kept" if isinstance(told.last, Offer) else "by the rules: nothing more is decided")
+        lines.append(f"by the rules: packet {packet.number} is kept")
     return lines + ([found.hint] if found.hint else [])
 
 
-def run(args):
+def run(args: Namespace) -> int:
     asked = question(args)
     wrong = [number for number in args.packet if not 1 <= number <= len(asked.packets)]
     if wrong:
@@ -100,12 +105,12 @@ def run(args):
     return 1 if replay.otherwise else 0
 
 
-def follow(replay, told, rows):
+def follow(replay: Replay, told: Told, rows: Rows | None) -> None:
     """Replays all, for the pictures and for the rows."""
     looks = [told.look] + ([rows.look] if rows else [])
 
-    def look(decision):
-        behind = [found for found in [look(decision) for look in looks] if found]
+    def look(decision: Offer | Sending) -> Behind | None:
+        behind = [found for found in [one(decision) for one in looks] if found]
         return (lambda taken: [found(taken) for found in behind]) if behind else None
 
     replay.decisions(look if rows else told.look)
@@ -115,7 +120,7 @@ def follow(replay, told, rows):
         told.lines += offer_lines(replay.play, told.last, [])
 
 
-def summary(told, args):
+def summary(told: Told, args: Namespace) -> list[str]:
     """The last lines: whether the fates are those of the rules."""
     replay = told.replay
     if replay.otherwise:

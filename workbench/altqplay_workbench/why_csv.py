@@ -1,26 +1,31 @@
 """All decisions of a play as comma-separated values, for `why --csv`: a row for each, with the numbers of its class before it."""
 
-import csv
+from __future__ import annotations
 
+import csv
+from typing import TextIO
+
+from .rules.choices import Contest
 from .rules.hfsc import NEVER
-from .rules.play import Offer
+from .rules.play import Offer, Play, Sending
+from .why_replay import Behind
 
 HEAD = ["decision", "moment", "packet", "class", "decided", "backlog", "measure", "value", "second", "secondvalue", "by",
         "count", "eligible", "deadline", "total", "virtual", "limit", "average", "credit", "rounds", "precedence", "lower", "upper", "redcount", "word"]
 
 
-def number(value):
+def number(value: int | None) -> int | str:
     """A number of a row; nothing where there is none."""
     return "" if value is None or value == NEVER else value
 
 
-def narrowest(contests):
+def narrowest(contests: list[Contest]) -> Contest | None:
     """Of the contests of a choice, level by level, the one in which the second came nearest; the last of them where nobody was second."""
     near = [one for one in contests if one.by is not None]
     return min(near, key=lambda one: one.by) if near else next((one for one in reversed(contests) if one.second), contests[-1] if contests else None)
 
 
-def sending_row(play, sending):
+def sending_row(play: Play, sending: Sending) -> list:
     """The words of a sending behind its number."""
     choice, node = sending.choice, sending.choice.of
     one = narrowest(play.discipline.contests(choice))
@@ -33,7 +38,7 @@ def sending_row(play, sending):
     return row + real + [node.total, node.virtual if node.parent else "", *limit] + [""] * 8
 
 
-def offer_row(offer):
+def offer_row(offer: Offer) -> list:
     """The words of an offer that was taken, behind its number."""
     verdict, packet = offer.verdict, offer.packet
     row = [packet.arrival, packet.number, offer.of.name, verdict.word, verdict.waiting] + [""] * 11
@@ -45,11 +50,11 @@ def offer_row(offer):
 class Rows:
     """The rows of all decisions, written to a file. `look` is called before each."""
 
-    def __init__(self, file, play):
+    def __init__(self, file: TextIO, play: Play) -> None:
         self.rows, self.play, self.count = csv.writer(file, lineterminator="\n"), play, 0
         self.rows.writerow(HEAD)
 
-    def look(self, decision):
+    def look(self, decision: Offer | Sending) -> Behind | None:
         """Writes the row of a sending; that of an offer follows behind it."""
         self.count += 1
         if isinstance(decision, Offer):
@@ -57,5 +62,6 @@ class Rows:
         self.rows.writerow([self.count, *sending_row(self.play, decision)])
         return None
 
-    def offered(self, offer):
+    def offered(self, offer: Offer) -> None:
+        """Writes the row of an offer that was taken."""
         self.rows.writerow([self.count, *offer_row(offer)])

@@ -2,6 +2,7 @@
 
 from __future__ import annotations
 
+from argparse import Namespace
 from dataclasses import dataclass
 
 from .captures import ETHERNET, records
@@ -11,7 +12,8 @@ from .journals import entry
 from .rows import FATES_HEAD, Fate, lines
 from .rules.classes import classes_of
 from .rules.frames import is_capable, precedence, type_of_service
-from .rules.play import Packet, Play
+from .rules.packets import Packet
+from .rules.play import Play
 
 
 @dataclass
@@ -24,12 +26,12 @@ class Question:
     packets: list[Packet]
     seed: int
 
-    def play(self):
+    def play(self) -> Play:
         """The play by the rules, before its first decision."""
         return Play(self.interface, self.packets, self.seed)
 
 
-def fates_of(name):
+def fates_of(name: str) -> list[tuple[int, Fate]]:
     """The rows of a file of fates, each with its number in the file. `sent` and `dropped` stand for any rule, as another program writes them."""
     found = [(number, entry(name, number, words)) for number, words in lines(name, FATES_HEAD)]
     numbers = {fate.number for _row, fate in found}
@@ -43,15 +45,15 @@ def fates_of(name):
     return found
 
 
-def places_of(interface):
+def places_of(interface: Interface) -> dict[str, int]:
     """The places of the classes that hold packets, by name."""
     classes = classes_of(interface)
     parents = {given.parent for given in classes}
     return {given.name: place for place, given in enumerate(classes) if interface.discipline == "cbq" or place not in parents}
 
 
-def packets_of(name, rows, interface, frames):
-    """The packets of some fates, in the order of the capture; `frames` is None, or the captured bytes of each."""
+def packets_of(name: str, rows: list[tuple[int, Fate]], interface: Interface, services: list[int | None] | None) -> list[Packet]:
+    """The packets of some fates, in the order of the capture; `services` is None, or the type of service of each."""
     places, found = places_of(interface), []
     for row, fate in sorted(rows, key=lambda pair: pair[1].number):
         if fate.name not in places:
@@ -60,32 +62,33 @@ def packets_of(name, rows, interface, frames):
             raise Refused(f"{name}: row {row}: packet {fate.number} arrives before packet {fate.number - 1}")
         if not fate.length:
             raise Refused(f"{name}: row {row}: packet {fate.number} has no length")
-        tos = type_of_service(frames[fate.number - 1]) if frames else None
+        tos = services[fate.number - 1] if services else None
         found.append(Packet(fate.number, fate.arrival, fate.length, places[fate.name], precedence(tos), is_capable(tos)))
     return found
 
 
-def frames_of(name, rows):
-    """The captured bytes of the records of a capture, which is refused where it is not that of some fates."""
+def services_of(name: str, rows: list[tuple[int, Fate]]) -> list[int | None]:
+    """The type of service of each record of a capture, which is refused where it is not that of some fates."""
     fates, latest, found = {fate.number: fate for _row, fate in rows}, 0, []
     for number, record in enumerate(records(name), 1):
         latest = max(latest, record.at)
         if record.link != ETHERNET:
             raise Refused(f"{name}: record {number} is not of Ethernet; altqwork convert makes such a capture")
-        if number in fates and (fates[number].arrival, fates[number].length) != (latest, max(record.length, len(record.data))):
-            raise Refused(f"{name}: record {number} arrives at {latest} with {max(record.length, len(record.data))} bytes, and the fates say otherwise")
-        found.append(record.data)
+        length = max(record.length, len(record.data))
+        if number in fates and (fates[number].arrival, fates[number].length) != (latest, length):
+            raise Refused(f"{name}: record {number} arrives at {latest} with {length} bytes, and the fates say otherwise")
+        found.append(type_of_service(record.data))
     if len(found) < len(rows):
         raise Refused(f"{name}: {len(found)} records, and packet {len(rows)} has a fate")
     return found
 
 
-def question(args):
+def question(args: Namespace) -> Question:
     """The question of some words."""
     interface = read_conf(args.config, args.interface, args.program)
     rows = fates_of(args.fates)
     asks = [given for given in classes_of(interface) if given.queue.rule in ("ecn", "rio")]
     if asks and args.arrivals is None:
         raise Refused(f"{args.config}: class {asks[0].name} has {asks[0].queue.rule}, which looks at each frame: name the capture with --arrivals")
-    frames = frames_of(args.arrivals, rows) if args.arrivals else None
-    return Question(args.fates, interface, rows, packets_of(args.fates, rows, interface, frames), args.seed)
+    services = services_of(args.arrivals, rows) if args.arrivals else None
+    return Question(args.fates, interface, rows, packets_of(args.fates, rows, interface, services), args.seed)

@@ -2,25 +2,32 @@
 
 from __future__ import annotations
 
+from collections.abc import Callable
 from dataclasses import dataclass
 
 from .rows import DROPPED, Fate
-from .rules.play import Offer
+from .rules.play import Offer, Sending
 from .rules.queues import KEPT, MARKED
+from .rules.tree import Member
+from .why_inputs import Question
+
+# What looks at a decision before it is taken, and what it answers: what is to be called behind it, or None.
+Behind = Callable[["Offer | Sending"], None]
+Look = Callable[["Offer | Sending"], "Behind | None"]
 
 
 @dataclass
 class Otherwise:
-    """That the rules decide otherwise than the fates: the row in the file and its fate, or None behind the last row, and what the rules
-    say in its place, `ours`, None where they decide nothing more."""
+    """That the rules decide otherwise than the fates: the row in the file and its fate, and what the rules say in its place, `ours`,
+    None where they keep a packet that it drops."""
 
     row: int
-    fate: Fate | None
+    fate: Fate
     ours: Fate | None
     hint: str = ""
 
 
-def fate_of(decision, members):
+def fate_of(decision: Offer | Sending, members: list[Member]) -> Fate | None:
     """The fate that a decision makes, or None where it keeps a packet."""
     packet = decision.packet
     shared = packet.number, packet.arrival, packet.length, members[packet.place].name
@@ -29,7 +36,7 @@ def fate_of(decision, members):
     return None if decision.verdict.word in (KEPT, MARKED) else Fate(*shared, decision.verdict.word, None, None)
 
 
-def is_same(ours, theirs):
+def is_same(ours: Fate, theirs: Fate) -> bool:
     """Whether a fate is that of the rules; `sent` and `dropped` are any."""
     plain = {"sent": ours.start is not None, "dropped": ours.start is None}
     return ours == theirs or (plain.get(theirs.fate, False) and ours == theirs._replace(fate=ours.fate))
@@ -38,30 +45,30 @@ def is_same(ours, theirs):
 class Replay:
     """A play by the rules beside the fates of a question. `otherwise` is the first difference, None as long as there is none."""
 
-    def __init__(self, question):
+    def __init__(self, question: Question) -> None:
         self.question, self.play = question, question.play()
-        self.count, self.at, self.otherwise = 0, 0, None
+        self.at = 0
+        self.otherwise: Otherwise | None = None
         self.dropped = {fate.number: (row, fate) for row, fate in question.rows if fate.fate in DROPPED or fate.fate == "dropped"}
 
-    def judge(self, decision):
+    def judge(self, decision: Offer | Sending) -> None:
         """Compares a decision with the fates; an offer has its verdict."""
         ours, rows = fate_of(decision, self.play.members), self.question.rows
         if ours is not None:
-            row, theirs = rows[self.at] if self.at < len(rows) else (len(rows) + 2, None)
+            row, theirs = rows[self.at]  # there is one: each packet has one fate, in the file and by the rules
             self.at += 1
-            if theirs is None or not is_same(ours, theirs):
+            if not is_same(ours, theirs):
                 self.otherwise = Otherwise(row, theirs, ours)
         elif decision.packet.number in self.dropped:
             self.otherwise = Otherwise(*self.dropped[decision.packet.number], None)
         if self.otherwise and isinstance(decision, Offer) and decision.verdict.drawn is not None:
             self.otherwise.hint = f"it was decided by a word of seed {self.question.seed}; --seed names another"
 
-    def decisions(self, look):
+    def decisions(self, look: Look) -> None:
         """Takes decision after decision, up to the first that is otherwise than the fates. `look(decision)` is called before each, and
         answers what is to be called behind it, or None."""
         play = self.play
         while self.otherwise is None and (decision := play.next()) is not None:
-            self.count += 1
             is_offer = isinstance(decision, Offer)
             if not is_offer:
                 self.judge(decision)
@@ -71,5 +78,3 @@ class Replay:
                 self.judge(decision)
             if behind is not None:
                 behind(decision)
-        if self.otherwise is None and self.at < len(self.question.rows):
-            self.otherwise = Otherwise(*self.question.rows[self.at], None)

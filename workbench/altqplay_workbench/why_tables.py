@@ -1,24 +1,29 @@
 """The numbers of each class as a table, as they were before a decision, for `why`. `-` stands where a class has no such number."""
 
+from __future__ import annotations
+
 from .rules.cbq import Cbq
-from .rules.hfsc import NEVER
-from .rules.queues import GAIN
+from .rules.hfsc import NEVER, Hfsc, Node
+from .rules.play import Play, Sending
+from .rules.queues import GAIN, Red, Verdict
+from .rules.tree import Member
 
 
-def shown(value):
+def shown(value: int | str | None) -> str:
     """A number of a table, or a word for one."""
     return "-" if value is None else "none" if value == NEVER else str(value)
 
 
-def table(head, rows):
+def table(head: list[str], rows: list[list]) -> list[str]:
     """The lines of a table: names to the left, numbers to the right. Columns without a number are left out."""
     kept = [n for n in range(len(head)) if n == 0 or any(row[n] is not None for row in rows)]
     texts = [[head[n] for n in kept]] + [[row[0] if n == 0 else shown(row[n]) for n in kept] for row in rows]
     widths = [max(len(line[n]) for line in texts) for n in range(len(kept))]
-    return [("  " + line[0].ljust(widths[0]) + "".join("  " + text.rjust(width) for text, width in zip(line[1:], widths[1:]))).rstrip() for line in texts]
+    padded = [[line[0].ljust(widths[0])] + [text.rjust(width) for text, width in zip(line[1:], widths[1:])] for line in texts]
+    return ["  " + "  ".join(line).rstrip() for line in padded]
 
 
-def name_of(node):
+def name_of(node: Member) -> str:
     """A class's name, moved in by its level."""
     return "  " * node.level + node.name
 
@@ -31,11 +36,12 @@ class HfscTable:
 
     HEAD = ["class", "backlog", "count", "line", "eligible", "deadline", "total", "virtual", "limit", "open", "after"]
 
-    def __init__(self, discipline, moment, _decision):
+    def __init__(self, discipline: Hfsc, moment: int, _sending: Sending | None) -> None:
         self.discipline, self.moment = discipline, moment
         self.rows = [self.row(node) for node in discipline.members]
 
-    def row(self, node):
+    def row(self, node: Node) -> list:
+        """The numbers of a class before the decision."""
         real = node.real if node in self.discipline.real else None
         line = real.eligible(self.moment) if real and real.last else None
         waits = real is not None and bool(node.waiting)
@@ -44,7 +50,7 @@ class HfscTable:
                 node.total, node.virtual if node.parent else None, node.within if node.limiter and node.is_active else None,
                 node.opens if limits else None]
 
-    def lines(self, is_sending):
+    def lines(self, is_sending: bool) -> list[str]:
         """The table behind the decision."""
         after = [node.virtual if node.parent and is_sending else None for node in self.discipline.members]
         return table(self.HEAD, [row + [value] for row, value in zip(self.rows, after)])
@@ -57,20 +63,21 @@ class CbqTable:
 
     HEAD = ["class", "backlog", "priority", "average", "idle", "after", "own", "loan", "quantum", "credit", "rounds", "left"]
 
-    def __init__(self, discipline, moment, decision):
-        self.discipline, self.moment, self.decision = discipline, max(moment, discipline.link.free or 0), decision
-        self.path = list(decision.choice.of.path()) if decision else []
+    def __init__(self, discipline: Cbq, moment: int, sending: Sending | None) -> None:
+        self.discipline, self.moment, self.sending = discipline, max(moment, discipline.link.free or 0), sending
+        self.path = list(sending.choice.of.path()) if sending else []
         self.rows = [self.row(node) for node in discipline.members]
 
-    def row(self, node):
+    def row(self, node: Member) -> list:
+        """The numbers of a class before the decision."""
         waits, has_average = bool(node.waiting), node.parent is not None
         own = self.discipline.own_moment(node, self.moment) if waits else None
         loan = self.discipline.loan(node, self.moment) if waits else None
-        idle = node.idle(self.decision.packet.length, self.decision.end) if node in self.path and has_average else None
+        idle = node.idle(self.sending.packet.length, self.sending.end) if node in self.path and has_average else None
         return [name_of(node), node.backlog(), node.given.priority, node.average if has_average else None, idle, own, loan and loan[0],
                 node.quantum, node.credit, node.rounds() if waits else None]
 
-    def lines(self, is_sending):
+    def lines(self, is_sending: bool) -> list[str]:
         """The table behind the decision."""
         found = []
         for node, row in zip(self.discipline.members, self.rows):
@@ -79,12 +86,12 @@ class CbqTable:
         return table(self.HEAD, found)
 
 
-def table_of(play, moment, sending=None):
+def table_of(play: Play, moment: int, sending: Sending | None = None) -> HfscTable | CbqTable:
     """The table of a play's classes as they are at a moment, before a sending if there is one."""
     return (CbqTable if isinstance(play.discipline, Cbq) else HfscTable)(play.discipline, moment, sending)
 
 
-def queue_table(queue, verdict):
+def queue_table(queue: Red, verdict: Verdict) -> list[str]:
     """How an arrival moved the averages of a queue; lines. An arrival moves that of its precedence and of the worse ones."""
     moved, rows = {move.precedence: move for move in verdict.moves}, []
     is_rio = len(moved) < len(queue.thresholds)

@@ -1,11 +1,16 @@
 """What `why` says of a decision in words: which rule fired, who came second, and by how much."""
 
-from .rules.cbq import needed
-from .rules.hfsc import NEVER
-from .rules.queues import EARLY, FORCED, FULL, KEPT, MARKED
+from __future__ import annotations
+
+from .rules.cbq import Cbq, needed
+from .rules.cbq import Node as CbqNode
+from .rules.choices import Choice, Contest
+from .rules.hfsc import NEVER, Hfsc, Node, Wake
+from .rules.play import Offer, Play, Sending
+from .rules.queues import EARLY, FORCED, FULL, KEPT, MARKED, Verdict
 
 
-def of_contest(contest, at):
+def of_contest(contest: Contest, at: str) -> str:
     """Who came second. `at` says what decides between equals."""
     first = contest.value if contest.value is not None else "none"
     text = f"{contest.where}: {contest.first}, {contest.measure} {first}"
@@ -18,30 +23,30 @@ def of_contest(contest, at):
     return text if contest.by is None else f"{text}, by {contest.by}"
 
 
-def by_file_order(contests):
+def by_file_order(contests: list[Contest]) -> list[str]:
     """Who came second, where of equal ones the class that stands earlier in the file goes first."""
     return [of_contest(one, f"{one.first} stands earlier in the file") for one in contests]
 
 
-def waited(play, sending):
+def waited(play: Play, sending: Sending) -> list[str]:
     """The line on that the link waited, or none."""
     start = sending.choice.start
     return [f"the link waited from {play.now} on: {start} is the least moment at which a class may send"] if start > play.now else []
 
 
-def of_realtime(discipline, choice):
+def of_realtime(discipline: Hfsc, choice: Choice) -> list[str]:
     """The lines on a sending by real time."""
     later = [node for node in discipline.real if node.waiting and choice.start < node.soonest]
     lines = ["realtime: the eligible head of least deadline"] + by_file_order(discipline.contests(choice))
     return lines + ([not_eligible(later)] if later else [])
 
 
-def not_eligible(nodes):
+def not_eligible(nodes: list[Node]) -> str:
     """The line on heads that are not eligible yet."""
     return "not eligible: " + ", ".join(f"{node.name} " + ("for good" if node.soonest == NEVER else f"before {node.soonest}") for node in nodes)
 
 
-def of_share(discipline, choice):
+def of_share(discipline: Hfsc, choice: Choice) -> list[str]:
     """The lines on a sending by share."""
     held = [node for node in discipline.members if node.is_active and node.within > choice.start]
     waiting = [node for node in discipline.real if node.waiting]
@@ -51,7 +56,7 @@ def of_share(discipline, choice):
     return lines + (["beyond their limits: " + ", ".join(f"{node.name} until {node.within}" for node in held)] if held else [])
 
 
-def of_cbq(discipline, choice):
+def of_cbq(discipline: Cbq, choice: Choice) -> list[str]:
     """The lines on a sending of CBQ."""
     node, start = choice.of, choice.start
     if choice.rule == "borrow":
@@ -62,15 +67,15 @@ def of_cbq(discipline, choice):
         lines = ["own: " + allows(discipline, node, node.waiting[0].length, start)]
     priority = node.given.priority
     cursor = discipline.cursors.get(priority)
-    ring = "the ring begins at " + ("the file's first class" if cursor is None else f"{discipline.members[cursor].name}, which was sent last of its priority")
-    lines += [of_contest(one, ring) for one in discipline.contests(choice)]
+    first = "the file's first class" if cursor is None else f"{discipline.members[cursor].name}, which was sent last of its priority"
+    lines += [of_contest(one, f"the ring begins at {first}") for one in discipline.contests(choice)]
     able = [other for other, moment in discipline.moments(start) if moment <= start and other not in choice.rivals]
     lines += ["of lesser priority: " + ", ".join(other.name for other in able)] if able else []
     held = [(other, moment) for other, moment in discipline.moments(start) if moment > start]
     return lines + (["held back: " + ", ".join(f"{other.name} until {moment}" for other, moment in held)] if held else [])
 
 
-def allows(discipline, node, length, start):
+def allows(discipline: Cbq, node: CbqNode, length: int, start: int) -> str:
     """Why a class allows a packet."""
     if node.parent is None:
         return f"{node.name} is the root, which is never held back"
@@ -80,13 +85,13 @@ def allows(discipline, node, length, start):
     return f"the average of {node.name}, {node.average}, asks for an idle time of {needed(node.average)}, and the packet leaves {idle}"
 
 
-def of_sending(play, sending):
+def of_sending(play: Play, sending: Sending) -> list[str]:
     """The lines on a sending, before it is taken."""
     by_rule = {"realtime": of_realtime, "share": of_share}
     return by_rule.get(sending.choice.rule, of_cbq)(play.discipline, sending.choice) + waited(play, sending)
 
 
-def of_wake(wake):
+def of_wake(wake: Wake) -> str:
     """The line on the virtual time that a class takes."""
     if wake.least is not None:
         middle = (wake.least + wake.greatest) // 2
@@ -98,7 +103,7 @@ def of_wake(wake):
     return f"{wake.node.name} becomes active at virtual time {wake.virtual}, {what}"
 
 
-def of_opening(play, offer):
+def of_opening(play: Play, offer: Offer) -> list[str]:
     """The lines on what becomes active, and which leaf opens, where a packet is kept. Before it is taken."""
     node = offer.of
     lines = [of_wake(wake) for wake in play.discipline.wakes(node) if wake.node.parent is not None]
@@ -108,7 +113,7 @@ def of_opening(play, offer):
     return lines
 
 
-def of_thresholds(verdict):
+def of_thresholds(verdict: Verdict) -> str:
     """The line on where the average stands."""
     average, lower, upper = verdict.average, verdict.lower, verdict.upper
     if verdict.word == FORCED:
@@ -118,7 +123,7 @@ def of_thresholds(verdict):
     return f"the average {average} is over the lower threshold {lower} by {verdict.over}, and below the upper one {upper} by {upper - average}"
 
 
-def of_spacing(verdict, drawn):
+def of_spacing(verdict: Verdict, drawn: int) -> list[str]:
     """The lines on the spacing of early drops, and on the word."""
     lines = [f"d = 10 * {verdict.upper - verdict.lower} - {verdict.risen} * {verdict.over} = {verdict.spacing}"]
     if verdict.drawn is None:
@@ -128,7 +133,7 @@ def of_spacing(verdict, drawn):
     return lines + [f"word {drawn} of the seed, {verdict.drawn}: word * d = {left}, 2^32 * {verdict.over} = {right}, {what}"]
 
 
-def of_verdict(offer, drawn):
+def of_verdict(offer: Offer, drawn: int) -> list[str]:
     """The lines on a queue's verdict; `drawn` is how many words were drawn by then."""
     verdict = offer.verdict
     if verdict.word == FULL:

@@ -3,9 +3,15 @@
 A `Node` is a class with what its history makes of it.
 """
 
-from collections import deque
+from __future__ import annotations
 
-from .choices import Choice, contest
+from collections.abc import Iterator, Sequence
+
+from .choices import Choice, Contest, contest
+from .classes import CbqClass
+from .link import Link
+from .packets import Packet
+from .tree import Member, joined
 from .units import ceil_div, time_of
 
 AVERAGE = 32  # an average is so many times that of the idle times, and moves by a part of so many
@@ -13,50 +19,44 @@ ROUND = 1500  # bytes that the link's rate gains in a round
 OWN, BORROW = "own", "borrow"
 
 
-def needed(average):
+def needed(average: int) -> int:
     """The idle time that an average of 0 or less asks for."""
     return ceil_div((AVERAGE - 1) * -average, AVERAGE)
 
 
-def moved(average, idle, cap):
+def moved(average: int, idle: int, cap: int) -> int:
     """An average after a packet."""
     part = abs(average) // AVERAGE
     return min(cap, average - (part if average > 0 else -part) + idle)
 
 
-class Node:
+class Node(Member):
     """A class: what waits in it, its average, the last end of it or below it, None before one, and its credit."""
 
-    def __init__(self, place, given, rate):
-        self.place, self.name, self.given = place, given.name, given
-        self.parent, self.children, self.level = None, [], 0
-        self.waiting = deque()
+    def __init__(self, place: int, given: CbqClass, rate: int) -> None:
+        super().__init__(place, given)
+        self.given = given
         self.cap = given.maxburst * time_of(given.packetsize, given.rate)
-        self.average, self.ended, self.ends = self.cap, None, {}
+        self.average = self.cap
+        self.ended: int | None = None
+        self.ends: dict[int, int] = {}
         self.credit, self.quantum = 0, max(1, ceil_div(ROUND * given.rate, rate))
 
-    def path(self):
-        """The class and those above it, up to the root."""
-        node = self
-        while node is not None:
-            yield node
-            node = node.parent
-
-    def backlog(self):
+    def backlog(self) -> int:
         """How many packets wait in it."""
         return len(self.waiting)
 
-    def idle(self, length, end):
+    def idle(self, length: int, end: int) -> int | None:
         """The idle time of a packet that ends at a moment; None for the first one."""
         return None if self.ended is None else end - self.ended - time_of(length, self.given.rate)
 
-    def wanted(self, length):
+    def wanted(self, length: int) -> int:
         """Where its average is 0 or less, the least end of a packet that it allows. Told once for a length until its average moves."""
         if length not in self.ends:
             self.ends[length] = self.ended + time_of(length, self.given.rate) + needed(self.average)
         return self.ends[length]
 
-    def allowed(self, length, now, link):
+    def allowed(self, length: int, now: int, link: Link) -> int:
         """The least moment from `now` on at which it allows a packet to start; `now` is no earlier than the link is free.
 
         A packet that goes on with a run may end sooner than by its own time, so the moment of the last end is looked at by itself.
@@ -68,51 +68,49 @@ class Node:
             return now
         return max(now + 1 if now == link.free else now, wanted - link.time(length))
 
-    def take(self, length, end):
+    def take(self, length: int, end: int) -> None:
         """Takes that a packet of it or of a class below it ends."""
         if self.ended is not None:
             self.average = moved(self.average, self.idle(length, end), self.cap)
         self.ended, self.ends = end, {}
 
-    def lenders(self):
+    def lenders(self) -> Iterator[Node]:
         """The classes that may lend to it, from its parent up."""
         node = self
         while node.given.borrows and node.parent is not None:
             node = node.parent
             yield node
 
-    def rounds(self):
+    def rounds(self) -> int:
         """How many rounds its credit needs to pay for its head."""
-        return max(0, ceil_div(self.waiting[0].length - self.credit, self.quantum))
+        short = self.waiting[0].length - self.credit
+        return ceil_div(short, self.quantum) if short > 0 else 0
 
 
 class Cbq:
     """The choices of an interface with CBQ, over all that was kept and sent so far."""
 
-    def __init__(self, classes, link):
+    def __init__(self, classes: Sequence[CbqClass], link: Link) -> None:
         self.link = link
-        self.members = [Node(place, given, link.rate) for place, given in enumerate(classes)]
-        for node, given in zip(self.members, classes):
-            if given.parent is not None:
-                node.parent = self.members[given.parent]
-                node.parent.children.append(node)
-                node.level = node.parent.level + 1
-        self.cursors = {}  # the place of the class of a priority that was sent last
-        self.asked, self.told = None, []
+        self.members = joined([Node(place, given, link.rate) for place, given in enumerate(classes)], classes)
+        self.cursors: dict[int, int] = {}  # the place of the class of a priority that was sent last
+        self.asked: int | None = None
+        self.told: list[tuple[Node, int]] = []
 
-    def wakes(self, _node):
+    def wakes(self, _node: Node) -> list:
         """Nothing is reckoned where a class begins to wait."""
         return []
 
-    def kept(self, node, packet):
+    def kept(self, node: Node, packet: Packet) -> None:
+        """Takes a packet that a class's queue kept."""
         node.waiting.append(packet)
         self.asked = None
 
-    def own_moment(self, node, now):
+    def own_moment(self, node: Node, now: int) -> int:
         """The least moment from `now` on at which a class that waits may send its head itself."""
         return node.allowed(node.waiting[0].length, now, self.link)
 
-    def loan(self, node, now):
+    def loan(self, node: Node, now: int) -> tuple[int, Node] | None:
         """The least moment from `now` on at which a class above one that waits lends for its head, and the nearest that does then. None
         where nobody lends."""
         found = None
@@ -124,39 +122,42 @@ class Cbq:
                 break
         return found
 
-    def moment(self, node, now):
+    def moment(self, node: Node, now: int) -> int:
         """The least moment from `now` on at which a class that waits may send its head."""
+        if node.average > 0 or node.parent is None:
+            return now
         own = self.own_moment(node, now)
         loan = None if own <= now else self.loan(node, now)
         return own if loan is None else min(own, loan[0])
 
-    def moments(self, now):
+    def moments(self, now: int) -> list[tuple[Node, int]]:
         """The classes that wait, each with the least moment from `now` on at which it may send. Told once until something changes."""
         if self.asked != now:
             self.asked, self.told = now, [(node, self.moment(node, now)) for node in self.members if node.waiting]
         return self.told
 
-    def least(self, now):
+    def least(self, now: int) -> int | None:
         """The least moment from `now` on at which a class may send; None where nothing waits."""
         return min((moment for _node, moment in self.moments(now)), default=None)
 
-    def ring(self, node):
+    def ring(self, node: Node) -> int:
         """How far behind its priority's cursor a class stands: 0 is the class that was sent last."""
         return (node.place - self.cursors.get(node.given.priority, 0)) % len(self.members)
 
-    def candidates(self, start):
+    def candidates(self, start: int) -> list[Node]:
         """The classes of the greatest priority that may send at a moment, in the order in which they would."""
         able = [node for node, moment in self.moments(start) if moment <= start]
         first = max(node.given.priority for node in able)
-        return sorted((node for node in able if node.given.priority == first), key=lambda node: (node.rounds(), self.ring(node)))
+        rivals = [node for node in able if node.given.priority == first]
+        return sorted(rivals, key=lambda node: (node.rounds(), self.ring(node))) if len(rivals) > 1 else rivals
 
-    def pick(self, start):
+    def pick(self, start: int) -> Choice:
         """Who sends at a moment at which some class may."""
         candidates = self.candidates(start)
         node = candidates[0]
         return Choice(node, OWN if self.own_moment(node, start) <= start else BORROW, start, candidates)
 
-    def sent(self, choice, packet, end):
+    def sent(self, choice: Choice, packet: Packet, end: int) -> None:
         """Takes that the head of the choice is sent."""
         node, rounds = choice.of, choice.of.rounds()
         self.asked = None
@@ -168,7 +169,7 @@ class Cbq:
         for above in node.path():
             above.take(packet.length, end)
 
-    def contests(self, choice):
+    def contests(self, choice: Choice) -> list[Contest]:
         """Among whom a choice was made: the classes of the greatest priority that may send, by their rounds."""
         ranked = [(node.name, node.rounds()) for node in choice.rivals]
         return [contest("rounds", f"the classes of priority {choice.of.given.priority} that may send", ranked)]

@@ -4,6 +4,8 @@ from __future__ import annotations
 
 from dataclasses import dataclass
 
+from .tree import Member
+
 
 @dataclass
 class Contest:
@@ -21,12 +23,12 @@ class Contest:
     second_value: int | None = None
 
     @property
-    def by(self):
+    def by(self) -> int | None:
         """By how much the second came behind; None where there was none, or one of both has no number."""
         return None if self.second is None or None in (self.value, self.second_value) else self.second_value - self.value
 
 
-def contest(measure, where, ranked):
+def contest(measure: str, where: str, ranked: list[tuple[str, int | None]]) -> Contest:
     """The contest of candidates in their order, each a name and a number."""
     first, second = ranked[0], ranked[1] if len(ranked) > 1 else (None, None)
     return Contest(measure, where, *first, *second)
@@ -38,7 +40,7 @@ class Choice:
     changes them too, as that of CBQ does."""
 
     __slots__ = ("of", "rule", "start", "rivals")
-    of: object
+    of: Member
     rule: str
     start: int
-    rivals: list
+    rivals: list[Member]

@@ -4,7 +4,7 @@ from __future__ import annotations
 
 from dataclasses import dataclass
 
-from ..conf import MILLISECOND, Curve
+from ..conf import MILLISECOND, Curve, Interface
 from .curves import is_zero
 
 RULES = ("red", "ecn", "rio")
@@ -45,17 +45,17 @@ class CbqClass:
     packetsize: int = 1500
 
 
-def number(words, option, else_=None):
+def number(words: list[str], option: str) -> int:
     """The number behind an option of a class."""
-    return int(words[words.index(option, 5) + 1]) if option in words[5:] else else_
+    return int(words[words.index(option, 5) + 1])
 
 
-def queueing(words):
+def queueing(words: list[str]) -> Queueing:
     """How the queue of a canonical line drops."""
     return Queueing(number(words, "qlimit"), next((rule for rule in RULES if rule in words[5:]), "tail"))
 
 
-def curves(words):
+def curves(words: list[str]) -> dict[str, Curve]:
     """The curves of a canonical line; a real-time curve that is 0 everywhere counts as none."""
     found = {}
     for option, slot in SLOTS.items():
@@ -68,7 +68,7 @@ def curves(words):
     return found
 
 
-def class_of(words, parent):
+def class_of(words: list[str], parent: int | None) -> HfscClass | CbqClass:
     """The class of a canonical line."""
     if words[1] == "hfsc":
         return HfscClass(words[3], parent, queueing(words), **curves(words))
@@ -76,7 +76,7 @@ def class_of(words, parent):
                     "borrow" in words[5:], number(words, "maxburst"), number(words, "packetsize"))
 
 
-def implied(interface):
+def implied(interface: Interface) -> list[HfscClass | CbqClass]:
     """The two classes of an interface without class statements."""
     rate, plain = interface.bandwidth, Queueing()
     if interface.discipline == "hfsc":
@@ -84,7 +84,7 @@ def implied(interface):
     return [CbqClass("root", None, plain, rate), CbqClass("default", 0, plain, rate, borrows=True)]
 
 
-def classes_of(interface):
+def classes_of(interface: Interface) -> list[HfscClass | CbqClass]:
     """The classes of an interface, in the file's order."""
     places, found = {"NULL": None}, []
     for words in interface.lines:

@@ -5,10 +5,13 @@ slope, which is higher by (m1 - m2) * d there. A curve that rises from 0 is the 
 openings only the lowest line of each slope has to be known, and a line is known by the greatest m * at - count.
 """
 
+from __future__ import annotations
+
+from ..conf import Curve
 from .units import ceil_div
 
 
-def is_zero(curve):
+def is_zero(curve: Curve) -> bool:
     """Whether a curve gives nothing at any time."""
     return curve.m2 == 0 and curve.m1 * curve.d == 0
 
@@ -18,14 +21,14 @@ class Openings:
 
     __slots__ = ("m1", "d", "m2", "first", "last", "steep", "flat")
 
-    def __init__(self, curve):
+    def __init__(self, curve: Curve) -> None:
         """`curve` has m1 and m2 in bits per second, and d in nanoseconds. One without a first piece is the line of m2."""
         is_line = curve.d == 0 or curve.m1 == curve.m2
         self.m1, self.d, self.m2 = (curve.m2, 0, curve.m2) if is_line else (curve.m1, curve.d, curve.m2)
         self.first = self.last = None  # openings: a moment and the units that were sent before it
         self.steep = self.flat = None  # of the lowest lines of slope m1 and of slope m2
 
-    def begin(self, at, count):
+    def begin(self, at: int, count: int) -> None:
         """Adds an opening, which is not before the last and has no smaller count."""
         self.first = self.first or (at, count)
         self.last = (at, count)
@@ -33,7 +36,7 @@ class Openings:
         self.steep = steep if self.steep is None else max(self.steep, steep)
         self.flat = flat if self.flat is None else max(self.flat, flat)
 
-    def reaches(self, amount):
+    def reaches(self, amount: int) -> int | None:
         """The first moment at which the curve has given an amount from each opening on; None where it never does.
 
         The amount is no less than the count of any opening; where the curve rises, it is greater.
@@ -47,11 +50,11 @@ class Openings:
             return found
         return max(found, ceil_div(amount + self.flat - (self.m1 - self.m2) * self.d, self.m2))
 
-    def soonest(self, count):
+    def soonest(self, count: int) -> int | None:
         """The first moment at which the eligible curve has reached a count; None where it never does."""
         return ceil_div(count + self.flat, self.m2) if self.m1 < self.m2 else self.reaches(count)
 
-    def eligible(self, moment):
+    def eligible(self, moment: int) -> int:
         """The eligible curve at a moment which is not before the last opening."""
         flat = self.m2 * moment - self.flat
         return flat if self.m1 < self.m2 else min(self.m1 * moment - self.steep, flat + (self.m1 - self.m2) * self.d)

@@ -3,43 +3,43 @@
 A `Node` is a class with what its history makes of it. A moment that never comes is NEVER.
 """
 
-from collections import deque
+from __future__ import annotations
 
-from .choices import Choice, contest
+from collections.abc import Sequence
+
+from ..conf import Curve
+from .choices import Choice, Contest, contest
+from .classes import HfscClass
 from .curves import Openings
+from .link import Link
+from .packets import Packet
+from .tree import Member, joined
 from .units import BYTE
 
 NEVER = 2**200
 
 
-def openings_of(curve):
+def openings_of(curve: Curve | None) -> Openings | None:
+    """A curve over no openings yet; None where there is none."""
     return None if curve is None else Openings(curve)
 
 
-class Node:
+class Node(Member):
     """A class: what waits in it, its real-time count and openings, its total, its virtual time, and its limit.
 
     `soonest` and `deadline` are those of its head, NEVER where there is none. `within` is the moment from which it is within its limit, and
     `opens` that from which some leaf at or below it is on an open path, as far as the classes from it down say.
     """
 
-    def __init__(self, place, given):
-        self.place, self.name = place, given.name
-        self.parent, self.children, self.level = None, [], 0
-        self.waiting, self.is_active = deque(), False
+    def __init__(self, place: int, given: HfscClass) -> None:
+        super().__init__(place, given)
+        self.is_active = False
         self.real, self.count = openings_of(given.realtime), 0
         self.soonest = self.deadline = NEVER
         self.sharing, self.total, self.virtual, self.high = openings_of(given.share), 0, 0, 0
         self.limiter, self.within, self.opens = openings_of(given.limit), 0, 0
 
-    def path(self):
-        """The class and those above it, up to the root."""
-        node = self
-        while node is not None:
-            yield node
-            node = node.parent
-
-    def renew_head(self):
+    def renew_head(self) -> None:
         """Reckons when the head is eligible, and its deadline."""
         if self.real is not None and self.waiting:
             soonest = self.real.soonest(self.count)
@@ -49,12 +49,12 @@ class Node:
         else:
             self.soonest = self.deadline = NEVER
 
-    def renew_opens(self):
+    def renew_opens(self) -> None:
         """Reckons from when on a leaf at or below may be served by share."""
         below = min((child.opens for child in self.children if child.is_active), default=0)
         self.opens = max(self.within, below)
 
-    def backlog(self):
+    def backlog(self) -> int:
         """How many packets wait at or below it."""
         return len(self.waiting) + sum(child.backlog() for child in self.children)
 
@@ -63,7 +63,7 @@ class Wake:
     """That a class becomes active: the virtual time that it takes, and from which numbers. `least` and `greatest` are those of
     its active siblings, None where none is; then `high` is the high mark of its parent."""
 
-    def __init__(self, node):
+    def __init__(self, node: Node) -> None:
         self.node = node
         active = [child.virtual for child in node.parent.children if child.is_active] if node.parent else []
         self.least, self.greatest = (min(active), max(active)) if active else (None, None)
@@ -74,23 +74,18 @@ class Wake:
 class Hfsc:
     """The choices of an interface with HFSC, over all that was kept and sent so far."""
 
-    def __init__(self, classes, link):
+    def __init__(self, classes: Sequence[HfscClass], link: Link) -> None:
         self.link = link
-        self.members = [Node(place, given) for place, given in enumerate(classes)]
-        for node, given in zip(self.members, classes):
-            if given.parent is not None:
-                node.parent = self.members[given.parent]
-                node.parent.children.append(node)
-                node.level = node.parent.level + 1
+        self.members = joined([Node(place, given) for place, given in enumerate(classes)], classes)
         self.root = self.members[0]
         self.real = [node for node in self.members if node.real is not None and not node.children]
         self.has_limits = any(node.limiter for node in self.members)
 
-    def wakes(self, node):
+    def wakes(self, node: Node) -> list[Wake]:
         """What becomes active where a packet is kept in a leaf, from the leaf up."""
         return [Wake(above) for above in node.path() if not above.is_active]
 
-    def kept(self, node, packet):
+    def kept(self, node: Node, packet: Packet) -> None:
         """Takes a packet that a leaf's queue kept."""
         node.waiting.append(packet)
         if len(node.waiting) > 1:
@@ -102,7 +97,7 @@ class Hfsc:
             node.renew_head()
         self.renew_path(node)
 
-    def activate(self, node, virtual, arrival):
+    def activate(self, node: Node, virtual: int, arrival: int) -> None:
         """Makes a class active. The root takes no virtual time."""
         node.is_active = True
         if node.parent is not None:
@@ -113,12 +108,13 @@ class Hfsc:
             node.limiter.begin(arrival, node.total)
             node.within = node.limiter.reaches(node.total)
 
-    def renew_path(self, node):
+    def renew_path(self, node: Node) -> None:
+        """Reckons from when on the limits let a class and those above it be served."""
         if self.has_limits:
             for above in node.path():
                 above.renew_opens()
 
-    def least(self, now):
+    def least(self, now: int) -> int | None:
         """The least moment from `now` on at which a leaf may send; None where nothing waits."""
         if not self.root.is_active:
             return None
@@ -126,7 +122,7 @@ class Hfsc:
             return now
         return max(now, min(self.root.opens, min((node.soonest for node in self.real), default=NEVER)))
 
-    def pick(self, start):
+    def pick(self, start: int) -> Choice:
         """Who sends at a moment at which some leaf may: the choice by real time, else by share."""
         found = None
         for node in self.real:
@@ -139,7 +135,7 @@ class Hfsc:
             node = min((child for child in node.children if child.is_active and child.opens <= start), key=lambda child: (child.virtual, child.place))
         return Choice(node, "share", start, [])
 
-    def sent(self, choice, packet, _end):
+    def sent(self, choice: Choice, packet: Packet, _end: int) -> None:
         """Takes that the head of the choice is sent."""
         node, units = choice.of, BYTE * packet.length
         node.waiting.popleft()
@@ -156,7 +152,7 @@ class Hfsc:
         node.renew_head()
         self.renew_path(node)
 
-    def contests(self, choice):
+    def contests(self, choice: Choice) -> list[Contest]:
         """Among whom a choice was made: by real time the eligible leaves, by share the children of each class on the way down."""
         if choice.rule == "realtime":
             eligible = sorted((node for node in self.real if node.soonest <= choice.start), key=lambda node: (node.deadline, node.place))

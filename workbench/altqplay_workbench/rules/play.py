@@ -4,27 +4,18 @@ from __future__ import annotations
 
 from dataclasses import dataclass
 
+from ..conf import Interface
 from .cbq import Cbq
+from .choices import Choice
 from .classes import classes_of
 from .hfsc import Hfsc
 from .link import Link
-from .queues import queue_of
+from .packets import Packet
+from .queues import Verdict, queue_of
+from .tree import Member
 from .words import Words
 
 LATER = 2**200
-
-
-@dataclass
-class Packet:
-    """A packet that arrives: its class by its place, and what a queue is told of its frame."""
-
-    __slots__ = ("number", "arrival", "length", "place", "precedence", "is_capable")
-    number: int
-    arrival: int
-    length: int
-    place: int
-    precedence: int
-    is_capable: bool
 
 
 @dataclass
@@ -33,8 +24,8 @@ class Offer:
 
     __slots__ = ("packet", "of", "verdict")
     packet: Packet
-    of: object
-    verdict: object
+    of: Member
+    verdict: Verdict | None
 
 
 @dataclass
@@ -43,7 +34,7 @@ class Sending:
 
     __slots__ = ("packet", "choice", "end")
     packet: Packet
-    choice: object
+    choice: Choice
     end: int
 
 
@@ -53,7 +44,7 @@ class Play:
     Between the two, `discipline`, `queues` and `link` are as they were before the decision.
     """
 
-    def __init__(self, interface, packets, seed):
+    def __init__(self, interface: Interface, packets: list[Packet], seed: int) -> None:
         classes = classes_of(interface)
         self.packets, self.at = packets, 0
         self.link = Link(interface.bandwidth)
@@ -63,7 +54,7 @@ class Play:
         self.words = Words(seed)
         self.now = 0  # the last arrival that was offered, or the end of the last sending if that is later
 
-    def next(self):
+    def next(self) -> Offer | Sending | None:
         """The decision that is due, or None behind the last: the least moment at which some class may send, or if a packet arrives
         up to it, that it is offered."""
         arrival = self.packets[self.at].arrival if self.at < len(self.packets) else LATER
@@ -77,14 +68,15 @@ class Play:
         packet = choice.of.waiting[0]
         return Sending(packet, choice, self.link.end(start, packet.length))
 
-    def take(self, decision):
+    def take(self, decision: Offer | Sending) -> None:
         """Takes a decision: an offer gets its verdict then."""
         if isinstance(decision, Offer):
             self.offer(decision)
         else:
             self.send(decision)
 
-    def offer(self, offer):
+    def offer(self, offer: Offer) -> None:
+        """Offers a packet to its class's queue."""
         packet, of = offer.packet, offer.of
         queue = self.queues[packet.place]
         self.at += 1
@@ -94,7 +86,8 @@ class Play:
             queue.added(packet)
             self.discipline.kept(of, packet)
 
-    def send(self, sending):
+    def send(self, sending: Sending) -> None:
+        """Sends a packet over the link."""
         packet, choice = sending.packet, sending.choice
         self.link.send(choice.start, packet.length)
         self.queues[packet.place].left(packet, choice.start)

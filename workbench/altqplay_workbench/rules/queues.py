@@ -1,8 +1,13 @@
 """What a queue keeps and drops: by its limit, RED, RED that marks, and RIO (docs/QUEUE-RULES.md)."""
 
+from __future__ import annotations
+
 from dataclasses import dataclass, field
 
+from .classes import Queueing
+from .packets import Packet
 from .units import time_of
+from .words import Words
 
 PACKET = 2**21  # an average of one packet
 GAIN, WEIGHT = 4096, 512
@@ -37,23 +42,23 @@ class Verdict:
     word: str
     waiting: int
     limit: int
-    moves: list = field(default_factory=list)
+    moves: list[Move] = field(default_factory=list)
     precedence: int = 0
     lower: int = 0
     upper: int = 0
     count: int = 0
-    risen: int = None
-    over: int = None
-    spacing: int = None
-    drawn: int = None
+    risen: int | None = None
+    over: int | None = None
+    spacing: int | None = None
+    drawn: int | None = None
 
     @property
-    def average(self):
+    def average(self) -> int | None:
         """The average by which it was decided; None where there is none."""
         return next((move.after for move in self.moves if move.precedence == self.precedence), None)
 
 
-def idled(average, steps):
+def idled(average: int, steps: int) -> int:
     """An average after some idle steps: one below the weight is its own next."""
     while steps and average >= WEIGHT:
         average -= average // WEIGHT
@@ -64,16 +69,17 @@ def idled(average, steps):
 class Tail:
     """Drops exactly where the limit waits. It looks at no precedence."""
 
-    def __init__(self, limit):
+    def __init__(self, limit: int) -> None:
         self.limit = limit
 
-    def arrive(self, waiting, _now, _packet, _words):
+    def arrive(self, waiting: int, _now: int, _packet: Packet, _words: Words) -> Verdict:
+        """The verdict on a packet that finds so many waiting."""
         return Verdict(FULL if waiting >= self.limit else KEPT, waiting, self.limit)
 
-    def added(self, packet):
+    def added(self, packet: Packet) -> None:
         """A packet was kept."""
 
-    def left(self, packet, start):
+    def left(self, packet: Packet, start: int) -> None:
         """A packet starts at a moment, and waits no more."""
 
 
@@ -83,7 +89,7 @@ class Red:
     RED has one average, and no packet's precedence counts in it. The words that it draws are those of the play.
     """
 
-    def __init__(self, limit, rate, rule):
+    def __init__(self, limit: int, rate: int, rule: str) -> None:
         self.limit, self.marks, self.marked = limit, rule == "ecn", []  # the numbers of the packets that were marked
         self.thresholds = [(lower * PACKET, upper * PACKET) for lower, upper in (RIO if rule == "rio" else RED)]
         self.step = time_of(TYPICAL, rate)
@@ -91,10 +97,11 @@ class Red:
         self.averages, self.counts = [0] * places, [-1] * places
         self.waiting, self.idle = [0] * places, [0] * places
 
-    def precedence(self, packet):
+    def precedence(self, packet: Packet) -> int:
+        """The place of a packet's average."""
         return packet.precedence if len(self.thresholds) > 1 else 0
 
-    def move(self, place, now):
+    def move(self, place: int, now: int) -> Move:
         """Moves the average of a place by an arrival."""
         waiting, before = self.waiting[place], self.averages[place]
         if waiting:
@@ -105,7 +112,8 @@ class Red:
         self.averages[place] = after
         return Move(place, waiting, steps, before, after)
 
-    def arrive(self, waiting, now, packet, words):
+    def arrive(self, waiting: int, now: int, packet: Packet, words: Words) -> Verdict:
+        """The verdict on a packet that finds so many waiting. It moves the averages, and may draw a word."""
         place = self.precedence(packet)
         moves = [self.move(other, now) for other in range(place, len(self.thresholds))]
         lower, upper = self.thresholds[place]
@@ -117,7 +125,7 @@ class Red:
             self.marked.append(packet.number)
         return verdict
 
-    def decide(self, verdict, average, words):
+    def decide(self, verdict: Verdict, average: int, words: Words) -> None:
         """The first of the tests that applies: word and count of a verdict."""
         if verdict.waiting >= verdict.limit:
             verdict.word, verdict.count = FULL, 0
@@ -133,17 +141,19 @@ class Red:
             if verdict.spacing <= 0 or verdict.drawn * verdict.spacing < 2**32 * verdict.over:
                 verdict.word, verdict.count = EARLY, 0
 
-    def added(self, packet):
+    def added(self, packet: Packet) -> None:
+        """A packet was kept."""
         for place in range(self.precedence(packet), len(self.waiting)):
             self.waiting[place] += 1
 
-    def left(self, packet, start):
+    def left(self, packet: Packet, start: int) -> None:
+        """A packet starts at a moment, and waits no more."""
         for place in range(self.precedence(packet), len(self.waiting)):
             self.waiting[place] -= 1
             if not self.waiting[place]:
                 self.idle[place] = start
 
 
-def queue_of(queueing, rate):
+def queue_of(queueing: Queueing, rate: int) -> Tail | Red:
     """The queue of a class on a link of a rate."""
     return Tail(queueing.limit) if queueing.rule == "tail" else Red(queueing.limit, rate, queueing.rule)

@@ -3,11 +3,11 @@
 BYTE = 8 * 10**9  # units
 
 
-def ceil_div(number, divisor):
+def ceil_div(number: int, divisor: int) -> int:
     """A quotient, rounded up."""
     return -(-number // divisor)
 
 
-def time_of(length, rate):
+def time_of(length: int, rate: int) -> int:
     """The nanoseconds that some bytes take at a rate in bits per second, rounded up."""
     return ceil_div(BYTE * length, rate)

@@ -8,17 +8,17 @@ HALF, WHOLE = 2**32 - 1, 2**64 - 1
 class Words:
     """The words of a seed, below 2^32 each, drawn in order. `drawn` is how many were."""
 
-    def __init__(self, seed):
+    def __init__(self, seed: int) -> None:
         self.drawn = 0
         self.state = (self.after(0) + seed) & WHOLE
         self.state = self.after(self.state)
 
     @staticmethod
-    def after(state):
+    def after(state: int) -> int:
         """The state behind a state."""
         return (state * MULTIPLIER + (STREAM << 1 | 1)) & WHOLE
 
-    def draw(self):
+    def draw(self) -> int:
         """The next word."""
         state, self.state = self.state, self.after(self.state)
         self.drawn += 1
