@@ -88,6 +88,10 @@ def test_worked_averages():
     red.averages, red.counts, red.waiting = [20971520], [19], [10]
     verdict = red.arrive(10, 0, SimpleNamespace(precedence=0, is_capable=False), None)
     assert (verdict.word, verdict.count, verdict.drawn, verdict.spacing) == ("early", 0, None, 0)
+    for before, after, word in ((31457280, 31457280, "forced"), (31457278, 31457279, "early")):
+        red.averages, red.counts, red.waiting = [before], [10], [15]
+        verdict = red.arrive(15, 0, SimpleNamespace(precedence=0, is_capable=False), None)
+        assert (verdict.word, red.averages) == (word, [after])
     ecn = queue_of(Queueing(50, "ecn"), 8 * MBIT)
     for capable, word in ((True, "marked"), (False, "early")):
         ecn.averages, ecn.counts, ecn.waiting = [20971520], [19], [10]

@@ -142,3 +142,10 @@ def test_words_of_red(played):
     assert "is kept and marked" in one.offer(99)[0] and "its transport is capable" in one.offer(99)[2]
     one = played([line.replace("qlimit 200 red", "qlimit 300 rio") for line in lines], "140x100@0:9000:0x38 140x100@0:9000:0x28")
     assert "is dropped early" in one.offer(99)[0] and "is dropped forced" in one.offer(140)[0] and "is kept" in one.offer(280)[0]
+
+
+def test_a_count_begins_at_one_below_zero(played):
+    """Packets of precedence 0 move the average of 2 between its thresholds before one of 2 comes; with seed 9 a count from 0 on would drop 116."""
+    lines = [line.replace("qlimit 4 red", "qlimit 300 rio") for line in BURST]
+    one = played(lines, "105x100@0:9000:0x28 15x100@0:9000:0x38", 9)
+    assert " - 0 * " in one.offer(106)[2] and "the count becomes 0" in one.offer(106)[2] and "is dropped early" in one.offer(118)[0]
