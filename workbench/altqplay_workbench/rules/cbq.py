@@ -6,7 +6,6 @@ A `Node` is a class with what its history makes of it.
 from __future__ import annotations
 
 from collections.abc import Iterator, Sequence
-from heapq import nsmallest
 
 from .choices import Choice, Contest, contest
 from .classes import CbqClass
@@ -150,27 +149,24 @@ class Cbq:
         """How far behind its priority's cursor a class stands: 0 is the class that was sent last."""
         return (node.place - self.cursors.get(node.given.priority, 0)) % len(self.members)
 
-    def candidates(self, start: int) -> list[Node]:
-        """The classes of the greatest priority that may send at a moment."""
+    def candidates(self, start: int) -> list[tuple[int, int, Node]]:
+        """The classes of the greatest priority that may send at a moment, in the order in which they would: the fewest rounds first, of
+        equal ones by the ring. Each with both."""
         able = [node for node, moment in self.moments(start) if moment <= start]
         first = max(node.given.priority for node in able)
-        return [node for node in able if node.given.priority == first]
-
-    def order(self, node: Node) -> tuple[int, int]:
-        """By what candidates go: the fewest rounds, then the ring."""
-        return node.rounds(), self.ring(node)
+        return sorted((node.rounds(), self.ring(node), node) for node in able if node.given.priority == first)
 
     def pick(self, start: int) -> Choice:
         """Who sends at a moment at which some class may."""
         candidates = self.candidates(start)
-        node = min(candidates, key=self.order)
+        node = candidates[0][2]
         return Choice(node, OWN if self.own_moment(node, start) <= start else BORROW, start, candidates)
 
     def sent(self, choice: Choice, packet: Packet, end: int) -> None:
         """Takes that the head of the choice is sent."""
-        node, rounds = choice.of, choice.of.rounds()
+        node, rounds = choice.of, choice.rivals[0][0]
         self.asked = None
-        for other in choice.rivals if rounds else []:
+        for _rounds, _ring, other in choice.rivals if rounds else []:
             other.credit += rounds * other.quantum
         node.waiting.popleft()
         node.credit = node.credit - packet.length if node.waiting else 0
@@ -180,5 +176,5 @@ class Cbq:
 
     def contests(self, choice: Choice) -> list[Contest]:
         """Among whom a choice was made: the classes of the greatest priority that may send, by their rounds."""
-        ranked = [(node.name, node.rounds()) for node in nsmallest(2, choice.rivals, key=self.order)]
+        ranked = [(node.name, rounds) for rounds, _ring, node in choice.rivals[:2]]
         return [contest("rounds", f"the classes of priority {choice.of.given.priority} that may send", ranked)]
