@@ -69,7 +69,7 @@ def of_cbq(discipline: Cbq, choice: Choice) -> list[str]:
     cursor = discipline.cursors.get(priority)
     first = "the file's first class" if cursor is None else f"{discipline.members[cursor].name}, which was sent last of its priority"
     lines += [of_contest(one, f"the ring begins at {first}") for one in discipline.contests(choice)]
-    able = [other for other, moment in discipline.moments(start) if moment <= start and other not in choice.rivals]
+    able = [other for other, moment in discipline.moments(start) if moment <= start and other.given.priority < priority]
     lines += ["of lesser priority: " + ", ".join(other.name for other in able)] if able else []
     held = [(other, moment) for other, moment in discipline.moments(start) if moment > start]
     return lines + (["held back: " + ", ".join(f"{other.name} until {moment}" for other, moment in held)] if held else [])

@@ -9,7 +9,7 @@ from altqplay_workbench import rows, series
 from altqplay_workbench.conf import Interface
 from altqplay_workbench.plays import Side
 
-LINK = Interface(["interface if0 bandwidth 8000000 hfsc", "class hfsc if0 root NULL qlimit 50", "class hfsc if0 a root ls 8000000 0 8000000 qlimit 50 default", "fits"])
+LINK = Interface(["interface if0 bandwidth 8000000 hfsc", "class hfsc if0 root NULL qlimit 50", "class hfsc if0 a root ls 8000000 0 8000000 qlimit 50 default", "fits"], "if0")
 # Three packets of 1,000 bytes at 0, which take 1 ms each, a fourth at 2 ms that waits till 3 ms, one that is dropped, and one that finds a free link.
 FATES = """number,arrival,length,class,fate,start,end
 1,0,1000,a,share,0,1000000

@@ -40,6 +40,8 @@ class Node(Member):
         self.average = self.cap
         self.ended: int | None = None
         self.ends: dict[int, int] = {}
+        self.lenders: list[Node] = []
+        self.never_waits = False  # whether the root, which is never held back, lends to it
         self.credit, self.quantum = 0, max(1, ceil_div(ROUND * given.rate, rate))
 
     def backlog(self) -> int:
@@ -74,7 +76,7 @@ class Node(Member):
             self.average = moved(self.average, self.idle(length, end), self.cap)
         self.ended, self.ends = end, {}
 
-    def lenders(self) -> Iterator[Node]:
+    def above(self) -> Iterator[Node]:
         """The classes that may lend to it, from its parent up."""
         node = self
         while node.given.borrows and node.parent is not None:
@@ -93,6 +95,9 @@ class Cbq:
     def __init__(self, classes: Sequence[CbqClass], link: Link) -> None:
         self.link = link
         self.members = joined([Node(place, given, link.rate) for place, given in enumerate(classes)], classes)
+        for node in self.members:
+            node.lenders = list(node.above())
+            node.never_waits = node.parent is None or self.members[0] in node.lenders
         self.cursors: dict[int, int] = {}  # the place of the class of a priority that was sent last
         self.asked: int | None = None
         self.told: list[tuple[Node, int]] = []
@@ -114,7 +119,7 @@ class Cbq:
         """The least moment from `now` on at which a class above one that waits lends for its head, and the nearest that does then. None
         where nobody lends."""
         found = None
-        for lender in node.lenders():
+        for lender in node.lenders:
             moment = lender.allowed(node.waiting[0].length, now, self.link)
             if found is None or moment < found[0]:
                 found = moment, lender
@@ -124,7 +129,7 @@ class Cbq:
 
     def moment(self, node: Node, now: int) -> int:
         """The least moment from `now` on at which a class that waits may send its head."""
-        if node.average > 0 or node.parent is None:
+        if node.never_waits or node.average > 0:
             return now
         own = self.own_moment(node, now)
         loan = None if own <= now else self.loan(node, now)
@@ -144,24 +149,24 @@ class Cbq:
         """How far behind its priority's cursor a class stands: 0 is the class that was sent last."""
         return (node.place - self.cursors.get(node.given.priority, 0)) % len(self.members)
 
-    def candidates(self, start: int) -> list[Node]:
-        """The classes of the greatest priority that may send at a moment, in the order in which they would."""
+    def candidates(self, start: int) -> list[tuple[int, int, Node]]:
+        """The classes of the greatest priority that may send at a moment, in the order in which they would: the fewest rounds first, of
+        equal ones by the ring. Each with both."""
         able = [node for node, moment in self.moments(start) if moment <= start]
         first = max(node.given.priority for node in able)
-        rivals = [node for node in able if node.given.priority == first]
-        return sorted(rivals, key=lambda node: (node.rounds(), self.ring(node))) if len(rivals) > 1 else rivals
+        return sorted((node.rounds(), self.ring(node), node) for node in able if node.given.priority == first)
 
     def pick(self, start: int) -> Choice:
         """Who sends at a moment at which some class may."""
         candidates = self.candidates(start)
-        node = candidates[0]
+        node = candidates[0][2]
         return Choice(node, OWN if self.own_moment(node, start) <= start else BORROW, start, candidates)
 
     def sent(self, choice: Choice, packet: Packet, end: int) -> None:
         """Takes that the head of the choice is sent."""
-        node, rounds = choice.of, choice.of.rounds()
+        node, rounds = choice.of, choice.rivals[0][0]
         self.asked = None
-        for other in choice.rivals:
+        for _rounds, _ring, other in choice.rivals if rounds else []:
             other.credit += rounds * other.quantum
         node.waiting.popleft()
         node.credit = node.credit - packet.length if node.waiting else 0
@@ -171,5 +176,5 @@ class Cbq:
 
     def contests(self, choice: Choice) -> list[Contest]:
         """Among whom a choice was made: the classes of the greatest priority that may send, by their rounds."""
-        ranked = [(node.name, node.rounds()) for node in choice.rivals]
+        ranked = [(node.name, rounds) for rounds, _ring, node in choice.rivals[:2]]
         return [contest("rounds", f"the classes of priority {choice.of.given.priority} that may send", ranked)]

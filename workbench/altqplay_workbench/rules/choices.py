@@ -36,11 +36,11 @@ def contest(measure: str, where: str, ranked: list[tuple[str, int | None]]) -> C
 
 @dataclass
 class Choice:
-    """Who is sent next: which member of a discipline, by which rule, and when it starts. `rivals` are the candidates where a choice
-    changes them too, as that of CBQ does."""
+    """Who is sent next: which member of a discipline, by which rule, and when it starts. `rivals` are the candidates of CBQ, whose
+    credits a choice changes too, in their order."""
 
     __slots__ = ("of", "rule", "start", "rivals")
     of: Member
     rule: str
     start: int
-    rivals: list[Member]
+    rivals: list[tuple[int, int, Member]]

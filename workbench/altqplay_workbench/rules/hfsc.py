@@ -6,6 +6,7 @@ A `Node` is a class with what its history makes of it. A moment that never comes
 from __future__ import annotations
 
 from collections.abc import Sequence
+from heapq import nsmallest
 
 from ..conf import Curve
 from .choices import Choice, Contest, contest
@@ -155,12 +156,12 @@ class Hfsc:
     def contests(self, choice: Choice) -> list[Contest]:
         """Among whom a choice was made: by real time the eligible leaves, by share the children of each class on the way down."""
         if choice.rule == "realtime":
-            eligible = sorted((node for node in self.real if node.soonest <= choice.start), key=lambda node: (node.deadline, node.place))
+            eligible = nsmallest(2, (node for node in self.real if node.soonest <= choice.start), key=lambda node: (node.deadline, node.place))
             ranked = [(node.name, None if node.deadline == NEVER else node.deadline) for node in eligible]
             return [contest("deadline", "the eligible heads", ranked)]
         found = []
         for node in list(choice.of.path())[-2::-1]:
-            rivals = [child for child in node.parent.children if child.is_active and child.opens <= choice.start]
-            rivals.sort(key=lambda child: (child.virtual, child.place))
+            rivals = (child for child in node.parent.children if child.is_active and child.opens <= choice.start)
+            rivals = nsmallest(2, rivals, key=lambda child: (child.virtual, child.place))
             found.append(contest("virtual time", f"the children of {node.parent.name}", [(child.name, child.virtual) for child in rivals]))
         return found
