@@ -25,7 +25,7 @@ behind mark (text ∷ texts) = mark ∷ (text ++ behind mark texts)
 abbrev pub OfName : ℕ → Type 0
 OfName byte = is_name_byte byte ≡ true
 
--- a word of at most so many bytes of a NAME
+-- a word of 1 to `limit` bytes, each one that a NAME may have
 pub record IsWord (limit : ℕ) (word : List ℕ) : Type 0 where
   pub some : 1 ≤ length word
   pub most : length word ≤ limit

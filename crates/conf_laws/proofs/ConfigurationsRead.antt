@@ -76,7 +76,7 @@ reads_filter (V6 target target_len source source_len) before s = refl
 
 -- AN INTERFACE WITH CLASSES
 module _ (all : List Interface) (before : List Begun) (i : Interface) (is : IsInterface i) (new : IsNew i.name before) where
-  -- so many of its classes and filters are read; lines that go on from there; and a statement that leads from there to the next
+  -- its first `classes` classes and `filters` filters are read; lines that are read from there on; a statement that leads from there to the next
   abbrev Has : ℕ → ℕ → Begun → Type 0
   Has classes filters b = HasRead i is.tree.default.number classes filters b
 

@@ -59,7 +59,7 @@ pub record IsRead (all : List Class) (filters j : ℕ) (r : Branch) : Type 0 whe
   pub leaf : ((k : ℕ) (c : Class) → slice_get all k ≡ Some c → c.parent ≢ Some j) → r.inner ≡ false
   pub unnamed : filters ≡ 0 → r.filtered ≡ false
 
--- an interface of which so many classes and filters are read, the default class having a number
+-- an interface whose first `classes` classes and `filters` filters are read; its default class has the number `number`
 pub record HasRead (i : Interface) (number classes filters : ℕ) (b : Begun) : Type 0 where
   pub rooted : classes ≡ 0 → b.rooted ≡ false
   pub chosen : b.chosen ≡ nat_lt number classes

@@ -9,7 +9,7 @@ use Rattle.std.proofs.lemmas.List.{get_or_default}
 use Rattle.flow_filter.specs.declared.ports.Filed.{Filed}
 use Rattle.flow_filter.specs.Filed.{IsInOrder}
 
--- those before a place have lesser ports, those from there on no lesser one, and so many of these did not pass a test
+-- the entries before `start` have lesser ports, those from there on none, and the first `passed` of these fail the test
 pub record IsScanned (entries : List Filed) (port start passed : ℕ) (test : ℕ → Bool) : Type 0 where
   pub lesser : (k : ℕ) (d : Filed) → k < start → (get_or entries k d).port < port
   pub others : (k : ℕ) (d : Filed) → start ≤ k → k < length entries → port ≤ (get_or entries k d).port

@@ -7,6 +7,6 @@ abbrev pub number : (big : Bool) → (size : ℕ) → List ℕ → (at : ℕ) �
 number true size bytes at = big_number size (drop at bytes)
 number false size bytes at = little_number size (drop at bytes)
 
--- so many bytes and their padding to a multiple of 4
+-- the length of a field with its padding: the least multiple of 4 that is at least its length
 abbrev pub padded : ℕ → ℕ
 padded len = (len + 3) / 4 * 4

@@ -60,7 +60,7 @@ pub leaves_now : (place : List ℕ → Placed) (p q : Policy) (stood : List Happ
 leaves_now place p q stood lists limits rate r arrived w x g d m f e y =
     leaves place arrived g d f e.packet_is (going_laws p stood lists limits rate arrived w x (departs d ∷ g) m y).of_arrivals
 
--- a sending is one more of so many at most
+-- a sending raises the count of those sent by one, to at most 4,000,000
 pub record CountsUp (t u : Totals) : Type 0 where
   pub sent : u.sent ≡ t.sent + 1
   pub within : u.sent ≤ 4000000

@@ -44,7 +44,7 @@ next_sum ks k x e =
     (next_total (λ i. i.raised) ks k x e) (next_total (λ i. i.sent) ks k x e) (next_total (λ i. i.sent_bytes) ks k x e) (next_total (λ i. i.full) ks k x e)
     (next_total (λ i. i.early) ks k x e) (next_total (λ i. i.forced) ks k x e)
 
--- each of the sums is at most so many times the bound
+-- each of the sums is at most `n` times the bound of one count
 pub record IsUnder (n : ℕ) (k : Counts) : Type 0 where
   pub arrived : k.arrived ≤ n * 2 ^ 41
   pub arrived_bytes : k.arrived_bytes ≤ n * 2 ^ 41

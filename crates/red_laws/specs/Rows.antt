@@ -4,7 +4,7 @@ use Rattle.altq_model.specs.declared.Verdict.TheVariants.{Keep}
 use Rattle.leaf_queue.specs.Queue.{QueueEvent, Asked, Gone}
 use Rattle.red_laws.specs.Exactly.{Exact}
 
--- a packet of a precedence that finds so many waiting, all of the best
+-- a packet of a precedence that comes while `waiting` packets wait, all of the best precedence
 abbrev pub met : (waiting prec : ℕ) → QueueEvent
 met waiting prec = Asked 0 (record { best = waiting; middle = waiting; all = waiting }) prec (record { seed = 42; drawn = 0 })
     (record { verdict = Keep; took = 0 })

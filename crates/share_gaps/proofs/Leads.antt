@@ -1,13 +1,12 @@
 -- The computed leads are the greatest differences.
-use Rattle.std.proofs.Common.{◌≡◌, ◌≤◌, ◌<◌, ◌+◌, ◌-◌, ◌*◌, ◌⊎◌, inl, inr, ℕ, zero, suc, max, Bool, true, false, List, [], ◌∷◌, ◌++◌, refl, ap, sym, subst, arith, ◌∙◌}
+use Rattle.std.proofs.Common.{◌≡◌, ◌≤◌, ◌<◌, ◌+◌, ◌-◌, ◌*◌, ◌⊎◌, inl, inr, ℕ, zero, suc, max, Bool, true, false, List, [], ◌∷◌, ◌++◌, refl, ap, sym, subst, arith}
 use Rattle.std.specs.Prelude.{◌&&◌, if◌then◌else◌}
 use Rattle.play_base.specs.Units.{units}
 use Rattle.hfsc_model.specs.declared.HfscClass.{HfscClass}
 use Rattle.hfsc_model.specs.Event.{HfscEvent, HfscHistory, Kept, Sent}
 use Rattle.hfsc_model.specs.Share.{active, total}
 use Rattle.hfsc_model.specs.Tree.{is_under}
-use Rattle.hfsc_laws.proofs.Tree.{and_true}
-use Rattle.fair_shares.specs.Fairness.{AreBothActive, DifferBy, IsStretch, work}
+use Rattle.fair_shares.specs.Fairness.{AreBothActive, DifferBy, work}
 use Rattle.fair_shares.proofs.Events.{kept_active}
 use Rattle.share_gaps.specs.Greatest.{IsAhead, IsGreatest}
 use Rattle.share_gaps.specs.Leads.{gain, lead, most_lead}
