@@ -126,7 +126,7 @@ pub leads_back : (cs : List HfscClass) (c d rate other : ℕ) (h : HfscHistory) 
 leads_back cs c d rate other [] = omega arith
 leads_back cs c d rate other (e ∷ h) = omega arith
 
-both_back : (cs : List HfscClass) (c d : ℕ) (es h : HfscHistory) → AreBothActive cs c d es h → AreBothActive cs d c es h
+pub both_back : (cs : List HfscClass) (c d : ℕ) (es h : HfscHistory) → AreBothActive cs c d es h → AreBothActive cs d c es h
 both_back cs c d [] h both = tt
 both_back cs c d (e ∷ es) h both = (both.1, both.0, both_back cs c d es h both.2)
 
