@@ -1,11 +1,11 @@
 -- A class is active exactly where a packet is held in it or below it.
-use Rattle.std.proofs.Common.{◌≡◌, ◌≤◌, ◌<◌, ◌+◌, ◌-◌, ◌⊎◌, inl, inr, ℕ, zero, suc, Bool, true, false, List, [], ◌∷◌, ◌++◌, drop, length, refl, ap, sym, subst, arith, ◌∙◌}
+use Rattle.std.proofs.Common.{◌≡◌, ◌≤◌, ◌<◌, ◌+◌, ◌-◌, ◌⊎◌, inl, inr, ℕ, zero, suc, Bool, true, false, List, [], ◌∷◌, ◌++◌, drop, length, refl, ap, sym, arith, ◌∙◌}
 use Rattle.std.specs.Prelude.{◌&&◌, ◌==◌, nat_lt, not, if◌then◌else◌}
 use Rattle.std.proofs.lemmas.Bool.{cases_lt}
 use Rattle.std.proofs.lemmas.Bool.Decides.{nat_tests}
 use Rattle.hfsc_model.specs.declared.HfscClass.{HfscClass}
-use Rattle.hfsc_model.specs.Event.{HfscEvent, HfscHistory, Kept, Sent}
-use Rattle.hfsc_model.specs.Leaf.{Leaf, Waiting, after_kept, after_sent, is_waiting, leaf}
+use Rattle.hfsc_model.specs.Event.{HfscHistory, Kept, Sent}
+use Rattle.hfsc_model.specs.Leaf.{Waiting, after_kept, after_sent, is_waiting, leaf}
 use Rattle.hfsc_model.specs.Share.{active}
 use Rattle.hfsc_model.specs.Timely.{IsHead}
 use Rattle.hfsc_model.specs.Tree.{is_leaf, is_parent, is_under}

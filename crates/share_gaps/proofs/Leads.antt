@@ -1,13 +1,12 @@
 -- The computed leads are the greatest differences.
-use Rattle.std.proofs.Common.{◌≡◌, ◌≤◌, ◌<◌, ◌+◌, ◌-◌, ◌*◌, ◌⊎◌, inl, inr, ℕ, zero, suc, max, Bool, true, false, List, [], ◌∷◌, ◌++◌, refl, ap, sym, subst, arith, ◌∙◌}
+use Rattle.std.proofs.Common.{◌≡◌, ◌≤◌, ◌<◌, ◌+◌, ◌-◌, ◌*◌, ◌⊎◌, inl, inr, ℕ, zero, suc, max, Bool, true, false, List, [], ◌∷◌, ◌++◌, refl, ap, sym, subst, arith}
 use Rattle.std.specs.Prelude.{◌&&◌, if◌then◌else◌}
 use Rattle.play_base.specs.Units.{units}
 use Rattle.hfsc_model.specs.declared.HfscClass.{HfscClass}
 use Rattle.hfsc_model.specs.Event.{HfscEvent, HfscHistory, Kept, Sent}
 use Rattle.hfsc_model.specs.Share.{active, total}
 use Rattle.hfsc_model.specs.Tree.{is_under}
-use Rattle.hfsc_laws.proofs.Tree.{and_true}
-use Rattle.fair_shares.specs.Fairness.{AreBothActive, DifferBy, IsStretch, work}
+use Rattle.fair_shares.specs.Fairness.{AreBothActive, DifferBy, work}
 use Rattle.fair_shares.proofs.Events.{kept_active}
 use Rattle.share_gaps.specs.Greatest.{IsAhead, IsGreatest}
 use Rattle.share_gaps.specs.Leads.{gain, lead, most_lead}
@@ -127,7 +126,7 @@ pub leads_back : (cs : List HfscClass) (c d rate other : ℕ) (h : HfscHistory) 
 leads_back cs c d rate other [] = omega arith
 leads_back cs c d rate other (e ∷ h) = omega arith
 
-both_back : (cs : List HfscClass) (c d : ℕ) (es h : HfscHistory) → AreBothActive cs c d es h → AreBothActive cs d c es h
+pub both_back : (cs : List HfscClass) (c d : ℕ) (es h : HfscHistory) → AreBothActive cs c d es h → AreBothActive cs d c es h
 both_back cs c d [] h both = tt
 both_back cs c d (e ∷ es) h both = (both.1, both.0, both_back cs c d es h both.2)
 

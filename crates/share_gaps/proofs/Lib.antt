@@ -4,3 +4,5 @@ pub mod Ranges
 pub mod Updates
 pub mod Pairs
 pub mod Steps
+pub mod Bounds
+pub mod New

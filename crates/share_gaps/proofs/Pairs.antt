@@ -1,17 +1,15 @@
 -- What the rows are, and where the rows of a path stand.
-use Rattle.std.proofs.Common.{◌≡◌, ◌≤◌, ◌<◌, ◌+◌, ◌-◌, ◌⊎◌, inl, inr, ℕ, zero, suc, Bool, true, false, cond, List, [], ◌∷◌, ◌++◌, None, Some, length, map, get_or, refl, ap, sym, subst, arith, ◌∙◌}
-use Rattle.std.specs.Prelude.{Option, ◌&&◌, ◌||◌, ◌==◌, nat_lt, slice_get}
-use Rattle.std.specs.List.{filter, list_any, range_with_len, slice_index}
+use Rattle.std.proofs.Common.{◌≡◌, ◌≤◌, ◌<◌, ◌+◌, ℕ, zero, suc, Bool, true, false, cond, List, [], ◌∷◌, ◌++◌, None, Some, length, map, refl, ap, sym, arith, ◌∙◌}
+use Rattle.std.specs.Prelude.{Option, ◌||◌, ◌==◌, nat_lt, slice_get}
+use Rattle.std.specs.List.{filter, range_with_len, slice_index}
 use Rattle.std.proofs.lemmas.Bool.Decides.{nat_tests}
-use Rattle.std.proofs.lemmas.Option.{slice_get-get_or}
 use Rattle.hfsc_model.specs.declared.HfscClass.{HfscClass}
-use Rattle.hfsc_model.specs.Tree.{class_of, is_child, is_under, numbers, path, path_up, IsTree}
+use Rattle.hfsc_model.specs.Tree.{class_of, is_child, numbers, path, path_up, IsTree}
 use Rattle.hfsc_laws.proofs.Tree.{and_true, child_within}
-use Rattle.hfsc_share.proofs.Under.{IsUp, same_or_up, under_low}
+use Rattle.hfsc_share.proofs.Under.{under_low}
 use Rattle.share_gaps.specs.declared.siblings.Siblings.{Siblings}
-use Rattle.share_gaps.specs.declared.place.Place.{Place}
-use Rattle.share_gaps.specs.Rows.{IsPlace, are_siblings, first_in, firsts_in, is_in, pair, rows, rows_from, rows_of, second_in, seconds_in, share_parent}
-use Rattle.share_gaps.specs.Within.{AreWithin, IsWithin}
+use Rattle.share_gaps.specs.Rows.{are_siblings, first_in, firsts_in, is_in, pair, rows, rows_from, rows_of, second_in, seconds_in, share_parent}
+use Rattle.share_gaps.specs.Within.{AreWithin}
 use Rattle.share_gaps.proofs.Updates.{AreApart}
 
 -- two children of one class

@@ -1,6 +1,6 @@
 -- What passes among the first numbers.
 use Rattle.std.proofs.Common.{◌≡◌, ◌≤◌, ◌<◌, ◌+◌, ◌-◌, ℕ, zero, suc, Bool, true, false, cond, eqb, List, [], ◌∷◌, ◌++◌, None, Some, map, refl, ap, sym, arith, ◌∙◌}
-use Rattle.std.specs.Prelude.{Option, ◌==◌, ◌||◌}
+use Rattle.std.specs.Prelude.{Option, ◌||◌}
 use Rattle.std.specs.Option.{option_eq}
 use Rattle.std.specs.List.{filter, list_any, range_with_len}
 use Rattle.std.proofs.lemmas.List.FromFn.{filter_of_map_range_with_len_more}

@@ -1,7 +1,7 @@
 -- What a watch holds after a packet was kept or sent.
 use Rattle.std.proofs.Common.{◌≡◌, ◌≤◌, ◌<◌, ◌+◌, ◌-◌, ◌*◌, ◌^◌, ◌⊎◌, inl, inr, ℕ, zero, suc, min, max, Bool, true, false, List, [], ◌∷◌, None, Some, length, map, get_or, refl, ap, sym, subst, arith, ◌∙◌}
 use Rattle.std.specs.Prelude.{Option, ◌&&◌, ◌==◌, nat_lt, not, option_map, slice_get, if◌then◌else◌}
-use Rattle.std.specs.List.{filter, range_with_len, slice_index}
+use Rattle.std.specs.List.{slice_index}
 use Rattle.std.proofs.lemmas.Bool.{cases_lt}
 use Rattle.std.proofs.lemmas.Bool.Decides.{nat_tests}
 use Rattle.std.proofs.lemmas.Option.{get_or_from_slice_get, slice_get-get_or, slice_get-map, slice_get_within}
@@ -12,9 +12,9 @@ use Rattle.hfsc_model.specs.declared.HfscClass.{HfscClass}
 use Rattle.hfsc_model.specs.Event.{HfscHistory, Kept, Sent}
 use Rattle.hfsc_model.specs.Leaf.{leaf}
 use Rattle.hfsc_model.specs.Share.{active, or_zero, total}
-use Rattle.hfsc_model.specs.Timely.{IsHead, longest}
+use Rattle.hfsc_model.specs.Timely.{IsHead}
 use Rattle.hfsc_model.specs.Tree.{class_of, is_child, is_leaf, is_parent, is_under, no_class, path, IsTree}
-use Rattle.hfsc_laws.proofs.Tree.{and_true, child_within}
+use Rattle.hfsc_laws.proofs.Tree.{child_within}
 use Rattle.hfsc_policy.specs.Classes.{IsClassTree}
 use Rattle.hfsc_policy.specs.Heads.{AreHeads, IsSized, kept_in}
 use Rattle.hfsc_policy.proofs.Few.{are_few, head_sized}
@@ -24,15 +24,15 @@ use Rattle.fair_shares.proofs.Events.{child_has, one_over}
 use Rattle.share_gaps.specs.declared.lead.Lead.{Lead}
 use Rattle.share_gaps.specs.declared.place.Place.{Place}
 use Rattle.share_gaps.specs.declared.siblings.Siblings.{Siblings}
-use Rattle.share_gaps.specs.Leads.{gain, held, lead, most_lead}
+use Rattle.share_gaps.specs.Leads.{held, lead, most_lead}
 use Rattle.share_gaps.specs.Rows.{IsPlace, first_in, firsts_in, is_in, rows, second_in, seconds_in}
-use Rattle.share_gaps.specs.Serve.{after_gains, both_active, first_served, gain_of, held_to, one_less, one_more, rate_at, second_served, update_all}
+use Rattle.share_gaps.specs.Serve.{after_gains, both_active, first_served, gain_of, one_less, one_more, rate_at, second_served, update_all}
 use Rattle.share_gaps.specs.Watching.{Stand, lead_of, rate_in}
 use Rattle.share_gaps.specs.Within.{line_rate, rate_of}
 use Rattle.share_gaps.proofs.Held.{active_is_held}
 use Rattle.share_gaps.proofs.Leads.{lead_active, lead_within, leads_back, leads_in}
 use Rattle.share_gaps.proofs.Pairs.{IsPair, firsts_below, path_below, seconds_below, passes_apart, passes_in, path_apart, row_pair}
-use Rattle.share_gaps.proofs.Updates.{length_all, updated}
+use Rattle.share_gaps.proofs.Updates.{updated}
 
 -- no more packets are held than were kept
 held_few : (cs : List HfscClass) (c : ℕ) (h : HfscHistory) → held cs c h ≤ kept_in h
@@ -74,8 +74,8 @@ leads_kept cs s l at len h =
     (let one = leads_in cs s.first s.second (rate_in cs s.first) (rate_in cs s.second) h in
     let two = leads_back cs s.first s.second (rate_in cs s.first) (rate_in cs s.second) h in
     let same : max (most_lead cs s.first s.second (rate_in cs s.first) (rate_in cs s.second) h)
-        (max (lead cs s.first s.second (rate_in cs s.first) (rate_in cs s.second) h) (lead cs s.second s.first (rate_in cs s.second) (rate_in cs s.first) h))
-        ≡ most_lead cs s.first s.second (rate_in cs s.first) (rate_in cs s.second) h = omega (arith, one, two) in same)
+    (max (lead cs s.first s.second (rate_in cs s.first) (rate_in cs s.second) h) (lead cs s.second s.first (rate_in cs s.second) (rate_in cs s.first) h))
+    ≡ most_lead cs s.first s.second (rate_in cs s.first) (rate_in cs s.second) h = omega (arith, one, two) in same)
   where
     made : ℕ → ℕ → ℕ → Lead
     made a b m = record { first = a; second = b; most = m }

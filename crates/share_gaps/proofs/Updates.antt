@@ -1,6 +1,6 @@
 -- Places of a list that are changed one after another.
-use Rattle.std.proofs.Common.{◌≡◌, ◌≤◌, ◌<◌, ◌+◌, ◌⊎◌, inl, inr, ℕ, zero, suc, Bool, true, false, List, [], ◌∷◌, ◌++◌, None, Some, length, drop, take, get_or, refl, ap, sym, arith, ◌∙◌}
-use Rattle.std.specs.Prelude.{Option, option_map, slice_get, slice_set, if◌then◌else◌, ◌==◌, ◌||◌}
+use Rattle.std.proofs.Common.{◌≡◌, ◌<◌, ◌+◌, ℕ, zero, suc, Bool, true, false, List, [], ◌∷◌, ◌++◌, None, Some, length, drop, take, get_or, refl, ap, sym, subst, arith, ◌∙◌}
+use Rattle.std.specs.Prelude.{Option, option_map, replicate, slice_get, slice_set, if◌then◌else◌, ◌==◌, ◌||◌}
 use Rattle.std.proofs.lemmas.Bool.Decides.{nat_tests}
 use Rattle.std.proofs.lemmas.List.{length-set}
 use Rattle.std.proofs.lemmas.Option.{slice_get-get_or, slice_get_within}
@@ -81,3 +81,24 @@ taken {X} n xs ys e = ap (λ (m : ℕ). take m (xs ++ ys)) (sym e) ∙ all xs
 pub length_if : {X : Type 0} (f : ℕ → X → X) (b : Bool) (is : List ℕ) (xs : List X) → length {A = X} (if b then update_all f is xs else xs) ≡ length xs
 length_if {X} f true is xs = length_all f is xs
 length_if {X} f false is xs = refl
+
+pub length_push : {X : Type 0} (xs : List X) (x : X) → length (xs ++ x ∷ []) ≡ length xs + 1
+length_push {X} [] x = omega arith
+length_push {X} (y ∷ ys) x = let rest = length_push ys x in omega (arith, rest)
+
+-- what holds of each element and of one more holds of all
+pub push_each : {X : Type 0} (P : ℕ → X → Type 0) (xs : List X) (x : X) → ((c : ℕ) (y : X) → slice_get xs c ≡ Some y → P c y) → P (length xs) x
+    → (c : ℕ) (y : X) → slice_get (xs ++ x ∷ []) c ≡ Some y → P c y
+push_each {X} P [] x each last zero y e = let same : x ≡ y = cc in subst (P 0) same last
+push_each {X} P [] x each last (suc c) y e = absurd (none c e)
+  where
+    none : (c : ℕ) → slice_get {X = X} [] c ≡ Some y → ⊥
+    none zero f = cc
+    none (suc c) f = cc
+push_each {X} P (z ∷ zs) x each last zero y e = each 0 y e
+push_each {X} P (z ∷ zs) x each last (suc c) y e = push_each (λ (j : ℕ) (w : X). P (suc j) w) zs x (λ j w f. each (suc j) w f) last c y e
+
+pub get_same : {X : Type 0} (n c : ℕ) (x : X) → c < n → slice_get (replicate n x) c ≡ Some x
+get_same {X} zero c x low = absurd (omega (arith, low))
+get_same {X} (suc n) zero x low = refl
+get_same {X} (suc n) (suc c) x low = get_same n c x (omega (arith, low))

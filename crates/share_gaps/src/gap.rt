@@ -1,8 +1,8 @@
 //! The gap of two siblings, and its bound.
-ghost use Rattle.std.specs.Prelude.{◌≡◌, ◌≤◌, ◌<◌, ◌^◌};
-ghost use Rattle.service_curve.specs.Curve.{time_at};
+ghost use Rattle.std.specs.Prelude.{◌≡◌, ◌≤◌, ◌<◌, ◌^◌, max};
+ghost use Rattle.play_base.specs.Units.{ceil_div};
 ghost use Rattle.fair_shares.specs.Sharing.{bend_of, step_of};
-ghost use Rattle.share_gaps.specs.Bounds.{is_alone, most_of, shares_alone};
+ghost use Rattle.share_gaps.specs.Bounds.{bound_of, gap_of, is_alone, most_of, shares_alone};
 ghost use Rattle.share_gaps.specs.Within.{rate_of};
 
 use hfsc_model::HfscClass;
@@ -35,15 +35,15 @@ fn bend_of(curve: &Curve) -> u64
     if curve.m1 < curve.m2 { curve.d } else { 0 }
 }
 
-/// The time that so many units take at a slope, rounded up; 0 at the slope 0.
-fn time_at(slope: u64, amount: u128) -> u128
-    ensures is { result ≡ time_at slope amount }
+/// A quotient, rounded up; 0 where it is by 0.
+fn ceil_div(amount: u128, by: u128) -> u128
+    ensures is { result ≡ ceil_div amount by }
     ensures most { result ≤ amount }
 {
-    if slope == 0 {
+    if by == 0 {
         return 0;
     }
-    amount.div_ceil(u128::from(slope))
+    amount.div_ceil(by)
 }
 
 /// By how much, at most, so many units move the virtual time of a class with this curve.
@@ -54,7 +54,7 @@ fn step_of(curve: Option<Curve>, amount: u128) -> u128
 {
     match curve {
         None => 0,
-        Some(curve) => time_at(curve.m2, amount) + u128::from(bend_of(&curve)),
+        Some(curve) => { ceil_div(amount, u128::from(curve.m2)) + u128::from(bend_of(&curve)) }
     }
 }
 
@@ -78,6 +78,13 @@ pub fn are_alone(classes: &[HfscClass]) -> bool
     classes.iter().all(|class| is_alone(class))
 }
 
+/// The greater of two amounts.
+fn greater(one: u128, other: u128) -> u128
+    ensures { result ≡ max one other }
+{
+    one.max(other)
+}
+
 /// The greatest step of the children of a class for so many units.
 pub fn most_of(classes: &[HfscClass], parent: u32, amount: u128) -> u128
     requires { amount < 2 ^ 100 }
@@ -87,8 +94,27 @@ pub fn most_of(classes: &[HfscClass], parent: u32, amount: u128) -> u128
     let mut most = 0;
     for class in classes {
         if class.parent == Some(parent) {
-            most = most.max(step_of(class.share, amount));
+            most = greater(most, step_of(class.share, amount));
         }
     }
     most
+}
+
+/// The gap of two siblings at these rates, whose greatest difference is `most`.
+pub fn gap_of(most: u128, rate: Option<u64>, other: Option<u64>) -> Option<u128>
+    ensures { result ≡ gap_of most rate other }
+{
+    match (rate, other) {
+        (Some(rate), Some(other)) => { Some(ceil_div(most, u128::from(rate) * u128::from(other))) }
+        _ => None,
+    }
+}
+
+/// The bound of the gaps of the children of a class.
+pub fn bound_of(classes: &[HfscClass], parent: Option<u32>, amount: u128) -> Option<u128>
+    requires { amount < 2 ^ 100 }
+    ensures { result ≡ bound_of classes.now parent amount }
+{
+    let parent = parent?;
+    Some(2 * most_of(classes, parent, amount) + 2)
 }

@@ -2,6 +2,7 @@
 ghost use Rattle.std.specs.Prelude.{◌≡◌, ◌<◌, ◌≤◌, ◌^◌, ℕ, IfOk, length, slice_get};
 ghost use Rattle.hfsc_model.specs.Tree.{is_parent, path, IsTree};
 ghost use Rattle.share_gaps.specs.Rows.{first_in, firsts_in, is_in, IsPlace, second_in, seconds_in};
+ghost use Rattle.share_gaps.specs.Within.{ArePlaces};
 
 use crate::siblings::Siblings;
 use hfsc_model::HfscClass;
@@ -125,4 +126,22 @@ fn place_of(
         firsts,
         seconds,
     })
+}
+
+/// What stands above each class.
+pub fn places_of(
+    alloc: Global,
+    classes: &[HfscClass],
+    siblings: &[Siblings],
+) -> Result<Vec<Place>, NoMemory>
+    requires tree { IsTree classes.now }
+    requires count { length classes.now ≤ 256 }
+    requires rows { length siblings.now ≤ 65536 }
+    ensures { IfOk result (λ places. ArePlaces classes.now siblings.now places.items) }
+{
+    let mut places = Vec::with_capacity(alloc, classes.len())?;
+    for class in 0..classes.len() as u32 {
+        places.push(place_of(alloc, classes, siblings, class)?)?;
+    }
+    Ok(places)
 }

@@ -1,6 +1,6 @@
-use Rattle.std.proofs.Common.{◌≡◌, ◌<◌, ◌++◌, ◌∷◌, ◌∙◌, ◌-◌, ◌+◌, [], ℕ, List, None, Some, ap, sym, subst, arith, refl}
+use Rattle.std.proofs.Common.{◌++◌, ◌∙◌, ◌-◌, ◌+◌, ℕ, List, ap, sym, arith}
 use Rattle.std.specs.Prelude.{Option}
-use Rattle.hfsc_model.specs.Tree.{class_of, path, path_up}
+use Rattle.hfsc_model.specs.Tree.{class_of, path_up}
 use Rattle.share_gaps.proofs.Ranges.{path_all, path_full, path_more}
 use Rattle.share_gaps.proofs.place.path_of.Goals as goal
 

@@ -1,5 +1,5 @@
-use Rattle.std.proofs.Common.{◌≡◌, ◌<◌, ◌∙◌, ◌+◌, ℕ, List, length, get_or, ap, sym, arith, drop, Some, None, refl}
-use Rattle.std.specs.Prelude.{Option, slice_get, slice_set}
+use Rattle.std.proofs.Common.{◌≡◌, ◌∙◌, ◌+◌, ℕ, List, get_or, ap, sym, arith, drop, Some, None}
+use Rattle.std.specs.Prelude.{Option, slice_set}
 use Rattle.std.proofs.lemmas.List.{length-set}
 use Rattle.std.proofs.lemmas.Option.{slice_get-get_or}
 use Rattle.share_gaps.specs.declared.lead.Lead.{Lead}
@@ -19,9 +19,9 @@ loop-row-preserved c =
     let f = λ (j : ℕ) (x : Lead). second_served c.args.siblings.now c.args.waiting.now c.args.rates.now c.args.amount j x in
     let none : Lead = record { first = 0; second = 0; most = 0 } in
     let is : c.second_served.result ≡ second_served c.args.siblings.now c.args.waiting.now c.args.rates.now c.args.amount i (get_or xs i none) =
-        c.second_served.ensures
-        ∙ sym (ap (λ (o : Option Siblings). elim o [ None ↦ get_or xs i none | Some s ↦ after_gains (get_or xs i none) (both_active c.args.waiting.now s) 0 (gain_of c.args.amount (rate_at c.args.rates.now s.first)) ])
-        (slice_get-get_or c.args.siblings.now i (record { first = 0; second = 0 }) (let both = c.requires.leads in omega (arith, below, both)))) in
+    c.second_served.ensures
+    ∙ sym (ap (λ (o : Option Siblings). elim o [ None ↦ get_or xs i none | Some s ↦ after_gains (get_or xs i none) (both_active c.args.waiting.now s) 0 (gain_of c.args.amount (rate_at c.args.rates.now s.first)) ])
+    (slice_get-get_or c.args.siblings.now i (record { first = 0; second = 0 }) (let both = c.requires.leads in omega (arith, below, both)))) in
     record {
       rest = ap (λ (x : Lead). update_all f (drop (k + 1) path) (slice_set xs i x)) is
           ∙ sym (ap (λ (ys : List Lead). update_all f (drop (k + 1) path) ys) (update_here f i xs none (omega (arith, below, count))))

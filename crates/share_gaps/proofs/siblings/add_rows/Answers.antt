@@ -10,10 +10,10 @@ loop-second-preserved c =
     let k = c.loop-second.second in
     let old = c.args.rows.now.items in
     elim c.if-are_siblings.branch [
-      then-are_siblings+in_ok-push w ↦
+      | then-are_siblings+in_ok-push w ↦
           (let passes : are_siblings cs (pair c.args.first k) ≡ true = sym c.are_siblings.ensures ∙ w.if-are_siblings.true in
           let more = row_joins cs c.args.first k old passes in cc (more, c.loop-second.invariant, w.in_ok-push.ensures.items, w.rows-is))
-    | else-are_siblings w ↦
+      | else-are_siblings w ↦
           (let fails : are_siblings cs (pair c.args.first k) ≡ false = sym c.are_siblings.ensures ∙ w.if-are_siblings.false in
           let more = row_stays cs c.args.first k old fails in cc (more, c.loop-second.invariant, w.rows-is))
     ]

@@ -1,4 +1,3 @@
-use Rattle.std.proofs.Common.{◌≡◌, ◌++◌, ◌∙◌, ap, sym, List}
 use Rattle.share_gaps.proofs.Ranges.{rows_more}
 use Rattle.share_gaps.proofs.siblings.rows_of.Goals as goal
 

@@ -1,4 +1,4 @@
-use Rattle.std.proofs.Common.{◌≡◌, ◌++◌}
+use Rattle.std.proofs.Common.{◌≡◌}
 use Rattle.std.specs.List.{range_with_len}
 use Rattle.share_gaps.specs.Rows.{rows_from}
 use Rattle.share_gaps.proofs.siblings.rows_of.Given as goal
