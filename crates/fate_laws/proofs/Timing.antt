@@ -196,6 +196,7 @@ longest_within p rate seed arrived (e ∷ g) some f k = step f.0 (longest_within
         let grows = longest_more (rows_for arrived (journal g)) (rows_for arrived js) in
         let same = ap longest_sent (rows_append arrived (journal g) js) in
         omega (arith, le, grows, same)
+
     step : IsOffer p rate seed (comings arrived) g e ⊎ IsSending p rate (comings arrived) g e → longest (hfsc_history (bare g)) ≤ longest_sent (rows_for arrived (journal g))
         → EachFollows p rate seed (comings arrived) g → IsOfArrival (comings arrived) e.label e.what
         → longest (hfsc_history (bare (e ∷ g))) ≤ longest_sent (rows_for arrived (journal (e ∷ g)))
@@ -254,9 +255,10 @@ row_timely curves most before r (fate.Sent start end rule) (Some s) e t =
 each_timely : (curves : List (Option Curve)) (most : ℕ) (before xs : List Row)
     → ((c : ℕ) (s : Curve) → curve_at curves c ≡ Some s → AreTimely s most (sent_rows c (newest_first xs before))) → EachRow (EndsInTime curves most) before xs
 each_timely curves most before [] t = tt
-each_timely curves most before (r ∷ xs) t =
-    (row_timely curves most before r r.fate (curve_at curves r.class) refl (λ s e. older s most r.class (r ∷ before) xs (t r.class s e)),
-      each_timely curves most (r ∷ before) xs t)
+each_timely curves most before (r ∷ xs) t = (
+  row_timely curves most before r r.fate (curve_at curves r.class) refl (λ s e. older s most r.class (r ∷ before) xs (t r.class s e)),
+  each_timely curves most (r ∷ before) xs t,
+)
 
 pub timely_passes : (p : Policy) (rate seed : ℕ) (curves tested : List (Option Curve)) (arrived : List Arrival) (g : List Happened) → 0 < rate
     → HasLaws p rate seed (comings arrived) g → ((c : ℕ) → curve_at tested c ≡ curve_of curves c) → IsTimely rate curves (hfsc_history (bare g))
