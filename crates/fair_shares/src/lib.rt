@@ -41,8 +41,8 @@ pub fn least_virtual_times_never_fall()
     ensures stretch { (cs : List HfscClass) (stretch h : HfscHistory) → HaveSlopes cs → LeastRises cs stretch h }
 {}
 
-/// Two siblings of linear curves, of the rates r1 and r2, get their shares in every stretch of a history in which both stay active: the
-/// units W1 and W2 that are sent in them or below them fulfil |W1·r2 − W2·r1| ≤ (2·Δ + 2)·r1·r2.
+/// Two siblings of linear curves, of the rates r and s, get their shares in every stretch of a history in which both stay active: the
+/// units v and w that are sent in them or below them fulfil |v·s − w·r| ≤ (2·Δ + 2)·r·s.
 pub fn shares_are_fair()
     ensures choices { (cs : List HfscClass) (h : HfscHistory) → ShareAlone cs → AreChoices cs h → IsFair cs h }
     ensures histories { (cs : List HfscClass) (answer : Answering) (h : List Event) → ShareAlone cs → IsOrderly (hfsc_policy cs answer) h
