@@ -37,7 +37,7 @@ pub record Course (a b c : View) (n : Names) : Type 0 where
   pub none : NoneAppears b c
   pub part : (f p : ℕ) → b.part f ≡ Some p → c.part f ≡ Some p
   pub name : (f p : ℕ) → b.part f ≡ Some p → c.name f ≡ b.name f
-  pub named : AreNamed a b n.arrivals n.departures n.fates n.stats 6
+  pub named : AreNamed a b n 6
   pub distinct : AreDistinct n.config n.arrivals n.departures n.fates n.stats
 
 pub course_parts : (a b c : View) (n : Names) (s : Course a b c n) → HaveParts a c s.far.end
@@ -56,8 +56,8 @@ course_high a b c n s f p fresh e = s.far.not_config f p fresh (there_then b c f
 course_few : (a b c : View) (n : Names) → Course a b c n → TakesFew a c n.config
 course_few a b c n s = λ t f fresh e. let l = course_high a b c n s f 1 fresh e in absurd (omega (arith, l))
 
-course_named : (a b c : View) (n : Names) → Course a b c n → AreNamed a c n.arrivals n.departures n.fates n.stats 6
-course_named a b c n s = named_same a b c n.arrivals n.departures n.fates n.stats 6 s.named s.none s.part s.name
+course_named : (a b c : View) (n : Names) → Course a b c n → AreNamed a c n 6
+course_named a b c n s = named_same a b c n 6 s.named s.none s.part s.name
 
 -- what every name but the three held and every file of such a name had left it keeps
 pub course_keeps : (a b c : View) (n : Names) → Course a b c n
@@ -81,7 +81,7 @@ course_keeps a b c n s bytes left name rs ws fs = record {
 
 -- where the play did not begin
 pub course_opened : (a b : View) (n : Names) → AreDistinct n.config n.arrivals n.departures n.fates n.stats
-    → OpenedFar a b n.departures n.fates n.stats → AreNamed a b n.arrivals n.departures n.fates n.stats 6 → Course a b b n
+    → OpenedFar a b n.departures n.fates n.stats → AreNamed a b n 6 → Course a b b n
 course_opened a b n d far named = record {
   far = far;
   tells = refl;

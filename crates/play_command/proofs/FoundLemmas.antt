@@ -46,7 +46,7 @@ found_failed a b c n i o seed f s why front stats =
 -- its files were not all there
 pub found_unopened : (a b : View) (n : Names) (i : Interface) (seed : ℕ) (f : PlayFault) → HaveLaws → Accepts a n.config n.interface i
     → AreDistinct n.config n.arrivals n.departures n.fates n.stats → OpenCauses a b n.arrivals f → OpenedFar a b n.departures n.fates n.stats
-    → AreNamed a b n.arrivals n.departures n.fates n.stats 6
+    → AreNamed a b n 6
     → (IsAbsent a n.arrivals → (m : List ℕ) → b.bytes m ≡ a.bytes m) → PlayEnds a b n seed (Err (play_failure f))
 found_unopened a b n i seed f laws accepted d why far named absent =
     let course = course_opened a b n d far named in

@@ -129,7 +129,7 @@ front_by u v c part name text k e (inr x) = inr x
 stats_by : (u v c : View) (n : Names) (x : Setup) (records : List Record) → (Untouched u c 5 → Untouched v c 5) → u.bytes n.stats ≡ v.bytes n.stats
     → HasStatsFront u c n x records → HasStatsFront v c n x records
 stats_by u v c n x records k e (inl h) = inl (front_by u v c 5 n.stats [] k e h)
-stats_by u v c n x records k e (inr h) = inr (h.0, h.1, front_by u v c 5 n.stats _ k e h.2)
+stats_by u v c n x records k e (inr h) = inr (h.0, h.1, h.2, front_by u v c 5 n.stats _ k e h.3)
 
 pub record SameOutputs (u v c : View) (n : Names) : Type 0 where
   pub untouched : (part : ℕ) → 3 ≤ part → Untouched u c part → Untouched v c part
@@ -167,7 +167,7 @@ fronts_whole u c n seed played = λ t given records last reads is_last.
       begun = record { events = y.play.play.events; in_time = y.play.in_time };
       departures = inr (_, [], y.texts.departures, append-nil _);
       fates = inr (_, [], y.texts.fates, append-nil _);
-      stats = inr (y.history, y.play.play, inr (_, [], y.stats, append-nil _));
+      stats = inr (y.history, y.play.play, y.texts, inr (_, [], y.stats, append-nil _));
     }))
 
 -- a play that is seen from one view is seen from an earlier one with the same configuration, arrivals and outputs

@@ -56,9 +56,15 @@ pub front_after : (u v w : View) (part : ℕ) (name text : List ℕ) → OnlySay
 front_after u v w part name text o (inl x) = inl (untouched_after u v w part o x.0, o.keeps.bytes name tt ∙ x.1)
 front_after u v w part name text o (inr x) = inr (x.0, x.1, o.keeps.bytes name tt ∙ x.2, x.3)
 
+texts_after : (v w : View) (n : Names) (x : Setup) (records : List Record) (g : List Happened) → OnlySays v w → HoldTexts v n x records g → HoldTexts w n x records g
+texts_after v w n x records g o h = record {
+  departures = o.keeps.bytes n.departures tt ∙ h.departures;
+  fates = o.keeps.bytes n.fates tt ∙ h.fates;
+}
+
 stats_after : (u v w : View) (n : Names) (x : Setup) (records : List Record) → OnlySays v w → HasStatsFront u v n x records → HasStatsFront u w n x records
 stats_after u v w n x records o (inl h) = inl (front_after u v w 5 n.stats _ o h)
-stats_after u v w n x records o (inr h) = inr (h.0, h.1, front_after u v w 5 n.stats _ o h.2)
+stats_after u v w n x records o (inr h) = inr (h.0, h.1, texts_after v w n x records h.0 o h.2, front_after u v w 5 n.stats _ o h.3)
 
 has_fronts_after : (u v w : View) (n : Names) (x : Setup) (records : List Record) → OnlySays v w → HasFronts u v n x records → HasFronts u w n x records
 has_fronts_after u v w n x records o h = record {
@@ -71,12 +77,6 @@ has_fronts_after u v w n x records o h = record {
 
 pub fronts_after : (u v w : View) (n : Names) (seed : ℕ) → OnlySays v w → Fronts u v n seed → Fronts u w n seed
 fronts_after u v w n seed o h = λ t a records last r l. has_fronts_after u v w n _ records o (h t a records last r l)
-
-texts_after : (v w : View) (n : Names) (x : Setup) (records : List Record) (g : List Happened) → OnlySays v w → HoldTexts v n x records g → HoldTexts w n x records g
-texts_after v w n x records g o h = record {
-  departures = o.keeps.bytes n.departures tt ∙ h.departures;
-  fates = o.keeps.bytes n.fates tt ∙ h.fates;
-}
 
 has_offered_after : (v w : View) (n : Names) (x : Setup) (records : List Record) → OnlySays v w → HasOffered v n x records → HasOffered w n x records
 has_offered_after v w n x records o h = record {

@@ -55,7 +55,7 @@ pub record Steps (a b c : View) (n : Names) (i : Interface) (o : Opened) : Type 
   pub accepted : Accepts a n.config n.interface i
   pub opened : AreOpened a b n.arrivals n.departures n.fates n.stats o
   pub far : OpenedFar a b n.departures n.fates n.stats
-  pub named : AreNamed a b n.arrivals n.departures n.fates n.stats 6
+  pub named : AreNamed a b n 6
   pub played : KeepsPlayed o b c
   pub none : NoneAppears b c
   pub said : c.said ≡ b.said
@@ -65,7 +65,7 @@ pub record Steps (a b c : View) (n : Names) (i : Interface) (o : Opened) : Type 
 
 pub steps_of : (a b c : View) (n : Names) (i : Interface) (o : Opened) → Accepts a n.config n.interface i
     → AreOpened a b n.arrivals n.departures n.fates n.stats o → OpenedFar a b n.departures n.fates n.stats
-    → AreNamed a b n.arrivals n.departures n.fates n.stats 6 → KeepsPlayed o b c → NoneAppears b c
+    → AreNamed a b n 6 → KeepsPlayed o b c → NoneAppears b c
     → c.said ≡ b.said → AreDistinct n.config n.arrivals n.departures n.fates n.stats → HaveLaws → IsConfigured i → Steps a b c n i o
 steps_of a b c n i o accepted opened far named played none said distinct laws configured = record {
   accepted = accepted;
@@ -200,7 +200,7 @@ stats_front a b c n i o x bytes records last s t left reads is_last (inr h) =
     let z = y.2 in
     let one = one_reading bytes y.0 records End last y.1 tt reads is_last in
     let P : List Record → Type 0 = λ q. HasStatsFront a c n x q in
-    subst P one.0 (inr (z.history, z.play, front_at a c 5 n.stats _ z.stats.written z.stats.rest (stats_held a b c n i o _ s t z.stats.holds) z.stats.split))
+    subst P one.0 (inr (z.history, z.play, texts_of a b c n i o x y.0 z.history s t z.texts, front_at a c 5 n.stats _ z.stats.written z.stats.rest (stats_held a b c n i o _ s t z.stats.holds) z.stats.split))
 
 pub fronts_of : (a b c : View) (n : Names) (i : Interface) (o : Opened) (seed : ℕ) (fault : PlayFault) → Steps a b c n i o → loop.Fronts (setup_of i seed) b c o
     → LeavesStats (setup_of i seed) b c o fault → Fronts a c n seed

@@ -84,7 +84,7 @@ pub record PlayIsTold (old : View) (n : Names) (seed : ℕ) (o : Outcome) : Type
 
 -- the name of a part in the words
 abbrev pub HasName : Names → (part : ℕ) → (name : List ℕ) → Type 0
-HasName n part name = ((part ≡ 1) × (name ≡ n.config)) ⊎ IsNamed n.arrivals n.departures n.fates n.stats part name
+HasName n part name = ((part ≡ 1) × (name ≡ n.config)) ⊎ IsNamed n part name
 
 -- what becomes of the files, whatever comes: each new file has the part of its name, and no part but the configuration's comes twice
 pub record FilesEnd (old new : View) (n : Names) : Type 0 where

@@ -11,6 +11,7 @@ use Rattle.play_loop.specs.declared.fault.PlayFault.{PlayFault}
 use Rattle.play_loop.specs.declared.fault.PlayFault.TheVariants as play
 use Rattle.play_loop.specs.Played.{AreReady}
 use Rattle.command_base.specs.Faults.{CannotRead, Untouched}
+use Rattle.command_base.specs.Names.{Names}
 
 -- nothing is claimed of a history
 abbrev pub Untold : List Happened → Type 0
@@ -49,15 +50,15 @@ pub record OpenedFar (old new : View) (dep fat stats : List ℕ) : Type 0 where
   pub said : new.said ≡ old.said
 
 -- the name of each part of a play
-abbrev pub IsNamed : (arr dep fat stats : List ℕ) → (part : ℕ) → (name : List ℕ) → Type 0
-IsNamed arr dep fat stats part name =
-    ((part ≡ 2) × (name ≡ arr)) ⊎ ((part ≡ 3) × (name ≡ dep)) ⊎ ((part ≡ 4) × (name ≡ fat)) ⊎ ((part ≡ 5) × (name ≡ stats))
+abbrev pub IsNamed : Names → (part : ℕ) → (name : List ℕ) → Type 0
+IsNamed n part name =
+    ((part ≡ 2) × (name ≡ n.arrivals)) ⊎ ((part ≡ 3) × (name ≡ n.departures)) ⊎ ((part ≡ 4) × (name ≡ n.fates)) ⊎ ((part ≡ 5) × (name ≡ n.stats))
 
 -- each new file has a part below `end` and, where the object tells, the name of that part; and no two have one part
-pub record AreNamed (old new : View) (arr dep fat stats : List ℕ) (end : ℕ) : Type 0 where
+pub record AreNamed (old new : View) (n : Names) (end : ℕ) : Type 0 where
   pub below : (f p : ℕ) → old.part f ≡ None → new.part f ≡ Some p → p < end
   pub once : (f g p : ℕ) → old.part f ≡ None → old.part g ≡ None → new.part f ≡ Some p → new.part g ≡ Some p → f ≡ g
-  pub named : IsTrue old.tells → (f p : ℕ) → old.part f ≡ None → new.part f ≡ Some p → IsNamed arr dep fat stats p (new.name f)
+  pub named : IsTrue old.tells → (f p : ℕ) → old.part f ≡ None → new.part f ≡ Some p → IsNamed n p (new.name f)
 
 -- the part of an output
 abbrev pub output_part : Output → ℕ

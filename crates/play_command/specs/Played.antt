@@ -69,11 +69,12 @@ IsFrontAt old new part name text =
     (Untouched old new part × (new.bytes name ≡ old.bytes name))
     ⊎ ((front : List ℕ) × (rest : List ℕ) × (new.bytes name ≡ Some front) × (front ++ rest ≡ text))
 
--- the statistics hold nothing, or a front of those of the whole play of these records
+-- the statistics hold nothing, or departures and fates hold exactly the texts of the whole play of these records, and the statistics a
+-- front of its own
 abbrev pub HasStatsFront : View → View → Names → Setup → List Record → Type 0
 HasStatsFront old new n x records =
     IsFrontAt old new 5 n.stats []
-    ⊎ ((g : List Happened) × IsPlay x.policy x.rate x.seed (comings (arrivals_in x records)) g
+    ⊎ ((g : List Happened) × IsPlay x.policy x.rate x.seed (comings (arrivals_in x records)) g × HoldTexts new n x records g
     × IsFrontAt old new 5 n.stats (statistics_of x (arrivals_in x records) g))
 
 -- departures and fates hold fronts of the texts of the first events of the play of these records

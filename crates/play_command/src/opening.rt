@@ -2,6 +2,7 @@
 ghost use Rattle.std.specs.Prelude.{◌≡◌, ℕ, List, IfOk, IfErr, OnOk};
 ghost use Rattle.play_base.specs.View.{IsAbsent, SameCounts, View};
 ghost use Rattle.play_words.specs.Words.{AreDistinct};
+ghost use Rattle.command_base.specs.Names.{names_read};
 ghost use Rattle.play_command.specs.Opening.{AreNamed, AreOpened, OpenCauses, OpenedFar, create_fault};
 
 use play_base::{Files, Trouble};
@@ -24,8 +25,7 @@ pub fn open_files<F: Files>(files: &mut F, words: &PlayWords<'_>) -> Result<Open
     requires { AreDistinct words.now.config.now words.now.arrivals.now words.now.departures.now words.now.fates.now words.now.stats.now }
     ensures opened { IfOk result (AreOpened (F.view files.old) (F.view files.new) words.now.arrivals.now words.now.departures.now
         words.now.fates.now words.now.stats.now) }
-    ensures named { AreNamed (F.view files.old) (F.view files.new) words.now.arrivals.now words.now.departures.now words.now.fates.now
-        words.now.stats.now 6 }
+    ensures named { AreNamed (F.view files.old) (F.view files.new) (names_read words.now) 6 }
     ensures far { OpenedFar (F.view files.old) (F.view files.new) words.now.departures.now words.now.fates.now words.now.stats.now }
     ensures why { IfErr result (OpenCauses (F.view files.old) (F.view files.new) words.now.arrivals.now) }
     ensures absent { IsAbsent (F.view files.old) words.now.arrivals.now → (n : List ℕ) → (F.view files.new).bytes n ≡ (F.view files.old).bytes n }

@@ -105,6 +105,7 @@ begins_stats x stood u v w o t r k p s = inr (λ told bytes l.
       record {
         history = z.history;
         play = z.play.play;
+        texts = texts_beside x u v w o y.0 z.history _ r k s.1 z.texts;
         stats = record {
           written = take s.0 text;
           rest = drop s.0 text;

@@ -155,10 +155,11 @@ Explains x stood old new o (play.Limit limit.Capture) = Offers x stood old new o
 Explains x stood old new o (play.Limit limit.Clock) = IsLate x stood old new o
 Explains x stood old new o play.NoMemory = Unit {0}
 
--- the statistics hold a front of those of the whole play of these records
+-- the statistics hold a front of those of the whole play of these records, behind departures and fates that hold all of its texts
 pub record HasBegunStats (x : Setup) (v : View) (o : Opened) (records : List Record) : Type 0 where
   pub history : List Happened
   pub play : IsPlay x.policy x.rate x.seed (comings (arrivals_in x records)) history
+  pub texts : HoldTexts v o x (arrivals_in x records) history
   pub stats : HoldsFront v o.stats (statistics_of x (arrivals_in x records) history)
 
 -- the statistics are empty, or the play ended and they hold a front of its statistics

@@ -3,6 +3,7 @@ use Rattle.std.proofs.Common.{ℕ, Err, ap, arith}
 use Rattle.std.specs.Prelude.{Result}
 use Rattle.play_base.specs.declared.trouble.Trouble.{Trouble}
 use Rattle.play_command.proofs.OpeningLemmas.{are_opened, cannot_read, far_four, far_none, far_opened, far_three, far_two, far_unchanged, unopened}
+use Rattle.command_base.specs.Names.{names_read}
 use Rattle.play_command.proofs.NamedLemmas.{named_four, named_less, named_none, named_one, named_three, named_two}
 use Rattle.play_command.proofs.opening.open_files.Goals as goal
 
@@ -43,23 +44,23 @@ returns-clause-far g c =
 
 -- each file has the part of its name
 pub returns-in-Err-Failed-clause-named : goal.returns-in-Err-Failed-clause-named
-returns-in-Err-Failed-clause-named g c = named_less _ _ _ _ _ _ _ 2 (omega arith) (named_none _ _ _ _ _) c.in-Err-Failed.ensures.refused
+returns-in-Err-Failed-clause-named g c = named_less _ _ _ (names_read c.args.words.now) 2 (omega arith) (named_none _ _) c.in-Err-Failed.ensures.refused
 
 pub returns-in-Err-NoMemory-clause-named : goal.returns-in-Err-NoMemory-clause-named
-returns-in-Err-NoMemory-clause-named g c = named_less _ _ _ _ _ _ _ 2 (omega arith) (named_none _ _ _ _ _) c.in-Err-NoMemory.ensures.refused
+returns-in-Err-NoMemory-clause-named g c = named_less _ _ _ (names_read c.args.words.now) 2 (omega arith) (named_none _ _) c.in-Err-NoMemory.ensures.refused
 
 pub returns-in-Err-clause-named : goal.returns-in-Err-clause-named
-returns-in-Err-clause-named g c = named_less _ _ _ _ _ _ _ 3 (omega arith) (named_one _ _ _ _ _ _ _ c.in-Ok.ensures.opened) c.in-Err.ensures.refused
+returns-in-Err-clause-named g c = named_less _ _ _ (names_read c.args.words.now) 3 (omega arith) (named_one _ _ _ _ c.in-Ok.ensures.opened) c.in-Err.ensures.refused
 
 pub returns-in-Err-create-clause-named : goal.returns-in-Err-create-clause-named
 returns-in-Err-create-clause-named g c =
-    named_less _ _ _ _ _ _ _ 4 (omega arith) (named_two _ _ _ _ _ _ _ _ _ c.in-Ok.ensures.opened c.in-Ok-create.ensures.created) c.in-Err-create.ensures.refused
+    named_less _ _ _ (names_read c.args.words.now) 4 (omega arith) (named_two _ _ _ _ _ _ c.in-Ok.ensures.opened c.in-Ok-create.ensures.created) c.in-Err-create.ensures.refused
 
 pub returns-in-Err-create-2-clause-named : goal.returns-in-Err-create-2-clause-named
 returns-in-Err-create-2-clause-named g c =
-    named_less _ _ _ _ _ _ _ 5 (omega arith)
-    (named_three _ _ _ _ _ _ _ _ _ _ _ c.in-Ok.ensures.opened c.in-Ok-create.ensures.created c.in-Ok-create-2.ensures.created) c.in-Err-create-2.ensures.refused
+    named_less _ _ _ (names_read c.args.words.now) 5 (omega arith)
+    (named_three _ _ _ _ _ _ _ _ c.in-Ok.ensures.opened c.in-Ok-create.ensures.created c.in-Ok-create-2.ensures.created) c.in-Err-create-2.ensures.refused
 
 pub returns-clause-named : goal.returns-clause-named
 returns-clause-named g c =
-    named_four _ _ _ _ _ _ _ _ _ _ _ _ _ c.in-Ok.ensures.opened c.in-Ok-create.ensures.created c.in-Ok-create-2.ensures.created c.in-Ok-create-3.ensures.created
+    named_four _ _ _ _ _ (names_read c.args.words.now) _ _ _ _ c.in-Ok.ensures.opened c.in-Ok-create.ensures.created c.in-Ok-create-2.ensures.created c.in-Ok-create-3.ensures.created
