@@ -1,30 +1,26 @@
 -- How a check ends, by what its configuration is and by whether its answer is said; and what is told of it.
-use Rattle.std.proofs.Common.{◌≡◌, ◌∙◌, ◌⊎◌, ℕ, List, Ok, Err, sym, subst, refl, inl, inr}
+use Rattle.std.proofs.Common.{◌≡◌, ◌⊎◌, ℕ, List, Ok, Err, sym, subst, refl, inl, inr}
 use Rattle.std.specs.Prelude.{IsTrue, OnErr}
 use Rattle.admission.specs.declared.Fit.{Fit}
-use Rattle.conf_lines.specs.declared.fault.ConfPlace.{ConfPlace}
 use Rattle.conf_tree.specs.declared.interface.Interface.{Interface}
 use Rattle.play_base.specs.View.{View, Any, Rose}
 use Rattle.play_base.specs.declared.trouble.Trouble.{Trouble}
 use Rattle.play_base.specs.declared.trouble.Trouble.TheVariants as trouble
-use Rattle.command_base.specs.Configuration.{Accepts, Refused, Says, TooLong}
-use Rattle.command_base.specs.Faults.{IsQuiet}
+use Rattle.command_base.specs.Configuration.{Accepts}
 use Rattle.command_base.specs.Input.{ConfigCauses, EndsAtConfig}
 use Rattle.command_base.specs.Outcome.{IsOrMemory, Outcome, config_failure, say_failure}
-use Rattle.command_base.specs.Telling.{Ends, HasMessage, IsTold, OnlySays}
-use Rattle.command_base.specs.declared.done.Done.{Done}
+use Rattle.command_base.specs.Telling.{Ends, IsTold, OnlySays}
 use Rattle.command_base.specs.declared.done.Done.TheVariants as done
 use Rattle.command_base.specs.declared.failure.Failure.{Failure}
 use Rattle.command_base.specs.declared.failure.Failure.TheVariants as failure
 use Rattle.command_base.specs.declared.fault.ConfigFault.{ConfigFault}
 use Rattle.command_base.specs.declared.fault.ConfigFault.TheVariants as conf
 use Rattle.command_base.specs.declared.parts.ReadPart.TheVariants as read
-use Rattle.command_base.specs.declared.parts.RunLimit.TheVariants as limit
 use Rattle.command_base.specs.declared.parts.WrittenPart.TheVariants as written
 use Rattle.command_base.specs.declared.status.Status.{Status}
 use Rattle.command_base.proofs.ConfLemmas.{config_not, is_memory, long_not, refused_not, told_long, told_place}
 use Rattle.command_base.proofs.SayingLemmas.{config_after, message_behind, quiet_before, read_after, says_only, write_after}
-use Rattle.check_command.specs.Checking.{CheckComes, CheckEnds, CheckFails, CheckIsTold, IsChecked}
+use Rattle.check_command.specs.Checking.{CheckEnds, CheckFails, CheckIsTold, IsChecked}
 
 -- the configuration cannot be used
 config_fails : (u v : View) (config interface : List ℕ) (f : ConfigFault) → ConfigCauses u v config interface f → CheckFails u v config interface (config_failure f)
@@ -77,20 +73,9 @@ done_ends u v config interface found fit a x leaves = record {
 
 -- a failure is told
 fails_after : (u v w : View) (config interface : List ℕ) (f : Failure) → OnlySays v w → CheckFails u v config interface f → CheckFails u w config interface f
-fails_after u v w config interface (failure.Words fault) o x = x
-fails_after u v w config interface (failure.Configuration place) o x = x
-fails_after u v w config interface (failure.Capture damage) o x = x
 fails_after u v w config interface (failure.Read read.Configuration) o x = read_after u v w 1 config o x
-fails_after u v w config interface (failure.Read read.Arrivals) o x = x
-fails_after u v w config interface (failure.Write written.Departures) o x = x
-fails_after u v w config interface (failure.Write written.Fates) o x = x
-fails_after u v w config interface (failure.Write written.Statistics) o x = x
-fails_after u v w config interface (failure.Write written.Arrivals) o x = x
 fails_after u v w config interface (failure.Write written.Answer) o x = (write_after u v w 0 o x.0, x.1)
-fails_after u v w config interface (failure.Limit limit.Capture) o x = x
-fails_after u v w config interface (failure.Limit limit.Clock) o x = x
-fails_after u v w config interface (failure.Limit limit.Configuration) o x = x
-fails_after u v w config interface failure.NoMemory o x = x
+fails_after u v w config interface other o x = x
 
 ends_after : (u v w : View) (config interface : List ℕ) (f g : Failure) → OnlySays v w → CheckEnds u v config interface (Err f)
     → (g ≡ f) ⊎ (g ≡ failure.NoMemory) → CheckEnds u w config interface (Err g)

@@ -11,7 +11,6 @@ use Rattle.command_base.specs.Configuration.{Accepts, Configures, Refused, Said,
 use Rattle.command_base.specs.Faults.{CannotRead, IsQuiet}
 use Rattle.command_base.specs.Input.{EndsAtConfig}
 use Rattle.command_base.specs.Outcome.{IsOrMemory, Outcome}
-use Rattle.command_base.specs.declared.done.Done.{Done}
 use Rattle.command_base.specs.declared.done.Done.TheVariants as done
 use Rattle.command_base.specs.declared.failure.Failure.{Failure}
 use Rattle.command_base.specs.declared.failure.Failure.TheVariants as failure
@@ -33,28 +32,19 @@ pub record IsChecked (old new : View) (config interface : List ℕ) (fit : Fit) 
   pub checked : IsTrue old.tells → HasChecked old new config interface fit
   pub no_fault : SameCounts old new
 
--- when each failure comes: the answer is printed only once the configuration is accepted
+-- when each failure comes, and no other: the answer is printed only once the configuration is accepted
 abbrev pub CheckFails : View → View → (config interface : List ℕ) → Failure → Type 0
-CheckFails old new config interface (failure.Words fault) = ⊥
 CheckFails old new config interface (failure.Configuration place) = IsTrue old.tells → Says old config interface (Refused place)
-CheckFails old new config interface (failure.Capture damage) = ⊥
 CheckFails old new config interface (failure.Read read.Configuration) = CannotRead old new 1 config
-CheckFails old new config interface (failure.Read read.Arrivals) = ⊥
-CheckFails old new config interface (failure.Write written.Departures) = ⊥
-CheckFails old new config interface (failure.Write written.Fates) = ⊥
-CheckFails old new config interface (failure.Write written.Statistics) = ⊥
-CheckFails old new config interface (failure.Write written.Arrivals) = ⊥
+CheckFails old new config interface (failure.Limit limit.Configuration) = IsTrue old.tells → Says old config interface TooLong
 CheckFails old new config interface (failure.Write written.Answer) =
     Rose (old.write_faults 0) (new.write_faults 0) × ((found : Interface) × Accepts old config interface found)
-CheckFails old new config interface (failure.Limit limit.Capture) = ⊥
-CheckFails old new config interface (failure.Limit limit.Clock) = ⊥
-CheckFails old new config interface (failure.Limit limit.Configuration) = IsTrue old.tells → Says old config interface TooLong
 CheckFails old new config interface failure.NoMemory = Unit {0}
+CheckFails old new config interface other = ⊥
 
 abbrev pub CheckComes : View → View → (config interface : List ℕ) → Outcome → Type 0
-CheckComes old new config interface (Ok done.Played) = ⊥
-CheckComes old new config interface (Ok done.Made) = ⊥
 CheckComes old new config interface (Ok (done.Checked fit)) = IsChecked old new config interface fit
+CheckComes old new config interface (Ok other) = ⊥
 CheckComes old new config interface (Err failure) = CheckFails old new config interface failure
 
 -- what can be checked

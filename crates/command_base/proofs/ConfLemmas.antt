@@ -1,5 +1,5 @@
 -- What the text of a configuration says is one thing.
-use Rattle.std.proofs.Common.{◌≡◌, ◌≤◌, ◌∙◌, ◌⊎◌, ℕ, Bool, true, false, length, List, None, Some, Result, Err, ap, sym, refl, inl, inr, arith}
+use Rattle.std.proofs.Common.{◌≡◌, ◌≤◌, ◌∙◌, ℕ, Bool, true, false, length, List, None, Some, Result, Err, ap, sym, refl, inl, inr, arith}
 use Rattle.std.specs.Prelude.{IsSome, IsTrue, nat_lt, if◌then◌else◌}
 use Rattle.std.specs.declared.option.Option.{Option}
 use Rattle.conf_lines.specs.declared.fault.ConfPlace.{ConfPlace}
@@ -88,9 +88,6 @@ config_not u v config interface i conf.TooLong t q x c = absurd (long_not u conf
 config_not u v config interface i conf.Read t q x (inl c) = absurd ((q 1 (omega arith)).0 c)
 config_not u v config interface i conf.Read t q x (inr c) = absurd (no_bytes x.says.text (sym c.1 ∙ x.says.at))
 config_not u v config interface i conf.NoMemory t q x c = refl
-
-pub or_memory : (f g : Failure) → f ≡ g → IsOrMemory (Err f) (Err g)
-or_memory f g e = inl (ap {B = Result Done Failure} (λ (h : Failure). Err h) e)
 
 pub is_memory : (f : Failure) (o : Outcome) → f ≡ failure.NoMemory → IsOrMemory (Err f) o
 is_memory f o e = inr (ap {B = Result Done Failure} (λ (h : Failure). Err h) e)

@@ -1,11 +1,10 @@
 -- What holds of the files of a command before something is said holds of them after it.
-use Rattle.std.proofs.Common.{◌≡◌, ◌≤◌, ◌++◌, ◌∙◌, ◌⊎◌, ℕ, List, None, Some, ap, sym, inl, inr}
-use Rattle.std.specs.Prelude.{IsTrue}
+use Rattle.std.proofs.Common.{◌≡◌, ◌≤◌, ◌++◌, ◌∙◌, ◌⊎◌, ℕ, List, Some, ap, sym, inl, inr}
 use Rattle.play_base.specs.View.{View, Any, Keeps, NoneAppears, Rose}
 use Rattle.play_base.proofs.ViewLaws.{keeps_trans, rose_before, rose_later}
 use Rattle.command_base.specs.Faults.{CannotRead, IsQuiet, Untouched}
 use Rattle.command_base.specs.Input.{EndsAtConfig, OnlyReads, TakesFew}
-use Rattle.command_base.specs.Telling.{HasMessage, OnlySays, SaysOrFails, SaysOrNot}
+use Rattle.command_base.specs.Telling.{HasMessage, OnlySays, SaysOrFails}
 use Rattle.command_base.specs.declared.failure.Failure.{Failure}
 use Rattle.command_base.specs.declared.failure.Failure.TheVariants as failure
 use Rattle.command_base.proofs.PartLemmas.{none_some, there_or_not, there_then}
@@ -75,13 +74,8 @@ fails_behind : (N : List ℕ → Type 0) (F : ℕ → Type 0) (u v w : View) (te
 fails_behind N F u v w text k e x = λ t. or_fails u v w text e (k.later.write 0) (x (k.tells ∙ t))
 
 pub message_behind : (N : List ℕ → Type 0) (F : ℕ → Type 0) (u v w : View) (f : Failure) → Keeps N F u v → v.said ≡ u.said → HasMessage v w f → HasMessage u w f
-message_behind N F u v w (failure.Words fault) k e x = fails_behind N F u v w _ k e x
-message_behind N F u v w (failure.Configuration place) k e x = fails_behind N F u v w _ k e x
-message_behind N F u v w (failure.Capture damage) k e x = fails_behind N F u v w _ k e x
-message_behind N F u v w (failure.Read part) k e x = fails_behind N F u v w _ k e x
-message_behind N F u v w (failure.Write part) k e x = fails_behind N F u v w _ k e x
-message_behind N F u v w (failure.Limit limit) k e x = fails_behind N F u v w _ k e x
 message_behind N F u v w failure.NoMemory k e x = λ t. or_not u v w _ e (x (k.tells ∙ t))
+message_behind N F u v w other k e x = fails_behind N F u v w _ k e x
 
 -- where something was said and no more, the configuration is untouched
 pub says_only : (u w : View) (config : List ℕ) → OnlySays u w → EndsAtConfig u w config

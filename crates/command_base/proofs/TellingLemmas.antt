@@ -1,6 +1,5 @@
 -- What was printed of a failure, by how its message was said; and what was told of a command behind what was said before.
 use Rattle.std.proofs.Common.{◌≡◌, ◌++◌, ◌∙◌, ◌⊎◌, ℕ, List, ap, refl, inl, inr}
-use Rattle.std.specs.Prelude.{IsTrue}
 use Rattle.play_base.specs.View.{View, Rose, Said, Unchanged}
 use Rattle.play_base.proofs.ViewLaws.{keeps_trans}
 use Rattle.command_base.specs.Message.{message_of, out_of_memory}
@@ -15,13 +14,8 @@ or_not u v text (inl x) = inl x
 or_not u v text (inr x) = inr x.0
 
 has_message : (u v : View) (f : Failure) → SaysOrFails u v (message_of f) → HasMessage u v f
-has_message u v (failure.Words fault) x = x
-has_message u v (failure.Configuration place) x = x
-has_message u v (failure.Capture damage) x = x
-has_message u v (failure.Read part) x = x
-has_message u v (failure.Write part) x = x
-has_message u v (failure.Limit limit) x = x
 has_message u v failure.NoMemory x = λ t. or_not u v out_of_memory (x t)
+has_message u v other x = x
 
 pub said_told : (u v : View) (f : Failure) → Said u v (message_of f) → FailsTold u v f (failure_status f)
 said_told u v f x = record {

@@ -23,13 +23,8 @@ SaysOrFails old new text = IsTrue old.tells
 
 -- what is printed of a failure: its message, or nothing where that fails; where memory ran out, its message or nothing
 abbrev pub HasMessage : View → View → Failure → Type 0
-HasMessage old new (failure.Words fault) = SaysOrFails old new (message_of (failure.Words fault))
-HasMessage old new (failure.Configuration place) = SaysOrFails old new (message_of (failure.Configuration place))
-HasMessage old new (failure.Capture damage) = SaysOrFails old new (message_of (failure.Capture damage))
-HasMessage old new (failure.Read part) = SaysOrFails old new (message_of (failure.Read part))
-HasMessage old new (failure.Write part) = SaysOrFails old new (message_of (failure.Write part))
-HasMessage old new (failure.Limit limit) = SaysOrFails old new (message_of (failure.Limit limit))
 HasMessage old new failure.NoMemory = SaysOrNot old new out_of_memory
+HasMessage old new other = SaysOrFails old new (message_of other)
 
 -- and of what came of a command: of what is done nothing more than it says itself
 abbrev pub IsPrinted : View → View → Outcome → Type 0

@@ -7,7 +7,7 @@ use Rattle.generated.specs.Packets.{generated_capture}
 use Rattle.play_base.specs.View.{View, Keeps, NotNamed, OtherThan}
 use Rattle.play_base.proofs.ViewLaws.{keeps_fewer, keeps_trans}
 use Rattle.play_words.specs.Words.{AreDistinct}
-use Rattle.command_base.proofs.PartLemmas.{fresh_before, none_some, same_part, there_or_not}
+use Rattle.command_base.proofs.PartLemmas.{fresh_before, same_part, there_or_not}
 use Rattle.command_base.proofs.SayingLemmas.{there_before, few_after, untouched_after}
 use Rattle.command_base.specs.Configuration.{Accepts, AcceptsNone}
 use Rattle.command_base.specs.Faults.{Untouched}
@@ -15,12 +15,12 @@ use Rattle.command_base.specs.Input.{EndsAtConfig, TakesFew}
 use Rattle.command_base.specs.Names.{Names}
 use Rattle.command_base.specs.Telling.{OnlySays}
 use Rattle.make_command.proofs.SuppliedLemmas.{other_bytes, own_bytes}
-use Rattle.make_command.specs.Making.{IsBehindArrivals, KeepsOtherFour, MakeLeaves, OtherFour, supplied}
+use Rattle.make_command.specs.Making.{KeepsOtherFour, MakeLeaves, OtherFour, supplied}
 use Rattle.play_command.proofs.InputLemmas.{SameInput, SameOutputs, Starts, configures_by, fronts_from}
 use Rattle.play_command.proofs.SayingLemmas.{front_after, fronts_after, in_order_after, uncreated_after}
 use Rattle.play_command.specs.Ending.{FilesEnd, HasName}
 use Rattle.play_command.specs.Opening.{OtherThree}
-use Rattle.play_command.specs.Order.{IsInOrder, KeepUncreated}
+use Rattle.play_command.specs.Order.{IsInOrder}
 use Rattle.play_command.specs.Played.{Fronts, IsFrontAt}
 
 -- the configuration was read, and the arrivals' file was created and written, as far as this went

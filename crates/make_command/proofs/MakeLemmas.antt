@@ -1,5 +1,5 @@
 -- How `make` ends: at its configuration, at its arrivals, at the play of those, or at its summary.
-use Rattle.std.proofs.Common.{◌≡◌, ◌≤◌, ◌++◌, ◌∙◌, ◌⊎◌, ℕ, List, None, Some, Result, Ok, Err, ap, sym, refl, inl, inr, arith}
+use Rattle.std.proofs.Common.{◌≡◌, ◌≤◌, ◌++◌, ◌∙◌, ◌⊎◌, ℕ, List, None, Some, Ok, Err, ap, sym, refl, inl, inr, arith}
 use Rattle.std.specs.Prelude.{IsTrue}
 use Rattle.capture_model.specs.Capture.{IsCapture}
 use Rattle.conf_tree.specs.declared.interface.Interface.{Interface}
@@ -14,12 +14,11 @@ use Rattle.play_loop.specs.declared.fault.PlayFault.{PlayFault}
 use Rattle.play_loop.specs.declared.fault.PlayFault.TheVariants as play
 use Rattle.play_words.specs.Words.{AreDistinct}
 use Rattle.command_base.specs.Configuration.{Accepts, Configures}
-use Rattle.command_base.specs.Faults.{CannotRead, IsQuiet, Untouched}
+use Rattle.command_base.specs.Faults.{CannotRead, Untouched}
 use Rattle.command_base.specs.Input.{ConfigCauses, EndsAtConfig}
 use Rattle.command_base.specs.Names.{Names}
 use Rattle.command_base.specs.Outcome.{IsOrMemory, Outcome, config_failure, say_failure}
 use Rattle.command_base.specs.Telling.{OnlySays}
-use Rattle.command_base.specs.declared.done.Done.{Done}
 use Rattle.command_base.specs.declared.done.Done.TheVariants as done
 use Rattle.command_base.specs.declared.failure.Failure.{Failure}
 use Rattle.command_base.specs.declared.failure.Failure.TheVariants as failure
@@ -29,7 +28,7 @@ use Rattle.command_base.specs.declared.parts.WrittenPart.TheVariants as written
 use Rattle.command_base.proofs.ConfLemmas.{config_not, is_memory, long_not, no_bytes, refused_not, told_long, told_place}
 use Rattle.play_command.specs.Ending.{FilesEnd, IsAccepting, IsUnread, PlayEnds, PlayFails, PlayIsTold}
 use Rattle.play_command.specs.Failing.{play_failure}
-use Rattle.play_command.specs.Found.{HasPlayedTo, PlaysTo}
+use Rattle.play_command.specs.Found.{PlaysTo}
 use Rattle.play_command.specs.Played.{EndsLate, HasPlayed, IsCutShort}
 use Rattle.play_command.proofs.EndLemmas.{late_not_played}
 use Rattle.play_command.proofs.InputLemmas.{Starts, configures_by, fails_from, played_by, played_totals, quiet_from, told_from}

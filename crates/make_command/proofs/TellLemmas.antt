@@ -20,7 +20,7 @@ use Rattle.command_base.specs.declared.status.Status.{Status}
 use Rattle.command_base.proofs.SayingLemmas.{config_after, message_behind, quiet_before, read_after, says_only, untouched_after, write_after}
 use Rattle.play_command.specs.Played.{IsCutShort}
 use Rattle.play_command.proofs.SayingLemmas.{late_after, short_after}
-use Rattle.make_command.specs.Making.{LimitFails, MakeEnds, MakeFails, ReadFails, WasMade, WriteFails, supplied}
+use Rattle.make_command.specs.Making.{LimitFails, MakeEnds, MakeFails, ReadFails, WriteFails, supplied}
 use Rattle.make_command.proofs.MadeLemmas.{leaves_read, leaves_said}
 use Rattle.make_command.proofs.MakeLemmas.{memory_ends, was_made_said}
 
@@ -47,13 +47,11 @@ limits_after u v w n seed count limit.Clock o x = (x.0, λ t. late_after (suppli
 limits_after u v w n seed count limit.Configuration o x = (config_after u v w n.config o x.0, x.1)
 
 fails_after : (u v w : View) (n : Names) (seed count : ℕ) (f : Failure) → OnlySays v w → MakeFails u v n seed count f → MakeFails u w n seed count f
-fails_after u v w n seed count (failure.Words fault) o x = x
 fails_after u v w n seed count (failure.Configuration place) o x = (config_after u v w n.config o x.0, x.1)
-fails_after u v w n seed count (failure.Capture damage) o x = x
 fails_after u v w n seed count (failure.Read part) o x = reads_after u v w n seed count part o x
 fails_after u v w n seed count (failure.Write part) o x = writes_after u v w n seed count part o x
 fails_after u v w n seed count (failure.Limit l) o x = limits_after u v w n seed count l o x
-fails_after u v w n seed count failure.NoMemory o x = x
+fails_after u v w n seed count other o x = x
 
 ends_after : (u v w : View) (n : Names) (seed count : ℕ) (f g : Failure) → OnlySays v w → MakeEnds u v n seed count (Err f)
     → (g ≡ f) ⊎ (g ≡ failure.NoMemory) → MakeEnds u w n seed count (Err g)

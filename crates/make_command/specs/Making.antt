@@ -13,7 +13,6 @@ use Rattle.command_base.specs.Faults.{CannotRead, IsQuiet, Untouched}
 use Rattle.command_base.specs.Input.{EndsAtConfig, TakesFew}
 use Rattle.command_base.specs.Names.{Names}
 use Rattle.command_base.specs.Outcome.{IsOrMemory, Outcome}
-use Rattle.command_base.specs.declared.done.Done.{Done}
 use Rattle.command_base.specs.declared.done.Done.TheVariants as done
 use Rattle.command_base.specs.declared.failure.Failure.{Failure}
 use Rattle.command_base.specs.declared.failure.Failure.TheVariants as failure
@@ -74,9 +73,8 @@ LimitFails old new n seed count limit.Capture = IsAccepting old n × (IsTrue old
 LimitFails old new n seed count limit.Clock = IsAccepting old n × (IsTrue old.tells → IsLate (supplied old n seed count) new n seed)
 LimitFails old new n seed count limit.Configuration = EndsAtConfig old new n.config × (IsTrue old.tells → Says old n.config n.interface TooLong)
 
--- when each failure comes: a generated capture has no damage
+-- when each failure comes, and no other: a generated capture has no damage
 abbrev pub MakeFails : View → View → Names → (seed count : ℕ) → Failure → Type 0
-MakeFails old new n seed count (failure.Words fault) = ⊥
 MakeFails old new n seed count (failure.Configuration place) =
     EndsAtConfig old new n.config × (IsTrue old.tells → Says old n.config n.interface (Refused place))
 MakeFails old new n seed count (failure.Capture damage) = IsAccepting old n × (IsTrue old.tells → ⊥)
@@ -84,11 +82,11 @@ MakeFails old new n seed count (failure.Read part) = ReadFails old new n seed co
 MakeFails old new n seed count (failure.Write part) = WriteFails old new n seed count part
 MakeFails old new n seed count (failure.Limit limit) = LimitFails old new n seed count limit
 MakeFails old new n seed count failure.NoMemory = Unit {0}
+MakeFails old new n seed count other = ⊥
 
 abbrev pub MakeComes : View → View → Names → (seed count : ℕ) → Outcome → Type 0
-MakeComes old new n seed count (Ok done.Played) = ⊥
 MakeComes old new n seed count (Ok done.Made) = IsMade old new n seed count
-MakeComes old new n seed count (Ok (done.Checked fit)) = ⊥
+MakeComes old new n seed count (Ok other) = ⊥
 MakeComes old new n seed count (Err failure) = MakeFails old new n seed count failure
 
 -- what must come, where the files tell and no count of faults rises but that of texts that could not be printed

@@ -13,7 +13,6 @@ use Rattle.play_words.specs.declared.words.PlayWords.{PlayWords}
 use Rattle.play_words.specs.Options.{make_app, takes_options}
 use Rattle.play_words.specs.Words.{AreDistinct, IsMake, Named, Words, are_distinct_in, are_distinct_names, count_in, count_of, differ, differ_from, make_refusal, most_packets, option_of, refusal, refusal_by, rows_read, seed_in, seed_of}
 use Rattle.command_base.specs.Names.{Names, names_of, names_read}
-use Rattle.command_base.specs.Outcome.{Outcome}
 use Rattle.command_base.specs.Telling.{Ends}
 use Rattle.command_base.specs.declared.status.Status.{Status}
 use Rattle.command_base.proofs.ConfLemmas.{same_number}

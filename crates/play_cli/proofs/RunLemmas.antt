@@ -10,7 +10,7 @@ use Rattle.play_words.specs.declared.words.Unread.TheVariants as why
 use Rattle.play_words.specs.declared.words.WordsFault.{WordsFault}
 use Rattle.command_base.specs.Faults.{CannotRead}
 use Rattle.command_base.specs.Names.{Names}
-use Rattle.command_base.specs.Outcome.{Outcome, failure_status, status_of}
+use Rattle.command_base.specs.Outcome.{Outcome, done_status, failure_status, status_of}
 use Rattle.command_base.specs.Telling.{Ends, FailsTold, OnlySays}
 use Rattle.command_base.specs.declared.done.Done.{Done}
 use Rattle.command_base.specs.declared.done.Done.TheVariants as done
@@ -69,51 +69,33 @@ not_refused o a h k = absurd (no (sym h ∙ k))
     no e = cc
 
 -- what a status says of an outcome
+done_zero : (d : Done) → (done_status d).code ≡ 0
+done_zero done.Played = refl
+done_zero done.Made = refl
+done_zero (done.Checked fit) = refl
+
+not_done : (d : Done) (k : ℕ) {A : Type 0} → (0 ≡ k → ⊥) → (done_status d).code ≡ k → A
+not_done d k differ e = absurd (differ (sym (done_zero d) ∙ e))
+
 words_of : (o : Outcome) → (status_of o).code ≡ 2 → (fault : WordsFault) × (o ≡ Err (failure.Words fault))
-words_of (Ok done.Played) e = absurd (omega (arith, e))
-words_of (Ok done.Made) e = absurd (omega (arith, e))
-words_of (Ok (done.Checked fit)) e = absurd (omega (arith, e))
+words_of (Ok d) e = not_done d 2 (λ h. omega (arith, h)) e
 words_of (Err (failure.Words fault)) e = (fault, refl)
-words_of (Err (failure.Configuration place)) e = absurd (omega (arith, e))
-words_of (Err (failure.Capture damage)) e = absurd (omega (arith, e))
-words_of (Err (failure.Read part)) e = absurd (omega (arith, e))
-words_of (Err (failure.Write part)) e = absurd (omega (arith, e))
-words_of (Err (failure.Limit limit)) e = absurd (omega (arith, e))
-words_of (Err failure.NoMemory) e = absurd (omega (arith, e))
+words_of (Err other) e = absurd (omega (arith, e))
 
 done_of : (o : Outcome) → (status_of o).code ≡ 0 → (d : Done) × (o ≡ Ok d)
 done_of (Ok d) e = (d, refl)
-done_of (Err (failure.Words fault)) e = absurd (omega (arith, e))
-done_of (Err (failure.Configuration place)) e = absurd (omega (arith, e))
-done_of (Err (failure.Capture damage)) e = absurd (omega (arith, e))
-done_of (Err (failure.Read part)) e = absurd (omega (arith, e))
-done_of (Err (failure.Write part)) e = absurd (omega (arith, e))
-done_of (Err (failure.Limit limit)) e = absurd (omega (arith, e))
 done_of (Err failure.NoMemory) e = absurd (omega (arith, e))
+done_of (Err other) e = absurd (omega (arith, e))
 
 read_of : (o : Outcome) → (status_of o).code ≡ 5 → (part : ReadPart) × (o ≡ Err (failure.Read part))
-read_of (Ok done.Played) e = absurd (omega (arith, e))
-read_of (Ok done.Made) e = absurd (omega (arith, e))
-read_of (Ok (done.Checked fit)) e = absurd (omega (arith, e))
-read_of (Err (failure.Words fault)) e = absurd (omega (arith, e))
-read_of (Err (failure.Configuration place)) e = absurd (omega (arith, e))
-read_of (Err (failure.Capture damage)) e = absurd (omega (arith, e))
+read_of (Ok d) e = not_done d 5 (λ h. omega (arith, h)) e
 read_of (Err (failure.Read part)) e = (part, refl)
-read_of (Err (failure.Write part)) e = absurd (omega (arith, e))
-read_of (Err (failure.Limit limit)) e = absurd (omega (arith, e))
-read_of (Err failure.NoMemory) e = absurd (omega (arith, e))
+read_of (Err other) e = absurd (omega (arith, e))
 
 written_of : (o : Outcome) → (status_of o).code ≡ 6 → (part : WrittenPart) × (o ≡ Err (failure.Write part))
-written_of (Ok done.Played) e = absurd (omega (arith, e))
-written_of (Ok done.Made) e = absurd (omega (arith, e))
-written_of (Ok (done.Checked fit)) e = absurd (omega (arith, e))
-written_of (Err (failure.Words fault)) e = absurd (omega (arith, e))
-written_of (Err (failure.Configuration place)) e = absurd (omega (arith, e))
-written_of (Err (failure.Capture damage)) e = absurd (omega (arith, e))
-written_of (Err (failure.Read part)) e = absurd (omega (arith, e))
+written_of (Ok d) e = not_done d 6 (λ h. omega (arith, h)) e
 written_of (Err (failure.Write part)) e = (part, refl)
-written_of (Err (failure.Limit limit)) e = absurd (omega (arith, e))
-written_of (Err failure.NoMemory) e = absurd (omega (arith, e))
+written_of (Err other) e = absurd (omega (arith, e))
 
 code_is : (E : Outcome → Type 0) (u w : View) (s : Status) (k : ℕ) (x : Ends E u w s) → s.code ≡ k → (status_of x.outcome).code ≡ k
 code_is E u w s k x e = ap (λ (t : Status). t.code) (sym x.status) ∙ e
@@ -136,18 +118,15 @@ write_met E u w s x means e = let y = written_of x.outcome (code_is E u w s 6 x 
 
 pub play_counts : (u w : View) (n : Names) (seed : ℕ) (d : Done) → PlayEnds u w n seed (Ok d) → SameCounts u w
 play_counts u w n seed done.Played x = x.comes.no_fault
-play_counts u w n seed done.Made x = absurd x.comes
-play_counts u w n seed (done.Checked fit) x = absurd x.comes
+play_counts u w n seed other x = absurd x.comes
 
 pub check_counts : (u w : View) (config interface : List ℕ) (d : Done) → CheckEnds u w config interface (Ok d) → SameCounts u w
-check_counts u w config interface done.Played x = absurd x.comes
-check_counts u w config interface done.Made x = absurd x.comes
 check_counts u w config interface (done.Checked fit) x = x.comes.no_fault
+check_counts u w config interface other x = absurd x.comes
 
 pub make_counts : (u w : View) (n : Names) (seed count : ℕ) (d : Done) → MakeEnds u w n seed count (Ok d) → SameCounts u w
-make_counts u w n seed count done.Played x = absurd x.comes
 make_counts u w n seed count done.Made x = x.comes.no_fault
-make_counts u w n seed count (done.Checked fit) x = absurd x.comes
+make_counts u w n seed count other x = absurd x.comes
 
 cannot_met : (u w : View) (part : ℕ) (name : List ℕ) → CannotRead u w part name → MeetsReadFault u w
 cannot_met u w part name (inl r) = inl (part, r)
@@ -165,19 +144,15 @@ pub play_write_met : (u w : View) (n : Names) (seed : ℕ) (part : WrittenPart) 
 play_write_met u w n seed written.Departures x = (3, x.comes.1)
 play_write_met u w n seed written.Fates x = (4, x.comes.1)
 play_write_met u w n seed written.Statistics x = (5, x.comes.1)
-play_write_met u w n seed written.Arrivals x = absurd x.comes
-play_write_met u w n seed written.Answer x = absurd x.comes
+play_write_met u w n seed other x = absurd x.comes
 
 pub check_read_met : (u w : View) (config interface : List ℕ) (part : ReadPart) → CheckEnds u w config interface (Err (failure.Read part)) → MeetsReadFault u w
 check_read_met u w config interface read.Configuration x = cannot_met u w 1 config x.comes
-check_read_met u w config interface read.Arrivals x = absurd x.comes
+check_read_met u w config interface other x = absurd x.comes
 
 pub check_write_met : (u w : View) (config interface : List ℕ) (part : WrittenPart) → CheckEnds u w config interface (Err (failure.Write part)) → MeetsWriteFault u w
-check_write_met u w config interface written.Departures x = absurd x.comes
-check_write_met u w config interface written.Fates x = absurd x.comes
-check_write_met u w config interface written.Statistics x = absurd x.comes
-check_write_met u w config interface written.Arrivals x = absurd x.comes
 check_write_met u w config interface written.Answer x = (0, x.comes.0)
+check_write_met u w config interface other x = absurd x.comes
 
 pub make_read_met : (u w : View) (n : Names) (seed count : ℕ) (part : ReadPart) → MakeEnds u w n seed count (Err (failure.Read part)) → MeetsReadFault u w
 make_read_met u w n seed count read.Configuration x = cannot_met u w 1 n.config x.comes.1

@@ -10,12 +10,8 @@ use Rattle.command_base.specs.declared.failure.Failure.TheVariants as failure
 -- as that refusal, with this kind, or as a want of memory
 abbrev pub RefusedAs : (kind : ℕ) → Failure → Type 0
 RefusedAs kind (failure.Words fault) = words_kind fault ≡ kind
-RefusedAs kind (failure.Configuration place) = ⊥
-RefusedAs kind (failure.Capture damage) = ⊥
-RefusedAs kind (failure.Read part) = ⊥
-RefusedAs kind (failure.Write part) = ⊥
-RefusedAs kind (failure.Limit limit) = ⊥
 RefusedAs kind failure.NoMemory = Unit {0}
+RefusedAs kind other = ⊥
 
 -- and no file is touched
 abbrev pub IsRefused : View → View → (kind : ℕ) → Outcome → Type 0

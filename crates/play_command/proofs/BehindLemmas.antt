@@ -16,7 +16,7 @@ use Rattle.command_base.specs.declared.done.Done.TheVariants.{Played}
 use Rattle.command_base.specs.declared.failure.Failure.TheVariants as failure
 use Rattle.command_base.specs.declared.fault.ConfigFault.{ConfigFault}
 use Rattle.command_base.specs.declared.fault.ConfigFault.TheVariants as conf
-use Rattle.command_base.proofs.PartLemmas.{fresh_before, none_some, same_part, there_or_not}
+use Rattle.command_base.proofs.PartLemmas.{fresh_before, same_part, there_or_not}
 use Rattle.command_base.proofs.SayingLemmas.{says_only}
 use Rattle.play_command.specs.Ending.{FilesEnd, HasName, PlayEnds, PlayFails, PlayLeaves}
 use Rattle.play_command.specs.Failing.{play_failure}

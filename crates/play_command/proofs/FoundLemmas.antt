@@ -1,6 +1,5 @@
 -- How the play of an interface that was found ends.
-use Rattle.std.proofs.Common.{◌≡◌, ◌∙◌, ℕ, List, Ok, Err, sym}
-use Rattle.std.specs.Prelude.{IsTrue}
+use Rattle.std.proofs.Common.{◌≡◌, ◌∙◌, ℕ, List, Err, sym}
 use Rattle.conf_tree.specs.declared.interface.Interface.{Interface}
 use Rattle.play_base.specs.View.{View, IsAbsent, SameCounts}
 use Rattle.play_core.specs.declared.totals.Totals.{Totals}

@@ -1,20 +1,18 @@
 -- What holds of a play from one view of the files holds from another with the same configuration, arrivals and outputs.
-use Rattle.std.proofs.Common.{◌≡◌, ◌≢◌, ◌≤◌, ◌∙◌, ◌⊎◌, ℕ, List, [], None, Some, ap, sym, refl, subst, inl, inr, arith}
+use Rattle.std.proofs.Common.{◌≡◌, ◌≤◌, ◌∙◌, ℕ, List, [], Some, sym, refl, subst, inl, inr, arith}
 use Rattle.std.proofs.lemmas.List.{append-nil}
 use Rattle.std.specs.Prelude.{IsTrue}
-use Rattle.capture_model.specs.declared.damage.Damage.{Damage}
 use Rattle.capture_model.specs.Capture.{Record, Step, End, Reads}
-use Rattle.conf_lines.specs.declared.fault.ConfPlace.{ConfPlace}
 use Rattle.conf_tree.specs.declared.interface.Interface.{Interface}
 use Rattle.pcap_files.proofs.ReadingLaws.{one_reading}
-use Rattle.play_base.specs.View.{View, IsAbsent, Rose}
+use Rattle.play_base.specs.View.{View}
 use Rattle.play_base.proofs.ViewLaws.{rose_later}
 use Rattle.play_loop.specs.declared.fault.Limit.TheVariants as limit
 use Rattle.play_loop.specs.declared.fault.Output.TheVariants as output
 use Rattle.play_loop.specs.declared.fault.PlayFault.{PlayFault}
 use Rattle.play_loop.specs.declared.fault.PlayFault.TheVariants as play
 use Rattle.play_loop.specs.Setup.{Setup}
-use Rattle.command_base.specs.Configuration.{Accepts, Configuration, Configures, Says}
+use Rattle.command_base.specs.Configuration.{Configuration, Configures, Says}
 use Rattle.command_base.specs.Faults.{CannotRead, IsQuiet, Untouched}
 use Rattle.command_base.specs.Names.{Names}
 use Rattle.command_base.specs.Outcome.{Outcome}

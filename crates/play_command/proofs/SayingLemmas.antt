@@ -7,8 +7,6 @@ use Rattle.play_base.proofs.ViewLaws.{keeps_fewer, keeps_trans}
 use Rattle.play_loop.specs.Played.{Streams}
 use Rattle.play_loop.specs.Setup.{Setup}
 use Rattle.command_base.proofs.SayingLemmas.{few_after, there_before, untouched_after, untouched_before}
-use Rattle.command_base.specs.Faults.{Untouched}
-use Rattle.command_base.specs.Input.{TakesFew}
 use Rattle.command_base.specs.Names.{Names}
 use Rattle.command_base.specs.Telling.{OnlySays}
 use Rattle.play_command.specs.Ending.{FilesEnd, HasName}

@@ -30,8 +30,7 @@ writes_after : (u v w : View) (n : Names) (part : WrittenPart) → OnlySays v w 
 writes_after u v w n written.Departures o x = (x.0, write_after u v w 3 o x.1)
 writes_after u v w n written.Fates o x = (x.0, write_after u v w 4 o x.1)
 writes_after u v w n written.Statistics o x = (x.0, write_after u v w 5 o x.1)
-writes_after u v w n written.Arrivals o x = x
-writes_after u v w n written.Answer o x = x
+writes_after u v w n other o x = x
 
 limits_after : (u v w : View) (n : Names) (seed : ℕ) (l : RunLimit) → OnlySays v w → LimitFails u v n seed l → LimitFails u w n seed l
 limits_after u v w n seed limit.Capture o x = (x.0, λ t. offered_after u v w n seed _ o (x.1 t))
@@ -39,13 +38,12 @@ limits_after u v w n seed limit.Clock o x = (x.0, λ t. late_after u v w n seed 
 limits_after u v w n seed limit.Configuration o x = (config_after u v w n.config o x.0, x.1)
 
 fails_after : (u v w : View) (n : Names) (seed : ℕ) (f : Failure) → OnlySays v w → PlayFails u v n seed f → PlayFails u w n seed f
-fails_after u v w n seed (failure.Words fault) o x = x
 fails_after u v w n seed (failure.Configuration place) o x = (config_after u v w n.config o x.0, x.1)
 fails_after u v w n seed (failure.Capture damage) o x = (x.0, λ t. offered_after u v w n seed _ o (x.1 t))
 fails_after u v w n seed (failure.Read part) o x = reads_after u v w n seed part o x
 fails_after u v w n seed (failure.Write part) o x = writes_after u v w n part o x
 fails_after u v w n seed (failure.Limit l) o x = limits_after u v w n seed l o x
-fails_after u v w n seed failure.NoMemory o x = x
+fails_after u v w n seed other o x = x
 
 leaves_after : (u v w : View) (n : Names) (seed : ℕ) → OnlySays v w → PlayLeaves u v n seed → PlayLeaves u w n seed
 leaves_after u v w n seed o h = record {

@@ -1,5 +1,5 @@
 -- What must be told is told, unless a count of faults rose or memory was wanting.
-use Rattle.std.proofs.Common.{◌≡◌, ◌∙◌, ◌⊎◌, ℕ, Result, Ok, Err, ap, sym, refl, inl, inr, arith}
+use Rattle.std.proofs.Common.{◌≡◌, ◌∙◌, ℕ, Result, Ok, Err, ap, sym, refl, inl, inr, arith}
 use Rattle.std.specs.Prelude.{IsTrue}
 use Rattle.capture_model.specs.declared.damage.Damage.{Damage}
 use Rattle.capture_model.specs.Capture.{End, Fault, Limit}
@@ -14,7 +14,7 @@ use Rattle.command_base.specs.Configuration.{Accepts}
 use Rattle.command_base.specs.Faults.{CannotRead, IsQuiet}
 use Rattle.command_base.specs.Input.{ConfigCauses}
 use Rattle.command_base.specs.Names.{Names}
-use Rattle.command_base.specs.Outcome.{IsOrMemory, Outcome, config_failure}
+use Rattle.command_base.specs.Outcome.{IsOrMemory, config_failure}
 use Rattle.command_base.specs.declared.done.Done.{Done}
 use Rattle.command_base.specs.declared.done.Done.TheVariants.{Played}
 use Rattle.command_base.specs.declared.failure.Failure.{Failure}
@@ -23,7 +23,7 @@ use Rattle.command_base.specs.declared.fault.ConfigFault.{ConfigFault}
 use Rattle.command_base.specs.declared.parts.RunLimit.TheVariants as run
 use Rattle.command_base.proofs.ConfLemmas.{config_not, is_memory, long_not, no_bytes, refused_not, told_long, told_place}
 use Rattle.play_command.specs.Ending.{IsUnread, PlayFails, PlayIsTold}
-use Rattle.play_command.specs.Failing.{play_failure, written_part}
+use Rattle.play_command.specs.Failing.{play_failure}
 use Rattle.play_command.specs.Played.{Accepted, EndsLate, EndsWith, HasPlayed, IsPlayable}
 use Rattle.play_command.proofs.EndLemmas.{damaged_not, end_fault, end_limit, fault_end, fault_same, late_not_ended, late_not_played, limit_end, limit_fault, limited_not, offered_not_late, one_end}
 use Rattle.play_command.proofs.Laws.{HaveLaws}

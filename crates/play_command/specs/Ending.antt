@@ -10,7 +10,6 @@ use Rattle.command_base.specs.Faults.{CannotRead, IsQuiet, Untouched}
 use Rattle.command_base.specs.Input.{EndsAtConfig, TakesFew}
 use Rattle.command_base.specs.Names.{Names}
 use Rattle.command_base.specs.Outcome.{IsOrMemory, Outcome}
-use Rattle.command_base.specs.declared.done.Done.{Done}
 use Rattle.command_base.specs.declared.done.Done.TheVariants as done
 use Rattle.command_base.specs.declared.failure.Failure.{Failure}
 use Rattle.command_base.specs.declared.failure.Failure.TheVariants as failure
@@ -48,28 +47,26 @@ abbrev pub WriteFails : View → View → Names → WrittenPart → Type 0
 WriteFails old new n written.Departures = IsAccepting old n × Rose (old.write_faults 3) (new.write_faults 3)
 WriteFails old new n written.Fates = IsAccepting old n × Rose (old.write_faults 4) (new.write_faults 4)
 WriteFails old new n written.Statistics = IsAccepting old n × Rose (old.write_faults 5) (new.write_faults 5)
-WriteFails old new n written.Arrivals = ⊥
-WriteFails old new n written.Answer = ⊥
+WriteFails old new n other = ⊥
 
 abbrev pub LimitFails : View → View → Names → (seed : ℕ) → RunLimit → Type 0
 LimitFails old new n seed limit.Capture = IsAccepting old n × (IsTrue old.tells → IsLimited old new n seed)
 LimitFails old new n seed limit.Clock = IsAccepting old n × (IsTrue old.tells → IsLate old new n seed)
 LimitFails old new n seed limit.Configuration = EndsAtConfig old new n.config × (IsTrue old.tells → Says old n.config n.interface TooLong)
 
--- when each failure comes
+-- when each failure comes, and no other
 abbrev pub PlayFails : View → View → Names → (seed : ℕ) → Failure → Type 0
-PlayFails old new n seed (failure.Words fault) = ⊥
 PlayFails old new n seed (failure.Configuration place) = EndsAtConfig old new n.config × (IsTrue old.tells → Says old n.config n.interface (Refused place))
 PlayFails old new n seed (failure.Capture damage) = IsAccepting old n × (IsTrue old.tells → IsDamaged old new n seed damage)
 PlayFails old new n seed (failure.Read part) = ReadFails old new n seed part
 PlayFails old new n seed (failure.Write part) = WriteFails old new n part
 PlayFails old new n seed (failure.Limit limit) = LimitFails old new n seed limit
 PlayFails old new n seed failure.NoMemory = Unit {0}
+PlayFails old new n seed other = ⊥
 
 abbrev pub PlayComes : View → View → Names → (seed : ℕ) → Outcome → Type 0
 PlayComes old new n seed (Ok done.Played) = IsDone old new n seed
-PlayComes old new n seed (Ok done.Made) = ⊥
-PlayComes old new n seed (Ok (done.Checked fit)) = ⊥
+PlayComes old new n seed (Ok other) = ⊥
 PlayComes old new n seed (Err failure) = PlayFails old new n seed failure
 
 -- what must come, where the files tell and no count of faults rises but that of texts that could not be printed: a packet that would

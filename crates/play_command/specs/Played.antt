@@ -1,5 +1,5 @@
 -- What a play leaves, and when each of its ends comes.
-use Rattle.std.specs.Prelude.{◌≡◌, ◌≤◌, ◌<◌, ◌⊎◌, ℕ, List, [], ◌++◌, length, None, Some, IsTrue}
+use Rattle.std.specs.Prelude.{◌≡◌, ◌<◌, ◌⊎◌, ℕ, List, [], ◌++◌, length, None, Some, IsTrue}
 use Rattle.altq_model.specs.Arrivals.{comings}
 use Rattle.altq_model.specs.Departures.{departed}
 use Rattle.altq_model.specs.History.{Happened, bare, offered}

@@ -12,7 +12,7 @@ use Rattle.command_base.specs.declared.fault.ConfigFault.TheVariants as conf
 use Rattle.command_base.proofs.ReadingLemmas.{accepts_of, configured_of, fits, input_config, read_absent, read_found}
 use Rattle.command_base.proofs.SayingLemmas.{config_after}
 use Rattle.check_command.specs.Checking.{CheckEnds}
-use Rattle.check_command.proofs.CheckLemmas.{config_ends, done_ends, memory_ends, unsaid_ends}
+use Rattle.check_command.proofs.CheckLemmas.{config_ends, done_ends, unsaid_ends}
 use Rattle.check_command.proofs.checking.check.Goals as goal
 
 pub returns-in-Err-clause-ends : goal.returns-in-Err-clause-ends

@@ -1,5 +1,5 @@
 -- It ends at its configuration, or as the play of what was found.
-use Rattle.std.proofs.Common.{◌∙◌, Err, subst, sym}
+use Rattle.std.proofs.Common.{Err, subst, sym}
 use Rattle.conf_lines.specs.declared.fault.ConfPlace.{ConfPlace}
 use Rattle.command_base.specs.Names.{names_read}
 use Rattle.command_base.specs.declared.failure.Failure.{Failure}
