@@ -7,6 +7,7 @@
 
 mod laws;
 mod marking;
+mod metering;
 
 pub use laws::marks_alone_change;
 pub use marking::mark;

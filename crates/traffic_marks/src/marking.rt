@@ -3,8 +3,9 @@ ghost use Rattle.std.specs.Prelude.{◌≡◌, ◌≤◌, ◌∷◌, List, lengt
 ghost use Rattle.traffic_meter.specs.History.{Arrival, StandsFor, after, colour_after, colour_of};
 ghost use Rattle.traffic_marks.specs.Marked.{assured_class, coloured_frame};
 
+use crate::metering::metered_tos;
 use packet_heads::{retag, tos};
-use traffic_meter::{Meter, marked_tos};
+use traffic_meter::Meter;
 
 /// Marks the frame of a packet of `len` bytes that arrives at `moment`, in nanoseconds, not before the packet before: asks its
 /// class's meter for the colour, and gives the frame the code point of that colour in class `af` of assured forwarding, which is
@@ -26,6 +27,6 @@ pub fn mark(meter: &mut Meter, af: u8, moment: u64, len: u32, frame: &mut [u8])
     ensures history { (h : List Arrival) → StandsFor meter.old h
         → StandsFor meter.new (record { moment = moment; len = len } ∷ h) }
 {
-    let colour = meter.colour(moment, len);
-    retag(frame, marked_tos(af, colour, tos(frame)));
+    let tos = metered_tos(meter, af, moment, len, tos(frame));
+    retag(frame, tos);
 }

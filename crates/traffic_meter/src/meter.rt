@@ -61,6 +61,13 @@ impl Meter {
         }
     }
 
+    /// The rule of the meter, which no call changes. Constant time; takes no memory.
+    pub fn rule(&self) -> &MeterRule
+        ensures { result.now ≡ self.now.rule }
+    {
+        &self.rule
+    }
+
     // Fills the buckets up to a moment.
     fn fill(&mut self, moment: u64)
         requires { self.old.buckets.moment ≤ moment }
