@@ -3,70 +3,92 @@
 use crate::seen::Seen;
 use play_cli::Status;
 use play_hints::{
-    ConfAt, File, OUT_OF_MEMORY, capture_hint, clock_hint, conf_hint, file_hint, long_capture_hint,
-    long_conf_hint, play_line, words_hint,
+    ConfAt, File, Given, OUT_OF_MEMORY, capture_hint, clock_hint, conf_hint, file_hint,
+    long_capture_hint, long_conf_hint, long_given_hint, play_line, refuted_hint, words_hint,
 };
-use play_words::{Command, PlayWords, read_words};
+use play_words::{CheckWords, Command, PlayWords, VerifyWords, read_words};
 use std::alloc::{AllocError, Global};
 
-// The names of a run's files.
+// The names of a run's files, no text for one that its command has not.
 #[derive(Clone, Copy)]
 struct Names<'a> {
     config: &'a str,
     interface: &'a str,
-    play: Option<PlayWords<'a>>,
-    is_made: bool,
+    arrivals: &'a str,
+    departures: &'a str,
+    fates: &'a str,
+    stats: &'a str,
+    counts: bool,
+}
+
+// The names of a play; `counts` says whether its counts are told to someone who reads them.
+fn played<'a>(read: PlayWords<'a>, counts: bool) -> Names<'a> {
+    Names {
+        config: read.config,
+        interface: read.interface,
+        arrivals: read.arrivals,
+        departures: read.departures,
+        fates: read.fates,
+        stats: read.stats,
+        counts,
+    }
+}
+
+// The names of files that are checked.
+fn verified<'a>(read: VerifyWords<'a>) -> Names<'a> {
+    Names {
+        config: read.config,
+        interface: read.interface,
+        arrivals: read.arrivals,
+        departures: read.departures,
+        fates: read.fates,
+        stats: "",
+        counts: false,
+    }
+}
+
+// The names of a check.
+fn checked<'a>(read: CheckWords<'a>) -> Names<'a> {
+    Names {
+        config: read.config,
+        interface: read.interface,
+        arrivals: "",
+        departures: "",
+        fates: "",
+        stats: "",
+        counts: false,
+    }
 }
 
 // The names that the words give; none where they are refused.
 fn names_of(alloc: Global, words: &[String]) -> Option<Names<'_>> {
     match read_words(alloc, words) {
-        Ok(Command::Play(read)) => Some(Names {
-            config: read.config,
-            interface: read.interface,
-            play: Some(read),
-            is_made: false,
-        }),
-        Ok(Command::Make(read)) => Some(Names {
-            config: read.play.config,
-            interface: read.play.interface,
-            play: Some(read.play),
-            is_made: true,
-        }),
-        Ok(Command::Check(read)) => Some(Names {
-            config: read.config,
-            interface: read.interface,
-            play: None,
-            is_made: false,
-        }),
+        Ok(Command::Play(read)) => Some(played(read, true)),
+        Ok(Command::Make(read)) => Some(played(read.play, false)),
+        Ok(Command::Shares(read)) => Some(played(read, false)),
+        Ok(Command::Verify(read)) => Some(verified(read)),
+        Ok(Command::Check(read)) => Some(checked(read)),
         Err(_) => None,
-    }
-}
-
-// The name of the arrivals.
-fn arrivals<'a>(names: &Names<'a>) -> &'a str {
-    match names.play {
-        Some(play) => play.arrivals,
-        None => "",
     }
 }
 
 // The name of what could not be read.
 fn unread<'a>(names: &Names<'a>, kind: u8) -> &'a str {
-    if kind == 1 {
-        names.config
-    } else {
-        arrivals(names)
+    match kind {
+        1 => names.config,
+        2 => names.arrivals,
+        3 => names.departures,
+        _ => names.fates,
     }
 }
 
 // The name of what could not be written.
 fn unwritten<'a>(names: &Names<'a>, kind: u8) -> &'a str {
-    match (names.play, kind) {
-        (Some(play), 1) => play.departures,
-        (Some(play), 2) => play.fates,
-        (Some(play), 3) => play.stats,
-        (Some(play), 4) => play.arrivals,
+    match kind {
+        1 => names.departures,
+        2 => names.fates,
+        3 => names.stats,
+        4 => names.arrivals,
         _ => "standard output",
     }
 }
@@ -89,12 +111,28 @@ fn fault_text(alloc: Global, name: &str, seen: &Seen) -> Result<String, AllocErr
 }
 
 // What to say of a limit.
-fn limit_text(alloc: Global, names: &Names<'_>, kind: u8) -> Result<String, AllocError> {
+fn limit_text(
+    alloc: Global,
+    names: &Names<'_>,
+    kind: u8,
+    seen: &Seen,
+) -> Result<String, AllocError> {
     match kind {
-        1 => long_capture_hint(alloc, arrivals(names)),
-        2 => clock_hint(alloc, arrivals(names)),
-        _ => long_conf_hint(alloc, names.config),
+        1 => long_capture_hint(alloc, names.arrivals, seen.head()),
+        2 => clock_hint(alloc, names.arrivals),
+        3 => long_conf_hint(alloc, names.config),
+        4 => long_given_hint(alloc, names.fates),
+        _ => long_given_hint(alloc, names.departures),
     }
+}
+
+// What to say of given files that fail a test.
+fn refuted_text(alloc: Global, names: &Names<'_>, status: Status) -> Result<String, AllocError> {
+    let given = Given {
+        departures: names.departures,
+        fates: names.fates,
+    };
+    refuted_hint(alloc, given, status.line, status.kind)
 }
 
 // What to say of a run whose words were accepted.
@@ -115,15 +153,16 @@ fn run_text(
         }
         4 => capture_hint(
             alloc,
-            arrivals(names),
+            names.arrivals,
             seen.head(),
             status.place,
             status.kind,
         ),
         5 => fault_text(alloc, unread(names, status.kind), seen),
         6 => fault_text(alloc, unwritten(names, status.kind), seen),
-        7 => limit_text(alloc, names, status.kind),
+        7 => limit_text(alloc, names, status.kind, seen),
         8 => String::from_str(alloc, OUT_OF_MEMORY),
+        10 => refuted_text(alloc, names, status),
         _ => Ok(String::new(alloc)),
     }
 }
@@ -142,7 +181,7 @@ pub fn text(
     }
     match names_of(alloc, words) {
         Some(names) if status.code == 0 => {
-            if is_terminal && names.play.is_some() && !names.is_made {
+            if is_terminal && names.counts {
                 play_line(alloc, seen.stats())
             } else {
                 Ok(String::new(alloc))

@@ -15,7 +15,7 @@ fn told(alloc: Global, files: &mut MemoryFiles) -> Told {
     let Ok(file) = files.open(2, "in") else {
         return (None, None, None);
     };
-    let mut reader = match Reader::start(alloc, files, file) {
+    let mut reader = match Reader::start(alloc, files, file, &[]) {
         Ok(reader) => reader,
         Err(fault) => return (None, None, Some(fault)),
     };

@@ -2,6 +2,8 @@
 use Rattle.std.specs.Prelude.{ℕ, List, ◌++◌, codes, decimal}
 use Rattle.capture_model.specs.Numbers.{damage_name}
 use Rattle.conf_lines.specs.Kinds.{kind_name}
+use Rattle.file_tests.specs.Numbers.{test_number}
+use Rattle.pcapng_model.specs.Numbers.{block_name}
 use Rattle.play_words.specs.Kinds.{words_kind}
 use Rattle.command_base.specs.Outcome.{run_limit_number}
 use Rattle.command_base.specs.declared.failure.Failure.{Failure}
@@ -15,6 +17,8 @@ use Rattle.command_base.specs.declared.parts.WrittenPart.TheVariants as written
 abbrev pub read_name : ReadPart → List ℕ
 read_name read.Configuration = codes "configuration"
 read_name read.Arrivals = codes "arrivals"
+read_name read.Departures = codes "departures"
+read_name read.Fates = codes "fates"
 
 abbrev pub written_name : WrittenPart → List ℕ
 written_name written.Departures = codes "departures"
@@ -35,7 +39,11 @@ message_of (failure.Configuration place) =
     ++ (codes " word " ++ (decimal place.word ++ (codes ": " ++ (kind_name place.kind ++ codes "\n")))))
 message_of (failure.Capture damage) =
     codes "altqplay: capture byte " ++ (decimal damage.place ++ (codes ": " ++ (damage_name damage.kind ++ codes "\n")))
+message_of (failure.Pcapng block) =
+    codes "altqplay: capture byte " ++ (decimal block.place ++ (codes ": " ++ (block_name block.kind ++ codes "\n")))
 message_of (failure.Read part) = codes "altqplay: reading " ++ (read_name part ++ codes " failed\n")
 message_of (failure.Write part) = codes "altqplay: writing " ++ (written_name part ++ codes " failed\n")
 message_of (failure.Limit limit) = codes "altqplay: limit " ++ (decimal (run_limit_number limit) ++ codes " reached\n")
+message_of (failure.Refuted row test) =
+    codes "altqplay: not verified, row " ++ (decimal row ++ (codes " kind " ++ (decimal (test_number test) ++ codes "\n")))
 message_of failure.NoMemory = out_of_memory

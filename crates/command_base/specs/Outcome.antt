@@ -2,12 +2,14 @@
 use Rattle.std.specs.Prelude.{◌≡◌, ◌⊎◌, ℕ, Result, Ok, Err}
 use Rattle.capture_model.specs.Numbers.{damage_number}
 use Rattle.conf_lines.specs.Kinds.{kind_number}
+use Rattle.file_tests.specs.Numbers.{test_number}
 use Rattle.link_fit.specs.Lines.{fit_kind}
 use Rattle.play_base.specs.declared.trouble.Trouble.{Trouble}
 use Rattle.play_base.specs.declared.trouble.Trouble.TheVariants as trouble
+use Rattle.pcapng_model.specs.Numbers.{block_number}
 use Rattle.play_words.specs.Kinds.{words_kind}
 use Rattle.command_base.specs.declared.done.Done.{Done}
-use Rattle.command_base.specs.declared.done.Done.TheVariants.{Played, Made, Checked}
+use Rattle.command_base.specs.declared.done.Done.TheVariants.{Played, Made, Checked, Verified, Measured}
 use Rattle.command_base.specs.declared.failure.Failure.{Failure}
 use Rattle.command_base.specs.declared.failure.Failure.TheVariants as failure
 use Rattle.command_base.specs.declared.fault.ConfigFault.{ConfigFault}
@@ -43,6 +45,8 @@ IsOrMemory o p = (o ≡ p) ⊎ (o ≡ Err failure.NoMemory)
 abbrev pub read_number : ReadPart → ℕ
 read_number read.Configuration = 1
 read_number read.Arrivals = 2
+read_number read.Departures = 3
+read_number read.Fates = 4
 
 abbrev pub written_number : WrittenPart → ℕ
 written_number written.Departures = 1
@@ -55,6 +59,8 @@ abbrev pub run_limit_number : RunLimit → ℕ
 run_limit_number limit.Capture = 1
 run_limit_number limit.Clock = 2
 run_limit_number limit.Configuration = 3
+run_limit_number limit.Fates = 4
+run_limit_number limit.Departures = 5
 
 -- the status of this code and kind, without a place
 abbrev pub ended : (code kind : ℕ) → Status
@@ -67,9 +73,12 @@ failure_status (failure.Configuration place) =
     record { code = 3; line = place.line; word = place.word; place = 0; kind = kind_number place.kind }
 failure_status (failure.Capture damage) =
     record { code = 4; line = 0; word = 0; place = damage.place; kind = damage_number damage.kind }
+failure_status (failure.Pcapng block) =
+    record { code = 4; line = 0; word = 0; place = block.place; kind = block_number block.kind }
 failure_status (failure.Read part) = ended 5 (read_number part)
 failure_status (failure.Write part) = ended 6 (written_number part)
 failure_status (failure.Limit limit) = ended 7 (run_limit_number limit)
+failure_status (failure.Refuted row test) = record { code = 10; line = row; word = 0; place = 0; kind = test_number test }
 failure_status failure.NoMemory = ended 8 0
 
 -- of what it did
@@ -77,6 +86,8 @@ abbrev pub done_status : Done → Status
 done_status Played = ended 0 0
 done_status Made = ended 0 0
 done_status (Checked fit) = ended 0 (fit_kind fit)
+done_status Verified = ended 0 0
+done_status Measured = ended 0 0
 
 -- and of what came of it
 abbrev pub status_of : Outcome → Status

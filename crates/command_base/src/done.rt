@@ -16,6 +16,10 @@ pub enum Done {
     Made,
     /// It checked the configuration, and this is how the curves fit the link.
     Checked(Fit),
+    /// It found that given files are those of a play that the configuration allows, and said how close its leaves came.
+    Verified,
+    /// It played the capture, and said how far the shares of sibling classes lay apart.
+    Measured,
 }
 
 impl Done {
@@ -24,7 +28,7 @@ impl Done {
         ensures { result ≡ done_status self }
     {
         match self {
-            Done::Played | Done::Made => ended(0, 0),
+            Done::Played | Done::Made | Done::Verified | Done::Measured => ended(0, 0),
             Done::Checked(fit) => ended(0, fit_kind(fit)),
         }
     }

@@ -7,6 +7,8 @@ use crate::parts::{ReadPart, RunLimit, WrittenPart};
 use crate::status::ended;
 use capture_model::Damage;
 use conf_lines::ConfPlace;
+use file_tests::Test;
+use pcapng_model::NgPlace;
 use play_base::Trouble;
 use play_words::WordsFault;
 
@@ -17,14 +19,18 @@ pub enum Failure {
     Words(WordsFault),
     /// The configuration has this fault first, or lacks the interface asked for.
     Configuration(ConfPlace),
-    /// The arrivals fail this test first.
+    /// The arrivals, a classic capture, fail this test first.
     Capture(Damage),
+    /// The arrivals, a pcapng file, have a block that fails this test first.
+    Pcapng(NgPlace),
     /// This could not be read.
     Read(ReadPart),
     /// This could not be written or said.
     Write(WrittenPart),
     /// This limit was reached.
     Limit(RunLimit),
+    /// Given files fail this test first, and this is the first row that fails it.
+    Refuted { row: u64, test: Test },
     /// No memory was left.
     NoMemory,
 }
@@ -50,9 +56,23 @@ impl Failure {
                 place: damage.place,
                 kind: damage.kind.number(),
             },
+            Failure::Pcapng(block) => Status {
+                code: 4,
+                line: 0,
+                word: 0,
+                place: block.place,
+                kind: block.kind.number(),
+            },
             Failure::Read(part) => ended(5, part.number()),
             Failure::Write(part) => ended(6, part.number()),
             Failure::Limit(limit) => ended(7, limit.number()),
+            Failure::Refuted { row, test } => Status {
+                code: 10,
+                line: row,
+                word: 0,
+                place: 0,
+                kind: test.number(),
+            },
             Failure::NoMemory => ended(8, 0),
         }
     }

@@ -25,6 +25,10 @@ pub(crate) fn message(alloc: Global, failure: Failure) -> Result<String, AllocEr
             let (place, name) = (damage.place, damage.kind.name());
             format!(in alloc; "altqplay: capture byte {place}: {name}\n")
         }
+        Failure::Pcapng(block) => {
+            let (place, name) = (block.place, block.kind.name());
+            format!(in alloc; "altqplay: capture byte {place}: {name}\n")
+        }
         Failure::Read(part) => {
             let name = part.name();
             format!(in alloc; "altqplay: reading {name} failed\n")
@@ -36,6 +40,10 @@ pub(crate) fn message(alloc: Global, failure: Failure) -> Result<String, AllocEr
         Failure::Limit(limit) => {
             let number = limit.number();
             format!(in alloc; "altqplay: limit {number} reached\n")
+        }
+        Failure::Refuted { row, test } => {
+            let kind = test.number();
+            format!(in alloc; "altqplay: not verified, row {row} kind {kind}\n")
         }
         Failure::NoMemory => String::from_str(alloc, OUT_OF_MEMORY),
     }

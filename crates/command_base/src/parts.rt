@@ -8,6 +8,10 @@ ghost use Rattle.command_base.specs.Message.{read_name, written_name};
 pub enum ReadPart {
     Configuration,
     Arrivals,
+    /// The departures that are verified.
+    Departures,
+    /// The fates that are verified.
+    Fates,
 }
 
 impl ReadPart {
@@ -18,6 +22,8 @@ impl ReadPart {
         match self {
             ReadPart::Configuration => 1,
             ReadPart::Arrivals => 2,
+            ReadPart::Departures => 3,
+            ReadPart::Fates => 4,
         }
     }
 
@@ -28,6 +34,8 @@ impl ReadPart {
         match self {
             ReadPart::Configuration => "configuration",
             ReadPart::Arrivals => "arrivals",
+            ReadPart::Departures => "departures",
+            ReadPart::Fates => "fates",
         }
     }
 }
@@ -40,7 +48,7 @@ pub enum WrittenPart {
     Statistics,
     /// The arrivals that `make` generates.
     Arrivals,
-    /// What a check or `make` says.
+    /// What a check, `make` or a verification says.
     Answer,
 }
 
@@ -81,6 +89,10 @@ pub enum RunLimit {
     Clock,
     /// The configuration has more than 2^20 bytes.
     Configuration,
+    /// The fates that are verified have more than 2^30 bytes.
+    Fates,
+    /// The departures that are verified have more than 2^30 bytes.
+    Departures,
 }
 
 impl RunLimit {
@@ -92,6 +104,8 @@ impl RunLimit {
             RunLimit::Capture => 1,
             RunLimit::Clock => 2,
             RunLimit::Configuration => 3,
+            RunLimit::Fates => 4,
+            RunLimit::Departures => 5,
         }
     }
 }

@@ -25,16 +25,22 @@ use Rattle.command_base.specs.declared.failure.Failure.TheVariants as failure
 use Rattle.command_base.specs.declared.fault.ConfigFault.{ConfigFault}
 use Rattle.command_base.specs.declared.fault.ConfigFault.TheVariants as conf
 use Rattle.command_base.specs.declared.parts.WrittenPart.TheVariants as written
-use Rattle.command_base.proofs.ConfLemmas.{config_not, is_memory, long_not, no_bytes, refused_not, told_long, told_place}
+use Rattle.command_base.proofs.ConfLemmas.{config_not, is_memory, long_not, no_bytes, refused_not, told_long, told_place, same_some}
 use Rattle.play_command.specs.Ending.{FilesEnd, IsAccepting, IsUnread, PlayEnds, PlayFails, PlayIsTold}
-use Rattle.play_command.specs.Failing.{play_failure}
+use Rattle.play_command.specs.Failing.{play_failure, unplayed_failure}
 use Rattle.play_command.specs.Found.{PlaysTo}
-use Rattle.play_command.specs.Played.{EndsLate, HasPlayed, IsCutShort}
+use Rattle.play_command.specs.Played.{EndsLate, HasPlayed, IsCutShort, IsLimited, IsNoCapture}
 use Rattle.play_command.proofs.EndLemmas.{late_not_played}
-use Rattle.play_command.proofs.InputLemmas.{Starts, configures_by, fails_from, played_by, played_totals, quiet_from, told_from}
+use Rattle.play_command.proofs.InputLemmas.{Starts, configures_by, played_by, played_totals, quiet_from, told_from, unplayed_from}
 use Rattle.make_command.specs.Making.{HasMade, MakeEnds, MakeFails, MakeIsTold, MakeLeaves, WasMade, arrivals_failure, summary_of, supplied}
 use Rattle.make_command.proofs.MadeLemmas.{HasBegun, leaves_played, leaves_said, starts, supplied_bytes}
-use Rattle.make_command.proofs.SuppliedLemmas.{capture_not_damaged, capture_not_limited, own_bytes}
+use Rattle.make_command.proofs.SuppliedLemmas.{capture_not_damaged, capture_not_limited, is_classic, own_bytes}
+use Rattle.arrivals_front.specs.Given.{is_pcapng}
+use Rattle.arrivals_front.proofs.GivenLemmas.{not_both}
+use Rattle.pcapng_files.specs.declared.fault.NgFault.{NgFault}
+use Rattle.pcapng_files.specs.declared.fault.NgFault.TheVariants as ng
+use Rattle.play_command.specs.declared.failing.Unplayed.{Unplayed}
+use Rattle.play_command.specs.declared.failing.Unplayed.TheVariants.{Pcapng, Play}
 
 -- the configuration cannot be used
 config_fails : (u v : View) (n : Names) (seed count : ℕ) (f : ConfigFault) → ConfigCauses u v n.config n.interface f → EndsAtConfig u v n.config
@@ -132,25 +138,40 @@ unread_makes : (u c : View) (n : Names) (seed count : ℕ) (a : IsAccepting u n)
 unread_makes u c n seed count a (inl x) = (a, cannot_rose u c n seed count x.1, inl x.0)
 unread_makes u c n seed count a (inr x) = (a, x.0, inr x.1)
 
+no_pcapng : (u : View) (n : Names) (seed count : ℕ) (f : NgFault) → IsNoCapture (supplied u n seed count) n f → ⊥
+no_pcapng u n seed count f x =
+    let same : x.given ≡ generated_capture seed count = same_some _ _ (sym x.arrivals ∙ own_bytes u n.arrivals (generated_capture seed count)) in
+    not_both (is_pcapng (generated_capture seed count)) (ap is_pcapng (sym same) ∙ x.pcapng) (is_classic seed count)
+
+not_limited : (u c : View) (n : Names) (seed count : ℕ) → IsCapture (generated_capture seed count) (packets seed count) → IsTrue u.tells
+    → (IsTrue u.tells → IsLimited (supplied u n seed count) c n seed)
+    ⊎ (Untouched (supplied u n seed count) c 3 × (IsTrue u.tells → IsNoCapture (supplied u n seed count) n ng.Limit)) → ⊥
+not_limited u c n seed count reads t (inl x) =
+    capture_not_limited (supplied u n seed count) c n seed (generated_capture seed count) (packets seed count)
+    (is_classic seed count) (own_bytes u n.arrivals (generated_capture seed count)) reads (x t)
+not_limited u c n seed count reads t (inr x) = no_pcapng u n seed count ng.Limit (x.1 t)
+
 play_makes : (u c : View) (n : Names) (seed count : ℕ) (found : Interface) (f : PlayFault) → Accepts u n.config n.interface found
     → IsCapture (generated_capture seed count) (packets seed count) → PlayFails (supplied u n seed count) c n seed (play_failure f)
     → MakeFails u c n seed count (play_failure f)
 play_makes u c n seed count found (play.Capture d) a reads x = (
   (found, a),
   λ t. capture_not_damaged (supplied u n seed count) c n seed d (generated_capture seed count) (packets seed count)
-      (own_bytes u n.arrivals (generated_capture seed count)) reads (x.1 t),
+      (is_classic seed count) (own_bytes u n.arrivals (generated_capture seed count)) reads (x.1 t),
 )
 play_makes u c n seed count found play.Read a reads x = unread_makes u c n seed count (found, a) x.1
 play_makes u c n seed count found (play.Write output.Departures) a reads x = ((found, a), x.1)
 play_makes u c n seed count found (play.Write output.Fates) a reads x = ((found, a), x.1)
 play_makes u c n seed count found (play.Write output.Statistics) a reads x = ((found, a), x.1)
-play_makes u c n seed count found (play.Limit limit.Capture) a reads x = (
-  (found, a),
-  λ t. capture_not_limited (supplied u n seed count) c n seed (generated_capture seed count) (packets seed count)
-      (own_bytes u n.arrivals (generated_capture seed count)) reads (x.1 t),
-)
+play_makes u c n seed count found (play.Limit limit.Capture) a reads x = ((found, a), λ t. not_limited u c n seed count reads t x.1)
 play_makes u c n seed count found (play.Limit limit.Clock) a reads x = ((found, a), x.1)
 play_makes u c n seed count found play.NoMemory a reads x = tt
+
+unplayed_makes : (u c : View) (n : Names) (seed count : ℕ) (found : Interface) (f : Unplayed) → Accepts u n.config n.interface found
+    → IsCapture (generated_capture seed count) (packets seed count) → PlayFails (supplied u n seed count) c n seed (unplayed_failure f)
+    → MakeFails u c n seed count (unplayed_failure f)
+unplayed_makes u c n seed count found (Pcapng block) a reads x = ((found, a), λ t. no_pcapng u n seed count (ng.At block) (x.2 t))
+unplayed_makes u c n seed count found (Play f) a reads x = play_makes u c n seed count found f a reads x
 
 failed_not : (f : Failure) → ◌≡◌ {A = Outcome} (Err f) (Ok done.Played) → ⊥
 failed_not f e = cc
@@ -168,15 +189,15 @@ played_told u n seed count found f a t x = record {
     go (inl e) = absurd (failed_not f e)
     go (inr e) = inr e
 
-pub failed_ends : (u w c : View) (n : Names) (seed count : ℕ) (found : Interface) (f : PlayFault) → WasWritten u w c n seed count found
-    → PlayEnds w c n seed (Err (play_failure f)) → MakeEnds u c n seed count (Err (play_failure f))
+pub failed_ends : (u w c : View) (n : Names) (seed count : ℕ) (found : Interface) (f : Unplayed) → WasWritten u w c n seed count found
+    → PlayEnds w c n seed (Err (unplayed_failure f)) → MakeEnds u c n seed count (Err (unplayed_failure f))
 failed_ends u w c n seed count found f h x =
     let g : View = supplied u n seed count in
     let s = begins u w c n seed count found h in
     record {
-      comes = play_makes u c n seed count found f h.accepted h.reads (fails_from w g c n seed f s x.comes);
-      told = λ t q. played_told u n seed count found (play_failure f) h.accepted t
-          (told_from w g c n seed (Err (play_failure f)) s t (x.told (s.tells ∙ t) (quiet_from w g c n s q)));
+      comes = unplayed_makes u c n seed count found f h.accepted h.reads (unplayed_from w g c n seed f s x.comes);
+      told = λ t q. played_told u n seed count found (unplayed_failure f) h.accepted t
+          (told_from w g c n seed (Err (unplayed_failure f)) s t (x.told (s.tells ∙ t) (quiet_from w g c n s q)));
       leaves = h.leaves;
     }
 

@@ -33,6 +33,7 @@ reads_after : (u v w : View) (n : Names) (seed count : ℕ) (part : ReadPart) �
 reads_after u v w n seed count read.Configuration o x = (config_after u v w n.config o x.0, read_after u v w 1 n.config o x.1)
 reads_after u v w n seed count read.Arrivals o x =
     (x.0, rose_before _ _ _ x.1 (o.keeps.later.read 2), short_or_none u (supplied u n seed count) v w n seed o x.2)
+reads_after u v w n seed count other o x = x
 
 writes_after : (u v w : View) (n : Names) (seed count : ℕ) (part : WrittenPart) → OnlySays v w → WriteFails u v n seed count part → WriteFails u w n seed count part
 writes_after u v w n seed count written.Departures o x = (x.0, write_after u v w 3 o x.1)
@@ -45,6 +46,7 @@ limits_after : (u v w : View) (n : Names) (seed count : ℕ) (l : RunLimit) → 
 limits_after u v w n seed count limit.Capture o x = x
 limits_after u v w n seed count limit.Clock o x = (x.0, λ t. late_after (supplied u n seed count) v w n seed o (x.1 t))
 limits_after u v w n seed count limit.Configuration o x = (config_after u v w n.config o x.0, x.1)
+limits_after u v w n seed count other o x = x
 
 fails_after : (u v w : View) (n : Names) (seed count : ℕ) (f : Failure) → OnlySays v w → MakeFails u v n seed count f → MakeFails u w n seed count f
 fails_after u v w n seed count (failure.Configuration place) o x = (config_after u v w n.config o x.0, x.1)

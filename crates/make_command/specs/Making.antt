@@ -59,6 +59,7 @@ abbrev pub ReadFails : View → View → Names → (seed count : ℕ) → ReadPa
 ReadFails old new n seed count read.Configuration = EndsAtConfig old new n.config × CannotRead old new 1 n.config
 ReadFails old new n seed count read.Arrivals = IsAccepting old n × Rose (old.read_faults 2) (new.read_faults 2)
     × (Untouched old new 3 ⊎ (IsTrue old.tells → IsCutShort (supplied old n seed count) new n seed))
+ReadFails old new n seed count other = ⊥
 
 abbrev pub WriteFails : View → View → Names → (seed count : ℕ) → WrittenPart → Type 0
 WriteFails old new n seed count written.Departures = IsAccepting old n × Rose (old.write_faults 3) (new.write_faults 3)
@@ -72,12 +73,14 @@ abbrev pub LimitFails : View → View → Names → (seed count : ℕ) → RunLi
 LimitFails old new n seed count limit.Capture = IsAccepting old n × (IsTrue old.tells → ⊥)
 LimitFails old new n seed count limit.Clock = IsAccepting old n × (IsTrue old.tells → IsLate (supplied old n seed count) new n seed)
 LimitFails old new n seed count limit.Configuration = EndsAtConfig old new n.config × (IsTrue old.tells → Says old n.config n.interface TooLong)
+LimitFails old new n seed count other = ⊥
 
 -- when each failure comes, and no other: a generated capture has no damage
 abbrev pub MakeFails : View → View → Names → (seed count : ℕ) → Failure → Type 0
 MakeFails old new n seed count (failure.Configuration place) =
     EndsAtConfig old new n.config × (IsTrue old.tells → Says old n.config n.interface (Refused place))
 MakeFails old new n seed count (failure.Capture damage) = IsAccepting old n × (IsTrue old.tells → ⊥)
+MakeFails old new n seed count (failure.Pcapng block) = IsAccepting old n × (IsTrue old.tells → ⊥)
 MakeFails old new n seed count (failure.Read part) = ReadFails old new n seed count part
 MakeFails old new n seed count (failure.Write part) = WriteFails old new n seed count part
 MakeFails old new n seed count (failure.Limit limit) = LimitFails old new n seed count limit

@@ -10,7 +10,7 @@ ghost use Rattle.make_command.specs.Making.{MakeEnds, arrivals_failure, summary_
 use command_base::{Done, Failure, WrittenPart, absent, read_conf, say_failure};
 use generated::{generated_captures_read, write_capture};
 use play_base::{Files, Trouble};
-use play_command::{play_failure, play_found};
+use play_command::play_found;
 use play_loop::Totals;
 use play_text::summary_text;
 use play_words::MakeWords;
@@ -106,7 +106,7 @@ pub fn make<F: Files>(alloc: Global, files: &mut F, words: &MakeWords<'_>) -> Re
     generated_captures_read();
     let totals = match play_found(alloc, files, found, &words.play) {
         Ok(totals) => totals,
-        Err(fault) => return Err(play_failure(fault)),
+        Err(fault) => return Err(fault.failure()),
     };
     match say_summary(alloc, files, totals) {
         Ok(()) => Ok(Done::Made),

@@ -143,11 +143,10 @@ all_taken v w r ahead bytes records s sound t short =
     }
 
 -- a read that failed before the head of the file was whole
-pub none_taken : (v w : View) (file : ℕ) (none ahead bytes : List ℕ) → none ≡ [] → v.left file ≡ Some bytes → TookInto v w file none ahead → length ahead < 24
-    → AreAllTaken w file bytes []
-none_taken v w file none ahead bytes empty h t short =
-    let start = pending_same v file file 0 0 [] none bytes refl refl empty (pending_start v file bytes h) in
-    let p = pending_took v w file 0 none ahead bytes start t in
+pub none_taken : (v w : View) (file : ℕ) (first before ahead rest : List ℕ) → before ≡ first → v.left file ≡ Some rest → TookInto v w file before ahead
+    → length ahead < 24 → AreAllTaken w file (first ++ rest) []
+none_taken v w file first before ahead rest taken h t short =
+    let p = pending_took v w file 0 before ahead (first ++ rest) (pending_start v file first before rest taken h) t in
     let test : nat_lt (length ahead) 24 ≡ true = is_less (length ahead) 24 short in
     let head : header ahead ≡ Unformed (damage (length ahead) ShortHead) = rw test refl in
     record {

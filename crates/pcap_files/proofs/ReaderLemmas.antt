@@ -67,8 +67,9 @@ took_some a b c file xs ys x y = (x.0 ++ y.0, took_more a b c file x.0 y.0 x.1 y
 pub took_into : (a b : View) (file : ℕ) (xs ys : List ℕ) → TookInto a b file xs ys → TookSome a b file
 took_into a b file xs ys x = (x.0, x.1)
 
-pub pending_start : (v : View) (file : ℕ) (bytes : List ℕ) → v.left file ≡ Some bytes → Pending v file 0 [] bytes
-pending_start v file bytes h = record { place = omega arith; rest = (bytes, h, refl) }
+-- some bytes were taken before, and stand ahead
+pub pending_start : (v : View) (file : ℕ) (first before rest : List ℕ) → before ≡ first → v.left file ≡ Some rest → Pending v file 0 before (first ++ rest)
+pending_start v file first before rest same h = record { place = omega arith; rest = (rest, h, ap (λ (xs : List ℕ). xs ++ rest) (sym same)) }
 
 pub pending_took : (v w : View) (file at : ℕ) (before after bytes : List ℕ) → Pending v file at before bytes → TookInto v w file before after
     → Pending w file at after bytes
@@ -247,20 +248,19 @@ stands_at v w r ahead found bytes records q s sound t enough same value =
     ∙ ap (λ (p : Stands). step_of p r.progress.place rest) (sym value)
 
 -- the head of the file is told by the bytes that a start takes
-pub started_head : (v w : View) (file : ℕ) (none ahead found bytes : List ℕ) → none ≡ [] → v.left file ≡ Some bytes
-    → TookInto v w file none ahead → (24 ≤ length ahead) ⊎ IsAtEnd w file → found ≡ ahead → header bytes ≡ header found
-started_head v w file none ahead found bytes empty h t enough same =
-    let start = pending_same v file file 0 0 [] none bytes refl refl empty (pending_start v file bytes h) in
-    let p = pending_took v w file 0 none ahead bytes start t in
-    ap header p.rest.2 ∙ head_seen ahead p.rest.0 (none_left w file 0 24 ahead bytes p enough) ∙ ap header (sym same)
+pub started_head : (v w : View) (file : ℕ) (first before ahead found rest : List ℕ) → before ≡ first → v.left file ≡ Some rest
+    → TookInto v w file before ahead → (24 ≤ length ahead) ⊎ IsAtEnd w file → found ≡ ahead → header (first ++ rest) ≡ header found
+started_head v w file first before ahead found rest taken h t enough same =
+    let p = pending_took v w file 0 before ahead (first ++ rest) (pending_start v file first before rest taken h) t in
+    ap header p.rest.2 ∙ head_seen ahead p.rest.0 (none_left w file 0 24 ahead (first ++ rest) p enough) ∙ ap header (sym same)
 
 -- a reader that has read the head and passed it
-pub started : (v w : View) (n : Reader) (none ahead bytes : List ℕ) → none ≡ [] → v.left n.file ≡ Some bytes
-    → TookInto v w n.file none ahead → 24 ≤ length ahead → length ahead ≤ 65559 → n.ahead ≡ drop 24 ahead → n.progress.count ≡ 0
-    → n.progress.place ≡ 24 → n.fault ≡ None → header bytes ≡ Formed (form n.head) → StandsFor w n bytes []
-started v w n none ahead bytes empty h t enough bound passed count place sound formed =
-    let start = pending_same v n.file n.file 0 0 [] none bytes refl refl empty (pending_start v n.file bytes h) in
-    let p = pending_took v w n.file 0 none ahead bytes start t in
+pub started : (v w : View) (n : Reader) (first before ahead rest : List ℕ) → before ≡ first → v.left n.file ≡ Some rest
+    → TookInto v w n.file before ahead → 24 ≤ length ahead → length ahead ≤ 65559 → n.ahead ≡ drop 24 ahead → n.progress.count ≡ 0
+    → n.progress.place ≡ 24 → n.fault ≡ None → header (first ++ rest) ≡ Formed (form n.head) → StandsFor w n (first ++ rest) []
+started v w n first before ahead rest taken h t enough bound passed count place sound formed =
+    let bytes = first ++ rest in
+    let p = pending_took v w n.file 0 before ahead bytes (pending_start v n.file first before rest taken h) t in
     record {
       formed = formed;
       stand = tt;

@@ -29,13 +29,17 @@ impl Model for Ahead {
 }
 
 impl Ahead {
-    // Room for one piece, and no byte yet.
-    pub fn new(alloc: Global) -> Result<Ahead, NoMemory>
-        ensures none { IfOk result (λ ahead. ahead ≡ []) }
+    // Room for one piece, and these bytes, which were taken before.
+    pub fn new(alloc: Global, first: &[u8]) -> Result<Ahead, NoMemory>
+        ensures first { IfOk result (λ ahead. ahead ≡ first.now) }
     {
+        let mut buffer = Vec::new(alloc);
+        if buffer.extend_from_slice(first).is_err() {
+            return Err(NoMemory);
+        }
         match Vec::from_elem(alloc, 0u8, PIECE) {
             Ok(piece) => Ok(Ahead {
-                buffer: Vec::new(alloc),
+                buffer,
                 from: 0,
                 piece,
             }),

@@ -1,5 +1,5 @@
 // Reads the records of a capture one by one.
-ghost use Rattle.std.specs.Prelude.{◌≡◌, ◌≤◌, ◌<◌, ◌+◌, ◌^◌, ◌⊎◌, ℕ, List, [], max, length, None, Some, Err, IsSome, IfOk, IfErr, IfSome, IfNone, OnOk, OnErr, IsErrOf};
+ghost use Rattle.std.specs.Prelude.{◌≡◌, ◌≤◌, ◌<◌, ◌+◌, ◌++◌, ◌^◌, ◌⊎◌, ℕ, List, [], max, length, None, Some, Err, IsSome, IfOk, IfErr, IfSome, IfNone, OnOk, OnErr, IsErrOf};
 ghost use Rattle.play_base.specs.View.{ReadFault, SameCounts};
 ghost use Rattle.pcap_files.specs.Ahead.{TookSome};
 ghost use Rattle.pcap_files.specs.Reading.{StandsFor, Answers, AreAllTaken, Counts, HoldsNext, IsCutOff, Stays, IsWhole, IsFault, IsHeadFault, SameBut, IsTaken, IsCut};
@@ -30,26 +30,32 @@ pub struct Reader {
 }
 
 impl Reader {
-    /// Reads the header of the capture that the file has left. `Damage` comes only where the header fails a test, and no
+    /// Reads the header of a capture: of the bytes `first`, which were taken of the file before, and what it has left. `Damage` comes only where the header fails a test, and no
     /// reader is answered where it does; `Read` comes only where the count of read faults of the file's part rose in this
     /// call, and `Limit` never; then no more than a part of the header was taken. When a reader is answered, at most 65,535 bytes past
     /// the header were taken, and no count rose. `file` was
     /// answered by `files`.
-    pub fn start<F: Files>(alloc: Global, files: &mut F, file: u32) -> Result<Reader, CaptureFault>
+    pub fn start<F: Files>(
+        alloc: Global,
+        files: &mut F,
+        file: u32,
+        first: &[u8],
+    ) -> Result<Reader, CaptureFault>
         requires there { IsSome ((F.view files.old).part file) }
-        ensures stands { IfOk result (λ reader. (bytes : List ℕ) → (F.view files.old).left file ≡ Some bytes →
-            StandsFor (F.view files.new) reader bytes []) }
+        requires few { length first.now ≤ 24 }
+        ensures stands { IfOk result (λ reader. (rest : List ℕ) → (F.view files.old).left file ≡ Some rest →
+            StandsFor (F.view files.new) reader (first.now ++ rest) []) }
         ensures file { IfOk result (λ reader. reader.file ≡ file) }
         ensures sound { IfOk result (λ reader. reader.fault ≡ None) }
-        ensures damaged { IfErr result (λ fault. (bytes : List ℕ) → (F.view files.old).left file ≡ Some bytes →
-            IsHeadFault fault bytes) }
+        ensures damaged { IfErr result (λ fault. (rest : List ℕ) → (F.view files.old).left file ≡ Some rest →
+            IsHeadFault fault (first.now ++ rest)) }
         ensures read { IsErrOf result CaptureFault.Read → ReadFault (F.view files.old) (F.view files.new) file }
-        ensures cut { IsErrOf result CaptureFault.Read → (bytes : List ℕ) → (F.view files.old).left file ≡ Some bytes →
-            AreAllTaken (F.view files.new) file bytes [] }
+        ensures cut { IsErrOf result CaptureFault.Read → (rest : List ℕ) → (F.view files.old).left file ≡ Some rest →
+            AreAllTaken (F.view files.new) file (first.now ++ rest) [] }
         ensures counts { OnOk result (SameCounts (F.view files.old) (F.view files.new)) }
         ensures some { TookSome (F.view files.old) (F.view files.new) file }
     {
-        let Ok(mut ahead) = Ahead::new(alloc) else {
+        let Ok(mut ahead) = Ahead::new(alloc, first) else {
             return Err(CaptureFault::NoMemory);
         };
         if let Err(trouble) = ahead.fill(files, file, FILE_HEAD) {

@@ -4,12 +4,13 @@ use Rattle.std.specs.Prelude.{◌&&◌, bytes_eq, codes, if◌then◌else◌, is
 use Rattle.conf_laws.proofs.ListPlaces.{names_equal}
 use Rattle.line_text.specs.Numbers.{number}
 use Rattle.play_base.specs.View.{View}
-use Rattle.play_words.specs.Read.{Reads, ReadsCheck, ReadsMake, ReadsPlay}
+use Rattle.play_words.specs.Read.{Reads, ReadsCheck, ReadsMake, ReadsPlay, ReadsShares, ReadsVerify}
 use Rattle.play_words.specs.declared.words.CheckWords.{CheckWords}
 use Rattle.play_words.specs.declared.words.Command.{Command}
 use Rattle.play_words.specs.declared.words.Command.TheVariants as asks
 use Rattle.play_words.specs.declared.words.MakeWords.{MakeWords}
 use Rattle.play_words.specs.declared.words.PlayWords.{PlayWords}
+use Rattle.play_words.specs.declared.words.VerifyWords.{VerifyWords}
 use Rattle.play_words.specs.Options.{make_app, takes_options}
 use Rattle.play_words.specs.Words.{AreDistinct, IsMake, Named, Words, are_distinct_in, are_distinct_names, count_in, count_of, differ, differ_from, make_refusal, most_packets, option_of, refusal, refusal_by, rows_read, seed_in, seed_of}
 use Rattle.command_base.specs.Names.{Names, names_of, names_read}
@@ -19,6 +20,9 @@ use Rattle.command_base.proofs.ConfLemmas.{same_number}
 use Rattle.check_command.specs.Checking.{CheckEnds}
 use Rattle.make_command.specs.Making.{MakeEnds}
 use Rattle.play_command.specs.Ending.{PlayEnds}
+use Rattle.shares_command.specs.Measuring.{SharesEnds}
+use Rattle.verify_command.specs.Verifying.{Inputs, VerifyEnds, inputs_of}
+use Rattle.play_cli.specs.Run.{inputs_named}
 
 names_same : (x y : Names) → x.config ≡ y.config → x.interface ≡ y.interface → x.arrivals ≡ y.arrivals → x.departures ≡ y.departures
     → x.fates ≡ y.fates → x.stats ≡ y.stats → x ≡ y
@@ -40,12 +44,36 @@ check_read words command w e r = let P : Command → Type 0 = λ c. Reads words 
 pub make_read : (words : Words) (command : Command) (w : MakeWords) → command ≡ asks.Make w → Reads words command → ReadsMake words w
 make_read words command w e r = let P : Command → Type 0 = λ c. Reads words c in subst P e r
 
+pub shares_read : (words : Words) (command : Command) (w : PlayWords) → command ≡ asks.Shares w → Reads words command → ReadsShares words w
+shares_read words command w e r = let P : Command → Type 0 = λ c. Reads words c in subst P e r
+
+pub verify_read : (words : Words) (command : Command) (w : VerifyWords) → command ≡ asks.Verify w → Reads words command → ReadsVerify words w
+verify_read words command w e r = let P : Command → Type 0 = λ c. Reads words c in subst P e r
+
+inputs_same : (x y : Inputs) → x.config ≡ y.config → x.interface ≡ y.interface → x.arrivals ≡ y.arrivals → x.departures ≡ y.departures
+    → x.fates ≡ y.fates → x ≡ y
+inputs_same x y c i a d f =
+    ap {B = Inputs} (λ (v : List ℕ). record { config = v; interface = x.interface; arrivals = x.arrivals; departures = x.departures; fates = x.fates }) c
+    ∙ ap {B = Inputs} (λ (v : List ℕ). record { config = y.config; interface = v; arrivals = x.arrivals; departures = x.departures; fates = x.fates }) i
+    ∙ ap {B = Inputs} (λ (v : List ℕ). record { config = y.config; interface = y.interface; arrivals = v; departures = x.departures; fates = x.fates }) a
+    ∙ ap {B = Inputs} (λ (v : List ℕ). record { config = y.config; interface = y.interface; arrivals = y.arrivals; departures = v; fates = x.fates }) d
+    ∙ ap {B = Inputs} (λ (v : List ℕ). record { config = y.config; interface = y.interface; arrivals = y.arrivals; departures = y.departures; fates = v }) f
+
 -- a play of the words as they stand
 pub play_of : (u v : View) (words : Words) (w : PlayWords) (s : Status) → ReadsPlay words w → Ends (PlayEnds u v (names_read w) w.seed) u v s
     → (seed : ℕ) → seed_of words ≡ Some seed → Ends (PlayEnds u v (names_of words) seed) u v s
 play_of u v words w s r x seed is =
     let P : Names → Type 0 = λ n. Ends (PlayEnds u v n w.seed) u v s in
     let Q : ℕ → Type 0 = λ k. Ends (PlayEnds u v (names_of words) k) u v s in
+    subst Q (same_number (seed_of words) w.seed seed r.read.seed is)
+    (subst P (names_same (names_read w) (names_of words) r.read.config r.read.interface r.read.arrivals r.read.departures r.read.fates r.read.stats) x)
+
+-- and one whose shares are measured
+pub shares_of : (u v : View) (words : Words) (w : PlayWords) (s : Status) → ReadsShares words w → Ends (SharesEnds u v (names_read w) w.seed) u v s
+    → (seed : ℕ) → seed_of words ≡ Some seed → Ends (SharesEnds u v (names_of words) seed) u v s
+shares_of u v words w s r x seed is =
+    let P : Names → Type 0 = λ n. Ends (SharesEnds u v n w.seed) u v s in
+    let Q : ℕ → Type 0 = λ k. Ends (SharesEnds u v (names_of words) k) u v s in
     subst Q (same_number (seed_of words) w.seed seed r.read.seed is)
     (subst P (names_same (names_read w) (names_of words) r.read.config r.read.interface r.read.arrivals r.read.departures r.read.fates r.read.stats) x)
 
@@ -66,6 +94,12 @@ make_of u v words w s r x seed count is counted =
     subst R (same_number (count_of words) w.count count r.count counted)
     (subst Q (same_number (seed_of words) w.play.seed seed r.read.seed is)
     (subst P (names_same (names_read w.play) (names_of words) r.read.config r.read.interface r.read.arrivals r.read.departures r.read.fates r.read.stats) x))
+
+pub verify_of : (u v : View) (words : Words) (w : VerifyWords) (s : Status) → ReadsVerify words w → Ends (VerifyEnds u v (inputs_of w)) u v s
+    → Ends (VerifyEnds u v (inputs_named words)) u v s
+verify_of u v words w s r x =
+    let P : Inputs → Type 0 = λ n. Ends (VerifyEnds u v n) u v s in
+    subst P (inputs_same (inputs_of w) (inputs_named words) r.read.config r.read.interface r.read.arrivals r.read.departures r.read.fates) x
 
 -- at most 1,000,000 packets are made
 same_count : (m k : ℕ) → Some m ≡ Some k → m ≡ k

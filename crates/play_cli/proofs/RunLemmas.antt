@@ -10,7 +10,7 @@ use Rattle.play_words.specs.declared.words.Unread.TheVariants as why
 use Rattle.play_words.specs.declared.words.WordsFault.{WordsFault}
 use Rattle.command_base.specs.Faults.{CannotRead}
 use Rattle.command_base.specs.Names.{Names}
-use Rattle.command_base.specs.Outcome.{Outcome, done_status, failure_status, status_of}
+use Rattle.command_base.specs.Outcome.{Outcome, done_status, failure_status, read_number, status_of}
 use Rattle.command_base.specs.Telling.{Ends, FailsTold, OnlySays}
 use Rattle.command_base.specs.declared.done.Done.{Done}
 use Rattle.command_base.specs.declared.done.Done.TheVariants as done
@@ -24,7 +24,9 @@ use Rattle.command_base.specs.declared.status.Status.{Status}
 use Rattle.check_command.specs.Checking.{CheckEnds}
 use Rattle.make_command.specs.Making.{MakeEnds}
 use Rattle.play_command.specs.Ending.{IsUnread, PlayEnds}
-use Rattle.play_cli.specs.Run.{IsRefused, MeetsReadFault, MeetsWriteFault, RefusedAs}
+use Rattle.play_cli.specs.Run.{IsRefused, MeetsReadFault, MeetsWriteFault, RefusedAs, TellsTruly}
+use Rattle.shares_command.specs.Measuring.{SharesEnds}
+use Rattle.verify_command.specs.Verifying.{Inputs, VerifyEnds, name_of}
 
 -- the words were refused
 refused_as : (kind : ℕ) (fault : WordsFault) (g : Failure) → words_kind fault ≡ kind → (g ≡ failure.Words fault) ⊎ (g ≡ failure.NoMemory) → RefusedAs kind g
@@ -73,6 +75,8 @@ done_zero : (d : Done) → (done_status d).code ≡ 0
 done_zero done.Played = refl
 done_zero done.Made = refl
 done_zero (done.Checked fit) = refl
+done_zero done.Verified = refl
+done_zero done.Measured = refl
 
 not_done : (d : Done) (k : ℕ) {A : Type 0} → (0 ≡ k → ⊥) → (done_status d).code ≡ k → A
 not_done d k differ e = absurd (differ (sym (done_zero d) ∙ e))
@@ -101,30 +105,30 @@ code_is : (E : Outcome → Type 0) (u w : View) (s : Status) (k : ℕ) (x : Ends
 code_is E u w s k x e = ap (λ (t : Status). t.code) (sym x.status) ∙ e
 
 -- so of the run of a command: its words are not refused, a run that is done met no fault, and a fault that is told was met
-pub not_two : (E : Outcome → Type 0) (u w : View) (s : Status) {A : Type 0} → Ends E u w s → ((fault : WordsFault) → E (Err (failure.Words fault)) → ⊥)
+not_two : (E : Outcome → Type 0) (u w : View) (s : Status) {A : Type 0} → Ends E u w s → ((fault : WordsFault) → E (Err (failure.Words fault)) → ⊥)
     → s.code ≡ 2 → A
 not_two E u w s x refuses e = let y = words_of x.outcome (code_is E u w s 2 x e) in absurd (refuses y.0 (subst E y.1 x.ends))
 
-pub no_fault : (E : Outcome → Type 0) (u w : View) (s : Status) → Ends E u w s → ((d : Done) → E (Ok d) → SameCounts u w) → s.code ≡ 0 → SameCounts u w
+no_fault : (E : Outcome → Type 0) (u w : View) (s : Status) → Ends E u w s → ((d : Done) → E (Ok d) → SameCounts u w) → s.code ≡ 0 → SameCounts u w
 no_fault E u w s x means e = let y = done_of x.outcome (code_is E u w s 0 x e) in means y.0 (subst E y.1 x.ends)
 
-pub read_met : (E : Outcome → Type 0) (u w : View) (s : Status) → Ends E u w s → ((part : ReadPart) → E (Err (failure.Read part)) → MeetsReadFault u w)
+read_met : (E : Outcome → Type 0) (u w : View) (s : Status) → Ends E u w s → ((part : ReadPart) → E (Err (failure.Read part)) → MeetsReadFault u w)
     → s.code ≡ 5 → MeetsReadFault u w
 read_met E u w s x means e = let y = read_of x.outcome (code_is E u w s 5 x e) in means y.0 (subst E y.1 x.ends)
 
-pub write_met : (E : Outcome → Type 0) (u w : View) (s : Status) → Ends E u w s → ((part : WrittenPart) → E (Err (failure.Write part)) → MeetsWriteFault u w)
+write_met : (E : Outcome → Type 0) (u w : View) (s : Status) → Ends E u w s → ((part : WrittenPart) → E (Err (failure.Write part)) → MeetsWriteFault u w)
     → s.code ≡ 6 → MeetsWriteFault u w
 write_met E u w s x means e = let y = written_of x.outcome (code_is E u w s 6 x e) in means y.0 (subst E y.1 x.ends)
 
-pub play_counts : (u w : View) (n : Names) (seed : ℕ) (d : Done) → PlayEnds u w n seed (Ok d) → SameCounts u w
+play_counts : (u w : View) (n : Names) (seed : ℕ) (d : Done) → PlayEnds u w n seed (Ok d) → SameCounts u w
 play_counts u w n seed done.Played x = x.comes.no_fault
 play_counts u w n seed other x = absurd x.comes
 
-pub check_counts : (u w : View) (config interface : List ℕ) (d : Done) → CheckEnds u w config interface (Ok d) → SameCounts u w
+check_counts : (u w : View) (config interface : List ℕ) (d : Done) → CheckEnds u w config interface (Ok d) → SameCounts u w
 check_counts u w config interface (done.Checked fit) x = x.comes.no_fault
 check_counts u w config interface other x = absurd x.comes
 
-pub make_counts : (u w : View) (n : Names) (seed count : ℕ) (d : Done) → MakeEnds u w n seed count (Ok d) → SameCounts u w
+make_counts : (u w : View) (n : Names) (seed count : ℕ) (d : Done) → MakeEnds u w n seed count (Ok d) → SameCounts u w
 make_counts u w n seed count done.Made x = x.comes.no_fault
 make_counts u w n seed count other x = absurd x.comes
 
@@ -136,34 +140,115 @@ unread_met : (u w : View) (n : Names) (seed : ℕ) → IsUnread u w n seed → M
 unread_met u w n seed (inl x) = cannot_met u w 2 n.arrivals x.1
 unread_met u w n seed (inr x) = inl (2, x.0)
 
-pub play_read_met : (u w : View) (n : Names) (seed : ℕ) (part : ReadPart) → PlayEnds u w n seed (Err (failure.Read part)) → MeetsReadFault u w
+play_read_met : (u w : View) (n : Names) (seed : ℕ) (part : ReadPart) → PlayEnds u w n seed (Err (failure.Read part)) → MeetsReadFault u w
 play_read_met u w n seed read.Configuration x = cannot_met u w 1 n.config x.comes.1
 play_read_met u w n seed read.Arrivals x = unread_met u w n seed x.comes.1
+play_read_met u w n seed other x = absurd x.comes
 
-pub play_write_met : (u w : View) (n : Names) (seed : ℕ) (part : WrittenPart) → PlayEnds u w n seed (Err (failure.Write part)) → MeetsWriteFault u w
+play_write_met : (u w : View) (n : Names) (seed : ℕ) (part : WrittenPart) → PlayEnds u w n seed (Err (failure.Write part)) → MeetsWriteFault u w
 play_write_met u w n seed written.Departures x = (3, x.comes.1)
 play_write_met u w n seed written.Fates x = (4, x.comes.1)
 play_write_met u w n seed written.Statistics x = (5, x.comes.1)
 play_write_met u w n seed other x = absurd x.comes
 
-pub check_read_met : (u w : View) (config interface : List ℕ) (part : ReadPart) → CheckEnds u w config interface (Err (failure.Read part)) → MeetsReadFault u w
+check_read_met : (u w : View) (config interface : List ℕ) (part : ReadPart) → CheckEnds u w config interface (Err (failure.Read part)) → MeetsReadFault u w
 check_read_met u w config interface read.Configuration x = cannot_met u w 1 config x.comes
 check_read_met u w config interface other x = absurd x.comes
 
-pub check_write_met : (u w : View) (config interface : List ℕ) (part : WrittenPart) → CheckEnds u w config interface (Err (failure.Write part)) → MeetsWriteFault u w
+check_write_met : (u w : View) (config interface : List ℕ) (part : WrittenPart) → CheckEnds u w config interface (Err (failure.Write part)) → MeetsWriteFault u w
 check_write_met u w config interface written.Answer x = (0, x.comes.0)
 check_write_met u w config interface other x = absurd x.comes
 
-pub make_read_met : (u w : View) (n : Names) (seed count : ℕ) (part : ReadPart) → MakeEnds u w n seed count (Err (failure.Read part)) → MeetsReadFault u w
+make_read_met : (u w : View) (n : Names) (seed count : ℕ) (part : ReadPart) → MakeEnds u w n seed count (Err (failure.Read part)) → MeetsReadFault u w
 make_read_met u w n seed count read.Configuration x = cannot_met u w 1 n.config x.comes.1
 make_read_met u w n seed count read.Arrivals x = inl (2, x.comes.1)
+make_read_met u w n seed count other x = absurd x.comes
 
-pub make_write_met : (u w : View) (n : Names) (seed count : ℕ) (part : WrittenPart) → MakeEnds u w n seed count (Err (failure.Write part)) → MeetsWriteFault u w
+make_write_met : (u w : View) (n : Names) (seed count : ℕ) (part : WrittenPart) → MakeEnds u w n seed count (Err (failure.Write part)) → MeetsWriteFault u w
 make_write_met u w n seed count written.Departures x = (3, x.comes.1)
 make_write_met u w n seed count written.Fates x = (4, x.comes.1)
 make_write_met u w n seed count written.Statistics x = (5, x.comes.1)
 make_write_met u w n seed count written.Arrivals x = (2, x.comes.1)
 make_write_met u w n seed count written.Answer x = (0, x.comes.1)
+
+verify_counts : (u w : View) (n : Inputs) (d : Done) → VerifyEnds u w n (Ok d) → SameCounts u w
+verify_counts u w n done.Verified x = x.comes.no_fault
+verify_counts u w n other x = absurd x.comes
+
+verify_write_met : (u w : View) (n : Inputs) (part : WrittenPart) → VerifyEnds u w n (Err (failure.Write part)) → MeetsWriteFault u w
+verify_write_met u w n written.Answer x = (0, x.comes.0)
+verify_write_met u w n other x = absurd x.comes
+
+shares_counts : (u w : View) (n : Names) (seed : ℕ) (d : Done) → SharesEnds u w n seed (Ok d) → SameCounts u w
+shares_counts u w n seed done.Measured x = x.comes.no_fault
+shares_counts u w n seed other x = absurd x.comes
+
+shares_read_met : (u w : View) (n : Names) (seed : ℕ) (part : ReadPart) → SharesEnds u w n seed (Err (failure.Read part)) → MeetsReadFault u w
+shares_read_met u w n seed read.Configuration x = cannot_met u w 1 n.config x.comes.1
+shares_read_met u w n seed read.Arrivals x = unread_met u w n seed x.comes.1
+shares_read_met u w n seed other x = absurd x.comes
+
+shares_write_met : (u w : View) (n : Names) (seed : ℕ) (part : WrittenPart) → SharesEnds u w n seed (Err (failure.Write part)) → MeetsWriteFault u w
+shares_write_met u w n seed written.Departures x = (3, x.comes.1)
+shares_write_met u w n seed written.Fates x = (4, x.comes.1)
+shares_write_met u w n seed written.Statistics x = (5, x.comes.1)
+shares_write_met u w n seed written.Arrivals x = absurd x.comes
+shares_write_met u w n seed written.Answer x = (0, x.comes.failed)
+
+-- what the outcomes of a command mean for its status
+record MeansTruly (E : Outcome → Type 0) (u w : View) : Type 0 where
+  words : (fault : WordsFault) → E (Err (failure.Words fault)) → ⊥
+  no_fault : (d : Done) → E (Ok d) → SameCounts u w
+  read : (part : ReadPart) → E (Err (failure.Read part)) → MeetsReadFault u w
+  write : (part : WrittenPart) → E (Err (failure.Write part)) → MeetsWriteFault u w
+
+truly : (E : Outcome → Type 0) (u w : View) (s : Status) → MeansTruly E u w → Ends E u w s → TellsTruly u w s
+truly E u w s m x = record {
+  words = λ e. not_two E u w s x m.words e;
+  no_fault = λ e. no_fault E u w s x m.no_fault e;
+  read = λ e. read_met E u w s x m.read e;
+  write = λ e. write_met E u w s x m.write e;
+}
+
+pub play_truly : (u w : View) (n : Names) (seed : ℕ) (s : Status) → Ends (PlayEnds u w n seed) u w s → TellsTruly u w s
+play_truly u w n seed s x = truly (PlayEnds u w n seed) u w s (record {
+  words = λ fault y. y.comes;
+  no_fault = λ d y. play_counts u w n seed d y;
+  read = λ part y. play_read_met u w n seed part y;
+  write = λ part y. play_write_met u w n seed part y;
+}) x
+
+pub check_truly : (u w : View) (config interface : List ℕ) (s : Status) → Ends (CheckEnds u w config interface) u w s → TellsTruly u w s
+check_truly u w config interface s x = truly (CheckEnds u w config interface) u w s (record {
+  words = λ fault y. y.comes;
+  no_fault = λ d y. check_counts u w config interface d y;
+  read = λ part y. check_read_met u w config interface part y;
+  write = λ part y. check_write_met u w config interface part y;
+}) x
+
+pub make_truly : (u w : View) (n : Names) (seed count : ℕ) (s : Status) → Ends (MakeEnds u w n seed count) u w s → TellsTruly u w s
+make_truly u w n seed count s x = truly (MakeEnds u w n seed count) u w s (record {
+  words = λ fault y. y.comes;
+  no_fault = λ d y. make_counts u w n seed count d y;
+  read = λ part y. make_read_met u w n seed count part y;
+  write = λ part y. make_write_met u w n seed count part y;
+}) x
+
+pub shares_truly : (u w : View) (n : Names) (seed : ℕ) (s : Status) → Ends (SharesEnds u w n seed) u w s → TellsTruly u w s
+shares_truly u w n seed s x = truly (SharesEnds u w n seed) u w s (record {
+  words = λ fault y. y.comes;
+  no_fault = λ d y. shares_counts u w n seed d y;
+  read = λ part y. shares_read_met u w n seed part y;
+  write = λ part y. shares_write_met u w n seed part y;
+}) x
+
+pub verify_truly : (u w : View) (n : Inputs) (s : Status) → Ends (VerifyEnds u w n) u w s → TellsTruly u w s
+verify_truly u w n s x = truly (VerifyEnds u w n) u w s (record {
+  words = λ fault y. y.comes;
+  no_fault = λ d y. verify_counts u w n d y;
+  read = λ part y. cannot_met u w (read_number part) (name_of n part) y.comes.0;
+  write = λ part y. verify_write_met u w n part y;
+}) x
 
 -- what a refusal tells
 kind_by : (o : Option ℕ) (fault : WordsFault) (g : Failure) (s : Status) → o ≡ Some (words_kind fault) → s ≡ failure_status g

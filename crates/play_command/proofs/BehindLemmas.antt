@@ -4,7 +4,6 @@ use Rattle.std.specs.Prelude.{IsTrue}
 use Rattle.conf_tree.specs.declared.interface.Interface.{Interface}
 use Rattle.play_base.specs.View.{View, Any, Keeps, SameCounts}
 use Rattle.play_base.proofs.ViewLaws.{keeps_fewer, same_trans}
-use Rattle.play_loop.specs.declared.fault.PlayFault.{PlayFault}
 use Rattle.play_words.specs.Words.{AreDistinct}
 use Rattle.command_base.specs.Configuration.{Accepts, most_bytes}
 use Rattle.command_base.specs.Faults.{Untouched}
@@ -19,10 +18,11 @@ use Rattle.command_base.specs.declared.fault.ConfigFault.TheVariants as conf
 use Rattle.command_base.proofs.PartLemmas.{fresh_before, same_part, there_or_not}
 use Rattle.command_base.proofs.SayingLemmas.{says_only}
 use Rattle.play_command.specs.Ending.{FilesEnd, HasName, PlayEnds, PlayFails, PlayLeaves}
-use Rattle.play_command.specs.Failing.{play_failure}
+use Rattle.play_command.specs.Failing.{unplayed_failure}
 use Rattle.play_command.specs.Opening.{KeepsOthers, OtherThree}
-use Rattle.play_command.proofs.InputLemmas.{Starts, configures_by, fails_from, fronts_from, played_by, quiet_from, told_from}
+use Rattle.play_command.proofs.InputLemmas.{Starts, configures_by, fronts_from, played_by, quiet_from, told_from, unplayed_from}
 use Rattle.play_command.proofs.ToldLemmas.{config_is_told}
+use Rattle.play_command.specs.declared.failing.Unplayed.{Unplayed}
 
 -- the configuration was read, and then the play went from a to c
 pub record Reading (u a c : View) (n : Names) : Type 0 where
@@ -159,12 +159,12 @@ leaves_behind u a c n seed s h =
     }
 
 -- the play ends as it ends behind the reading
-pub fault_behind : (u a c : View) (n : Names) (seed : ℕ) (f : PlayFault) → Reading u a c n → PlayEnds a c n seed (Err (play_failure f))
-    → PlayEnds u c n seed (Err (play_failure f))
+pub fault_behind : (u a c : View) (n : Names) (seed : ℕ) (f : Unplayed) → Reading u a c n → PlayEnds a c n seed (Err (unplayed_failure f))
+    → PlayEnds u c n seed (Err (unplayed_failure f))
 fault_behind u a c n seed f s h =
     let x = starts u a c n s in
     record {
-      comes = fails_from a u c n seed f x h.comes;
+      comes = unplayed_from a u c n seed f x h.comes;
       told = λ t q. told_from a u c n seed _ x t (h.told (x.tells ∙ t) (quiet_from a u c n x q));
       leaves = leaves_behind u a c n seed s h.leaves;
     }

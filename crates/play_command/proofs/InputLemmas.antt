@@ -1,8 +1,9 @@
 -- What holds of a play from one view of the files holds from another with the same configuration, arrivals and outputs.
-use Rattle.std.proofs.Common.{◌≡◌, ◌≤◌, ◌∙◌, ℕ, List, [], Some, sym, refl, subst, inl, inr, arith}
+use Rattle.std.proofs.Common.{◌≡◌, ◌≤◌, ◌∙◌, ◌⊎◌, ℕ, List, [], Some, sym, refl, subst, inl, inr, arith}
 use Rattle.std.proofs.lemmas.List.{append-nil}
 use Rattle.std.specs.Prelude.{IsTrue}
 use Rattle.capture_model.specs.Capture.{Record, Step, End, Reads}
+use Rattle.altq_model.specs.History.{Happened}
 use Rattle.conf_tree.specs.declared.interface.Interface.{Interface}
 use Rattle.pcap_files.proofs.ReadingLaws.{one_reading}
 use Rattle.play_base.specs.View.{View}
@@ -19,16 +20,23 @@ use Rattle.command_base.specs.Outcome.{Outcome}
 use Rattle.command_base.proofs.ConfLemmas.{one_interface, same_some}
 use Rattle.command_base.proofs.PartLemmas.{fresh_before}
 use Rattle.play_command.specs.Ending.{IsAccepting, IsUnread, PlayFails, PlayIsTold}
-use Rattle.play_command.specs.Failing.{play_failure}
+use Rattle.play_command.specs.Failing.{play_failure, unplayed_failure}
 use Rattle.play_command.specs.InterfaceSetup.{setup_of}
-use Rattle.play_command.specs.Played.{Accepted, EndsLate, EndsWith, Fronts, HasFronts, HasPlayed, HasStatsFront, IsCutShort, IsFrontAt, IsLate, IsOffered}
+use Rattle.play_command.specs.declared.failing.Unplayed.{Unplayed}
+use Rattle.play_command.specs.declared.failing.Unplayed.TheVariants.{Pcapng, Play}
+use Rattle.play_command.specs.Played.{Accepted, EndsLate, EndsWith, Fronts, HasFronts, HasPlayed, HasStatsFront, IsCutShort, IsFrontAt, IsLate, IsLimited, IsNoCapture, IsOffered}
+use Rattle.arrivals_front.specs.Given as arrivals
+use Rattle.arrivals_front.proofs.ReadLaws.{read_one_way}
+use Rattle.pcapng_files.specs.declared.fault.NgFault.{NgFault}
+use Rattle.pcapng_files.specs.declared.fault.NgFault.TheVariants as ng
 
 -- what is accepted is one thing
 pub one_accepted : (u : View) (n : Names) (x y : Accepted u n) → (x.interface ≡ y.interface) × (x.bytes ≡ y.bytes)
-one_accepted u n x y = (
-  one_interface u n.config n.interface x.interface y.interface x.configuration y.configuration,
-  sym x.read ∙ same_some x.given y.given (sym x.arrivals ∙ y.arrivals) ∙ y.read,
-)
+one_accepted u n x y =
+    let same : x.given ≡ y.given = same_some x.given y.given (sym x.arrivals ∙ y.arrivals) in (
+      one_interface u n.config n.interface x.interface y.interface x.configuration y.configuration,
+      read_one_way y.given x.bytes y.bytes (subst (λ (g : List ℕ). arrivals.ReadAs g x.bytes) same x.read) y.read,
+    )
 
 -- the same configuration and the same arrivals
 pub record SameInput (u v : View) (n : Names) : Type 0 where
@@ -55,6 +63,16 @@ accepted_by u v n s h = record {
   read = h.read;
 }
 
+pub no_capture_by : (u v : View) (n : Names) (f : NgFault) → SameInput u v n → IsNoCapture u n f → IsNoCapture v n f
+no_capture_by u v n f s h = record {
+  interface = h.interface;
+  given = h.given;
+  configuration = configures_by u v n.config n.interface h.interface s.config h.configuration;
+  arrivals = s.arrivals ∙ h.arrivals;
+  pcapng = h.pcapng;
+  cause = h.cause;
+}
+
 pub played_by : (u v c : View) (n : Names) (seed : ℕ) → SameInput u v n → HasPlayed u c n seed → HasPlayed v c n seed
 unfolding accepted_by
 played_by u v c n seed s h = record { accepted = accepted_by u v n s h.accepted; played = h.played; promises = h.promises }
@@ -63,6 +81,12 @@ pub played_totals : (u v c : View) (n : Names) (seed : ℕ) (s : SameInput u v n
     → (played_by u v c n seed s h).played.totals ≡ h.played.totals
 unfolding played_by
 played_totals u v c n seed s h = refl
+
+-- what holds of its interface and its history holds then
+pub played_lines : (u v c : View) (n : Names) (seed : ℕ) (s : SameInput u v n) (h : HasPlayed u c n seed) (P : Interface → List Happened → Type 0)
+    → P h.accepted.interface h.played.history → P (played_by u v c n seed s h).accepted.interface (played_by u v c n seed s h).played.history
+unfolding played_by accepted_by
+played_lines u v c n seed s h P x = x
 
 offered_by : (u v c : View) (n : Names) (seed : ℕ) (last : Step) → SameInput u v n → IsOffered u c n seed last → IsOffered v c n seed last
 unfolding accepted_by
@@ -196,16 +220,28 @@ unread_from w g c n seed s (inl x) = inl (s.untouched x.0, cannot_from w g c n s
 unread_from w g c n seed s (inr x) =
     inr (rose_later _ _ _ (s.read 2) x.0, λ t. short_by w g c n seed (s.input t) s.part (x.1 (s.tells ∙ t)))
 
-pub fails_from : (w g c : View) (n : Names) (seed : ℕ) (f : PlayFault) → Starts w g c n → PlayFails w c n seed (play_failure f)
+limited_from : (w g c : View) (n : Names) (seed : ℕ) → Starts w g c n
+    → (IsTrue w.tells → IsLimited w c n seed) ⊎ (Untouched w c 3 × (IsTrue w.tells → IsNoCapture w n ng.Limit))
+    → (IsTrue g.tells → IsLimited g c n seed) ⊎ (Untouched g c 3 × (IsTrue g.tells → IsNoCapture g n ng.Limit))
+limited_from w g c n seed s (inl x) = inl (λ t. offered_by w g c n seed _ (s.input t) (x (s.tells ∙ t)))
+limited_from w g c n seed s (inr x) = inr (s.untouched x.0, λ t. no_capture_by w g n ng.Limit (s.input t) (x.1 (s.tells ∙ t)))
+
+fails_from : (w g c : View) (n : Names) (seed : ℕ) (f : PlayFault) → Starts w g c n → PlayFails w c n seed (play_failure f)
     → PlayFails g c n seed (play_failure f)
 fails_from w g c n seed (play.Capture d) s x = (accepting_from w g c n s x.0, λ t. offered_by w g c n seed _ (s.input t) (x.1 (s.tells ∙ t)))
 fails_from w g c n seed play.Read s x = (accepting_from w g c n s x.0, unread_from w g c n seed s x.1)
 fails_from w g c n seed (play.Write output.Departures) s x = (accepting_from w g c n s x.0, rose_later _ _ _ (s.write 3) x.1)
 fails_from w g c n seed (play.Write output.Fates) s x = (accepting_from w g c n s x.0, rose_later _ _ _ (s.write 4) x.1)
 fails_from w g c n seed (play.Write output.Statistics) s x = (accepting_from w g c n s x.0, rose_later _ _ _ (s.write 5) x.1)
-fails_from w g c n seed (play.Limit limit.Capture) s x = (accepting_from w g c n s x.0, λ t. offered_by w g c n seed _ (s.input t) (x.1 (s.tells ∙ t)))
+fails_from w g c n seed (play.Limit limit.Capture) s x = (accepting_from w g c n s x.0, limited_from w g c n seed s x.1)
 fails_from w g c n seed (play.Limit limit.Clock) s x = (accepting_from w g c n s x.0, λ t. late_by w g c n seed (s.input t) s.part (x.1 (s.tells ∙ t)))
 fails_from w g c n seed play.NoMemory s x = tt
+
+pub unplayed_from : (w g c : View) (n : Names) (seed : ℕ) (f : Unplayed) → Starts w g c n → PlayFails w c n seed (unplayed_failure f)
+    → PlayFails g c n seed (unplayed_failure f)
+unplayed_from w g c n seed (Pcapng block) s x =
+    (accepting_from w g c n s x.0, s.untouched x.1, λ t. no_capture_by w g n (ng.At block) (s.input t) (x.2 (s.tells ∙ t)))
+unplayed_from w g c n seed (Play f) s x = fails_from w g c n seed f s x
 
 pub told_from : (w g c : View) (n : Names) (seed : ℕ) (o : Outcome) → Starts w g c n → IsTrue g.tells → PlayIsTold w n seed o → PlayIsTold g n seed o
 told_from w g c n seed o s t x =
@@ -216,6 +252,8 @@ told_from w g c n seed o s t x =
       long = λ y. x.long (says_by g w n.config n.interface _ same.config y);
       damaged = λ d p. x.damaged d (ends_with_by g w n seed _ same p);
       limited = λ p. x.limited (ends_with_by g w n seed _ same p);
+      no_pcapng = λ block y. x.no_pcapng block (no_capture_by g w n (ng.At block) same y);
+      too_long = λ y. x.too_long (no_capture_by g w n ng.Limit same y);
       late = λ p. x.late (ends_late_by g w n seed same p);
     }
 

@@ -8,7 +8,10 @@ pub mod Laws
 pub mod NamedLemmas
 pub mod OpeningLemmas
 pub mod SayingLemmas
+pub mod SeeingLemmas
 pub mod SetupLemmas
 pub mod StepLemmas
 pub mod TellLemmas
+pub mod ThroughLemmas
 pub mod ToldLemmas
+pub mod WatchedLemmas

@@ -1,10 +1,10 @@
 -- Each file of a play has the part of its name, and no two have one part.
 use Rattle.std.proofs.Common.{◌≡◌, ◌≤◌, ◌<◌, ◌+◌, ◌∙◌, ◌⊎◌, ℕ, List, None, Some, ap, sym, refl, subst, inl, inr, arith}
 use Rattle.std.specs.Prelude.{IsTrue}
-use Rattle.play_base.specs.View.{View, Created, IsNew, NoneAppears, Opened, Unchanged}
+use Rattle.play_base.specs.View.{View, Created, IsNew, NoneAppears, Unchanged}
 use Rattle.command_base.specs.Names.{Names}
 use Rattle.command_base.proofs.PartLemmas.{new_part, none_some, same_part, there_or_not, there_then}
-use Rattle.play_command.specs.Opening.{AreNamed, IsNamed}
+use Rattle.play_command.specs.Opening.{AreNamed, IsNamed, IsOpened}
 
 -- none yet
 pub named_none : (a : View) (n : Names) → AreNamed a a n 2
@@ -74,20 +74,25 @@ named_within a b n end most l h = record {
 }
 
 -- the arrivals, and then one output, two or three
-pub named_one : (a b : View) (n : Names) (f : ℕ) → Opened a b 2 n.arrivals f → AreNamed a b n 3
+pub named_one : (a b : View) (n : Names) (f : ℕ) → IsOpened a b n.arrivals f → AreNamed a b n 3
 named_one a b n f x = named_more a a b n 2 n.arrivals f (named_none a n) x.is_new x.keeps.part x.keeps.name refl (inl (refl, refl))
 
-pub named_two : (a b c : View) (n : Names) (f g : ℕ) → Opened a b 2 n.arrivals f → Created b c 3 n.departures g → AreNamed a c n 4
+pub named_arrivals : (a b : View) (n : Names) (name : List ℕ) (f : ℕ) → n.arrivals ≡ name → IsOpened a b name f → AreNamed a b n 6
+named_arrivals a b n name f e x =
+    let P : List ℕ → Type 0 = λ m. IsOpened a b m f in
+    named_within a b n 3 6 (omega arith) (named_one a b n f (subst P (sym e) x))
+
+pub named_two : (a b c : View) (n : Names) (f g : ℕ) → IsOpened a b n.arrivals f → Created b c 3 n.departures g → AreNamed a c n 4
 named_two a b c n f g x y =
     named_more a b c n 3 n.departures g (named_one a b n f x) y.is_new y.keeps.part y.keeps.name x.keeps.tells (inr (inl (refl, refl)))
 
-pub named_three : (a b c d : View) (n : Names) (f g h : ℕ) → Opened a b 2 n.arrivals f → Created b c 3 n.departures g → Created c d 4 n.fates h
+pub named_three : (a b c d : View) (n : Names) (f g h : ℕ) → IsOpened a b n.arrivals f → Created b c 3 n.departures g → Created c d 4 n.fates h
     → AreNamed a d n 5
 named_three a b c d n f g h x y z =
     named_more a c d n 4 n.fates h (named_two a b c n f g x y) z.is_new z.keeps.part z.keeps.name (y.keeps.tells ∙ x.keeps.tells)
     (inr (inr (inl (refl, refl))))
 
-pub named_four : (a b c d e : View) (n : Names) (f g h k : ℕ) → Opened a b 2 n.arrivals f → Created b c 3 n.departures g → Created c d 4 n.fates h → Created d e 5 n.stats k
+pub named_four : (a b c d e : View) (n : Names) (f g h k : ℕ) → IsOpened a b n.arrivals f → Created b c 3 n.departures g → Created c d 4 n.fates h → Created d e 5 n.stats k
     → AreNamed a e n 6
 named_four a b c d e n f g h k x y z w =
     named_more a d e n 5 n.stats k (named_three a b c d n f g h x y z) w.is_new w.keeps.part w.keeps.name

@@ -1,15 +1,24 @@
 -- The files of a play as they come to be, one after another.
-use Rattle.std.proofs.Common.{◌≡◌, ◌≢◌, ◌≤◌, ◌<◌, ◌+◌, ◌∙◌, ◌⊎◌, ℕ, List, [], None, Some, ap, sym, refl, subst, inl, inr, arith}
+use Rattle.std.proofs.Common.{◌≡◌, ◌≢◌, ◌≤◌, ◌<◌, ◌+◌, ◌∙◌, ◌⊎◌, ℕ, List, [], None, Some, ap, sym, refl, subst, inl, inr, arith, true, length}
 use Rattle.std.specs.Prelude.{IsTrue}
 use Rattle.std.specs.declared.option.Option.{Option}
-use Rattle.play_base.specs.View.{View, Any, Unchanged, IsMissed, IsNew, Opened, Created, Rose}
+use Rattle.play_base.specs.View.{View, Any, Unchanged, IsMissed, IsNew, Opened, Created, Rose, Keeps, NoneAppears}
 use Rattle.play_base.proofs.HoldsLaws.{holds_beside_created, holds_created}
-use Rattle.play_base.proofs.ViewLaws.{is_some_of, keeps_refl, keeps_trans, keeps_fewer}
+use Rattle.play_base.proofs.ViewLaws.{is_some_of, keeps_refl, keeps_trans, keeps_fewer, opened_then, rose_later}
 use Rattle.play_base.specs.Holds.{HoldsAt}
 use Rattle.play_words.specs.Words.{AreDistinct}
 use Rattle.command_base.proofs.PartLemmas.{fresh_before, new_part, none_some, same_part, short_or_long, there_or_not}
 use Rattle.command_base.specs.Faults.{CannotRead, Untouched}
-use Rattle.play_command.specs.Opening.{AreOpened, HaveParts, KeepsOthers, OpenedFar, OtherThree}
+use Rattle.play_command.specs.Opening.{AreOpened, HaveParts, KeepsOthers, OpenedFar, OtherThree, ArrivalsCauses, GivesNoCapture, IsOpened}
+use Rattle.arrivals_front.specs.Given.{IsRefused, is_pcapng}
+use Rattle.arrivals_front.specs.declared.given.GivenFault.{GivenFault}
+use Rattle.arrivals_front.specs.declared.given.GivenFault.TheVariants as given
+use Rattle.pcapng_files.specs.Converted.{IsCause}
+use Rattle.pcapng_files.specs.declared.fault.NgFault.{NgFault}
+use Rattle.pcapng_files.specs.declared.fault.NgFault.TheVariants as ng
+use Rattle.play_loop.specs.declared.fault.Opened as loop
+use Rattle.command_base.proofs.ConfLemmas.{some_bytes}
+use Rattle.play_command.specs.Failing.{given_fault}
 
 parts_none : (a : View) → HaveParts a a 2
 parts_none a = record {
@@ -117,7 +126,7 @@ far_unchanged a b c dep fat stats h x = record {
         let y = h.not_config f m.0 fresh m.1 in omega (arith, y, same)
 
 -- the arrivals are opened
-pub far_opened : (a b : View) (dep fat stats name : List ℕ) (file : ℕ) → Opened a b 2 name file → OpenedFar a b dep fat stats
+pub far_opened : (a b : View) (dep fat stats name : List ℕ) (file : ℕ) → IsOpened a b name file → OpenedFar a b dep fat stats
 far_opened a b dep fat stats name file x = record {
   end = 3;
   parts = parts_more a a b 2 name file (parts_none a) x.is_new x.keeps.part (omega arith);
@@ -208,26 +217,30 @@ far_stats a b c dep fat stats file ds fs h e x = record {
 }
 
 -- the arrivals, and then one output, two or three
-pub far_two : (a b c : View) (dep fat stats name : List ℕ) (f g : ℕ) → dep ≢ fat → dep ≢ stats → Opened a b 2 name f → Created b c 3 dep g → OpenedFar a c dep fat stats
+pub far_two : (a b c : View) (dep fat stats name : List ℕ) (f g : ℕ) → dep ≢ fat → dep ≢ stats → IsOpened a b name f → Created b c 3 dep g → OpenedFar a c dep fat stats
 unfolding far_opened
 far_two a b c dep fat stats name f g df ds x y = far_departures a b c dep fat stats g df ds (far_opened a b dep fat stats name f x) refl y
 
-pub far_three : (a b c d : View) (dep fat stats name : List ℕ) (f g h : ℕ) → dep ≢ fat → dep ≢ stats → fat ≢ stats → Opened a b 2 name f → Created b c 3 dep g
+pub far_three : (a b c d : View) (dep fat stats name : List ℕ) (f g h : ℕ) → dep ≢ fat → dep ≢ stats → fat ≢ stats → IsOpened a b name f → Created b c 3 dep g
     → Created c d 4 fat h → OpenedFar a d dep fat stats
 unfolding far_two far_departures
 far_three a b c d dep fat stats name f g h df ds fs x y z =
     far_fates a c d dep fat stats h df fs (far_two a b c dep fat stats name f g df ds x y) refl z
 
-pub far_four : (a b c d e : View) (dep fat stats name : List ℕ) (f g h k : ℕ) → dep ≢ fat → dep ≢ stats → fat ≢ stats → Opened a b 2 name f → Created b c 3 dep g
+pub far_four : (a b c d e : View) (dep fat stats name : List ℕ) (f g h k : ℕ) → dep ≢ fat → dep ≢ stats → fat ≢ stats → IsOpened a b name f → Created b c 3 dep g
     → Created c d 4 fat h → Created d e 5 stats k → OpenedFar a e dep fat stats
 unfolding far_three far_fates
 far_four a b c d e dep fat stats name f g h k df ds fs x y z w =
     far_stats a d e dep fat stats k ds fs (far_three a b c d dep fat stats name f g h df ds fs x y z) refl w
 
 -- all four
-pub are_opened : (a b c d e : View) (config arr dep fat stats : List ℕ) (f g h k : ℕ) → AreDistinct config arr dep fat stats → Opened a b 2 arr f → Created b c 3 dep g
-    → Created c d 4 fat h → Created d e 5 stats k → AreOpened a e arr dep fat stats (record { arrivals = f; departures = g; fates = h; stats = k })
-are_opened a b c d e config arr dep fat stats f g h k q x y z w =
+pub are_opened : (a b c d e : View) (config arr dep fat stats : List ℕ) (o : loop.Opened) → length o.first.now ≤ 24 → AreDistinct config arr dep fat stats
+    → IsOpened a b arr o.arrivals → Created b c 3 dep o.departures → Created c d 4 fat o.fates → Created d e 5 stats o.stats → AreOpened a e arr dep fat stats o
+are_opened a b c d e config arr dep fat stats o few q x y z w =
+    let f : ℕ = o.arrivals in
+    let g : ℕ = o.departures in
+    let h : ℕ = o.fates in
+    let k : ℕ = o.stats in
     let fc : c.part f ≡ Some 2 = y.keeps.part f 2 x.is_new.part in
     let fd : d.part f ≡ Some 2 = z.keeps.part f 2 fc in
     let fe : e.part f ≡ Some 2 = w.keeps.part f 2 fd in
@@ -251,6 +264,7 @@ are_opened a b c d e config arr dep fat stats f g h k q x y z w =
     record {
       ready = record {
         arrivals = is_some_of (e.part f) 2 fe;
+        few = few;
         empty = record {
           departures = holds_beside_created d e 5 stats k g [] one (λ t s. q.departures_stats (sym (ngd (back (w.keeps.tells ∙ t))) ∙ s)) w;
           fates = holds_beside_created d e 5 stats k h [] (holds_created c d 4 fat h z)
@@ -263,9 +277,7 @@ are_opened a b c d e config arr dep fat stats f g h k q x y z w =
         departures_from_stats = λ t s. q.departures_stats (sym (nge (back t)) ∙ s ∙ nke (back t));
         fates_from_stats = λ t s. q.fates_stats (sym (nhe (back t)) ∙ s ∙ nke (back t));
       };
-      there = λ t. (x.left t).0;
-      left = λ t. w.keeps.left f 2 fd (λ s. q.arrivals_stats (sym (nfd t) ∙ s)) ∙ z.keeps.left f 2 fc (λ s. q.arrivals_fates (sym (nfc t) ∙ s))
-          ∙ y.keeps.left f 2 x.is_new.part (λ s. q.arrivals_departures (sym (nf t) ∙ s)) ∙ (x.left t).1;
+      there = x.there;
       departures_name = λ t. nge t;
       fates_name = λ t. nhe t;
       stats_name = λ t. nke t;
@@ -279,9 +291,56 @@ are_opened a b c d e config arr dep fat stats f g h k q x y z w =
       stats_part = w.is_new.part;
     }
 
+-- the arrivals have left what they had
+pub arrivals_left : (a b c d e : View) (config arr dep fat stats : List ℕ) (f g h k : ℕ) → AreDistinct config arr dep fat stats → IsOpened a b arr f
+    → Created b c 3 dep g → Created c d 4 fat h → Created d e 5 stats k → IsTrue a.tells → e.left f ≡ b.left f
+arrivals_left a b c d e config arr dep fat stats f g h k q x y z w t =
+    let fc : c.part f ≡ Some 2 = y.keeps.part f 2 x.is_new.part in
+    let fd : d.part f ≡ Some 2 = z.keeps.part f 2 fc in
+    let nf : b.name f ≡ arr = x.is_new.name t in
+    let nfc : c.name f ≡ arr = y.keeps.name f 2 x.is_new.part ∙ nf in
+    let nfd : d.name f ≡ arr = z.keeps.name f 2 fc ∙ nfc in
+    w.keeps.left f 2 fd (λ s. q.arrivals_stats (sym nfd ∙ s)) ∙ z.keeps.left f 2 fc (λ s. q.arrivals_fates (sym nfc ∙ s))
+    ∙ y.keeps.left f 2 x.is_new.part (λ s. q.arrivals_departures (sym nf ∙ s))
+
 -- where the arrivals are not opened no output is created
 pub unopened : (a b : View) → Unchanged a b → Untouched a b 3
 unopened a b x = λ f fresh e. none_some 3 (sym (x.none f fresh) ∙ e)
+
+-- the arrivals are opened, and their first bytes taken
+pub opened_given : (a p g : View) (name : List ℕ) (file : ℕ) → Opened a p 2 name file → Keeps Any (λ f. f ≢ file) p g → NoneAppears p g → g.said ≡ p.said
+    → IsOpened a g name file
+opened_given a p g name file x k none said = record {
+  is_new = record {
+    fresh = x.is_new.fresh;
+    part = k.part file 2 x.is_new.part;
+    name = λ t. k.name file 2 x.is_new.part ∙ x.is_new.name t;
+    none = λ f d h. none f (x.is_new.none f d h);
+    said = said ∙ x.is_new.said;
+  };
+  keeps = opened_then Any a p g 2 name file x k;
+  there = λ t. (x.left t).0;
+}
+
+untouched_new : (a g : View) (name : List ℕ) (file : ℕ) → IsNew a g 2 name file → Untouched a g 3
+untouched_new a g name file x = λ f fresh e. let y = (new_part a g 2 name file f 3 x fresh e).0 in omega (arith, y)
+
+-- why they cannot be read
+gives : (a p g : View) (name : List ℕ) (file : ℕ) (fault : NgFault) → Opened a p 2 name file
+    → ((given : List ℕ) → p.left file ≡ Some given → (is_pcapng given ≡ true) × IsCause fault given) → IsTrue a.tells → GivesNoCapture a name fault
+gives a p g name file fault x c t =
+    let l = x.left t in
+    let found = some_bytes (a.bytes name) l.0 in
+    let y = c found.0 (l.1 ∙ found.1) in
+    record { given = found.0; at = found.1; pcapng = y.0; cause = y.1 }
+
+pub refused_causes : (a p g : View) (name : List ℕ) (file : ℕ) (f : GivenFault) → Opened a p 2 name file → IsOpened a g name file → IsRefused p g file f
+    → ArrivalsCauses a g name (given_fault f)
+refused_causes a p g name file (given.At block) x o r = (untouched_new a g name file o.is_new, λ t. gives a p g name file (ng.At block) x r t)
+refused_causes a p g name file given.Limit x o r = (untouched_new a g name file o.is_new, λ t. gives a p g name file ng.Limit x r t)
+refused_causes a p g name file given.Read x o r =
+    (untouched_new a g name file o.is_new, inl (rose_later _ _ _ (x.keeps.later.read 2) (r 2 x.is_new.part)))
+refused_causes a p g name file given.NoMemory x o r = tt
 
 pub cannot_read : (a b : View) (part : ℕ) (name : List ℕ) → Rose (a.read_faults part) (b.read_faults part) ⊎ IsMissed a b name → CannotRead a b part name
 cannot_read a b part name (inl r) = inl r

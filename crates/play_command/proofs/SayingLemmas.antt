@@ -1,5 +1,5 @@
 -- What holds of a play before something is said holds of it after that.
-use Rattle.std.proofs.Common.{◌≡◌, ◌∙◌, ℕ, List, Some, sym, subst, inl, inr}
+use Rattle.std.proofs.Common.{◌≡◌, ◌∙◌, ℕ, List, Some, sym, subst, inl, inr, Bool, true, false}
 use Rattle.altq_model.specs.History.{Happened}
 use Rattle.capture_model.specs.Capture.{Record, Step}
 use Rattle.play_base.specs.View.{View}
@@ -12,7 +12,8 @@ use Rattle.command_base.specs.Telling.{OnlySays}
 use Rattle.play_command.specs.Ending.{FilesEnd, HasName}
 use Rattle.play_command.specs.Opening.{KeepsOthers, OtherThree}
 use Rattle.play_command.specs.Order.{IsInOrder, KeepUncreated}
-use Rattle.play_command.specs.Played.{Fronts, HasFronts, HasOffered, HasStatsFront, HoldTexts, IsCutShort, IsFrontAt, IsLate, IsOffered}
+use Rattle.play_command.specs.Played.{Fronts, HasFronts, HasOffered, HasStatsFront, HoldTexts, IsCutShort, IsFrontAt, IsLate, IsOffered, AreTaken}
+use Rattle.arrivals_front.specs.Given.{is_pcapng}
 
 -- the files
 pub in_order_after : (u v w : View) → OnlySays v w → IsInOrder u v → IsInOrder u w
@@ -117,8 +118,21 @@ late_after u v w n seed o h = record {
   file = h.file;
   fresh = h.fresh;
   part = o.keeps.part h.file 2 h.part;
-  streams = streams_after v w h.file _ h.records _ o h.part h.streams;
+  streams = λ e. streams_after v w h.file _ h.records _ o h.part (h.streams e);
 }
+
+taken_after : (k : Bool) (v w : View) (file : ℕ) (bytes : List ℕ) (records : List Record) → w.left file ≡ v.left file → AreTaken k v file bytes records
+    → AreTaken k w file bytes records
+taken_after false v w file bytes records left x = record {
+  taken = x.taken;
+  rest = x.rest;
+  split = x.split;
+  left = left ∙ x.left;
+  last = x.last;
+  reads = x.reads;
+  ended = x.ended;
+}
+taken_after true v w file bytes records left x = x
 
 pub short_after : (u v w : View) (n : Names) (seed : ℕ) → OnlySays v w → IsCutShort u v n seed → IsCutShort u w n seed
 short_after u v w n seed o h = record {
@@ -127,14 +141,6 @@ short_after u v w n seed o h = record {
   file = h.file;
   fresh = h.fresh;
   part = o.keeps.part h.file 2 h.part;
-  taken = record {
-    taken = h.taken.taken;
-    rest = h.taken.rest;
-    split = h.taken.split;
-    left = o.keeps.left h.file 2 h.part tt ∙ h.taken.left;
-    last = h.taken.last;
-    reads = h.taken.reads;
-    ended = h.taken.ended;
-  };
+  taken = taken_after (is_pcapng h.accepted.given) v w h.file _ h.records (o.keeps.left h.file 2 h.part tt) h.taken;
   decided = has_offered_after v w n _ h.records o h.decided;
 }

@@ -25,7 +25,7 @@ use Rattle.play_command.specs.InterfaceSetup.{setup_of}
 use Rattle.play_command.specs.Opening.{Untold}
 
 -- where nothing is told of what stands for a history
-untold : (g : List Happened) → IsStanding Untold g
+pub untold : (g : List Happened) → IsStanding Untold g
 untold g = (g, tt, refl)
 
 plays_untold : (x : Setup) (stood : List Happened → Type 0) (u v : View) (o : Opened) (t : Totals) → Plays x stood u v o t → Plays x Untold u v o t
@@ -107,6 +107,12 @@ pub plays_of : (i : Interface) (p : Policy) (place : List ℕ → Placed) (dress
 plays_of i p place dress names given seed b stood u v o t h =
     let P : Setup → Type 0 = λ x. Plays x stood u v o t in
     plays_untold (setup_of i seed) stood u v o t (subst P (setup_is i p place dress names given seed b) h)
+
+pub stood_of : (i : Interface) (p : Policy) (place : List ℕ → Placed) (dress : Dressing) (names : NameList) (given seed : ℕ)
+    → IsBuilt i p place dress names given seed → (stood : List Happened → Type 0) (u v : View) (o : Opened) (t : Totals)
+    → Plays (loop.setup_of p place dress names i.rate given) stood u v o t → Plays (setup_of i seed) stood u v o t
+stood_of i p place dress names given seed b stood u v o t h =
+    let P : Setup → Type 0 = λ x. Plays x stood u v o t in subst P (setup_is i p place dress names given seed b) h
 
 pub explains_of : (i : Interface) (p : Policy) (place : List ℕ → Placed) (dress : Dressing) (names : NameList) (given seed : ℕ)
     → IsBuilt i p place dress names given seed → (stood : List Happened → Type 0) (u v : View) (o : Opened) (f : PlayFault)

@@ -5,6 +5,8 @@ use Rattle.altq_model.specs.History.{Happened}
 use Rattle.capture_model.specs.Capture.{Record, Step, End, Fault, Limit, Reads, IsLast}
 use Rattle.conf_tree.specs.declared.interface.Interface.{Interface}
 use Rattle.pcap_files.proofs.ReadingLaws.{one_reading}
+use Rattle.pcapng_files.specs.declared.fault.NgFault.{NgFault}
+use Rattle.pcapng_files.specs.declared.fault.NgFault.TheVariants as ng
 use Rattle.play_base.specs.Holds.{HoldsAt}
 use Rattle.play_base.specs.View.{View, NoneAppears, Rose}
 use Rattle.play_base.proofs.ViewLaws.{part_of_there, rose_later}
@@ -15,22 +17,23 @@ use Rattle.play_loop.specs.declared.fault.Output.TheVariants as output
 use Rattle.play_loop.specs.declared.fault.PlayFault.{PlayFault}
 use Rattle.play_loop.specs.declared.fault.PlayFault.TheVariants as play
 use Rattle.play_loop.specs.Kept.{KeepsPlayed}
-use Rattle.play_loop.specs.Played.{BeginsStats, Explains, LeavesStats, Offers, OffersTaken, Plays}
 use Rattle.play_loop.specs.Played as loop
 use Rattle.play_loop.specs.Setup.{Setup, arrivals_in}
 use Rattle.play_words.specs.Words.{AreDistinct}
 use Rattle.command_base.specs.Configuration.{Accepts, AcceptsNone, IsConfigured}
 use Rattle.command_base.specs.Names.{Names}
-use Rattle.command_base.proofs.ConfLemmas.{some_bytes}
 use Rattle.command_base.proofs.PartLemmas.{none_some, short_or_long}
 use Rattle.play_command.specs.Ending.{FilesEnd, PlayFails}
-use Rattle.play_command.specs.Failing.{play_failure}
+use Rattle.play_command.specs.Failing.{play_failure, unplayed_failure}
 use Rattle.play_command.specs.InterfaceSetup.{setup_of}
-use Rattle.play_command.specs.Opening.{AreNamed, AreOpened, HaveParts, OpenCauses, OpenedFar, Untold}
-use Rattle.play_command.specs.Played.{Accepted, Fronts, HasFronts, HasPlayed, HasStatsFront, HoldTexts, IsCutShort, IsFrontAt, IsLate, IsOffered}
+use Rattle.play_command.specs.Opening.{AreNamed, AreOpened, HaveParts, OpenedFar, ArrivalsCauses, GivesNoCapture, OutputCauses}
+use Rattle.play_command.specs.Played.{Accepted, Fronts, HasFronts, HasPlayed, HasStatsFront, HoldTexts, IsCutShort, IsFrontAt, IsLate, IsOffered, IsNoCapture}
 use Rattle.play_command.proofs.FilesLemmas.{Course, course_high, course_keeps, course_parts, files_played, untouched}
 use Rattle.play_command.proofs.InputLemmas.{one_accepted}
 use Rattle.play_command.proofs.Laws.{HaveLaws, promises_kept}
+use Rattle.play_command.specs.declared.failing.Unplayed.{Unplayed}
+use Rattle.play_command.specs.declared.failing.Unplayed.TheVariants.{Pcapng, Play}
+use Rattle.play_command.proofs.SeeingLemmas.{Explained, FrontsIn, LateIn, OffersIn, PlayedIn, Sees, ShortIn, StatsBegun, StatsLeft, as_accepted}
 
 -- where the outputs were not created, or emptied
 front_far : (u v : View) (end part : ℕ) (name text : List ℕ) → HaveParts u v end → (end ≤ part → v.bytes name ≡ u.bytes name)
@@ -104,16 +107,6 @@ six a b c n i o s = by_six a b n.departures n.fates n.stats s.far o.stats s.open
 told_b : (a b c : View) (n : Names) (i : Interface) (o : Opened) → Steps a b c n i o → IsTrue a.tells → IsTrue b.tells
 told_b a b c n i o s t = s.far.keeps.tells ∙ t
 
--- what is accepted, and what the arrivals had left
-pub accepted_of : (a b c : View) (n : Names) (i : Interface) (o : Opened) → Steps a b c n i o → IsTrue a.tells
-    → (x : Accepted a n) × (x.interface ≡ i) × (b.left o.arrivals ≡ Some x.bytes)
-accepted_of a b c n i o s t =
-    let found = some_bytes (a.bytes n.arrivals) (s.opened.there t) in (
-      record { interface = i; given = found.0; bytes = found.0; configuration = s.accepted t; arrivals = found.1; read = refl },
-      refl,
-      s.opened.left t ∙ found.1,
-    )
-
 -- a name that is none of the three outputs is kept
 beside : (a b c : View) (n : Names) (i : Interface) (o : Opened) → Steps a b c n i o → IsTrue a.tells → (m : List ℕ) → m ≢ n.departures → m ≢ n.fates → m ≢ n.stats
     → c.bytes m ≡ b.bytes m
@@ -153,14 +146,13 @@ texts_of a b c n i o x records g s t h = record {
 }
 
 pub done_of : (a b c : View) (n : Names) (i : Interface) (o : Opened) (seed : ℕ) → Steps a b c n i o → (totals : Totals)
-    → Plays (setup_of i seed) Untold b c o totals → IsTrue a.tells → HasPlayed a c n seed
-unfolding accepted_of
+    → Sees a n i (PlayedIn (setup_of i seed) c o totals) → IsTrue a.tells → HasPlayed a c n seed
 done_of a b c n i o seed s totals p t =
-    let found = accepted_of a b c n i o s t in
-    let x = p (told_b a b c n i o s t) found.0.bytes found.2 in
+    let found = p t in
+    let x = found.1 in
     let y = x.2 in
     record {
-      accepted = found.0;
+      accepted = as_accepted a n i found.0;
       played = record {
         records = x.0;
         history = y.history;
@@ -175,59 +167,63 @@ done_of a b c n i o seed s totals p t =
     }
 
 pub done_totals : (a b c : View) (n : Names) (i : Interface) (o : Opened) (seed : ℕ) (s : Steps a b c n i o) (totals : Totals)
-    (p : Plays (setup_of i seed) Untold b c o totals) (t : IsTrue a.tells) → (done_of a b c n i o seed s totals p t).played.totals ≡ totals
+    (p : Sees a n i (PlayedIn (setup_of i seed) c o totals)) (t : IsTrue a.tells) → (done_of a b c n i o seed s totals p t).played.totals ≡ totals
 unfolding done_of
 done_totals a b c n i o seed s totals p t = refl
+
+pub done_history : (a b c : View) (n : Names) (i : Interface) (o : Opened) (seed : ℕ) (s : Steps a b c n i o) (totals : Totals)
+    (p : Sees a n i (PlayedIn (setup_of i seed) c o totals)) (t : IsTrue a.tells) → (done_of a b c n i o seed s totals p t).played.history ≡ (p t).1.2.history
+unfolding done_of
+done_history a b c n i o seed s totals p t = refl
 
 front_at : (a c : View) (part : ℕ) (name text : List ℕ) (written rest : List ℕ) → c.bytes name ≡ Some written → written ++ rest ≡ text → IsFrontAt a c part name text
 front_at a c part name text written rest e s = inr (written, rest, e, s)
 
 -- the statistics after a fault are empty, or a front
-begins : (x : Setup) (u v : View) (o : Opened) (f : PlayFault) → LeavesStats x u v o f → BeginsStats x u v o
-begins x u v o (play.Write output.Departures) h = inl h
-begins x u v o (play.Write output.Fates) h = inl h
-begins x u v o (play.Write output.Statistics) h = h
-begins x u v o play.NoMemory h = h
-begins x u v o (play.Capture damage) h = inl h
-begins x u v o play.Read h = inl h
-begins x u v o (play.Limit limit) h = inl h
+begins : (a c : View) (n : Names) (i : Interface) (o : Opened) (x : Setup) (f : PlayFault) → StatsLeft a c n i o x f → StatsBegun a c n i o x
+begins a c n i o x (play.Write output.Departures) h = inl h
+begins a c n i o x (play.Write output.Fates) h = inl h
+begins a c n i o x (play.Write output.Statistics) h = h
+begins a c n i o x play.NoMemory h = h
+begins a c n i o x (play.Capture damage) h = inl h
+begins a c n i o x play.Read h = inl h
+begins a c n i o x (play.Limit limit) h = inl h
 
-stats_front : (a b c : View) (n : Names) (i : Interface) (o : Opened) (x : Setup) (bytes : List ℕ) (records : List Record) (last : Step) → Steps a b c n i o → IsTrue a.tells
-    → b.left o.arrivals ≡ Some bytes → Reads bytes records last → IsLast last → BeginsStats x b c o → HasStatsFront a c n x records
-stats_front a b c n i o x bytes records last s t left reads is_last (inl h) = inl (front_at a c 5 n.stats [] [] [] (stats_held a b c n i o [] s t h) refl)
-stats_front a b c n i o x bytes records last s t left reads is_last (inr h) =
-    let y = h (told_b a b c n i o s t) bytes left in
+stats_front : (a b c : View) (n : Names) (i : Interface) (o : Opened) (x : Setup) (accepted : Accepted a n) (records : List Record) (last : Step) → Steps a b c n i o
+    → IsTrue a.tells → Reads accepted.bytes records last → IsLast last → StatsBegun a c n i o x → HasStatsFront a c n x records
+stats_front a b c n i o x accepted records last s t reads is_last (inl h) = inl (front_at a c 5 n.stats [] [] [] (stats_held a b c n i o [] s t h) refl)
+stats_front a b c n i o x accepted records last s t reads is_last (inr h) =
+    let found = h t in
+    let y = found.1 in
     let z = y.2 in
-    let one = one_reading bytes y.0 records End last y.1 tt reads is_last in
+    let same = (one_accepted a n (as_accepted a n i found.0) accepted).1 in
+    let one = one_reading found.0.bytes y.0 records End last y.1 tt (subst (λ (zs : List ℕ). Reads zs records last) (sym same) reads) is_last in
     let P : List Record → Type 0 = λ q. HasStatsFront a c n x q in
     subst P one.0 (inr (z.history, z.play, texts_of a b c n i o x y.0 z.history s t z.texts, front_at a c 5 n.stats _ z.stats.written z.stats.rest (stats_held a b c n i o _ s t z.stats.holds) z.stats.split))
 
-pub fronts_of : (a b c : View) (n : Names) (i : Interface) (o : Opened) (seed : ℕ) (fault : PlayFault) → Steps a b c n i o → loop.Fronts (setup_of i seed) b c o
-    → LeavesStats (setup_of i seed) b c o fault → Fronts a c n seed
-unfolding accepted_of
-fronts_of a b c n i o seed fault s f q = λ t given records last reads is_last.
-    let found = accepted_of a b c n i o s t in
-    let same = one_accepted a n found.0 given in
-    let left : b.left o.arrivals ≡ Some given.bytes = found.2 ∙ ap (λ (xs : List ℕ). Some xs) same.1 in
-    let x = f (told_b a b c n i o s t) given.bytes left records last reads is_last in
+pub fronts_of : (a b c : View) (n : Names) (i : Interface) (o : Opened) (seed : ℕ) (fault : PlayFault) → Steps a b c n i o
+    → Sees a n i (FrontsIn (setup_of i seed) c o) → StatsLeft a c n i o (setup_of i seed) fault → Fronts a c n seed
+fronts_of a b c n i o seed fault s f q = λ t accepted records last reads is_last.
+    let found = f t in
+    let same = one_accepted a n (as_accepted a n i found.0) accepted in
+    let x = found.1 records last (subst (λ (zs : List ℕ). Reads zs records last) (sym same.1) reads) is_last in
     let R : Interface → Type 0 = λ j. HasFronts a c n (setup_of j seed) records in
     subst R same.0 (record {
       history = x.history;
       begun = x.begun;
       departures = front_at a c 3 n.departures _ x.texts.departures.written x.texts.departures.rest (departures_held a b c n i o _ s t x.texts.departures.holds) x.texts.departures.split;
       fates = front_at a c 4 n.fates _ x.texts.fates.written x.texts.fates.rest (fates_held a b c n i o _ s t x.texts.fates.holds) x.texts.fates.split;
-      stats = stats_front a b c n i o (setup_of i seed) given.bytes records last s t left reads is_last (begins (setup_of i seed) b c o fault q);
+      stats = stats_front a b c n i o (setup_of i seed) accepted records last s t reads is_last (begins a c n i o (setup_of i seed) fault q);
     })
 
-offered_of : (a b c : View) (n : Names) (i : Interface) (o : Opened) (seed : ℕ) (last : Step) → Steps a b c n i o → Offers (setup_of i seed) Untold b c o last
+offered_of : (a b c : View) (n : Names) (i : Interface) (o : Opened) (seed : ℕ) (last : Step) → Steps a b c n i o → Sees a n i (OffersIn (setup_of i seed) c o last)
     → HoldsAt c o.stats [] → IsTrue a.tells → IsOffered a c n seed last
-unfolding accepted_of
 offered_of a b c n i o seed last s x q t =
-    let found = accepted_of a b c n i o s t in
-    let y = x (told_b a b c n i o s t) found.0.bytes found.2 in
+    let found = x t in
+    let y = found.1 in
     let z = y.2 in
     record {
-      accepted = found.0;
+      accepted = as_accepted a n i found.0;
       records = y.0;
       reads = y.1;
       decided = record {
@@ -241,15 +237,14 @@ offered_of a b c n i o seed last s x q t =
     }
 
 -- a read of the arrivals failed
-short_of : (a b c : View) (n : Names) (i : Interface) (o : Opened) (seed : ℕ) → Steps a b c n i o → OffersTaken (setup_of i seed) Untold b c o
+short_of : (a b c : View) (n : Names) (i : Interface) (o : Opened) (seed : ℕ) → Steps a b c n i o → Sees a n i (ShortIn (setup_of i seed) c o)
     → HoldsAt c o.stats [] → IsTrue a.tells → IsCutShort a c n seed
-unfolding accepted_of
 short_of a b c n i o seed s x q t =
-    let found = accepted_of a b c n i o s t in
-    let y = x (told_b a b c n i o s t) found.0.bytes found.2 in
+    let found = x t in
+    let y = found.1 in
     let z = y.2 in
     record {
-      accepted = found.0;
+      accepted = as_accepted a n i found.0;
       records = y.0;
       file = o.arrivals;
       fresh = s.opened.arrivals_new;
@@ -265,25 +260,22 @@ short_of a b c n i o seed s x q t =
       };
     }
 
-late_of : (a b c : View) (n : Names) (i : Interface) (o : Opened) (seed : ℕ) → Steps a b c n i o → loop.IsLate (setup_of i seed) Untold b c o
+late_of : (a b c : View) (n : Names) (i : Interface) (o : Opened) (seed : ℕ) → Steps a b c n i o → Sees a n i (LateIn (setup_of i seed) c o)
     → HoldsAt c o.stats [] → IsTrue a.tells → IsLate a c n seed
-unfolding accepted_of
 late_of a b c n i o seed s x q t =
-    let found = accepted_of a b c n i o s t in
-    let y = x (told_b a b c n i o s t) found.0.bytes found.2 in
-    let w = y.1 in
-    let z = w.3 in
+    let found = x t in
+    let z = found.1 in
     record {
-      accepted = found.0;
-      records = y.0;
-      last = w.0;
+      accepted = as_accepted a n i found.0;
+      records = z.records;
+      last = z.last;
       history = z.history;
       totals = z.totals;
-      reads = w.1;
-      is_last = w.2;
+      reads = z.reads;
+      is_last = z.is_last;
       early = record { cut = z.play.cut; before = z.before };
       play = z.play;
-      texts = texts_of a b c n i o (setup_of i seed) y.0 z.history s t z.texts;
+      texts = texts_of a b c n i o (setup_of i seed) z.records z.history s t z.texts;
       stats = stats_held a b c n i o [] s t q;
       file = o.arrivals;
       fresh = s.opened.arrivals_new;
@@ -295,14 +287,14 @@ rose_since : (a b c : View) (n : Names) (i : Interface) (o : Opened) (p : ℕ) �
 rose_since a b c n i o p s x = rose_later _ _ _ (s.far.keeps.later.write p) x
 
 pub fails_of : (a b c : View) (n : Names) (i : Interface) (o : Opened) (seed : ℕ) (f : PlayFault) → Steps a b c n i o
-    → Explains (setup_of i seed) Untold b c o f → LeavesStats (setup_of i seed) b c o f → PlayFails a c n seed (play_failure f)
+    → Explained a b c n i o (setup_of i seed) f → StatsLeft a c n i o (setup_of i seed) f → PlayFails a c n seed (play_failure f)
 fails_of a b c n i o seed (play.Capture d) s x q = ((i, s.accepted), λ t. offered_of a b c n i o seed (Fault d) s x q t)
 fails_of a b c n i o seed play.Read s x q =
     ((i, s.accepted), inr (rose_later _ _ _ (s.far.keeps.later.read 2) (x.0 2 s.opened.arrivals_part), λ t. short_of a b c n i o seed s x.1 q t))
 fails_of a b c n i o seed (play.Write output.Departures) s x q = ((i, s.accepted), rose_since a b c n i o 3 s (x 3 s.opened.departures_part))
 fails_of a b c n i o seed (play.Write output.Fates) s x q = ((i, s.accepted), rose_since a b c n i o 4 s (x 4 s.opened.fates_part))
 fails_of a b c n i o seed (play.Write output.Statistics) s x q = ((i, s.accepted), rose_since a b c n i o 5 s (x 5 s.opened.stats_part))
-fails_of a b c n i o seed (play.Limit limit.Capture) s x q = ((i, s.accepted), λ t. offered_of a b c n i o seed Limit s x q t)
+fails_of a b c n i o seed (play.Limit limit.Capture) s x q = ((i, s.accepted), inl (λ t. offered_of a b c n i o seed Limit s x q t))
 fails_of a b c n i o seed (play.Limit limit.Clock) s x q = ((i, s.accepted), λ t. late_of a b c n i o seed s x q t)
 fails_of a b c n i o seed play.NoMemory s x q = tt
 
@@ -332,13 +324,30 @@ files_of a b c n i o s =
 pub high_of : (a b c : View) (n : Names) (i : Interface) (o : Opened) → Steps a b c n i o → (f p : ℕ) → a.part f ≡ None → c.part f ≡ Some p → 2 ≤ p
 high_of a b c n i o s = course_high a b c n (course_of a b c n i o s)
 
--- why the files are not all there
-pub fails_open : (a b : View) (n : Names) (i : Interface) (seed : ℕ) (f : PlayFault) → Accepts a n.config n.interface i → OpenCauses a b n.arrivals f
-    → PlayFails a b n seed (play_failure f)
-fails_open a b n i seed (play.Capture d) k x = absurd x
-fails_open a b n i seed play.Read k x = ((i, k), inl x)
-fails_open a b n i seed (play.Write output.Departures) k x = ((i, k), x)
-fails_open a b n i seed (play.Write output.Fates) k x = ((i, k), x)
-fails_open a b n i seed (play.Write output.Statistics) k x = ((i, k), x)
-fails_open a b n i seed (play.Limit limit) k x = absurd x
-fails_open a b n i seed play.NoMemory k x = tt
+-- why the arrivals are not there to be played
+no_capture_of : (a : View) (n : Names) (i : Interface) (f : NgFault) → Accepts a n.config n.interface i → (IsTrue a.tells → GivesNoCapture a n.arrivals f)
+    → IsTrue a.tells → IsNoCapture a n f
+no_capture_of a n i f accepted x t =
+    let y = x t in
+    record { interface = i; given = y.given; configuration = accepted t; arrivals = y.at; pcapng = y.pcapng; cause = y.cause }
+
+pub fails_arrivals : (a b : View) (n : Names) (i : Interface) (seed : ℕ) (f : Unplayed) → Accepts a n.config n.interface i → ArrivalsCauses a b n.arrivals f
+    → PlayFails a b n seed (unplayed_failure f)
+fails_arrivals a b n i seed (Pcapng block) k x = ((i, k), x.0, λ t. no_capture_of a n i (ng.At block) k x.1 t)
+fails_arrivals a b n i seed (Play (play.Capture d)) k x = absurd x
+fails_arrivals a b n i seed (Play play.Read) k x = ((i, k), inl x)
+fails_arrivals a b n i seed (Play (play.Write output)) k x = absurd x
+fails_arrivals a b n i seed (Play (play.Limit limit.Capture)) k x = ((i, k), inr (x.0, λ t. no_capture_of a n i ng.Limit k x.1 t))
+fails_arrivals a b n i seed (Play (play.Limit limit.Clock)) k x = absurd x
+fails_arrivals a b n i seed (Play play.NoMemory) k x = tt
+
+-- and why the outputs are not
+pub fails_outputs : (a g b : View) (n : Names) (i : Interface) (seed : ℕ) (f : PlayFault) → Accepts a n.config n.interface i
+    → ((p : ℕ) → a.write_faults p ≤ g.write_faults p) → OutputCauses g b f → PlayFails a b n seed (play_failure f)
+fails_outputs a g b n i seed (play.Capture d) k l x = absurd x
+fails_outputs a g b n i seed play.Read k l x = absurd x
+fails_outputs a g b n i seed (play.Write output.Departures) k l x = ((i, k), rose_later _ _ _ (l 3) x)
+fails_outputs a g b n i seed (play.Write output.Fates) k l x = ((i, k), rose_later _ _ _ (l 4) x)
+fails_outputs a g b n i seed (play.Write output.Statistics) k l x = ((i, k), rose_later _ _ _ (l 5) x)
+fails_outputs a g b n i seed (play.Limit limit) k l x = absurd x
+fails_outputs a g b n i seed play.NoMemory k l x = tt

@@ -1,7 +1,9 @@
 -- How a play ends is how it ended before its message was said.
 use Rattle.std.proofs.Common.{◌≡◌, ◌∙◌, ◌⊎◌, ℕ, Ok, Err, sym, subst, refl, inl, inr}
+use Rattle.std.specs.Prelude.{IsTrue}
 use Rattle.play_base.specs.View.{View}
 use Rattle.play_base.proofs.ViewLaws.{rose_before}
+use Rattle.command_base.specs.Faults.{Untouched}
 use Rattle.command_base.specs.Names.{Names}
 use Rattle.command_base.specs.Outcome.{Outcome}
 use Rattle.command_base.specs.Telling.{Ends, IsTold, OnlySays}
@@ -15,6 +17,7 @@ use Rattle.command_base.specs.declared.parts.WrittenPart.{WrittenPart}
 use Rattle.command_base.specs.declared.parts.WrittenPart.TheVariants as written
 use Rattle.command_base.specs.declared.status.Status.{Status}
 use Rattle.command_base.proofs.SayingLemmas.{config_after, message_behind, quiet_before, read_after, untouched_after, write_after}
+use Rattle.play_command.specs.Played.{IsLimited}
 use Rattle.play_command.specs.Ending.{IsUnread, LimitFails, PlayEnds, PlayFails, PlayIsTold, PlayLeaves, ReadFails, WriteFails}
 use Rattle.play_command.proofs.SayingLemmas.{files_after, fronts_after, late_after, offered_after, short_after}
 
@@ -25,6 +28,7 @@ unread_after u v w n seed o (inr x) = inr (rose_before _ _ _ x.0 (o.keeps.later.
 reads_after : (u v w : View) (n : Names) (seed : ℕ) (part : ReadPart) → OnlySays v w → ReadFails u v n seed part → ReadFails u w n seed part
 reads_after u v w n seed read.Configuration o x = (config_after u v w n.config o x.0, read_after u v w 1 n.config o x.1)
 reads_after u v w n seed read.Arrivals o x = (x.0, unread_after u v w n seed o x.1)
+reads_after u v w n seed other o x = x
 
 writes_after : (u v w : View) (n : Names) (part : WrittenPart) → OnlySays v w → WriteFails u v n part → WriteFails u w n part
 writes_after u v w n written.Departures o x = (x.0, write_after u v w 3 o x.1)
@@ -32,20 +36,27 @@ writes_after u v w n written.Fates o x = (x.0, write_after u v w 4 o x.1)
 writes_after u v w n written.Statistics o x = (x.0, write_after u v w 5 o x.1)
 writes_after u v w n other o x = x
 
+limited_after : (u v w : View) (n : Names) (seed : ℕ) {C : Type 0} → OnlySays v w → (IsTrue u.tells → IsLimited u v n seed) ⊎ (Untouched u v 3 × C)
+    → (IsTrue u.tells → IsLimited u w n seed) ⊎ (Untouched u w 3 × C)
+limited_after u v w n seed o (inl x) = inl (λ t. offered_after u v w n seed _ o (x t))
+limited_after u v w n seed o (inr x) = inr (untouched_after u v w 3 o x.0, x.1)
+
 limits_after : (u v w : View) (n : Names) (seed : ℕ) (l : RunLimit) → OnlySays v w → LimitFails u v n seed l → LimitFails u w n seed l
-limits_after u v w n seed limit.Capture o x = (x.0, λ t. offered_after u v w n seed _ o (x.1 t))
+limits_after u v w n seed limit.Capture o x = (x.0, limited_after u v w n seed o x.1)
 limits_after u v w n seed limit.Clock o x = (x.0, λ t. late_after u v w n seed o (x.1 t))
 limits_after u v w n seed limit.Configuration o x = (config_after u v w n.config o x.0, x.1)
+limits_after u v w n seed other o x = x
 
-fails_after : (u v w : View) (n : Names) (seed : ℕ) (f : Failure) → OnlySays v w → PlayFails u v n seed f → PlayFails u w n seed f
+pub fails_after : (u v w : View) (n : Names) (seed : ℕ) (f : Failure) → OnlySays v w → PlayFails u v n seed f → PlayFails u w n seed f
 fails_after u v w n seed (failure.Configuration place) o x = (config_after u v w n.config o x.0, x.1)
 fails_after u v w n seed (failure.Capture damage) o x = (x.0, λ t. offered_after u v w n seed _ o (x.1 t))
+fails_after u v w n seed (failure.Pcapng block) o x = (x.0, untouched_after u v w 3 o x.1, x.2)
 fails_after u v w n seed (failure.Read part) o x = reads_after u v w n seed part o x
 fails_after u v w n seed (failure.Write part) o x = writes_after u v w n part o x
 fails_after u v w n seed (failure.Limit l) o x = limits_after u v w n seed l o x
 fails_after u v w n seed other o x = x
 
-leaves_after : (u v w : View) (n : Names) (seed : ℕ) → OnlySays v w → PlayLeaves u v n seed → PlayLeaves u w n seed
+pub leaves_after : (u v w : View) (n : Names) (seed : ℕ) → OnlySays v w → PlayLeaves u v n seed → PlayLeaves u w n seed
 leaves_after u v w n seed o h = record {
   front = fronts_after u v w n seed o h.front;
   nothing = λ t x m. o.keeps.bytes m tt ∙ h.nothing t x m;
@@ -53,13 +64,15 @@ leaves_after u v w n seed o h = record {
   files = files_after u v w n o h.files;
 }
 
-memory_told : (u : View) (n : Names) (seed : ℕ) → PlayIsTold u n seed (Err failure.NoMemory)
+pub memory_told : (u : View) (n : Names) (seed : ℕ) → PlayIsTold u n seed (Err failure.NoMemory)
 memory_told u n seed = record {
   complete = λ p. inr refl;
   refused = λ place y. inr refl;
   long = λ y. inr refl;
   damaged = λ d p. inr refl;
   limited = λ p. inr refl;
+  no_pcapng = λ block y. inr refl;
+  too_long = λ y. inr refl;
   late = λ p. inr refl;
 }
 

@@ -3,6 +3,8 @@ use Rattle.std.specs.Prelude.{◌≡◌, ◌≤◌, ◌⊎◌, ℕ, List, None, 
 use Rattle.capture_model.specs.declared.damage.Damage.{Damage}
 use Rattle.capture_model.specs.Capture.{Fault, Limit}
 use Rattle.conf_lines.specs.declared.fault.ConfPlace.{ConfPlace}
+use Rattle.pcapng_files.specs.declared.fault.NgFault.TheVariants as ng
+use Rattle.pcapng_model.specs.declared.fault.NgPlace.{NgPlace}
 use Rattle.conf_tree.specs.declared.interface.Interface.{Interface}
 use Rattle.play_base.specs.View.{View, IsAbsent, Rose, SameCounts}
 use Rattle.command_base.specs.Configuration.{Accepts, AcceptsNone, Refused, Says, TooLong}
@@ -21,7 +23,7 @@ use Rattle.command_base.specs.declared.parts.WrittenPart.{WrittenPart}
 use Rattle.command_base.specs.declared.parts.WrittenPart.TheVariants as written
 use Rattle.play_command.specs.Opening.{IsNamed, KeepsOthers}
 use Rattle.play_command.specs.Order.{IsInOrder, KeepUncreated}
-use Rattle.play_command.specs.Played.{EndsLate, EndsWith, Fronts, HasPlayed, IsCutShort, IsDamaged, IsLate, IsLimited, IsPlayable}
+use Rattle.play_command.specs.Played.{EndsLate, EndsWith, Fronts, HasPlayed, IsCutShort, IsDamaged, IsLate, IsLimited, IsPlayable, IsNoCapture}
 
 -- where the files tell: the configuration has the interface asked for
 abbrev pub IsAccepting : View → Names → Type 0
@@ -38,10 +40,12 @@ abbrev pub IsUnread : View → View → Names → (seed : ℕ) → Type 0
 IsUnread old new n seed = (Untouched old new 3 × CannotRead old new 2 n.arrivals)
     ⊎ (Rose (old.read_faults 2) (new.read_faults 2) × (IsTrue old.tells → IsCutShort old new n seed))
 
--- when what is read fails, when what is written, and when a limit is reached: none but the configuration's comes before it is accepted
+-- when what is read fails, when what is written, and when a limit is reached: none but the configuration's comes before it is accepted,
+-- and where a pcapng file is at a limit no output was created
 abbrev pub ReadFails : View → View → Names → (seed : ℕ) → ReadPart → Type 0
 ReadFails old new n seed read.Configuration = EndsAtConfig old new n.config × CannotRead old new 1 n.config
 ReadFails old new n seed read.Arrivals = IsAccepting old n × IsUnread old new n seed
+ReadFails old new n seed other = ⊥
 
 abbrev pub WriteFails : View → View → Names → WrittenPart → Type 0
 WriteFails old new n written.Departures = IsAccepting old n × Rose (old.write_faults 3) (new.write_faults 3)
@@ -50,14 +54,18 @@ WriteFails old new n written.Statistics = IsAccepting old n × Rose (old.write_f
 WriteFails old new n other = ⊥
 
 abbrev pub LimitFails : View → View → Names → (seed : ℕ) → RunLimit → Type 0
-LimitFails old new n seed limit.Capture = IsAccepting old n × (IsTrue old.tells → IsLimited old new n seed)
+LimitFails old new n seed limit.Capture = IsAccepting old n
+    × ((IsTrue old.tells → IsLimited old new n seed) ⊎ (Untouched old new 3 × (IsTrue old.tells → IsNoCapture old n ng.Limit)))
 LimitFails old new n seed limit.Clock = IsAccepting old n × (IsTrue old.tells → IsLate old new n seed)
 LimitFails old new n seed limit.Configuration = EndsAtConfig old new n.config × (IsTrue old.tells → Says old n.config n.interface TooLong)
+LimitFails old new n seed other = ⊥
 
 -- when each failure comes, and no other
 abbrev pub PlayFails : View → View → Names → (seed : ℕ) → Failure → Type 0
 PlayFails old new n seed (failure.Configuration place) = EndsAtConfig old new n.config × (IsTrue old.tells → Says old n.config n.interface (Refused place))
 PlayFails old new n seed (failure.Capture damage) = IsAccepting old n × (IsTrue old.tells → IsDamaged old new n seed damage)
+PlayFails old new n seed (failure.Pcapng block) =
+    IsAccepting old n × Untouched old new 3 × (IsTrue old.tells → IsNoCapture old n (ng.At block))
 PlayFails old new n seed (failure.Read part) = ReadFails old new n seed part
 PlayFails old new n seed (failure.Write part) = WriteFails old new n part
 PlayFails old new n seed (failure.Limit limit) = LimitFails old new n seed limit
@@ -77,6 +85,8 @@ pub record PlayIsTold (old : View) (n : Names) (seed : ℕ) (o : Outcome) : Type
   pub long : Says old n.config n.interface TooLong → IsOrMemory o (Err (failure.Limit limit.Configuration))
   pub damaged : (damage : Damage) → EndsWith old n seed (Fault damage) → IsOrMemory o (Err (failure.Capture damage))
   pub limited : EndsWith old n seed Limit → IsOrMemory o (Err (failure.Limit limit.Capture))
+  pub no_pcapng : (block : NgPlace) → IsNoCapture old n (ng.At block) → IsOrMemory o (Err (failure.Pcapng block))
+  pub too_long : IsNoCapture old n ng.Limit → IsOrMemory o (Err (failure.Limit limit.Capture))
   pub late : EndsLate old n seed → IsOrMemory o (Err (failure.Limit limit.Clock))
 
 -- the name of a part in the words

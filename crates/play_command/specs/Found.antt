@@ -1,11 +1,24 @@
 -- What the play of an interface that was found leaves, with the counts of what was played.
-use Rattle.std.specs.Prelude.{◌≡◌, ℕ, Ok, IsTrue}
+use Rattle.std.specs.Prelude.{◌≡◌, ℕ, List, Some, Ok, IsTrue}
+use Rattle.altq_model.specs.History.{Happened}
+use Rattle.arrivals_front.specs.Given.{Follows}
+use Rattle.conf_tree.specs.declared.interface.Interface.{Interface}
 use Rattle.play_base.specs.View.{View}
 use Rattle.play_core.specs.declared.totals.Totals.{Totals}
+use Rattle.command_base.specs.Configuration.{Accepts}
 use Rattle.command_base.specs.Names.{Names}
 use Rattle.command_base.specs.declared.done.Done.TheVariants.{Played}
+use Rattle.play_loop.specs.Played.{IsStanding}
 use Rattle.play_command.specs.Ending.{PlayEnds}
+use Rattle.play_command.specs.Opening.{IsOpened}
 use Rattle.play_command.specs.Played.{HasPlayed}
+use Rattle.play_command.specs.declared.opening.Arrivals.{Arrivals}
+
+-- the interface was accepted before, the arrivals opened behind that, and this is how they begin
+pub record IsBehind (a g : View) (n : Names) (i : Interface) (x : Arrivals) : Type 0 where
+  pub accepted : Accepts a n.config n.interface i
+  pub opened : IsOpened a g n.arrivals x.file
+  pub follows : IsTrue a.tells → (given : List ℕ) → a.bytes n.arrivals ≡ Some given → Follows g x.file given x.given
 
 -- these are the counts of what was played
 abbrev pub HasPlayedTo : View → View → Names → (seed : ℕ) → Totals → Type 0
@@ -15,3 +28,7 @@ HasPlayedTo old new n seed totals = (x : HasPlayed old new n seed) × (x.played.
 pub record PlaysTo (old new : View) (n : Names) (seed : ℕ) (totals : Totals) : Type 0 where
   pub ends : PlayEnds old new n seed (Ok Played)
   pub to : IsTrue old.tells → HasPlayedTo old new n seed totals
+
+-- what is played is what a discipline stands for
+abbrev pub HasStood : (List Happened → Type 0) → View → View → Names → (seed : ℕ) → Type 0
+HasStood stood old new n seed = (x : HasPlayed old new n seed) × IsStanding stood x.played.history

@@ -1,3 +1,4 @@
+pub mod Converting
 pub mod Ending
 pub mod Failing
 pub mod Found

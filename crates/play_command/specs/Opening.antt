@@ -1,9 +1,9 @@
 -- The files of a play: which are opened and created, and what stands where one of these fails.
-use Rattle.std.specs.Prelude.{◌≡◌, ◌≢◌, ◌≤◌, ◌<◌, ◌⊎◌, ℕ, List, [], None, Some, IsTrue, IsSome}
+use Rattle.std.specs.Prelude.{◌≡◌, ◌≢◌, ◌≤◌, ◌<◌, ◌⊎◌, ℕ, List, [], None, Some, IsTrue, IsSome, true}
 use Rattle.altq_model.specs.History.{Happened}
 use Rattle.play_base.specs.declared.trouble.Trouble.{Trouble}
 use Rattle.play_base.specs.declared.trouble.Trouble.TheVariants as trouble
-use Rattle.play_base.specs.View.{View, Keeps, Rose}
+use Rattle.play_base.specs.View.{View, Keeps, Rose, Any, IsNew}
 use Rattle.play_loop.specs.declared.fault.Opened.{Opened}
 use Rattle.play_loop.specs.declared.fault.Output.{Output}
 use Rattle.play_loop.specs.declared.fault.Output.TheVariants as output
@@ -12,6 +12,13 @@ use Rattle.play_loop.specs.declared.fault.PlayFault.TheVariants as play
 use Rattle.play_loop.specs.Played.{AreReady}
 use Rattle.command_base.specs.Faults.{CannotRead, Untouched}
 use Rattle.command_base.specs.Names.{Names}
+use Rattle.arrivals_front.specs.Given.{is_pcapng}
+use Rattle.pcapng_files.specs.Converted.{IsCause}
+use Rattle.pcapng_files.specs.declared.fault.NgFault.{NgFault}
+use Rattle.pcapng_files.specs.declared.fault.NgFault.TheVariants as ng
+use Rattle.play_loop.specs.declared.fault.Limit.TheVariants as limit
+use Rattle.play_command.specs.declared.failing.Unplayed.{Unplayed}
+use Rattle.play_command.specs.declared.failing.Unplayed.TheVariants.{Pcapng, Play}
 
 -- nothing is claimed of a history
 abbrev pub Untold : List Happened → Type 0
@@ -71,19 +78,41 @@ abbrev pub create_fault : Output → Trouble → PlayFault
 create_fault output trouble.Failed = play.Write output
 create_fault output trouble.NoMemory = play.NoMemory
 
--- why the files of a play are not all there
-abbrev pub OpenCauses : View → View → (arrivals : List ℕ) → PlayFault → Type 0
-OpenCauses old new arrivals (play.Capture damage) = ⊥
-OpenCauses old new arrivals play.Read = Untouched old new 3 × CannotRead old new 2 arrivals
-OpenCauses old new arrivals (play.Write output) = Rose (old.write_faults (output_part output)) (new.write_faults (output_part output))
-OpenCauses old new arrivals (play.Limit limit) = ⊥
-OpenCauses old new arrivals play.NoMemory = Unit {0}
+-- what is given under the name is a pcapng file that cannot be played, for this fault
+pub record GivesNoCapture (v : View) (name : List ℕ) (fault : NgFault) : Type 0 where
+  pub given : List ℕ
+  pub at : v.bytes name ≡ Some given
+  pub pcapng : is_pcapng given ≡ true
+  pub cause : IsCause fault given
 
--- the four files are there, new, under their parts and names; the arrivals have left what stands under their name
+-- why the arrivals are not there to be played: no output was created yet
+abbrev pub ArrivalsCauses : View → View → (arrivals : List ℕ) → Unplayed → Type 0
+ArrivalsCauses old new arrivals (Pcapng block) = Untouched old new 3 × (IsTrue old.tells → GivesNoCapture old arrivals (ng.At block))
+ArrivalsCauses old new arrivals (Play (play.Capture damage)) = ⊥
+ArrivalsCauses old new arrivals (Play play.Read) = Untouched old new 3 × CannotRead old new 2 arrivals
+ArrivalsCauses old new arrivals (Play (play.Write output)) = ⊥
+ArrivalsCauses old new arrivals (Play (play.Limit limit.Capture)) = Untouched old new 3 × (IsTrue old.tells → GivesNoCapture old arrivals ng.Limit)
+ArrivalsCauses old new arrivals (Play (play.Limit limit.Clock)) = ⊥
+ArrivalsCauses old new arrivals (Play play.NoMemory) = Unit {0}
+
+-- why an output is not there
+abbrev pub OutputCauses : View → View → PlayFault → Type 0
+OutputCauses old new (play.Capture damage) = ⊥
+OutputCauses old new play.Read = ⊥
+OutputCauses old new (play.Write output) = Rose (old.write_faults (output_part output)) (new.write_faults (output_part output))
+OutputCauses old new (play.Limit limit) = ⊥
+OutputCauses old new play.NoMemory = Unit {0}
+
+-- the file is new, of part 2 and of this name, which is there
+pub record IsOpened (old new : View) (arrivals : List ℕ) (file : ℕ) : Type 0 where
+  pub is_new : IsNew old new 2 arrivals file
+  pub keeps : Keeps Any Any old new
+  pub there : IsTrue old.tells → IsSome (old.bytes arrivals)
+
+-- the four files are there, new, under their parts and names; the arrivals' name is there
 pub record AreOpened (old new : View) (arrivals departures fates stats : List ℕ) (o : Opened) : Type 0 where
   pub ready : AreReady new o
   pub there : IsTrue old.tells → IsSome (old.bytes arrivals)
-  pub left : IsTrue old.tells → new.left o.arrivals ≡ old.bytes arrivals
   pub departures_name : IsTrue old.tells → new.name o.departures ≡ departures
   pub fates_name : IsTrue old.tells → new.name o.fates ≡ fates
   pub stats_name : IsTrue old.tells → new.name o.stats ≡ stats

@@ -1,5 +1,5 @@
 -- What a play leaves, and when each of its ends comes.
-use Rattle.std.specs.Prelude.{◌≡◌, ◌<◌, ◌⊎◌, ℕ, List, [], ◌++◌, length, None, Some, IsTrue}
+use Rattle.std.specs.Prelude.{◌≡◌, ◌<◌, ◌⊎◌, ℕ, List, [], ◌++◌, length, None, Some, IsTrue, Bool, true, false}
 use Rattle.altq_model.specs.Arrivals.{comings}
 use Rattle.altq_model.specs.Departures.{departed}
 use Rattle.altq_model.specs.History.{Happened, bare, offered}
@@ -20,10 +20,15 @@ use Rattle.command_base.specs.Configuration.{Configures}
 use Rattle.command_base.specs.Faults.{Untouched}
 use Rattle.command_base.specs.Names.{Names}
 use Rattle.play_command.specs.InterfaceSetup.{setup_of}
+use Rattle.arrivals_front.specs.Given.{is_pcapng}
+use Rattle.arrivals_front.specs.Given as arrivals
+use Rattle.pcapng_files.specs.Converted.{IsCause}
+use Rattle.pcapng_files.specs.declared.fault.NgFault.{NgFault}
 
--- what an interface plays of the bytes given under the arrivals' name: these bytes
+-- what an interface plays of the bytes given under the arrivals' name: of a classic capture these bytes, of a pcapng file the classic
+-- capture of its packets
 abbrev pub ReadAs : Interface → (given bytes : List ℕ) → Type 0
-ReadAs i given bytes = given ≡ bytes
+ReadAs i given bytes = arrivals.ReadAs given bytes
 
 -- what is accepted: the configuration says that the interface asked for is this one; these bytes are given under the arrivals' name,
 -- and those are played
@@ -34,6 +39,15 @@ pub record Accepted (v : View) (n : Names) : Type 0 where
   pub configuration : Configures v n.config n.interface interface
   pub arrivals : v.bytes n.arrivals ≡ Some given
   pub read : ReadAs interface given bytes
+
+-- the configuration gives the interface; what is given under the arrivals' name is a pcapng file that cannot be played, for this fault
+pub record IsNoCapture (v : View) (n : Names) (fault : NgFault) : Type 0 where
+  pub interface : Interface
+  pub given : List ℕ
+  pub configuration : Configures v n.config n.interface interface
+  pub arrivals : v.bytes n.arrivals ≡ Some given
+  pub pcapng : is_pcapng given ≡ true
+  pub cause : IsCause fault given
 
 -- departures and fates hold exactly the texts of this history
 pub record HoldTexts (v : View) (n : Names) (x : Setup) (records : List Record) (g : List Happened) : Type 0 where
@@ -122,8 +136,8 @@ pub record IsCutEarly (x : Setup) (records : List Record) (last : Step) (g : Lis
   pub before : (last ≡ End) ⊎ (start_of cut.next.what < greatest 0 records)
 
 -- the play of what is accepted is cut off so. Departures and fates hold exactly the texts of the events before that sending, and
--- the statistics nothing. If a complete record arrives later than it starts, the bytes that were taken of the arrivals end at most
--- 65,536 bytes past the first such record
+-- the statistics nothing. Of a classic capture, if a complete record arrives later than it starts, the bytes that were taken of the
+-- arrivals end at most 65,536 bytes past the first such record
 pub record IsLate (old new : View) (n : Names) (seed : ℕ) : Type 0 where
   pub accepted : Accepted old n
   pub records : List Record
@@ -140,7 +154,22 @@ pub record IsLate (old new : View) (n : Names) (seed : ℕ) : Type 0 where
   pub file : ℕ
   pub fresh : old.part file ≡ None
   pub part : new.part file ≡ Some 2
-  pub streams : Streams new file accepted.bytes records (start_of early.cut.next.what)
+  pub streams : is_pcapng accepted.given ≡ false → Streams new file accepted.bytes records (start_of early.cut.next.what)
+
+-- these are the complete records of a front of the bytes
+pub record AreOfFront (bytes : List ℕ) (records : List Record) : Type 0 where
+  pub front : List ℕ
+  pub rest : List ℕ
+  pub split : bytes ≡ front ++ rest
+  pub last : Step
+  pub reads : Reads front records last
+  pub ended : IsLast last
+
+-- these are the complete records of what was taken: of a classic capture from its file, of a pcapng one, of which all was taken
+-- before, from the classic capture of its packets
+abbrev pub AreTaken : (pcapng : Bool) → View → (file : ℕ) → (bytes : List ℕ) → List Record → Type 0
+AreTaken false v file bytes records = AreAllTaken v file bytes records
+AreTaken true v file bytes records = AreOfFront bytes records
 
 -- a read of the arrivals failed: all complete records of the bytes that were taken of them were offered
 pub record IsCutShort (old new : View) (n : Names) (seed : ℕ) : Type 0 where
@@ -149,7 +178,7 @@ pub record IsCutShort (old new : View) (n : Names) (seed : ℕ) : Type 0 where
   pub file : ℕ
   pub fresh : old.part file ≡ None
   pub part : new.part file ≡ Some 2
-  pub taken : AreAllTaken new file accepted.bytes records
+  pub taken : AreTaken (is_pcapng accepted.given) new file accepted.bytes records
   pub decided : HasOffered new n (setup_of accepted.interface seed) records
 
 -- what is accepted reads to this end, and no sending of its play comes before that and would end too late

@@ -21,13 +21,13 @@ use std::alloc::Global;
 
 // Plays an interface by a discipline that keeps its policy, to which nothing was offered yet.
 #[tactic(auto, using(play_base::proofs::ViewLaws::same_trans, play_base::proofs::ViewLaws::same_refl))]
-fn play_by<D: Discipline, F: Files>(
+pub(crate) fn play_by<D: Discipline, F: Files>(
     alloc: Global,
     files: &mut F,
     interface: &Interface,
     discipline: &mut D,
     seed: u64,
-    opened: &Opened,
+    opened: &Opened<'_>,
 ) -> Result<Totals, PlayFault>
     requires configured { IsConfigured interface.now }
     requires new { D.stands discipline.old [] }
@@ -35,6 +35,7 @@ fn play_by<D: Discipline, F: Files>(
     requires rate { HasRate (D.link_rate discipline.old) interface.now.rate }
     requires ready { AreReady (F.view files.old) opened.now }
     ensures done { IfOk result (Plays (setup_of interface.now seed) Untold (F.view files.old) (F.view files.new) opened.now) }
+    ensures stood { IfOk result (Plays (setup_of interface.now seed) (D.stands discipline.new) (F.view files.old) (F.view files.new) opened.now) }
     ensures why { IfErr result (Explains (setup_of interface.now seed) Untold (F.view files.old) (F.view files.new) opened.now) }
     ensures front { OnErr result (Fronts (setup_of interface.now seed) (F.view files.old) (F.view files.new) opened.now) }
     ensures stats { IfErr result (LeavesStats (setup_of interface.now seed) (F.view files.old) (F.view files.new) opened.now) }
@@ -77,7 +78,7 @@ pub(crate) fn play_interface<F: Files>(
     files: &mut F,
     interface: &Interface,
     seed: u64,
-    opened: &Opened,
+    opened: &Opened<'_>,
 ) -> Result<Totals, PlayFault>
     requires configured { IsConfigured interface.now }
     requires ready { AreReady (F.view files.old) opened.now }

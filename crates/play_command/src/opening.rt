@@ -1,13 +1,24 @@
-// Opening and creating the files of a play.
-ghost use Rattle.std.specs.Prelude.{◌≡◌, ℕ, List, IfOk, IfErr, OnOk};
-ghost use Rattle.play_base.specs.View.{IsAbsent, SameCounts, View};
+// Opening the arrivals, and creating the outputs of a play.
+ghost use Rattle.std.specs.Prelude.{◌≡◌, ◌≤◌, ℕ, true, List, Some, length, IsTrue, IfOk, IfErr, OnOk};
+ghost use Rattle.arrivals_front.specs.Given.{Follows};
+ghost use Rattle.play_base.specs.View.{Any, Keeps, SameCounts, View};
 ghost use Rattle.play_words.specs.Words.{AreDistinct};
-ghost use Rattle.command_base.specs.Names.{names_read};
-ghost use Rattle.play_command.specs.Opening.{AreNamed, AreOpened, OpenCauses, OpenedFar, create_fault};
+ghost use Rattle.command_base.specs.Names.{Names, names_read};
+ghost use Rattle.play_command.specs.Opening.{AreNamed, AreOpened, ArrivalsCauses, IsOpened, OpenedFar, OutputCauses, create_fault};
 
+use crate::failing::{Unplayed, given_fault};
+use arrivals_front::{Given, given_arrivals};
 use play_base::{Files, Trouble};
 use play_loop::{Opened, Output, PlayFault};
 use play_words::PlayWords;
+use std::alloc::Global;
+
+/// The file of the arrivals, and how they begin.
+#[derive(Debug, Drop)]
+pub struct Arrivals {
+    pub file: u32,
+    pub given: Given,
+}
 
 // What trouble with the creation of an output means for the play.
 fn create_fault(output: Output, trouble: Trouble) -> PlayFault
@@ -19,23 +30,58 @@ fn create_fault(output: Output, trouble: Trouble) -> PlayFault
     }
 }
 
-/// Opens the arrivals, and then creates departures, fates and statistics, in this order.
+/// Opens the arrivals, and takes their first bytes, of a pcapng file all. What each error means `Unplayed` says; no error is that of
+/// an output.
 #[tactic(auto, using(play_base::proofs::ViewLaws::same_trans, play_base::proofs::ViewLaws::same_refl))]
-pub fn open_files<F: Files>(files: &mut F, words: &PlayWords<'_>) -> Result<Opened, PlayFault>
-    requires { AreDistinct words.now.config.now words.now.arrivals.now words.now.departures.now words.now.fates.now words.now.stats.now }
-    ensures opened { IfOk result (AreOpened (F.view files.old) (F.view files.new) words.now.arrivals.now words.now.departures.now
-        words.now.fates.now words.now.stats.now) }
-    ensures named { AreNamed (F.view files.old) (F.view files.new) (names_read words.now) 6 }
-    ensures far { OpenedFar (F.view files.old) (F.view files.new) words.now.departures.now words.now.fates.now words.now.stats.now }
-    ensures why { IfErr result (OpenCauses (F.view files.old) (F.view files.new) words.now.arrivals.now) }
-    ensures absent { IsAbsent (F.view files.old) words.now.arrivals.now → (n : List ℕ) → (F.view files.new).bytes n ≡ (F.view files.old).bytes n }
+pub fn open_arrivals<F: Files>(
+    alloc: Global,
+    files: &mut F,
+    name: &str,
+) -> Result<Arrivals, Unplayed>
+    ensures opened { IfOk result (λ x. IsOpened (F.view files.old) (F.view files.new) name.now x.file) }
+    ensures given { IfOk result (λ x. IsTrue (F.view files.old).tells → (given : List ℕ) → (F.view files.old).bytes name.now ≡ Some given
+        → Follows (F.view files.new) x.file given x.given) }
+    ensures few { IfOk result (λ x. x.given.rest ≡ true → length x.given.front.items ≤ 4) }
+    ensures why { IfErr result (ArrivalsCauses (F.view files.old) (F.view files.new) name.now) }
+    ensures named { (n : Names) → n.arrivals ≡ name.now → AreNamed (F.view files.old) (F.view files.new) n 6 }
+    ensures far { (dep fat stats : List ℕ) → OpenedFar (F.view files.old) (F.view files.new) dep fat stats }
+    ensures keeps { Keeps Any Any (F.view files.old) (F.view files.new) }
     ensures no_fault { OnOk result (SameCounts (F.view files.old) (F.view files.new)) }
 {
-    let arrivals = match files.open(2, words.arrivals) {
+    let file = match files.open(2, name) {
         Ok(file) => file,
-        Err(Trouble::Failed) => return Err(PlayFault::Read),
-        Err(Trouble::NoMemory) => return Err(PlayFault::NoMemory),
+        Err(Trouble::Failed) => return Err(Unplayed::Play(PlayFault::Read)),
+        Err(Trouble::NoMemory) => return Err(Unplayed::Play(PlayFault::NoMemory)),
     };
+    match given_arrivals(alloc, files, file) {
+        Ok(given) => Ok(Arrivals { file, given }),
+        Err(fault) => Err(given_fault(fault)),
+    }
+}
+
+/// Creates departures, fates and statistics, in this order, behind the arrivals, of which the bytes `first` were taken, at most 24.
+#[tactic(auto, using(play_base::proofs::ViewLaws::same_trans, play_base::proofs::ViewLaws::same_refl))]
+pub fn create_outputs<'a, F: Files>(
+    files: &mut F,
+    words: &PlayWords<'_>,
+    arrivals: u32,
+    first: &'a [u8],
+) -> Result<Opened<'a>, PlayFault>
+    requires distinct { AreDistinct words.now.config.now words.now.arrivals.now words.now.departures.now words.now.fates.now words.now.stats.now }
+    requires few { length first.now ≤ 24 }
+    ensures arrivals { IfOk result (λ o. o.arrivals ≡ arrivals) }
+    ensures first { IfOk result (λ o. o.first.now ≡ first.now) }
+    ensures opened { IfOk result (λ o. (a : View) → IsOpened a (F.view files.old) words.now.arrivals.now arrivals
+        → AreOpened a (F.view files.new) words.now.arrivals.now words.now.departures.now words.now.fates.now words.now.stats.now o) }
+    ensures left { IfOk result (λ o. (a : View) → IsOpened a (F.view files.old) words.now.arrivals.now arrivals → IsTrue a.tells
+        → (F.view files.new).left arrivals ≡ (F.view files.old).left arrivals) }
+    ensures named { (a : View) → IsOpened a (F.view files.old) words.now.arrivals.now arrivals
+        → AreNamed a (F.view files.new) (names_read words.now) 6 }
+    ensures far { (a : View) → IsOpened a (F.view files.old) words.now.arrivals.now arrivals
+        → OpenedFar a (F.view files.new) words.now.departures.now words.now.fates.now words.now.stats.now }
+    ensures why { IfErr result (OutputCauses (F.view files.old) (F.view files.new)) }
+    ensures no_fault { OnOk result (SameCounts (F.view files.old) (F.view files.new)) }
+{
     let departures = match files.create(3, words.departures) {
         Ok(file) => file,
         Err(trouble) => return Err(create_fault(Output::Departures, trouble)),
@@ -50,6 +96,7 @@ pub fn open_files<F: Files>(files: &mut F, words: &PlayWords<'_>) -> Result<Open
     };
     Ok(Opened {
         arrivals,
+        first,
         departures,
         fates,
         stats,

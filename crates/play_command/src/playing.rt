@@ -5,7 +5,6 @@ ghost use Rattle.play_words.specs.Words.{AreDistinct};
 ghost use Rattle.command_base.specs.Names.{names_read};
 ghost use Rattle.play_command.specs.Ending.{PlayEnds};
 
-use crate::failing::play_failure;
 use crate::found::play_found;
 use command_base::{Done, Failure, absent, read_conf};
 use play_base::Files;
@@ -17,7 +16,8 @@ use std::alloc::Global;
 ///
 /// Nothing is created before the configuration is accepted and the arrivals are open, fates only after departures, and statistics only
 /// after fates. It fails as `PlayFails` says: as `Configuration`, `Read` or `Limit` of the configuration before anything else is looked
-/// at; as `Capture` or `Limit` at the first test that the arrivals fail, once all complete records before it are played; as `Read` or
+/// at; as `Pcapng` or `Limit` where the arrivals are a pcapng file that is no capture or too long, before anything is created; as
+/// `Capture` or `Limit` at the first test that a classic capture fails, once all complete records before it are played; as `Read` or
 /// `Write` where a call on that file failed; and as `NoMemory`.
 #[tactic(auto, using(play_base::proofs::ViewLaws::same_trans, play_base::proofs::ViewLaws::same_refl))]
 pub fn play<F: Files>(alloc: Global, files: &mut F, words: &PlayWords<'_>) -> Result<Done, Failure>
@@ -34,6 +34,6 @@ pub fn play<F: Files>(alloc: Global, files: &mut F, words: &PlayWords<'_>) -> Re
     };
     match play_found(alloc, files, found, words) {
         Ok(_) => Ok(Done::Played),
-        Err(fault) => Err(play_failure(fault)),
+        Err(fault) => Err(fault.failure()),
     }
 }

@@ -5,13 +5,17 @@ use std::alloc::{AllocError, Global};
 /// The version of the program. CHANGELOG.md has what each brought.
 pub const VERSION: &str = "0.1";
 
-/// The commands with their options, in three lines. `Err` comes only where there is no memory.
+/// The commands with their options, in five lines. `Err` comes only where there is no memory.
 pub fn usage(alloc: Global) -> Result<String, AllocError> {
     let version = VERSION;
     let mut text = format!(in alloc; "altqplay {version}: check --config FILE --interface NAME\n")?;
     text.push_str(
         "  play --config FILE --interface NAME --arrivals FILE --departures FILE --fates FILE --stats FILE --seed N\n",
     )?;
+    text.push_str("  shares with the options of play\n")?;
     text.push_str("  make --count N and the options of play\n")?;
+    text.push_str(
+        "  verify --config FILE --interface NAME --arrivals FILE --departures FILE --fates FILE\n",
+    )?;
     Ok(text)
 }

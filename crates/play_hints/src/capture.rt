@@ -1,5 +1,6 @@
 // What is wrong with a capture.
 
+use crate::block::{block_line, is_pcapng};
 use crate::printable::{one_line, shown};
 use std::alloc::{AllocError, Global};
 
@@ -7,13 +8,12 @@ use std::alloc::{AllocError, Global};
 #[derive(Clone, Copy, Debug, PartialEq, Eq)]
 enum Format {
     Packed(&'static str, &'static str),
-    Pcapng,
     Modified,
     Other,
 }
 
-// The format of a file by its first bytes: gzip (RFC 1952), zstd (RFC 8878), xz, bzip2, lz4, pcapng, and the capture format of
-// some old systems, which libpcap reads too.
+// The format of a file by its first bytes: gzip (RFC 1952), zstd (RFC 8878), xz, bzip2, lz4, and the capture format of some
+// old systems, which libpcap reads too.
 fn format_of(head: &[u8]) -> Format {
     match head {
         [0x1f, 0x8b, ..] => Format::Packed("gzip", "gzip -dk"),
@@ -21,7 +21,6 @@ fn format_of(head: &[u8]) -> Format {
         [0xfd, b'7', b'z', b'X', ..] => Format::Packed("xz", "xz -dk"),
         [b'B', b'Z', b'h', ..] => Format::Packed("bzip2", "bzip2 -dk"),
         [0x04, 0x22, 0x4d, 0x18, ..] => Format::Packed("lz4", "lz4 -dk"),
-        [0x0a, 0x0d, 0x0d, 0x0a, ..] => Format::Pcapng,
         [0x34, 0xcd, 0xb2, 0xa1, ..] | [0xa1, 0xb2, 0xcd, 0x34, ..] => Format::Modified,
         _ => Format::Other,
     }
@@ -32,11 +31,6 @@ fn magic_hint(alloc: Global, name: &str, head: &[u8]) -> Result<String, AllocErr
     match format_of(head) {
         Format::Packed(format, tool) => {
             format!(in alloc; "{name}: {format}: unpack it first: {tool} {name}")
-        }
-        Format::Pcapng => {
-            format!(in alloc;
-                "{name}: pcapng: convert it first: editcap -F nsecpcap {name} out.pcap"
-            )
         }
         Format::Modified => {
             format!(in alloc;
@@ -138,6 +132,10 @@ pub fn capture_hint(
     place: u64,
     kind: u8,
 ) -> Result<String, AllocError> {
-    let line = damage_line(alloc, name, head, place, kind)?;
+    let line = if is_pcapng(head) {
+        block_line(alloc, name, place, kind)?
+    } else {
+        damage_line(alloc, name, head, place, kind)?
+    };
     one_line(alloc, line.as_str())
 }

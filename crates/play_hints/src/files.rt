@@ -1,5 +1,6 @@
 // What is wrong with the files of a run.
 
+use crate::block::is_pcapng;
 use crate::printable::one_line;
 use std::alloc::{AllocError, Global};
 
@@ -21,10 +22,15 @@ pub fn file_hint(alloc: Global, file: File<'_>) -> Result<String, AllocError> {
     one_line(alloc, line.as_str())
 }
 
-/// What to say of a capture with more records or bytes than may be.
-pub fn long_capture_hint(alloc: Global, name: &str) -> Result<String, AllocError> {
+/// What to say of a capture with more records or bytes than may be, by its first bytes.
+pub fn long_capture_hint(alloc: Global, name: &str, head: &[u8]) -> Result<String, AllocError> {
+    let left = if is_pcapng(head) {
+        "nothing was created"
+    } else {
+        "all before was decided"
+    };
     let line = format!(in alloc;
-        "{name}: more than 4000000 records, or 2^30 bytes: all before was decided; cut it: editcap -F nsecpcap -c 4000000 {name} part.pcap"
+        "{name}: more than 4000000 records, or 2^30 bytes: {left}; cut it: editcap -F nsecpcap -c 4000000 {name} part.pcap"
     )?;
     one_line(alloc, line.as_str())
 }

@@ -30,7 +30,7 @@ fn no_command(alloc: Global, words: &[String]) -> Result<String, AllocError> {
         return usage(alloc);
     }
     let word = first(words);
-    let line = format!(in alloc; "{word}: no command: check, play or make")?;
+    let line = format!(in alloc; "{word}: no command: check, play, shares, make or verify")?;
     one_line(alloc, line.as_str())
 }
 

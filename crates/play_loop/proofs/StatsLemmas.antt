@@ -63,8 +63,8 @@ texts_beside x u v w o records g ys r k s h = record {
 
 pub plays_whole : (x : Setup) (stood : List Happened → Type 0) (u v w : View) (o : Opened) (t : Tally) → AreReady u o → KeepsBeside o.arrivals o.departures o.fates u v
     → Writes x stood u v o t → Wrote v w o.stats (stats_of x.names t.counts.items) → Plays x stood u w o t.totals
-plays_whole x stood u v w o t r k p s = λ told bytes l.
-    let y = p told bytes l in
+plays_whole x stood u v w o t r k p s = λ told rest l.
+    let y = p told rest l in
     let z = y.2 in
     let T : List ℕ → Type 0 = λ e. HoldsAt w o.stats e in (
       y.0,
@@ -82,10 +82,10 @@ plays_whole x stood u v w o t r k p s = λ told bytes l.
 -- where they could not be written whole
 pub fronts_whole : (x : Setup) (stood : List Happened → Type 0) (u v w : View) (o : Opened) (t : Tally) (text : List ℕ) → AreReady u o
     → KeepsBeside o.arrivals o.departures o.fates u v → Writes x stood u v o t → WroteFront v w o.stats text → Fronts x u w o
-fronts_whole x stood u v w o t text r k p s = λ told bytes l records last reads is_last.
-    let y = p told bytes l in
+fronts_whole x stood u v w o t text r k p s = λ told rest l records last reads is_last.
+    let y = p told rest l in
     let z = y.2 in
-    let one = one_reading bytes records y.0 last End reads is_last y.1 tt in
+    let one = one_reading (o.first.now ++ rest) records y.0 last End reads is_last y.1 tt in
     let P : List Record → Type 0 = λ q. HasStopped x w o q in
     let texts = texts_beside x u v w o y.0 z.history _ r k s.1 z.texts in
     subst P (sym one.0) (record {
@@ -96,8 +96,8 @@ fronts_whole x stood u v w o t text r k p s = λ told bytes l records last reads
 
 begins_stats : (x : Setup) (stood : List Happened → Type 0) (u v w : View) (o : Opened) (t : Tally) → AreReady u o
     → KeepsBeside o.arrivals o.departures o.fates u v → Writes x stood u v o t → WroteFront v w o.stats (stats_of x.names t.counts.items) → BeginsStats x u w o
-begins_stats x stood u v w o t r k p s = inr (λ told bytes l.
-    let y = p told bytes l in
+begins_stats x stood u v w o t r k p s = inr (λ told rest l.
+    let y = p told rest l in
     let z = y.2 in
     let text : List ℕ = stats_of x.names t.counts.items in (
       y.0,

@@ -28,10 +28,11 @@ pub record AreEmpty (v : View) (dep fat : ℕ) : Type 0 where
   pub fates : HoldsAt v fat []
   pub apart : Apart v dep fat
 
--- the files of a play before it: the arrivals have another name than departures and fates, and these another than the statistics, to
+-- the files of a play before it: at most 24 bytes of the arrivals were taken; they have another name than departures and fates, and these another than the statistics, to
 -- which nothing was written either
 pub record AreReady (v : View) (o : Opened) : Type 0 where
   pub arrivals : IsSome (v.part o.arrivals)
+  pub few : length o.first.now ≤ 24
   pub empty : AreEmpty v o.departures o.fates
   pub from_departures : Apart v o.arrivals o.departures
   pub from_fates : Apart v o.arrivals o.fates
@@ -116,11 +117,11 @@ pub record HasStopped (x : Setup) (v : View) (o : Opened) (records : List Record
   pub begun : IsBegun x.policy x.rate x.seed (comings (arrivals_in x records)) history
   pub texts : HoldFronts v o x (arrivals_in x records) history
 
--- P holds of what the arrivals had left, where the files tell it
+-- P holds of the bytes that the arrivals hold: those that were taken before, and what their file has left, where the files tell it
 abbrev pub OfArrivals : View → Opened → (List ℕ → Type 0) → Type 0
-OfArrivals old o P = IsTrue old.tells → (bytes : List ℕ) → old.left o.arrivals ≡ Some bytes → P bytes
+OfArrivals old o P = IsTrue old.tells → (rest : List ℕ) → old.left o.arrivals ≡ Some rest → P (o.first.now ++ rest)
 
--- what the arrivals had left is a capture, and its play ended
+-- what the arrivals hold is a capture, and its play ended
 abbrev pub Writes : Setup → (List Happened → Type 0) → View → View → Opened → Tally → Type 0
 Writes x stood old new o t = OfArrivals old o (λ bytes. (records : List Record) × IsCapture bytes records × WasWritten x stood new o records t)
 

@@ -2,10 +2,12 @@
 
 use capture_model::Damage;
 
-/// The files of a play, each answered by the files that it is played over: the arrivals opened, the others created.
+/// The files of a play, each answered by the files that it is played over: the arrivals opened, the others created. The arrivals are
+/// the bytes `first`, which were taken of their file before, at most 24, and what that has left.
 #[derive(Clone, Copy)]
-pub struct Opened {
+pub struct Opened<'a> {
     pub arrivals: u32,
+    pub first: &'a [u8],
     pub departures: u32,
     pub fates: u32,
     pub stats: u32,

@@ -58,7 +58,7 @@ fn write_heads<F: Files>(files: &mut F, departures: u32, fates: u32) -> Result<(
     }
 }
 
-/// Plays the capture that the arrivals have left through a discipline, to which nothing was offered yet, and a link of `rate` bits
+/// Plays the capture that the arrivals hold through a discipline, to which nothing was offered yet, and a link of `rate` bits
 /// per second, 1,000 to 10^12. It writes both headers, and then reads the records one by one: after each it makes every sending that
 /// starts before the record's packet arrives, and offers the packet; at the end of the capture it makes the rest, and writes the
 /// statistics. A record for each sending and a row for each fate are gathered as they are decided, up to 65,536 bytes for each file.
@@ -79,7 +79,7 @@ pub fn play<D: Discipline, C: Classify, F: Files>(
     names: &Names,
     rate: u64,
     words: &mut Words,
-    opened: &Opened,
+    opened: &Opened<'_>,
     files: &mut F,
 ) -> Result<Totals, PlayFault>
     requires ready { AreReady (F.view files.old) opened.now }
@@ -128,7 +128,7 @@ fn play_capture<D: Discipline, C: Classify, F: Files>(
     names: &Names,
     rate: u64,
     words: &mut Words,
-    opened: &Opened,
+    opened: &Opened<'_>,
     files: &mut F,
     counts: Vec<Counts>,
 ) -> Result<Tally, PlayFault>
@@ -158,7 +158,7 @@ fn play_capture<D: Discipline, C: Classify, F: Files>(
         Ok(()) => {}
         Err(fault) => return Err(fault),
     }
-    let mut reader = match Reader::start(alloc, files, opened.arrivals) {
+    let mut reader = match Reader::start(alloc, files, opened.arrivals, opened.first) {
         Ok(reader) => reader,
         Err(fault) => return Err(capture_fault(fault)),
     };

@@ -1,5 +1,5 @@
 // The loop itself over classes in strict order.
-ghost use Rattle.std.specs.Prelude.{◌≡◌, ◌≤◌, ◌^◌, ◌∷◌, [], codes, IfOk};
+ghost use Rattle.std.specs.Prelude.{◌≡◌, ◌≤◌, ◌^◌, ◌∷◌, [], codes, length, IfOk};
 ghost use Rattle.play_base.specs.Memory.{memory_view};
 ghost use Rattle.play_loop.specs.Played.{AreReady};
 
@@ -12,8 +12,8 @@ use conf_tree::Conf;
 use frame_classes::Classifier;
 use leaf_queue::{Tail, Words};
 use plain_disciplines::{Classify, Discipline, Strict};
-use play_base::{Call, MemoryFiles, NoMemory};
-use play_command::open_files;
+use play_base::{Call, Files, MemoryFiles, NoMemory};
+use play_command::create_outputs;
 use play_loop::{Limit, Opened, PlayFault, Totals, play};
 use play_text::Names;
 use play_words::{Command, read_words};
@@ -77,7 +77,7 @@ fn play_two(
     files: &mut MemoryFiles,
     classes: &TwoClasses,
     rate: u64,
-    opened: &Opened,
+    opened: &Opened<'_>,
 ) -> Result<Totals, PlayFault>
     requires ready { AreReady (memory_view files.old) opened.now }
     requires least { 1000 ≤ rate }
@@ -115,15 +115,19 @@ fn voice_and_data(alloc: Global) -> Result<TwoClasses, Fail> {
     Ok(TwoClasses { frames })
 }
 
-// Opens the files of a play.
-fn opened(alloc: Global, files: &mut MemoryFiles) -> Result<Opened, Fail>
+// Opens the arrivals, of which these bytes were taken, and creates the outputs of a play.
+fn opened<'a>(alloc: Global, files: &mut MemoryFiles, first: &'a [u8]) -> Result<Opened<'a>, Fail>
+    requires few { length first.now ≤ 24 }
     ensures { IfOk result (λ o. AreReady (memory_view files.new) o) }
 {
     let words = play_words(alloc)?;
     let Ok(Command::Play(read)) = read_words(alloc, words.as_slice()) else {
         return Err(Fail::new("words"));
     };
-    match open_files(files, &read) {
+    let Ok(arrivals) = files.open(2, read.arrivals) else {
+        return Err(Fail::new("arrivals"));
+    };
+    match create_outputs(files, &read, arrivals, first) {
         Ok(opened) => Ok(opened),
         Err(_) => Err(Fail::new("files")),
     }
@@ -139,7 +143,8 @@ fn filters_over_strict(rt: HostRuntime) -> Result<(), Fail> {
     arrive(&mut arrivals, 1, 0, 1000, &datagram(alloc, 5004)?)?;
     let mut files = MemoryFiles::new(alloc);
     files.put("in", &arrivals)?;
-    let opened = opened(alloc, &mut files)?;
+    let none: [u8; 0] = [];
+    let opened = opened(alloc, &mut files, &none)?;
     let played = play_two(alloc, &mut files, &classes, 8_000_000, &opened);
     assert!(rt; played.is_ok());
     let rows =
@@ -162,7 +167,8 @@ fn reading_stops_at_the_late_sending(rt: HostRuntime) -> Result<(), Fail> {
     let mut files = MemoryFiles::new(alloc);
     files.put("in", &arrivals)?;
     files.chunk(1);
-    let opened = opened(alloc, &mut files)?;
+    let none: [u8; 0] = [];
+    let opened = opened(alloc, &mut files, &none)?;
     let played = play_two(alloc, &mut files, &classes, 1_000, &opened);
     assert!(rt; played.err() == Some(PlayFault::Limit(Limit::Clock)));
     assert!(rt; files.calls(Call::Read) <= 176 + 65_536);

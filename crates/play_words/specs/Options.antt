@@ -29,6 +29,10 @@ make_app = with_options (new_app (codes "make"))
 unfoldable pub check_app : App
 check_app = with_options (new_app (codes "check")) (codes "config" ∷ codes "interface" ∷ [])
 
+unfoldable pub verify_app : App
+verify_app = with_options (new_app (codes "verify"))
+    (codes "config" ∷ codes "interface" ∷ codes "arrivals" ∷ codes "departures" ∷ codes "fates" ∷ [])
+
 -- the words as texts; clap takes the first as the program's name, and reads those behind it
 abbrev pub texts_of : Words → List Text
 texts_of words = map string_bytes words

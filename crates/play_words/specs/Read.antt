@@ -3,11 +3,12 @@ use Rattle.std.specs.Prelude.{◌≡◌, List, Some, codes}
 use Rattle.clap.specs.Words.{Row}
 use Rattle.play_words.specs.declared.words.CheckWords.{CheckWords}
 use Rattle.play_words.specs.declared.words.Command.{Command}
-use Rattle.play_words.specs.declared.words.Command.TheVariants.{Play, Check, Make}
+use Rattle.play_words.specs.declared.words.Command.TheVariants.{Play, Check, Make, Verify, Shares}
 use Rattle.play_words.specs.declared.words.MakeWords.{MakeWords}
 use Rattle.play_words.specs.declared.words.PlayWords.{PlayWords}
+use Rattle.play_words.specs.declared.words.VerifyWords.{VerifyWords}
 use Rattle.play_words.specs.Options.{value_of}
-use Rattle.play_words.specs.Words.{Words, IsPlay, IsCheck, IsMake, AreDistinct, rows_read, seed_in, count_of, config_name, interface_name}
+use Rattle.play_words.specs.Words.{Words, IsPlay, IsCheck, IsMake, IsShares, IsVerify, AreDistinct, AreDistinctInputs, rows_read, seed_in, count_of, config_name, interface_name}
 
 -- the names and the seed are those of the options, and no two of the file names are equal
 pub record ReadsRows (rows : List Row) (w : PlayWords) : Type 0 where
@@ -24,6 +25,10 @@ pub record ReadsPlay (words : Words) (w : PlayWords) : Type 0 where
   pub command : IsPlay words
   pub read : ReadsRows (rows_read words) w
 
+pub record ReadsShares (words : Words) (w : PlayWords) : Type 0 where
+  pub command : IsShares words
+  pub read : ReadsRows (rows_read words) w
+
 pub record ReadsMake (words : Words) (w : MakeWords) : Type 0 where
   pub command : IsMake words
   pub read : ReadsRows (rows_read words) w.play
@@ -34,7 +39,22 @@ pub record ReadsCheck (words : Words) (w : CheckWords) : Type 0 where
   pub config : w.config.now ≡ config_name words
   pub interface : w.interface.now ≡ interface_name words
 
+-- the names are those of the options, and no two of the file names are equal
+pub record ReadsInputs (rows : List Row) (w : VerifyWords) : Type 0 where
+  pub config : w.config.now ≡ value_of (codes "config") rows
+  pub interface : w.interface.now ≡ value_of (codes "interface") rows
+  pub arrivals : w.arrivals.now ≡ value_of (codes "arrivals") rows
+  pub departures : w.departures.now ≡ value_of (codes "departures") rows
+  pub fates : w.fates.now ≡ value_of (codes "fates") rows
+  pub distinct : AreDistinctInputs w.config.now w.arrivals.now w.departures.now w.fates.now
+
+pub record ReadsVerify (words : Words) (w : VerifyWords) : Type 0 where
+  pub command : IsVerify words
+  pub read : ReadsInputs (rows_read words) w
+
 abbrev pub Reads : Words → Command → Type 0
 Reads words (Play w) = ReadsPlay words w
 Reads words (Check w) = ReadsCheck words w
 Reads words (Make w) = ReadsMake words w
+Reads words (Verify w) = ReadsVerify words w
+Reads words (Shares w) = ReadsShares words w

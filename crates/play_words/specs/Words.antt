@@ -1,11 +1,11 @@
--- The words behind the program's name: a command, `play`, `check` or `make`, and its options, as clap reads them.
+-- The words behind the program's name: a command, `play`, `check`, `make`, `verify` or `shares`, and its options, as clap reads them.
 use Rattle.std.specs.Prelude.{◌≡◌, ◌≢◌, ◌&&◌, ℕ, Bool, nat_le, not, is_none, List, [], slice_get, string_bytes, codes, if◌then◌else◌, None, Some}
 use Rattle.std.specs.Option.{option_map_or}
 use Rattle.std.specs.Str.{bytes_eq}
 use Rattle.std.specs.declared.option.Option.{Option}
 use Rattle.clap.specs.Words.{Row}
 use Rattle.line_text.specs.Numbers.{number}
-use Rattle.play_words.specs.Options.{check_app, make_app, options_of, options_refusal, play_app, takes_options, value_of}
+use Rattle.play_words.specs.Options.{check_app, make_app, options_of, options_refusal, play_app, takes_options, value_of, verify_app}
 pub use Rattle.play_words.specs.Options.{Words}
 
 -- a word, or no text where there are fewer
@@ -20,6 +20,8 @@ pub data Named : Type 0 where
   Play : Named
   Check : Named
   Make : Named
+  Verify : Named
+  Shares : Named
   NoCommand : Named
 
 abbrev pub named : Words → Named
@@ -27,6 +29,8 @@ named words =
     if is_word words 0 (codes "play") then Play
     else if is_word words 0 (codes "check") then Check
     else if is_word words 0 (codes "make") then Make
+    else if is_word words 0 (codes "verify") then Verify
+    else if is_word words 0 (codes "shares") then Shares
     else NoCommand
 
 abbrev pub IsPlay : Words → Type 0
@@ -38,15 +42,27 @@ IsCheck words = named words ≡ Check
 abbrev pub IsMake : Words → Type 0
 IsMake words = named words ≡ Make
 
--- the options that are read of the words behind the command
+abbrev pub IsVerify : Words → Type 0
+IsVerify words = named words ≡ Verify
+
+abbrev pub IsShares : Words → Type 0
+IsShares words = named words ≡ Shares
+
+-- the options that are read of the words behind the command; `shares` takes those of `play`
 abbrev pub options_by : Named → Words → List Row
 options_by Play words = options_of play_app words
 options_by Check words = options_of check_app words
 options_by Make words = options_of make_app words
+options_by Verify words = options_of verify_app words
+options_by Shares words = options_of play_app words
 options_by NoCommand words = []
 
 abbrev pub rows_read : Words → List Row
 rows_read words = options_by (named words) words
+
+-- the options are read as those of `play`
+abbrev pub TakesPlayed : Words → Type 0
+TakesPlayed words = rows_read words ≡ options_of play_app words
 
 abbrev pub option_of : List ℕ → Words → List ℕ
 option_of name words = value_of name (rows_read words)
@@ -125,10 +141,26 @@ make_refusal words =
 abbrev pub check_refusal : Words → Option ℕ
 check_refusal = options_refusal check_app
 
+-- no two names of files that are checked are equal as texts
+abbrev pub are_distinct_inputs : (config arrivals departures fates : List ℕ) → Bool
+are_distinct_inputs config arrivals departures fates =
+    differ_from config arrivals departures fates && (differ arrivals departures && (differ arrivals fates && differ departures fates))
+
+abbrev pub inputs_refusal : List Row → Option ℕ
+inputs_refusal rows =
+    if not (are_distinct_inputs (value_of (codes "config") rows) (value_of (codes "arrivals") rows) (value_of (codes "departures") rows)
+    (value_of (codes "fates") rows)) then Some 3
+    else None
+
+abbrev pub verify_refusal : Words → Option ℕ
+verify_refusal words = if not (takes_options verify_app words) then Some 2 else inputs_refusal (rows_read words)
+
 abbrev pub refusal_by : Named → Words → Option ℕ
 refusal_by Play words = play_refusal words
 refusal_by Check words = check_refusal words
 refusal_by Make words = make_refusal words
+refusal_by Verify words = verify_refusal words
+refusal_by Shares words = play_refusal words
 refusal_by NoCommand words = Some 1
 
 abbrev pub refusal : Words → Option ℕ
@@ -146,3 +178,11 @@ pub record AreDistinct (config arrivals departures fates stats : List ℕ) : Typ
   pub departures_fates : departures ≢ fates
   pub departures_stats : departures ≢ stats
   pub fates_stats : fates ≢ stats
+
+pub record AreDistinctInputs (config arrivals departures fates : List ℕ) : Type 0 where
+  pub config_arrivals : config ≢ arrivals
+  pub config_departures : config ≢ departures
+  pub config_fates : config ≢ fates
+  pub arrivals_departures : arrivals ≢ departures
+  pub arrivals_fates : arrivals ≢ fates
+  pub departures_fates : departures ≢ fates

@@ -5,4 +5,6 @@ mod options;
 mod words;
 
 pub use options::options_read;
-pub use words::{CheckWords, Command, MakeWords, PlayWords, Unread, WordsFault, count, read_words};
+pub use words::{
+    CheckWords, Command, MakeWords, PlayWords, Unread, VerifyWords, WordsFault, count, read_words,
+};

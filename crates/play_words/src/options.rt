@@ -4,8 +4,8 @@ ghost use Rattle.clap.specs.Values.{kind_of};
 ghost use Rattle.clap.specs.Words.{app_of, found_of, is_simple_and_free, rows_of, rule_of};
 ghost use Rattle.clap.specs.declared.error.kind.ErrorKind.TheVariants.{OutOfMemory};
 ghost use Rattle.play_words.specs.Causes.{Explains};
-ghost use Rattle.play_words.specs.Options.{check_app, make_app, options_of, options_refusal, play_app, required_option, takes_options, value_of};
-ghost use Rattle.play_words.specs.Words.{IsCheck, IsMake, IsPlay, refusal, rows_read};
+ghost use Rattle.play_words.specs.Options.{check_app, make_app, options_of, options_refusal, play_app, required_option, takes_options, value_of, verify_app};
+ghost use Rattle.play_words.specs.Words.{IsCheck, IsMake, IsPlay, IsShares, IsVerify, refusal, rows_read};
 
 use crate::Unread;
 use crate::words::is;
@@ -61,6 +61,18 @@ fn check_options<'a>(alloc: Global) -> Result<Command<'a>, AllocError>
         .arg(required(alloc, "interface"))
 }
 
+// The options of `verify`.
+fn verify_options<'a>(alloc: Global) -> Result<Command<'a>, AllocError>
+    ensures { IfOk result (λ command. app_of command ≡ verify_app) }
+{
+    Command::new(alloc, "verify")
+        .arg(required(alloc, "config"))?
+        .arg(required(alloc, "interface"))?
+        .arg(required(alloc, "arrivals"))?
+        .arg(required(alloc, "departures"))?
+        .arg(required(alloc, "fates"))
+}
+
 // What clap reads of the words by this command.
 fn read<'a>(command: Command<'a>, words: &'a [String]) -> Result<ArgMatches<'a>, Unread>
     requires { is_simple_and_free (app_of command) ≡ true }
@@ -104,6 +116,14 @@ pub(crate) fn check_told<'a>(alloc: Global, words: &'a [String]) -> Result<ArgMa
     told(check_options(alloc)?, words)
 }
 
+/// What clap reads of the options of `verify`, with its own error.
+pub(crate) fn verify_told<'a>(alloc: Global, words: &'a [String]) -> Result<ArgMatches<'a>, Error>
+    ensures read { IfOk result (λ m. rows_of (found_of m) ≡ options_of verify_app words.now) }
+    ensures refused { IfErr result (λ e. kind_of e ≢ OutOfMemory → takes_options verify_app words.now ≡ false) }
+{
+    told(verify_options(alloc)?, words)
+}
+
 /// What clap reads of the options of `play`.
 pub(crate) fn play_matches<'a>(alloc: Global, words: &'a [String]) -> Result<ArgMatches<'a>, Unread>
     ensures taken { OnOk result (takes_options play_app words.now ≡ true) }
@@ -134,6 +154,18 @@ pub(crate) fn check_matches<'a>(
     read(check_options(alloc)?, words)
 }
 
+/// What clap reads of the options of `verify`.
+pub(crate) fn verify_matches<'a>(
+    alloc: Global,
+    words: &'a [String],
+) -> Result<ArgMatches<'a>, Unread>
+    ensures taken { OnOk result (takes_options verify_app words.now ≡ true) }
+    ensures read { IfOk result (λ m. rows_of (found_of m) ≡ options_of verify_app words.now) }
+    ensures refused { IfErr result (Explains (options_refusal verify_app words.now)) }
+{
+    read(verify_options(alloc)?, words)
+}
+
 /// The value of an option that was read, or no text.
 pub(crate) fn value<'a>(matches: &ArgMatches<'a>, name: &str) -> &'a str
     ensures { result.now ≡ value_of name.now (rows_of (found_of matches.now)) }
@@ -146,7 +178,7 @@ pub(crate) fn value<'a>(matches: &ArgMatches<'a>, name: &str) -> &'a str
 /// An error is a refusal of the options, or want of memory (`OutOfMemory`). Takes the words' length in time and memory.
 pub fn options_read<'a>(alloc: Global, words: &'a [String]) -> Option<Result<ArgMatches<'a>, Error>>
     ensures none { result ≡ None → refusal words.now ≡ Some 1 }
-    ensures some { IfSome result (λ _. IsPlay words.now ⊎ IsCheck words.now ⊎ IsMake words.now) }
+    ensures some { IfSome result (λ _. IsPlay words.now ⊎ IsCheck words.now ⊎ IsMake words.now ⊎ IsVerify words.now ⊎ IsShares words.now) }
     ensures read { IfSome result (λ told. IfOk told (λ m. rows_of (found_of m) ≡ rows_read words.now)) }
     ensures refused { IfSome result (λ told. IfErr told (λ e. kind_of e ≢ OutOfMemory → refusal words.now ≡ Some 2)) }
 {
@@ -158,6 +190,12 @@ pub fn options_read<'a>(alloc: Global, words: &'a [String]) -> Option<Result<Arg
     }
     if is(words, 0, "make") {
         return Some(make_told(alloc, words));
+    }
+    if is(words, 0, "verify") {
+        return Some(verify_told(alloc, words));
+    }
+    if is(words, 0, "shares") {
+        return Some(play_told(alloc, words));
     }
     None
 }

@@ -4,12 +4,12 @@ ghost use Rattle.std.specs.Str.{bytes_eq};
 ghost use Rattle.line_text.specs.Numbers.{number};
 ghost use Rattle.clap.specs.Words.{found_of, kind_of, rows_of};
 ghost use Rattle.play_words.specs.Causes.{Explains, cause_of};
-ghost use Rattle.play_words.specs.Words.{AreDistinct, IsPlay, IsCheck, IsMake, is_word, are_distinct_names, differ_from, play_refusal, check_refusal, make_refusal, refusal, rows_refusal, count_in};
-ghost use Rattle.play_words.specs.Read.{Reads, ReadsPlay, ReadsCheck, ReadsMake, ReadsRows};
+ghost use Rattle.play_words.specs.Words.{AreDistinct, IsCheck, IsMake, IsVerify, TakesPlayed, is_word, are_distinct_names, are_distinct_inputs, differ_from, inputs_refusal, play_refusal, check_refusal, verify_refusal, make_refusal, refusal, rows_read, rows_refusal, count_in};
+ghost use Rattle.play_words.specs.Read.{Reads, ReadsInputs, ReadsCheck, ReadsMake, ReadsRows, ReadsVerify};
 ghost use Rattle.play_words.specs.Kinds.{words_kind};
 ghost use Rattle.play_words.specs.declared.words.Unread.TheVariants.{NoMemory};
 
-use crate::options::{check_matches, make_matches, play_matches, value};
+use crate::options::{check_matches, make_matches, play_matches, value, verify_matches};
 use clap::ArgMatches;
 use clap::error::ErrorKind;
 use line_text::{Word, whole};
@@ -96,6 +96,16 @@ pub struct CheckWords<'a> {
     pub interface: &'a str,
 }
 
+/// The words of `verify`: the names of the files that are checked, and the interface that they are held to.
+#[derive(Clone, Copy)]
+pub struct VerifyWords<'a> {
+    pub config: &'a str,
+    pub interface: &'a str,
+    pub arrivals: &'a str,
+    pub departures: &'a str,
+    pub fates: &'a str,
+}
+
 /// The most packets that are made.
 const MOST: u64 = 1_000_000;
 
@@ -108,6 +118,10 @@ pub enum Command<'a> {
     Check(CheckWords<'a>),
     /// To generate a capture, and to play it.
     Make(MakeWords<'a>),
+    /// To check given files.
+    Verify(VerifyWords<'a>),
+    /// To play a capture, and to say how far the shares of sibling classes lay apart.
+    Shares(PlayWords<'a>),
 }
 
 // Whether a word is there and is this text, which isn't empty.
@@ -138,6 +152,16 @@ fn are_distinct(words: &PlayWords<'_>) -> bool
         && words.departures != words.fates
         && words.departures != words.stats
         && words.fates != words.stats
+}
+
+// Whether no two names of files that are checked are equal.
+fn are_distinct_inputs(words: &VerifyWords<'_>) -> bool
+    ensures { result ≡ are_distinct_inputs words.now.config.now words.now.arrivals.now words.now.departures.now words.now.fates.now }
+{
+    differs(words.config, words.arrivals, words.departures, words.fates)
+        && words.arrivals != words.departures
+        && words.arrivals != words.fates
+        && words.departures != words.fates
 }
 
 // The number that decimal digits write.
@@ -191,12 +215,12 @@ fn names_read<'a>(matches: &ArgMatches<'a>) -> Result<PlayWords<'a>, WordsFault>
     Ok(read)
 }
 
-// Reads the options of `play`.
+// Reads the options of `play`, which are those of `shares`.
 fn play_words<'a>(alloc: Global, words: &'a [String]) -> Result<PlayWords<'a>, Unread>
-    requires { IsPlay words.now }
+    requires { TakesPlayed words.now }
     ensures accepted { OnOk result (play_refusal words.now ≡ None) }
     ensures refused { IfErr result (Explains (play_refusal words.now)) }
-    ensures read { IfOk result (λ w. ReadsPlay words.now w) }
+    ensures read { IfOk result (λ w. ReadsRows (rows_read words.now) w) }
 {
     let matches = play_matches(alloc, words)?;
     match names_read(&matches) {
@@ -234,10 +258,44 @@ fn check_words<'a>(alloc: Global, words: &'a [String]) -> Result<CheckWords<'a>,
     Ok(CheckWords { config, interface })
 }
 
+// The names of options that were read.
+fn inputs_read<'a>(matches: &ArgMatches<'a>) -> Result<VerifyWords<'a>, WordsFault>
+    ensures accepted { OnOk result (inputs_refusal (rows_of (found_of matches.now)) ≡ None) }
+    ensures refused { IfErr result (λ fault. inputs_refusal (rows_of (found_of matches.now)) ≡ Some (words_kind fault)) }
+    ensures read { IfOk result (λ w. ReadsInputs (rows_of (found_of matches.now)) w) }
+{
+    let read = VerifyWords {
+        config: value(matches, "config"),
+        interface: value(matches, "interface"),
+        arrivals: value(matches, "arrivals"),
+        departures: value(matches, "departures"),
+        fates: value(matches, "fates"),
+    };
+    if !are_distinct_inputs(&read) {
+        return Err(WordsFault::NamesEqual);
+    }
+    Ok(read)
+}
+
+// Reads the options of `verify`.
+fn verify_words<'a>(alloc: Global, words: &'a [String]) -> Result<VerifyWords<'a>, Unread>
+    requires { IsVerify words.now }
+    ensures accepted { OnOk result (verify_refusal words.now ≡ None) }
+    ensures refused { IfErr result (Explains (verify_refusal words.now)) }
+    ensures read { IfOk result (λ w. ReadsVerify words.now w) }
+{
+    let matches = verify_matches(alloc, words)?;
+    match inputs_read(&matches) {
+        Ok(read) => Ok(read),
+        Err(fault) => Err(Unread::Refused(fault)),
+    }
+}
+
 /// Reads the words behind the program's name: `play --config C --interface I --arrivals A --departures D --fates T --stats Z
-/// --seed N`, `make --count K` with the same options, or `check --config C --interface I`. The options stand in any order, each once,
-/// as `--name VALUE` or `--name=VALUE`. The seed is one or more decimal digits, below 2^64, and the count such digits, 1 to
-/// 1,000,000. No two of the file names C, A, D, T and Z are equal as texts. A refusal is the first test that fails, in the order of
+/// --seed N`, `shares` with the same options, `make --count K` with the same options, `check --config C --interface I`, or `verify
+/// --config C --interface I --arrivals A --departures D --fates T`. The options stand in any order, each once, as `--name VALUE` or
+/// `--name=VALUE`. The seed is one or more decimal digits, below 2^64, and the count such digits, 1 to 1,000,000. No two of the file
+/// names C, A, D, T and Z are equal as texts. A refusal is the first test that fails, in the order of
 /// `WordsFault`.
 pub fn read_words<'a>(alloc: Global, words: &'a [String]) -> Result<Command<'a>, Unread>
     ensures accepted { OnOk result (refusal words.now ≡ None) }
@@ -259,6 +317,18 @@ pub fn read_words<'a>(alloc: Global, words: &'a [String]) -> Result<Command<'a>,
     if is(words, 0, "make") {
         return match make_words(alloc, words) {
             Ok(read) => Ok(Command::Make(read)),
+            Err(cause) => Err(cause),
+        };
+    }
+    if is(words, 0, "verify") {
+        return match verify_words(alloc, words) {
+            Ok(read) => Ok(Command::Verify(read)),
+            Err(cause) => Err(cause),
+        };
+    }
+    if is(words, 0, "shares") {
+        return match play_words(alloc, words) {
+            Ok(read) => Ok(Command::Shares(read)),
             Err(cause) => Err(cause),
         };
     }

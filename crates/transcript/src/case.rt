@@ -2,6 +2,7 @@
 
 use crate::arrivals::Arrivals;
 use crate::calls::{amount, first, flow_of};
+use crate::changes::change;
 use crate::packet::number;
 use crate::quoted::{lines, quoted, records};
 use play_base::{Call, MemoryFiles, NoMemory};
@@ -10,18 +11,16 @@ use std::alloc::Global;
 
 const CONFIGURATION: [&str; 4] = ["--config", "conf", "--interface", "if0"];
 
-const OTHERS: [&str; 10] = [
+const GIVEN: [&str; 6] = [
     "--arrivals",
     "in",
     "--departures",
     "out",
     "--fates",
     "fates",
-    "--stats",
-    "stats",
-    "--seed",
-    "42",
 ];
+
+const OTHERS: [&str; 4] = ["--stats", "stats", "--seed", "42"];
 
 /// What was said since the case began, and the files of its runs.
 #[derive(Drop)]
@@ -37,10 +36,7 @@ fn whole_words(alloc: Global, command: &[&str]) -> Result<Vec<String>, NoMemory>
     let mut words = Vec::new(alloc);
     for word in command {
         if *word == ".." {
-            push_words(alloc, &mut words, &CONFIGURATION)?;
-            if command.first() != Some(&"check") {
-                push_words(alloc, &mut words, &OTHERS)?;
-            }
+            push_usual(alloc, &mut words, command)?;
         } else {
             words.push(String::from_str(alloc, word)?)?;
         }
@@ -48,11 +44,29 @@ fn whole_words(alloc: Global, command: &[&str]) -> Result<Vec<String>, NoMemory>
     Ok(words)
 }
 
+// The usual options of a command.
+fn push_usual(alloc: Global, words: &mut Vec<String>, command: &[&str]) -> Result<(), NoMemory> {
+    push_words(alloc, words, &CONFIGURATION)?;
+    match command {
+        ["check", ..] => Ok(()),
+        ["verify", ..] => push_words(alloc, words, &GIVEN),
+        _ => {
+            push_words(alloc, words, &GIVEN)?;
+            push_words(alloc, words, &OTHERS)
+        }
+    }
+}
+
 fn push_words(alloc: Global, words: &mut Vec<String>, more: &[&str]) -> Result<(), NoMemory> {
     for word in more {
         words.push(String::from_str(alloc, word)?)?;
     }
     Ok(())
+}
+
+// Whether a word names a file of a run.
+fn is_file(word: &str) -> bool {
+    matches!(word, "conf" | "in" | "out" | "fates" | "stats")
 }
 
 // The kind of call that a word names.
@@ -104,8 +118,18 @@ impl Case {
                 self.files = MemoryFiles::new(alloc);
                 told(alloc, true)
             }
+            [how, name, words @ ..] if is_file(name) => self.change(how, name, words),
             words => told(alloc, self.arrivals.follow(words)?),
         }
+    }
+
+    // Changes the bytes of a file.
+    fn change(&mut self, how: &str, name: &str, words: &[&str]) -> Result<String, NoMemory> {
+        let mut bytes = Vec::new(self.alloc);
+        bytes.extend_from_slice(self.files.get(name).unwrap_or_default())?;
+        let understood = change(self.alloc, &mut bytes, how, words)?;
+        self.files.put(name, &bytes)?;
+        told(self.alloc, understood)
     }
 
     // Answers what is asked behind `$`.

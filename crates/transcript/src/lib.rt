@@ -7,6 +7,7 @@
 mod arrivals;
 mod calls;
 mod case;
+mod changes;
 mod packet;
 mod quoted;
 

@@ -65,7 +65,7 @@ returns-in-Err-play_found-clause-ends g c =
     let x = c.in-Ok-write_arrivals.ensures in
     let y = c.in-Err-play_found.ensures in
     let P : Failure → Type 0 = λ f. MakeEnds (g.F.Files.view c.args.files.now) (g.F.Files.view c.play_found.new.files) n c.args.words.now.play.seed c.args.words.now.count (Err f) in
-    subst P (sym c.play_failure.ensures)
+    subst P (sym c.failure-in-Err-play_found.ensures)
     (failed_ends _ _ _ n c.args.words.now.play.seed c.args.words.now.count c.in-Some.found.now c.in-Err-play_found.fault
     (written_of _ _ _ n c.args.words.now.play.seed c.args.words.now.count c.in-Some.found.now
     (begun_of _ _ _ n (record { keeps = c.in-Ok.ensures.keeps; only = c.in-Ok.ensures.only }) c.requires.distinct x.keeps (record { part = x.new; one = x.one; named = x.named })) c.requires.distinct

@@ -3,7 +3,7 @@ use Rattle.std.proofs.Common.{ap}
 use Rattle.altq_model.specs.History.{DrawnWords}
 use Rattle.command_base.proofs.ReadingLemmas.{fits}
 use Rattle.play_command.proofs.Laws.{have_laws}
-use Rattle.play_command.proofs.SetupLemmas.{explains_of, fronts_built, held_of, named_of, plays_of, stats_of}
+use Rattle.play_command.proofs.SetupLemmas.{explains_of, fronts_built, held_of, named_of, plays_of, stats_of, stood_of}
 use Rattle.play_loop.proofs.PlayLemmas.{stopped_empty}
 use Rattle.play_command.proofs.interface.play_by.Goals as goal
 
@@ -37,6 +37,17 @@ play-played-requires-clause-named g c =
 pub returns-in-Ok-played-clause-done : goal.returns-in-Ok-played-clause-done
 returns-in-Ok-played-clause-done g c =
     plays_of c.args.interface.now _ _ _ _ c.new-words.result.seed c.args.seed (record {
+      policy = c.requires.policy;
+      placed = c.in-Ok.ensures.placed;
+      dressed = c.in-Ok.ensures.dressed;
+      named = c.in-Ok-names_of.ensures;
+      seed_is = ap (λ (w : DrawnWords). w.seed) c.new-words.ensures;
+    })
+    _ (g.F.Files.view c.args.files.now) (g.F.Files.view c.play-played.new.files) c.args.opened.now c.in-Ok-played.totals c.in-Ok-played.ensures.done
+
+pub returns-in-Ok-played-clause-stood : goal.returns-in-Ok-played-clause-stood
+returns-in-Ok-played-clause-stood g c =
+    stood_of c.args.interface.now _ _ _ _ c.new-words.result.seed c.args.seed (record {
       policy = c.requires.policy;
       placed = c.in-Ok.ensures.placed;
       dressed = c.in-Ok.ensures.dressed;

@@ -49,6 +49,6 @@ returns-clause-ends g c =
     let n = names_read c.args.words.now in
     let x = c.in-Err-play_found.ensures in
     let P : Failure → Type 0 = λ f. PlayEnds (g.F.Files.view c.args.files.now) (g.F.Files.view c.play_found.new.files) n c.args.words.now.seed (Err f) in
-    subst P (sym c.play_failure.ensures)
+    subst P (sym c.failure-in-Err-play_found.ensures)
     (fault_behind (g.F.Files.view c.args.files.now) (g.F.Files.view c.read_conf.new.files) (g.F.Files.view c.play_found.new.files) n c.args.words.now.seed c.in-Err-play_found.fault
     (reading_of _ _ _ n _ c.in-Ok.ensures.keeps c.in-Ok.ensures.only c.in-Ok.ensures.said c.requires x.ends x.high) x.ends)

@@ -9,14 +9,14 @@ use Rattle.play_loop.proofs.StatsLemmas.{explains_stats, fronts_whole, keeps_pla
 use Rattle.play_loop.proofs.playing.play.Goals as goal
 
 pub returns-in_default-clause-front : goal.returns-in_default-clause-front
-returns-in_default-clause-front g c = λ t bytes l records last r s. stopped_empty _ _ _ records c.requires.ready
+returns-in_default-clause-front g c = λ t rest l records last r s. stopped_empty _ _ c.args.opened.now records c.requires.ready
 
 pub returns-in-Err-clause-stats : goal.returns-in-Err-clause-stats
 returns-in-Err-clause-stats g c = leaves_none (setup_of (g.D.Discipline.policy c.args.discipline.now) (g.C.Classify.placed c.args.classify.now) (g.C.Classify.dressed c.args.classify.now) c.args.names.now c.args.rate c.args.words.now.seed) (g.F.Files.view c.args.files.now)
     (g.F.Files.view c.play_capture.new.files) c.args.opened.now c.in-Err.fault (no_stats (g.F.Files.view c.args.files.now) (g.F.Files.view c.play_capture.new.files) c.args.opened.now c.requires.ready c.in-Err.ensures.keeps)
 
 pub returns-in-Err-clause-keeps : goal.returns-in-Err-clause-keeps
-returns-in-Err-clause-keeps g c = keeps_played _ _ _ c.in-Err.ensures.keeps
+returns-in-Err-clause-keeps g c = keeps_played (g.F.Files.view c.args.files.now) (g.F.Files.view c.play_capture.new.files) c.args.opened.now c.in-Err.ensures.keeps
 
 pub returns-in-Ok-write_stats-clause-done : goal.returns-in-Ok-write_stats-clause-done
 returns-in-Ok-write_stats-clause-done g c =
@@ -25,14 +25,18 @@ returns-in-Ok-write_stats-clause-done g c =
     c.requires.ready c.in-Ok-play_capture.ensures.keeps c.in-Ok-play_capture.ensures.done (subst P c.as_slice.ensures.value c.in-Ok-write_stats.ensures.wrote)
 
 pub returns-in-Ok-write_stats-clause-keeps : goal.returns-in-Ok-write_stats-clause-keeps
-returns-in-Ok-write_stats-clause-keeps g c = keeps_written _ _ _ _ _ c.requires.ready c.in-Ok-play_capture.ensures.keeps c.in-Ok-write_stats.ensures.wrote
+returns-in-Ok-write_stats-clause-keeps g c = keeps_written (g.F.Files.view c.args.files.now) (g.F.Files.view c.play_capture.new.files) (g.F.Files.view c.write_stats.new.files) c.args.opened.now _ c.requires.ready c.in-Ok-play_capture.ensures.keeps c.in-Ok-write_stats.ensures.wrote
 
 pub returns-clause-why : goal.returns-clause-why
-returns-clause-why g c = explains_stats _ _ _ _ _ _ c.in-Err-write_stats.fault c.in-Ok-play_capture.ensures.keeps c.in-Err-write_stats.ensures.why
+returns-clause-why g c = explains_stats
+    (setup_of (g.D.Discipline.policy c.args.discipline.now) (g.C.Classify.placed c.args.classify.now) (g.C.Classify.dressed c.args.classify.now) c.args.names.now c.args.rate c.args.words.now.seed)
+    _ (g.F.Files.view c.args.files.now) (g.F.Files.view c.play_capture.new.files) (g.F.Files.view c.write_stats.new.files) c.args.opened.now c.in-Err-write_stats.fault c.in-Ok-play_capture.ensures.keeps c.in-Err-write_stats.ensures.why
 
 pub returns-clause-front : goal.returns-clause-front
 returns-clause-front g c =
-    fronts_whole _ _ _ _ _ _ c.in-Ok-play_capture.tally _ c.requires.ready c.in-Ok-play_capture.ensures.keeps c.in-Ok-play_capture.ensures.done c.in-Err-write_stats.ensures.front
+    fronts_whole
+    (setup_of (g.D.Discipline.policy c.args.discipline.now) (g.C.Classify.placed c.args.classify.now) (g.C.Classify.dressed c.args.classify.now) c.args.names.now c.args.rate c.args.words.now.seed)
+    _ (g.F.Files.view c.args.files.now) (g.F.Files.view c.play_capture.new.files) (g.F.Files.view c.write_stats.new.files) c.args.opened.now c.in-Ok-play_capture.tally _ c.requires.ready c.in-Ok-play_capture.ensures.keeps c.in-Ok-play_capture.ensures.done c.in-Err-write_stats.ensures.front
 
 pub returns-clause-stats : goal.returns-clause-stats
 returns-clause-stats g c =
@@ -42,4 +46,4 @@ returns-clause-stats g c =
     (subst P c.as_slice.ensures.value c.in-Err-write_stats.ensures.front) c.in-Err-write_stats.ensures.why
 
 pub returns-clause-keeps : goal.returns-clause-keeps
-returns-clause-keeps g c = keeps_written _ _ _ _ _ c.requires.ready c.in-Ok-play_capture.ensures.keeps c.in-Err-write_stats.ensures.front.1
+returns-clause-keeps g c = keeps_written (g.F.Files.view c.args.files.now) (g.F.Files.view c.play_capture.new.files) (g.F.Files.view c.write_stats.new.files) c.args.opened.now _ c.requires.ready c.in-Ok-play_capture.ensures.keeps c.in-Err-write_stats.ensures.front.1

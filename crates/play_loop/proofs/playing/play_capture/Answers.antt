@@ -43,7 +43,7 @@ use Rattle.play_loop.proofs.WeightLemmas.{departures_read}
 use Rattle.play_loop.proofs.playing.play_capture.Goals as goal
 
 pub returns-in-Err-clause-front : goal.returns-in-Err-clause-front
-returns-in-Err-clause-front g c = λ t bytes l records last r s. stopped_heads _ _ c.args.opened.now records (c.in-Err.ensures.stopped c.requires.ready.empty)
+returns-in-Err-clause-front g c = λ t rest l records last r s. stopped_heads _ _ c.args.opened.now records (c.in-Err.ensures.stopped c.requires.ready.empty)
 
 pub returns-in-Err-start-clause-why : goal.returns-in-Err-start-clause-why
 returns-in-Err-start-clause-why g c =
@@ -52,10 +52,10 @@ returns-in-Err-start-clause-why g c =
     let P : PlayFault → Type 0 = λ f. Explains x (g.D.Discipline.stands c.args.discipline.now) (g.F.Files.view c.args.files.now) (g.F.Files.view c.start.new.files) c.args.opened.now f in
     subst P (sym c.capture_fault.ensures)
     (explains_capture x (g.D.Discipline.stands c.args.discipline.now) (g.F.Files.view c.args.files.now) (g.F.Files.view c.start.new.files) c.args.opened.now c.in-Err-start.fault
-    (λ t bytes l. (
+    (λ t rest l. (
       [],
-      head_fault c.in-Err-start.fault (g.F.Files.view c.start.new.files) c.args.opened.now.arrivals bytes (c.in-Err-start.ensures.damaged bytes (left_kept (g.F.Files.view c.args.files.now) (g.F.Files.view c.write_heads.new.files) c.args.opened.now.arrivals c.args.opened.now.departures c.args.opened.now.fates c.requires.ready.arrivals c.requires.ready.from_departures c.requires.ready.from_fates t c.in-Ok.ensures.others ∙ l))
-          (λ q. c.in-Err-start.ensures.cut (ap {B = Result Reader CaptureFault} (λ (f : CaptureFault). Err f) q) bytes (left_kept (g.F.Files.view c.args.files.now) (g.F.Files.view c.write_heads.new.files) c.args.opened.now.arrivals c.args.opened.now.departures c.args.opened.now.fates c.requires.ready.arrivals c.requires.ready.from_departures c.requires.ready.from_fates t c.in-Ok.ensures.others ∙ l)),
+      head_fault c.in-Err-start.fault (g.F.Files.view c.start.new.files) c.args.opened.now.arrivals (c.args.opened.now.first.now ++ rest) (c.in-Err-start.ensures.damaged rest (left_kept (g.F.Files.view c.args.files.now) (g.F.Files.view c.write_heads.new.files) c.args.opened.now.arrivals c.args.opened.now.departures c.args.opened.now.fates c.requires.ready.arrivals c.requires.ready.from_departures c.requires.ready.from_fates t c.in-Ok.ensures.others ∙ l))
+          (λ q. c.in-Err-start.ensures.cut (ap {B = Result Reader CaptureFault} (λ (f : CaptureFault). Err f) q) rest (left_kept (g.F.Files.view c.args.files.now) (g.F.Files.view c.write_heads.new.files) c.args.opened.now.arrivals c.args.opened.now.departures c.args.opened.now.fates c.requires.ready.arrivals c.requires.ready.from_departures c.requires.ready.from_fates t c.in-Ok.ensures.others ∙ l)),
       offered_all x (g.D.Discipline.stands c.args.discipline.now) (g.F.Files.view c.start.new.files) c.args.opened.now [] [] [] refl (record { events = tt; in_time = tt }) refl tt
           (head_records (g.C.Classify.dressed c.args.classify.now) (g.F.Files.view c.start.new.files) c.args.opened.now.departures c.args.opened.now.fates heads) (head_rows (name_of c.args.names.now) (g.F.Files.view c.start.new.files) c.args.opened.now.departures c.args.opened.now.fates heads) ([], c.requires.new, refl),
     ))
@@ -63,12 +63,15 @@ returns-in-Err-start-clause-why g c =
     (inl (c.in-Err-start.ensures.read (ap {B = Result Reader CaptureFault} (λ (f : CaptureFault). Err f) q)))))
 
 pub returns-in-Err-start-clause-front : goal.returns-in-Err-start-clause-front
-returns-in-Err-start-clause-front g c = λ t bytes l records last r s.
+returns-in-Err-start-clause-front g c = λ t rest l records last r s.
     let heads = texts_kept _ (g.F.Files.view c.write_heads.new.files) (g.F.Files.view c.start.new.files) c.args.opened.now.departures c.args.opened.now.fates _ _ _ _ (c.in-Ok.ensures.wrote c.requires.ready.empty) c.start.ensures.some.1.keeps in
     stopped_heads _ _ c.args.opened.now records (fronts_of_texts _ _ _ _ _ _ _ heads)
 
+pub returns-in-Err-start-clause-keeps : goal.returns-in-Err-start-clause-keeps
+returns-in-Err-start-clause-keeps g c = (then_took (g.F.Files.view c.args.files.now) (g.F.Files.view c.write_heads.new.files) (g.F.Files.view c.start.new.files) c.args.opened.now.arrivals c.args.opened.now.departures c.args.opened.now.fates c.args.opened.now.arrivals c.requires.ready.empty.departures.there c.requires.ready.empty.fates.there refl (first_wrote (g.F.Files.view c.args.files.now) (g.F.Files.view c.write_heads.new.files) c.args.opened.now.arrivals c.args.opened.now.departures c.args.opened.now.fates c.in-Ok.ensures.others) c.start.ensures.some).keeps
+
 pub returns-in_default-clause-front : goal.returns-in_default-clause-front
-returns-in_default-clause-front g c = λ t bytes l records last r s.
+returns-in_default-clause-front g c = λ t rest l records last r s.
     let heads = texts_kept _ (g.F.Files.view c.write_heads.new.files) (g.F.Files.view c.start.new.files) c.args.opened.now.departures c.args.opened.now.fates _ _ _ _ (c.in-Ok.ensures.wrote c.requires.ready.empty) c.start.ensures.some.1.keeps in
     stopped_heads _ _ c.args.opened.now records (fronts_of_texts _ _ _ _ _ _ _ heads)
 
@@ -116,15 +119,15 @@ returns-in-Err-play_records-clause-front g c =
       lawful = g.met.D.Discipline.lawful c.args.discipline.now [] c.requires.new;
       steady = g.met.D.Discipline.steady c.args.discipline.now [] c.requires.new;
     } in
-    let told : (bytes : List ℕ) → IsTrue (g.F.Files.view c.args.files.now).tells → (g.F.Files.view c.args.files.now).left c.args.opened.now.arrivals ≡ Some bytes → IsTrue (g.F.Files.view c.start.new.files).tells × StandsFor (g.F.Files.view c.start.new.files) c.in-Ok-start.reader bytes [] =
-    λ bytes t l. (
+    let told : (rest : List ℕ) → IsTrue (g.F.Files.view c.args.files.now).tells → (g.F.Files.view c.args.files.now).left c.args.opened.now.arrivals ≡ Some rest → IsTrue (g.F.Files.view c.start.new.files).tells × StandsFor (g.F.Files.view c.start.new.files) c.in-Ok-start.reader (c.args.opened.now.first.now ++ rest) [] =
+    λ rest t l. (
       c.start.ensures.some.1.keeps.tells ∙ c.in-Ok.ensures.others.keeps.tells ∙ t,
-      c.in-Ok-start.ensures.stands bytes (left_kept (g.F.Files.view c.args.files.now) (g.F.Files.view c.write_heads.new.files) c.args.opened.now.arrivals c.args.opened.now.departures c.args.opened.now.fates c.requires.ready.arrivals c.requires.ready.from_departures c.requires.ready.from_fates t c.in-Ok.ensures.others ∙ l),
+      c.in-Ok-start.ensures.stands rest (left_kept (g.F.Files.view c.args.files.now) (g.F.Files.view c.write_heads.new.files) c.args.opened.now.arrivals c.args.opened.now.departures c.args.opened.now.fates c.requires.ready.arrivals c.requires.ready.from_departures c.requires.ready.from_fates t c.in-Ok.ensures.others ∙ l),
     ) in
     let b = c.in-Err-play_records.ensures.broken in
     let begun = same_play (λ (p : Policy) (k q : ℕ). IsBegun p k q (comings b.0) b.1) _ _ _ _ _ _ refl c.in-Ok-begin.ensures.rate refl b.2.begun in
     let first = same_play (λ (p : Policy) (k q : ℕ). AreFirst (g.C.Classify.placed c.args.classify.now) p k q (λ bytes. IsTrue (g.F.Files.view c.start.new.files).tells × StandsFor (g.F.Files.view c.start.new.files) c.in-Ok-start.reader bytes []) b.0 b.1) (g.D.Discipline.policy c.args.discipline.now) (g.D.Discipline.policy c.args.discipline.now) c.in-Ok-begin.progress.clock.rate c.args.rate c.args.words.now.seed c.args.words.now.seed refl c.in-Ok-begin.ensures.rate refl b.3 in
-    λ t bytes l records last r s. (let f = first bytes (told bytes t l) records last r s in
+    λ t rest l records last r s. (let f = first (c.args.opened.now.first.now ++ rest) (told rest t l) records last r s in
     stopped x (g.F.Files.view c.play_records.new.files) c.args.opened.now records b.0 f.0 b.1 m f.1 f.2 begun b.2.fronts)
 
 pub returns-in-Err-play_records-clause-keeps : goal.returns-in-Err-play_records-clause-keeps
@@ -147,16 +150,16 @@ returns-in-Err-finish-clause-front g c =
       lawful = g.met.D.Discipline.lawful c.args.discipline.now [] c.requires.new;
       steady = g.met.D.Discipline.steady c.args.discipline.now [] c.requires.new;
     } in
-    let told : (bytes : List ℕ) → IsTrue (g.F.Files.view c.args.files.now).tells → (g.F.Files.view c.args.files.now).left c.args.opened.now.arrivals ≡ Some bytes → IsTrue (g.F.Files.view c.start.new.files).tells × StandsFor (g.F.Files.view c.start.new.files) c.in-Ok-start.reader bytes [] =
-    λ bytes t l. (
+    let told : (rest : List ℕ) → IsTrue (g.F.Files.view c.args.files.now).tells → (g.F.Files.view c.args.files.now).left c.args.opened.now.arrivals ≡ Some rest → IsTrue (g.F.Files.view c.start.new.files).tells × StandsFor (g.F.Files.view c.start.new.files) c.in-Ok-start.reader (c.args.opened.now.first.now ++ rest) [] =
+    λ rest t l. (
       c.start.ensures.some.1.keeps.tells ∙ c.in-Ok.ensures.others.keeps.tells ∙ t,
-      c.in-Ok-start.ensures.stands bytes (left_kept (g.F.Files.view c.args.files.now) (g.F.Files.view c.write_heads.new.files) c.args.opened.now.arrivals c.args.opened.now.departures c.args.opened.now.fates c.requires.ready.arrivals c.requires.ready.from_departures c.requires.ready.from_fates t c.in-Ok.ensures.others ∙ l),
+      c.in-Ok-start.ensures.stands rest (left_kept (g.F.Files.view c.args.files.now) (g.F.Files.view c.write_heads.new.files) c.args.opened.now.arrivals c.args.opened.now.departures c.args.opened.now.fates c.requires.ready.arrivals c.requires.ready.from_departures c.requires.ready.from_fates t c.in-Ok.ensures.others ∙ l),
     ) in
     let e = c.in-Ok-play_records.ensures.ended in
     let begun = same_play (λ (p : Policy) (k q : ℕ). IsBegun p k q (comings e.0) e.1) _ _ _ _ _ _ c.in-Ok-play_records.ensures.policy (c.in-Ok-play_records.ensures.rate ∙ c.in-Ok-begin.ensures.rate) c.in-Ok-play_records.ensures.seed e.2.going.begun in
     let first = same_play (λ (p : Policy) (k q : ℕ). AreFirst (g.C.Classify.placed c.args.classify.now) p k q (λ bytes. IsTrue (g.F.Files.view c.start.new.files).tells × StandsFor (g.F.Files.view c.start.new.files) c.in-Ok-start.reader bytes []) e.0 e.1) (g.D.Discipline.policy c.args.discipline.now) (g.D.Discipline.policy c.args.discipline.now) c.in-Ok-begin.progress.clock.rate c.args.rate c.args.words.now.seed c.args.words.now.seed refl c.in-Ok-begin.ensures.rate refl e.4 in
     let fronts = fronts_files (g.F.Files.view c.finish.new.files) c.play_records.new.outputs.departures c.play_records.new.outputs.fates c.args.opened.now.departures c.args.opened.now.fates _ _ c.in-Ok-play_records.ensures.same.departures c.in-Ok-play_records.ensures.same.fates (c.in-Err-finish.ensures.stopped _ _ e.2.given) in
-    λ t bytes l records last r s. (let f = first bytes (told bytes t l) records last r s in
+    λ t rest l records last r s. (let f = first (c.args.opened.now.first.now ++ rest) (told rest t l) records last r s in
     stopped x (g.F.Files.view c.finish.new.files) c.args.opened.now records e.0 f.0 e.1 m f.1 f.2 begun fronts)
 
 pub returns-in-Err-finish-clause-keeps : goal.returns-in-Err-finish-clause-keeps
@@ -173,10 +176,10 @@ returns-in-Whole-clause-done g c =
       lawful = g.met.D.Discipline.lawful c.args.discipline.now [] c.requires.new;
       steady = g.met.D.Discipline.steady c.args.discipline.now [] c.requires.new;
     } in
-    let told : (bytes : List ℕ) → IsTrue (g.F.Files.view c.args.files.now).tells → (g.F.Files.view c.args.files.now).left c.args.opened.now.arrivals ≡ Some bytes → IsTrue (g.F.Files.view c.start.new.files).tells × StandsFor (g.F.Files.view c.start.new.files) c.in-Ok-start.reader bytes [] =
-    λ bytes t l. (
+    let told : (rest : List ℕ) → IsTrue (g.F.Files.view c.args.files.now).tells → (g.F.Files.view c.args.files.now).left c.args.opened.now.arrivals ≡ Some rest → IsTrue (g.F.Files.view c.start.new.files).tells × StandsFor (g.F.Files.view c.start.new.files) c.in-Ok-start.reader (c.args.opened.now.first.now ++ rest) [] =
+    λ rest t l. (
       c.start.ensures.some.1.keeps.tells ∙ c.in-Ok.ensures.others.keeps.tells ∙ t,
-      c.in-Ok-start.ensures.stands bytes (left_kept (g.F.Files.view c.args.files.now) (g.F.Files.view c.write_heads.new.files) c.args.opened.now.arrivals c.args.opened.now.departures c.args.opened.now.fates c.requires.ready.arrivals c.requires.ready.from_departures c.requires.ready.from_fates t c.in-Ok.ensures.others ∙ l),
+      c.in-Ok-start.ensures.stands rest (left_kept (g.F.Files.view c.args.files.now) (g.F.Files.view c.write_heads.new.files) c.args.opened.now.arrivals c.args.opened.now.departures c.args.opened.now.fates c.requires.ready.arrivals c.requires.ready.from_departures c.requires.ready.from_fates t c.in-Ok.ensures.others ∙ l),
     ) in
     let e = c.in-Ok-play_records.ensures.ended in
     let Q : Ending → Type 0 = λ k. EndsAs k (g.C.Classify.placed c.args.classify.now) (g.D.Discipline.policy c.args.discipline.now) c.in-Ok-begin.progress.clock.rate c.args.words.now.seed (λ bytes. IsTrue (g.F.Files.view c.start.new.files).tells × StandsFor (g.F.Files.view c.start.new.files) c.in-Ok-start.reader bytes []) (g.F.Files.view c.play_records.new.files) c.play_records.new.reader e.0 e.1 in
@@ -191,8 +194,8 @@ returns-in-Whole-clause-done g c =
     } in
     let nothing = same_play (λ (p : Policy) (k q : ℕ). due p k q (comings e.0) e.1 ≡ None) (g.D.Discipline.policy c.args.discipline.now) (g.D.Discipline.policy c.play_records.new.discipline) c.in-Ok-begin.progress.clock.rate c.play_records.new.progress.clock.rate c.args.words.now.seed c.play_records.new.words.seed (sym c.in-Ok-play_records.ensures.policy) (sym c.in-Ok-play_records.ensures.rate) (sym c.in-Ok-play_records.ensures.seed) d.done in
     let laws = going_laws (g.D.Discipline.policy c.play_records.new.discipline) _ _ _ _ e.0 c.play_records.new.words c.play_records.new.progress e.1 n e.2.going in
-    λ t bytes l. (
-    let all = d.all bytes (told bytes t l) in
+    λ t rest l. (
+    let all = d.all (c.args.opened.now.first.now ++ rest) (told rest t l) in
     let H : List Arrival → Type 0 = λ a. AreHeld (g.D.Discipline.policy c.args.discipline.now) (comings a) in
     let K : Policy → Type 0 = λ p. AreHeld p (comings e.0) in
     let held = subst K (sym c.in-Ok-play_records.ensures.policy) (subst H (sym all.arrivals) (arrivals_held (g.D.Discipline.policy c.args.discipline.now) (g.C.Classify.placed c.args.classify.now) all.records c.requires.held)) in
@@ -241,10 +244,10 @@ returns-in-Whole-clause-none g c = (then_wrote (g.F.Files.view c.args.files.now)
 pub returns-in-Cut-clause-why : goal.returns-in-Cut-clause-why
 returns-in-Cut-clause-why g c =
     let x : Setup = setup_of (g.D.Discipline.policy c.args.discipline.now) (g.C.Classify.placed c.args.classify.now) (g.C.Classify.dressed c.args.classify.now) c.args.names.now c.args.rate c.args.words.now.seed in
-    let told : (bytes : List ℕ) → IsTrue (g.F.Files.view c.args.files.now).tells → (g.F.Files.view c.args.files.now).left c.args.opened.now.arrivals ≡ Some bytes → IsTrue (g.F.Files.view c.start.new.files).tells × StandsFor (g.F.Files.view c.start.new.files) c.in-Ok-start.reader bytes [] =
-    λ bytes t l. (
+    let told : (rest : List ℕ) → IsTrue (g.F.Files.view c.args.files.now).tells → (g.F.Files.view c.args.files.now).left c.args.opened.now.arrivals ≡ Some rest → IsTrue (g.F.Files.view c.start.new.files).tells × StandsFor (g.F.Files.view c.start.new.files) c.in-Ok-start.reader (c.args.opened.now.first.now ++ rest) [] =
+    λ rest t l. (
       c.start.ensures.some.1.keeps.tells ∙ c.in-Ok.ensures.others.keeps.tells ∙ t,
-      c.in-Ok-start.ensures.stands bytes (left_kept (g.F.Files.view c.args.files.now) (g.F.Files.view c.write_heads.new.files) c.args.opened.now.arrivals c.args.opened.now.departures c.args.opened.now.fates c.requires.ready.arrivals c.requires.ready.from_departures c.requires.ready.from_fates t c.in-Ok.ensures.others ∙ l),
+      c.in-Ok-start.ensures.stands rest (left_kept (g.F.Files.view c.args.files.now) (g.F.Files.view c.write_heads.new.files) c.args.opened.now.arrivals c.args.opened.now.departures c.args.opened.now.fates c.requires.ready.arrivals c.requires.ready.from_departures c.requires.ready.from_fates t c.in-Ok.ensures.others ∙ l),
     ) in
     let e = c.in-Ok-play_records.ensures.ended in
     let begun = same_play (λ (p : Policy) (k q : ℕ). IsBegun p k q (comings e.0) e.1) _ _ _ _ _ _ c.in-Ok-play_records.ensures.policy (c.in-Ok-play_records.ensures.rate ∙ c.in-Ok-begin.ensures.rate) c.in-Ok-play_records.ensures.seed e.2.going.begun in
@@ -260,9 +263,9 @@ returns-in-Cut-clause-why g c =
     let P : PlayFault → Type 0 = λ f. Explains x (g.D.Discipline.stands c.play_records.new.discipline) (g.F.Files.view c.args.files.now) (g.F.Files.view c.finish.new.files) c.args.opened.now f in
     subst P (sym c.capture_fault-in-Cut.ensures)
     (explains_capture x (g.D.Discipline.stands c.play_records.new.discipline) (g.F.Files.view c.args.files.now) (g.F.Files.view c.finish.new.files) c.args.opened.now c.in-Cut.fault
-    (λ t bytes l. (let f = d.faulty bytes (told bytes t l) in (
+    (λ t rest l. (let f = d.faulty (c.args.opened.now.first.now ++ rest) (told rest t l) in (
       f.records,
-      cut_later c.in-Cut.fault (g.F.Files.view c.play_records.new.files) (g.F.Files.view c.finish.new.files) c.play_records.new.reader.file c.args.opened.now.arrivals bytes f.records
+      cut_later c.in-Cut.fault (g.F.Files.view c.play_records.new.files) (g.F.Files.view c.finish.new.files) c.play_records.new.reader.file c.args.opened.now.arrivals (c.args.opened.now.first.now ++ rest) f.records
           (left_kept (g.F.Files.view c.play_records.new.files) (g.F.Files.view c.finish.new.files) c.args.opened.now.arrivals c.play_records.new.outputs.departures c.play_records.new.outputs.fates (still_there _ _ _ _ _ k.keeps c.requires.ready.arrivals) from_departures from_fates (k.keeps.tells ∙ t) c.in-Ok-finish.ensures.others) file f.reads,
       offered_all x (g.D.Discipline.stands c.play_records.new.discipline) (g.F.Files.view c.finish.new.files) c.args.opened.now f.records e.0 e.1 f.arrivals begun d.offers d.last y z (e.2.going.told, e.2.going.stands, e.2.going.same),
     )))
@@ -278,10 +281,10 @@ returns-in-Cut-clause-front g c =
       lawful = g.met.D.Discipline.lawful c.args.discipline.now [] c.requires.new;
       steady = g.met.D.Discipline.steady c.args.discipline.now [] c.requires.new;
     } in
-    let told : (bytes : List ℕ) → IsTrue (g.F.Files.view c.args.files.now).tells → (g.F.Files.view c.args.files.now).left c.args.opened.now.arrivals ≡ Some bytes → IsTrue (g.F.Files.view c.start.new.files).tells × StandsFor (g.F.Files.view c.start.new.files) c.in-Ok-start.reader bytes [] =
-    λ bytes t l. (
+    let told : (rest : List ℕ) → IsTrue (g.F.Files.view c.args.files.now).tells → (g.F.Files.view c.args.files.now).left c.args.opened.now.arrivals ≡ Some rest → IsTrue (g.F.Files.view c.start.new.files).tells × StandsFor (g.F.Files.view c.start.new.files) c.in-Ok-start.reader (c.args.opened.now.first.now ++ rest) [] =
+    λ rest t l. (
       c.start.ensures.some.1.keeps.tells ∙ c.in-Ok.ensures.others.keeps.tells ∙ t,
-      c.in-Ok-start.ensures.stands bytes (left_kept (g.F.Files.view c.args.files.now) (g.F.Files.view c.write_heads.new.files) c.args.opened.now.arrivals c.args.opened.now.departures c.args.opened.now.fates c.requires.ready.arrivals c.requires.ready.from_departures c.requires.ready.from_fates t c.in-Ok.ensures.others ∙ l),
+      c.in-Ok-start.ensures.stands rest (left_kept (g.F.Files.view c.args.files.now) (g.F.Files.view c.write_heads.new.files) c.args.opened.now.arrivals c.args.opened.now.departures c.args.opened.now.fates c.requires.ready.arrivals c.requires.ready.from_departures c.requires.ready.from_fates t c.in-Ok.ensures.others ∙ l),
     ) in
     let e = c.in-Ok-play_records.ensures.ended in
     let begun = same_play (λ (p : Policy) (k q : ℕ). IsBegun p k q (comings e.0) e.1) _ _ _ _ _ _ c.in-Ok-play_records.ensures.policy (c.in-Ok-play_records.ensures.rate ∙ c.in-Ok-begin.ensures.rate) c.in-Ok-play_records.ensures.seed e.2.going.begun in
@@ -289,7 +292,7 @@ returns-in-Cut-clause-front g c =
     let y = held_by (g.F.Files.view c.finish.new.files) c.args.opened.now.departures c.play_records.new.outputs.departures _ c.in-Ok-play_records.ensures.same.departures (c.in-Ok-finish.ensures.departures_whole _ _ e.2.given) in
     let z = held_by (g.F.Files.view c.finish.new.files) c.args.opened.now.fates c.play_records.new.outputs.fates _ c.in-Ok-play_records.ensures.same.fates (c.in-Ok-finish.ensures.fates_whole _ _ e.2.given) in
     let fronts = whole_fronts (g.F.Files.view c.finish.new.files) c.args.opened.now.departures c.args.opened.now.fates _ _ y z in
-    λ t bytes l records last r s. (let f = first bytes (told bytes t l) records last r s in
+    λ t rest l records last r s. (let f = first (c.args.opened.now.first.now ++ rest) (told rest t l) records last r s in
     stopped x (g.F.Files.view c.finish.new.files) c.args.opened.now records e.0 f.0 e.1 m f.1 f.2 begun fronts)
 
 pub returns-in-Cut-clause-keeps : goal.returns-in-Cut-clause-keeps
@@ -306,10 +309,10 @@ returns-clause-why g c =
       lawful = g.met.D.Discipline.lawful c.args.discipline.now [] c.requires.new;
       steady = g.met.D.Discipline.steady c.args.discipline.now [] c.requires.new;
     } in
-    let told : (bytes : List ℕ) → IsTrue (g.F.Files.view c.args.files.now).tells → (g.F.Files.view c.args.files.now).left c.args.opened.now.arrivals ≡ Some bytes → IsTrue (g.F.Files.view c.start.new.files).tells × StandsFor (g.F.Files.view c.start.new.files) c.in-Ok-start.reader bytes [] =
-    λ bytes t l. (
+    let told : (rest : List ℕ) → IsTrue (g.F.Files.view c.args.files.now).tells → (g.F.Files.view c.args.files.now).left c.args.opened.now.arrivals ≡ Some rest → IsTrue (g.F.Files.view c.start.new.files).tells × StandsFor (g.F.Files.view c.start.new.files) c.in-Ok-start.reader (c.args.opened.now.first.now ++ rest) [] =
+    λ rest t l. (
       c.start.ensures.some.1.keeps.tells ∙ c.in-Ok.ensures.others.keeps.tells ∙ t,
-      c.in-Ok-start.ensures.stands bytes (left_kept (g.F.Files.view c.args.files.now) (g.F.Files.view c.write_heads.new.files) c.args.opened.now.arrivals c.args.opened.now.departures c.args.opened.now.fates c.requires.ready.arrivals c.requires.ready.from_departures c.requires.ready.from_fates t c.in-Ok.ensures.others ∙ l),
+      c.in-Ok-start.ensures.stands rest (left_kept (g.F.Files.view c.args.files.now) (g.F.Files.view c.write_heads.new.files) c.args.opened.now.arrivals c.args.opened.now.departures c.args.opened.now.fates c.requires.ready.arrivals c.requires.ready.from_departures c.requires.ready.from_fates t c.in-Ok.ensures.others ∙ l),
     ) in
     let e = c.in-Ok-play_records.ensures.ended in
     let y = held_by (g.F.Files.view c.finish.new.files) c.args.opened.now.departures c.play_records.new.outputs.departures _ c.in-Ok-play_records.ensures.same.departures (c.in-Ok-finish.ensures.departures_whole _ _ e.2.given) in
@@ -323,10 +326,11 @@ returns-clause-why g c =
     let D : ℕ → Type 0 = λ n. Apart (g.F.Files.view c.play_records.new.files) c.args.opened.now.arrivals n in
     let from_departures = subst D (sym c.in-Ok-play_records.ensures.same.departures) (apart_kept _ _ (g.F.Files.view c.args.files.now) (g.F.Files.view c.play_records.new.files) c.args.opened.now.arrivals c.args.opened.now.departures c.requires.ready.arrivals c.requires.ready.empty.departures.there c.requires.ready.from_departures k.keeps) in
     let from_fates = subst D (sym c.in-Ok-play_records.ensures.same.fates) (apart_kept _ _ (g.F.Files.view c.args.files.now) (g.F.Files.view c.play_records.new.files) c.args.opened.now.arrivals c.args.opened.now.fates c.requires.ready.arrivals c.requires.ready.empty.fates.there c.requires.ready.from_fates k.keeps) in
-    λ t bytes l. (
+    λ t rest l. (
+    let bytes : List ℕ = c.args.opened.now.first.now ++ rest in
     let found = c.every_file_has_a_reading.ensures.reads bytes in
     let last = c.every_file_has_a_reading.ensures.last bytes in
-    let f = d.first bytes (told bytes t l) (outcome bytes).records (outcome bytes).last found last in
+    let f = d.first bytes (told rest t l) (outcome bytes).records (outcome bytes).last found last in
     let left = left_kept (g.F.Files.view c.play_records.new.files) (g.F.Files.view c.finish.new.files) c.args.opened.now.arrivals c.play_records.new.outputs.departures c.play_records.new.outputs.fates (still_there _ _ _ _ _ k.keeps c.requires.ready.arrivals) from_departures from_fates (k.keeps.tells ∙ t) c.in-Ok-finish.ensures.others in (
       (outcome bytes).records,
       (
@@ -334,7 +338,7 @@ returns-clause-why g c =
         found,
         last,
         was_cut x (g.D.Discipline.stands c.play_records.new.discipline) (g.C.Classify.placed c.args.classify.now) (g.F.Files.view c.play_records.new.files) (g.F.Files.view c.finish.new.files) c.args.opened.now c.play_records.new.reader bytes (outcome bytes).records (outcome bytes).last e.0 f.0 e.1 c.play_records.new.progress.totals m d.cut f.1 f.2 totals
-            found last (left ∙ ap (λ (n : ℕ). (g.F.Files.view c.play_records.new.files).left n) (sym file)) (d.ahead bytes (told bytes t l)) y z (e.2.going.told, e.2.going.stands, e.2.going.same),
+            found last (left ∙ ap (λ (n : ℕ). (g.F.Files.view c.play_records.new.files).left n) (sym file)) (d.ahead bytes (told rest t l)) y z (e.2.going.told, e.2.going.stands, e.2.going.same),
       ),
     ))
 
@@ -346,10 +350,10 @@ returns-clause-front g c =
       lawful = g.met.D.Discipline.lawful c.args.discipline.now [] c.requires.new;
       steady = g.met.D.Discipline.steady c.args.discipline.now [] c.requires.new;
     } in
-    let told : (bytes : List ℕ) → IsTrue (g.F.Files.view c.args.files.now).tells → (g.F.Files.view c.args.files.now).left c.args.opened.now.arrivals ≡ Some bytes → IsTrue (g.F.Files.view c.start.new.files).tells × StandsFor (g.F.Files.view c.start.new.files) c.in-Ok-start.reader bytes [] =
-    λ bytes t l. (
+    let told : (rest : List ℕ) → IsTrue (g.F.Files.view c.args.files.now).tells → (g.F.Files.view c.args.files.now).left c.args.opened.now.arrivals ≡ Some rest → IsTrue (g.F.Files.view c.start.new.files).tells × StandsFor (g.F.Files.view c.start.new.files) c.in-Ok-start.reader (c.args.opened.now.first.now ++ rest) [] =
+    λ rest t l. (
       c.start.ensures.some.1.keeps.tells ∙ c.in-Ok.ensures.others.keeps.tells ∙ t,
-      c.in-Ok-start.ensures.stands bytes (left_kept (g.F.Files.view c.args.files.now) (g.F.Files.view c.write_heads.new.files) c.args.opened.now.arrivals c.args.opened.now.departures c.args.opened.now.fates c.requires.ready.arrivals c.requires.ready.from_departures c.requires.ready.from_fates t c.in-Ok.ensures.others ∙ l),
+      c.in-Ok-start.ensures.stands rest (left_kept (g.F.Files.view c.args.files.now) (g.F.Files.view c.write_heads.new.files) c.args.opened.now.arrivals c.args.opened.now.departures c.args.opened.now.fates c.requires.ready.arrivals c.requires.ready.from_departures c.requires.ready.from_fates t c.in-Ok.ensures.others ∙ l),
     ) in
     let e = c.in-Ok-play_records.ensures.ended in
     let begun = same_play (λ (p : Policy) (k q : ℕ). IsBegun p k q (comings e.0) e.1) _ _ _ _ _ _ c.in-Ok-play_records.ensures.policy (c.in-Ok-play_records.ensures.rate ∙ c.in-Ok-begin.ensures.rate) c.in-Ok-play_records.ensures.seed e.2.going.begun in
@@ -357,7 +361,7 @@ returns-clause-front g c =
     let y = held_by (g.F.Files.view c.finish.new.files) c.args.opened.now.departures c.play_records.new.outputs.departures _ c.in-Ok-play_records.ensures.same.departures (c.in-Ok-finish.ensures.departures_whole _ _ e.2.given) in
     let z = held_by (g.F.Files.view c.finish.new.files) c.args.opened.now.fates c.play_records.new.outputs.fates _ c.in-Ok-play_records.ensures.same.fates (c.in-Ok-finish.ensures.fates_whole _ _ e.2.given) in
     let fronts = whole_fronts (g.F.Files.view c.finish.new.files) c.args.opened.now.departures c.args.opened.now.fates _ _ y z in
-    λ t bytes l records last r s. (let f = first bytes (told bytes t l) records last r s in
+    λ t rest l records last r s. (let f = first (c.args.opened.now.first.now ++ rest) (told rest t l) records last r s in
     stopped x (g.F.Files.view c.finish.new.files) c.args.opened.now records e.0 f.0 e.1 m f.1 f.2 begun fronts)
 
 pub returns-clause-keeps : goal.returns-clause-keeps

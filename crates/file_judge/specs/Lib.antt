@@ -1,0 +1,4 @@
+pub mod Frames
+pub mod Given
+pub mod Journal
+pub mod Verdict

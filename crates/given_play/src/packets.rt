@@ -1,0 +1,50 @@
+// The packets of a capture as they arrive.
+ghost use Rattle.std.specs.Prelude.{◌≡◌, ◌<◌, All, List, IfOk, length, map};
+ghost use Rattle.altq_model.specs.Arrivals.{arrivals_of};
+ghost use Rattle.altq_model.specs.Arrivals.{comings as comings_of};
+ghost use Rattle.altq_model.specs.Lawful.{AreRising};
+ghost use Rattle.capture_model.specs.Capture.{Record as Original};
+ghost use Rattle.fate_judge.specs.Given.{coming_of, comings};
+ghost use Rattle.given_play.specs.Packets.{coming_at};
+ghost use Rattle.input_files.specs.Records.{shown_by, shown_of};
+
+use discipline::Classify;
+use fate_judge::Arrived;
+use pcap_files::Record;
+use play_base::NoMemory;
+use std::alloc::Global;
+
+// The packet of a record, which arrives at this moment.
+fn arrived_at<C: Classify>(classify: &C, found: &Record, at: u64) -> Arrived
+    ensures { coming_of result ≡ coming_at (C.placed classify.now) at (shown_by found.now) }
+{
+    let placed = classify.class(found.bytes.as_slice());
+    Arrived {
+        at,
+        len: found.len,
+        class: placed.class,
+        prec: placed.prec,
+    }
+}
+
+/// The packets of a capture's records in the order of number: each in its class, by its captured bytes, and no earlier than those
+/// before it, at the greatest of the stamps up to its own. `NoMemory` comes only when memory runs out.
+pub fn arrived<C: Classify>(
+    alloc: Global,
+    classify: &C,
+    records: &[Record],
+) -> Result<Vec<Arrived>, NoMemory>
+    ensures packets { IfOk result (λ all. (capture : List Original) → map shown_by records.now ≡ map shown_of capture →
+        comings all.items ≡ comings_of (arrivals_of (C.placed classify.now) capture)) }
+    ensures count { IfOk result (λ all. length all.items ≡ length records.now) }
+    ensures some { IfOk result (λ all. All (λ a. 0 < a.len) (comings all.items)) }
+    ensures rising { IfOk result (λ all. AreRising (comings all.items)) }
+{
+    let mut all = Vec::with_capacity(alloc, records.len())?;
+    let mut latest = 0u64;
+    for record in records {
+        latest = latest.max(record.stamp);
+        all.push(arrived_at(classify, record, latest))?;
+    }
+    Ok(all)
+}

@@ -1,0 +1,89 @@
+-- Records that were read, and files that were read on.
+use Rattle.std.proofs.Common.{◌≡◌, ◌∙◌, inl, inr, ℕ, List, [], ◌∷◌, ◌++◌, length, map, Some, refl, ap, sym, subst}
+use Rattle.std.specs.Prelude.{IsSome, IfSome}
+use Rattle.std.specs.declared.option.Option.{Option}
+use Rattle.std.proofs.lemmas.List.{map-append}
+use Rattle.capture_model.specs.Capture.{Fault, Header, Record, ReadsFrom}
+use Rattle.pcap_files.specs.declared.fault.CaptureFault.{CaptureFault}
+use Rattle.pcap_files.specs.declared.fault.CaptureFault.TheVariants as fault
+use Rattle.pcap_files.specs.declared.reader.Reader.{Reader}
+use Rattle.pcap_files.specs.declared.record.Record.{Record as Answer}
+use Rattle.pcap_files.specs.Ahead.{TookSome}
+use Rattle.pcap_files.specs.Reading.{Answers, IsHeadFault, Shows, StandsFor}
+use Rattle.pcap_files.proofs.ReaderLemmas.{took_unchanged}
+use Rattle.play_base.specs.View.{View, ReadFault, Took, Unchanged}
+use Rattle.play_base.proofs.ViewLaws.{rose_before, rose_later, took_more, took_nothing}
+use Rattle.input_files.specs.Records.{HasFault, StaysOrFails, shown_by, shown_of}
+
+pub some_nothing : (a : View) (file : ℕ) → TookSome a a file
+some_nothing a file = ([], took_nothing a file)
+
+pub some_more : (a b c : View) (file f : ℕ) → f ≡ file → TookSome a b file → TookSome b c f → TookSome a c file
+some_more a b c file f e x y =
+    let P : ℕ → Type 0 = λ n. TookSome b c n in
+    let z : TookSome b c file = subst P e y in
+    (x.0 ++ z.0, took_more a b c file x.0 z.0 x.1 z.1)
+
+pub some_same : (a b c : View) (file : ℕ) → IsSome (a.part file) → TookSome a b file → Unchanged b c → TookSome a c file
+some_same a b c file there x y = (x.0, took_unchanged a b c file x.0 there x.1 y)
+
+pub took_same : (a b c : View) (file : ℕ) (xs : List ℕ) → IsSome (a.part file) → Took a b file xs → Unchanged b c → TookSome a c file
+took_same a b c file xs there x y = (xs, took_unchanged a b c file xs there x y)
+
+-- a fault of a later read, and of an earlier one
+pub fault_later : (a b c : View) (file f : ℕ) → f ≡ file → TookSome a b file → ReadFault b c f → ReadFault a c file
+fault_later a b c file f e x y = λ p at.
+    let P : ℕ → Type 0 = λ n. ReadFault b c n in
+    let z : ReadFault b c file = subst P e y in
+    rose_later (a.read_faults p) (b.read_faults p) (c.read_faults p) (x.1.keeps.later.read p) (z p (x.1.keeps.part file p at))
+
+pub fault_before : (a b c : View) (file : ℕ) → ReadFault a b file → TookSome b c file → ReadFault a c file
+fault_before a b c file x y = λ p at. rose_before (a.read_faults p) (b.read_faults p) (c.read_faults p) (x p at) (y.1.keeps.later.read p)
+
+-- a header that fails is followed by no record
+pub head_fault : (f : CaptureFault) (bytes : List ℕ) → IsHeadFault f bytes → HasFault bytes f
+head_fault (fault.Damage found) bytes h =
+    let P : Header → Type 0 = λ x. ReadsFrom x bytes [] (Fault found) in
+    record { records = []; reads = subst P (sym h) (refl, refl) }
+head_fault fault.Limit bytes h = absurd h
+head_fault fault.Read bytes h = record { records = []; reads = tt }
+head_fault fault.NoMemory bytes h = record { records = []; reads = tt }
+
+pub shown_same : (a : Answer) (n : ℕ) (r : Record) → Shows a n r → shown_by a ≡ shown_of r
+shown_same a n r s = rw (s.stamp, s.len, s.bytes) refl
+
+-- one more record is read
+pub read_more : (u v : View) (old new : Reader) (bytes : List ℕ) (answers after : List Answer) (o : Option Answer) (a : Answer)
+    → IfSome o (λ x. Answers u v old new x) → o ≡ Some a → after ≡ answers ++ a ∷ []
+    → ((records : List Record) × StandsFor u old bytes records × (map shown_by answers ≡ map shown_of records))
+    → (records : List Record) × StandsFor v new bytes records × (map shown_by after ≡ map shown_of records)
+read_more u v old new bytes answers after o a answered is grown h =
+    let W : Option Answer → Type 0 = λ x. IfSome x (λ y. Answers u v old new y) in
+    let answer : Answers u v old new a = subst W is answered in
+    let x = answer bytes h.0 h.1 in (
+      h.0 ++ x.0 ∷ [],
+      x.2,
+      ap (map shown_by) grown ∙ map-append shown_by answers (a ∷ []) ∙ ap (λ ys. ys ++ shown_by a ∷ []) h.2
+          ∙ ap (λ y. map shown_of h.0 ++ y ∷ []) (shown_same a (length h.0) x.0 x.1) ∙ sym (map-append shown_of h.0 (x.0 ∷ [])),
+    )
+
+pub stays_same : (u v : View) (file : ℕ) (f : CaptureFault) → StaysOrFails u v file f f
+stays_same u v file (fault.Damage found) = refl
+stays_same u v file fault.Limit = refl
+stays_same u v file fault.Read = inl refl
+stays_same u v file fault.NoMemory = tt
+
+-- what is told of a fault of the bytes is one
+pub fault_told : (u v : View) (file : ℕ) (f r : CaptureFault) (bytes : List ℕ) → StaysOrFails u v file f r → HasFault bytes f → HasFault bytes r
+fault_told u v file f (fault.Damage found) bytes s h = let P : CaptureFault → Type 0 = λ x. HasFault bytes x in subst P s h
+fault_told u v file f fault.Limit bytes s h = let P : CaptureFault → Type 0 = λ x. HasFault bytes x in subst P s h
+fault_told u v file f fault.Read bytes s h = record { records = []; reads = tt }
+fault_told u v file f fault.NoMemory bytes s h = record { records = []; reads = tt }
+
+pub read_told : (a b c : View) (file : ℕ) (f r : CaptureFault) → (f ≡ fault.Read → ReadFault a b file) → TookSome a b file → TookSome b c file
+    → StaysOrFails b c file f r → r ≡ fault.Read → ReadFault a c file
+read_told a b c file f (fault.Damage found) h x y s e = absurd (cc)
+read_told a b c file f fault.Limit h x y s e = absurd (cc)
+read_told a b c file f fault.NoMemory h x y s e = absurd (cc)
+read_told a b c file f fault.Read h x y s e =
+    elim s [ inl k ↦ fault_before a b c file (h k) y | inr k ↦ fault_later a b c file file refl x k ]

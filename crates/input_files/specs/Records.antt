@@ -1,0 +1,38 @@
+-- The records of a capture that was read whole.
+use Rattle.std.specs.Prelude.{◌≡◌, ◌⊎◌, ℕ, max, List, length, map}
+use Rattle.capture_model.specs.Capture.{IsCapture, Record}
+use Rattle.pcap_files.specs.declared.fault.CaptureFault.{CaptureFault}
+use Rattle.pcap_files.specs.declared.fault.CaptureFault.TheVariants as fault
+use Rattle.pcap_files.specs.declared.record.Record.{Record as Answer}
+use Rattle.pcap_files.specs.Reading.{ReadsTo}
+use Rattle.play_base.specs.View.{View, ReadFault}
+
+-- what a reader says of a record: its stamp, the greater of its two lengths, and the captured bytes
+pub record Shown : Type 0 where
+  pub stamp : ℕ
+  pub len : ℕ
+  pub bytes : List ℕ
+
+abbrev pub shown_by : Answer → Shown
+shown_by a = record { stamp = a.stamp; len = a.len; bytes = a.bytes }
+
+abbrev pub shown_of : Record → Shown
+shown_of r = record { stamp = r.stamp; len = max r.original (length r.captured); bytes = r.captured }
+
+-- the bytes are a capture of records that these answers show, one by one
+pub record AreRecords (bytes : List ℕ) (answers : List Answer) : Type 0 where
+  pub records : List Record
+  pub capture : IsCapture bytes records
+  pub shown : map shown_by answers ≡ map shown_of records
+
+-- where the fault is told by the bytes, it follows their complete records
+pub record HasFault (bytes : List ℕ) (f : CaptureFault) : Type 0 where
+  pub records : List Record
+  pub reads : ReadsTo f bytes records
+
+-- a fault is told as it is, but where a read of the file fails
+abbrev pub StaysOrFails : View → View → (file : ℕ) → (fault told : CaptureFault) → Type 0
+StaysOrFails old new file f (fault.Damage found) = f ≡ fault.Damage found
+StaysOrFails old new file f fault.Limit = f ≡ fault.Limit
+StaysOrFails old new file f fault.Read = (f ≡ fault.Read) ⊎ ReadFault old new file
+StaysOrFails old new file f fault.NoMemory = Unit {0}

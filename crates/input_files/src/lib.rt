@@ -1,0 +1,8 @@
+//! Files that are read whole before anything in them is judged: their bytes, up to a limit, or the records of a capture.
+#![tactic(auto)]
+
+mod bytes;
+mod records;
+
+pub use bytes::read_front;
+pub use records::read_records;

@@ -1,0 +1,39 @@
+-- The play of the files that have the capture in front is one of the files behind them.
+use Rattle.std.proofs.Common.{false, rules}
+use Rattle.std.specs.Prelude.{IfOk}
+use Rattle.pcapng_files.proofs.BackLaws.{same_reference}
+use Rattle.play_loop.specs.Played.{Plays}
+use Rattle.play_command.specs.Converting.{CameOf}
+use Rattle.play_command.specs.InterfaceSetup.{setup_of}
+use Rattle.play_command.proofs.ThroughLemmas.{came_of, through_back}
+use Rattle.play_command.proofs.watched.converted_by.Goals as goal
+
+pub returns-clause-ends : goal.returns-clause-ends
+returns-clause-ends g c =
+    let v = g.F.Files.view c.args.files.now in
+    let s = c.play_by.new.files in
+    let w = g.F.Files.view s.files.now in
+    let o = c.args.opened.now in
+    let x = setup_of c.args.interface.now c.args.seed in
+    let r = c.play_by.result in
+    let y = c.play_by.ensures in
+    let same = same_reference _ _ v w _ s.files.ghost_name o.arrivals s.file false s.front.rest c.args.capture.now s.front.bytes.now y.keeps in
+    let back =
+    through_back (CameOf x o r) _ _ v w _ s.files.ghost_name o.arrivals s.file s.front.rest c.args.capture.now s.front.bytes.now y.keeps
+    (came_of x _ _ o r y.done y.why y.front y.stats) in
+    search rules
+
+pub returns-clause-stood : goal.returns-clause-stood
+returns-clause-stood g c =
+    let v = g.F.Files.view c.args.files.now in
+    let s = c.play_by.new.files in
+    let w = g.F.Files.view s.files.now in
+    let o = c.args.opened.now in
+    let x = setup_of c.args.interface.now c.args.seed in
+    let r = c.play_by.result in
+    let y = c.play_by.ensures in
+    let same = same_reference _ _ v w _ s.files.ghost_name o.arrivals s.file false s.front.rest c.args.capture.now s.front.bytes.now y.keeps in
+    let back =
+    through_back (λ u z. IfOk r (Plays x (g.D.Discipline.stands c.play_by.new.discipline) u z o)) _ _ v w _ s.files.ghost_name o.arrivals s.file s.front.rest c.args.capture.now s.front.bytes.now y.keeps
+    y.stood in
+    search rules

@@ -1,0 +1,13 @@
+use Rattle.std.proofs.Common.{◌≡◌, ◌∙◌, ap, arith, sym, true}
+use Rattle.altq_model.specs.History.{is_kept}
+use Rattle.share_report.proofs.Steps.{after_offer}
+use Rattle.share_report.proofs.watched.WatchedDiscipline.offer.Goals as goal
+
+pub returns-clause-history : goal.returns-clause-history
+returns-clause-history g c = λ h s offer drawn.
+    let x = c.offer-verdict.ensures.history h s.stands offer drawn in
+    let k : is_kept c.offer-verdict.result ≡ true = sym c.is_kept.ensures ∙ c.if-not-is_kept.false in (
+      x.0,
+      after_offer (g.D.Discipline.stands c.args.self.now.inner) (g.D.Discipline.stands c.offer-verdict.new.self) (g.D.Discipline.policy c.args.self.now.inner) (g.D.Discipline.policy c.offer-verdict.new.self) c.args.self.now.watch c.kept.new.self
+          c.args.self.now.kept c.args.ticket.0 _ _ _ h s c.offer-verdict.ensures.policy c.kept.ensures.classes (sym (ap is_kept x.0.verdict) ∙ k) offer (omega (arith, c.requires.few)) c.kept.ensures.stands x.1,
+    )

@@ -1,0 +1,4 @@
+pub mod AlikeLemmas
+pub mod EndLemmas
+pub mod LineLemmas
+pub mod TellLemmas

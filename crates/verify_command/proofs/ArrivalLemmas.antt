@@ -1,0 +1,112 @@
+-- Arrivals that were opened, looked at, and read.
+use Rattle.std.proofs.Common.{◌≡◌, ◌∙◌, inl, inr, ℕ, Bool, true, List, Some, ap, refl}
+use Rattle.std.specs.Prelude.{◌≢◌, IsTrue}
+use Rattle.arrivals_front.specs.Given.{Follows, IsRefused}
+use Rattle.arrivals_front.specs.declared.given.Given.{Given}
+use Rattle.arrivals_front.specs.declared.given.GivenFault.{GivenFault}
+use Rattle.arrivals_front.specs.declared.given.GivenFault.TheVariants as given
+use Rattle.input_files.specs.Records.{AreRecords, HasFault}
+use Rattle.pcap_files.specs.Ahead.{TookSome}
+use Rattle.pcap_files.specs.declared.fault.CaptureFault.{CaptureFault}
+use Rattle.pcap_files.specs.declared.fault.CaptureFault.TheVariants as fault
+use Rattle.pcap_files.specs.declared.record.Record.{Record as Answer}
+use Rattle.pcapng_files.specs.Fronts.{front_view, with_front}
+use Rattle.pcapng_files.proofs.BackLaws.{keeps_back}
+use Rattle.play_base.specs.View.{View, Any, Keeps, NoneAppears, Opened, ReadFault, SameCounts}
+use Rattle.play_base.proofs.ViewLaws.{keeps_trans, opened_then, rose_later}
+use Rattle.verify_command.specs.Input.{ArrivalCauses, HoldsCapture, OnlyOpens, capture_failure, given_failure}
+use Rattle.verify_command.proofs.InputLemmas.{unread_of, was_left}
+use Rattle.verify_command.proofs.LeaveLemmas.{opens_then}
+
+-- some of a file was read, and nothing else happened
+pub record Ran (b c : View) (file : ℕ) : Type 0 where
+  pub keeps : Keeps Any (λ f. f ≢ file) b c
+  pub none : NoneAppears b c
+  pub said : c.said ≡ b.said
+
+pub ran_then : (b c d : View) (file : ℕ) → Ran b c file → Ran c d file → Ran b d file
+ran_then b c d file x y = record {
+  keeps = keeps_trans Any (λ f. f ≢ file) b c d x.keeps y.keeps;
+  none = λ f h. y.none f (x.none f h);
+  said = y.said ∙ x.said;
+}
+
+pub ran_keeps : (a b c : View) (name : List ℕ) (file : ℕ) → Opened a b 2 name file → Ran b c file → Keeps Any Any a c
+ran_keeps a b c name file x y = opened_then Any a b c 2 name file x y.keeps
+
+pub ran_opens : (a b c : View) (name : List ℕ) (file : ℕ) → Opened a b 2 name file → Ran b c file → OnlyOpens a c 2
+ran_opens a b c name file x y = opens_then a b c 2 name file x y.none y.keeps
+
+pub ran_said : (a b c : View) (name : List ℕ) (file : ℕ) → Opened a b 2 name file → Ran b c file → c.said ≡ a.said
+ran_said a b c name file x y = y.said ∙ x.is_new.said
+
+-- the files that have a front, and those behind them
+pub ran_behind : (v w : View) (g h file now : ℕ) (more later : Bool) (front next : List ℕ)
+    → TookSome (front_view v g file more front) (front_view w h now later next) file → Ran v w file
+ran_behind v w g h file now more later front next x = record {
+  keeps = keeps_back Any (λ f. f ≢ file) v w g h file now more later front next (λ f k. k) x.1.keeps;
+  none = x.1.none;
+  said = x.1.said;
+}
+
+pub counts_behind : (v w : View) (g h file now : ℕ) (more later : Bool) (front next : List ℕ)
+    → SameCounts (front_view v g file more front) (front_view w h now later next) → SameCounts v w
+counts_behind v w g h file now more later front next x = record { read = x.read; write = x.write }
+
+-- what is played of the bytes under the name
+pub record WasGiven (a c : View) (name : List ℕ) (file : ℕ) (gv : Given) : Type 0 where
+  pub given : List ℕ
+  pub at : a.bytes name ≡ Some given
+  pub follows : Follows c file given gv
+
+pub was_given : (a b c : View) (name : List ℕ) (file : ℕ) (gv : Given) → Opened a b 2 name file
+    → ((given : List ℕ) → b.left file ≡ Some given → Follows c file given gv) → IsTrue a.tells → WasGiven a c name file gv
+was_given a b c name file gv x h t = let s = was_left a b 2 name file x t in record { given = s.bytes; at = s.at; follows = h s.bytes s.left }
+
+-- what is said of the front and of what follows it
+abbrev pub OfPlayed : View → (file : ℕ) → (rest : Bool) → (front : List ℕ) → (List ℕ → Type 0) → Type 0
+OfPlayed c file rest front P = (bytes : List ℕ) → with_front true rest front (c.left file) ≡ Some bytes → P bytes
+
+played : (c : View) (file : ℕ) (given front : List ℕ) (gv : Given) (P : List ℕ → Type 0) → front ≡ gv.front.items → (f : Follows c file given gv)
+    → OfPlayed c file gv.rest front P → P f.bytes
+played c file given front gv P e f h = h f.bytes (ap (λ (l : List ℕ). with_front true gv.rest l (c.left file)) e ∙ f.left)
+
+pub captured : (a b c : View) (name : List ℕ) (file : ℕ) (gv : Given) (front : List ℕ) (answers : List Answer) → Opened a b 2 name file
+    → ((given : List ℕ) → b.left file ≡ Some given → Follows c file given gv) → front ≡ gv.front.items
+    → OfPlayed c file gv.rest front (λ bytes. AreRecords bytes answers) → IsTrue a.tells → HoldsCapture a name answers
+captured a b c name file gv front answers x g e h t =
+    let y = was_given a b c name file gv x g t in
+    let z = played c file y.given front gv (λ bytes. AreRecords bytes answers) e y.follows h in
+    record {
+      records = z.records;
+      held = record { given = y.given; at = y.at; capture = y.follows.bytes; read = y.follows.read; reads = z.capture };
+      shown = z.shown;
+    }
+
+pub given_why : (a b c : View) (name : List ℕ) (file : ℕ) (f : GivenFault) → Opened a b 2 name file → IsRefused b c file f
+    → ArrivalCauses a c name (given_failure f)
+given_why a b c name file (given.At block) x r = λ t.
+    let s = was_left a b 2 name file x t in
+    let y = r s.bytes s.left in
+    record { given = s.bytes; at = s.at; begins = y.0; cause = y.1 }
+given_why a b c name file given.Limit x r = λ t.
+    let s = was_left a b 2 name file x t in
+    let y = r s.bytes s.left in
+    inr (record { given = s.bytes; at = s.at; begins = y.0; cause = y.1 })
+given_why a b c name file given.Read x r = unread_of a b c 2 name file x r
+given_why a b c name file given.NoMemory x r = tt
+
+pub capture_why : (a b c d : View) (name : List ℕ) (file : ℕ) (gv : Given) (front : List ℕ) (f : CaptureFault) → Opened a b 2 name file → Ran b c file
+    → ((given : List ℕ) → b.left file ≡ Some given → Follows c file given gv) → front ≡ gv.front.items
+    → OfPlayed c file gv.rest front (λ bytes. HasFault bytes f) → (f ≡ fault.Read → ReadFault c d file) → ArrivalCauses a d name (capture_failure f)
+capture_why a b c d name file gv front (fault.Damage found) x k g e h r = λ t.
+    let y = was_given a b c name file gv x g t in
+    let z = played c file y.given front gv (λ bytes. HasFault bytes (fault.Damage found)) e y.follows h in
+    (z.records, record { given = y.given; at = y.at; capture = y.follows.bytes; read = y.follows.read; reads = z.reads })
+capture_why a b c d name file gv front fault.Limit x k g e h r = λ t.
+    let y = was_given a b c name file gv x g t in
+    let z = played c file y.given front gv (λ bytes. HasFault bytes fault.Limit) e y.follows h in
+    inl (z.records, record { given = y.given; at = y.at; capture = y.follows.bytes; read = y.follows.read; reads = z.reads })
+capture_why a b c d name file gv front fault.Read x k g e h r =
+    inl (rose_later _ _ _ ((ran_keeps a b c name file x k).later.read 2) (r refl 2 (k.keeps.part file 2 x.is_new.part)))
+capture_why a b c d name file gv front fault.NoMemory x k g e h r = tt

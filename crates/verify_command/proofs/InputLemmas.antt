@@ -1,0 +1,51 @@
+-- A file that was opened, and read to its end or not.
+use Rattle.std.proofs.Common.{◌≡◌, ◌<◌, ◌^◌, ◌++◌, ◌∙◌, ◌⊎◌, inl, inr, ℕ, List, [], length, length-append, None, Some, ap, refl, sym, arith, append-nil}
+use Rattle.std.specs.Prelude.{IsSome, IsTrue}
+use Rattle.std.specs.declared.option.Option.{Option}
+use Rattle.std.proofs.lemmas.List.{nil_from_length}
+use Rattle.play_base.specs.View.{View, IsAtEnd, IsMissed, Opened, ReadFault, Rose, Took, Unchanged}
+use Rattle.play_base.proofs.ViewLaws.{rose_later}
+use Rattle.command_base.specs.Faults.{CannotRead}
+use Rattle.command_base.proofs.PartLemmas.{none_some}
+use Rattle.verify_command.specs.Input.{IsLong, OnlyOpens}
+
+there_is : (o : Option (List ℕ)) → IsSome o → (bytes : List ℕ) × (o ≡ Some bytes)
+there_is None h = cc
+there_is (Some bytes) h = (bytes, refl)
+
+-- the bytes that were left are those under the name
+pub record WasLeft (a b : View) (name : List ℕ) (file : ℕ) : Type 0 where
+  pub bytes : List ℕ
+  pub at : a.bytes name ≡ Some bytes
+  pub left : b.left file ≡ Some bytes
+
+pub was_left : (a b : View) (part : ℕ) (name : List ℕ) (file : ℕ) → Opened a b part name file → IsTrue a.tells → WasLeft a b name file
+was_left a b part name file x t =
+    let l = x.left t in
+    let s = there_is (a.bytes name) l.0 in
+    record { bytes = s.0; at = s.1; left = l.1 ∙ s.1 }
+
+pub whole_of : (a b c : View) (part : ℕ) (name : List ℕ) (file : ℕ) (all : List ℕ) → Opened a b part name file → Took b c file all → IsAtEnd c file
+    → IsTrue a.tells → a.bytes name ≡ Some all
+whole_of a b c part name file all x took end t =
+    let s = was_left a b part name file x t in
+    let y = took.left s.bytes s.left in
+    let none : y.0 ≡ [] = nil_from_length y.0 (end y.0 y.2) in
+    s.at ∙ ap Some (y.1 ∙ ap (λ (r : List ℕ). all ++ r) none ∙ append-nil all)
+
+pub long_of : (a b c : View) (part : ℕ) (name : List ℕ) (file : ℕ) (all : List ℕ) → Opened a b part name file → Took b c file all
+    → 2 ^ 30 < length all → IsTrue a.tells → IsLong a name
+long_of a b c part name file all x took long t =
+    let s = was_left a b part name file x t in
+    let y = took.left s.bytes s.left in
+    record { bytes = s.bytes; at = s.at; long = omega (arith, long, ap length y.1, length-append all y.0) }
+
+pub unread_of : (a b c : View) (part : ℕ) (name : List ℕ) (file : ℕ) → Opened a b part name file → ReadFault b c file → CannotRead a c part name
+unread_of a b c part name file x r = inl (rose_later _ _ _ (x.keeps.later.read part) (r part x.is_new.part))
+
+pub unopened_of : (a b : View) (part : ℕ) (name : List ℕ) → Rose (a.read_faults part) (b.read_faults part) ⊎ IsMissed a b name → CannotRead a b part name
+unopened_of a b part name (inl r) = inl r
+unopened_of a b part name (inr m) = inr m.0
+
+pub opens_none : (a b : View) (part : ℕ) → Unchanged a b → OnlyOpens a b part
+opens_none a b part x = λ f p fresh e. absurd (none_some p (sym (x.none f fresh) ∙ e))

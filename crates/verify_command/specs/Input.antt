@@ -1,0 +1,100 @@
+-- What is read of the files that are verified, and why they are not.
+use Rattle.std.specs.Prelude.{◌≡◌, ◌⊎◌, ◌<◌, ◌^◌, ℕ, true, List, length, map, None, Some, IsTrue}
+use Rattle.arrivals_front.specs.Given.{ReadAs, is_pcapng}
+use Rattle.arrivals_front.specs.declared.given.GivenFault.{GivenFault}
+use Rattle.arrivals_front.specs.declared.given.GivenFault.TheVariants as given
+use Rattle.capture_model.specs.Capture.{End, Fault, Limit, Reads, Record, Step}
+use Rattle.file_judge.specs.declared.verdict.Unverified.{Unverified}
+use Rattle.file_judge.specs.declared.verdict.Unverified.TheVariants as unverified
+use Rattle.input_files.specs.Records.{shown_by, shown_of}
+use Rattle.pcap_files.specs.declared.fault.CaptureFault.{CaptureFault}
+use Rattle.pcap_files.specs.declared.fault.CaptureFault.TheVariants as fault
+use Rattle.pcap_files.specs.declared.record.Record.{Record as Answer}
+use Rattle.pcapng_files.specs.Converted.{IsCause}
+use Rattle.pcapng_files.specs.declared.fault.NgFault.{NgFault}
+use Rattle.pcapng_files.specs.declared.fault.NgFault.TheVariants as ng
+use Rattle.play_base.specs.View.{View}
+use Rattle.command_base.specs.Faults.{CannotRead}
+use Rattle.command_base.specs.declared.failure.Failure.{Failure}
+use Rattle.command_base.specs.declared.failure.Failure.TheVariants as failure
+use Rattle.command_base.specs.declared.parts.ReadPart.TheVariants as read
+use Rattle.command_base.specs.declared.parts.RunLimit.TheVariants as limit
+use Rattle.verify_command.specs.declared.input.InputFault.{InputFault}
+use Rattle.verify_command.specs.declared.input.InputFault.TheVariants as input
+
+-- every file that came to be is of this part
+abbrev pub OnlyOpens : View → View → (part : ℕ) → Type 0
+OnlyOpens old new part = (f p : ℕ) → old.part f ≡ None → new.part f ≡ Some p → p ≡ part
+
+-- the bytes under a name are more than 2^30
+pub record IsLong (v : View) (name : List ℕ) : Type 0 where
+  pub bytes : List ℕ
+  pub at : v.bytes name ≡ Some bytes
+  pub long : 2 ^ 30 < length bytes
+
+-- why a file is not had whole
+abbrev pub InputCauses : View → View → (part : ℕ) → (name : List ℕ) → InputFault → Type 0
+InputCauses old new part name input.TooLong = IsTrue old.tells → IsLong old name
+InputCauses old new part name input.Read = CannotRead old new part name
+InputCauses old new part name input.NoMemory = Unit {0}
+
+-- the bytes under a name, which are read as they stand or, where they begin as a pcapng file, as the classic capture of their
+-- packets, are these records and then this
+pub record HasRecords (v : View) (name : List ℕ) (records : List Record) (last : Step) : Type 0 where
+  pub given : List ℕ
+  pub at : v.bytes name ≡ Some given
+  pub capture : List ℕ
+  pub read : ReadAs given capture
+  pub reads : Reads capture records last
+
+-- the bytes under a name begin as a pcapng file, and have this fault
+pub record IsNoPcapng (v : View) (name : List ℕ) (f : NgFault) : Type 0 where
+  pub given : List ℕ
+  pub at : v.bytes name ≡ Some given
+  pub begins : is_pcapng given ≡ true
+  pub cause : IsCause f given
+
+-- the bytes under a name are a capture of records that these answers show, one by one
+pub record HoldsCapture (v : View) (name : List ℕ) (answers : List Answer) : Type 0 where
+  pub records : List Record
+  pub held : HasRecords v name records End
+  pub shown : map shown_by answers ≡ map shown_of records
+
+abbrev pub StopsAt : View → (name : List ℕ) → Step → Type 0
+StopsAt v name last = (records : List Record) × HasRecords v name records last
+
+-- why the records of the arrivals are not had
+abbrev pub ArrivalCauses : View → View → (name : List ℕ) → Failure → Type 0
+ArrivalCauses old new name (failure.Capture damage) = IsTrue old.tells → StopsAt old name (Fault damage)
+ArrivalCauses old new name (failure.Pcapng block) = IsTrue old.tells → IsNoPcapng old name (ng.At block)
+ArrivalCauses old new name (failure.Limit limit.Capture) = IsTrue old.tells → StopsAt old name Limit ⊎ IsNoPcapng old name ng.Limit
+ArrivalCauses old new name (failure.Read read.Arrivals) = CannotRead old new 2 name
+ArrivalCauses old new name failure.NoMemory = Unit {0}
+ArrivalCauses old new name other = ⊥
+
+-- what each fault ends the command as
+abbrev pub given_failure : GivenFault → Failure
+given_failure (given.At block) = failure.Pcapng block
+given_failure given.Limit = failure.Limit limit.Capture
+given_failure given.Read = failure.Read read.Arrivals
+given_failure given.NoMemory = failure.NoMemory
+
+abbrev pub capture_failure : CaptureFault → Failure
+capture_failure (fault.Damage found) = failure.Capture found
+capture_failure fault.Limit = failure.Limit limit.Capture
+capture_failure fault.Read = failure.Read read.Arrivals
+capture_failure fault.NoMemory = failure.NoMemory
+
+abbrev pub departures_failure : InputFault → Failure
+departures_failure input.TooLong = failure.Limit limit.Departures
+departures_failure input.Read = failure.Read read.Departures
+departures_failure input.NoMemory = failure.NoMemory
+
+abbrev pub fates_failure : InputFault → Failure
+fates_failure input.TooLong = failure.Limit limit.Fates
+fates_failure input.Read = failure.Read read.Fates
+fates_failure input.NoMemory = failure.NoMemory
+
+abbrev pub refutation : Unverified → Failure
+refutation (unverified.At row test) = failure.Refuted row test
+refutation unverified.NoMemory = failure.NoMemory

@@ -1,0 +1,99 @@
+// Reading the arrivals of given files.
+ghost use Rattle.std.specs.Prelude.{◌≡◌, ◌≢◌, ◌≤◌, ℕ, true, List, length, Some, IsErrOf, IsSome, IsTrue, IfErr, IfOk, OnOk};
+ghost use Rattle.input_files.specs.Records.{AreRecords, HasFault};
+ghost use Rattle.pcapng_files.specs.Fronts.{with_front};
+ghost use Rattle.play_base.specs.View.{Any, Keeps, NoneAppears, ReadFault, SameCounts};
+ghost use Rattle.verify_command.specs.Input.{ArrivalCauses, HoldsCapture, OnlyOpens, capture_failure, given_failure};
+
+use arrivals_front::{Given, GivenFault, given_arrivals};
+use command_base::{Failure, ReadPart, RunLimit};
+use input_files::read_records;
+use pcap_files::{CaptureFault, Record};
+use pcapng_files::{Front, FrontFiles};
+use play_base::{Files, Trouble};
+use std::alloc::Global;
+
+// What a fault of each form of arrivals ends the command as.
+fn given_failure(fault: GivenFault) -> Failure
+    ensures { result ≡ given_failure fault }
+{
+    match fault {
+        GivenFault::At(block) => Failure::Pcapng(block),
+        GivenFault::Limit => Failure::Limit(RunLimit::Capture),
+        GivenFault::Read => Failure::Read(ReadPart::Arrivals),
+        GivenFault::NoMemory => Failure::NoMemory,
+    }
+}
+
+fn capture_failure(fault: CaptureFault) -> Failure
+    ensures { result ≡ capture_failure fault }
+{
+    match fault {
+        CaptureFault::Damage(damage) => Failure::Capture(damage),
+        CaptureFault::Limit => Failure::Limit(RunLimit::Capture),
+        CaptureFault::Read => Failure::Read(ReadPart::Arrivals),
+        CaptureFault::NoMemory => Failure::NoMemory,
+    }
+}
+
+// The records of what was taken of the file and, where that follows, of what it has left.
+#[tactic(auto, using(play_base::proofs::ViewLaws::same_trans, play_base::proofs::ViewLaws::same_refl))]
+fn records_behind<F: Files>(
+    alloc: Global,
+    files: &mut F,
+    file: u32,
+    front: &[u8],
+    rest: bool,
+) -> Result<Vec<Record>, CaptureFault>
+    requires there { IsSome ((F.view files.old).part file) }
+    ensures whole { IfOk result (λ answers. (bytes : List ℕ) → with_front true rest front.now ((F.view files.old).left file) ≡ Some bytes
+        → AreRecords bytes answers.items) }
+    ensures few { IfOk result (λ answers. length answers.items ≤ 4000000) }
+    ensures fault { IfErr result (λ fault. (bytes : List ℕ) → with_front true rest front.now ((F.view files.old).left file) ≡ Some bytes
+        → HasFault bytes fault) }
+    ensures read { IsErrOf result CaptureFault.Read → ReadFault (F.view files.old) (F.view files.new) file }
+    ensures keeps { Keeps Any (λ f. f ≢ file) (F.view files.old) (F.view files.new) }
+    ensures none { NoneAppears (F.view files.old) (F.view files.new) }
+    ensures said { (F.view files.new).said ≡ (F.view files.old).said }
+    ensures no_fault { OnOk result (SameCounts (F.view files.old) (F.view files.new)) }
+{
+    let mut fronted = FrontFiles {
+        files,
+        file,
+        front: Front { bytes: front, rest },
+    };
+    match read_records(alloc, &mut fronted, file) {
+        Ok(records) => Ok(records),
+        Err(fault) => Err(fault),
+    }
+}
+
+/// The records of the capture under a name, classic or pcapng.
+#[tactic(auto, using(play_base::proofs::ViewLaws::same_trans, play_base::proofs::ViewLaws::same_refl))]
+pub(crate) fn read_arrivals<F: Files>(
+    alloc: Global,
+    files: &mut F,
+    name: &str,
+) -> Result<Vec<Record>, Failure>
+    ensures whole { IfOk result (λ answers. IsTrue (F.view files.old).tells → HoldsCapture (F.view files.old) name.now answers.items) }
+    ensures few { IfOk result (λ answers. length answers.items ≤ 4000000) }
+    ensures why { IfErr result (ArrivalCauses (F.view files.old) (F.view files.new) name.now) }
+    ensures keeps { Keeps Any Any (F.view files.old) (F.view files.new) }
+    ensures opens { OnlyOpens (F.view files.old) (F.view files.new) 2 }
+    ensures said { (F.view files.new).said ≡ (F.view files.old).said }
+    ensures no_fault { OnOk result (SameCounts (F.view files.old) (F.view files.new)) }
+{
+    let file = match files.open(2, name) {
+        Ok(file) => file,
+        Err(Trouble::Failed) => return Err(Failure::Read(ReadPart::Arrivals)),
+        Err(Trouble::NoMemory) => return Err(Failure::NoMemory),
+    };
+    let given = match given_arrivals(alloc, files, file) {
+        Ok(given) => given,
+        Err(fault) => return Err(given_failure(fault)),
+    };
+    match records_behind(alloc, files, file, given.front.as_slice(), given.rest) {
+        Ok(records) => Ok(records),
+        Err(fault) => Err(capture_failure(fault)),
+    }
+}
