@@ -22,6 +22,7 @@ MODULES = {
     "compare": "compare",
     "why": "why",
     "sweep": "sweep",
+    "gap": "gap",
 }
 REFUSED, MISSING = 2, 77
 
