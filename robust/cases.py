@@ -8,6 +8,9 @@ import random
 import struct
 from collections import namedtuple
 
+import pcapng
+from program import DEPARTURES_HEAD, FATES_HEAD
+
 # The words behind the program's name, the files that stand there when it starts, and whether a word is no UTF-8.
 Case = namedtuple("Case", "words files is_text")
 
@@ -313,6 +316,20 @@ def capture(rng):
     return rng.randbytes(rng.randrange(100)) if chance(rng, 50) else data
 
 
+def newer(rng):
+    """A pcapng capture, whole or changed."""
+    count = rng.randrange(100, 500) if chance(rng, 10) else rng.randrange(40)
+    packets = []
+    for record in records(rng, count, "<", 10**9):
+        seconds, rest, _, length = struct.unpack("<IIII", record[:16])
+        packets.append((seconds * 10**9 + rest, length, record[16:]))
+    blocks = pcapng.blocks_of(rng, packets)
+    if chance(rng, 2):
+        blocks = pcapng.changed_blocks(rng, blocks)
+    data = b"".join(blocks)
+    return changed_bytes(rng, data) if chance(rng, 5) else data
+
+
 def config(rng):
     """A configuration, whole, changed, noise, or at a limit of its size."""
     if chance(rng, 150):
@@ -329,7 +346,9 @@ def config(rng):
 COUNTS = [b"0", b"1", b"1000001", b"18446744073709551617", b"007", b"", b"-1", b"+1", b" 1", b"1x", b"0x1"]
 SEEDS = [b"0", b"1", b"42", b"18446744073709551615", b"18446744073709551616", b"007", b"", b"-1", b"+1", b" 1", b"1x", b"0x1", "\u0661".encode(), b"9" * 40]
 OF_CHECK = (b"config", b"interface")
+OF_VERIFY = (*OF_CHECK, b"arrivals", b"departures", b"fates")
 OF_MAKE_ALONE = b"count"
+COMMANDS = [b"check", b"make", b"shares", b"verify", b"play", b"play"]
 NAMES = {b"config": b"altq.conf", b"arrivals": b"arrivals.pcap", b"departures": b"departures.pcap", b"fates": b"fates.csv", b"stats": b"stats.csv"}
 
 
@@ -342,8 +361,8 @@ def options(rng):
         values[b"seed"] = rng.choice(SEEDS)
     if chance(rng, 10):
         values[OF_MAKE_ALONE] = rng.choice(COUNTS)
-    command = b"check" if chance(rng, 6) else b"make" if chance(rng, 6) else b"play"
-    taken = [name for name in values if (name in OF_CHECK or command != b"check") and (name != OF_MAKE_ALONE or command == b"make")]
+    command = rng.choice(COMMANDS)
+    taken = [name for name in {b"check": OF_CHECK, b"verify": OF_VERIFY}.get(command, values) if name != OF_MAKE_ALONE or command == b"make"]
     rng.shuffle(taken)
     return command, [(name, values[name]) for name in taken]
 
@@ -374,14 +393,22 @@ def words(rng):
     return [word.replace(b"\0", b"") for word in found]
 
 
+def rows(rng):
+    """Rows of fates, which mostly are of no packets that come. verify_changes.py has those of plays."""
+    return b"".join(b"%d,%d,%d,%s,%s\n" % (number, rng.choice([0, number, 10**9]), rng.choice([60, 1000]), rng.choice([b"a", b"c1", b"default"]),
+                                            rng.choice([b"full,,", b"share,0,1000000", b"own,%d,18446744073709551615" % number])) for number in range(1, rng.choice([1, 2, 5])))
+
+
 def case(seed, number):
     """The case of this number."""
     rng = random.Random(f"{seed}/{number}")
     given = words(rng)
-    files = {b"altq.conf": config(rng), b"arrivals.pcap": capture(rng)}
+    files = {b"altq.conf": config(rng), b"arrivals.pcap": newer(rng) if chance(rng, 3) else capture(rng)}
     for name in (b"departures.pcap", b"fates.csv", b"stats.csv"):
         if chance(rng, 3):
             files[name] = rng.choice([b"", b"what stood here before\n", bytes(3000)])
+    if given[:1] == [b"verify"] and not chance(rng, 4):
+        files[b"departures.pcap"], files[b"fates.csv"] = DEPARTURES_HEAD + rng.choice([b"", b"\0"]), FATES_HEAD + rows(rng)
     return Case(given, files, all(is_text(word) for word in given))
 
 

@@ -8,6 +8,7 @@ import re
 import struct
 from collections import Counter, namedtuple
 
+import pcapng
 from program import CAPTURE_FAULTS, DEPARTURES_HEAD, FATES_HEAD, OUTPUTS, is_help, is_stated
 
 BILLION = 10**9
@@ -57,7 +58,9 @@ def record_end(data, place, count, order):
 
 
 def read_capture(data):
-    """The complete records of a capture, and how it ends."""
+    """The complete records of a capture, classic or pcapng, and how it ends."""
+    if is_pcapng(data):
+        return read_pcapng(data)
     form, end = read_head(data)
     arrivals, place, latest = [], 24, 0
     while end is None and place < len(data):
@@ -68,6 +71,21 @@ def read_capture(data):
             latest = max(latest, stamp)
             arrivals.append(Arrival(latest, max(captured, original), data[place + 16:place + 16 + captured], stamp < latest))
             place += 16 + captured
+    return Capture(arrivals, end)
+
+
+def is_pcapng(data):
+    """Whether these are the bytes of a pcapng capture."""
+    return data[:4] == pcapng.BEGIN
+
+
+def read_pcapng(data):
+    """The same of a pcapng capture."""
+    packets, end = pcapng.read(data)
+    arrivals, latest = [], 0
+    for stamp, length, captured in packets:
+        latest = max(latest, stamp)
+        arrivals.append(Arrival(latest, length, captured, stamp < latest))
     return Capture(arrivals, end)
 
 
@@ -240,10 +258,17 @@ def wrong(words, before, after, run, is_text=True):
     if run.status in (2, 3, 5) or run.said == b"altqplay: limit 3 reached\n" or command == b"check":
         return wrong_untouched(before, after)
     names = values(words)
+    if command == b"verify":
+        return wrong_untouched(before, after) or expected_end(run.status, run.said, read_capture(before[names["arrivals"]]))
     made = [names["arrivals"]] if command == b"make" else []
     if run.status == 6:
         return wrong_refusal(run.said, names, before, after, made)
-    capture = read_capture((after if made else before)[names["arrivals"]])
+    arrivals = (after if made else before)[names["arrivals"]]
+    capture = read_capture(arrivals)
+    if is_pcapng(arrivals) and capture.end is not None:
+        if run.status == 0:
+            return "a pcapng capture was played that cannot be"
+        return expected_end(run.status, run.said, capture) or wrong_untouched(before, after)
     outputs = {name: after[names[name]] for name in OUTPUTS}
     return (expected_end(run.status, run.said, capture)
             or wrong_untouched(before, after, [names[name] for name in OUTPUTS] + made)

@@ -27,34 +27,39 @@ CONFIGURATION_FAULTS = (
     "UnknownWord MissingWord BadNumber RateRange BadAddress BadByte TooLong InterfaceTwice NoInterface WrongDiscipline NameTaken NoParent "
     "TwoRoots TooDeep TooManyClasses TooManyFilters TooManyInterfaces ConvexFirst NoShare RealTimeInside InnerQueue TwoDefaults NoDefault NoClass"
 ).split()
-CAPTURE_FAULTS = "ShortHead BadMagic BadVersion BadLink ShortRecord EmptyRecord LongRecord".split()
+CAPTURE_FAULTS = (
+    "ShortHead BadMagic BadVersion BadLink ShortRecord EmptyRecord LongRecord BadBlock ShortBlock UnknownInterface BadStamp BadResolution OldPacket"
+).split()
 
 # The whole of what is said with each status but 0. With kind 10 of status 6 it could not be said.
 MESSAGES = {
     2: rb"altqplay: words refused, kind [1-4]\n",
     3: rb"altqplay: configuration line \d+ word \d+: (?:%s)\n" % "|".join(CONFIGURATION_FAULTS).encode(),
     4: rb"altqplay: capture byte \d+: (?:%s)\n" % "|".join(CAPTURE_FAULTS).encode(),
-    5: rb"altqplay: reading (?:configuration|arrivals) failed\n",
+    5: rb"altqplay: reading (?:configuration|arrivals|departures|fates) failed\n",
     6: rb"altqplay: writing (?:arrivals|departures|fates|statistics|result) failed\n",
-    7: rb"altqplay: limit [123] reached\n",
+    7: rb"altqplay: limit [1-5] reached\n",
     8: rb"altqplay: out of memory\n",
+    10: rb"altqplay: not verified, row \d+ kind [1-9]\n",
 }
 MADE = re.compile(rb"packets \d+ sent \d+ dropped \d+ end \d+\n")
+VERIFIED = re.compile(rb"(?:[\w.:/-]+ worst (?:-?\d+|none)\n)*verified\n")
+MEASURED = re.compile(rb"(?:[\w.:/-]+ [\w.:/-]+ (?:gap \d+ bound (?:\d+|none)|bound none)\n)*")
 CHECKED = re.compile(rb"(?:(?:interface|class|filter6?) [^\n]+\n)*(?:fits|exceeds at \d+ by \d+)\n")
 
 
 def is_stated(status, said, command):
     """Whether this may stand on standard output after this status of this command, where standard output takes all."""
     if status == 0:
-        form = {b"check": CHECKED, b"make": MADE}.get(command)
+        form = {b"check": CHECKED, b"make": MADE, b"verify": VERIFIED, b"shares": MEASURED}.get(command)
         return said == b"" if form is None else form.fullmatch(said) is not None
     return status in MESSAGES and re.fullmatch(MESSAGES[status], said) is not None
 
 
 def is_help(run):
     """Whether this may stand on standard error, where it is no terminal: nothing where the run is done, else one to three lines
-    of bytes 32 to 126; none where standard error is closed or a signal ended the run."""
-    return run.complaint == b"" if run.status == 0 else re.fullmatch(rb"(?:[ -~]+\n){0,3}", run.complaint) is not None
+    of bytes 32 to 126, or five that say how the program is called; none where standard error is closed or a signal ended the run."""
+    return run.complaint == b"" if run.status == 0 else re.fullmatch(rb"(?:[ -~]+\n){0,5}", run.complaint) is not None
 
 
 def kind_of(run):

@@ -33,6 +33,7 @@ from collections import namedtuple
 sys.dont_write_bytecode = True
 sys.path.insert(0, os.path.join(os.path.dirname(os.path.dirname(os.path.abspath(__file__))), "example"))
 
+import pcapng  # noqa: E402
 from generate import capture_head, captured_bytes, record  # noqa: E402
 from program import DEPARTURES_HEAD, FATES_HEAD, OUTPUTS, PROGRAM, ROOT, Late, content, is_help, prepare, run, store, words_of  # noqa: E402
 
@@ -84,10 +85,22 @@ class Room:
             os.chmod(self.path(NAMES[name]), 0o666)
 
 
+def packets():
+    """The packets of all tries: frames of 1,000 bytes that come each 100 microseconds and are all sent; stamp, length and bytes."""
+    return [(10**9 + 100_000 * number, 1000, captured_bytes(number + 1, 1000, 9000, 0)) for number in range(PACKETS)]
+
+
 def capture():
-    """The arrivals of all tries: frames of 1,000 bytes that come each 100 microseconds and are all sent."""
-    frames = [captured_bytes(number, 1000, 9000, 0) for number in range(1, PACKETS + 1)]
-    return capture_head() + b"".join(record(10**9 + 100_000 * number, frame, 1000) for number, frame in enumerate(frames))
+    """The arrivals of all tries."""
+    return capture_head() + b"".join(record(stamp, frame, length) for stamp, length, frame in packets())
+
+
+def as_pcapng(room, cut):
+    """A play of the same packets in pcapng, cut by some bytes."""
+    room.lay()
+    data = b"".join(pcapng.whole_blocks(packets()))
+    store(room.path(NAMES["arrivals"]), data[: len(data) - cut])
+    return finished(room, NAMES)
 
 
 def outputs_in(room, names):
@@ -128,6 +141,19 @@ def checked(room, suffix):
     """A `check`, whose standard output is what a shell makes of `suffix`."""
     room.lay()
     words = ["/bin/sh", "-c", f'"$@" {suffix}', "sh", room.program, "check", "--config", NAMES["config"], "--interface", "if0"]
+    return Ending(run(words, room.folder), outputs_in(room, NAMES))
+
+
+def verified(room, which=None, name=None, suffix=""):
+    """A `verify` of the files of a whole play, with another name for one of them, or by a shell with `suffix`."""
+    room.lay()
+    os.mkdir(room.path("folder"))
+    for output in OUTPUTS:
+        store(room.path(NAMES[output]), room.whole[output])
+    names = {**NAMES, which: name}
+    words = [room.program, "verify", "--interface", "if0", *(word for option in ("config", "arrivals", "departures", "fates") for word in ("--" + option, names[option]))]
+    if suffix:
+        words = ["/bin/sh", "-c", f'"$@" {suffix}', "sh", *words]
     return Ending(run(words, room.folder), outputs_in(room, NAMES))
 
 
@@ -321,10 +347,10 @@ def uncreated(row, play, *given):
     return [Try(row, play, (which, *given), 6, writing(which), after_creation(which)) for which in OUTPUTS]
 
 
-def unread(row, play, *given, arrivals=UNTOUCHED):
-    """The tries of a row, one for each file that cannot be read, and what the outputs hold where these are the arrivals."""
+def unread(row, play, *given):
+    """The tries of a row, one for each file that cannot be read."""
     return [Try(row, play, ("config", *given), 5, reading("config"), UNTOUCHED),
-            Try(row, play, ("arrivals", *given), 5, reading("arrivals"), arrivals)]
+            Try(row, play, ("arrivals", *given), 5, reading("arrivals"), UNTOUCHED)]
 
 
 def played_with(room, which, name):
@@ -332,18 +358,23 @@ def played_with(room, which, name):
     return played(room, **{which: name})
 
 
+# Where the last packet of the pcapng capture begins.
+LAST_BLOCK = sum(map(len, pcapng.whole_blocks(packets())[:-1]))
+
 QUICK = [
     *unread("a file to read in a folder that is not there", played_with, "absent/file"),
     *unread("a name of 256 bytes, or a link to itself, to read", long_name),
     *unread("a name of 256 bytes, or a link to itself, to read", loop),
-    *unread("a folder to read", in_folder, arrivals=HEADED),
-    *unread("a file whose reading fails (`/proc/self/mem`)", device, "/proc/self/mem", arrivals=HEADED),
+    *unread("a folder to read", in_folder),
+    *unread("a file whose reading fails (`/proc/self/mem`)", device, "/proc/self/mem"),
     Try("the configuration from a named pipe", from_pipe, ("config",), 0, "", WHOLE),
     Try("the arrivals from a named pipe", from_pipe, ("arrivals",), 0, "", WHOLE),
     Try("`/dev/null` as configuration", device, ("config", "/dev/null"), 3, "altqplay: configuration line 0 word 0: NoInterface\n", UNTOUCHED),
     Try("`/dev/zero` as configuration", device, ("config", "/dev/zero"), 7, "altqplay: limit 3 reached\n", UNTOUCHED),
     Try("`/dev/null` as arrivals", device, ("arrivals", "/dev/null"), 4, "altqplay: capture byte 0: ShortHead\n", HEADED),
     Try("`/dev/zero` as arrivals", device, ("arrivals", "/dev/zero"), 4, "altqplay: capture byte 0: BadMagic\n", HEADED),
+    Try("the same packets as a pcapng capture", as_pcapng, (0,), 0, "", WHOLE),
+    Try("a pcapng capture that is cut by its last byte", as_pcapng, (1,), 4, f"altqplay: capture byte {LAST_BLOCK}: ShortBlock\n", UNTOUCHED),
     Try("arrivals that are cut inside of a record while they are read", cut_while_read, (), 4, f"altqplay: capture byte {24 + 76 * (PACKETS - 2)}: ShortRecord\n", ("front", "front", "empty")),
     *uncreated("an output in a folder that is not there", played_with, "absent/file"),
     *uncreated("a name of 256 bytes, or a link to itself, for an output", long_name),
@@ -380,6 +411,13 @@ QUICK = [
     Try("`play` and `make` with standard input and output closed: `play`", redirected, ("<&- >&-",), 0, "", WHOLE),
     Try("`play` and `make` with standard input and output closed: `make`", made, ("<&- >&-",), 6, "", WHOLE),
     Try("`make` with all three standard descriptors closed", made, ("<&- >&- 2>&-",), 6, "", WHOLE),
+    Try("`verify` of the files of a play", verified, (), 0, "verified\n", WHOLE),
+    *[Try("`verify` of departures or fates that are not there", verified, (which, "none"), 5, reading(which), WHOLE) for which in OUTPUTS[:2]],
+    *[Try("`verify` of a folder in place of departures or fates", verified, (which, "folder"), 5, reading(which), WHOLE) for which in OUTPUTS[:2]],
+    Try("`verify` of `/dev/null` as departures", verified, ("departures", "/dev/null"), 10, "altqplay: not verified, row 0 kind 8\n", WHOLE),
+    Try("`verify` of `/dev/null` as fates", verified, ("fates", "/dev/null"), 10, "altqplay: not verified, row 0 kind 1\n", WHOLE),
+    Try("`verify` with standard output closed, or full", verified, (None, None, ">&-"), 6, "", WHOLE),
+    Try("`verify` with standard output closed, or full", verified, (None, None, ">/dev/full"), 6, "", WHOLE),
 ]
 
 DEMANDING = [

@@ -20,9 +20,12 @@ from program import CAPTURE_FAULTS, CONFIGURATION_FAULTS
 PROTOCOLS = {"icmp": 1, "tcp": 6, "udp": 17, "icmp6": 58}
 LINK = bytes.fromhex("020000000002020000000001")
 CONFIGURATION = "--config conf --interface if0"
-OTHERS = "--arrivals in --departures out --fates fates --stats stats --seed 42"
+GIVEN = "--arrivals in --departures out --fates fates"
+OTHERS = GIVEN + " --stats stats --seed 42"
+USUAL = {"check": CONFIGURATION, "verify": f"{CONFIGURATION} {GIVEN}"}
 NAMES = ("conf", "in", "out", "fates", "stats")
-READ, WRITTEN = ("configuration", "arrivals"), {"departures": 1, "fates": 2, "statistics": 3, "arrivals": 4, "result": 10}
+EDITS = ("bytes", "cut", "put")
+READ, WRITTEN = ("configuration", "arrivals", "departures", "fates"), {"departures": 1, "fates": 2, "statistics": 3, "arrivals": 4, "result": 10}
 
 
 def number(text):
@@ -37,6 +40,17 @@ def end_of(text):
     except ValueError:
         host, port = text.rsplit(":", 1)
         return ipaddress.ip_address(host.strip("[]")).packed, int(port)
+
+
+def _edit(data, how, words):
+    # Adds bytes, cuts them to a number, or overwrites some from a place on.
+    if how == "bytes":
+        data += bytes.fromhex(words[0])
+    elif how == "cut":
+        del data[number(words[0]):]
+    else:
+        piece = bytes.fromhex(words[1])
+        data[number(words[0]):number(words[0]) + len(piece)] = piece
 
 
 class Packet:
@@ -125,7 +139,7 @@ class Case:
 
     def run(self, words):
         """Runs a command: its message and how it ended."""
-        usual = CONFIGURATION if words[0] == "check" else CONFIGURATION + " " + OTHERS
+        usual = USUAL.get(words[0], f"{CONFIGURATION} {OTHERS}")
         words = " ".join(words).replace("..", usual).split()
         self.put("conf", self.config.encode())
         self.put("in", bytes(self.capture))
@@ -143,6 +157,17 @@ class Case:
             return None
         with open(path, "rb") as file:
             return file.read()
+
+    def change(self, words):
+        """Changes the bytes of a file as the words say, or a line of its text."""
+        data = bytearray(self.get(words[1]) or b"")
+        if words[0] == "row":
+            lines, place = data.decode().splitlines(), number(words[2]) - 1
+            lines[place:place + 1] = [" ".join(words[3:])] if words[3:] else []
+            data = "".join(line + "\n" for line in lines).encode()
+        else:
+            _edit(data, words[0], words[2:])
+        self.put(words[1], bytes(data))
 
     def text(self, name):
         """The lines of a file."""
@@ -185,13 +210,10 @@ class Case:
             return self.answer(line, words[1:])
         elif words[0] == "head":
             self.begin(*words[1:])
-        elif words[0] == "bytes":
-            self.capture += bytes.fromhex(words[1])
-        elif words[0] == "cut":
-            del self.capture[number(words[1]):]
-        elif words[0] == "put":
-            data = bytes.fromhex(words[2])
-            self.capture[number(words[1]):number(words[1]) + len(data)] = data
+        elif words[0] == "row" or (words[0] in EDITS and words[1] in NAMES):
+            self.change(words)
+        elif words[0] in EDITS:
+            _edit(self.capture, words[0], words[1:])
         else:
             self.arrive(words)
         return []
