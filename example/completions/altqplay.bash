@@ -42,9 +42,10 @@ _altqplay() {
 
     # Which options are given, and of which the value stands at the cursor.
     case ${words[1]} in
-        play) options=(--config --interface --arrivals --departures --fates --stats --seed) ;;
+        play | shares) options=(--config --interface --arrivals --departures --fates --stats --seed) ;;
         make) options=(--count --config --interface --arrivals --departures --fates --stats --seed) ;;
         check) options=(--config --interface) ;;
+        verify) options=(--config --interface --arrivals --departures --fates) ;;
     esac
     for ((i = 2; i < ${#words[@]}; i++)); do
         name=${words[i]%%=*}
@@ -64,7 +65,7 @@ _altqplay() {
     fi
 
     if ((here == 1)); then
-        found=(play check make)
+        found=(play check make shares verify)
     elif [[ -z $option ]]; then
         for part in "${options[@]}"; do
             [[ $given == *" $part "* ]] || found+=("$part")
