@@ -4,7 +4,7 @@
     altqwork gap --config altq.conf --fates fates.csv --pair a b --rows gap.csv --picture gap.svg
 
 A stretch is a part of the play in which packets of both siblings, or below them, wait after each event. With the rates r1 and r2 of two
-linear link-sharing curves and W1 and W2, what they were sent in a stretch, the gap is the greatest |W1/r1 - W2/r2|, in nanoseconds, over all
+linear link-sharing curves and U1 and U2, what they were sent in a stretch, the gap is the greatest |U1/r1 - U2/r2|, in nanoseconds, over all
 stretches (docs/FAIRNESS.md). For each pair of siblings the gap is told with its bound, and with the moments at which the stretch begins and
 ends that has it. --rows writes, for each event of a stretch, the greatest gap of the stretches that end with it, and --picture draws these over
 time, with the bound as a line. The exit status is 0. It needs no library.
@@ -76,7 +76,7 @@ def events(fates):
 
 
 def stretches(interface, fates, pair):
-    """The longest stretches of a pair, each with a moment and what W1*r2 - W2*r1 is, in bytes times bits per second, after each event."""
+    """The longest stretches of a pair, each with a moment and what U1*r2 - U2*r1 is, in bytes times bits per second, after each event."""
     waiting, value, stretch, found = Counter(), 0, None, []
     weights = {pair[0]: rate(interface, pair[1]), pair[1]: -rate(interface, pair[0])}
     for at, is_start, fate in events(fates):
