@@ -60,6 +60,8 @@ fn moved(piece: &[u8], into: &mut [u8]) -> usize
 }
 
 impl Files for LongCapture {
+    ghost use Rattle.std.proofs.lemmas.Bool.{false≢true};
+
     ghost view = { λ s. record {
       tells = false;
       bytes = λ n. None;
@@ -71,6 +73,8 @@ impl Files for LongCapture {
       write_faults = λ p. 0;
       fixed = [];
     } };
+
+    ghost told = { λ files file part tells there. absurd (false≢true tells) };
 
     fn open(&mut self, part: u8, _name: &str) -> Result<u32, Trouble> {
         add_file(&mut self.parts, &mut self.taken, part, 0)

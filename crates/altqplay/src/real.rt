@@ -138,6 +138,8 @@ fn say_whole<T: Write>(writer: &mut T, text: &[u8]) -> io::Result<()>
 }
 
 impl<'a, R: rt::Files + Print> Files for RealFiles<'a, R> {
+    ghost use Rattle.std.proofs.lemmas.Bool.{false≢true};
+
     ghost view = { λ s. record {
       tells = false;
       bytes = λ n. None;
@@ -149,6 +151,8 @@ impl<'a, R: rt::Files + Print> Files for RealFiles<'a, R> {
       write_faults = slice_index s.write_faults;
       fixed = [];
     } };
+
+    ghost told = { λ files file part tells there. absurd (false≢true tells) };
 
     fn open(&mut self, part: u8, name: &str) -> Result<u32, Trouble> {
         match fs::open(self.rt, name) {

@@ -44,9 +44,12 @@ pub struct FrontFiles<'a, 'b, F: Files> {
 }
 
 impl<'a, 'b, F: Files> Files for FrontFiles<'a, 'b, F> {
+    ghost use Rattle.pcapng_files.specs.Telling.{front_tells};
     ghost use Rattle.pcapng_files.specs.Fronts.{front_view};
 
     ghost view = { λ s. front_view (F.view s.files.now) s.files.ghost_name s.file s.front.rest s.front.bytes.now };
+
+    ghost told = { λ s. front_tells (F.view s.files.now) s.files.ghost_name s.file s.front.rest s.front.bytes.now (F.told s.files.now) };
 
     fn open(&mut self, part: u8, name: &str) -> Result<u32, Trouble> {
         self.files.open(part, name)

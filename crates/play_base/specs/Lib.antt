@@ -3,5 +3,6 @@ pub mod Memory
 pub mod Overwritten
 pub mod Planned
 pub mod Steady
+pub mod Telling
 pub mod Units
 pub mod View

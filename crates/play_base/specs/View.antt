@@ -23,6 +23,10 @@ pub record View : Type 0 where
   -- what no call changes of an object that borrows other files: the name of the reference, and more that it fixes; [] for all others
   pub fixed : List ℕ
 
+-- where the object tells, it tells what each of its files has left
+abbrev pub TellsLeft : View → Type 0
+TellsLeft v = (file part : ℕ) → IsTrue v.tells → v.part file ≡ Some part → IsSome (v.left file)
+
 -- a count rose, or is at its greatest value, 2^64 - 1
 abbrev pub Rose : ℕ → ℕ → Type 0
 Rose old new = min (old + 1) (2 ^ 64 - 1) ≤ new

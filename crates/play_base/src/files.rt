@@ -1,19 +1,21 @@
 // The files of a play: each call's effect is stated on what the object tells.
 ghost use Rattle.std.specs.Prelude.{◌≡◌, ◌⊎◌, ◌<◌, ◌≤◌, ℕ, length, take, Some, IsSome, IfOk, OnErr, OnOk, IsErrOf};
-ghost use Rattle.play_base.specs.View.{View, Rose, SameCounts, Unchanged, Opened, Created, Took, Wrote, Said, ReadFault, WriteFault, IsMissed, IsAtEnd};
+ghost use Rattle.play_base.specs.View.{View, TellsLeft, Rose, SameCounts, Unchanged, Opened, Created, Took, Wrote, Said, ReadFault, WriteFault, IsMissed, IsAtEnd};
 
 use crate::Trouble;
 
 /// Files of one play. The `view` is what contracts know of an object: the bytes under each name, the part and the name
 /// of each file that it opened or created, what each has left to read, the text printed so far (`said`), and for each
 /// part a count of read faults and one of write faults. A part is a number below 16. Each call changes only what it
-/// names here, and the counts.
+/// names here, and the counts. An object that tells anything tells what every one of its files has left (`told`).
 ///
 /// Every call may return `NoMemory`. After any error nothing has changed but counts, which never fall. A call that
 /// succeeds leaves every count as it was, but for a `write` that moves nothing of a piece that isn't empty: so an object
 /// that met a fault in a call answers `Failed` in it. A count saturates at 2^64 − 1; there "rose" holds of every call.
 pub trait Files {
     ghost view: { Self → View };
+
+    ghost told: { (files : Self) → TellsLeft (view files) };
 
     /// A file that this object did not have before, which has the bytes under the name left to read. `Failed` comes only
     /// where the part's count of read faults rose in this call, or where the name is told not to be there and no count

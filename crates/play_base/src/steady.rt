@@ -130,7 +130,11 @@ impl SteadyFiles {
 }
 
 impl Files for SteadyFiles {
+    ghost use Rattle.play_base.specs.Telling.{told_at};
+
     ghost view = { steady_view };
+
+    ghost told = { λ files file part tells there. told_at files.opened.items file part there };
 
     fn open(&mut self, part: u8, name: &str) -> Result<u32, Trouble>
         requires { part < 16 }
