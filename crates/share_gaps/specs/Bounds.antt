@@ -20,7 +20,7 @@ is_alone k = not (is_some k.limit) && is_idle k.real
 abbrev pub shares_alone : List HfscClass → Bool
 shares_alone ks = list_all is_alone ks
 
--- the greatest step of the children of a class for so many units
+-- the greatest step of the children of class p for u units
 abbrev pub most_of : List HfscClass → (p amount : ℕ) → ℕ
 most_of cs p u = greatest (map (λ c. step_of (class_of cs c).share u) (filter (is_child cs p) (numbers cs)))
 

@@ -7,7 +7,7 @@ use Rattle.share_gaps.specs.declared.siblings.Siblings.{Siblings}
 abbrev pub held_to : ℕ → ℕ
 held_to x = min x (2 ^ 128 - 1)
 
--- the work of so many units, by the rate of the sibling; 0 where its curve is no line
+-- the amount times the rate of the sibling; 0 where its curve is no line
 abbrev pub gain_of : (amount : ℕ) → Option ℕ → ℕ
 gain_of amount None = 0
 gain_of amount (Some rate) = held_to (amount * rate)

@@ -46,7 +46,7 @@ fn ceil_div(amount: u128, by: u128) -> u128
     amount.div_ceil(by)
 }
 
-/// By how much, at most, so many units move the virtual time of a class with this curve.
+/// By how much, at most, `amount` units move the virtual time of a class with this curve.
 fn step_of(curve: Option<Curve>, amount: u128) -> u128
     requires { amount < 2 ^ 100 }
     ensures is { result ≡ step_of curve amount }
@@ -85,7 +85,7 @@ fn greater(one: u128, other: u128) -> u128
     one.max(other)
 }
 
-/// The greatest step of the children of a class for so many units.
+/// The greatest step of the children of class `parent` for `amount` units.
 pub fn most_of(classes: &[HfscClass], parent: u32, amount: u128) -> u128
     requires { amount < 2 ^ 100 }
     ensures is { result ≡ most_of classes.now parent amount }

@@ -40,7 +40,7 @@ impl Lead {
     }
 }
 
-/// The work of so many units by the rate of a sibling, 0 where that has none.
+/// `amount` times the rate of a sibling, 0 where that has none; at most 2^128 − 1.
 pub fn gain(amount: u128, rate: Option<u64>) -> u128
     ensures { result ≡ gain_of amount rate }
 {

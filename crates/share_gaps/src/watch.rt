@@ -62,7 +62,7 @@ fn copied(alloc: Global, classes: &[HfscClass]) -> Result<Vec<HfscClass>, NoMemo
     Ok(all)
 }
 
-/// No packet waits in any of so many classes.
+/// No packet waits in any of `count` classes.
 fn none_waiting(alloc: Global, count: usize) -> Result<Vec<u32>, NoMemory>
     ensures { IfOk result (λ waiting. waiting.items ≡ replicate count 0) }
 {
@@ -70,7 +70,7 @@ fn none_waiting(alloc: Global, count: usize) -> Result<Vec<u32>, NoMemory>
     Ok(waiting)
 }
 
-/// None of so many pairs is ahead.
+/// None of `count` pairs is ahead.
 fn level_leads(alloc: Global, count: usize) -> Result<Vec<Lead>, NoMemory>
     ensures { IfOk result (λ leads. leads.items ≡ replicate count (record { first = 0; second = 0; most = 0 })) }
 {
