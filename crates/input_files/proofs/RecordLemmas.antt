@@ -1,5 +1,5 @@
 -- Records that were read, and files that were read on.
-use Rattle.std.proofs.Common.{◌≡◌, ◌∙◌, inl, inr, ℕ, List, [], ◌∷◌, ◌++◌, length, map, Some, refl, ap, sym, subst}
+use Rattle.std.proofs.Common.{◌≡◌, ◌∙◌, inl, inr, ℕ, List, [], ◌∷◌, ◌++◌, length, map, Some, refl, ap, sym, subst, arith, length-append}
 use Rattle.std.specs.Prelude.{IsSome, IfSome}
 use Rattle.std.specs.declared.option.Option.{Option}
 use Rattle.std.proofs.lemmas.List.{map-append}
@@ -13,7 +13,7 @@ use Rattle.pcap_files.specs.Reading.{Answers, IsHeadFault, Shows, StandsFor}
 use Rattle.pcap_files.proofs.ReaderLemmas.{took_unchanged}
 use Rattle.play_base.specs.View.{View, ReadFault, Took, Unchanged}
 use Rattle.play_base.proofs.ViewLaws.{rose_before, rose_later, took_more, took_nothing}
-use Rattle.input_files.specs.Records.{HasFault, StaysOrFails, shown_by, shown_of}
+use Rattle.input_files.specs.Records.{HasFault, IsReadOut, IsToldLast, StaysOrFails, shown_by, shown_of}
 
 pub some_nothing : (a : View) (file : ℕ) → TookSome a a file
 some_nothing a file = ([], took_nothing a file)
@@ -72,6 +72,24 @@ stays_same u v file (fault.Damage found) = refl
 stays_same u v file fault.Limit = refl
 stays_same u v file fault.Read = inl refl
 stays_same u v file fault.NoMemory = tt
+
+-- a fault that stays is told once the file is read out
+pub told_last : (u v : View) (file : ℕ) (f : CaptureFault) → IsReadOut u v file → IsToldLast u v file f
+told_last u v file (fault.Damage found) h = h
+told_last u v file fault.Limit h = h
+told_last u v file fault.Read h = tt
+told_last u v file fault.NoMemory h = tt
+
+out_later : (a b c : View) (file : ℕ) → TookSome a b file → IsReadOut b c file → IsReadOut a c file
+out_later a b c file x (inl h) = inl h
+out_later a b c file x (inr h) =
+    inr (x.0 ++ h.0, took_more a b c file x.0 h.0 x.1 h.1, omega (arith, h.2, length-append x.0 h.0))
+
+pub last_later : (a b c : View) (file : ℕ) (f : CaptureFault) → TookSome a b file → IsToldLast b c file f → IsToldLast a c file f
+last_later a b c file (fault.Damage found) x h = out_later a b c file x h
+last_later a b c file fault.Limit x h = out_later a b c file x h
+last_later a b c file fault.Read x h = tt
+last_later a b c file fault.NoMemory x h = tt
 
 -- what is told of a fault of the bytes is one
 pub fault_told : (u v : View) (file : ℕ) (f r : CaptureFault) (bytes : List ℕ) → StaysOrFails u v file f r → HasFault bytes f → HasFault bytes r

@@ -1,6 +1,6 @@
 // The records of a capture.
 ghost use Rattle.std.specs.Prelude.{◌≡◌, ◌≤◌, ℕ, List, length, Some, IfErr, IfOk, IsErrOf, IsSome, OnOk};
-ghost use Rattle.input_files.specs.Records.{AreRecords, HasFault, StaysOrFails};
+ghost use Rattle.input_files.specs.Records.{AreRecords, HasFault, IsReadOut, IsToldLast, StaysOrFails};
 ghost use Rattle.pcap_files.specs.Ahead.{TookSome};
 ghost use Rattle.play_base.specs.View.{ReadFault, SameCounts};
 
@@ -42,22 +42,27 @@ fn records_of<F: Files>(
     }
 }
 
-// The most pieces that are taken behind a fault: no capture has more bytes.
-const PIECES: usize = 16_385;
+// No capture has more bytes.
+const MOST_BYTES: u64 = 1 << 30;
 
-// Takes what a file has left in pieces.
+// Takes what a file has left in pieces, or more bytes of it than a capture may have.
 fn take_rest<F: Files>(files: &mut F, file: u32, piece: &mut [u8]) -> Result<(), Trouble>
     requires there { IsSome ((F.view files.old).part file) }
     requires room { length piece.old ≡ 65536 }
+    ensures out { OnOk result (IsReadOut (F.view files.old) (F.view files.new) file) }
     ensures failed { IsErrOf result Trouble.Failed → ReadFault (F.view files.old) (F.view files.new) file }
     ensures some { TookSome (F.view files.old) (F.view files.new) file }
 {
-    for turn in 0..PIECES {
-        match files.read(file, piece) {
-            Ok(0) => return Ok(()),
-            Ok(_) => {}
+    let mut taken = 0u64;
+    while taken <= MOST_BYTES {
+        let count = match files.read(file, piece) {
+            Ok(count) => count,
             Err(trouble) => return Err(trouble),
+        };
+        if count == 0 {
+            return Ok(());
         }
+        taken += count as u64;
     }
     Ok(())
 }
@@ -71,6 +76,7 @@ fn told_after<F: Files>(
 ) -> CaptureFault
     requires { IsSome ((F.view files.old).part file) }
     ensures stays { StaysOrFails (F.view files.old) (F.view files.new) file fault result }
+    ensures last { IsToldLast (F.view files.old) (F.view files.new) file result }
     ensures some { TookSome (F.view files.old) (F.view files.new) file }
 {
     let Ok(mut piece) = Vec::from_elem(alloc, 0u8, 65_536) else {
@@ -84,7 +90,7 @@ fn told_after<F: Files>(
 }
 
 /// The records of the capture that an opened file has left, at most 4,000,000, in the order of the file. `Damage` and `Limit` come only where the bytes
-/// fail a test, and are told only once the file was read to its end, or as far as a capture can go: where a read of it fails the
+/// fail a test, and are told only once the file was read to its end, or more than 2^30 bytes of it: where a read of it fails the
 /// answer is `Read`. That comes only where the count of read faults of the file's part rose in this call. Takes time in proportion to
 /// the file, and memory for the records alone.
 #[tactic(auto, using(play_base::proofs::ViewLaws::same_trans, play_base::proofs::ViewLaws::same_refl))]
@@ -97,6 +103,7 @@ pub fn read_records<F: Files>(
     ensures whole { IfOk result (λ answers. (bytes : List ℕ) → (F.view files.old).left file ≡ Some bytes → AreRecords bytes answers.items) }
     ensures few { IfOk result (λ answers. length answers.items ≤ 4000000) }
     ensures fault { IfErr result (λ fault. (bytes : List ℕ) → (F.view files.old).left file ≡ Some bytes → HasFault bytes fault) }
+    ensures last { IfErr result (IsToldLast (F.view files.old) (F.view files.new) file) }
     ensures read { IsErrOf result CaptureFault.Read → ReadFault (F.view files.old) (F.view files.new) file }
     ensures no_fault { OnOk result (SameCounts (F.view files.old) (F.view files.new)) }
     ensures some { TookSome (F.view files.old) (F.view files.new) file }

@@ -1,7 +1,7 @@
 use Rattle.std.proofs.Common.{◌≡◌, refl, ap}
 use Rattle.std.specs.Prelude.{Err}
 use Rattle.pcap_files.specs.declared.fault.CaptureFault.TheVariants as fault
-use Rattle.input_files.proofs.RecordLemmas.{fault_told, read_told, some_more}
+use Rattle.input_files.proofs.RecordLemmas.{fault_told, last_later, read_told, some_more}
 use Rattle.input_files.proofs.records.read_records.Goals as goal
 
 pub returns-in-Err-clause-read : goal.returns-in-Err-clause-read
@@ -14,3 +14,8 @@ returns-in-Err-clause-some g c = some_more _ _ _ c.args.file c.args.file refl c.
 
 pub returns-in-Err-clause-fault : goal.returns-in-Err-clause-fault
 returns-in-Err-clause-fault g c = λ bytes left. fault_told (g.F.Files.view c.records_of.new.files) (g.F.Files.view c.told_after.new.files) c.args.file c.in-Err.fault c.told_after.result bytes c.told_after.ensures.stays (c.in-Err.ensures.fault bytes left)
+
+pub returns-in-Err-clause-last : goal.returns-in-Err-clause-last
+returns-in-Err-clause-last g c =
+    last_later (g.F.Files.view c.args.files.now) (g.F.Files.view c.records_of.new.files) (g.F.Files.view c.told_after.new.files) c.args.file
+    c.told_after.result c.in-Err.ensures.some c.told_after.ensures.last
