@@ -10,5 +10,6 @@ pub mod RecordLemmas
 pub mod SentLemmas
 pub mod StatsLemmas
 pub mod TextLemmas
+pub mod ToldLemmas
 pub mod TurnLemmas
 pub mod WeightLemmas

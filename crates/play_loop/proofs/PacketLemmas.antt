@@ -26,10 +26,12 @@ use Rattle.play_loop.specs.declared.arriving.Arriving.{Arriving}
 use Rattle.play_loop.specs.declared.counting.Counted.TheVariants as counted
 use Rattle.play_loop.specs.Counting.{HasCounted, count_at}
 use Rattle.play_loop.proofs.CountingLemmas.{counted_by}
+use Rattle.play_loop.specs.KeptFates.{dropped_fate, kept_fates}
 use Rattle.play_loop.specs.Outputs.{dropped_row}
 use Rattle.play_loop.specs.Reading.{arrival_of}
 use Rattle.play_loop.specs.Underway.{AreMade, IsHeld, StayDue}
 use Rattle.play_loop.proofs.TextLemmas.{fates_offered}
+use Rattle.play_loop.proofs.ToldLemmas.{told_offered}
 use Rattle.play_loop.proofs.TurnLemmas.{open_stays, offered_stays}
 
 pub held_arrives : (place : List ℕ → Placed) (arrived : List Arrival) (g : List Happened) (p : Arriving) → IsHeld place arrived g p
@@ -74,6 +76,18 @@ fates_after place names p w arrived g x placed back h d b e =
     e ∙ ap (λ (k : DrawnWords). handed_back (p.answer (bare g) k (coming_of a)).verdict x.packet) (words_are w (drawn (bare g)) d) in
     ap (λ (o : Option Dropped). fates names arrived (journal g) ++ option_map_or (dropped_row names placed.class) o []) v
     ∙ fates_offered names p w.seed arrived g placed.class a x.packet (is_coming arrived g a h.there).numbered_is h.packet_is (ap (λ (k : Placed). k.class) b)
+
+-- what its offer tells
+pub told_after : (place : List ℕ → Placed) (p : Policy) (w : DrawnWords) (arrived : List Arrival) (g : List Happened) (x : Arriving) (back : Option Dropped)
+    → IsHeld place arrived g x → w.drawn ≡ drawn (bare g) → back ≡ handed_back (p.answer (bare g) w (coming_of (arrival_of place x))).verdict x.packet
+    → kept_fates arrived (journal g) ++ option_map_or (λ (d : Dropped). dropped_fate d ∷ []) back []
+    ≡ kept_fates arrived (journal (offer_of p w.seed g (coming_of (arrival_of place x)) ∷ g))
+told_after place p w arrived g x back h d e =
+    let a : Arrival = arrival_of place x in
+    let v : back ≡ handed_back (p.answer (bare g) (record { seed = w.seed; drawn = drawn (bare g) }) (coming_of a)).verdict x.packet =
+    e ∙ ap (λ (k : DrawnWords). handed_back (p.answer (bare g) k (coming_of a)).verdict x.packet) (words_are w (drawn (bare g)) d) in
+    ap (λ (o : Option Dropped). kept_fates arrived (journal g) ++ option_map_or (λ (d : Dropped). dropped_fate d ∷ []) o []) v
+    ∙ told_offered p w.seed arrived g a x.packet (is_coming arrived g a h.there).numbered_is h.packet_is
 
 -- and the counts with it
 pub counted_after : (place : List ℕ → Placed) (names : NameList) (p : Policy) (w : DrawnWords) (arrived : List Arrival) (g : List Happened) (x : Arriving) (back : Option Dropped) (ks ls : List Counts)

@@ -39,6 +39,7 @@ use Rattle.play_core.specs.Turns.{arrives}
 use Rattle.play_core.proofs.GoingLemmas.{IsPromised}
 use Rattle.play_core.proofs.ReadLemmas.{read_more}
 use Rattle.play_loop.specs.declared.arriving.Arriving.{Arriving}
+use Rattle.play_loop.specs.declared.kept.KeptFate.{KeptFate}
 use Rattle.play_loop.specs.declared.outputs.Outputs.{Outputs}
 use Rattle.play_text.specs.Names.{NameList, name_of}
 use Rattle.play_loop.specs.declared.counting.Counted.TheVariants.{Arrived}
@@ -54,6 +55,7 @@ use Rattle.play_loop.specs.Reading.{AreFit, HasRead, IsFit, IsWithin, arrival_of
 use Rattle.play_loop.specs.Underway.{IsHeld, IsUnderway, SameOffers, StayDue}
 use Rattle.play_loop.proofs.CountingLemmas.{counted_read}
 use Rattle.play_loop.proofs.OutputLemmas.{texts_same}
+use Rattle.play_loop.proofs.ToldLemmas.{told_stays}
 use Rattle.play_loop.proofs.TurnLemmas.{going_laws}
 
 -- what was read leaves what was written
@@ -88,8 +90,8 @@ there_push (x ∷ xs) a = there_push xs a
 
 -- a play in which every arrival that was read was offered, the last of them last
 pub record IsReading (place : List ℕ → Placed) (dress : Dressing) (names : NameList) (p : Policy) (stood : List Happened → Type 0) (lists : ℕ → List Entry) (limits : ℕ → ℕ)
-    (rate : Option ℕ) (v : View) (o : Outputs) (x : Progress) (w : DrawnWords) (told : List ℕ → Type 0) (r : Reader) (top : ℕ) (arrived : List Arrival) (g : List Happened) : Type 0 where
-  pub under : IsUnderway place dress names p stood lists limits rate v o x arrived w g
+    (rate : Option ℕ) (v : View) (o : Outputs) (kept : List KeptFate → Type 0) (x : Progress) (w : DrawnWords) (told : List ℕ → Type 0) (r : Reader) (top : ℕ) (arrived : List Arrival) (g : List Happened) : Type 0 where
+  pub under : IsUnderway place dress names p stood lists limits rate v o kept x arrived w g
   pub offers : offered (bare g) ≡ length arrived
   pub last : EndsWithOffer g
   pub newest : latest (bare g) ≡ top
@@ -98,18 +100,18 @@ pub record IsReading (place : List ℕ → Placed) (dress : Dressing) (names : N
   pub read : (bytes : List ℕ) → told bytes → HasRead place v r bytes arrived top
 
 pub under_kept : (F : ℕ → Type 0) (place : List ℕ → Placed) (dress : Dressing) (names : NameList) (p : Policy) (stood : List Happened → Type 0) (lists : ℕ → List Entry) (limits : ℕ → ℕ)
-    (rate : Option ℕ) (v v' : View) (o : Outputs) (x : Progress) (arrived : List Arrival) (w : DrawnWords) (g : List Happened)
-    → IsUnderway place dress names p stood lists limits rate v o x arrived w g → Keeps Any F v v' → IsUnderway place dress names p stood lists limits rate v' o x arrived w g
-under_kept F place dress names p stood lists limits rate v v' o x arrived w g u k =
-    record { going = u.going; given = texts_kept F v v' _ _ _ _ _ _ u.given k; counted = u.counted; fit = u.fit }
+    (rate : Option ℕ) (v v' : View) (o : Outputs) (kept : List KeptFate → Type 0) (x : Progress) (arrived : List Arrival) (w : DrawnWords) (g : List Happened)
+    → IsUnderway place dress names p stood lists limits rate v o kept x arrived w g → Keeps Any F v v' → IsUnderway place dress names p stood lists limits rate v' o kept x arrived w g
+under_kept F place dress names p stood lists limits rate v v' o kept x arrived w g u k =
+    record { going = u.going; given = texts_kept F v v' _ _ _ _ _ _ u.given k; counted = u.counted; was_told = u.was_told; fit = u.fit }
 
 -- one more packet was read
 pub under_more : (F : ℕ → Type 0) (place : List ℕ → Placed) (dress : Dressing) (names : NameList) (p : Policy) (stood : List Happened → Type 0) (lists : ℕ → List Entry) (limits : ℕ → ℕ)
-    (rate : Option ℕ) (v v' : View) (o : Outputs) (x : Progress) (w : DrawnWords) (told : List ℕ → Type 0) (r : Reader) (top : ℕ) (arrived : List Arrival) (g : List Happened) (a : Arriving)
-    → IsPromised p x.clock.rate → (u : IsReading place dress names p stood lists limits rate v o x w told r top arrived g) → Keeps Any F v v' → IsWithin a → top ≤ a.packet.at
+    (rate : Option ℕ) (v v' : View) (o : Outputs) (kept : List KeptFate → Type 0) (x : Progress) (w : DrawnWords) (told : List ℕ → Type 0) (r : Reader) (top : ℕ) (arrived : List Arrival) (g : List Happened) (a : Arriving)
+    → IsPromised p x.clock.rate → (u : IsReading place dress names p stood lists limits rate v o kept x w told r top arrived g) → Keeps Any F v v' → IsWithin a → top ≤ a.packet.at
     → length arrived < most_records → (o' : Outputs) (class : ℕ) → o' ≡ record o { counts = o'.counts } → class ≡ (place a.packet.bytes).class
-    → o'.counts.items ≡ count_at names class (Arrived a.packet.len a.raised) o.counts.items → IsUnderway place dress names p stood lists limits rate v' o' x (arrived ++ arrival_of place a ∷ []) w g
-under_more F place dress names p stood lists limits rate v v' o x w told r top arrived g a m u k i l few o' class same is more_is =
+    → o'.counts.items ≡ count_at names class (Arrived a.packet.len a.raised) o.counts.items → IsUnderway place dress names p stood lists limits rate v' o' kept x (arrived ++ arrival_of place a ∷ []) w g
+under_more F place dress names p stood lists limits rate v v' o kept x w told r top arrived g a m u k i l few o' class same is more_is =
     let b : Arrival = arrival_of place a in
     let more : List Arrival = b ∷ [] in
     let y = u.under.going in
@@ -126,6 +128,7 @@ under_more F place dress names p stood lists limits rate v v' o x w told r top a
           (texts_kept F v v' _ _ _ _ _ _ u.under.given k));
       counted = counted_read names arrived b g o.counts.items o'.counts.items u.under.counted laws.of_arrivals
           (more_is ∙ ap (λ (c : ℕ). count_at names c (Arrived a.packet.len a.raised) o.counts.items) is);
+      was_told = subst kept (sym (told_stays arrived more g laws.of_arrivals)) u.under.was_told;
       fit = fit_push place arrived b u.under.fit (record { class = refl; some = i.some; short = i.short; fits = i.fits });
     }
 

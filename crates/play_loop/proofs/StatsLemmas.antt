@@ -1,6 +1,6 @@
 -- The statistics are written behind the other outputs.
-use Rattle.std.proofs.Common.{◌≡◌, ◌≢◌, ◌++◌, ◌∙◌, ◌⊎◌, inl, inr, ℕ, List, [], take, drop, ap, sym, subst}
-use Rattle.std.specs.Prelude.{IsSome, IsTrue}
+use Rattle.std.proofs.Common.{◌≡◌, ◌≢◌, ◌++◌, ◌∙◌, ◌⊎◌, inl, inr, ℕ, List, [], take, drop, Ok, Err, ap, sym, subst}
+use Rattle.std.specs.Prelude.{IfOk, IsSome, IsTrue, Result}
 use Rattle.altq_model.specs.History.{Happened}
 use Rattle.capture_model.specs.Capture.{Record, End}
 use Rattle.pcap_files.proofs.ReadingLaws.{one_reading}
@@ -10,15 +10,18 @@ use Rattle.play_base.proofs.HoldsLaws.{apart_kept, holds_beside, holds_wrote}
 use Rattle.play_base.proofs.ViewLaws.{keeps_fewer, later_trans, part_of_there, rose_later, still_there}
 use Rattle.play_text.specs.Statistics.{stats_of}
 use Rattle.play_loop.specs.declared.counting.Tally.{Tally}
+use Rattle.play_core.specs.declared.totals.Totals.{Totals}
 use Rattle.play_loop.specs.declared.fault.Opened.{Opened}
 use Rattle.play_loop.specs.declared.fault.Output.TheVariants as output
 use Rattle.play_loop.specs.declared.fault.PlayFault.{PlayFault}
 use Rattle.play_loop.specs.declared.fault.PlayFault.TheVariants as play
+use Rattle.play_loop.specs.declared.kept.KeptFate.{KeptFate}
 use Rattle.play_loop.specs.Gathered.{HoldsFront}
 use Rattle.play_loop.specs.Kept.{IsNoOutput, IsOther, KeepsBeside, KeepsPlayed}
 use Rattle.play_loop.specs.Outputs.{IsStatsCause}
 use Rattle.play_loop.specs.Played.{AreReady, BeginsStats, Explains, Fronts, HasStopped, HoldTexts, LeavesStats, Plays, Writes}
 use Rattle.play_loop.specs.Setup.{Setup, arrivals_in}
+use Rattle.play_loop.specs.Told.{Tells}
 use Rattle.play_loop.proofs.GatherLemmas.{take_drop}
 use Rattle.play_loop.proofs.PlayLemmas.{whole_front}
 
@@ -61,28 +64,40 @@ texts_beside x u v w o records g ys r k s h = record {
       (apart_kept _ _ u v o.fates o.stats r.empty.fates.there r.stats.there r.fates_from_stats k) s;
 }
 
-pub plays_whole : (x : Setup) (stood : List Happened → Type 0) (u v w : View) (o : Opened) (t : Tally) → AreReady u o → KeepsBeside o.arrivals o.departures o.fates u v
-    → Writes x stood u v o t → Wrote v w o.stats (stats_of x.names t.counts.items) → Plays x stood u w o t.totals
-plays_whole x stood u v w o t r k p s = λ told rest l.
+pub tells_whole : (x : Setup) (stood : List Happened → Type 0) (kept : List KeptFate → Type 0) (u v w : View) (o : Opened) (t : Tally) → AreReady u o
+    → KeepsBeside o.arrivals o.departures o.fates u v → Writes x stood kept u v o t → Wrote v w o.stats (stats_of x.names t.counts.items) → Tells x stood kept u w o t.totals
+tells_whole x stood kept u v w o t r k p s = λ told rest l.
     let y = p told rest l in
     let z = y.2 in
     let T : List ℕ → Type 0 = λ e. HoldsAt w o.stats e in (
       y.0,
       y.1,
       record {
-        history = z.history;
-        play = z.play;
-        texts = texts_beside x u v w o y.0 z.history _ r k s z.texts;
-        stats = subst T (ap (stats_of x.names) z.counted.counts_are) (holds_wrote v w o.stats [] _ (no_stats u v o r k) s);
-        reads = z.reads;
-        stands = z.stands;
+        played = record {
+          history = z.history;
+          play = z.play;
+          texts = texts_beside x u v w o y.0 z.history _ r k s z.texts;
+          stats = subst T (ap (stats_of x.names) z.counted.counts_are) (holds_wrote v w o.stats [] _ (no_stats u v o r k) s);
+          reads = z.reads;
+          stands = z.stands;
+        };
+        told = z.was_told;
       },
     )
 
+pub plays_told : (x : Setup) (stood : List Happened → Type 0) (kept : List KeptFate → Type 0) (u v : View) (o : Opened) (t : Totals) → Tells x stood kept u v o t → Plays x stood u v o t
+plays_told x stood kept u v o t p = λ told rest l. (let y = p told rest l in (y.0, y.1, y.2.played))
+
+-- what holds of all that was told
+pub tells_as : (x : Setup) (stood : List Happened → Type 0) (P Q : List KeptFate → Type 0) (u v : View) (o : Opened) (r : Result Totals PlayFault) → ((ks : List KeptFate) → P ks → Q ks)
+    → IfOk r (Tells x stood P u v o) → IfOk r (Tells x stood Q u v o)
+tells_as x stood P Q u v o (Ok t) h p = λ told rest l. (let y = p told rest l in (y.0, y.1, record { played = y.2.played; told = h _ y.2.told }))
+tells_as x stood P Q u v o (Err e) h p = p
+
 -- where they could not be written whole
-pub fronts_whole : (x : Setup) (stood : List Happened → Type 0) (u v w : View) (o : Opened) (t : Tally) (text : List ℕ) → AreReady u o
-    → KeepsBeside o.arrivals o.departures o.fates u v → Writes x stood u v o t → WroteFront v w o.stats text → Fronts x u w o
-fronts_whole x stood u v w o t text r k p s = λ told rest l records last reads is_last.
+pub fronts_whole : (x : Setup) (stood : List Happened → Type 0) (kept : List KeptFate → Type 0) (u v w : View) (o : Opened) (t : Tally) (text : List ℕ) → AreReady u o
+    → KeepsBeside o.arrivals o.departures o.fates u v → Writes x stood kept u v o t → WroteFront v w o.stats text → Fronts x u w o
+fronts_whole x stood kept u v w o t text r k p s = λ told rest l records last reads is_last.
     let y = p told rest l in
     let z = y.2 in
     let one = one_reading (o.first.now ++ rest) records y.0 last End reads is_last y.1 tt in
@@ -94,9 +109,9 @@ fronts_whole x stood u v w o t text r k p s = λ told rest l records last reads 
       texts = record { departures = whole_front w o.departures _ texts.departures; fates = whole_front w o.fates _ texts.fates };
     })
 
-begins_stats : (x : Setup) (stood : List Happened → Type 0) (u v w : View) (o : Opened) (t : Tally) → AreReady u o
-    → KeepsBeside o.arrivals o.departures o.fates u v → Writes x stood u v o t → WroteFront v w o.stats (stats_of x.names t.counts.items) → BeginsStats x u w o
-begins_stats x stood u v w o t r k p s = inr (λ told rest l.
+begins_stats : (x : Setup) (stood : List Happened → Type 0) (kept : List KeptFate → Type 0) (u v w : View) (o : Opened) (t : Tally) → AreReady u o
+    → KeepsBeside o.arrivals o.departures o.fates u v → Writes x stood kept u v o t → WroteFront v w o.stats (stats_of x.names t.counts.items) → BeginsStats x u w o
+begins_stats x stood kept u v w o t r k p s = inr (λ told rest l.
     let y = p told rest l in
     let z = y.2 in
     let text : List ℕ = stats_of x.names t.counts.items in (
@@ -115,16 +130,16 @@ begins_stats x stood u v w o t r k p s = inr (λ told rest l.
       },
     ))
 
-pub leaves_stats : (x : Setup) (stood : List Happened → Type 0) (u v w : View) (o : Opened) (t : Tally) (f : PlayFault) → AreReady u o
-    → KeepsBeside o.arrivals o.departures o.fates u v → Writes x stood u v o t → WroteFront v w o.stats (stats_of x.names t.counts.items) → IsStatsCause o.stats v w f
+pub leaves_stats : (x : Setup) (stood : List Happened → Type 0) (kept : List KeptFate → Type 0) (u v w : View) (o : Opened) (t : Tally) (f : PlayFault) → AreReady u o
+    → KeepsBeside o.arrivals o.departures o.fates u v → Writes x stood kept u v o t → WroteFront v w o.stats (stats_of x.names t.counts.items) → IsStatsCause o.stats v w f
     → LeavesStats x u w o f
-leaves_stats x stood u v w o t (play.Write output.Departures) r k p s h = absurd h
-leaves_stats x stood u v w o t (play.Write output.Fates) r k p s h = absurd h
-leaves_stats x stood u v w o t (play.Write output.Statistics) r k p s h = begins_stats x stood u v w o t r k p s
-leaves_stats x stood u v w o t play.NoMemory r k p s h = begins_stats x stood u v w o t r k p s
-leaves_stats x stood u v w o t (play.Capture damage) r k p s h = absurd h
-leaves_stats x stood u v w o t play.Read r k p s h = absurd h
-leaves_stats x stood u v w o t (play.Limit limit) r k p s h = absurd h
+leaves_stats x stood kept u v w o t (play.Write output.Departures) r k p s h = absurd h
+leaves_stats x stood kept u v w o t (play.Write output.Fates) r k p s h = absurd h
+leaves_stats x stood kept u v w o t (play.Write output.Statistics) r k p s h = begins_stats x stood kept u v w o t r k p s
+leaves_stats x stood kept u v w o t play.NoMemory r k p s h = begins_stats x stood kept u v w o t r k p s
+leaves_stats x stood kept u v w o t (play.Capture damage) r k p s h = absurd h
+leaves_stats x stood kept u v w o t play.Read r k p s h = absurd h
+leaves_stats x stood kept u v w o t (play.Limit limit) r k p s h = absurd h
 
 pub leaves_none : (x : Setup) (u v : View) (o : Opened) (f : PlayFault) → HoldsAt v o.stats [] → LeavesStats x u v o f
 leaves_none x u v o (play.Write output.Departures) h = h

@@ -11,6 +11,7 @@ use Rattle.altq_model.specs.declared.Verdict.TheVariants.{Keep, Mark, Drop}
 use Rattle.altq_model.specs.Arrivals.{Arrival, arrival, coming_of, comings, no_arrival}
 use Rattle.altq_model.specs.Departures.{Dressing, departure, departed, departures}
 use Rattle.altq_model.specs.History.{Coming, Happened, bare, offered, drawn, was_marked, dropped_by, journal}
+use Rattle.altq_model.specs.Lawful.{AreHeld, IsOneOf}
 use Rattle.altq_model.specs.Play.{Policy, offer_of}
 use Rattle.play_text.specs.Texts.{Naming, fate_text, fate_row, fate_rows, fates}
 use Rattle.capture_model.specs.Capture.{Record}
@@ -32,6 +33,11 @@ pub fit_in : (place : List ℕ → Placed) (xs : List Arrival) (k : ℕ) (b : Co
 fit_in place [] k b f e = absurd (cc)
 fit_in place (x ∷ xs) zero b f e = f.0
 fit_in place (x ∷ xs) (suc k) b f e = fit_in place xs k b f.1 e
+
+-- arrivals that are placed by a policy are of its classes
+pub fit_held : (p : Policy) (place : List ℕ → Placed) (xs : List Arrival) → ((frame : List ℕ) → IsOneOf (place frame).class p.classes) → AreFit place xs → AreHeld p (comings xs)
+fit_held p place [] h f = tt
+fit_held p place (x ∷ xs) h f = (let C : ℕ → Type 0 = λ c. IsOneOf c p.classes in subst C (sym f.0.class) (h x.bytes), fit_held p place xs h f.1)
 
 -- what leaves is the arrival of its number, in its class
 pub record Leaves (place : List ℕ → Placed) (arrived : List Arrival) (d : Departure) : Type 0 where

@@ -31,6 +31,7 @@ use Rattle.play_core.proofs.OfferLemmas.{is_coming}
 use Rattle.play_core.proofs.TotalLemmas.{sent_push}
 use Rattle.altq_model.specs.History.{Decision, journal}
 use Rattle.altq_model.specs.declared.Fate.TheVariants as fate
+use Rattle.play_loop.specs.declared.kept.KeptFate.{KeptFate}
 use Rattle.play_loop.specs.declared.outputs.Outputs.{Outputs}
 use Rattle.play_text.specs.Names.{NameList}
 use Rattle.play_loop.specs.Counting.{AreCountable}
@@ -46,9 +47,9 @@ going_laws p stood lists limits rate arrived w x g m y = due_laws p x.clock.rate
 
 -- its counts are small
 pub under_countable : (place : List ℕ → Placed) (dress : Dressing) (names : NameList) (p : Policy) (stood : List Happened → Type 0) (lists : ℕ → List Entry) (limits : ℕ → ℕ)
-    (rate : Option ℕ) (v : View) (o : Outputs) (x : Progress) (arrived : List Arrival) (w : DrawnWords) (g : List Happened) → IsPromised p x.clock.rate
-    → IsUnderway place dress names p stood lists limits rate v o x arrived w g → AreCountable names o.counts.items
-under_countable place dress names p stood lists limits rate v o x arrived w g m u =
+    (rate : Option ℕ) (v : View) (o : Outputs) (told : List KeptFate → Type 0) (x : Progress) (arrived : List Arrival) (w : DrawnWords) (g : List Happened) → IsPromised p x.clock.rate
+    → IsUnderway place dress names p stood lists limits rate v o told x arrived w g → AreCountable names o.counts.items
+under_countable place dress names p stood lists limits rate v o told x arrived w g m u =
     let laws = going_laws p stood lists limits rate arrived w x g m u.going in
     counted_countable place names arrived (journal g) o.counts.items u.counted u.fit u.going.few
     (omega (arith, laws.few, laws.came, comings_length arrived, u.going.few))

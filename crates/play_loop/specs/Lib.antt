@@ -2,10 +2,12 @@ pub mod Counting
 pub mod Ending
 pub mod Gathered
 pub mod Kept
+pub mod KeptFates
 pub mod Outputs
 pub mod Played
 pub mod Reading
 pub mod Setup
+pub mod Told
 pub mod Underway
 pub use Rattle.play_core.specs.Ended
 pub use Rattle.play_core.specs.Finished

@@ -18,6 +18,8 @@ use Rattle.play_loop.specs.declared.fault.PlayFault.{PlayFault}
 use Rattle.play_loop.specs.declared.fault.PlayFault.TheVariants as play
 use Rattle.altq_model.specs.Play.{IsPlay}
 use Rattle.play_loop.specs.declared.counting.Tally.{Tally}
+use Rattle.play_loop.specs.declared.kept.KeptFate.{KeptFate}
+use Rattle.play_loop.specs.KeptFates.{kept_fates}
 use Rattle.play_loop.specs.Counting.{HasCounted}
 use Rattle.play_loop.specs.Gathered.{HoldsFront}
 use Rattle.play_loop.specs.Setup.{Setup, arrivals_in, departures_of, fates_of, statistics_of}
@@ -55,16 +57,17 @@ abbrev pub IsStanding : (List Happened → Type 0) → List Happened → Type 0
 IsStanding stood g = (told : List Happened) × stood told × (bare told ≡ bare g)
 
 -- the whole play of these records: departures and fates hold its texts, and these are its counts. The departures are a capture of the
--- packets that were sent, in the order of decision, and the discipline stands for it
-pub record WasWritten (x : Setup) (stood : List Happened → Type 0) (v : View) (o : Opened) (records : List Record) (t : Tally) : Type 0 where
+-- packets that were sent, in the order of decision, the discipline stands for it, and its journal was told
+pub record WasWritten (x : Setup) (stood : List Happened → Type 0) (told : List KeptFate → Type 0) (v : View) (o : Opened) (records : List Record) (t : Tally) : Type 0 where
   pub history : List Happened
   pub play : IsFinished x.policy x.rate x.seed (arrivals_in x records) history t.totals
   pub texts : HoldTexts v o x (arrivals_in x records) history
   pub counted : HasCounted x.names (arrivals_in x records) (journal history) t.counts.items
   pub reads : IsCapture (departures_of x (arrivals_in x records) history) (departed x.dress (arrivals_in x records) history)
   pub stands : IsStanding stood history
+  pub was_told : told (kept_fates (arrivals_in x records) (journal history))
 
--- the same, and the statistics hold those of the play
+-- the same but for what was told, and the statistics hold those of the play
 pub record HasPlayed (x : Setup) (stood : List Happened → Type 0) (v : View) (o : Opened) (records : List Record) (t : Totals) : Type 0 where
   pub history : List Happened
   pub play : IsFinished x.policy x.rate x.seed (arrivals_in x records) history t
@@ -122,8 +125,8 @@ abbrev pub OfArrivals : View → Opened → (List ℕ → Type 0) → Type 0
 OfArrivals old o P = IsTrue old.tells → (rest : List ℕ) → old.left o.arrivals ≡ Some rest → P (o.first.now ++ rest)
 
 -- what the arrivals hold is a capture, and its play ended
-abbrev pub Writes : Setup → (List Happened → Type 0) → View → View → Opened → Tally → Type 0
-Writes x stood old new o t = OfArrivals old o (λ bytes. (records : List Record) × IsCapture bytes records × WasWritten x stood new o records t)
+abbrev pub Writes : Setup → (List Happened → Type 0) → (List KeptFate → Type 0) → View → View → Opened → Tally → Type 0
+Writes x stood told old new o t = OfArrivals old o (λ bytes. (records : List Record) × IsCapture bytes records × WasWritten x stood told new o records t)
 
 abbrev pub Plays : Setup → (List Happened → Type 0) → View → View → Opened → Totals → Type 0
 Plays x stood old new o t = OfArrivals old o (λ bytes. (records : List Record) × IsCapture bytes records × HasPlayed x stood new o records t)

@@ -20,7 +20,9 @@ use Rattle.play_loop.specs.declared.arriving.Arriving.{Arriving}
 use Rattle.play_loop.specs.declared.ending.Due.{Due}
 use Rattle.play_loop.specs.declared.ending.Due.TheVariants.{Made, Late}
 use Rattle.play_loop.specs.declared.outputs.Outputs.{Outputs}
+use Rattle.play_loop.specs.declared.kept.KeptFate.{KeptFate}
 use Rattle.play_loop.specs.Counting.{HasCounted}
+use Rattle.play_loop.specs.KeptFates.{kept_fates}
 use Rattle.play_loop.specs.Outputs.{HasTexts, HasFronts}
 use Rattle.play_loop.specs.Reading.{AreFit, arrival_of}
 
@@ -28,12 +30,13 @@ use Rattle.play_loop.specs.Reading.{AreFit, arrival_of}
 abbrev pub HasGiven : Dressing → Naming → View → Outputs → List Arrival → List Happened → Type 0
 HasGiven dress names v o arrived g = HasTexts v o (departures dress arrived g) (fates names arrived (journal g))
 
--- the first events of the play of what arrived so far, their texts, and the counts of what arrived and was decided
+-- the first events of the play of what arrived so far, their texts, the counts of what arrived and was decided, and what was told of it
 pub record IsUnderway (place : List ℕ → Placed) (dress : Dressing) (names : NameList) (p : Policy) (stood : List Happened → Type 0) (lists : ℕ → List Entry) (limits : ℕ → ℕ)
-    (rate : Option ℕ) (v : View) (o : Outputs) (x : Progress) (arrived : List Arrival) (w : DrawnWords) (g : List Happened) : Type 0 where
+    (rate : Option ℕ) (v : View) (o : Outputs) (told : List KeptFate → Type 0) (x : Progress) (arrived : List Arrival) (w : DrawnWords) (g : List Happened) : Type 0 where
   pub going : IsGoing p stood lists limits rate arrived w x g
   pub given : HasGiven dress (name_of names) v o arrived g
   pub counted : HasCounted names arrived (journal g) o.counts.items
+  pub was_told : told (kept_fates arrived (journal g))
   pub fit : AreFit place arrived
 
 -- the outputs hold fronts of the texts of these first events of the play

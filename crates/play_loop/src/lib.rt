@@ -7,11 +7,16 @@ mod counting;
 mod ending;
 mod fault;
 mod gathered;
+mod keeper;
+mod kept;
 mod outputs;
 mod playing;
 mod sending;
+mod telling;
 mod writing;
 
 pub use fault::{Limit, Opened, Output, PlayFault};
+pub use keeper::{Keeper, KeepsNothing};
+pub use kept::{Kept, KeptFate};
 pub use play_core::Totals;
-pub use playing::play;
+pub use playing::{play, play_kept, play_told};

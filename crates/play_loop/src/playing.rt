@@ -13,14 +13,18 @@ ghost use Rattle.play_text.specs.Names.{HasClass, name_of};
 ghost use Rattle.play_loop.specs.Counting.{AreCountable, HasCounted};
 ghost use Rattle.play_loop.specs.Ending.{AreFirst, EndsAs, IsClean};
 ghost use Rattle.play_loop.specs.Kept.{KeepsBeside, KeepsPlayed, OnlyPlayed, OnlyWrote};
+ghost use Rattle.play_loop.specs.KeptFates.{fates_in};
 ghost use Rattle.play_loop.specs.Outputs.{FrontsAre, IsWriteCause, SameFiles, TextsAre};
 ghost use Rattle.play_loop.specs.Played.{AreEmpty, AreReady, Explains, Fronts, LeavesStats, Plays, Writes};
 ghost use Rattle.play_loop.specs.Setup.{setup_of};
+ghost use Rattle.play_loop.specs.Told.{HasDecided, Tells};
 ghost use Rattle.play_loop.specs.Underway.{IsBroken, IsUnderway};
 
 use crate::arriving::arriving_of;
 use crate::counting::{Counted, Tally, count, no_counts};
 use crate::ending::{Due, Ending, capture_fault};
+use crate::keeper::{Keeper, KeepsNothing};
+use crate::kept::Kept;
 use crate::outputs::{Outputs, output_fault};
 use crate::sending::{play_packet, send_due};
 use crate::writing::{finish, write_stats};
@@ -104,11 +108,112 @@ pub fn play<D: Discipline, C: Classify, F: Files>(
     ensures none { NoneAppears (F.view files.old) (F.view files.new) }
     ensures said { (F.view files.new).said ≡ (F.view files.old).said }
 {
+    play_told(
+        alloc,
+        discipline,
+        classify,
+        names,
+        rate,
+        words,
+        opened,
+        &mut KeepsNothing,
+        files,
+    )
+}
+
+/// Plays as `play` does, and keeps the journal. After Ok `kept` has gained at its end exactly the pairs of the journal, in their order,
+/// each with its packet's arrival; after another answer nothing is said of it. Takes at most 64 bytes for each besides what `play` takes.
+#[tactic(auto, using(play_base::proofs::ViewLaws::same_trans, play_base::proofs::ViewLaws::same_refl))]
+pub fn play_kept<D: Discipline, C: Classify, F: Files>(
+    alloc: Global,
+    discipline: &mut D,
+    classify: &C,
+    names: &Names,
+    rate: u64,
+    words: &mut Words,
+    opened: &Opened<'_>,
+    files: &mut F,
+    kept: &mut Kept,
+) -> Result<Totals, PlayFault>
+    requires ready { AreReady (F.view files.old) opened.now }
+    requires least { 1000 ≤ rate }
+    requires most { rate ≤ 10 ^ 12 }
+    requires rate { HasRate (D.link_rate discipline.old) rate }
+    requires new { D.stands discipline.old [] }
+    requires fresh { words.old.drawn ≡ 0 }
+    requires held { (frame : List ℕ) → IsOneOf (C.placed classify.now frame).class (D.policy discipline.old).classes }
+    requires precs { (frame : List ℕ) → (C.placed classify.now frame).prec ≤ 2 }
+    requires named { (frame : List ℕ) → HasClass names.now (C.placed classify.now frame).class }
+    ensures done { IfOk result (Plays (setup_of (D.policy discipline.old) (C.placed classify.now) (C.dressed classify.now) names.now rate words.old.seed)
+        (D.stands discipline.new) (F.view files.old) (F.view files.new) opened.now) }
+    ensures kept { IfOk result (Tells (setup_of (D.policy discipline.old) (C.placed classify.now) (C.dressed classify.now) names.now rate words.old.seed)
+        (D.stands discipline.new) (λ ks. fates_in kept.new ≡ fates_in kept.old ++ ks) (F.view files.old) (F.view files.new) opened.now) }
+    ensures decided { IfOk result (HasDecided (setup_of (D.policy discipline.old) (C.placed classify.now) (C.dressed classify.now) names.now rate words.old.seed)
+        (λ ks. fates_in kept.new ≡ fates_in kept.old ++ ks)) }
+    ensures no_fault { OnOk result (SameCounts (F.view files.old) (F.view files.new)) }
+    ensures why { IfErr result (Explains (setup_of (D.policy discipline.old) (C.placed classify.now) (C.dressed classify.now) names.now rate words.old.seed)
+        (D.stands discipline.new) (F.view files.old) (F.view files.new) opened.now) }
+    ensures front { OnErr result (Fronts (setup_of (D.policy discipline.old) (C.placed classify.now) (C.dressed classify.now) names.now rate words.old.seed)
+        (F.view files.old) (F.view files.new) opened.now) }
+    ensures stats { IfErr result (LeavesStats (setup_of (D.policy discipline.old) (C.placed classify.now) (C.dressed classify.now) names.now rate words.old.seed)
+        (F.view files.old) (F.view files.new) opened.now) }
+    ensures keeps { KeepsPlayed opened.now (F.view files.old) (F.view files.new) }
+    ensures none { NoneAppears (F.view files.old) (F.view files.new) }
+    ensures said { (F.view files.new).said ≡ (F.view files.old).said }
+{
+    kept.begin();
+    play_told(
+        alloc, discipline, classify, names, rate, words, opened, kept, files,
+    )
+}
+
+/// Plays as `play` does, and tells each decision to a keeper as soon as its texts are added. After Ok it was told the journal, and each
+/// packet's arrival with it; after another answer nothing is said of what it was told.
+#[tactic(auto, using(play_base::proofs::ViewLaws::same_trans, play_base::proofs::ViewLaws::same_refl))]
+pub fn play_told<D: Discipline, C: Classify, F: Files, K: Keeper>(
+    alloc: Global,
+    discipline: &mut D,
+    classify: &C,
+    names: &Names,
+    rate: u64,
+    words: &mut Words,
+    opened: &Opened<'_>,
+    keeper: &mut K,
+    files: &mut F,
+) -> Result<Totals, PlayFault>
+    requires ready { AreReady (F.view files.old) opened.now }
+    requires least { 1000 ≤ rate }
+    requires most { rate ≤ 10 ^ 12 }
+    requires rate { HasRate (D.link_rate discipline.old) rate }
+    requires new { D.stands discipline.old [] }
+    requires fresh { words.old.drawn ≡ 0 }
+    requires held { (frame : List ℕ) → IsOneOf (C.placed classify.now frame).class (D.policy discipline.old).classes }
+    requires precs { (frame : List ℕ) → (C.placed classify.now frame).prec ≤ 2 }
+    requires named { (frame : List ℕ) → HasClass names.now (C.placed classify.now frame).class }
+    requires begun { K.told keeper.old [] }
+    ensures done { IfOk result (Plays (setup_of (D.policy discipline.old) (C.placed classify.now) (C.dressed classify.now) names.now rate words.old.seed)
+        (D.stands discipline.new) (F.view files.old) (F.view files.new) opened.now) }
+    ensures told { IfOk result (Tells (setup_of (D.policy discipline.old) (C.placed classify.now) (C.dressed classify.now) names.now rate words.old.seed)
+        (D.stands discipline.new) (K.told keeper.new) (F.view files.old) (F.view files.new) opened.now) }
+    ensures decided { IfOk result (HasDecided (setup_of (D.policy discipline.old) (C.placed classify.now) (C.dressed classify.now) names.now rate words.old.seed)
+        (K.told keeper.new)) }
+    ensures before { K.before keeper.new ≡ K.before keeper.old }
+    ensures no_fault { OnOk result (SameCounts (F.view files.old) (F.view files.new)) }
+    ensures why { IfErr result (Explains (setup_of (D.policy discipline.old) (C.placed classify.now) (C.dressed classify.now) names.now rate words.old.seed)
+        (D.stands discipline.new) (F.view files.old) (F.view files.new) opened.now) }
+    ensures front { OnErr result (Fronts (setup_of (D.policy discipline.old) (C.placed classify.now) (C.dressed classify.now) names.now rate words.old.seed)
+        (F.view files.old) (F.view files.new) opened.now) }
+    ensures stats { IfErr result (LeavesStats (setup_of (D.policy discipline.old) (C.placed classify.now) (C.dressed classify.now) names.now rate words.old.seed)
+        (F.view files.old) (F.view files.new) opened.now) }
+    ensures keeps { KeepsPlayed opened.now (F.view files.old) (F.view files.new) }
+    ensures none { NoneAppears (F.view files.old) (F.view files.new) }
+    ensures said { (F.view files.new).said ≡ (F.view files.old).said }
+{
     let Ok(counts) = no_counts(alloc, names) else {
         return Err(PlayFault::NoMemory);
     };
     let tally = match play_capture(
-        alloc, discipline, classify, names, rate, words, opened, files, counts,
+        alloc, discipline, classify, names, rate, words, opened, keeper, files, counts,
     ) {
         Ok(tally) => tally,
         Err(fault) => return Err(fault),
@@ -121,7 +226,7 @@ pub fn play<D: Discipline, C: Classify, F: Files>(
 
 // Plays a capture, and writes all but the statistics.
 #[tactic(auto, using(play_base::proofs::ViewLaws::same_trans, play_base::proofs::ViewLaws::same_refl))]
-fn play_capture<D: Discipline, C: Classify, F: Files>(
+fn play_capture<D: Discipline, C: Classify, F: Files, K: Keeper>(
     alloc: Global,
     discipline: &mut D,
     classify: &C,
@@ -129,6 +234,7 @@ fn play_capture<D: Discipline, C: Classify, F: Files>(
     rate: u64,
     words: &mut Words,
     opened: &Opened<'_>,
+    keeper: &mut K,
     files: &mut F,
     counts: Vec<Counts>,
 ) -> Result<Tally, PlayFault>
@@ -142,8 +248,12 @@ fn play_capture<D: Discipline, C: Classify, F: Files>(
     requires precs { (frame : List ℕ) → (C.placed classify.now frame).prec ≤ 2 }
     requires named { (frame : List ℕ) → HasClass names.now (C.placed classify.now frame).class }
     requires none { HasCounted names.now [] [] counts.items }
+    requires begun { K.told keeper.old [] }
     ensures done { IfOk result (Writes (setup_of (D.policy discipline.old) (C.placed classify.now) (C.dressed classify.now) names.now rate words.old.seed)
-        (D.stands discipline.new) (F.view files.old) (F.view files.new) opened.now) }
+        (D.stands discipline.new) (K.told keeper.new) (F.view files.old) (F.view files.new) opened.now) }
+    ensures decided { IfOk result (λ tally. HasDecided (setup_of (D.policy discipline.old) (C.placed classify.now) (C.dressed classify.now) names.now rate words.old.seed)
+        (K.told keeper.new) tally.totals) }
+    ensures before { K.before keeper.new ≡ K.before keeper.old }
     ensures countable { IfOk result (λ tally. AreCountable names.now tally.counts.items) }
     ensures no_fault { OnOk result (SameCounts (F.view files.old) (F.view files.new)) }
     ensures why { IfErr result (Explains (setup_of (D.policy discipline.old) (C.placed classify.now) (C.dressed classify.now) names.now rate words.old.seed)
@@ -180,6 +290,7 @@ fn play_capture<D: Discipline, C: Classify, F: Files>(
         names,
         words,
         &mut outputs,
+        keeper,
         files,
     ) {
         Ok(ending) => ending,
@@ -205,7 +316,7 @@ fn play_capture<D: Discipline, C: Classify, F: Files>(
 
 // Plays the records that a reader has not answered yet: each before the next is read, and at the end of the capture what is left.
 #[tactic(auto, using(play_base::proofs::ViewLaws::same_trans, play_base::proofs::ViewLaws::same_refl))]
-fn play_records<D: Discipline, C: Classify, F: Files>(
+fn play_records<D: Discipline, C: Classify, F: Files, K: Keeper>(
     reader: &mut Reader,
     progress: &mut Progress,
     discipline: &mut D,
@@ -213,18 +324,19 @@ fn play_records<D: Discipline, C: Classify, F: Files>(
     names: &Names,
     words: &mut Words,
     outputs: &mut Outputs,
+    keeper: &mut K,
     files: &mut F,
 ) -> Result<Ending, PlayFault>
     requires there { IsSome ((F.view files.old).part reader.old.file) }
     requires sound { reader.old.fault ≡ None }
     requires from_departures { Apart (F.view files.old) reader.old.file outputs.old.departures }
     requires from_fates { Apart (F.view files.old) reader.old.file outputs.old.fates }
-    requires under { IsUnderway (C.placed classify.now) (C.dressed classify.now) names.now (D.policy discipline.old) (D.stands discipline.old) (D.lists discipline.old) (D.limits discipline.old) (D.link_rate discipline.old) (F.view files.old) outputs.old progress.old [] words.old [] }
+    requires under { IsUnderway (C.placed classify.now) (C.dressed classify.now) names.now (D.policy discipline.old) (D.stands discipline.old) (D.lists discipline.old) (D.limits discipline.old) (D.link_rate discipline.old) (F.view files.old) outputs.old (K.told keeper.old) progress.old [] words.old [] }
     requires held { (frame : List ℕ) → IsOneOf (C.placed classify.now frame).class (D.policy discipline.old).classes }
     requires precs { (frame : List ℕ) → (C.placed classify.now frame).prec ≤ 2 }
     requires named { (frame : List ℕ) → HasClass names.now (C.placed classify.now frame).class }
     ensures ended { IfOk result (λ ending. (arrived : List Arrival) × (g : List Happened)
-        × IsUnderway (C.placed classify.now) (C.dressed classify.now) names.now (D.policy discipline.new) (D.stands discipline.new) (D.lists discipline.new) (D.limits discipline.new) (D.link_rate discipline.new) (F.view files.new) outputs.new progress.new arrived words.new g
+        × IsUnderway (C.placed classify.now) (C.dressed classify.now) names.now (D.policy discipline.new) (D.stands discipline.new) (D.lists discipline.new) (D.limits discipline.new) (D.link_rate discipline.new) (F.view files.new) outputs.new (K.told keeper.new) progress.new arrived words.new g
         × EndsAs ending (C.placed classify.now) (D.policy discipline.old) progress.old.clock.rate words.old.seed (λ bytes. IsTrue (F.view files.old).tells × StandsFor (F.view files.old) reader.old bytes [])
         (F.view files.new) reader.new arrived g
         × AreFirst (C.placed classify.now) (D.policy discipline.old) progress.old.clock.rate words.old.seed (λ bytes. IsTrue (F.view files.old).tells × StandsFor (F.view files.old) reader.old bytes []) arrived g) }
@@ -237,6 +349,7 @@ fn play_records<D: Discipline, C: Classify, F: Files>(
     ensures file { reader.new.file ≡ reader.old.file }
     ensures others { OnlyPlayed reader.old.file outputs.old.departures outputs.old.fates (F.view files.old) (F.view files.new) }
     ensures why { IfErr result (IsWriteCause outputs.old.departures outputs.old.fates (F.view files.old) (F.view files.new)) }
+    ensures before { K.before keeper.new ≡ K.before keeper.old }
     ensures policy { D.policy discipline.new ≡ D.policy discipline.old }
     ensures rate { progress.new.clock.rate ≡ progress.old.clock.rate }
     ensures seed { words.new.seed ≡ words.old.seed }
@@ -248,7 +361,9 @@ fn play_records<D: Discipline, C: Classify, F: Files>(
             Err(fault) => return Ok(Ending::Cut(fault)),
         };
         let Some(record) = found else {
-            return match send_due(progress, discipline, classify, names, None, outputs, files) {
+            return match send_due(
+                progress, discipline, classify, names, None, outputs, keeper, files,
+            ) {
                 Ok(Due::Made) => Ok(Ending::Whole),
                 Ok(Due::Late) => Ok(Ending::Late),
                 Err(fault) => Err(fault),
@@ -263,7 +378,7 @@ fn play_records<D: Discipline, C: Classify, F: Files>(
         };
         count(&mut outputs.counts, names, placed.class, what);
         match play_packet(
-            progress, discipline, classify, names, words, arriving, outputs, files,
+            progress, discipline, classify, names, words, arriving, outputs, keeper, files,
         ) {
             Ok(Due::Made) => {}
             Ok(Due::Late) => return Ok(Ending::Late),

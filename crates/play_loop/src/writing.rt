@@ -1,6 +1,5 @@
 // Writing what was decided: a record for each sending, and a row for each fate.
 ghost use Rattle.std.specs.Prelude.{◌≡◌, ◌≤◌, ◌<◌, ◌*◌, ◌^◌, ◌++◌, ℕ, List, [], length, IsSome, IfErr, IfOk, IfSome, OnOk, OnErr, IsErrOf};
-ghost use Rattle.std.specs.Option.{option_map_or};
 ghost use Rattle.play_text.specs.Texts.{fate_text};
 ghost use Rattle.capture_model.specs.Written.{record_text};
 ghost use Rattle.play_base.specs.View.{SameCounts, WriteFault, Wrote, WroteFront};
@@ -114,7 +113,7 @@ fn dress_packet<C: Classify>(classify: &C, departure: &mut Departure)
 /// Counts a packet that was sent, and adds its record, with the bytes with which it leaves, and then its row. After an error each file
 /// holds a front of its text.
 #[tactic(auto, using(play_base::proofs::ViewLaws::same_trans, play_base::proofs::ViewLaws::same_refl))]
-pub fn add_sent<C: Classify, F: Files>(
+pub fn write_sent<C: Classify, F: Files>(
     files: &mut F,
     outputs: &mut Outputs,
     names: &Names,
@@ -179,32 +178,30 @@ pub fn add_sent<C: Classify, F: Files>(
     }
 }
 
-/// Counts a packet that was offered to a class, if it was dropped, and adds its row. After an error each file holds a front of its text.
+/// Counts a packet that was offered to a class and dropped, and adds its row. After an error each file holds a front of its text.
 #[tactic(auto, using(play_base::proofs::ViewLaws::same_trans, play_base::proofs::ViewLaws::same_refl))]
-pub fn add_dropped<F: Files>(
+pub fn write_dropped<F: Files>(
     files: &mut F,
     outputs: &mut Outputs,
     names: &Names,
     class: u32,
-    dropped: Option<Dropped>,
+    dropped: Dropped,
 ) -> Result<(), PlayFault>
     requires named { HasClass names.now class }
     requires countable { AreCountable names.now outputs.old.counts.items }
     requires departures { IsSome ((F.view files.old).part outputs.old.departures) }
     requires fates { IsSome ((F.view files.old).part outputs.old.fates) }
     ensures wrote { OnOk result ((ds ts : List ℕ) → HasTexts (F.view files.old) outputs.old ds ts → HasTexts (F.view files.new) outputs.new
-        ds (ts ++ option_map_or (dropped_row (name_of names.now) class) dropped [])) }
+        ds (ts ++ dropped_row (name_of names.now) class dropped)) }
     ensures no_fault { OnOk result (SameCounts (F.view files.old) (F.view files.new)) }
     ensures stopped { OnErr result ((ds ts : List ℕ) → HasTexts (F.view files.old) outputs.old ds ts → HasFronts (F.view files.new) outputs.old
-        ds (ts ++ option_map_or (dropped_row (name_of names.now) class) dropped [])) }
-    ensures counted { OnOk result (outputs.new.counts.items ≡ option_map_or (λ d. count_at names.now class (Counted.Dropped d.reason) outputs.old.counts.items) dropped outputs.old.counts.items) }
+        ds (ts ++ dropped_row (name_of names.now) class dropped)) }
+    ensures counted { OnOk result (outputs.new.counts.items ≡ count_at names.now class (Counted.Dropped dropped.reason) outputs.old.counts.items) }
     ensures same { SameFiles outputs.old outputs.new }
     ensures others { OnlyWrote outputs.old.departures outputs.old.fates (F.view files.old) (F.view files.new) }
     ensures why { IfErr result (IsWriteCause outputs.old.departures outputs.old.fates (F.view files.old) (F.view files.new)) }
 {
-    let Some(Dropped { packet, reason }) = dropped else {
-        return Ok(());
-    };
+    let Dropped { packet, reason } = dropped;
     count(&mut outputs.counts, names, class, Counted::Dropped(reason));
     let fate = Fate::Dropped(reason);
     let file = outputs.fates;

@@ -31,6 +31,7 @@ use Rattle.play_loop.specs.declared.fault.PlayFault.{PlayFault}
 use Rattle.altq_model.specs.declared.Counts.{Counts}
 use Rattle.play_loop.specs.Counting.{AreCountable, HasCounted}
 use Rattle.play_loop.specs.Ending.{AreFirst, EndsAs, IsOverdue}
+use Rattle.play_loop.specs.KeptFates.{kept_fates}
 use Rattle.play_loop.specs.Played.{Explains}
 use Rattle.play_loop.specs.Reading.{AreFit}
 use Rattle.play_loop.specs.Setup.{Setup, arrivals_in, setup_of}
@@ -38,6 +39,7 @@ use Rattle.play_loop.proofs.KeptLemmas.{first_wrote, then_played, then_took, the
 use Rattle.play_loop.proofs.OutputLemmas.{fronts_files, fronts_of_texts, there_same}
 use Rattle.play_loop.proofs.PlayLemmas.{IsSound, cut_later, explains_capture, explains_write, head_fault, head_records, head_rows, head_texts, held_by, left_kept, offered_all, read_before, stopped, stopped_heads, was_cut, whole_fronts}
 use Rattle.play_loop.proofs.RecordLemmas.{cause_since, read_since, texts_kept}
+use Rattle.play_loop.proofs.TextLemmas.{fit_held}
 use Rattle.play_loop.proofs.TurnLemmas.{going_laws, same_play, under_countable}
 use Rattle.play_loop.proofs.WeightLemmas.{departures_read}
 use Rattle.play_loop.proofs.playing.play_capture.Goals as goal
@@ -102,6 +104,7 @@ play_records-requires-clause-under g c =
       going = c.in-Ok-begin.ensures.going [] c.args.words.now c.requires.fresh tt (omega arith);
       given = head_texts (g.C.Classify.dressed c.args.classify.now) (name_of c.args.names.now) (g.F.Files.view c.start.new.files) c.args.opened.now.departures c.args.opened.now.fates _ _ c.new.ensures.items c.new-2.ensures heads;
       counted = c.requires.none;
+      was_told = c.requires.begun;
       fit = tt;
     }
 
@@ -208,7 +211,8 @@ returns-in-Whole-clause-done g c =
     let F : List Arrival → Type 0 = λ a. AreFit (g.C.Classify.placed c.args.classify.now) a in
     let L : List Arrival → Type 0 = λ a. HasLaws (g.D.Discipline.policy c.play_records.new.discipline) c.play_records.new.progress.clock.rate c.play_records.new.words.seed (comings a) e.1 in
     let D : List Arrival → Type 0 = λ a. HoldsAt (g.F.Files.view c.finish.new.files) c.args.opened.now.departures (departures x.dress a e.1) in
-    let R : List Arrival → Type 0 = λ a. HoldsAt (g.F.Files.view c.finish.new.files) c.args.opened.now.fates (fates (name_of x.names) a (journal e.1)) in (
+    let R : List Arrival → Type 0 = λ a. HoldsAt (g.F.Files.view c.finish.new.files) c.args.opened.now.fates (fates (name_of x.names) a (journal e.1)) in
+    let B : List Arrival → Type 0 = λ a. g.K.Keeper.told c.play_records.new.keeper (kept_fates a (journal e.1)) in (
       all.records,
       all.reads,
       record {
@@ -219,8 +223,28 @@ returns-in-Whole-clause-done g c =
         reads = departures_read (g.C.Classify.placed c.args.classify.now) (g.C.Classify.dressed c.args.classify.now) (g.D.Discipline.policy c.play_records.new.discipline) c.play_records.new.progress.clock.rate c.play_records.new.words.seed all.records e.1 (g.met.C.Classify.lengths c.args.classify.now) (subst F all.arrivals e.2.fit)
             (omega (arith, e.2.going.few, ap (λ (a : List Arrival). length a) all.arrivals)) all.size (subst L all.arrivals laws) e.2.going.begun.in_time;
         stands = (e.2.going.told, e.2.going.stands, e.2.going.same);
+        was_told = subst B all.arrivals e.2.was_told;
       },
     ))
+
+pub returns-in-Whole-clause-decided : goal.returns-in-Whole-clause-decided
+returns-in-Whole-clause-decided g c =
+    let e = c.in-Ok-play_records.ensures.ended in
+    let Q : Ending → Type 0 = λ k. EndsAs k (g.C.Classify.placed c.args.classify.now) (g.D.Discipline.policy c.args.discipline.now) c.in-Ok-begin.progress.clock.rate c.args.words.now.seed (λ bytes. IsTrue (g.F.Files.view c.start.new.files).tells × StandsFor (g.F.Files.view c.start.new.files) c.in-Ok-start.reader bytes []) (g.F.Files.view c.play_records.new.files) c.play_records.new.reader e.0 e.1 in
+    let d = subst Q c.in-Whole.is e.3 in
+    let n : IsPromised (g.D.Discipline.policy c.play_records.new.discipline) c.play_records.new.progress.clock.rate = record {
+      positive = omega (arith, c.play_records.new.progress.least);
+      lawful = g.met.D.Discipline.lawful c.play_records.new.discipline e.2.going.told e.2.going.stands;
+      steady = g.met.D.Discipline.steady c.play_records.new.discipline e.2.going.told e.2.going.stands;
+      distinct = g.met.D.Discipline.distinct c.play_records.new.discipline e.2.going.told e.2.going.stands;
+    } in
+    let nothing = same_play (λ (p : Policy) (k q : ℕ). due p k q (comings e.0) e.1 ≡ None) (g.D.Discipline.policy c.args.discipline.now) (g.D.Discipline.policy c.play_records.new.discipline) c.in-Ok-begin.progress.clock.rate c.play_records.new.progress.clock.rate c.args.words.now.seed c.play_records.new.words.seed (sym c.in-Ok-play_records.ensures.policy) (sym c.in-Ok-play_records.ensures.rate) (sym c.in-Ok-play_records.ensures.seed) d.done in
+    let K : Policy → Type 0 = λ p. AreHeld p (comings e.0) in
+    let held = subst K (sym c.in-Ok-play_records.ensures.policy) (fit_held (g.D.Discipline.policy c.args.discipline.now) (g.C.Classify.placed c.args.classify.now) e.0 c.requires.held e.2.fit) in
+    let end = finished (g.D.Discipline.policy c.play_records.new.discipline) _ _ _ _ e.0 c.play_records.new.words c.play_records.new.progress e.1 n held nothing e.2.going in
+    let ours = same_play (λ (p : Policy) (k q : ℕ). IsFinished p k q e.0 e.1 c.play_records.new.progress.totals) _ _ _ _ _ _ c.in-Ok-play_records.ensures.policy (c.in-Ok-play_records.ensures.rate ∙ c.in-Ok-begin.ensures.rate) c.in-Ok-play_records.ensures.seed end in
+    let T : Totals → Type 0 = λ k. IsFinished (g.D.Discipline.policy c.args.discipline.now) c.args.rate c.args.words.now.seed e.0 e.1 k in
+    record { arrived = e.0; history = e.1; play = subst T (sym c.totals.ensures) ours; told = e.2.was_told }
 
 pub returns-in-Whole-clause-countable : goal.returns-in-Whole-clause-countable
 returns-in-Whole-clause-countable g c =
@@ -233,7 +257,7 @@ returns-in-Whole-clause-countable g c =
     } in
     let K : List Counts → Type 0 = λ k. AreCountable c.args.names.now k in
     subst K (sym c.in-Ok-finish.ensures.counts)
-    (under_countable (g.C.Classify.placed c.args.classify.now) (g.C.Classify.dressed c.args.classify.now) c.args.names.now (g.D.Discipline.policy c.play_records.new.discipline) _ _ _ _ _ c.play_records.new.outputs c.play_records.new.progress e.0 c.play_records.new.words e.1 n e.2)
+    (under_countable (g.C.Classify.placed c.args.classify.now) (g.C.Classify.dressed c.args.classify.now) c.args.names.now (g.D.Discipline.policy c.play_records.new.discipline) _ _ _ _ _ c.play_records.new.outputs (g.K.Keeper.told c.play_records.new.keeper) c.play_records.new.progress e.0 c.play_records.new.words e.1 n e.2)
 
 pub returns-in-Whole-clause-keeps : goal.returns-in-Whole-clause-keeps
 returns-in-Whole-clause-keeps g c = (then_wrote (g.F.Files.view c.args.files.now) (g.F.Files.view c.play_records.new.files) (g.F.Files.view c.finish.new.files) c.args.opened.now.arrivals c.args.opened.now.departures c.args.opened.now.fates c.play_records.new.outputs.departures c.play_records.new.outputs.fates c.requires.ready.empty.departures.there c.requires.ready.empty.fates.there c.in-Ok-play_records.ensures.same.departures c.in-Ok-play_records.ensures.same.fates (then_played (g.F.Files.view c.args.files.now) (g.F.Files.view c.start.new.files) (g.F.Files.view c.play_records.new.files) c.args.opened.now.arrivals c.args.opened.now.departures c.args.opened.now.fates c.in-Ok-start.reader.file c.args.opened.now.departures c.args.opened.now.fates c.requires.ready.empty.departures.there c.requires.ready.empty.fates.there c.in-Ok-start.ensures.file refl refl (then_took (g.F.Files.view c.args.files.now) (g.F.Files.view c.write_heads.new.files) (g.F.Files.view c.start.new.files) c.args.opened.now.arrivals c.args.opened.now.departures c.args.opened.now.fates c.args.opened.now.arrivals c.requires.ready.empty.departures.there c.requires.ready.empty.fates.there refl (first_wrote (g.F.Files.view c.args.files.now) (g.F.Files.view c.write_heads.new.files) c.args.opened.now.arrivals c.args.opened.now.departures c.args.opened.now.fates c.in-Ok.ensures.others) c.start.ensures.some) c.in-Ok-play_records.ensures.others) c.in-Ok-finish.ensures.others).keeps

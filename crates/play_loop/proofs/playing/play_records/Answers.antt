@@ -44,6 +44,7 @@ records-init g c = record {
   sound = c.requires.sound;
   same = record { departures = refl; fates = refl };
   others = played_nothing (g.F.Files.view c.args.files.now) c.args.reader.now.file c.args.outputs.now.departures c.args.outputs.now.fates;
+  before = refl;
   policy = refl;
   rate = refl;
   seed = refl;
@@ -71,7 +72,7 @@ returns-in-Err-clause-ended g c =
     first_of_read (g.C.Classify.placed c.args.classify.now) (g.D.Discipline.policy c.records.discipline) c.records.progress.clock.rate c.records.words.seed (g.F.Files.view c.records.files) c.records.reader bytes z.0 c.records.latest z.1 h stay every last y l) in (
       z.0,
       z.1,
-      under_kept _ _ _ _ _ _ _ _ _ _ _ _ _ _ _ _ z.2.under c.next.ensures.some.1.keeps,
+      under_kept _ _ _ _ _ _ _ _ _ _ _ _ _ _ _ _ _ z.2.under c.next.ensures.some.1.keeps,
       record {
         offers = z.2.offers;
         last = z.2.last;
@@ -91,7 +92,7 @@ returns-in-Err-clause-others g c = then_took _ _ _ c.args.reader.now.file c.args
 pub send_due-requires-clause-under : goal.send_due-requires-clause-under
 send_due-requires-clause-under g c =
     let z = c.records.invariant.reading in
-    (z.0, c.records.words, z.1, under_kept _ _ _ _ _ _ _ _ _ _ _ _ _ _ _ _ z.2.under c.next.ensures.some.1.keeps, none_arrives z.0 z.1 z.2.offers)
+    (z.0, c.records.words, z.1, under_kept _ _ _ _ _ _ _ _ _ _ _ _ _ _ _ _ _ z.2.under c.next.ensures.some.1.keeps, none_arrives z.0 z.1 z.2.offers)
 
 pub returns-in-Ok-Made-clause-ended : goal.returns-in-Ok-Made-clause-ended
 returns-in-Ok-Made-clause-ended g c =
@@ -100,7 +101,7 @@ returns-in-Ok-Made-clause-ended g c =
     let whole : IsWhole (g.F.Files.view c.records.files) c.records.reader = subst W c.in_default.is c.in-Ok.ensures.end in
     let all : (bytes : List ℕ) → IsTrue (g.F.Files.view c.args.files.now).tells × StandsFor (g.F.Files.view c.args.files.now) c.args.reader.now bytes [] → IsAll (g.C.Classify.placed c.args.classify.now) bytes z.0 =
     λ bytes t. (let h = z.2.read bytes t in record { records = h.records; arrivals = h.arrivals; reads = whole bytes h.records h.stands; size = omega (arith, h.stands.place, c.records.reader.progress.placed) }) in
-    let d = c.in-Ok-Made.ensures.due z.0 c.records.words z.1 (under_kept _ _ _ _ _ _ _ _ _ _ _ _ _ _ _ _ z.2.under c.next.ensures.some.1.keeps) (none_arrives z.0 z.1 z.2.offers) in
+    let d = c.in-Ok-Made.ensures.due z.0 c.records.words z.1 (under_kept _ _ _ _ _ _ _ _ _ _ _ _ _ _ _ _ _ z.2.under c.next.ensures.some.1.keeps) (none_arrives z.0 z.1 z.2.offers) in
     let Q : Due → Type 0 = λ k. DueIs k (g.D.Discipline.policy c.records.discipline) c.records.progress.clock.rate c.records.words.seed z.0 d.0 None in
     let made = subst Q c.in-Ok-Made.field-0-is d.3 in
     let x : IsDone (g.C.Classify.placed c.args.classify.now) (g.D.Discipline.policy c.records.discipline) c.records.progress.clock.rate c.records.words.seed (λ bytes. IsTrue (g.F.Files.view c.args.files.now).tells × StandsFor (g.F.Files.view c.args.files.now) c.args.reader.now bytes []) z.0 d.0 = record { done = made.all refl; all = all } in
@@ -120,7 +121,7 @@ returns-in-Ok-Late-clause-ended g c =
     let whole : IsWhole (g.F.Files.view c.records.files) c.records.reader = subst W c.in_default.is c.in-Ok.ensures.end in
     let all : (bytes : List ℕ) → IsTrue (g.F.Files.view c.args.files.now).tells × StandsFor (g.F.Files.view c.args.files.now) c.args.reader.now bytes [] → IsAll (g.C.Classify.placed c.args.classify.now) bytes z.0 =
     λ bytes t. (let h = z.2.read bytes t in record { records = h.records; arrivals = h.arrivals; reads = whole bytes h.records h.stands; size = omega (arith, h.stands.place, c.records.reader.progress.placed) }) in
-    let d = c.in-Ok-Late.ensures.due z.0 c.records.words z.1 (under_kept _ _ _ _ _ _ _ _ _ _ _ _ _ _ _ _ z.2.under c.next.ensures.some.1.keeps) (none_arrives z.0 z.1 z.2.offers) in
+    let d = c.in-Ok-Late.ensures.due z.0 c.records.words z.1 (under_kept _ _ _ _ _ _ _ _ _ _ _ _ _ _ _ _ _ z.2.under c.next.ensures.some.1.keeps) (none_arrives z.0 z.1 z.2.offers) in
     let Q : Due → Type 0 = λ k. DueIs k (g.D.Discipline.policy c.records.discipline) c.records.progress.clock.rate c.records.words.seed z.0 d.0 None in
     let cut : IsCutOff (g.D.Discipline.policy c.records.discipline) c.records.progress.clock.rate c.records.words.seed (comings z.0) d.0 = subst Q c.in-Ok-Late.field-0-is d.3 in
     let m : IsPromised (g.D.Discipline.policy c.records.discipline) c.records.progress.clock.rate = record {
@@ -158,7 +159,7 @@ returns-in-Err-send_due-clause-broken g c =
     let whole : IsWhole (g.F.Files.view c.records.files) c.records.reader = subst W c.in_default.is c.in-Ok.ensures.end in
     let all : (bytes : List ℕ) → IsTrue (g.F.Files.view c.args.files.now).tells × StandsFor (g.F.Files.view c.args.files.now) c.args.reader.now bytes [] → IsAll (g.C.Classify.placed c.args.classify.now) bytes z.0 =
     λ bytes t. (let h = z.2.read bytes t in record { records = h.records; arrivals = h.arrivals; reads = whole bytes h.records h.stands; size = omega (arith, h.stands.place, c.records.reader.progress.placed) }) in
-    let b = c.in-Err-send_due.ensures.broken z.0 c.records.words z.1 (under_kept _ _ _ _ _ _ _ _ _ _ _ _ _ _ _ _ z.2.under c.next.ensures.some.1.keeps) (none_arrives z.0 z.1 z.2.offers) in
+    let b = c.in-Err-send_due.ensures.broken z.0 c.records.words z.1 (under_kept _ _ _ _ _ _ _ _ _ _ _ _ _ _ _ _ _ z.2.under c.next.ensures.some.1.keeps) (none_arrives z.0 z.1 z.2.offers) in
     let x : AreFirst (g.C.Classify.placed c.args.classify.now) (g.D.Discipline.policy c.records.discipline) c.records.progress.clock.rate c.records.words.seed (λ bytes. IsTrue (g.F.Files.view c.args.files.now).tells × StandsFor (g.F.Files.view c.args.files.now) c.args.reader.now bytes []) z.0 b.0 =
     λ bytes t every last y l. first_of_all (g.C.Classify.placed c.args.classify.now) (g.D.Discipline.policy c.records.discipline) c.records.progress.clock.rate c.records.words.seed bytes z.0 b.0 (all bytes t) b.1.begun.events every last y l in (
       z.0,
@@ -187,7 +188,7 @@ count-requires-clause-countable g c =
       steady = g.met.D.Discipline.steady c.records.discipline z.2.under.going.told z.2.under.going.stands;
       distinct = g.met.D.Discipline.distinct c.records.discipline z.2.under.going.told z.2.under.going.stands;
     } in
-    under_countable (g.C.Classify.placed c.args.classify.now) (g.C.Classify.dressed c.args.classify.now) c.args.names.now (g.D.Discipline.policy c.records.discipline) _ _ _ _ _ c.records.outputs c.records.progress z.0 c.records.words z.1 m z.2.under
+    under_countable (g.C.Classify.placed c.args.classify.now) (g.C.Classify.dressed c.args.classify.now) c.args.names.now (g.D.Discipline.policy c.records.discipline) _ _ _ _ _ c.records.outputs (g.K.Keeper.told c.records.keeper) c.records.progress z.0 c.records.words z.1 m z.2.under
 
 pub play_packet-requires-clause-under : goal.play_packet-requires-clause-under
 play_packet-requires-clause-under g c =
@@ -205,7 +206,7 @@ play_packet-requires-clause-under g c =
       distinct = g.met.D.Discipline.distinct c.records.discipline z.2.under.going.told z.2.under.going.stands;
     } in
     let more : List Arrival = z.0 ++ arrival_of (g.C.Classify.placed c.args.classify.now) c.arriving_of-arriving.result ∷ [] in
-    let under = under_more _ (g.C.Classify.placed c.args.classify.now) (g.C.Classify.dressed c.args.classify.now) c.args.names.now (g.D.Discipline.policy c.records.discipline) _ _ _ _ (g.F.Files.view c.records.files) (g.F.Files.view c.next.new.files) _ c.records.progress c.records.words (λ bytes. IsTrue (g.F.Files.view c.args.files.now).tells × StandsFor (g.F.Files.view c.args.files.now) c.args.reader.now bytes []) c.records.reader c.records.latest z.0 z.1 c.arriving_of-arriving.result m z.2
+    let under = under_more _ (g.C.Classify.placed c.args.classify.now) (g.C.Classify.dressed c.args.classify.now) c.args.names.now (g.D.Discipline.policy c.records.discipline) _ _ _ _ (g.F.Files.view c.records.files) (g.F.Files.view c.next.new.files) _ (g.K.Keeper.told c.records.keeper) c.records.progress c.records.words (λ bytes. IsTrue (g.F.Files.view c.args.files.now).tells × StandsFor (g.F.Files.view c.args.files.now) c.args.reader.now bytes []) c.records.reader c.records.latest z.0 z.1 c.arriving_of-arriving.result m z.2
     c.next.ensures.some.1.keeps c.arriving_of-arriving.ensures.within (omega (arith, c.arriving_of-arriving.ensures.at)) (omega (arith, z.2.counted, number, c.in-Some.record.counted))
     (record c.records.outputs { counts = c.count.new.counts }) c.class-placed.result.class refl (ap (λ (k : Placed). k.class) (c.class-placed.ensures ∙ ap (g.C.Classify.placed c.args.classify.now) (c.as_slice.ensures ∙ sym c.arriving_of-arriving.ensures.bytes))) c.count.ensures in
     let held = held_more (g.C.Classify.placed c.args.classify.now) z.0 z.1 c.arriving_of-arriving.result z.2.offers
@@ -233,7 +234,7 @@ records-preserved g c =
       distinct = g.met.D.Discipline.distinct c.records.discipline z.2.under.going.told z.2.under.going.stands;
     } in
     let more : List Arrival = z.0 ++ arrival_of (g.C.Classify.placed c.args.classify.now) c.arriving_of-arriving.result ∷ [] in
-    let under = under_more _ (g.C.Classify.placed c.args.classify.now) (g.C.Classify.dressed c.args.classify.now) c.args.names.now (g.D.Discipline.policy c.records.discipline) _ _ _ _ (g.F.Files.view c.records.files) (g.F.Files.view c.next.new.files) _ c.records.progress c.records.words (λ bytes. IsTrue (g.F.Files.view c.args.files.now).tells × StandsFor (g.F.Files.view c.args.files.now) c.args.reader.now bytes []) c.records.reader c.records.latest z.0 z.1 c.arriving_of-arriving.result m z.2
+    let under = under_more _ (g.C.Classify.placed c.args.classify.now) (g.C.Classify.dressed c.args.classify.now) c.args.names.now (g.D.Discipline.policy c.records.discipline) _ _ _ _ (g.F.Files.view c.records.files) (g.F.Files.view c.next.new.files) _ (g.K.Keeper.told c.records.keeper) c.records.progress c.records.words (λ bytes. IsTrue (g.F.Files.view c.args.files.now).tells × StandsFor (g.F.Files.view c.args.files.now) c.args.reader.now bytes []) c.records.reader c.records.latest z.0 z.1 c.arriving_of-arriving.result m z.2
     c.next.ensures.some.1.keeps c.arriving_of-arriving.ensures.within (omega (arith, c.arriving_of-arriving.ensures.at)) (omega (arith, z.2.counted, number, c.in-Some.record.counted))
     (record c.records.outputs { counts = c.count.new.counts }) c.class-placed.result.class refl (ap (λ (k : Placed). k.class) (c.class-placed.ensures ∙ ap (g.C.Classify.placed c.args.classify.now) (c.as_slice.ensures ∙ sym c.arriving_of-arriving.ensures.bytes))) c.count.ensures in
     let held = held_more (g.C.Classify.placed c.args.classify.now) z.0 z.1 c.arriving_of-arriving.result z.2.offers
@@ -258,6 +259,7 @@ records-preserved g c =
     record {
       file = file;
       sound = c.in-Ok.ensures.sound;
+      before = c.in-Ok-Made-play_packet.ensures.before ∙ c.records.invariant.before;
       no_fault = same_counts _ _ _ (same_counts _ _ _ c.records.invariant.no_fault c.in-Ok.ensures.counts) c.in-Ok-Made-play_packet.ensures.no_fault;
       same = record {
         departures = c.in-Ok-Made-play_packet.ensures.same.departures ∙ c.records.invariant.same.departures;
@@ -302,7 +304,7 @@ returns-in-Ok-Late-play_packet-clause-ended g c =
       distinct = g.met.D.Discipline.distinct c.records.discipline z.2.under.going.told z.2.under.going.stands;
     } in
     let more : List Arrival = z.0 ++ arrival_of (g.C.Classify.placed c.args.classify.now) c.arriving_of-arriving.result ∷ [] in
-    let under = under_more _ (g.C.Classify.placed c.args.classify.now) (g.C.Classify.dressed c.args.classify.now) c.args.names.now (g.D.Discipline.policy c.records.discipline) _ _ _ _ (g.F.Files.view c.records.files) (g.F.Files.view c.next.new.files) _ c.records.progress c.records.words (λ bytes. IsTrue (g.F.Files.view c.args.files.now).tells × StandsFor (g.F.Files.view c.args.files.now) c.args.reader.now bytes []) c.records.reader c.records.latest z.0 z.1 c.arriving_of-arriving.result m z.2
+    let under = under_more _ (g.C.Classify.placed c.args.classify.now) (g.C.Classify.dressed c.args.classify.now) c.args.names.now (g.D.Discipline.policy c.records.discipline) _ _ _ _ (g.F.Files.view c.records.files) (g.F.Files.view c.next.new.files) _ (g.K.Keeper.told c.records.keeper) c.records.progress c.records.words (λ bytes. IsTrue (g.F.Files.view c.args.files.now).tells × StandsFor (g.F.Files.view c.args.files.now) c.args.reader.now bytes []) c.records.reader c.records.latest z.0 z.1 c.arriving_of-arriving.result m z.2
     c.next.ensures.some.1.keeps c.arriving_of-arriving.ensures.within (omega (arith, c.arriving_of-arriving.ensures.at)) (omega (arith, z.2.counted, number, c.in-Some.record.counted))
     (record c.records.outputs { counts = c.count.new.counts }) c.class-placed.result.class refl (ap (λ (k : Placed). k.class) (c.class-placed.ensures ∙ ap (g.C.Classify.placed c.args.classify.now) (c.as_slice.ensures ∙ sym c.arriving_of-arriving.ensures.bytes))) c.count.ensures in
     let held = held_more (g.C.Classify.placed c.args.classify.now) z.0 z.1 c.arriving_of-arriving.result z.2.offers
@@ -370,7 +372,7 @@ returns-in-Err-play_packet-clause-broken g c =
       distinct = g.met.D.Discipline.distinct c.records.discipline z.2.under.going.told z.2.under.going.stands;
     } in
     let more : List Arrival = z.0 ++ arrival_of (g.C.Classify.placed c.args.classify.now) c.arriving_of-arriving.result ∷ [] in
-    let under = under_more _ (g.C.Classify.placed c.args.classify.now) (g.C.Classify.dressed c.args.classify.now) c.args.names.now (g.D.Discipline.policy c.records.discipline) _ _ _ _ (g.F.Files.view c.records.files) (g.F.Files.view c.next.new.files) _ c.records.progress c.records.words (λ bytes. IsTrue (g.F.Files.view c.args.files.now).tells × StandsFor (g.F.Files.view c.args.files.now) c.args.reader.now bytes []) c.records.reader c.records.latest z.0 z.1 c.arriving_of-arriving.result m z.2
+    let under = under_more _ (g.C.Classify.placed c.args.classify.now) (g.C.Classify.dressed c.args.classify.now) c.args.names.now (g.D.Discipline.policy c.records.discipline) _ _ _ _ (g.F.Files.view c.records.files) (g.F.Files.view c.next.new.files) _ (g.K.Keeper.told c.records.keeper) c.records.progress c.records.words (λ bytes. IsTrue (g.F.Files.view c.args.files.now).tells × StandsFor (g.F.Files.view c.args.files.now) c.args.reader.now bytes []) c.records.reader c.records.latest z.0 z.1 c.arriving_of-arriving.result m z.2
     c.next.ensures.some.1.keeps c.arriving_of-arriving.ensures.within (omega (arith, c.arriving_of-arriving.ensures.at)) (omega (arith, z.2.counted, number, c.in-Some.record.counted))
     (record c.records.outputs { counts = c.count.new.counts }) c.class-placed.result.class refl (ap (λ (k : Placed). k.class) (c.class-placed.ensures ∙ ap (g.C.Classify.placed c.args.classify.now) (c.as_slice.ensures ∙ sym c.arriving_of-arriving.ensures.bytes))) c.count.ensures in
     let held = held_more (g.C.Classify.placed c.args.classify.now) z.0 z.1 c.arriving_of-arriving.result z.2.offers

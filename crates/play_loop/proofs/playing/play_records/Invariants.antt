@@ -15,13 +15,14 @@ invariant-records g l = record {
   sound : l.reader.fault ≡ None;
   same : SameFiles l.fn.outputs l.outputs;
   others : OnlyPlayed l.fn.reader.file l.fn.outputs.departures l.fn.outputs.fates (g.F.Files.view l.fn.files) (g.F.Files.view l.files);
+  before : g.K.Keeper.before l.keeper ≡ g.K.Keeper.before l.fn.keeper;
   policy : g.D.Discipline.policy l.discipline ≡ g.D.Discipline.policy l.fn.discipline;
   rate : l.progress.clock.rate ≡ l.fn.progress.clock.rate;
   seed : l.words.seed ≡ l.fn.words.seed;
   no_fault : SameCounts (g.F.Files.view l.fn.files) (g.F.Files.view l.files);
   early : l.latest < 2 ^ 62;
   reading : (arrived : List Arrival) × (k : List Happened)
-      × IsReading (g.C.Classify.placed l.classify) (g.C.Classify.dressed l.classify) l.names (g.D.Discipline.policy l.discipline) (g.D.Discipline.stands l.discipline) (g.D.Discipline.lists l.discipline) (g.D.Discipline.limits l.discipline) (g.D.Discipline.link_rate l.discipline) (g.F.Files.view l.files) l.outputs l.progress l.words (λ bytes. IsTrue (g.F.Files.view l.fn.files).tells × StandsFor (g.F.Files.view l.fn.files) l.fn.reader bytes []) l.reader l.latest arrived k;
+      × IsReading (g.C.Classify.placed l.classify) (g.C.Classify.dressed l.classify) l.names (g.D.Discipline.policy l.discipline) (g.D.Discipline.stands l.discipline) (g.D.Discipline.lists l.discipline) (g.D.Discipline.limits l.discipline) (g.D.Discipline.link_rate l.discipline) (g.F.Files.view l.files) l.outputs (g.K.Keeper.told l.keeper) l.progress l.words (λ bytes. IsTrue (g.F.Files.view l.fn.files).tells × StandsFor (g.F.Files.view l.fn.files) l.fn.reader bytes []) l.reader l.latest arrived k;
 }
 
 abbrev pub decreases-records : goal.decreases-records

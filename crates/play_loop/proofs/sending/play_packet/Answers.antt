@@ -12,7 +12,7 @@ use Rattle.play_loop.specs.Reading.{arrival_of}
 use Rattle.play_loop.specs.Underway.{DueIs}
 use Rattle.play_loop.proofs.KeptLemmas.{only_trans}
 use Rattle.play_loop.proofs.OutputLemmas.{fronts_files, fronts_same, texts_same}
-use Rattle.play_loop.proofs.PacketLemmas.{before_stays, counted_after, fates_after, held_arrives, held_same, not_earlier, offers_it, same_seed, with_stays}
+use Rattle.play_loop.proofs.PacketLemmas.{before_stays, counted_after, fates_after, held_arrives, held_same, not_earlier, offers_it, same_seed, told_after, with_stays}
 use Rattle.play_loop.proofs.TextLemmas.{departures_offered}
 use Rattle.play_loop.proofs.TurnLemmas.{same_begun, under_countable}
 use Rattle.play_loop.proofs.sending.play_packet.Goals as goal
@@ -60,7 +60,7 @@ add_dropped-requires-clause-countable g c =
       steady = g.met.D.Discipline.steady c.send_due.new.discipline y.told y.stands;
       distinct = g.met.D.Discipline.distinct c.send_due.new.discipline y.told y.stands;
     } in
-    under_countable (g.C.Classify.placed c.args.classify.now) (g.C.Classify.dressed c.args.classify.now) c.args.names.now (g.D.Discipline.policy c.send_due.new.discipline) _ _ _ _ _ c.send_due.new.outputs c.send_due.new.progress r.0 c.args.words.now d.0 m d.1
+    under_countable (g.C.Classify.placed c.args.classify.now) (g.C.Classify.dressed c.args.classify.now) c.args.names.now (g.D.Discipline.policy c.send_due.new.discipline) _ _ _ _ _ c.send_due.new.outputs (g.K.Keeper.told c.send_due.new.keeper) c.send_due.new.progress r.0 c.args.words.now d.0 m d.1
 
 pub returns-in-Ok-clause-due : goal.returns-in-Ok-clause-due
 returns-in-Ok-clause-due g c = λ arrived g' u h.
@@ -81,9 +81,10 @@ returns-in-Ok-clause-due g c = λ arrived g' u h.
     let back = c.offer-dropped.ensures.told arrived d.0 a d.1.going offers in
     let counted = counted_after (g.C.Classify.placed c.args.classify.now) c.args.names.now (g.D.Discipline.policy c.send_due.new.discipline) c.args.words.now arrived d.0 c.args.arriving c.offer-dropped.result _ _ held d.1.going.words back d.1.counted c.in-Ok.ensures.counted in
     let rows = fates_after (g.C.Classify.placed c.args.classify.now) (name_of c.args.names.now) (g.D.Discipline.policy c.send_due.new.discipline) c.args.words.now arrived d.0 c.args.arriving c.args.arriving.placed c.offer-dropped.result held d.1.going.words held.placed_is back in
-    let records = departures_offered (g.C.Classify.dressed c.args.classify.now) (g.D.Discipline.policy c.send_due.new.discipline) c.args.words.now.seed arrived d.0 (coming_of a) in (
+    let records = departures_offered (g.C.Classify.dressed c.args.classify.now) (g.D.Discipline.policy c.send_due.new.discipline) c.args.words.now.seed arrived d.0 (coming_of a) in
+    let told = told_after (g.C.Classify.placed c.args.classify.now) (g.D.Discipline.policy c.send_due.new.discipline) c.args.words.now arrived d.0 c.args.arriving c.offer-dropped.result held d.1.going.words back in (
       offer_of (g.D.Discipline.policy c.send_due.new.discipline) c.args.words.now.seed d.0 (coming_of a) ∷ d.0,
-      record { going = o; given = texts_same _ _ _ _ _ _ _ _ _ records rows (c.in-Ok.ensures.wrote _ _ d.1.given); counted = counted; fit = d.1.fit },
+      record { going = o; given = texts_same _ _ _ _ _ _ _ _ _ records rows (c.in-Ok.ensures.wrote _ _ d.1.given); counted = counted; was_told = subst (g.K.Keeper.told c.add_dropped.new.keeper) told (c.in-Ok.ensures.told _ d.1.was_told); fit = d.1.fit },
       (tt, ap (λ (n : ℕ). n + 1) d.2.0, omega (arith, l)),
     )
 

@@ -12,6 +12,7 @@ use Rattle.play_loop.proofs.CountingLemmas.{counted_sent}
 use Rattle.play_loop.proofs.KeptLemmas.{only_trans}
 use Rattle.play_loop.proofs.OutputLemmas.{fronts_files, fronts_same, same_trans, texts_same}
 use Rattle.play_loop.proofs.TextLemmas.{departures_sent, fates_sent}
+use Rattle.play_loop.proofs.ToldLemmas.{told_sent}
 use Rattle.play_loop.proofs.TurnLemmas.{arrives_same, counts_up, leaves_now, made_of, same_begun, same_cut, same_made, still_of, under_countable}
 use Rattle.play_loop.proofs.sending.send_due.Goals as goal
 
@@ -36,7 +37,7 @@ returns-in-Offer-clause-due g c = λ arrived w g' u e.
     let t = c.turn.ensures.turned arrived w k.0 y a in
     let P : List Happened → Type 0 = λ h. IsGoing (g.D.Discipline.policy c.turn.new.discipline) (g.D.Discipline.stands c.turn.new.discipline) (g.D.Discipline.lists c.turn.new.discipline) (g.D.Discipline.limits c.turn.new.discipline) (g.D.Discipline.link_rate c.turn.new.discipline) arrived w c.turn.new.self h in (
       k.0,
-      record { going = subst P (still_of k.0 c.turn.result c.in-Offer.is) t.1; given = k.1.given; counted = k.1.counted; fit = k.1.fit },
+      record { going = subst P (still_of k.0 c.turn.result c.in-Offer.is) t.1; given = k.1.given; counted = k.1.counted; was_told = k.1.was_told; fit = k.1.fit },
       k.2,
       same_made _ _ _ _ w.seed arrived k.0 c.args.arrival c.turns.invariant.policy c.turns.invariant.rate
           (made_of (g.D.Discipline.policy c.turns.discipline) c.turns.progress.clock.rate w.seed arrived k.0 c.args.arrival c.turn.result m.positive m.lawful y.rising y.begun.events c.in-Offer.is c.turn.ensures.offers t.0),
@@ -48,7 +49,7 @@ returns-in-Late-clause-due g c = λ arrived w g' u e.
     let a : c.args.arrival ≡ arrives arrived k.0 = e ∙ arrives_same arrived g' k.0 k.2.0 in
     let t = c.in-Late.ensures.turned arrived w k.0 k.1.going a in (
       k.0,
-      record { going = t.1; given = k.1.given; counted = k.1.counted; fit = k.1.fit },
+      record { going = t.1; given = k.1.given; counted = k.1.counted; was_told = k.1.was_told; fit = k.1.fit },
       k.2,
       same_cut _ _ _ _ w.seed (comings arrived) k.0 c.turns.invariant.policy c.turns.invariant.rate t.0,
     )
@@ -80,7 +81,7 @@ add_sent-requires-clause-countable g c =
       steady = g.met.D.Discipline.steady c.turns.discipline y.told y.stands;
       distinct = g.met.D.Discipline.distinct c.turns.discipline y.told y.stands;
     } in
-    under_countable (g.C.Classify.placed c.args.classify.now) (g.C.Classify.dressed c.args.classify.now) c.args.names.now (g.D.Discipline.policy c.turns.discipline) _ _ _ _ _ c.turns.outputs c.turns.progress r.0 r.1 k.0 m k.1
+    under_countable (g.C.Classify.placed c.args.classify.now) (g.C.Classify.dressed c.args.classify.now) c.args.names.now (g.D.Discipline.policy c.turns.discipline) _ _ _ _ _ c.turns.outputs (g.K.Keeper.told c.turns.keeper) c.turns.progress r.0 r.1 k.0 m k.1
 
 pub add_sent-requires-clause-within : goal.add_sent-requires-clause-within
 add_sent-requires-clause-within g c =
@@ -118,6 +119,7 @@ turns-preserved g c = record {
   same = same_trans _ _ _ c.turns.invariant.same c.in-Ok.ensures.same;
   others = (let v = c.requires.under.3.given in
       only_trans _ _ _ _ _ _ _ v.departures.holds.there v.fates.holds.there c.turns.invariant.same.departures c.turns.invariant.same.fates c.turns.invariant.others c.in-Ok.ensures.others);
+  before = c.add_sent.ensures.before ∙ c.turns.invariant.before;
   policy = c.turn.ensures.policy ∙ c.turns.invariant.policy;
   rate = c.turn.ensures.rate ∙ c.turns.invariant.rate;
   under = λ arrived w g' u e.
@@ -138,6 +140,7 @@ turns-preserved g c = record {
               (fates_sent (g.C.Classify.placed c.args.classify.now) (name_of c.args.names.now) arrived k.0 c.in-Send.departure l) (c.in-Ok.ensures.wrote _ _ k.1.given);
           counted = counted_sent c.args.names.now arrived (journal k.0) c.in-Send.departure.packet.number c.in-Send.departure.start c.in-Send.departure.end c.in-Send.departure.class
               c.in-Send.departure.packet.len c.in-Send.departure.rule _ _ k.1.counted l.class l.len c.in-Ok.ensures.counted;
+          was_told = subst (g.K.Keeper.told c.add_sent.new.keeper) (told_sent (g.C.Classify.placed c.args.classify.now) arrived k.0 c.in-Send.departure l) (c.in-Ok.ensures.told _ k.1.was_told);
           fit = k.1.fit;
         },
         k.2,

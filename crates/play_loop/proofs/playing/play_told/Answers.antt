@@ -5,8 +5,8 @@ use Rattle.play_base.specs.View.{Wrote, WroteFront}
 use Rattle.play_text.specs.Statistics.{stats_of}
 use Rattle.play_loop.specs.Setup.{Setup, setup_of}
 use Rattle.play_loop.proofs.PlayLemmas.{stopped_empty}
-use Rattle.play_loop.proofs.StatsLemmas.{explains_stats, fronts_whole, keeps_played, keeps_written, leaves_none, leaves_stats, no_stats, plays_whole}
-use Rattle.play_loop.proofs.playing.play.Goals as goal
+use Rattle.play_loop.proofs.StatsLemmas.{explains_stats, fronts_whole, keeps_played, keeps_written, leaves_none, leaves_stats, no_stats, plays_told, tells_whole}
+use Rattle.play_loop.proofs.playing.play_told.Goals as goal
 
 pub returns-in_default-clause-front : goal.returns-in_default-clause-front
 returns-in_default-clause-front g c = λ t rest l records last r s. stopped_empty _ _ c.args.opened.now records c.requires.ready
@@ -21,7 +21,14 @@ returns-in-Err-clause-keeps g c = keeps_played (g.F.Files.view c.args.files.now)
 pub returns-in-Ok-write_stats-clause-done : goal.returns-in-Ok-write_stats-clause-done
 returns-in-Ok-write_stats-clause-done g c =
     let P : List Counts → Type 0 = λ ks. Wrote (g.F.Files.view c.play_capture.new.files) (g.F.Files.view c.write_stats.new.files) c.args.opened.now.stats (stats_of c.args.names.now ks) in
-    plays_whole (setup_of (g.D.Discipline.policy c.args.discipline.now) (g.C.Classify.placed c.args.classify.now) (g.C.Classify.dressed c.args.classify.now) c.args.names.now c.args.rate c.args.words.now.seed) _ (g.F.Files.view c.args.files.now) (g.F.Files.view c.play_capture.new.files) (g.F.Files.view c.write_stats.new.files) c.args.opened.now c.in-Ok-play_capture.tally
+    plays_told (setup_of (g.D.Discipline.policy c.args.discipline.now) (g.C.Classify.placed c.args.classify.now) (g.C.Classify.dressed c.args.classify.now) c.args.names.now c.args.rate c.args.words.now.seed) _ (g.K.Keeper.told c.play_capture.new.keeper) (g.F.Files.view c.args.files.now) (g.F.Files.view c.write_stats.new.files) c.args.opened.now c.in-Ok-play_capture.tally.totals
+    (tells_whole (setup_of (g.D.Discipline.policy c.args.discipline.now) (g.C.Classify.placed c.args.classify.now) (g.C.Classify.dressed c.args.classify.now) c.args.names.now c.args.rate c.args.words.now.seed) _ (g.K.Keeper.told c.play_capture.new.keeper) (g.F.Files.view c.args.files.now) (g.F.Files.view c.play_capture.new.files) (g.F.Files.view c.write_stats.new.files) c.args.opened.now c.in-Ok-play_capture.tally
+    c.requires.ready c.in-Ok-play_capture.ensures.keeps c.in-Ok-play_capture.ensures.done (subst P c.as_slice.ensures.value c.in-Ok-write_stats.ensures.wrote))
+
+pub returns-in-Ok-write_stats-clause-told : goal.returns-in-Ok-write_stats-clause-told
+returns-in-Ok-write_stats-clause-told g c =
+    let P : List Counts → Type 0 = λ ks. Wrote (g.F.Files.view c.play_capture.new.files) (g.F.Files.view c.write_stats.new.files) c.args.opened.now.stats (stats_of c.args.names.now ks) in
+    tells_whole (setup_of (g.D.Discipline.policy c.args.discipline.now) (g.C.Classify.placed c.args.classify.now) (g.C.Classify.dressed c.args.classify.now) c.args.names.now c.args.rate c.args.words.now.seed) _ (g.K.Keeper.told c.play_capture.new.keeper) (g.F.Files.view c.args.files.now) (g.F.Files.view c.play_capture.new.files) (g.F.Files.view c.write_stats.new.files) c.args.opened.now c.in-Ok-play_capture.tally
     c.requires.ready c.in-Ok-play_capture.ensures.keeps c.in-Ok-play_capture.ensures.done (subst P c.as_slice.ensures.value c.in-Ok-write_stats.ensures.wrote)
 
 pub returns-in-Ok-write_stats-clause-keeps : goal.returns-in-Ok-write_stats-clause-keeps
@@ -36,12 +43,12 @@ pub returns-clause-front : goal.returns-clause-front
 returns-clause-front g c =
     fronts_whole
     (setup_of (g.D.Discipline.policy c.args.discipline.now) (g.C.Classify.placed c.args.classify.now) (g.C.Classify.dressed c.args.classify.now) c.args.names.now c.args.rate c.args.words.now.seed)
-    _ (g.F.Files.view c.args.files.now) (g.F.Files.view c.play_capture.new.files) (g.F.Files.view c.write_stats.new.files) c.args.opened.now c.in-Ok-play_capture.tally _ c.requires.ready c.in-Ok-play_capture.ensures.keeps c.in-Ok-play_capture.ensures.done c.in-Err-write_stats.ensures.front
+    _ _ (g.F.Files.view c.args.files.now) (g.F.Files.view c.play_capture.new.files) (g.F.Files.view c.write_stats.new.files) c.args.opened.now c.in-Ok-play_capture.tally _ c.requires.ready c.in-Ok-play_capture.ensures.keeps c.in-Ok-play_capture.ensures.done c.in-Err-write_stats.ensures.front
 
 pub returns-clause-stats : goal.returns-clause-stats
 returns-clause-stats g c =
     let P : List Counts → Type 0 = λ ks. WroteFront (g.F.Files.view c.play_capture.new.files) (g.F.Files.view c.write_stats.new.files) c.args.opened.now.stats (stats_of c.args.names.now ks) in
-    leaves_stats (setup_of (g.D.Discipline.policy c.args.discipline.now) (g.C.Classify.placed c.args.classify.now) (g.C.Classify.dressed c.args.classify.now) c.args.names.now c.args.rate c.args.words.now.seed) _ (g.F.Files.view c.args.files.now) (g.F.Files.view c.play_capture.new.files) (g.F.Files.view c.write_stats.new.files) c.args.opened.now c.in-Ok-play_capture.tally
+    leaves_stats (setup_of (g.D.Discipline.policy c.args.discipline.now) (g.C.Classify.placed c.args.classify.now) (g.C.Classify.dressed c.args.classify.now) c.args.names.now c.args.rate c.args.words.now.seed) _ _ (g.F.Files.view c.args.files.now) (g.F.Files.view c.play_capture.new.files) (g.F.Files.view c.write_stats.new.files) c.args.opened.now c.in-Ok-play_capture.tally
     c.in-Err-write_stats.fault c.requires.ready c.in-Ok-play_capture.ensures.keeps c.in-Ok-play_capture.ensures.done
     (subst P c.as_slice.ensures.value c.in-Err-write_stats.ensures.front) c.in-Err-write_stats.ensures.why
 

@@ -3,7 +3,7 @@ use Rattle.play_text.specs.Names.{name_of}
 use Rattle.play_loop.proofs.KeptLemmas.{only_more, wrote_first, wrote_second}
 use Rattle.play_loop.proofs.OutputLemmas.{texts_departed, texts_rowed, fronts_departed, fronts_rowed}
 use Rattle.play_loop.proofs.SentLemmas.{grew_left, grew_row, stopped_left, stopped_row}
-use Rattle.play_loop.proofs.writing.add_sent.Goals as goal
+use Rattle.play_loop.proofs.writing.write_sent.Goals as goal
 
 pub returns-in-Err-clause-stopped : goal.returns-in-Err-clause-stopped
 returns-in-Err-clause-stopped g c = λ ds ts h.

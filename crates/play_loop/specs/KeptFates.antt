@@ -1,0 +1,27 @@
+-- What is told of a play: for each decision, in the order of the journal, the number of its packet, its arrival and its fate.
+use Rattle.std.specs.Prelude.{ℕ, List, [], ◌∷◌, map}
+use Rattle.altq_model.specs.Arrivals.{Arrival, arrival}
+use Rattle.altq_model.specs.declared.Fate.TheVariants as fate
+use Rattle.altq_model.specs.History.{Decision}
+use Rattle.play_core.specs.declared.turn.Departure.{Departure}
+use Rattle.play_core.specs.declared.turn.Dropped.{Dropped}
+use Rattle.play_loop.specs.declared.kept.Kept.{Kept}
+use Rattle.play_loop.specs.declared.kept.KeptFate.{KeptFate}
+
+-- the fates that are kept, in their order
+abbrev pub fates_in : Kept → List KeptFate
+fates_in k = k.fates.items
+
+-- a decision of a play of these arrivals
+abbrev pub kept_fate : List Arrival → Decision → KeptFate
+kept_fate arrived d = record { number = d.0; arrival = (arrival arrived d.0).at; fate = d.1 }
+
+abbrev pub kept_fates : List Arrival → List Decision → List KeptFate
+kept_fates arrived js = map (kept_fate arrived) js
+
+-- of a packet that was sent, and of one that was dropped
+abbrev pub sent_fate : Departure → KeptFate
+sent_fate d = record { number = d.packet.number; arrival = d.packet.at; fate = fate.Sent d.start d.end d.rule }
+
+abbrev pub dropped_fate : Dropped → KeptFate
+dropped_fate d = record { number = d.packet.number; arrival = d.packet.at; fate = fate.Dropped d.reason }
