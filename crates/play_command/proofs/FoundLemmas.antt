@@ -1,10 +1,11 @@
 -- How the play of an interface that was found ends.
-use Rattle.std.proofs.Common.{◌∙◌, ℕ, List, Err, sym}
+use Rattle.std.proofs.Common.{◌∙◌, ℕ, List, Err, arith, sym}
 use Rattle.conf_tree.specs.declared.interface.Interface.{Interface}
 use Rattle.play_base.specs.View.{View, IsAbsent, SameCounts, Any, Keeps}
 use Rattle.play_core.specs.declared.totals.Totals.{Totals}
 use Rattle.play_loop.specs.declared.fault.Opened.{Opened}
 use Rattle.play_loop.specs.declared.fault.PlayFault.{PlayFault}
+use Rattle.play_loop.specs.declared.fault.PlayFault.TheVariants.{NoMemory}
 use Rattle.play_words.specs.Words.{AreDistinct}
 use Rattle.command_base.specs.Configuration.{Accepts}
 use Rattle.command_base.specs.Names.{Names}
@@ -14,6 +15,9 @@ use Rattle.play_command.specs.Failing.{play_failure, unplayed_failure}
 use Rattle.play_command.specs.Found.{PlaysTo}
 use Rattle.play_command.specs.InterfaceSetup.{setup_of}
 use Rattle.play_command.specs.Opening.{AreNamed, AreOpened, OpenedFar, ArrivalsCauses, IsOpened, OutputCauses}
+use Rattle.play_base.proofs.ViewLaws.{keeps_refl}
+use Rattle.play_command.proofs.OpeningLemmas.{far_none}
+use Rattle.play_command.proofs.NamedLemmas.{named_none, named_within}
 use Rattle.play_command.proofs.FilesLemmas.{course_opened, files_opened}
 use Rattle.play_command.proofs.InputLemmas.{fronts_whole}
 use Rattle.play_command.proofs.Laws.{HaveLaws}
@@ -60,6 +64,13 @@ found_unread a b n i seed f laws accepted d why far named keeps =
         files = files_opened a b n course;
       };
     }
+
+-- there is no memory for its classes
+pub found_unbuilt : (a : View) (n : Names) (i : Interface) (seed : ℕ) → HaveLaws → Accepts a n.config n.interface i
+    → AreDistinct n.config n.arrivals n.departures n.fates n.stats → PlayEnds a a n seed (Err (unplayed_failure (Play NoMemory)))
+found_unbuilt a n i seed laws accepted d =
+    found_unread a a n i seed (Play NoMemory) laws accepted d tt (far_none a n.departures n.fates n.stats)
+    (named_within a a n 2 6 (omega arith) (named_none a n)) (keeps_refl Any Any a)
 
 there_opened : (a g : View) (arrivals : List ℕ) (file : ℕ) {A : Type 0} → IsOpened a g arrivals file → IsAbsent a arrivals → A
 there_opened a g arrivals file x y = let z = some_bytes (a.bytes arrivals) (x.there y.0) in absurd (no_bytes z.0 (sym y.1 ∙ z.1))

@@ -1,4 +1,5 @@
 pub mod BehindLemmas
+pub mod DisciplineLemmas
 pub mod EndLemmas
 pub mod FilesLemmas
 pub mod FoundLemmas
@@ -14,4 +15,3 @@ pub mod StepLemmas
 pub mod TellLemmas
 pub mod ThroughLemmas
 pub mod ToldLemmas
-pub mod WatchedLemmas

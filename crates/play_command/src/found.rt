@@ -1,36 +1,83 @@
-// The play of an interface that the configuration gives.
-ghost use Rattle.play_base.specs.View.{SameCounts, View};
-ghost use Rattle.std.specs.Prelude.{◌≡◌, ◌≤◌, ℕ, true, false, None, Some, Err, length, IfErr, IfOk};
-ghost use Rattle.play_words.specs.Words.{AreDistinct};
-ghost use Rattle.command_base.specs.Names.{names_read};
+// The play of an interface that the configuration gives, by a discipline that is handed in, and what that stands for behind it.
 ghost use Rattle.command_base.specs.Configuration.{Accepts, IsConfigured};
+ghost use Rattle.command_base.specs.Names.{names_read};
+ghost use Rattle.play_base.specs.View.{NoneAppears, SameCounts, View};
+ghost use Rattle.play_command.specs.Converting.{CameOf, Through};
 ghost use Rattle.play_command.specs.Ending.{PlayEnds};
 ghost use Rattle.play_command.specs.Failing.{play_failure, unplayed_failure};
-ghost use Rattle.play_command.specs.Found.{IsBehind, PlaysTo};
+ghost use Rattle.play_command.specs.Found.{HasStood, IsBehind, PlaysTo};
+ghost use Rattle.play_command.specs.InterfaceSetup.{setup_of};
 ghost use Rattle.play_command.specs.Opening.{IsOpened};
+ghost use Rattle.play_loop.specs.Kept.{KeepsPlayed};
+ghost use Rattle.play_loop.specs.Played.{AreReady, Plays};
+ghost use Rattle.play_words.specs.Words.{AreDistinct};
+ghost use Rattle.std.specs.Prelude.{Err, IfErr, IfOk, IsTrue, None, OnOk, Some, [], false, length, true, ℕ, ◌≡◌, ◌≤◌};
+ghost use Rattle.discipline.specs.Laws.{HasRate};
+ghost use Rattle.interface_policy.specs.Policy.{policy_of};
 
-use crate::converting::play_converted;
 use crate::failing::Unplayed;
-use crate::interface::play_interface;
+use crate::interface::play_by;
 use crate::opening::{Arrivals, create_outputs, open_arrivals};
 use conf_laws::configurations_fit;
 use conf_tree::Interface;
+use discipline::Discipline;
 use frame_classes::frames_have_classes;
 use interface_policy::interfaces_keep_their_promises;
+use pcapng_files::{Front, FrontFiles};
 use play_base::Files;
-use play_loop::{PlayFault, Totals};
+use play_loop::{Opened, PlayFault, Totals};
 use play_words::PlayWords;
 use std::alloc::Global;
 
-// Creates the outputs, and plays a classic capture that was opened.
+// Plays a capture that is in memory by a discipline, in the place of what the arrivals have left.
 #[tactic(auto, using(play_base::proofs::ViewLaws::same_trans, play_base::proofs::ViewLaws::same_refl))]
-fn play_itself<F: Files>(
+fn converted_by<D: Discipline, F: Files>(
+    alloc: Global,
+    files: &mut F,
+    interface: &Interface,
+    seed: u64,
+    opened: &Opened<'_>,
+    capture: &[u8],
+    discipline: &mut D,
+) -> Result<Totals, PlayFault>
+    requires new { D.stands discipline.old [] }
+    requires policy { D.policy discipline.old ≡ policy_of interface.now }
+    requires rate { HasRate (D.link_rate discipline.old) interface.now.rate }
+    requires configured { IsConfigured interface.now }
+    requires ready { AreReady (F.view files.old) opened.now }
+    ensures ends { Through (CameOf (setup_of interface.now seed) opened.now result)
+        (F.view files.old) (F.view files.new) opened.now.arrivals capture.now }
+    ensures stood { Through (λ u w. IfOk result (Plays (setup_of interface.now seed) (D.stands discipline.new) u w opened.now))
+        (F.view files.old) (F.view files.new) opened.now.arrivals capture.now }
+    ensures keeps { KeepsPlayed opened.now (F.view files.old) (F.view files.new) }
+    ensures none { NoneAppears (F.view files.old) (F.view files.new) }
+    ensures said { (F.view files.new).said ≡ (F.view files.old).said }
+    ensures no_fault { OnOk result (SameCounts (F.view files.old) (F.view files.new)) }
+{
+    let mut fronted = FrontFiles {
+        files,
+        file: opened.arrivals,
+        front: Front {
+            bytes: capture,
+            rest: false,
+        },
+    };
+    play_by(alloc, &mut fronted, interface, discipline, seed, opened)
+}
+
+// Creates the outputs, and plays a classic capture that was opened by a discipline.
+#[tactic(auto, using(play_base::proofs::ViewLaws::same_trans, play_base::proofs::ViewLaws::same_refl))]
+fn itself_by<D: Discipline, F: Files>(
     alloc: Global,
     files: &mut F,
     found: &Interface,
     words: &PlayWords<'_>,
     arrivals: &Arrivals,
+    discipline: &mut D,
 ) -> Result<Totals, PlayFault>
+    requires new { D.stands discipline.old [] }
+    requires policy { D.policy discipline.old ≡ policy_of found.now }
+    requires rate { HasRate (D.link_rate discipline.old) found.now.rate }
     requires configured { IsConfigured found.now }
     requires distinct { AreDistinct words.now.config.now words.now.arrivals.now words.now.departures.now words.now.fates.now words.now.stats.now }
     requires opened { (a : View) × IsOpened a (F.view files.old) words.now.arrivals.now arrivals.now.file }
@@ -40,6 +87,8 @@ fn play_itself<F: Files>(
         → SameCounts a (F.view files.old) → PlaysTo a (F.view files.new) (names_read words.now) words.now.seed totals) }
     ensures ends { IfErr result (λ fault. (a : View) → IsBehind a (F.view files.old) (names_read words.now) found.now arrivals.now
         → PlayEnds a (F.view files.new) (names_read words.now) words.now.seed (Err (play_failure fault))) }
+    ensures stood { OnOk result ((a : View) → IsBehind a (F.view files.old) (names_read words.now) found.now arrivals.now → IsTrue a.tells
+        → HasStood (D.stands discipline.new) a (F.view files.new) (names_read words.now) words.now.seed) }
     ensures silent { (a : View) → IsBehind a (F.view files.old) (names_read words.now) found.now arrivals.now → (F.view files.new).said ≡ a.said }
     ensures high { (a : View) → IsBehind a (F.view files.old) (names_read words.now) found.now arrivals.now
         → (f p : ℕ) → a.part f ≡ None → (F.view files.new).part f ≡ Some p → 2 ≤ p }
@@ -52,21 +101,25 @@ fn play_itself<F: Files>(
         Ok(opened) => opened,
         Err(fault) => return Err(fault),
     };
-    match play_interface(alloc, files, found, words.seed, &opened) {
+    match play_by(alloc, files, found, discipline, words.seed, &opened) {
         Ok(totals) => Ok(totals),
         Err(fault) => Err(fault),
     }
 }
 
-// Creates the outputs, and plays the classic capture of a pcapng file that was opened.
+// Creates the outputs, and plays the classic capture of a pcapng file that was opened by a discipline.
 #[tactic(auto, using(play_base::proofs::ViewLaws::same_trans, play_base::proofs::ViewLaws::same_refl))]
-fn play_pcapng<F: Files>(
+fn pcapng_by<D: Discipline, F: Files>(
     alloc: Global,
     files: &mut F,
     found: &Interface,
     words: &PlayWords<'_>,
     arrivals: &Arrivals,
+    discipline: &mut D,
 ) -> Result<Totals, PlayFault>
+    requires new { D.stands discipline.old [] }
+    requires policy { D.policy discipline.old ≡ policy_of found.now }
+    requires rate { HasRate (D.link_rate discipline.old) found.now.rate }
     requires configured { IsConfigured found.now }
     requires distinct { AreDistinct words.now.config.now words.now.arrivals.now words.now.departures.now words.now.fates.now words.now.stats.now }
     requires opened { (a : View) × IsOpened a (F.view files.old) words.now.arrivals.now arrivals.now.file }
@@ -75,6 +128,8 @@ fn play_pcapng<F: Files>(
         → SameCounts a (F.view files.old) → PlaysTo a (F.view files.new) (names_read words.now) words.now.seed totals) }
     ensures ends { IfErr result (λ fault. (a : View) → IsBehind a (F.view files.old) (names_read words.now) found.now arrivals.now
         → PlayEnds a (F.view files.new) (names_read words.now) words.now.seed (Err (play_failure fault))) }
+    ensures stood { OnOk result ((a : View) → IsBehind a (F.view files.old) (names_read words.now) found.now arrivals.now → IsTrue a.tells
+        → HasStood (D.stands discipline.new) a (F.view files.new) (names_read words.now) words.now.seed) }
     ensures silent { (a : View) → IsBehind a (F.view files.old) (names_read words.now) found.now arrivals.now → (F.view files.new).said ≡ a.said }
     ensures high { (a : View) → IsBehind a (F.view files.old) (names_read words.now) found.now arrivals.now
         → (f p : ℕ) → a.part f ≡ None → (F.view files.new).part f ≡ Some p → 2 ≤ p }
@@ -88,27 +143,35 @@ fn play_pcapng<F: Files>(
         Err(fault) => return Err(fault),
     };
     let capture = arrivals.given.front.as_slice();
-    match play_converted(alloc, files, found, words.seed, &opened, capture) {
+    match converted_by(
+        alloc, files, found, words.seed, &opened, capture, discipline,
+    ) {
         Ok(totals) => Ok(totals),
         Err(fault) => Err(fault),
     }
 }
 
-/// Opens the arrivals, a classic or a pcapng capture, creates the outputs, and plays an interface that the configuration gives. `play`
-/// and `make` do so.
+/// Opens the arrivals, a classic or a pcapng capture, creates the outputs, and plays an interface that the configuration gives, by a
+/// discipline of its policy to which nothing was offered yet. Where the play is done the discipline stands for its history.
 #[tactic(auto, using(play_base::proofs::ViewLaws::same_trans, play_base::proofs::ViewLaws::same_refl))]
-pub fn play_found<F: Files>(
+pub fn play_found_by<D: Discipline, F: Files>(
     alloc: Global,
     files: &mut F,
     found: &Interface,
     words: &PlayWords<'_>,
+    discipline: &mut D,
 ) -> Result<Totals, Unplayed>
+    requires new { D.stands discipline.old [] }
+    requires policy { D.policy discipline.old ≡ policy_of found.now }
+    requires rate { HasRate (D.link_rate discipline.old) found.now.rate }
     requires configured { IsConfigured found.now }
     requires accepted { Accepts (F.view files.old) words.now.config.now words.now.interface.now found.now }
     requires distinct { AreDistinct words.now.config.now words.now.arrivals.now words.now.departures.now words.now.fates.now words.now.stats.now }
     ensures done { IfOk result (PlaysTo (F.view files.old) (F.view files.new) (names_read words.now) words.now.seed) }
     ensures ends { IfErr result (λ fault. PlayEnds (F.view files.old) (F.view files.new) (names_read words.now) words.now.seed
         (Err (unplayed_failure fault))) }
+    ensures stood { OnOk result (IsTrue (F.view files.old).tells
+        → HasStood (D.stands discipline.new) (F.view files.old) (F.view files.new) (names_read words.now) words.now.seed) }
     ensures silent { (F.view files.new).said ≡ (F.view files.old).said }
     ensures high { (f p : ℕ) → (F.view files.old).part f ≡ None → (F.view files.new).part f ≡ Some p → 2 ≤ p }
 {
@@ -120,12 +183,12 @@ pub fn play_found<F: Files>(
         Err(fault) => return Err(fault),
     };
     if arrivals.given.rest {
-        return match play_itself(alloc, files, found, words, &arrivals) {
+        return match itself_by(alloc, files, found, words, &arrivals, discipline) {
             Ok(totals) => Ok(totals),
             Err(fault) => Err(Unplayed::Play(fault)),
         };
     }
-    match play_pcapng(alloc, files, found, words, &arrivals) {
+    match pcapng_by(alloc, files, found, words, &arrivals, discipline) {
         Ok(totals) => Ok(totals),
         Err(fault) => Err(Unplayed::Play(fault)),
     }

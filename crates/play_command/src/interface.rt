@@ -10,12 +10,12 @@ ghost use Rattle.play_command.specs.InterfaceSetup.{setup_of};
 ghost use Rattle.play_command.specs.Opening.{Untold};
 
 use conf_laws::configurations_fit;
-use conf_tree::{Interface, Kind};
+use conf_tree::Interface;
 use discipline::Discipline;
 use frame_classes::{Classifier, frames_have_classes};
-use interface_policy::{cbq_of, hfsc_of, interfaces_keep_their_promises, names_of};
+use interface_policy::{interfaces_keep_their_promises, names_of};
 use leaf_queue::Words;
-use play_base::{Files, NoMemory};
+use play_base::Files;
 use play_loop::{Opened, PlayFault, Totals, play};
 use std::alloc::Global;
 
@@ -67,39 +67,5 @@ pub(crate) fn play_by<D: Discipline, F: Files>(
     match played {
         Ok(totals) => Ok(totals),
         Err(fault) => Err(fault),
-    }
-}
-
-/// Plays the capture that the arrivals have left through the queues of an interface and a link of its rate, by HFSC or CBQ as it
-/// says, and by the random words of a seed. What each error means, and when it comes, `PlayFault` says.
-#[tactic(auto, using(play_base::proofs::ViewLaws::same_trans, play_base::proofs::ViewLaws::same_refl))]
-pub(crate) fn play_interface<F: Files>(
-    alloc: Global,
-    files: &mut F,
-    interface: &Interface,
-    seed: u64,
-    opened: &Opened<'_>,
-) -> Result<Totals, PlayFault>
-    requires configured { IsConfigured interface.now }
-    requires ready { AreReady (F.view files.old) opened.now }
-    ensures done { IfOk result (Plays (setup_of interface.now seed) Untold (F.view files.old) (F.view files.new) opened.now) }
-    ensures why { IfErr result (Explains (setup_of interface.now seed) Untold (F.view files.old) (F.view files.new) opened.now) }
-    ensures front { OnErr result (Fronts (setup_of interface.now seed) (F.view files.old) (F.view files.new) opened.now) }
-    ensures stats { IfErr result (LeavesStats (setup_of interface.now seed) (F.view files.old) (F.view files.new) opened.now) }
-    ensures keeps { KeepsPlayed opened.now (F.view files.old) (F.view files.new) }
-    ensures none { NoneAppears (F.view files.old) (F.view files.new) }
-    ensures said { (F.view files.new).said ≡ (F.view files.old).said }
-    ensures no_fault { OnOk result (SameCounts (F.view files.old) (F.view files.new)) }
-{
-    configurations_fit();
-    match interface.kind {
-        Kind::Hfsc => match hfsc_of(alloc, interface) {
-            Ok(mut hfsc) => play_by(alloc, files, interface, &mut hfsc, seed, opened),
-            Err(NoMemory) => Err(PlayFault::NoMemory),
-        },
-        Kind::Cbq => match cbq_of(alloc, interface) {
-            Ok(mut cbq) => play_by(alloc, files, interface, &mut cbq, seed, opened),
-            Err(NoMemory) => Err(PlayFault::NoMemory),
-        },
     }
 }

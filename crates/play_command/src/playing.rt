@@ -5,7 +5,7 @@ ghost use Rattle.play_words.specs.Words.{AreDistinct};
 ghost use Rattle.command_base.specs.Names.{names_read};
 ghost use Rattle.play_command.specs.Ending.{PlayEnds};
 
-use crate::found::play_found;
+use crate::kind::play_found;
 use command_base::{Done, Failure, absent, read_conf};
 use play_base::Files;
 use play_words::PlayWords;

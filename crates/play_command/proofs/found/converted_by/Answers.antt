@@ -6,7 +6,7 @@ use Rattle.play_loop.specs.Played.{Plays}
 use Rattle.play_command.specs.Converting.{CameOf}
 use Rattle.play_command.specs.InterfaceSetup.{setup_of}
 use Rattle.play_command.proofs.ThroughLemmas.{came_of, through_back}
-use Rattle.play_command.proofs.watched.converted_by.Goals as goal
+use Rattle.play_command.proofs.found.converted_by.Goals as goal
 
 pub returns-clause-ends : goal.returns-clause-ends
 returns-clause-ends g c =

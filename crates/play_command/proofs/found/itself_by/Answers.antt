@@ -5,9 +5,10 @@ use Rattle.play_command.proofs.FoundLemmas.{found_done, found_failed, found_uncr
 use Rattle.play_command.proofs.Laws.{have_laws}
 use Rattle.play_base.proofs.ViewLaws.{same_trans}
 use Rattle.play_command.proofs.StepLemmas.{high_of, steps_of}
+use Rattle.play_command.proofs.DisciplineLemmas.{has_stood, in_untold, stood_itself}
 use Rattle.play_command.specs.InterfaceSetup.{setup_of}
-use Rattle.play_command.proofs.SeeingLemmas.{begins_of, explained_itself, fronts_itself, played_itself, stats_itself}
-use Rattle.play_command.proofs.found.play_itself.Goals as goal
+use Rattle.play_command.proofs.SeeingLemmas.{begins_of, explained_itself, fronts_itself, stats_itself}
+use Rattle.play_command.proofs.found.itself_by.Goals as goal
 
 pub returns-in-Err-clause-ends : goal.returns-in-Err-clause-ends
 returns-in-Err-clause-ends g c =
@@ -24,81 +25,98 @@ returns-in-Err-clause-silent g c = λ a x. (c.in-Err.ensures.far a x.opened).sai
 pub returns-in-Err-clause-high : goal.returns-in-Err-clause-high
 returns-in-Err-clause-high g c = λ a x. (c.in-Err.ensures.far a x.opened).not_config
 
-pub returns-in-Ok-play_interface-clause-done : goal.returns-in-Ok-play_interface-clause-done
-returns-in-Ok-play_interface-clause-done g c =
+pub returns-in-Ok-play_by-clause-done : goal.returns-in-Ok-play_by-clause-done
+returns-in-Ok-play_by-clause-done g c =
     let laws = have_laws c.configurations_fit.ensures c.frames_have_classes.ensures.class c.interfaces_keep_their_promises.ensures.lawful
     c.interfaces_keep_their_promises.ensures.held c.interfaces_keep_their_promises.ensures.named c.interfaces_keep_their_promises.ensures.promises in
     let n = names_read c.args.words.now in
     let o = c.in-Ok.opened in
     let g' = g.F.Files.view c.args.files.now in
     let b = g.F.Files.view c.create_outputs.new.files in
-    let e = g.F.Files.view c.play_interface.new.files in
-    let y = c.in-Ok-play_interface.ensures in
+    let e = g.F.Files.view c.play_by.new.files in
+    let y = c.in-Ok-play_by.ensures in
     λ a x counts.
     let far = c.in-Ok.ensures.far a x.opened in
     let s = steps_of a b e n c.args.found.now o x.accepted (c.in-Ok.ensures.opened a x.opened) far (c.in-Ok.ensures.named a x.opened) y.keeps y.none y.said c.requires.distinct laws c.requires.configured in
     let begins = begins_of a g' b n c.args.found.now o c.args.arrivals.now c.in-Ok.ensures.arrivals x far.keeps.tells (c.in-Ok.ensures.left a x.opened) in
     let first = c.in-Ok.ensures.first ∙ c.as_slice-front.ensures.value in
-    found_done a b e n c.args.found.now o c.args.words.now.seed c.in-Ok-play_interface.totals s
-    (played_itself a g' b e n c.args.found.now o c.args.arrivals.now.given (setup_of c.args.found.now c.args.words.now.seed) c.in-Ok-play_interface.totals begins c.requires.classic first y.done)
+    found_done a b e n c.args.found.now o c.args.words.now.seed c.in-Ok-play_by.totals s
+    (in_untold a e n c.args.found.now o (setup_of c.args.found.now c.args.words.now.seed) (g.D.Discipline.stands c.play_by.new.discipline) c.in-Ok-play_by.totals (stood_itself a g' b e n c.args.found.now o c.args.arrivals.now.given (setup_of c.args.found.now c.args.words.now.seed) (g.D.Discipline.stands c.play_by.new.discipline) c.in-Ok-play_by.totals begins c.requires.classic first y.stood))
     (same_trans a g' e counts (same_trans g' b e c.in-Ok.ensures.no_fault y.no_fault))
 
-pub returns-in-Ok-play_interface-clause-silent : goal.returns-in-Ok-play_interface-clause-silent
-returns-in-Ok-play_interface-clause-silent g c = λ a x. c.in-Ok-play_interface.ensures.said ∙ (c.in-Ok.ensures.far a x.opened).said
-
-pub returns-in-Ok-play_interface-clause-high : goal.returns-in-Ok-play_interface-clause-high
-returns-in-Ok-play_interface-clause-high g c =
+pub returns-in-Ok-play_by-clause-stood : goal.returns-in-Ok-play_by-clause-stood
+returns-in-Ok-play_by-clause-stood g c =
     let laws = have_laws c.configurations_fit.ensures c.frames_have_classes.ensures.class c.interfaces_keep_their_promises.ensures.lawful
     c.interfaces_keep_their_promises.ensures.held c.interfaces_keep_their_promises.ensures.named c.interfaces_keep_their_promises.ensures.promises in
     let n = names_read c.args.words.now in
     let o = c.in-Ok.opened in
     let g' = g.F.Files.view c.args.files.now in
     let b = g.F.Files.view c.create_outputs.new.files in
-    let e = g.F.Files.view c.play_interface.new.files in
-    let y = c.in-Ok-play_interface.ensures in
+    let e = g.F.Files.view c.play_by.new.files in
+    let y = c.in-Ok-play_by.ensures in
+    λ a x t.
+    let far = c.in-Ok.ensures.far a x.opened in
+    let s = steps_of a b e n c.args.found.now o x.accepted (c.in-Ok.ensures.opened a x.opened) far (c.in-Ok.ensures.named a x.opened) y.keeps y.none y.said c.requires.distinct laws c.requires.configured in
+    let begins = begins_of a g' b n c.args.found.now o c.args.arrivals.now c.in-Ok.ensures.arrivals x far.keeps.tells (c.in-Ok.ensures.left a x.opened) in
+    let first = c.in-Ok.ensures.first ∙ c.as_slice-front.ensures.value in
+    has_stood a b e n c.args.found.now o c.args.words.now.seed s (g.D.Discipline.stands c.play_by.new.discipline) c.in-Ok-play_by.totals (stood_itself a g' b e n c.args.found.now o c.args.arrivals.now.given (setup_of c.args.found.now c.args.words.now.seed) (g.D.Discipline.stands c.play_by.new.discipline) c.in-Ok-play_by.totals begins c.requires.classic first y.stood) t
+
+pub returns-in-Ok-play_by-clause-silent : goal.returns-in-Ok-play_by-clause-silent
+returns-in-Ok-play_by-clause-silent g c = λ a x. c.in-Ok-play_by.ensures.said ∙ (c.in-Ok.ensures.far a x.opened).said
+
+pub returns-in-Ok-play_by-clause-high : goal.returns-in-Ok-play_by-clause-high
+returns-in-Ok-play_by-clause-high g c =
+    let laws = have_laws c.configurations_fit.ensures c.frames_have_classes.ensures.class c.interfaces_keep_their_promises.ensures.lawful
+    c.interfaces_keep_their_promises.ensures.held c.interfaces_keep_their_promises.ensures.named c.interfaces_keep_their_promises.ensures.promises in
+    let n = names_read c.args.words.now in
+    let o = c.in-Ok.opened in
+    let g' = g.F.Files.view c.args.files.now in
+    let b = g.F.Files.view c.create_outputs.new.files in
+    let e = g.F.Files.view c.play_by.new.files in
+    let y = c.in-Ok-play_by.ensures in
     λ a x.
     let far = c.in-Ok.ensures.far a x.opened in
     let s = steps_of a b e n c.args.found.now o x.accepted (c.in-Ok.ensures.opened a x.opened) far (c.in-Ok.ensures.named a x.opened) y.keeps y.none y.said c.requires.distinct laws c.requires.configured in
     high_of a b e n c.args.found.now o s
 
-pub returns-in-Err-play_interface-clause-ends : goal.returns-in-Err-play_interface-clause-ends
-returns-in-Err-play_interface-clause-ends g c =
+pub returns-in-Err-play_by-clause-ends : goal.returns-in-Err-play_by-clause-ends
+returns-in-Err-play_by-clause-ends g c =
     let laws = have_laws c.configurations_fit.ensures c.frames_have_classes.ensures.class c.interfaces_keep_their_promises.ensures.lawful
     c.interfaces_keep_their_promises.ensures.held c.interfaces_keep_their_promises.ensures.named c.interfaces_keep_their_promises.ensures.promises in
     let n = names_read c.args.words.now in
     let o = c.in-Ok.opened in
     let g' = g.F.Files.view c.args.files.now in
     let b = g.F.Files.view c.create_outputs.new.files in
-    let e = g.F.Files.view c.play_interface.new.files in
-    let y = c.in-Err-play_interface.ensures in
+    let e = g.F.Files.view c.play_by.new.files in
+    let y = c.in-Err-play_by.ensures in
     λ a x.
     let far = c.in-Ok.ensures.far a x.opened in
     let s = steps_of a b e n c.args.found.now o x.accepted (c.in-Ok.ensures.opened a x.opened) far (c.in-Ok.ensures.named a x.opened) y.keeps y.none y.said c.requires.distinct laws c.requires.configured in
     let begins = begins_of a g' b n c.args.found.now o c.args.arrivals.now c.in-Ok.ensures.arrivals x far.keeps.tells (c.in-Ok.ensures.left a x.opened) in
     let first = c.in-Ok.ensures.first ∙ c.as_slice-front.ensures.value in
-    found_failed a b e n c.args.found.now o c.args.words.now.seed c.in-Err-play_interface.fault s
-    (explained_itself a g' b e n c.args.found.now o c.args.arrivals.now.given (setup_of c.args.found.now c.args.words.now.seed) c.in-Err-play_interface.fault begins c.requires.classic first y.why)
+    found_failed a b e n c.args.found.now o c.args.words.now.seed c.in-Err-play_by.fault s
+    (explained_itself a g' b e n c.args.found.now o c.args.arrivals.now.given (setup_of c.args.found.now c.args.words.now.seed) c.in-Err-play_by.fault begins c.requires.classic first y.why)
     (fronts_itself a g' b e n c.args.found.now o c.args.arrivals.now.given (setup_of c.args.found.now c.args.words.now.seed) begins c.requires.classic first y.front)
-    (stats_itself a g' b e n c.args.found.now o c.args.arrivals.now.given (setup_of c.args.found.now c.args.words.now.seed) c.in-Err-play_interface.fault begins c.requires.classic first y.stats)
+    (stats_itself a g' b e n c.args.found.now o c.args.arrivals.now.given (setup_of c.args.found.now c.args.words.now.seed) c.in-Err-play_by.fault begins c.requires.classic first y.stats)
 
-pub returns-in-Err-play_interface-clause-silent : goal.returns-in-Err-play_interface-clause-silent
-returns-in-Err-play_interface-clause-silent g c = λ a x. c.in-Err-play_interface.ensures.said ∙ (c.in-Ok.ensures.far a x.opened).said
+pub returns-in-Err-play_by-clause-silent : goal.returns-in-Err-play_by-clause-silent
+returns-in-Err-play_by-clause-silent g c = λ a x. c.in-Err-play_by.ensures.said ∙ (c.in-Ok.ensures.far a x.opened).said
 
-pub returns-in-Err-play_interface-clause-high : goal.returns-in-Err-play_interface-clause-high
-returns-in-Err-play_interface-clause-high g c =
+pub returns-in-Err-play_by-clause-high : goal.returns-in-Err-play_by-clause-high
+returns-in-Err-play_by-clause-high g c =
     let laws = have_laws c.configurations_fit.ensures c.frames_have_classes.ensures.class c.interfaces_keep_their_promises.ensures.lawful
     c.interfaces_keep_their_promises.ensures.held c.interfaces_keep_their_promises.ensures.named c.interfaces_keep_their_promises.ensures.promises in
     let n = names_read c.args.words.now in
     let o = c.in-Ok.opened in
     let g' = g.F.Files.view c.args.files.now in
     let b = g.F.Files.view c.create_outputs.new.files in
-    let e = g.F.Files.view c.play_interface.new.files in
-    let y = c.in-Err-play_interface.ensures in
+    let e = g.F.Files.view c.play_by.new.files in
+    let y = c.in-Err-play_by.ensures in
     λ a x.
     let far = c.in-Ok.ensures.far a x.opened in
     let s = steps_of a b e n c.args.found.now o x.accepted (c.in-Ok.ensures.opened a x.opened) far (c.in-Ok.ensures.named a x.opened) y.keeps y.none y.said c.requires.distinct laws c.requires.configured in
     high_of a b e n c.args.found.now o s
 
 -- the files of the outputs are ready, since the arrivals were opened
-pub play_interface-requires-clause-ready : goal.play_interface-requires-clause-ready
-play_interface-requires-clause-ready g c = (c.in-Ok.ensures.opened c.requires.opened.0 c.requires.opened.1).ready
+pub play_by-requires-clause-ready : goal.play_by-requires-clause-ready
+play_by-requires-clause-ready g c = (c.in-Ok.ensures.opened c.requires.opened.0 c.requires.opened.1).ready

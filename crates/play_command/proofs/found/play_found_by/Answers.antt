@@ -5,8 +5,8 @@ use Rattle.command_base.specs.Names.{names_read}
 use Rattle.play_command.specs.Found.{HasStood, IsBehind, PlaysTo}
 use Rattle.play_command.proofs.FoundLemmas.{found_unread}
 use Rattle.play_command.proofs.Laws.{have_laws}
-use Rattle.play_command.proofs.watched.play_found_by.Goals as goal
-use Rattle.play_command.proofs.watched.play_found_by.Goals.{in-Ok-itself_by, in-Err-itself_by}
+use Rattle.play_command.proofs.found.play_found_by.Goals as goal
+use Rattle.play_command.proofs.found.play_found_by.Goals.{in-Ok-itself_by, in-Err-itself_by}
 
 pub returns-in-Err-clause-ends : goal.returns-in-Err-clause-ends
 returns-in-Err-clause-ends g c =
