@@ -1,0 +1,5 @@
+pub mod KeptLemmas
+pub mod ListLemmas
+pub mod PathLemmas
+pub mod TextLemmas
+pub mod ThroughLemmas

@@ -1,0 +1,4 @@
+pub mod Path
+pub mod Rows
+pub mod Stands
+pub mod Text

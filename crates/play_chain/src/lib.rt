@@ -1,0 +1,17 @@
+//! The path of each packet through two links in a row, of which the second plays what the first sent. It knows no file: it is given
+//! the fates of both plays, and makes a text of comma-separated values.
+#![tactic(auto)]
+
+mod laws;
+mod outcome;
+mod path;
+mod row;
+mod table;
+mod through;
+mod worked;
+
+pub use laws::kept_journals_are_journals;
+pub use outcome::{Outcome, Passage};
+pub use path::Path;
+pub use through::paths_through;
+pub use worked::worked_paths;

@@ -1,0 +1,99 @@
+// The rows of the text of paths.
+ghost use Rattle.std.specs.Prelude.{◌≡◌, ◌∷◌, ◌++◌, [], IfOk, OnOk, length, map};
+ghost use Rattle.csv.specs.Writing.{default_writer, row_text, writer_under};
+ghost use Rattle.play_text.specs.Ready.{IsReady};
+ghost use Rattle.play_chain.specs.Stands.{in_table};
+ghost use Rattle.play_chain.specs.Text.{path_header, path_row, rows_below};
+
+use crate::outcome::{Outcome, Passage};
+use crate::table::passage_of;
+use csv::{Writer, WriterBuilder};
+use itoa::Buffer;
+use play_base::NoMemory;
+use std::alloc::Global;
+
+// The head row.
+fn path_header() -> &'static [u8]
+    ensures { result.now ≡ path_header }
+{
+    b"number,arrival,outcome,end\n"
+}
+
+// A writer that has written nothing, behind these bytes.
+fn writer_over(bytes: Vec<u8>) -> Writer<Vec<u8>>
+    ensures ready { IsReady result }
+    ensures text { (writer_under result).items ≡ bytes.items }
+{
+    WriterBuilder::new().from_writer(bytes)
+}
+
+// Writes a row of these fields. All are in one array, which `csv` writes, so they have one lifetime.
+fn write_fields<'a>(
+    writer: &mut Writer<Vec<u8>>,
+    number: &'a str,
+    arrival: &'a str,
+    word: &'a str,
+    end: &'a str,
+) -> Result<(), NoMemory>
+    requires { IsReady writer.old }
+    ensures ready { OnOk result (IsReady writer.new) }
+    ensures text { OnOk result ((writer_under writer.new).items ≡ (writer_under writer.old).items ++ row_text default_writer
+        (number.now ∷ arrival.now ∷ word.now ∷ end.now ∷ [])) }
+{
+    let fields = [
+        number.as_bytes(),
+        arrival.as_bytes(),
+        word.as_bytes(),
+        end.as_bytes(),
+    ];
+    match writer.write_fields(&fields) {
+        Ok(()) => {}
+        Err(_) => return Err(NoMemory),
+    }
+    match writer.flush() {
+        Ok(()) => Ok(()),
+        Err(_) => Err(NoMemory),
+    }
+}
+
+// Writes the row of a packet behind those that were written. The only error is lack of memory.
+fn add_row(writer: &mut Writer<Vec<u8>>, number: u64, passage: Passage) -> Result<(), NoMemory>
+    requires { IsReady writer.old }
+    ensures ready { OnOk result (IsReady writer.new) }
+    ensures text { OnOk result ((writer_under writer.new).items ≡ (writer_under writer.old).items ++ path_row number passage) }
+{
+    let (mut number_text, mut arrival_text, mut end_text) = (
+        Buffer::new(),
+        Buffer::new(),
+        Buffer::new(),
+    );
+    let number = number_text.format(number);
+    let arrival = arrival_text.format(passage.arrival);
+    match passage.outcome {
+        Outcome::DroppedFirst => write_fields(writer, number, arrival, "dropped1", ""),
+        Outcome::DroppedSecond => write_fields(writer, number, arrival, "dropped2", ""),
+        Outcome::Sent(None) => write_fields(writer, number, arrival, "sent", ""),
+        Outcome::Sent(Some(end)) => {
+            let end = end_text.format(end);
+            write_fields(writer, number, arrival, "sent", end)
+        }
+    }
+}
+
+/// The text of a table of passages: the head row, and a row for each number that has one. The only error is lack of memory.
+pub fn table_text(alloc: Global, rows: &[Option<Passage>]) -> Result<Vec<u8>, NoMemory>
+    ensures { IfOk result (λ text. text.items ≡ path_header ++ rows_below (length rows.now) (in_table rows.now)) }
+{
+    let mut text = Vec::new(alloc);
+    text.extend_from_slice(path_header())?;
+    let mut writer = writer_over(text);
+    'rows: for number in 0..rows.len() {
+        if let Some(passage) = passage_of(rows, number as u64) {
+            add_row(&mut writer, number as u64, passage)?;
+        }
+    }
+    match writer.into_inner() {
+        Ok(text) => Ok(text),
+        Err(_) => Err(NoMemory),
+    }
+}
