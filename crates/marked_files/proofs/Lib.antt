@@ -1,0 +1,11 @@
+pub mod Steps
+pub mod Meters
+pub mod Whole
+pub mod Passing
+pub mod Advancing
+pub mod Turns
+pub mod FrameLaws
+pub mod ViewLaws
+pub mod CaptureLaws
+pub mod BackLaws
+pub mod Lengths

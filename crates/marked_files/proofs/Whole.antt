@@ -1,0 +1,176 @@
+-- What becomes of a whole capture as it is read is the marked capture.
+use Rattle.std.proofs.Common.{◌≡◌, ◌≤◌, ◌<◌, ◌+◌, ◌∙◌, ap, ℕ, List, [], ◌∷◌, ◌++◌, length, take, drop, refl, arith, sym, subst, inr, append-nil, append_assoc, length-take, length-drop}
+use Rattle.std.specs.Prelude.{◌==◌, ◌||◌, ◌&&◌, max, nat_lt, if◌then◌else◌, Bool, true, false, Option, Some, None}
+use Rattle.std.proofs.lemmas.Bool.{ltb-false}
+use Rattle.std.proofs.lemmas.List.{drop-drop, take-append-drop}
+use Rattle.altq_model.specs.declared.Placed.{Placed}
+use Rattle.altq_model.specs.Arrivals.{Arrival, arrivals_from}
+use Rattle.capture_model.specs.declared.damage.DamageKind.TheVariants.{ShortRecord, EmptyRecord, LongRecord}
+use Rattle.capture_model.specs.Capture.{Form, Header, Formed, Unformed, Outcome, Record, Step, IsLast, ReadsFrom, Stand, header, longest, most_bytes, most_records, outcome, outcome_from, place_after, stamp, step, word}
+use Rattle.capture_model.specs.Capture as capture
+use Rattle.capture_model.proofs.OutcomeLemmas.{next_place, outcome_ends, reads_outcome}
+use Rattle.pcap_files.proofs.PlaceLemmas.{step_here}
+use Rattle.pcap_files.specs.Stand.{stand_at, step_of}
+use Rattle.pcap_files.specs.declared.stand.Stand.TheVariants.{End, Limit, Damaged, Headed}
+use Rattle.traffic_marks.proofs.Lengths.{length-marked_frame}
+use Rattle.traffic_marks.proofs.Steps.{formed_whole}
+use Rattle.traffic_meter.specs.declared.rule.MeterRule.{MeterRule}
+use Rattle.traffic_marks.specs.Marked.{frames, marked, marked_frame, marked_frames, metered, rule_of, with_frames}
+use Rattle.marked_files.specs.Courses.{Course, MakesMarked, begun, behind_head, frame_in, made, marked_record, passed, records_from}
+use Rattle.marked_files.specs.Heads.{headed, whole}
+use Rattle.marked_files.specs.Metering.{conditioners_from, frame_by, meter_of, meters_after}
+use Rattle.marked_files.specs.declared.record_head.RecordHead.{RecordHead}
+use Rattle.marked_files.proofs.Meters.{frame_at, meters_at, new_at, one_more}
+use Rattle.marked_files.proofs.Steps.{no_record, one_record}
+
+abbrev arrival_of : (place : List ℕ → Placed) (latest : ℕ) → Record → Arrival
+arrival_of place latest r = record {
+  at = max latest r.stamp;
+  len = max r.original (length r.captured);
+  class = (place r.captured).class;
+  prec = (place r.captured).prec;
+  bytes = r.captured;
+  raised = nat_lt r.stamp latest;
+}
+
+-- the course after packets that came
+abbrev course_at : (rules : List (Option MeterRule)) (count at latest : ℕ) (earlier : List Arrival) → Course
+course_at rules count at latest earlier = record { count = count; at = at; latest = latest; meters = meters_at 0 rules earlier }
+
+-- the header of a record that was read
+abbrev head_of : Record → RecordHead
+head_of r = record { stamp = r.stamp; captured = length r.captured; original = r.original }
+
+-- a record that stands in these bytes, after `count` others
+record Found (count : ℕ) (xs : List ℕ) (r : Record) (found : Option RecordHead) : Type 0 where
+  pub head : found ≡ Some (head_of r)
+  pub frame : r.captured ≡ take (length r.captured) (drop 16 xs)
+  pub more : (count == most_records) ≡ false
+
+-- a record is found exactly where the reading has one
+abbrev Agrees : Step → (count : ℕ) → (xs : List ℕ) → Option RecordHead → Type 0
+Agrees (capture.Next r after) count xs found = Found count xs r found
+Agrees capture.End count xs found = found ≡ None
+Agrees (capture.Fault d) count xs found = found ≡ None
+Agrees capture.Limit count xs found = found ≡ None
+
+not_both : true ≡ true → false ≡ true → ⊥
+not_both a b = cc
+
+-- behind all tests of the header
+agree_whole : (g : Bool) (count at : ℕ) (xs : List ℕ) (stamp captured original : ℕ) → nat_lt (length xs) (16 + captured) ≡ g
+    → (count == most_records) ≡ false
+    → Agrees (if g then capture.Fault (capture.damage at ShortRecord) else capture.Next (record { stamp = stamp; captured = take captured (drop 16 xs); original = original }) (at + 16 + captured)) count xs
+    (if g then None else Some (record { stamp = stamp; captured = captured; original = original }))
+agree_whole true count at xs stamp captured original h more = refl
+agree_whole false count at xs stamp captured original h more =
+    let fits : 16 + captured ≤ length xs = ltb-false (length xs) (16 + captured) h in
+    let long : length (take captured (drop 16 xs)) ≡ captured = omega (arith, fits, length-take captured (drop 16 xs), length-drop 16 xs) in
+    record {
+      head = ap (λ (n : ℕ). Some (record { stamp = stamp; captured = n; original = original })) (sym long);
+      frame = ap (λ (n : ℕ). take n (drop 16 xs)) (sym long);
+      more = more;
+    }
+
+-- over the tests of a header in their order
+agree : (a b c d e f : Bool) (count at : ℕ) (xs : List ℕ) (stamp captured original : ℕ) → (a ≡ true → c ≡ true) → (count == most_records) ≡ b
+    → Agrees (step_of (if a then End else if b then Limit else if c then Damaged ShortRecord else if d then Damaged LongRecord else if e then Damaged EmptyRecord else if f then Limit else Headed stamp captured original) at xs) count xs
+    (whole (if c then None else if b then None else if d then None else if e then None else if f then None else Some (record { stamp = stamp; captured = captured; original = original })) xs)
+agree true b true d e f count at xs stamp captured original none more = refl
+agree true b false d e f count at xs stamp captured original none more = absurd (not_both refl (none refl))
+agree false true true d e f count at xs stamp captured original none more = refl
+agree false true false d e f count at xs stamp captured original none more = refl
+agree false false true d e f count at xs stamp captured original none more = refl
+agree false false false true e f count at xs stamp captured original none more = refl
+agree false false false false true f count at xs stamp captured original none more = refl
+agree false false false false false true count at xs stamp captured original none more = refl
+agree false false false false false false count at xs stamp captured original none more =
+    agree_whole (nat_lt (length xs) (16 + captured)) count at xs stamp captured original refl more
+
+none_short : (xs : List ℕ) → (length xs == 0) ≡ true → nat_lt (length xs) 16 ≡ true
+none_short xs h = grind (arith, h)
+
+agrees : (form : Form) (count at : ℕ) (xs : List ℕ) → Agrees (step_of (stand_at form count at xs) at xs) count xs (whole (headed form count at xs) xs)
+agrees form count at xs =
+    agree (length xs == 0) (count == most_records) (nat_lt (length xs) 16)
+    (nat_lt longest (word form.big xs 8) || nat_lt longest (word form.big xs 12))
+    ((word form.big xs 8 == 0) && (word form.big xs 12 == 0)) (nat_lt most_bytes (at + 16 + word form.big xs 8))
+    count at xs (stamp form xs 0) (word form.big xs 8) (word form.big xs 12) (none_short xs) refl
+
+-- at a place of a capture
+agrees_at : (form : Form) (bytes : List ℕ) (count at : ℕ) (s : Step) → at ≤ length bytes → step form bytes count at ≡ s
+    → Agrees s count (drop at bytes) (whole (headed form count at (drop at bytes)) (drop at bytes))
+agrees_at form bytes count at s within h =
+    let here = step_here form bytes (drop at bytes) [] count at within (sym (append-nil (drop at bytes))) (inr refl) in
+    subst (λ (t : Step). Agrees t count (drop at bytes) (whole (headed form count at (drop at bytes)) (drop at bytes))) (sym here ∙ h)
+    (agrees form count at (drop at bytes))
+
+none_last : (s : Step) (count : ℕ) (xs : List ℕ) (found : Option RecordHead) → IsLast s → Agrees s count xs found → found ≡ None
+none_last capture.End count xs found last h = h
+none_last (capture.Next r after) count xs found last h = absurd last
+none_last (capture.Fault d) count xs found last h = h
+none_last capture.Limit count xs found last h = h
+
+-- from a place on, where records stand
+records_marked : (place : List ℕ → Placed) (rules : List (Option MeterRule)) (form : Form) (bytes : List ℕ) (rs : List Record) (last : Step)
+    (count at latest : ℕ) (earlier : List Arrival) → at ≤ length bytes → count ≤ most_records → Stand form bytes count at rs
+    → step form bytes (count + length rs) (place_after at rs) ≡ last → IsLast last
+    → records_from place form (course_at rules count at latest earlier) (drop at bytes)
+    ≡ with_frames (marked_frames (conditioners_from 0 rules) earlier (arrivals_from place latest rs)) (drop at bytes)
+records_marked place rules form bytes [] last count at latest earlier within few stand ended is_last =
+    let here : step form bytes count at ≡ last = ap (λ (n : ℕ). step form bytes n at) (omega arith) ∙ ended in
+    no_record place form (course_at rules count at latest earlier) (drop at bytes)
+    (none_last last count (drop at bytes) _ is_last (agrees_at form bytes count at last within here))
+records_marked place rules form bytes (r ∷ rs) last count at latest earlier within few stand ended is_last =
+    let xs = drop at bytes in
+    let c = course_at rules count at latest earlier in
+    let a = arrival_of place latest r in
+    let head = head_of r in
+    let found : Found count xs r (whole (headed form count at xs) xs) = agrees_at form bytes count at _ within stand.0 in
+    let less : count < most_records = grind (arith, few, found.more) in
+    let after = next_place form bytes count at r (at + 16 + length r.captured) stand.0 in
+    let frame : frame_in head xs ≡ r.captured = sym found.frame in
+    let f = marked_frame (rule_of (conditioners_from 0 rules) a.class) earlier a in
+    let fs = marked_frames (conditioners_from 0 rules) (a ∷ earlier) (arrivals_from place (max latest r.stamp) rs) in
+    let long : length f ≡ length r.captured = length-marked_frame (rule_of (conditioners_from 0 rules) a.class) earlier a in
+    let first : marked_record place c head xs ≡ take 16 xs ++ f =
+    ap (λ (g : List ℕ). take 16 xs ++ frame_by (meter_of (meters_at 0 rules earlier) (place g).class) (metered a) g) frame
+    ∙ ap (λ (g : List ℕ). take 16 xs ++ g) (frame_at 0 a.class rules a earlier (omega arith)) in
+    let course : passed place c head xs ≡ course_at rules (count + 1) (at + 16 + length r.captured) (max latest r.stamp) (a ∷ earlier) =
+    ap (λ (g : List ℕ). record {
+      count = count + 1;
+      at = at + 16 + length r.captured;
+      latest = max latest r.stamp;
+      meters = meters_after (meters_at 0 rules earlier) (place g).class (metered a);
+    }) frame
+    ∙ ap (λ (ms : List _). record { count = count + 1; at = at + 16 + length r.captured; latest = max latest r.stamp; meters = ms })
+    (one_more 0 a.class rules a earlier (omega arith)) in
+    let behind : drop (16 + length r.captured) xs ≡ drop (at + 16 + length r.captured) bytes =
+    drop-drop (16 + length r.captured) at bytes ∙ ap (λ (n : ℕ). drop n bytes) (omega arith) in
+    let rest = records_marked place rules form bytes rs last (count + 1) (at + 16 + length r.captured) (max latest r.stamp) (a ∷ earlier)
+    after.1 (omega (arith, less)) stand.1
+    (ap (λ (n : ℕ). step form bytes n (place_after (at + 16 + length r.captured) rs)) (omega arith) ∙ ended) is_last in
+    one_record place form c xs head less found.head
+    ∙ ap (λ (m : List ℕ). m ++ records_from place form (passed place c head xs) (drop (16 + length r.captured) xs)) first
+    ∙ ap (λ (d : Course). (take 16 xs ++ f) ++ records_from place form d (drop (16 + length r.captured) xs)) course
+    ∙ ap (λ (l : List ℕ). (take 16 xs ++ f) ++ records_from place form (course_at rules (count + 1) (at + 16 + length r.captured) (max latest r.stamp) (a ∷ earlier)) l) behind
+    ∙ ap (λ (l : List ℕ). (take 16 xs ++ f) ++ l) rest
+    ∙ append_assoc (take 16 xs) f (with_frames fs (drop (at + 16 + length r.captured) bytes))
+    ∙ ap (λ (l : List ℕ). take 16 xs ++ (f ++ with_frames fs l)) (sym behind)
+    ∙ ap (λ (n : ℕ). take 16 xs ++ (f ++ with_frames fs (drop (16 + n) xs))) (sym long)
+
+by_header : (h : Header) (place : List ℕ → Placed) (rules : List (Option MeterRule)) (bytes : List ℕ) → header bytes ≡ h
+    → ReadsFrom h bytes (outcome_from h bytes).records (outcome_from h bytes).last → IsLast (outcome_from h bytes).last
+    → behind_head h place (begun rules) bytes
+    ≡ take 24 bytes ++ with_frames (frames (record { place = place; conditioners = conditioners_from 0 rules }) (outcome_from h bytes).records) (drop 24 bytes)
+by_header (Unformed d) place rules bytes e reads last = sym (take-append-drop 24 bytes)
+by_header (Formed form) place rules bytes e reads last =
+    let rs = (outcome_from (Formed form) bytes).records in
+    let long : 24 ≤ length bytes = ltb-false (length bytes) 24 (formed_whole bytes form e) in
+    ap (λ (ms : List _). take 24 bytes ++ records_from place form (record { count = 0; at = 24; latest = 0; meters = ms }) (drop 24 bytes)) (new_at 0 rules)
+    ∙ ap (λ (l : List ℕ). take 24 bytes ++ l)
+    (records_marked place rules form bytes rs (outcome_from (Formed form) bytes).last 0 24 0 [] long (omega arith) reads.stand
+    (ap (λ (n : ℕ). step form bytes n (place_after 24 rs)) (omega arith) ∙ reads.ended) last)
+
+pub makes_marked : (place : List ℕ → Placed) (rules : List (Option MeterRule)) (bytes : List ℕ) → MakesMarked place rules bytes
+makes_marked place rules bytes = by_header (header bytes) place rules bytes refl (reads_outcome bytes) (outcome_ends bytes)

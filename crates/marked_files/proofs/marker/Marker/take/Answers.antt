@@ -1,0 +1,52 @@
+use Rattle.std.proofs.Common.{◌≡◌, ◌++◌, ◌∙◌, ap, [], length, refl, sym, arith, append-nil, length-append}
+use Rattle.std.proofs.lemmas.Grind.{common_steps}
+use Rattle.std.proofs.lemmas.List.{nil_from_length}
+use Rattle.play_base.proofs.ViewLaws.{took_nothing}
+use Rattle.pcap_files.proofs.ReaderLemmas.{took_unchanged}
+use Rattle.marked_files.proofs.Turns.{turn_ended, turn_taken}
+use Rattle.marked_files.proofs.marker.Marker.take.Goals as goal
+
+pub returns-in-Ok-eq0-clause-taken : goal.returns-in-Ok-eq0-clause-taken
+returns-in-Ok-eq0-clause-taken g c =
+    let t = c.in-Ok-eq0.ensures.took in
+    let none : t.0 ≡ [] =
+    nil_from_length t.0 (omega (arith, ap length t.2, length-append c.self.inside.window.pending t.0, c.in-Ok-eq0.ensures.count, c.in-Ok-eq0.field-0-test)) in
+    turn_ended g.C.Classify.placed _ _ c.args.file c.args.self.now c.advance.new.self _
+    (record { classes = c.self.inside.classes; stage = c.self.inside.stage; course = _; held = c.fill.new.self }) _ t.0
+    (record {
+      advanced = c.advance.ensures.all;
+      is = c.self.view_is;
+      filled = record {
+        took = t.1;
+        none = grind (arith, common_steps);
+        came = record { stage = refl; course = refl; ready = c.fill.ensures.ready; pending = t.2; classes = refl };
+      };
+    }) none (c.in-Ok-eq0.ensures.end c.in-Ok-eq0.field-0-test)
+    (record { stage = refl; course = refl; ready = c.pass_all.ensures.ready; pending = c.pass_all.ensures.pending; classes = refl })
+
+pub returns-in-Ok-clause-taken : goal.returns-in-Ok-clause-taken
+returns-in-Ok-clause-taken g c =
+    let t = c.in-Ok.ensures.took in
+    turn_taken g.C.Classify.placed _ _ c.args.file c.args.self.now c.advance.new.self _ _ t.0
+    (record {
+      advanced = c.advance.ensures.all;
+      is = c.self.view_is;
+      filled = record {
+        took = t.1;
+        none = grind (arith, common_steps);
+        came = record { stage = refl; course = refl; ready = c.fill.ensures.ready; pending = t.2; classes = refl };
+      };
+    })
+
+pub returns-in-Err-clause-taken : goal.returns-in-Err-clause-taken
+returns-in-Err-clause-taken g c =
+    turn_taken g.C.Classify.placed _ _ c.args.file c.args.self.now c.advance.new.self _ _ []
+    (record {
+      advanced = c.advance.ensures.all;
+      is = c.self.view_is;
+      filled = record {
+        took = took_unchanged _ _ _ _ [] c.requires.there (took_nothing _ _) c.in-Err.ensures.refused;
+        none = grind (arith, common_steps);
+        came = record { stage = refl; course = refl; ready = c.fill.ensures.ready; pending = c.in-Err.ensures.stays ∙ sym (append-nil _); classes = refl };
+      };
+    })
