@@ -1,0 +1,9 @@
+pub mod Causes
+pub mod Classes
+pub mod Lengths
+pub mod Passing
+pub mod Rules
+pub mod SmallRows
+pub mod Stamps
+pub mod Verdicts
+pub mod Views
