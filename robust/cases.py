@@ -16,14 +16,14 @@ Case = namedtuple("Case", "words files is_text")
 
 LIMITS = (
     "0 1 7 8 9 50 64 65 99 100 101 128 129 255 256 999 1000 1001 1024 1025 10000 10001 65535 65536 262144 262145 1000000 1000001 "
-    "4294967295 4294967296 1000000000000 1000000000001 18446744073709551615 18446744073709551616 340282366920938463463374607431768211456 "
+    "1073741824 1073741825 4294967295 4294967296 1000000000000 1000000000001 18446744073709551615 18446744073709551616 340282366920938463463374607431768211456 "
     "0x0 0xff 0xFFFFFFFFFFFFFFFF 0x10000000000000000 0x -1 +1 00000000000000000000000000000007 1.5M 0.000000001G 0.0000000001G 1000G 1001G 1e3 "
     ".5M 5.M 1K 999k 1000k 1m 1kk 0.5 255.255.255.255 256.0.0.0 0.0.0.0 ::/0 ::/129 1::2::3 fe80::1/64"
 ).split()
 DICTIONARY = (
     "interface class filter filter6 hfsc cbq NULL root if0 if1 a b c bandwidth tbrsize efficient cbq-wrr sc rt ls ul pshare grate qlimit red ecn "
     "rio cleardscp default admission priority pbandwidth exactbandwidth borrow control maxburst packetsize name ruleno netmask tos tosmask tclass "
-    "tclassmask tcp udp icmp 0 wred conditioner"
+    "tclassmask tcp udp icmp 0 wred conditioner srtcm trtcm"
 ).split()
 PHRASES = (
     "rt 1M 10 2M;rt 1M 0 1M;grate 1M;ul 1M 10 2M;sc 2M 5 1M;ls 0 0 0;pshare 100;pshare 0;default;default default;red rio;qlimit 0;qlimit 10000;"
@@ -32,7 +32,8 @@ PHRASES = (
 LINES = (
     "interface if0 hfsc;interface if0 cbq;class hfsc if0 root NULL;class cbq if0 root NULL;class hfsc if0 z root;class hfsc if0 z root pshare 1;"
     "class hfsc if0 z c1 pshare 1;class cbq if0 z root;class cbq if0 z c1 pbandwidth 1;class hfsc if0 z NULL;class cbq if0 z NULL;"
-    "filter if0 root 0 0 0 0 17;filter6 if0 c1 ::/0 0 0 0 58;class hfsc if0 c1 root pshare 1;filter if9 a 0 0 0 0 0"
+    "filter if0 root 0 0 0 0 17;filter6 if0 c1 ::/0 0 0 0 58;class hfsc if0 c1 root pshare 1;filter if9 a 0 0 0 0 0;"
+    "conditioner if0 c1 srtcm 8M 1500 0 1;conditioner if0 root trtcm 8M 1500 8M 1500 4;conditioner if0 c1 trtcm 8M 1 9M 1 1;conditioner if9 a srtcm 1K 1 0 5"
 ).split(";")
 ODD = [b"\\\n", b"\\\r\n", b"#", b"[", b"]", b"\r", b"\t", b"\0", b"\xff", b"\x7f", b"\n\n", b" ", b"\\", b"x" * 65, b" " * 4100]
 RATES = ["1000", "64K", "1M", "3M", "8M", "100M", "12345678", "1G", "1000G", "0.5M"]

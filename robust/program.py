@@ -45,7 +45,7 @@ MESSAGES = {
 MADE = re.compile(rb"packets \d+ sent \d+ dropped \d+ end \d+\n")
 VERIFIED = re.compile(rb"(?:[\w.:/-]+ worst (?:-?\d+|none)\n)*verified\n")
 MEASURED = re.compile(rb"(?:[\w.:/-]+ [\w.:/-]+ (?:gap \d+ bound (?:\d+|none)|bound none)\n)*")
-CHECKED = re.compile(rb"(?:(?:interface|class|filter6?) [^\n]+\n)*(?:fits|exceeds at \d+ by \d+)\n")
+CHECKED = re.compile(rb"(?:(?:interface|class|filter6?|conditioner) [^\n]+\n)*(?:fits|exceeds at \d+ by \d+)\n")
 
 
 def is_stated(status, said, command):

@@ -1,13 +1,16 @@
 -- Each line of the canonical text is legible.
-use Rattle.std.proofs.Common.{◌≡◌, ◌≢◌, ℕ, suc, ◌-◌, ◌^◌, ◌<◌, ◌≤◌, ◌||◌, Bool, true, false, List, [], ◌∷◌, Option, Some, None, is_some, if◌then◌else◌, codes, decimal, Ok, refl, arith}
+use Rattle.std.proofs.Common.{◌≡◌, ◌≢◌, ℕ, suc, ◌-◌, ◌^◌, ◌<◌, ◌≤◌, ◌||◌, Bool, true, false, List, [], ◌∷◌, ◌++◌, Option, Some, None, is_some, if◌then◌else◌, codes, decimal, Ok, refl, arith}
 use Rattle.std.specs.List.{AllByRecursion as Every}
 use Rattle.service_curve.specs.declared.Curve.{Curve}
+use Rattle.traffic_meter.specs.declared.rule.MeterRule.{MeterRule}
+use Rattle.traffic_meter.specs.declared.rule.MeterRule.TheVariants.{Single, Two}
 use Rattle.conf_lines.specs.Grammar.{step, end, at_statement, at_discipline, at_parent}
-use Rattle.conf_lines.specs.Options.{most_rate}
+use Rattle.conf_lines.specs.Options.{most_rate, most_burst, most_af}
 use Rattle.conf_lines.specs.Slots.{is_text, whole_in}
 use Rattle.conf_lines.specs.declared.item.What.{What}
 use Rattle.conf_lines.specs.declared.item.What.TheVariants as what
-use Rattle.conf_tree.specs.Canonical.{parent_word, interface_line, class_options, kind_word, class_form, class_line, class_word, filter_word, filter_form, filter_whats_by, filter_line, class_lines, filter_lines, written_classes, interface_lines, canonical_lines}
+use Rattle.conf_tree.specs.Canonical.{parent_word, interface_line, class_options, kind_word, class_form, class_line, class_word, filter_word, filter_form, filter_whats_by, filter_line, conditioner_line, class_lines, filter_lines, meter_lines, conditioner_lines, written_classes, interface_lines, canonical_lines}
+use Rattle.conf_tree.specs.Meters.{IsMeter, IsMeterIfAny}
 use Rattle.conf_tree.specs.Settings.{unset}
 use Rattle.conf_tree.specs.declared.class.Class.{Class}
 use Rattle.conf_tree.specs.declared.filter.Addresses.{Addresses}
@@ -112,6 +115,49 @@ filter_is_legible interface class f (V6 target target_len source source_len) (So
       rw (words6, tos_is_read, tos_is_read, is.ruleno, is.target_port, is.source_port, is.protocol, t.address, t.bits, s.address, s.bits, tos.0, tos.1);
 }
 
+-- CONDITIONERS
+conditioner_is_legible : (interface class : List ℕ) (rule : MeterRule) → IsName interface → IsName class → IsMeter rule
+    → IsLegible (conditioner_line interface class rule)
+unfolding step at_statement is_text end
+conditioner_is_legible interface class (Single cir cbs ebs af) is_interface is_class m =
+    let bursts : (cbs < 2 ^ 64) × (ebs < 2 ^ 64) × (af < 2 ^ 64) =
+    (omega (arith, m.burst_most), omega (arith, m.excess_most), omega (arith, m.af_most)) in
+    record {
+      words = ((refl, tt), (is_interface, (is_class, (tt, (omega (arith, m.rate_most), (bursts.0, (bursts.1, (bursts.2, tt))))))));
+      count = omega arith;
+      read = λ line. rw (
+        name_is_read interface is_interface,
+        name_is_read class is_class,
+        rate_is_read 1000 most_rate cir (m.rate_least, m.rate_most) (omega arith),
+        whole_is_read 1 most_burst cbs (m.burst_least, m.burst_most) (omega arith),
+        whole_is_read 0 most_burst ebs (omega arith, m.excess_most) (omega arith),
+        whole_is_read 1 most_af af (m.af_least, m.af_most) (omega arith),
+      ) refl;
+    }
+conditioner_is_legible interface class (Two pir pbs cir cbs af) is_interface is_class m =
+    let rates : (pir < 2 ^ 64) × (cir < 2 ^ 64) = (omega (arith, m.peak_most), omega (arith, m.peak_most, m.rate_most)) in
+    let bursts : (pbs < 2 ^ 64) × (cbs < 2 ^ 64) × (af < 2 ^ 64) =
+    (omega (arith, m.peak_burst_most), omega (arith, m.burst_most), omega (arith, m.af_most)) in
+    let peak_least : 1000 ≤ pir = omega (arith, m.rate_least, m.rate_most) in
+    record {
+      words = ((refl, tt), (is_interface, (is_class, (tt, (rates.0, (bursts.0, (rates.1, (bursts.1, (bursts.2, tt)))))))));
+      count = omega arith;
+      read = λ line. rw (
+        name_is_read interface is_interface,
+        name_is_read class is_class,
+        rate_is_read 1000 most_rate pir (peak_least, m.peak_most) (omega arith),
+        whole_is_read 1 most_burst pbs (m.peak_burst_least, m.peak_burst_most) (omega arith),
+        rate_is_read 1000 pir cir (m.rate_least, m.rate_most) rates.0,
+        whole_is_read 1 most_burst cbs (m.burst_least, m.burst_most) (omega arith),
+        whole_is_read 1 most_af af (m.af_least, m.af_most) (omega arith),
+      ) refl;
+    }
+
+meter_is_legible : (interface class : List ℕ) (meter : Option MeterRule) → IsName interface → IsName class → IsMeterIfAny meter
+    → Every IsLegible (meter_lines interface class meter)
+meter_is_legible interface class None is_interface is_class m = tt
+meter_is_legible interface class (Some rule) is_interface is_class m = (conditioner_is_legible interface class rule is_interface is_class m, tt)
+
 -- where the line of each element is legible, all lines are
 classes_are_legible : (kind : Kind) (interface : List ℕ) (all classes : List Class) → Each (λ c. IsLegible (class_line kind interface all c)) classes
     → Every IsLegible (class_lines kind interface all classes)
@@ -122,6 +168,15 @@ filters_are_legible : (interface : List ℕ) (all : List Class) (filters : List 
     → Every IsLegible (filter_lines interface all filters)
 filters_are_legible interface all [] each = tt
 filters_are_legible interface all (f ∷ filters) each = (each 0 f refl, filters_are_legible interface all filters (λ k. each (suc k)))
+
+conditioners_are_legible : (interface : List ℕ) (classes : List Class) → IsName interface → Each (λ c. IsName c.name × IsMeterIfAny c.meter) classes
+    → Every IsLegible (conditioner_lines interface classes)
+conditioners_are_legible interface [] is_interface each = tt
+conditioners_are_legible interface (c ∷ classes) is_interface each =
+    let (is_class, meter) = each 0 c refl in
+    every-append IsLegible (meter_lines interface c.name c.meter) (conditioner_lines interface classes)
+    (meter_is_legible interface c.name c.meter is_interface is_class meter)
+    (conditioners_are_legible interface classes is_interface (λ k. each (suc k)))
 
 module _ (i : Interface) (is : IsInterface i) where
   parent_is_name : (k : ℕ) (parent : Option ℕ) → HasParent i.kind i.classes k parent → IsName (parent_word i.classes parent)
@@ -144,12 +199,19 @@ module _ (i : Interface) (is : IsInterface i) where
       let class_is_name : IsName (class_word i.classes f.class) = rw class_at (is.tree.class f.class c class_at).name in
       filter_is_legible i.name (class_word i.classes f.class) f f.addresses f.tos is.name class_is_name own own.addresses own.tos)
 
+  conditioner_lines_are : (implied : Bool) → Every IsLegible (conditioner_lines i.name (if implied then [] else i.classes))
+  conditioner_lines_are true = tt
+  conditioner_lines_are false =
+      conditioners_are_legible i.name i.classes is.name (λ k c at. let own = is.tree.class k c at in (own.name, own.meter))
+
   lines_are : Every IsLegible (interface_lines i)
-  lines_are = (
-    interface_is_legible i is.name is.rate,
-    every-append IsLegible (class_lines i.kind i.name i.classes (written_classes i)) (filter_lines i.name i.classes i.filters)
-        (class_lines_are i.implied) filter_lines_are,
-  )
+  lines_are =
+      let filters = filter_lines i.name i.classes i.filters in
+      let conditioners = conditioner_lines i.name (written_classes i) in
+      let behind = every-append IsLegible filters conditioners filter_lines_are (conditioner_lines_are i.implied) in (
+        interface_is_legible i is.name is.rate,
+        every-append IsLegible (class_lines i.kind i.name i.classes (written_classes i)) (filters ++ conditioners) (class_lines_are i.implied) behind,
+      )
 
 all_are_legible : (interfaces : List Interface) → Each IsInterface interfaces → Every IsLegible (canonical_lines interfaces)
 all_are_legible [] each = tt

@@ -208,8 +208,8 @@ pub options_read : (scope : Scope) (kind : Kind) (c : Class) (at : ℕ) → IsWi
 options_read scope Hfsc c at limit own chosen = all_set scope at (hfsc_part {settled = true} c own limit) chosen
 options_read scope Cbq c at limit own chosen = all_set scope at (cbq_part {settled = true} c own limit) chosen
 
--- a class is that of its settings: what only the other kind has is nothing
-pub class_is : (kind : Kind) (c : Class) → IsOfKind kind c → c ≡ class_of c.name c.parent (rate_of_kind kind c.rate) (of_kind kind (settings_of kind c))
+-- a class is that of its settings, but for its meter: what only the other kind has is nothing
+pub class_is : (kind : Kind) (c : Class) → IsOfKind kind c → record c { meter = None } ≡ class_of c.name c.parent (rate_of_kind kind c.rate) (of_kind kind (settings_of kind c))
 class_is Hfsc c h = λ i. record c {
   rate = h.rate i;
   priority = h.priority i;
@@ -217,5 +217,6 @@ class_is Hfsc c h = λ i. record c {
   control = h.control i;
   maxburst = h.maxburst i;
   packetsize = h.packetsize i;
+  meter = None;
 }
-class_is Cbq c h = λ i. record c { real = h.real i; share = h.share i; upper = h.upper i }
+class_is Cbq c h = λ i. record c { real = h.real i; share = h.share i; upper = h.upper i; meter = None }

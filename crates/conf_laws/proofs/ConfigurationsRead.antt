@@ -1,29 +1,31 @@
--- The lines of a configuration, read one after the other: the line of each interface, its classes and its filters, and then the end of
--- the text.
-use Rattle.std.proofs.Common.{◌≡◌, ◌≢◌, ⊎_elim, ℕ, suc, ◌+◌, Bool, true, false, List, [], ◌∷◌, ◌++◌, map, length, Some, None, Ok, if◌then◌else◌, nat_le, slice_get, refl, ◌∙◌, append_assoc, length-append, arith}
+-- The lines of a configuration, read one after the other: the line of each interface, its classes, its filters and its conditioners, and
+-- then the end of the text.
+use Rattle.std.proofs.Common.{◌≡◌, ◌≢◌, ⊎_elim, ℕ, suc, ◌+◌, Bool, true, false, List, [], ◌∷◌, ◌++◌, map, length, Option, Some, None, Ok, if◌then◌else◌, nat_le, slice_get, refl, ap, sym, ◌∙◌, append_assoc, length-append, arith}
 use Rattle.std.proofs.lemmas.Bool.{lt-leb, lt-ltb, ne_eqb}
 use Rattle.std.proofs.lemmas.Bool.Decides.{nat_tests}
 use Rattle.std.proofs.lemmas.Option.{slice_get_within}
+use Rattle.traffic_meter.specs.declared.rule.MeterRule.{MeterRule}
 use Rattle.conf_lines.specs.declared.statement.Statement.{Statement}
 use Rattle.conf_lines.specs.Options.{most_rate}
+use Rattle.conf_tree.specs.declared.class.Class.{Class}
 use Rattle.conf_tree.specs.declared.filter.Addresses.{Addresses}
 use Rattle.conf_tree.specs.declared.filter.Addresses.TheVariants.{V4, V6}
 use Rattle.conf_tree.specs.declared.interface.Interface.{Interface}
 use Rattle.conf_tree.specs.declared.interface.Kind.{Kind}
 use Rattle.conf_tree.specs.declared.interface.Kind.TheVariants.{Hfsc, Cbq}
-use Rattle.conf_tree.specs.Canonical.{class_form, filter_form, class_lines, filter_lines, canonical_lines}
+use Rattle.conf_tree.specs.Canonical.{class_form, filter_form, class_lines, filter_lines, meter_lines, conditioner_lines, canonical_lines}
 use Rattle.conf_tree.specs.Classes.{read_class}
 use Rattle.conf_tree.specs.FilterStatements.{read_filter}
 use Rattle.conf_tree.specs.Items.{within}
 use Rattle.conf_tree.specs.Printed.{TextLine}
 use Rattle.conf_tree.specs.Reading.{read_form, read_statement, reading_from}
-use Rattle.conf_tree.specs.Tree.{Begun, begun, add_class, add_filter, interface_number}
+use Rattle.conf_tree.specs.Tree.{Begun, begun, add_class, add_filter, add_conditioner, interface_number}
 use Rattle.conf_tree.specs.Whole.{whole, undecided, first_undecided, is_empty}
 use Rattle.conf_laws.specs.Fit.{IsInterface, AreFit}
-use Rattle.conf_laws.specs.Statements.{statements_from, interface_statement, class_statement, filter_statement, canonical_statements}
+use Rattle.conf_laws.specs.Statements.{statements_from, interface_statement, class_statement, filter_statement, conditioner_statement, canonical_statements}
 use Rattle.conf_laws.proofs.CurvesRead.{within_is}
 use Rattle.conf_laws.proofs.ListPlaces.{get_push, get_pushed, set_pushed, same_places, name_is_new, name_is_at}
-use Rattle.conf_laws.proofs.TreesRead.{HasRead, part_of, push_all, next_class, next_filter}
+use Rattle.conf_laws.proofs.TreesRead.{HasRead, part_of, push_all, next_class, next_filter, no_conditioner, next_conditioner}
 use Rattle.conf_laws.proofs.Types.{Branch}
 
 -- IN TURN: what holds before the first element of a list, and behind each element if it did before it, holds behind the last, where the
@@ -76,9 +78,10 @@ reads_filter (V6 target target_len source source_len) before s = refl
 
 -- AN INTERFACE WITH CLASSES
 module _ (all : List Interface) (before : List Begun) (i : Interface) (is : IsInterface i) (new : IsNew i.name before) where
-  -- its first `classes` classes and `filters` filters are read; lines that are read from there on; a statement that leads from there to the next
-  abbrev Has : ℕ → ℕ → Begun → Type 0
-  Has classes filters b = HasRead i is.tree.default.number classes filters b
+  -- its first `classes` classes and `filters` filters are read, and the conditioners of its first `meters` classes; lines that are read from
+  -- there on; a statement that leads from there to the next
+  abbrev Has : ℕ → ℕ → ℕ → Begun → Type 0
+  Has classes filters meters b = HasRead i is.tree.default.number classes filters meters b
 
   abbrev ReadsOn : Begun → List TextLine → Type 0
   ReadsOn b lines = Reads all (before ++ part_of i b ∷ []) lines
@@ -87,10 +90,10 @@ module _ (all : List Interface) (before : List Begun) (i : Interface) (is : IsIn
   Leads b s next = read_statement (before ++ part_of i b ∷ []) s ≡ Ok (before ++ part_of i next ∷ [])
 
   -- its classes
-  classes_read : (rest : List TextLine) (b : Begun) → Has 0 0 b → ((b : Begun) → Has (length i.classes) 0 b → ReadsOn b rest)
+  classes_read : (rest : List TextLine) (b : Begun) → Has 0 0 0 b → ((b : Begun) → Has (length i.classes) 0 0 b → ReadsOn b rest)
       → ReadsOn b (class_lines i.kind i.name i.classes i.classes ++ rest)
   classes_read rest b r last =
-      in_turn (λ b classes. ReadsOn b (class_lines i.kind i.name i.classes classes ++ rest)) (λ k. Has k 0) i.classes
+      in_turn (λ b classes. ReadsOn b (class_lines i.kind i.name i.classes classes ++ rest)) (λ k. Has k 0 0) i.classes
       (λ k c others b at has on line.
       let next = next_class i is.tree k b c line is.classes at has in
       let read : Leads b (class_statement line i.kind i.name i.classes c) (add_class b next.class) =
@@ -99,10 +102,11 @@ module _ (all : List Interface) (before : List Begun) (i : Interface) (is : IsIn
       last b r
 
   -- its filters
-  filters_read : (rest : List TextLine) (b : Begun) → Has (length i.classes) 0 b → ((b : Begun) → Has (length i.classes) (length i.filters) b → ReadsOn b rest)
+  filters_read : (rest : List TextLine) (b : Begun) → Has (length i.classes) 0 0 b
+      → ((b : Begun) → Has (length i.classes) (length i.filters) 0 b → ReadsOn b rest)
       → ReadsOn b (filter_lines i.name i.classes i.filters ++ rest)
   filters_read rest b r last =
-      in_turn (λ b filters. ReadsOn b (filter_lines i.name i.classes filters ++ rest)) (Has (length i.classes)) i.filters
+      in_turn (λ b filters. ReadsOn b (filter_lines i.name i.classes filters ++ rest)) (λ m. Has (length i.classes) m 0) i.filters
       (λ m f others b at has on line.
       let next = next_filter i is.tree is.tree.default.number m b f line is.filters at has in
       let read : Leads b (filter_statement line i.name i.classes f) (add_filter b f) =
@@ -110,14 +114,38 @@ module _ (all : List Interface) (before : List Begun) (i : Interface) (is : IsIn
       rw (read, reading_from) (on (add_filter b f) next.then_has (line + 1)))
       last b r
 
+  -- its conditioners
+  meter_read : (rest : List TextLine) (k : ℕ) (c : Class) (meter : Option MeterRule) (b : Begun) → slice_get i.classes k ≡ Some c → c.meter ≡ meter
+      → Has (length i.classes) (length i.filters) k b → ((b : Begun) → Has (length i.classes) (length i.filters) (suc k) b → ReadsOn b rest)
+      → ReadsOn b (meter_lines i.name c.name meter ++ rest)
+  meter_read rest k c None b at e has on line =
+      on b (no_conditioner i is.tree.default.number (length i.classes) (length i.filters) k b c at e has) line
+  meter_read rest k c (Some rule) b at e has on line =
+      let next = next_conditioner i is.tree is.tree.default.number (length i.filters) k b c rule line at e has in
+      let read : Leads b (conditioner_statement line i.name c.name rule) (add_conditioner b next.conditioner) =
+      rw (last_is before (part_of i b) new, get_pushed before (part_of i b) [], next.read, set_pushed before) refl in
+      rw (read, reading_from) (on (add_conditioner b next.conditioner) next.then_has (line + 1))
+
+  conditioners_read : (rest : List TextLine) (b : Begun) → Has (length i.classes) (length i.filters) 0 b
+      → ((b : Begun) → Has (length i.classes) (length i.filters) (length i.classes) b → ReadsOn b rest)
+      → ReadsOn b (conditioner_lines i.name i.classes ++ rest)
+  conditioners_read rest b r last =
+      in_turn (λ b classes. ReadsOn b (conditioner_lines i.name classes ++ rest)) (Has (length i.classes) (length i.filters)) i.classes
+      (λ k c others b at has on. rw (append_assoc (meter_lines i.name c.name c.meter) (conditioner_lines i.name others) rest)
+      (meter_read (conditioner_lines i.name others ++ rest) k c c.meter b at refl has on))
+      last b r
+
   -- what is read is the interface
-  made_whole : (b : Begun) → i.implied ≡ false → Has (length i.classes) (length i.filters) b
+  made_whole : (b : Begun) → i.implied ≡ false → Has (length i.classes) (length i.filters) (length i.classes) b
       → (whole (part_of i b) ≡ i) × (undecided (part_of i b) ≡ false)
   made_whole b e r =
       let one = is.tree.default in
       let within = slice_get_within i.classes one.number one.class one.at in
       let some : is_empty b.classes ≡ false = ne_eqb (length b.classes) 0 (λ none. omega (arith, r.class_count)) in
-      let classes = maps_to (λ (a : Branch). a.class) b.classes i.classes r.class_count (λ j a g. (r.class j a g).here) in
+      let classes = maps_to (λ (a : Branch). a.class) b.classes i.classes r.class_count (λ j a g.
+      let read = r.class j a g in
+      let metered = read.metered (omega (arith, r.class_count, slice_get_within b.classes j a g)) in
+      read.here ∙ ap (λ m. Some (record a.class { meter = m })) (sym metered)) in
       let filters : b.filters ≡ i.filters = same_places b.filters i.filters r.filter_count r.filter in
       let chosen : b.chosen ≡ true = r.chosen ∙ lt-ltb one.number (length i.classes) within in
       (rw (some, classes, filters, e) refl, rw (some, chosen) refl)
@@ -126,17 +154,21 @@ module _ (all : List Interface) (before : List Begun) (i : Interface) (is : IsIn
   tail_read : (rest : List TextLine) (line : ℕ) (implied : Bool) → i.implied ≡ implied
       → ((b : Begun) → whole b ≡ i → undecided b ≡ false → Reads all (before ++ b ∷ []) rest)
       → Reads all (before ++ begun line i.name i.rate i.kind ∷ [])
-      ((class_lines i.kind i.name i.classes (if implied then [] else i.classes) ++ filter_lines i.name i.classes i.filters) ++ rest)
+      ((class_lines i.kind i.name i.classes (if implied then [] else i.classes)
+      ++ (filter_lines i.name i.classes i.filters ++ conditioner_lines i.name (if implied then [] else i.classes))) ++ rest)
   tail_read rest line true e last =
       let implied = is.implied e in
       rw implied.filters (last (begun line i.name i.rate i.kind) (rw (implied.classes, implied.filters, e) refl) refl)
   tail_read rest line false e last =
       let filters = filter_lines i.name i.classes i.filters in
+      let conditioners = conditioner_lines i.name i.classes in
       let b = begun line i.name i.rate i.kind in
-      rw (append_assoc (class_lines i.kind i.name i.classes i.classes) filters rest)
-      (classes_read (filters ++ rest) b nothing_read (λ b r. filters_read rest b r (λ b r. let made = made_whole b e r in last (part_of i b) made.0 made.1)))
+      rw (append_assoc (class_lines i.kind i.name i.classes i.classes) (filters ++ conditioners) rest, append_assoc filters conditioners rest)
+      (classes_read (filters ++ (conditioners ++ rest)) b nothing_read (λ b r.
+      filters_read (conditioners ++ rest) b r (λ b r.
+      conditioners_read rest b r (λ b r. let made = made_whole b e r in last (part_of i b) made.0 made.1))))
     where
-      nothing_read : Has 0 0 (begun line i.name i.rate i.kind)
+      nothing_read : Has 0 0 0 (begun line i.name i.rate i.kind)
       nothing_read = record {
         rooted = λ none. refl;
         chosen = grind (arith, nat_tests);

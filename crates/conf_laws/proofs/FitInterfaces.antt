@@ -1,24 +1,26 @@
 -- An interface as far as its statements are read keeps to its ranges, its limits and its tree: with another class at a place, with a
--- class more, and with a filter more. At the end of the text its classes and its filters are a tree, and so are the implied classes.
+-- class more, with a filter more, and with a conditioner more. At the end of the text its classes and its filters are a tree, and so are the implied classes.
 use Rattle.std.proofs.Common.{rules, ◌≡◌, ◌≢◌, ℕ, zero, suc, ◌+◌, ◌<◌, ◌≤◌, ◌∙◌, Bool, true, false, ◌||◌, List, [], ◌∷◌, ◌++◌, map, length, Option, Some, None, is_some, is_none, slice_get, slice_set, refl, ap, subst, arith, length-append, cond, not, ◌&&◌, codes, bytes_eq, eqb-true}
 use Rattle.std.proofs.lemmas.Bool.{both_ways, or_left, or_right, true_from_ne_false, not-false}
 use Rattle.std.proofs.lemmas.List.{map-append, length-set, length-map}
 use Rattle.std.proofs.lemmas.Option.{slice_get_within}
 use Rattle.service_curve.specs.declared.Curve.{Curve}
 use Rattle.service_curve.specs.Curve.{straight}
+use Rattle.traffic_meter.specs.declared.rule.MeterRule.{MeterRule}
 use Rattle.conf_lines.specs.Options.{most_rate}
 use Rattle.conf_tree.specs.declared.class.Class.{Class}
 use Rattle.conf_tree.specs.declared.filter.Filter.{Filter}
 use Rattle.conf_tree.specs.declared.interface.Kind.{Kind}
 use Rattle.conf_tree.specs.declared.interface.Kind.TheVariants.{Hfsc, Cbq}
-use Rattle.conf_tree.specs.Tree.{Begun, begun, class_name, class_number, as_parent, as_filtered, with_parent, add_class, add_filter}
+use Rattle.conf_tree.specs.Tree.{Begun, begun, class_name, class_number, as_parent, as_filtered, as_metered, with_parent, add_class, add_filter, add_conditioner}
+use Rattle.conf_tree.specs.Meters.{IsMeter, IsMeterIfAny}
 use Rattle.conf_tree.specs.Family.{IsOnLevel, root, below}
 use Rattle.conf_tree.specs.declared.interface.Interface.{Interface}
 use Rattle.conf_tree.specs.Whole.{implied_hfsc, implied_cbq, implied_classes, is_empty, whole}
 use Rattle.conf_laws.specs.Fit.{IsName, IsWithin, IsParent, HasParent, IsOfKind, IsClass, IsTree, IsCurve, IsInterface}
 use Rattle.conf_laws.proofs.FitItems.{HasParts, straight_fit}
 use Rattle.conf_laws.proofs.ListPlaces.{AtEach, HoldsAt, get_pushed, get_front, push_each, push_holds, set_at, set_each, set_holds, map_set_same, map_on, map_back, AreApart, push_apart, apart_by, map_through, not_among}
-use Rattle.conf_laws.proofs.Types.{Branch}
+use Rattle.conf_laws.proofs.Types.{Branch, Conditioner}
 
 abbrev class_in : Branch → Class
 class_in c = c.class
@@ -36,6 +38,7 @@ pub record IsBranch (kind : Kind) (c : Branch) : Type 0 where
   pub eight : c.level ≤ 8
   pub limit : IsWithin 1 10000 c.class.limit
   pub own : IsOfKind kind c.class
+  pub meter : IsMeterIfAny c.class.meter
   pub inner : c.inner ≡ true → IsInner kind c
 
 -- the parent of a class on this level
@@ -90,15 +93,15 @@ pub record IsBegun (b : Begun) : Type 0 where
 pub begun_fit : (line : ℕ) (name : List ℕ) (rate : ℕ) (kind : Kind) → IsName name → IsWithin 1000 most_rate rate → IsBegun (begun line name rate kind)
 begun_fit line name rate kind named within = search (rules, arith)
 
--- ANOTHER CLASS AT A PLACE: it differs in its real-time curve and in whether a class or a filter names it
-abbrev marked : Branch → Option Curve → Bool → Bool → Branch
-marked c real inner filtered = record c { class = record c.class { real = real }; inner = inner; filtered = filtered }
+-- ANOTHER CLASS AT A PLACE: it differs in its real-time curve, in its meter, and in whether a class or a filter names it
+abbrev marked : Branch → Option Curve → Option MeterRule → Bool → Bool → Branch
+marked c real meter inner filtered = record c { class = record c.class { real = real; meter = meter }; inner = inner; filtered = filtered }
 
-class_changed : (b : Begun) (i : ℕ) (c : Branch) (real : Option Curve) (inner filtered : Bool) → IsBegun b → slice_get b.classes i ≡ Some c
-    → (c.inner ≡ true → inner ≡ true) → (c.filtered ≡ true → filtered ≡ true) → IsBranch b.kind (marked c real inner filtered)
-    → IsBegun (record b { classes = slice_set b.classes i (marked c real inner filtered) })
-class_changed b i c real inner filtered h at keep_inner keep_filtered is =
-    let d = marked c real inner filtered in
+class_changed : (b : Begun) (i : ℕ) (c : Branch) (real : Option Curve) (meter : Option MeterRule) (inner filtered : Bool) → IsBegun b
+    → slice_get b.classes i ≡ Some c → (c.inner ≡ true → inner ≡ true) → (c.filtered ≡ true → filtered ≡ true)
+    → IsBranch b.kind (marked c real meter inner filtered) → IsBegun (record b { classes = slice_set b.classes i (marked c real meter inner filtered) })
+class_changed b i c real meter inner filtered h at keep_inner keep_filtered is =
+    let d = marked c real meter inner filtered in
     let classes = slice_set b.classes i d in
     let count : length classes ≡ length b.classes = length-set b.classes i d in
     let stands = λ (k : ℕ) (x : Branch). stands_by b.classes classes k x.level x.class.parent
@@ -154,7 +157,7 @@ ready b level (Some p) h s =
     let count = length-set b.classes p (as_parent q) in
     let inside : p < length b.classes = slice_get_within b.classes p q s.1 in
     rw s.1 (record {
-      held = class_changed b p q None true q.filtered h s.1 (λ yes. refl) (λ yes. yes) parent;
+      held = class_changed b p q None q.class.meter true q.filtered h s.1 (λ yes. refl) (λ yes. yes) parent;
       count = count;
       names = map_set_same class_name b.classes p q (as_parent q) s.1 refl;
       place = (rw count inside, (as_parent q, set_at b.classes p q (as_parent q) s.1, (refl, s.2.0)));
@@ -195,12 +198,40 @@ filter_added b f h n =
     let q = n.class in
     let old = (h.class f.class q n.at).0 in
     let named : IsBranch b.kind (as_filtered q) = search (rules, n.outer, old) in
-    let held = class_changed b f.class q q.class.real q.inner true h n.at (λ yes. yes) (λ yes. refl) named in
+    let held = class_changed b f.class q q.class.real q.class.meter q.inner true h n.at (λ yes. yes) (λ yes. refl) named in
     let classes = slice_set b.classes f.class (as_filtered q) in
     let few : length (b.filters ++ f ∷ []) ≤ 1024 = omega (arith, length-append b.filters (f ∷ []), n.few) in
     let matched : AtEach (λ k g. IsMatched classes g) (b.filters ++ f ∷ []) =
     push_each (λ k g. IsMatched classes g) b.filters f held.filter ((as_filtered q, set_at b.classes f.class q (as_filtered q) n.at, refl), n.parts) in
     rw n.at (assumption (few, matched, held))
+
+-- A CONDITIONER MORE
+pub record IsNewConditioner (b : Begun) (c : Conditioner) : Type 0 where
+  pub class : Branch
+  pub at : slice_get b.classes c.class ≡ Some class
+  pub outer : b.kind ≡ Hfsc → class.inner ≡ false
+  pub rule : IsMeter c.rule
+
+-- a class gets its meter
+with_meter : (kind : Kind) (c : Class) (rule : MeterRule) → IsOfKind kind c → IsOfKind kind (record c { meter = Some rule })
+with_meter Hfsc c rule h = assumption h
+with_meter Cbq c rule h = assumption h
+
+pub conditioner_added : (b : Begun) (c : Conditioner) → IsBegun b → IsNewConditioner b c → IsBegun (add_conditioner b c)
+conditioner_added b c h n =
+    let q = n.class in
+    let old = (h.class c.class q n.at).0 in
+    let metered : IsBranch b.kind (as_metered c.rule q) = record {
+      name = old.name;
+      eight = old.eight;
+      limit = old.limit;
+      own = with_meter b.kind q.class c.rule old.own;
+      meter = n.rule;
+      inner = λ yes.
+          let is = old.inner yes in
+          (record { named = is.0.named; real = is.0.real; inner = is.0.inner; unmetered = λ hfsc. cc (n.outer hfsc, yes) }, is.1);
+    } in
+    rw n.at (class_changed b c.class q q.class.real (Some c.rule) q.inner q.filtered h n.at (λ yes. yes) (λ yes. yes) metered)
 
 -- THE TREE AT THE END
 on_level : (kind : Kind) (classes : List Branch) → AtEach (IsPlaced kind classes) classes → (n k level : ℕ) (c : Branch) (parent : Option ℕ)
@@ -245,6 +276,7 @@ tree_fit b h some =
             eight = is.0.eight;
             limit = is.0.limit;
             own = is.0.own;
+            meter = is.0.meter;
           });
       names = apart_by class_in (λ c. c.name) b.classes h.names;
       default = record {

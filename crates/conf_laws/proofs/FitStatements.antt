@@ -1,6 +1,6 @@
 -- The interfaces so far keep to their ranges, their limits and their trees, statement by statement: a class statement gives a class that
--- may be added, and a filter statement a filter of a class that may have it. At the end of the text they are a configuration that fits.
-use Rattle.std.proofs.Common.{rules, ◌≡◌, ◌≢◌, ◌<◌, ◌≤◌, ℕ, false, cond, not, ◌&&◌, List, [], ◌∷◌, ◌++◌, map, length, drop, Option, Some, None, IfOk, IfSome, is_some, is_none, slice_get, slice_set, bytes_eq, codes, nat_le, refl, arith, length-append, leb-false, zero, suc, Bool, Ok, subst}
+-- may be added, a filter statement a filter of a class that may have it, and a conditioner's the same of a meter. At the end of the text they are a configuration that fits.
+use Rattle.std.proofs.Common.{rules, ◌≡◌, ◌≢◌, ◌<◌, ◌≤◌, ℕ, false, cond, not, ◌&&◌, ◌||◌, List, [], ◌∷◌, ◌++◌, map, length, drop, Option, Some, None, IfOk, IfSome, is_some, is_none, slice_get, slice_set, bytes_eq, codes, nat_le, refl, arith, length-append, leb-false, zero, suc, Bool, Ok, subst}
 use Rattle.std.proofs.lemmas.Bool.{or_parts, cond_both, both_ways}
 use Rattle.std.proofs.lemmas.List.{length-set, map-append, length-map}
 use Rattle.std.proofs.lemmas.List.Quantifiers.{position-Some}
@@ -21,6 +21,7 @@ use Rattle.conf_lines.specs.Options.{most_rate}
 use Rattle.conf_tree.specs.declared.interface.Kind.{Kind}
 use Rattle.conf_tree.specs.declared.interface.Kind.TheVariants.{Hfsc, Cbq}
 use Rattle.conf_tree.specs.Classes.{is_hfsc, same_kind, is_queue, below, spot_of, rate_given, rate_at_end, scope_of, shape_below, shape_of, branch_of, is_full, read_branch, read_class}
+use Rattle.conf_tree.specs.Conditioners.{conditioner_read, read_conditioner}
 use Rattle.conf_tree.specs.FilterStatements.{filter_read, read_filter}
 use Rattle.conf_tree.specs.Interfaces.{kind_at_end, interface_kind, interface_rate, are_full, read_interface}
 use Rattle.conf_tree.specs.Items.{name_of, name_in, name_at}
@@ -28,11 +29,12 @@ use Rattle.conf_tree.specs.Options.{rate_by_word, rate_by_options, set_options}
 use Rattle.conf_tree.specs.Reading.{read_form, read_statement, reading, reading_from}
 use Rattle.conf_tree.specs.Settings.{unset}
 use Rattle.conf_tree.specs.Tests.{some}
-use Rattle.conf_tree.specs.Tree.{Begun, begun, interface_name, interface_number, class_number, add_class, add_filter}
+use Rattle.conf_tree.specs.Tree.{Begun, begun, as_parent, interface_name, interface_number, class_number, add_class, add_filter, add_conditioner}
 use Rattle.conf_tree.specs.declared.interface.Interface.{Interface}
 use Rattle.conf_tree.specs.Whole.{is_empty, whole, undecided, first_undecided, finished_unless}
-use Rattle.conf_laws.specs.Fit.{IsName, IsWithin, IsInterface, AreFit}
-use Rattle.conf_laws.proofs.FitInterfaces.{IsBegun, MayStand, whole_fit, begun_fit, IsNew, IsNewFilter, class_added, filter_added}
+use Rattle.conf_tree.proofs.MetersFit.{meter_fits}
+use Rattle.conf_laws.specs.Fit.{IsName, IsWithin, IsParent, IsInterface, AreFit}
+use Rattle.conf_laws.proofs.FitInterfaces.{IsBegun, MayStand, whole_fit, begun_fit, IsNew, IsNewFilter, IsNewConditioner, class_added, filter_added, conditioner_added}
 use Rattle.conf_laws.proofs.FitItems.{filter_fit, sound_at, sound_drop, AreSet, unset_fit, options_fit, number_or, either, fit_next}
 use Rattle.conf_laws.proofs.InTurn.{fit_then, fit_any, fit_some, fit_refuse, fit_whole}
 use Rattle.conf_laws.proofs.ListPlaces.{AtEach, push_each, set_each, map_set_same, AreApart, push_apart, not_among, map_back, apart_by}
@@ -51,15 +53,26 @@ name_fit items i name h there =
 abbrev IsSpot : Begun → Spot → Type 0
 IsSpot b spot = (spot.level ≤ 8) × MayStand b spot.level spot.parent
 
+without_meter : {A : Type 0} (o : Option A) → is_some o ≡ false → o ≡ None
+without_meter None e = refl
+without_meter (Some x) e = cc
+
 below_fit : (b : Begun) (s : Statement) (i : ℕ) (c : Branch) → slice_get b.classes i ≡ Some c → c.class.name ≢ codes "NULL"
     → IfOk (below b.kind s i c) (IsSpot b)
 below_fit b s i c at named =
     fit_refuse (IsSpot b) (nat_le 8 c.level) _ _ (λ deep.
     fit_refuse (IsSpot b) c.fixed _ _ (λ fixed.
     fit_refuse (IsSpot b) (is_queue b.kind c) _ _ (λ queue.
-    let free = λ (hfsc : b.kind ≡ Hfsc). or_parts c.class.is_default c.filtered (rw hfsc at queue) in
+    let free = λ (hfsc : b.kind ≡ Hfsc). or_parts (c.class.is_default || c.filtered) (is_some c.class.meter) (rw hfsc at queue) in
+    let unnamed = λ (hfsc : b.kind ≡ Hfsc). or_parts c.class.is_default c.filtered (free hfsc).0 in
     let low = leb-false 8 c.level deep in
-    (omega arith, (c, at, (refl, (record { named = named; real = refl; inner = λ hfsc. (free hfsc).0 }, λ hfsc. (free hfsc).1)))))))
+    let parent : IsParent b.kind (as_parent c).class = record {
+      named = named;
+      real = refl;
+      inner = λ hfsc. (unnamed hfsc).0;
+      unmetered = λ hfsc. without_meter c.class.meter (free hfsc).1;
+    } in
+    (omega arith, (c, at, (refl, (parent, λ hfsc. (unnamed hfsc).1)))))))
 
 parent_named : (parent : List ℕ) (classes : List Branch) (i : ℕ) (c : Branch) → class_number parent classes ≡ Some i → slice_get classes i ≡ Some c
     → parent ≡ c.class.name
@@ -154,6 +167,17 @@ read_fit b s sound =
       few = leb-false 1024 (length b.filters) few;
     }))))))
 
+-- A CONDITIONER'S STATEMENT
+meter_read_fit : (b : Begun) (s : Statement) → IfOk (conditioner_read b s) (IsNewConditioner b)
+meter_read_fit b s =
+    fit_some (IsNewConditioner b) (name_at s.items 1) _ _ (λ name named.
+    fit_some (IsNewConditioner b) (class_number name b.classes) _ _ (λ i number.
+    fit_some (IsNewConditioner b) (slice_get b.classes i) _ _ (λ c at.
+    fit_refuse (IsNewConditioner b) (is_hfsc b.kind && c.inner) _ _ (λ outer.
+    fit_refuse (IsNewConditioner b) (is_some c.class.meter) _ _ (λ first.
+    fit_whole (IsNewConditioner b) s.fault _
+    (record { class = c; at = at; outer = λ hfsc. rw hfsc at outer; rule = meter_fits (drop 2 s.items) }))))))
+
 -- THE INTERFACES SO FAR: at most 16, each with a name of its own
 record AreBegun (before : List Begun) : Type 0 where
   count : length before ≤ 16
@@ -220,12 +244,21 @@ to_filter_fit before s h sound =
     fit_then (IsNewFilter b) AreBegun (filter_read b s) _ (read_fit b s sound) (λ f new.
     begun_set before i b (add_filter b f) h at (filter_added b f (h.each i b at) new) refl))))
 
+to_conditioner_fit : (before : List Begun) (s : Statement) → AreBegun before → IfOk (read_conditioner before s) AreBegun
+to_conditioner_fit before s h =
+    fit_some AreBegun (name_at s.items 0) _ _ (λ name named.
+    fit_some AreBegun (interface_number name before) _ _ (λ i number.
+    fit_some AreBegun (slice_get before i) _ _ (λ b at.
+    fit_then (IsNewConditioner b) AreBegun (conditioner_read b s) _ (meter_read_fit b s) (λ c new.
+    begun_set before i b (add_conditioner b c) h at (conditioner_added b c (h.each i b at) new) refl))))
+
 form_fit : (of : Form) (before : List Begun) (s : Statement) → AreBegun before → AreSound s.items → IfOk (read_form of before s) AreBegun
 form_fit form.Interface before s h sound = interface_fit before s h sound
 form_fit form.ClassHfsc before s h sound = class_fit before Hfsc s h sound
 form_fit form.ClassCbq before s h sound = class_fit before Cbq s h sound
 form_fit form.Filter before s h sound = to_filter_fit before s h sound
 form_fit form.Filter6 before s h sound = to_filter_fit before s h sound
+form_fit form.Conditioner before s h sound = to_conditioner_fit before s h
 form_fit form.Unread before s h sound = tt
 
 -- AT THE END OF THE TEXT none is undecided

@@ -45,7 +45,7 @@ push_holds P xs ys k h = (h.0, get_front xs ys k h.0 h.1, h.2)
 
 -- A LIST THAT IS WRITTEN TO
 pub get_set : {X : Type 0} (xs : List X) (i : ℕ) (y r : X) (j : ℕ) → slice_get (slice_set xs i y) j ≡ Some r
-    → ((j ≡ i) × (r ≡ y)) ⊎ (slice_get xs j ≡ Some r)
+    → ((j ≡ i) × (r ≡ y)) ⊎ ((j ≢ i) × (slice_get xs j ≡ Some r))
 get_set xs i y r j h = grind (arith, common_steps, gets)
 
 pub set_pushed : {X : Type 0} (xs : List X) (x y : X) → slice_set (xs ++ x ∷ []) (length xs) y ≡ xs ++ y ∷ []
@@ -55,7 +55,7 @@ pub set_at : {X : Type 0} (xs : List X) (i : ℕ) (x y : X) → slice_get xs i �
 set_at xs i x y h = grind (arith, common_steps, gets)
 
 pub set_each : {X : Type 0} (P : ℕ → X → Type 0) (xs : List X) (i : ℕ) (y : X) → AtEach P xs → P i y → AtEach P (slice_set xs i y)
-set_each P xs i y old new k x at = ⊎_elim (λ e. rw e.0 (rw e.1 new)) (λ e. old k x e) (get_set xs i y x k at)
+set_each P xs i y old new k x at = ⊎_elim (λ e. rw e.0 (rw e.1 new)) (λ e. old k x e.1) (get_set xs i y x k at)
 
 pub set_holds : {X : Type 0} (P : X → Type 0) (xs : List X) (i : ℕ) (x y : X) → slice_get xs i ≡ Some x → (P x → P y)
     → (k : ℕ) → HoldsAt P xs k → HoldsAt P (slice_set xs i y) k

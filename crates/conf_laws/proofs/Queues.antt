@@ -1,4 +1,4 @@
--- Packets go to classes that hold packets.
+-- Packets go to classes that hold packets, and are metered there.
 use Rattle.std.proofs.Common.{◌≡◌, ◌≢◌, ℕ, ◌<◌, true, false, not, List, length, Option, Some, None, unwrap_or, slice_get, refl, ap, arith, nat_lt, get_or}
 use Rattle.std.specs.List.{list_any}
 use Rattle.std.proofs.lemmas.Bool.Decides.{nat_tests}
@@ -46,6 +46,12 @@ no_control : (kind : Kind) (classes : List Class) (filters : List Filter) (tree 
 no_control Hfsc classes filters tree k c at is = cc ((tree.class k c at).own.control)
 no_control Cbq classes filters tree k c at is = queue_by Cbq classes k (slice_get_within classes k c at) (λ e. cc)
 
+-- in HFSC a class with a conditioner has no children
+metered : (kind : Kind) (classes : List Class) (p : ℕ) (c : Class) → slice_get classes p ≡ Some c → c.meter ≢ None → (k : ℕ) (parent : Option ℕ)
+    → HasParent kind classes k parent → kind ≡ Hfsc → parent ≢ Some p
+metered kind classes p c at some k None has hfsc e = cc
+metered kind classes p c at some k (Some q) has hfsc e = some (cc (has.2, at, has.3.unmetered hfsc))
+
 pub has_queues : (i : Interface) → IsInterface i → HasQueues i
 has_queues i h =
     let tree = h.tree in
@@ -55,4 +61,6 @@ has_queues i h =
           (λ hfsc k c at. unparented i.kind i.classes d k c.parent (tree.class k c at).parent hfsc));
       filter = λ k f at. queue_by i.kind i.classes f.class (tree.filter k f at).class (tree.filter k f at).outer;
       control = no_control i.kind i.classes i.filters tree;
+      meter = λ k c at some. queue_by i.kind i.classes k (slice_get_within i.classes k c at)
+          (λ hfsc j x there. metered i.kind i.classes k c at some j x.parent (tree.class j x there).parent hfsc);
     }

@@ -4,7 +4,7 @@ use Rattle.conf_tree.specs.declared.interface.Kind.TheVariants.{Hfsc}
 use Rattle.conf_tree.specs.Classes.{rate_given, branch_of}
 use Rattle.conf_tree.specs.Options.{set_options}
 use Rattle.conf_tree.specs.Settings.{of_kind}
-use Rattle.conf_tree.specs.Tree.{class_name}
+use Rattle.conf_tree.specs.Tree.{begun, class_name, add_conditioner}
 
 -- what a function takes
 abbrev takes : {A B : Type 0} → (A → B) → Type 0
@@ -17,7 +17,7 @@ Scope = takes set_options
 abbrev pub Settings : Type 0
 Settings = takes (of_kind Hfsc)
 
--- where a class stands, its shape, and a class as far as the statements say
+-- where a class stands, its shape, a class as far as the statements say, and what a conditioner gives it
 abbrev pub Spot : Type 0
 Spot = takes (rate_given 0)
 
@@ -26,3 +26,6 @@ Shape = takes (branch_of Hfsc [])
 
 abbrev pub Branch : Type 0
 Branch = takes class_name
+
+abbrev pub Conditioner : Type 0
+Conditioner = takes (add_conditioner (begun 0 [] 0 Hfsc))

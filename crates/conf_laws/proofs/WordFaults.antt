@@ -6,7 +6,7 @@ use Rattle.std.proofs.lemmas.Bool.Decides.{nat_tests}
 use Rattle.std.proofs.lemmas.Bool.{cases_lt, cond_both}
 use Rattle.std.proofs.lemmas.List.Elements.{All-head, All-tail, All-drop, All-nil, All-cons}
 use Rattle.std.proofs.lemmas.Result.{IfErr-at_err}
-use Rattle.conf_lines.specs.declared.fault.ConfKind.TheVariants.{MissingWord, RateRange, InterfaceTwice, NoInterface, WrongDiscipline, NameTaken, NoParent, TwoRoots, TooDeep, TooManyClasses, TooManyFilters, TooManyInterfaces, NoShare, RealTimeInside, InnerQueue, TwoDefaults, NoClass}
+use Rattle.conf_lines.specs.declared.fault.ConfKind.TheVariants.{MissingWord, RateRange, InterfaceTwice, NoInterface, WrongDiscipline, NameTaken, NoParent, TwoRoots, TooDeep, TooManyClasses, TooManyFilters, TooManyInterfaces, NoShare, RealTimeInside, InnerQueue, TwoDefaults, NoClass, ConditionerTwice}
 use Rattle.conf_lines.specs.declared.fault.ConfKind.{ConfKind}
 use Rattle.conf_lines.specs.declared.fault.ConfPlace.{ConfPlace}
 use Rattle.conf_lines.specs.declared.item.Item.{Item}
@@ -23,6 +23,7 @@ use Rattle.conf_lines.proofs.Readings.{IsLate, AreLate, IsOn}
 use Rattle.conf_tree.specs.declared.interface.Kind.TheVariants.{Hfsc, Cbq}
 use Rattle.conf_tree.specs.declared.interface.Kind.{Kind}
 use Rattle.conf_tree.specs.Classes.{is_hfsc, same_kind, is_queue, spot_of, rate_given, rate_at_end, scope_of, shape_below, shape_of, is_full, class_named, read_branch, read_class}
+use Rattle.conf_tree.specs.Conditioners.{conditioner_read, read_conditioner}
 use Rattle.conf_tree.specs.FilterStatements.{filter_named, filter_read, read_filter}
 use Rattle.conf_tree.specs.Interfaces.{interface_kind, are_full, read_interface}
 use Rattle.conf_tree.specs.Items.{name_in, name_at, number_behind, word_at}
@@ -219,7 +220,7 @@ class_so {Q} {s} {t} two before kind link =
     so_then Q (read_branch b kind s) (read_branch b kind (record t { line = s.line })) _ _ link (λ link.
     so_refuse Q (not (same_kind kind b.kind)) _ _ _ link (two.at 0 WrongDiscipline) (λ link. named_so two b (next_item link))) (λ c. tt))))
 
--- A FILTER, AN INTERFACE
+-- A FILTER, A CONDITIONER, AN INTERFACE
 module _ {Q : ConfPlace → Type 0} {s t : Statement} (two : Beside Q 2 s t) where
   filter_named_so : (b : Begun) → Follows two 1 (filter_named b)
   filter_named_so b link =
@@ -235,6 +236,21 @@ module _ {Q : ConfPlace → Type 0} {s t : Statement} (two : Beside Q 2 s t) whe
       so_some Q (slice_get before i) _ _ _ link (two.at 0 NoInterface) (λ b link.
       so_then Q (filter_read b s) (filter_read b (record t { line = s.line })) _ _ link (λ link.
       so_refuse Q (nat_le 1024 (length b.filters)) _ _ _ link (two.at 0 TooManyFilters) (λ link. filter_named_so b (next_item link))) (λ f. tt))))
+
+  meter_so : (b : Begun) → Follows two 1 (conditioner_read b)
+  meter_so b link =
+      name_so two 1 _ _ _ _ link (λ here. own_so two) (λ name link.
+      so_some Q (class_number name b.classes) _ _ _ link (two.at 1 NoClass) (λ i link.
+      so_some Q (slice_get b.classes i) _ _ _ link (two.at 1 NoClass) (λ c link.
+      so_refuse Q (is_hfsc b.kind && c.inner) _ _ _ link (two.at 1 InnerQueue) (λ link.
+      so_refuse Q (is_some c.class.meter) _ _ _ link (two.at 1 ConditionerTwice) (λ link. so_own Q s.fault _ two.fault tt)))))
+
+  conditioner_so : (before : List Begun) → Follows two 0 (read_conditioner before)
+  conditioner_so before link =
+      name_so two 0 _ _ _ _ link (λ here. own_so two) (λ name link.
+      so_some Q (interface_number name before) _ _ _ link (two.at 0 NoInterface) (λ i link.
+      so_some Q (slice_get before i) _ _ _ link (two.at 0 NoInterface) (λ b link.
+      so_then Q (conditioner_read b s) (conditioner_read b (record t { line = s.line })) _ _ link (λ link. meter_so b (next_item link)) (λ c. tt))))
 
   interface_so : (before : List Begun) → Follows two 0 (read_interface before)
   interface_so before link =
@@ -252,6 +268,7 @@ form_so form.ClassHfsc before two link = class_so two before Hfsc link
 form_so form.ClassCbq before two link = class_so two before Cbq link
 form_so form.Filter before two link = filter_so two before link
 form_so form.Filter6 before two link = filter_so two before link
+form_so form.Conditioner before two link = conditioner_so two before link
 form_so form.Unread before two link = own_so two
 
 -- the fault of a statement is so if each fault at a word from its first item on is so

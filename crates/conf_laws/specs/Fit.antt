@@ -13,6 +13,7 @@ use Rattle.conf_tree.specs.declared.interface.Kind.{Kind}
 use Rattle.conf_tree.specs.declared.interface.Kind.TheVariants.{Hfsc, Cbq}
 use Rattle.conf_tree.specs.Family.{IsOnLevel}
 use Rattle.conf_tree.specs.Masks.{masked, prefix}
+use Rattle.conf_tree.specs.Meters.{IsMeterIfAny}
 use Rattle.conf_tree.specs.Whole.{implied_classes}
 
 -- a NAME: 1 to 64 letters, digits and a few signs
@@ -36,12 +37,13 @@ abbrev pub IsCurveIfAny : ℕ → ℕ → Option Curve → Type 0
 IsCurveIfAny low least None = Unit {0}
 IsCurveIfAny low least (Some s) = IsCurve low least s
 
--- A class that may be a parent: it is not named NULL, which means that there is no parent; it has no real-time curve, and in HFSC
--- it is not the default class.
+-- A class that may be a parent: it is not named NULL, which means that there is no parent; it has no real-time curve, and in HFSC,
+-- where it holds no packets, it is not the default class and has no conditioner.
 pub record IsParent (kind : Kind) (c : Class) : Type 0 where
   pub named : c.name ≢ codes "NULL"
   pub real : c.real ≡ None
   pub inner : kind ≡ Hfsc → c.is_default ≡ false
+  pub unmetered : kind ≡ Hfsc → c.meter ≡ None
 
 -- the first class is the root, which has no parent; each other class has a parent that stands before it
 abbrev pub HasParent : Kind → List Class → ℕ → Option ℕ → Type 0
@@ -74,7 +76,7 @@ abbrev pub IsOfKind : Kind → Class → Type 0
 IsOfKind Hfsc c = IsHfscClass c
 IsOfKind Cbq c = IsCbqClass c
 
--- the class of a number, on one of eight levels
+-- the class of a number, on one of eight levels; its conditioner, if it has one, has the numbers of a meter
 pub record IsClass (kind : Kind) (classes : List Class) (k : ℕ) (c : Class) : Type 0 where
   pub name : IsName c.name
   pub parent : HasParent kind classes k c.parent
@@ -83,6 +85,7 @@ pub record IsClass (kind : Kind) (classes : List Class) (k : ℕ) (c : Class) : 
   pub eight : level ≤ 8
   pub limit : IsWithin 1 10000 c.limit
   pub own : IsOfKind kind c
+  pub meter : IsMeterIfAny c.meter
 
 -- addresses under their masks
 pub record IsMasked (a m : List ℕ) : Type 0 where

@@ -1,5 +1,5 @@
 -- What holds of every configuration, and of its canonical text.
-use Rattle.std.specs.Prelude.{◌≡◌, ◌⊎◌, ◌+◌, ◌≤◌, ◌<◌, ◌==◌, ◌&&◌, ◌||◌, Bool, true, false, not, List, [], ◌∷◌, ◌++◌, ℕ, length, Contains, Ok, Err, Some, slice_get}
+use Rattle.std.specs.Prelude.{◌≡◌, ◌≢◌, ◌⊎◌, ◌+◌, ◌≤◌, ◌<◌, ◌==◌, ◌&&◌, ◌||◌, Bool, true, false, not, List, [], ◌∷◌, ◌++◌, ℕ, length, Contains, Ok, Err, None, Some, slice_get}
 use Rattle.line_text.specs.Lines.{ends}
 use Rattle.line_text.specs.Words.{is_blank}
 use Rattle.conf_lines.specs.declared.fault.ConfKind.TheVariants.{TooLong}
@@ -20,12 +20,13 @@ use Rattle.conf_laws.specs.Statements.{canonical_statements}
 abbrev pub ConfigurationsFit : Type 0
 ConfigurationsFit = (text : List ℕ) (interfaces : List Interface) → IsConfiguration text interfaces → AreFit interfaces
 
--- packets go to classes that hold packets: the default class is one, and so is the class of each filter and each class with
--- control
+-- packets go to classes that hold packets, and are metered there: the default class is one, and so is the class of each filter,
+-- each class with control and each class with a conditioner
 pub record HasQueues (i : Interface) : Type 0 where
   pub default : is_queue_class i.kind i.classes (default_class i.classes) ≡ true
   pub filter : (k : ℕ) (f : Filter) → slice_get i.filters k ≡ Some f → is_queue_class i.kind i.classes f.class ≡ true
   pub control : (k : ℕ) (c : Class) → slice_get i.classes k ≡ Some c → c.control ≡ true → is_queue_class i.kind i.classes k ≡ true
+  pub meter : (k : ℕ) (c : Class) → slice_get i.classes k ≡ Some c → c.meter ≢ None → is_queue_class i.kind i.classes k ≡ true
 
 abbrev pub InterfacesHaveQueues : Type 0
 InterfacesHaveQueues =

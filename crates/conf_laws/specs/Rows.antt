@@ -2,7 +2,7 @@
 -- and the canonical text of one that has none. See altq.conf(5).
 use Rattle.std.specs.Prelude.{◌≡◌, ℕ, true, false, List, [], ◌∷◌, Option, Some, None, Ok, Err, slice_get, codes}
 use Rattle.conf_lines.specs.declared.fault.ConfKind.{ConfKind}
-use Rattle.conf_lines.specs.declared.fault.ConfKind.TheVariants.{UnknownWord, MissingWord, BadNumber, RateRange, BadAddress, BadByte, WrongDiscipline, NameTaken, ConvexFirst, NoShare, RealTimeInside, InnerQueue, TwoDefaults, NoDefault, TwoRoots}
+use Rattle.conf_lines.specs.declared.fault.ConfKind.TheVariants.{UnknownWord, MissingWord, BadNumber, RateRange, BadAddress, BadByte, WrongDiscipline, NameTaken, ConvexFirst, NoShare, RealTimeInside, InnerQueue, TwoDefaults, NoDefault, TwoRoots, NoInterface, NoClass, ConditionerTwice}
 use Rattle.conf_lines.specs.declared.fault.ConfPlace.{ConfPlace}
 use Rattle.conf_lines.specs.Texts.{statements_of}
 use Rattle.conf_tree.specs.declared.class.Class.{Class}
@@ -206,9 +206,39 @@ pub record PartsAre : Type 0 where
   pub end_before_a_mask : Faulty (codes "interface if0 hfsc\nclass hfsc if0 r NULL\nclass hfsc if0 a r ls 1 0 1 default\nfilter if0 a 10.1.2.3 netmask") 4 6 MissingWord
   pub end_before_a_type : Faulty (codes "interface if0 hfsc\nclass hfsc if0 r NULL\nclass hfsc if0 a r ls 1 0 1 default\nfilter if0 a 0 1 0 2 6 tos") 4 10 MissingWord
 
+-- conditioners: the numbers of each meter, which class may have one, and their lines in the order of the classes behind the filters
+pub record ConditionersAre : Type 0 where
+  pub of_one_rate : Means (codes "interface if0 hfsc\nclass hfsc if0 r NULL\nclass hfsc if0 a r ls 1 0 1 default\nconditioner if0 a srtcm 8M 1500 0x5dc 1") (codes "interface if0 bandwidth 100000000 hfsc\nclass hfsc if0 r NULL qlimit 50\nclass hfsc if0 a r ls 1 0 1 qlimit 50 default\nconditioner if0 a srtcm 8000000 1500 1500 1\n")
+  pub of_two_rates : Means (codes "interface if0 hfsc\nclass hfsc if0 r NULL\nclass hfsc if0 a r ls 1 0 1 default\nconditioner if0 a trtcm 16M 2000 8M 1000 4") (codes "interface if0 bandwidth 100000000 hfsc\nclass hfsc if0 r NULL qlimit 50\nclass hfsc if0 a r ls 1 0 1 qlimit 50 default\nconditioner if0 a trtcm 16000000 2000 8000000 1000 4\n")
+  pub no_excess_burst : Means (codes "interface if0 hfsc\nclass hfsc if0 r NULL\nclass hfsc if0 a r ls 1 0 1 default\nconditioner if0 a srtcm 1000 1 0 1") (codes "interface if0 bandwidth 100000000 hfsc\nclass hfsc if0 r NULL qlimit 50\nclass hfsc if0 a r ls 1 0 1 qlimit 50 default\nconditioner if0 a srtcm 1000 1 0 1\n")
+  pub greatest_of_one_rate : Means (codes "interface if0 hfsc\nclass hfsc if0 r NULL\nclass hfsc if0 a r ls 1 0 1 default\nconditioner if0 a srtcm 1000G 1073741824 1073741824 4") (codes "interface if0 bandwidth 100000000 hfsc\nclass hfsc if0 r NULL qlimit 50\nclass hfsc if0 a r ls 1 0 1 qlimit 50 default\nconditioner if0 a srtcm 1000000000000 1073741824 1073741824 4\n")
+  pub equal_rates : Means (codes "interface if0 hfsc\nclass hfsc if0 r NULL\nclass hfsc if0 a r ls 1 0 1 default\nconditioner if0 a trtcm 8M 1073741824 8M 1 1") (codes "interface if0 bandwidth 100000000 hfsc\nclass hfsc if0 r NULL qlimit 50\nclass hfsc if0 a r ls 1 0 1 qlimit 50 default\nconditioner if0 a trtcm 8000000 1073741824 8000000 1 1\n")
+  pub peak_below_the_committed_rate : Faulty (codes "interface if0 hfsc\nclass hfsc if0 r NULL\nclass hfsc if0 a r ls 1 0 1 default\nconditioner if0 a trtcm 7999999 2000 8M 1000 1") 4 7 RateRange
+  pub committed_rate_below : Faulty (codes "interface if0 hfsc\nclass hfsc if0 r NULL\nclass hfsc if0 a r ls 1 0 1 default\nconditioner if0 a srtcm 999 1500 0 1") 4 5 RateRange
+  pub peak_above : Faulty (codes "interface if0 hfsc\nclass hfsc if0 r NULL\nclass hfsc if0 a r ls 1 0 1 default\nconditioner if0 a trtcm 1000000000001 2000 8M 1000 1") 4 5 RateRange
+  pub no_burst : Faulty (codes "interface if0 hfsc\nclass hfsc if0 r NULL\nclass hfsc if0 a r ls 1 0 1 default\nconditioner if0 a srtcm 8M 0 0 1") 4 6 BadNumber
+  pub burst_above : Faulty (codes "interface if0 hfsc\nclass hfsc if0 r NULL\nclass hfsc if0 a r ls 1 0 1 default\nconditioner if0 a srtcm 8M 1073741825 0 1") 4 6 BadNumber
+  pub excess_burst_above : Faulty (codes "interface if0 hfsc\nclass hfsc if0 r NULL\nclass hfsc if0 a r ls 1 0 1 default\nconditioner if0 a srtcm 8M 1500 1073741825 1") 4 7 BadNumber
+  pub no_peak_burst : Faulty (codes "interface if0 hfsc\nclass hfsc if0 r NULL\nclass hfsc if0 a r ls 1 0 1 default\nconditioner if0 a trtcm 8M 0 8M 1000 1") 4 6 BadNumber
+  pub no_burst_below_the_peak : Faulty (codes "interface if0 hfsc\nclass hfsc if0 r NULL\nclass hfsc if0 a r ls 1 0 1 default\nconditioner if0 a trtcm 8M 2000 8M 0 1") 4 8 BadNumber
+  pub no_class_of_forwarding : Faulty (codes "interface if0 hfsc\nclass hfsc if0 r NULL\nclass hfsc if0 a r ls 1 0 1 default\nconditioner if0 a srtcm 8M 1500 0 0") 4 8 BadNumber
+  pub fifth_class_of_forwarding : Faulty (codes "interface if0 hfsc\nclass hfsc if0 r NULL\nclass hfsc if0 a r ls 1 0 1 default\nconditioner if0 a srtcm 8M 1500 0 5") 4 8 BadNumber
+  pub no_meter : Faulty (codes "interface if0 hfsc\nclass hfsc if0 r NULL\nclass hfsc if0 a r ls 1 0 1 default\nconditioner if0 a red") 4 4 UnknownWord
+  pub end_before_the_meter : Faulty (codes "interface if0 hfsc\nclass hfsc if0 r NULL\nclass hfsc if0 a r ls 1 0 1 default\nconditioner if0 a") 4 4 MissingWord
+  pub end_before_the_class_of_forwarding : Faulty (codes "interface if0 hfsc\nclass hfsc if0 r NULL\nclass hfsc if0 a r ls 1 0 1 default\nconditioner if0 a trtcm 16M 2000 8M 1000") 4 9 MissingWord
+  pub nothing_behind_it : Faulty (codes "interface if0 hfsc\nclass hfsc if0 r NULL\nclass hfsc if0 a r ls 1 0 1 default\nconditioner if0 a srtcm 8M 1500 0 1 default") 4 9 UnknownWord
+  pub second : Faulty (codes "interface if0 hfsc\nclass hfsc if0 r NULL\nclass hfsc if0 a r ls 1 0 1 default\nconditioner if0 a srtcm 8M 1500 0 1\nconditioner if0 a trtcm x") 5 3 ConditionerTwice
+  pub no_interface : Faulty (codes "interface if0 hfsc\nclass hfsc if0 r NULL\nclass hfsc if0 a r ls 1 0 1 default\nconditioner if1 a srtcm x") 4 2 NoInterface
+  pub no_class : Faulty (codes "interface if0 hfsc\nclass hfsc if0 r NULL\nclass hfsc if0 a r ls 1 0 1 default\nconditioner if0 b srtcm x") 4 3 NoClass
+  pub no_name : Faulty (codes "interface if0 hfsc\nclass hfsc if0 r NULL\nclass hfsc if0 a r ls 1 0 1 default\nconditioner if0 a, srtcm x") 4 3 BadByte
+  pub inner_class : Faulty (codes "interface if0 hfsc\nclass hfsc if0 r NULL\nclass hfsc if0 a r ls 1 0 1 default\nconditioner if0 r srtcm x") 4 3 InnerQueue
+  pub no_child_behind_it : Faulty (codes "interface if0 hfsc\nclass hfsc if0 r NULL\nclass hfsc if0 a r ls 1 0 1\nconditioner if0 a srtcm 8M 1500 0 1\nclass hfsc if0 b a ls 1 0 1 default") 5 5 InnerQueue
+  pub order_of_classes_behind_filters : Means (codes "interface if0 cbq\nclass cbq if0 r NULL\nclass cbq if0 a r exactbandwidth 1K default\nconditioner if0 a srtcm 8M 1500 0 1\nconditioner if0 r srtcm 9M 1500 0 2\nfilter if0 a 0 1 0 2 6") (codes "interface if0 bandwidth 100000000 cbq\nclass cbq if0 r NULL priority 0 exactbandwidth 100000000 maxburst 16 packetsize 1500 qlimit 50\nclass cbq if0 a r priority 0 exactbandwidth 1000 maxburst 16 packetsize 1500 qlimit 50 default\nfilter if0 a ruleno 0 0.0.0.0 netmask 0.0.0.0 1 0.0.0.0 netmask 0.0.0.0 2 6\nconditioner if0 r srtcm 9000000 1500 0 2\nconditioner if0 a srtcm 8000000 1500 0 1\n")
+  pub none_of_an_implied_class : Faulty (codes "interface if0 cbq\nconditioner if0 default srtcm x") 2 3 NoClass
+
 -- the implied classes
 pub record ImpliedAre : Type 0 where
-  pub leaf_of_hfsc : class_of (codes "interface if0 bandwidth 8M hfsc") 1 ≡ Some (record { name = codes "default"; parent = Some 0; real = None; share = Some (record { m1 = 8000000; d = 0; m2 = 8000000 }); upper = None; rate = 0; priority = 0; borrow = false; control = false; maxburst = 0; packetsize = 0; limit = 50; drop = Tail; clear = false; is_default = true })
-  pub root_of_hfsc : class_of (codes "interface if0 bandwidth 8M hfsc") 0 ≡ Some (record { name = codes "root"; parent = None; real = None; share = None; upper = None; rate = 0; priority = 0; borrow = false; control = false; maxburst = 0; packetsize = 0; limit = 50; drop = Tail; clear = false; is_default = false })
-  pub leaf_of_cbq : class_of (codes "interface if0 bandwidth 8M cbq") 1 ≡ Some (record { name = codes "default"; parent = Some 0; real = None; share = None; upper = None; rate = 8000000; priority = 0; borrow = true; control = false; maxburst = 16; packetsize = 1500; limit = 50; drop = Tail; clear = false; is_default = true })
-  pub root_of_cbq : class_of (codes "interface if0 bandwidth 8M cbq") 0 ≡ Some (record { name = codes "root"; parent = None; real = None; share = None; upper = None; rate = 8000000; priority = 0; borrow = false; control = false; maxburst = 16; packetsize = 1500; limit = 50; drop = Tail; clear = false; is_default = false })
+  pub leaf_of_hfsc : class_of (codes "interface if0 bandwidth 8M hfsc") 1 ≡ Some (record { name = codes "default"; parent = Some 0; real = None; share = Some (record { m1 = 8000000; d = 0; m2 = 8000000 }); upper = None; rate = 0; priority = 0; borrow = false; control = false; maxburst = 0; packetsize = 0; limit = 50; drop = Tail; clear = false; is_default = true; meter = None })
+  pub root_of_hfsc : class_of (codes "interface if0 bandwidth 8M hfsc") 0 ≡ Some (record { name = codes "root"; parent = None; real = None; share = None; upper = None; rate = 0; priority = 0; borrow = false; control = false; maxburst = 0; packetsize = 0; limit = 50; drop = Tail; clear = false; is_default = false; meter = None })
+  pub leaf_of_cbq : class_of (codes "interface if0 bandwidth 8M cbq") 1 ≡ Some (record { name = codes "default"; parent = Some 0; real = None; share = None; upper = None; rate = 8000000; priority = 0; borrow = true; control = false; maxburst = 16; packetsize = 1500; limit = 50; drop = Tail; clear = false; is_default = true; meter = None })
+  pub root_of_cbq : class_of (codes "interface if0 bandwidth 8M cbq") 0 ≡ Some (record { name = codes "root"; parent = None; real = None; share = None; upper = None; rate = 8000000; priority = 0; borrow = false; control = false; maxburst = 16; packetsize = 1500; limit = 50; drop = Tail; clear = false; is_default = false; meter = None })

@@ -3,11 +3,12 @@ use Rattle.std.specs.Prelude.{ℕ, ◌+◌, List, [], ◌∷◌, length, None}
 use Rattle.conf_lines.specs.declared.item.Item.{Item}
 use Rattle.conf_lines.specs.declared.item.What.{What}
 use Rattle.conf_lines.specs.declared.statement.Statement.{Statement}
+use Rattle.traffic_meter.specs.declared.rule.MeterRule.{MeterRule}
 use Rattle.conf_tree.specs.declared.class.Class.{Class}
 use Rattle.conf_tree.specs.declared.filter.Filter.{Filter}
 use Rattle.conf_tree.specs.declared.interface.Interface.{Interface}
 use Rattle.conf_tree.specs.declared.interface.Kind.{Kind}
-use Rattle.conf_tree.specs.Canonical.{interface_line, class_line, filter_line, canonical_lines}
+use Rattle.conf_tree.specs.Canonical.{interface_line, class_line, filter_line, conditioner_line, canonical_lines}
 use Rattle.conf_tree.specs.Printed.{TextLine}
 
 -- words that say this, numbered from one on
@@ -38,6 +39,9 @@ class_statement line kind interface all c = statement_of_line line (class_line k
 
 abbrev pub filter_statement : ℕ → List ℕ → List Class → Filter → Statement
 filter_statement line interface all f = statement_of_line line (filter_line interface all f)
+
+abbrev pub conditioner_statement : ℕ → List ℕ → List ℕ → MeterRule → Statement
+conditioner_statement line interface class rule = statement_of_line line (conditioner_line interface class rule)
 
 abbrev pub canonical_statements : ℕ → List Interface → List Statement
 canonical_statements line interfaces = statements_from line (canonical_lines interfaces)

@@ -10,8 +10,8 @@ pub fn configurations_fit()
     items_are_sound();
 }
 
-/// In each interface of every text the default class, the class of each filter and each class with `control` hold packets: in
-/// HFSC they are leaves.
+/// In each interface of every text the default class, the class of each filter, each class with `control` and each class with a
+/// conditioner hold packets: in HFSC they are leaves.
 pub fn interfaces_have_queues()
     ensures { InterfacesHaveQueues }
 {

@@ -1,5 +1,5 @@
 //! Worked rows of the configuration.
-ghost use Rattle.conf_laws.specs.Rows.{LinesAre, EndsAre, NamesAre, RangesAre, OrdersAre, LaterAre, FiltersAre, PartsAre, ImpliedAre};
+ghost use Rattle.conf_laws.specs.Rows.{LinesAre, EndsAre, NamesAre, RangesAre, OrdersAre, LaterAre, FiltersAre, PartsAre, ConditionersAre, ImpliedAre};
 
 /// Worked rows, computed from the definitions: first faults with their places and kinds, and canonical texts.
 pub fn worked_rows()
@@ -11,5 +11,6 @@ pub fn worked_rows()
     ensures later { LaterAre }
     ensures filters { FiltersAre }
     ensures parts { PartsAre }
+    ensures conditioners { ConditionersAre }
     ensures implied { ImpliedAre }
 {}

@@ -14,13 +14,13 @@ use Rattle.conf_lines.specs.declared.options.Key.{Key}
 use Rattle.conf_lines.specs.declared.options.Slots.{Slots}
 use Rattle.conf_lines.specs.declared.options.Slots.TheVariants as slots
 use Rattle.conf_lines.specs.declared.part.Part.{Part}
-use Rattle.conf_lines.specs.declared.part.Part.TheVariants.{Must, May, Behind}
+use Rattle.conf_lines.specs.declared.part.Part.TheVariants.{Must, Either, May, Behind}
 use Rattle.conf_lines.specs.declared.part.Slot.{Slot}
 use Rattle.conf_lines.specs.declared.part.Slot.TheVariants as slot
 use Rattle.conf_lines.specs.declared.statement.Form.{Form}
-use Rattle.conf_lines.specs.Grammar.{Place, Step, stands_by, says, reads, as_read, at_parent, filled, behind_option, took, chosen, at_part, is_convex, at_bend, at_slope, at_last_slope, unsettled, step_from, step, end_from, end, start}
-use Rattle.conf_lines.specs.Laws.{says_at, HasNumber, HasCurve, HasMask, HasSlots, IsSound, IsWhole, slot_count, Fills, Ends, Has, AreSound, AreAllSound, AreWhole, HasParts, AreAllWhole}
-use Rattle.conf_lines.specs.Options.{most_rate, most_bend, most_port, word_of_key, slots_of, settles, options_of}
+use Rattle.conf_lines.specs.Grammar.{Place, Step, stands_by, says, leads, reads, as_read, at_parent, filled, behind_option, took, chosen, at_part, is_convex, at_bend, at_slope, at_last_slope, at_pir, unsettled, step_from, step, end_from, end, start}
+use Rattle.conf_lines.specs.Laws.{says_at, HasNumber, HasCurve, HasMask, HasSingle, HasTwo, HasSlots, IsSound, IsWhole, slot_count, Fills, Ends, Has, AreSound, AreAllSound, AreWhole, HasParts, AreAllWhole}
+use Rattle.conf_lines.specs.Options.{most_rate, most_bend, most_port, most_burst, most_af, word_of_key, slots_of, settles, one_of, options_of}
 use Rattle.conf_lines.specs.Parts.{reach, may_end}
 use Rattle.conf_lines.specs.Slots.{is_text, rate_in, whole_in, skipped_in, name_in, protocol_in, mask_in, address_in, address6_in}
 use Rattle.conf_lines.specs.declared.statement.Form.TheVariants as form
@@ -48,11 +48,23 @@ Owed (next.Bend least m1) items =
 Owed (next.LastSlope least m1 d) items =
     (low at bend : ℕ) → low ≤ m1 → m1 ≤ most_rate → d ≤ most_bend
     → HasCurve low least (record { word = at; what = what.Rate m1 } ∷ record { word = bend; what = what.Whole d } ∷ items)
+Owed next.Cir items = HasSingle items
+Owed next.Cbs items = (cir at : ℕ) → 1000 ≤ cir → cir ≤ most_rate → HasSingle (record { word = at; what = what.Rate cir } ∷ items)
+Owed next.Pir items = HasTwo items
+Owed (next.Pbs pir) items = (at : ℕ) → pir ≤ most_rate → HasTwo (record { word = at; what = what.Rate pir } ∷ items)
+Owed (next.CirBelow pir) items =
+    (pbs at second : ℕ) → pir ≤ most_rate → 1 ≤ pbs → pbs ≤ most_burst
+    → HasTwo (record { word = at; what = what.Rate pir } ∷ record { word = second; what = what.Whole pbs } ∷ items)
 Owed _ items = Unit {0}
 
 abbrev pub count : Next → ℕ
 count (next.Slope low least) = 3
 count (next.Bend least m1) = 2
+count next.Cir = 3
+count next.Cbs = 2
+count next.Pir = 4
+count (next.Pbs pir) = 3
+count (next.CirBelow pir) = 2
 count _ = 1
 
 abbrev pub Owes : Next → Place → List Item → Type 0
@@ -112,6 +124,9 @@ filled_goes slot.Port place word owed k =
     (λ n is. (tt, λ items. tt, λ at items. k at _ items is.1))
 filled_goes slot.Protocol place word owed k =
     number_goes owed place what.Whole 0 255 (protocol_in word) (protocol_says word) (λ n is. (tt, λ items. tt, λ at items. k at _ items is.1))
+filled_goes slot.Af place word owed k =
+    number_goes owed place what.Whole 1 most_af (whole_in 1 most_af word) (whole_says 1 most_af word)
+    (λ n is. (tt, λ items. tt, λ at items. k at _ items is))
 
 -- the word of an option
 option_formed : (s : Slots) → IsFormed (behind_option s)
@@ -146,12 +161,28 @@ choice_goes (key ∷ keys) place word owed k = by (find (λ key. is_text (word_o
     by None = refused_cases (GoesIfOk place.form owed) word (λ kind. tt)
     by (Some key) = took_goes owed key place (λ at items has. k _ tt)
 
+-- one of two options
+either_goes : (first second : Key) (place : Place) (word : List ℕ) (owed : List Item → Type 0)
+    → ((at : ℕ) (items : List Item) → HasSlots (slots_of first) items × Has place.form true place.parts (drop (slot_count (slots_of first)) items)
+    → owed (record { word = at; what = what.Key first } ∷ items))
+    → ((at : ℕ) (items : List Item) → HasSlots (slots_of second) items × Has place.form true place.parts (drop (slot_count (slots_of second)) items)
+    → owed (record { word = at; what = what.Key second } ∷ items))
+    → GoesIfOk place.form owed (chosen place word (one_of (first ∷ second ∷ []) word))
+either_goes first second place word owed j k =
+    let Named : Option Key → Type 0 = λ o. GoesIfOk place.form owed (chosen place word o) in
+    pick Named (is_text (word_of_key first) word) _ _ (took_goes owed first place j)
+    (pick Named (is_text (word_of_key second) word) _ _ (took_goes owed second place k)
+    (refused_cases (GoesIfOk place.form owed) word (λ kind. tt)))
+
 -- the parts: what is owed behind an option is owed at it
 parts_go : (word : List ℕ) (place : Place) (stands : Bool) (parts : List Part) (owed : List Item → Type 0)
     → ((items : List Item) → Has place.form stands parts items → owed items) → GoesIfOk place.form owed (at_part (reach stands parts word) place word)
 parts_go word place stands [] owed k = choice_goes (options_of place.form) (record place { parts = [] }) word owed k
 parts_go word place stands (Must slot ∷ parts) owed k =
     filled_goes slot (record place { parts = parts }) word owed (λ at says items fills has. k (record { word = at; what = says } ∷ items) (fills, has))
+parts_go word place stands (Either first second ∷ parts) owed k =
+    either_goes first second (record place { parts = parts }) word owed
+    (λ at items has. k _ (inl (refl, has.0, has.1))) (λ at items has. k _ (inr (refl, has.0, has.1)))
 parts_go word place stands (May key ∷ parts) owed k =
     pick (λ left. GoesIfOk place.form owed (at_part left place word)) (is_text (word_of_key key) word) _ _
     (took_goes owed key (record place { parts = parts }) (λ at items has. k _ (inl (refl, has.0, has.1))))
@@ -207,6 +238,73 @@ has_number : (as_what : ℕ → What) (low high at n : ℕ) (items : List Item) 
     → HasNumber as_what low high (record { word = at; what = as_what n } ∷ items)
 has_number as_what low high at n items is = record { number = n; says = refl; least = is.0; most = is.1 }
 
+-- a meter: a number, and what is next behind it
+abbrev Led : (ℕ → What) → Next → Place → (ℕ → Type 0) → (List Item → Type 0) → Type 0
+Led as_what next place Is owed =
+    (n at : ℕ) (items : List Item) → Is n → Owes next (record place { next = next; stands = stands_by (as_what n) }) items
+    → owed (record { word = at; what = as_what n } ∷ items)
+
+rate_leads : (owed : List Item → Type 0) (place : Place) (next : Next) (high : ℕ) (word : List ℕ) → IsFormed next
+    → Led what.Rate next place (IsFrom 1000 high) owed → GoesIfOk place.form owed (leads (as_read what.Rate (rate_in 1000 high word)) place next)
+rate_leads owed place next high word f k = by (rate_in 1000 high word) (rate_says 1000 high word)
+  where
+    by : (r : Result ℕ ConfKind) → IfOk r (IsFrom 1000 high) → GoesIfOk place.form owed (leads (as_read what.Rate r) place next)
+    by (Ok n) is = record { of = refl; formed = f; sound = tt; whole = λ items h. tt; owes = λ at items h. k n at items is h }
+    by (Err kind) is = tt
+
+burst_leads : (owed : List Item → Type 0) (place : Place) (next : Next) (word : List ℕ) → IsFormed next
+    → Led what.Whole next place (IsFrom 1 most_burst) owed → GoesIfOk place.form owed (leads (as_read what.Whole (whole_in 1 most_burst word)) place next)
+burst_leads owed place next word f k = by (whole_in 1 most_burst word) (whole_says 1 most_burst word)
+  where
+    by : (r : Result ℕ ConfKind) → IfOk r (IsFrom 1 most_burst) → GoesIfOk place.form owed (leads (as_read what.Whole r) place next)
+    by (Ok n) is = record { of = refl; formed = f; sound = tt; whole = λ items h. tt; owes = λ at items h. k n at items is h }
+    by (Err kind) is = tt
+
+pir_goes : (place : Place) (r : Result ℕ ConfKind) → IfOk r (IsFrom 1000 most_rate) → GoesIfOk place.form (Owes next.Pir place) (at_pir r place)
+pir_goes place (Ok pir) is =
+    record { of = refl; formed = tt; sound = tt; whole = λ items h. tt; owes = λ at items h. (h.0 at is.1, h.1) }
+pir_goes place (Err kind) is = tt
+
+cbs_leads : (place : Place) → Led what.Whole (next.Whole 0 most_burst) place (IsFrom 1 most_burst) (Owes next.Cbs place)
+cbs_leads place cbs burst items is h = (
+  λ cir at least most. record {
+    cir = cir;
+    cbs = cbs;
+    ebs = h.0.number;
+    rate = refl;
+    burst = refl;
+    excess = h.0.says;
+    rate_least = least;
+    rate_most = most;
+    burst_least = is.0;
+    burst_most = is.1;
+    excess_most = h.0.most;
+  },
+  h.1,
+)
+
+cir_leads : (pir : ℕ) (place : Place) → Led what.Rate (next.Whole 1 most_burst) place (IsFrom 1000 pir) (Owes (next.CirBelow pir) place)
+cir_leads pir place cir rate items is h = (
+  λ pbs at second most least burst_most. record {
+    pir = pir;
+    pbs = pbs;
+    cir = cir;
+    cbs = h.0.number;
+    peak = refl;
+    peak_burst = refl;
+    rate = refl;
+    burst = h.0.says;
+    peak_most = most;
+    peak_burst_least = least;
+    peak_burst_most = burst_most;
+    rate_least = is.0;
+    rate_most = is.1;
+    burst_least = h.0.least;
+    burst_most = h.0.most;
+  },
+  h.1,
+)
+
 from_goes : (at : Next) (place : Place) (word : List ℕ) → IsFormed at → GoesIfOk place.form (Owes at place) (step_from at place word)
 from_goes next.Statement place word f = absurd f
 from_goes next.Discipline place word f = absurd f
@@ -227,6 +325,12 @@ from_goes next.Mask place word f =
 from_goes (next.Slope low least) place word f = slope_goes low least place (rate_in low most_rate word) (rate_says low most_rate word)
 from_goes (next.Bend least m1) place word f = bend_goes least m1 place (whole_in 0 most_bend word) (whole_says 0 most_bend word)
 from_goes (next.LastSlope least m1 d) place word f = second_goes least m1 d place (rate_in least most_rate word) (rate_says least most_rate word)
+from_goes next.Cir place word f = rate_leads (Owes next.Cir place) place next.Cbs most_rate word tt (λ cir at items is h. (h.0 cir at is.0 is.1, h.1))
+from_goes next.Cbs place word f = burst_leads (Owes next.Cbs place) place (next.Whole 0 most_burst) word tt (cbs_leads place)
+from_goes next.Pir place word f = pir_goes place (rate_in 1000 most_rate word) (rate_says 1000 most_rate word)
+from_goes (next.Pbs pir) place word f =
+    burst_leads (Owes (next.Pbs pir) place) place (next.CirBelow pir) word tt (λ pbs second items is h. (λ at most. h.0 pbs at second most is.0 is.1, h.1))
+from_goes (next.CirBelow pir) place word f = rate_leads (Owes (next.CirBelow pir) place) place (next.Whole 1 most_burst) pir word tt (cir_leads pir place)
 
 pub goes : (place : Place) (word : List ℕ) → IsFormed place.next → GoesIfOk place.form (Owes place.next place) (step place word)
 unfolding step
@@ -240,6 +344,7 @@ nothing_ends (key ∷ keys) = tt
 nothing_left : (form : Form) (stands : Bool) (parts : List Part) → may_end parts ≡ true → Has form stands parts []
 nothing_left form stands [] e = nothing_ends (options_of form)
 nothing_left form stands (Must slot ∷ parts) e = cc
+nothing_left form stands (Either first second ∷ parts) e = cc
 nothing_left form stands (May key ∷ parts) e = inr (nothing_left form false parts e)
 nothing_left form true (Behind key ∷ parts) e = inr (nothing_left form false parts e)
 nothing_left form false (Behind key ∷ parts) e = nothing_left form false parts e
@@ -312,6 +417,7 @@ unfolding step
 line_good line word words =
     statement_cases (λ r. IsGoodLine (past line words start 1 r)) word (λ kind. (tt, λ e. cc))
     (begun_good line words form.Interface 2) (class_good line words) (begun_good line words form.Filter 2) (begun_good line words form.Filter6 2)
+    (begun_good line words form.Conditioner 2)
 
 -- the statements of a text
 abbrev IsGoodStatement : Statement → Type 0

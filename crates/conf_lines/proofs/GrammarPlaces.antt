@@ -5,7 +5,7 @@ use Rattle.conf_lines.specs.declared.grammar.Next.TheVariants as next
 use Rattle.conf_lines.specs.declared.part.Part.{Part}
 use Rattle.conf_lines.specs.declared.statement.Form.{Form}
 use Rattle.conf_lines.specs.declared.statement.Form.TheVariants as form
-use Rattle.conf_lines.specs.Grammar.{Place, is_filter}
+use Rattle.conf_lines.specs.Grammar.{Place, has_parts_alone}
 use Rattle.conf_lines.specs.Parts.{parts_of}
 
 -- a place by its next word and the parts that may still come
@@ -22,4 +22,4 @@ at_discipline_word = spot next.Discipline (parts_of form.Unread) form.Unread fal
 
 -- behind the words that say which statement it is
 abbrev pub at_interface_name : Form → Place
-at_interface_name form = spot next.Part (parts_of form) form (is_filter form)
+at_interface_name form = spot next.Part (parts_of form) form (has_parts_alone form)

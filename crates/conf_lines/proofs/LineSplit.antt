@@ -177,6 +177,7 @@ lines_agree line (word ∷ words) more other =
     (λ kind. refused_agree m line (words ++ more) (words ++ other) start 1 kind refl)
     (begun_agree m line words more other form.Interface (omega arith)) (class_agree m line words more other (omega arith))
     (begun_agree m line words more other form.Filter (omega arith)) (begun_agree m line words more other form.Filter6 (omega arith))
+    (begun_agree m line words more other form.Conditioner (omega arith))
 
 -- THE FAULT STANDS AT ITS WORD: of two readings that agree, one that has a fault among the words that they share is the other
 no_late : (m : ℕ) (o : Option ConfPlace) (fault : ConfPlace) → o ≡ Some fault → IsLate m o → m ≤ fault.word

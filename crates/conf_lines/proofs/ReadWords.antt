@@ -177,13 +177,14 @@ module _ (P : Result Step ConfKind → Type 0) (word : List ℕ) (fault : (kind 
   refused_cases = pick P (are_plain word) (Err UnknownWord) (Err BadByte) (fault UnknownWord) (fault BadByte)
 
   pub statement_cases : P (begins form.Interface next.Part) → P (begins form.Unread next.Discipline) → P (begins form.Filter next.Part)
-      → P (begins form.Filter6 next.Part) → P (at_statement word)
+      → P (begins form.Filter6 next.Part) → P (begins form.Conditioner next.Part) → P (at_statement word)
   unfolding at_statement
-  statement_cases interface class filter filter6 =
+  statement_cases interface class filter filter6 conditioner =
       pick P (is_text (codes "interface") word) _ _ interface
       (pick P (is_text (codes "class") word) _ _ class
       (pick P (is_text (codes "filter") word) _ _ filter
-      (pick P (is_text (codes "filter6") word) _ _ filter6 refused_cases)))
+      (pick P (is_text (codes "filter6") word) _ _ filter6
+      (pick P (is_text (codes "conditioner") word) _ _ conditioner refused_cases))))
 
   pub discipline_cases : P (begins form.ClassHfsc next.Part) → P (begins form.ClassCbq next.Part) → P (at_discipline word)
   unfolding at_discipline

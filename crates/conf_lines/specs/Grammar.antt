@@ -14,12 +14,12 @@ use Rattle.conf_lines.specs.declared.options.Key.{Key}
 use Rattle.conf_lines.specs.declared.options.Slots.{Slots}
 use Rattle.conf_lines.specs.declared.options.Slots.TheVariants as slots
 use Rattle.conf_lines.specs.declared.part.Part.{Part}
-use Rattle.conf_lines.specs.declared.part.Part.TheVariants.{Must, May, Behind}
+use Rattle.conf_lines.specs.declared.part.Part.TheVariants.{Must, Either, May, Behind}
 use Rattle.conf_lines.specs.declared.part.Slot.{Slot}
 use Rattle.conf_lines.specs.declared.part.Slot.TheVariants as slot
 use Rattle.conf_lines.specs.declared.statement.Form.{Form}
 use Rattle.conf_lines.specs.declared.statement.Form.TheVariants as form
-use Rattle.conf_lines.specs.Options.{most_rate, most_bend, most_port, slots_of, settles, option_of}
+use Rattle.conf_lines.specs.Options.{most_rate, most_bend, most_port, most_burst, most_af, slots_of, settles, one_of, option_of}
 use Rattle.conf_lines.specs.Parts.{parts_of, reach, may_end}
 use Rattle.conf_lines.specs.Slots.{is_text, are_plain, rate_in, whole_in, skipped_in, name_in, protocol_in, mask_in, address_in, address6_in}
 use Rattle.conf_lines.specs.declared.fault.ConfKind.TheVariants.{UnknownWord, MissingWord, BadByte, ConvexFirst, NoShare}
@@ -46,10 +46,13 @@ stands_by _ = true
 abbrev pub says : What → Place → Next → Result Step ConfKind
 says what place next = Ok (record { what = Some what; after = record place { next = next; stands = stands_by what } })
 
--- a read word, and then a part is next
+-- a read word, and what is next behind it: a part, or another
+abbrev pub leads : Result What ConfKind → Place → Next → Result Step ConfKind
+leads (Ok what) place next = says what place next
+leads (Err kind) place next = Err kind
+
 abbrev pub reads : Result What ConfKind → Place → Result Step ConfKind
-reads (Ok what) place = says what place next.Part
-reads (Err kind) place = Err kind
+reads read place = leads read place next.Part
 
 -- a read number as what it says
 abbrev pub as_read : (ℕ → What) → Result ℕ ConfKind → Result What ConfKind
@@ -60,23 +63,25 @@ as_read as_what (Err kind) = Err kind
 abbrev pub refused : List ℕ → Result Step ConfKind
 refused word = if are_plain word then Err UnknownWord else Err BadByte
 
--- a word of this form only says which statement it is; a filter has nothing to have besides its parts
-abbrev pub is_filter : Form → Bool
-is_filter form.Filter = true
-is_filter form.Filter6 = true
-is_filter _ = false
+-- a word of this form only says which statement it is; a filter and a conditioner have nothing to have besides their parts
+abbrev pub has_parts_alone : Form → Bool
+has_parts_alone form.Filter = true
+has_parts_alone form.Filter6 = true
+has_parts_alone form.Conditioner = true
+has_parts_alone _ = false
 
 abbrev pub begins : Form → Next → Result Step ConfKind
 begins form next =
-    Ok (record { what = None; after = record { form = form; next = next; parts = parts_of form; stands = true; settled = is_filter form } })
+    Ok (record { what = None; after = record { form = form; next = next; parts = parts_of form; stands = true; settled = has_parts_alone form } })
 
--- the first word: interface, class, filter or filter6
+-- the first word: interface, class, filter, filter6 or conditioner
 unfoldable pub at_statement : List ℕ → Result Step ConfKind
 at_statement word =
     if is_text (codes "interface") word then begins form.Interface next.Part
     else if is_text (codes "class") word then begins form.Unread next.Discipline
     else if is_text (codes "filter") word then begins form.Filter next.Part
     else if is_text (codes "filter6") word then begins form.Filter6 next.Part
+    else if is_text (codes "conditioner") word then begins form.Conditioner next.Part
     else refused word
 
 -- behind class: hfsc or cbq
@@ -98,6 +103,7 @@ filled slot.Address place word = reads (address_in word) place
 filled slot.Address6 place word = reads (address6_in word) place
 filled slot.Port place word = reads (as_read what.Whole (whole_in 0 most_port word)) place
 filled slot.Protocol place word = reads (as_read what.Whole (protocol_in word)) place
+filled slot.Af place word = reads (as_read what.Whole (whole_in 1 most_af word)) place
 
 -- the word of an option, and what is next behind it
 abbrev pub behind_option : Slots → Next
@@ -107,6 +113,8 @@ behind_option (slots.Rate low high) = next.Rate low high
 behind_option (slots.Whole low high) = next.Whole low high
 behind_option (slots.Curve low least) = next.Slope low least
 behind_option slots.Mask = next.Mask
+behind_option slots.Single = next.Cir
+behind_option slots.Two = next.Pir
 
 abbrev pub took : Key → Place → Result Step ConfKind
 took key place = says (what.Key key) (record place { settled = place.settled || settles key }) (behind_option (slots_of key))
@@ -120,6 +128,7 @@ chosen place word (Some key) = took key place
 abbrev pub at_part : List Part → Place → List ℕ → Result Step ConfKind
 at_part [] place word = chosen (record place { parts = [] }) word (option_of place.form word)
 at_part (Must slot ∷ parts) place word = filled slot (record place { parts = parts }) word
+at_part (Either first second ∷ parts) place word = chosen (record place { parts = parts }) word (one_of (first ∷ second ∷ []) word)
 at_part (May key ∷ parts) place word = took key (record place { parts = parts })
 at_part (Behind key ∷ parts) place word = took key (record place { parts = parts })
 
@@ -140,6 +149,12 @@ abbrev pub at_last_slope : ℕ → ℕ → Result ℕ ConfKind → Place → Res
 at_last_slope m1 d (Ok m2) place = if is_convex m1 d m2 then Err ConvexFirst else says (what.Rate m2) place next.Part
 at_last_slope m1 d (Err kind) place = Err kind
 
+-- A meter of one rate: RATE WHOLE WHOLE are its rate, its burst and its excess burst. One of two rates: RATE WHOLE RATE WHOLE are its
+-- peak rate, the burst of that, its committed rate, which is at most the peak rate, and the burst of this.
+abbrev pub at_pir : Result ℕ ConfKind → Place → Result Step ConfKind
+at_pir (Ok pir) place = says (what.Rate pir) place (next.Pbs pir)
+at_pir (Err kind) place = Err kind
+
 -- what a word leads to from a place
 abbrev pub step_from : Next → Place → List ℕ → Result Step ConfKind
 step_from next.Statement place word = at_statement word
@@ -152,6 +167,11 @@ step_from next.Mask place word = reads (mask_in word) place
 step_from (next.Slope low least) place word = at_slope least (rate_in low most_rate word) place
 step_from (next.Bend least m1) place word = at_bend least (whole_in 0 most_bend word) place m1
 step_from (next.LastSlope least m1 d) place word = at_last_slope m1 d (rate_in least most_rate word) place
+step_from next.Cir place word = leads (as_read what.Rate (rate_in 1000 most_rate word)) place next.Cbs
+step_from next.Cbs place word = leads (as_read what.Whole (whole_in 1 most_burst word)) place (next.Whole 0 most_burst)
+step_from next.Pir place word = at_pir (rate_in 1000 most_rate word) place
+step_from (next.Pbs pir) place word = leads (as_read what.Whole (whole_in 1 most_burst word)) place (next.CirBelow pir)
+step_from (next.CirBelow pir) place word = leads (as_read what.Rate (rate_in 1000 pir word)) place (next.Whole 1 most_burst)
 
 unfoldable pub step : Place → List ℕ → Result Step ConfKind
 step place word = step_from place.next place word

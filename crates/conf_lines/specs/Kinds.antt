@@ -1,7 +1,7 @@
 -- The kinds of faults of a configuration: the number of each, by which a status tells it, and its name, by which a message does.
 use Rattle.std.specs.Prelude.{ℕ, List, codes}
 use Rattle.conf_lines.specs.declared.fault.ConfKind.{ConfKind}
-use Rattle.conf_lines.specs.declared.fault.ConfKind.TheVariants.{UnknownWord, MissingWord, BadNumber, RateRange, BadAddress, BadByte, TooLong, InterfaceTwice, NoInterface, WrongDiscipline, NameTaken, NoParent, TwoRoots, TooDeep, TooManyClasses, TooManyFilters, TooManyInterfaces, ConvexFirst, NoShare, RealTimeInside, InnerQueue, TwoDefaults, NoDefault, NoClass}
+use Rattle.conf_lines.specs.declared.fault.ConfKind.TheVariants.{UnknownWord, MissingWord, BadNumber, RateRange, BadAddress, BadByte, TooLong, InterfaceTwice, NoInterface, WrongDiscipline, NameTaken, NoParent, TwoRoots, TooDeep, TooManyClasses, TooManyFilters, TooManyInterfaces, ConvexFirst, NoShare, RealTimeInside, InnerQueue, TwoDefaults, NoDefault, NoClass, ConditionerTwice}
 
 abbrev pub kind_number : ConfKind → ℕ
 kind_number UnknownWord = 1
@@ -28,6 +28,7 @@ kind_number InnerQueue = 21
 kind_number TwoDefaults = 22
 kind_number NoDefault = 23
 kind_number NoClass = 24
+kind_number ConditionerTwice = 25
 
 abbrev pub kind_name : ConfKind → List ℕ
 kind_name UnknownWord = codes "UnknownWord"
@@ -54,3 +55,4 @@ kind_name InnerQueue = codes "InnerQueue"
 kind_name TwoDefaults = codes "TwoDefaults"
 kind_name NoDefault = codes "NoDefault"
 kind_name NoClass = codes "NoClass"
+kind_name ConditionerTwice = codes "ConditionerTwice"

@@ -1,5 +1,5 @@
 -- What the items of the statements of every text keep to, after altq.conf(5): each has its form, and in a statement without a
--- fault each option has behind it what the table of options says, and each name and each part of a filter is there.
+-- fault each option has behind it what the table of options says, and each name and each part of a filter or a conditioner is there.
 use Rattle.std.specs.Prelude.{◌≡◌, ◌⊎◌, ◌<◌, ◌≤◌, ℕ, Bool, true, false, List, [], ◌∷◌, ◌++◌, length, drop, All, Option, Some, None, option_map, slice_get}
 use Rattle.conf_lines.specs.declared.fault.ConfPlace.{ConfPlace}
 use Rattle.conf_lines.specs.declared.item.Item.{Item}
@@ -9,13 +9,13 @@ use Rattle.conf_lines.specs.declared.options.Key.{Key}
 use Rattle.conf_lines.specs.declared.options.Slots.{Slots}
 use Rattle.conf_lines.specs.declared.options.Slots.TheVariants as slots
 use Rattle.conf_lines.specs.declared.part.Part.{Part}
-use Rattle.conf_lines.specs.declared.part.Part.TheVariants.{Must, May, Behind}
+use Rattle.conf_lines.specs.declared.part.Part.TheVariants.{Must, Either, May, Behind}
 use Rattle.conf_lines.specs.declared.part.Slot.{Slot}
 use Rattle.conf_lines.specs.declared.part.Slot.TheVariants as slot
 use Rattle.conf_lines.specs.declared.statement.Form.{Form}
 use Rattle.conf_lines.specs.declared.statement.Statement.{Statement}
 use Rattle.conf_lines.specs.Grammar.{stands_by, is_convex, start}
-use Rattle.conf_lines.specs.Options.{most_rate, most_bend, most_port, most_protocol, slots_of, options_of}
+use Rattle.conf_lines.specs.Options.{most_rate, most_bend, most_port, most_protocol, most_burst, most_af, slots_of, options_of}
 use Rattle.conf_lines.specs.Parts.{parts_of}
 use Rattle.line_text.specs.Names.{is_name}
 use Rattle.conf_lines.specs.Texts.{read_from, statements_of}
@@ -74,6 +74,38 @@ pub record HasMask (items : List Item) : Type 0 where
   pub mask : List ℕ
   pub says : says_at 0 items ≡ Some (what.Ip4 mask)
 
+-- a meter of one rate does: its rate, its burst and its excess burst
+pub record HasSingle (items : List Item) : Type 0 where
+  pub cir : ℕ
+  pub cbs : ℕ
+  pub ebs : ℕ
+  pub rate : says_at 0 items ≡ Some (what.Rate cir)
+  pub burst : says_at 1 items ≡ Some (what.Whole cbs)
+  pub excess : says_at 2 items ≡ Some (what.Whole ebs)
+  pub rate_least : 1000 ≤ cir
+  pub rate_most : cir ≤ most_rate
+  pub burst_least : 1 ≤ cbs
+  pub burst_most : cbs ≤ most_burst
+  pub excess_most : ebs ≤ most_burst
+
+-- a meter of two rates does: its peak rate and burst, and its committed rate and burst
+pub record HasTwo (items : List Item) : Type 0 where
+  pub pir : ℕ
+  pub pbs : ℕ
+  pub cir : ℕ
+  pub cbs : ℕ
+  pub peak : says_at 0 items ≡ Some (what.Rate pir)
+  pub peak_burst : says_at 1 items ≡ Some (what.Whole pbs)
+  pub rate : says_at 2 items ≡ Some (what.Rate cir)
+  pub burst : says_at 3 items ≡ Some (what.Whole cbs)
+  pub peak_most : pir ≤ most_rate
+  pub peak_burst_least : 1 ≤ pbs
+  pub peak_burst_most : pbs ≤ most_burst
+  pub rate_least : 1000 ≤ cir
+  pub rate_most : cir ≤ pir
+  pub burst_least : 1 ≤ cbs
+  pub burst_most : cbs ≤ most_burst
+
 -- what an option asks for stands first
 abbrev pub HasSlots : Slots → List Item → Type 0
 HasSlots slots.Nothing items = Unit {0}
@@ -82,6 +114,8 @@ HasSlots (slots.Rate low high) items = HasNumber what.Rate low high items
 HasSlots (slots.Whole low high) items = HasNumber what.Whole low high items
 HasSlots (slots.Curve low least) items = HasCurve low least items
 HasSlots slots.Mask items = HasMask items
+HasSlots slots.Single items = HasSingle items
+HasSlots slots.Two items = HasTwo items
 
 -- each option has it
 abbrev pub IsWhole : What → List Item → Type 0
@@ -102,12 +136,15 @@ Fills slot.Address6 what.Any = Unit {0}
 Fills slot.Address6 (what.Ip6 address bits) = Unit {0}
 Fills slot.Port (what.Whole n) = n ≤ most_port
 Fills slot.Protocol (what.Whole n) = n ≤ most_protocol
+Fills slot.Af (what.Whole n) = (1 ≤ n) × (n ≤ most_af)
 Fills _ _ = ⊥
 
 -- an option with what it asks for, and behind that the rest
 abbrev pub slot_count : Slots → ℕ
 slot_count slots.Nothing = 0
 slot_count (slots.Curve low least) = 3
+slot_count slots.Single = 3
+slot_count slots.Two = 4
 slot_count _ = 1
 
 abbrev pub HasOption : Key → (List Item → Type 0) → List Item → Type 0
@@ -124,6 +161,7 @@ abbrev pub Has : Form → Bool → List Part → List Item → Type 0
 Has form stands [] items = Ends (options_of form) items
 Has form stands (Must slot ∷ parts) [] = ⊥
 Has form stands (Must slot ∷ parts) (item ∷ items) = Fills slot item.what × Has form (stands_by item.what) parts items
+Has form stands (Either first second ∷ parts) items = HasOption first (Has form true parts) items ⊎ HasOption second (Has form true parts) items
 Has form stands (May key ∷ parts) items = HasOption key (Has form true parts) items ⊎ Has form false parts items
 Has form true (Behind key ∷ parts) items = HasOption key (Has form true parts) items ⊎ Has form false parts items
 Has form false (Behind key ∷ parts) items = Has form false parts items

@@ -4,7 +4,7 @@ use Rattle.std.specs.Prelude.{ℕ, ◌-◌, ◌^◌, Bool, true, false, List, []
 use Rattle.conf_lines.specs.declared.options.Key.{Key}
 use Rattle.conf_lines.specs.declared.options.Key.TheVariants as key
 use Rattle.conf_lines.specs.declared.options.Slots.{Slots}
-use Rattle.conf_lines.specs.declared.options.Slots.TheVariants.{Nothing, Word, Rate, Whole, Curve, Mask}
+use Rattle.conf_lines.specs.declared.options.Slots.TheVariants.{Nothing, Word, Rate, Whole, Curve, Mask, Single, Two}
 use Rattle.conf_lines.specs.declared.statement.Form.{Form}
 use Rattle.conf_lines.specs.declared.statement.Form.TheVariants as form
 use Rattle.conf_lines.specs.Slots.{is_text}
@@ -29,6 +29,13 @@ most_protocol = 255
 abbrev pub most_tos : ℕ
 most_tos = 255
 
+-- the greatest burst of a conditioner, in bytes, and its greatest class of assured forwarding
+abbrev pub most_burst : ℕ
+most_burst = 2 ^ 30
+
+abbrev pub most_af : ℕ
+most_af = 4
+
 -- one option
 pub record Row : Type 0 where
   pub word : List ℕ
@@ -39,7 +46,7 @@ abbrev pub row : List ℕ → Slots → Bool → Row
 row word slots settles = record { word = word; slots = slots; settles = settles }
 
 -- THE TABLE: RATE and WHOLE with their least and greatest numbers; a curve, RATE WHOLE RATE, with the least of its first and of
--- its second slope
+-- its second slope; a meter of one rate, RATE WHOLE WHOLE, and one of two, RATE WHOLE RATE WHOLE
 abbrev pub row_of : Key → Row
 -- of an interface
 row_of key.Bandwidth = row (codes "bandwidth") (Rate 1000 most_rate) false
@@ -79,6 +86,9 @@ row_of key.Tos = row (codes "tos") (Whole 0 most_tos) false
 row_of key.Tosmask = row (codes "tosmask") (Whole 0 most_tos) false
 row_of key.Tclass = row (codes "tclass") (Whole 0 most_tos) false
 row_of key.Tclassmask = row (codes "tclassmask") (Whole 0 most_tos) false
+-- of a conditioner
+row_of key.Srtcm = row (codes "srtcm") Single false
+row_of key.Trtcm = row (codes "trtcm") Two false
 
 abbrev pub word_of_key : Key → List ℕ
 word_of_key key = (row_of key).word
@@ -89,7 +99,7 @@ slots_of key = (row_of key).slots
 abbrev pub settles : Key → Bool
 settles key = (row_of key).settles
 
--- the options of a statement, in any order; a filter has its parts in one order
+-- the options of a statement, in any order; a filter and a conditioner have their parts in one order
 abbrev pub class_options : List Key
 class_options = key.Qlimit ∷ key.Red ∷ key.Ecn ∷ key.Rio ∷ key.Cleardscp ∷ key.Admission ∷ key.Default ∷ []
 
@@ -100,6 +110,9 @@ options_of form.ClassCbq =
     key.Priority ∷ key.Pbandwidth ∷ key.Exactbandwidth ∷ key.Borrow ∷ key.Control ∷ key.Maxburst ∷ key.Packetsize ∷ class_options
 options_of _ = []
 
--- the option that a word names
+-- the option that a word names, of these, and of a statement
+abbrev pub one_of : List Key → List ℕ → Option Key
+one_of keys word = find (λ key. is_text (word_of_key key) word) keys
+
 abbrev pub option_of : Form → List ℕ → Option Key
-option_of form word = find (λ key. is_text (word_of_key key) word) (options_of form)
+option_of form word = one_of (options_of form) word

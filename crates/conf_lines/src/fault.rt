@@ -21,7 +21,7 @@ pub enum ConfKind {
     TooLong,
     /// `interface` names an interface a second time.
     InterfaceTwice,
-    /// A class or a filter names an interface that does not stand earlier, or the interface asked for is absent.
+    /// A class, a filter or a conditioner names an interface that does not stand earlier, or the interface asked for is absent.
     NoInterface,
     /// `class hfsc` names a `cbq` interface, or the reverse.
     WrongDiscipline,
@@ -45,18 +45,20 @@ pub enum ConfKind {
     NoShare,
     /// A class that is named as a parent has a real-time curve that `rt` or `grate` set last.
     RealTimeInside,
-    /// On an HFSC interface a parent would hold packets, or a filter names a parent.
+    /// On an HFSC interface a parent would hold packets or have a conditioner, or a filter or a conditioner names a parent.
     InnerQueue,
     /// A second `default` on an interface.
     TwoDefaults,
     /// An interface has classes and no default.
     NoDefault,
-    /// A filter names no earlier class of its interface.
+    /// A filter or a conditioner names no earlier class of its interface.
     NoClass,
+    /// A conditioner names a class that has one already.
+    ConditionerTwice,
 }
 
 impl ConfKind {
-    /// The kind's number, from 1 to 24, as a status gives it.
+    /// The kind's number, from 1 to 25, as a status gives it.
     pub fn number(self) -> u8
         ensures { result ≡ kind_number self }
     {
@@ -92,6 +94,7 @@ impl ConfKind {
             ConfKind::TwoDefaults => "TwoDefaults",
             ConfKind::NoDefault => "NoDefault",
             ConfKind::NoClass => "NoClass",
+            ConfKind::ConditionerTwice => "ConditionerTwice",
         }
     }
 }

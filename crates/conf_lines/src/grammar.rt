@@ -28,6 +28,16 @@ pub(crate) enum Next {
     Bend(u64, u64),
     /// Its second slope, behind its first slope and the time of its bend.
     LastSlope(u64, u64, u64),
+    /// The rate of a meter of one rate, which its two bursts follow.
+    Cir,
+    /// Its burst, behind its rate.
+    Cbs,
+    /// The peak rate of a meter of two rates.
+    Pir,
+    /// The burst of that, behind the peak rate.
+    Pbs(u64),
+    /// The committed rate, which is at most the peak rate.
+    CirBelow(u64),
 }
 
 /// A state of the parser of a statement.

@@ -8,7 +8,7 @@ pub fn items_are_sound()
 {}
 
 /// In a statement without a fault each option has behind it what the table of options says: its number in its range, its
-/// curve, its mask or its word. Its names are there, and each part of a filter in its order, with its number in its range.
+/// curve, its mask or its word. Its names are there, and each part of a filter or a conditioner in its order, with its number in its range.
 pub fn options_are_whole()
     ensures { OptionsAreWhole }
 {}

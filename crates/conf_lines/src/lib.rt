@@ -16,6 +16,7 @@ pub use fault::{ConfFault, ConfKind, ConfPlace};
 pub use item::{Item, Items, Text, What};
 pub use laws::{items_are_sound, line_faults_stand, options_are_whole};
 pub use options::{
-    Key, MOST_BEND, MOST_PORT, MOST_PROTOCOL, MOST_RATE, MOST_RULENO, MOST_TOS, Slots,
+    Key, MOST_AF, MOST_BEND, MOST_BURST, MOST_PORT, MOST_PROTOCOL, MOST_RATE, MOST_RULENO,
+    MOST_TOS, Slots,
 };
 pub use statement::{Form, Statement, statements};

@@ -1,6 +1,6 @@
 //! The options of the statements, as one table.
-ghost use Rattle.std.specs.Prelude.{◌≡◌};
-ghost use Rattle.conf_lines.specs.Options.{most_rate, most_bend, most_ruleno, most_port, most_protocol, most_tos, word_of_key, slots_of, settles, options_of, option_of};
+ghost use Rattle.std.specs.Prelude.{◌≡◌, ◌∷◌, []};
+ghost use Rattle.conf_lines.specs.Options.{most_rate, most_bend, most_ruleno, most_port, most_protocol, most_tos, most_burst, most_af, word_of_key, slots_of, settles, options_of, one_of, option_of};
 
 use crate::slot::is_text;
 use crate::statement::Form;
@@ -23,6 +23,12 @@ pub const MOST_PROTOCOL: u64 = 255;
 /// The greatest type of service or traffic class, and mask of one.
 pub const MOST_TOS: u64 = 255;
 
+/// The greatest burst of a conditioner, in bytes.
+pub const MOST_BURST: u64 = 1_073_741_824;
+
+/// The greatest class of assured forwarding.
+pub const MOST_AF: u64 = 4;
+
 /// What stands behind the word of an option.
 #[derive(Clone, Copy, Debug, PartialEq, Eq)]
 pub enum Slots {
@@ -38,6 +44,10 @@ pub enum Slots {
     Curve(u64, u64),
     /// A mask of an IPv4 address.
     Mask,
+    /// A meter of one rate, RATE WHOLE WHOLE: its rate, its burst and its excess burst.
+    Single,
+    /// A meter of two rates, RATE WHOLE RATE WHOLE: its peak rate and burst, and its committed rate and burst.
+    Two,
 }
 
 /// The words of options, one for each word of altq.conf(5) that this profile reads.
@@ -76,6 +86,8 @@ pub enum Key {
     Tosmask,
     Tclass,
     Tclassmask,
+    Srtcm,
+    Trtcm,
 }
 
 impl Key {
@@ -117,6 +129,8 @@ impl Key {
             Key::Tosmask => "tosmask",
             Key::Tclass => "tclass",
             Key::Tclassmask => "tclassmask",
+            Key::Srtcm => "srtcm",
+            Key::Trtcm => "trtcm",
         }
     }
 
@@ -140,6 +154,8 @@ impl Key {
             Key::Ruleno => Slots::Whole(0, MOST_RULENO),
             Key::Netmask => Slots::Mask,
             Key::Tos | Key::Tosmask | Key::Tclass | Key::Tclassmask => Slots::Whole(0, MOST_TOS),
+            Key::Srtcm => Slots::Single,
+            Key::Trtcm => Slots::Two,
             _ => Slots::Nothing,
         }
     }
@@ -219,4 +235,17 @@ pub(crate) fn option_of(form: Form, word: &[u8]) -> Option<Key>
         }
     }
     None
+}
+
+/// Which of two options a word names.
+pub(crate) fn one_of(first: Key, second: Key, word: &[u8]) -> Option<Key>
+    ensures { result ≡ one_of (first ∷ second ∷ []) word.now }
+{
+    if is_text(first.word(), word) {
+        Some(first)
+    } else if is_text(second.word(), word) {
+        Some(second)
+    } else {
+        None
+    }
 }

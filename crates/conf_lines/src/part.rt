@@ -21,6 +21,8 @@ pub(crate) enum Slot {
     Port,
     /// A protocol.
     Protocol,
+    /// A class of assured forwarding.
+    Af,
 }
 
 /// A part of a statement.
@@ -28,6 +30,8 @@ pub(crate) enum Slot {
 pub(crate) enum Part {
     /// A word that is always there.
     Must(Slot),
+    /// One of two options, which is always there.
+    Either(Key, Key),
     /// An option.
     May(Key),
     /// An option that may stand only where the part before it does and is not the address `0`.
@@ -73,6 +77,12 @@ pub(crate) fn parts_of(form: Form) -> &'static [Part]
             Part::May(Key::Tclass),
             Part::Behind(Key::Tclassmask),
         ],
+        Form::Conditioner => &[
+            Part::Must(Slot::Name),
+            Part::Must(Slot::Name),
+            Part::Either(Key::Srtcm, Key::Trtcm),
+            Part::Must(Slot::Af),
+        ],
     }
 }
 
@@ -81,7 +91,7 @@ fn takes(stands: bool, part: Part, word: &[u8]) -> bool
     ensures { result ≡ takes stands part word.now }
 {
     match part {
-        Part::Must(_) => true,
+        Part::Must(_) | Part::Either(_, _) => true,
         Part::May(key) => is_text(key.word(), word),
         Part::Behind(key) => stands && is_text(key.word(), word),
     }
@@ -108,7 +118,7 @@ pub(crate) fn may_end(parts: &[Part]) -> bool
     ensures { result ≡ may_end parts.now }
 {
     for part in parts {
-        if let Part::Must(_) = part {
+        if matches!(part, Part::Must(_) | Part::Either(_, _)) {
             return false;
         }
     }

@@ -20,6 +20,7 @@ pub enum Form {
     ClassCbq,
     Filter,
     Filter6,
+    Conditioner,
     /// The fault stands before the form is known.
     Unread,
 }

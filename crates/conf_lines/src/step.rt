@@ -1,6 +1,6 @@
 //! What a word leads to from a place of a statement.
 ghost use Rattle.std.specs.Prelude.{◌≡◌, ◌||◌, Ok, IfOk, true};
-ghost use Rattle.conf_lines.specs.Grammar.{seen, step, at_statement, at_discipline, at_parent, at_part, filled, took, chosen, at_slope, at_bend, at_last_slope, behind_option, refused, begins, says, reads, as_read, end, Gives, Fails};
+ghost use Rattle.conf_lines.specs.Grammar.{seen, step, at_statement, at_discipline, at_parent, at_part, filled, took, chosen, at_slope, at_bend, at_last_slope, at_pir, behind_option, refused, begins, says, leads, reads, as_read, end, Gives, Fails};
 ghost use Rattle.conf_lines.specs.Options.{option_of, most_rate, most_bend};
 ghost use Rattle.conf_lines.specs.Parts.{reach};
 ghost use Rattle.line_text.specs.Names.{is_name};
@@ -10,7 +10,9 @@ ghost use Rattle.conf_lines.specs.declared.item.What.TheVariants as what;
 use crate::fault::ConfKind;
 use crate::grammar::{Next, Place, Refusal, Step};
 use crate::item::{Text, What};
-use crate::options::{Key, MOST_BEND, MOST_PORT, MOST_RATE, Slots, option_of};
+use crate::options::{
+    Key, MOST_AF, MOST_BEND, MOST_BURST, MOST_PORT, MOST_RATE, Slots, one_of, option_of,
+};
 use crate::part::{Part, Slot, may_end, parts_of, reach};
 use crate::slot::{
     address_in, address6_in, are_plain, is_name, is_text, mask_in, protocol_in, rate_in,
@@ -46,7 +48,7 @@ fn refused(word: &Word) -> Result<Step, Refusal>
     }
 }
 
-/// A word that only says which statement it is. A filter has nothing to have besides its parts.
+/// A word that only says which statement it is. A filter and a conditioner have nothing to have besides their parts.
 fn begins(form: Form, next: Next) -> Result<Step, Refusal>
     ensures { Gives result (begins form next) }
 {
@@ -57,19 +59,26 @@ fn begins(form: Form, next: Next) -> Result<Step, Refusal>
             next,
             parts: parts_of(form),
             stands: true,
-            settled: matches!(form, Form::Filter | Form::Filter6),
+            settled: matches!(form, Form::Filter | Form::Filter6 | Form::Conditioner),
         },
     })
+}
+
+/// A word that was read, and then another is next.
+fn leads(read: Result<What, ConfKind>, place: Place, next: Next) -> Result<Step, Refusal>
+    ensures { Gives result (leads read (seen place) next) }
+{
+    match read {
+        Ok(what) => Ok(says(what, place, next)),
+        Err(kind) => Err(Refusal::Kind(kind)),
+    }
 }
 
 /// A word that was read, and then a part is next.
 fn reads(read: Result<What, ConfKind>, place: Place) -> Result<Step, Refusal>
     ensures { Gives result (reads read (seen place)) }
 {
-    match read {
-        Ok(what) => Ok(says(what, place, Next::Part)),
-        Err(kind) => Err(Refusal::Kind(kind)),
-    }
+    leads(read, place, Next::Part)
 }
 
 #[tactic(auto, unfolding(crate::specs::Grammar::at_statement))]
@@ -84,6 +93,8 @@ fn at_statement(word: &Word) -> Result<Step, Refusal>
         begins(Form::Filter, Next::Part)
     } else if is_text("filter6", word.parts) {
         begins(Form::Filter6, Next::Part)
+    } else if is_text("conditioner", word.parts) {
+        begins(Form::Conditioner, Next::Part)
     } else {
         refused(word)
     }
@@ -113,6 +124,8 @@ fn behind_option(slots: Slots) -> Next
         Slots::Whole(low, high) => Next::Whole(low, high),
         Slots::Curve(low, least) => Next::Slope(low, least),
         Slots::Mask => Next::Mask,
+        Slots::Single => Next::Cir,
+        Slots::Two => Next::Pir,
     }
 }
 
@@ -128,11 +141,11 @@ fn took(key: Key, place: Place) -> Step
     )
 }
 
-/// An option of the statement, or a word that it does not have.
-fn at_choice(place: Place, word: &Word) -> Result<Step, Refusal>
-    ensures { Gives result (chosen (seen place) word.now.parts.now (option_of place.form word.now.parts.now)) }
+/// An option, or a word that the statement does not have at its place.
+fn chosen(place: Place, word: &Word, option: Option<Key>) -> Result<Step, Refusal>
+    ensures { Gives result (chosen (seen place) word.now.parts.now option) }
 {
-    match option_of(place.form, word.parts) {
+    match option {
         None => refused(word),
         Some(key) => Ok(took(key, place)),
     }
@@ -176,6 +189,16 @@ fn at_last_slope(
             }
             Ok(says(What::Rate(last), place, Next::Part))
         }
+        Err(kind) => Err(Refusal::Kind(kind)),
+    }
+}
+
+/// The peak rate of a meter of two rates, and then its burst is next.
+fn at_pir(place: Place, word: &Word) -> Result<Step, Refusal>
+    ensures { Gives result (at_pir (rate_in 1000 most_rate word.now.parts.now) (seen place)) }
+{
+    match rate_in(1000, MOST_RATE, word) {
+        Ok(pir) => Ok(says(What::Rate(pir), place, Next::Pbs(pir))),
         Err(kind) => Err(Refusal::Kind(kind)),
     }
 }
@@ -226,6 +249,7 @@ fn filled(alloc: Global, slot: Slot, place: Place, word: &Word) -> Result<Step, 
         Slot::Address6 => reads(address6_in(word), place),
         Slot::Port => reads(whole_in(0, MOST_PORT, word).map(What::Whole), place),
         Slot::Protocol => reads(protocol_in(word).map(What::Whole), place),
+        Slot::Af => reads(whole_in(1, MOST_AF, word).map(What::Whole), place),
     }
 }
 
@@ -235,17 +259,20 @@ fn at_part(alloc: Global, place: Place, word: &Word) -> Result<Step, Refusal>
 {
     let left = reach(place.stands, place.parts, word.parts);
     match left.split_first() {
-        None => at_choice(
-            Place {
+        None => {
+            let place = Place {
                 parts: left,
                 ..place
-            },
-            word,
-        ),
+            };
+            chosen(place, word, option_of(place.form, word.parts))
+        }
         Some((part, parts)) => {
             let place = Place { parts, ..place };
             match *part {
                 Part::Must(slot) => filled(alloc, slot, place, word),
+                Part::Either(first, second) => {
+                    chosen(place, word, one_of(first, second, word.parts))
+                }
                 Part::May(key) | Part::Behind(key) => Ok(took(key, place)),
             }
         }
@@ -268,6 +295,27 @@ pub(crate) fn step(alloc: Global, place: Place, word: &Word) -> Result<Step, Ref
         Next::Slope(low, least) => at_slope(low, least, place, word),
         Next::Bend(least, first) => at_bend(least, first, place, word),
         Next::LastSlope(least, first, time) => at_last_slope(least, first, time, place, word),
+        Next::Cir => leads(
+            rate_in(1000, MOST_RATE, word).map(What::Rate),
+            place,
+            Next::Cbs,
+        ),
+        Next::Cbs => leads(
+            whole_in(1, MOST_BURST, word).map(What::Whole),
+            place,
+            Next::Whole(0, MOST_BURST),
+        ),
+        Next::Pir => at_pir(place, word),
+        Next::Pbs(pir) => leads(
+            whole_in(1, MOST_BURST, word).map(What::Whole),
+            place,
+            Next::CirBelow(pir),
+        ),
+        Next::CirBelow(pir) => leads(
+            rate_in(1000, pir, word).map(What::Rate),
+            place,
+            Next::Whole(1, MOST_BURST),
+        ),
     }
 }
 

@@ -36,3 +36,13 @@ fn faults_at_their_words(rt: HostRuntime) -> Result<(), Fail> {
     assert_eq!(rt; big, Some((1, 4, ConfKind::BadNumber)));
     Ok(())
 }
+
+#[test]
+fn second_conditioner_is_refused(rt: HostRuntime) -> Result<(), Fail> {
+    let fault = first_fault(
+        rt.alloc(),
+        "interface if0 hfsc\nclass hfsc if0 root NULL\nclass hfsc if0 a root pshare 1 default\nconditioner if0 a srtcm 8M 1500 1500 1\nconditioner if0 a trtcm 16M 2000 8M 1000 1\n",
+    )?;
+    assert_eq!(rt; fault, Some((5, 3, ConfKind::ConditionerTwice)));
+    Ok(())
+}

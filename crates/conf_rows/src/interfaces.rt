@@ -4,6 +4,7 @@ use conf_tree::{Addresses, Class, DropRule, Filter, Interface, Kind};
 use service_curve::Curve;
 use std::alloc::Global;
 use std::test::Fail;
+use traffic_meter::MeterRule;
 
 /// A class of an interface, by its number.
 fn class_at(interface: &Interface, at: usize) -> Result<&Class, Fail> {
@@ -152,6 +153,55 @@ fn canonical_text_of_voice_and_data(rt: HostRuntime) -> Result<(), Fail> {
     )?;
     let expected =
         "interface if0 bandwidth 8000000 hfsc\nclass hfsc if0 root NULL ls 8000000 0 8000000 qlimit 50\nclass hfsc if0 voice root rt 4000000 5 1000000 ls 4000000 5 1000000 qlimit 50\nclass hfsc if0 data root rt 0 5 4000000 ls 0 5 4000000 qlimit 50 default\nfilter if0 voice ruleno 0 0.0.0.0 netmask 0.0.0.0 5004 0.0.0.0 netmask 0.0.0.0 0 17\n";
+    assert_eq!(rt; text.as_slice(), expected.as_bytes());
+    let again = canonical(rt.alloc(), expected)?;
+    assert_eq!(rt; again.as_slice(), expected.as_bytes());
+    Ok(())
+}
+
+#[test]
+fn meters_of_classes(rt: HostRuntime) -> Result<(), Fail> {
+    let text =
+        "interface if0 hfsc\nclass hfsc if0 root NULL\nclass hfsc if0 a root pshare 1 default\nclass hfsc if0 b root pshare 1\nconditioner if0 b trtcm 16M 2000 8M 1000 2\nconditioner if0 a srtcm 8M 1500 0 1\n";
+    let conf = match built(rt.alloc(), text)? {
+        Ok(conf) => conf,
+        Err(_) => return Err(Fail::new("refused")),
+    };
+    let Some(interface) = conf.interface("if0") else {
+        return Err(Fail::new("no if0"));
+    };
+    let rules = match interface.rules(rt.alloc()) {
+        Ok(rules) => rules,
+        Err(_) => return Err(Fail::new("no memory")),
+    };
+    let single = MeterRule::Single {
+        cir: 8_000_000,
+        cbs: 1500,
+        ebs: 0,
+        af: 1,
+    };
+    let two = MeterRule::Two {
+        pir: 16_000_000,
+        pbs: 2000,
+        cir: 8_000_000,
+        cbs: 1000,
+        af: 2,
+    };
+    assert_eq!(rt; rules.len(), 3);
+    assert_eq!(rt; rules[0], None);
+    assert_eq!(rt; rules[1], Some(single));
+    assert_eq!(rt; rules[2], Some(two));
+    Ok(())
+}
+
+#[test]
+fn canonical_text_of_conditioners(rt: HostRuntime) -> Result<(), Fail> {
+    let text = canonical(
+        rt.alloc(),
+        "interface if0 bandwidth 8M cbq\nclass cbq if0 root NULL\nclass cbq if0 a root exactbandwidth 1M default\nconditioner if0 a trtcm 16M 2000 8M 1000 4\nconditioner if0 root srtcm 1.5M 0x5dc 0 1\nfilter if0 a 0 5004 0 0 17\n",
+    )?;
+    let expected =
+        "interface if0 bandwidth 8000000 cbq\nclass cbq if0 root NULL priority 0 exactbandwidth 8000000 maxburst 16 packetsize 1500 qlimit 50\nclass cbq if0 a root priority 0 exactbandwidth 1000000 maxburst 16 packetsize 1500 qlimit 50 default\nfilter if0 a ruleno 0 0.0.0.0 netmask 0.0.0.0 5004 0.0.0.0 netmask 0.0.0.0 0 17\nconditioner if0 root srtcm 1500000 1500 0 1\nconditioner if0 a trtcm 16000000 2000 8000000 1000 4\n";
     assert_eq!(rt; text.as_slice(), expected.as_bytes());
     let again = canonical(rt.alloc(), expected)?;
     assert_eq!(rt; again.as_slice(), expected.as_bytes());

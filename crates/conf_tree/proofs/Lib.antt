@@ -1,3 +1,4 @@
+pub mod MetersFit
 pub mod Positions
 pub mod PrintedLines
 pub mod StandingFaults

@@ -1,5 +1,5 @@
--- The canonical text of a configuration: for each interface its line, its classes and its filters, in the order of the text. Each option
--- that holds is written once; implied classes are not written.
+-- The canonical text of a configuration: for each interface its line, its classes and its filters, in the order of the text, and the
+-- conditioners of its classes. Each option that holds is written once; implied classes are not written.
 use Rattle.std.specs.Prelude.{ℕ, ◌/◌, ◌^◌, Bool, true, false, List, [], ◌∷◌, ◌++◌, if◌then◌else◌, Option, Some, None, slice_get, codes}
 use Rattle.service_curve.specs.declared.Curve.{Curve}
 use Rattle.conf_lines.specs.declared.options.Key.{Key}
@@ -8,6 +8,8 @@ use Rattle.conf_lines.specs.declared.item.What.{What}
 use Rattle.conf_lines.specs.declared.item.What.TheVariants as what
 use Rattle.conf_lines.specs.declared.statement.Form.{Form}
 use Rattle.conf_lines.specs.declared.statement.Form.TheVariants as form
+use Rattle.traffic_meter.specs.declared.rule.MeterRule.{MeterRule}
+use Rattle.traffic_meter.specs.declared.rule.MeterRule.TheVariants.{Single, Two}
 use Rattle.conf_tree.specs.declared.class.Class.{Class}
 use Rattle.conf_tree.specs.declared.class.DropRule.{DropRule}
 use Rattle.conf_tree.specs.declared.class.DropRule.TheVariants.{Tail, Red, Ecn, Rio}
@@ -136,6 +138,19 @@ filter_line interface all f = record {
   whats = filter_whats_by interface (class_word all f.class) f f.addresses;
 }
 
+-- conditioner IF CLASS srtcm CIR CBS EBS AF, or trtcm PIR PBS CIR CBS AF
+abbrev pub meter_whats : MeterRule → List What
+meter_whats (Single cir cbs ebs af) = what.Key key.Srtcm ∷ what.Rate cir ∷ what.Whole cbs ∷ what.Whole ebs ∷ what.Whole af ∷ []
+meter_whats (Two pir pbs cir cbs af) =
+    what.Key key.Trtcm ∷ what.Rate pir ∷ what.Whole pbs ∷ what.Rate cir ∷ what.Whole cbs ∷ what.Whole af ∷ []
+
+abbrev pub conditioner_line : List ℕ → List ℕ → MeterRule → TextLine
+conditioner_line interface class rule = record {
+  first = codes "conditioner" ∷ [];
+  form = form.Conditioner;
+  whats = (what.Name interface ∷ what.Name class ∷ []) ++ meter_whats rule;
+}
+
 -- the lines of an interface
 abbrev pub class_lines : Kind → List ℕ → List Class → List Class → List TextLine
 class_lines kind interface all [] = []
@@ -145,12 +160,21 @@ abbrev pub filter_lines : List ℕ → List Class → List Filter → List TextL
 filter_lines interface all [] = []
 filter_lines interface all (f ∷ filters) = filter_line interface all f ∷ filter_lines interface all filters
 
+abbrev pub meter_lines : List ℕ → List ℕ → Option MeterRule → List TextLine
+meter_lines interface class None = []
+meter_lines interface class (Some rule) = conditioner_line interface class rule ∷ []
+
+abbrev pub conditioner_lines : List ℕ → List Class → List TextLine
+conditioner_lines interface [] = []
+conditioner_lines interface (c ∷ classes) = meter_lines interface c.name c.meter ++ conditioner_lines interface classes
+
 abbrev pub written_classes : Interface → List Class
 written_classes i = if i.implied then [] else i.classes
 
 abbrev pub interface_lines : Interface → List TextLine
 interface_lines i =
-    interface_line i ∷ (class_lines i.kind i.name i.classes (written_classes i) ++ filter_lines i.name i.classes i.filters)
+    interface_line i ∷ (class_lines i.kind i.name i.classes (written_classes i) ++ (filter_lines i.name i.classes i.filters
+    ++ conditioner_lines i.name (written_classes i)))
 
 abbrev pub canonical_lines : List Interface → List TextLine
 canonical_lines [] = []

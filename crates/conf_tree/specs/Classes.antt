@@ -27,9 +27,9 @@ same_kind Hfsc Hfsc = true
 same_kind Cbq Cbq = true
 same_kind _ _ = false
 
--- in HFSC the default class, and one that a filter names, holds packets, so it is no parent
+-- in HFSC the default class, and one that a filter or a conditioner names, holds packets, so it is no parent
 abbrev pub is_queue : Kind → Branch → Bool
-is_queue kind c = is_hfsc kind && (c.class.is_default || c.filtered)
+is_queue kind c = is_hfsc kind && (c.class.is_default || c.filtered || is_some c.class.meter)
 
 -- below the class of a number: on its level and 1, which is at most 8
 abbrev pub below : Kind → Statement → ℕ → Branch → Result Spot ConfPlace

@@ -1,6 +1,7 @@
 pub mod Answers
 pub mod Canonical
 pub mod Classes
+pub mod Conditioners
 pub mod Family
 pub mod FilterStatements
 pub mod Filters
@@ -9,6 +10,7 @@ pub mod Interfaces
 pub mod Items
 pub mod Laws
 pub mod Masks
+pub mod Meters
 pub mod Options
 pub mod Places
 pub mod Printed

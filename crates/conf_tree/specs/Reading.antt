@@ -8,6 +8,7 @@ use Rattle.conf_lines.specs.Texts.{statements_of}
 use Rattle.conf_tree.specs.declared.interface.Interface.{Interface}
 use Rattle.conf_tree.specs.declared.interface.Kind.TheVariants.{Hfsc, Cbq}
 use Rattle.conf_tree.specs.Classes.{read_class}
+use Rattle.conf_tree.specs.Conditioners.{read_conditioner}
 use Rattle.conf_tree.specs.FilterStatements.{read_filter}
 use Rattle.conf_tree.specs.Interfaces.{read_interface}
 use Rattle.conf_tree.specs.Places.{own_fault}
@@ -21,6 +22,7 @@ read_form form.ClassHfsc before s = read_class before Hfsc s
 read_form form.ClassCbq before s = read_class before Cbq s
 read_form form.Filter before s = read_filter before s
 read_form form.Filter6 before s = read_filter before s
+read_form form.Conditioner before s = read_conditioner before s
 read_form form.Unread before s = Err (own_fault s)
 
 abbrev pub read_statement : List Begun → Statement → Result (List Begun) ConfPlace

@@ -50,7 +50,7 @@ abbrev pub rate_of_kind : Kind → ℕ → ℕ
 rate_of_kind Hfsc rate = 0
 rate_of_kind Cbq rate = rate
 
--- the class of a name, a parent, a rate and settings
+-- the class of a name, a parent, a rate and settings, without a conditioner
 abbrev pub class_of : List ℕ → Option ℕ → ℕ → Settings → Class
 class_of name parent rate s = record {
   name = name;
@@ -68,6 +68,7 @@ class_of name parent rate s = record {
   drop = s.drop;
   clear = s.clear;
   is_default = s.is_default;
+  meter = None;
 }
 
 -- the curve of m1, d in nanoseconds and m2: without a first piece, or with one slope, it is the line of slope m2

@@ -1,6 +1,8 @@
 -- An interface as far as its statements are read, and what they do to it.
 use Rattle.std.specs.Prelude.{ℕ, ◌||◌, Bool, true, false, List, [], ◌∷◌, ◌++◌, Option, Some, None, is_none, position, slice_get, slice_set, bytes_eq}
+use Rattle.traffic_meter.specs.declared.rule.MeterRule.{MeterRule}
 use Rattle.conf_tree.specs.declared.branch.Branch.{Branch}
+use Rattle.conf_tree.specs.declared.conditioner.Conditioner.{Conditioner}
 use Rattle.conf_tree.specs.declared.filter.Filter.{Filter}
 use Rattle.conf_tree.specs.declared.interface.Kind.{Kind}
 
@@ -40,6 +42,9 @@ as_parent c = record c { class = record c.class { real = None }; inner = true }
 abbrev pub as_filtered : Branch → Branch
 as_filtered c = record c { filtered = true }
 
+abbrev pub as_metered : MeterRule → Branch → Branch
+as_metered rule c = record c { class = record c.class { meter = Some rule } }
+
 -- the class of a number changed
 abbrev pub changed_to : List Branch → ℕ → (Branch → Branch) → Option Branch → List Branch
 changed_to classes i change None = classes
@@ -52,7 +57,7 @@ abbrev pub with_parent : List Branch → Option ℕ → List Branch
 with_parent classes None = classes
 with_parent classes (Some i) = changed classes i as_parent
 
--- a class more, and a filter more
+-- a class more, a filter more, and a conditioner more
 abbrev pub add_class : Begun → Branch → Begun
 add_class b c = record b {
   rooted = b.rooted || is_none c.class.parent;
@@ -62,3 +67,6 @@ add_class b c = record b {
 
 abbrev pub add_filter : Begun → Filter → Begun
 add_filter b f = record b { classes = changed b.classes f.class as_filtered; filters = b.filters ++ f ∷ [] }
+
+abbrev pub add_conditioner : Begun → Conditioner → Begun
+add_conditioner b c = record b { classes = changed b.classes c.class (as_metered c.rule) }

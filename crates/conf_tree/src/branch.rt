@@ -19,7 +19,7 @@ pub(crate) struct Branch {
     pub(crate) fixed: bool,
     /// Whether a class names it as its parent.
     pub(crate) inner: bool,
-    /// Whether a filter names it.
+    /// Whether a filter names it. A conditioner that names it is the class's meter.
     pub(crate) filtered: bool,
 }
 

@@ -2,6 +2,7 @@
 
 use conf_lines::Text;
 use service_curve::Curve;
+use traffic_meter::MeterRule;
 
 /// How a queue decides whether an arriving packet is kept.
 #[derive(Clone, Copy, Debug, PartialEq, Eq)]
@@ -50,4 +51,7 @@ pub struct Class {
     pub clear: bool,
     /// Whether it is the default class, to which the packets go that no filter matches.
     pub is_default: bool,
+    /// The meter that marks its packets, if it has a conditioner: rates of 1,000 to 10^12, `pir` at least `cir`; `cbs` and `pbs` of 1
+    /// to 2^30, `ebs` of 0 to 2^30; `af` of 1 to 4.
+    pub meter: Option<MeterRule>,
 }

@@ -30,7 +30,7 @@ pub(crate) fn is_hfsc(kind: Kind) -> bool
 fn is_queue(kind: Kind, branch: &Branch) -> bool
     ensures { result ≡ is_queue kind branch.now }
 {
-    is_hfsc(kind) && (branch.class.is_default || branch.filtered)
+    is_hfsc(kind) && (branch.class.is_default || branch.filtered || branch.class.meter.is_some())
 }
 
 /// Below the class of a number.

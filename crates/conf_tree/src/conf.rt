@@ -30,7 +30,7 @@ impl Model for Conf {
 }
 
 impl Conf {
-    /// Joins the statements of a text to its interfaces, with their classes and filters, after altq.conf(5).
+    /// Joins the statements of a text to its interfaces, with their classes, filters and conditioners, after altq.conf(5).
     ///
     /// Answers `At` with the first fault of the text: that of its first statement that cannot stand behind those before it,
     /// at its first word that cannot; where no statement has a fault, it is that of the first interface that has classes and
@@ -63,8 +63,9 @@ impl Conf {
         find_interface(self.interfaces.as_slice(), name)
     }
 
-    /// The canonical text: for each interface its line, its classes and its filters, each on a line of its own, with every
-    /// number in decimal and each option that holds written once. Implied classes are not written.
+    /// The canonical text: for each interface its line, its classes, its filters and, in the order of the classes, their
+    /// conditioners, each on a line of its own, with every number in decimal and each option that holds written once. Implied
+    /// classes are not written.
     ///
     /// Returns `NoMemory` where memory ran out. Takes time and memory linear in the text.
     pub fn text(&self, alloc: Global) -> Result<Vec<u8>, NoMemory>

@@ -1,9 +1,10 @@
 //! An interface as far as its statements are read.
 ghost use Rattle.std.specs.Prelude.{◌≡◌, OnOk, map, vec_len};
 ghost use Rattle.conf_tree.specs.Fits.{Fits};
-ghost use Rattle.conf_tree.specs.Tree.{begun, class_name, class_number, as_filtered, changed, with_parent, add_class, add_filter};
+ghost use Rattle.conf_tree.specs.Tree.{begun, class_name, class_number, as_filtered, as_metered, changed, with_parent, add_class, add_filter, add_conditioner};
 
 use crate::branch::Branch;
+use crate::conditioner::Conditioner;
 use crate::filter::Filter;
 use crate::interface::Kind;
 use crate::items::name_at;
@@ -12,6 +13,7 @@ use conf_lines::Statement;
 use play_base::NoMemory;
 use std::alloc::Global;
 use std::marker::Model;
+use traffic_meter::MeterRule;
 
 /// An interface as far as its statements are read.
 #[derive(Drop)]
@@ -128,6 +130,18 @@ impl<'a> Draft<'a> {
             Err(_) => Err(NoMemory),
         }
     }
+
+    /// Adds a conditioner. Takes no memory.
+    pub(crate) fn add_conditioner(&mut self, conditioner: Conditioner)
+        ensures added { self.new ≡ add_conditioner self.old conditioner }
+        ensures name { self.new.name ≡ self.old.name }
+    {
+        set_meter(
+            &mut self.classes,
+            conditioner.class as usize,
+            conditioner.rule,
+        );
+    }
 }
 
 /// A class is named as a parent.
@@ -155,5 +169,17 @@ fn name_filtered(classes: &mut Vec<Branch>, class: usize)
     if class < classes.len() {
         let branch = &mut classes[class];
         branch.filtered = true;
+    }
+}
+
+/// A class has a conditioner of this rule.
+fn set_meter(classes: &mut Vec<Branch>, class: usize, rule: MeterRule)
+    ensures set { classes.new.items ≡ changed classes.old.items class (as_metered rule) }
+    ensures names { map class_name classes.new.items ≡ map class_name classes.old.items }
+    ensures len { vec_len classes.new ≡ vec_len classes.old }
+{
+    if class < classes.len() {
+        let branch = &mut classes[class];
+        branch.class.meter = Some(rule);
     }
 }

@@ -3,7 +3,10 @@
 use crate::class::Class;
 use crate::filter::Filter;
 use conf_lines::Text;
+use play_base::NoMemory;
+use std::alloc::Global;
 use std::marker::Model;
+use traffic_meter::MeterRule;
 
 /// How an interface shares its link.
 #[derive(Clone, Copy, Debug, PartialEq, Eq)]
@@ -95,4 +98,22 @@ pub struct Interface {
     pub classes: ClassList,
     /// Its filters.
     pub filters: FilterList,
+}
+
+impl Interface {
+    ghost use Rattle.std.specs.Prelude.{◌≡◌, IfOk};
+    ghost use Rattle.conf_tree.specs.Conditioners.{meters};
+
+    /// The meters of its classes, by the number of the class; `None` where a class has no conditioner.
+    ///
+    /// Returns `NoMemory` where memory ran out. Takes time and memory linear in the classes.
+    pub fn rules(&self, alloc: Global) -> Result<Vec<Option<MeterRule>>, NoMemory>
+        ensures { IfOk result (λ rules. rules.items ≡ meters self.now.classes) }
+    {
+        let mut rules = Vec::new(alloc);
+        for class in self.classes.as_slice() {
+            rules.push(class.meter)?;
+        }
+        Ok(rules)
+    }
 }

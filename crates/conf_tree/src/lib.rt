@@ -1,11 +1,15 @@
-//! The checked configuration: the interfaces of a text after altq.conf(5), each with its classes and its filters, or the
-//! place and the kind of the text's first fault.
+//! The checked configuration: the interfaces of a text after altq.conf(5), each with its classes, their conditioners and its
+//! filters, or the place and the kind of the text's first fault.
 #![tactic(auto)]
 
 mod branch;
 mod class;
 mod class_items;
 mod class_reading;
+mod conditioner;
+mod conditioner_items;
+mod conditioner_parts;
+mod conditioner_reading;
 mod conf;
 mod draft;
 mod filter;
@@ -31,4 +35,4 @@ pub use class::{Class, DropRule};
 pub use conf::Conf;
 pub use filter::{Addresses, Filter};
 pub use interface::{ClassList, FilterList, Interface, Kind};
-pub use laws::faults_stand;
+pub use laws::{faults_stand, meters_fit};

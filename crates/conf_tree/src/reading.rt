@@ -3,6 +3,7 @@ ghost use Rattle.conf_tree.specs.Answers.{Gains};
 ghost use Rattle.conf_tree.specs.Reading.{read_statement};
 
 use crate::class_reading::read_class;
+use crate::conditioner_reading::read_conditioner;
 use crate::filter_reading::read_filter;
 use crate::interface::Kind;
 use crate::interface_reading::read_interface;
@@ -25,6 +26,7 @@ pub(crate) fn read_statement<'a>(
         Form::ClassCbq => read_class(alloc, tree, Kind::Cbq, statement),
         Form::Filter => read_filter(tree, statement),
         Form::Filter6 => read_filter(tree, statement),
+        Form::Conditioner => read_conditioner(tree, statement),
         Form::Unread => Err(ConfFault::At(own_fault(statement))),
     }
 }

@@ -110,7 +110,7 @@ pub(crate) fn rate_of_kind(kind: Kind, rate: u64) -> u64
     }
 }
 
-/// The class of a name, a parent, a rate and settings.
+/// The class of a name, a parent, a rate and settings, without a conditioner.
 pub(crate) fn class_of(name: Text, parent: Option<u32>, rate: u64, settings: Settings) -> Class
     ensures { result ≡ class_of name parent rate settings }
 {
@@ -130,6 +130,7 @@ pub(crate) fn class_of(name: Text, parent: Option<u32>, rate: u64, settings: Set
         drop: settings.drop,
         clear: settings.clear,
         is_default: settings.is_default,
+        meter: None,
     }
 }
 

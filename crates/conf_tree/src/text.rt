@@ -1,11 +1,12 @@
 //! The canonical text.
 ghost use Rattle.std.specs.Prelude.{◌≡◌, ◌∷◌, ◌++◌, [], IfOk, OnOk, string_bytes};
 ghost use Rattle.conf_tree.specs.Printed.{printed};
-ghost use Rattle.conf_tree.specs.Canonical.{kind_key, interface_whats, interface_line, class_line, class_lines, filter_line, filter_lines, written_classes, interface_lines, canonical_text};
+ghost use Rattle.conf_tree.specs.Canonical.{kind_key, interface_whats, interface_line, class_line, class_lines, filter_line, filter_lines, conditioner_line, meter_lines, conditioner_lines, written_classes, interface_lines, canonical_text};
 
 use crate::branch::text_of as name_of;
 use crate::class::Class;
 use crate::class_items::{class_whats, push, push_with};
+use crate::conditioner_items::conditioner_whats;
 use crate::filter::{Addresses, Filter};
 use crate::filter_items::filter_whats;
 use crate::interface::{Interface, Kind};
@@ -13,6 +14,7 @@ use crate::printing::push_line;
 use conf_lines::{Key, What};
 use play_base::NoMemory;
 use std::alloc::Global;
+use traffic_meter::MeterRule;
 
 /// What the line of an interface says.
 fn interface_whats(alloc: Global, interface: &Interface) -> Result<Vec<What>, NoMemory>
@@ -111,6 +113,52 @@ fn push_filters(
     Ok(())
 }
 
+/// Writes the line of a conditioner of a class.
+fn push_conditioner(
+    alloc: Global,
+    out: &mut String,
+    interface: &str,
+    class: &str,
+    rule: MeterRule,
+) -> Result<(), NoMemory>
+    ensures { OnOk result (string_bytes out.new ≡ string_bytes out.old ++ printed (conditioner_line interface.now class.now rule ∷ [])) }
+{
+    let whats = conditioner_whats(alloc, interface, class, rule)?;
+    push_line(alloc, out, "conditioner", whats.as_slice())?;
+    Ok(())
+}
+
+/// Writes the line of the conditioner of a class, if it has one.
+fn push_meter(
+    alloc: Global,
+    out: &mut String,
+    interface: &str,
+    class: &str,
+    meter: Option<MeterRule>,
+) -> Result<(), NoMemory>
+    ensures { OnOk result (string_bytes out.new ≡ string_bytes out.old ++ printed (meter_lines interface.now class.now meter)) }
+{
+    match meter {
+        Some(rule) => push_conditioner(alloc, out, interface, class, rule),
+        None => Ok(()),
+    }
+}
+
+/// Writes the lines of the conditioners of classes.
+fn push_conditioners(
+    alloc: Global,
+    out: &mut String,
+    interface: &str,
+    classes: &[Class],
+) -> Result<(), NoMemory>
+    ensures { OnOk result (string_bytes out.new ≡ string_bytes out.old ++ printed (conditioner_lines interface.now classes.now)) }
+{
+    for class in classes {
+        push_meter(alloc, out, interface, class.name.as_str(), class.meter)?;
+    }
+    Ok(())
+}
+
 /// The classes that are written: none where they are implied.
 fn written_classes(interface: &Interface) -> &[Class]
     ensures { result.now ≡ written_classes interface.now }
@@ -132,6 +180,7 @@ fn push_interface(alloc: Global, out: &mut String, interface: &Interface) -> Res
     let written = written_classes(interface);
     push_classes(alloc, out, interface.kind, name, all, written)?;
     push_filters(alloc, out, name, all, interface.filters.as_slice())?;
+    push_conditioners(alloc, out, name, written)?;
     Ok(())
 }
 

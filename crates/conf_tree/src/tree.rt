@@ -1,9 +1,10 @@
 //! The interfaces as far as the statements are read.
 ghost use Rattle.std.specs.Prelude.{◌≡◌, ◌++◌, ◌∷◌, [], None, Some, OnOk, slice_get, slice_set};
 ghost use Rattle.conf_tree.specs.Fits.{Fits};
-ghost use Rattle.conf_tree.specs.Tree.{Begun, interface_number, add_class, add_filter};
+ghost use Rattle.conf_tree.specs.Tree.{Begun, interface_number, add_class, add_filter, add_conditioner};
 
 use crate::branch::Branch;
+use crate::conditioner::Conditioner;
 use crate::draft::Draft;
 use crate::filter::Filter;
 use crate::names::Names;
@@ -101,5 +102,15 @@ impl<'a> Tree<'a> {
             return draft.add_filter(filter);
         }
         Ok(())
+    }
+
+    /// Adds a conditioner to an interface. Takes no memory.
+    pub(crate) fn add_conditioner(&mut self, number: usize, conditioner: Conditioner)
+        ensures { (b : Begun) → slice_get self.old number ≡ Some b → self.new ≡ slice_set self.old number (add_conditioner b conditioner) }
+    {
+        if number < self.interfaces.len() {
+            let draft = &mut self.interfaces[number];
+            draft.add_conditioner(conditioner);
+        }
     }
 }

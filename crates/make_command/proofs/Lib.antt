@@ -3,3 +3,4 @@ pub mod MakeLemmas
 pub mod SuppliedLemmas
 pub mod TellLemmas
 pub mod WrittenLemmas
+pub mod Wholes

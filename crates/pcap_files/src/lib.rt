@@ -17,6 +17,8 @@ pub use capture_model::{Damage, DamageKind};
 pub use fault::CaptureFault;
 pub use form::Head;
 pub use laws::{bytes_read_one_way, written_captures_read_back};
+pub use progress::Progress;
 pub use reader::Reader;
 pub use record::Record;
+pub use stand::{Stand, stand_at};
 pub use writing::{head_bytes, record_head};

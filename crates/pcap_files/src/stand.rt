@@ -18,8 +18,8 @@ const MOST_BYTES: u32 = 1 << 30;
 
 const LONGEST: u32 = 262_144;
 
-// What the bytes at a place tell of the record there: its stamp in nanoseconds and its two lengths in bytes, or the first
-// test that its header fails.
+/// What the bytes at a place tell of the record there: its stamp in nanoseconds and its two lengths in bytes, or the first
+/// test that its header fails.
 pub enum Stand {
     End,
     Limit,
@@ -42,7 +42,9 @@ fn stamp(head: Head, bytes: &[u8]) -> u64
     u64::from(word(head.big, bytes, 0)) * 1_000_000_000 + u64::from(word(head.big, bytes, 4)) * unit
 }
 
-// What the bytes at the next record's place tell of it.
+/// What the bytes at the next record's place tell of it: `End` where there are none, `Limit` behind 4,000,000 records or where the
+/// record would end past 2^30 bytes, `Damaged` where its header fails a test; `ShortRecord` of these tells that fewer than 16 bytes
+/// stand there. Whether all that `Headed` announces stands there is not asked. Constant time (pcap-savefile(5)).
 pub fn stand_at(head: Head, progress: Progress, ahead: &[u8]) -> Stand
     ensures value { result ≡ stand_at (form head) progress.count progress.place ahead.now }
     ensures none { result ≡ Stand.End → length ahead.now ≡ 0 }

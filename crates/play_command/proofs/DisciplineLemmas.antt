@@ -1,12 +1,11 @@
 -- What is played by a discipline is what it stands for.
-use Rattle.std.proofs.Common.{◌≡◌, ℕ, Bool, true, List, subst, sym}
+use Rattle.std.proofs.Common.{◌≡◌, ℕ, List, subst, sym}
 use Rattle.std.specs.Prelude.{IsTrue}
+use Rattle.std.specs.declared.option.Option.{Option}
 use Rattle.altq_model.specs.History.{Happened}
-use Rattle.arrivals_front.specs.Given.{is_pcapng}
 use Rattle.arrivals_front.specs.declared.given.Given.{Given}
 use Rattle.capture_model.specs.Capture.{Record, IsCapture}
 use Rattle.conf_tree.specs.declared.interface.Interface.{Interface}
-use Rattle.pcapng_files.specs.Fronts.{front_view}
 use Rattle.play_base.specs.Holds.{HoldsAt}
 use Rattle.play_base.specs.View.{View}
 use Rattle.play_core.specs.declared.totals.Totals.{Totals}
@@ -14,14 +13,14 @@ use Rattle.play_loop.specs.declared.fault.Opened.{Opened}
 use Rattle.play_loop.specs.Played.{HasPlayed, IsStanding, Plays}
 use Rattle.play_loop.specs.Setup.{Setup}
 use Rattle.command_base.specs.Names.{Names}
-use Rattle.play_command.specs.Converting.{Through}
+use Rattle.play_command.specs.Converting.{Through, with_left}
 use Rattle.play_command.specs.Found.{HasStood}
 use Rattle.play_command.specs.InterfaceSetup.{setup_of}
 use Rattle.play_command.specs.Opening.{Untold}
-use Rattle.play_command.proofs.SeeingLemmas.{Begins, PlayedIn, Sees, seen, sees}
+use Rattle.play_command.proofs.SeeingLemmas.{Begins, Itself, PlayedIn, Sees, seen, sees}
 use Rattle.play_command.proofs.StepLemmas.{Steps, done_history, done_of}
 use Rattle.play_command.proofs.SetupLemmas.{untold}
-use Rattle.play_command.proofs.ThroughLemmas.{Converts, sees_through}
+use Rattle.play_command.proofs.ThroughLemmas.{Behind, Wayed, sees_through}
 
 abbrev pub StoodAt : Setup → (List Happened → Type 0) → View → Opened → Totals → (bytes : List ℕ) → Type 0
 StoodAt x stood v o totals bytes = (records : List Record) × IsCapture bytes records × HasPlayed x stood v o records totals
@@ -49,30 +48,30 @@ has_stood a b c n i o seed s stood totals p t =
       subst (λ (h : List Happened). IsStanding stood h) (sym (done_history a b c n i o seed s totals q t)) (p t).1.2.stands,
     )
 
-pub stood_itself : (a g b c : View) (n : Names) (i : Interface) (o : Opened) (gv : Given) (x : Setup) (stood : List Happened → Type 0) (totals : Totals) → Begins a g b n i o gv → gv.rest ≡ true
-    → o.first.now ≡ gv.front.items → Plays x stood b c o totals → Sees a n i (StoodIn x stood c o totals)
-stood_itself a g b c n i o gv x stood totals s rest first h =
-    seen a n i _ (StoodIn x stood c o totals) (λ given bytes y. y.1) (sees a g b n i o gv _ s rest first h)
+pub stood_itself : (a g b c : View) (n : Names) (i : Interface) (o : Opened) (gv : Given) (x : Setup) (stood : List Happened → Type 0) (totals : Totals) → Begins a g b n i o gv → Itself i o gv
+    → Plays x stood b c o totals → Sees a n i (StoodIn x stood c o totals)
+stood_itself a g b c n i o gv x stood totals s w h =
+    seen a n i _ (StoodIn x stood c o totals) (λ given bytes y. y.1) (sees a g b n i o gv _ s w h)
 
 -- the files tell the same but for what one has left
-holds : (c : View) (r f : ℕ) (more : Bool) (front : List ℕ) (file : ℕ) (xs : List ℕ) → HoldsAt (front_view c r f more front) file xs → HoldsAt c file xs
-holds c r f more front file xs x = record { there = x.there; bytes = x.bytes }
+holds : (c : View) (left : ℕ → Option (List ℕ)) (fixed : List ℕ) (file : ℕ) (xs : List ℕ) → HoldsAt (with_left c left fixed) file xs → HoldsAt c file xs
+holds c left fixed file xs x = record { there = x.there; bytes = x.bytes }
 
-played_back : (c : View) (r f : ℕ) (more : Bool) (front : List ℕ) (x : Setup) (stood : List Happened → Type 0) (o : Opened) (records : List Record) (t : Totals)
-    → HasPlayed x stood (front_view c r f more front) o records t → HasPlayed x stood c o records t
-played_back c r f more front x stood o records t h = record {
+played_back : (c : View) (left : ℕ → Option (List ℕ)) (fixed : List ℕ) (x : Setup) (stood : List Happened → Type 0) (o : Opened) (records : List Record) (t : Totals)
+    → HasPlayed x stood (with_left c left fixed) o records t → HasPlayed x stood c o records t
+played_back c left fixed x stood o records t h = record {
   history = h.history;
   play = h.play;
-  texts = record { departures = holds c r f more front o.departures _ h.texts.departures; fates = holds c r f more front o.fates _ h.texts.fates };
-  stats = holds c r f more front o.stats _ h.stats;
+  texts = record { departures = holds c left fixed o.departures _ h.texts.departures; fates = holds c left fixed o.fates _ h.texts.fates };
+  stats = holds c left fixed o.stats _ h.stats;
   reads = h.reads;
   stands = h.stands;
 }
 
-pub stood_through : (a g b c : View) (n : Names) (i : Interface) (o : Opened) (gv : Given) (capture : List ℕ) (x : Setup) (stood : List Happened → Type 0) (totals : Totals)
-    → Converts a g b n i o gv capture → Through (λ u w. Plays x stood u w o totals) b c o.arrivals capture → Sees a n i (StoodIn x stood c o totals)
-stood_through a g b c n i o gv capture x stood totals s h =
-    let seen_view = front_view c h.reference o.arrivals h.rest h.front in
-    seen a n i (λ given bytes. (is_pcapng given ≡ true) × StoodAt x stood seen_view o totals bytes) (StoodIn x stood c o totals)
-    (λ given bytes y. (y.1.0, y.1.1, played_back c h.reference o.arrivals h.rest h.front x stood o y.1.0 totals y.1.2))
-    (sees_through a g b n i o gv h.reference capture (StoodAt x stood seen_view o totals) s.begins s.rest s.first s.same h.holds)
+pub stood_through : (a g b c : View) (n : Names) (i : Interface) (o : Opened) (gv : Given) (shown : Option (List ℕ)) (x : Setup) (stood : List Happened → Type 0) (totals : Totals)
+    → Behind a g b n i o gv shown → Through (λ u w. Plays x stood u w o totals) b c o.arrivals shown gv.rest → Sees a n i (StoodIn x stood c o totals)
+stood_through a g b c n i o gv shown x stood totals s h =
+    let v = with_left c h.after h.fixed_after in
+    seen a n i (Wayed gv.rest (StoodAt x stood v o totals)) (StoodIn x stood c o totals)
+    (λ given bytes y. (y.1.0, y.1.1, played_back c h.after h.fixed_after x stood o y.1.0 totals y.1.2))
+    (sees_through a g b n i o gv shown h.before h.fixed_before (StoodAt x stood v o totals) s h.plays h.holds)

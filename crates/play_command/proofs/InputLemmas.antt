@@ -1,10 +1,11 @@
 -- What holds of a play from one view of the files holds from another with the same configuration, arrivals and outputs.
-use Rattle.std.proofs.Common.{◌≡◌, ◌≤◌, ◌∙◌, ◌⊎◌, ℕ, List, [], Some, sym, refl, subst, inl, inr, arith}
+use Rattle.std.proofs.Common.{◌≡◌, ◌≤◌, ◌∙◌, ◌⊎◌, ℕ, List, [], Some, ap, sym, refl, subst, inl, inr, arith}
 use Rattle.std.proofs.lemmas.List.{append-nil}
 use Rattle.std.specs.Prelude.{IsTrue}
 use Rattle.capture_model.specs.Capture.{Record, Step, End, Reads}
 use Rattle.altq_model.specs.History.{Happened}
 use Rattle.conf_tree.specs.declared.interface.Interface.{Interface}
+use Rattle.interface_marks.specs.Conditioners.{marked_in}
 use Rattle.pcap_files.proofs.ReadingLaws.{one_reading}
 use Rattle.play_base.specs.View.{View}
 use Rattle.play_base.proofs.ViewLaws.{rose_later}
@@ -33,9 +34,12 @@ use Rattle.pcapng_files.specs.declared.fault.NgFault.TheVariants as ng
 -- what is accepted is one thing
 pub one_accepted : (u : View) (n : Names) (x y : Accepted u n) → (x.interface ≡ y.interface) × (x.bytes ≡ y.bytes)
 one_accepted u n x y =
-    let same : x.given ≡ y.given = same_some x.given y.given (sym x.arrivals ∙ y.arrivals) in (
-      one_interface u n.config n.interface x.interface y.interface x.configuration y.configuration,
-      read_one_way y.given x.bytes y.bytes (subst (λ (g : List ℕ). arrivals.ReadAs g x.bytes) same x.read) y.read,
+    let same : x.given ≡ y.given = same_some x.given y.given (sym x.arrivals ∙ y.arrivals) in
+    let one = one_interface u n.config n.interface x.interface y.interface x.configuration y.configuration in
+    let capture = read_one_way y.given x.read.capture y.read.capture
+    (subst (λ (g : List ℕ). arrivals.ReadAs g x.read.capture) same x.read.read) y.read.read in (
+      one,
+      x.read.marked ∙ ap (λ (i : Interface). marked_in i x.read.capture) one ∙ ap (marked_in y.interface) capture ∙ sym y.read.marked,
     )
 
 -- the same configuration and the same arrivals

@@ -11,6 +11,7 @@ pub mod OpeningLemmas
 pub mod SayingLemmas
 pub mod SeeingLemmas
 pub mod SetupLemmas
+pub mod ShownLemmas
 pub mod StepLemmas
 pub mod TellLemmas
 pub mod ThroughLemmas

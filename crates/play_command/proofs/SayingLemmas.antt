@@ -4,7 +4,6 @@ use Rattle.altq_model.specs.History.{Happened}
 use Rattle.capture_model.specs.Capture.{Record, Step}
 use Rattle.play_base.specs.View.{View}
 use Rattle.play_base.proofs.ViewLaws.{keeps_fewer, keeps_trans}
-use Rattle.play_loop.specs.Played.{Streams}
 use Rattle.play_loop.specs.Setup.{Setup}
 use Rattle.command_base.proofs.SayingLemmas.{few_after, there_before, untouched_after, untouched_before}
 use Rattle.command_base.specs.Names.{Names}
@@ -12,8 +11,9 @@ use Rattle.command_base.specs.Telling.{OnlySays}
 use Rattle.play_command.specs.Ending.{FilesEnd, HasName}
 use Rattle.play_command.specs.Opening.{KeepsOthers, OtherThree}
 use Rattle.play_command.specs.Order.{IsInOrder, KeepUncreated}
-use Rattle.play_command.specs.Played.{Fronts, HasFronts, HasOffered, HasStatsFront, HoldTexts, IsCutShort, IsFrontAt, IsLate, IsOffered, AreTaken}
+use Rattle.play_command.specs.Played.{Fronts, HasFronts, HasOffered, HasStatsFront, HoldTexts, IsCutShort, IsFrontAt, IsLate, IsOffered, AreTaken, StreamsWithin}
 use Rattle.arrivals_front.specs.Given.{is_pcapng}
+use Rattle.interface_marks.specs.Conditioners.{is_conditioned}
 
 -- the files
 pub in_order_after : (u v w : View) → OnlySays v w → IsInOrder u v → IsInOrder u w
@@ -96,9 +96,9 @@ offered_after u v w n seed last o h = record {
 }
 
 -- what a file has left
-streams_after : (v w : View) (file : ℕ) (bytes : List ℕ) (records : List Record) (moment : ℕ) → OnlySays v w → v.part file ≡ Some 2
-    → Streams v file bytes records moment → Streams w file bytes records moment
-streams_after v w file bytes records moment o there h = λ before r after split early late.
+streams_after : (past : ℕ) (v w : View) (file : ℕ) (bytes : List ℕ) (records : List Record) (moment : ℕ) → OnlySays v w → v.part file ≡ Some 2
+    → StreamsWithin past v file bytes records moment → StreamsWithin past w file bytes records moment
+streams_after past v w file bytes records moment o there h = λ before r after split early late.
     let x = h before r after split early late in
     record { rest = x.rest; left = o.keeps.left file 2 there tt ∙ x.left; within = x.within }
 
@@ -118,12 +118,12 @@ late_after u v w n seed o h = record {
   file = h.file;
   fresh = h.fresh;
   part = o.keeps.part h.file 2 h.part;
-  streams = λ e. streams_after v w h.file _ h.records _ o h.part (h.streams e);
+  streams = λ e. streams_after _ v w h.file _ h.records _ o h.part (h.streams e);
 }
 
-taken_after : (k : Bool) (v w : View) (file : ℕ) (bytes : List ℕ) (records : List Record) → w.left file ≡ v.left file → AreTaken k v file bytes records
-    → AreTaken k w file bytes records
-taken_after false v w file bytes records left x = record {
+taken_after : (k m : Bool) (v w : View) (file : ℕ) (bytes : List ℕ) (records : List Record) → w.left file ≡ v.left file → AreTaken k m v file bytes records
+    → AreTaken k m w file bytes records
+taken_after false false v w file bytes records left x = record {
   taken = x.taken;
   rest = x.rest;
   split = x.split;
@@ -132,7 +132,8 @@ taken_after false v w file bytes records left x = record {
   reads = x.reads;
   ended = x.ended;
 }
-taken_after true v w file bytes records left x = x
+taken_after false true v w file bytes records left x = record { of_front = x.of_front; mine = x.mine; left = left ∙ x.left; held = x.held }
+taken_after true m v w file bytes records left x = x
 
 pub short_after : (u v w : View) (n : Names) (seed : ℕ) → OnlySays v w → IsCutShort u v n seed → IsCutShort u w n seed
 short_after u v w n seed o h = record {
@@ -141,6 +142,6 @@ short_after u v w n seed o h = record {
   file = h.file;
   fresh = h.fresh;
   part = o.keeps.part h.file 2 h.part;
-  taken = taken_after (is_pcapng h.accepted.given) v w h.file _ h.records (o.keeps.left h.file 2 h.part tt) h.taken;
+  taken = taken_after (is_pcapng h.accepted.given) (is_conditioned h.accepted.interface) v w h.file _ h.records (o.keeps.left h.file 2 h.part tt) h.taken;
   decided = has_offered_after v w n _ h.records o h.decided;
 }

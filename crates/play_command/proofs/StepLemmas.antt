@@ -237,7 +237,7 @@ offered_of a b c n i o seed last s x q t =
     }
 
 -- a read of the arrivals failed
-short_of : (a b c : View) (n : Names) (i : Interface) (o : Opened) (seed : ℕ) → Steps a b c n i o → Sees a n i (ShortIn (setup_of i seed) c o)
+short_of : (a b c : View) (n : Names) (i : Interface) (o : Opened) (seed : ℕ) → Steps a b c n i o → Sees a n i (ShortIn i (setup_of i seed) c o)
     → HoldsAt c o.stats [] → IsTrue a.tells → IsCutShort a c n seed
 short_of a b c n i o seed s x q t =
     let found = x t in
@@ -260,7 +260,7 @@ short_of a b c n i o seed s x q t =
       };
     }
 
-late_of : (a b c : View) (n : Names) (i : Interface) (o : Opened) (seed : ℕ) → Steps a b c n i o → Sees a n i (LateIn (setup_of i seed) c o)
+late_of : (a b c : View) (n : Names) (i : Interface) (o : Opened) (seed : ℕ) → Steps a b c n i o → Sees a n i (LateIn i (setup_of i seed) c o)
     → HoldsAt c o.stats [] → IsTrue a.tells → IsLate a c n seed
 late_of a b c n i o seed s x q t =
     let found = x t in

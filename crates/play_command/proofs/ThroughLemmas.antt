@@ -1,18 +1,18 @@
--- From the play of a capture in memory to the files that it was played over.
-use Rattle.std.proofs.Common.{◌≡◌, ◌++◌, ◌∙◌, ℕ, Bool, true, false, List, [], ◌∷◌, Some, Ok, Err, ap, sym, subst, inl, inr}
-use Rattle.std.specs.Prelude.{IfErr, IfOk, OnErr, eqb}
+-- From the play over files of which one has other bytes left to these files.
+use Rattle.std.proofs.Common.{◌≡◌, ◌≤◌, ◌+◌, ◌∙◌, ◌++◌, ℕ, Bool, true, false, List, [], ◌∷◌, length, Some, Ok, Err, arith, ap, sym, subst, refl, inl, inr}
+use Rattle.std.specs.Prelude.{IfErr, IfOk, IsTrue, OnErr, if◌then◌else◌}
+use Rattle.std.specs.declared.option.Option.{Option}
 use Rattle.std.specs.declared.result.Result.{Result}
 use Rattle.altq_model.specs.History.{Happened}
-use Rattle.arrivals_front.specs.Given.{is_pcapng}
+use Rattle.arrivals_front.specs.Given.{Follows, is_pcapng}
 use Rattle.arrivals_front.specs.declared.given.Given.{Given}
 use Rattle.arrivals_front.proofs.GivenLemmas.{not_both}
-use Rattle.capture_model.specs.Capture.{Record, Fault, Limit}
+use Rattle.capture_model.specs.Capture.{Record, Fault, Limit, place_after}
 use Rattle.conf_tree.specs.declared.interface.Interface.{Interface}
+use Rattle.interface_marks.specs.Conditioners.{is_conditioned, marked_in}
 use Rattle.pcap_files.specs.Reading.{AreAllTaken}
-use Rattle.pcapng_files.specs.Fronts.{front_view, with_front}
-use Rattle.pcapng_files.proofs.FrontLaws.{left_self}
 use Rattle.play_base.specs.Holds.{HoldsAt}
-use Rattle.play_base.specs.View.{View, Keeps}
+use Rattle.play_base.specs.View.{View}
 use Rattle.play_core.specs.declared.totals.Totals.{Totals}
 use Rattle.play_loop.specs.declared.fault.Limit.TheVariants as limit
 use Rattle.play_loop.specs.declared.fault.Opened.{Opened}
@@ -20,18 +20,18 @@ use Rattle.play_loop.specs.declared.fault.Output.TheVariants as output
 use Rattle.play_loop.specs.declared.fault.PlayFault.{PlayFault}
 use Rattle.play_loop.specs.declared.fault.PlayFault.TheVariants as play
 use Rattle.play_loop.specs.Gathered.{HoldsFront}
-use Rattle.play_loop.specs.Played.{AreReady, BeginsStats, Explains, Fronts, HasBegunStats, HasOffered, HasPlayed, HasStopped, HoldTexts, LeavesStats, OfArrivals, Plays}
+use Rattle.play_loop.specs.Played.{AreReady, BeginsStats, Explains, Fronts, HasBegunStats, HasOffered, HasPlayed, HasStopped, HoldTexts, LeavesStats, OfArrivals, Plays, Streams, start_of}
 use Rattle.play_loop.specs.Setup.{Setup, arrivals_in}
 use Rattle.command_base.specs.Names.{Names}
-use Rattle.play_command.specs.Converting.{CameOf, Through}
+use Rattle.play_command.specs.Converting.{CameOf, Through, with_left}
 use Rattle.play_command.specs.Opening.{Untold}
-use Rattle.play_command.specs.Played.{AreOfFront, AreTaken}
-use Rattle.play_command.proofs.SeeingLemmas.{Begins, Explained, FrontsIn, FrontsOf, Kind, LateIn, LateOf, OffersIn, OffersOf, PlayedIn, PlayedOf, Sees, ShortIn, StatsBegun, StatsIn, StatsLeft, StatsOf, TakenOf, accepted_in, found, seen}
+use Rattle.play_command.specs.Played.{AreNearlyTaken, AreOfFront, AreTaken, StreamsWithin, most_past}
+use Rattle.play_command.proofs.SeeingLemmas.{Begins, Explained, FrontsIn, FrontsOf, LateIn, LateOf, OffersIn, OffersOf, PlayedIn, PlayedOf, Sees, ShortIn, StatsBegun, StatsIn, StatsLeft, StatsOf, TakenOf, accepted_in, found, seen}
 
 -- the files tell the same but for what one has left
-module _ (c : View) (r f : ℕ) (more : Bool) (front : List ℕ) where
+module _ (c : View) (left : ℕ → Option (List ℕ)) (fixed : List ℕ) where
   abbrev Seen : View
-  Seen = front_view c r f more front
+  Seen = with_left c left fixed
 
   holds : (file : ℕ) (xs : List ℕ) → HoldsAt Seen file xs → HoldsAt c file xs
   holds file xs x = record { there = x.there; bytes = x.bytes }
@@ -92,130 +92,165 @@ module _ (c : View) (r f : ℕ) (more : Bool) (front : List ℕ) where
     begun_stats : HasBegunStats x Seen o records → HasBegunStats x c o records
     begun_stats h = record { history = h.history; play = h.play; texts = texts h.history h.texts; stats = holds_front o.stats _ h.stats }
 
--- the files that are given back hold what was fixed
-two_are : (a b c d : ℕ) (xs ys : List ℕ) → a ∷ b ∷ xs ≡ c ∷ d ∷ ys → (a ≡ c) × (b ≡ d)
-two_are a b c d xs ys e = (cc, cc)
-
-pub through_back : (P : View → View → Type 0) (N : List ℕ → Type 0) (F : ℕ → Type 0) (v w : View) (g h file now : ℕ) (more : Bool) (capture front : List ℕ)
-    → Keeps N F (front_view v g file false capture) (front_view w h now more front)
-    → P (front_view v g file false capture) (front_view w h now more front) → Through P v w file capture
-through_back P N F v w g h file now more capture front k x =
-    let same = two_are h now g file w.fixed v.fixed k.later.fixed in
-    let Q : ℕ → Type 0 = λ r. P (front_view v g file false capture) (front_view w r file more front) in
-    let R : ℕ → Type 0 = λ f. P (front_view v g file false capture) (front_view w h f more front) in
-    record { reference = g; rest = more; front = front; holds = subst Q same.0 (subst R same.1 x) }
-
 -- what a play says of its result is what came of it, and back
 pub came_of : (x : Setup) (u w : View) (o : Opened) (r : Result Totals PlayFault) → IfOk r (Plays x Untold u w o) → IfErr r (Explains x Untold u w o)
     → OnErr r (Fronts x u w o) → IfErr r (LeavesStats x u w o) → CameOf x o r u w
 came_of x u w o (Ok totals) done why front stats = done
 came_of x u w o (Err fault) done why front stats = (why, front, stats)
 
-module _ (x : Setup) (o : Opened) (f : PlayFault) (v w : View) (file : ℕ) (capture : List ℕ) (h : Through (CameOf x o (Err f)) v w file capture) where
-  pub why_in : Through (λ a b. Explains x Untold a b o f) v w file capture
-  why_in = record { reference = h.reference; rest = h.rest; front = h.front; holds = h.holds.0 }
+module _ (x : Setup) (o : Opened) (f : PlayFault) (v w : View) (file : ℕ) (shown : Option (List ℕ)) (k : Bool) (h : Through (CameOf x o (Err f)) v w file shown k) where
+  pub why_in : Through (λ a b. Explains x Untold a b o f) v w file shown k
+  why_in = record { before = h.before; after = h.after; fixed_before = h.fixed_before; fixed_after = h.fixed_after; holds = h.holds.0; plays = h.plays; past = h.past }
 
-  pub front_in : Through (λ a b. Fronts x a b o) v w file capture
-  front_in = record { reference = h.reference; rest = h.rest; front = h.front; holds = h.holds.1 }
+  pub front_in : Through (λ a b. Fronts x a b o) v w file shown k
+  front_in = record { before = h.before; after = h.after; fixed_before = h.fixed_before; fixed_after = h.fixed_after; holds = h.holds.1; plays = h.plays; past = h.past }
 
-  pub stats_in : Through (λ a b. LeavesStats x a b o f) v w file capture
-  stats_in = record { reference = h.reference; rest = h.rest; front = h.front; holds = h.holds.2 }
+  pub stats_in : Through (λ a b. LeavesStats x a b o f) v w file shown k
+  stats_in = record { before = h.before; after = h.after; fixed_before = h.fixed_before; fixed_after = h.fixed_after; holds = h.holds.2; plays = h.plays; past = h.past }
 
--- what is played is the capture that was converted
-pub sees_through : (a g b : View) (n : Names) (i : Interface) (o : Opened) (gv : Given) (r : ℕ) (capture : List ℕ) (P : List ℕ → Type 0) → Begins a g b n i o gv
-    → gv.rest ≡ false → o.first.now ≡ [] → capture ≡ gv.front.items → OfArrivals (front_view b r o.arrivals false capture) o P
-    → Sees a n i (Kind true P)
-sees_through a g b n i o gv r capture P s rest first same p = λ t.
-    let y = found a g b n i o gv s t in
-    let f = y.follows in
-    let whole : Some gv.front.items ≡ Some f.bytes = ap (λ (k : Bool). with_front true k gv.front.items (g.left o.arrivals)) (sym rest) ∙ f.left in
-    let is : o.first.now ++ capture ≡ f.bytes = ap (λ (l : List ℕ). l ++ capture) first ∙ same ∙ some_is gv.front.items f.bytes whole in
-    let left : with_front (eqb o.arrivals o.arrivals) false capture (b.left o.arrivals) ≡ Some capture = left_self o.arrivals false capture (b.left o.arrivals) in
-    (accepted_in a g b n i o gv s t y, (f.pcapng rest, subst P is (p (s.tells ∙ t) capture left)))
-  where
-    some_is : (x y : List ℕ) → Some x ≡ Some y → x ≡ y
-    some_is x y h = cc
+-- how the arrivals begin behind the outputs, where others have the bytes that are played
+pub record Behind (a g b : View) (n : Names) (i : Interface) (o : Opened) (gv : Given) (shown : Option (List ℕ)) : Type 0 where
+  pub begins : Begins a g b n i o gv
+  pub first : o.first.now ≡ []
+  pub plays : IsTrue a.tells → (given : List ℕ) (f : Follows g o.arrivals given gv) → shown ≡ Some (marked_in i f.bytes)
+  pub marks : gv.rest ≡ true → is_conditioned i ≡ true
+
+-- what is said of the bytes that are played, and how they are given
+abbrev pub Way : (streamed : Bool) → (given : List ℕ) → Type 0
+Way true given = is_pcapng given ≡ false
+Way false given = is_pcapng given ≡ true
+
+way : (streamed : Bool) (g : View) (file : ℕ) (given : List ℕ) (gv : Given) → gv.rest ≡ streamed → Follows g file given gv → Way streamed given
+way true g file given gv e f = (f.classic e).0
+way false g file given gv e f = f.pcapng e
+
+abbrev pub Wayed : Bool → (List ℕ → Type 0) → (given bytes : List ℕ) → Type 0
+Wayed k P given bytes = Way k given × P bytes
+
+-- what is played is the marked capture of what was given
+pub sees_through : (a g b : View) (n : Names) (i : Interface) (o : Opened) (gv : Given) (shown : Option (List ℕ)) (left : ℕ → Option (List ℕ)) (fixed : List ℕ)
+    (P : List ℕ → Type 0) → Behind a g b n i o gv shown → (IsTrue b.tells → left o.arrivals ≡ shown) → OfArrivals (with_left b left fixed) o P
+    → Sees a n i (Wayed gv.rest P)
+sees_through a g b n i o gv shown left fixed P s plays p = λ t.
+    let y = found a g b n i o gv s.begins t in
+    let told = s.begins.tells ∙ t in
+    let is : o.first.now ++ marked_in i y.follows.bytes ≡ marked_in i y.follows.bytes = ap (λ (l : List ℕ). l ++ marked_in i y.follows.bytes) s.first in (
+      accepted_in a g b n i o gv s.begins t y,
+      (way gv.rest g o.arrivals y.given gv refl y.follows, subst P is (p told (marked_in i y.follows.bytes) (plays told ∙ s.plays t y.given y.follows))),
+    )
 
 of_front : (v : View) (file : ℕ) (bytes : List ℕ) (records : List Record) → AreAllTaken v file bytes records → AreOfFront bytes records
 of_front v file bytes records x = record { front = x.taken; rest = x.rest; split = x.split; last = x.last; reads = x.reads; ended = x.ended }
 
-taken_front : (k : Bool) (c : View) (file : ℕ) (bytes : List ℕ) (records : List Record) → k ≡ true → AreOfFront bytes records → AreTaken k c file bytes records
-taken_front k c file bytes records e x = subst (λ (b : Bool). AreTaken b c file bytes records) (sym e) x
+-- the bytes that are taken of the file and not given are few
+abbrev pub Past : View → (file : ℕ) → (after : ℕ → Option (List ℕ)) → Type 0
+Past c file after = (rest : List ℕ) → after file ≡ Some rest → (mine : List ℕ) × (c.left file ≡ Some mine) × (length rest ≤ length mine + 262160)
 
--- the play of a converted capture
-pub record Converts (a g b : View) (n : Names) (i : Interface) (o : Opened) (gv : Given) (capture : List ℕ) : Type 0 where
-  pub begins : Begins a g b n i o gv
-  pub rest : gv.rest ≡ false
-  pub first : o.first.now ≡ []
-  pub same : capture ≡ gv.front.items
+module _ (c : View) (i : Interface) (file : ℕ) (after : ℕ → Option (List ℕ)) (fixed : List ℕ) (bytes : List ℕ) (records : List Record) where
+  nearly : Past c file after → AreAllTaken (with_left c after fixed) file bytes records → AreNearlyTaken c file bytes records
+  nearly past x =
+      let y = past x.rest x.left in
+      record {
+        of_front = record { front = x.taken; rest = x.rest; split = x.split; last = x.last; reads = x.reads; ended = x.ended };
+        mine = y.0;
+        left = y.1;
+        held = y.2;
+      }
 
-through : (a g b : View) (n : Names) (i : Interface) (o : Opened) (gv : Given) (r : ℕ) (capture : List ℕ) (P : List ℕ → Type 0) → Converts a g b n i o gv capture
-    → OfArrivals (front_view b r o.arrivals false capture) o P → Sees a n i (Kind true P)
-through a g b n i o gv r capture P s p = sees_through a g b n i o gv r capture P s.begins s.rest s.first s.same p
+  taken : (k : Bool) (given : List ℕ) → Way k given → (k ≡ true → is_conditioned i ≡ true) → (k ≡ true → Past c file after)
+      → AreAllTaken (with_left c after fixed) file bytes records → AreTaken (is_pcapng given) (is_conditioned i) c file bytes records
+  taken true given e marks past x =
+      subst (λ (b : Bool). AreTaken b (is_conditioned i) c file bytes records) (sym e)
+      (subst (λ (b : Bool). AreTaken false b c file bytes records) (sym (marks refl)) (nearly (past refl) x))
+  taken false given e marks past x =
+      subst (λ (b : Bool). AreTaken b (is_conditioned i) c file bytes records) (sym e) (of_front (with_left c after fixed) file bytes records x)
 
-pub explained_through : (a g b c : View) (n : Names) (i : Interface) (o : Opened) (gv : Given) (capture : List ℕ) (x : Setup) (f : PlayFault)
-    → Converts a g b n i o gv capture → Through (λ u w. Explains x Untold u w o f) b c o.arrivals capture → Explained a b c n i o x f
-explained_through a g b c n i o gv capture x (play.Capture d) s h =
-    seen a n i (Kind true (OffersOf x (Seen c h.reference o.arrivals h.rest h.front) o (Fault d))) (OffersIn x c o (Fault d)) (λ given bytes y. (y.1.0, y.1.1, offered c h.reference o.arrivals h.rest h.front x o y.1.0 y.1.2))
-    (through a g b n i o gv h.reference capture (OffersOf x (Seen c h.reference o.arrivals h.rest h.front) o (Fault d)) s h.holds)
-explained_through a g b c n i o gv capture x play.Read s h = (
-  h.holds.0,
-  seen a n i (Kind true (TakenOf x (Seen c h.reference o.arrivals h.rest h.front) o)) (ShortIn x c o)
-      (λ given bytes y. (
-        y.1.0,
-        taken_front (is_pcapng given) c o.arrivals bytes y.1.0 y.0 (of_front (front_view c h.reference o.arrivals h.rest h.front) o.arrivals bytes y.1.0 y.1.1),
-        offered c h.reference o.arrivals h.rest h.front x o y.1.0 y.1.2,
-      ))
-      (through a g b n i o gv h.reference capture (TakenOf x (Seen c h.reference o.arrivals h.rest h.front) o) s h.holds.1),
-)
-explained_through a g b c n i o gv capture x (play.Write output.Departures) s h = h.holds
-explained_through a g b c n i o gv capture x (play.Write output.Fates) s h = h.holds
-explained_through a g b c n i o gv capture x (play.Write output.Statistics) s h = h.holds
-explained_through a g b c n i o gv capture x (play.Limit limit.Capture) s h =
-    seen a n i (Kind true (OffersOf x (Seen c h.reference o.arrivals h.rest h.front) o Limit)) (OffersIn x c o Limit) (λ given bytes y. (y.1.0, y.1.1, offered c h.reference o.arrivals h.rest h.front x o y.1.0 y.1.2))
-    (through a g b n i o gv h.reference capture (OffersOf x (Seen c h.reference o.arrivals h.rest h.front) o Limit) s h.holds)
-explained_through a g b c n i o gv capture x (play.Limit limit.Clock) s h =
-    seen a n i (Kind true (LateOf x (Seen c h.reference o.arrivals h.rest h.front) o)) (LateIn x c o)
-    (λ given bytes y. (let z = y.1.1.3 in record {
-      records = y.1.0;
-      last = y.1.1.0;
-      history = z.history;
-      totals = z.totals;
-      reads = y.1.1.1;
-      is_last = y.1.1.2;
-      play = z.play;
-      texts = texts c h.reference o.arrivals h.rest h.front x o y.1.0 z.history z.texts;
-      before = z.before;
-      streams = λ e. absurd (not_both (is_pcapng given) y.0 e);
-    }))
-    (through a g b n i o gv h.reference capture (LateOf x (Seen c h.reference o.arrivals h.rest h.front) o) s h.holds)
-explained_through a g b c n i o gv capture x play.NoMemory s h = tt
+  streams : (k : Bool) (given : List ℕ) (moment : ℕ) → Way k given → (k ≡ true → is_conditioned i ≡ true) → (k ≡ true → Past c file after)
+      → Streams (with_left c after fixed) file bytes records moment → is_pcapng given ≡ false → StreamsWithin (most_past i) c file bytes records moment
+  streams true given moment e marks past h classic =
+      let more : (if is_conditioned i then 65536 + 262160 else 65536) ≡ 65536 + 262160 = ap (λ (b : Bool). if b then 65536 + 262160 else 65536) (marks refl) in
+      λ before r behind split early late.
+      let x = h before r behind split early late in
+      let y = past refl x.rest x.left in
+      let l = x.within in
+      let m = y.2 in
+      record { rest = y.0; left = y.1; within = omega (arith, l, m, more) }
+  streams false given moment e marks past h classic = absurd (not_both (is_pcapng given) e classic)
 
-begun_through : (a g b c : View) (n : Names) (i : Interface) (o : Opened) (gv : Given) (capture : List ℕ) (x : Setup) (r : ℕ) (more : Bool) (front : List ℕ)
-    → Converts a g b n i o gv capture → BeginsStats x (front_view b r o.arrivals false capture) (front_view c r o.arrivals more front) o → StatsBegun a c n i o x
-begun_through a g b c n i o gv capture x r more front s (inl h) = inl (holds c r o.arrivals more front o.stats [] h)
-begun_through a g b c n i o gv capture x r more front s (inr h) =
-    inr (seen a n i (Kind true (StatsOf x (Seen c r o.arrivals more front) o)) (StatsIn x c o) (λ given bytes y. (y.1.0, y.1.1, begun_stats c r o.arrivals more front x o y.1.0 y.1.2))
-    (through a g b n i o gv r capture (StatsOf x (Seen c r o.arrivals more front) o) s h))
+module _ (a g b c : View) (n : Names) (i : Interface) (o : Opened) (gv : Given) (shown : Option (List ℕ)) (x : Setup) (s : Behind a g b n i o gv shown) where
+  through : (P : View → View → Type 0) (h : Through P b c o.arrivals shown gv.rest) (Q : List ℕ → Type 0)
+      → OfArrivals (with_left b h.before h.fixed_before) o Q → Sees a n i (Wayed gv.rest Q)
+  through P h Q p = sees_through a g b n i o gv shown h.before h.fixed_before Q s h.plays p
 
-pub stats_through : (a g b c : View) (n : Names) (i : Interface) (o : Opened) (gv : Given) (capture : List ℕ) (x : Setup) (f : PlayFault)
-    → Converts a g b n i o gv capture → Through (λ u w. LeavesStats x u w o f) b c o.arrivals capture → StatsLeft a c n i o x f
-stats_through a g b c n i o gv capture x (play.Capture d) s h = holds c h.reference o.arrivals h.rest h.front o.stats [] h.holds
-stats_through a g b c n i o gv capture x play.Read s h = holds c h.reference o.arrivals h.rest h.front o.stats [] h.holds
-stats_through a g b c n i o gv capture x (play.Write output.Departures) s h = holds c h.reference o.arrivals h.rest h.front o.stats [] h.holds
-stats_through a g b c n i o gv capture x (play.Write output.Fates) s h = holds c h.reference o.arrivals h.rest h.front o.stats [] h.holds
-stats_through a g b c n i o gv capture x (play.Write output.Statistics) s h = begun_through a g b c n i o gv capture x h.reference h.rest h.front s h.holds
-stats_through a g b c n i o gv capture x (play.Limit limit) s h = holds c h.reference o.arrivals h.rest h.front o.stats [] h.holds
-stats_through a g b c n i o gv capture x play.NoMemory s h = begun_through a g b c n i o gv capture x h.reference h.rest h.front s h.holds
+  pub explained_through : (f : PlayFault) → Through (λ u w. Explains x Untold u w o f) b c o.arrivals shown gv.rest → Explained a b c n i o x f
+  explained_through (play.Capture d) h =
+      let v = with_left c h.after h.fixed_after in
+      seen a n i (Wayed gv.rest (OffersOf x v o (Fault d))) (OffersIn x c o (Fault d)) (λ given bytes y. (y.1.0, y.1.1, offered c h.after h.fixed_after x o y.1.0 y.1.2))
+      (through (λ u w. Explains x Untold u w o (play.Capture d)) h (OffersOf x v o (Fault d)) h.holds)
+  explained_through play.Read h =
+      let v = with_left c h.after h.fixed_after in (
+        h.holds.0,
+        seen a n i (Wayed gv.rest (TakenOf x v o)) (ShortIn i x c o)
+            (λ given bytes y. (
+              y.1.0,
+              taken c i o.arrivals h.after h.fixed_after bytes y.1.0 gv.rest given y.0 s.marks h.past y.1.1,
+              offered c h.after h.fixed_after x o y.1.0 y.1.2,
+            ))
+            (through (λ u w. Explains x Untold u w o play.Read) h (TakenOf x v o) h.holds.1),
+      )
+  explained_through (play.Write output.Departures) h = h.holds
+  explained_through (play.Write output.Fates) h = h.holds
+  explained_through (play.Write output.Statistics) h = h.holds
+  explained_through (play.Limit limit.Capture) h =
+      let v = with_left c h.after h.fixed_after in
+      seen a n i (Wayed gv.rest (OffersOf x v o Limit)) (OffersIn x c o Limit) (λ given bytes y. (y.1.0, y.1.1, offered c h.after h.fixed_after x o y.1.0 y.1.2))
+      (through (λ u w. Explains x Untold u w o (play.Limit limit.Capture)) h (OffersOf x v o Limit) h.holds)
+  explained_through (play.Limit limit.Clock) h =
+      let v = with_left c h.after h.fixed_after in
+      seen a n i (Wayed gv.rest (LateOf x v o)) (LateIn i x c o)
+      (λ given bytes y. (let z = y.1.1.3 in record {
+        records = y.1.0;
+        last = y.1.1.0;
+        history = z.history;
+        totals = z.totals;
+        reads = y.1.1.1;
+        is_last = y.1.1.2;
+        play = z.play;
+        texts = texts c h.after h.fixed_after x o y.1.0 z.history z.texts;
+        before = z.before;
+        streams = streams c i o.arrivals h.after h.fixed_after bytes y.1.0 gv.rest given (start_of z.play.cut.next.what) y.0 s.marks h.past z.streams;
+      }))
+      (through (λ u w. Explains x Untold u w o (play.Limit limit.Clock)) h (LateOf x v o) h.holds)
+  explained_through play.NoMemory h = tt
 
-pub played_through : (a g b c : View) (n : Names) (i : Interface) (o : Opened) (gv : Given) (capture : List ℕ) (x : Setup) (totals : Totals)
-    → Converts a g b n i o gv capture → Through (CameOf x o (Ok totals)) b c o.arrivals capture → Sees a n i (PlayedIn x c o totals)
-played_through a g b c n i o gv capture x totals s h =
-    seen a n i (Kind true (PlayedOf x (Seen c h.reference o.arrivals h.rest h.front) o totals)) (PlayedIn x c o totals) (λ given bytes y. (y.1.0, y.1.1, played c h.reference o.arrivals h.rest h.front x o y.1.0 totals y.1.2))
-    (through a g b n i o gv h.reference capture (PlayedOf x (Seen c h.reference o.arrivals h.rest h.front) o totals) s h.holds)
+  begun_through : Through (λ u w. BeginsStats x u w o) b c o.arrivals shown gv.rest → StatsBegun a c n i o x
+  begun_through h = by h.holds
+    where
+      by : BeginsStats x (with_left b h.before h.fixed_before) (with_left c h.after h.fixed_after) o → StatsBegun a c n i o x
+      by (inl k) = inl (holds c h.after h.fixed_after o.stats [] k)
+      by (inr k) =
+          inr (seen a n i (Wayed gv.rest (StatsOf x (with_left c h.after h.fixed_after) o)) (StatsIn x c o)
+          (λ given bytes y. (y.1.0, y.1.1, begun_stats c h.after h.fixed_after x o y.1.0 y.1.2))
+          (through (λ u w. BeginsStats x u w o) h (StatsOf x (with_left c h.after h.fixed_after) o) k))
 
-pub fronts_through : (a g b c : View) (n : Names) (i : Interface) (o : Opened) (gv : Given) (capture : List ℕ) (x : Setup)
-    → Converts a g b n i o gv capture → Through (λ u w. Fronts x u w o) b c o.arrivals capture → Sees a n i (FrontsIn x c o)
-fronts_through a g b c n i o gv capture x s h =
-    seen a n i (Kind true (FrontsOf x (Seen c h.reference o.arrivals h.rest h.front) o)) (FrontsIn x c o) (λ given bytes y records last reads is_last. stopped c h.reference o.arrivals h.rest h.front x o records (y.1 records last reads is_last))
-    (through a g b n i o gv h.reference capture (FrontsOf x (Seen c h.reference o.arrivals h.rest h.front) o) s h.holds)
+  pub stats_through : (f : PlayFault) → Through (λ u w. LeavesStats x u w o f) b c o.arrivals shown gv.rest → StatsLeft a c n i o x f
+  stats_through (play.Capture d) h = holds c h.after h.fixed_after o.stats [] h.holds
+  stats_through play.Read h = holds c h.after h.fixed_after o.stats [] h.holds
+  stats_through (play.Write output.Departures) h = holds c h.after h.fixed_after o.stats [] h.holds
+  stats_through (play.Write output.Fates) h = holds c h.after h.fixed_after o.stats [] h.holds
+  stats_through (play.Write output.Statistics) h = begun_through h
+  stats_through (play.Limit limit) h = holds c h.after h.fixed_after o.stats [] h.holds
+  stats_through play.NoMemory h = begun_through h
+
+  pub played_through : (totals : Totals) → Through (CameOf x o (Ok totals)) b c o.arrivals shown gv.rest → Sees a n i (PlayedIn x c o totals)
+  played_through totals h =
+      let v = with_left c h.after h.fixed_after in
+      seen a n i (Wayed gv.rest (PlayedOf x v o totals)) (PlayedIn x c o totals) (λ given bytes y. (y.1.0, y.1.1, played c h.after h.fixed_after x o y.1.0 totals y.1.2))
+      (through (CameOf x o (Ok totals)) h (PlayedOf x v o totals) h.holds)
+
+  pub fronts_through : Through (λ u w. Fronts x u w o) b c o.arrivals shown gv.rest → Sees a n i (FrontsIn x c o)
+  fronts_through h =
+      let v = with_left c h.after h.fixed_after in
+      seen a n i (Wayed gv.rest (FrontsOf x v o)) (FrontsIn x c o)
+      (λ given bytes y records last reads is_last. stopped c h.after h.fixed_after x o records (y.1 records last reads is_last))
+      (through (λ u w. Fronts x u w o) h (FrontsOf x v o) h.holds)

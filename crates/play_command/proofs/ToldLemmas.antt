@@ -54,12 +54,12 @@ written_not u v n seed output.Statistics q x = (q 5 (omega arith)).1 (omega arit
 accepted_fault : (u : View) (n : Names) (block : NgPlace) → Accepted u n → IsNoCapture u n (ng.At block) → ⊥
 accepted_fault u n block a x =
     let same : a.given ≡ x.given = same_some a.given x.given (sym a.arrivals ∙ x.arrivals) in
-    fault_not_read x.given a.bytes block x.pcapng (subst (λ (g : List ℕ). arrivals.ReadAs g a.bytes) same a.read) x.cause
+    fault_not_read x.given a.read.capture block x.pcapng (subst (λ (g : List ℕ). arrivals.ReadAs g a.read.capture) same a.read.read) x.cause
 
 accepted_limit : (u : View) (n : Names) → Accepted u n → IsNoCapture u n ng.Limit → ⊥
 accepted_limit u n a x =
     let same : a.given ≡ x.given = same_some a.given x.given (sym a.arrivals ∙ x.arrivals) in
-    limit_not_read x.given a.bytes x.pcapng (subst (λ (g : List ℕ). arrivals.ReadAs g a.bytes) same a.read) x.cause
+    limit_not_read x.given a.read.capture x.pcapng (subst (λ (g : List ℕ). arrivals.ReadAs g a.read.capture) same a.read.read) x.cause
 
 -- the arrivals are at a limit
 abbrev AtLimit : View → View → Names → (seed : ℕ) → Type 0

@@ -1,20 +1,21 @@
 -- What a play leaves, and when each of its ends comes.
-use Rattle.std.specs.Prelude.{◌≡◌, ◌<◌, ◌⊎◌, ℕ, List, [], ◌++◌, length, None, Some, IsTrue, Bool, true, false}
+use Rattle.std.specs.Prelude.{◌≡◌, ◌≤◌, ◌<◌, ◌+◌, ◌⊎◌, ℕ, List, [], ◌∷◌, ◌++◌, length, None, Some, IsTrue, Bool, true, false, if◌then◌else◌}
 use Rattle.altq_model.specs.Arrivals.{comings}
 use Rattle.altq_model.specs.Departures.{departed}
 use Rattle.altq_model.specs.History.{Happened, bare, offered}
 use Rattle.altq_model.specs.Lawful.{greatest}
 use Rattle.altq_model.specs.Play.{IsPlay}
 use Rattle.capture_model.specs.declared.damage.Damage.{Damage}
-use Rattle.capture_model.specs.Capture.{Record, Step, End, Fault, Limit, Reads, IsCapture, IsLast}
+use Rattle.capture_model.specs.Capture.{Record, Step, End, Fault, Limit, Reads, IsCapture, IsLast, place_after}
 use Rattle.conf_tree.specs.declared.interface.Interface.{Interface}
+use Rattle.interface_marks.specs.Conditioners.{is_conditioned, marked_in}
 use Rattle.interface_policy.specs.Promises.{KeepsPromises}
 use Rattle.pcap_files.specs.Reading.{AreAllTaken}
 use Rattle.play_base.specs.View.{View}
 use Rattle.play_core.specs.declared.totals.Totals.{Totals}
 use Rattle.play_core.specs.Ended.{IsBegun, IsCutOff}
 use Rattle.play_core.specs.Finished.{EndsWithOffer, IsFinished, IsStopped}
-use Rattle.play_loop.specs.Played.{Streams, start_of}
+use Rattle.play_loop.specs.Played.{start_of}
 use Rattle.play_loop.specs.Setup.{Setup, arrivals_in, departures_of, fates_of, statistics_of}
 use Rattle.command_base.specs.Configuration.{Configures}
 use Rattle.command_base.specs.Faults.{Untouched}
@@ -26,9 +27,11 @@ use Rattle.pcapng_files.specs.Converted.{IsCause}
 use Rattle.pcapng_files.specs.declared.fault.NgFault.{NgFault}
 
 -- what an interface plays of the bytes given under the arrivals' name: of a classic capture these bytes, of a pcapng file the classic
--- capture of its packets
-abbrev pub ReadAs : Interface → (given bytes : List ℕ) → Type 0
-ReadAs i given bytes = arrivals.ReadAs given bytes
+-- capture of its packets; and of that the marked one, where the interface has conditioners
+pub record ReadAs (i : Interface) (given bytes : List ℕ) : Type 0 where
+  pub capture : List ℕ
+  pub read : arrivals.ReadAs given capture
+  pub marked : bytes ≡ marked_in i capture
 
 -- what is accepted: the configuration says that the interface asked for is this one; these bytes are given under the arrivals' name,
 -- and those are played
@@ -135,9 +138,25 @@ pub record IsCutEarly (x : Setup) (records : List Record) (last : Step) (g : Lis
   pub cut : IsCutOff x.policy x.rate x.seed (comings (arrivals_in x records)) g
   pub before : (last ≡ End) ⊎ (start_of cut.next.what < greatest 0 records)
 
+-- how many bytes of a classic capture are taken at most past the record that a play needs: those of one read and, where an interface
+-- has conditioners, those of the longest record with its header
+abbrev pub most_past : Interface → ℕ
+most_past i = if is_conditioned i then 65536 + 262160 else 65536
+
+-- what was taken of the file's `bytes` ends at most `past` bytes behind `place`
+pub record TookWithin (past : ℕ) (v : View) (file place : ℕ) (bytes : List ℕ) : Type 0 where
+  pub rest : List ℕ
+  pub left : v.left file ≡ Some rest
+  pub within : length bytes ≤ place + past + length rest
+
+-- if a complete record arrives later than `moment`, the bytes taken end at most `past` bytes behind the first such record
+abbrev pub StreamsWithin : (past : ℕ) → View → (file : ℕ) → List ℕ → List Record → (moment : ℕ) → Type 0
+StreamsWithin past v file bytes records moment = (before : List Record) (r : Record) (after : List Record) → records ≡ before ++ r ∷ after
+    → greatest 0 before ≤ moment → moment < greatest 0 (before ++ r ∷ []) → TookWithin past v file (place_after 24 (before ++ r ∷ [])) bytes
+
 -- the play of what is accepted is cut off so. Departures and fates hold exactly the texts of the events before that sending, and
--- the statistics nothing. Of a classic capture, if a complete record arrives later than it starts, the bytes that were taken of the
--- arrivals end at most 65,536 bytes past the first such record
+-- the statistics nothing. Of a classic capture, if a complete record arrives later than it starts, few bytes were taken of the
+-- arrivals behind the first such record
 pub record IsLate (old new : View) (n : Names) (seed : ℕ) : Type 0 where
   pub accepted : Accepted old n
   pub records : List Record
@@ -154,7 +173,8 @@ pub record IsLate (old new : View) (n : Names) (seed : ℕ) : Type 0 where
   pub file : ℕ
   pub fresh : old.part file ≡ None
   pub part : new.part file ≡ Some 2
-  pub streams : is_pcapng accepted.given ≡ false → Streams new file accepted.bytes records (start_of early.cut.next.what)
+  pub streams : is_pcapng accepted.given ≡ false
+      → StreamsWithin (most_past accepted.interface) new file accepted.bytes records (start_of early.cut.next.what)
 
 -- these are the complete records of a front of the bytes
 pub record AreOfFront (bytes : List ℕ) (records : List Record) : Type 0 where
@@ -165,11 +185,19 @@ pub record AreOfFront (bytes : List ℕ) (records : List Record) : Type 0 where
   pub reads : Reads front records last
   pub ended : IsLast last
 
--- these are the complete records of what was taken: of a classic capture from its file, of a pcapng one, of which all was taken
--- before, from the classic capture of its packets
-abbrev pub AreTaken : (pcapng : Bool) → View → (file : ℕ) → (bytes : List ℕ) → List Record → Type 0
-AreTaken false v file bytes records = AreAllTaken v file bytes records
-AreTaken true v file bytes records = AreOfFront bytes records
+-- these are the complete records of a front of the bytes, and at most 262,160 bytes more were taken of the file
+pub record AreNearlyTaken (v : View) (file : ℕ) (bytes : List ℕ) (records : List Record) : Type 0 where
+  pub of_front : AreOfFront bytes records
+  pub mine : List ℕ
+  pub left : v.left file ≡ Some mine
+  pub held : length of_front.rest ≤ length mine + 262160
+
+-- these are the complete records of what was taken: of a classic capture from its file, but for what a marker holds of it; of a pcapng
+-- one, of which all was taken before, from the classic capture of its packets
+abbrev pub AreTaken : (pcapng conditioned : Bool) → View → (file : ℕ) → (bytes : List ℕ) → List Record → Type 0
+AreTaken false false v file bytes records = AreAllTaken v file bytes records
+AreTaken false true v file bytes records = AreNearlyTaken v file bytes records
+AreTaken true conditioned v file bytes records = AreOfFront bytes records
 
 -- a read of the arrivals failed: all complete records of the bytes that were taken of them were offered
 pub record IsCutShort (old new : View) (n : Names) (seed : ℕ) : Type 0 where
@@ -178,7 +206,7 @@ pub record IsCutShort (old new : View) (n : Names) (seed : ℕ) : Type 0 where
   pub file : ℕ
   pub fresh : old.part file ≡ None
   pub part : new.part file ≡ Some 2
-  pub taken : AreTaken (is_pcapng accepted.given) new file accepted.bytes records
+  pub taken : AreTaken (is_pcapng accepted.given) (is_conditioned accepted.interface) new file accepted.bytes records
   pub decided : HasOffered new n (setup_of accepted.interface seed) records
 
 -- what is accepted reads to this end, and no sending of its play comes before that and would end too late

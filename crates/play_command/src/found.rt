@@ -1,15 +1,12 @@
 // The play of an interface that the configuration gives, by a discipline that is handed in, and what that stands for behind it.
 ghost use Rattle.command_base.specs.Configuration.{Accepts, IsConfigured};
 ghost use Rattle.command_base.specs.Names.{names_read};
-ghost use Rattle.play_base.specs.View.{NoneAppears, SameCounts, View};
-ghost use Rattle.play_command.specs.Converting.{CameOf, Through};
+ghost use Rattle.interface_marks.specs.Conditioners.{is_conditioned};
+ghost use Rattle.play_base.specs.View.{SameCounts, View};
 ghost use Rattle.play_command.specs.Ending.{PlayEnds};
 ghost use Rattle.play_command.specs.Failing.{play_failure, unplayed_failure};
 ghost use Rattle.play_command.specs.Found.{HasStood, IsBehind, PlaysTo};
-ghost use Rattle.play_command.specs.InterfaceSetup.{setup_of};
 ghost use Rattle.play_command.specs.Opening.{IsOpened};
-ghost use Rattle.play_loop.specs.Kept.{KeepsPlayed};
-ghost use Rattle.play_loop.specs.Played.{AreReady, Plays};
 ghost use Rattle.play_words.specs.Words.{AreDistinct};
 ghost use Rattle.std.specs.Prelude.{Err, IfErr, IfOk, IsTrue, None, OnOk, Some, [], false, length, true, ℕ, ◌≡◌, ◌≤◌};
 ghost use Rattle.discipline.specs.Laws.{HasRate};
@@ -18,54 +15,32 @@ ghost use Rattle.interface_policy.specs.Policy.{policy_of};
 use crate::failing::Unplayed;
 use crate::interface::play_by;
 use crate::opening::{Arrivals, create_outputs, open_arrivals};
+use crate::shown::shown_by;
+use arrivals_front::Given;
 use conf_laws::configurations_fit;
 use conf_tree::Interface;
 use discipline::Discipline;
 use frame_classes::frames_have_classes;
+use interface_marks::{is_conditioned, nothing_is_marked_without_conditioners};
 use interface_policy::interfaces_keep_their_promises;
-use pcapng_files::{Front, FrontFiles};
 use play_base::Files;
-use play_loop::{Opened, PlayFault, Totals};
+use play_loop::{PlayFault, Totals};
 use play_words::PlayWords;
 use std::alloc::Global;
 
-// Plays a capture that is in memory by a discipline, in the place of what the arrivals have left.
-#[tactic(auto, using(play_base::proofs::ViewLaws::same_trans, play_base::proofs::ViewLaws::same_refl))]
-fn converted_by<D: Discipline, F: Files>(
-    alloc: Global,
-    files: &mut F,
-    interface: &Interface,
-    seed: u64,
-    opened: &Opened<'_>,
-    capture: &[u8],
-    discipline: &mut D,
-) -> Result<Totals, PlayFault>
-    requires new { D.stands discipline.old [] }
-    requires policy { D.policy discipline.old ≡ policy_of interface.now }
-    requires rate { HasRate (D.link_rate discipline.old) interface.now.rate }
-    requires configured { IsConfigured interface.now }
-    requires ready { AreReady (F.view files.old) opened.now }
-    ensures ends { Through (CameOf (setup_of interface.now seed) opened.now result)
-        (F.view files.old) (F.view files.new) opened.now.arrivals capture.now }
-    ensures stood { Through (λ u w. IfOk result (Plays (setup_of interface.now seed) (D.stands discipline.new) u w opened.now))
-        (F.view files.old) (F.view files.new) opened.now.arrivals capture.now }
-    ensures keeps { KeepsPlayed opened.now (F.view files.old) (F.view files.new) }
-    ensures none { NoneAppears (F.view files.old) (F.view files.new) }
-    ensures said { (F.view files.new).said ≡ (F.view files.old).said }
-    ensures no_fault { OnOk result (SameCounts (F.view files.old) (F.view files.new)) }
+// Whether arrivals are played as they stand: a classic capture, of an interface without conditioners.
+fn stands_as_given(given: &Given, found: &Interface) -> bool
+    ensures plain { result ≡ true → (given.now.rest ≡ true) × (is_conditioned found.now ≡ false) }
+    ensures other { result ≡ false → given.now.rest ≡ true → is_conditioned found.now ≡ true }
 {
-    let mut fronted = FrontFiles {
-        files,
-        file: opened.arrivals,
-        front: Front {
-            bytes: capture,
-            rest: false,
-        },
-    };
-    play_by(alloc, &mut fronted, interface, discipline, seed, opened)
+    if given.rest {
+        !is_conditioned(found)
+    } else {
+        false
+    }
 }
 
-// Creates the outputs, and plays a classic capture that was opened by a discipline.
+// Creates the outputs, and plays a classic capture that was opened, as it stands, by a discipline: the interface has no conditioner.
 #[tactic(auto, using(play_base::proofs::ViewLaws::same_trans, play_base::proofs::ViewLaws::same_refl))]
 fn itself_by<D: Discipline, F: Files>(
     alloc: Global,
@@ -82,6 +57,7 @@ fn itself_by<D: Discipline, F: Files>(
     requires distinct { AreDistinct words.now.config.now words.now.arrivals.now words.now.departures.now words.now.fates.now words.now.stats.now }
     requires opened { (a : View) × IsOpened a (F.view files.old) words.now.arrivals.now arrivals.now.file }
     requires classic { arrivals.now.given.rest ≡ true }
+    requires plain { is_conditioned found.now ≡ false }
     requires few { length arrivals.now.given.front.items ≤ 24 }
     ensures done { IfOk result (λ totals. (a : View) → IsBehind a (F.view files.old) (names_read words.now) found.now arrivals.now
         → SameCounts a (F.view files.old) → PlaysTo a (F.view files.new) (names_read words.now) words.now.seed totals) }
@@ -96,6 +72,7 @@ fn itself_by<D: Discipline, F: Files>(
     configurations_fit();
     frames_have_classes();
     interfaces_keep_their_promises();
+    nothing_is_marked_without_conditioners();
     let front = arrivals.given.front.as_slice();
     let opened = match create_outputs(files, words, arrivals.file, front) {
         Ok(opened) => opened,
@@ -107,9 +84,10 @@ fn itself_by<D: Discipline, F: Files>(
     }
 }
 
-// Creates the outputs, and plays the classic capture of a pcapng file that was opened by a discipline.
+// Creates the outputs, and plays what an interface makes of arrivals that were opened, by a discipline: of a pcapng file, or by its
+// conditioners.
 #[tactic(auto, using(play_base::proofs::ViewLaws::same_trans, play_base::proofs::ViewLaws::same_refl))]
-fn pcapng_by<D: Discipline, F: Files>(
+fn made_by<D: Discipline, F: Files>(
     alloc: Global,
     files: &mut F,
     found: &Interface,
@@ -123,7 +101,8 @@ fn pcapng_by<D: Discipline, F: Files>(
     requires configured { IsConfigured found.now }
     requires distinct { AreDistinct words.now.config.now words.now.arrivals.now words.now.departures.now words.now.fates.now words.now.stats.now }
     requires opened { (a : View) × IsOpened a (F.view files.old) words.now.arrivals.now arrivals.now.file }
-    requires pcapng { arrivals.now.given.rest ≡ false }
+    requires marked { arrivals.now.given.rest ≡ true → is_conditioned found.now ≡ true }
+    requires few { arrivals.now.given.rest ≡ true → length arrivals.now.given.front.items ≤ 24 }
     ensures done { IfOk result (λ totals. (a : View) → IsBehind a (F.view files.old) (names_read words.now) found.now arrivals.now
         → SameCounts a (F.view files.old) → PlaysTo a (F.view files.new) (names_read words.now) words.now.seed totals) }
     ensures ends { IfErr result (λ fault. (a : View) → IsBehind a (F.view files.old) (names_read words.now) found.now arrivals.now
@@ -142,9 +121,14 @@ fn pcapng_by<D: Discipline, F: Files>(
         Ok(opened) => opened,
         Err(fault) => return Err(fault),
     };
-    let capture = arrivals.given.front.as_slice();
-    match converted_by(
-        alloc, files, found, words.seed, &opened, capture, discipline,
+    match shown_by(
+        alloc,
+        files,
+        found,
+        words.seed,
+        &opened,
+        discipline,
+        &arrivals.given,
     ) {
         Ok(totals) => Ok(totals),
         Err(fault) => Err(fault),
@@ -182,13 +166,13 @@ pub fn play_found_by<D: Discipline, F: Files>(
         Ok(arrivals) => arrivals,
         Err(fault) => return Err(fault),
     };
-    if arrivals.given.rest {
+    if stands_as_given(&arrivals.given, found) {
         return match itself_by(alloc, files, found, words, &arrivals, discipline) {
             Ok(totals) => Ok(totals),
             Err(fault) => Err(Unplayed::Play(fault)),
         };
     }
-    match pcapng_by(alloc, files, found, words, &arrivals, discipline) {
+    match made_by(alloc, files, found, words, &arrivals, discipline) {
         Ok(totals) => Ok(totals),
         Err(fault) => Err(Unplayed::Play(fault)),
     }

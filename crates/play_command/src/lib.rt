@@ -7,6 +7,7 @@ mod interface;
 mod kind;
 mod opening;
 mod playing;
+mod shown;
 
 pub use failing::{Unplayed, play_failure};
 pub use found::play_found_by;

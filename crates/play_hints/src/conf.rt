@@ -16,7 +16,7 @@ pub struct ConfAt {
 }
 
 // All kinds of faults.
-const KINDS: [ConfKind; 24] = [
+const KINDS: [ConfKind; 25] = [
     ConfKind::UnknownWord,
     ConfKind::MissingWord,
     ConfKind::BadNumber,
@@ -41,6 +41,7 @@ const KINDS: [ConfKind; 24] = [
     ConfKind::TwoDefaults,
     ConfKind::NoDefault,
     ConfKind::NoClass,
+    ConfKind::ConditionerTwice,
 ];
 
 // The greatest column at which a line is shown from its first byte.
@@ -108,7 +109,6 @@ fn foreign(words: &[Word]) -> &'static str {
             " this is pf.conf: see docs/PF-TC.md"
         }
         b"tc" | b"qdisc" => " this is of tc: see docs/PF-TC.md",
-        b"conditioner" => " no conditioners here: leave this line out",
         _ => "",
     }
 }

@@ -30,7 +30,10 @@ fn form(words: &[Word]) -> &'static str {
         (b"filter", _) => {
             "filter INTERFACE CLASS [ruleno N] DST [netmask M] DPORT SRC [netmask M] SPORT PROTO"
         }
-        _ => "interface, class, filter or filter6",
+        (b"conditioner", _) => {
+            "conditioner INTERFACE CLASS srtcm CIR CBS EBS AF, or trtcm PIR PBS CIR CBS AF"
+        }
+        _ => "interface, class, filter, filter6 or conditioner",
     }
 }
 
@@ -110,11 +113,12 @@ fn plain(kind: ConfKind) -> &'static str {
         ConfKind::NoShare => "no link-sharing curve: add sc, ls or pshare",
         ConfKind::RealTimeInside => "a parent with a real-time curve: leave rt and grate out of it",
         ConfKind::InnerQueue =>
-            "a class with children holds no packets: filters and default name classes without children",
+            "a class with children holds no packets: filters, conditioners and default name classes without children",
         ConfKind::TwoDefaults => "a second default: leave one of the two out",
         ConfKind::NoDefault =>
             "no class has default: add it to the class for what no filter matches",
         ConfKind::NoClass => "no class of this name above: put its class line first",
+        ConfKind::ConditionerTwice => "the class has a conditioner above: leave one of the two out",
         _ => "refused",
     }
 }

@@ -1,10 +1,10 @@
 // Which option a word belongs to, by the table of options.
 
-use conf_lines::{Key, MOST_BEND, MOST_RATE, Slots};
-use line_text::Word;
+use conf_lines::{Key, MOST_AF, MOST_BEND, MOST_BURST, MOST_RATE, Slots};
+use line_text::{Word, rate};
 
 // The options with something behind them.
-const KEYS: [Key; 21] = [
+const KEYS: [Key; 23] = [
     Key::Bandwidth,
     Key::Exactbandwidth,
     Key::Tbrsize,
@@ -26,6 +26,8 @@ const KEYS: [Key; 21] = [
     Key::Tclass,
     Key::Tclassmask,
     Key::Admission,
+    Key::Srtcm,
+    Key::Trtcm,
 ];
 
 // What is wanted at a word.
@@ -54,18 +56,33 @@ fn behind(key: Key, back: usize) -> Option<Wanted> {
         (Slots::Curve(low, _), 1) => Some(Wanted::Rate(low, MOST_RATE)),
         (Slots::Curve(_, _), 2) => Some(Wanted::Whole(0, MOST_BEND)),
         (Slots::Curve(_, low), 3) => Some(Wanted::Rate(low, MOST_RATE)),
+        (Slots::Single | Slots::Two, 1) => Some(Wanted::Rate(1000, MOST_RATE)),
+        (Slots::Single | Slots::Two, 2) | (Slots::Two, 4) => Some(Wanted::Whole(1, MOST_BURST)),
+        (Slots::Single, 3) => Some(Wanted::Whole(0, MOST_BURST)),
+        (Slots::Single, 4) | (Slots::Two, 5) => Some(Wanted::Whole(1, MOST_AF)),
         _ => None,
+    }
+}
+
+// The peak rate of a meter of two rates, whose committed rate stands at this place.
+fn peak_rate(words: &[Word], at: usize) -> u64 {
+    match words.get(at.wrapping_sub(2)) {
+        Some(word) => rate(word).unwrap_or(MOST_RATE),
+        None => MOST_RATE,
     }
 }
 
 // What is wanted at the word at a place of a line, by the nearest option before it.
 pub(crate) fn want_at(words: &[Word], at: usize) -> Wanted {
-    for back in 1usize..=3 {
+    for back in 1usize..=5 {
         let key = match words.get(at.wrapping_sub(back)) {
             Some(word) => key_of(word),
             None => None,
         };
         if let Some(key) = key {
+            if key == Key::Trtcm && back == 3 {
+                return Wanted::Rate(1000, peak_rate(words, at));
+            }
             return behind(key, back).unwrap_or(Wanted::Other);
         }
     }

@@ -12,8 +12,8 @@ pub struct KeptFate {
     pub fate: Fate,
 }
 
-/// Fates in the order in which plays decided them. Contracts see them as a list, by `fates_in`. At most 64 bytes for each: it grows by
-/// half.
+/// Fates in the order in which plays decided them. Contracts see them as a list, by `fates_in`. Its memory grows by half; no clause
+/// bounds it.
 #[derive(Debug, Drop)]
 pub struct Kept {
     pub(crate) fates: Vec<KeptFate>,

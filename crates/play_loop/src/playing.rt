@@ -122,7 +122,7 @@ pub fn play<D: Discipline, C: Classify, F: Files>(
 }
 
 /// Plays as `play` does, and keeps the journal. After Ok `kept` has gained at its end exactly the pairs of the journal, in their order,
-/// each with its packet's arrival; after another answer nothing is said of it. Takes at most 64 bytes for each besides what `play` takes.
+/// each with its packet's arrival; after another answer nothing is said of it. Takes the memory of `Kept` besides what `play` takes.
 #[tactic(auto, using(play_base::proofs::ViewLaws::same_trans, play_base::proofs::ViewLaws::same_refl))]
 pub fn play_kept<D: Discipline, C: Classify, F: Files>(
     alloc: Global,

@@ -1,11 +1,16 @@
 -- Arrivals that were opened, looked at, and read.
 use Rattle.std.proofs.Common.{◌≡◌, ◌∙◌, inl, inr, ℕ, Bool, true, List, Some, ap, refl}
-use Rattle.std.specs.Prelude.{◌≢◌, IsTrue}
+use Rattle.std.specs.Prelude.{◌≢◌, IsTrue, eqb}
 use Rattle.arrivals_front.specs.Given.{Follows, IsRefused}
 use Rattle.arrivals_front.specs.declared.given.Given.{Given}
 use Rattle.arrivals_front.specs.declared.given.GivenFault.{GivenFault}
 use Rattle.arrivals_front.specs.declared.given.GivenFault.TheVariants as given
+use Rattle.conf_tree.specs.declared.interface.Interface.{Interface}
 use Rattle.input_files.specs.Records.{AreRecords, HasFault}
+use Rattle.interface_marks.specs.Conditioners.{marked_in}
+use Rattle.marked_files.specs.Through.{marked_view, with_marks}
+use Rattle.marked_files.proofs.BackLaws.{keeps_back as marks_back}
+use Rattle.marked_files.proofs.ViewLaws.{left_self, told_is}
 use Rattle.pcap_files.specs.Ahead.{TookSome}
 use Rattle.pcap_files.specs.declared.fault.CaptureFault.{CaptureFault}
 use Rattle.pcap_files.specs.declared.fault.CaptureFault.TheVariants as fault
@@ -53,6 +58,28 @@ pub counts_behind : (v w : View) (g h file now : ℕ) (more later : Bool) (front
     → SameCounts (front_view v g file more front) (front_view w h now later next) → SameCounts v w
 counts_behind v w g h file now more later front next x = record { read = x.read; write = x.write }
 
+-- marked files, and those behind them
+pub ran_marked : (v w : View) (g h file now k l : ℕ) (become later : List ℕ → List ℕ)
+    → TookSome (marked_view v g file k become) (marked_view w h now l later) file → Ran v w file
+ran_marked v w g h file now k l become later x = record {
+  keeps = marks_back v w g h file now k l become later Any (λ f. f ≢ file) (λ f y. y) x.1.keeps;
+  none = x.1.none;
+  said = x.1.said;
+}
+
+pub counts_marked : (v w : View) (g h file now k l : ℕ) (become later : List ℕ → List ℕ)
+    → SameCounts (marked_view v g file k become) (marked_view w h now l later) → SameCounts v w
+counts_marked v w g h file now k l become later x = record { read = x.read; write = x.write }
+
+-- what a marker makes of what the file has left is left of the marked file, where the files tell
+pub marked_left : (v : View) (file : ℕ) (become : List ℕ → List ℕ) (bytes : List ℕ) → IsTrue v.tells → v.left file ≡ Some bytes
+    → with_marks (eqb file file) v.tells become (v.left file) ≡ Some (become bytes)
+marked_left v file become bytes t h = left_self file v.tells become (v.left file) ∙ told_is v.tells become (v.left file) bytes t h
+
+-- what is said of the bytes that a file has left, where the files tell
+abbrev pub OfLeft : View → (file : ℕ) → (List ℕ → Type 0) → Type 0
+OfLeft v file P = IsTrue v.tells → (bytes : List ℕ) → v.left file ≡ Some bytes → P bytes
+
 -- what is played of the bytes under the name
 pub record WasGiven (a c : View) (name : List ℕ) (file : ℕ) (gv : Given) : Type 0 where
   pub given : List ℕ
@@ -65,48 +92,56 @@ was_given a b c name file gv x h t = let s = was_left a b 2 name file x t in rec
 
 -- what is said of the front and of what follows it
 abbrev pub OfPlayed : View → (file : ℕ) → (rest : Bool) → (front : List ℕ) → (List ℕ → Type 0) → Type 0
-OfPlayed c file rest front P = (bytes : List ℕ) → with_front true rest front (c.left file) ≡ Some bytes → P bytes
+OfPlayed c file rest front P = IsTrue c.tells → (bytes : List ℕ) → with_front true rest front (c.left file) ≡ Some bytes → P bytes
 
 played : (c : View) (file : ℕ) (given front : List ℕ) (gv : Given) (P : List ℕ → Type 0) → front ≡ gv.front.items → (f : Follows c file given gv)
-    → OfPlayed c file gv.rest front P → P f.bytes
-played c file given front gv P e f h = h f.bytes (ap (λ (l : List ℕ). with_front true gv.rest l (c.left file)) e ∙ f.left)
+    → OfPlayed c file gv.rest front P → IsTrue c.tells → P f.bytes
+played c file given front gv P e f h t = h t f.bytes (ap (λ (l : List ℕ). with_front true gv.rest l (c.left file)) e ∙ f.left)
 
-pub captured : (a b c : View) (name : List ℕ) (file : ℕ) (gv : Given) (front : List ℕ) (answers : List Answer) → Opened a b 2 name file
-    → ((given : List ℕ) → b.left file ≡ Some given → Follows c file given gv) → front ≡ gv.front.items
-    → OfPlayed c file gv.rest front (λ bytes. AreRecords bytes answers) → IsTrue a.tells → HoldsCapture a name answers
-captured a b c name file gv front answers x g e h t =
+-- the files still tell where they did before one was opened and some of it was read
+still_tells : (a b c : View) (name : List ℕ) (file : ℕ) → Opened a b 2 name file → Ran b c file → IsTrue a.tells → IsTrue c.tells
+still_tells a b c name file x k t = k.keeps.tells ∙ x.keeps.tells ∙ t
+
+pub captured : (a b c : View) (i : Interface) (name : List ℕ) (file : ℕ) (gv : Given) (front : List ℕ) (answers : List Answer)
+    → Opened a b 2 name file → Ran b c file → ((given : List ℕ) → b.left file ≡ Some given → Follows c file given gv) → front ≡ gv.front.items
+    → OfPlayed c file gv.rest front (λ bytes. AreRecords (marked_in i bytes) answers) → IsTrue a.tells → HoldsCapture a i name answers
+captured a b c i name file gv front answers x k g e h t =
     let y = was_given a b c name file gv x g t in
-    let z = played c file y.given front gv (λ bytes. AreRecords bytes answers) e y.follows h in
+    let told = still_tells a b c name file x k t in
+    let z = played c file y.given front gv (λ bytes. AreRecords (marked_in i bytes) answers) e y.follows h told in
     record {
       records = z.records;
       held = record { given = y.given; at = y.at; capture = y.follows.bytes; read = y.follows.read; reads = z.capture };
       shown = z.shown;
     }
 
-pub given_why : (a b c : View) (name : List ℕ) (file : ℕ) (f : GivenFault) → Opened a b 2 name file → IsRefused b c file f
-    → ArrivalCauses a c name (given_failure f)
-given_why a b c name file (given.At block) x r = λ t.
+pub given_why : (a b c : View) (i : Interface) (name : List ℕ) (file : ℕ) (f : GivenFault) → Opened a b 2 name file → IsRefused b c file f
+    → ArrivalCauses a c i name (given_failure f)
+given_why a b c i name file (given.At block) x r = λ t.
     let s = was_left a b 2 name file x t in
     let y = r s.bytes s.left in
     record { given = s.bytes; at = s.at; begins = y.0; cause = y.1 }
-given_why a b c name file given.Limit x r = λ t.
+given_why a b c i name file given.Limit x r = λ t.
     let s = was_left a b 2 name file x t in
     let y = r s.bytes s.left in
     inr (record { given = s.bytes; at = s.at; begins = y.0; cause = y.1 })
-given_why a b c name file given.Read x r = unread_of a b c 2 name file x r
-given_why a b c name file given.NoMemory x r = tt
+given_why a b c i name file given.Read x r = unread_of a b c 2 name file x r
+given_why a b c i name file given.NoMemory x r = tt
 
-pub capture_why : (a b c d : View) (name : List ℕ) (file : ℕ) (gv : Given) (front : List ℕ) (f : CaptureFault) → Opened a b 2 name file → Ran b c file
-    → ((given : List ℕ) → b.left file ≡ Some given → Follows c file given gv) → front ≡ gv.front.items
-    → OfPlayed c file gv.rest front (λ bytes. HasFault bytes f) → (f ≡ fault.Read → ReadFault c d file) → ArrivalCauses a d name (capture_failure f)
-capture_why a b c d name file gv front (fault.Damage found) x k g e h r = λ t.
+pub capture_why : (a b c d : View) (i : Interface) (name : List ℕ) (file : ℕ) (gv : Given) (front : List ℕ) (f : CaptureFault)
+    → Opened a b 2 name file → Ran b c file → ((given : List ℕ) → b.left file ≡ Some given → Follows c file given gv) → front ≡ gv.front.items
+    → OfPlayed c file gv.rest front (λ bytes. HasFault (marked_in i bytes) f) → (f ≡ fault.Read → ReadFault c d file)
+    → ArrivalCauses a d i name (capture_failure f)
+capture_why a b c d i name file gv front (fault.Damage found) x k g e h r = λ t.
     let y = was_given a b c name file gv x g t in
-    let z = played c file y.given front gv (λ bytes. HasFault bytes (fault.Damage found)) e y.follows h in
+    let told = still_tells a b c name file x k t in
+    let z = played c file y.given front gv (λ bytes. HasFault (marked_in i bytes) (fault.Damage found)) e y.follows h told in
     (z.records, record { given = y.given; at = y.at; capture = y.follows.bytes; read = y.follows.read; reads = z.reads })
-capture_why a b c d name file gv front fault.Limit x k g e h r = λ t.
+capture_why a b c d i name file gv front fault.Limit x k g e h r = λ t.
     let y = was_given a b c name file gv x g t in
-    let z = played c file y.given front gv (λ bytes. HasFault bytes fault.Limit) e y.follows h in
+    let told = still_tells a b c name file x k t in
+    let z = played c file y.given front gv (λ bytes. HasFault (marked_in i bytes) fault.Limit) e y.follows h told in
     inl (z.records, record { given = y.given; at = y.at; capture = y.follows.bytes; read = y.follows.read; reads = z.reads })
-capture_why a b c d name file gv front fault.Read x k g e h r =
+capture_why a b c d i name file gv front fault.Read x k g e h r =
     inl (rose_later _ _ _ ((ran_keeps a b c name file x k).later.read 2) (r refl 2 (k.keeps.part file 2 x.is_new.part)))
-capture_why a b c d name file gv front fault.NoMemory x k g e h r = tt
+capture_why a b c d i name file gv front fault.NoMemory x k g e h r = tt

@@ -44,8 +44,9 @@ cannot_since u v w part name k (inr a) = inr (sym k.tells ∙ a.0, sym (k.bytes 
 long_since : (u v : View) (name : List ℕ) → Keeps Any Any u v → IsLong v name → IsLong u name
 long_since u v name k x = record { bytes = x.bytes; at = sym (k.bytes name tt) ∙ x.at; long = x.long }
 
-held_since : (u v : View) (name : List ℕ) (records : List Record) (last : Step) → Keeps Any Any u v → HasRecords v name records last → HasRecords u name records last
-held_since u v name records last k x = record { given = x.given; at = sym (k.bytes name tt) ∙ x.at; capture = x.capture; read = x.read; reads = x.reads }
+held_since : (u v : View) (i : Interface) (name : List ℕ) (records : List Record) (last : Step) → Keeps Any Any u v → HasRecords v i name records last
+    → HasRecords u i name records last
+held_since u v i name records last k x = record { given = x.given; at = sym (k.bytes name tt) ∙ x.at; capture = x.capture; read = x.read; reads = x.reads }
 
 broken_since : (u v : View) (name : List ℕ) (f : NgFault) → Keeps Any Any u v → IsNoPcapng v name f → IsNoPcapng u name f
 broken_since u v name f k x = record { given = x.given; at = sym (k.bytes name tt) ∙ x.at; begins = x.begins; cause = x.cause }
@@ -59,11 +60,11 @@ config_fails u v n conf.NoMemory x = tt
 
 -- the arrivals are no capture
 arrive_at : (u v : View) (n : Inputs) (found : Interface) (last : Step) → Keeps Any Any u v → Configures u n.config n.interface found
-    → StopsAt v n.arrivals last → EndsWith u n last
+    → StopsAt v found n.arrivals last → EndsWith u n last
 arrive_at u v n found last k a x = record {
   found = found;
   records = x.0;
-  arrive = record { configures = a; held = held_since u v n.arrivals x.0 last k x.1 };
+  arrive = record { configures = a; held = held_since u v found n.arrivals x.0 last k x.1 };
 }
 
 broken_at : (u v : View) (n : Inputs) (found : Interface) (f : NgFault) → Keeps Any Any u v → Configures u n.config n.interface found
@@ -71,12 +72,12 @@ broken_at : (u v : View) (n : Inputs) (found : Interface) (f : NgFault) → Keep
 broken_at u v n found f k a x = record { interface = (found, a); arrivals = broken_since u v n.arrivals f k x }
 
 beyond_at : (u v : View) (n : Inputs) (found : Interface) → Keeps Any Any u v → Configures u n.config n.interface found
-    → StopsAt v n.arrivals Limit ⊎ IsNoPcapng v n.arrivals ng.Limit → ExceedLimits u n
+    → StopsAt v found n.arrivals Limit ⊎ IsNoPcapng v n.arrivals ng.Limit → ExceedLimits u n
 beyond_at u v n found k a (inl x) = inl (arrive_at u v n found Limit k a x)
 beyond_at u v n found k a (inr x) = inr (broken_at u v n found ng.Limit k a x)
 
 pub arrivals_fail : (u v w : View) (n : Inputs) (found : Interface) (f : Failure) → Keeps Any Any u v → Accepts u n.config n.interface found
-    → ArrivalCauses v w n.arrivals f → VerifyFails u w n f
+    → ArrivalCauses v w found n.arrivals f → VerifyFails u w n f
 arrivals_fail u v w n found (failure.Words fault) k a x = absurd x
 arrivals_fail u v w n found (failure.Configuration place) k a x = absurd x
 arrivals_fail u v w n found (failure.Capture damage) k a x = λ t. arrive_at u v n found (Fault damage) k (a t) (x (tells_since u v k t))
@@ -101,12 +102,12 @@ pub record HasRead (u : View) (n : Inputs) (found : Interface) (answers : List A
   pub shown : map shown_by answers ≡ map shown_of records
 
 pub has_read : (u v : View) (n : Inputs) (found : Interface) (answers : List Answer) → Keeps Any Any u v → Accepts u n.config n.interface found
-    → (IsTrue v.tells → HoldsCapture v n.arrivals answers) → IsTrue u.tells → HasRead u n found answers
+    → (IsTrue v.tells → HoldsCapture v found n.arrivals answers) → IsTrue u.tells → HasRead u n found answers
 has_read u v n found answers k a x t =
     let y = x (tells_since u v k t) in
     record {
       records = y.records;
-      arrive = record { configures = a t; held = held_since u v n.arrivals y.records End k y.held };
+      arrive = record { configures = a t; held = held_since u v found n.arrivals y.records End k y.held };
       shown = y.shown;
     }
 
@@ -209,9 +210,9 @@ says_comes u v w n found answers departures fates late (Err f) k silent counts h
     unsaid_comes u v w n f k (λ t. is_verified u n found answers departures fates late (h t) x) s.by
 
 -- the same of lists that are these
-pub same_read : (v : View) (name : List ℕ) (answers answers' : List Answer) → answers' ≡ answers → (IsTrue v.tells → HoldsCapture v name answers)
-    → IsTrue v.tells → HoldsCapture v name answers'
-same_read v name answers answers' same x = let P : List Answer → Type 0 = λ xs. IsTrue v.tells → HoldsCapture v name xs in subst P (sym same) x
+pub same_read : (v : View) (i : Interface) (name : List ℕ) (answers answers' : List Answer) → answers' ≡ answers
+    → (IsTrue v.tells → HoldsCapture v i name answers) → IsTrue v.tells → HoldsCapture v i name answers'
+same_read v i name answers answers' same x = let P : List Answer → Type 0 = λ xs. IsTrue v.tells → HoldsCapture v i name xs in subst P (sym same) x
 
 pub same_holds : (u : View) (name bytes bytes' : List ℕ) → bytes' ≡ bytes → (IsTrue u.tells → Holds u name bytes) → IsTrue u.tells → Holds u name bytes'
 same_holds u name bytes bytes' same x = let P : List ℕ → Type 0 = λ xs. IsTrue u.tells → Holds u name xs in subst P (sym same) x

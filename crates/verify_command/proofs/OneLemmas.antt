@@ -11,6 +11,7 @@ use Rattle.file_judge.specs.Given.{Given}
 use Rattle.file_judge.specs.Verdict.{AreVerified, IsRefuted}
 use Rattle.file_judge.proofs.OneVerdict.{never_both, one_answer}
 use Rattle.file_tests.specs.declared.Test.{Test}
+use Rattle.interface_marks.specs.Conditioners.{marked_in}
 use Rattle.pcap_files.proofs.ReadingLaws.{one_reading}
 use Rattle.pcapng_files.specs.Converted.{IsCause}
 use Rattle.pcapng_files.specs.declared.fault.NgFault.{NgFault}
@@ -28,7 +29,7 @@ use Rattle.command_base.specs.declared.parts.RunLimit.TheVariants as limit
 use Rattle.command_base.proofs.ConfLemmas.{long_not, no_bytes, one_interface, one_says, refused_not, same_some}
 use Rattle.command_base.proofs.ReadingLemmas.{configured_said, fits}
 use Rattle.verify_command.specs.Input.{HasRecords, IsLong, IsNoPcapng}
-use Rattle.verify_command.specs.Verifying.{AreBroken, AreGiven, AreRefuted, EndsWith, ExceedLimits, HasDepartures, HasInterface, HasLongDepartures, HasLongFates, Holds, Inputs, IsReached, IsVerified, name_of}
+use Rattle.verify_command.specs.Verifying.{AreBroken, AreGiven, AreRefuted, Arrive, EndsWith, ExceedLimits, HasDepartures, HasInterface, HasLongDepartures, HasLongFates, Holds, Inputs, IsReached, IsVerified, name_of}
 
 -- THE CONFIGURATION
 pub data ConfStop (v : View) (n : Inputs) (o : Outcome) : Type 0 where
@@ -61,13 +62,27 @@ conf_not v n o (ConfLong a e) i = long_not v n.config n.interface i.0 i.1 a
 conf_not v n o (ConfGone a e) i = no_bytes i.1.says.text (sym a ∙ i.1.says.at)
 
 -- THE ARRIVALS
-one_held : (v : View) (name : List ℕ) (xs ys : List Record) (p q : Step) → IsLast p → IsLast q → HasRecords v name xs p → HasRecords v name ys q
-    → (xs ≡ ys) × (p ≡ q)
-one_held v name xs ys p q hp hq a b =
+one_held : (v : View) (i : Interface) (name : List ℕ) (xs ys : List Record) (p q : Step) → IsLast p → IsLast q → HasRecords v i name xs p
+    → HasRecords v i name ys q → (xs ≡ ys) × (p ≡ q)
+one_held v i name xs ys p q hp hq a b =
     let same : b.given ≡ a.given = same_some b.given a.given (sym b.at ∙ a.at) in
     let reads : ReadAs a.given b.capture = subst (λ (g : List ℕ). ReadAs g b.capture) same b.read in
     let capture : b.capture ≡ a.capture = read_one_way a.given b.capture a.capture reads a.read in
-    one_reading a.capture xs ys p q a.reads hp (subst (λ (c : List ℕ). Reads c ys q) capture b.reads) hq
+    one_reading (marked_in i a.capture) xs ys p q a.reads hp (subst (λ (c : List ℕ). Reads (marked_in i c) ys q) capture b.reads) hq
+
+-- two readings of the arrivals are one, and of one interface
+pub record AreOneReading (i j : Interface) (xs ys : List Record) (p q : Step) : Type 0 where
+  pub interface : i ≡ j
+  pub records : xs ≡ ys
+  pub last : p ≡ q
+
+one_arrive : (v : View) (n : Inputs) (i j : Interface) (xs ys : List Record) (p q : Step) → IsLast p → IsLast q → Arrive v n i xs p → Arrive v n j ys q
+    → AreOneReading i j xs ys p q
+one_arrive v n i j xs ys p q hp hq a b =
+    let same : i ≡ j = one_interface v n.config n.interface i j a.configures b.configures in
+    let held : HasRecords v i n.arrivals ys q = subst (λ (k : Interface). HasRecords v k n.arrivals ys q) (sym same) b.held in
+    let one = one_held v i n.arrivals xs ys p q hp hq a.held held in
+    record { interface = same; records = one.0; last = one.1 }
 
 -- the faults that bytes tell
 abbrev pub IsOfBytes : NgFault → Type 0
@@ -75,14 +90,14 @@ IsOfBytes (ng.At block) = Unit {0}
 IsOfBytes ng.Limit = Unit {0}
 IsOfBytes ng.NoMemory = ⊥
 
-held_not_broken : (v : View) (name : List ℕ) (xs : List Record) (p : Step) (f : NgFault) → IsOfBytes f → HasRecords v name xs p → IsNoPcapng v name f → ⊥
-held_not_broken v name xs p (ng.At block) h a b =
+held_not_broken : (v : View) (i : Interface) (name : List ℕ) (xs : List Record) (p : Step) (f : NgFault) → IsOfBytes f → HasRecords v i name xs p → IsNoPcapng v name f → ⊥
+held_not_broken v i name xs p (ng.At block) h a b =
     let same : a.given ≡ b.given = same_some a.given b.given (sym a.at ∙ b.at) in
     fault_not_read b.given a.capture block b.begins (subst (λ (g : List ℕ). ReadAs g a.capture) same a.read) b.cause
-held_not_broken v name xs p ng.Limit h a b =
+held_not_broken v i name xs p ng.Limit h a b =
     let same : a.given ≡ b.given = same_some a.given b.given (sym a.at ∙ b.at) in
     limit_not_read b.given a.capture b.begins (subst (λ (g : List ℕ). ReadAs g a.capture) same a.read) b.cause
-held_not_broken v name xs p ng.NoMemory h a b = h
+held_not_broken v i name xs p ng.NoMemory h a b = h
 
 one_broken : (v : View) (name : List ℕ) (f g : NgFault) → IsOfBytes f → IsOfBytes g → IsNoPcapng v name f → IsNoPcapng v name g → f ≡ g
 one_broken v name (ng.At x) (ng.At y) h k a b =
@@ -128,15 +143,15 @@ pub data ArrivalStop (v : View) (n : Inputs) (o : Outcome) : Type 0 where
   ArrivalsGone : HasInterface v n → v.bytes n.arrivals ≡ None → o ≡ Err (failure.Read read.Arrivals) → ArrivalStop v n o
 
 one_end : (v : View) (n : Inputs) (p q : Step) → IsLast p → IsLast q → EndsWith v n p → EndsWith v n q → p ≡ q
-one_end v n p q hp hq a b = (one_held v n.arrivals a.records b.records p q hp hq a.arrive.held b.arrive.held).1
+one_end v n p q hp hq a b = (one_arrive v n a.found b.found a.records b.records p q hp hq a.arrive b.arrive).last
 
 arrivals_one : (v : View) (n : Inputs) (o p : Outcome) → ArrivalStop v n o → ArrivalStop v n p → o ≡ p
 arrivals_one v n o p (ArrivalsEnd s h a e) (ArrivalsEnd t k b f) = e ∙ ap end_outcome (one_end v n s t (is_last s h) (is_last t k) a b) ∙ sym f
 arrivals_one v n o p (ArrivalsEnd s h a e) (ArrivalsBreak g k b f) =
-    absurd (held_not_broken v n.arrivals a.records s g k a.arrive.held b.arrivals)
+    absurd (held_not_broken v a.found n.arrivals a.records s g k a.arrive.held b.arrivals)
 arrivals_one v n o p (ArrivalsEnd s h a e) (ArrivalsGone i b f) = absurd (no_bytes a.arrive.held.given (sym b ∙ a.arrive.held.at))
 arrivals_one v n o p (ArrivalsBreak g h a e) (ArrivalsEnd t k b f) =
-    absurd (held_not_broken v n.arrivals b.records t g h b.arrive.held a.arrivals)
+    absurd (held_not_broken v b.found n.arrivals b.records t g h b.arrive.held a.arrivals)
 arrivals_one v n o p (ArrivalsBreak g h a e) (ArrivalsBreak j k b f) = e ∙ ap break_outcome (one_broken v n.arrivals g j h k a.arrivals b.arrivals) ∙ sym f
 arrivals_one v n o p (ArrivalsBreak g h a e) (ArrivalsGone i b f) = absurd (no_bytes a.arrivals.given (sym b ∙ a.arrivals.at))
 arrivals_one v n o p (ArrivalsGone i a e) (ArrivalsEnd t k b f) = absurd (no_bytes b.arrive.held.given (sym a ∙ b.arrive.held.at))
@@ -148,7 +163,7 @@ end_not s h e = subst (λ (x : Step). IsStop x) e h
 
 arrivals_not : (v : View) (n : Inputs) (o : Outcome) → ArrivalStop v n o → EndsWith v n End → ⊥
 arrivals_not v n o (ArrivalsEnd s h a e) b = end_not s h (one_end v n s End (is_last s h) tt a b)
-arrivals_not v n o (ArrivalsBreak g h a e) b = held_not_broken v n.arrivals b.records End g h b.arrive.held a.arrivals
+arrivals_not v n o (ArrivalsBreak g h a e) b = held_not_broken v b.found n.arrivals b.records End g h b.arrive.held a.arrivals
 arrivals_not v n o (ArrivalsGone i a e) b = no_bytes b.arrive.held.given (sym a ∙ b.arrive.held.at)
 
 -- THE DEPARTURES AND THE FATES
@@ -193,11 +208,10 @@ made_same i j rs ss ds es fs gs a b c d = cc
 
 one_given : (v : View) (n : Inputs) (g h : Given) → AreGiven v n g → AreGiven v n h → g ≡ h
 one_given v n g h a b =
-    let i : g.interface ≡ h.interface = one_interface v n.config n.interface g.interface h.interface a.arrive.configures b.arrive.configures in
-    let r : g.records ≡ h.records = (one_held v n.arrivals g.records h.records End End tt tt a.arrive.held b.arrive.held).0 in
+    let one = one_arrive v n g.interface h.interface g.records h.records End End tt tt a.arrive b.arrive in
     let d : g.departures ≡ h.departures = same_some g.departures h.departures (sym a.departures.at ∙ b.departures.at) in
     let f : g.fates ≡ h.fates = same_some g.fates h.fates (sym a.fates.at ∙ b.fates.at) in
-    made_same g.interface h.interface g.records h.records g.departures h.departures g.fates h.fates i r d f
+    made_same g.interface h.interface g.records h.records g.departures h.departures g.fates h.fates one.interface one.records d f
 
 is_interface : (fit : ConfigurationsFit) (v : View) (n : Inputs) (g : Given) → AreGiven v n g → IsInterface g.interface
 is_interface fit v n g a = fits g.interface fit (configured_said v n.config n.interface g.interface a.arrive.configures)

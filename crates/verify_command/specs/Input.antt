@@ -4,9 +4,11 @@ use Rattle.arrivals_front.specs.Given.{ReadAs, is_pcapng}
 use Rattle.arrivals_front.specs.declared.given.GivenFault.{GivenFault}
 use Rattle.arrivals_front.specs.declared.given.GivenFault.TheVariants as given
 use Rattle.capture_model.specs.Capture.{End, Fault, Limit, Reads, Record, Step}
+use Rattle.conf_tree.specs.declared.interface.Interface.{Interface}
 use Rattle.file_judge.specs.declared.verdict.Unverified.{Unverified}
 use Rattle.file_judge.specs.declared.verdict.Unverified.TheVariants as unverified
 use Rattle.input_files.specs.Records.{shown_by, shown_of}
+use Rattle.interface_marks.specs.Conditioners.{marked_in}
 use Rattle.pcap_files.specs.declared.fault.CaptureFault.{CaptureFault}
 use Rattle.pcap_files.specs.declared.fault.CaptureFault.TheVariants as fault
 use Rattle.pcap_files.specs.declared.record.Record.{Record as Answer}
@@ -38,14 +40,14 @@ InputCauses old new part name input.TooLong = IsTrue old.tells → IsLong old na
 InputCauses old new part name input.Read = CannotRead old new part name
 InputCauses old new part name input.NoMemory = Unit {0}
 
--- the bytes under a name, which are read as they stand or, where they begin as a pcapng file, as the classic capture of their
--- packets, are these records and then this
-pub record HasRecords (v : View) (name : List ℕ) (records : List Record) (last : Step) : Type 0 where
+-- The bytes under a name are read as they stand or, where they begin as a pcapng file, as the classic capture of their packets.
+-- Once the interface's conditioners have marked that, it is these records and then this.
+pub record HasRecords (v : View) (i : Interface) (name : List ℕ) (records : List Record) (last : Step) : Type 0 where
   pub given : List ℕ
   pub at : v.bytes name ≡ Some given
   pub capture : List ℕ
   pub read : ReadAs given capture
-  pub reads : Reads capture records last
+  pub reads : Reads (marked_in i capture) records last
 
 -- the bytes under a name begin as a pcapng file, and have this fault
 pub record IsNoPcapng (v : View) (name : List ℕ) (f : NgFault) : Type 0 where
@@ -54,23 +56,23 @@ pub record IsNoPcapng (v : View) (name : List ℕ) (f : NgFault) : Type 0 where
   pub begins : is_pcapng given ≡ true
   pub cause : IsCause f given
 
--- the bytes under a name are a capture of records that these answers show, one by one
-pub record HoldsCapture (v : View) (name : List ℕ) (answers : List Answer) : Type 0 where
+-- the bytes under a name are, once they are marked, a capture of records that these answers show, one by one
+pub record HoldsCapture (v : View) (i : Interface) (name : List ℕ) (answers : List Answer) : Type 0 where
   pub records : List Record
-  pub held : HasRecords v name records End
+  pub held : HasRecords v i name records End
   pub shown : map shown_by answers ≡ map shown_of records
 
-abbrev pub StopsAt : View → (name : List ℕ) → Step → Type 0
-StopsAt v name last = (records : List Record) × HasRecords v name records last
+abbrev pub StopsAt : View → Interface → (name : List ℕ) → Step → Type 0
+StopsAt v i name last = (records : List Record) × HasRecords v i name records last
 
 -- why the records of the arrivals are not had
-abbrev pub ArrivalCauses : View → View → (name : List ℕ) → Failure → Type 0
-ArrivalCauses old new name (failure.Capture damage) = IsTrue old.tells → StopsAt old name (Fault damage)
-ArrivalCauses old new name (failure.Pcapng block) = IsTrue old.tells → IsNoPcapng old name (ng.At block)
-ArrivalCauses old new name (failure.Limit limit.Capture) = IsTrue old.tells → StopsAt old name Limit ⊎ IsNoPcapng old name ng.Limit
-ArrivalCauses old new name (failure.Read read.Arrivals) = CannotRead old new 2 name
-ArrivalCauses old new name failure.NoMemory = Unit {0}
-ArrivalCauses old new name other = ⊥
+abbrev pub ArrivalCauses : View → View → Interface → (name : List ℕ) → Failure → Type 0
+ArrivalCauses old new i name (failure.Capture damage) = IsTrue old.tells → StopsAt old i name (Fault damage)
+ArrivalCauses old new i name (failure.Pcapng block) = IsTrue old.tells → IsNoPcapng old name (ng.At block)
+ArrivalCauses old new i name (failure.Limit limit.Capture) = IsTrue old.tells → StopsAt old i name Limit ⊎ IsNoPcapng old name ng.Limit
+ArrivalCauses old new i name (failure.Read read.Arrivals) = CannotRead old new 2 name
+ArrivalCauses old new i name failure.NoMemory = Unit {0}
+ArrivalCauses old new i name other = ⊥
 
 -- what each fault ends the command as
 abbrev pub given_failure : GivenFault → Failure

@@ -47,10 +47,10 @@ inputs_of w = record {
 abbrev pub HasInterface : View → Inputs → Type 0
 HasInterface v n = (found : Interface) × Configures v n.config n.interface found
 
--- the interface asked for is this one, and the arrivals are these records and then this
+-- the interface asked for is this one, and the arrivals are, once its conditioners have marked them, these records and then this
 pub record Arrive (v : View) (n : Inputs) (found : Interface) (records : List Record) (last : Step) : Type 0 where
   pub configures : Configures v n.config n.interface found
-  pub held : HasRecords v n.arrivals records last
+  pub held : HasRecords v found n.arrivals records last
 
 -- the arrivals of the interface asked for end with this
 pub record EndsWith (v : View) (n : Inputs) (last : Step) : Type 0 where

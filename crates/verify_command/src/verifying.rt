@@ -71,7 +71,7 @@ fn say_verdict<F: Files>(
 }
 
 /// Holds departures and fates to a configuration and its arrivals, whoever made them, and prints how close each leaf with a real-time
-/// curve came to its due moments, and then `verified`.
+/// curve came to its due moments, and then `verified`. The arrivals are those that the conditioners of the interface have marked.
 ///
 /// Nothing is created. The configuration, the arrivals, classic or pcapng, the departures and the fates are opened and read whole in
 /// this order, the last two up to 2^30 bytes each. It fails as `Configuration` at the first fault of its text, or at line 0 where the
@@ -96,7 +96,7 @@ pub fn verify<F: Files>(
     let Some(found) = conf.interface(words.interface) else {
         return Err(Failure::Configuration(absent()));
     };
-    let records = match read_arrivals(alloc, files, words.arrivals) {
+    let records = match read_arrivals(alloc, files, found, words.arrivals) {
         Ok(records) => records,
         Err(failure) => return Err(failure),
     };

@@ -1,6 +1,7 @@
 pub mod Causes
 pub mod Classes
 pub mod Lengths
+pub mod Marks
 pub mod Passing
 pub mod Rules
 pub mod SmallRows

@@ -1,7 +1,7 @@
 -- What a play leaves is verified.
 use Rattle.std.proofs.Common.{◌≡◌, ◌<◌, ◌∙◌, ◌⊎◌, inl, inr, ℕ, List, Ok, Err, refl, ap, sym, subst, arith}
 use Rattle.std.specs.Prelude.{IsTrue}
-use Rattle.capture_model.specs.Capture.{End}
+use Rattle.capture_model.specs.Capture.{End, IsCapture, Record}
 use Rattle.command_base.specs.Configuration.{Configures, configuration}
 use Rattle.command_base.specs.Names.{Names}
 use Rattle.command_base.specs.Outcome.{IsOrMemory, Outcome, done_status, failure_status, status_of}
@@ -27,7 +27,12 @@ use Rattle.verify_command.specs.Verifying.{AreRefuted, Inputs, IsVerified, Verif
 use Rattle.verify_command.proofs.OneLemmas.{case_refuted, case_verified, one_case}
 use Rattle.verify_laws.specs.Left.{AreLeft, HasItsStatus, HoldsBytes, IsVerification, inputs_played}
 use Rattle.verify_laws.proofs.Passing.{IsWholePlay, departures_short, fates_short, play_passes, texts_given}
+use Rattle.interface_marks.specs.Conditioners.{conditioning_of}
+use Rattle.verify_laws.proofs.Marks.{early_marked}
 use Rattle.verify_laws.proofs.Stamps.{played_early}
+
+as_marked : (bytes marked : List ℕ) (records : List Record) → bytes ≡ marked → IsCapture bytes records → IsCapture marked records
+as_marked bytes marked records same reads = subst (λ (l : List ℕ). IsCapture l records) same reads
 
 -- what a play that is done played
 whole_play : (laws : HaveLaws) (old new : View) (n : Names) (seed : ℕ) (x : HasPlayed old new n seed) → HoldsBytes old n.arrivals
@@ -39,7 +44,9 @@ whole_play laws old new n seed x bytes =
       fit = is_interface laws i configured;
       held = is_held laws i configured;
       named = is_named laws i configured;
-      early = played_early x.accepted.given x.accepted.bytes x.played.records (bytes x.accepted.given x.accepted.arrivals) x.accepted.read x.played.capture;
+      early = early_marked (conditioning_of i) x.accepted.read.capture x.played.records
+          (λ rs reads. played_early x.accepted.given x.accepted.read.capture rs (bytes x.accepted.given x.accepted.arrivals) x.accepted.read.read reads)
+          (as_marked _ _ _ x.accepted.read.marked x.played.capture);
       sized = reads_sized x.accepted.bytes x.played.records End x.played.capture;
       play = x.played.play.play;
       in_time = x.played.play.in_time;
@@ -68,9 +75,9 @@ is_verified laws old new v n m seed x bytes left =
           held = record {
             given = x.accepted.given;
             at = left.arrivals ∙ x.accepted.arrivals;
-            capture = x.accepted.bytes;
-            read = x.accepted.read;
-            reads = x.played.capture;
+            capture = x.accepted.read.capture;
+            read = x.accepted.read.read;
+            reads = as_marked _ _ _ x.accepted.read.marked x.played.capture;
           };
         };
         departures = record {

@@ -7,7 +7,7 @@ use Rattle.play_base.proofs.ViewLaws.{same_trans}
 use Rattle.play_command.proofs.StepLemmas.{high_of, steps_of}
 use Rattle.play_command.proofs.DisciplineLemmas.{has_stood, in_untold, stood_itself}
 use Rattle.play_command.specs.InterfaceSetup.{setup_of}
-use Rattle.play_command.proofs.SeeingLemmas.{begins_of, explained_itself, fronts_itself, stats_itself}
+use Rattle.play_command.proofs.SeeingLemmas.{Itself, begins_of, explained_itself, fronts_itself, stats_itself}
 use Rattle.play_command.proofs.found.itself_by.Goals as goal
 
 pub returns-in-Err-clause-ends : goal.returns-in-Err-clause-ends
@@ -39,9 +39,14 @@ returns-in-Ok-play_by-clause-done g c =
     let far = c.in-Ok.ensures.far a x.opened in
     let s = steps_of a b e n c.args.found.now o x.accepted (c.in-Ok.ensures.opened a x.opened) far (c.in-Ok.ensures.named a x.opened) y.keeps y.none y.said c.requires.distinct laws c.requires.configured in
     let begins = begins_of a g' b n c.args.found.now o c.args.arrivals.now c.in-Ok.ensures.arrivals x far.keeps.tells (c.in-Ok.ensures.left a x.opened) in
-    let first = c.in-Ok.ensures.first ∙ c.as_slice-front.ensures.value in
+    let itself : Itself c.args.found.now o c.args.arrivals.now.given = record {
+      rest = c.requires.classic;
+      first = c.in-Ok.ensures.first ∙ c.as_slice-front.ensures.value;
+      unmarked = λ capture. c.nothing_is_marked_without_conditioners.ensures c.args.found.now capture c.requires.plain;
+      plain = c.requires.plain;
+    } in
     found_done a b e n c.args.found.now o c.args.words.now.seed c.in-Ok-play_by.totals s
-    (in_untold a e n c.args.found.now o (setup_of c.args.found.now c.args.words.now.seed) (g.D.Discipline.stands c.play_by.new.discipline) c.in-Ok-play_by.totals (stood_itself a g' b e n c.args.found.now o c.args.arrivals.now.given (setup_of c.args.found.now c.args.words.now.seed) (g.D.Discipline.stands c.play_by.new.discipline) c.in-Ok-play_by.totals begins c.requires.classic first y.stood))
+    (in_untold a e n c.args.found.now o (setup_of c.args.found.now c.args.words.now.seed) (g.D.Discipline.stands c.play_by.new.discipline) c.in-Ok-play_by.totals (stood_itself a g' b e n c.args.found.now o c.args.arrivals.now.given (setup_of c.args.found.now c.args.words.now.seed) (g.D.Discipline.stands c.play_by.new.discipline) c.in-Ok-play_by.totals begins itself y.stood))
     (same_trans a g' e counts (same_trans g' b e c.in-Ok.ensures.no_fault y.no_fault))
 
 pub returns-in-Ok-play_by-clause-stood : goal.returns-in-Ok-play_by-clause-stood
@@ -58,8 +63,13 @@ returns-in-Ok-play_by-clause-stood g c =
     let far = c.in-Ok.ensures.far a x.opened in
     let s = steps_of a b e n c.args.found.now o x.accepted (c.in-Ok.ensures.opened a x.opened) far (c.in-Ok.ensures.named a x.opened) y.keeps y.none y.said c.requires.distinct laws c.requires.configured in
     let begins = begins_of a g' b n c.args.found.now o c.args.arrivals.now c.in-Ok.ensures.arrivals x far.keeps.tells (c.in-Ok.ensures.left a x.opened) in
-    let first = c.in-Ok.ensures.first ∙ c.as_slice-front.ensures.value in
-    has_stood a b e n c.args.found.now o c.args.words.now.seed s (g.D.Discipline.stands c.play_by.new.discipline) c.in-Ok-play_by.totals (stood_itself a g' b e n c.args.found.now o c.args.arrivals.now.given (setup_of c.args.found.now c.args.words.now.seed) (g.D.Discipline.stands c.play_by.new.discipline) c.in-Ok-play_by.totals begins c.requires.classic first y.stood) t
+    let itself : Itself c.args.found.now o c.args.arrivals.now.given = record {
+      rest = c.requires.classic;
+      first = c.in-Ok.ensures.first ∙ c.as_slice-front.ensures.value;
+      unmarked = λ capture. c.nothing_is_marked_without_conditioners.ensures c.args.found.now capture c.requires.plain;
+      plain = c.requires.plain;
+    } in
+    has_stood a b e n c.args.found.now o c.args.words.now.seed s (g.D.Discipline.stands c.play_by.new.discipline) c.in-Ok-play_by.totals (stood_itself a g' b e n c.args.found.now o c.args.arrivals.now.given (setup_of c.args.found.now c.args.words.now.seed) (g.D.Discipline.stands c.play_by.new.discipline) c.in-Ok-play_by.totals begins itself y.stood) t
 
 pub returns-in-Ok-play_by-clause-silent : goal.returns-in-Ok-play_by-clause-silent
 returns-in-Ok-play_by-clause-silent g c = λ a x. c.in-Ok-play_by.ensures.said ∙ (c.in-Ok.ensures.far a x.opened).said
@@ -93,11 +103,16 @@ returns-in-Err-play_by-clause-ends g c =
     let far = c.in-Ok.ensures.far a x.opened in
     let s = steps_of a b e n c.args.found.now o x.accepted (c.in-Ok.ensures.opened a x.opened) far (c.in-Ok.ensures.named a x.opened) y.keeps y.none y.said c.requires.distinct laws c.requires.configured in
     let begins = begins_of a g' b n c.args.found.now o c.args.arrivals.now c.in-Ok.ensures.arrivals x far.keeps.tells (c.in-Ok.ensures.left a x.opened) in
-    let first = c.in-Ok.ensures.first ∙ c.as_slice-front.ensures.value in
+    let itself : Itself c.args.found.now o c.args.arrivals.now.given = record {
+      rest = c.requires.classic;
+      first = c.in-Ok.ensures.first ∙ c.as_slice-front.ensures.value;
+      unmarked = λ capture. c.nothing_is_marked_without_conditioners.ensures c.args.found.now capture c.requires.plain;
+      plain = c.requires.plain;
+    } in
     found_failed a b e n c.args.found.now o c.args.words.now.seed c.in-Err-play_by.fault s
-    (explained_itself a g' b e n c.args.found.now o c.args.arrivals.now.given (setup_of c.args.found.now c.args.words.now.seed) c.in-Err-play_by.fault begins c.requires.classic first y.why)
-    (fronts_itself a g' b e n c.args.found.now o c.args.arrivals.now.given (setup_of c.args.found.now c.args.words.now.seed) begins c.requires.classic first y.front)
-    (stats_itself a g' b e n c.args.found.now o c.args.arrivals.now.given (setup_of c.args.found.now c.args.words.now.seed) c.in-Err-play_by.fault begins c.requires.classic first y.stats)
+    (explained_itself a g' b e n c.args.found.now o c.args.arrivals.now.given (setup_of c.args.found.now c.args.words.now.seed) c.in-Err-play_by.fault begins itself y.why)
+    (fronts_itself a g' b e n c.args.found.now o c.args.arrivals.now.given (setup_of c.args.found.now c.args.words.now.seed) begins itself y.front)
+    (stats_itself a g' b e n c.args.found.now o c.args.arrivals.now.given (setup_of c.args.found.now c.args.words.now.seed) c.in-Err-play_by.fault begins itself y.stats)
 
 pub returns-in-Err-play_by-clause-silent : goal.returns-in-Err-play_by-clause-silent
 returns-in-Err-play_by-clause-silent g c = λ a x. c.in-Err-play_by.ensures.said ∙ (c.in-Ok.ensures.far a x.opened).said

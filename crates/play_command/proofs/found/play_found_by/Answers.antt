@@ -26,11 +26,11 @@ returns-in-Err-clause-high g c = (c.in-Err.ensures.far [] [] []).not_config
 pub itself_by-requires-clause-opened : goal.itself_by-requires-clause-opened
 itself_by-requires-clause-opened g c = (g.F.Files.view c.args.files.now, c.in-Ok.ensures.opened)
 
-pub pcapng_by-requires-clause-opened : goal.pcapng_by-requires-clause-opened
-pcapng_by-requires-clause-opened g c = (g.F.Files.view c.args.files.now, c.in-Ok.ensures.opened)
+pub made_by-requires-clause-opened : goal.made_by-requires-clause-opened
+made_by-requires-clause-opened g c = (g.F.Files.view c.args.files.now, c.in-Ok.ensures.opened)
 
-pub returns-then-arrivals-clause-high : goal.returns-then-arrivals-clause-high
-returns-then-arrivals-clause-high g c =
+pub returns-then-stands_as_given-clause-high : goal.returns-then-stands_as_given-clause-high
+returns-then-stands_as_given-clause-high g c =
     let behind : IsBehind (g.F.Files.view c.args.files.now) (g.F.Files.view c.open_arrivals.new.files) (names_read c.args.words.now) c.args.found.now c.in-Ok.arrivals = record {
       accepted = c.requires.accepted;
       opened = c.in-Ok.ensures.opened;
@@ -38,8 +38,8 @@ returns-then-arrivals-clause-high g c =
     } in
     c.itself_by.ensures.high (g.F.Files.view c.args.files.now) behind
 
-pub returns-then-arrivals-clause-done : goal.returns-then-arrivals-clause-done
-returns-then-arrivals-clause-done g c =
+pub returns-then-stands_as_given-clause-done : goal.returns-then-stands_as_given-clause-done
+returns-then-stands_as_given-clause-done g c =
     let a = g.F.Files.view c.args.files.now in
     let v = g.F.Files.view c.itself_by.new.files in
     let n = names_read c.args.words.now in
@@ -50,8 +50,8 @@ returns-then-arrivals-clause-done g c =
       | in-Err-itself_by w ↦ subst (λ r. IfOk r (PlaysTo a v n c.args.words.now.seed)) (sym w.result-is) tt
     ]
 
-pub returns-then-arrivals-clause-stood : goal.returns-then-arrivals-clause-stood
-returns-then-arrivals-clause-stood g c =
+pub returns-then-stands_as_given-clause-stood : goal.returns-then-stands_as_given-clause-stood
+returns-then-stands_as_given-clause-stood g c =
     let a = g.F.Files.view c.args.files.now in
     let v = g.F.Files.view c.itself_by.new.files in
     let n = names_read c.args.words.now in
@@ -65,23 +65,23 @@ returns-then-arrivals-clause-stood g c =
           subst (λ r. OnOk r (IsTrue a.tells → HasStood (g.D.Discipline.stands c.itself_by.new.discipline) a v n c.args.words.now.seed)) (sym w.result-is) tt
     ]
 
-pub returns-in-Ok-pcapng_by-clause-stood : goal.returns-in-Ok-pcapng_by-clause-stood
-returns-in-Ok-pcapng_by-clause-stood g c =
+pub returns-in-Ok-made_by-clause-stood : goal.returns-in-Ok-made_by-clause-stood
+returns-in-Ok-made_by-clause-stood g c =
     let a = g.F.Files.view c.args.files.now in
     let behind : IsBehind a (g.F.Files.view c.open_arrivals.new.files) (names_read c.args.words.now) c.args.found.now c.in-Ok.arrivals =
     record { accepted = c.requires.accepted; opened = c.in-Ok.ensures.opened; follows = c.in-Ok.ensures.given } in
-    λ t. c.in-Ok-pcapng_by.ensures.stood a behind t
+    λ t. c.in-Ok-made_by.ensures.stood a behind t
 
-pub returns-in-Ok-pcapng_by-clause-high : goal.returns-in-Ok-pcapng_by-clause-high
-returns-in-Ok-pcapng_by-clause-high g c =
+pub returns-in-Ok-made_by-clause-high : goal.returns-in-Ok-made_by-clause-high
+returns-in-Ok-made_by-clause-high g c =
     let a = g.F.Files.view c.args.files.now in
     let behind : IsBehind a (g.F.Files.view c.open_arrivals.new.files) (names_read c.args.words.now) c.args.found.now c.in-Ok.arrivals =
     record { accepted = c.requires.accepted; opened = c.in-Ok.ensures.opened; follows = c.in-Ok.ensures.given } in
-    c.pcapng_by.ensures.high a behind
+    c.made_by.ensures.high a behind
 
 pub returns-clause-high : goal.returns-clause-high
 returns-clause-high g c =
     let a = g.F.Files.view c.args.files.now in
     let behind : IsBehind a (g.F.Files.view c.open_arrivals.new.files) (names_read c.args.words.now) c.args.found.now c.in-Ok.arrivals =
     record { accepted = c.requires.accepted; opened = c.in-Ok.ensures.opened; follows = c.in-Ok.ensures.given } in
-    c.pcapng_by.ensures.high a behind
+    c.made_by.ensures.high a behind

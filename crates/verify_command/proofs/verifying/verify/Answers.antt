@@ -32,6 +32,12 @@ returns-in_default-clause-ends g c =
     (fails_at c.configurations_fit.ensures u a n _ (leaves_conf u a n (record { keeps = c.in-Ok.ensures.keeps; only = c.in-Ok.ensures.only }))
     (config_fails u a n (conf.At _) (λ t. read_absent _ n.config n.interface c.in-Ok.conf c.in-Ok.ensures.read (sym c.in_default.ensures) t)))
 
+pub read_arrivals-requires : goal.read_arrivals-requires
+read_arrivals-requires g c = record {
+  fits = fits c.in-Some.found.now c.configurations_fit.ensures
+      (configured_of c.args.words.now.interface.now c.in-Ok.ensures.read.text c.in-Ok.conf c.in-Some.found.now c.in-Ok.ensures.read.reads (sym c.in-Some.ensures));
+}
+
 pub returns-in-Err-read_arrivals-clause-ends : goal.returns-in-Err-read_arrivals-clause-ends
 returns-in-Err-read_arrivals-clause-ends g c =
     let u = g.F.Files.view c.args.files.now in
@@ -107,7 +113,7 @@ returns-in-Err-judge-clause-ends g c =
     let then = reached_more u b d n 3 (omega arith) (omega arith) next z.keeps z.opens z.said z.no_fault in
     let all = reached_more u d e n 4 (omega arith) (omega arith) then f.keeps f.opens f.said f.no_fault in
     let answers = c.deref.result.now in
-    let read = has_read u a n found answers at.leaves.keeps accepted (same_read a n.arrivals c.in-Ok-read_arrivals.records.items answers c.deref.ensures.value y.whole) in
+    let read = has_read u a n found answers at.leaves.keeps accepted (same_read a found n.arrivals c.in-Ok-read_arrivals.records.items answers c.deref.ensures.value y.whole) in
     let had = same_holds u n.departures c.in-Ok-read_file.departures.items c.deref-2.result.now c.deref-2.ensures.value
     (holds u b n.departures c.in-Ok-read_file.departures.items next.leaves.keeps z.whole z.short) in
     let last = same_holds u n.fates c.in-Ok-read_file-2.fates.items c.deref-3.result.now c.deref-3.ensures.value
@@ -137,7 +143,7 @@ returns-in-Ok-say_verdict-clause-ends g c =
     let then = reached_more u b d n 3 (omega arith) (omega arith) next z.keeps z.opens z.said z.no_fault in
     let all = reached_more u d e n 4 (omega arith) (omega arith) then f.keeps f.opens f.said f.no_fault in
     let answers = c.deref.result.now in
-    let read = has_read u a n found answers at.leaves.keeps accepted (same_read a n.arrivals c.in-Ok-read_arrivals.records.items answers c.deref.ensures.value y.whole) in
+    let read = has_read u a n found answers at.leaves.keeps accepted (same_read a found n.arrivals c.in-Ok-read_arrivals.records.items answers c.deref.ensures.value y.whole) in
     let had = same_holds u n.departures c.in-Ok-read_file.departures.items c.deref-2.result.now c.deref-2.ensures.value
     (holds u b n.departures c.in-Ok-read_file.departures.items next.leaves.keeps z.whole z.short) in
     let last = same_holds u n.fates c.in-Ok-read_file-2.fates.items c.deref-3.result.now c.deref-3.ensures.value
@@ -172,7 +178,7 @@ returns-clause-ends g c =
     let then = reached_more u b d n 3 (omega arith) (omega arith) next z.keeps z.opens z.said z.no_fault in
     let all = reached_more u d e n 4 (omega arith) (omega arith) then f.keeps f.opens f.said f.no_fault in
     let answers = c.deref.result.now in
-    let read = has_read u a n found answers at.leaves.keeps accepted (same_read a n.arrivals c.in-Ok-read_arrivals.records.items answers c.deref.ensures.value y.whole) in
+    let read = has_read u a n found answers at.leaves.keeps accepted (same_read a found n.arrivals c.in-Ok-read_arrivals.records.items answers c.deref.ensures.value y.whole) in
     let had = same_holds u n.departures c.in-Ok-read_file.departures.items c.deref-2.result.now c.deref-2.ensures.value
     (holds u b n.departures c.in-Ok-read_file.departures.items next.leaves.keeps z.whole z.short) in
     let last = same_holds u n.fates c.in-Ok-read_file-2.fates.items c.deref-3.result.now c.deref-3.ensures.value

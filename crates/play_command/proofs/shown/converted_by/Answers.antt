@@ -1,12 +1,14 @@
 -- The play of the files that have the capture in front is one of the files behind them.
-use Rattle.std.proofs.Common.{false, rules}
+use Rattle.std.proofs.Common.{Some, false, rules, subst}
+use Rattle.play_base.specs.View.{View}
 use Rattle.std.specs.Prelude.{IfOk}
 use Rattle.pcapng_files.proofs.BackLaws.{same_reference}
 use Rattle.play_loop.specs.Played.{Plays}
-use Rattle.play_command.specs.Converting.{CameOf}
+use Rattle.play_command.specs.Converting.{CameOf, Through}
 use Rattle.play_command.specs.InterfaceSetup.{setup_of}
-use Rattle.play_command.proofs.ThroughLemmas.{came_of, through_back}
-use Rattle.play_command.proofs.found.converted_by.Goals as goal
+use Rattle.play_command.proofs.ShownLemmas.{front_back}
+use Rattle.play_command.proofs.ThroughLemmas.{came_of}
+use Rattle.play_command.proofs.shown.converted_by.Goals as goal
 
 pub returns-clause-ends : goal.returns-clause-ends
 returns-clause-ends g c =
@@ -19,9 +21,10 @@ returns-clause-ends g c =
     let y = c.play_by.ensures in
     let same = same_reference _ _ v w _ s.files.ghost_name o.arrivals s.file false s.front.rest c.args.capture.now s.front.bytes.now y.keeps in
     let back =
-    through_back (CameOf x o r) _ _ v w _ s.files.ghost_name o.arrivals s.file s.front.rest c.args.capture.now s.front.bytes.now y.keeps
+    front_back (CameOf x o r) _ _ v w _ s.files.ghost_name o.arrivals s.file s.front.rest c.args.capture.now s.front.bytes.now y.keeps
     (came_of x _ _ o r y.done y.why y.front y.stats) in
-    search rules
+    let Q : View → Type 0 = λ u. Through (CameOf x o r) v u o.arrivals (Some c.args.capture.now) false in
+    subst Q (search rules) back
 
 pub returns-clause-stood : goal.returns-clause-stood
 returns-clause-stood g c =
@@ -34,6 +37,8 @@ returns-clause-stood g c =
     let y = c.play_by.ensures in
     let same = same_reference _ _ v w _ s.files.ghost_name o.arrivals s.file false s.front.rest c.args.capture.now s.front.bytes.now y.keeps in
     let back =
-    through_back (λ u z. IfOk r (Plays x (g.D.Discipline.stands c.play_by.new.discipline) u z o)) _ _ v w _ s.files.ghost_name o.arrivals s.file s.front.rest c.args.capture.now s.front.bytes.now y.keeps
+    front_back (λ u z. IfOk r (Plays x (g.D.Discipline.stands c.play_by.new.discipline) u z o)) _ _ v w _ s.files.ghost_name o.arrivals s.file s.front.rest c.args.capture.now s.front.bytes.now y.keeps
     y.stood in
-    search rules
+    let P : View → View → Type 0 = λ u z. IfOk r (Plays x (g.D.Discipline.stands c.play_by.new.discipline) u z o) in
+    let Q : View → Type 0 = λ u. Through P v u o.arrivals (Some c.args.capture.now) false in
+    subst Q (search rules) back
