@@ -1,7 +1,7 @@
 // The conditioners of an interface.
 ghost use Rattle.std.specs.Prelude.{◌≡◌, ◌≤◌, IfOk, length};
 ghost use Rattle.conf_laws.specs.Fit.{IsInterface};
-ghost use Rattle.interface_marks.specs.Conditioners.{Marks, is_conditioned};
+ghost use Rattle.interface_marks.specs.Conditioners.{Begins, Marks, is_conditioned};
 ghost use Rattle.marked_files.specs.Taking.{holds};
 
 use conf_tree::Interface;
@@ -32,6 +32,7 @@ pub fn marker_of(
     requires fits { IsInterface interface.now }
     requires few { length first.now ≤ 24 }
     ensures marks { IfOk result (Marks interface.now first.now) }
+    ensures begins { IfOk result (Begins interface.now first.now) }
     ensures room { IfOk result (λ marker. holds marker ≤ 262160) }
 {
     let classifier = Classifier::build(alloc, interface)?;

@@ -11,12 +11,13 @@ use Rattle.marked_files.specs.Courses.{Course, frame_in, made, marked_record, pa
 use Rattle.marked_files.specs.Heads.{headed}
 use Rattle.marked_files.specs.Markings.{Marking, given}
 use Rattle.marked_files.specs.Metering.{frame_by, meter_of, meters_after}
-use Rattle.marked_files.specs.Taking.{HasAdvanced, HasPassed, IsStuck, KeepsGiven}
+use Rattle.marked_files.specs.Taking.{HasAdvanced, HasPassed, HoldsNone, IsStuck, KeepsGiven}
 use Rattle.marked_files.specs.declared.record_head.RecordHead.{RecordHead}
 use Rattle.marked_files.specs.declared.stage.Stage.{Stage}
 use Rattle.marked_files.specs.declared.stage.Stage.TheVariants.{Start, Records, Rest}
 use Rattle.marked_files.proofs.Meters.{length-frame_by}
-use Rattle.marked_files.proofs.Passing.{head_damaged, head_given, head_short, record_cut, record_given, record_refused, record_short}
+use Rattle.marked_files.proofs.Passing.{head_damaged, head_given, record_given, record_refused}
+use Rattle.marked_files.proofs.Steps.{no_header, not_whole}
 
 -- a marking that came of another, by its parts
 pub record Comes {C : Type 0} (m n : Marking C) (now : Stage) (c : Course) (first xs : List ℕ) : Type 0 where
@@ -51,12 +52,12 @@ keeps placed m n s t d more ys at j same many = record {
   many = omega (arith, many, ap length j.ready, ap length j.pending);
 }
 
-pub stuck : {C : Type 0} (placed : C → List ℕ → Placed) (m n : Marking C) (s : Stage) (c : Course) (ready xs : List ℕ) → Comes m n s c ready xs
-    → made s (placed m.classes) c xs ≡ xs → length xs < 262160 → IsStuck placed n
-stuck {C = C} placed m n s c ready xs i stays room = record {
-  stays =
-      ap (λ (l : List ℕ). made n.stage (placed n.classes) n.course l) i.pending ∙ ap (λ (t : Stage). made t (placed n.classes) n.course xs) i.stage
-      ∙ ap (λ (d : Course). made s (placed n.classes) d xs) i.course ∙ ap (λ (p : C). made s (placed p) c xs) i.classes ∙ stays ∙ sym i.pending;
+pub stuck : {C : Type 0} (m n : Marking C) (s : Stage) (c : Course) (ready xs : List ℕ) → Comes m n s c ready xs
+    → HoldsNone s c xs → length xs < 262160 → IsStuck n
+stuck m n s c ready xs i none room = record {
+  none =
+      subst (λ (l : List ℕ). HoldsNone n.stage n.course l) (sym i.pending)
+      (subst (λ (t : Stage). HoldsNone t n.course xs) (sym i.stage) (subst (λ (d : Course). HoldsNone s d xs) (sym i.course) none));
   room = omega (arith, room, ap length i.pending);
 }
 
@@ -71,7 +72,7 @@ passes : {C : Type 0} (placed : C → List ℕ → Placed) (m n : Marking C) →
 passes placed m n k fewer = record { keeps = k; fewer = λ h. fewer; stuck = λ h. absurd (no_false h) }
 
 -- a turn that made none ready
-waits : {C : Type 0} (placed : C → List ℕ → Placed) (m n : Marking C) → KeepsGiven placed m n → IsStuck placed n ⊎ (n.stage ≡ Rest) → HasPassed placed false m n
+waits : {C : Type 0} (placed : C → List ℕ → Placed) (m n : Marking C) → KeepsGiven placed m n → IsStuck n ⊎ (n.stage ≡ Rest) → HasPassed placed false m n
 waits placed m n k s = record { keeps = k; fewer = λ h. absurd (no_true h); stuck = λ h. s }
 
 -- a turn after which no byte is to be marked
@@ -82,10 +83,10 @@ ends placed m n s at j same = waits placed m n (keeps placed m n s Rest m.course
 
 -- a turn that changed nothing, since too few bytes are held
 stays : {C : Type 0} (placed : C → List ℕ → Placed) (m : Marking C) (s : Stage) → m.stage ≡ s
-    → made s (placed m.classes) m.course m.held.pending ≡ m.held.pending → length m.held.pending < 262160 → HasPassed placed false m m
-stays placed m s at same room =
+    → HoldsNone s m.course m.held.pending → length m.held.pending < 262160 → HasPassed placed false m m
+stays placed m s at none room =
     waits placed m m (record { same = λ left. refl; classes = refl; many = refl })
-    (inl (stuck placed m m s m.course m.held.ready m.held.pending (record { stage = at; course = refl; ready = refl; pending = refl; classes = refl }) same room))
+    (inl (stuck m m s m.course m.held.ready m.held.pending (record { stage = at; course = refl; ready = refl; pending = refl; classes = refl }) none room))
 
 pub head_passes : {C : Type 0} (placed : C → List ℕ → Placed) (m n : Marking C) (head : Head) → m.stage ≡ Start → 24 ≤ length m.held.pending
     → header m.held.pending ≡ Formed (form head) → Comes m n (Records head) m.course (m.held.ready ++ take 24 m.held.pending) (drop 24 m.held.pending)
@@ -105,7 +106,7 @@ head_fails placed m n d at long h j =
     ends placed m n Start at j (λ left. head_damaged (placed m.classes) m.course m.held.ready m.held.pending left d long h)
 
 pub head_waits : {C : Type 0} (placed : C → List ℕ → Placed) (m : Marking C) → m.stage ≡ Start → length m.held.pending < 24 → HasPassed placed false m m
-head_waits placed m at few = stays placed m Start at (head_short (placed m.classes) m.course m.held.pending few) (omega (arith, few))
+head_waits placed m at few = stays placed m Start at few (omega (arith, few))
 
 pub record_passes : {C : Type 0} (placed : C → List ℕ → Placed) (m n : Marking C) (head : Head) (r : RecordHead) → m.stage ≡ Records head
     → m.course.count < most_records → headed (form head) m.course.count m.course.at m.held.pending ≡ Some r → 16 + r.captured ≤ length m.held.pending
@@ -131,13 +132,13 @@ record_fails placed m n head at long h j =
 pub record_waits : {C : Type 0} (placed : C → List ℕ → Placed) (m : Marking C) (head : Head) → m.stage ≡ Records head → length m.held.pending < 16
     → HasPassed placed false m m
 record_waits placed m head at few =
-    stays placed m (Records head) at (record_short (placed m.classes) m.course m.held.pending head few) (omega (arith, few))
+    stays placed m (Records head) at (no_header (form head) m.course m.held.pending few) (omega (arith, few))
 
 pub record_waits_whole : {C : Type 0} (placed : C → List ℕ → Placed) (m : Marking C) (head : Head) (r : RecordHead) → m.stage ≡ Records head
     → headed (form head) m.course.count m.course.at m.held.pending ≡ Some r → length m.held.pending < 16 + r.captured → r.captured ≤ 262144
     → HasPassed placed false m m
 record_waits_whole placed m head r at h few short =
-    stays placed m (Records head) at (record_cut (placed m.classes) m.course m.held.pending head r h few) (omega (arith, few, short))
+    stays placed m (Records head) at (not_whole (form head) m.course m.held.pending r h few) (omega (arith, few, short))
 
 pub rests : {C : Type 0} (placed : C → List ℕ → Placed) (m : Marking C) → m.stage ≡ Rest → HasPassed placed false m m
 rests placed m h = waits placed m m (record { same = λ left. refl; classes = refl; many = refl }) (inr h)
@@ -201,12 +202,12 @@ all_ready placed a m n k rest j = record {
   keeps = keeps_trans placed a m n k
       (keeps placed m n Rest Rest m.course (m.held.ready ++ m.held.pending) [] rest j
       (λ left. append_assoc m.held.ready m.held.pending left) (omega (arith, length-append m.held.ready m.held.pending)));
-  stuck = stuck placed m n Rest m.course (m.held.ready ++ m.held.pending) [] j refl (omega arith);
+  stuck = stuck m n Rest m.course (m.held.ready ++ m.held.pending) [] j refl (omega arith);
 }
 
-not_rest : {C : Type 0} (placed : C → List ℕ → Placed) (m : Marking C) → IsStuck placed m ⊎ (m.stage ≡ Rest) → (m.stage ≡ Rest → ⊥) → IsStuck placed m
-not_rest placed m (inl s) h = s
-not_rest placed m (inr r) h = absurd (h r)
+not_rest : {C : Type 0} (m : Marking C) → IsStuck m ⊎ (m.stage ≡ Rest) → (m.stage ≡ Rest → ⊥) → IsStuck m
+not_rest m (inl s) h = s
+not_rest m (inr r) h = absurd (h r)
 
-pub some_ready : {C : Type 0} (placed : C → List ℕ → Placed) (a m : Marking C) → KeepsGiven placed a m → IsStuck placed m ⊎ (m.stage ≡ Rest) → (m.stage ≡ Rest → ⊥) → HasAdvanced placed a m
-some_ready placed a m k s h = record { keeps = k; stuck = not_rest placed m s h }
+pub some_ready : {C : Type 0} (placed : C → List ℕ → Placed) (a m : Marking C) → KeepsGiven placed a m → IsStuck m ⊎ (m.stage ≡ Rest) → (m.stage ≡ Rest → ⊥) → HasAdvanced placed a m
+some_ready placed a m k s h = record { keeps = k; stuck = not_rest m s h }

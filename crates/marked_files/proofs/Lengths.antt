@@ -82,7 +82,7 @@ length-behind (Formed form) place c bytes =
     )
 length-behind (Unformed fault) place c bytes = refl
 
-length-made : (s : Stage) (place : List ℕ → Placed) (c : Course) (bytes : List ℕ) → length (made s place c bytes) ≡ length bytes
+pub length-made : (s : Stage) (place : List ℕ → Placed) (c : Course) (bytes : List ℕ) → length (made s place c bytes) ≡ length bytes
 length-made Start place c bytes = length-behind (header bytes) place c bytes
 length-made (Records head) place c bytes = length-records_on (most_records - c.count) place (form head) c bytes
 length-made Rest place c bytes = refl

@@ -9,3 +9,5 @@ pub mod ViewLaws
 pub mod CaptureLaws
 pub mod BackLaws
 pub mod Lengths
+pub mod StandingLemmas
+pub mod BehindLemmas

@@ -12,8 +12,10 @@ use Rattle.pcap_files.specs.declared.form.Head.{Head}
 use Rattle.marked_files.specs.Courses.{Course, behind_head, frame_in, made, marked_record, packet_of, passed, records_from}
 use Rattle.marked_files.specs.Heads.{headed}
 use Rattle.marked_files.specs.declared.record_head.RecordHead.{RecordHead}
+use Rattle.marked_files.specs.declared.stage.Stage.{Stage}
 use Rattle.marked_files.specs.declared.stage.Stage.TheVariants.{Start, Records, Rest}
-use Rattle.marked_files.proofs.Steps.{front_record, no_header, not_headed, not_whole}
+use Rattle.marked_files.specs.Taking.{HoldsNone}
+use Rattle.marked_files.proofs.Steps.{front_record, no_header, no_record, not_headed}
 
 pub head_given : (place : List ℕ → Placed) (c : Course) (ready xs left : List ℕ) (head : Head) → 24 ≤ length xs → header xs ≡ Formed (form head)
     → (ready ++ take 24 xs) ++ made (Records head) place c (drop 24 xs ++ left) ≡ ready ++ made Start place c (xs ++ left)
@@ -32,7 +34,7 @@ pub head_damaged : (place : List ℕ → Placed) (c : Course) (ready xs left : L
 head_damaged place c ready xs left d long h =
     ap (λ (t : Header). ready ++ behind_head t place c (xs ++ left)) (sym (head_seen xs left (inl long) ∙ h))
 
-pub head_short : (place : List ℕ → Placed) (c : Course) (xs : List ℕ) → length xs < 24 → made Start place c xs ≡ xs
+head_short : (place : List ℕ → Placed) (c : Course) (xs : List ℕ) → length xs < 24 → made Start place c xs ≡ xs
 head_short place c xs h =
     let short : nat_lt (length xs) 24 ≡ true = grind (arith, h) in
     ap (λ (b : Bool). behind_head (if b then Unformed (damage (length xs) ShortHead) else header_in (form_of (word true xs 0)) xs) place c xs) short
@@ -50,9 +52,13 @@ pub record_refused : (place : List ℕ → Placed) (c : Course) (ready xs left :
 record_refused place c ready xs left head long h =
     ap (λ (l : List ℕ). ready ++ l) (sym (not_headed place (form head) c xs left long h))
 
-pub record_short : (place : List ℕ → Placed) (c : Course) (xs : List ℕ) (head : Head) → length xs < 16 → made (Records head) place c xs ≡ xs
-record_short place c xs head h = no_header place (form head) c xs h
+-- the bytes stay where neither the head nor a record stands whole
+pub none_stays : (s : Stage) (place : List ℕ → Placed) (c : Course) (xs : List ℕ) → HoldsNone s c xs → made s place c xs ≡ xs
+none_stays Start place c xs h = head_short place c xs h
+none_stays (Records head) place c xs h = no_record place (form head) c xs h
+none_stays Rest place c xs h = refl
 
-pub record_cut : (place : List ℕ → Placed) (c : Course) (xs : List ℕ) (head : Head) (r : RecordHead)
-    → headed (form head) c.count c.at xs ≡ Some r → length xs < 16 + r.captured → made (Records head) place c xs ≡ xs
-record_cut place c xs head r h cut = not_whole place (form head) c xs r h cut
+pub nothing_held : (s : Stage) (c : Course) → HoldsNone s c []
+nothing_held Start c = omega arith
+nothing_held (Records head) c = no_header (form head) c [] (omega arith)
+nothing_held Rest c = refl

@@ -49,7 +49,7 @@ headed_seen form count at xs rest h =
     let here : nat_lt (length xs) 16 ≡ false = grind (arith, h) in
     rw (w8, w12, stamps, long, here) refl
 
-none_whole : (o : Option RecordHead) (bytes : List ℕ) → o ≡ None → whole o bytes ≡ None
+pub none_whole : (o : Option RecordHead) (bytes : List ℕ) → o ≡ None → whole o bytes ≡ None
 none_whole o bytes h = ap (λ (p : Option RecordHead). whole p bytes) h
 
 -- a header that the format does not allow here
@@ -59,24 +59,24 @@ not_headed place form c xs rest long h =
     no_record place form c (xs ++ rest) (none_whole _ (xs ++ rest) (headed_seen form c.count c.at xs rest long ∙ h))
 
 -- fewer bytes than a header has
-pub no_header : (place : List ℕ → Placed) (form : Form) (c : Course) (xs : List ℕ) → length xs < 16 → records_from place form c xs ≡ xs
-no_header place form c xs h =
+pub no_header : (form : Form) (c : Course) (xs : List ℕ) → length xs < 16 → whole (headed form c.count c.at xs) xs ≡ None
+no_header form c xs h =
     let short : nat_lt (length xs) 16 ≡ true = grind (arith, h) in
     let none : headed form c.count c.at xs ≡ None = rw (short) refl in
-    no_record place form c xs (none_whole _ xs none)
+    none_whole _ xs none
 
-some_whole : (o : Option RecordHead) (head : RecordHead) (bytes : List ℕ) → o ≡ Some head → 16 + head.captured ≤ length bytes → whole o bytes ≡ Some head
+pub some_whole : (o : Option RecordHead) (head : RecordHead) (bytes : List ℕ) → o ≡ Some head → 16 + head.captured ≤ length bytes → whole o bytes ≡ Some head
 some_whole o head bytes e h =
     let enough : nat_lt (length bytes) (16 + head.captured) ≡ false = grind (arith, h) in
     ap (λ (p : Option RecordHead). whole p bytes) e ∙ ap (λ (b : Bool). if b then None else Some head) enough
 
 -- a record that is not whole
-pub not_whole : (place : List ℕ → Placed) (form : Form) (c : Course) (xs : List ℕ) (head : RecordHead)
-    → headed form c.count c.at xs ≡ Some head → length xs < 16 + head.captured → records_from place form c xs ≡ xs
-not_whole place form c xs head e h =
+pub not_whole : (form : Form) (c : Course) (xs : List ℕ) (head : RecordHead)
+    → headed form c.count c.at xs ≡ Some head → length xs < 16 + head.captured → whole (headed form c.count c.at xs) xs ≡ None
+not_whole form c xs head e h =
     let cut : nat_lt (length xs) (16 + head.captured) ≡ true = grind (arith, h) in
     let part : (if nat_lt (length xs) (16 + head.captured) then None else Some head) ≡ None = ap (λ (b : Bool). if b then None else Some head) cut in
-    no_record place form c xs (ap (λ (p : Option RecordHead). whole p xs) e ∙ part)
+    ap (λ (p : Option RecordHead). whole p xs) e ∙ part
 
 -- a record that stands in the first bytes is marked, and passed
 pub front_record : (place : List ℕ → Placed) (form : Form) (c : Course) (xs rest : List ℕ) (head : RecordHead) → c.count < most_records

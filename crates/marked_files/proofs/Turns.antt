@@ -1,15 +1,17 @@
 -- What a marker holds once it has taken bytes from a file.
 use Rattle.std.proofs.Common.{◌≡◌, ◌≤◌, ◌<◌, ◌+◌, ◌∙◌, ap, ℕ, List, [], ◌++◌, length, refl, arith, sym, subst, inl, inr, append_assoc, append-nil, length-append}
-use Rattle.std.specs.Prelude.{Some, min}
+use Rattle.std.specs.Prelude.{IsSome, Some, min}
 use Rattle.std.proofs.lemmas.List.{nil_from_length}
 use Rattle.altq_model.specs.declared.Placed.{Placed}
-use Rattle.play_base.specs.View.{View, IsAtEnd, Took}
+use Rattle.play_base.specs.View.{View, IsAtEnd, Took, Unchanged}
+use Rattle.pcap_files.proofs.ReaderLemmas.{took_unchanged}
 use Rattle.play_base.proofs.ViewLaws.{took_more, took_nothing}
 use Rattle.marked_files.specs.Courses.{made}
 use Rattle.marked_files.specs.Markings.{Marking, given}
-use Rattle.marked_files.specs.Taking.{HasAdvanced, HasRead, HasReady, HasTaken, IsStuck, KeepsGiven, holds}
+use Rattle.marked_files.specs.Taking.{HasAdvanced, HasGivenAll, HasRead, HasReady, HasTaken, HoldsNone, IsStuck, KeepsGiven, holds}
 use Rattle.marked_files.specs.declared.stage.Stage.TheVariants.{Rest}
 use Rattle.marked_files.proofs.Advancing.{Comes, given_is, stuck}
+use Rattle.marked_files.proofs.Passing.{none_stays}
 
 -- no byte was taken
 pub keeps_taken : {C : Type 0} (placed : C → List ℕ → Placed) (v : View) (file : ℕ) (m n : Marking C) → KeepsGiven placed m n → HasTaken placed v v file m n
@@ -61,7 +63,7 @@ filled_taken placed v w file m n more f =
     }
 
 -- where the file is at its end, the bytes that are held are given as they are
-pub ended_taken : {C : Type 0} (placed : C → List ℕ → Placed) (w : View) (file : ℕ) (m n : Marking C) → IsStuck placed m → IsAtEnd w file
+pub ended_taken : {C : Type 0} (placed : C → List ℕ → Placed) (w : View) (file : ℕ) (m n : Marking C) → IsStuck m → IsAtEnd w file
     → Comes m n Rest m.course (m.held.ready ++ m.held.pending) [] → HasTaken placed w w file m n
 ended_taken placed w file m n stuck ended j = record {
   bytes = [];
@@ -74,18 +76,17 @@ ended_taken placed w file m n stuck ended j = record {
         given_is placed m n Rest m.course (m.held.ready ++ m.held.pending) [] left j
             ∙ append_assoc m.held.ready m.held.pending left
             ∙ ap (λ (l : List ℕ). m.held.ready ++ l)
-            (ap (λ (l : List ℕ). m.held.pending ++ l) none ∙ append-nil m.held.pending ∙ sym stuck.stays
+            (ap (λ (l : List ℕ). m.held.pending ++ l) none ∙ append-nil m.held.pending ∙ sym (none_stays m.stage (placed m.classes) m.course m.held.pending stuck.none)
             ∙ ap (λ (l : List ℕ). made m.stage (placed m.classes) m.course l) (sym (append-nil m.held.pending))
             ∙ ap (λ (l : List ℕ). made m.stage (placed m.classes) m.course (m.held.pending ++ l)) (sym none)),
       );
   classes = j.classes;
 }
 
-filled_stuck : {C : Type 0} (placed : C → List ℕ → Placed) (v w : View) (file : ℕ) (m n : Marking C) → IsStuck placed m → Filled v w file m n [] → IsStuck placed n
-filled_stuck placed v w file m n s f =
-    let same : made m.stage (placed m.classes) m.course (m.held.pending ++ []) ≡ m.held.pending ++ [] =
-    ap (λ (l : List ℕ). made m.stage (placed m.classes) m.course l) (append-nil m.held.pending) ∙ s.stays ∙ sym (append-nil m.held.pending) in
-    stuck placed m n m.stage m.course [] (m.held.pending ++ []) f.came same (omega (arith, s.room, length-append m.held.pending []))
+filled_stuck : {C : Type 0} (v w : View) (file : ℕ) (m n : Marking C) → IsStuck m → Filled v w file m n [] → IsStuck n
+filled_stuck v w file m n s f =
+    stuck m n m.stage m.course [] (m.held.pending ++ []) f.came (subst (HoldsNone m.stage m.course) (sym (append-nil m.held.pending)) s.none)
+    (omega (arith, s.room, length-append m.held.pending []))
 
 -- a turn of a marker: it advances to a marking that the code has by its parts, and bytes are taken
 pub record Turn {C : Type 0} (placed : C → List ℕ → Placed) (v w : View) (file : ℕ) (m a b n : Marking C) (more : List ℕ) : Type 0 where
@@ -101,11 +102,31 @@ pub turn_taken : {C : Type 0} (placed : C → List ℕ → Placed) (v w : View) 
 turn_taken placed v w file m a b n more t =
     taken_more placed v v w file m b n (keeps_taken placed v file m b (advanced_by placed m a b t.is t.advanced).keeps) (filled_taken placed v w file b n more t.filled)
 
+-- one in which the read failed
+pub turn_failed : {C : Type 0} (placed : C → List ℕ → Placed) (v w : View) (file : ℕ) (m a b n : Marking C) → HasAdvanced placed m a → b ≡ a → IsSome (v.part file)
+    → Unchanged v w → length b.held.ready ≡ 0 → Comes b n b.stage b.course [] b.held.pending → Turn placed v w file m a b n []
+turn_failed placed v w file m a b n advanced is there same none j = record {
+  advanced = advanced;
+  is = is;
+  filled = record {
+    took = took_unchanged v v w file [] there (took_nothing v file) same;
+    none = none;
+    came = record { stage = j.stage; course = j.course; ready = j.ready; pending = j.pending ∙ sym (append-nil b.held.pending); classes = j.classes };
+  };
+}
+
+-- one in which no byte was taken
+pub turn_waits : {C : Type 0} (placed : C → List ℕ → Placed) (v w : View) (file : ℕ) (m a b n : Marking C) → Turn placed v w file m a b n [] → HasGivenAll n
+turn_waits placed v w file m a b n t = record {
+  ready = t.filled.came.ready;
+  none = (filled_stuck v w file b n (advanced_by placed m a b t.is t.advanced).stuck t.filled).none;
+}
+
 -- the last one, at the file's end
 pub turn_ended : {C : Type 0} (placed : C → List ℕ → Placed) (v w : View) (file : ℕ) (m a b n e : Marking C) (more : List ℕ) → Turn placed v w file m a b n more → more ≡ []
     → IsAtEnd w file → Comes n e Rest n.course (n.held.ready ++ n.held.pending) [] → HasTaken placed v w file m e
 turn_ended placed v w file m a b n e more t none ended j =
-    let still = filled_stuck placed v w file b n (advanced_by placed m a b t.is t.advanced).stuck (subst (Filled v w file b n) none t.filled) in
+    let still = filled_stuck v w file b n (advanced_by placed m a b t.is t.advanced).stuck (subst (Filled v w file b n) none t.filled) in
     taken_more placed v w w file m n e (turn_taken placed v w file m a b n more t) (ended_taken placed w file n e still ended j)
 
 -- a marking of which these bytes were given

@@ -15,8 +15,7 @@ use Rattle.marked_files.specs.Markings.{Marking, given}
 use Rattle.marked_files.specs.Taking.{HasRead, holds}
 use Rattle.marked_files.specs.Through.{marked_view, with_marks}
 use Rattle.marked_files.specs.declared.stage.Stage.{Stage}
-use Rattle.marked_files.specs.declared.stage.Stage.TheVariants.{Start, Records, Rest}
-use Rattle.marked_files.proofs.Passing.{head_short, record_short}
+use Rattle.marked_files.proofs.Passing.{none_stays, nothing_held}
 
 -- another file has left what it has behind the wrapper
 pub left_other : (f file : ℕ) (tells : Bool) (become : List ℕ → List ℕ) (left : Option (List ℕ)) → f ≢ file
@@ -130,9 +129,7 @@ unchanged_marked placed v w g k file m next told same =
 
 -- of nothing comes nothing
 made_nothing : (stage : Stage) (place : List ℕ → Placed) (c : Course) → made stage place c [] ≡ []
-made_nothing Start place c = head_short place c [] (omega arith)
-made_nothing (Records head) place c = record_short place c [] head (omega arith)
-made_nothing Rest place c = refl
+made_nothing stage place c = none_stays stage place c [] (nothing_held stage c)
 
 nothing_given : {C : Type 0} (placed : C → List ℕ → Placed) (m : Marking C) (left : List ℕ) → m.held.ready ≡ [] → m.held.pending ≡ [] → left ≡ [] → given placed m left ≡ []
 nothing_given placed m left r p l =

@@ -54,6 +54,9 @@ Agrees capture.End count xs found = found ≡ None
 Agrees (capture.Fault d) count xs found = found ≡ None
 Agrees capture.Limit count xs found = found ≡ None
 
+none_some_head : (r : RecordHead) → None ≡ Some r → ⊥
+none_some_head r h = cc
+
 not_both : true ≡ true → false ≡ true → ⊥
 not_both a b = cc
 
@@ -104,6 +107,54 @@ agrees_at form bytes count at s within h =
     let here = step_here form bytes (drop at bytes) [] count at within (sym (append-nil (drop at bytes))) (inr refl) in
     subst (λ (t : Step). Agrees t count (drop at bytes) (whole (headed form count at (drop at bytes)) (drop at bytes))) (sym here ∙ h)
     (agrees form count at (drop at bytes))
+
+same_head : (a b : RecordHead) → Some a ≡ Some b → a ≡ b
+same_head a b h = cc
+
+-- a header that is found is that of the record that the reading has there
+found_by : (form : Form) (bytes : List ℕ) (count at : ℕ) (r : RecordHead) (s : Step) → step form bytes count at ≡ s
+    → Agrees s count (drop at bytes) (whole (headed form count at (drop at bytes)) (drop at bytes))
+    → whole (headed form count at (drop at bytes)) (drop at bytes) ≡ Some r
+    → (x : Record) × (step form bytes count at ≡ capture.Next x (at + 16 + length x.captured)) × (length x.captured ≡ r.captured)
+found_by form bytes count at r (capture.Next x after) e a found =
+    let place = next_place form bytes count at x after e in
+    let same : head_of x ≡ r = same_head (head_of x) r (sym a.head ∙ found) in
+    (x, e ∙ ap (λ (n : ℕ). capture.Next x n) place.0, ap (λ (h : RecordHead). h.captured) same)
+found_by form bytes count at r capture.End e a found = absurd (none_some_head r (sym a ∙ found))
+found_by form bytes count at r (capture.Fault d) e a found = absurd (none_some_head r (sym a ∙ found))
+found_by form bytes count at r capture.Limit e a found = absurd (none_some_head r (sym a ∙ found))
+
+pub found_next : (form : Form) (bytes : List ℕ) (count at : ℕ) (r : RecordHead) → at ≤ length bytes
+    → whole (headed form count at (drop at bytes)) (drop at bytes) ≡ Some r
+    → (x : Record) × (step form bytes count at ≡ capture.Next x (at + 16 + length x.captured)) × (length x.captured ≡ r.captured)
+found_next form bytes count at r within found =
+    found_by form bytes count at r (step form bytes count at) refl (agrees_at form bytes count at (step form bytes count at) within refl) found
+
+-- where no header of a whole record stands, the reading has no record
+last_by : (s : Step) (count : ℕ) (xs : List ℕ) (found : Option RecordHead) → found ≡ None → Agrees s count xs found → IsLast s
+last_by capture.End count xs found none h = tt
+last_by (capture.Next r after) count xs found none h = absurd (none_some_head (head_of r) (sym none ∙ h.head))
+last_by (capture.Fault d) count xs found none h = tt
+last_by capture.Limit count xs found none h = tt
+
+pub none_is_last : (form : Form) (bytes : List ℕ) (count at : ℕ) → at ≤ length bytes
+    → whole (headed form count at (drop at bytes)) (drop at bytes) ≡ None → IsLast (step form bytes count at)
+none_is_last form bytes count at within none =
+    last_by (step form bytes count at) count (drop at bytes) _ none (agrees_at form bytes count at (step form bytes count at) within refl)
+
+-- a record whose header is allowed and that does not stand whole is short
+cut_by : (b : Bool) (count at : ℕ) (xs : List ℕ) (stamp captured original : ℕ) (found : Option RecordHead) → found ≡ None
+    → Agrees (if b then capture.Fault (capture.damage at ShortRecord) else capture.Next (record { stamp = stamp; captured = take captured (drop 16 xs); original = original }) (at + 16 + captured)) count xs found
+    → (if b then capture.Fault (capture.damage at ShortRecord) else capture.Next (record { stamp = stamp; captured = take captured (drop 16 xs); original = original }) (at + 16 + captured))
+    ≡ capture.Fault (capture.damage at ShortRecord)
+cut_by true count at xs stamp captured original found none a = refl
+cut_by false count at xs stamp captured original found none a = absurd (none_some_head _ (sym none ∙ a.head))
+
+pub cut_is_short : (form : Form) (count at : ℕ) (xs : List ℕ) (stamp captured original : ℕ) → stand_at form count at xs ≡ Headed stamp captured original
+    → whole (headed form count at xs) xs ≡ None → step_of (Headed stamp captured original) at xs ≡ capture.Fault (capture.damage at ShortRecord)
+cut_is_short form count at xs stamp captured original e none =
+    cut_by (nat_lt (length xs) (16 + captured)) count at xs stamp captured original _ none
+    (subst (λ (t : _). Agrees (step_of t at xs) count xs (whole (headed form count at xs) xs)) e (agrees form count at xs))
 
 none_last : (s : Step) (count : ℕ) (xs : List ℕ) (found : Option RecordHead) → IsLast s → Agrees s count xs found → found ≡ None
 none_last capture.End count xs found last h = h

@@ -6,3 +6,4 @@ pub mod Markings
 pub mod Taking
 pub mod Through
 pub mod Telling
+pub mod Standing

@@ -5,6 +5,7 @@
 //! the definition of the marked capture in `traffic_marks`.
 #![tactic(auto)]
 
+mod behind;
 mod files;
 mod laws;
 mod marker;
@@ -13,6 +14,7 @@ mod record_head;
 mod stage;
 mod window;
 
+pub use behind::Behind;
 pub use files::MarkedFiles;
 pub use laws::reading_marks;
 pub use marker::Marker;

@@ -115,6 +115,21 @@ impl Window {
         &self.buffer[self.middle..self.to]
     }
 
+    // The bytes that are ready.
+    pub fn ready(&self) -> &[u8]
+        ensures { result.now ≡ self.now.ready }
+    {
+        &self.buffer[self.from..self.middle]
+    }
+
+    // Leaves the ready bytes out.
+    pub fn give_all(&mut self)
+        ensures ready { self.new.ready ≡ [] }
+        ensures pending { self.new.pending ≡ self.old.pending }
+    {
+        self.from = self.middle;
+    }
+
     // Makes the next bytes ready.
     pub fn pass(&mut self, count: usize)
         requires { count ≤ length self.old.pending }

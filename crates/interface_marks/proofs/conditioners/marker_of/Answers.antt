@@ -2,7 +2,7 @@
 use Rattle.std.proofs.Common.{◌∙◌, List, subst, sym}
 use Rattle.std.specs.Prelude.{Option}
 use Rattle.std.proofs.lemmas.Result.{IfOk-weaker}
-use Rattle.interface_marks.proofs.Marking.{marks_of}
+use Rattle.interface_marks.proofs.Marking.{begins_of, marks_of}
 use Rattle.interface_marks.proofs.Meters.{assured}
 use Rattle.marked_files.specs.Metering.{AreAssured}
 use Rattle.traffic_meter.specs.declared.rule.MeterRule.{MeterRule}
@@ -18,4 +18,10 @@ pub returns-clause-marks : goal.returns-clause-marks
 returns-clause-marks c =
     IfOk-weaker _ _ _
     (λ m n. marks_of c.args.interface.now _ _ c.args.first.now m c.in_ok-classifier.ensures.placed (c.as_slice.ensures.value ∙ c.in_ok-rules.ensures) n)
+    c.build-2.ensures.unused
+
+pub returns-clause-begins : goal.returns-clause-begins
+returns-clause-begins c =
+    IfOk-weaker _ _ _
+    (λ m n. begins_of c.args.interface.now _ _ c.args.first.now m c.in_ok-classifier.ensures.placed (c.as_slice.ensures.value ∙ c.in_ok-rules.ensures) n)
     c.build-2.ensures.unused

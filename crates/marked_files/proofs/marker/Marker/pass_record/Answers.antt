@@ -9,6 +9,7 @@ use Rattle.marked_files.specs.Markings.{Marking}
 use Rattle.marked_files.proofs.Advancing.{IsPacket, length-marked_record, metered_course, metered_record, passed_by, record_fails, record_passes, record_waits_whole, stayed_by}
 use Rattle.marked_files.specs.Metering.{frame_by, meter_of}
 use Rattle.marked_files.proofs.FrameLaws.{length-record}
+use Rattle.marked_files.proofs.StandingLemmas.{halted_by, halted_same, not_false, not_true, record_halts_whole, record_refuses, record_stands, standing_by}
 use Rattle.marked_files.proofs.Meters.{length-frame_by, ready_later}
 use Rattle.marked_files.proofs.marker.Marker.pass_record.Goals as goal
 
@@ -21,6 +22,13 @@ returns-in_default g c =
           (omega (arith, ap length held))
           (ap (headed (form c.args.head) c.self.inside.count c.self.inside.place) (sym held) ∙ sym c.headed.ensures.value ∙ c.in_default.is)
           (record { stage = refl; course = refl; ready = refl; pending = refl; classes = refl }));
+      stands = λ e. absurd (not_true e);
+      halts = λ e.
+          halted_by _ _ _ c.self.view_is
+          (record_refuses _ _ c.args.head (ap (λ (m : Marking _). m.stage) c.self.view_is ∙ c.requires.records)
+          (omega (arith, ap length held))
+          (ap (headed (form c.args.head) c.self.inside.count c.self.inside.place) (sym held) ∙ sym c.headed.ensures.value ∙ c.in_default.is)
+          (record { course = refl; held = refl; classes = refl }));
     }
 
 pub returns-then-pending-whole : goal.returns-then-pending-whole
@@ -29,6 +37,12 @@ returns-then-pending-whole g c =
     record {
       next = stayed_by g.C.Classify.placed false _ _ c.self.view_is
           (record_waits_whole g.C.Classify.placed _ c.args.head c.in-Some.record (ap (λ (m : Marking _). m.stage) c.self.view_is ∙ c.requires.records)
+          (ap (headed (form c.args.head) c.self.inside.count c.self.inside.place) (sym held) ∙ sym c.headed.ensures.value ∙ c.in-Some.is)
+          (omega (arith, ap length held)) (omega (arith, c.in-Some.ensures.short)));
+      stands = λ e. absurd (not_true e);
+      halts = λ e.
+          halted_same _ _ c.self.view_is
+          (record_halts_whole _ c.args.head c.in-Some.record (ap (λ (m : Marking _). m.stage) c.self.view_is ∙ c.requires.records)
           (ap (headed (form c.args.head) c.self.inside.count c.self.inside.place) (sym held) ∙ sym c.headed.ensures.value ∙ c.in-Some.is)
           (omega (arith, ap length held)) (omega (arith, c.in-Some.ensures.short)));
     }
@@ -68,6 +82,21 @@ returns g c =
             pending = c.mark_record.ensures.pending;
             classes = refl;
           }));
+      stands = λ e.
+          standing_by g.C.Classify.placed _ _ _ c.self.view_is
+          (record_stands g.C.Classify.placed _ _ c.args.head r (ap (λ (m : Marking _). m.stage) c.self.view_is ∙ c.requires.records)
+          c.in-Some.ensures.fits.0
+          (ap (headed (form c.args.head) i.count i.place) (sym held) ∙ sym c.headed.ensures.value ∙ c.in-Some.is)
+          long (length-marked_record place now r i.window.pending long)
+          (record {
+            stage = ap (λ (m : Marking _). m.stage) c.self.view_is ∙ c.requires.records;
+            course = metered_course place now r i.window.pending c.class-class.result.class c.max-self-inside.result c.max-len.result _ packet c.mark_record.ensures.meters;
+            ready = c.mark_record.ensures.ready
+                ∙ ap (λ (l : List ℕ). i.window.ready ++ l) (metered_record place now r i.window.pending c.class-class.result.class c.max-self-inside.result c.max-len.result packet);
+            pending = c.mark_record.ensures.pending;
+            classes = refl;
+          }));
+      halts = λ e. absurd (not_false e);
     }
 
 pub invariant_of-self-2 : goal.invariant_of-self-2

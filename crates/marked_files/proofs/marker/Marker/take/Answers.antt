@@ -1,9 +1,7 @@
-use Rattle.std.proofs.Common.{◌≡◌, ◌++◌, ◌∙◌, ap, [], length, refl, sym, arith, append-nil, length-append}
+use Rattle.std.proofs.Common.{◌≡◌, ap, [], length, refl, arith, length-append}
 use Rattle.std.proofs.lemmas.Grind.{common_steps}
 use Rattle.std.proofs.lemmas.List.{nil_from_length}
-use Rattle.play_base.proofs.ViewLaws.{took_nothing}
-use Rattle.pcap_files.proofs.ReaderLemmas.{took_unchanged}
-use Rattle.marked_files.proofs.Turns.{turn_ended, turn_taken}
+use Rattle.marked_files.proofs.Turns.{turn_ended, turn_failed, turn_taken, turn_waits}
 use Rattle.marked_files.proofs.marker.Marker.take.Goals as goal
 
 pub returns-in-Ok-eq0-clause-taken : goal.returns-in-Ok-eq0-clause-taken
@@ -41,12 +39,13 @@ returns-in-Ok-clause-taken g c =
 pub returns-in-Err-clause-taken : goal.returns-in-Err-clause-taken
 returns-in-Err-clause-taken g c =
     turn_taken g.C.Classify.placed _ _ c.args.file c.args.self.now c.advance.new.self _ _ []
-    (record {
-      advanced = c.advance.ensures.all;
-      is = c.self.view_is;
-      filled = record {
-        took = took_unchanged _ _ _ _ [] c.requires.there (took_nothing _ _) c.in-Err.ensures.refused;
-        none = grind (arith, common_steps);
-        came = record { stage = refl; course = refl; ready = c.fill.ensures.ready; pending = c.in-Err.ensures.stays ∙ sym (append-nil _); classes = refl };
-      };
-    })
+    (turn_failed g.C.Classify.placed _ _ c.args.file c.args.self.now c.advance.new.self _ _ c.advance.ensures.all c.self.view_is c.requires.there
+    c.in-Err.ensures.refused (grind (arith, common_steps))
+    (record { stage = refl; course = refl; ready = c.fill.ensures.ready; pending = c.in-Err.ensures.stays; classes = refl }))
+
+pub returns-in-Err-clause-refused : goal.returns-in-Err-clause-refused
+returns-in-Err-clause-refused g c =
+    turn_waits g.C.Classify.placed _ _ c.args.file c.args.self.now c.advance.new.self _ _
+    (turn_failed g.C.Classify.placed _ _ c.args.file c.args.self.now c.advance.new.self _ _ c.advance.ensures.all c.self.view_is c.requires.there
+    c.in-Err.ensures.refused (grind (arith, common_steps))
+    (record { stage = refl; course = refl; ready = c.fill.ensures.ready; pending = c.in-Err.ensures.stays; classes = refl }))
