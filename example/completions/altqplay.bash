@@ -46,6 +46,7 @@ _altqplay() {
         make) options=(--count --config --interface --arrivals --departures --fates --stats --seed) ;;
         check) options=(--config --interface) ;;
         verify) options=(--config --interface --arrivals --departures --fates) ;;
+        condition) options=(--config --interface --arrivals --marked) ;;
     esac
     for ((i = 2; i < ${#words[@]}; i++)); do
         name=${words[i]%%=*}
@@ -65,7 +66,7 @@ _altqplay() {
     fi
 
     if ((here == 1)); then
-        found=(play check make shares verify)
+        found=(play check make shares verify condition)
     elif [[ -z $option ]]; then
         for part in "${options[@]}"; do
             [[ $given == *" $part "* ]] || found+=("$part")

@@ -6,7 +6,7 @@ use play_hints::{
     ConfAt, File, Given, OUT_OF_MEMORY, capture_hint, clock_hint, conf_hint, file_hint,
     long_capture_hint, long_conf_hint, long_given_hint, play_line, refuted_hint, words_hint,
 };
-use play_words::{CheckWords, Command, PlayWords, VerifyWords, read_words};
+use play_words::{CheckWords, Command, ConditionWords, PlayWords, VerifyWords, read_words};
 use std::alloc::{AllocError, Global};
 
 // The names of a run's files, no text for one that its command has not.
@@ -18,6 +18,7 @@ struct Names<'a> {
     departures: &'a str,
     fates: &'a str,
     stats: &'a str,
+    marked: &'a str,
     counts: bool,
 }
 
@@ -30,6 +31,7 @@ fn played<'a>(read: PlayWords<'a>, counts: bool) -> Names<'a> {
         departures: read.departures,
         fates: read.fates,
         stats: read.stats,
+        marked: "",
         counts,
     }
 }
@@ -43,6 +45,7 @@ fn verified<'a>(read: VerifyWords<'a>) -> Names<'a> {
         departures: read.departures,
         fates: read.fates,
         stats: "",
+        marked: "",
         counts: false,
     }
 }
@@ -56,6 +59,21 @@ fn checked<'a>(read: CheckWords<'a>) -> Names<'a> {
         departures: "",
         fates: "",
         stats: "",
+        marked: "",
+        counts: false,
+    }
+}
+
+// The names of a marking.
+fn conditioned<'a>(read: ConditionWords<'a>) -> Names<'a> {
+    Names {
+        config: read.config,
+        interface: read.interface,
+        arrivals: read.arrivals,
+        departures: "",
+        fates: "",
+        stats: "",
+        marked: read.marked,
         counts: false,
     }
 }
@@ -68,6 +86,7 @@ fn names_of(alloc: Global, words: &[String]) -> Option<Names<'_>> {
         Ok(Command::Shares(read)) => Some(played(read, false)),
         Ok(Command::Verify(read)) => Some(verified(read)),
         Ok(Command::Check(read)) => Some(checked(read)),
+        Ok(Command::Condition(read)) => Some(conditioned(read)),
         Err(_) => None,
     }
 }
@@ -89,6 +108,7 @@ fn unwritten<'a>(names: &Names<'a>, kind: u8) -> &'a str {
         2 => names.fates,
         3 => names.stats,
         4 => names.arrivals,
+        5 => names.marked,
         _ => "standard output",
     }
 }

@@ -25,6 +25,7 @@ written_name written.Departures = codes "departures"
 written_name written.Fates = codes "fates"
 written_name written.Statistics = codes "statistics"
 written_name written.Arrivals = codes "arrivals"
+written_name written.Marked = codes "marked arrivals"
 written_name written.Answer = codes "result"
 
 -- the message where there is no memory takes none

@@ -9,7 +9,7 @@ use Rattle.play_base.specs.declared.trouble.Trouble.TheVariants as trouble
 use Rattle.pcapng_model.specs.Numbers.{block_number}
 use Rattle.play_words.specs.Kinds.{words_kind}
 use Rattle.command_base.specs.declared.done.Done.{Done}
-use Rattle.command_base.specs.declared.done.Done.TheVariants.{Played, Made, Checked, Verified, Measured}
+use Rattle.command_base.specs.declared.done.Done.TheVariants.{Played, Made, Checked, Verified, Measured, Conditioned}
 use Rattle.command_base.specs.declared.failure.Failure.{Failure}
 use Rattle.command_base.specs.declared.failure.Failure.TheVariants as failure
 use Rattle.command_base.specs.declared.fault.ConfigFault.{ConfigFault}
@@ -53,6 +53,7 @@ written_number written.Departures = 1
 written_number written.Fates = 2
 written_number written.Statistics = 3
 written_number written.Arrivals = 4
+written_number written.Marked = 5
 written_number written.Answer = 10
 
 abbrev pub run_limit_number : RunLimit → ℕ
@@ -88,6 +89,7 @@ done_status Made = ended 0 0
 done_status (Checked fit) = ended 0 (fit_kind fit)
 done_status Verified = ended 0 0
 done_status Measured = ended 0 0
+done_status Conditioned = ended 0 0
 
 -- and of what came of it
 abbrev pub status_of : Outcome → Status

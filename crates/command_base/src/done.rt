@@ -20,6 +20,8 @@ pub enum Done {
     Verified,
     /// It played the capture, and said how far the shares of sibling classes lay apart.
     Measured,
+    /// It wrote the marked capture.
+    Conditioned,
 }
 
 impl Done {
@@ -30,6 +32,7 @@ impl Done {
         match self {
             Done::Played | Done::Made | Done::Verified | Done::Measured => ended(0, 0),
             Done::Checked(fit) => ended(0, fit_kind(fit)),
+            Done::Conditioned => ended(0, 0),
         }
     }
 }

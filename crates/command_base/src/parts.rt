@@ -48,6 +48,8 @@ pub enum WrittenPart {
     Statistics,
     /// The arrivals that `make` generates.
     Arrivals,
+    /// The marked arrivals of `condition`.
+    Marked,
     /// What a check, `make` or a verification says.
     Answer,
 }
@@ -62,6 +64,7 @@ impl WrittenPart {
             WrittenPart::Fates => 2,
             WrittenPart::Statistics => 3,
             WrittenPart::Arrivals => 4,
+            WrittenPart::Marked => 5,
             WrittenPart::Answer => 10,
         }
     }
@@ -75,6 +78,7 @@ impl WrittenPart {
             WrittenPart::Fates => "fates",
             WrittenPart::Statistics => "statistics",
             WrittenPart::Arrivals => "arrivals",
+            WrittenPart::Marked => "marked arrivals",
             WrittenPart::Answer => "result",
         }
     }

@@ -66,6 +66,7 @@ WriteFails old new n seed count written.Departures = IsAccepting old n × Rose (
 WriteFails old new n seed count written.Fates = IsAccepting old n × Rose (old.write_faults 4) (new.write_faults 4)
 WriteFails old new n seed count written.Statistics = IsAccepting old n × Rose (old.write_faults 5) (new.write_faults 5)
 WriteFails old new n seed count written.Arrivals = IsAccepting old n × Rose (old.write_faults 2) (new.write_faults 2)
+WriteFails old new n seed count written.Marked = ⊥
 WriteFails old new n seed count written.Answer = IsAccepting old n × Rose (old.write_faults 0) (new.write_faults 0)
     × (IsTrue old.tells → WasMade old new n seed count)
 

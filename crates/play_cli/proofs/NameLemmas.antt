@@ -21,6 +21,10 @@ use Rattle.check_command.specs.Checking.{CheckEnds}
 use Rattle.make_command.specs.Making.{MakeEnds}
 use Rattle.play_command.specs.Ending.{PlayEnds}
 use Rattle.shares_command.specs.Measuring.{SharesEnds}
+use Rattle.condition_command.specs.Conditioning.{ConditionEnds, MarkNames, mark_names_of}
+use Rattle.play_words.specs.Read.{ReadsCondition}
+use Rattle.play_words.specs.declared.words.ConditionWords.{ConditionWords}
+use Rattle.play_cli.specs.Run.{mark_names}
 use Rattle.verify_command.specs.Verifying.{Inputs, VerifyEnds, inputs_of}
 use Rattle.play_cli.specs.Run.{inputs_named}
 
@@ -196,3 +200,20 @@ make_distinct words r command =
     let names = accepted_rest (not (are_distinct_in (rows_read words))) 3 None seed.1 in
     distinct_by (names_of words).config (names_of words).arrivals (names_of words).departures (names_of words).fates (names_of words).stats
     (is_true (are_distinct_in (rows_read words)) names.0)
+
+-- a marking of the words as they stand
+pub condition_read : (words : Words) (command : Command) (w : ConditionWords) → command ≡ asks.Condition w → Reads words command → ReadsCondition words w
+condition_read words command w e r = let P : Command → Type 0 = λ c. Reads words c in subst P e r
+
+marks_same : (x y : MarkNames) → x.config ≡ y.config → x.interface ≡ y.interface → x.arrivals ≡ y.arrivals → x.marked ≡ y.marked → x ≡ y
+marks_same x y c i a m =
+    ap {B = MarkNames} (λ (v : List ℕ). record { config = v; interface = x.interface; arrivals = x.arrivals; marked = x.marked }) c
+    ∙ ap {B = MarkNames} (λ (v : List ℕ). record { config = y.config; interface = v; arrivals = x.arrivals; marked = x.marked }) i
+    ∙ ap {B = MarkNames} (λ (v : List ℕ). record { config = y.config; interface = y.interface; arrivals = v; marked = x.marked }) a
+    ∙ ap {B = MarkNames} (λ (v : List ℕ). record { config = y.config; interface = y.interface; arrivals = y.arrivals; marked = v }) m
+
+pub condition_of : (u v : View) (words : Words) (w : ConditionWords) (s : Status) → ReadsCondition words w → Ends (ConditionEnds u v (mark_names_of w)) u v s
+    → Ends (ConditionEnds u v (mark_names words)) u v s
+condition_of u v words w s r x =
+    let P : MarkNames → Type 0 = λ n. Ends (ConditionEnds u v n) u v s in
+    subst P (marks_same (mark_names_of w) (mark_names words) r.read.config r.read.interface r.read.arrivals r.read.marked) x

@@ -22,6 +22,7 @@ use Rattle.command_base.specs.declared.parts.WrittenPart.{WrittenPart}
 use Rattle.command_base.specs.declared.parts.WrittenPart.TheVariants as written
 use Rattle.command_base.specs.declared.status.Status.{Status}
 use Rattle.check_command.specs.Checking.{CheckEnds}
+use Rattle.condition_command.specs.Conditioning.{ConditionEnds, IsUnread as NotRead, MarkNames}
 use Rattle.make_command.specs.Making.{MakeEnds}
 use Rattle.play_command.specs.Ending.{IsUnread, PlayEnds}
 use Rattle.play_cli.specs.Run.{IsRefused, MeetsReadFault, MeetsWriteFault, RefusedAs, TellsTruly}
@@ -77,6 +78,7 @@ done_zero done.Made = refl
 done_zero (done.Checked fit) = refl
 done_zero done.Verified = refl
 done_zero done.Measured = refl
+done_zero done.Conditioned = refl
 
 not_done : (d : Done) (k : ℕ) {A : Type 0} → (0 ≡ k → ⊥) → (done_status d).code ≡ k → A
 not_done d k differ e = absurd (differ (sym (done_zero d) ∙ e))
@@ -169,6 +171,7 @@ make_write_met u w n seed count written.Departures x = (3, x.comes.1)
 make_write_met u w n seed count written.Fates x = (4, x.comes.1)
 make_write_met u w n seed count written.Statistics x = (5, x.comes.1)
 make_write_met u w n seed count written.Arrivals x = (2, x.comes.1)
+make_write_met u w n seed count written.Marked x = absurd x.comes
 make_write_met u w n seed count written.Answer x = (0, x.comes.1)
 
 verify_counts : (u w : View) (n : Inputs) (d : Done) → VerifyEnds u w n (Ok d) → SameCounts u w
@@ -193,6 +196,7 @@ shares_write_met u w n seed written.Departures x = (3, x.comes.1)
 shares_write_met u w n seed written.Fates x = (4, x.comes.1)
 shares_write_met u w n seed written.Statistics x = (5, x.comes.1)
 shares_write_met u w n seed written.Arrivals x = absurd x.comes
+shares_write_met u w n seed written.Marked x = absurd x.comes
 shares_write_met u w n seed written.Answer x = (0, x.comes.failed)
 
 -- what the outcomes of a command mean for its status
@@ -248,6 +252,31 @@ verify_truly u w n s x = truly (VerifyEnds u w n) u w s (record {
   no_fault = λ d y. verify_counts u w n d y;
   read = λ part y. cannot_met u w (read_number part) (name_of n part) y.comes.0;
   write = λ part y. verify_write_met u w n part y;
+}) x
+
+condition_counts : (u w : View) (n : MarkNames) (d : Done) → ConditionEnds u w n (Ok d) → SameCounts u w
+condition_counts u w n done.Conditioned x = x.comes.no_fault
+condition_counts u w n other x = absurd x.comes
+
+unmarked_met : (u w : View) (n : MarkNames) → NotRead u w n → MeetsReadFault u w
+unmarked_met u w n (inl x) = cannot_met u w 2 n.arrivals x.1
+unmarked_met u w n (inr x) = inl (2, x.0)
+
+condition_read_met : (u w : View) (n : MarkNames) (part : ReadPart) → ConditionEnds u w n (Err (failure.Read part)) → MeetsReadFault u w
+condition_read_met u w n read.Configuration x = cannot_met u w 1 n.config x.comes.1
+condition_read_met u w n read.Arrivals x = unmarked_met u w n x.comes.1
+condition_read_met u w n other x = absurd x.comes
+
+condition_write_met : (u w : View) (n : MarkNames) (part : WrittenPart) → ConditionEnds u w n (Err (failure.Write part)) → MeetsWriteFault u w
+condition_write_met u w n written.Marked x = (6, x.comes.1)
+condition_write_met u w n other x = absurd x.comes
+
+pub condition_truly : (u w : View) (n : MarkNames) (s : Status) → Ends (ConditionEnds u w n) u w s → TellsTruly u w s
+condition_truly u w n s x = truly (ConditionEnds u w n) u w s (record {
+  words = λ fault y. y.comes;
+  no_fault = λ d y. condition_counts u w n d y;
+  read = λ part y. condition_read_met u w n part y;
+  write = λ part y. condition_write_met u w n part y;
 }) x
 
 -- what a refusal tells

@@ -5,6 +5,7 @@ pub use Rattle.command_base.specs.Names
 pub use Rattle.command_base.specs.Outcome
 pub use Rattle.command_base.specs.Telling
 pub use Rattle.check_command.specs.Checking
+pub use Rattle.condition_command.specs.Conditioning
 pub use Rattle.make_command.specs.Making
 pub use Rattle.play_command.specs.Ending
 pub use Rattle.play_command.specs.Played

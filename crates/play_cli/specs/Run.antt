@@ -8,6 +8,8 @@ use Rattle.command_base.specs.Telling.{OnlySays}
 use Rattle.command_base.specs.declared.failure.Failure.{Failure}
 use Rattle.command_base.specs.declared.failure.Failure.TheVariants as failure
 use Rattle.command_base.specs.declared.status.Status.{Status}
+use Rattle.condition_command.specs.Conditioning.{MarkNames}
+use Rattle.play_words.specs.Words.{marked_name}
 use Rattle.verify_command.specs.Verifying.{Inputs}
 
 -- as that refusal, with this kind, or as a want of memory
@@ -44,4 +46,13 @@ inputs_named words = record {
   arrivals = arrivals_name words;
   departures = departures_name words;
   fates = fates_name words;
+}
+
+-- the names of the files of a marking, and the interface
+abbrev pub mark_names : Words → MarkNames
+mark_names words = record {
+  config = config_name words;
+  interface = interface_name words;
+  arrivals = arrivals_name words;
+  marked = marked_name words;
 }

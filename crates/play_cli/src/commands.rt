@@ -9,14 +9,17 @@ ghost use Rattle.make_command.specs.Making.{MakeEnds};
 ghost use Rattle.play_command.specs.Ending.{PlayEnds};
 ghost use Rattle.shares_command.specs.Measuring.{SharesEnds};
 ghost use Rattle.verify_command.specs.Verifying.{VerifyEnds, inputs_of};
+ghost use Rattle.condition_command.specs.Conditioning.{ConditionEnds, mark_names_of};
+ghost use Rattle.play_words.specs.Words.{AreDistinctMarks};
 ghost use Rattle.play_cli.specs.Run.{TellsTruly};
 
 use check_command::check;
 use command_base::{Status, told};
+use condition_command::condition;
 use make_command::make;
 use play_base::Files;
 use play_command::play;
-use play_words::{CheckWords, MakeWords, PlayWords, VerifyWords};
+use play_words::{CheckWords, ConditionWords, MakeWords, PlayWords, VerifyWords};
 use shares_command::shares;
 use std::alloc::Global;
 use verify_command::verify;
@@ -78,5 +81,21 @@ pub(crate) fn run_verify<F: Files>(alloc: Global, files: &mut F, words: &VerifyW
     ensures truly { TellsTruly (F.view files.old) (F.view files.new) result }
 {
     let end = verify(alloc, files, words);
+    told(alloc, files, end)
+}
+
+// Marks a capture.
+#[tactic(auto, using(condition_command::proofs::SaidLemmas::condition_told, crate::proofs::RunLemmas::condition_truly))]
+pub(crate) fn run_condition<F: Files>(
+    alloc: Global,
+    files: &mut F,
+    words: &ConditionWords<'_>,
+) -> Status
+    requires { AreDistinctMarks words.now.config.now words.now.arrivals.now words.now.marked.now }
+    ensures ends { Ends (ConditionEnds (F.view files.old) (F.view files.new) (mark_names_of words.now))
+        (F.view files.old) (F.view files.new) result }
+    ensures truly { TellsTruly (F.view files.old) (F.view files.new) result }
+{
+    let end = condition(alloc, files, words);
     told(alloc, files, end)
 }

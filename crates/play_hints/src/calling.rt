@@ -5,7 +5,7 @@ use std::alloc::{AllocError, Global};
 /// The version of the program. CHANGELOG.md has what each brought.
 pub const VERSION: &str = "0.1";
 
-/// The commands with their options, in five lines. `Err` comes only where there is no memory.
+/// The commands with their options, each on a line. `Err` comes only where there is no memory.
 pub fn usage(alloc: Global) -> Result<String, AllocError> {
     let version = VERSION;
     let mut text = format!(in alloc; "altqplay {version}: check --config FILE --interface NAME\n")?;
@@ -17,5 +17,6 @@ pub fn usage(alloc: Global) -> Result<String, AllocError> {
     text.push_str(
         "  verify --config FILE --interface NAME --arrivals FILE --departures FILE --fates FILE\n",
     )?;
+    text.push_str("  condition --config FILE --interface NAME --arrivals FILE --marked FILE\n")?;
     Ok(text)
 }

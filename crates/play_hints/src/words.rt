@@ -9,7 +9,14 @@ use play_words::{count, options_read};
 use std::alloc::{AllocError, Global};
 
 // The options that name files.
-const FILES: [&str; 5] = ["config", "arrivals", "departures", "fates", "stats"];
+const FILES: [&str; 6] = [
+    "config",
+    "arrivals",
+    "departures",
+    "fates",
+    "stats",
+    "marked",
+];
 
 // The first word, or no text.
 fn first(words: &[String]) -> &str {
@@ -30,7 +37,9 @@ fn no_command(alloc: Global, words: &[String]) -> Result<String, AllocError> {
         return usage(alloc);
     }
     let word = first(words);
-    let line = format!(in alloc; "{word}: no command: check, play, shares, make or verify")?;
+    let line = format!(in alloc;
+        "{word}: no command: check, play, shares, make, verify or condition"
+    )?;
     one_line(alloc, line.as_str())
 }
 

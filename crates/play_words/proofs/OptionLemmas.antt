@@ -20,6 +20,7 @@ use Rattle.play_words.specs.declared.words.Unread.TheVariants.{Refused, NoMemory
 use Rattle.play_words.specs.declared.words.WordsFault.TheVariants.{Options}
 use Rattle.play_words.specs.Causes.{Explains, cause_of, is_memory}
 use Rattle.play_words.specs.Options.{check_app, make_app, play_app, takes_options, required_option, verify_app, with_options, options_of, value_of}
+use Rattle.play_words.specs.Options.{condition_app}
 use Rattle.line_text.specs.Numbers.{number}
 use Rattle.play_words.specs.Words.{IsMake, IsPlay, Named, Words, count_in, count_of, make_refusal, options_by, play_refusal, rows_read, rows_refusal}
 
@@ -62,6 +63,15 @@ verify_built = refl
 pub verify_is_simple : is_simple_and_free verify_app ≡ true
 unfolding verify_app clap_on_literals
 verify_is_simple = refl
+
+pub condition_built : with_options (new_app (codes "condition"))
+    (codes "config" ∷ codes "interface" ∷ codes "arrivals" ∷ codes "marked" ∷ []) ≡ condition_app
+unfolding condition_app
+condition_built = refl
+
+pub condition_is_simple : is_simple_and_free condition_app ≡ true
+unfolding condition_app clap_on_literals
+condition_is_simple = refl
 
 pub simple_of : (app : App) → is_simple_and_free app ≡ true → is_simple app ≡ true
 simple_of app h = go (is_simple app) (is_free_app (built app)) h

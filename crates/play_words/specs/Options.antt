@@ -33,6 +33,9 @@ unfoldable pub verify_app : App
 verify_app = with_options (new_app (codes "verify"))
     (codes "config" ∷ codes "interface" ∷ codes "arrivals" ∷ codes "departures" ∷ codes "fates" ∷ [])
 
+unfoldable pub condition_app : App
+condition_app = with_options (new_app (codes "condition")) (codes "config" ∷ codes "interface" ∷ codes "arrivals" ∷ codes "marked" ∷ [])
+
 -- the words as texts; clap takes the first as the program's name, and reads those behind it
 abbrev pub texts_of : Words → List Text
 texts_of words = map string_bytes words

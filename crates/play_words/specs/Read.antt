@@ -3,12 +3,14 @@ use Rattle.std.specs.Prelude.{◌≡◌, List, Some, codes}
 use Rattle.clap.specs.Words.{Row}
 use Rattle.play_words.specs.declared.words.CheckWords.{CheckWords}
 use Rattle.play_words.specs.declared.words.Command.{Command}
-use Rattle.play_words.specs.declared.words.Command.TheVariants.{Play, Check, Make, Verify, Shares}
+use Rattle.play_words.specs.declared.words.Command.TheVariants.{Play, Check, Make, Verify, Shares, Condition}
+use Rattle.play_words.specs.declared.words.ConditionWords.{ConditionWords}
 use Rattle.play_words.specs.declared.words.MakeWords.{MakeWords}
 use Rattle.play_words.specs.declared.words.PlayWords.{PlayWords}
 use Rattle.play_words.specs.declared.words.VerifyWords.{VerifyWords}
 use Rattle.play_words.specs.Options.{value_of}
 use Rattle.play_words.specs.Words.{Words, IsPlay, IsCheck, IsMake, IsShares, IsVerify, AreDistinct, AreDistinctInputs, rows_read, seed_in, count_of, config_name, interface_name}
+use Rattle.play_words.specs.Words.{AreDistinctMarks, IsCondition}
 
 -- the names and the seed are those of the options, and no two of the file names are equal
 pub record ReadsRows (rows : List Row) (w : PlayWords) : Type 0 where
@@ -52,9 +54,21 @@ pub record ReadsVerify (words : Words) (w : VerifyWords) : Type 0 where
   pub command : IsVerify words
   pub read : ReadsInputs (rows_read words) w
 
+pub record ReadsMarking (rows : List Row) (w : ConditionWords) : Type 0 where
+  pub config : w.config.now ≡ value_of (codes "config") rows
+  pub interface : w.interface.now ≡ value_of (codes "interface") rows
+  pub arrivals : w.arrivals.now ≡ value_of (codes "arrivals") rows
+  pub marked : w.marked.now ≡ value_of (codes "marked") rows
+  pub distinct : AreDistinctMarks w.config.now w.arrivals.now w.marked.now
+
+pub record ReadsCondition (words : Words) (w : ConditionWords) : Type 0 where
+  pub command : IsCondition words
+  pub read : ReadsMarking (rows_read words) w
+
 abbrev pub Reads : Words → Command → Type 0
 Reads words (Play w) = ReadsPlay words w
 Reads words (Check w) = ReadsCheck words w
 Reads words (Make w) = ReadsMake words w
 Reads words (Verify w) = ReadsVerify words w
 Reads words (Shares w) = ReadsShares words w
+Reads words (Condition w) = ReadsCondition words w

@@ -1,4 +1,5 @@
--- The words behind the program's name: a command, `play`, `check`, `make`, `verify` or `shares`, and its options, as clap reads them.
+-- The words behind the program's name: a command, `play`, `check`, `make`, `verify`, `shares` or `condition`, and its options, as clap
+-- reads them.
 use Rattle.std.specs.Prelude.{◌≡◌, ◌≢◌, ◌&&◌, ℕ, Bool, nat_le, not, is_none, List, [], slice_get, string_bytes, codes, if◌then◌else◌, None, Some}
 use Rattle.std.specs.Option.{option_map_or}
 use Rattle.std.specs.Str.{bytes_eq}
@@ -6,6 +7,7 @@ use Rattle.std.specs.declared.option.Option.{Option}
 use Rattle.clap.specs.Words.{Row}
 use Rattle.line_text.specs.Numbers.{number}
 use Rattle.play_words.specs.Options.{check_app, make_app, options_of, options_refusal, play_app, takes_options, value_of, verify_app}
+use Rattle.play_words.specs.Options.{condition_app}
 pub use Rattle.play_words.specs.Options.{Words}
 
 -- a word, or no text where there are fewer
@@ -22,6 +24,7 @@ pub data Named : Type 0 where
   Make : Named
   Verify : Named
   Shares : Named
+  Condition : Named
   NoCommand : Named
 
 abbrev pub named : Words → Named
@@ -31,6 +34,7 @@ named words =
     else if is_word words 0 (codes "make") then Make
     else if is_word words 0 (codes "verify") then Verify
     else if is_word words 0 (codes "shares") then Shares
+    else if is_word words 0 (codes "condition") then Condition
     else NoCommand
 
 abbrev pub IsPlay : Words → Type 0
@@ -48,6 +52,9 @@ IsVerify words = named words ≡ Verify
 abbrev pub IsShares : Words → Type 0
 IsShares words = named words ≡ Shares
 
+abbrev pub IsCondition : Words → Type 0
+IsCondition words = named words ≡ Condition
+
 -- the options that are read of the words behind the command; `shares` takes those of `play`
 abbrev pub options_by : Named → Words → List Row
 options_by Play words = options_of play_app words
@@ -55,6 +62,7 @@ options_by Check words = options_of check_app words
 options_by Make words = options_of make_app words
 options_by Verify words = options_of verify_app words
 options_by Shares words = options_of play_app words
+options_by Condition words = options_of condition_app words
 options_by NoCommand words = []
 
 abbrev pub rows_read : Words → List Row
@@ -84,6 +92,9 @@ fates_name = option_of (codes "fates")
 
 abbrev pub stats_name : Words → List ℕ
 stats_name = option_of (codes "stats")
+
+abbrev pub marked_name : Words → List ℕ
+marked_name = option_of (codes "marked")
 
 -- the seed: one or more decimal digits and nothing else, below 2^64
 abbrev pub seed_in : List Row → Option ℕ
@@ -155,12 +166,25 @@ inputs_refusal rows =
 abbrev pub verify_refusal : Words → Option ℕ
 verify_refusal words = if not (takes_options verify_app words) then Some 2 else inputs_refusal (rows_read words)
 
+-- no two names of files of a marking are equal as texts
+abbrev pub are_distinct_marks : (config arrivals marked : List ℕ) → Bool
+are_distinct_marks config arrivals marked = differ config arrivals && (differ config marked && differ arrivals marked)
+
+abbrev pub marking_refusal : List Row → Option ℕ
+marking_refusal rows =
+    if not (are_distinct_marks (value_of (codes "config") rows) (value_of (codes "arrivals") rows) (value_of (codes "marked") rows)) then Some 3
+    else None
+
+abbrev pub condition_refusal : Words → Option ℕ
+condition_refusal words = if not (takes_options condition_app words) then Some 2 else marking_refusal (rows_read words)
+
 abbrev pub refusal_by : Named → Words → Option ℕ
 refusal_by Play words = play_refusal words
 refusal_by Check words = check_refusal words
 refusal_by Make words = make_refusal words
 refusal_by Verify words = verify_refusal words
 refusal_by Shares words = play_refusal words
+refusal_by Condition words = condition_refusal words
 refusal_by NoCommand words = Some 1
 
 abbrev pub refusal : Words → Option ℕ
@@ -186,3 +210,8 @@ pub record AreDistinctInputs (config arrivals departures fates : List ℕ) : Typ
   pub arrivals_departures : arrivals ≢ departures
   pub arrivals_fates : arrivals ≢ fates
   pub departures_fates : departures ≢ fates
+
+pub record AreDistinctMarks (config arrivals marked : List ℕ) : Type 0 where
+  pub config_arrivals : config ≢ arrivals
+  pub config_marked : config ≢ marked
+  pub arrivals_marked : arrivals ≢ marked

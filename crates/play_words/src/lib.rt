@@ -6,5 +6,6 @@ mod words;
 
 pub use options::options_read;
 pub use words::{
-    CheckWords, Command, MakeWords, PlayWords, Unread, VerifyWords, WordsFault, count, read_words,
+    CheckWords, Command, ConditionWords, MakeWords, PlayWords, Unread, VerifyWords, WordsFault,
+    count, read_words,
 };

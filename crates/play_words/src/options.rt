@@ -5,7 +5,9 @@ ghost use Rattle.clap.specs.Words.{app_of, found_of, is_simple_and_free, rows_of
 ghost use Rattle.clap.specs.declared.error.kind.ErrorKind.TheVariants.{OutOfMemory};
 ghost use Rattle.play_words.specs.Causes.{Explains};
 ghost use Rattle.play_words.specs.Options.{check_app, make_app, options_of, options_refusal, play_app, required_option, takes_options, value_of, verify_app};
+ghost use Rattle.play_words.specs.Options.{condition_app};
 ghost use Rattle.play_words.specs.Words.{IsCheck, IsMake, IsPlay, IsShares, IsVerify, refusal, rows_read};
+ghost use Rattle.play_words.specs.Words.{IsCondition};
 
 use crate::Unread;
 use crate::words::is;
@@ -73,6 +75,17 @@ fn verify_options<'a>(alloc: Global) -> Result<Command<'a>, AllocError>
         .arg(required(alloc, "fates"))
 }
 
+// The options of `condition`.
+fn condition_options<'a>(alloc: Global) -> Result<Command<'a>, AllocError>
+    ensures { IfOk result (λ command. app_of command ≡ condition_app) }
+{
+    Command::new(alloc, "condition")
+        .arg(required(alloc, "config"))?
+        .arg(required(alloc, "interface"))?
+        .arg(required(alloc, "arrivals"))?
+        .arg(required(alloc, "marked"))
+}
+
 // What clap reads of the words by this command.
 fn read<'a>(command: Command<'a>, words: &'a [String]) -> Result<ArgMatches<'a>, Unread>
     requires { is_simple_and_free (app_of command) ≡ true }
@@ -124,6 +137,17 @@ pub(crate) fn verify_told<'a>(alloc: Global, words: &'a [String]) -> Result<ArgM
     told(verify_options(alloc)?, words)
 }
 
+/// What clap reads of the options of `condition`, with its own error.
+pub(crate) fn condition_told<'a>(
+    alloc: Global,
+    words: &'a [String],
+) -> Result<ArgMatches<'a>, Error>
+    ensures read { IfOk result (λ m. rows_of (found_of m) ≡ options_of condition_app words.now) }
+    ensures refused { IfErr result (λ e. kind_of e ≢ OutOfMemory → takes_options condition_app words.now ≡ false) }
+{
+    told(condition_options(alloc)?, words)
+}
+
 /// What clap reads of the options of `play`.
 pub(crate) fn play_matches<'a>(alloc: Global, words: &'a [String]) -> Result<ArgMatches<'a>, Unread>
     ensures taken { OnOk result (takes_options play_app words.now ≡ true) }
@@ -166,6 +190,18 @@ pub(crate) fn verify_matches<'a>(
     read(verify_options(alloc)?, words)
 }
 
+/// What clap reads of the options of `condition`.
+pub(crate) fn condition_matches<'a>(
+    alloc: Global,
+    words: &'a [String],
+) -> Result<ArgMatches<'a>, Unread>
+    ensures taken { OnOk result (takes_options condition_app words.now ≡ true) }
+    ensures read { IfOk result (λ m. rows_of (found_of m) ≡ options_of condition_app words.now) }
+    ensures refused { IfErr result (Explains (options_refusal condition_app words.now)) }
+{
+    read(condition_options(alloc)?, words)
+}
+
 /// The value of an option that was read, or no text.
 pub(crate) fn value<'a>(matches: &ArgMatches<'a>, name: &str) -> &'a str
     ensures { result.now ≡ value_of name.now (rows_of (found_of matches.now)) }
@@ -178,7 +214,8 @@ pub(crate) fn value<'a>(matches: &ArgMatches<'a>, name: &str) -> &'a str
 /// An error is a refusal of the options, or want of memory (`OutOfMemory`). Takes the words' length in time and memory.
 pub fn options_read<'a>(alloc: Global, words: &'a [String]) -> Option<Result<ArgMatches<'a>, Error>>
     ensures none { result ≡ None → refusal words.now ≡ Some 1 }
-    ensures some { IfSome result (λ _. IsPlay words.now ⊎ IsCheck words.now ⊎ IsMake words.now ⊎ IsVerify words.now ⊎ IsShares words.now) }
+    ensures some { IfSome result (λ _. IsPlay words.now ⊎ IsCheck words.now ⊎ IsMake words.now ⊎ IsVerify words.now ⊎ IsShares words.now
+        ⊎ IsCondition words.now) }
     ensures read { IfSome result (λ told. IfOk told (λ m. rows_of (found_of m) ≡ rows_read words.now)) }
     ensures refused { IfSome result (λ told. IfErr told (λ e. kind_of e ≢ OutOfMemory → refusal words.now ≡ Some 2)) }
 {
@@ -196,6 +233,9 @@ pub fn options_read<'a>(alloc: Global, words: &'a [String]) -> Option<Result<Arg
     }
     if is(words, 0, "shares") {
         return Some(play_told(alloc, words));
+    }
+    if is(words, 0, "condition") {
+        return Some(condition_told(alloc, words));
     }
     None
 }

@@ -6,10 +6,14 @@ ghost use Rattle.clap.specs.Words.{found_of, kind_of, rows_of};
 ghost use Rattle.play_words.specs.Causes.{Explains, cause_of};
 ghost use Rattle.play_words.specs.Words.{AreDistinct, IsCheck, IsMake, IsVerify, TakesPlayed, is_word, are_distinct_names, are_distinct_inputs, differ_from, inputs_refusal, play_refusal, check_refusal, verify_refusal, make_refusal, refusal, rows_read, rows_refusal, count_in};
 ghost use Rattle.play_words.specs.Read.{Reads, ReadsInputs, ReadsCheck, ReadsMake, ReadsRows, ReadsVerify};
+ghost use Rattle.play_words.specs.Read.{ReadsCondition, ReadsMarking};
+ghost use Rattle.play_words.specs.Words.{AreDistinctMarks, IsCondition, are_distinct_marks, condition_refusal, marking_refusal};
 ghost use Rattle.play_words.specs.Kinds.{words_kind};
 ghost use Rattle.play_words.specs.declared.words.Unread.TheVariants.{NoMemory};
 
-use crate::options::{check_matches, make_matches, play_matches, value, verify_matches};
+use crate::options::{
+    check_matches, condition_matches, make_matches, play_matches, value, verify_matches,
+};
 use clap::ArgMatches;
 use clap::error::ErrorKind;
 use line_text::{Word, whole};
@@ -106,6 +110,15 @@ pub struct VerifyWords<'a> {
     pub fates: &'a str,
 }
 
+/// The words of `condition`: the names of its files, and the interface whose conditioners mark.
+#[derive(Clone, Copy)]
+pub struct ConditionWords<'a> {
+    pub config: &'a str,
+    pub interface: &'a str,
+    pub arrivals: &'a str,
+    pub marked: &'a str,
+}
+
 /// The most packets that are made.
 const MOST: u64 = 1_000_000;
 
@@ -122,6 +135,8 @@ pub enum Command<'a> {
     Verify(VerifyWords<'a>),
     /// To play a capture, and to say how far the shares of sibling classes lay apart.
     Shares(PlayWords<'a>),
+    /// To mark a capture.
+    Condition(ConditionWords<'a>),
 }
 
 // Whether a word is there and is this text, which isn't empty.
@@ -162,6 +177,13 @@ fn are_distinct_inputs(words: &VerifyWords<'_>) -> bool
         && words.arrivals != words.departures
         && words.arrivals != words.fates
         && words.departures != words.fates
+}
+
+// Whether no two names of files of a marking are equal.
+fn are_distinct_marks(words: &ConditionWords<'_>) -> bool
+    ensures { result ≡ are_distinct_marks words.now.config.now words.now.arrivals.now words.now.marked.now }
+{
+    words.config != words.arrivals && words.config != words.marked && words.arrivals != words.marked
 }
 
 // The number that decimal digits write.
@@ -291,11 +313,44 @@ fn verify_words<'a>(alloc: Global, words: &'a [String]) -> Result<VerifyWords<'a
     }
 }
 
+// The names of options that were read.
+fn marking_read<'a>(matches: &ArgMatches<'a>) -> Result<ConditionWords<'a>, WordsFault>
+    ensures accepted { OnOk result (marking_refusal (rows_of (found_of matches.now)) ≡ None) }
+    ensures refused { IfErr result (λ fault. marking_refusal (rows_of (found_of matches.now)) ≡ Some (words_kind fault)) }
+    ensures read { IfOk result (λ w. ReadsMarking (rows_of (found_of matches.now)) w) }
+{
+    let read = ConditionWords {
+        config: value(matches, "config"),
+        interface: value(matches, "interface"),
+        arrivals: value(matches, "arrivals"),
+        marked: value(matches, "marked"),
+    };
+    if !are_distinct_marks(&read) {
+        return Err(WordsFault::NamesEqual);
+    }
+    Ok(read)
+}
+
+// Reads the options of `condition`.
+fn condition_words<'a>(alloc: Global, words: &'a [String]) -> Result<ConditionWords<'a>, Unread>
+    requires { IsCondition words.now }
+    ensures accepted { OnOk result (condition_refusal words.now ≡ None) }
+    ensures refused { IfErr result (Explains (condition_refusal words.now)) }
+    ensures read { IfOk result (λ w. ReadsCondition words.now w) }
+{
+    let matches = condition_matches(alloc, words)?;
+    match marking_read(&matches) {
+        Ok(read) => Ok(read),
+        Err(fault) => Err(Unread::Refused(fault)),
+    }
+}
+
 /// Reads the words behind the program's name: `play --config C --interface I --arrivals A --departures D --fates T --stats Z
-/// --seed N`, `shares` with the same options, `make --count K` with the same options, `check --config C --interface I`, or `verify
-/// --config C --interface I --arrivals A --departures D --fates T`. The options stand in any order, each once, as `--name VALUE` or
+/// --seed N`, `shares` with the same options, `make --count K` with the same options, `check --config C --interface I`, `verify
+/// --config C --interface I --arrivals A --departures D --fates T`, or `condition --config C --interface I --arrivals A
+/// --marked M`. The options stand in any order, each once, as `--name VALUE` or
 /// `--name=VALUE`. The seed is one or more decimal digits, below 2^64, and the count such digits, 1 to 1,000,000. No two of the file
-/// names C, A, D, T and Z are equal as texts. A refusal is the first test that fails, in the order of
+/// names C, A, D, T, Z and M are equal as texts. A refusal is the first test that fails, in the order of
 /// `WordsFault`.
 pub fn read_words<'a>(alloc: Global, words: &'a [String]) -> Result<Command<'a>, Unread>
     ensures accepted { OnOk result (refusal words.now ≡ None) }
@@ -329,6 +384,12 @@ pub fn read_words<'a>(alloc: Global, words: &'a [String]) -> Result<Command<'a>,
     if is(words, 0, "shares") {
         return match play_words(alloc, words) {
             Ok(read) => Ok(Command::Shares(read)),
+            Err(cause) => Err(cause),
+        };
+    }
+    if is(words, 0, "condition") {
+        return match condition_words(alloc, words) {
+            Ok(read) => Ok(Command::Condition(read)),
             Err(cause) => Err(cause),
         };
     }

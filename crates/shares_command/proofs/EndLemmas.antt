@@ -26,6 +26,7 @@ play_fails u v n seed (failure.Write written.Departures) x = x
 play_fails u v n seed (failure.Write written.Fates) x = x
 play_fails u v n seed (failure.Write written.Statistics) x = x
 play_fails u v n seed (failure.Write written.Arrivals) x = x
+play_fails u v n seed (failure.Write written.Marked) x = x
 play_fails u v n seed other x = x
 
 fails_told : (u v : View) (n : Names) (seed : ℕ) (f : Failure) → PlayFails u v n seed f → PlayIsTold u n seed (Err f) → PlayIsTold u n seed (of_play (Err f))
@@ -34,6 +35,7 @@ fails_told u v n seed (failure.Write written.Departures) x t = t
 fails_told u v n seed (failure.Write written.Fates) x t = t
 fails_told u v n seed (failure.Write written.Statistics) x t = t
 fails_told u v n seed (failure.Write written.Arrivals) x t = t
+fails_told u v n seed (failure.Write written.Marked) x t = t
 fails_told u v n seed other x t = t
 
 pub failed_ends : (u v : View) (n : Names) (seed : ℕ) (f : Failure) → PlayEnds u v n seed (Err f) → SharesEnds u v n seed (Err f)

@@ -11,14 +11,11 @@ use std::alloc::Global;
 
 const CONFIGURATION: [&str; 4] = ["--config", "conf", "--interface", "if0"];
 
-const GIVEN: [&str; 6] = [
-    "--arrivals",
-    "in",
-    "--departures",
-    "out",
-    "--fates",
-    "fates",
-];
+const ARRIVALS: [&str; 2] = ["--arrivals", "in"];
+
+const MARKED: [&str; 2] = ["--marked", "marked"];
+
+const GIVEN: [&str; 4] = ["--departures", "out", "--fates", "fates"];
 
 const OTHERS: [&str; 4] = ["--stats", "stats", "--seed", "42"];
 
@@ -49,8 +46,16 @@ fn push_usual(alloc: Global, words: &mut Vec<String>, command: &[&str]) -> Resul
     push_words(alloc, words, &CONFIGURATION)?;
     match command {
         ["check", ..] => Ok(()),
-        ["verify", ..] => push_words(alloc, words, &GIVEN),
+        ["condition", ..] => {
+            push_words(alloc, words, &ARRIVALS)?;
+            push_words(alloc, words, &MARKED)
+        }
+        ["verify", ..] => {
+            push_words(alloc, words, &ARRIVALS)?;
+            push_words(alloc, words, &GIVEN)
+        }
         _ => {
+            push_words(alloc, words, &ARRIVALS)?;
             push_words(alloc, words, &GIVEN)?;
             push_words(alloc, words, &OTHERS)
         }
@@ -66,7 +71,7 @@ fn push_words(alloc: Global, words: &mut Vec<String>, more: &[&str]) -> Result<(
 
 // Whether a word names a file of a run.
 fn is_file(word: &str) -> bool {
-    matches!(word, "conf" | "in" | "out" | "fates" | "stats")
+    matches!(word, "conf" | "in" | "out" | "fates" | "stats" | "marked")
 }
 
 // The kind of call that a word names.

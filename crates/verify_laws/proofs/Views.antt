@@ -130,6 +130,7 @@ by_done old new n seed done.Made x = absurd x
 by_done old new n seed (done.Checked fit) x = absurd x
 by_done old new n seed Verified x = absurd x
 by_done old new n seed done.Measured x = absurd x
+by_done old new n seed done.Conditioned x = absurd x
 
 -- a failure has another code, and code 10 is that of a test that fails
 abbrev IsTest : Failure → Type 0
@@ -164,6 +165,7 @@ done_code done.Made = refl
 done_code (done.Checked fit) = refl
 done_code Verified = refl
 done_code done.Measured = refl
+done_code done.Conditioned = refl
 
 not_ten : (o : Outcome) → ((row : ℕ) (test : Test) → o ≡ Err (failure.Refuted row test) → ⊥) → (status_of o).code ≡ 10 → ⊥
 not_ten (Ok d) never e = let none = done_code d in omega (arith, e, none)

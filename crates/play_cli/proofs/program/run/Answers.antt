@@ -6,7 +6,9 @@ use Rattle.make_command.proofs.TellLemmas.{make_unread}
 use Rattle.play_command.proofs.BehindLemmas.{play_unread}
 use Rattle.shares_command.proofs.TellLemmas.{shares_unread}
 use Rattle.verify_command.proofs.EndLemmas.{verify_unread}
-use Rattle.play_cli.specs.Run.{inputs_named}
+use Rattle.condition_command.proofs.SaidLemmas.{condition_unread}
+use Rattle.play_cli.specs.Run.{inputs_named, mark_names}
+use Rattle.play_cli.proofs.NameLemmas.{condition_of, condition_read}
 use Rattle.play_cli.proofs.NameLemmas.{check_of, check_read, count_within, make_distinct, make_of, make_read, play_of, play_read, shares_of, shares_read, verify_of, verify_read}
 use Rattle.play_cli.proofs.RunLemmas.{kind_told, memory_code, memory_refused, not_code, not_refused, refused_ends, refused_not, refused_why, same_kind, unread_ends}
 use Rattle.play_cli.proofs.program.run.Goals as goal
@@ -123,6 +125,29 @@ returns-in-Ok-Verify-clause-write g c = c.run_verify.ensures.truly.write
 pub returns-in-Ok-Verify-clause-refused : goal.returns-in-Ok-Verify-clause-refused
 returns-in-Ok-Verify-clause-refused g c = λ kind r. not_refused _ kind c.in-Ok-Verify.ensures.accepted r
 
+pub run_condition-requires : goal.run_condition-requires
+run_condition-requires g c = (condition_read c.args.words.now c.in-Ok-Condition.field-0 c.in-Ok-Condition.read c.in-Ok-Condition.field-0-is c.in-Ok-Condition.ensures.read).read.distinct
+
+pub returns-in-Ok-Condition-clause-conditions : goal.returns-in-Ok-Condition-clause-conditions
+returns-in-Ok-Condition-clause-conditions g c = λ r command.
+    condition_of (g.F.Files.view c.args.files.now) (g.F.Files.view c.run_condition.new.files) c.args.words.now c.in-Ok-Condition.read c.run_condition.result
+    (condition_read c.args.words.now c.in-Ok-Condition.field-0 c.in-Ok-Condition.read c.in-Ok-Condition.field-0-is c.in-Ok-Condition.ensures.read) c.run_condition.ensures.ends
+
+pub returns-in-Ok-Condition-clause-words : goal.returns-in-Ok-Condition-clause-words
+returns-in-Ok-Condition-clause-words g c = λ e. absurd (c.run_condition.ensures.truly.words e)
+
+pub returns-in-Ok-Condition-clause-no_fault : goal.returns-in-Ok-Condition-clause-no_fault
+returns-in-Ok-Condition-clause-no_fault g c = c.run_condition.ensures.truly.no_fault
+
+pub returns-in-Ok-Condition-clause-read : goal.returns-in-Ok-Condition-clause-read
+returns-in-Ok-Condition-clause-read g c = c.run_condition.ensures.truly.read
+
+pub returns-in-Ok-Condition-clause-write : goal.returns-in-Ok-Condition-clause-write
+returns-in-Ok-Condition-clause-write g c = c.run_condition.ensures.truly.write
+
+pub returns-in-Ok-Condition-clause-refused : goal.returns-in-Ok-Condition-clause-refused
+returns-in-Ok-Condition-clause-refused g c = λ kind r. not_refused _ kind c.in-Ok-Condition.ensures.accepted r
+
 pub returns-in-Err-Refused-clause-refused : goal.returns-in-Err-Refused-clause-refused
 returns-in-Err-Refused-clause-refused g c = λ kind r.
     refused_ends (g.F.Files.view c.args.files.now) (g.F.Files.view c.told.new.files) kind c.in-Err-Refused.fault c.told.result (same_kind _ _ kind (refused_why _ c.in-Err-Refused.field-0 c.in-Err-Refused.fault c.in-Err-Refused.field-0-is c.in-Err-Refused.ensures.refused) r) c.told.ensures
@@ -164,6 +189,10 @@ returns-in-Err-NoMemory-clause-makes g c = λ r command seed count is counted.
 pub returns-in-Err-NoMemory-clause-verifies : goal.returns-in-Err-NoMemory-clause-verifies
 returns-in-Err-NoMemory-clause-verifies g c = λ r command.
     unread_ends _ (g.F.Files.view c.args.files.now) (g.F.Files.view c.told-in-Err-NoMemory.new.files) c.told-in-Err-NoMemory.result c.told-in-Err-NoMemory.ensures (λ o. verify_unread _ _ (inputs_named c.args.words.now) o)
+
+pub returns-in-Err-NoMemory-clause-conditions : goal.returns-in-Err-NoMemory-clause-conditions
+returns-in-Err-NoMemory-clause-conditions g c = λ r command.
+    unread_ends _ (g.F.Files.view c.args.files.now) (g.F.Files.view c.told-in-Err-NoMemory.new.files) c.told-in-Err-NoMemory.result c.told-in-Err-NoMemory.ensures (λ o. condition_unread _ _ (mark_names c.args.words.now) o)
 
 pub returns-in-Err-NoMemory-clause-words : goal.returns-in-Err-NoMemory-clause-words
 returns-in-Err-NoMemory-clause-words g c = λ e. not_code 8 2 c.told-in-Err-NoMemory.result (λ h. omega (arith, h)) (memory_code (g.F.Files.view c.args.files.now) (g.F.Files.view c.told-in-Err-NoMemory.new.files) c.told-in-Err-NoMemory.result c.told-in-Err-NoMemory.ensures) e

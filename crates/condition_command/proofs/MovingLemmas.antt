@@ -1,0 +1,222 @@
+-- What a marker takes from one file it writes to another.
+use Rattle.std.proofs.Common.{◌≡◌, ◌≤◌, ◌∙◌, ap, ℕ, List, [], ◌++◌, length, take, drop, Err, refl, arith, sym, subst, append_assoc, append-nil, length-append, true≢false}
+use Rattle.std.specs.Prelude.{◌≢◌, Bool, None, Some, true, false, ⊤}
+use Rattle.std.specs.declared.option.Option.{Option}
+use Rattle.std.proofs.Math.Seq.{take-length}
+use Rattle.std.proofs.lemmas.List.{append_cancel_left, take-append-drop}
+use Rattle.std.specs.declared.result.Result.{Result}
+use Rattle.frame_classes.specs.Frames.{Classes, placed_by}
+use Rattle.marked_files.specs.Courses.{made}
+use Rattle.marked_files.specs.Markings.{Marking, given}
+use Rattle.marked_files.specs.Standing.{AreWhole, HasTakenOn, IsBehind, Stands, TellsLeft, Waits}
+use Rattle.marked_files.specs.Taking.{holds}
+use Rattle.marked_files.specs.declared.behind.Behind.{Behind}
+use Rattle.marked_files.proofs.BehindLemmas.{cut_whole}
+use Rattle.play_base.specs.declared.trouble.Trouble.{Trouble}
+use Rattle.play_base.specs.declared.trouble.Trouble.TheVariants as trouble
+use Rattle.pcapng_files.specs.Fronts.{front_view, with_front}
+use Rattle.pcapng_files.proofs.FrontLaws.{left_self}
+use Rattle.play_base.specs.View.{View, Any, Keeps, NotNamed, OtherThan, Took, Wrote, WroteFront}
+use Rattle.play_base.proofs.ViewLaws.{keeps_fewer, keeps_refl, keeps_trans, later_trans, part_of_there, still_there, wrote_nothing}
+use Rattle.traffic_marks.specs.Marked.{Conditioning, marked}
+use Rattle.condition_command.specs.Marking.{CameOf, HasMarked, Marks, MarksLeft, read_trouble, write_trouble}
+use Rattle.condition_command.specs.Moving.{AreApart, HasMoved, IsOn}
+use Rattle.condition_command.specs.declared.marking.Unmarked.{Unmarked}
+
+pub moved_nothing : (v : View) (from to : ℕ) → HasMoved v v from to [] []
+moved_nothing v from to = record {
+  left = λ t all at. (all, refl, at);
+  grown = λ t before at. at ∙ ap Some (sym (append-nil before));
+  keeps = keeps_refl (OtherThan v (v.name to)) (λ f. (f ≢ from) × NotNamed v (v.name to) f) v;
+  none = λ f h. h;
+  said = refl;
+}
+
+pub moved_took : (u v w : View) (from to : ℕ) (taken written more : List ℕ) → HasMoved u v from to taken written → Took v w from more
+    → HasMoved u w from to (taken ++ more) written
+moved_took u v w from to taken written more x y = record {
+  left = λ t all at.
+      let one = x.left t all at in
+      let two = y.left one.0 one.2 in
+      (two.0, one.1 ∙ ap (λ (l : List ℕ). taken ++ l) two.1 ∙ sym (append_assoc taken more two.0), two.2);
+  grown = λ t before at. y.keeps.bytes (u.name to) tt ∙ x.grown t before at;
+  keeps = keeps_trans (OtherThan u (u.name to)) (λ f. (f ≢ from) × NotNamed u (u.name to) f) u v w x.keeps
+      (keeps_fewer Any (OtherThan u (u.name to)) (λ f. f ≢ from) (λ f. (f ≢ from) × NotNamed u (u.name to) f) v w (λ n h. tt) (λ f h. h.0) y.keeps);
+  none = λ f h. y.none f (x.none f h);
+  said = y.said ∙ x.said;
+}
+
+pub moved_wrote : (u v w : View) (from to : ℕ) (taken written bytes : List ℕ) → AreApart u from to → HasMoved u v from to taken written → Wrote v w to bytes
+    → HasMoved u w from to taken (written ++ bytes)
+moved_wrote u v w from to taken written bytes apart x y =
+    let p = part_of_there (u.part from) apart.from_there in
+    let q = part_of_there (u.part to) apart.to_there in
+    let named : v.name to ≡ u.name to = x.keeps.name to q.0 q.1 in
+    record {
+      left = λ t all at.
+          let one = x.left t all at in
+          let other : v.name from ≢ v.name to = λ e. apart.names t (sym (x.keeps.name from p.0 p.1) ∙ e ∙ named) in
+          (one.0, one.1, y.keeps.left from p.0 (x.keeps.part from p.0 p.1) other ∙ one.2);
+      grown = λ t before at.
+          ap w.bytes (sym named) ∙ y.grown (x.keeps.tells ∙ t) (before ++ written) (ap v.bytes named ∙ x.grown t before at)
+          ∙ ap Some (append_assoc before written bytes);
+      keeps = record {
+        tells = y.keeps.tells ∙ x.keeps.tells;
+        bytes = λ n h. y.keeps.bytes n (λ e. h.1 (e ∙ named)) ∙ x.keeps.bytes n h;
+        left = λ f r h k.
+            y.keeps.left f r (x.keeps.part f r h) (λ e. k.1.1 (sym (x.keeps.name f r h) ∙ e ∙ named)) ∙ x.keeps.left f r h k;
+        part = λ f r h. y.keeps.part f r (x.keeps.part f r h);
+        name = λ f r h. y.keeps.name f r (x.keeps.part f r h) ∙ x.keeps.name f r h;
+        later = later_trans u v w x.keeps.later y.keeps.later;
+      };
+      none = λ f h. y.none f (x.none f h);
+      said = y.said ∙ x.said;
+    }
+
+-- the files stay where they are
+pub apart_on : (u v : View) (from to : ℕ) (taken written : List ℕ) → AreApart u from to → HasMoved u v from to taken written → AreApart v from to
+apart_on u v from to taken written apart x =
+    let p = part_of_there (u.part from) apart.from_there in
+    let q = part_of_there (u.part to) apart.to_there in
+    record {
+      from_there = still_there _ _ u v from x.keeps apart.from_there;
+      to_there = still_there _ _ u v to x.keeps apart.to_there;
+      names = λ t e. apart.names (sym x.keeps.tells ∙ t) (sym (x.keeps.name from p.0 p.1) ∙ e ∙ x.keeps.name to q.0 q.1);
+    }
+
+-- before the first turn
+pub on_begun : (v : View) (from to : ℕ) (m : Marking Classes) → IsOn v v from to m m
+on_begun v from to m = record {
+  taken = [];
+  written = [];
+  moved = moved_nothing v from to;
+  stands = λ c first s. subst (λ (l : List ℕ). Stands placed_by c l [] m) (sym (append-nil first)) s;
+}
+
+pub on_taken : (u v w : View) (from to : ℕ) (m n o : Marking Classes) → IsOn u v from to m n → HasTakenOn placed_by v w from n o → IsOn u w from to m o
+on_taken u v w from to m n o x y = record {
+  taken = x.taken ++ y.more;
+  written = x.written;
+  moved = moved_took u v w from to x.taken x.written y.more x.moved y.took;
+  stands = λ c first s.
+      subst (λ (l : List ℕ). Stands placed_by c l x.written o) (append_assoc first x.taken y.more) (y.stands c (first ++ x.taken) x.written (x.stands c first s));
+}
+
+pub on_wrote : (u v w : View) (from to : ℕ) (m n o : Marking Classes) → AreApart u from to → IsOn u v from to m n → Wrote v w to n.held.ready
+    → ((c : Conditioning) (taken bytes : List ℕ) → Stands placed_by c taken bytes n → Stands placed_by c taken (bytes ++ n.held.ready) o)
+    → IsOn u w from to m o
+on_wrote u v w from to m n o apart x y given = record {
+  taken = x.taken;
+  written = x.written ++ n.held.ready;
+  moved = moved_wrote u v w from to x.taken x.written n.held.ready apart x.moved y;
+  stands = λ c first s. given c (first ++ x.taken) x.written (x.stands c first s);
+}
+
+-- what a marker stands for, and what its file has left, is a front of what becomes of the capture
+pub stands_front : (c : Conditioning) (taken bytes left : List ℕ) (m : Marking Classes) (k : ℕ) → Stands placed_by c taken bytes m
+    → (tail : List ℕ) × (marked c (taken ++ left) ≡ (bytes ++ take k m.held.ready) ++ tail)
+stands_front c taken bytes left m k s =
+    let rest = made m.stage (placed_by m.classes) m.course (m.held.pending ++ left) in
+    let halves : take k m.held.ready ++ drop k m.held.ready ≡ m.held.ready = take-append-drop k m.held.ready in (
+      drop k m.held.ready ++ rest,
+      sym (s.same left) ∙ ap (λ (l : List ℕ). bytes ++ (l ++ rest)) (sym halves)
+          ∙ ap (λ (l : List ℕ). bytes ++ l) (append_assoc (take k m.held.ready) (drop k m.held.ready) rest)
+          ∙ sym (append_assoc bytes (take k m.held.ready) (drop k m.held.ready ++ rest)),
+    )
+
+-- what came of a marking of which a front of what is ready was written, or all or nothing
+pub marks_by : (u v w : View) (from to : ℕ) (m n : Marking Classes) (k : ℕ) (r : Result ⊤ Unmarked) → AreApart u from to → IsOn u v from to m n
+    → Wrote v w to (take k n.held.ready) → holds n ≤ 262160
+    → ((c : Conditioning) (taken bytes left : List ℕ) → Stands placed_by c taken bytes n → v.left from ≡ Some left
+    → CameOf c (taken ++ left) taken (bytes ++ take k n.held.ready) r)
+    → MarksLeft u w from to m r
+marks_by u v w from to m n k r apart x y room came t c first s left at =
+    let ready = take k n.held.ready in
+    let moved = moved_wrote u v w from to x.taken x.written ready apart x.moved y in
+    let there = x.moved.left t left at in
+    let rest = moved.left t left at in
+    let stands = x.stands c first s in
+    let taken = first ++ x.taken in
+    let split : first ++ left ≡ taken ++ there.0 = ap (λ (l : List ℕ). first ++ l) there.1 ∙ sym (append_assoc first x.taken there.0) in
+    let same : there.0 ≡ rest.0 = append_cancel_left x.taken there.0 rest.0 (sym there.1 ∙ rest.1) in
+    let front = stands_front c taken x.written there.0 n k stands in
+    record {
+      written = x.written ++ ready;
+      grown = moved.grown t;
+      front = (front.0, ap (marked c) split ∙ front.1);
+      taken = taken;
+      left = there.0;
+      split = split;
+      leaves = λ e. rest.2 ∙ ap Some (sym same);
+      few = omega (arith, stands.many, room, length-append x.written ready);
+      came = subst (λ (l : List ℕ). CameOf c l taken (x.written ++ ready) r) (sym split) (came c taken x.written there.0 stands there.2);
+    }
+
+-- a read failed, or no memory was left for it: nothing more is written
+came_cut : (c : Conditioning) (taken bytes left : List ℕ) (n : Marking Classes) (t : Trouble) → Stands placed_by c taken bytes n → Waits n → length n.held.ready ≡ 0
+    → CameOf c (taken ++ left) taken (bytes ++ []) (Err (read_trouble t))
+came_cut c taken bytes left n trouble.Failed s w none =
+    let x = cut_whole placed_by c taken bytes n s w none in
+    (x.0, x.1, subst (λ (l : List ℕ). AreWhole c taken x.0 l) (sym (append-nil bytes)) x.2)
+came_cut c taken bytes left n trouble.NoMemory s w none = tt
+
+pub marks_cut : (u v : View) (from to : ℕ) (m n : Marking Classes) (t : Trouble) → AreApart u from to → IsOn u v from to m n → Waits n
+    → length n.held.ready ≡ 0 → holds n ≤ 262160 → MarksLeft u v from to m (Err (read_trouble t))
+marks_cut u v from to m n t apart x w none room =
+    marks_by u v v from to m n 0 (Err (read_trouble t)) apart x (wrote_nothing v to) room
+    (λ c taken bytes left s at. came_cut c taken bytes left n t s w none)
+
+-- a write failed, or no memory was left for it: a front of what is ready was written
+came_unwritten : (c : Conditioning) (capture taken written : List ℕ) (t : Trouble) → CameOf c capture taken written (Err (write_trouble t))
+came_unwritten c capture taken written trouble.Failed = tt
+came_unwritten c capture taken written trouble.NoMemory = tt
+
+pub marks_unwritten : (u v w : View) (from to : ℕ) (m n : Marking Classes) (t : Trouble) → AreApart u from to → IsOn u v from to m n
+    → WroteFront v w to n.held.ready → holds n ≤ 262160 → MarksLeft u w from to m (Err (write_trouble t))
+marks_unwritten u v w from to m n t apart x y room =
+    marks_by u v w from to m n y.0 (Err (write_trouble t)) apart x y.1 room
+    (λ c taken bytes left s at. came_unwritten c (taken ++ left) taken (bytes ++ take y.0 n.held.ready) t)
+
+-- what was told of what stands behind what is ready, once that is written
+abbrev pub EndsAs : Behind → Result ⊤ Unmarked → Type 0
+EndsAs b r = (c : Conditioning) (capture taken written : List ℕ) → IsBehind c capture written b → CameOf c capture taken written r
+
+pub marks_told : (u v w : View) (from to : ℕ) (m n : Marking Classes) (b : Behind) (r : Result ⊤ Unmarked) → AreApart u from to → IsOn u v from to m n
+    → TellsLeft placed_by v from n b → Wrote v w to n.held.ready → holds n ≤ 262160 → EndsAs b r → MarksLeft u w from to m r
+marks_told u v w from to m n b r apart x told y room ends =
+    let all : n.held.ready ≡ take (length n.held.ready) n.held.ready = sym (take-length n.held.ready) in
+    marks_by u v w from to m n (length n.held.ready) r apart x (subst (λ (l : List ℕ). Wrote v w to l) all y) room
+    (λ c taken bytes left s at.
+    ends c (taken ++ left) taken (bytes ++ take (length n.held.ready) n.held.ready)
+    (subst (λ (l : List ℕ). IsBehind c (taken ++ left) (bytes ++ l) b) all (told left at c taken bytes s)))
+
+-- WHAT STANDS IN FRONT: marked files over a front, of which no byte follows it
+pub marks_behind : (N : List ℕ → Type 0) (F : ℕ → Type 0) (v w : View) (g h file now to : ℕ) (more : Bool) (front next : List ℕ) (m : Marking Classes) (r : Result ⊤ Unmarked)
+    → Keeps N F (front_view v g file false front) (front_view w h now more next)
+    → MarksLeft (front_view v g file false front) (front_view w h now more next) file to m r → Marks v w file to false front m r
+marks_behind N F v w g h file now to more front next m r kept x t c stands capture at =
+    let y = x t c [] stands capture (left_self file false front (v.left file) ∙ at) in
+    record {
+      written = y.written;
+      grown = y.grown;
+      front = y.front;
+      taken = y.taken;
+      left = y.left;
+      split = y.split;
+      leaves = λ e. absurd (true≢false (sym e));
+      few = y.few;
+      came = y.came;
+    }
+
+-- and where its own bytes follow what was taken of it
+some_is : (x y : List ℕ) → Some x ≡ Some y → x ≡ y
+some_is x y h = cc
+
+pub marks_followed : (u w : View) (from to : ℕ) (front : List ℕ) (m : Marking Classes) (r : Result ⊤ Unmarked)
+    → MarksLeft u w from to m r → Marks u w from to true front m r
+marks_followed u w from to front m r x t c stands capture at = by (u.left from) refl at
+  where
+    by : (left : Option (List ℕ)) → u.left from ≡ left → with_front true true front left ≡ Some capture → HasMarked u w from to true c capture r
+    by None e h = absurd (cc)
+    by (Some own) e h =
+        subst (λ (l : List ℕ). HasMarked u w from to true c l r) (some_is (front ++ own) capture h) (x t c front stands own e)

@@ -1,0 +1,147 @@
+-- What the files say must come is one outcome.
+use Rattle.std.proofs.Common.{◌≡◌, ◌∙◌, ◌⊎◌, inl, inr, ℕ, List, None, Result, Ok, Err, ap, refl, sym, subst}
+use Rattle.arrivals_front.specs.Given.{ReadAs}
+use Rattle.arrivals_front.proofs.ReadLaws.{fault_not_read, limit_not_read, no_limit_at, one_fault, read_one_way}
+use Rattle.capture_model.specs.Capture.{End, Fault, IsLast, Limit, Next, Reads, Step}
+use Rattle.conf_lines.specs.declared.fault.ConfPlace.{ConfPlace}
+use Rattle.pcap_files.proofs.ReadingLaws.{one_reading}
+use Rattle.pcapng_files.specs.Converted.{IsCause}
+use Rattle.pcapng_files.specs.declared.fault.NgFault.{NgFault}
+use Rattle.pcapng_files.specs.declared.fault.NgFault.TheVariants as ng
+use Rattle.play_base.specs.View.{View}
+use Rattle.command_base.specs.Configuration.{Refused, Says, TooLong}
+use Rattle.command_base.specs.Outcome.{Outcome}
+use Rattle.command_base.specs.declared.done.Done.{Done}
+use Rattle.command_base.specs.declared.done.Done.TheVariants as done
+use Rattle.command_base.specs.declared.failure.Failure.{Failure}
+use Rattle.command_base.specs.declared.failure.Failure.TheVariants as failure
+use Rattle.command_base.specs.declared.parts.ReadPart.TheVariants as read
+use Rattle.command_base.specs.declared.parts.RunLimit.TheVariants as limit
+use Rattle.command_base.proofs.ConfLemmas.{long_not, no_bytes, one_says, refused_not, same_some}
+use Rattle.condition_command.specs.Arriving.{IsNoPcapng}
+use Rattle.condition_command.specs.Conditioning.{AreBroken, Arrive, EndsWith, HasInterface, MarkNames}
+
+-- THE CONFIGURATION
+pub data ConfStop (v : View) (n : MarkNames) (o : Outcome) : Type 0 where
+  ConfRefused : (place : ConfPlace) → Says v n.config n.interface (Refused place) → o ≡ Err (failure.Configuration place) → ConfStop v n o
+  ConfLong : Says v n.config n.interface TooLong → o ≡ Err (failure.Limit limit.Configuration) → ConfStop v n o
+  ConfGone : v.bytes n.config ≡ None → o ≡ Err (failure.Read read.Configuration) → ConfStop v n o
+
+refused_long : (place : ConfPlace) → Refused place ≡ TooLong → ⊥
+refused_long place h = cc
+
+same_place : (x y : ConfPlace) → Refused x ≡ Refused y → x ≡ y
+same_place x y h = cc
+
+conf_one : (v : View) (n : MarkNames) (o p : Outcome) → ConfStop v n o → ConfStop v n p → o ≡ p
+conf_one v n o p (ConfRefused x a e) (ConfRefused y b f) =
+    e ∙ ap {B = Result Done Failure} (λ (place : ConfPlace). Err (failure.Configuration place))
+    (same_place x y (one_says v n.config n.interface (Refused x) (Refused y) a b)) ∙ sym f
+conf_one v n o p (ConfRefused x a e) (ConfLong b f) = absurd (refused_long x (one_says v n.config n.interface (Refused x) TooLong a b))
+conf_one v n o p (ConfRefused x a e) (ConfGone b f) = absurd (no_bytes a.text (sym b ∙ a.at))
+conf_one v n o p (ConfLong a e) (ConfRefused y b f) = absurd (refused_long y (one_says v n.config n.interface (Refused y) TooLong b a))
+conf_one v n o p (ConfLong a e) (ConfLong b f) = e ∙ sym f
+conf_one v n o p (ConfLong a e) (ConfGone b f) = absurd (no_bytes a.text (sym b ∙ a.at))
+conf_one v n o p (ConfGone a e) (ConfRefused y b f) = absurd (no_bytes b.text (sym a ∙ b.at))
+conf_one v n o p (ConfGone a e) (ConfLong b f) = absurd (no_bytes b.text (sym a ∙ b.at))
+conf_one v n o p (ConfGone a e) (ConfGone b f) = e ∙ sym f
+
+conf_not : (v : View) (n : MarkNames) (o : Outcome) → ConfStop v n o → HasInterface v n → ⊥
+conf_not v n o (ConfRefused place a e) i = refused_not v n.config n.interface i.0 place i.1 a
+conf_not v n o (ConfLong a e) i = long_not v n.config n.interface i.0 i.1 a
+conf_not v n o (ConfGone a e) i = no_bytes i.1.says.text (sym a ∙ i.1.says.at)
+
+-- THE ARRIVALS
+one_end : (v : View) (n : MarkNames) (p q : Step) → IsLast p → IsLast q → EndsWith v n p → EndsWith v n q → p ≡ q
+one_end v n p q hp hq a b =
+    let same : b.arrive.given ≡ a.arrive.given = same_some b.arrive.given a.arrive.given (sym b.arrive.at ∙ a.arrive.at) in
+    let reads : ReadAs a.arrive.given b.capture = subst (λ (g : List ℕ). ReadAs g b.capture) same b.arrive.read in
+    let capture : b.capture ≡ a.capture = read_one_way a.arrive.given b.capture a.capture reads a.arrive.read in
+    (one_reading a.capture a.records b.records p q a.reads hp (subst (λ (c : List ℕ). Reads c b.records q) capture b.reads) hq).1
+
+-- the faults that bytes tell
+abbrev pub IsOfBytes : NgFault → Type 0
+IsOfBytes (ng.At block) = Unit {0}
+IsOfBytes ng.Limit = Unit {0}
+IsOfBytes ng.NoMemory = ⊥
+
+ends_not_broken : (v : View) (n : MarkNames) (p : Step) (f : NgFault) → IsOfBytes f → EndsWith v n p → IsNoPcapng v n.arrivals f → ⊥
+ends_not_broken v n p (ng.At block) h a b =
+    let same : a.arrive.given ≡ b.given = same_some a.arrive.given b.given (sym a.arrive.at ∙ b.at) in
+    fault_not_read b.given a.capture block b.begins (subst (λ (g : List ℕ). ReadAs g a.capture) same a.arrive.read) b.cause
+ends_not_broken v n p ng.Limit h a b =
+    let same : a.arrive.given ≡ b.given = same_some a.arrive.given b.given (sym a.arrive.at ∙ b.at) in
+    limit_not_read b.given a.capture b.begins (subst (λ (g : List ℕ). ReadAs g a.capture) same a.arrive.read) b.cause
+ends_not_broken v n p ng.NoMemory h a b = h
+
+one_broken : (v : View) (name : List ℕ) (f g : NgFault) → IsOfBytes f → IsOfBytes g → IsNoPcapng v name f → IsNoPcapng v name g → f ≡ g
+one_broken v name (ng.At x) (ng.At y) h k a b =
+    let same : b.given ≡ a.given = same_some b.given a.given (sym b.at ∙ a.at) in
+    ap (λ z. ng.At z) (one_fault a.given x y a.cause (subst (λ (g : List ℕ). IsCause (ng.At y) g) same b.cause))
+one_broken v name (ng.At x) ng.Limit h k a b =
+    let same : b.given ≡ a.given = same_some b.given a.given (sym b.at ∙ a.at) in
+    absurd (no_limit_at a.given x (subst (λ (g : List ℕ). IsCause ng.Limit g) same b.cause) a.cause)
+one_broken v name ng.Limit (ng.At y) h k a b =
+    let same : a.given ≡ b.given = same_some a.given b.given (sym a.at ∙ b.at) in
+    absurd (no_limit_at b.given y (subst (λ (g : List ℕ). IsCause ng.Limit g) same a.cause) b.cause)
+one_broken v name ng.Limit ng.Limit h k a b = refl
+one_broken v name ng.NoMemory g h k a b = absurd h
+one_broken v name (ng.At x) ng.NoMemory h k a b = absurd k
+one_broken v name ng.Limit ng.NoMemory h k a b = absurd k
+
+-- what comes of an end of the arrivals, and of a fault of a pcapng file
+abbrev pub end_outcome : Step → Outcome
+end_outcome End = Ok done.Conditioned
+end_outcome (Next r after) = Err failure.NoMemory
+end_outcome (Fault found) = Err (failure.Capture found)
+end_outcome Limit = Err (failure.Limit limit.Capture)
+
+abbrev pub break_outcome : NgFault → Outcome
+break_outcome (ng.At block) = Err (failure.Pcapng block)
+break_outcome ng.Limit = Err (failure.Limit limit.Capture)
+break_outcome ng.NoMemory = Err failure.NoMemory
+
+pub data ArrivalsTold (v : View) (n : MarkNames) (o : Outcome) : Type 0 where
+  ArrivalsEnd : (s : Step) → IsLast s → EndsWith v n s → o ≡ end_outcome s → ArrivalsTold v n o
+  ArrivalsBreak : (f : NgFault) → IsOfBytes f → AreBroken v n f → o ≡ break_outcome f → ArrivalsTold v n o
+  ArrivalsGone : v.bytes n.arrivals ≡ None → o ≡ Err (failure.Read read.Arrivals) → ArrivalsTold v n o
+
+arrivals_one : (v : View) (n : MarkNames) (o p : Outcome) → ArrivalsTold v n o → ArrivalsTold v n p → o ≡ p
+arrivals_one v n o p (ArrivalsEnd s h a e) (ArrivalsEnd t k b f) = e ∙ ap end_outcome (one_end v n s t h k a b) ∙ sym f
+arrivals_one v n o p (ArrivalsEnd s h a e) (ArrivalsBreak g k b f) = absurd (ends_not_broken v n s g k a b.arrivals)
+arrivals_one v n o p (ArrivalsEnd s h a e) (ArrivalsGone b f) = absurd (no_bytes a.arrive.given (sym b ∙ a.arrive.at))
+arrivals_one v n o p (ArrivalsBreak g h a e) (ArrivalsEnd t k b f) = absurd (ends_not_broken v n t g h b a.arrivals)
+arrivals_one v n o p (ArrivalsBreak g h a e) (ArrivalsBreak j k b f) = e ∙ ap break_outcome (one_broken v n.arrivals g j h k a.arrivals b.arrivals) ∙ sym f
+arrivals_one v n o p (ArrivalsBreak g h a e) (ArrivalsGone b f) = absurd (no_bytes a.arrivals.given (sym b ∙ a.arrivals.at))
+arrivals_one v n o p (ArrivalsGone a e) (ArrivalsEnd t k b f) = absurd (no_bytes b.arrive.given (sym a ∙ b.arrive.at))
+arrivals_one v n o p (ArrivalsGone a e) (ArrivalsBreak j k b f) = absurd (no_bytes b.arrivals.given (sym a ∙ b.arrivals.at))
+arrivals_one v n o p (ArrivalsGone a e) (ArrivalsGone b f) = e ∙ sym f
+
+-- ALL OF THEM: it stops at the configuration, or goes on
+abbrev pub Case : View → MarkNames → Outcome → Type 0
+Case v n o = ConfStop v n o ⊎ (HasInterface v n × ArrivalsTold v n o)
+
+pub one_case : (v : View) (n : MarkNames) (o p : Outcome) → Case v n o → Case v n p → o ≡ p
+one_case v n o p (inl a) (inl b) = conf_one v n o p a b
+one_case v n o p (inl a) (inr b) = absurd (conf_not v n o a b.0)
+one_case v n o p (inr a) (inl b) = absurd (conf_not v n p b a.0)
+one_case v n o p (inr a) (inr b) = arrivals_one v n o p a.1 b.1
+
+-- EACH CASE
+pub case_refused : (v : View) (n : MarkNames) (place : ConfPlace) → Says v n.config n.interface (Refused place) → Case v n (Err (failure.Configuration place))
+case_refused v n place x = inl (ConfRefused place x refl)
+
+pub case_long : (v : View) (n : MarkNames) → Says v n.config n.interface TooLong → Case v n (Err (failure.Limit limit.Configuration))
+case_long v n x = inl (ConfLong x refl)
+
+pub case_gone : (v : View) (n : MarkNames) → v.bytes n.config ≡ None → Case v n (Err (failure.Read read.Configuration))
+case_gone v n e = inl (ConfGone e refl)
+
+pub case_ends : (v : View) (n : MarkNames) (s : Step) → IsLast s → EndsWith v n s → Case v n (end_outcome s)
+case_ends v n s h x = inr ((x.found, x.arrive.configures), ArrivalsEnd s h x refl)
+
+pub case_breaks : (v : View) (n : MarkNames) (f : NgFault) → IsOfBytes f → AreBroken v n f → Case v n (break_outcome f)
+case_breaks v n f h x = inr (x.interface, ArrivalsBreak f h x refl)
+
+pub case_absent : (v : View) (n : MarkNames) → HasInterface v n → v.bytes n.arrivals ≡ None → Case v n (Err (failure.Read read.Arrivals))
+case_absent v n i e = inr (i, ArrivalsGone e refl)

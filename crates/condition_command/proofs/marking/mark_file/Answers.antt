@@ -1,0 +1,118 @@
+-- Each turn moves what it takes: the return of a turn tells what came of all.
+use Rattle.std.proofs.Common.{List, ℕ, Ok, Err, ap, length, sym, subst}
+use Rattle.frame_classes.specs.Frames.{placed_by}
+use Rattle.marked_files.specs.Standing.{TellsLeft}
+use Rattle.marked_files.specs.declared.behind.Behind.{Behind}
+use Rattle.marked_files.specs.declared.behind.Behind.TheVariants as behind
+use Rattle.play_base.specs.View.{Wrote, WroteFront}
+use Rattle.play_base.proofs.ViewLaws.{same_refl, same_trans}
+use Rattle.condition_command.specs.Marking.{MarksLeft}
+use Rattle.condition_command.specs.declared.marking.Unmarked.{Unmarked}
+use Rattle.condition_command.specs.declared.marking.Unmarked.TheVariants as unmarked
+use Rattle.condition_command.proofs.MovingLemmas.{marks_cut, marks_told, marks_unwritten, on_begun, on_taken, on_wrote}
+use Rattle.condition_command.proofs.marking.mark_file.Goals as goal
+
+pub turns-init : goal.turns-init
+turns-init g c = record {
+  on = on_begun (g.F.Files.view c.args.files.now) c.args.from c.args.to c.args.marker.now;
+  given = c.requires.given;
+  waits = c.requires.waits;
+  counts = same_refl (g.F.Files.view c.args.files.now);
+}
+
+pub returns-in-Err-clause-marks : goal.returns-in-Err-clause-marks
+returns-in-Err-clause-marks g c =
+    let u = g.F.Files.view c.args.files.now in
+    let v = g.F.Files.view c.turns.files in
+    let w = g.F.Files.view c.next_records.new.files in
+    let m = c.args.marker.now in
+    let o = c.next_records.new.self in
+    let y = c.in-Err.ensures in
+    let on = on_taken u v w c.args.from c.args.to m c.turns.marker o c.turns.invariant.on y.taken in
+    let cut = marks_cut u w c.args.from c.args.to m o c.in-Err.trouble c.requires.apart on y.stays.0 y.stays.1 y.room in
+    let R : Unmarked → Type 0 = λ z. MarksLeft u w c.args.from c.args.to m (Err z) in
+    subst R (sym c.read_trouble.ensures) cut
+
+pub returns-in-Err-write_all-clause-marks : goal.returns-in-Err-write_all-clause-marks
+returns-in-Err-write_all-clause-marks g c =
+    let u = g.F.Files.view c.args.files.now in
+    let v = g.F.Files.view c.turns.files in
+    let w = g.F.Files.view c.next_records.new.files in
+    let z = g.F.Files.view c.write_all.new.files in
+    let m = c.args.marker.now in
+    let o = c.next_records.new.self in
+    let y = c.in-Ok.ensures in
+    let on = on_taken u v w c.args.from c.args.to m c.turns.marker o c.turns.invariant.on y.taken in
+    let P : List ℕ → Type 0 = λ l. WroteFront w z c.args.to l in
+    let front : WroteFront w z c.args.to o.held.ready = subst P c.ready.ensures c.in-Err-write_all.ensures.front in
+    let cut = marks_unwritten u w z c.args.from c.args.to m o c.in-Err-write_all.trouble c.requires.apart on front y.room in
+    let R : Unmarked → Type 0 = λ why. MarksLeft u z c.args.from c.args.to m (Err why) in
+    subst R (sym c.write_trouble.ensures) cut
+
+pub turns-preserved : goal.turns-preserved
+turns-preserved g c =
+    let u = g.F.Files.view c.args.files.now in
+    let v = g.F.Files.view c.turns.files in
+    let w = g.F.Files.view c.next_records.new.files in
+    let z = g.F.Files.view c.write_all.new.files in
+    let m = c.args.marker.now in
+    let o = c.next_records.new.self in
+    let y = c.in-Ok.ensures in
+    let on = on_taken u v w c.args.from c.args.to m c.turns.marker o c.turns.invariant.on y.taken in
+    let P : List ℕ → Type 0 = λ l. Wrote w z c.args.to l in
+    let wrote : Wrote w z c.args.to o.held.ready = subst P c.ready.ensures c.in_default.ensures.wrote in
+    record {
+      on = on_wrote u w z c.args.from c.args.to m o c.give_ready.new.self c.requires.apart on wrote c.give_ready.ensures.stands;
+      given = ap length c.give_ready.ensures.ready;
+      waits = c.give_ready.ensures.waits (y.waits (ap (λ (b : Behind). Ok b) c.in-More.is));
+      counts = same_trans u w z (same_trans u v w c.turns.invariant.counts y.counts) c.in_default.ensures.counts;
+    }
+
+pub returns-in-End-clause-marks : goal.returns-in-End-clause-marks
+returns-in-End-clause-marks g c =
+    let u = g.F.Files.view c.args.files.now in
+    let v = g.F.Files.view c.turns.files in
+    let w = g.F.Files.view c.next_records.new.files in
+    let z = g.F.Files.view c.write_all.new.files in
+    let m = c.args.marker.now in
+    let o = c.next_records.new.self in
+    let y = c.in-Ok.ensures in
+    let on = on_taken u v w c.args.from c.args.to m c.turns.marker o c.turns.invariant.on y.taken in
+    let P : List ℕ → Type 0 = λ l. Wrote w z c.args.to l in
+    let wrote : Wrote w z c.args.to o.held.ready = subst P c.ready.ensures c.in_default.ensures.wrote in
+    let B : Behind → Type 0 = λ b. TellsLeft placed_by w c.args.from o b in
+    let told : TellsLeft placed_by w c.args.from o behind.End = subst B c.in-End.is y.tells in
+    marks_told u w z c.args.from c.args.to m o behind.End (Ok tt) c.requires.apart on told wrote y.room (λ k capture taken written h. h)
+
+pub returns-in-Damaged-clause-marks : goal.returns-in-Damaged-clause-marks
+returns-in-Damaged-clause-marks g c =
+    let u = g.F.Files.view c.args.files.now in
+    let v = g.F.Files.view c.turns.files in
+    let w = g.F.Files.view c.next_records.new.files in
+    let z = g.F.Files.view c.write_all.new.files in
+    let m = c.args.marker.now in
+    let o = c.next_records.new.self in
+    let d = c.in-Damaged.damage in
+    let y = c.in-Ok.ensures in
+    let on = on_taken u v w c.args.from c.args.to m c.turns.marker o c.turns.invariant.on y.taken in
+    let P : List ℕ → Type 0 = λ l. Wrote w z c.args.to l in
+    let wrote : Wrote w z c.args.to o.held.ready = subst P c.ready.ensures c.in_default.ensures.wrote in
+    let B : Behind → Type 0 = λ b. TellsLeft placed_by w c.args.from o b in
+    let told : TellsLeft placed_by w c.args.from o (behind.Damaged d) = subst B c.in-Damaged.is y.tells in
+    marks_told u w z c.args.from c.args.to m o (behind.Damaged d) (Err (unmarked.Damaged d)) c.requires.apart on told wrote y.room (λ k capture taken written h. h)
+
+pub returns-in-Limit-clause-marks : goal.returns-in-Limit-clause-marks
+returns-in-Limit-clause-marks g c =
+    let u = g.F.Files.view c.args.files.now in
+    let v = g.F.Files.view c.turns.files in
+    let w = g.F.Files.view c.next_records.new.files in
+    let z = g.F.Files.view c.write_all.new.files in
+    let m = c.args.marker.now in
+    let o = c.next_records.new.self in
+    let y = c.in-Ok.ensures in
+    let on = on_taken u v w c.args.from c.args.to m c.turns.marker o c.turns.invariant.on y.taken in
+    let P : List ℕ → Type 0 = λ l. Wrote w z c.args.to l in
+    let wrote : Wrote w z c.args.to o.held.ready = subst P c.ready.ensures c.in_default.ensures.wrote in
+    let B : Behind → Type 0 = λ b. TellsLeft placed_by w c.args.from o b in
+    let told : TellsLeft placed_by w c.args.from o behind.Limit = subst B c.in-Limit.is y.tells in
+    marks_told u w z c.args.from c.args.to m o behind.Limit (Err unmarked.Limit) c.requires.apart on told wrote y.room (λ k capture taken written h. h)

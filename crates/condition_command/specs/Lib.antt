@@ -1,0 +1,4 @@
+pub mod Arriving
+pub mod Marking
+pub mod Moving
+pub mod Conditioning
