@@ -1,10 +1,10 @@
 -- The captured bytes of the packets that arrived.
-use Rattle.std.specs.Prelude.{◌==◌, ◌&&◌, ◌-◌, ℕ, Bool, false, List, [], take, drop, map, slice_get}
+use Rattle.std.specs.Prelude.{◌==◌, ◌&&◌, ◌-◌, ℕ, Bool, false, List, [], map, slice_get}
 use Rattle.std.specs.Option.{option_map_or}
 use Rattle.altq_model.specs.History.{Coming}
 use Rattle.fate_judge.specs.Given.{comings}
 use Rattle.fate_departures.specs.declared.frames.Frames.{Frames}
-use Rattle.fate_departures.specs.declared.frames.Place.{Place}
+use Rattle.pcap_files.specs.declared.record.Record.{Record}
 
 -- packets in order of number, and which classes have a queue that marks
 pub record Packets : Type 0 where
@@ -12,12 +12,12 @@ pub record Packets : Type 0 where
   pub frames : List (List ℕ)
   pub marks : List Bool
 
--- the bytes at a place, as far as there are any
-abbrev pub part : List ℕ → Place → List ℕ
-part bytes place = take place.count (drop place.from bytes)
+-- the captured bytes of a record
+abbrev pub bytes_of : Record → List ℕ
+bytes_of r = r.bytes
 
 abbrev pub frames_in : Frames → Packets
-frames_in f = record { arrived = comings f.arrived.now; frames = map (part f.bytes.now) f.places.now; marks = f.marks.now }
+frames_in f = record { arrived = comings f.arrived.now; frames = map bytes_of f.records.now; marks = f.marks.now }
 
 -- the captured bytes of the packet of a number
 abbrev pub frame_of : Packets → (n : ℕ) → List ℕ

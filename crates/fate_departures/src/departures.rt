@@ -31,8 +31,9 @@ pub fn first_other_departure<C: Classify>(
     let Some(mut rest) = departures.strip_prefix(&header) else {
         return Ok(Some(0));
     };
+    let mut room = Vec::new(alloc);
     for (i, row) in rows.iter().enumerate() {
-        match behind(alloc, classify, frames, row, rest)? {
+        match behind(&mut room, classify, frames, row, rest)? {
             Some(more) => rest = more,
             None => return Ok(Some(i as u64 + 1)),
         }

@@ -1,37 +1,18 @@
 // The captured bytes of the packets that arrived.
 ghost use Rattle.std.specs.Prelude.{◌≡◌, ◌<◌, ◌-◌, ◌^◌, length};
-ghost use Rattle.fate_departures.specs.Frames.{frame_of, frames_in, is_markable, part};
+ghost use Rattle.fate_departures.specs.Frames.{frame_of, frames_in, is_markable};
 
 use fate_judge::Arrived;
+use pcap_files::Record;
 
-/// Where the captured bytes of a packet stand among those of all.
-#[derive(Clone, Copy, Debug, PartialEq, Eq)]
-pub struct Place {
-    pub from: usize,
-    pub count: u32,
-}
-
-/// Packets as they arrived, and their captured bytes.
-#[derive(Clone, Copy, Debug)]
+/// Packets as they arrived, and their records.
+#[derive(Clone, Copy)]
 pub struct Frames<'a> {
     pub arrived: &'a [Arrived],
-    /// Where the bytes of each packet stand.
-    pub places: &'a [Place],
-    /// The captured bytes of all packets.
-    pub bytes: &'a [u8],
+    /// The records of all packets, in the order of number.
+    pub records: &'a [Record],
     /// By class: whether its queue marks packets in place of early drops.
     pub marks: &'a [bool],
-}
-
-// The bytes at a place, as far as there are any.
-fn part(bytes: &[u8], place: Place) -> &[u8]
-    ensures value { result.now ≡ part bytes.now place }
-    ensures short { length result.now < 2 ^ 32 }
-{
-    let from = place.from.min(bytes.len());
-    let rest = &bytes[from..];
-    let count = rest.len().min(place.count as usize);
-    &rest[..count]
 }
 
 impl Frames<'_> {
@@ -47,9 +28,9 @@ impl Frames<'_> {
         ensures value { result.now ≡ frame_of (frames_in self.now) number }
         ensures short { length result.now < 2 ^ 32 }
     {
-        match self.places.get(Self::index(number)) {
-            Some(place) => part(self.bytes, *place),
-            None => &self.bytes[..0],
+        match self.records.get(Self::index(number)) {
+            Some(record) => record.bytes.as_slice(),
+            None => &[],
         }
     }
 

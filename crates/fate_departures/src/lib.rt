@@ -6,4 +6,4 @@ mod frames;
 mod records;
 
 pub use departures::first_other_departure;
-pub use frames::{Frames, Place};
+pub use frames::Frames;

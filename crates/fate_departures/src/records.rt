@@ -1,5 +1,5 @@
 // Records at the front of departures.
-ghost use Rattle.std.specs.Prelude.{◌≡◌, ◌<◌, ◌*◌, ◌^◌, ◌++◌, ℕ, List, IfOk, MatchOption, length};
+ghost use Rattle.std.specs.Prelude.{◌≡◌, ◌<◌, ◌*◌, ◌^◌, ◌++◌, ℕ, List, IfOk, MatchOption, OnOk, length};
 ghost use Rattle.altq_model.specs.Laws.{clock_end};
 ghost use Rattle.capture_model.specs.Written.{record_text};
 ghost use Rattle.fate_departures.specs.Departures.{LeavesFront, LeavesNoFront, leaving};
@@ -11,24 +11,24 @@ use discipline::Classify;
 use fate_check::Row;
 use pcap_files::record_head;
 use play_base::NoMemory;
-use std::alloc::Global;
 
 // The end of the clock, 2^32 seconds in nanoseconds: no capture stamps it.
 const CLOCK_END: u64 = 4_294_967_296_000_000_000;
 
-// The bytes with which a frame departs.
-fn dressed<C: Classify>(
-    alloc: Global,
+// Lets a room hold the bytes with which a frame departs, and nothing else.
+fn dress<C: Classify>(
+    room: &mut Vec<u8>,
     classify: &C,
     class: u32,
     marked: bool,
     frame: &[u8],
-) -> Result<Vec<u8>, NoMemory>
-    ensures { IfOk result (λ bytes. bytes.items ≡ C.dressed classify.now class marked frame.now) }
+) -> Result<(), NoMemory>
+    ensures { OnOk result (room.new.items ≡ C.dressed classify.now class marked frame.now) }
 {
-    let mut bytes = frame.to_vec(alloc)?;
-    classify.dress(class, marked, &mut bytes);
-    Ok(bytes)
+    room.clear();
+    room.extend_from_slice(frame)?;
+    classify.dress(class, marked, room);
+    Ok(())
 }
 
 // What stands behind a head and bytes, if they stand at the front.
@@ -41,9 +41,9 @@ fn behind_both<'a>(rest: &'a [u8], head: &[u8], bytes: &[u8]) -> Option<&'a [u8]
     }
 }
 
-// What stands behind the record of a sending, marked or not, if it stands at the front.
+// What stands behind the record of a sending, marked or not, if it stands at the front. The room is for its bytes.
 fn behind_one<'a, C: Classify>(
-    alloc: Global,
+    room: &mut Vec<u8>,
     classify: &C,
     frames: &Frames<'_>,
     row: &Row,
@@ -56,14 +56,14 @@ fn behind_one<'a, C: Classify>(
         (λ more. rest.now ≡ record_text (leaving (C.dressed classify.now) (frames_in frames.now) row.now end marked) ++ more.now)) }
 {
     let frame = frames.frame(row.number);
-    let bytes = dressed(alloc, classify, row.class, marked, frame)?;
+    dress(room, classify, row.class, marked, frame)?;
     let head = record_head(end, frame.len() as u32, row.len);
-    Ok(behind_both(rest, &head, &bytes))
+    Ok(behind_both(rest, &head, room))
 }
 
-/// What stands behind what a row leaves, if that stands at the front.
+/// What stands behind what a row leaves, if that stands at the front. The room is for the bytes of a packet.
 pub(crate) fn behind<'a, C: Classify>(
-    alloc: Global,
+    room: &mut Vec<u8>,
     classify: &C,
     frames: &Frames<'_>,
     row: &Row,
@@ -78,12 +78,12 @@ pub(crate) fn behind<'a, C: Classify>(
     if end >= CLOCK_END {
         return Ok(None);
     }
-    let plain = behind_one(alloc, classify, frames, row, end, false, rest)?;
+    let plain = behind_one(room, classify, frames, row, end, false, rest)?;
     if plain.is_some() {
         return Ok(plain);
     }
     if !frames.is_markable(row.number, row.class) {
         return Ok(None);
     }
-    behind_one(alloc, classify, frames, row, end, true, rest)
+    behind_one(room, classify, frames, row, end, true, rest)
 }

@@ -5,8 +5,9 @@ use crate::judged::{packet, sent};
 use altq_model::Placed;
 use discipline::Classify;
 use fate_check::Row;
-use fate_departures::{Frames, Place, first_other_departure};
-use play_base::NoMemory;
+use fate_departures::{Frames, first_other_departure};
+use pcap_files::Record;
+use play_base::{Bytes, NoMemory};
 use std::alloc::Global;
 use std::test::Fail;
 
@@ -40,10 +41,17 @@ impl Classify for Plain {
 fn other(alloc: Global, departures: &[u8]) -> Result<Option<u64>, NoMemory> {
     let mut row: Row = sent(1, 0, 1_000_000);
     row.len = 1000;
+    let captured = [69u8, 2, 0, 40].to_vec(alloc)?;
+    let record = Record {
+        number: 1,
+        stamp: 0,
+        len: 1000,
+        bytes: Bytes::of(captured),
+    };
+    let records = vec![in alloc; record]?;
     let frames = Frames {
         arrived: &[packet(0)],
-        places: &[Place { from: 0, count: 4 }],
-        bytes: &[69, 2, 0, 40],
+        records: &records,
         marks: &[false, false],
     };
     first_other_departure(alloc, &Plain, &frames, &[row], departures)

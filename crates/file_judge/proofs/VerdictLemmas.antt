@@ -7,7 +7,7 @@ use Rattle.fate_busy.specs.Busy.{StartsAtOnce}
 use Rattle.fate_check.specs.declared.reading.Row.{Row}
 use Rattle.fate_check.specs.Text.{FailsAt, Reads}
 use Rattle.fate_departures.specs.Departures.{AreDepartures, DepartOtherwise}
-use Rattle.fate_departures.specs.Frames.{Packets}
+use Rattle.fate_departures.specs.Frames.{Packets, bytes_of}
 use Rattle.fate_judge.specs.declared.given.Allowed.{Allowed}
 use Rattle.fate_judge.specs.declared.given.Kind.{Kind}
 use Rattle.fate_judge.specs.declared.given.Kind.TheVariants as kind
@@ -24,7 +24,6 @@ use Rattle.input_files.specs.Records.{Shown, shown_by, shown_of}
 use Rattle.interface_policy.specs.Policy.{queue_names}
 use Rattle.pcap_files.specs.declared.record.Record.{Record as Answer}
 use Rattle.play_text.specs.Names.{NameList}
-use Rattle.file_judge.specs.Frames.{bytes_of}
 use Rattle.file_judge.specs.Given.{Given, arrived_in, captured_of, case_of, dress_of, is_unlimited, packets_in}
 use Rattle.file_judge.specs.Verdict.{AreBusy, AreRows, AreTheirDepartures, EndsByDue, FitTheLink, IfRows, IfTest, IsRefuted, IsUnverified, test_of}
 use Rattle.file_judge.specs.declared.verdict.Unverified.{Unverified}

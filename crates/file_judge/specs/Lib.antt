@@ -1,4 +1,3 @@
-pub mod Frames
 pub mod Given
 pub mod Journal
 pub mod Verdict

@@ -21,9 +21,9 @@ use std::alloc::Global;
 
 /// Holds departures and fates to the play of an interface over the records of its arrivals, whoever made them, by the tests of `Test`;
 /// it tests neither which class was picked, nor why a packet was dropped. The records are those of a capture, at most 4,000,000. The
-/// answer is how late each leaf with a real-time curve that is not 0 everywhere came, in the order of the classes. `At` comes exactly where a test fails, with the least that
-/// fails and its first row. `NoMemory` comes only when memory runs out. Takes time in proportion to the files, and in each row for the
-/// name of its class; memory for the rows, the packets and their bytes.
+/// answer is how late each leaf with a real-time curve that is not 0 everywhere came, in the order of the classes. `At` comes exactly
+/// where a test fails, with the least that fails and its first row. `NoMemory` comes only when memory runs out. Takes time in proportion
+/// to the files, and in each row for the name of its class; memory for the rows and the packets, and for the bytes of one packet.
 pub fn judge(
     alloc: Global,
     interface: &Interface,

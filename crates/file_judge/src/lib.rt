@@ -2,7 +2,6 @@
 #![tactic(auto)]
 
 mod due;
-mod frames;
 mod judging;
 mod laws;
 mod tests;

@@ -8,13 +8,12 @@ ghost use Rattle.fate_judge.specs.Given.{comings};
 ghost use Rattle.fate_judge.specs.Judged.{PassesAll};
 ghost use Rattle.fate_judge.specs.Judged.{IsRefuted as IsRefutedBy};
 ghost use Rattle.fate_judge.specs.Walk.{EachRow, FirstFails};
-ghost use Rattle.file_judge.specs.Frames.{bytes_of};
+ghost use Rattle.fate_departures.specs.Frames.{bytes_of};
 ghost use Rattle.file_judge.specs.Given.{is_unlimited};
 ghost use Rattle.file_judge.specs.Verdict.{IfRows, IfTest};
 ghost use Rattle.frame_classes.specs.Frames.{dress_in};
 ghost use Rattle.given_play.specs.Rights.{allowed_of, marks_of};
 
-use crate::frames::hold_frames;
 use crate::unlimited::{is_unlimited, test_of};
 use crate::verdict::Unverified;
 use conf_tree::Interface;
@@ -90,11 +89,9 @@ pub(crate) fn judge_departures(
     ensures refuted { IfErr result (IfTest Test.Departures (DepartOtherwise (dress_in interface.now) (record { arrived = comings packets.now; frames = map bytes_of records.now; marks = marks_of interface.now }) rows.now departures.now)) }
 {
     let marks = marks(alloc, interface)?;
-    let bytes = hold_frames(alloc, records)?;
     let frames = Frames {
         arrived: packets,
-        places: &bytes.places,
-        bytes: &bytes.bytes,
+        records,
         marks: &marks,
     };
     match first_other_departure(alloc, classify, &frames, rows, departures)? {

@@ -9,4 +9,4 @@ returns g c =
     subst P (text_is (g.C.Classify.dressed c.args.classify.now) (frames_in c.args.frames.now) c.args.row.now c.args.end c.args.marked
     c.frame-frame.result.now c.record_head-head.result c.deref.result.now c.frame-frame.ensures.value
     (g.met.C.Classify.lengths c.args.classify.now c.args.row.now.class c.args.marked c.frame-frame.result.now)
-    c.record_head-head.ensures (c.deref.ensures.value ∙ c.in_ok-bytes.ensures)) c.behind_both.ensures
+    c.record_head-head.ensures (c.deref.ensures.value ∙ c.in_ok-dress.ensures)) c.behind_both.ensures

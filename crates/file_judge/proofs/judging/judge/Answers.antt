@@ -12,7 +12,7 @@ use Rattle.fate_judge.specs.Judged.{Case}
 use Rattle.fate_judge.specs.Walk.{EachRow}
 use Rattle.fate_timely.specs.Timely.{StartsInTurn}
 use Rattle.given_play.specs.Rights.{allowed_of}
-use Rattle.file_judge.specs.Frames.{bytes_of}
+use Rattle.fate_departures.specs.Frames.{bytes_of}
 use Rattle.file_judge.specs.Given.{Given}
 use Rattle.file_judge.proofs.JudgeLemmas.{IsHeldTo, passed_busy, passed_departures, passed_rows, unverified_busy, unverified_departures, unverified_due, unverified_rows, verified}
 use Rattle.file_judge.proofs.VerdictLemmas.{are_some, bytes_same}
