@@ -1,10 +1,26 @@
 //! Literal cases of what a configuration of `conf_tree` holds, and of its canonical text.
 use crate::faults::built;
-use conf_tree::{Addresses, Class, DropRule, Filter, Interface, Kind};
+use conf_tree::{Addresses, Class, Conf, DropRule, Filter, Interface, Kind};
 use service_curve::Curve;
 use std::alloc::Global;
 use std::test::Fail;
 use traffic_meter::MeterRule;
+
+/// The configuration of a text that is accepted.
+fn accepted(alloc: Global, text: &str) -> Result<Conf, Fail> {
+    match built(alloc, text)? {
+        Ok(conf) => Ok(conf),
+        Err(_) => Err(Fail::new("refused")),
+    }
+}
+
+/// An interface of a configuration, by its name.
+fn interface_of<'a>(conf: &'a Conf, name: &str) -> Result<&'a Interface, Fail> {
+    match conf.interface(name) {
+        Some(interface) => Ok(interface),
+        None => Err(Fail::new("no such interface")),
+    }
+}
 
 /// A class of an interface, by its number.
 fn class_at(interface: &Interface, at: usize) -> Result<&Class, Fail> {
@@ -23,21 +39,13 @@ fn filter_at(interface: &Interface, at: usize) -> Result<Filter, Fail> {
 }
 
 #[test]
-fn implied_classes(rt: HostRuntime) -> Result<(), Fail> {
-    let conf = match built(
-        rt.alloc(),
-        "interface if0 bandwidth 8M hfsc\ninterface if1 cbq\n",
-    )? {
-        Ok(conf) => conf,
-        Err(_) => return Err(Fail::new("refused")),
-    };
+fn implied_classes_of_hfsc(rt: HostRuntime) -> Result<(), Fail> {
+    let conf = accepted(rt.alloc(), "interface if0 bandwidth 8M hfsc\n")?;
     assert!(rt; conf.interface("if2").is_none());
-    let Some(hfsc) = conf.interface("if0") else {
-        return Err(Fail::new("no if0"));
-    };
-    assert!(rt; hfsc.implied);
-    assert_eq!(rt; hfsc.rate, 8_000_000);
-    let leaf = class_at(hfsc, 1)?;
+    let interface = interface_of(&conf, "if0")?;
+    assert!(rt; interface.implied);
+    assert_eq!(rt; interface.rate, 8_000_000);
+    let leaf = class_at(interface, 1)?;
     assert_eq!(rt; leaf.name.as_str(), "default");
     assert_eq!(rt;
         leaf.share,
@@ -51,17 +59,24 @@ fn implied_classes(rt: HostRuntime) -> Result<(), Fail> {
         (leaf.parent, leaf.is_default, leaf.limit),
         (Some(0), true, 50)
     );
-    let Some(cbq) = conf.interface("if1") else {
-        return Err(Fail::new("no if1"));
-    };
-    assert_eq!(rt; cbq.kind, Kind::Cbq);
-    let root = class_at(cbq, 0)?;
+    Ok(())
+}
+
+#[test]
+fn implied_classes_of_cbq(rt: HostRuntime) -> Result<(), Fail> {
+    let conf = accepted(
+        rt.alloc(),
+        "interface if0 bandwidth 8M hfsc\ninterface if1 cbq\n",
+    )?;
+    let interface = interface_of(&conf, "if1")?;
+    assert_eq!(rt; interface.kind, Kind::Cbq);
+    let root = class_at(interface, 0)?;
     assert_eq!(rt; root.name.as_str(), "root");
     assert_eq!(rt;
         (root.rate, root.borrow, root.is_default),
         (100_000_000, false, false)
     );
-    let leaf = class_at(cbq, 1)?;
+    let leaf = class_at(interface, 1)?;
     assert_eq!(rt;
         (leaf.rate, leaf.borrow, leaf.is_default),
         (100_000_000, true, true)
@@ -69,24 +84,27 @@ fn implied_classes(rt: HostRuntime) -> Result<(), Fail> {
     Ok(())
 }
 
+/// Two classes by CBQ with their filters, and two by HFSC.
+const CLASSES_AND_FILTERS: &str =
+    "interface if0 cbq bandwidth 1M bandwidth 150M\nclass cbq if0 a NULL\nclass cbq if0 b a pbandwidth 7 priority 3 borrow red rio qlimit 9 maxburst 2 packetsize 64 control default\nfilter if0 b name x ruleno 7 10.1.2.3 netmask 255.0.15.0 80 0 0 tcp tos 0x1f tosmask 0x1c\nfilter6 if0 a ffff::/12 0 ::1 53 udp\ninterface if1 bandwidth 1999 hfsc\nclass hfsc if1 r NULL\nclass hfsc if1 s r sc 4 5 3 grate 2 pshare 50 default\n";
+
 #[test]
-fn classes_and_filters(rt: HostRuntime) -> Result<(), Fail> {
-    let text =
-        "interface if0 cbq bandwidth 1M bandwidth 150M\nclass cbq if0 a NULL\nclass cbq if0 b a pbandwidth 7 priority 3 borrow red rio qlimit 9 maxburst 2 packetsize 64 control default\nfilter if0 b name x ruleno 7 10.1.2.3 netmask 255.0.15.0 80 0 0 tcp tos 0x1f tosmask 0x1c\nfilter6 if0 a ffff::/12 0 ::1 53 udp\ninterface if1 bandwidth 1999 hfsc\nclass hfsc if1 r NULL\nclass hfsc if1 s r sc 4 5 3 grate 2 pshare 50 default\n";
-    let conf = match built(rt.alloc(), text)? {
-        Ok(conf) => conf,
-        Err(_) => return Err(Fail::new("refused")),
-    };
-    let Some(cbq) = conf.interface("if0") else {
-        return Err(Fail::new("no if0"));
-    };
-    assert!(rt; !cbq.implied);
-    let b = class_at(cbq, 1)?;
+fn classes_of_cbq(rt: HostRuntime) -> Result<(), Fail> {
+    let conf = accepted(rt.alloc(), CLASSES_AND_FILTERS)?;
+    let interface = interface_of(&conf, "if0")?;
+    assert!(rt; !interface.implied);
+    let b = class_at(interface, 1)?;
     assert_eq!(rt; (b.rate, b.priority, b.limit), (10_500_000, 3, 9));
     assert_eq!(rt; (b.maxburst, b.packetsize), (2, 64));
     assert_eq!(rt; (b.borrow, b.control, b.is_default), (true, true, true));
     assert_eq!(rt; b.drop, DropRule::Rio);
-    let filter = filter_at(cbq, 0)?;
+    Ok(())
+}
+
+#[test]
+fn filter_of_ipv4(rt: HostRuntime) -> Result<(), Fail> {
+    let conf = accepted(rt.alloc(), CLASSES_AND_FILTERS)?;
+    let filter = filter_at(interface_of(&conf, "if0")?, 0)?;
     assert_eq!(rt; (filter.class, filter.ruleno), (1, 7));
     assert_eq!(rt;
         (filter.target_port, filter.source_port, filter.protocol),
@@ -102,7 +120,13 @@ fn classes_and_filters(rt: HostRuntime) -> Result<(), Fail> {
             source_mask: [0, 0, 0, 0],
         }
     );
-    let filter = filter_at(cbq, 1)?;
+    Ok(())
+}
+
+#[test]
+fn filter_of_ipv6(rt: HostRuntime) -> Result<(), Fail> {
+    let conf = accepted(rt.alloc(), CLASSES_AND_FILTERS)?;
+    let filter = filter_at(interface_of(&conf, "if0")?, 1)?;
     assert_eq!(rt;
         (filter.class, filter.source_port, filter.protocol),
         (0, 53, 17)
@@ -117,10 +141,13 @@ fn classes_and_filters(rt: HostRuntime) -> Result<(), Fail> {
             source_len: 128,
         }
     );
-    let Some(hfsc) = conf.interface("if1") else {
-        return Err(Fail::new("no if1"));
-    };
-    let leaf = class_at(hfsc, 1)?;
+    Ok(())
+}
+
+#[test]
+fn classes_of_hfsc(rt: HostRuntime) -> Result<(), Fail> {
+    let conf = accepted(rt.alloc(), CLASSES_AND_FILTERS)?;
+    let leaf = class_at(interface_of(&conf, "if1")?, 1)?;
     assert_eq!(rt; leaf.real, Some(Curve { m1: 2, d: 0, m2: 2 }));
     assert_eq!(rt;
         leaf.share,
@@ -136,12 +163,9 @@ fn classes_and_filters(rt: HostRuntime) -> Result<(), Fail> {
 
 /// The canonical text of a text.
 fn canonical(alloc: Global, text: &str) -> Result<Vec<u8>, Fail> {
-    match built(alloc, text)? {
-        Ok(conf) => match conf.text(alloc) {
-            Ok(text) => Ok(text),
-            Err(_) => Err(Fail::new("no memory")),
-        },
-        Err(_) => Err(Fail::new("refused")),
+    match accepted(alloc, text)?.text(alloc) {
+        Ok(text) => Ok(text),
+        Err(_) => Err(Fail::new("no memory")),
     }
 }
 
@@ -163,14 +187,8 @@ fn canonical_text_of_voice_and_data(rt: HostRuntime) -> Result<(), Fail> {
 fn meters_of_classes(rt: HostRuntime) -> Result<(), Fail> {
     let text =
         "interface if0 hfsc\nclass hfsc if0 root NULL\nclass hfsc if0 a root pshare 1 default\nclass hfsc if0 b root pshare 1\nconditioner if0 b trtcm 16M 2000 8M 1000 2\nconditioner if0 a srtcm 8M 1500 0 1\n";
-    let conf = match built(rt.alloc(), text)? {
-        Ok(conf) => conf,
-        Err(_) => return Err(Fail::new("refused")),
-    };
-    let Some(interface) = conf.interface("if0") else {
-        return Err(Fail::new("no if0"));
-    };
-    let rules = match interface.rules(rt.alloc()) {
+    let conf = accepted(rt.alloc(), text)?;
+    let rules = match interface_of(&conf, "if0")?.rules(rt.alloc()) {
         Ok(rules) => rules,
         Err(_) => return Err(Fail::new("no memory")),
     };

@@ -1,6 +1,10 @@
-//! Literal choices by curves: sums against a link, deadlines, link sharing, and the pace of a class of CBQ. There are
-//! tests alone.
+//! Literal choices by curves: sums against a link, deadlines, link sharing, and the pace of a class of CBQ; and the guarantee of a
+//! curve at its bound.
 #![tactic(auto)]
+
+mod timely;
+
+pub use timely::timely_at_the_bound;
 
 #[cfg(test)]
 mod deadlines;
