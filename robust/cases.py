@@ -133,6 +133,14 @@ def filter_statement(rng, name, target):
     return " ".join(words)
 
 
+def conditioner_statement(rng, name, target):
+    """A statement of a conditioner of a class."""
+    slow, fast = sorted(rng.choice([1000, 8_000, 100_000, 8_000_000, 10**9, 10**12]) for _ in range(2))
+    burst, other = rng.choice([1, 60, 1500, 10_000, 2**30]), rng.choice([60, 1500, 4000, 2**30])
+    meter = rng.choice([f"srtcm {slow} {burst} {rng.choice([0, other])}", f"trtcm {fast} {other} {slow} {burst}"])
+    return f"conditioner {name} {target} {meter} {rng.randrange(1, 5)}"
+
+
 def interface(rng, name):
     """The statements of one interface, of either kind."""
     is_hfsc = chance(rng, 2)
@@ -151,6 +159,9 @@ def interface(rng, name):
     for _ in range(rng.randrange(5)):
         target = rng.choice(leaves)
         lines.append(filter_statement(rng, name, f"c{target}" if target else "root"))
+    if chance(rng, 3):
+        targets = rng.sample(leaves, rng.randrange(1, min(3, len(leaves)) + 1))
+        lines += [conditioner_statement(rng, name, f"c{target}" if target else "root") for target in targets]
     return lines
 
 

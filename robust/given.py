@@ -143,12 +143,11 @@ def of_rest(link, rows):
     return None
 
 
-def dressed(frame, is_cleared, is_marked):
-    """The bytes with which a frame leaves."""
+def retagged(frame, new):
+    """A frame with another type of service; one that has none stays."""
     tos = type_of_service(frame)
     if tos is None:
         return frame
-    new = (tos & 3 if is_cleared else tos) | (3 if is_marked else 0)
     at = 12
     for _tag in range(2):
         at += 4 if word(frame, at) in TAGS else 0
@@ -163,6 +162,12 @@ def dressed(frame, is_cleared, is_marked):
             total = (total & 65535) + (total >> 16)
         frame[head + 10:head + 12] = struct.pack(">H", ~total & 65535)
     return bytes(frame)
+
+
+def dressed(frame, is_cleared, is_marked):
+    """The bytes with which a frame leaves."""
+    tos = type_of_service(frame)
+    return frame if tos is None else retagged(frame, (tos & 3 if is_cleared else tos) | (3 if is_marked else 0))
 
 
 def of_departures(link, rows, arrivals, departures):

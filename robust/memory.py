@@ -8,8 +8,8 @@ library, answers the n-th call of malloc, calloc or realloc that comes from the 
 memory. What the C library asks for itself, as before main, is not counted. Each n is tried twice: with that growth alone
 refused, and with each behind it as well.
 
-The cases are voice and data over HFSC, the manual's CBQ, RED and RIO with filters, a configuration with a fault at its end, a
-capture that is cut, and `check`. Each run has to end by no signal, and
+The cases are voice and data over HFSC, the manual's CBQ, RED and RIO with filters, the same with conditioners, a configuration with a
+fault at its end, a capture that is cut, and `check`. Each run has to end by no signal, and
 
   - with status 8, and `altqplay: out of memory` or nothing on standard output; then each output does not exist, as before,
     or is a front of what the run with ample memory leaves in it; or
@@ -63,6 +63,7 @@ filter if0 early name calls ruleno 3 10.0.0.0 netmask 255.0.0.0 5004 0 0 udp tos
 filter if0 marks 0 0 0 0 tcp
 filter6 if0 marks fe80::/10 0 0 0 58
 """
+MARKS = "conditioner if0 early srtcm 8M 1500 3000 1\nconditioner if0 assured trtcm 16M 3000 8M 1500 4\n"
 FAULT = "interface if0 bandwidth 8M hfsc\nclass hfsc if0 root NULL pshare 100\nclass hfsc if0 a root rt 1M 10 2M\n"
 MANY = "interface if0 bandwidth 8M hfsc\nclass hfsc if0 root NULL\n" + "".join(f"class hfsc if0 c{i} root pshare 1\n" for i in range(256))
 LONG = "interface if0 bandwidth 18446744073709551616 hfsc"
@@ -74,6 +75,8 @@ CASES = [
     Case("voice and data, the capture cut", VOICE, TALK, 1, "play"),
     Case("the manual's CBQ", CBQ, ["1x1500@0:tcp", "1x60@0:arp", "1x98@0:icmp", "200x1500@0:tcp"], 0, "play"),
     Case("RED, marks, limits and RIO", QUEUES, MIXED, 0, "play"),
+    Case("the same with conditioners", QUEUES + MARKS, MIXED, 0, "play"),
+    Case("the same with conditioners, the capture cut", QUEUES + MARKS, MIXED, 1, "play"),
     Case("a curve that is refused", FAULT, ["1x100@0"], 0, "play"),
     Case("one class too many", MANY, ["1x100@0"], 0, "play"),
     Case("a number that is too great", LONG, ["1x100@0"], 0, "play"),

@@ -25,7 +25,7 @@ FATES_HEAD = b"number,arrival,length,class,fate,start,end\n"
 
 CONFIGURATION_FAULTS = (
     "UnknownWord MissingWord BadNumber RateRange BadAddress BadByte TooLong InterfaceTwice NoInterface WrongDiscipline NameTaken NoParent "
-    "TwoRoots TooDeep TooManyClasses TooManyFilters TooManyInterfaces ConvexFirst NoShare RealTimeInside InnerQueue TwoDefaults NoDefault NoClass"
+    "TwoRoots TooDeep TooManyClasses TooManyFilters TooManyInterfaces ConvexFirst NoShare RealTimeInside InnerQueue TwoDefaults NoDefault NoClass ConditionerTwice"
 ).split()
 CAPTURE_FAULTS = (
     "ShortHead BadMagic BadVersion BadLink ShortRecord EmptyRecord LongRecord BadBlock ShortBlock UnknownInterface BadStamp BadResolution OldPacket"

@@ -22,8 +22,8 @@ LINK = bytes.fromhex("020000000002020000000001")
 CONFIGURATION = "--config conf --interface if0"
 GIVEN = "--arrivals in --departures out --fates fates"
 OTHERS = GIVEN + " --stats stats --seed 42"
-USUAL = {"check": CONFIGURATION, "verify": f"{CONFIGURATION} {GIVEN}"}
-NAMES = ("conf", "in", "out", "fates", "stats")
+USUAL = {"check": CONFIGURATION, "verify": f"{CONFIGURATION} {GIVEN}", "condition": f"{CONFIGURATION} --arrivals in --marked marked"}
+NAMES = ("conf", "in", "out", "fates", "stats", "marked")
 EDITS = ("bytes", "cut", "put")
 READ, WRITTEN = ("configuration", "arrivals", "departures", "fates"), {"departures": 1, "fates": 2, "statistics": 3, "arrivals": 4, "result": 10}
 
@@ -108,6 +108,8 @@ def kind_of(said, code):
         return int(last.startswith("exceeds"))
     if code == 6 and not last.startswith("altqplay"):
         return 10
+    if last.endswith("writing marked arrivals failed"):
+        return 5
     word = re.split(r"[ :]", last.removesuffix(" failed").removesuffix(" reached"))[-1]
     tables = {3: CONFIGURATION_FAULTS, 4: CAPTURE_FAULTS, 5: READ}
     if code in tables:
@@ -177,7 +179,9 @@ class Case:
     def packets(self, name, most=1 << 60):
         """The records of a capture in the words of an arrival."""
         data = self.get(name)
-        lines, rest, before = ["bytes " + data[:24].hex()], data[24:], None
+        if data is None:
+            return ["absent"]
+        lines, rest, before = ["bytes " + data[:24].hex()], data[24:], b""
         while len(rest) >= 16 and len(lines) <= int(most):
             second, nanosecond, captured, length = struct.unpack("<IIII", rest[:16])
             frame, rest = rest[16:16 + captured], rest[16 + captured:]

@@ -41,7 +41,7 @@ def main(argv):
         with tempfile.TemporaryDirectory(prefix="altqplay-why-") as folder:
             replay = random_plays.replayed(random.Random(f"{args.seed} {number}"), number, folder, args.program)
             counts.update([fate.fate for _row, fate in replay.question.rows] + ["marked"] * len(random_plays.marked(replay.play)))
-            found = random_plays.difference(replay, folder)
+            found = random_plays.difference(replay, folder, args.program)
             if found is None:
                 continue
             differing.append(number)

@@ -23,6 +23,7 @@ MODULES = {
     "why": "why",
     "sweep": "sweep",
     "gap": "gap",
+    "meter": "meter",
 }
 REFUSED, MISSING = 2, 77
 

@@ -5,6 +5,7 @@ from collections import namedtuple
 
 from .faults import Refused
 from .play import check
+from .rules.meters import rule_of
 
 CURVES = {"rt": "realtime", "ls": "share", "ul": "limit"}
 MILLISECOND = 10**6
@@ -17,7 +18,8 @@ Class = namedtuple("Class", "name parent realtime share limit is_default")
 
 class Interface:
     """The interface of a name: `bandwidth` in bits per second, `discipline`, `classes` by name in the file's order, `fit`, the line
-    of `check` on the real-time curves, and `lines`, the canonical lines of its classes, each as its words."""
+    of `check` on the real-time curves, `lines`, the canonical lines of its classes, each as its words, `meters`, the meters of its
+    conditioners by class, and `unmarked`, the canonical text without conditioners."""
 
     def __init__(self, text, name):
         own = next(words for words in map(str.split, text) if words[:2] == ["interface", name])
@@ -25,6 +27,8 @@ class Interface:
         self.fit = next((line for line in text if line == "fits" or line.startswith("exceeds ")), text[-1])
         self.lines = [words for words in map(str.split, text) if words[0] == "class" and words[2] == name]
         self.classes = {words[3]: class_of(words) for words in self.lines}
+        self.meters = {words[2]: rule_of(words[3:]) for words in map(str.split, text) if words[:2] == ["conditioner", name]}
+        self.unmarked = "".join(line + "\n" for line in text[:-1] if not line.startswith("conditioner "))
 
     def promised(self, name):
         """The real-time curve that holds of a class, which is not 0 everywhere; else None. The text has none of a class with children."""

@@ -9,6 +9,7 @@ from .captures import ETHERNET, records
 from .conf import Interface, read_conf
 from .faults import Refused
 from .journals import entry
+from .meter import marked_services
 from .rows import FATES_HEAD, Fate, lines
 from .rules.classes import classes_of
 from .rules.frames import is_capable, precedence, type_of_service
@@ -91,4 +92,6 @@ def question(args: Namespace) -> Question:
     if asks and args.arrivals is None:
         raise Refused(f"{args.config}: class {asks[0].name} has {asks[0].queue.rule}, which looks at each frame: name the capture with --arrivals")
     services = services_of(args.arrivals, rows) if args.arrivals else None
+    if services and interface.meters:
+        services = marked_services(interface, args.arrivals, services, args.program)
     return Question(args.fates, interface, rows, packets_of(args.fates, rows, interface, services), args.seed)

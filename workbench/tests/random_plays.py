@@ -10,6 +10,7 @@ from argparse import Namespace
 from conftest import classic, udp
 
 from altqplay_workbench.captures import records
+from altqplay_workbench.meter import marked_services
 from altqplay_workbench.play import play
 from altqplay_workbench.rules.frames import type_of_service
 from altqplay_workbench.why_inputs import question
@@ -54,6 +55,14 @@ def hfsc_words(chance, rate, is_leaf, has_limits):
     if has_limits and rate > 1000 and chance.random() < 0.5:
         words += f" ul {curve(chance, rate, 1000)}"
     return words + queue_words(chance)
+
+
+def meter_words(chance, rate):
+    """A meter of about the link's rate."""
+    slow, fast = sorted(min(10**12, max(1000, slope(chance, rate))) for _ in range(2))
+    one, other = (chance.choice([1, 60, 1000, 1500, 9000]) for _ in range(2))
+    meter = chance.choice([f"srtcm {slow} {one} {chance.choice([0, other])}", f"trtcm {fast} {other} {slow} {one}"])
+    return f"{meter} {chance.randrange(1, 5)}"
 
 
 def cbq_words(chance, rate):
@@ -110,6 +119,8 @@ def statements(chance):
         above = "NULL" if parent is None else f"c{parent}"
         lines.append(f"class {kind} if0 c{place} {above}{words}" + " default" * (place == default))
     lines += [f"filter if0 c{place} 0 {5000 + place} 0 0 17" for place in takers]
+    if chance.random() < 0.3:
+        lines += [f"conditioner if0 c{place} {meter_words(chance, rate)}" for place in takers if chance.random() < 0.5]
     return lines, rate, takers
 
 
@@ -181,12 +192,14 @@ def services(name):
     return [type_of_service(record.data) for record in records(name)]
 
 
-def difference(replay, folder):
+def difference(replay, folder, program=None):
     """What differs between a play in a folder and the rules, in words, or None: a fate, or the mark of a packet that leaves."""
     found = replay.otherwise
     if found is not None:
         return f"row {found.row}: {found.fate}; by the rules {found.ours}"
     came, left = (services(os.path.join(folder, name)) for name in ("a.pcap", "departures.pcap"))
+    if replay.question.interface.meters:
+        came = marked_services(replay.question.interface, os.path.join(folder, "a.pcap"), came, program)
     marks, sent = marked(replay.play), [fate.number for _row, fate in replay.question.rows if fate.start is not None]
     for number, service in zip(sent, left):
         own = came[number - 1]
