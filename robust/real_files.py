@@ -16,9 +16,10 @@ compares status, standard output and the form of standard error, and what each o
     nothing     it is no file, as a device
     other       anything else
 
-Each line of QUICK and DEMANDING is one such try, and names the row of the manual's table that says so; the rows are looked
-for there. What needs root, a mount, or a device that is not there is left out with a line. The exit status is 0 where all
-that was tried came out as stated, else 1, and 2 for other words.
+Two words with `or` between them are both right: which comes, the clock decides. Each line of QUICK and DEMANDING is one such
+try, and names the row of the manual's table that says so; the rows are looked for there. What needs root, a mount, or a device
+that is not there is left out with a line. The exit status is 0 where all that was tried came out as stated, else 1, and 2 for
+other words.
 """
 
 import contextlib
@@ -384,7 +385,7 @@ QUICK = [
     Try("fates on a full device", device, ("fates", "/dev/full"), 6, writing("fates"), ("head", "nothing", "empty")),
     Try("statistics on a full device", device, ("stats", "/dev/full"), 6, writing("stats"), ("whole", "whole", "nothing")),
     *[Try("an output into a named pipe that is read to its end", into_pipe, (which,), 0, "", WHOLE) for which in OUTPUTS],
-    Try("departures into a named pipe whose reader goes away", into_pipe, ("departures", 24), 6, writing("departures"), ("head", "head", "empty")),
+    Try("departures into a named pipe whose reader goes away", into_pipe, ("departures", 24), 6, writing("departures"), ("head", "head or front", "empty")),
     Try("4 open files at most, one of them the configuration", with_few_descriptors, (4,), 5, reading("arrivals"), UNTOUCHED),
     Try("5, 6 or 7 open files at most", with_few_descriptors, (5,), 6, writing("departures"), after_creation("departures")),
     Try("5, 6 or 7 open files at most", with_few_descriptors, (6,), 6, writing("fates"), after_creation("fates")),
@@ -451,7 +452,7 @@ def differences(room, one, found):
         told.append(f"{found.run.complaint!r} stands on standard error")
     for name, word in zip(OUTPUTS, one.holds):
         held = holding(name, found.outputs[name], room.whole[name], room.capture)
-        if held != word and (held, word) != ("nothing", "as before"):
+        if held not in word.split(" or ") and (held, word) != ("nothing", "as before"):
             told.append(f"{name}: {held} for {word}")
     return told
 
