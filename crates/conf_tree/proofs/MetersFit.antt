@@ -1,4 +1,4 @@
--- The meters of a configuration are within their ranges: a conditioner gives such a one, and nothing else gives a meter.
+-- The meters of a configuration are in their ranges: those that conditioners give, and there are no others.
 use Rattle.std.proofs.Common.{◌≡◌, ℕ, ◌≤◌, ◌&&◌, Bool, true, false, List, [], ◌∷◌, ◌++◌, All, map, drop, Option, Some, None, Result, Ok, Err, IfOk, is_some, not, slice_get, slice_set, unwrap_or, nat_le, leb-true, refl, subst, sym, arith}
 use Rattle.std.proofs.lemmas.Bool.{and_parts, cond_both}
 use Rattle.std.proofs.lemmas.List.Elements.{All-nil, All-append, All-map, All-set, All-get_or, All-weaker, All-from_recursion}

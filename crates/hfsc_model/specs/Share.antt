@@ -35,10 +35,6 @@ abbrev pub or_zero : Option ℕ → ℕ
 or_zero None = 0
 or_zero (Some x) = x
 
-abbrev pub last_at : List Opening → ℕ
-last_at [] = 0
-last_at (o ∷ os) = o.at
-
 abbrev pub reach : Option Curve → List Opening → ℕ → ℕ
 reach None os u = 0
 reach (Some s) os u = or_zero (deadline s os u)
@@ -87,7 +83,3 @@ activations cs (Sent d len real start ∷ h) c = activations cs h c
 
 abbrev pub virtual_time : List HfscClass → HfscHistory → ℕ → ℕ
 virtual_time cs h c = virtual_time_of (class_of cs c).share (activations cs h c) (total cs h c)
-
--- the greatest virtual time that a child of p has had; virtual times never fall
-abbrev pub high_mark : List HfscClass → HfscHistory → ℕ → ℕ
-high_mark cs h p = greatest (map (virtual_time cs h) (filter (is_child cs p) (numbers cs)))

@@ -21,7 +21,7 @@ use Rattle.marked_files.specs.declared.record_head.RecordHead.{RecordHead}
 use Rattle.marked_files.specs.declared.stage.Stage.{Stage}
 use Rattle.marked_files.specs.declared.stage.Stage.TheVariants.{Start, Records, Rest}
 
--- of the bytes of a capture, so many are its head and these complete records: none where the head fails a test
+-- the length of a capture's head and of these complete records; none where the head fails a test
 abbrev pub whole_end : Header → List Record → ℕ
 whole_end (Formed form) records = place_after 24 records
 whole_end (Unformed fault) records = 0
