@@ -50,7 +50,9 @@ pub fn judge(
         Err(RowFault::NoMemory) => return Err(Unverified::NoMemory),
     };
     let classify = Classifier::build(alloc, interface)?;
-    let packets = arrived(alloc, &classify, records)?;
+    let Ok(packets) = arrived(alloc, &classify, records) else {
+        return Err(Unverified::NoMemory);
+    };
     if let Err(why) = judge_rows(alloc, interface, &packets, &rows) {
         return Err(why);
     }

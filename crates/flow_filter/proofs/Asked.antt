@@ -2,20 +2,37 @@
 use Rattle.std.proofs.Common.{◌≡◌, ◌⊎◌, inl, inr, ⊎_elim, ℕ, ◌<◌, ◌≤◌, ◌==◌, min, Bool, true, false, ◌&&◌, ◌||◌, List, length, get_or, Option, Some, None, refl, arith, sym, ◌∙◌, ap, subst}
 use Rattle.std.specs.Prelude.{Contains, option_and_then, slice_get}
 use Rattle.std.specs.Option.{option_map_or, IfSome}
-use Rattle.std.proofs.lemmas.Bool.{cases_lt}
+use Rattle.std.proofs.lemmas.Bool.{and_parts, cases_lt}
 use Rattle.std.proofs.lemmas.Bool.Decides.{nat_tests}
 use Rattle.std.proofs.lemmas.List.{get_or_default}
 use Rattle.std.proofs.lemmas.Option.{slice_get-get_or, slice_get_within, get_or_from_slice_get}
+use Rattle.conf_tree.specs.declared.filter.Addresses.{Addresses}
+use Rattle.conf_tree.specs.declared.filter.Addresses.TheVariants as own
 use Rattle.conf_tree.specs.declared.filter.Filter.{Filter}
-use Rattle.packet_heads.specs.Flow.{Flow, V4, V6, Other}
+use Rattle.packet_heads.specs.Flow.{Flow, Heads, V4, V6, Other}
 use Rattle.flow_filter.specs.declared.ports.Filed.{Filed}
+use Rattle.flow_filter.specs.declared.entries.Entries.{Entries}
+use Rattle.flow_filter.specs.declared.entries.Entries.TheVariants as entries
+use Rattle.flow_filter.specs.declared.numbers.Numbers.{Numbers}
+use Rattle.flow_filter.specs.declared.numbers.Numbers.TheVariants as numbers
+use Rattle.flow_filter.specs.declared.numbers.Numbers4.{Numbers4}
+use Rattle.flow_filter.specs.declared.numbers.Numbers6.{Numbers6}
+use Rattle.flow_filter.specs.declared.ports.Group.{Group}
 use Rattle.flow_filter.specs.declared.ports.Side.{Side}
+use Rattle.flow_filter.specs.declared.ports.Version.{Version}
+use Rattle.flow_filter.specs.declared.ports.Version.TheVariants as version
+use Rattle.flow_filter.specs.declared.sides.Sides.{Sides}
+use Rattle.flow_filter.specs.declared.table.Table.{Table}
 use Rattle.flow_filter.specs.declared.ports.Side.TheVariants.{Target, Source}
 use Rattle.flow_filter.specs.declared.index.Index.{Index}
-use Rattle.flow_filter.specs.Filed.{IsAtMost, port_on}
+use Rattle.flow_filter.specs.Entries.{fits_at, of_version}
+use Rattle.flow_filter.specs.Filed.{IsAtMost, port_among, port_in, port_on, version_of}
 use Rattle.flow_filter.specs.Index.{Indexes, least}
-use Rattle.flow_filter.specs.Matches.{matches, ports_agree, ports_of}
+use Rattle.flow_filter.specs.Matches.{addresses_agree_4, addresses_agree_6, matches, ports_agree, ports_of, rest_agrees}
+use Rattle.flow_filter.specs.Numbers.{AreNumbersOf, ports_in}
 use Rattle.flow_filter.specs.Ranked.{IsRanked, filter_at, matches_at, ruleno_at}
+use Rattle.flow_filter.specs.Search.{IsFirst, IsFirstUnder}
+use Rattle.flow_filter.specs.Tables.{AreSides, IsTable}
 use Rattle.flow_filter.specs.Winner.{matching, winner}
 use Rattle.flow_filter.proofs.Best.{best_is}
 use Rattle.flow_filter.proofs.Places.{Leads, leads_is, leads_or_none, none_left}
@@ -46,18 +63,10 @@ pub filter_of : (filters : List Filter) (places : List ℕ) (flow : Flow) (rank 
     → filter_at filters places rank ≡ Some a.asked
 filter_of filters places flow rank a = ap (λ o. option_and_then (λ place. slice_get filters place) o) a.at_rank ∙ a.at_place
 
--- one that matches is filed under a port of the flow, or under none
-second : (a b : Bool) → (a && b) ≡ true → b ≡ true
-second true b h = h
-second false b h = cc
-
-first_part : (a b : Bool) → (a && b) ≡ true → a ≡ true
-first_part true b h = refl
-first_part false b h = h
-
+-- the tests of one that matches
 agree_on_ports : (f : Filter) (flow : Flow) → matches f flow ≡ true → ports_agree f (ports_of flow) ≡ true
-agree_on_ports f (V4 heads) h = first_part _ _ (first_part _ _ (second _ _ h))
-agree_on_ports f (V6 heads) h = first_part _ _ (first_part _ _ (second _ _ h))
+agree_on_ports f (V4 heads) h = (and_parts _ _ (and_parts _ _ (and_parts _ _ h).1).0).0
+agree_on_ports f (V6 heads) h = (and_parts _ _ (and_parts _ _ (and_parts _ _ h).1).0).0
 agree_on_ports f Other h = cc
 
 is_zero : (n : ℕ) → (n == 0) ≡ true → n ≡ 0
@@ -75,7 +84,8 @@ target_at_some f h = rw h refl
 
 pub under_none : (f : Filter) → ports_agree f None ≡ true → port_on Source f ≡ Some 0
 under_none f h =
-    source_at_none f (second (f.source_port == 0) (f.target_port == 0) h) ∙ ap Some (is_zero f.source_port (first_part (f.source_port == 0) (f.target_port == 0) h))
+    let parts = and_parts (f.source_port == 0) (f.target_port == 0) h in
+    source_at_none f parts.1 ∙ ap Some (is_zero f.source_port parts.0)
 
 by_tests : (f : Filter) (s t : ℕ) (tz sz : Bool) → (f.target_port == 0) ≡ tz → (f.source_port == 0) ≡ sz
     → (sz || (f.source_port == s)) ≡ true → (tz || (f.target_port == t)) ≡ true
@@ -86,11 +96,37 @@ by_tests f s t true false et es hs ht = inr (inl (source_at_none f et ∙ ap Som
 
 pub under_ports : (f : Filter) (s t : ℕ) → ports_agree f (Some (s, t)) ≡ true
     → (port_on Source f ≡ Some 0) ⊎ ((port_on Source f ≡ Some s) ⊎ (port_on Target f ≡ Some t))
-under_ports f s t h = by_tests f s t (f.target_port == 0) (f.source_port == 0) refl refl (first_part _ _ h) (second _ _ h)
+under_ports f s t h = by_tests f s t (f.target_port == 0) (f.source_port == 0) refl refl (and_parts _ _ h).0 (and_parts _ _ h).1
 
-filed : (filters : List Filter) (places : List ℕ) (flow : Flow) (side : Side) (rank port : ℕ) (a : Asked filters places flow rank)
-    → port_on side a.asked ≡ Some port → option_and_then (port_on side) (filter_at filters places rank) ≡ Some port
-filed filters places flow side rank port a on = ap (option_and_then (port_on side)) (filter_of filters places flow rank a) ∙ on
+-- one that matches is of the flow's version, and filed there
+by_addresses_4 : (a : Addresses) (source target : List ℕ) (b : Bool) → (addresses_agree_4 a source target && b) ≡ true → version_of a ≡ version.V4
+by_addresses_4 (own.V4 t tm s sm) source target b h = refl
+by_addresses_4 (own.V6 t tl s sl) source target b h = cc
+
+by_addresses_6 : (a : Addresses) (source target : List ℕ) (b : Bool) → (addresses_agree_6 a source target && b) ≡ true → version_of a ≡ version.V6
+by_addresses_6 (own.V4 t tm s sm) source target b h = cc
+by_addresses_6 (own.V6 t tl s sl) source target b h = refl
+
+of_its_version : (f : Filter) (v : Version) (heads : Heads) → matches f (of_version v heads) ≡ true → version_of f.addresses ≡ v
+of_its_version f version.V4 heads h = by_addresses_4 f.addresses heads.source heads.target (rest_agrees f heads.tos heads.protocol heads.ports) h
+of_its_version f version.V6 heads h = by_addresses_6 f.addresses heads.source heads.target (rest_agrees f heads.tos heads.protocol heads.ports) h
+
+among_same : (v : Version) (port : Option ℕ) → port_among v v port ≡ port
+among_same version.V4 port = refl
+among_same version.V6 port = refl
+
+filed : (filters : List Filter) (places : List ℕ) (v : Version) (side : Side) (heads : Heads) (rank port : ℕ) (a : Asked filters places (of_version v heads) rank)
+    → port_on side a.asked ≡ Some port → option_and_then (port_in (record { version = v; side = side })) (filter_at filters places rank) ≡ Some port
+filed filters places v side heads rank port a on =
+    let group : Group = record { version = v; side = side } in
+    ap (option_and_then (port_in group)) (filter_of filters places (of_version v heads) rank a)
+    ∙ ap (λ (w : Version). port_among v w (port_on side a.asked)) (of_its_version a.asked v heads a.agrees)
+    ∙ among_same v (port_on side a.asked) ∙ on
+
+on_one_side : (f : Filter) (b : Bool) → (f.target_port == 0) ≡ b
+    → ((port : ℕ) × (port_on Target f ≡ Some port)) ⊎ ((port : ℕ) × (port_on Source f ≡ Some port))
+on_one_side f true e = inr (f.source_port, source_at_none f e)
+on_one_side f false e = inl (f.target_port, target_at_some f e)
 
 -- the least of two numbers is at most what either is
 at_most_first : (a b : Option ℕ) (rank : ℕ) → IsAtMost a rank → IsAtMost (least a b) rank
@@ -103,37 +139,6 @@ at_most_second None b rank h = h
 at_most_second (Some x) None rank h = absurd h
 at_most_second (Some x) (Some y) rank h = omega arith
 
--- the first of those filed under a port
-abbrev pub IsFirstOf : List Filter → List ℕ → Flow → List Filed → (port : ℕ) → Option ℕ → Type 0
-IsFirstOf filters places flow entries port found =
-    (rank : ℕ) → Contains entries (record { port = port; rank = rank }) → matches_at filters places flow rank ≡ true → IsAtMost found rank
-
-abbrev pub IsFirstOfAll : List Filter → List ℕ → Flow → Option ℕ → Type 0
-IsFirstOfAll filters places flow found = (rank : ℕ) → matches_at filters places flow rank ≡ true → IsAtMost found rank
-
-pub first_without_ports : (filters : List Filter) (index : Index) (flow : Flow) (any : Option ℕ) → Indexes filters index → ports_of flow ≡ None
-    → IsFirstOf filters index.places.items flow index.by_source.items 0 any → IsFirstOfAll filters index.places.items flow any
-first_without_ports filters index flow any i none first = λ rank h.
-    let places = index.places.items in
-    let a = asked_at filters places flow rank h in
-    let agree : ports_agree a.asked None ≡ true = ap (ports_agree a.asked) (sym none) ∙ agree_on_ports a.asked flow a.agrees in
-    first rank (i.sources rank 0 (filed filters places flow Source rank 0 a (under_none a.asked agree))) h
-
-pub first_with_ports : (filters : List Filter) (index : Index) (flow : Flow) (s t : ℕ) (any of_source of_target : Option ℕ) → Indexes filters index
-    → ports_of flow ≡ Some (s, t) → IsFirstOf filters index.places.items flow index.by_source.items 0 any
-    → IsFirstOf filters index.places.items flow index.by_source.items s of_source
-    → IsFirstOf filters index.places.items flow index.by_target.items t of_target
-    → IsFirstOfAll filters index.places.items flow (least any (least of_source of_target))
-first_with_ports filters index flow s t any of_source of_target i some first by_source by_target = λ rank h.
-    let places = index.places.items in
-    let a = asked_at filters places flow rank h in
-    let agree : ports_agree a.asked (Some (s, t)) ≡ true = ap (ports_agree a.asked) (sym some) ∙ agree_on_ports a.asked flow a.agrees in
-    ⊎_elim (λ on. at_most_first any (least of_source of_target) rank (first rank (i.sources rank 0 (filed filters places flow Source rank 0 a on)) h))
-    (λ on. at_most_second any (least of_source of_target) rank
-    (⊎_elim (λ on. at_most_first of_source of_target rank (by_source rank (i.sources rank s (filed filters places flow Source rank s a on)) h))
-    (λ on. at_most_second of_source of_target rank (by_target rank (i.targets rank t (filed filters places flow Target rank t a on)) h)) on))
-    (under_ports a.asked s t agree)
-
 either_of : (P : ℕ → Type 0) (x y : ℕ) → P x → P y → P (min x y)
 either_of P x y h k = ⊎_elim (λ less. let e : x ≡ min x y = omega arith in subst P e h) (λ least. let e : y ≡ min x y = omega arith in subst P e k) (cases_lt x y)
 
@@ -141,6 +146,106 @@ pub least_is_one : (P : ℕ → Type 0) (a b : Option ℕ) → IfSome a P → If
 least_is_one P None b h k = k
 least_is_one P (Some x) None h k = h
 least_is_one P (Some x) (Some y) h k = either_of P x y h k
+
+-- no entry takes a flow that has no numbers
+taken_by_none : {X : Type 0} (o : Option X) → option_map_or (λ x. false) o false ≡ false
+taken_by_none None = refl
+taken_by_none (Some x) = refl
+
+none_fits : (entries : Entries) (k : ℕ) → fits_at entries None k ≡ false
+none_fits (entries.V4 xs) k = taken_by_none (slice_get xs.items k)
+none_fits (entries.V6 xs) k = taken_by_none (slice_get xs.items k)
+
+module _ (v : Version) (filters : List Filter) (places : List ℕ) (heads : Heads) (sides : Sides) (i : AreSides v filters places sides) where
+  abbrev test : ℕ → Bool
+  test = matches_at filters places (of_version v heads)
+
+  pub first_without_ports : (any : Option ℕ) → ports_of (of_version v heads) ≡ None
+      → IsFirstUnder sides.by_source.filed.items 0 test any → IsFirst test any
+  first_without_ports any none found = record {
+    agrees = found.agrees;
+    first = λ rank h.
+        let a = asked_at filters places (of_version v heads) rank h in
+        let agree : ports_agree a.asked None ≡ true = ap (ports_agree a.asked) (sym none) ∙ agree_on_ports a.asked (of_version v heads) a.agrees in
+        found.first rank (i.sources.all rank 0 (filed filters places v Source heads rank 0 a (under_none a.asked agree))) h;
+  }
+
+  pub first_with_ports : (s t : ℕ) (any of_source of_target : Option ℕ) → ports_of (of_version v heads) ≡ Some (s, t)
+      → IsFirstUnder sides.by_source.filed.items 0 test any → IsFirstUnder sides.by_source.filed.items s test of_source
+      → IsFirstUnder sides.by_target.filed.items t test of_target → IsFirst test (least any (least of_source of_target))
+  first_with_ports s t any of_source of_target some first by_source by_target = record {
+    agrees = least_is_one (λ rank. test rank ≡ true) any (least of_source of_target) first.agrees
+        (least_is_one (λ rank. test rank ≡ true) of_source of_target by_source.agrees by_target.agrees);
+    first = λ rank h.
+        let a = asked_at filters places (of_version v heads) rank h in
+        let agree : ports_agree a.asked (Some (s, t)) ≡ true = ap (ports_agree a.asked) (sym some) ∙ agree_on_ports a.asked (of_version v heads) a.agrees in
+        ⊎_elim (λ on. at_most_first any (least of_source of_target) rank (first.first rank (i.sources.all rank 0 (filed filters places v Source heads rank 0 a on)) h))
+        (λ on. at_most_second any (least of_source of_target) rank
+        (⊎_elim (λ on. at_most_first of_source of_target rank (by_source.first rank (i.sources.all rank s (filed filters places v Source heads rank s a on)) h))
+        (λ on. at_most_second of_source of_target rank (by_target.first rank (i.targets.all rank t (filed filters places v Target heads rank t a on)) h)) on))
+        (under_ports a.asked s t agree);
+  }
+
+  -- a flow that has no numbers matches none
+  in_no_table : (group : Group) (table : Table) → group.version ≡ v → IsTable group filters places table → AreNumbersOf (of_version v heads) None
+      → (rank port : ℕ) → Contains table.filed.items (record { port = port; rank = rank }) → test rank ≡ true → ⊥
+  in_no_table group table same t none rank port holds h =
+      let it : Filed = record { port = port; rank = rank } in
+      let P : Version → Type 0 = λ w. AreNumbersOf (of_version w heads) None in
+      let Q : Version → Type 0 = λ w. fits_at table.entries None holds.0 ≡ matches_at filters places (of_version w heads) (get_or table.filed.items holds.0 it).rank in
+      let fails : fits_at table.entries None holds.0 ≡ test (get_or table.filed.items holds.0 it).rank =
+      subst Q same (t.stand holds.0 it holds.1 heads None (subst P (sym same) none)) in
+      let never = none_fits table.entries holds.0 in
+      let at = ap (λ (e : Filed). test e.rank) holds.2 in
+      cc
+
+  pub none_without_numbers : AreNumbersOf (of_version v heads) None → IsFirst test None
+  none_without_numbers none = record {
+    agrees = tt;
+    first = λ rank h.
+        let a = asked_at filters places (of_version v heads) rank h in
+        ⊎_elim (λ on. in_no_table (record { version = v; side = Target }) sides.by_target refl i.targets none rank on.0 (i.targets.all rank on.0 (filed filters places v Target heads rank on.0 a on.1)) h)
+        (λ on. in_no_table (record { version = v; side = Source }) sides.by_source refl i.sources none rank on.0 (i.sources.all rank on.0 (filed filters places v Source heads rank on.0 a on.1)) h)
+        (on_one_side a.asked (a.asked.target_port == 0) refl);
+  }
+
+-- a flow in numbers has the ports of the flow
+pub ports_are : (flow : Flow) (n : Numbers) → AreNumbersOf flow (Some n) → ports_in n ≡ ports_of flow
+ports_are (V4 heads) (numbers.V4 n) is = is.ports
+ports_are (V4 heads) (numbers.V6 n) is = absurd is
+ports_are (V6 heads) (numbers.V4 n) is = absurd is
+ports_are (V6 heads) (numbers.V6 n) is = is.ports
+ports_are Other n is = cc
+
+-- what searches the sides of one version finds, for a flow in numbers of that version
+abbrev pub FindsFirst : Sides → Numbers → (found : Option ℕ) → Type 0
+FindsFirst sides n found =
+    (v : Version) (filters : List Filter) (places : List ℕ) (heads : Heads) → AreSides v filters places sides → AreNumbersOf (of_version v heads) (Some n)
+    → IsFirst (matches_at filters places (of_version v heads)) found
+
+module _ (filters : List Filter) (places : List ℕ) (sides : Sides) (found : Option ℕ) where
+  pub by_version_4 : (flow : Flow) (n : Numbers) (m : Numbers4) → n ≡ numbers.V4 m → AreNumbersOf flow (Some n) → AreSides version.V4 filters places sides
+      → FindsFirst sides n found → IsFirst (matches_at filters places flow) found
+  by_version_4 (V4 heads) n m e is s finds = finds version.V4 filters places heads s is
+  by_version_4 (V6 heads) (numbers.V4 n) m e is s finds = absurd is
+  by_version_4 (V6 heads) (numbers.V6 n) m e is s finds = cc
+  by_version_4 Other n m e is s finds = cc
+
+  pub by_version_6 : (flow : Flow) (n : Numbers) (m : Numbers6) → n ≡ numbers.V6 m → AreNumbersOf flow (Some n) → AreSides version.V6 filters places sides
+      → FindsFirst sides n found → IsFirst (matches_at filters places flow) found
+  by_version_6 (V4 heads) (numbers.V4 n) m e is s finds = cc
+  by_version_6 (V4 heads) (numbers.V6 n) m e is s finds = absurd is
+  by_version_6 (V6 heads) n m e is s finds = finds version.V6 filters places heads s is
+  by_version_6 Other n m e is s finds = cc
+
+pub without_numbers : (filters : List Filter) (index : Index) (flow : Flow) → Indexes filters index → AreNumbersOf flow None
+    → IsFirst (matches_at filters index.places.items flow) None
+without_numbers filters index (V4 heads) i none = none_without_numbers version.V4 filters index.places.items heads index.four i.four none
+without_numbers filters index (V6 heads) i none = none_without_numbers version.V6 filters index.places.items heads index.six i.six none
+without_numbers filters index Other i none = record {
+  agrees = tt;
+  first = λ rank h. let a = asked_at filters index.places.items Other rank h in let never = a.agrees in cc;
+}
 
 -- it is the one that wins
 ruleno_is : (filters : List Filter) (place : ℕ) (f : Filter) → slice_get filters place ≡ Some f → ruleno_at filters place ≡ f.ruleno
@@ -160,7 +265,7 @@ matches_as filters places flow rank place f within at e h =
     ∙ ap (λ o. option_map_or (λ g. matches g flow) o false) e ∙ h
 
 leads : (filters : List Filter) (places : List ℕ) (flow : Flow) (rank : ℕ) → IsRanked filters places → (a : Asked filters places flow rank)
-    → IsFirstOfAll filters places flow (Some rank) → Leads (λ g. g.ruleno) (λ g. matches g flow) filters a.place a.asked
+    → IsFirst (matches_at filters places flow) (Some rank) → Leads (λ g. g.ruleno) (λ g. matches g flow) filters a.place a.asked
 leads filters places flow rank r a first =
     let own : get_or places rank 0 ≡ a.place = get_or_from_slice_get places rank a.place 0 a.at_rank in
     let own_number = ruleno_is filters a.place a.asked a.at_place in
@@ -170,14 +275,14 @@ leads filters places flow rank r a first =
       passes = a.agrees;
       greatest = λ i g at agrees.
           let w = rank_of filters places i g r at in
-          let behind : rank ≤ w.0 = first w.0 (matches_as filters places flow w.0 i g w.1 w.2 at agrees) in
+          let behind : rank ≤ w.0 = first.first w.0 (matches_as filters places flow w.0 i g w.1 w.2 at agrees) in
           let falls = r.falls rank w.0 behind w.1 in
           let other = ruleno_is filters i g at in
           let other_number = ap (ruleno_at filters) w.2 in
           omega arith;
       first = λ i g before at agrees.
           let w = rank_of filters places i g r at in
-          let behind : rank ≤ w.0 = first w.0 (matches_as filters places flow w.0 i g w.1 w.2 at agrees) in
+          let behind : rank ≤ w.0 = first.first w.0 (matches_as filters places flow w.0 i g w.1 w.2 at agrees) in
           let falls = r.falls rank w.0 behind w.1 in
           let ties = r.ties rank w.0 behind w.1 in
           let other = ruleno_is filters i g at in
@@ -191,20 +296,20 @@ leads filters places flow rank r a first =
     }
 
 pub wins : (filters : List Filter) (places : List ℕ) (flow : Flow) (rank : ℕ) → IsRanked filters places → matches_at filters places flow rank ≡ true
-    → IsFirstOfAll filters places flow (Some rank) → filter_at filters places rank ≡ winner (matching filters flow)
+    → IsFirst (matches_at filters places flow) (Some rank) → filter_at filters places rank ≡ winner (matching filters flow)
 wins filters places flow rank r h first =
     let a = asked_at filters places flow rank h in
     filter_of filters places flow rank a
     ∙ sym (best_is (λ g. g.ruleno) (matching filters flow) a.asked
     (leads_is (λ g. g.ruleno) (λ g. matches g flow) filters a.place a.asked (leads filters places flow rank r a first)))
 
-none_leads : (filters : List Filter) (places : List ℕ) (flow : Flow) → IsRanked filters places → IsFirstOfAll filters places flow None
+none_leads : (filters : List Filter) (places : List ℕ) (flow : Flow) → IsRanked filters places → IsFirst (matches_at filters places flow) None
     → (place : ℕ) (f : Filter) → Leads (λ g. g.ruleno) (λ g. matches g flow) filters place f → ⊥
 none_leads filters places flow r first place f l =
     let w = rank_of filters places place f r l.stands in
-    first w.0 (matches_as filters places flow w.0 place f w.1 w.2 l.stands l.passes)
+    first.first w.0 (matches_as filters places flow w.0 place f w.1 w.2 l.stands l.passes)
 
-pub none_wins : (filters : List Filter) (places : List ℕ) (flow : Flow) → IsRanked filters places → IsFirstOfAll filters places flow None
+pub none_wins : (filters : List Filter) (places : List ℕ) (flow : Flow) → IsRanked filters places → IsFirst (matches_at filters places flow) None
     → None ≡ winner (matching filters flow)
 none_wins filters places flow r first =
     ⊎_elim (λ w. absurd (none_leads filters places flow r first w.0 w.1 w.2))

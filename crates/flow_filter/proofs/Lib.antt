@@ -1,10 +1,12 @@
-pub mod AddressSteps
 pub mod Asked
 pub mod Best
+pub mod EntryLemmas
+pub mod EntrySearch
 pub mod Everywhere
 pub mod Filings
 pub mod Found
 pub mod Frames
+pub mod NumberLemmas
 pub mod Places
 pub mod Ranks
-pub mod Scans
+pub mod Stretches

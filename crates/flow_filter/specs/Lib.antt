@@ -3,6 +3,10 @@ pub mod Rules
 pub mod Winner
 pub mod Laws
 pub mod Ranked
+pub mod Numbers
+pub mod Entries
 pub mod Filed
+pub mod Search
+pub mod Tables
 pub mod Index
 pub mod Rows

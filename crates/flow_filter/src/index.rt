@@ -1,24 +1,28 @@
-//! Where the filters of a port stand among all.
-ghost use Rattle.std.specs.Prelude.{◌≡◌, ℕ, IfOk, IfSome, true, option_copied};
-ghost use Rattle.flow_filter.specs.Filed.{IsAtMost};
-ghost use Rattle.flow_filter.specs.Index.{Indexes, least};
-ghost use Rattle.flow_filter.specs.Matches.{ports_of};
+//! Where the filters of a version and a port stand among all.
+ghost use Rattle.std.specs.Prelude.{List, IfOk, Some};
+ghost use Rattle.conf_tree.specs.declared.filter.Filter.{Filter};
+ghost use Rattle.flow_filter.specs.Index.{Indexes};
+ghost use Rattle.flow_filter.specs.Numbers.{AreNumbersOf};
 ghost use Rattle.flow_filter.specs.Ranked.{matches_at};
+ghost use Rattle.flow_filter.specs.Search.{IsFirst};
+ghost use Rattle.packet_heads.specs.Flow.{Flow};
 ghost use Rattle.packet_heads.specs.Heads.{flow_of};
 
-use crate::ports::{Filed, Side, filed_by_port, first_under};
+use crate::numbers::{Numbers, numbers_of};
+use crate::ports::Version;
 use crate::ranking::ranked;
+use crate::sides::Sides;
 use conf_tree::Filter;
 use packet_heads::FlowHeads;
 use play_base::NoMemory;
 use std::alloc::Global;
 
-/// The order in which filters are asked, and those of each port in it.
+/// The order in which filters are asked, and those of each version and port in it.
 #[derive(Debug, Drop)]
 pub struct Index {
     pub places: Vec<u32>,
-    pub by_target: Vec<Filed>,
-    pub by_source: Vec<Filed>,
+    pub four: Sides,
+    pub six: Sides,
 }
 
 impl Index {
@@ -27,52 +31,30 @@ impl Index {
         ensures { IfOk result (Indexes filters.now) }
     {
         let places = ranked(alloc, filters)?;
-        let by_target = filed_by_port(alloc, Side::Target, filters, places.as_slice())?;
-        let by_source = filed_by_port(alloc, Side::Source, filters, places.as_slice())?;
-        Ok(Index {
-            places,
-            by_target,
-            by_source,
-        })
+        let four = Sides::build(alloc, Version::V4, filters, places.as_slice())?;
+        let six = Sides::build(alloc, Version::V6, filters, places.as_slice())?;
+        Ok(Index { places, four, six })
     }
 
     /// The number of the first filter that matches a flow, in the order in which they are asked.
-    pub(crate) fn first(&self, filters: &[Filter], heads: &FlowHeads) -> Option<u32>
-        requires { Indexes filters.now self.now }
-        ensures agrees { IfSome result (λ rank. matches_at filters.now self.now.places.items (flow_of heads.now) rank ≡ true) }
-        ensures first { (rank : ℕ) → matches_at filters.now self.now.places.items (flow_of heads.now) rank ≡ true → IsAtMost result rank }
+    pub(crate) fn first(&self, heads: &FlowHeads) -> Option<u32>
+        ensures { (filters : List Filter) → Indexes filters self.now
+            → IsFirst (matches_at filters self.now.places.items (flow_of heads.now)) result }
     {
-        let places = self.places.as_slice();
-        let by_source = self.by_source.as_slice();
-        let any = first_under(by_source, 0, filters, places, heads);
-        let Some((source, target)) = ports_of(heads) else {
-            return any;
-        };
-        let of_source = first_under(by_source, source, filters, places, heads);
-        let by_target = self.by_target.as_slice();
-        let of_target = first_under(by_target, target, filters, places, heads);
-        least(any, least(of_source, of_target))
+        match numbers_of(heads) {
+            Some(numbers) => self.first_of(&numbers),
+            None => None,
+        }
     }
-}
 
-/// The ports of a flow, the source's first.
-fn ports_of(heads: &FlowHeads) -> Option<(u16, u16)>
-    ensures { result ≡ ports_of (flow_of heads.now) }
-{
-    match heads {
-        FlowHeads::V4 { ports, .. } => *ports,
-        FlowHeads::V6 { ports, .. } => *ports,
-        FlowHeads::Other => None,
-    }
-}
-
-/// The lesser of two numbers that may be there.
-fn least(a: Option<u32>, b: Option<u32>) -> Option<u32>
-    ensures { result ≡ least a b }
-{
-    match (a, b) {
-        (Some(a), Some(b)) => Some(a.min(b)),
-        (Some(a), None) => Some(a),
-        (None, b) => b,
+    /// The same for a flow in numbers.
+    fn first_of(&self, numbers: &Numbers) -> Option<u32>
+        ensures { (filters : List Filter) (flow : Flow) → Indexes filters self.now → AreNumbersOf flow (Some numbers.now)
+            → IsFirst (matches_at filters self.now.places.items flow) result }
+    {
+        match numbers {
+            Numbers::V4(_) => self.four.first(numbers),
+            Numbers::V6(_) => self.six.first(numbers),
+        }
     }
 }

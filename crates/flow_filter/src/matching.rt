@@ -1,143 +1,57 @@
-//! Whether a filter matches a flow.
-ghost use Rattle.std.specs.Prelude.{◌≡◌, ◌≤◌};
-ghost use Rattle.conf_tree.specs.Masks.{upper};
-ghost use Rattle.flow_filter.specs.Matches.{addresses_agree_4, addresses_agree_6, agrees_under, agrees_within, is_none_or, matches, ports_agree, rest_agrees, tos_agrees};
-ghost use Rattle.packet_heads.specs.Heads.{flow_of};
+//! Whether a filter in numbers matches a flow in numbers.
+ghost use Rattle.std.specs.Prelude.{◌≡◌};
+ghost use Rattle.flow_filter.specs.Entries.{fits_4, fits_6, ports_fit, rest_fits};
+ghost use Rattle.flow_filter.specs.Matches.{is_none_or, tos_agrees};
 
-use conf_tree::{Addresses, Filter};
-use packet_heads::FlowHeads;
+use crate::entry::{Entry4, Entry6, Rest};
+use crate::numbers::{Numbers4, Numbers6};
 
-/// Whether a filter matches a flow.
-pub(crate) fn matches(filter: &Filter, heads: &FlowHeads) -> bool
-    ensures { result ≡ matches filter.now (flow_of heads.now) }
+/// Whether an entry fits a flow of IPv4. What tells most flows apart is compared first.
+#[inline]
+pub(crate) fn fits_4(entry: &Entry4, flow: &Numbers4) -> bool
+    ensures { result ≡ fits_4 entry.now flow.now }
 {
-    match heads {
-        FlowHeads::V4 {
-            tos,
-            protocol,
-            source,
-            target,
-            ports,
-        } => {
-            addresses_agree_4(&filter.addresses, source, target)
-                && rest_agrees(filter, *tos, *protocol, *ports)
-        }
-        FlowHeads::V6 {
-            tos,
-            protocol,
-            source,
-            target,
-            ports,
-        } => {
-            addresses_agree_6(&filter.addresses, source, target)
-                && rest_agrees(filter, *tos, *protocol, *ports)
-        }
-        FlowHeads::Other => false,
-    }
+    is_none_or(u16::from(entry.rest.protocol), u16::from(flow.protocol))
+        && flow.target & entry.target_mask == entry.target
+        && flow.source & entry.source_mask == entry.source
+        && rest_fits(&entry.rest, flow.tos, flow.ports)
 }
 
-/// Whether both addresses of a flow of IPv4 agree with a filter's.
-fn addresses_agree_4(own: &Addresses, source: &[u8], target: &[u8]) -> bool
-    ensures { result ≡ addresses_agree_4 own.now source.now target.now }
+/// Whether an entry fits a flow of IPv6.
+#[inline]
+pub(crate) fn fits_6(entry: &Entry6, flow: &Numbers6) -> bool
+    ensures { result ≡ fits_6 entry.now flow.now }
 {
-    match own {
-        Addresses::V4 {
-            target: own_target,
-            target_mask,
-            source: own_source,
-            source_mask,
-        } => {
-            agrees_under(target_mask, own_target, target)
-                && agrees_under(source_mask, own_source, source)
-        }
-        Addresses::V6 { .. } => false,
-    }
+    is_none_or(u16::from(entry.rest.protocol), u16::from(flow.protocol))
+        && flow.target & entry.target_mask == entry.target
+        && flow.source & entry.source_mask == entry.source
+        && rest_fits(&entry.rest, flow.tos, flow.ports)
 }
 
-/// Whether both addresses of a flow of IPv6 agree with a filter's.
-fn addresses_agree_6(own: &Addresses, source: &[u8], target: &[u8]) -> bool
-    ensures { result ≡ addresses_agree_6 own.now source.now target.now }
+/// Whether the ports and the type of service fit.
+fn rest_fits(rest: &Rest, tos: u8, ports: Option<(u16, u16)>) -> bool
+    ensures { result ≡ rest_fits rest.now tos ports }
 {
-    match own {
-        Addresses::V4 { .. } => false,
-        Addresses::V6 {
-            target: own_target,
-            target_len,
-            source: own_source,
-            source_len,
-        } => {
-            agrees_within(*target_len, own_target, target)
-                && agrees_within(*source_len, own_source, source)
-        }
-    }
-}
-
-/// Whether an address of IPv4, under a mask, is the filter's.
-fn agrees_under(mask: &[u8; 4], own: &[u8; 4], address: &[u8]) -> bool
-    ensures { result ≡ agrees_under mask.now own.now address.now }
-{
-    if address.len() < 4 {
-        return false;
-    }
-    for i in 0..4usize {
-        if address[i] & mask[i] != own[i] {
-            return false;
-        }
-    }
-    true
-}
-
-/// The upper `bits` bits of a byte; its other bits are 0.
-fn upper(bits: u8, byte: u8) -> u8
-    requires { bits ≤ 8 }
-    ensures { result ≡ upper bits byte }
-{
-    let lower = 1u16 << (8 - bits);
-    (u16::from(byte) / lower * lower) as u8
-}
-
-/// Whether the first `bits` bits of an address of IPv6 are the filter's.
-fn agrees_within(bits: u8, own: &[u8; 16], address: &[u8]) -> bool
-    ensures { result ≡ agrees_within bits own.now address.now }
-{
-    if address.len() != 16 {
-        return false;
-    }
-    let mut left = bits;
-    for i in 0..16usize {
-        if upper(left.min(8), address[i]) != own[i] {
-            return false;
-        }
-        left = left.saturating_sub(8);
-    }
-    true
-}
-
-/// Whether all but the addresses agrees.
-fn rest_agrees(filter: &Filter, tos: u8, protocol: u8, ports: Option<(u16, u16)>) -> bool
-    ensures { result ≡ rest_agrees filter.now tos protocol ports }
-{
-    ports_agree(filter, ports)
-        && is_none_or(u16::from(filter.protocol), u16::from(protocol))
-        && tos_agrees(filter.tos, tos)
+    ports_fit(rest, ports) && tos_agrees(rest.tos, tos)
 }
 
 /// Whether a filter's number that is not 0 is the flow's.
+#[inline]
 fn is_none_or(own: u16, number: u16) -> bool
     ensures { result ≡ is_none_or own number }
 {
     own == 0 || own == number
 }
 
-/// Whether both ports agree.
-fn ports_agree(filter: &Filter, ports: Option<(u16, u16)>) -> bool
-    ensures { result ≡ ports_agree filter.now ports }
+/// Whether both ports fit.
+fn ports_fit(rest: &Rest, ports: Option<(u16, u16)>) -> bool
+    ensures { result ≡ ports_fit rest.now ports }
 {
     match ports {
         Some((source, target)) => {
-            is_none_or(filter.source_port, source) && is_none_or(filter.target_port, target)
+            is_none_or(rest.source_port, source) && is_none_or(rest.target_port, target)
         }
-        None => filter.source_port == 0 && filter.target_port == 0,
+        None => rest.source_port == 0 && rest.target_port == 0,
     }
 }
 

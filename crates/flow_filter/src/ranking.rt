@@ -1,11 +1,8 @@
 //! The order in which filters are asked.
 ghost use Rattle.std.specs.Prelude.{◌≡◌, ◌<◌, ℕ, IfOk, length, option_copied, slice_index};
-ghost use Rattle.flow_filter.specs.Ranked.{IsRanked, filter_at, matches_at, ruleno_at};
-ghost use Rattle.packet_heads.specs.Heads.{flow_of};
+ghost use Rattle.flow_filter.specs.Ranked.{IsRanked, filter_at, ruleno_at};
 
-use crate::matching::matches;
 use conf_tree::Filter;
-use packet_heads::FlowHeads;
 use play_base::NoMemory;
 use std::alloc::Global;
 use std::cmp::Reverse;
@@ -51,15 +48,5 @@ pub(crate) fn filter_at<'a>(filters: &'a [Filter], places: &[u32], rank: u32) ->
     match places.get(rank as usize) {
         Some(place) => filters.get(*place as usize),
         None => None,
-    }
-}
-
-/// Whether it matches a flow.
-pub(crate) fn matches_at(filters: &[Filter], places: &[u32], heads: &FlowHeads, rank: u32) -> bool
-    ensures { result ≡ matches_at filters.now places.now (flow_of heads.now) rank }
-{
-    match filter_at(filters, places, rank) {
-        Some(filter) => matches(filter, heads),
-        None => false,
     }
 }

@@ -18,7 +18,7 @@ pub(crate) fn winner<'a>(
     requires { Indexes filters.now index.now }
     ensures { option_copied result ≡ winner (matching filters.now (flow_of heads.now)) }
 {
-    match index.first(filters, heads) {
+    match index.first(heads) {
         Some(rank) => filter_at(filters, index.places.as_slice(), rank),
         None => None,
     }

@@ -1,0 +1,90 @@
+-- A search among the entries of one port.
+use Rattle.std.proofs.Common.{◌≡◌, ⊎_elim, ℕ, ◌<◌, ◌≤◌, Bool, true, false, List, length, get_or, Option, Some, None, ltb, leb, option_map, refl, arith, sym, ◌∙◌, ap}
+use Rattle.std.specs.Prelude.{Contains, slice_get}
+use Rattle.std.specs.List.Sorted.{IsPartitionPoint}
+use Rattle.std.proofs.lemmas.Bool.{cases_lt}
+use Rattle.std.proofs.lemmas.Bool.Decides.{nat_tests}
+use Rattle.std.proofs.lemmas.List.{get_or_default}
+use Rattle.std.proofs.lemmas.Option.{slice_get-get_or, get_or_from_slice_get}
+use Rattle.flow_filter.specs.declared.ports.Filed.{Filed}
+use Rattle.flow_filter.specs.Filed.{IsInOrder}
+use Rattle.flow_filter.specs.Search.{IsFirstFit, IsFirstUnder, IsStretch}
+
+less : (m n : ℕ) → ltb m n ≡ true → m < n
+less m n h = grind (arith, nat_tests)
+
+not_less : (m n : ℕ) → ltb m n ≡ false → n ≤ m
+not_less m n h = grind (arith, nat_tests)
+
+most : (m n : ℕ) → leb m n ≡ true → m ≤ n
+most m n h = grind (arith, nat_tests)
+
+not_most : (m n : ℕ) → leb m n ≡ false → n < m
+not_most m n h = grind (arith, nat_tests)
+
+-- between the points of the lesser ports and of those that are no greater
+pub stretch_of : (filed : List Filed) (port start end : ℕ) → end ≤ length filed
+    → IsPartitionPoint (λ e. ltb e.port port ≡ true) (λ e. ltb e.port port ≡ false) filed start
+    → IsPartitionPoint (λ e. leb e.port port ≡ true) (λ e. leb e.port port ≡ false) filed end
+    → IsStretch filed port start end
+stretch_of filed port start end within lower upper = record {
+  within = within;
+  its = λ k d low high.
+      let least = not_less (get_or filed k d).port port (lower.1 k d low (omega arith)) in
+      let greatest = most (get_or filed k d).port port (upper.0 k d (omega arith) high) in
+      omega arith;
+  all = λ k d there same. (
+    ⊎_elim (λ h. let lesser = less (get_or filed k d).port port (lower.0 k d (omega arith) h) in absurd (omega arith)) (λ h. h) (cases_lt k start),
+    ⊎_elim (λ h. h) (λ h. let greater = not_most (get_or filed k d).port port (upper.1 k d h there) in absurd (omega arith)) (cases_lt k end),
+  );
+}
+
+-- what is found among the entries of a port, each of which fits where the test holds of its number
+module _ (filed : List Filed) (port start end : ℕ) (fits test : ℕ → Bool) (order : IsInOrder filed) (stretch : IsStretch filed port start end)
+    (same : (k : ℕ) (d : Filed) → k < length filed → fits k ≡ test (get_or filed k d).rank) where
+  fits_there : (rank : ℕ) (holds : Contains filed (record { port = port; rank = rank })) → test rank ≡ true
+      → (start ≤ holds.0) × (holds.0 < end) × (fits holds.0 ≡ true)
+  fits_there rank holds passes =
+      let it : Filed = record { port = port; rank = rank } in
+      let (low, high) = stretch.all holds.0 it holds.1 (ap (λ (e : Filed). e.port) holds.2) in
+      (low, high, same holds.0 it holds.1 ∙ ap (λ (e : Filed). test e.rank) holds.2 ∙ passes)
+
+  pub found_none : IsFirstFit fits start end None → IsFirstUnder filed port test None
+  found_none f = record {
+    agrees = tt;
+    first = λ rank holds passes. let (low, high, fit) = fits_there rank holds passes in f.first holds.0 low high fit;
+  }
+
+  pub found_past : (k : ℕ) → IsFirstFit fits start end (Some k) → slice_get filed k ≡ None → IsFirstUnder filed port test None
+  found_past k f past =
+      let there = f.there in
+      let within : k < length filed = omega (arith, there.1, stretch.within) in
+      let some = slice_get-get_or filed k (record { port = 0; rank = 0 }) within in
+      absurd cc
+
+  pub found_some : (k : ℕ) (one : Filed) → IsFirstFit fits start end (Some k) → slice_get filed k ≡ Some one → IsFirstUnder filed port test (Some one.rank)
+  found_some k one f at =
+      let there = f.there in
+      let within : k < length filed = omega (arith, there.1, stretch.within) in
+      let here : get_or filed k one ≡ one = get_or_from_slice_get filed k one one at in
+      record {
+        agrees = ap (λ (e : Filed). test e.rank) (sym here) ∙ sym (same k one within) ∙ there.2;
+        first = λ rank holds passes.
+            let it : Filed = record { port = port; rank = rank } in
+            let (low, high, fit) = fits_there rank holds passes in
+            let before : k ≤ holds.0 = f.first holds.0 low high fit in
+            let mine : (get_or filed k one).port ≡ port = stretch.its k one there.0 there.1 in
+            let its : (get_or filed holds.0 one).port ≡ port = stretch.its holds.0 one low high in
+            let rise : (get_or filed k one).rank ≤ (get_or filed holds.0 one).rank = order.ranks_rise k holds.0 one before holds.1 (mine ∙ sym its) in
+            let first_rank = ap (λ (e : Filed). e.rank) here in
+            let other_rank : (get_or filed holds.0 one).rank ≡ rank =
+            ap (λ (e : Filed). e.rank) (get_or_default filed holds.0 one it holds.1 ∙ holds.2) in
+            omega arith;
+      }
+
+  by_place : (k : ℕ) (o : Option Filed) → IsFirstFit fits start end (Some k) → slice_get filed k ≡ o → IsFirstUnder filed port test (option_map (λ e. e.rank) o)
+  by_place k None f at = found_past k f at
+  by_place k (Some one) f at = found_some k one f at
+
+  pub found_at : (k : ℕ) → IsFirstFit fits start end (Some k) → IsFirstUnder filed port test (option_map (λ e. e.rank) (slice_get filed k))
+  found_at k f = by_place k (slice_get filed k) f refl
