@@ -47,6 +47,7 @@ _altqplay() {
         check) options=(--config --interface) ;;
         verify) options=(--config --interface --arrivals --departures --fates) ;;
         condition) options=(--config --interface --arrivals --marked) ;;
+        chain) options=(--config --interface --arrivals --departures --fates --stats --seed --next --departures2 --fates2 --stats2 --path) ;;
     esac
     for ((i = 2; i < ${#words[@]}; i++)); do
         name=${words[i]%%=*}
@@ -66,12 +67,12 @@ _altqplay() {
     fi
 
     if ((here == 1)); then
-        found=(play check make shares verify condition)
+        found=(play check make shares chain verify condition)
     elif [[ -z $option ]]; then
         for part in "${options[@]}"; do
             [[ $given == *" $part "* ]] || found+=("$part")
         done
-    elif [[ $option == --interface ]]; then
+    elif [[ $option == --interface || $option == --next && " ${options[*]} " == *" $option "* ]]; then
         while read -r part; do
             [[ -z $name && $part == -* ]] || found+=("$name$part") # a name with - at its front needs the equals sign
         done < <(_altqplay_interfaces "$config")

@@ -6,7 +6,9 @@ use play_hints::{
     ConfAt, File, Given, OUT_OF_MEMORY, capture_hint, clock_hint, conf_hint, file_hint,
     long_capture_hint, long_conf_hint, long_given_hint, play_line, refuted_hint, words_hint,
 };
-use play_words::{CheckWords, Command, ConditionWords, PlayWords, VerifyWords, read_words};
+use play_words::{
+    ChainWords, CheckWords, Command, ConditionWords, PlayWords, VerifyWords, read_words,
+};
 use std::alloc::{AllocError, Global};
 
 // The names of a run's files, no text for one that its command has not.
@@ -18,6 +20,7 @@ struct Names<'a> {
     departures: &'a str,
     fates: &'a str,
     stats: &'a str,
+    chained: Option<ChainWords<'a>>,
     marked: &'a str,
     counts: bool,
 }
@@ -31,8 +34,17 @@ fn played<'a>(read: PlayWords<'a>, counts: bool) -> Names<'a> {
         departures: read.departures,
         fates: read.fates,
         stats: read.stats,
+        chained: None,
         marked: "",
         counts,
+    }
+}
+
+// The names of a chain.
+fn chained(read: ChainWords<'_>) -> Names<'_> {
+    Names {
+        chained: Some(read),
+        ..played(read.play, false)
     }
 }
 
@@ -45,6 +57,7 @@ fn verified<'a>(read: VerifyWords<'a>) -> Names<'a> {
         departures: read.departures,
         fates: read.fates,
         stats: "",
+        chained: None,
         marked: "",
         counts: false,
     }
@@ -59,6 +72,7 @@ fn checked<'a>(read: CheckWords<'a>) -> Names<'a> {
         departures: "",
         fates: "",
         stats: "",
+        chained: None,
         marked: "",
         counts: false,
     }
@@ -73,6 +87,7 @@ fn conditioned<'a>(read: ConditionWords<'a>) -> Names<'a> {
         departures: "",
         fates: "",
         stats: "",
+        chained: None,
         marked: read.marked,
         counts: false,
     }
@@ -84,6 +99,7 @@ fn names_of(alloc: Global, words: &[String]) -> Option<Names<'_>> {
         Ok(Command::Play(read)) => Some(played(read, true)),
         Ok(Command::Make(read)) => Some(played(read.play, false)),
         Ok(Command::Shares(read)) => Some(played(read, false)),
+        Ok(Command::Chain(read)) => Some(chained(read)),
         Ok(Command::Verify(read)) => Some(verified(read)),
         Ok(Command::Check(read)) => Some(checked(read)),
         Ok(Command::Condition(read)) => Some(conditioned(read)),
@@ -101,14 +117,25 @@ fn unread<'a>(names: &Names<'a>, kind: u8) -> &'a str {
     }
 }
 
+// The name of what a chain could not write beside its first play.
+fn unchained<'a>(chained: ChainWords<'a>, kind: u8) -> &'a str {
+    match kind {
+        6 => chained.departures2,
+        7 => chained.fates2,
+        8 => chained.stats2,
+        _ => chained.path,
+    }
+}
+
 // The name of what could not be written.
 fn unwritten<'a>(names: &Names<'a>, kind: u8) -> &'a str {
-    match kind {
-        1 => names.departures,
-        2 => names.fates,
-        3 => names.stats,
-        4 => names.arrivals,
-        5 => names.marked,
+    match (kind, names.chained) {
+        (1, _) => names.departures,
+        (2, _) => names.fates,
+        (3, _) => names.stats,
+        (4, _) => names.arrivals,
+        (5, _) => names.marked,
+        (6..=9, Some(chained)) => unchained(chained, kind),
         _ => "standard output",
     }
 }
@@ -130,16 +157,25 @@ fn fault_text(alloc: Global, name: &str, seen: &Seen) -> Result<String, AllocErr
     }
 }
 
+// The name of the capture that a status tells of: what came to the second of two links, or the arrivals.
+fn came_to<'a>(names: &Names<'a>, status: Status) -> &'a str {
+    if status.line == 2 {
+        names.departures
+    } else {
+        names.arrivals
+    }
+}
+
 // What to say of a limit.
 fn limit_text(
     alloc: Global,
     names: &Names<'_>,
-    kind: u8,
+    status: Status,
     seen: &Seen,
 ) -> Result<String, AllocError> {
-    match kind {
-        1 => long_capture_hint(alloc, names.arrivals, seen.head()),
-        2 => clock_hint(alloc, names.arrivals),
+    match status.kind {
+        1 => long_capture_hint(alloc, came_to(names, status), seen.head()),
+        2 => clock_hint(alloc, came_to(names, status)),
         3 => long_conf_hint(alloc, names.config),
         4 => long_given_hint(alloc, names.fates),
         _ => long_given_hint(alloc, names.departures),
@@ -173,14 +209,14 @@ fn run_text(
         }
         4 => capture_hint(
             alloc,
-            names.arrivals,
+            came_to(names, status),
             seen.head(),
             status.place,
             status.kind,
         ),
         5 => fault_text(alloc, unread(names, status.kind), seen),
         6 => fault_text(alloc, unwritten(names, status.kind), seen),
-        7 => limit_text(alloc, names, status.kind, seen),
+        7 => limit_text(alloc, names, status, seen),
         8 => String::from_str(alloc, OUT_OF_MEMORY),
         10 => refuted_text(alloc, names, status),
         _ => Ok(String::new(alloc)),

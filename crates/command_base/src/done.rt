@@ -20,6 +20,8 @@ pub enum Done {
     Verified,
     /// It played the capture, and said how far the shares of sibling classes lay apart.
     Measured,
+    /// It played the capture on one link and what left that on a second, and wrote what became of each packet.
+    Chained,
     /// It wrote the marked capture.
     Conditioned,
 }
@@ -32,6 +34,7 @@ impl Done {
         match self {
             Done::Played | Done::Made | Done::Verified | Done::Measured => ended(0, 0),
             Done::Checked(fit) => ended(0, fit_kind(fit)),
+            Done::Chained => ended(0, 0),
             Done::Conditioned => ended(0, 0),
         }
     }

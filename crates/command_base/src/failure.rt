@@ -3,6 +3,7 @@ ghost use Rattle.std.specs.Prelude.{◌≡◌};
 ghost use Rattle.command_base.specs.Outcome.{failure_status, say_failure};
 
 use crate::Status;
+use crate::link::{Link, LinkFault};
 use crate::parts::{ReadPart, RunLimit, WrittenPart};
 use crate::status::ended;
 use capture_model::Damage;
@@ -31,6 +32,8 @@ pub enum Failure {
     Limit(RunLimit),
     /// Given files fail this test first, and this is the first row that fails it.
     Refuted { row: u64, test: Test },
+    /// Of two links in a row, this is wrong with the capture of one, or ends its play.
+    OfLink(Link, LinkFault),
     /// No memory was left.
     NoMemory,
 }
@@ -73,6 +76,7 @@ impl Failure {
                 place: 0,
                 kind: test.number(),
             },
+            Failure::OfLink(link, fault) => fault.status(link),
             Failure::NoMemory => ended(8, 0),
         }
     }

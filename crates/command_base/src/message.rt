@@ -1,12 +1,30 @@
 // The message of what ended a command early.
 ghost use Rattle.std.specs.Prelude.{◌≡◌, IfOk, string_bytes};
-ghost use Rattle.command_base.specs.Message.{message_of};
+ghost use Rattle.command_base.specs.Message.{link_message, message_of};
 
-use crate::Failure;
+use crate::{Failure, LinkFault};
 use std::alloc::{AllocError, Global};
 
 /// The message where memory ran out; it takes none.
 pub(crate) const OUT_OF_MEMORY: &str = "altqplay: out of memory\n";
+
+// The message of a fault of one of two links, which is that of the fault without them.
+fn link_message(alloc: Global, fault: LinkFault) -> Result<String, AllocError>
+    ensures { IfOk result (λ m. string_bytes m ≡ link_message fault) }
+{
+    match fault {
+        LinkFault::Capture(damage) => {
+            let (place, name) = (damage.place, damage.kind.name());
+            format!(in alloc; "altqplay: capture byte {place}: {name}\n")
+        }
+        LinkFault::Pcapng(block) => {
+            let (place, name) = (block.place, block.kind.name());
+            format!(in alloc; "altqplay: capture byte {place}: {name}\n")
+        }
+        LinkFault::Long => String::from_str(alloc, "altqplay: limit 1 reached\n"),
+        LinkFault::Clock => String::from_str(alloc, "altqplay: limit 2 reached\n"),
+    }
+}
 
 /// The message of what ended a command early. `Err` comes only where there is no memory.
 pub(crate) fn message(alloc: Global, failure: Failure) -> Result<String, AllocError>
@@ -45,6 +63,7 @@ pub(crate) fn message(alloc: Global, failure: Failure) -> Result<String, AllocEr
             let kind = test.number();
             format!(in alloc; "altqplay: not verified, row {row} kind {kind}\n")
         }
+        Failure::OfLink(_, fault) => link_message(alloc, fault),
         Failure::NoMemory => String::from_str(alloc, OUT_OF_MEMORY),
     }
 }

@@ -1,14 +1,14 @@
 // What a run reads and writes, and what limits it.
 ghost use Rattle.std.specs.Prelude.{◌≡◌};
-ghost use Rattle.command_base.specs.Outcome.{read_number, run_limit_number, written_number};
-ghost use Rattle.command_base.specs.Message.{read_name, written_name};
+ghost use Rattle.command_base.specs.Outcome.{chained_number, read_number, run_limit_number, written_number};
+ghost use Rattle.command_base.specs.Message.{chained_name, read_name, written_name};
 
 /// What a run reads.
 #[derive(Clone, Copy, Debug, PartialEq, Eq)]
 pub enum ReadPart {
     Configuration,
     Arrivals,
-    /// The departures that are verified.
+    /// The departures that are verified, or that come to a second link.
     Departures,
     /// The fates that are verified.
     Fates,
@@ -48,10 +48,51 @@ pub enum WrittenPart {
     Statistics,
     /// The arrivals that `make` generates.
     Arrivals,
+    /// What a chain writes beside the play on its first link.
+    Chained(ChainPart),
     /// The marked arrivals of `condition`.
     Marked,
     /// What a check, `make` or a verification says.
     Answer,
+}
+
+/// What a chain writes beside the play on its first link.
+#[derive(Clone, Copy, Debug, PartialEq, Eq)]
+pub enum ChainPart {
+    /// The departures of the second link.
+    Departures,
+    /// The fates of the second link.
+    Fates,
+    /// The statistics of the second link.
+    Statistics,
+    /// What became of each packet.
+    Path,
+}
+
+impl ChainPart {
+    /// The part's number, as a status of code 6 gives it.
+    pub fn number(self) -> u8
+        ensures { result ≡ chained_number self }
+    {
+        match self {
+            ChainPart::Departures => 6,
+            ChainPart::Fates => 7,
+            ChainPart::Statistics => 8,
+            ChainPart::Path => 9,
+        }
+    }
+
+    /// The part's name, as a message gives it.
+    pub fn name(self) -> &'static str
+        ensures { result.now ≡ chained_name self }
+    {
+        match self {
+            ChainPart::Departures => "second departures",
+            ChainPart::Fates => "second fates",
+            ChainPart::Statistics => "second statistics",
+            ChainPart::Path => "path",
+        }
+    }
 }
 
 impl WrittenPart {
@@ -64,6 +105,7 @@ impl WrittenPart {
             WrittenPart::Fates => 2,
             WrittenPart::Statistics => 3,
             WrittenPart::Arrivals => 4,
+            WrittenPart::Chained(part) => part.number(),
             WrittenPart::Marked => 5,
             WrittenPart::Answer => 10,
         }
@@ -78,6 +120,7 @@ impl WrittenPart {
             WrittenPart::Fates => "fates",
             WrittenPart::Statistics => "statistics",
             WrittenPart::Arrivals => "arrivals",
+            WrittenPart::Chained(part) => part.name(),
             WrittenPart::Marked => "marked arrivals",
             WrittenPart::Answer => "result",
         }

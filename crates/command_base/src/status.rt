@@ -8,7 +8,8 @@ pub struct Status {
     /// 0 done, 2 words refused, 3 configuration refused, 4 capture damaged, 5 read fault, 6 write fault, 7 limit, 8 no memory,
     /// 10 not verified.
     pub code: u8,
-    /// The line of a configuration's fault, from 1; or the first row of given fates that fails a test, from 0.
+    /// The line of a configuration's fault, from 1; the first row of given fates that fails a test, from 0; or of two links in a row
+    /// the one whose capture or play ended it, from 1.
     pub line: u64,
     /// The word of a configuration's fault in its line, from 1.
     pub word: u64,

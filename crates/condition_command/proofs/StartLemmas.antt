@@ -82,6 +82,7 @@ arrivals_fail u v w n found (failure.Limit limit.Configuration) k a none x = abs
 arrivals_fail u v w n found (failure.Limit limit.Fates) k a none x = absurd x
 arrivals_fail u v w n found (failure.Limit limit.Departures) k a none x = absurd x
 arrivals_fail u v w n found (failure.Refuted row _) k a none x = absurd x
+arrivals_fail u v w n found (failure.OfLink link fault) k a none x = absurd x
 arrivals_fail u v w n found failure.NoMemory k a none x = tt
 
 pub arrivals_end : (u v w : View) (n : MarkNames) (found : Interface) (f : Failure) → EndsAtConfig u v n.config → Accepts u n.config n.interface found

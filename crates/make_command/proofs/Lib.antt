@@ -3,4 +3,3 @@ pub mod MakeLemmas
 pub mod SuppliedLemmas
 pub mod TellLemmas
 pub mod WrittenLemmas
-pub mod Wholes

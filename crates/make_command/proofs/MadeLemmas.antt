@@ -14,9 +14,9 @@ use Rattle.command_base.specs.Faults.{Untouched}
 use Rattle.command_base.specs.Input.{EndsAtConfig, TakesFew}
 use Rattle.command_base.specs.Names.{Names}
 use Rattle.command_base.specs.Telling.{OnlySays}
-use Rattle.make_command.proofs.SuppliedLemmas.{other_bytes, own_bytes}
 use Rattle.make_command.specs.Making.{KeepsOtherFour, MakeLeaves, OtherFour, supplied}
 use Rattle.play_command.proofs.InputLemmas.{SameInput, SameOutputs, Starts, configures_by, fronts_from}
+use Rattle.play_command.proofs.WholeLemmas.{other_bytes, own_bytes}
 use Rattle.play_command.proofs.SayingLemmas.{front_after, fronts_after, in_order_after, uncreated_after}
 use Rattle.play_command.specs.Ending.{FilesEnd, HasName}
 use Rattle.play_command.specs.Opening.{OtherThree}
@@ -77,7 +77,7 @@ same_input u w n seed count b d held t = record {
 same_outputs : (u w c : View) (n : Names) (seed count : ℕ) → HasBegun u w n → AreDistinct n.config n.arrivals n.departures n.fates n.stats
     → ((f p : ℕ) → w.part f ≡ Some p → c.part f ≡ Some p) → IsTrue u.tells → SameOutputs w (supplied u n seed count) c n
 same_outputs u w c n seed count b d k t = record {
-  untouched = λ part l x. untouched_on u w c n part b k l x;
+  untouched = λ part l most x. untouched_on u w c n part b k l x;
   departures = b.bytes t n.departures (λ e. d.arrivals_departures (sym e)) ∙ sym (supplied_bytes u n seed count n.departures (λ e. d.arrivals_departures (sym e)));
   fates = b.bytes t n.fates (λ e. d.arrivals_fates (sym e)) ∙ sym (supplied_bytes u n seed count n.fates (λ e. d.arrivals_fates (sym e)));
   stats = b.bytes t n.stats (λ e. d.arrivals_stats (sym e)) ∙ sym (supplied_bytes u n seed count n.stats (λ e. d.arrivals_stats (sym e)));

@@ -25,7 +25,7 @@ use Rattle.command_base.specs.declared.failure.Failure.TheVariants as failure
 use Rattle.command_base.specs.declared.fault.ConfigFault.{ConfigFault}
 use Rattle.command_base.specs.declared.fault.ConfigFault.TheVariants as conf
 use Rattle.command_base.specs.declared.parts.WrittenPart.TheVariants as written
-use Rattle.command_base.proofs.ConfLemmas.{config_not, is_memory, long_not, no_bytes, refused_not, told_long, told_place, same_some}
+use Rattle.command_base.proofs.ConfLemmas.{config_not, is_memory, long_not, no_bytes, refused_not, told_long, told_place}
 use Rattle.play_command.specs.Ending.{FilesEnd, IsAccepting, IsUnread, PlayEnds, PlayFails, PlayIsTold}
 use Rattle.play_command.specs.Failing.{play_failure, unplayed_failure}
 use Rattle.play_command.specs.Found.{PlaysTo}
@@ -34,9 +34,8 @@ use Rattle.play_command.proofs.EndLemmas.{late_not_played}
 use Rattle.play_command.proofs.InputLemmas.{Starts, configures_by, played_by, played_totals, quiet_from, told_from, unplayed_from}
 use Rattle.make_command.specs.Making.{HasMade, MakeEnds, MakeFails, MakeIsTold, MakeLeaves, WasMade, arrivals_failure, summary_of, supplied}
 use Rattle.make_command.proofs.MadeLemmas.{HasBegun, leaves_played, leaves_said, starts, supplied_bytes}
-use Rattle.make_command.proofs.SuppliedLemmas.{capture_not_damaged, capture_not_limited, is_classic, own_bytes}
-use Rattle.arrivals_front.specs.Given.{is_pcapng}
-use Rattle.arrivals_front.proofs.GivenLemmas.{not_both}
+use Rattle.make_command.proofs.SuppliedLemmas.{is_classic}
+use Rattle.play_command.proofs.WholeLemmas.{capture_not_damaged, capture_not_limited, capture_not_pcapng, own_bytes}
 use Rattle.pcapng_files.specs.declared.fault.NgFault.{NgFault}
 use Rattle.pcapng_files.specs.declared.fault.NgFault.TheVariants as ng
 use Rattle.play_command.specs.declared.failing.Unplayed.{Unplayed}
@@ -140,8 +139,8 @@ unread_makes u c n seed count a (inr x) = (a, x.0, inr x.1)
 
 no_pcapng : (u : View) (n : Names) (seed count : ℕ) (f : NgFault) → IsNoCapture (supplied u n seed count) n f → ⊥
 no_pcapng u n seed count f x =
-    let same : x.given ≡ generated_capture seed count = same_some _ _ (sym x.arrivals ∙ own_bytes u n.arrivals (generated_capture seed count)) in
-    not_both (is_pcapng (generated_capture seed count)) (ap is_pcapng (sym same) ∙ x.pcapng) (is_classic seed count)
+    capture_not_pcapng (supplied u n seed count) n f (generated_capture seed count) (is_classic seed count)
+    (own_bytes u n.arrivals (generated_capture seed count)) x
 
 not_limited : (u c : View) (n : Names) (seed count : ℕ) → IsCapture (generated_capture seed count) (packets seed count) → IsTrue u.tells
     → (IsTrue u.tells → IsLimited (supplied u n seed count) c n seed)

@@ -40,6 +40,7 @@ writes_after u v w n seed count written.Departures o x = (x.0, write_after u v w
 writes_after u v w n seed count written.Fates o x = (x.0, write_after u v w 4 o x.1)
 writes_after u v w n seed count written.Statistics o x = (x.0, write_after u v w 5 o x.1)
 writes_after u v w n seed count written.Arrivals o x = (x.0, write_after u v w 2 o x.1)
+writes_after u v w n seed count (written.Chained part) o x = x
 writes_after u v w n seed count written.Marked o x = x
 writes_after u v w n seed count written.Answer o x = (x.0, write_after u v w 0 o x.1, λ t. was_made_said u v w n seed count o (x.2 t))
 

@@ -1,6 +1,6 @@
 -- How `make` ends: what done means, when each failure comes, what must come, and what is left. It plays as `play` does, as if the
 -- generated capture had stood under the arrivals' name before it.
-use Rattle.std.specs.Prelude.{◌≡◌, ◌≢◌, ◌≤◌, ◌⊎◌, ◌++◌, ℕ, List, None, Some, Ok, Err, IsTrue, bytes_eq, if◌then◌else◌}
+use Rattle.std.specs.Prelude.{◌≡◌, ◌≢◌, ◌≤◌, ◌⊎◌, ◌++◌, ℕ, List, None, Some, Ok, Err, IsTrue}
 use Rattle.conf_lines.specs.declared.fault.ConfPlace.{ConfPlace}
 use Rattle.generated.specs.Packets.{generated_capture}
 use Rattle.play_base.specs.View.{View, Keeps, Rose, SameCounts}
@@ -26,10 +26,7 @@ use Rattle.play_command.specs.Ending.{HasName, IsAccepting}
 use Rattle.play_command.specs.Opening.{OtherThree}
 use Rattle.play_command.specs.Order.{IsInOrder, KeepUncreated}
 use Rattle.play_command.specs.Played.{EndsLate, Fronts, HasPlayed, IsCutShort, IsFrontAt, IsLate, IsPlayable}
-
--- the files as they are, but for the bytes under one name
-abbrev pub with_bytes : View → (name bytes : List ℕ) → View
-with_bytes v name bytes = record v { bytes = λ m. if bytes_eq m name then Some bytes else v.bytes m }
+use Rattle.play_command.specs.Supplied.{with_bytes}
 
 -- the files as they would be, if the capture of the first `count` packets of the seed stood under the arrivals' name
 abbrev pub supplied : View → Names → (seed count : ℕ) → View
@@ -66,6 +63,7 @@ WriteFails old new n seed count written.Departures = IsAccepting old n × Rose (
 WriteFails old new n seed count written.Fates = IsAccepting old n × Rose (old.write_faults 4) (new.write_faults 4)
 WriteFails old new n seed count written.Statistics = IsAccepting old n × Rose (old.write_faults 5) (new.write_faults 5)
 WriteFails old new n seed count written.Arrivals = IsAccepting old n × Rose (old.write_faults 2) (new.write_faults 2)
+WriteFails old new n seed count (written.Chained part) = ⊥
 WriteFails old new n seed count written.Marked = ⊥
 WriteFails old new n seed count written.Answer = IsAccepting old n × Rose (old.write_faults 0) (new.write_faults 0)
     × (IsTrue old.tells → WasMade old new n seed count)

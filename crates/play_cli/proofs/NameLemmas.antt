@@ -4,7 +4,8 @@ use Rattle.std.specs.Prelude.{◌&&◌, bytes_eq, codes, if◌then◌else◌, is
 use Rattle.conf_laws.proofs.ListPlaces.{names_equal}
 use Rattle.line_text.specs.Numbers.{number}
 use Rattle.play_base.specs.View.{View}
-use Rattle.play_words.specs.Read.{Reads, ReadsCheck, ReadsMake, ReadsPlay, ReadsShares, ReadsVerify}
+use Rattle.play_words.specs.Read.{Reads, ReadsChain, ReadsCheck, ReadsMake, ReadsNames, ReadsPlay, ReadsShares, ReadsVerify}
+use Rattle.play_words.specs.declared.words.ChainWords.{ChainWords}
 use Rattle.play_words.specs.declared.words.CheckWords.{CheckWords}
 use Rattle.play_words.specs.declared.words.Command.{Command}
 use Rattle.play_words.specs.declared.words.Command.TheVariants as asks
@@ -17,6 +18,8 @@ use Rattle.command_base.specs.Names.{Names, names_of, names_read}
 use Rattle.command_base.specs.Telling.{Ends}
 use Rattle.command_base.specs.declared.status.Status.{Status}
 use Rattle.command_base.proofs.ConfLemmas.{same_number}
+use Rattle.chain_command.specs.Chaining.{ChainEnds}
+use Rattle.chain_command.specs.Links.{Links, links_of, links_read}
 use Rattle.check_command.specs.Checking.{CheckEnds}
 use Rattle.make_command.specs.Making.{MakeEnds}
 use Rattle.play_command.specs.Ending.{PlayEnds}
@@ -38,6 +41,10 @@ names_same x y c i a d f s =
     ∙ ap {B = Names} (λ (v : List ℕ). record { config = y.config; interface = y.interface; arrivals = y.arrivals; departures = y.departures; fates = v; stats = x.stats }) f
     ∙ ap {B = Names} (λ (v : List ℕ). record { config = y.config; interface = y.interface; arrivals = y.arrivals; departures = y.departures; fates = y.fates; stats = v }) s
 
+-- the names that were read are those of the words
+names_known : (words : Words) (w : PlayWords) → ReadsNames (rows_read words) w → names_read w ≡ names_of words
+names_known words w r = names_same (names_read w) (names_of words) r.config r.interface r.arrivals r.departures r.fates r.stats
+
 -- the command is a play
 pub play_read : (words : Words) (command : Command) (w : PlayWords) → command ≡ asks.Play w → Reads words command → ReadsPlay words w
 play_read words command w e r = let P : Command → Type 0 = λ c. Reads words c in subst P e r
@@ -50,6 +57,9 @@ make_read words command w e r = let P : Command → Type 0 = λ c. Reads words c
 
 pub shares_read : (words : Words) (command : Command) (w : PlayWords) → command ≡ asks.Shares w → Reads words command → ReadsShares words w
 shares_read words command w e r = let P : Command → Type 0 = λ c. Reads words c in subst P e r
+
+pub chain_read : (words : Words) (command : Command) (w : ChainWords) → command ≡ asks.Chain w → Reads words command → ReadsChain words w
+chain_read words command w e r = let P : Command → Type 0 = λ c. Reads words c in subst P e r
 
 pub verify_read : (words : Words) (command : Command) (w : VerifyWords) → command ≡ asks.Verify w → Reads words command → ReadsVerify words w
 verify_read words command w e r = let P : Command → Type 0 = λ c. Reads words c in subst P e r
@@ -69,8 +79,8 @@ pub play_of : (u v : View) (words : Words) (w : PlayWords) (s : Status) → Read
 play_of u v words w s r x seed is =
     let P : Names → Type 0 = λ n. Ends (PlayEnds u v n w.seed) u v s in
     let Q : ℕ → Type 0 = λ k. Ends (PlayEnds u v (names_of words) k) u v s in
-    subst Q (same_number (seed_of words) w.seed seed r.read.seed is)
-    (subst P (names_same (names_read w) (names_of words) r.read.config r.read.interface r.read.arrivals r.read.departures r.read.fates r.read.stats) x)
+    subst Q (same_number (seed_of words) w.seed seed r.read.names.seed is)
+    (subst P (names_known words w r.read.names) x)
 
 -- and one whose shares are measured
 pub shares_of : (u v : View) (words : Words) (w : PlayWords) (s : Status) → ReadsShares words w → Ends (SharesEnds u v (names_read w) w.seed) u v s
@@ -78,8 +88,31 @@ pub shares_of : (u v : View) (words : Words) (w : PlayWords) (s : Status) → Re
 shares_of u v words w s r x seed is =
     let P : Names → Type 0 = λ n. Ends (SharesEnds u v n w.seed) u v s in
     let Q : ℕ → Type 0 = λ k. Ends (SharesEnds u v (names_of words) k) u v s in
-    subst Q (same_number (seed_of words) w.seed seed r.read.seed is)
-    (subst P (names_same (names_read w) (names_of words) r.read.config r.read.interface r.read.arrivals r.read.departures r.read.fates r.read.stats) x)
+    subst Q (same_number (seed_of words) w.seed seed r.read.names.seed is)
+    (subst P (names_known words w r.read.names) x)
+
+-- and one on two links
+links_same : (x y : Links) → x.first ≡ y.first → x.next ≡ y.next → x.departures ≡ y.departures → x.fates ≡ y.fates → x.stats ≡ y.stats → x.path ≡ y.path
+    → x ≡ y
+links_same x y n j d f s p =
+    ap {B = Links} (λ (v : Names). record { first = v; next = x.next; departures = x.departures; fates = x.fates; stats = x.stats; path = x.path }) n
+    ∙ ap {B = Links} (λ (v : List ℕ). record { first = y.first; next = v; departures = x.departures; fates = x.fates; stats = x.stats; path = x.path }) j
+    ∙ ap {B = Links} (λ (v : List ℕ). record { first = y.first; next = y.next; departures = v; fates = x.fates; stats = x.stats; path = x.path }) d
+    ∙ ap {B = Links} (λ (v : List ℕ). record { first = y.first; next = y.next; departures = y.departures; fates = v; stats = x.stats; path = x.path }) f
+    ∙ ap {B = Links} (λ (v : List ℕ). record { first = y.first; next = y.next; departures = y.departures; fates = y.fates; stats = v; path = x.path }) s
+    ∙ ap {B = Links} (λ (v : List ℕ). record { first = y.first; next = y.next; departures = y.departures; fates = y.fates; stats = y.stats; path = v }) p
+
+links_known : (words : Words) (w : ChainWords) → ReadsChain words w → links_read w ≡ links_of words
+links_known words w r =
+    links_same (links_read w) (links_of words) (names_known words w.play r.read.names) r.read.next r.read.departures2 r.read.fates2 r.read.stats2 r.read.path
+
+pub chain_of : (u v : View) (words : Words) (w : ChainWords) (s : Status) → ReadsChain words w → Ends (ChainEnds u v (links_read w) w.play.seed) u v s
+    → (seed : ℕ) → seed_of words ≡ Some seed → Ends (ChainEnds u v (links_of words) seed) u v s
+chain_of u v words w s r x seed is =
+    let P : Links → Type 0 = λ n. Ends (ChainEnds u v n w.play.seed) u v s in
+    let Q : ℕ → Type 0 = λ k. Ends (ChainEnds u v (links_of words) k) u v s in
+    subst Q (same_number (seed_of words) w.play.seed seed r.read.names.seed is)
+    (subst P (links_known words w r) x)
 
 pub check_of : (u v : View) (words : Words) (w : CheckWords) (s : Status) → ReadsCheck words w
     → Ends (CheckEnds u v w.config.now w.interface.now) u v s → Ends (CheckEnds u v (names_of words).config (names_of words).interface) u v s
@@ -96,8 +129,8 @@ make_of u v words w s r x seed count is counted =
     let Q : ℕ → Type 0 = λ k. Ends (MakeEnds u v (names_of words) k w.count) u v s in
     let R : ℕ → Type 0 = λ k. Ends (MakeEnds u v (names_of words) seed k) u v s in
     subst R (same_number (count_of words) w.count count r.count counted)
-    (subst Q (same_number (seed_of words) w.play.seed seed r.read.seed is)
-    (subst P (names_same (names_read w.play) (names_of words) r.read.config r.read.interface r.read.arrivals r.read.departures r.read.fates r.read.stats) x))
+    (subst Q (same_number (seed_of words) w.play.seed seed r.read.names.seed is)
+    (subst P (names_known words w.play r.read.names) x))
 
 pub verify_of : (u v : View) (words : Words) (w : VerifyWords) (s : Status) → ReadsVerify words w → Ends (VerifyEnds u v (inputs_of w)) u v s
     → Ends (VerifyEnds u v (inputs_named words)) u v s

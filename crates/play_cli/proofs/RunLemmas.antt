@@ -10,17 +10,24 @@ use Rattle.play_words.specs.declared.words.Unread.TheVariants as why
 use Rattle.play_words.specs.declared.words.WordsFault.{WordsFault}
 use Rattle.command_base.specs.Faults.{CannotRead}
 use Rattle.command_base.specs.Names.{Names}
-use Rattle.command_base.specs.Outcome.{Outcome, done_status, failure_status, read_number, status_of}
+use Rattle.command_base.specs.Outcome.{Outcome, done_status, failure_status, link_status, read_number, status_of}
 use Rattle.command_base.specs.Telling.{Ends, FailsTold, OnlySays}
 use Rattle.command_base.specs.declared.done.Done.{Done}
 use Rattle.command_base.specs.declared.done.Done.TheVariants as done
 use Rattle.command_base.specs.declared.failure.Failure.{Failure}
 use Rattle.command_base.specs.declared.failure.Failure.TheVariants as failure
+use Rattle.command_base.specs.declared.link.Link.{Link}
+use Rattle.command_base.specs.declared.link.LinkFault.{LinkFault}
+use Rattle.command_base.specs.declared.link.LinkFault.TheVariants as fault
 use Rattle.command_base.specs.declared.parts.ReadPart.{ReadPart}
+use Rattle.command_base.specs.declared.parts.ChainPart.{ChainPart}
+use Rattle.command_base.specs.declared.parts.ChainPart.TheVariants as chained
 use Rattle.command_base.specs.declared.parts.ReadPart.TheVariants as read
 use Rattle.command_base.specs.declared.parts.WrittenPart.{WrittenPart}
 use Rattle.command_base.specs.declared.parts.WrittenPart.TheVariants as written
 use Rattle.command_base.specs.declared.status.Status.{Status}
+use Rattle.chain_command.specs.Chaining.{ChainEnds, ChainedFails}
+use Rattle.chain_command.specs.Links.{Links}
 use Rattle.check_command.specs.Checking.{CheckEnds}
 use Rattle.condition_command.specs.Conditioning.{ConditionEnds, IsUnread as NotRead, MarkNames}
 use Rattle.make_command.specs.Making.{MakeEnds}
@@ -78,29 +85,41 @@ done_zero done.Made = refl
 done_zero (done.Checked fit) = refl
 done_zero done.Verified = refl
 done_zero done.Measured = refl
+done_zero done.Chained = refl
 done_zero done.Conditioned = refl
 
 not_done : (d : Done) (k : ℕ) {A : Type 0} → (0 ≡ k → ⊥) → (done_status d).code ≡ k → A
 not_done d k differ e = absurd (differ (sym (done_zero d) ∙ e))
 
+-- what is wrong with one of two links has code 4 or 7
+link_not : (l : Link) (f : LinkFault) (k : ℕ) {A : Type 0} → (4 ≡ k → ⊥) → (7 ≡ k → ⊥) → (link_status l f).code ≡ k → A
+link_not l (fault.Capture damage) k four seven e = absurd (four e)
+link_not l (fault.Pcapng block) k four seven e = absurd (four e)
+link_not l fault.Long k four seven e = absurd (seven e)
+link_not l fault.Clock k four seven e = absurd (seven e)
+
 words_of : (o : Outcome) → (status_of o).code ≡ 2 → (fault : WordsFault) × (o ≡ Err (failure.Words fault))
 words_of (Ok d) e = not_done d 2 (λ h. omega (arith, h)) e
 words_of (Err (failure.Words fault)) e = (fault, refl)
+words_of (Err (failure.OfLink l f)) e = link_not l f 2 (λ h. omega (arith, h)) (λ h. omega (arith, h)) e
 words_of (Err other) e = absurd (omega (arith, e))
 
 done_of : (o : Outcome) → (status_of o).code ≡ 0 → (d : Done) × (o ≡ Ok d)
 done_of (Ok d) e = (d, refl)
 done_of (Err failure.NoMemory) e = absurd (omega (arith, e))
+done_of (Err (failure.OfLink l f)) e = link_not l f 0 (λ h. omega (arith, h)) (λ h. omega (arith, h)) e
 done_of (Err other) e = absurd (omega (arith, e))
 
 read_of : (o : Outcome) → (status_of o).code ≡ 5 → (part : ReadPart) × (o ≡ Err (failure.Read part))
 read_of (Ok d) e = not_done d 5 (λ h. omega (arith, h)) e
 read_of (Err (failure.Read part)) e = (part, refl)
+read_of (Err (failure.OfLink l f)) e = link_not l f 5 (λ h. omega (arith, h)) (λ h. omega (arith, h)) e
 read_of (Err other) e = absurd (omega (arith, e))
 
 written_of : (o : Outcome) → (status_of o).code ≡ 6 → (part : WrittenPart) × (o ≡ Err (failure.Write part))
 written_of (Ok d) e = not_done d 6 (λ h. omega (arith, h)) e
 written_of (Err (failure.Write part)) e = (part, refl)
+written_of (Err (failure.OfLink l f)) e = link_not l f 6 (λ h. omega (arith, h)) (λ h. omega (arith, h)) e
 written_of (Err other) e = absurd (omega (arith, e))
 
 code_is : (E : Outcome → Type 0) (u w : View) (s : Status) (k : ℕ) (x : Ends E u w s) → s.code ≡ k → (status_of x.outcome).code ≡ k
@@ -171,6 +190,7 @@ make_write_met u w n seed count written.Departures x = (3, x.comes.1)
 make_write_met u w n seed count written.Fates x = (4, x.comes.1)
 make_write_met u w n seed count written.Statistics x = (5, x.comes.1)
 make_write_met u w n seed count written.Arrivals x = (2, x.comes.1)
+make_write_met u w n seed count (written.Chained part) x = absurd x.comes
 make_write_met u w n seed count written.Marked x = absurd x.comes
 make_write_met u w n seed count written.Answer x = (0, x.comes.1)
 
@@ -196,8 +216,32 @@ shares_write_met u w n seed written.Departures x = (3, x.comes.1)
 shares_write_met u w n seed written.Fates x = (4, x.comes.1)
 shares_write_met u w n seed written.Statistics x = (5, x.comes.1)
 shares_write_met u w n seed written.Arrivals x = absurd x.comes
+shares_write_met u w n seed (written.Chained part) x = absurd x.comes
 shares_write_met u w n seed written.Marked x = absurd x.comes
 shares_write_met u w n seed written.Answer x = (0, x.comes.failed)
+
+chain_counts : (u w : View) (n : Links) (seed : ℕ) (d : Done) → ChainEnds u w n seed (Ok d) → SameCounts u w
+chain_counts u w n seed done.Chained x = x.comes.no_fault
+chain_counts u w n seed other x = absurd x.comes
+
+chain_read_met : (u w : View) (n : Links) (seed : ℕ) (part : ReadPart) → ChainEnds u w n seed (Err (failure.Read part)) → MeetsReadFault u w
+chain_read_met u w n seed read.Configuration x = cannot_met u w 1 n.first.config x.comes.1
+chain_read_met u w n seed read.Arrivals x = unread_met u w n.first seed x.comes.2.1
+chain_read_met u w n seed read.Departures x = inl (3, x.comes.0)
+chain_read_met u w n seed other x = absurd x.comes
+
+chained_met : (u w : View) (n : Links) (seed : ℕ) (part : ChainPart) → ChainedFails u w n seed part → MeetsWriteFault u w
+chained_met u w n seed chained.Departures x = (7, x.0)
+chained_met u w n seed chained.Fates x = (8, x.0)
+chained_met u w n seed chained.Statistics x = (9, x.0)
+chained_met u w n seed chained.Path x = (10, x.0)
+
+chain_write_met : (u w : View) (n : Links) (seed : ℕ) (part : WrittenPart) → ChainEnds u w n seed (Err (failure.Write part)) → MeetsWriteFault u w
+chain_write_met u w n seed written.Departures x = (3, x.comes.2.1)
+chain_write_met u w n seed written.Fates x = (4, x.comes.2.1)
+chain_write_met u w n seed written.Statistics x = (5, x.comes.2.1)
+chain_write_met u w n seed (written.Chained part) x = chained_met u w n seed part x.comes
+chain_write_met u w n seed other x = absurd x.comes
 
 -- what the outcomes of a command mean for its status
 record MeansTruly (E : Outcome → Type 0) (u w : View) : Type 0 where
@@ -244,6 +288,14 @@ shares_truly u w n seed s x = truly (SharesEnds u w n seed) u w s (record {
   no_fault = λ d y. shares_counts u w n seed d y;
   read = λ part y. shares_read_met u w n seed part y;
   write = λ part y. shares_write_met u w n seed part y;
+}) x
+
+pub chain_truly : (u w : View) (n : Links) (seed : ℕ) (s : Status) → Ends (ChainEnds u w n seed) u w s → TellsTruly u w s
+chain_truly u w n seed s x = truly (ChainEnds u w n seed) u w s (record {
+  words = λ fault y. y.comes;
+  no_fault = λ d y. chain_counts u w n seed d y;
+  read = λ part y. chain_read_met u w n seed part y;
+  write = λ part y. chain_write_met u w n seed part y;
 }) x
 
 pub verify_truly : (u w : View) (n : Inputs) (s : Status) → Ends (VerifyEnds u w n) u w s → TellsTruly u w s

@@ -4,6 +4,8 @@ pub use Rattle.command_base.specs.Message
 pub use Rattle.command_base.specs.Names
 pub use Rattle.command_base.specs.Outcome
 pub use Rattle.command_base.specs.Telling
+pub use Rattle.chain_command.specs.Chained
+pub use Rattle.chain_command.specs.Chaining
 pub use Rattle.check_command.specs.Checking
 pub use Rattle.condition_command.specs.Conditioning
 pub use Rattle.make_command.specs.Making

@@ -1,9 +1,12 @@
 // Each command with its message and its status.
 ghost use Rattle.std.specs.Prelude.{◌≤◌};
 ghost use Rattle.play_base.specs.View.{View};
-ghost use Rattle.play_words.specs.Words.{AreDistinct, most_packets};
+ghost use Rattle.play_words.specs.Read.{files_of};
+ghost use Rattle.play_words.specs.Words.{AreAllDistinct, AreDistinct, most_packets};
 ghost use Rattle.command_base.specs.Names.{names_read};
 ghost use Rattle.command_base.specs.Telling.{Ends};
+ghost use Rattle.chain_command.specs.Chaining.{ChainEnds};
+ghost use Rattle.chain_command.specs.Links.{links_read};
 ghost use Rattle.check_command.specs.Checking.{CheckEnds};
 ghost use Rattle.make_command.specs.Making.{MakeEnds};
 ghost use Rattle.play_command.specs.Ending.{PlayEnds};
@@ -13,13 +16,14 @@ ghost use Rattle.condition_command.specs.Conditioning.{ConditionEnds, mark_names
 ghost use Rattle.play_words.specs.Words.{AreDistinctMarks};
 ghost use Rattle.play_cli.specs.Run.{TellsTruly};
 
+use chain_command::chain;
 use check_command::check;
 use command_base::{Status, told};
 use condition_command::condition;
 use make_command::make;
 use play_base::Files;
 use play_command::play;
-use play_words::{CheckWords, ConditionWords, MakeWords, PlayWords, VerifyWords};
+use play_words::{ChainWords, CheckWords, ConditionWords, MakeWords, PlayWords, VerifyWords};
 use shares_command::shares;
 use std::alloc::Global;
 use verify_command::verify;
@@ -45,6 +49,18 @@ pub(crate) fn run_shares<F: Files>(alloc: Global, files: &mut F, words: &PlayWor
     ensures truly { TellsTruly (F.view files.old) (F.view files.new) result }
 {
     let end = shares(alloc, files, words);
+    told(alloc, files, end)
+}
+
+// Plays on two links in a row.
+#[tactic(auto, using(chain_command::proofs::TellLemmas::chain_told, crate::proofs::RunLemmas::chain_truly))]
+pub(crate) fn run_chain<F: Files>(alloc: Global, files: &mut F, words: &ChainWords<'_>) -> Status
+    requires { AreAllDistinct (files_of words.now) }
+    ensures ends { Ends (ChainEnds (F.view files.old) (F.view files.new) (links_read words.now) words.now.play.seed)
+        (F.view files.old) (F.view files.new) result }
+    ensures truly { TellsTruly (F.view files.old) (F.view files.new) result }
+{
+    let end = chain(alloc, files, words);
     told(alloc, files, end)
 }
 

@@ -2,9 +2,11 @@
 ghost use Rattle.std.specs.Prelude.{◌≡◌, ◌≢◌, ℕ, None, Some};
 ghost use Rattle.play_base.specs.Steady.{steady_view};
 ghost use Rattle.play_base.specs.View.{SameCounts, View};
-ghost use Rattle.play_words.specs.Words.{IsCheck, IsMake, IsPlay, IsShares, IsVerify, count_of, refusal, seed_of};
+ghost use Rattle.play_words.specs.Words.{IsChain, IsCheck, IsMake, IsPlay, IsShares, IsVerify, count_of, refusal, seed_of};
 ghost use Rattle.command_base.specs.Names.{names_of};
 ghost use Rattle.command_base.specs.Telling.{Ends};
+ghost use Rattle.chain_command.specs.Chaining.{ChainEnds};
+ghost use Rattle.chain_command.specs.Links.{links_of};
 ghost use Rattle.check_command.specs.Checking.{CheckEnds};
 ghost use Rattle.make_command.specs.Making.{MakeEnds};
 ghost use Rattle.play_command.specs.Ending.{PlayEnds};
@@ -12,10 +14,11 @@ ghost use Rattle.shares_command.specs.Measuring.{SharesEnds};
 ghost use Rattle.verify_command.specs.Verifying.{VerifyEnds};
 ghost use Rattle.condition_command.specs.Conditioning.{ConditionEnds};
 ghost use Rattle.play_words.specs.Words.{IsCondition};
-ghost use Rattle.play_cli.specs.Run.{mark_names};
-ghost use Rattle.play_cli.specs.Run.{IsRefused, MeetsReadFault, MeetsWriteFault, inputs_named};
+ghost use Rattle.play_cli.specs.Run.{IsRefused, MeetsReadFault, MeetsWriteFault, inputs_named, mark_names};
 
-use crate::commands::{run_check, run_condition, run_make, run_play, run_shares, run_verify};
+use crate::commands::{
+    run_chain, run_check, run_condition, run_make, run_play, run_shares, run_verify,
+};
 use command_base::{Failure, Status, told};
 use play_base::{Files, SteadyFiles};
 use play_words::{Command, Unread, read_words};
@@ -34,15 +37,18 @@ use std::alloc::Global;
 /// `shares` with the options of `play` plays as it does, and prints of each pair of sibling classes of HFSC how far their work lay
 /// apart. `verify --config C --interface I --arrivals A --departures D --fates T` holds the departures D and the fates T, whoever made
 /// them, to the interface and the arrivals, creates nothing, and prints how close each leaf came to its due moments, or the first row
-/// of the least test that fails. `condition --config C --interface I --arrivals A --marked M` writes to M what the conditioners of
-/// the interface make of the capture A. A capture A is classic or pcapng; pcapng is read whole before anything is created.
+/// of the least test that fails. `chain` with the options of `play` and `--next J --departures2 D2 --fates2 T2 --stats2 Z2 --path P`
+/// plays as `play` does, then plays D on the interface J into D2, T2 and Z2, with the words of the same seed from their beginning, and
+/// writes to P what became of each arrival. `condition --config C --interface I --arrivals A --marked M` writes to M what the conditioners
+/// of the interface make of the capture A. A capture A is classic or pcapng; pcapng is read whole before anything is created.
 /// Options come in any order, as `--name VALUE` or `--name=VALUE`. After every status but 0 its message is printed, a line that
 /// `message_of` gives; a `play` or a `condition` that is done prints nothing.
 ///
 /// Each clause below says how a run of one command ends: a record whose fields are sentences says when each outcome comes and what
-/// it leaves (`PlayEnds`, `SharesEnds`, `CheckEnds`, `MakeEnds`, `VerifyEnds`, `ConditionEnds`); the status is `status_of` the outcome, and its
-/// message, `message_of` a failure, was printed. For files whose bytes are known, what is done means the headline of `HasPlayed`,
-/// `HasMeasured`, `HasMade`, `HasChecked`, `HasVerified` or `HasConditioned`. Status 8 means that memory ran out; no clause says when that happens.
+/// it leaves (`PlayEnds`, `SharesEnds`, `CheckEnds`, `MakeEnds`, `VerifyEnds`, `ChainEnds`, `ConditionEnds`); the status is `status_of`
+/// the outcome, and its message, `message_of` a failure, was printed. For files whose bytes are known, what is done means the headline of
+/// `HasPlayed`, `HasMeasured`, `HasMade`, `HasChecked`, `HasVerified`, `HasChained` or `HasConditioned`. Status 8 means that memory ran
+/// out; no clause says when that happens.
 pub fn run<F: Files>(alloc: Global, words: &[String], files: &mut F) -> Status
     // Words are refused exactly where they fail a test, with the kind of the first, unless there is no memory to read them.
     ensures refused { (kind : ℕ) → refusal words.now ≡ Some kind →
@@ -62,6 +68,8 @@ pub fn run<F: Files>(alloc: Global, words: &[String], files: &mut F) -> Status
         Ends (MakeEnds (F.view files.old) (F.view files.new) (names_of words.now) seed count) (F.view files.old) (F.view files.new) result }
     ensures verifies { refusal words.now ≡ None → IsVerify words.now →
         Ends (VerifyEnds (F.view files.old) (F.view files.new) (inputs_named words.now)) (F.view files.old) (F.view files.new) result }
+    ensures chains { refusal words.now ≡ None → IsChain words.now → (seed : ℕ) → seed_of words.now ≡ Some seed →
+        Ends (ChainEnds (F.view files.old) (F.view files.new) (links_of words.now) seed) (F.view files.old) (F.view files.new) result }
     ensures conditions { refusal words.now ≡ None → IsCondition words.now →
         Ends (ConditionEnds (F.view files.old) (F.view files.new) (mark_names words.now)) (F.view files.old) (F.view files.new) result }
 
@@ -77,6 +85,7 @@ pub fn run<F: Files>(alloc: Global, words: &[String], files: &mut F) -> Status
         Ok(Command::Make(read)) => run_make(alloc, files, &read),
         Ok(Command::Verify(read)) => run_verify(alloc, files, &read),
         Ok(Command::Shares(read)) => run_shares(alloc, files, &read),
+        Ok(Command::Chain(read)) => run_chain(alloc, files, &read),
         Ok(Command::Condition(read)) => run_condition(alloc, files, &read),
         Err(Unread::Refused(fault)) => told(alloc, files, Err(Failure::Words(fault))),
         Err(Unread::NoMemory) => told(alloc, files, Err(Failure::NoMemory)),
@@ -103,6 +112,9 @@ pub fn run_steady(alloc: Global, words: &[String], files: &mut SteadyFiles) -> S
         (steady_view files.old) (steady_view files.new) result }
     ensures verifies { refusal words.now ≡ None → IsVerify words.now →
         Ends (VerifyEnds (steady_view files.old) (steady_view files.new) (inputs_named words.now))
+        (steady_view files.old) (steady_view files.new) result }
+    ensures chains { refusal words.now ≡ None → IsChain words.now → (seed : ℕ) → seed_of words.now ≡ Some seed →
+        Ends (ChainEnds (steady_view files.old) (steady_view files.new) (links_of words.now) seed)
         (steady_view files.old) (steady_view files.new) result }
     ensures conditions { refusal words.now ≡ None → IsCondition words.now →
         Ends (ConditionEnds (steady_view files.old) (steady_view files.new) (mark_names words.now))

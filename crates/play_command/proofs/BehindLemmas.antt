@@ -70,7 +70,7 @@ starts u a c n s = record {
   tells = s.read.keeps.tells;
   input = λ t. record { config = sym (s.read.keeps.bytes n.config tt); arrivals = sym (s.read.keeps.bytes n.arrivals tt) };
   outputs = λ t. record {
-    untouched = λ part l x. untouched_on u a c n part s (omega (arith, l)) x;
+    untouched = λ part l most x. untouched_on u a c n part s (omega (arith, l)) x;
     departures = s.read.keeps.bytes n.departures tt;
     fates = s.read.keeps.bytes n.fates tt;
     stats = s.read.keeps.bytes n.stats tt;

@@ -1,5 +1,6 @@
 -- How the play of an interface that was found ends.
-use Rattle.std.proofs.Common.{◌∙◌, ℕ, List, Err, arith, sym}
+use Rattle.std.proofs.Common.{◌≡◌, ◌∙◌, ℕ, List, Err, Some, arith, sym}
+use Rattle.std.specs.Prelude.{IsTrue}
 use Rattle.conf_tree.specs.declared.interface.Interface.{Interface}
 use Rattle.play_base.specs.View.{View, IsAbsent, SameCounts, Any, Keeps}
 use Rattle.play_core.specs.declared.totals.Totals.{Totals}
@@ -12,7 +13,7 @@ use Rattle.command_base.specs.Names.{Names}
 use Rattle.command_base.proofs.ConfLemmas.{no_bytes, some_bytes}
 use Rattle.play_command.specs.Ending.{PlayEnds}
 use Rattle.play_command.specs.Failing.{play_failure, unplayed_failure}
-use Rattle.play_command.specs.Found.{PlaysTo}
+use Rattle.play_command.specs.Found.{IsBehind, PlaysTo}
 use Rattle.play_command.specs.InterfaceSetup.{setup_of}
 use Rattle.play_command.specs.Opening.{AreNamed, AreOpened, OpenedFar, ArrivalsCauses, IsOpened, OutputCauses}
 use Rattle.play_base.proofs.ViewLaws.{keeps_refl}
@@ -23,7 +24,9 @@ use Rattle.play_command.proofs.InputLemmas.{fronts_whole}
 use Rattle.play_command.proofs.Laws.{HaveLaws}
 use Rattle.play_command.proofs.StepLemmas.{Steps, accepted_not, done_of, done_totals, fails_of, files_of, fronts_of, fronts_opened, fails_arrivals, fails_outputs}
 use Rattle.play_command.proofs.ToldLemmas.{done_is_told, unplayed_is_told}
+use Rattle.arrivals_front.specs.Given.{Follows}
 use Rattle.play_command.specs.declared.failing.Unplayed.{Unplayed}
+use Rattle.play_command.specs.declared.opening.Arrivals.{Arrivals}
 use Rattle.play_command.specs.declared.failing.Unplayed.TheVariants.{Play}
 use Rattle.play_command.proofs.SeeingLemmas.{Explained, FrontsIn, PlayedIn, Sees, StatsLeft}
 
@@ -46,6 +49,11 @@ found_failed a b c n i o seed f s why front stats =
         files = files_of a b c n i o s;
       };
     }
+
+-- arrivals that were opened stand behind the accepted configuration
+pub opened_behind : (a g : View) (n : Names) (i : Interface) (x : Arrivals) → Accepts a n.config n.interface i → IsOpened a g n.arrivals x.file
+    → (IsTrue a.tells → (given : List ℕ) → a.bytes n.arrivals ≡ Some given → Follows g x.file given x.given) → IsBehind a g n i x
+opened_behind a g n i x accepted opened follows = record { accepted = accepted; opened = opened; follows = follows }
 
 -- its arrivals cannot be read
 pub found_unread : (a b : View) (n : Names) (i : Interface) (seed : ℕ) (f : Unplayed) → HaveLaws → Accepts a n.config n.interface i

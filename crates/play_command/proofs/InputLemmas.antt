@@ -158,7 +158,7 @@ stats_by u v c n x records k e (inl h) = inl (front_by u v c 5 n.stats [] k e h)
 stats_by u v c n x records k e (inr h) = inr (h.0, h.1, h.2, front_by u v c 5 n.stats _ k e h.3)
 
 pub record SameOutputs (u v c : View) (n : Names) : Type 0 where
-  pub untouched : (part : ℕ) → 3 ≤ part → Untouched u c part → Untouched v c part
+  pub untouched : (part : ℕ) → 3 ≤ part → part ≤ 5 → Untouched u c part → Untouched v c part
   pub departures : u.bytes n.departures ≡ v.bytes n.departures
   pub fates : u.bytes n.fates ≡ v.bytes n.fates
   pub stats : u.bytes n.stats ≡ v.bytes n.stats
@@ -173,9 +173,9 @@ fronts_by u v c n seed tells input out h = λ t given records last reads is_last
     record {
       history = x.history;
       begun = x.begun;
-      departures = front_by u v c 3 n.departures _ (s.untouched 3 (omega arith)) s.departures x.departures;
-      fates = front_by u v c 4 n.fates _ (s.untouched 4 (omega arith)) s.fates x.fates;
-      stats = stats_by u v c n (setup_of given.interface seed) records (s.untouched 5 (omega arith)) s.stats x.stats;
+      departures = front_by u v c 3 n.departures _ (s.untouched 3 (omega arith) (omega arith)) s.departures x.departures;
+      fates = front_by u v c 4 n.fates _ (s.untouched 4 (omega arith) (omega arith)) s.fates x.fates;
+      stats = stats_by u v c n (setup_of given.interface seed) records (s.untouched 5 (omega arith) (omega arith)) s.stats x.stats;
     }
 
 -- whole texts are fronts

@@ -4,6 +4,7 @@ pub mod EndLemmas
 pub mod FilesLemmas
 pub mod FoundLemmas
 pub mod InputLemmas
+pub mod KeptLemmas
 pub mod LateLemmas
 pub mod Laws
 pub mod NamedLemmas
@@ -16,3 +17,4 @@ pub mod StepLemmas
 pub mod TellLemmas
 pub mod ThroughLemmas
 pub mod ToldLemmas
+pub mod WholeLemmas

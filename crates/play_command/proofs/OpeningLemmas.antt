@@ -1,5 +1,5 @@
 -- The files of a play as they come to be, one after another.
-use Rattle.std.proofs.Common.{◌≡◌, ◌≢◌, ◌≤◌, ◌<◌, ◌+◌, ◌∙◌, ◌⊎◌, ℕ, List, [], None, Some, ap, sym, refl, subst, inl, inr, arith, true, length}
+use Rattle.std.proofs.Common.{◌≡◌, ◌≢◌, ◌≤◌, ◌<◌, ◌+◌, ◌∙◌, ◌⊎◌, ℕ, Bool, List, [], None, Some, ap, ap₂, sym, refl, subst, inl, inr, arith, true, false, length}
 use Rattle.std.specs.Prelude.{IsTrue}
 use Rattle.std.specs.declared.option.Option.{Option}
 use Rattle.play_base.specs.View.{View, Any, Unchanged, IsMissed, IsNew, Opened, Created, Rose, Keeps, NoneAppears}
@@ -10,7 +10,9 @@ use Rattle.play_words.specs.Words.{AreDistinct}
 use Rattle.command_base.proofs.PartLemmas.{fresh_before, new_part, none_some, same_part, short_or_long, there_or_not}
 use Rattle.command_base.specs.Faults.{CannotRead, Untouched}
 use Rattle.play_command.specs.Opening.{AreOpened, HaveParts, KeepsOthers, OpenedFar, OtherThree, ArrivalsCauses, GivesNoCapture, IsOpened}
-use Rattle.arrivals_front.specs.Given.{IsRefused, is_pcapng}
+use Rattle.arrivals_front.specs.Given.{Follows, IsRefused, ReadBy, is_pcapng}
+use Rattle.arrivals_front.specs.declared.given.Given.{Given}
+use Rattle.pcapng_files.specs.Fronts.{with_front}
 use Rattle.arrivals_front.specs.declared.given.GivenFault.{GivenFault}
 use Rattle.arrivals_front.specs.declared.given.GivenFault.TheVariants as given
 use Rattle.pcapng_files.specs.Converted.{IsCause}
@@ -345,3 +347,23 @@ refused_causes a p g name file given.NoMemory x o r = tt
 pub cannot_read : (a b : View) (part : ℕ) (name : List ℕ) → Rose (a.read_faults part) (b.read_faults part) ⊎ IsMissed a b name → CannotRead a b part name
 cannot_read a b part name (inl r) = inl r
 cannot_read a b part name (inr m) = inr m.0
+
+-- arrivals of which nothing was taken
+pub classic_opened : (a g : View) (name : List ℕ) (file : ℕ) → Opened a g 2 name file → IsOpened a g name file
+classic_opened a g name file x = record { is_new = x.is_new; keeps = x.keeps; there = λ t. (x.left t).0 }
+
+pub classic_follows : (a g : View) (name bytes : List ℕ) (file : ℕ) (gv : Given) → Opened a g 2 name file → IsTrue a.tells → a.bytes name ≡ Some bytes
+    → is_pcapng bytes ≡ false → gv.rest ≡ true → gv.front.items ≡ [] → Follows g file bytes gv
+classic_follows a g name bytes file gv x t at classic rest none =
+    let left : g.left file ≡ Some bytes = (x.left t).1 ∙ at in
+    let short : length gv.front.items ≤ 4 = subst (λ (xs : List ℕ). length xs ≤ 4) (sym none) (omega arith) in
+    record {
+      bytes = bytes;
+      read = subst (λ (k : Bool). ReadBy k bytes bytes) (sym classic) refl;
+      left = ap₂ (λ (r : Bool) (xs : List ℕ). with_front true r xs (g.left file)) rest none ∙ ap (λ (o : Option (List ℕ)). with_front true true [] o) left;
+      classic = λ e. (classic, short);
+      pcapng = λ e. absurd (true_false (sym rest ∙ e));
+    }
+  where
+    true_false : true ≡ false → ⊥
+    true_false e = cc

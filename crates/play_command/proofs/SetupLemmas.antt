@@ -17,8 +17,10 @@ use Rattle.play_loop.specs.declared.fault.Output.TheVariants as output
 use Rattle.play_loop.specs.declared.fault.PlayFault.{PlayFault}
 use Rattle.play_loop.specs.declared.fault.PlayFault.TheVariants as play
 use Rattle.play_loop.specs.Played.{Explains, Fronts, HasOffered, IsStanding, LeavesStats, Plays}
+use Rattle.play_loop.specs.declared.kept.KeptFate.{KeptFate}
 use Rattle.play_loop.specs.Setup.{Setup}
 use Rattle.play_loop.specs.Setup as loop
+use Rattle.play_loop.specs.Told.{HasDecided, Tells}
 use Rattle.command_base.specs.Configuration.{IsConfigured}
 use Rattle.play_command.proofs.Laws.{HaveLaws, is_held, is_named}
 use Rattle.play_command.specs.InterfaceSetup.{setup_of}
@@ -108,11 +110,17 @@ plays_of i p place dress names given seed b stood u v o t h =
     let P : Setup → Type 0 = λ x. Plays x stood u v o t in
     plays_untold (setup_of i seed) stood u v o t (subst P (setup_is i p place dress names given seed b) h)
 
-pub stood_of : (i : Interface) (p : Policy) (place : List ℕ → Placed) (dress : Dressing) (names : NameList) (given seed : ℕ)
-    → IsBuilt i p place dress names given seed → (stood : List Happened → Type 0) (u v : View) (o : Opened) (t : Totals)
-    → Plays (loop.setup_of p place dress names i.rate given) stood u v o t → Plays (setup_of i seed) stood u v o t
-stood_of i p place dress names given seed b stood u v o t h =
-    let P : Setup → Type 0 = λ x. Plays x stood u v o t in subst P (setup_is i p place dress names given seed b) h
+pub told_of : (i : Interface) (p : Policy) (place : List ℕ → Placed) (dress : Dressing) (names : NameList) (given seed : ℕ)
+    → IsBuilt i p place dress names given seed → (stood : List Happened → Type 0) (kept : List KeptFate → Type 0) (u v : View) (o : Opened) (t : Totals)
+    → Tells (loop.setup_of p place dress names i.rate given) stood kept u v o t → Tells (setup_of i seed) stood kept u v o t
+told_of i p place dress names given seed b stood kept u v o t h =
+    let P : Setup → Type 0 = λ x. Tells x stood kept u v o t in subst P (setup_is i p place dress names given seed b) h
+
+pub decided_of : (i : Interface) (p : Policy) (place : List ℕ → Placed) (dress : Dressing) (names : NameList) (given seed : ℕ)
+    → IsBuilt i p place dress names given seed → (kept : List KeptFate → Type 0) (t : Totals)
+    → HasDecided (loop.setup_of p place dress names i.rate given) kept t → HasDecided (setup_of i seed) kept t
+decided_of i p place dress names given seed b kept t h =
+    let P : Setup → Type 0 = λ x. HasDecided x kept t in subst P (setup_is i p place dress names given seed b) h
 
 pub explains_of : (i : Interface) (p : Policy) (place : List ℕ → Placed) (dress : Dressing) (names : NameList) (given seed : ℕ)
     → IsBuilt i p place dress names given seed → (stood : List Happened → Type 0) (u v : View) (o : Opened) (f : PlayFault)

@@ -1,8 +1,7 @@
 -- What an interface plays of the arrivals is the marked capture of what was given.
 use Rattle.std.proofs.Common.{◌≡◌, ◌≤◌, ◌+◌, ◌∙◌, ◌++◌, ℕ, Bool, true, false, List, [], length, Some, None, Err, inl, ap, arith, sym, subst, refl, true≢false}
-use Rattle.std.specs.Prelude.{IsTrue, eqb, if◌then◌else◌, option_map}
+use Rattle.std.specs.Prelude.{eqb, if◌then◌else◌, option_map}
 use Rattle.std.specs.declared.option.Option.{Option}
-use Rattle.arrivals_front.specs.Given.{Follows}
 use Rattle.arrivals_front.specs.declared.given.Given.{Given}
 use Rattle.conf_tree.specs.declared.interface.Interface.{Interface}
 use Rattle.frame_classes.specs.Frames.{Classes, placed_by}
@@ -144,9 +143,9 @@ unplayed x v o shown streamed ready =
       past = λ e rest h. absurd (cc);
     }
 
-pub none_stood : (P : View → View → Type 0) (v : View) (file : ℕ) (shown : Option (List ℕ)) (streamed : Bool)
+pub none_told : (P : View → View → Type 0) (v : View) (file : ℕ) (shown : Option (List ℕ)) (streamed : Bool)
     → ((u w : View) → P u w) → Through P v v file shown streamed
-none_stood P v file shown streamed all = record {
+none_told P v file shown streamed all = record {
   before = λ f. shown;
   after = λ f. None;
   fixed_before = [];

@@ -1,7 +1,7 @@
 -- From the files of a play to the names of the words.
 use Rattle.std.proofs.Common.{◌≡◌, ◌≢◌, ◌≤◌, ◌<◌, ◌++◌, ◌∙◌, ◌⊎◌, ℕ, List, [], None, Some, ap, sym, refl, subst, inl, inr, arith}
 use Rattle.std.specs.Prelude.{IsSome, IsTrue}
-use Rattle.altq_model.specs.History.{Happened}
+use Rattle.altq_model.specs.History.{Happened, journal}
 use Rattle.capture_model.specs.Capture.{Record, Step, End, Fault, Limit, Reads, IsLast}
 use Rattle.conf_tree.specs.declared.interface.Interface.{Interface}
 use Rattle.pcap_files.proofs.ReadingLaws.{one_reading}
@@ -18,7 +18,10 @@ use Rattle.play_loop.specs.declared.fault.PlayFault.{PlayFault}
 use Rattle.play_loop.specs.declared.fault.PlayFault.TheVariants as play
 use Rattle.play_loop.specs.Kept.{KeepsPlayed}
 use Rattle.play_loop.specs.Played as loop
+use Rattle.play_loop.specs.declared.kept.KeptFate.{KeptFate}
+use Rattle.play_loop.specs.KeptFates.{kept_fates}
 use Rattle.play_loop.specs.Setup.{Setup, arrivals_in}
+use Rattle.play_command.specs.Found.{HasTold}
 use Rattle.play_words.specs.Words.{AreDistinct}
 use Rattle.command_base.specs.Configuration.{Accepts, AcceptsNone, IsConfigured}
 use Rattle.command_base.specs.Names.{Names}
@@ -175,6 +178,12 @@ pub done_history : (a b c : View) (n : Names) (i : Interface) (o : Opened) (seed
     (p : Sees a n i (PlayedIn (setup_of i seed) c o totals)) (t : IsTrue a.tells) → (done_of a b c n i o seed s totals p t).played.history ≡ (p t).1.2.history
 unfolding done_of
 done_history a b c n i o seed s totals p t = refl
+
+pub done_told : (a b c : View) (n : Names) (i : Interface) (o : Opened) (seed : ℕ) (s : Steps a b c n i o) (totals : Totals)
+    (p : Sees a n i (PlayedIn (setup_of i seed) c o totals)) (t : IsTrue a.tells) → (kept : List KeptFate → Type 0)
+    → kept (kept_fates (arrivals_in (setup_of i seed) (p t).1.0) (journal (p t).1.2.history)) → HasTold kept a c n seed
+unfolding done_of
+done_told a b c n i o seed s totals p t kept h = (done_of a b c n i o seed s totals p t, h)
 
 front_at : (a c : View) (part : ℕ) (name text : List ℕ) (written rest : List ℕ) → c.bytes name ≡ Some written → written ++ rest ≡ text → IsFrontAt a c part name text
 front_at a c part name text written rest e s = inr (written, rest, e, s)

@@ -21,7 +21,7 @@ use Rattle.play_command.specs.Played.{IsLimited}
 use Rattle.play_command.specs.Ending.{IsUnread, LimitFails, PlayEnds, PlayFails, PlayIsTold, PlayLeaves, ReadFails, WriteFails}
 use Rattle.play_command.proofs.SayingLemmas.{files_after, fronts_after, late_after, offered_after, short_after}
 
-unread_after : (u v w : View) (n : Names) (seed : ℕ) → OnlySays v w → IsUnread u v n seed → IsUnread u w n seed
+pub unread_after : (u v w : View) (n : Names) (seed : ℕ) → OnlySays v w → IsUnread u v n seed → IsUnread u w n seed
 unread_after u v w n seed o (inl x) = inl (untouched_after u v w 3 o x.0, read_after u v w 2 n.arrivals o x.1)
 unread_after u v w n seed o (inr x) = inr (rose_before _ _ _ x.0 (o.keeps.later.read 2), λ t. short_after u v w n seed o (x.1 t))
 

@@ -1,5 +1,5 @@
 -- From the play over files of which one has other bytes left to these files.
-use Rattle.std.proofs.Common.{◌≡◌, ◌≤◌, ◌+◌, ◌∙◌, ◌++◌, ℕ, Bool, true, false, List, [], ◌∷◌, length, Some, Ok, Err, arith, ap, sym, subst, refl, inl, inr}
+use Rattle.std.proofs.Common.{◌≡◌, ◌≤◌, ◌+◌, ◌∙◌, ◌++◌, ℕ, Bool, true, false, List, [], length, Some, Ok, Err, arith, ap, sym, subst, refl, inl, inr}
 use Rattle.std.specs.Prelude.{IfErr, IfOk, IsTrue, OnErr, if◌then◌else◌}
 use Rattle.std.specs.declared.option.Option.{Option}
 use Rattle.std.specs.declared.result.Result.{Result}
@@ -7,7 +7,7 @@ use Rattle.altq_model.specs.History.{Happened}
 use Rattle.arrivals_front.specs.Given.{Follows, is_pcapng}
 use Rattle.arrivals_front.specs.declared.given.Given.{Given}
 use Rattle.arrivals_front.proofs.GivenLemmas.{not_both}
-use Rattle.capture_model.specs.Capture.{Record, Fault, Limit, place_after}
+use Rattle.capture_model.specs.Capture.{Record, Fault, Limit}
 use Rattle.conf_tree.specs.declared.interface.Interface.{Interface}
 use Rattle.interface_marks.specs.Conditioners.{is_conditioned, marked_in}
 use Rattle.pcap_files.specs.Reading.{AreAllTaken}

@@ -1,6 +1,6 @@
 -- What the play of an interface that was found leaves, with the counts of what was played.
 use Rattle.std.specs.Prelude.{◌≡◌, ℕ, List, Some, Ok, IsTrue}
-use Rattle.altq_model.specs.History.{Happened}
+use Rattle.altq_model.specs.History.{Happened, journal}
 use Rattle.arrivals_front.specs.Given.{Follows}
 use Rattle.conf_tree.specs.declared.interface.Interface.{Interface}
 use Rattle.play_base.specs.View.{View}
@@ -8,8 +8,13 @@ use Rattle.play_core.specs.declared.totals.Totals.{Totals}
 use Rattle.command_base.specs.Configuration.{Accepts}
 use Rattle.command_base.specs.Names.{Names}
 use Rattle.command_base.specs.declared.done.Done.TheVariants.{Played}
+use Rattle.play_loop.specs.declared.kept.KeptFate.{KeptFate}
+use Rattle.play_loop.specs.KeptFates.{kept_fates}
 use Rattle.play_loop.specs.Played.{IsStanding}
+use Rattle.play_loop.specs.Setup.{arrivals_in}
+use Rattle.play_loop.specs.Told.{HasDecided}
 use Rattle.play_command.specs.Ending.{PlayEnds}
+use Rattle.play_command.specs.InterfaceSetup.{setup_of}
 use Rattle.play_command.specs.Opening.{IsOpened}
 use Rattle.play_command.specs.Played.{HasPlayed}
 use Rattle.play_command.specs.declared.opening.Arrivals.{Arrivals}
@@ -32,3 +37,25 @@ pub record PlaysTo (old new : View) (n : Names) (seed : ℕ) (totals : Totals) :
 -- what is played is what a discipline stands for
 abbrev pub HasStood : (List Happened → Type 0) → View → View → Names → (seed : ℕ) → Type 0
 HasStood stood old new n seed = (x : HasPlayed old new n seed) × IsStanding stood x.played.history
+
+-- the journal of what is played was told: each decision with its packet's arrival
+abbrev pub HasTold : (List KeptFate → Type 0) → View → View → Names → (seed : ℕ) → Type 0
+HasTold kept old new n seed = (x : HasPlayed old new n seed)
+    × kept (kept_fates (arrivals_in (setup_of x.accepted.interface seed) x.played.records) (journal x.played.history))
+
+-- a keeper was told the journal; `decided` says so of files that tell nothing, too
+pub record TellsOf (kept : List KeptFate → Type 0) (old new : View) (n : Names) (seed : ℕ) (i : Interface) (totals : Totals) : Type 0 where
+  pub told : IsTrue old.tells → HasTold kept old new n seed
+  pub decided : HasDecided (setup_of i seed) kept totals
+
+-- and a discipline stands for the history
+pub record PlaysBy (stands : List Happened → Type 0) (kept : List KeptFate → Type 0) (old new : View) (n : Names) (seed : ℕ) (i : Interface) (totals : Totals) : Type 0 where
+  pub stood : IsTrue old.tells → HasStood stands old new n seed
+  pub tells : TellsOf kept old new n seed i totals
+
+-- the play is done, and these are its fates
+pub record PlaysFor (old new : View) (n : Names) (seed : ℕ) (i : Interface) (fates : List KeptFate) : Type 0 where
+  pub ends : PlayEnds old new n seed (Ok Played)
+  pub told : IsTrue old.tells → HasTold (λ ks. fates ≡ ks) old new n seed
+  pub totals : Totals
+  pub decided : HasDecided (setup_of i seed) (λ ks. fates ≡ ks) totals

@@ -6,5 +6,6 @@ pub mod InterfaceSetup
 pub mod Opening
 pub mod Order
 pub mod Played
+pub mod Supplied
 pub use Rattle.command_base.specs.Configuration
 pub use Rattle.command_base.specs.Names

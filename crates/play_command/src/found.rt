@@ -1,20 +1,22 @@
-// The play of an interface that the configuration gives, by a discipline that is handed in, and what that stands for behind it.
+// The play of an interface that the configuration gives, by a discipline that is handed in, and what that stands for behind it; a keeper
+// is told the journal.
+ghost use Rattle.arrivals_front.specs.Given.{is_pcapng};
 ghost use Rattle.command_base.specs.Configuration.{Accepts, IsConfigured};
 ghost use Rattle.command_base.specs.Names.{names_read};
 ghost use Rattle.interface_marks.specs.Conditioners.{is_conditioned};
 ghost use Rattle.play_base.specs.View.{SameCounts, View};
 ghost use Rattle.play_command.specs.Ending.{PlayEnds};
 ghost use Rattle.play_command.specs.Failing.{play_failure, unplayed_failure};
-ghost use Rattle.play_command.specs.Found.{HasStood, IsBehind, PlaysTo};
+ghost use Rattle.play_command.specs.Found.{IsBehind, PlaysBy, PlaysTo};
 ghost use Rattle.play_command.specs.Opening.{IsOpened};
 ghost use Rattle.play_words.specs.Words.{AreDistinct};
-ghost use Rattle.std.specs.Prelude.{Err, IfErr, IfOk, IsTrue, None, OnOk, Some, [], false, length, true, ℕ, ◌≡◌, ◌≤◌};
+ghost use Rattle.std.specs.Prelude.{Err, IfErr, IfOk, IsTrue, List, None, Some, [], false, length, true, ℕ, ◌≡◌, ◌≤◌};
 ghost use Rattle.discipline.specs.Laws.{HasRate};
 ghost use Rattle.interface_policy.specs.Policy.{policy_of};
 
 use crate::failing::Unplayed;
 use crate::interface::play_by;
-use crate::opening::{Arrivals, create_outputs, open_arrivals};
+use crate::opening::{Arrivals, create_outputs, open_arrivals, open_classic};
 use crate::shown::shown_by;
 use arrivals_front::Given;
 use conf_laws::configurations_fit;
@@ -24,7 +26,7 @@ use frame_classes::frames_have_classes;
 use interface_marks::{is_conditioned, nothing_is_marked_without_conditioners};
 use interface_policy::interfaces_keep_their_promises;
 use play_base::Files;
-use play_loop::{PlayFault, Totals};
+use play_loop::{Keeper, PlayFault, Totals};
 use play_words::PlayWords;
 use std::alloc::Global;
 
@@ -42,15 +44,17 @@ fn stands_as_given(given: &Given, found: &Interface) -> bool
 
 // Creates the outputs, and plays a classic capture that was opened, as it stands, by a discipline: the interface has no conditioner.
 #[tactic(auto, using(play_base::proofs::ViewLaws::same_trans, play_base::proofs::ViewLaws::same_refl))]
-fn itself_by<D: Discipline, F: Files>(
+fn itself_by<D: Discipline, K: Keeper, F: Files>(
     alloc: Global,
     files: &mut F,
     found: &Interface,
     words: &PlayWords<'_>,
     arrivals: &Arrivals,
     discipline: &mut D,
+    keeper: &mut K,
 ) -> Result<Totals, PlayFault>
     requires new { D.stands discipline.old [] }
+    requires begun { K.told keeper.old [] }
     requires policy { D.policy discipline.old ≡ policy_of found.now }
     requires rate { HasRate (D.link_rate discipline.old) found.now.rate }
     requires configured { IsConfigured found.now }
@@ -63,8 +67,9 @@ fn itself_by<D: Discipline, F: Files>(
         → SameCounts a (F.view files.old) → PlaysTo a (F.view files.new) (names_read words.now) words.now.seed totals) }
     ensures ends { IfErr result (λ fault. (a : View) → IsBehind a (F.view files.old) (names_read words.now) found.now arrivals.now
         → PlayEnds a (F.view files.new) (names_read words.now) words.now.seed (Err (play_failure fault))) }
-    ensures stood { OnOk result ((a : View) → IsBehind a (F.view files.old) (names_read words.now) found.now arrivals.now → IsTrue a.tells
-        → HasStood (D.stands discipline.new) a (F.view files.new) (names_read words.now) words.now.seed) }
+    ensures told { IfOk result (λ totals. (a : View) → IsBehind a (F.view files.old) (names_read words.now) found.now arrivals.now
+        → PlaysBy (D.stands discipline.new) (K.told keeper.new) a (F.view files.new) (names_read words.now) words.now.seed found.now totals) }
+    ensures before { K.before keeper.new ≡ K.before keeper.old }
     ensures silent { (a : View) → IsBehind a (F.view files.old) (names_read words.now) found.now arrivals.now → (F.view files.new).said ≡ a.said }
     ensures high { (a : View) → IsBehind a (F.view files.old) (names_read words.now) found.now arrivals.now
         → (f p : ℕ) → a.part f ≡ None → (F.view files.new).part f ≡ Some p → 2 ≤ p }
@@ -78,7 +83,7 @@ fn itself_by<D: Discipline, F: Files>(
         Ok(opened) => opened,
         Err(fault) => return Err(fault),
     };
-    match play_by(alloc, files, found, discipline, words.seed, &opened) {
+    match play_by(alloc, files, found, discipline, keeper, words.seed, &opened) {
         Ok(totals) => Ok(totals),
         Err(fault) => Err(fault),
     }
@@ -87,15 +92,17 @@ fn itself_by<D: Discipline, F: Files>(
 // Creates the outputs, and plays what an interface makes of arrivals that were opened, by a discipline: of a pcapng file, or by its
 // conditioners.
 #[tactic(auto, using(play_base::proofs::ViewLaws::same_trans, play_base::proofs::ViewLaws::same_refl))]
-fn made_by<D: Discipline, F: Files>(
+fn made_by<D: Discipline, K: Keeper, F: Files>(
     alloc: Global,
     files: &mut F,
     found: &Interface,
     words: &PlayWords<'_>,
     arrivals: &Arrivals,
     discipline: &mut D,
+    keeper: &mut K,
 ) -> Result<Totals, PlayFault>
     requires new { D.stands discipline.old [] }
+    requires begun { K.told keeper.old [] }
     requires policy { D.policy discipline.old ≡ policy_of found.now }
     requires rate { HasRate (D.link_rate discipline.old) found.now.rate }
     requires configured { IsConfigured found.now }
@@ -107,8 +114,9 @@ fn made_by<D: Discipline, F: Files>(
         → SameCounts a (F.view files.old) → PlaysTo a (F.view files.new) (names_read words.now) words.now.seed totals) }
     ensures ends { IfErr result (λ fault. (a : View) → IsBehind a (F.view files.old) (names_read words.now) found.now arrivals.now
         → PlayEnds a (F.view files.new) (names_read words.now) words.now.seed (Err (play_failure fault))) }
-    ensures stood { OnOk result ((a : View) → IsBehind a (F.view files.old) (names_read words.now) found.now arrivals.now → IsTrue a.tells
-        → HasStood (D.stands discipline.new) a (F.view files.new) (names_read words.now) words.now.seed) }
+    ensures told { IfOk result (λ totals. (a : View) → IsBehind a (F.view files.old) (names_read words.now) found.now arrivals.now
+        → PlaysBy (D.stands discipline.new) (K.told keeper.new) a (F.view files.new) (names_read words.now) words.now.seed found.now totals) }
+    ensures before { K.before keeper.new ≡ K.before keeper.old }
     ensures silent { (a : View) → IsBehind a (F.view files.old) (names_read words.now) found.now arrivals.now → (F.view files.new).said ≡ a.said }
     ensures high { (a : View) → IsBehind a (F.view files.old) (names_read words.now) found.now arrivals.now
         → (f p : ℕ) → a.part f ≡ None → (F.view files.new).part f ≡ Some p → 2 ≤ p }
@@ -128,6 +136,7 @@ fn made_by<D: Discipline, F: Files>(
         words.seed,
         &opened,
         discipline,
+        keeper,
         &arrivals.given,
     ) {
         Ok(totals) => Ok(totals),
@@ -135,17 +144,56 @@ fn made_by<D: Discipline, F: Files>(
     }
 }
 
-/// Opens the arrivals, a classic or a pcapng capture, creates the outputs, and plays an interface that the configuration gives, by a
-/// discipline of its policy to which nothing was offered yet. Where the play is done the discipline stands for its history.
+// Creates the outputs, and plays arrivals that were opened, by a discipline.
 #[tactic(auto, using(play_base::proofs::ViewLaws::same_trans, play_base::proofs::ViewLaws::same_refl))]
-pub fn play_found_by<D: Discipline, F: Files>(
+fn opened_by<D: Discipline, K: Keeper, F: Files>(
+    alloc: Global,
+    files: &mut F,
+    found: &Interface,
+    words: &PlayWords<'_>,
+    arrivals: &Arrivals,
+    discipline: &mut D,
+    keeper: &mut K,
+) -> Result<Totals, PlayFault>
+    requires new { D.stands discipline.old [] }
+    requires begun { K.told keeper.old [] }
+    requires policy { D.policy discipline.old ≡ policy_of found.now }
+    requires rate { HasRate (D.link_rate discipline.old) found.now.rate }
+    requires configured { IsConfigured found.now }
+    requires distinct { AreDistinct words.now.config.now words.now.arrivals.now words.now.departures.now words.now.fates.now words.now.stats.now }
+    requires opened { (a : View) × IsOpened a (F.view files.old) words.now.arrivals.now arrivals.now.file }
+    requires few { arrivals.now.given.rest ≡ true → length arrivals.now.given.front.items ≤ 24 }
+    ensures done { IfOk result (λ totals. (a : View) → IsBehind a (F.view files.old) (names_read words.now) found.now arrivals.now
+        → SameCounts a (F.view files.old) → PlaysTo a (F.view files.new) (names_read words.now) words.now.seed totals) }
+    ensures ends { IfErr result (λ fault. (a : View) → IsBehind a (F.view files.old) (names_read words.now) found.now arrivals.now
+        → PlayEnds a (F.view files.new) (names_read words.now) words.now.seed (Err (play_failure fault))) }
+    ensures told { IfOk result (λ totals. (a : View) → IsBehind a (F.view files.old) (names_read words.now) found.now arrivals.now
+        → PlaysBy (D.stands discipline.new) (K.told keeper.new) a (F.view files.new) (names_read words.now) words.now.seed found.now totals) }
+    ensures before { K.before keeper.new ≡ K.before keeper.old }
+    ensures silent { (a : View) → IsBehind a (F.view files.old) (names_read words.now) found.now arrivals.now → (F.view files.new).said ≡ a.said }
+    ensures high { (a : View) → IsBehind a (F.view files.old) (names_read words.now) found.now arrivals.now
+        → (f p : ℕ) → a.part f ≡ None → (F.view files.new).part f ≡ Some p → 2 ≤ p }
+{
+    if stands_as_given(&arrivals.given, found) {
+        return itself_by(alloc, files, found, words, arrivals, discipline, keeper);
+    }
+    made_by(alloc, files, found, words, arrivals, discipline, keeper)
+}
+
+/// Opens the arrivals, a classic or a pcapng capture, creates the outputs, and plays an interface that the configuration gives, by a
+/// discipline of its policy to which nothing was offered yet. Where the play is done the discipline stands for its history, and the
+/// keeper was told its journal, each decision with its packet's arrival.
+#[tactic(auto, using(play_base::proofs::ViewLaws::same_trans, play_base::proofs::ViewLaws::same_refl))]
+pub fn play_found_by<D: Discipline, K: Keeper, F: Files>(
     alloc: Global,
     files: &mut F,
     found: &Interface,
     words: &PlayWords<'_>,
     discipline: &mut D,
+    keeper: &mut K,
 ) -> Result<Totals, Unplayed>
     requires new { D.stands discipline.old [] }
+    requires begun { K.told keeper.old [] }
     requires policy { D.policy discipline.old ≡ policy_of found.now }
     requires rate { HasRate (D.link_rate discipline.old) found.now.rate }
     requires configured { IsConfigured found.now }
@@ -154,8 +202,9 @@ pub fn play_found_by<D: Discipline, F: Files>(
     ensures done { IfOk result (PlaysTo (F.view files.old) (F.view files.new) (names_read words.now) words.now.seed) }
     ensures ends { IfErr result (λ fault. PlayEnds (F.view files.old) (F.view files.new) (names_read words.now) words.now.seed
         (Err (unplayed_failure fault))) }
-    ensures stood { OnOk result (IsTrue (F.view files.old).tells
-        → HasStood (D.stands discipline.new) (F.view files.old) (F.view files.new) (names_read words.now) words.now.seed) }
+    ensures told { IfOk result (PlaysBy (D.stands discipline.new) (K.told keeper.new) (F.view files.old) (F.view files.new)
+        (names_read words.now) words.now.seed found.now) }
+    ensures before { K.before keeper.new ≡ K.before keeper.old }
     ensures silent { (F.view files.new).said ≡ (F.view files.old).said }
     ensures high { (f p : ℕ) → (F.view files.old).part f ≡ None → (F.view files.new).part f ≡ Some p → 2 ≤ p }
 {
@@ -166,14 +215,50 @@ pub fn play_found_by<D: Discipline, F: Files>(
         Ok(arrivals) => arrivals,
         Err(fault) => return Err(fault),
     };
-    if stands_as_given(&arrivals.given, found) {
-        return match itself_by(alloc, files, found, words, &arrivals, discipline) {
-            Ok(totals) => Ok(totals),
-            Err(fault) => Err(Unplayed::Play(fault)),
-        };
-    }
-    match made_by(alloc, files, found, words, &arrivals, discipline) {
+    match opened_by(alloc, files, found, words, &arrivals, discipline, keeper) {
         Ok(totals) => Ok(totals),
         Err(fault) => Err(Unplayed::Play(fault)),
+    }
+}
+
+/// Does what `play_found_by` does with arrivals that are a classic capture, whatever they begin with: nothing is taken of them before
+/// the outputs are created. No fault is that of a pcapng file.
+#[tactic(auto, using(play_base::proofs::ViewLaws::same_trans, play_base::proofs::ViewLaws::same_refl))]
+pub fn play_classic_by<D: Discipline, K: Keeper, F: Files>(
+    alloc: Global,
+    files: &mut F,
+    found: &Interface,
+    words: &PlayWords<'_>,
+    discipline: &mut D,
+    keeper: &mut K,
+) -> Result<Totals, PlayFault>
+    requires new { D.stands discipline.old [] }
+    requires begun { K.told keeper.old [] }
+    requires policy { D.policy discipline.old ≡ policy_of found.now }
+    requires rate { HasRate (D.link_rate discipline.old) found.now.rate }
+    requires configured { IsConfigured found.now }
+    requires accepted { Accepts (F.view files.old) words.now.config.now words.now.interface.now found.now }
+    requires classic { IsTrue (F.view files.old).tells → (given : List ℕ) → (F.view files.old).bytes words.now.arrivals.now ≡ Some given
+        → is_pcapng given ≡ false }
+    requires distinct { AreDistinct words.now.config.now words.now.arrivals.now words.now.departures.now words.now.fates.now words.now.stats.now }
+    ensures done { IfOk result (PlaysTo (F.view files.old) (F.view files.new) (names_read words.now) words.now.seed) }
+    ensures ends { IfErr result (λ fault. PlayEnds (F.view files.old) (F.view files.new) (names_read words.now) words.now.seed
+        (Err (play_failure fault))) }
+    ensures told { IfOk result (PlaysBy (D.stands discipline.new) (K.told keeper.new) (F.view files.old) (F.view files.new)
+        (names_read words.now) words.now.seed found.now) }
+    ensures before { K.before keeper.new ≡ K.before keeper.old }
+    ensures silent { (F.view files.new).said ≡ (F.view files.old).said }
+    ensures high { (f p : ℕ) → (F.view files.old).part f ≡ None → (F.view files.new).part f ≡ Some p → 2 ≤ p }
+{
+    configurations_fit();
+    frames_have_classes();
+    interfaces_keep_their_promises();
+    let arrivals = match open_classic(alloc, files, words.arrivals) {
+        Ok(arrivals) => arrivals,
+        Err(fault) => return Err(fault),
+    };
+    match opened_by(alloc, files, found, words, &arrivals, discipline, keeper) {
+        Ok(totals) => Ok(totals),
+        Err(fault) => Err(fault),
     }
 }

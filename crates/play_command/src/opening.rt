@@ -1,6 +1,6 @@
 // Opening the arrivals, and creating the outputs of a play.
-ghost use Rattle.std.specs.Prelude.{◌≡◌, ◌≤◌, ℕ, true, List, Some, length, IsTrue, IfOk, IfErr, OnOk};
-ghost use Rattle.arrivals_front.specs.Given.{Follows};
+ghost use Rattle.std.specs.Prelude.{◌≡◌, ◌≤◌, ℕ, true, false, List, [], Some, length, IsTrue, IfOk, IfErr, OnOk};
+ghost use Rattle.arrivals_front.specs.Given.{Follows, is_pcapng};
 ghost use Rattle.play_base.specs.View.{Any, Keeps, SameCounts, View};
 ghost use Rattle.play_words.specs.Words.{AreDistinct};
 ghost use Rattle.command_base.specs.Names.{Names, names_read};
@@ -56,6 +56,38 @@ pub fn open_arrivals<F: Files>(
     match given_arrivals(alloc, files, file) {
         Ok(given) => Ok(Arrivals { file, given }),
         Err(fault) => Err(given_fault(fault)),
+    }
+}
+
+/// Opens arrivals that are a classic capture, whatever they begin with: nothing is taken of them. The only faults are `Read` and
+/// `NoMemory`.
+#[tactic(auto, using(play_base::proofs::ViewLaws::same_trans, play_base::proofs::ViewLaws::same_refl))]
+pub fn open_classic<F: Files>(
+    alloc: Global,
+    files: &mut F,
+    name: &str,
+) -> Result<Arrivals, PlayFault>
+    ensures opened { IfOk result (λ x. IsOpened (F.view files.old) (F.view files.new) name.now x.file) }
+    ensures given { IfOk result (λ x. IsTrue (F.view files.old).tells → (given : List ℕ) → (F.view files.old).bytes name.now ≡ Some given
+        → is_pcapng given ≡ false → Follows (F.view files.new) x.file given x.given) }
+    ensures rest { IfOk result (λ x. x.given.rest ≡ true) }
+    ensures none { IfOk result (λ x. x.given.front.items ≡ []) }
+    ensures why { IfErr result (λ fault. ArrivalsCauses (F.view files.old) (F.view files.new) name.now (Unplayed.Play fault)) }
+    ensures named { (n : Names) → n.arrivals ≡ name.now → AreNamed (F.view files.old) (F.view files.new) n 6 }
+    ensures far { (dep fat stats : List ℕ) → OpenedFar (F.view files.old) (F.view files.new) dep fat stats }
+    ensures keeps { Keeps Any Any (F.view files.old) (F.view files.new) }
+    ensures no_fault { OnOk result (SameCounts (F.view files.old) (F.view files.new)) }
+{
+    match files.open(2, name) {
+        Ok(file) => Ok(Arrivals {
+            file,
+            given: Given {
+                front: Vec::new(alloc),
+                rest: true,
+            },
+        }),
+        Err(Trouble::Failed) => Err(PlayFault::Read),
+        Err(Trouble::NoMemory) => Err(PlayFault::NoMemory),
     }
 }
 

@@ -13,6 +13,9 @@ pub fn usage(alloc: Global) -> Result<String, AllocError> {
         "  play --config FILE --interface NAME --arrivals FILE --departures FILE --fates FILE --stats FILE --seed N\n",
     )?;
     text.push_str("  shares with the options of play\n")?;
+    text.push_str(
+        "  chain with the options of play and --next NAME --departures2 FILE --fates2 FILE --stats2 FILE --path FILE\n",
+    )?;
     text.push_str("  make --count N and the options of play\n")?;
     text.push_str(
         "  verify --config FILE --interface NAME --arrivals FILE --departures FILE --fates FILE\n",

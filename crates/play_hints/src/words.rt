@@ -9,12 +9,16 @@ use play_words::{count, options_read};
 use std::alloc::{AllocError, Global};
 
 // The options that name files.
-const FILES: [&str; 6] = [
+const FILES: [&str; 10] = [
     "config",
     "arrivals",
     "departures",
     "fates",
     "stats",
+    "departures2",
+    "fates2",
+    "stats2",
+    "path",
     "marked",
 ];
 
@@ -38,7 +42,7 @@ fn no_command(alloc: Global, words: &[String]) -> Result<String, AllocError> {
     }
     let word = first(words);
     let line = format!(in alloc;
-        "{word}: no command: check, play, shares, make, verify or condition"
+        "{word}: no command: check, play, shares, chain, make, verify or condition"
     )?;
     one_line(alloc, line.as_str())
 }

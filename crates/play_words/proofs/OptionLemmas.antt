@@ -19,8 +19,7 @@ use Rattle.play_words.specs.declared.words.Unread.{Unread}
 use Rattle.play_words.specs.declared.words.Unread.TheVariants.{Refused, NoMemory}
 use Rattle.play_words.specs.declared.words.WordsFault.TheVariants.{Options}
 use Rattle.play_words.specs.Causes.{Explains, cause_of, is_memory}
-use Rattle.play_words.specs.Options.{check_app, make_app, play_app, takes_options, required_option, verify_app, with_options, options_of, value_of}
-use Rattle.play_words.specs.Options.{condition_app}
+use Rattle.play_words.specs.Options.{chain_app, check_app, make_app, play_app, takes_options, required_option, verify_app, with_options, options_of, value_of, condition_app}
 use Rattle.line_text.specs.Numbers.{number}
 use Rattle.play_words.specs.Words.{IsMake, IsPlay, Named, Words, count_in, count_of, make_refusal, options_by, play_refusal, rows_read, rows_refusal}
 
@@ -63,6 +62,16 @@ verify_built = refl
 pub verify_is_simple : is_simple_and_free verify_app ≡ true
 unfolding verify_app clap_on_literals
 verify_is_simple = refl
+
+pub chain_built : with_options (new_app (codes "chain"))
+    (codes "config" ∷ codes "interface" ∷ codes "arrivals" ∷ codes "departures" ∷ codes "fates" ∷ codes "stats" ∷ codes "seed"
+    ∷ codes "next" ∷ codes "departures2" ∷ codes "fates2" ∷ codes "stats2" ∷ codes "path" ∷ []) ≡ chain_app
+unfolding chain_app
+chain_built = refl
+
+pub chain_is_simple : is_simple_and_free chain_app ≡ true
+unfolding chain_app clap_on_literals
+chain_is_simple = refl
 
 pub condition_built : with_options (new_app (codes "condition"))
     (codes "config" ∷ codes "interface" ∷ codes "arrivals" ∷ codes "marked" ∷ []) ≡ condition_app

@@ -33,6 +33,11 @@ unfoldable pub verify_app : App
 verify_app = with_options (new_app (codes "verify"))
     (codes "config" ∷ codes "interface" ∷ codes "arrivals" ∷ codes "departures" ∷ codes "fates" ∷ [])
 
+unfoldable pub chain_app : App
+chain_app = with_options (new_app (codes "chain"))
+    (codes "config" ∷ codes "interface" ∷ codes "arrivals" ∷ codes "departures" ∷ codes "fates" ∷ codes "stats" ∷ codes "seed"
+    ∷ codes "next" ∷ codes "departures2" ∷ codes "fates2" ∷ codes "stats2" ∷ codes "path" ∷ [])
+
 unfoldable pub condition_app : App
 condition_app = with_options (new_app (codes "condition")) (codes "config" ∷ codes "interface" ∷ codes "arrivals" ∷ codes "marked" ∷ [])
 

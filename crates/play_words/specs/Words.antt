@@ -1,13 +1,13 @@
--- The words behind the program's name: a command, `play`, `check`, `make`, `verify`, `shares` or `condition`, and its options, as clap
--- reads them.
-use Rattle.std.specs.Prelude.{◌≡◌, ◌≢◌, ◌&&◌, ℕ, Bool, nat_le, not, is_none, List, [], slice_get, string_bytes, codes, if◌then◌else◌, None, Some}
+-- The words behind the program's name: a command, `play`, `check`, `make`, `verify`, `shares`, `chain` or `condition`, and its options, as
+-- clap reads them.
+use Rattle.std.specs.Prelude.{◌≡◌, ◌≢◌, ◌&&◌, ℕ, Bool, true, nat_le, not, is_none, List, [], ◌∷◌, map, slice_get, string_bytes, codes, if◌then◌else◌, None, Some}
+use Rattle.std.specs.List.{list_any}
 use Rattle.std.specs.Option.{option_map_or}
 use Rattle.std.specs.Str.{bytes_eq}
 use Rattle.std.specs.declared.option.Option.{Option}
 use Rattle.clap.specs.Words.{Row}
 use Rattle.line_text.specs.Numbers.{number}
-use Rattle.play_words.specs.Options.{check_app, make_app, options_of, options_refusal, play_app, takes_options, value_of, verify_app}
-use Rattle.play_words.specs.Options.{condition_app}
+use Rattle.play_words.specs.Options.{chain_app, check_app, make_app, options_of, options_refusal, play_app, takes_options, value_of, verify_app, condition_app}
 pub use Rattle.play_words.specs.Options.{Words}
 
 -- a word, or no text where there are fewer
@@ -24,6 +24,7 @@ pub data Named : Type 0 where
   Make : Named
   Verify : Named
   Shares : Named
+  Chain : Named
   Condition : Named
   NoCommand : Named
 
@@ -34,6 +35,7 @@ named words =
     else if is_word words 0 (codes "make") then Make
     else if is_word words 0 (codes "verify") then Verify
     else if is_word words 0 (codes "shares") then Shares
+    else if is_word words 0 (codes "chain") then Chain
     else if is_word words 0 (codes "condition") then Condition
     else NoCommand
 
@@ -52,6 +54,9 @@ IsVerify words = named words ≡ Verify
 abbrev pub IsShares : Words → Type 0
 IsShares words = named words ≡ Shares
 
+abbrev pub IsChain : Words → Type 0
+IsChain words = named words ≡ Chain
+
 abbrev pub IsCondition : Words → Type 0
 IsCondition words = named words ≡ Condition
 
@@ -62,6 +67,7 @@ options_by Check words = options_of check_app words
 options_by Make words = options_of make_app words
 options_by Verify words = options_of verify_app words
 options_by Shares words = options_of play_app words
+options_by Chain words = options_of chain_app words
 options_by Condition words = options_of condition_app words
 options_by NoCommand words = []
 
@@ -166,6 +172,26 @@ inputs_refusal rows =
 abbrev pub verify_refusal : Words → Option ℕ
 verify_refusal words = if not (takes_options verify_app words) then Some 2 else inputs_refusal (rows_read words)
 
+-- no two of these texts are equal
+abbrev pub are_all_distinct : List (List ℕ) → Bool
+are_all_distinct [] = true
+are_all_distinct (x ∷ others) = not (list_any (λ y. bytes_eq y x) others) && are_all_distinct others
+
+-- the options of `chain` that name files
+abbrev pub chain_files : List (List ℕ)
+chain_files =
+    codes "config" ∷ codes "arrivals" ∷ codes "departures" ∷ codes "fates" ∷ codes "stats"
+    ∷ codes "departures2" ∷ codes "fates2" ∷ codes "stats2" ∷ codes "path" ∷ []
+
+abbrev pub links_refusal : List Row → Option ℕ
+links_refusal rows =
+    if is_none (seed_in rows) then Some 4
+    else if not (are_all_distinct (map (λ name. value_of name rows) chain_files)) then Some 3
+    else None
+
+abbrev pub chain_refusal : Words → Option ℕ
+chain_refusal words = if not (takes_options chain_app words) then Some 2 else links_refusal (rows_read words)
+
 -- no two names of files of a marking are equal as texts
 abbrev pub are_distinct_marks : (config arrivals marked : List ℕ) → Bool
 are_distinct_marks config arrivals marked = differ config arrivals && (differ config marked && differ arrivals marked)
@@ -184,6 +210,7 @@ refusal_by Check words = check_refusal words
 refusal_by Make words = make_refusal words
 refusal_by Verify words = verify_refusal words
 refusal_by Shares words = play_refusal words
+refusal_by Chain words = chain_refusal words
 refusal_by Condition words = condition_refusal words
 refusal_by NoCommand words = Some 1
 
@@ -210,6 +237,14 @@ pub record AreDistinctInputs (config arrivals departures fates : List ℕ) : Typ
   pub arrivals_departures : arrivals ≢ departures
   pub arrivals_fates : arrivals ≢ fates
   pub departures_fates : departures ≢ fates
+
+abbrev pub DiffersFrom : List ℕ → List (List ℕ) → Type 0
+DiffersFrom x [] = Unit {0}
+DiffersFrom x (y ∷ others) = (x ≢ y) × DiffersFrom x others
+
+abbrev pub AreAllDistinct : List (List ℕ) → Type 0
+AreAllDistinct [] = Unit {0}
+AreAllDistinct (x ∷ others) = DiffersFrom x others × AreAllDistinct others
 
 pub record AreDistinctMarks (config arrivals marked : List ℕ) : Type 0 where
   pub config_arrivals : config ≢ arrivals

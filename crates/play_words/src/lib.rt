@@ -6,6 +6,6 @@ mod words;
 
 pub use options::options_read;
 pub use words::{
-    CheckWords, Command, ConditionWords, MakeWords, PlayWords, Unread, VerifyWords, WordsFault,
-    count, read_words,
+    ChainWords, CheckWords, Command, ConditionWords, MakeWords, PlayWords, Unread, VerifyWords,
+    WordsFault, count, read_words,
 };

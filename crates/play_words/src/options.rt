@@ -4,10 +4,8 @@ ghost use Rattle.clap.specs.Values.{kind_of};
 ghost use Rattle.clap.specs.Words.{app_of, found_of, is_simple_and_free, rows_of, rule_of};
 ghost use Rattle.clap.specs.declared.error.kind.ErrorKind.TheVariants.{OutOfMemory};
 ghost use Rattle.play_words.specs.Causes.{Explains};
-ghost use Rattle.play_words.specs.Options.{check_app, make_app, options_of, options_refusal, play_app, required_option, takes_options, value_of, verify_app};
-ghost use Rattle.play_words.specs.Options.{condition_app};
-ghost use Rattle.play_words.specs.Words.{IsCheck, IsMake, IsPlay, IsShares, IsVerify, refusal, rows_read};
-ghost use Rattle.play_words.specs.Words.{IsCondition};
+ghost use Rattle.play_words.specs.Options.{chain_app, check_app, make_app, options_of, options_refusal, play_app, required_option, takes_options, value_of, verify_app, condition_app};
+ghost use Rattle.play_words.specs.Words.{IsChain, IsCheck, IsMake, IsPlay, IsShares, IsVerify, refusal, rows_read, IsCondition};
 
 use crate::Unread;
 use crate::words::is;
@@ -75,6 +73,25 @@ fn verify_options<'a>(alloc: Global) -> Result<Command<'a>, AllocError>
         .arg(required(alloc, "fates"))
 }
 
+// The options of `chain`: those of `play`, and those of the second link.
+fn chain_options<'a>(alloc: Global) -> Result<Command<'a>, AllocError>
+    ensures { IfOk result (λ command. app_of command ≡ chain_app) }
+{
+    Command::new(alloc, "chain")
+        .arg(required(alloc, "config"))?
+        .arg(required(alloc, "interface"))?
+        .arg(required(alloc, "arrivals"))?
+        .arg(required(alloc, "departures"))?
+        .arg(required(alloc, "fates"))?
+        .arg(required(alloc, "stats"))?
+        .arg(required(alloc, "seed"))?
+        .arg(required(alloc, "next"))?
+        .arg(required(alloc, "departures2"))?
+        .arg(required(alloc, "fates2"))?
+        .arg(required(alloc, "stats2"))?
+        .arg(required(alloc, "path"))
+}
+
 // The options of `condition`.
 fn condition_options<'a>(alloc: Global) -> Result<Command<'a>, AllocError>
     ensures { IfOk result (λ command. app_of command ≡ condition_app) }
@@ -137,6 +154,14 @@ pub(crate) fn verify_told<'a>(alloc: Global, words: &'a [String]) -> Result<ArgM
     told(verify_options(alloc)?, words)
 }
 
+/// What clap reads of the options of `chain`, with its own error.
+pub(crate) fn chain_told<'a>(alloc: Global, words: &'a [String]) -> Result<ArgMatches<'a>, Error>
+    ensures read { IfOk result (λ m. rows_of (found_of m) ≡ options_of chain_app words.now) }
+    ensures refused { IfErr result (λ e. kind_of e ≢ OutOfMemory → takes_options chain_app words.now ≡ false) }
+{
+    told(chain_options(alloc)?, words)
+}
+
 /// What clap reads of the options of `condition`, with its own error.
 pub(crate) fn condition_told<'a>(
     alloc: Global,
@@ -190,6 +215,18 @@ pub(crate) fn verify_matches<'a>(
     read(verify_options(alloc)?, words)
 }
 
+/// What clap reads of the options of `chain`.
+pub(crate) fn chain_matches<'a>(
+    alloc: Global,
+    words: &'a [String],
+) -> Result<ArgMatches<'a>, Unread>
+    ensures taken { OnOk result (takes_options chain_app words.now ≡ true) }
+    ensures read { IfOk result (λ m. rows_of (found_of m) ≡ options_of chain_app words.now) }
+    ensures refused { IfErr result (Explains (options_refusal chain_app words.now)) }
+{
+    read(chain_options(alloc)?, words)
+}
+
 /// What clap reads of the options of `condition`.
 pub(crate) fn condition_matches<'a>(
     alloc: Global,
@@ -215,7 +252,7 @@ pub(crate) fn value<'a>(matches: &ArgMatches<'a>, name: &str) -> &'a str
 pub fn options_read<'a>(alloc: Global, words: &'a [String]) -> Option<Result<ArgMatches<'a>, Error>>
     ensures none { result ≡ None → refusal words.now ≡ Some 1 }
     ensures some { IfSome result (λ _. IsPlay words.now ⊎ IsCheck words.now ⊎ IsMake words.now ⊎ IsVerify words.now ⊎ IsShares words.now
-        ⊎ IsCondition words.now) }
+        ⊎ IsChain words.now ⊎ IsCondition words.now) }
     ensures read { IfSome result (λ told. IfOk told (λ m. rows_of (found_of m) ≡ rows_read words.now)) }
     ensures refused { IfSome result (λ told. IfErr told (λ e. kind_of e ≢ OutOfMemory → refusal words.now ≡ Some 2)) }
 {
@@ -233,6 +270,9 @@ pub fn options_read<'a>(alloc: Global, words: &'a [String]) -> Option<Result<Arg
     }
     if is(words, 0, "shares") {
         return Some(play_told(alloc, words));
+    }
+    if is(words, 0, "chain") {
+        return Some(chain_told(alloc, words));
     }
     if is(words, 0, "condition") {
         return Some(condition_told(alloc, words));

@@ -1,18 +1,17 @@
 // The command line.
-ghost use Rattle.std.specs.Prelude.{◌≡◌, ◌<◌, length, Some, None, IfOk, IfErr, OnOk, IsOk};
+ghost use Rattle.std.specs.Prelude.{◌≡◌, ◌<◌, length, map, Some, None, IfOk, IfErr, IfSome, OnOk, IsOk};
 ghost use Rattle.std.specs.Str.{bytes_eq};
 ghost use Rattle.line_text.specs.Numbers.{number};
 ghost use Rattle.clap.specs.Words.{found_of, kind_of, rows_of};
 ghost use Rattle.play_words.specs.Causes.{Explains, cause_of};
-ghost use Rattle.play_words.specs.Words.{AreDistinct, IsCheck, IsMake, IsVerify, TakesPlayed, is_word, are_distinct_names, are_distinct_inputs, differ_from, inputs_refusal, play_refusal, check_refusal, verify_refusal, make_refusal, refusal, rows_read, rows_refusal, count_in};
-ghost use Rattle.play_words.specs.Read.{Reads, ReadsInputs, ReadsCheck, ReadsMake, ReadsRows, ReadsVerify};
-ghost use Rattle.play_words.specs.Read.{ReadsCondition, ReadsMarking};
-ghost use Rattle.play_words.specs.Words.{AreDistinctMarks, IsCondition, are_distinct_marks, condition_refusal, marking_refusal};
+ghost use Rattle.play_words.specs.Words.{AreAllDistinct, AreDistinct, IsChain, IsCheck, IsMake, IsVerify, TakesPlayed, is_word, are_all_distinct, are_distinct_names, are_distinct_inputs, differ_from, inputs_refusal, links_refusal, play_refusal, chain_refusal, check_refusal, verify_refusal, make_refusal, refusal, rows_read, rows_refusal, count_in, seed_in, AreDistinctMarks, IsCondition, are_distinct_marks, condition_refusal, marking_refusal};
+ghost use Rattle.play_words.specs.Read.{Reads, ReadsChain, ReadsInputs, ReadsLinks, ReadsNames, ReadsCheck, ReadsMake, ReadsRows, ReadsVerify, files_of, ReadsCondition, ReadsMarking};
 ghost use Rattle.play_words.specs.Kinds.{words_kind};
 ghost use Rattle.play_words.specs.declared.words.Unread.TheVariants.{NoMemory};
 
 use crate::options::{
-    check_matches, condition_matches, make_matches, play_matches, value, verify_matches,
+    chain_matches, check_matches, condition_matches, make_matches, play_matches, value,
+    verify_matches,
 };
 use clap::ArgMatches;
 use clap::error::ErrorKind;
@@ -110,6 +109,18 @@ pub struct VerifyWords<'a> {
     pub fates: &'a str,
 }
 
+/// The words of `chain`: those of the play on the first link; and of the second the interface and the names of its files, of which
+/// the arrivals are the departures of the first; and where the path of each packet goes.
+#[derive(Clone, Copy)]
+pub struct ChainWords<'a> {
+    pub play: PlayWords<'a>,
+    pub next: &'a str,
+    pub departures2: &'a str,
+    pub fates2: &'a str,
+    pub stats2: &'a str,
+    pub path: &'a str,
+}
+
 /// The words of `condition`: the names of its files, and the interface whose conditioners mark.
 #[derive(Clone, Copy)]
 pub struct ConditionWords<'a> {
@@ -135,6 +146,8 @@ pub enum Command<'a> {
     Verify(VerifyWords<'a>),
     /// To play a capture, and to say how far the shares of sibling classes lay apart.
     Shares(PlayWords<'a>),
+    /// To play a capture on one link, and what leaves that on a second.
+    Chain(ChainWords<'a>),
     /// To mark a capture.
     Condition(ConditionWords<'a>),
 }
@@ -179,6 +192,35 @@ fn are_distinct_inputs(words: &VerifyWords<'_>) -> bool
         && words.departures != words.fates
 }
 
+// Whether no two of these texts are equal.
+fn are_all_distinct(names: &[&str]) -> bool
+    ensures { result ≡ are_all_distinct (map (λ name. name.now) names.now) }
+{
+    if names.is_empty() {
+        return true;
+    }
+    let (name, others) = (names[0], &names[1..]);
+    !others.contains(&name) && are_all_distinct(others)
+}
+
+// Whether no two names of the files of a chain are equal.
+fn are_distinct_links(words: &ChainWords<'_>) -> bool
+    ensures { result ≡ are_all_distinct (files_of words.now) }
+{
+    let play = words.play;
+    are_all_distinct(&[
+        play.config,
+        play.arrivals,
+        play.departures,
+        play.fates,
+        play.stats,
+        words.departures2,
+        words.fates2,
+        words.stats2,
+        words.path,
+    ])
+}
+
 // Whether no two names of files of a marking are equal.
 fn are_distinct_marks(words: &ConditionWords<'_>) -> bool
     ensures { result ≡ are_distinct_marks words.now.config.now words.now.arrivals.now words.now.marked.now }
@@ -213,16 +255,15 @@ pub fn count(text: &str) -> Option<u32>
     }
 }
 
-// The names and the seed of options that were read.
-fn names_read<'a>(matches: &ArgMatches<'a>) -> Result<PlayWords<'a>, WordsFault>
-    ensures accepted { OnOk result (rows_refusal (rows_of (found_of matches.now)) ≡ None) }
-    ensures refused { IfErr result (λ fault. rows_refusal (rows_of (found_of matches.now)) ≡ Some (words_kind fault)) }
-    ensures read { IfOk result (λ w. ReadsRows (rows_of (found_of matches.now)) w) }
+// The names and the seed of options that were read; none where the seed is no such number.
+fn seeded<'a>(matches: &ArgMatches<'a>) -> Option<PlayWords<'a>>
+    ensures none { result ≡ None → seed_in (rows_of (found_of matches.now)) ≡ None }
+    ensures read { IfSome result (λ w. ReadsNames (rows_of (found_of matches.now)) w) }
 {
     let Some(seed) = decimal(value(matches, "seed")) else {
-        return Err(WordsFault::BadNumber);
+        return None;
     };
-    let read = PlayWords {
+    Some(PlayWords {
         config: value(matches, "config"),
         interface: value(matches, "interface"),
         arrivals: value(matches, "arrivals"),
@@ -230,8 +271,42 @@ fn names_read<'a>(matches: &ArgMatches<'a>) -> Result<PlayWords<'a>, WordsFault>
         fates: value(matches, "fates"),
         stats: value(matches, "stats"),
         seed,
+    })
+}
+
+// The names and the seed of options that were read, for a play.
+fn names_read<'a>(matches: &ArgMatches<'a>) -> Result<PlayWords<'a>, WordsFault>
+    ensures accepted { OnOk result (rows_refusal (rows_of (found_of matches.now)) ≡ None) }
+    ensures refused { IfErr result (λ fault. rows_refusal (rows_of (found_of matches.now)) ≡ Some (words_kind fault)) }
+    ensures read { IfOk result (λ w. ReadsRows (rows_of (found_of matches.now)) w) }
+{
+    let Some(read) = seeded(matches) else {
+        return Err(WordsFault::BadNumber);
     };
     if !are_distinct(&read) {
+        return Err(WordsFault::NamesEqual);
+    }
+    Ok(read)
+}
+
+// The names and the seed of options that were read, for two links.
+fn links_read<'a>(matches: &ArgMatches<'a>) -> Result<ChainWords<'a>, WordsFault>
+    ensures accepted { OnOk result (links_refusal (rows_of (found_of matches.now)) ≡ None) }
+    ensures refused { IfErr result (λ fault. links_refusal (rows_of (found_of matches.now)) ≡ Some (words_kind fault)) }
+    ensures read { IfOk result (λ w. ReadsLinks (rows_of (found_of matches.now)) w) }
+{
+    let Some(play) = seeded(matches) else {
+        return Err(WordsFault::BadNumber);
+    };
+    let read = ChainWords {
+        play,
+        next: value(matches, "next"),
+        departures2: value(matches, "departures2"),
+        fates2: value(matches, "fates2"),
+        stats2: value(matches, "stats2"),
+        path: value(matches, "path"),
+    };
+    if !are_distinct_links(&read) {
         return Err(WordsFault::NamesEqual);
     }
     Ok(read)
@@ -264,6 +339,20 @@ fn make_words<'a>(alloc: Global, words: &'a [String]) -> Result<MakeWords<'a>, U
     };
     match names_read(&matches) {
         Ok(play) => Ok(MakeWords { play, count }),
+        Err(fault) => Err(Unread::Refused(fault)),
+    }
+}
+
+// Reads the options of `chain`.
+fn chain_words<'a>(alloc: Global, words: &'a [String]) -> Result<ChainWords<'a>, Unread>
+    requires { IsChain words.now }
+    ensures accepted { OnOk result (chain_refusal words.now ≡ None) }
+    ensures refused { IfErr result (Explains (chain_refusal words.now)) }
+    ensures read { IfOk result (λ w. ReadsChain words.now w) }
+{
+    let matches = chain_matches(alloc, words)?;
+    match links_read(&matches) {
+        Ok(read) => Ok(read),
         Err(fault) => Err(Unread::Refused(fault)),
     }
 }
@@ -347,11 +436,11 @@ fn condition_words<'a>(alloc: Global, words: &'a [String]) -> Result<ConditionWo
 
 /// Reads the words behind the program's name: `play --config C --interface I --arrivals A --departures D --fates T --stats Z
 /// --seed N`, `shares` with the same options, `make --count K` with the same options, `check --config C --interface I`, `verify
-/// --config C --interface I --arrivals A --departures D --fates T`, or `condition --config C --interface I --arrivals A
-/// --marked M`. The options stand in any order, each once, as `--name VALUE` or
-/// `--name=VALUE`. The seed is one or more decimal digits, below 2^64, and the count such digits, 1 to 1,000,000. No two of the file
-/// names C, A, D, T, Z and M are equal as texts. A refusal is the first test that fails, in the order of
-/// `WordsFault`.
+/// --config C --interface I --arrivals A --departures D --fates T`, `chain` with the options of `play` and `--next J --departures2 D2
+/// --fates2 T2 --stats2 Z2 --path P`, or `condition --config C --interface I --arrivals A --marked M`. The options stand in any order,
+/// each once, as `--name VALUE` or `--name=VALUE`. The seed is one or more decimal digits, below 2^64, and the count such digits, 1 to
+/// 1,000,000. No two of the file names C, A, D, T, Z, D2, T2, Z2, P and M are equal as texts. A refusal is the first test that fails, in
+/// the order of `WordsFault`.
 pub fn read_words<'a>(alloc: Global, words: &'a [String]) -> Result<Command<'a>, Unread>
     ensures accepted { OnOk result (refusal words.now ≡ None) }
     ensures refused { IfErr result (Explains (refusal words.now)) }
@@ -384,6 +473,12 @@ pub fn read_words<'a>(alloc: Global, words: &'a [String]) -> Result<Command<'a>,
     if is(words, 0, "shares") {
         return match play_words(alloc, words) {
             Ok(read) => Ok(Command::Shares(read)),
+            Err(cause) => Err(cause),
+        };
+    }
+    if is(words, 0, "chain") {
+        return match chain_words(alloc, words) {
+            Ok(read) => Ok(Command::Chain(read)),
             Err(cause) => Err(cause),
         };
     }

@@ -26,6 +26,7 @@ play_fails u v n seed (failure.Write written.Departures) x = x
 play_fails u v n seed (failure.Write written.Fates) x = x
 play_fails u v n seed (failure.Write written.Statistics) x = x
 play_fails u v n seed (failure.Write written.Arrivals) x = x
+play_fails u v n seed (failure.Write (written.Chained part)) x = x
 play_fails u v n seed (failure.Write written.Marked) x = x
 play_fails u v n seed other x = x
 
@@ -35,6 +36,7 @@ fails_told u v n seed (failure.Write written.Departures) x t = t
 fails_told u v n seed (failure.Write written.Fates) x t = t
 fails_told u v n seed (failure.Write written.Statistics) x t = t
 fails_told u v n seed (failure.Write written.Arrivals) x t = t
+fails_told u v n seed (failure.Write (written.Chained part)) x t = t
 fails_told u v n seed (failure.Write written.Marked) x t = t
 fails_told u v n seed other x t = t
 

@@ -22,6 +22,7 @@ comes_after u v w n seed (failure.Write written.Departures) o x = fails_after u 
 comes_after u v w n seed (failure.Write written.Fates) o x = fails_after u v w n seed (failure.Write written.Fates) o x
 comes_after u v w n seed (failure.Write written.Statistics) o x = fails_after u v w n seed (failure.Write written.Statistics) o x
 comes_after u v w n seed (failure.Write written.Arrivals) o x = fails_after u v w n seed (failure.Write written.Arrivals) o x
+comes_after u v w n seed (failure.Write (written.Chained part)) o x = fails_after u v w n seed (failure.Write (written.Chained part)) o x
 comes_after u v w n seed (failure.Write written.Marked) o x = fails_after u v w n seed (failure.Write written.Marked) o x
 comes_after u v w n seed other o x = fails_after u v w n seed other o x
 

@@ -27,7 +27,7 @@ use hfsc_core::Hfsc;
 use interface_policy::hfsc_of;
 use play_base::{Files, NoMemory};
 use play_command::{Unplayed, play_found, play_found_by};
-use play_loop::PlayFault;
+use play_loop::{KeepsNothing, PlayFault};
 use play_words::PlayWords;
 use rio_precedence::AnyQueue;
 use share_lines::gap_lines;
@@ -92,7 +92,7 @@ fn play_hfsc<F: Files>(
         Ok(watched) => watched,
         Err(NoMemory) => return Err(Unplayed::Play(PlayFault::NoMemory)),
     };
-    match play_found_by(alloc, files, found, words, &mut watched) {
+    match play_found_by(alloc, files, found, words, &mut watched, &mut KeepsNothing) {
         Ok(_) => {}
         Err(fault) => return Err(fault),
     }

@@ -93,6 +93,7 @@ arrivals_fail u v w n found (failure.Limit limit.Configuration) k a x = absurd x
 arrivals_fail u v w n found (failure.Limit limit.Fates) k a x = absurd x
 arrivals_fail u v w n found (failure.Limit limit.Departures) k a x = absurd x
 arrivals_fail u v w n found (failure.Refuted row t) k a x = absurd x
+arrivals_fail u v w n found (failure.OfLink link fault) k a x = absurd x
 arrivals_fail u v w n found failure.NoMemory k a x = tt
 
 -- they are one

@@ -43,6 +43,7 @@ came u v n (Ok done.Made) x t q = absurd x
 came u v n (Ok (done.Checked fit)) x t q = absurd x
 came u v n (Ok done.Verified) x t q = AsTold (case_verified u n (verified_in u v n (x.verified t)))
 came u v n (Ok done.Measured) x t q = absurd x
+came u v n (Ok done.Chained) x t q = absurd x
 came u v n (Ok done.Conditioned) x t q = absurd x
 came u v n (Err (failure.Words fault)) x t q = absurd x
 came u v n (Err (failure.Configuration place)) x t q = AsTold (case_refused u n place (x t))
@@ -53,6 +54,7 @@ came u v n (Err (failure.Write written.Departures)) x t q = absurd x
 came u v n (Err (failure.Write written.Fates)) x t q = absurd x
 came u v n (Err (failure.Write written.Statistics)) x t q = absurd x
 came u v n (Err (failure.Write written.Arrivals)) x t q = absurd x
+came u v n (Err (failure.Write (written.Chained part))) x t q = absurd x
 came u v n (Err (failure.Write written.Marked)) x t q = absurd x
 came u v n (Err (failure.Write written.Answer)) x t q = Unsaid refl (x.1 t)
 came u v n (Err (failure.Limit limit.Capture)) x t q = AsTold (case_beyond u n (x t))
@@ -61,6 +63,7 @@ came u v n (Err (failure.Limit limit.Configuration)) x t q = AsTold (case_long u
 came u v n (Err (failure.Limit limit.Fates)) x t q = AsTold (case_long_fates u n (x t))
 came u v n (Err (failure.Limit limit.Departures)) x t q = AsTold (case_long_departures u n (x t))
 came u v n (Err (failure.Refuted row least)) x t q = AsTold (case_refuted u n row least (x t))
+came u v n (Err (failure.OfLink link fault)) x t q = absurd x
 came u v n (Err failure.NoMemory) x t q = Starved refl
 
 not_done : (f : Failure) → Err f ≡ Ok done.Verified → ⊥

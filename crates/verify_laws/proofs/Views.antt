@@ -12,6 +12,7 @@ use Rattle.command_base.specs.declared.done.Done.TheVariants.{Played, Verified}
 use Rattle.command_base.specs.declared.done.Done.TheVariants as done
 use Rattle.command_base.specs.declared.failure.Failure.{Failure}
 use Rattle.command_base.specs.declared.failure.Failure.TheVariants as failure
+use Rattle.command_base.specs.declared.link.LinkFault.TheVariants as fault
 use Rattle.command_base.specs.declared.parts.WrittenPart.TheVariants.{Answer}
 use Rattle.command_base.proofs.ReadingLemmas.{configured_said}
 use Rattle.conf_tree.specs.declared.interface.Interface.{Interface}
@@ -131,6 +132,7 @@ by_done old new n seed (done.Checked fit) x = absurd x
 by_done old new n seed Verified x = absurd x
 by_done old new n seed done.Measured x = absurd x
 by_done old new n seed done.Conditioned x = absurd x
+by_done old new n seed done.Chained x = absurd x
 
 -- a failure has another code, and code 10 is that of a test that fails
 abbrev IsTest : Failure → Type 0
@@ -153,6 +155,10 @@ has_code (failure.Read part) = below_ten _ 5 (omega arith) (omega arith)
 has_code (failure.Write part) = below_ten _ 6 (omega arith) (omega arith)
 has_code (failure.Limit limit) = below_ten _ 7 (omega arith) (omega arith)
 has_code (failure.Refuted row t) = record { some = omega arith; ten = λ e. (row, t, refl) }
+has_code (failure.OfLink link (fault.Capture damage)) = below_ten _ 4 (omega arith) (omega arith)
+has_code (failure.OfLink link (fault.Pcapng block)) = below_ten _ 4 (omega arith) (omega arith)
+has_code (failure.OfLink link fault.Long) = below_ten _ 7 (omega arith) (omega arith)
+has_code (failure.OfLink link fault.Clock) = below_ten _ 7 (omega arith) (omega arith)
 has_code failure.NoMemory = below_ten _ 8 (omega arith) (omega arith)
 
 is_played : (old new : View) (n : Names) (seed : ℕ) (o : Outcome) → PlayComes old new n seed o → (status_of o).code ≡ 0 → o ≡ Ok Played
@@ -166,6 +172,7 @@ done_code (done.Checked fit) = refl
 done_code Verified = refl
 done_code done.Measured = refl
 done_code done.Conditioned = refl
+done_code done.Chained = refl
 
 not_ten : (o : Outcome) → ((row : ℕ) (test : Test) → o ≡ Err (failure.Refuted row test) → ⊥) → (status_of o).code ≡ 10 → ⊥
 not_ten (Ok d) never e = let none = done_code d in omega (arith, e, none)

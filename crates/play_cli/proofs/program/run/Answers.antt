@@ -1,6 +1,8 @@
 -- Each clause is that of the command that the words name, in the words of its names.
 use Rattle.std.proofs.Common.{arith}
 use Rattle.command_base.specs.Names.{names_of}
+use Rattle.chain_command.specs.Links.{links_of}
+use Rattle.chain_command.proofs.FirstLemmas.{chain_unread}
 use Rattle.check_command.proofs.CheckLemmas.{check_unread}
 use Rattle.make_command.proofs.TellLemmas.{make_unread}
 use Rattle.play_command.proofs.BehindLemmas.{play_unread}
@@ -8,8 +10,7 @@ use Rattle.shares_command.proofs.TellLemmas.{shares_unread}
 use Rattle.verify_command.proofs.EndLemmas.{verify_unread}
 use Rattle.condition_command.proofs.SaidLemmas.{condition_unread}
 use Rattle.play_cli.specs.Run.{inputs_named, mark_names}
-use Rattle.play_cli.proofs.NameLemmas.{condition_of, condition_read}
-use Rattle.play_cli.proofs.NameLemmas.{check_of, check_read, count_within, make_distinct, make_of, make_read, play_of, play_read, shares_of, shares_read, verify_of, verify_read}
+use Rattle.play_cli.proofs.NameLemmas.{chain_of, chain_read, check_of, check_read, condition_of, condition_read, count_within, make_distinct, make_of, make_read, play_of, play_read, shares_of, shares_read, verify_of, verify_read}
 use Rattle.play_cli.proofs.RunLemmas.{kind_told, memory_code, memory_refused, not_code, not_refused, refused_ends, refused_not, refused_why, same_kind, unread_ends}
 use Rattle.play_cli.proofs.program.run.Goals as goal
 
@@ -58,6 +59,29 @@ returns-in-Ok-Shares-clause-write g c = c.run_shares.ensures.truly.write
 
 pub returns-in-Ok-Shares-clause-refused : goal.returns-in-Ok-Shares-clause-refused
 returns-in-Ok-Shares-clause-refused g c = λ kind r. not_refused _ kind c.in-Ok-Shares.ensures.accepted r
+
+pub run_chain-requires : goal.run_chain-requires
+run_chain-requires g c = (chain_read c.args.words.now c.in-Ok-Chain.field-0 c.in-Ok-Chain.read c.in-Ok-Chain.field-0-is c.in-Ok-Chain.ensures.read).read.distinct
+
+pub returns-in-Ok-Chain-clause-chains : goal.returns-in-Ok-Chain-clause-chains
+returns-in-Ok-Chain-clause-chains g c = λ r command seed is.
+    chain_of (g.F.Files.view c.args.files.now) (g.F.Files.view c.run_chain.new.files) c.args.words.now c.in-Ok-Chain.read c.run_chain.result
+    (chain_read c.args.words.now c.in-Ok-Chain.field-0 c.in-Ok-Chain.read c.in-Ok-Chain.field-0-is c.in-Ok-Chain.ensures.read) c.run_chain.ensures.ends seed is
+
+pub returns-in-Ok-Chain-clause-words : goal.returns-in-Ok-Chain-clause-words
+returns-in-Ok-Chain-clause-words g c = λ e. absurd (c.run_chain.ensures.truly.words e)
+
+pub returns-in-Ok-Chain-clause-no_fault : goal.returns-in-Ok-Chain-clause-no_fault
+returns-in-Ok-Chain-clause-no_fault g c = c.run_chain.ensures.truly.no_fault
+
+pub returns-in-Ok-Chain-clause-read : goal.returns-in-Ok-Chain-clause-read
+returns-in-Ok-Chain-clause-read g c = c.run_chain.ensures.truly.read
+
+pub returns-in-Ok-Chain-clause-write : goal.returns-in-Ok-Chain-clause-write
+returns-in-Ok-Chain-clause-write g c = c.run_chain.ensures.truly.write
+
+pub returns-in-Ok-Chain-clause-refused : goal.returns-in-Ok-Chain-clause-refused
+returns-in-Ok-Chain-clause-refused g c = λ kind r. not_refused _ kind c.in-Ok-Chain.ensures.accepted r
 
 pub returns-in-Ok-Check-clause-checks : goal.returns-in-Ok-Check-clause-checks
 returns-in-Ok-Check-clause-checks g c = λ r command.
@@ -177,6 +201,10 @@ returns-in-Err-NoMemory-clause-plays g c = λ r command seed is.
 pub returns-in-Err-NoMemory-clause-measures : goal.returns-in-Err-NoMemory-clause-measures
 returns-in-Err-NoMemory-clause-measures g c = λ r command seed is.
     unread_ends _ (g.F.Files.view c.args.files.now) (g.F.Files.view c.told-in-Err-NoMemory.new.files) c.told-in-Err-NoMemory.result c.told-in-Err-NoMemory.ensures (λ o. shares_unread _ _ (names_of c.args.words.now) seed o)
+
+pub returns-in-Err-NoMemory-clause-chains : goal.returns-in-Err-NoMemory-clause-chains
+returns-in-Err-NoMemory-clause-chains g c = λ r command seed is.
+    unread_ends _ (g.F.Files.view c.args.files.now) (g.F.Files.view c.told-in-Err-NoMemory.new.files) c.told-in-Err-NoMemory.result c.told-in-Err-NoMemory.ensures (λ o. chain_unread _ _ (links_of c.args.words.now) seed o)
 
 pub returns-in-Err-NoMemory-clause-checks : goal.returns-in-Err-NoMemory-clause-checks
 returns-in-Err-NoMemory-clause-checks g c = λ r command.

@@ -5,7 +5,7 @@ use Rattle.play_command.proofs.FoundLemmas.{found_done, found_failed, found_uncr
 use Rattle.play_command.proofs.Laws.{have_laws}
 use Rattle.play_base.proofs.ViewLaws.{same_trans}
 use Rattle.play_command.proofs.StepLemmas.{high_of, steps_of}
-use Rattle.play_command.proofs.DisciplineLemmas.{has_stood, in_untold, stood_itself}
+use Rattle.play_command.proofs.DisciplineLemmas.{plays_by, told_itself, told_played}
 use Rattle.play_command.specs.InterfaceSetup.{setup_of}
 use Rattle.play_command.proofs.SeeingLemmas.{Itself, begins_of, explained_itself, fronts_itself, stats_itself}
 use Rattle.play_command.proofs.found.itself_by.Goals as goal
@@ -46,11 +46,12 @@ returns-in-Ok-play_by-clause-done g c =
       plain = c.requires.plain;
     } in
     found_done a b e n c.args.found.now o c.args.words.now.seed c.in-Ok-play_by.totals s
-    (in_untold a e n c.args.found.now o (setup_of c.args.found.now c.args.words.now.seed) (g.D.Discipline.stands c.play_by.new.discipline) c.in-Ok-play_by.totals (stood_itself a g' b e n c.args.found.now o c.args.arrivals.now.given (setup_of c.args.found.now c.args.words.now.seed) (g.D.Discipline.stands c.play_by.new.discipline) c.in-Ok-play_by.totals begins itself y.stood))
+    (told_played a e n c.args.found.now o (setup_of c.args.found.now c.args.words.now.seed) (g.D.Discipline.stands c.play_by.new.discipline) (g.K.Keeper.told c.play_by.new.keeper) c.in-Ok-play_by.totals
+    (told_itself a g' b e n c.args.found.now o c.args.arrivals.now.given (setup_of c.args.found.now c.args.words.now.seed) (g.D.Discipline.stands c.play_by.new.discipline) (g.K.Keeper.told c.play_by.new.keeper) c.in-Ok-play_by.totals begins itself y.told))
     (same_trans a g' e counts (same_trans g' b e c.in-Ok.ensures.no_fault y.no_fault))
 
-pub returns-in-Ok-play_by-clause-stood : goal.returns-in-Ok-play_by-clause-stood
-returns-in-Ok-play_by-clause-stood g c =
+pub returns-in-Ok-play_by-clause-told : goal.returns-in-Ok-play_by-clause-told
+returns-in-Ok-play_by-clause-told g c =
     let laws = have_laws c.configurations_fit.ensures c.frames_have_classes.ensures.class c.interfaces_keep_their_promises.ensures.lawful
     c.interfaces_keep_their_promises.ensures.held c.interfaces_keep_their_promises.ensures.named c.interfaces_keep_their_promises.ensures.promises in
     let n = names_read c.args.words.now in
@@ -59,7 +60,7 @@ returns-in-Ok-play_by-clause-stood g c =
     let b = g.F.Files.view c.create_outputs.new.files in
     let e = g.F.Files.view c.play_by.new.files in
     let y = c.in-Ok-play_by.ensures in
-    λ a x t.
+    λ a x.
     let far = c.in-Ok.ensures.far a x.opened in
     let s = steps_of a b e n c.args.found.now o x.accepted (c.in-Ok.ensures.opened a x.opened) far (c.in-Ok.ensures.named a x.opened) y.keeps y.none y.said c.requires.distinct laws c.requires.configured in
     let begins = begins_of a g' b n c.args.found.now o c.args.arrivals.now c.in-Ok.ensures.arrivals x far.keeps.tells (c.in-Ok.ensures.left a x.opened) in
@@ -69,7 +70,8 @@ returns-in-Ok-play_by-clause-stood g c =
       unmarked = λ capture. c.nothing_is_marked_without_conditioners.ensures c.args.found.now capture c.requires.plain;
       plain = c.requires.plain;
     } in
-    has_stood a b e n c.args.found.now o c.args.words.now.seed s (g.D.Discipline.stands c.play_by.new.discipline) c.in-Ok-play_by.totals (stood_itself a g' b e n c.args.found.now o c.args.arrivals.now.given (setup_of c.args.found.now c.args.words.now.seed) (g.D.Discipline.stands c.play_by.new.discipline) c.in-Ok-play_by.totals begins itself y.stood) t
+    plays_by a b e n c.args.found.now o c.args.words.now.seed s (g.D.Discipline.stands c.play_by.new.discipline) (g.K.Keeper.told c.play_by.new.keeper) c.in-Ok-play_by.totals
+    (told_itself a g' b e n c.args.found.now o c.args.arrivals.now.given (setup_of c.args.found.now c.args.words.now.seed) (g.D.Discipline.stands c.play_by.new.discipline) (g.K.Keeper.told c.play_by.new.keeper) c.in-Ok-play_by.totals begins itself y.told) y.decided
 
 pub returns-in-Ok-play_by-clause-silent : goal.returns-in-Ok-play_by-clause-silent
 returns-in-Ok-play_by-clause-silent g c = λ a x. c.in-Ok-play_by.ensures.said ∙ (c.in-Ok.ensures.far a x.opened).said

@@ -5,7 +5,7 @@ use Rattle.play_command.proofs.FoundLemmas.{found_done, found_failed, found_uncr
 use Rattle.play_command.proofs.Laws.{have_laws}
 use Rattle.play_base.proofs.ViewLaws.{same_trans}
 use Rattle.play_command.proofs.StepLemmas.{high_of, steps_of}
-use Rattle.play_command.proofs.DisciplineLemmas.{has_stood, in_untold, stood_through}
+use Rattle.play_command.proofs.DisciplineLemmas.{plays_by, told_played, told_through}
 use Rattle.play_command.specs.Converting.{shown_of}
 use Rattle.play_command.specs.InterfaceSetup.{setup_of}
 use Rattle.play_command.proofs.ShownLemmas.{behind_shown}
@@ -44,11 +44,12 @@ returns-in-Ok-shown_by-clause-done g c =
     let begins = begins_of a g' b n c.args.found.now o c.args.arrivals.now c.in-Ok.ensures.arrivals x far.keeps.tells (c.in-Ok.ensures.left a x.opened) in
     let behind = behind_shown a g' b n c.args.found.now o c.args.arrivals.now.given begins c.in-Ok.ensures.first c.requires.marked in
     found_done a b e n c.args.found.now o c.args.words.now.seed c.in-Ok-shown_by.totals s
-    (in_untold a e n c.args.found.now o (setup_of c.args.found.now c.args.words.now.seed) (g.D.Discipline.stands c.shown_by.new.discipline) c.in-Ok-shown_by.totals (stood_through a g' b e n c.args.found.now o c.args.arrivals.now.given (shown_of c.args.found.now c.args.arrivals.now.given b o.arrivals) (setup_of c.args.found.now c.args.words.now.seed) (g.D.Discipline.stands c.shown_by.new.discipline) c.in-Ok-shown_by.totals behind y.stood))
+    (told_played a e n c.args.found.now o (setup_of c.args.found.now c.args.words.now.seed) (g.D.Discipline.stands c.shown_by.new.discipline) (g.K.Keeper.told c.shown_by.new.keeper) c.in-Ok-shown_by.totals
+    (told_through a g' b e n c.args.found.now o c.args.arrivals.now.given (shown_of c.args.found.now c.args.arrivals.now.given b o.arrivals) (setup_of c.args.found.now c.args.words.now.seed) (g.D.Discipline.stands c.shown_by.new.discipline) (g.K.Keeper.told c.shown_by.new.keeper) c.in-Ok-shown_by.totals behind y.told))
     (same_trans a g' e counts (same_trans g' b e c.in-Ok.ensures.no_fault y.no_fault))
 
-pub returns-in-Ok-shown_by-clause-stood : goal.returns-in-Ok-shown_by-clause-stood
-returns-in-Ok-shown_by-clause-stood g c =
+pub returns-in-Ok-shown_by-clause-told : goal.returns-in-Ok-shown_by-clause-told
+returns-in-Ok-shown_by-clause-told g c =
     let laws = have_laws c.configurations_fit.ensures c.frames_have_classes.ensures.class c.interfaces_keep_their_promises.ensures.lawful
     c.interfaces_keep_their_promises.ensures.held c.interfaces_keep_their_promises.ensures.named c.interfaces_keep_their_promises.ensures.promises in
     let n = names_read c.args.words.now in
@@ -57,12 +58,13 @@ returns-in-Ok-shown_by-clause-stood g c =
     let b = g.F.Files.view c.create_outputs.new.files in
     let e = g.F.Files.view c.shown_by.new.files in
     let y = c.in-Ok-shown_by.ensures in
-    λ a x t.
+    λ a x.
     let far = c.in-Ok.ensures.far a x.opened in
     let s = steps_of a b e n c.args.found.now o x.accepted (c.in-Ok.ensures.opened a x.opened) far (c.in-Ok.ensures.named a x.opened) y.keeps y.none y.said c.requires.distinct laws c.requires.configured in
     let begins = begins_of a g' b n c.args.found.now o c.args.arrivals.now c.in-Ok.ensures.arrivals x far.keeps.tells (c.in-Ok.ensures.left a x.opened) in
     let behind = behind_shown a g' b n c.args.found.now o c.args.arrivals.now.given begins c.in-Ok.ensures.first c.requires.marked in
-    has_stood a b e n c.args.found.now o c.args.words.now.seed s (g.D.Discipline.stands c.shown_by.new.discipline) c.in-Ok-shown_by.totals (stood_through a g' b e n c.args.found.now o c.args.arrivals.now.given (shown_of c.args.found.now c.args.arrivals.now.given b o.arrivals) (setup_of c.args.found.now c.args.words.now.seed) (g.D.Discipline.stands c.shown_by.new.discipline) c.in-Ok-shown_by.totals behind y.stood) t
+    plays_by a b e n c.args.found.now o c.args.words.now.seed s (g.D.Discipline.stands c.shown_by.new.discipline) (g.K.Keeper.told c.shown_by.new.keeper) c.in-Ok-shown_by.totals
+    (told_through a g' b e n c.args.found.now o c.args.arrivals.now.given (shown_of c.args.found.now c.args.arrivals.now.given b o.arrivals) (setup_of c.args.found.now c.args.words.now.seed) (g.D.Discipline.stands c.shown_by.new.discipline) (g.K.Keeper.told c.shown_by.new.keeper) c.in-Ok-shown_by.totals behind y.told) y.decided
 
 pub returns-in-Ok-shown_by-clause-silent : goal.returns-in-Ok-shown_by-clause-silent
 returns-in-Ok-shown_by-clause-silent g c = λ a x. c.in-Ok-shown_by.ensures.said ∙ (c.in-Ok.ensures.far a x.opened).said

@@ -2,8 +2,9 @@
 use Rattle.std.proofs.Common.{Some, false, rules, subst}
 use Rattle.play_base.specs.View.{View}
 use Rattle.std.specs.Prelude.{IfOk}
-use Rattle.pcapng_files.proofs.BackLaws.{same_reference}
-use Rattle.play_loop.specs.Played.{Plays}
+use Rattle.pcapng_files.proofs.BackLaws.{keeps_back, same_reference}
+use Rattle.play_loop.specs.Kept.{KeepsPlayed}
+use Rattle.play_loop.specs.Told.{Tells}
 use Rattle.play_command.specs.Converting.{CameOf, Through}
 use Rattle.play_command.specs.InterfaceSetup.{setup_of}
 use Rattle.play_command.proofs.ShownLemmas.{front_back}
@@ -26,8 +27,8 @@ returns-clause-ends g c =
     let Q : View → Type 0 = λ u. Through (CameOf x o r) v u o.arrivals (Some c.args.capture.now) false in
     subst Q (search rules) back
 
-pub returns-clause-stood : goal.returns-clause-stood
-returns-clause-stood g c =
+pub returns-clause-told : goal.returns-clause-told
+returns-clause-told g c =
     let v = g.F.Files.view c.args.files.now in
     let s = c.play_by.new.files in
     let w = g.F.Files.view s.files.now in
@@ -37,8 +38,20 @@ returns-clause-stood g c =
     let y = c.play_by.ensures in
     let same = same_reference _ _ v w _ s.files.ghost_name o.arrivals s.file false s.front.rest c.args.capture.now s.front.bytes.now y.keeps in
     let back =
-    front_back (λ u z. IfOk r (Plays x (g.D.Discipline.stands c.play_by.new.discipline) u z o)) _ _ v w _ s.files.ghost_name o.arrivals s.file s.front.rest c.args.capture.now s.front.bytes.now y.keeps
-    y.stood in
-    let P : View → View → Type 0 = λ u z. IfOk r (Plays x (g.D.Discipline.stands c.play_by.new.discipline) u z o) in
+    front_back (λ u z. IfOk r (Tells x (g.D.Discipline.stands c.play_by.new.discipline) (g.K.Keeper.told c.play_by.new.keeper) u z o)) _ _ v w _ s.files.ghost_name o.arrivals s.file s.front.rest c.args.capture.now s.front.bytes.now y.keeps
+    y.told in
+    let P : View → View → Type 0 = λ u z. IfOk r (Tells x (g.D.Discipline.stands c.play_by.new.discipline) (g.K.Keeper.told c.play_by.new.keeper) u z o) in
     let Q : View → Type 0 = λ u. Through P v u o.arrivals (Some c.args.capture.now) false in
+    subst Q (search rules) back
+
+pub returns-clause-keeps : goal.returns-clause-keeps
+returns-clause-keeps g c =
+    let v = g.F.Files.view c.args.files.now in
+    let s = c.play_by.new.files in
+    let w = g.F.Files.view s.files.now in
+    let o = c.args.opened.now in
+    let y = c.play_by.ensures in
+    let same = same_reference _ _ v w _ s.files.ghost_name o.arrivals s.file false s.front.rest c.args.capture.now s.front.bytes.now y.keeps in
+    let back = keeps_back _ _ v w _ s.files.ghost_name o.arrivals s.file false s.front.rest c.args.capture.now s.front.bytes.now (λ f h. h.0) y.keeps in
+    let Q : View → Type 0 = λ u. KeepsPlayed o v u in
     subst Q (search rules) back

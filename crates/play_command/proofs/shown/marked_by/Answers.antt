@@ -5,8 +5,9 @@ use Rattle.std.specs.Prelude.{IfOk}
 use Rattle.frame_classes.specs.Frames.{placed_by}
 use Rattle.interface_marks.specs.Conditioners.{Marks}
 use Rattle.marked_files.specs.Markings.{given}
-use Rattle.marked_files.proofs.BackLaws.{same_file, same_reference}
-use Rattle.play_loop.specs.Played.{Plays}
+use Rattle.marked_files.proofs.BackLaws.{keeps_back, same_file, same_reference}
+use Rattle.play_loop.specs.Kept.{KeepsPlayed}
+use Rattle.play_loop.specs.Told.{Tells}
 use Rattle.play_command.specs.Converting.{CameOf, Through, marked_of}
 use Rattle.play_command.specs.InterfaceSetup.{setup_of}
 use Rattle.play_command.proofs.ShownLemmas.{marked_back}
@@ -33,8 +34,8 @@ returns-clause-ends g c =
     let Q : View → Type 0 = λ u. (first : List ℕ) → Marks i first m → Through (CameOf x o r) v u o.arrivals (marked_of i first v o.arrivals) true in
     subst Q (search rules) back
 
-pub returns-clause-stood : goal.returns-clause-stood
-returns-clause-stood g c =
+pub returns-clause-told : goal.returns-clause-told
+returns-clause-told g c =
     let v = g.F.Files.view c.args.files.now in
     let s = c.play_by.new.files in
     let w = g.F.Files.view s.files.now in
@@ -48,8 +49,22 @@ returns-clause-stood g c =
     let one = same_reference v w _ s.files.ghost_name o.arrivals s.file _ s.marker.ghost_name (given placed_by m) (given placed_by n) _ _ y.keeps in
     let file = same_file v w _ s.files.ghost_name o.arrivals s.file _ s.marker.ghost_name (given placed_by m) (given placed_by n) _ _ y.keeps in
     let back : (first : List ℕ) → Marks i first m
-    → Through (λ u z. IfOk r (Plays x (g.D.Discipline.stands c.play_by.new.discipline) u z o)) v w o.arrivals (marked_of i first v o.arrivals) true = λ first marks.
-    marked_back (λ u z. IfOk r (Plays x (g.D.Discipline.stands c.play_by.new.discipline) u z o)) _ _ v w _ s.files.ghost_name o.arrivals s.file _ s.marker.ghost_name i first m n y.keeps file s.few marks y.stood in
-    let P : View → View → Type 0 = λ u z. IfOk r (Plays x (g.D.Discipline.stands c.play_by.new.discipline) u z o) in
+    → Through (λ u z. IfOk r (Tells x (g.D.Discipline.stands c.play_by.new.discipline) (g.K.Keeper.told c.play_by.new.keeper) u z o)) v w o.arrivals (marked_of i first v o.arrivals) true = λ first marks.
+    marked_back (λ u z. IfOk r (Tells x (g.D.Discipline.stands c.play_by.new.discipline) (g.K.Keeper.told c.play_by.new.keeper) u z o)) _ _ v w _ s.files.ghost_name o.arrivals s.file _ s.marker.ghost_name i first m n y.keeps file s.few marks y.told in
+    let P : View → View → Type 0 = λ u z. IfOk r (Tells x (g.D.Discipline.stands c.play_by.new.discipline) (g.K.Keeper.told c.play_by.new.keeper) u z o) in
     let Q : View → Type 0 = λ u. (first : List ℕ) → Marks i first m → Through P v u o.arrivals (marked_of i first v o.arrivals) true in
+    subst Q (search rules) back
+
+pub returns-clause-keeps : goal.returns-clause-keeps
+returns-clause-keeps g c =
+    let v = g.F.Files.view c.args.files.now in
+    let s = c.play_by.new.files in
+    let w = g.F.Files.view s.files.now in
+    let o = c.args.opened.now in
+    let m = c.args.marker.now in
+    let n = s.marker.now in
+    let y = c.play_by.ensures in
+    let one = same_reference v w _ s.files.ghost_name o.arrivals s.file _ s.marker.ghost_name (given placed_by m) (given placed_by n) _ _ y.keeps in
+    let back = keeps_back v w _ s.files.ghost_name o.arrivals s.file _ s.marker.ghost_name (given placed_by m) (given placed_by n) _ _ (λ f h. h.0) y.keeps in
+    let Q : View → Type 0 = λ u. KeepsPlayed o v u in
     subst Q (search rules) back

@@ -5,7 +5,7 @@ use Rattle.std.specs.Prelude.{IfOk}
 use Rattle.pcapng_files.proofs.BackLaws.{keeps_back, same_reference}
 use Rattle.interface_marks.specs.Conditioners.{marked_in}
 use Rattle.play_loop.specs.Kept.{KeepsPlayed}
-use Rattle.play_loop.specs.Played.{Plays}
+use Rattle.play_loop.specs.Told.{Tells}
 use Rattle.play_command.specs.Converting.{CameOf, Through}
 use Rattle.play_command.specs.InterfaceSetup.{setup_of}
 use Rattle.play_command.proofs.ShownLemmas.{marked_front_back}
@@ -25,8 +25,8 @@ returns-clause-ends g c =
     let Q : View → Type 0 = λ u. Through (CameOf x o r) v u o.arrivals (Some (marked_in c.args.interface.now c.args.capture.now)) false in
     subst Q (search rules) back
 
-pub returns-clause-stood : goal.returns-clause-stood
-returns-clause-stood g c =
+pub returns-clause-told : goal.returns-clause-told
+returns-clause-told g c =
     let v = g.F.Files.view c.args.files.now in
     let s = c.marked_by.new.files in
     let w = g.F.Files.view s.files.now in
@@ -35,8 +35,8 @@ returns-clause-stood g c =
     let r = c.marked_by.result in
     let y = c.marked_by.ensures in
     let same = same_reference _ _ v w _ s.files.ghost_name o.arrivals s.file false s.front.rest c.args.capture.now s.front.bytes.now y.keeps in
-    let back = marked_front_back (λ u z. IfOk r (Plays x (g.D.Discipline.stands c.marked_by.new.discipline) u z o)) _ _ v w _ s.files.ghost_name o.arrivals s.file s.front.rest c.args.interface.now c.args.capture.now s.front.bytes.now y.keeps (y.stood [] c.requires.marks) in
-    let P : View → View → Type 0 = λ u z. IfOk r (Plays x (g.D.Discipline.stands c.marked_by.new.discipline) u z o) in
+    let back = marked_front_back (λ u z. IfOk r (Tells x (g.D.Discipline.stands c.marked_by.new.discipline) (g.K.Keeper.told c.marked_by.new.keeper) u z o)) _ _ v w _ s.files.ghost_name o.arrivals s.file s.front.rest c.args.interface.now c.args.capture.now s.front.bytes.now y.keeps (y.told [] c.requires.marks) in
+    let P : View → View → Type 0 = λ u z. IfOk r (Tells x (g.D.Discipline.stands c.marked_by.new.discipline) (g.K.Keeper.told c.marked_by.new.keeper) u z o) in
     let Q : View → Type 0 = λ u. Through P v u o.arrivals (Some (marked_in c.args.interface.now c.args.capture.now)) false in
     subst Q (search rules) back
 

@@ -22,5 +22,5 @@ returns-in-Ok-lines_of-clause-done g c =
     let v = g.F.Files.view c.play_found_by.new.files in
     record {
       ends = x.done.ends;
-      to = λ t. stood_lines _ a v (names_read c.args.words.now) c.args.words.now.seed c.args.found.now _ c.requires.accepted t (x.stood t) c.in-Ok-lines_of.ensures;
+      to = λ t. stood_lines _ a v (names_read c.args.words.now) c.args.words.now.seed c.args.found.now _ c.requires.accepted t (x.told.stood t) c.in-Ok-lines_of.ensures;
     }

@@ -1,12 +1,9 @@
 -- An interface of a configuration can be built; where there is no memory for it, nothing was opened.
-use Rattle.std.proofs.Common.{arith}
 use Rattle.command_base.specs.Names.{names_read}
 use Rattle.command_base.proofs.ReadingLemmas.{fits}
-use Rattle.play_base.specs.View.{Any}
-use Rattle.play_base.proofs.ViewLaws.{keeps_refl}
 use Rattle.play_command.proofs.FoundLemmas.{found_unbuilt}
 use Rattle.play_command.proofs.Laws.{have_laws}
-use Rattle.play_command.proofs.kind.play_found.Goals as goal
+use Rattle.play_command.proofs.kind.play_told.Goals as goal
 
 pub hfsc_of-requires-clause-fit : goal.hfsc_of-requires-clause-fit
 hfsc_of-requires-clause-fit g c = fits c.args.found.now c.configurations_fit.ensures c.requires.configured

@@ -1,6 +1,6 @@
-use Rattle.std.proofs.Common.{◌∙◌, rules, ap, sym}
+use Rattle.std.proofs.Common.{◌∙◌, ap, sym}
 use Rattle.line_text.specs.Numbers.{number}
-use Rattle.play_words.proofs.words.names_read.Goals as goal
+use Rattle.play_words.proofs.words.seeded.Goals as goal
 
 pub returns-clause-read : goal.returns-clause-read
 returns-clause-read c = record {
@@ -11,5 +11,4 @@ returns-clause-read c = record {
   fates = c.value-6.ensures;
   stats = c.value-7.ensures;
   seed = ap (number 10) (sym c.value.ensures) ∙ (sym c.decimal.ensures ∙ c.in-Some.is);
-  distinct = search rules;
 }

@@ -1,0 +1,379 @@
+-- A chain that ends in its second play, at its paths, or done.
+use Rattle.std.proofs.Common.{◌≡◌, ◌≤◌, ◌∙◌, ◌⊎◌, ℕ, List, Ok, Err, None, Some, ap, sym, subst, refl, inl, inr, arith}
+use Rattle.std.specs.Prelude.{IsTrue}
+use Rattle.capture_model.specs.Capture.{End}
+use Rattle.conf_laws.specs.Laws.{ConfigurationsFit}
+use Rattle.conf_lines.specs.declared.fault.ConfPlace.{ConfPlace}
+use Rattle.pcapng_files.specs.declared.fault.NgFault.TheVariants as ng
+use Rattle.play_base.specs.View.{View, IsAbsent, Rose, SameCounts}
+use Rattle.play_base.specs.declared.trouble.Trouble.{Trouble}
+use Rattle.play_base.specs.declared.trouble.Trouble.TheVariants as trouble
+use Rattle.play_base.proofs.ViewLaws.{rose_before, rose_later, same_trans}
+use Rattle.play_chain.specs.Text.{path_text}
+use Rattle.play_loop.specs.KeptFates.{kept_fates}
+use Rattle.play_loop.specs.declared.fault.Limit.TheVariants as loop
+use Rattle.play_loop.specs.declared.fault.Output.TheVariants as output
+use Rattle.play_loop.specs.declared.fault.PlayFault.{PlayFault}
+use Rattle.play_loop.specs.declared.fault.PlayFault.TheVariants as fail
+use Rattle.command_base.specs.Faults.{IsQuiet, Untouched}
+use Rattle.command_base.specs.Outcome.{IsOrMemory, Outcome}
+use Rattle.command_base.specs.declared.done.Done.TheVariants as done
+use Rattle.command_base.specs.declared.failure.Failure.{Failure}
+use Rattle.command_base.specs.declared.failure.Failure.TheVariants as failure
+use Rattle.command_base.specs.declared.link.Link.TheVariants as link
+use Rattle.command_base.specs.declared.link.LinkFault.TheVariants as fault
+use Rattle.command_base.specs.declared.parts.ChainPart.TheVariants as chained
+use Rattle.command_base.specs.declared.parts.ReadPart.TheVariants as read
+use Rattle.command_base.specs.declared.parts.RunLimit.TheVariants as limit
+use Rattle.command_base.specs.declared.parts.WrittenPart.TheVariants as written
+use Rattle.command_base.proofs.ConfLemmas.{long_not, no_bytes, refused_not}
+use Rattle.command_base.proofs.PartLemmas.{same_part, there_or_not}
+use Rattle.play_command.specs.Ending.{IsUnread, PlayEnds, PlayFails, PlayIsTold}
+use Rattle.play_command.specs.Failing.{play_failure}
+use Rattle.play_command.specs.Played.{Fronts, HasPlayed, IsFrontAt, IsLimited, IsNoCapture}
+use Rattle.play_command.specs.declared.failing.Unplayed.TheVariants.{Play}
+use Rattle.play_command.proofs.InputLemmas.{SameInput, ends_late_by, ends_with_by, fronts_from, fronts_whole, told_from, unplayed_from}
+use Rattle.play_command.proofs.WholeLemmas.{capture_not_damaged, capture_not_limited, capture_not_pcapng, own_bytes}
+use Rattle.second_files.specs.Parts.{second_view}
+use Rattle.second_files.proofs.BackLaws.{counts_back}
+use Rattle.chain_command.specs.Chained.{ArePlayed, arrivals_of, journal_of, passed_on, sent_by}
+use Rattle.chain_command.specs.Chaining.{ChainEnds, ChainFails, ChainIsTold, FailsSecond, NoneAbove, PassesOn, RefusesAt, passed_by}
+use Rattle.chain_command.specs.Failing.{path_failure, second_failure}
+use Rattle.chain_command.specs.Leaving.{ChainLeaves, FilesEnd, IsAccepting, LeavesSecond}
+use Rattle.chain_command.specs.Links.{Links, second_names}
+use Rattle.chain_command.specs.Playing.{AddsFile, IsBehindConfig}
+use Rattle.chain_command.proofs.LeavingLemmas.{AreApart, at_most_nine, both_files, path_files}
+use Rattle.chain_command.proofs.PartLemmas.{LeavesOwn, leaves_own, quiet_own}
+use Rattle.chain_command.proofs.SecondLemmas.{after, kept_first, kept_second, one_sent, played_so, sent_classic, starts, unraised}
+
+-- the first play is done, and the second ended
+pub record HasPassed (u w c : View) (g : ℕ) (n : Links) (seed : ℕ) (o : Outcome) : Type 0 where
+  pub apart : AreApart n
+  pub accepting : IsAccepting u n
+  pub first : PlayEnds u w n.first seed (Ok done.Played)
+  pub ends : PlayEnds (second_view w g) (second_view c g) (second_names n) seed o
+  pub high : IsBehindConfig (second_view w g) (second_view c g)
+
+same_failure : (f h : Failure) → ◌≡◌ {A = Outcome} (Err f) (Err h) → f ≡ h
+same_failure f h e = cc
+
+not_done : (f : Failure) → ◌≡◌ {A = Outcome} (Err f) (Ok done.Played) → ⊥
+not_done f e = cc
+
+not_failed : (f : Failure) → IsOrMemory (Ok done.Played) (Err f) → ⊥
+not_failed f (inl e) = cc
+not_failed f (inr e) = cc
+
+module _ (u w c : View) (g : ℕ) (n : Links) (seed : ℕ) (o : Outcome) (h : HasPassed u w c g n seed o) where
+  abbrev W : View
+  W = second_view w g
+
+  abbrev C : View
+  C = second_view c g
+
+  -- as if the first departures had stood there
+  abbrev G : (sent : List ℕ) → View
+  G sent = second_view (passed_on u n sent) g
+
+  pub own : LeavesOwn w c n
+  own = leaves_own w c g g n h.ends.leaves.files h.high
+
+  pub low : NoneAbove 9 u c
+  low = at_most_nine u w c n h.apart h.first.leaves.files own
+
+  pub files : FilesEnd u c n
+  files = both_files u w c n h.apart h.first.leaves.files own
+
+  told_on : IsTrue u.tells → IsTrue w.tells
+  told_on t = h.first.leaves.files.others.tells ∙ t
+
+  -- the quiet run was quiet in both plays
+  quiet_first : IsQuiet u c → IsQuiet u w
+  quiet_first q = λ part few. (
+    (λ r. (q part few).0 (rose_before _ _ _ r (own.others.later.read part))),
+    (λ l r. (q part few).1 l (rose_before _ _ _ r (own.others.later.write part))),
+  )
+
+  quiet_second : IsQuiet u c → IsQuiet W C
+  quiet_second q = quiet_own w c g g u h.first.leaves.files.others.later.read h.first.leaves.files.others.later.write q
+
+  -- the second play, of what the first sent
+  module _ (x : IsTrue u.tells → HasPlayed u w n.first seed) where
+    pub leaves : Fronts W C (second_names n) seed → LeavesSecond u c n seed
+    leaves front = record {
+      accepting = h.accepting;
+      first = λ t. kept_first u w c n seed h.apart h.first.leaves.files own t (x t);
+      front = λ t. (
+        g,
+        fronts_from W (G (sent_by (x t))) C (second_names n) seed
+            (starts u w c n seed h.apart h.first.leaves.files own g (sent_by (x t)) (λ told. (x t).played.texts.departures)) front,
+      );
+      path = λ t. inl (λ f fresh e. let most = low f 10 fresh e in omega (arith, most));
+      files = files;
+    }
+
+    -- what must come
+    passed_input : (t : IsTrue u.tells) (p : PassesOn u n seed) → SameInput (passed_by p) (G (sent_by (x t))) (second_names n)
+    passed_input t p =
+        let same = one_sent u w n seed p (x t) in record {
+          config = ap (λ (sent : List ℕ). (passed_on u n sent).bytes n.first.config) (sym same);
+          arrivals = ap (λ (sent : List ℕ). (passed_on u n sent).bytes n.first.departures) (sym same);
+        }
+
+    pub must : (p : Outcome) → IsTrue u.tells → IsQuiet u c → (IsOrMemory o (Ok done.Played) → IsOrMemory p (Ok done.Chained))
+        → (IsOrMemory o (Err (failure.Limit limit.Clock)) → IsOrMemory p (Err (failure.OfLink link.Second fault.Clock))) → ChainIsTold u n seed p
+    must p t q whole late =
+        let a = h.accepting in
+        let told = h.first.told t (quiet_first q) in
+        let again : PlayIsTold (G (sent_by (x t))) (second_names n) seed o =
+        told_from W (G (sent_by (x t))) C (second_names n) seed o
+        (starts u w c n seed h.apart h.first.leaves.files own g (sent_by (x t)) (λ told. (x t).played.texts.departures)) t
+        (h.ends.told (told_on t) (quiet_second q)) in
+        record {
+          complete = λ y. whole (again.complete (ends_with_by (passed_by y.0) (G (sent_by (x t))) (second_names n) seed End (passed_input t y.0) y.1));
+          refused = λ place y. refused t place y;
+          long = λ y. absurd (long_not u n.first.config n.first.interface a.0 (a.2 t) y);
+          damaged = λ next damage y z. absurd (not_failed _ (told.damaged damage z));
+          limited = λ next y z. absurd (not_failed _ (told.limited z));
+          no_pcapng = λ next block y z. absurd (not_failed _ (told.no_pcapng block z));
+          too_long = λ next y z. absurd (not_failed _ (told.too_long z));
+          late = λ next y z. absurd (not_failed _ (told.late z));
+          late_again = λ y. late (again.late (ends_late_by (passed_by y.0) (G (sent_by (x t))) (second_names n) seed (passed_input t y.0) y.1));
+        }
+      where
+        refused : IsTrue u.tells → (place : ConfPlace) → RefusesAt u n place → IsOrMemory p (Err (failure.Configuration place))
+        refused t place (inl y) = absurd (refused_not u n.first.config n.first.interface h.accepting.0 place (h.accepting.2 t) y)
+        refused t place (inr y) = absurd (refused_not u n.first.config n.next h.accepting.1 place (h.accepting.3 t) y.2)
+
+-- the second play fails
+module _ (u w c : View) (g : ℕ) (n : Links) (seed : ℕ) (f : PlayFault) (h : HasPassed u w c g n seed (Err (play_failure f))) where
+  abbrev whole : IsTrue u.tells → HasPlayed u w n.first seed
+  whole = h.first.comes.played
+
+  -- as if what the first sent had stood there
+  fails_so : (t : IsTrue u.tells) → PlayFails (second_view (passed_on u n (sent_by (whole t))) g) (second_view c g) (second_names n) seed (play_failure f)
+  fails_so t =
+      unplayed_from (second_view w g) (second_view (passed_on u n (sent_by (whole t))) g) (second_view c g) (second_names n) seed (Play f)
+      (starts u w c n seed h.apart h.first.leaves.files (own u w c g n seed _ h) g (sent_by (whole t)) (λ told. (whole t).played.texts.departures)) h.ends.comes
+
+  pub fails_second : FailsSecond u c n seed (play_failure f)
+  fails_second = (
+    h.accepting,
+    low u w c g n seed _ h,
+    λ t. (kept_first u w c n seed h.apart h.first.leaves.files (own u w c g n seed _ h) t (whole t), (g, fails_so t)),
+  )
+
+no_absent : (u w : View) (n : Links) (seed : ℕ) → (IsTrue u.tells → HasPlayed u w n.first seed) → w.tells ≡ u.tells → IsAbsent w n.first.departures → ⊥
+no_absent u w n seed x same a =
+    let t : IsTrue u.tells = sym same ∙ a.0 in no_bytes _ (sym a.1 ∙ (x t).played.texts.departures)
+
+unread_rose : (u w c : View) (g : ℕ) (n : Links) (seed : ℕ) → (IsTrue u.tells → HasPlayed u w n.first seed) → w.tells ≡ u.tells
+    → u.read_faults 3 ≤ w.read_faults 3 → IsUnread (second_view w g) (second_view c g) (second_names n) seed → Rose (u.read_faults 3) (c.read_faults 3)
+unread_rose u w c g n seed x same l (inl (y, inl r)) = rose_later _ _ _ l r
+unread_rose u w c g n seed x same l (inl (y, inr a)) = absurd (no_absent u w n seed x same a)
+unread_rose u w c g n seed x same l (inr y) = rose_later _ _ _ l y.0
+
+-- its capture is whole
+not_limited : (u c : View) (g : ℕ) (n : Links) (seed : ℕ) (v : View) (x : HasPlayed u v n.first seed) → IsTrue u.tells
+    → (IsTrue u.tells → IsLimited (second_view (passed_on u n (sent_by x)) g) (second_view c g) (second_names n) seed)
+    ⊎ (Untouched (second_view (passed_on u n (sent_by x)) g) (second_view c g) 3
+    × (IsTrue u.tells → IsNoCapture (second_view (passed_on u n (sent_by x)) g) (second_names n) ng.Limit)) → ⊥
+not_limited u c g n seed v x t (inl y) =
+    capture_not_limited (second_view (passed_on u n (sent_by x)) g) (second_view c g) (second_names n) seed (sent_by x) _ (sent_classic x)
+    (own_bytes u n.first.departures (sent_by x)) x.played.reads (y t)
+not_limited u c g n seed v x t (inr y) =
+    capture_not_pcapng (second_view (passed_on u n (sent_by x)) g) (second_names n) ng.Limit (sent_by x) (sent_classic x)
+    (own_bytes u n.first.departures (sent_by x)) (y.1 t)
+
+comes_second : (u w c : View) (g : ℕ) (n : Links) (seed : ℕ) (f : PlayFault) → HasPassed u w c g n seed (Err (play_failure f))
+    → ChainFails u c n seed (second_failure f)
+comes_second u w c g n seed (fail.Capture damage) h = (
+  h.accepting,
+  low u w c g n seed _ h,
+  λ t.
+      let x = h.first.comes.played t in
+      capture_not_damaged (second_view (passed_on u n (sent_by x)) g) (second_view c g) (second_names n) seed damage (sent_by x) _ (sent_classic x)
+      (own_bytes u n.first.departures (sent_by x)) x.played.reads ((fails_so u w c g n seed (fail.Capture damage) h t).1 t),
+)
+comes_second u w c g n seed fail.Read h = (
+  unread_rose u w c g n seed h.first.comes.played h.first.leaves.files.others.tells (h.first.leaves.files.others.later.read 3) h.ends.comes.1,
+  fails_second u w c g n seed fail.Read h,
+)
+comes_second u w c g n seed (fail.Write output.Departures) h =
+    (rose_later _ _ _ (h.first.leaves.files.others.later.write 7) h.ends.comes.1, fails_second u w c g n seed (fail.Write output.Departures) h)
+comes_second u w c g n seed (fail.Write output.Fates) h =
+    (rose_later _ _ _ (h.first.leaves.files.others.later.write 8) h.ends.comes.1, fails_second u w c g n seed (fail.Write output.Fates) h)
+comes_second u w c g n seed (fail.Write output.Statistics) h =
+    (rose_later _ _ _ (h.first.leaves.files.others.later.write 9) h.ends.comes.1, fails_second u w c g n seed (fail.Write output.Statistics) h)
+comes_second u w c g n seed (fail.Limit loop.Capture) h = (
+  h.accepting,
+  low u w c g n seed _ h,
+  λ t. not_limited u c g n seed w (h.first.comes.played t) t (fails_so u w c g n seed (fail.Limit loop.Capture) h t).1,
+)
+comes_second u w c g n seed (fail.Limit loop.Clock) h = fails_second u w c g n seed (fail.Limit loop.Clock) h
+comes_second u w c g n seed fail.NoMemory h = tt
+
+-- a failure of the second play, as the chain tells it
+abbrev on_second : Failure → Failure
+on_second (failure.Capture damage) = failure.OfLink link.Second (fault.Capture damage)
+on_second (failure.Read read.Arrivals) = failure.Read read.Departures
+on_second (failure.Write written.Departures) = failure.Write (written.Chained chained.Departures)
+on_second (failure.Write written.Fates) = failure.Write (written.Chained chained.Fates)
+on_second (failure.Write written.Statistics) = failure.Write (written.Chained chained.Statistics)
+on_second (failure.Limit limit.Capture) = failure.OfLink link.Second fault.Long
+on_second (failure.Limit limit.Clock) = failure.OfLink link.Second fault.Clock
+on_second other = other
+
+second_is : (f : PlayFault) → second_failure f ≡ on_second (play_failure f)
+second_is (fail.Capture damage) = refl
+second_is fail.Read = refl
+second_is (fail.Write output.Departures) = refl
+second_is (fail.Write output.Fates) = refl
+second_is (fail.Write output.Statistics) = refl
+second_is (fail.Limit loop.Capture) = refl
+second_is (fail.Limit loop.Clock) = refl
+second_is fail.NoMemory = refl
+
+told_so : (f : PlayFault) (k : Failure) → IsOrMemory (Err (play_failure f)) (Err k) → IsOrMemory (Err (second_failure f)) (Err (on_second k))
+told_so f k (inl e) = inl (ap {B = Outcome} (λ (y : Failure). Err y) (second_is f ∙ ap on_second (same_failure _ k e)))
+told_so f k (inr e) = inr (ap {B = Outcome} (λ (y : Failure). Err y) (second_is f ∙ ap on_second (same_failure _ failure.NoMemory e)))
+
+starved : (f : PlayFault) → IsOrMemory (Err (play_failure f)) (Ok done.Played) → IsOrMemory (Err (second_failure f)) (Ok done.Chained)
+starved f (inl e) = absurd (not_done (play_failure f) e)
+starved f (inr e) = inr (ap {B = Outcome} (λ (y : Failure). Err y) (second_is f ∙ ap on_second (same_failure _ failure.NoMemory e)))
+
+left_second : (u c : View) (n : Links) (seed : ℕ) → LeavesSecond u c n seed → ChainLeaves u c n seed
+left_second u c n seed x =
+    let a = x.accepting in record { nothing = λ t none. absurd (none a.1 (a.0, a.2 t, a.3 t)); left = inr x }
+
+-- where there is no memory
+pub memory_told : (u : View) (n : Links) (seed : ℕ) → ChainIsTold u n seed (Err failure.NoMemory)
+memory_told u n seed = record {
+  complete = λ p. inr refl;
+  refused = λ place y. inr refl;
+  long = λ y. inr refl;
+  damaged = λ next d y p. inr refl;
+  limited = λ next y p. inr refl;
+  no_pcapng = λ next block y p. inr refl;
+  too_long = λ next y p. inr refl;
+  late = λ next y p. inr refl;
+  late_again = λ p. inr refl;
+}
+
+pub second_ends : (u w c : View) (g : ℕ) (n : Links) (seed : ℕ) (f : PlayFault) → HasPassed u w c g n seed (Err (play_failure f))
+    → ChainEnds u c n seed (Err (second_failure f))
+second_ends u w c g n seed f h = record {
+  comes = comes_second u w c g n seed f h;
+  told = λ t q. must u w c g n seed _ h h.first.comes.played (Err (second_failure f)) t q (starved f) (told_so f (failure.Limit limit.Clock));
+  leaves = left_second u c n seed (leaves u w c g n seed _ h h.first.comes.played h.ends.leaves.front);
+}
+
+-- both plays are done, and then the paths were written, as far as this went
+pub record HasWritten (u w c e : View) (g : ℕ) (n : Links) (seed : ℕ) (text : List ℕ) : Type 0 where
+  pub passed : HasPassed u w c g n seed (Ok done.Played)
+  pub fit : ConfigurationsFit
+  pub x : IsTrue u.tells → HasPlayed u w n.first seed
+  pub y : IsTrue u.tells → HasPlayed (second_view w g) (second_view c g) (second_names n) seed
+  pub text_is : (t : IsTrue u.tells) → text ≡ path_text (kept_fates (arrivals_of (x t)) (journal_of (x t))) (journal_of (y t))
+  pub adds : AddsFile c e 10 n.path text
+
+module _ (u w c e : View) (g : ℕ) (n : Links) (seed : ℕ) (text : List ℕ) (h : HasWritten u w c e g n seed text) where
+  abbrev P : HasPassed u w c g n seed (Ok done.Played)
+  P = h.passed
+
+  told_then : IsTrue u.tells → IsTrue c.tells
+  told_then t = (own u w c g n seed (Ok done.Played) P).others.tells ∙ P.first.leaves.files.others.tells ∙ t
+
+  abbrev first_in : IsTrue u.tells → HasPlayed u e n.first seed
+  first_in t =
+      let d = P.apart in
+      let told = told_then t in
+      played_so u c u e n.first seed refl refl
+      (h.adds.keeps.bytes n.first.departures (told, d.departures_path))
+      (h.adds.keeps.bytes n.first.fates (told, d.fates_path))
+      (h.adds.keeps.bytes n.first.stats (told, d.stats_path))
+      (kept_first u w c n seed d P.first.leaves.files (own u w c g n seed (Ok done.Played) P) t (h.x t))
+
+  abbrev second_in : (t : IsTrue u.tells) → HasPlayed (passed_on u n (sent_by (h.x t))) e (second_names n) seed
+  second_in t =
+      let d = P.apart in
+      let told = told_then t in
+      played_so (passed_on u n (sent_by (h.x t))) c (passed_on u n (sent_by (h.x t))) e (second_names n) seed refl refl
+      (h.adds.keeps.bytes n.departures (told, d.second_departures_path))
+      (h.adds.keeps.bytes n.fates (told, d.second_fates_path))
+      (h.adds.keeps.bytes n.stats (told, d.second_stats_path))
+      (kept_second u w c n seed d P.first.leaves.files (own u w c g n seed (Ok done.Played) P) g g t (h.x t) (h.y t))
+
+  abbrev both_in : (t : IsTrue u.tells) → ArePlayed u e n seed
+  both_in t = record { first = first_in t; second = second_in t }
+
+  untouched_then : Untouched c e 10 → Untouched u e 10
+  untouched_then none = λ f fresh there. by f fresh there (there_or_not (c.part f))
+    where
+      by : (f : ℕ) → u.part f ≡ None → e.part f ≡ Some 10 → (c.part f ≡ None) ⊎ ((p : ℕ) × (c.part f ≡ Some p)) → ⊥
+      by f fresh there (inl m) = none f m there
+      by f fresh there (inr m) =
+          let ten : 10 ≡ m.0 = same_part 10 m.0 (sym there ∙ h.adds.keeps.part f m.0 m.1) in
+          let most = low u w c g n seed (Ok done.Played) P f m.0 fresh m.1 in omega (arith, ten, most)
+
+  front_then : IsTrue u.tells → IsFrontAt c e 10 n.path text → IsFrontAt u e 10 n.path text
+  front_then t (inl z) =
+      inl (untouched_then z.0, z.1 ∙ ((files u w c g n seed (Ok done.Played) P).uncreated t).path (λ f fresh there. z.0 f (none_then f fresh there) (h.adds.keeps.part f 10 there)))
+    where
+      none_then : (f : ℕ) → u.part f ≡ None → c.part f ≡ Some 10 → c.part f ≡ None
+      none_then f fresh there = let most = low u w c g n seed (Ok done.Played) P f 10 fresh there in absurd (omega (arith, most))
+  front_then t (inr z) = inr z
+
+  written_leaves : LeavesSecond u e n seed
+  written_leaves = record {
+    accepting = P.accepting;
+    first = first_in;
+    front = λ t. (
+      g,
+      fronts_whole (second_view (passed_on u n (sent_by (h.x t))) g) (second_view e g) (second_names n) seed
+          (λ told. played_so (passed_on u n (sent_by (h.x t))) e (second_view (passed_on u n (sent_by (h.x t))) g) (second_view e g) (second_names n) seed
+          refl refl refl refl refl (second_in t)),
+    );
+    path = λ t. inr (both_in t, subst (λ (z : List ℕ). IsFrontAt u e 10 n.path z) (h.text_is t) (front_then t (h.adds.front (told_then t))));
+    files = path_files u c e n P.apart text (files u w c g n seed (Ok done.Played) P) (low u w c g n seed (Ok done.Played) P) h.adds;
+  }
+
+  quiet_then : IsQuiet u e → IsQuiet u c
+  quiet_then q = λ part few. (
+    (λ r. (q part few).0 (rose_before _ _ _ r (h.adds.keeps.later.read part))),
+    (λ l r. (q part few).1 l (rose_before _ _ _ r (h.adds.keeps.later.write part))),
+  )
+
+  -- and all is done
+  pub done_ends : (IsTrue c.tells → e.bytes n.path ≡ Some text) → SameCounts c e → ChainEnds u e n seed (Ok done.Chained)
+  done_ends whole same = record {
+    comes = record {
+      chained = λ t. record {
+        played = both_in t;
+        unraised = unraised u e e n seed h.fit (first_in t) (second_in t);
+        after = after u e e n seed h.fit (first_in t) (second_in t);
+        path = whole (told_then t) ∙ ap (λ (z : List ℕ). Some z) (h.text_is t);
+      };
+      silent = h.adds.said ∙ P.ends.comes.silent ∙ P.first.comes.silent;
+      no_fault = same_trans u w e P.first.comes.no_fault (same_trans w c e (counts_back w c g g P.ends.comes.no_fault) same);
+    };
+    told = λ t q. must u w c g n seed (Ok done.Played) P h.x (Ok done.Chained) t (quiet_then q) (λ z. inl refl) (λ z. absurd (not_failed _ z));
+    leaves = left_second u e n seed written_leaves;
+  }
+
+  -- or not
+  pub path_ends : (t : Trouble) → (t ≡ trouble.Failed → Rose (c.write_faults 10) (e.write_faults 10)) → ChainEnds u e n seed (Err (path_failure t))
+  path_ends trouble.NoMemory r = record {
+    comes = tt;
+    told = λ t q. memory_told u n seed;
+    leaves = left_second u e n seed written_leaves;
+  }
+  path_ends trouble.Failed r =
+      let first = P.first.leaves.files.others.later.write 10 in
+      let second = (own u w c g n seed (Ok done.Played) P).others.later.write 10 in
+      let rose = rose_later _ _ _ first (rose_later _ _ _ second (r refl)) in
+      record {
+        comes = (rose, P.accepting, both_in);
+        told = λ t q. absurd ((q 10 (omega arith)).1 (omega arith) rose);
+        leaves = left_second u e n seed written_leaves;
+      }

@@ -1,0 +1,10 @@
+pub mod ChainLemmas
+pub mod EndLemmas
+pub mod FirstLemmas
+pub mod LawLemmas
+pub mod LeavingLemmas
+pub mod LentLemmas
+pub mod PartLemmas
+pub mod SecondLemmas
+pub mod TellLemmas
+pub mod WrittenLemmas

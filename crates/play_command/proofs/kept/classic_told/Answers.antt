@@ -1,0 +1,26 @@
+-- An interface of a configuration can be built; where there is no memory for it, nothing was opened.
+use Rattle.command_base.specs.Names.{names_read}
+use Rattle.command_base.proofs.ReadingLemmas.{fits}
+use Rattle.play_command.proofs.FoundLemmas.{found_unbuilt}
+use Rattle.play_command.proofs.Laws.{have_laws}
+use Rattle.play_command.proofs.kept.classic_told.Goals as goal
+
+pub hfsc_of-requires-clause-fit : goal.hfsc_of-requires-clause-fit
+hfsc_of-requires-clause-fit g c = fits c.args.found.now c.configurations_fit.ensures c.requires.configured
+
+pub cbq_of-requires-clause-fit : goal.cbq_of-requires-clause-fit
+cbq_of-requires-clause-fit g c = fits c.args.found.now c.configurations_fit.ensures c.requires.configured
+
+pub returns-in-Err-clause-ends : goal.returns-in-Err-clause-ends
+returns-in-Err-clause-ends g c =
+    found_unbuilt (g.F.Files.view c.args.files.now) (names_read c.args.words.now) c.args.found.now c.args.words.now.seed
+    (have_laws c.configurations_fit.ensures c.frames_have_classes.ensures.class c.interfaces_keep_their_promises.ensures.lawful
+    c.interfaces_keep_their_promises.ensures.held c.interfaces_keep_their_promises.ensures.named c.interfaces_keep_their_promises.ensures.promises)
+    c.requires.accepted c.requires.distinct
+
+pub returns-in-Err-cbq_of-clause-ends : goal.returns-in-Err-cbq_of-clause-ends
+returns-in-Err-cbq_of-clause-ends g c =
+    found_unbuilt (g.F.Files.view c.args.files.now) (names_read c.args.words.now) c.args.found.now c.args.words.now.seed
+    (have_laws c.configurations_fit.ensures c.frames_have_classes.ensures.class c.interfaces_keep_their_promises.ensures.lawful
+    c.interfaces_keep_their_promises.ensures.held c.interfaces_keep_their_promises.ensures.named c.interfaces_keep_their_promises.ensures.promises)
+    c.requires.accepted c.requires.distinct
