@@ -10,7 +10,8 @@ use Rattle.pcapng_files.specs.declared.fault.NgFault.TheVariants as ng
 use Rattle.play_base.specs.View.{View, Any, Keeps, Opened, ReadFault}
 use Rattle.play_base.proofs.ViewLaws.{opened_then, rose_later}
 use Rattle.command_base.proofs.ConfLemmas.{some_bytes}
-use Rattle.condition_command.specs.Arriving.{ArrivalCauses, IsNoPcapng, given_failure}
+use Rattle.early_stops.specs.Arriving.{IsNoPcapng, given_failure}
+use Rattle.condition_command.specs.Arriving.{ArrivalCauses}
 
 pub arrived_keeps : (a b c : View) (name : List ℕ) (file : ℕ) → Opened a b 2 name file → Keeps Any (λ f. f ≢ file) b c → Keeps Any Any a c
 arrived_keeps a b c name file x k = opened_then Any a b c 2 name file x k

@@ -11,7 +11,7 @@ use Rattle.command_base.specs.Input.{EndsAtConfig, TakesFew}
 use Rattle.command_base.specs.Telling.{OnlySays}
 use Rattle.command_base.proofs.PartLemmas.{fresh_before, new_part, none_some, same_part, there_or_not, there_then}
 use Rattle.command_base.proofs.SayingLemmas.{few_after, there_before, untouched_before}
-use Rattle.condition_command.specs.Arriving.{OnlyOpens}
+use Rattle.early_stops.specs.Arriving.{OnlyOpens}
 use Rattle.condition_command.specs.Conditioning.{Arrive, ConditionLeaves, IsFrontAt, MarkNames, TookWithin}
 use Rattle.condition_command.specs.Marking.{KeepsOthers}
 

@@ -18,38 +18,9 @@ use Rattle.command_base.specs.declared.failure.Failure.TheVariants as failure
 use Rattle.command_base.specs.declared.parts.ReadPart.TheVariants as read
 use Rattle.command_base.specs.declared.parts.RunLimit.TheVariants as limit
 use Rattle.command_base.proofs.ConfLemmas.{long_not, no_bytes, one_says, refused_not, same_some}
-use Rattle.condition_command.specs.Arriving.{IsNoPcapng}
+use Rattle.early_stops.specs.Arriving.{IsNoPcapng}
+use Rattle.early_stops.proofs.StopLemmas.{ConfGone, ConfLong, ConfRefused, ConfStop, IsOfBytes, break_outcome, conf_not, conf_one, one_broken}
 use Rattle.condition_command.specs.Conditioning.{AreBroken, Arrive, EndsWith, HasInterface, MarkNames}
-
--- THE CONFIGURATION
-pub data ConfStop (v : View) (n : MarkNames) (o : Outcome) : Type 0 where
-  ConfRefused : (place : ConfPlace) → Says v n.config n.interface (Refused place) → o ≡ Err (failure.Configuration place) → ConfStop v n o
-  ConfLong : Says v n.config n.interface TooLong → o ≡ Err (failure.Limit limit.Configuration) → ConfStop v n o
-  ConfGone : v.bytes n.config ≡ None → o ≡ Err (failure.Read read.Configuration) → ConfStop v n o
-
-refused_long : (place : ConfPlace) → Refused place ≡ TooLong → ⊥
-refused_long place h = cc
-
-same_place : (x y : ConfPlace) → Refused x ≡ Refused y → x ≡ y
-same_place x y h = cc
-
-conf_one : (v : View) (n : MarkNames) (o p : Outcome) → ConfStop v n o → ConfStop v n p → o ≡ p
-conf_one v n o p (ConfRefused x a e) (ConfRefused y b f) =
-    e ∙ ap {B = Result Done Failure} (λ (place : ConfPlace). Err (failure.Configuration place))
-    (same_place x y (one_says v n.config n.interface (Refused x) (Refused y) a b)) ∙ sym f
-conf_one v n o p (ConfRefused x a e) (ConfLong b f) = absurd (refused_long x (one_says v n.config n.interface (Refused x) TooLong a b))
-conf_one v n o p (ConfRefused x a e) (ConfGone b f) = absurd (no_bytes a.text (sym b ∙ a.at))
-conf_one v n o p (ConfLong a e) (ConfRefused y b f) = absurd (refused_long y (one_says v n.config n.interface (Refused y) TooLong b a))
-conf_one v n o p (ConfLong a e) (ConfLong b f) = e ∙ sym f
-conf_one v n o p (ConfLong a e) (ConfGone b f) = absurd (no_bytes a.text (sym b ∙ a.at))
-conf_one v n o p (ConfGone a e) (ConfRefused y b f) = absurd (no_bytes b.text (sym a ∙ b.at))
-conf_one v n o p (ConfGone a e) (ConfLong b f) = absurd (no_bytes b.text (sym a ∙ b.at))
-conf_one v n o p (ConfGone a e) (ConfGone b f) = e ∙ sym f
-
-conf_not : (v : View) (n : MarkNames) (o : Outcome) → ConfStop v n o → HasInterface v n → ⊥
-conf_not v n o (ConfRefused place a e) i = refused_not v n.config n.interface i.0 place i.1 a
-conf_not v n o (ConfLong a e) i = long_not v n.config n.interface i.0 i.1 a
-conf_not v n o (ConfGone a e) i = no_bytes i.1.says.text (sym a ∙ i.1.says.at)
 
 -- THE ARRIVALS
 one_end : (v : View) (n : MarkNames) (p q : Step) → IsLast p → IsLast q → EndsWith v n p → EndsWith v n q → p ≡ q
@@ -58,12 +29,6 @@ one_end v n p q hp hq a b =
     let reads : ReadAs a.arrive.given b.capture = subst (λ (g : List ℕ). ReadAs g b.capture) same b.arrive.read in
     let capture : b.capture ≡ a.capture = read_one_way a.arrive.given b.capture a.capture reads a.arrive.read in
     (one_reading a.capture a.records b.records p q a.reads hp (subst (λ (c : List ℕ). Reads c b.records q) capture b.reads) hq).1
-
--- the faults that bytes tell
-abbrev pub IsOfBytes : NgFault → Type 0
-IsOfBytes (ng.At block) = Unit {0}
-IsOfBytes ng.Limit = Unit {0}
-IsOfBytes ng.NoMemory = ⊥
 
 ends_not_broken : (v : View) (n : MarkNames) (p : Step) (f : NgFault) → IsOfBytes f → EndsWith v n p → IsNoPcapng v n.arrivals f → ⊥
 ends_not_broken v n p (ng.At block) h a b =
@@ -74,32 +39,12 @@ ends_not_broken v n p ng.Limit h a b =
     limit_not_read b.given a.capture b.begins (subst (λ (g : List ℕ). ReadAs g a.capture) same a.arrive.read) b.cause
 ends_not_broken v n p ng.NoMemory h a b = h
 
-one_broken : (v : View) (name : List ℕ) (f g : NgFault) → IsOfBytes f → IsOfBytes g → IsNoPcapng v name f → IsNoPcapng v name g → f ≡ g
-one_broken v name (ng.At x) (ng.At y) h k a b =
-    let same : b.given ≡ a.given = same_some b.given a.given (sym b.at ∙ a.at) in
-    ap (λ z. ng.At z) (one_fault a.given x y a.cause (subst (λ (g : List ℕ). IsCause (ng.At y) g) same b.cause))
-one_broken v name (ng.At x) ng.Limit h k a b =
-    let same : b.given ≡ a.given = same_some b.given a.given (sym b.at ∙ a.at) in
-    absurd (no_limit_at a.given x (subst (λ (g : List ℕ). IsCause ng.Limit g) same b.cause) a.cause)
-one_broken v name ng.Limit (ng.At y) h k a b =
-    let same : a.given ≡ b.given = same_some a.given b.given (sym a.at ∙ b.at) in
-    absurd (no_limit_at b.given y (subst (λ (g : List ℕ). IsCause ng.Limit g) same a.cause) b.cause)
-one_broken v name ng.Limit ng.Limit h k a b = refl
-one_broken v name ng.NoMemory g h k a b = absurd h
-one_broken v name (ng.At x) ng.NoMemory h k a b = absurd k
-one_broken v name ng.Limit ng.NoMemory h k a b = absurd k
-
--- what comes of an end of the arrivals, and of a fault of a pcapng file
+-- what comes of an end of the arrivals
 abbrev pub end_outcome : Step → Outcome
 end_outcome End = Ok done.Conditioned
 end_outcome (Next r after) = Err failure.NoMemory
 end_outcome (Fault found) = Err (failure.Capture found)
 end_outcome Limit = Err (failure.Limit limit.Capture)
-
-abbrev pub break_outcome : NgFault → Outcome
-break_outcome (ng.At block) = Err (failure.Pcapng block)
-break_outcome ng.Limit = Err (failure.Limit limit.Capture)
-break_outcome ng.NoMemory = Err failure.NoMemory
 
 pub data ArrivalsTold (v : View) (n : MarkNames) (o : Outcome) : Type 0 where
   ArrivalsEnd : (s : Step) → IsLast s → EndsWith v n s → o ≡ end_outcome s → ArrivalsTold v n o
@@ -119,12 +64,12 @@ arrivals_one v n o p (ArrivalsGone a e) (ArrivalsGone b f) = e ∙ sym f
 
 -- ALL OF THEM: it stops at the configuration, or goes on
 abbrev pub Case : View → MarkNames → Outcome → Type 0
-Case v n o = ConfStop v n o ⊎ (HasInterface v n × ArrivalsTold v n o)
+Case v n o = ConfStop v n.config n.interface o ⊎ (HasInterface v n × ArrivalsTold v n o)
 
 pub one_case : (v : View) (n : MarkNames) (o p : Outcome) → Case v n o → Case v n p → o ≡ p
-one_case v n o p (inl a) (inl b) = conf_one v n o p a b
-one_case v n o p (inl a) (inr b) = absurd (conf_not v n o a b.0)
-one_case v n o p (inr a) (inl b) = absurd (conf_not v n p b a.0)
+one_case v n o p (inl a) (inl b) = conf_one v n.config n.interface o p a b
+one_case v n o p (inl a) (inr b) = absurd (conf_not v n.config n.interface o a b.0)
+one_case v n o p (inr a) (inl b) = absurd (conf_not v n.config n.interface p b a.0)
 one_case v n o p (inr a) (inr b) = arrivals_one v n o p a.1 b.1
 
 -- EACH CASE

@@ -26,7 +26,8 @@ use Rattle.command_base.specs.declared.parts.ReadPart.TheVariants as read
 use Rattle.command_base.specs.declared.parts.RunLimit.TheVariants as limit
 use Rattle.command_base.specs.declared.parts.WrittenPart.TheVariants as written
 use Rattle.command_base.proofs.PartLemmas.{fresh_before, new_part, same_part, there_or_not}
-use Rattle.condition_command.specs.Arriving.{ArrivalCauses, IsNoPcapng, OnlyOpens}
+use Rattle.early_stops.specs.Arriving.{IsNoPcapng, OnlyOpens}
+use Rattle.condition_command.specs.Arriving.{ArrivalCauses}
 use Rattle.condition_command.specs.Conditioning.{AreBroken, ConditionEnds, ConditionFails, MarkNames}
 use Rattle.condition_command.specs.Marking.{KeepsOthers, Marks}
 use Rattle.condition_command.specs.declared.marking.Unmarked.{Unmarked}

@@ -7,22 +7,12 @@ use Rattle.pcapng_files.specs.Converted.{IsCause}
 use Rattle.pcapng_files.specs.declared.fault.NgFault.{NgFault}
 use Rattle.pcapng_files.specs.declared.fault.NgFault.TheVariants as ng
 use Rattle.play_base.specs.View.{View}
+use Rattle.early_stops.specs.Arriving.{IsNoPcapng}
 use Rattle.command_base.specs.Faults.{CannotRead}
 use Rattle.command_base.specs.declared.failure.Failure.{Failure}
 use Rattle.command_base.specs.declared.failure.Failure.TheVariants as failure
 use Rattle.command_base.specs.declared.parts.ReadPart.TheVariants as read
 use Rattle.command_base.specs.declared.parts.RunLimit.TheVariants as limit
-
--- every file that came to be is of this part
-abbrev pub OnlyOpens : View → View → (part : ℕ) → Type 0
-OnlyOpens old new part = (f p : ℕ) → old.part f ≡ None → new.part f ≡ Some p → p ≡ part
-
--- the bytes under a name begin as a pcapng file, and have this fault
-pub record IsNoPcapng (v : View) (name : List ℕ) (f : NgFault) : Type 0 where
-  pub given : List ℕ
-  pub at : v.bytes name ≡ Some given
-  pub begins : is_pcapng given ≡ true
-  pub cause : IsCause f given
 
 abbrev pub ArrivalCauses : View → View → (name : List ℕ) → Failure → Type 0
 ArrivalCauses old new name (failure.Pcapng block) = IsTrue old.tells → IsNoPcapng old name (ng.At block)
@@ -30,9 +20,3 @@ ArrivalCauses old new name (failure.Limit limit.Capture) = IsTrue old.tells → 
 ArrivalCauses old new name (failure.Read read.Arrivals) = CannotRead old new 2 name
 ArrivalCauses old new name failure.NoMemory = Unit {0}
 ArrivalCauses old new name other = ⊥
-
-abbrev pub given_failure : GivenFault → Failure
-given_failure (given.At block) = failure.Pcapng block
-given_failure given.Limit = failure.Limit limit.Capture
-given_failure given.Read = failure.Read read.Arrivals
-given_failure given.NoMemory = failure.NoMemory

@@ -25,7 +25,7 @@ use Rattle.command_base.specs.declared.parts.RunLimit.{RunLimit}
 use Rattle.command_base.specs.declared.parts.RunLimit.TheVariants as limit
 use Rattle.command_base.specs.declared.parts.WrittenPart.{WrittenPart}
 use Rattle.command_base.specs.declared.parts.WrittenPart.TheVariants as written
-use Rattle.condition_command.specs.Arriving.{IsNoPcapng}
+use Rattle.early_stops.specs.Arriving.{IsNoPcapng}
 
 -- the names of the words
 pub record MarkNames : Type 0 where

@@ -1,11 +1,13 @@
 // Opening the arrivals.
 ghost use Rattle.std.specs.Prelude.{◌≡◌, ◌≤◌, ℕ, List, Some, length, true, IfErr, IfOk, IsSome, IsTrue, OnOk};
 ghost use Rattle.arrivals_front.specs.Given.{Follows};
-ghost use Rattle.condition_command.specs.Arriving.{ArrivalCauses, OnlyOpens, given_failure};
+ghost use Rattle.early_stops.specs.Arriving.{OnlyOpens, given_failure};
+ghost use Rattle.condition_command.specs.Arriving.{ArrivalCauses};
 ghost use Rattle.play_base.specs.View.{Any, IsNew, Keeps, SameCounts};
 
-use arrivals_front::{Given, GivenFault, given_arrivals};
-use command_base::{Failure, ReadPart, RunLimit};
+use arrivals_front::{Given, given_arrivals};
+use command_base::{Failure, ReadPart};
+use early_stops::given_failure;
 use play_base::{Files, Trouble};
 use std::alloc::Global;
 
@@ -14,18 +16,6 @@ use std::alloc::Global;
 pub(crate) struct Arrivals {
     pub file: u32,
     pub given: Given,
-}
-
-// What a fault of their first bytes, or of a pcapng file, ends the command as.
-fn given_failure(fault: GivenFault) -> Failure
-    ensures { result ≡ given_failure fault }
-{
-    match fault {
-        GivenFault::At(block) => Failure::Pcapng(block),
-        GivenFault::Limit => Failure::Limit(RunLimit::Capture),
-        GivenFault::Read => Failure::Read(ReadPart::Arrivals),
-        GivenFault::NoMemory => Failure::NoMemory,
-    }
 }
 
 /// Opens the arrivals, and takes their first bytes, of a pcapng file all.

@@ -19,7 +19,8 @@ use Rattle.pcapng_files.specs.Fronts.{front_view, with_front}
 use Rattle.pcapng_files.proofs.BackLaws.{keeps_back}
 use Rattle.play_base.specs.View.{View, Any, Keeps, NoneAppears, Opened, ReadFault, SameCounts}
 use Rattle.play_base.proofs.ViewLaws.{keeps_trans, opened_then, rose_later}
-use Rattle.verify_command.specs.Input.{ArrivalCauses, HoldsCapture, OnlyOpens, capture_failure, given_failure}
+use Rattle.early_stops.specs.Arriving.{OnlyOpens, given_failure}
+use Rattle.verify_command.specs.Input.{ArrivalCauses, HoldsCapture, capture_failure}
 use Rattle.verify_command.proofs.InputLemmas.{unread_of, was_left}
 use Rattle.verify_command.proofs.LeaveLemmas.{opens_then}
 

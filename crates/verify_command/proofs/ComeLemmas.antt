@@ -28,7 +28,8 @@ use Rattle.command_base.specs.declared.parts.RunLimit.TheVariants as limit
 use Rattle.command_base.specs.declared.parts.WrittenPart.TheVariants as written
 use Rattle.verify_command.specs.declared.input.InputFault.{InputFault}
 use Rattle.verify_command.specs.declared.input.InputFault.TheVariants as input
-use Rattle.verify_command.specs.Input.{ArrivalCauses, HasRecords, HoldsCapture, InputCauses, IsLong, IsNoPcapng, StopsAt, departures_failure, fates_failure, refutation}
+use Rattle.early_stops.specs.Arriving.{IsNoPcapng}
+use Rattle.verify_command.specs.Input.{ArrivalCauses, HasRecords, HoldsCapture, InputCauses, IsLong, StopsAt, departures_failure, fates_failure, refutation}
 use Rattle.verify_command.specs.Lines.{verdict_text}
 use Rattle.verify_command.specs.Saying.{SaysBy}
 use Rattle.verify_command.specs.Verifying.{AreBroken, AreGiven, Arrive, EndsWith, ExceedLimits, HasDepartures, Holds, Inputs, IsVerified, VerifyFails, VerifyComes}

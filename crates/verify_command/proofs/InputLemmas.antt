@@ -7,7 +7,8 @@ use Rattle.play_base.specs.View.{View, IsAtEnd, IsMissed, Opened, ReadFault, Ros
 use Rattle.play_base.proofs.ViewLaws.{rose_later}
 use Rattle.command_base.specs.Faults.{CannotRead}
 use Rattle.command_base.proofs.PartLemmas.{none_some}
-use Rattle.verify_command.specs.Input.{IsLong, OnlyOpens}
+use Rattle.early_stops.specs.Arriving.{OnlyOpens}
+use Rattle.verify_command.specs.Input.{IsLong}
 
 there_is : (o : Option (List ℕ)) → IsSome o → (bytes : List ℕ) × (o ≡ Some bytes)
 there_is None h = cc

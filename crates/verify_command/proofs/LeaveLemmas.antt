@@ -9,7 +9,7 @@ use Rattle.command_base.specs.Telling.{OnlySays}
 use Rattle.command_base.proofs.PartLemmas.{new_part, same_part, there_or_not, there_then}
 use Rattle.command_base.proofs.SayingLemmas.{few_after, there_before}
 use Rattle.pcap_files.specs.Ahead.{TookSome}
-use Rattle.verify_command.specs.Input.{OnlyOpens}
+use Rattle.early_stops.specs.Arriving.{OnlyOpens}
 use Rattle.verify_command.specs.Verifying.{Inputs, VerifyEnds, VerifyFails, VerifyLeaves}
 use Rattle.command_base.specs.declared.failure.Failure.{Failure}
 use Rattle.verify_command.proofs.TellLemmas.{told}

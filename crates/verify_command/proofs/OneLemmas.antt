@@ -28,38 +28,10 @@ use Rattle.command_base.specs.declared.parts.ReadPart.TheVariants as read
 use Rattle.command_base.specs.declared.parts.RunLimit.TheVariants as limit
 use Rattle.command_base.proofs.ConfLemmas.{long_not, no_bytes, one_interface, one_says, refused_not, same_some}
 use Rattle.command_base.proofs.ReadingLemmas.{configured_said, fits}
-use Rattle.verify_command.specs.Input.{HasRecords, IsLong, IsNoPcapng}
+use Rattle.early_stops.specs.Arriving.{IsNoPcapng}
+use Rattle.early_stops.proofs.StopLemmas.{ConfGone, ConfLong, ConfRefused, ConfStop, IsOfBytes, break_outcome, conf_not, conf_one, one_broken}
+use Rattle.verify_command.specs.Input.{HasRecords, IsLong}
 use Rattle.verify_command.specs.Verifying.{AreBroken, AreGiven, AreRefuted, Arrive, EndsWith, ExceedLimits, HasDepartures, HasInterface, HasLongDepartures, HasLongFates, Holds, Inputs, IsReached, IsVerified, name_of}
-
--- THE CONFIGURATION
-pub data ConfStop (v : View) (n : Inputs) (o : Outcome) : Type 0 where
-  ConfRefused : (place : ConfPlace) → Says v n.config n.interface (Refused place) → o ≡ Err (failure.Configuration place) → ConfStop v n o
-  ConfLong : Says v n.config n.interface TooLong → o ≡ Err (failure.Limit limit.Configuration) → ConfStop v n o
-  ConfGone : v.bytes n.config ≡ None → o ≡ Err (failure.Read read.Configuration) → ConfStop v n o
-
-refused_long : (place : ConfPlace) → Refused place ≡ TooLong → ⊥
-refused_long place h = cc
-
-same_place : (x y : ConfPlace) → Refused x ≡ Refused y → x ≡ y
-same_place x y h = cc
-
-conf_one : (v : View) (n : Inputs) (o p : Outcome) → ConfStop v n o → ConfStop v n p → o ≡ p
-conf_one v n o p (ConfRefused x a e) (ConfRefused y b f) =
-    e ∙ ap {B = Result Done Failure} (λ (place : ConfPlace). Err (failure.Configuration place))
-    (same_place x y (one_says v n.config n.interface (Refused x) (Refused y) a b)) ∙ sym f
-conf_one v n o p (ConfRefused x a e) (ConfLong b f) = absurd (refused_long x (one_says v n.config n.interface (Refused x) TooLong a b))
-conf_one v n o p (ConfRefused x a e) (ConfGone b f) = absurd (no_bytes a.text (sym b ∙ a.at))
-conf_one v n o p (ConfLong a e) (ConfRefused y b f) = absurd (refused_long y (one_says v n.config n.interface (Refused y) TooLong b a))
-conf_one v n o p (ConfLong a e) (ConfLong b f) = e ∙ sym f
-conf_one v n o p (ConfLong a e) (ConfGone b f) = absurd (no_bytes a.text (sym b ∙ a.at))
-conf_one v n o p (ConfGone a e) (ConfRefused y b f) = absurd (no_bytes b.text (sym a ∙ b.at))
-conf_one v n o p (ConfGone a e) (ConfLong b f) = absurd (no_bytes b.text (sym a ∙ b.at))
-conf_one v n o p (ConfGone a e) (ConfGone b f) = e ∙ sym f
-
-conf_not : (v : View) (n : Inputs) (o : Outcome) → ConfStop v n o → HasInterface v n → ⊥
-conf_not v n o (ConfRefused place a e) i = refused_not v n.config n.interface i.0 place i.1 a
-conf_not v n o (ConfLong a e) i = long_not v n.config n.interface i.0 i.1 a
-conf_not v n o (ConfGone a e) i = no_bytes i.1.says.text (sym a ∙ i.1.says.at)
 
 -- THE ARRIVALS
 one_held : (v : View) (i : Interface) (name : List ℕ) (xs ys : List Record) (p q : Step) → IsLast p → IsLast q → HasRecords v i name xs p
@@ -84,12 +56,6 @@ one_arrive v n i j xs ys p q hp hq a b =
     let one = one_held v i n.arrivals xs ys p q hp hq a.held held in
     record { interface = same; records = one.0; last = one.1 }
 
--- the faults that bytes tell
-abbrev pub IsOfBytes : NgFault → Type 0
-IsOfBytes (ng.At block) = Unit {0}
-IsOfBytes ng.Limit = Unit {0}
-IsOfBytes ng.NoMemory = ⊥
-
 held_not_broken : (v : View) (i : Interface) (name : List ℕ) (xs : List Record) (p : Step) (f : NgFault) → IsOfBytes f → HasRecords v i name xs p → IsNoPcapng v name f → ⊥
 held_not_broken v i name xs p (ng.At block) h a b =
     let same : a.given ≡ b.given = same_some a.given b.given (sym a.at ∙ b.at) in
@@ -98,21 +64,6 @@ held_not_broken v i name xs p ng.Limit h a b =
     let same : a.given ≡ b.given = same_some a.given b.given (sym a.at ∙ b.at) in
     limit_not_read b.given a.capture b.begins (subst (λ (g : List ℕ). ReadAs g a.capture) same a.read) b.cause
 held_not_broken v i name xs p ng.NoMemory h a b = h
-
-one_broken : (v : View) (name : List ℕ) (f g : NgFault) → IsOfBytes f → IsOfBytes g → IsNoPcapng v name f → IsNoPcapng v name g → f ≡ g
-one_broken v name (ng.At x) (ng.At y) h k a b =
-    let same : b.given ≡ a.given = same_some b.given a.given (sym b.at ∙ a.at) in
-    ap (λ z. ng.At z) (one_fault a.given x y a.cause (subst (λ (g : List ℕ). IsCause (ng.At y) g) same b.cause))
-one_broken v name (ng.At x) ng.Limit h k a b =
-    let same : b.given ≡ a.given = same_some b.given a.given (sym b.at ∙ a.at) in
-    absurd (no_limit_at a.given x (subst (λ (g : List ℕ). IsCause ng.Limit g) same b.cause) a.cause)
-one_broken v name ng.Limit (ng.At y) h k a b =
-    let same : a.given ≡ b.given = same_some a.given b.given (sym a.at ∙ b.at) in
-    absurd (no_limit_at b.given y (subst (λ (g : List ℕ). IsCause ng.Limit g) same a.cause) b.cause)
-one_broken v name ng.Limit ng.Limit h k a b = refl
-one_broken v name ng.NoMemory g h k a b = absurd h
-one_broken v name (ng.At x) ng.NoMemory h k a b = absurd k
-one_broken v name ng.Limit ng.NoMemory h k a b = absurd k
 
 abbrev pub IsStop : Step → Type 0
 IsStop End = ⊥
@@ -131,11 +82,6 @@ end_outcome End = Err failure.NoMemory
 end_outcome (Next r after) = Err failure.NoMemory
 end_outcome (Fault found) = Err (failure.Capture found)
 end_outcome Limit = Err (failure.Limit limit.Capture)
-
-abbrev pub break_outcome : NgFault → Outcome
-break_outcome (ng.At block) = Err (failure.Pcapng block)
-break_outcome ng.Limit = Err (failure.Limit limit.Capture)
-break_outcome ng.NoMemory = Err failure.NoMemory
 
 pub data ArrivalStop (v : View) (n : Inputs) (o : Outcome) : Type 0 where
   ArrivalsEnd : (s : Step) → IsStop s → EndsWith v n s → o ≡ end_outcome s → ArrivalStop v n o
@@ -251,11 +197,11 @@ abbrev pub FromArrivals : View → Inputs → Outcome → Type 0
 FromArrivals v n o = Stage (ArrivalStop v n) (EndsWith v n End) (FromDepartures v n) o
 
 abbrev pub Case : View → Inputs → Outcome → Type 0
-Case v n o = Stage (ConfStop v n) (HasInterface v n) (FromArrivals v n) o
+Case v n o = Stage (ConfStop v n.config n.interface) (HasInterface v n) (FromArrivals v n) o
 
 pub one_case : (fit : ConfigurationsFit) (v : View) (n : Inputs) (o p : Outcome) → Case v n o → Case v n p → o ≡ p
 one_case fit v n o p a b =
-    stage_one (ConfStop v n) (FromArrivals v n) (HasInterface v n) (conf_one v n) (conf_not v n)
+    stage_one (ConfStop v n.config n.interface) (FromArrivals v n) (HasInterface v n) (conf_one v n.config n.interface) (conf_not v n.config n.interface)
     (stage_one (ArrivalStop v n) (FromDepartures v n) (EndsWith v n End) (arrivals_one v n) (arrivals_not v n)
     (stage_one (DeparturesStop v n) (FromFates v n) (HasFile v n.departures) (file_one v n.departures _ _) (file_not v n.departures _ _)
     (stage_one (FatesStop v n) (Judged v n) (HasFile v n.fates) (file_one v n.fates _ _) (file_not v n.fates _ _) (judged_one fit v n))))

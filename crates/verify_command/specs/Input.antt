@@ -16,6 +16,7 @@ use Rattle.pcapng_files.specs.Converted.{IsCause}
 use Rattle.pcapng_files.specs.declared.fault.NgFault.{NgFault}
 use Rattle.pcapng_files.specs.declared.fault.NgFault.TheVariants as ng
 use Rattle.play_base.specs.View.{View}
+use Rattle.early_stops.specs.Arriving.{IsNoPcapng}
 use Rattle.command_base.specs.Faults.{CannotRead}
 use Rattle.command_base.specs.declared.failure.Failure.{Failure}
 use Rattle.command_base.specs.declared.failure.Failure.TheVariants as failure
@@ -23,10 +24,6 @@ use Rattle.command_base.specs.declared.parts.ReadPart.TheVariants as read
 use Rattle.command_base.specs.declared.parts.RunLimit.TheVariants as limit
 use Rattle.verify_command.specs.declared.input.InputFault.{InputFault}
 use Rattle.verify_command.specs.declared.input.InputFault.TheVariants as input
-
--- every file that came to be is of this part
-abbrev pub OnlyOpens : View → View → (part : ℕ) → Type 0
-OnlyOpens old new part = (f p : ℕ) → old.part f ≡ None → new.part f ≡ Some p → p ≡ part
 
 -- the bytes under a name are more than 2^30
 pub record IsLong (v : View) (name : List ℕ) : Type 0 where
@@ -49,13 +46,6 @@ pub record HasRecords (v : View) (i : Interface) (name : List ℕ) (records : Li
   pub read : ReadAs given capture
   pub reads : Reads (marked_in i capture) records last
 
--- the bytes under a name begin as a pcapng file, and have this fault
-pub record IsNoPcapng (v : View) (name : List ℕ) (f : NgFault) : Type 0 where
-  pub given : List ℕ
-  pub at : v.bytes name ≡ Some given
-  pub begins : is_pcapng given ≡ true
-  pub cause : IsCause f given
-
 -- the bytes under a name are, once they are marked, a capture of records that these answers show, one by one
 pub record HoldsCapture (v : View) (i : Interface) (name : List ℕ) (answers : List Answer) : Type 0 where
   pub records : List Record
@@ -75,12 +65,6 @@ ArrivalCauses old new i name failure.NoMemory = Unit {0}
 ArrivalCauses old new i name other = ⊥
 
 -- what each fault ends the command as
-abbrev pub given_failure : GivenFault → Failure
-given_failure (given.At block) = failure.Pcapng block
-given_failure given.Limit = failure.Limit limit.Capture
-given_failure given.Read = failure.Read read.Arrivals
-given_failure given.NoMemory = failure.NoMemory
-
 abbrev pub capture_failure : CaptureFault → Failure
 capture_failure (fault.Damage found) = failure.Capture found
 capture_failure fault.Limit = failure.Limit limit.Capture

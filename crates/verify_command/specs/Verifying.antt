@@ -24,7 +24,8 @@ use Rattle.command_base.specs.declared.parts.ReadPart.{ReadPart}
 use Rattle.command_base.specs.declared.parts.ReadPart.TheVariants as read
 use Rattle.command_base.specs.declared.parts.RunLimit.TheVariants as limit
 use Rattle.command_base.specs.declared.parts.WrittenPart.TheVariants as written
-use Rattle.verify_command.specs.Input.{HasRecords, IsLong, IsNoPcapng}
+use Rattle.early_stops.specs.Arriving.{IsNoPcapng}
+use Rattle.verify_command.specs.Input.{HasRecords, IsLong}
 use Rattle.verify_command.specs.Lines.{verdict_text}
 
 -- the names of the words

@@ -8,11 +8,13 @@ ghost use Rattle.marked_files.specs.Markings.{given};
 ghost use Rattle.marked_files.specs.Taking.{holds};
 ghost use Rattle.pcapng_files.specs.Fronts.{with_front};
 ghost use Rattle.play_base.specs.View.{Any, Keeps, NoneAppears, ReadFault, SameCounts};
-ghost use Rattle.verify_command.specs.Input.{ArrivalCauses, HoldsCapture, OnlyOpens, capture_failure, given_failure};
+ghost use Rattle.early_stops.specs.Arriving.{OnlyOpens, given_failure};
+ghost use Rattle.verify_command.specs.Input.{ArrivalCauses, HoldsCapture, capture_failure};
 
-use arrivals_front::{Given, GivenFault, given_arrivals};
+use arrivals_front::{Given, given_arrivals};
 use command_base::{Failure, ReadPart, RunLimit};
 use conf_tree::Interface;
+use early_stops::given_failure;
 use frame_classes::Classifier;
 use input_files::read_records;
 use interface_marks::{is_conditioned, marker_of, nothing_is_marked_without_conditioners};
@@ -21,18 +23,6 @@ use pcap_files::{CaptureFault, Record};
 use pcapng_files::{Front, FrontFiles};
 use play_base::{Files, Trouble};
 use std::alloc::Global;
-
-// What a fault of each form of arrivals ends the command as.
-fn given_failure(fault: GivenFault) -> Failure
-    ensures { result ≡ given_failure fault }
-{
-    match fault {
-        GivenFault::At(block) => Failure::Pcapng(block),
-        GivenFault::Limit => Failure::Limit(RunLimit::Capture),
-        GivenFault::Read => Failure::Read(ReadPart::Arrivals),
-        GivenFault::NoMemory => Failure::NoMemory,
-    }
-}
 
 fn capture_failure(fault: CaptureFault) -> Failure
     ensures { result ≡ capture_failure fault }

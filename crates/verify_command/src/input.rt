@@ -1,7 +1,8 @@
 // Reading the files that are verified.
 ghost use Rattle.std.specs.Prelude.{◌≡◌, ◌≤◌, ◌<◌, ◌^◌, length, Some, IsTrue, IfErr, IfOk, OnOk};
 ghost use Rattle.play_base.specs.View.{Any, Keeps, SameCounts};
-ghost use Rattle.verify_command.specs.Input.{InputCauses, OnlyOpens};
+ghost use Rattle.early_stops.specs.Arriving.{OnlyOpens};
+ghost use Rattle.verify_command.specs.Input.{InputCauses};
 
 use input_files::read_front;
 use play_base::{Files, Trouble};
