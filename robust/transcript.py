@@ -22,10 +22,14 @@ LINK = bytes.fromhex("020000000002020000000001")
 CONFIGURATION = "--config conf --interface if0"
 GIVEN = "--arrivals in --departures out --fates fates"
 OTHERS = GIVEN + " --stats stats --seed 42"
-USUAL = {"check": CONFIGURATION, "verify": f"{CONFIGURATION} {GIVEN}", "condition": f"{CONFIGURATION} --arrivals in --marked marked"}
-NAMES = ("conf", "in", "out", "fates", "stats", "marked")
+NEXT = "--next if1 --departures2 out2 --fates2 fates2 --stats2 stats2 --path path"
+USUAL = {"check": CONFIGURATION, "verify": f"{CONFIGURATION} {GIVEN}", "chain": f"{CONFIGURATION} {OTHERS} {NEXT}",
+         "condition": f"{CONFIGURATION} --arrivals in --marked marked"}
+NAMES = ("conf", "in", "out", "fates", "stats", "out2", "fates2", "stats2", "path", "marked")
 EDITS = ("bytes", "cut", "put")
-READ, WRITTEN = ("configuration", "arrivals", "departures", "fates"), {"departures": 1, "fates": 2, "statistics": 3, "arrivals": 4, "result": 10}
+READ, WRITTEN = ("configuration", "arrivals", "departures", "fates"), {
+    "departures": 1, "fates": 2, "statistics": 3, "arrivals": 4, "marked arrivals": 5, "second departures": 6, "second fates": 7,
+    "second statistics": 8, "path": 9, "result": 10}
 
 
 def number(text):
@@ -108,13 +112,13 @@ def kind_of(said, code):
         return int(last.startswith("exceeds"))
     if code == 6 and not last.startswith("altqplay"):
         return 10
-    if last.endswith("writing marked arrivals failed"):
-        return 5
+    if code == 6:
+        return WRITTEN[last.removeprefix("altqplay: writing ").removesuffix(" failed")]
     word = re.split(r"[ :]", last.removesuffix(" failed").removesuffix(" reached"))[-1]
     tables = {3: CONFIGURATION_FAULTS, 4: CAPTURE_FAULTS, 5: READ}
     if code in tables:
         return tables[code].index(word) + 1
-    return WRITTEN[word] if code == 6 else 0 if code == 8 else int(word)
+    return 0 if code == 8 else int(word)
 
 
 class Case:
@@ -147,7 +151,11 @@ class Case:
         self.put("in", bytes(self.capture))
         run = subprocess.run([self.program, *words], cwd=self.folder.name, stdout=subprocess.PIPE, stderr=subprocess.DEVNULL, check=False)
         said = run.stdout.decode()
-        return [*said.splitlines(), f"status {run.returncode} kind {kind_of(said, run.returncode)}"]
+        status = f"status {run.returncode} kind {kind_of(said, run.returncode)}"
+        # Of a chain the link is that of the play that had begun: no message tells it.
+        if words[0] == "chain" and run.returncode in (4, 7) and not status.startswith("status 7 kind 3"):
+            status += " link " + ("1" if self.get("out2") is None else "2")
+        return [*said.splitlines(), status]
 
     def put(self, name, data):
         with open(os.path.join(self.folder.name, name), "wb") as file:
@@ -224,7 +232,7 @@ class Case:
 
     def answer(self, line, words):
         """What is asked behind `$`."""
-        if not self.can or words[0] in ("flow", "curve"):
+        if not self.can or words[0] in ("flow", "curve", "average", "next"):
             return None
         if words[0] == "line":
             return self.with_line(line.removeprefix("$ line "))

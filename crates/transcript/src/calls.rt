@@ -15,7 +15,7 @@ const STEEPEST: u64 = 1_000_000_000_000;
 const LONGEST: u64 = 1_000_000_000_000_000;
 
 // The curve of these words, if it is in range.
-fn curve_of(m1: &str, d: &str, m2: &str) -> Option<Curve>
+pub fn curve_of(m1: &str, d: &str, m2: &str) -> Option<Curve>
     ensures { IfSome result (λ curve. IsInRange curve) }
 {
     let (m1, d, m2) = (number(m1)?, number(d)?, number(m2)?);

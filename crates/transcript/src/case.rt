@@ -1,8 +1,11 @@
 // A case: what was said so far, and the files of its runs.
 
 use crate::arrivals::Arrivals;
+use crate::averages::average;
 use crate::calls::{amount, first, flow_of};
 use crate::changes::change;
+use crate::moments::next_at;
+use crate::openings::deadline;
 use crate::packet::number;
 use crate::quoted::{lines, quoted, records};
 use play_base::{Call, MemoryFiles, NoMemory};
@@ -18,6 +21,19 @@ const MARKED: [&str; 2] = ["--marked", "marked"];
 const GIVEN: [&str; 4] = ["--departures", "out", "--fates", "fates"];
 
 const OTHERS: [&str; 4] = ["--stats", "stats", "--seed", "42"];
+
+const NEXT: [&str; 10] = [
+    "--next",
+    "if1",
+    "--departures2",
+    "out2",
+    "--fates2",
+    "fates2",
+    "--stats2",
+    "stats2",
+    "--path",
+    "path",
+];
 
 /// What was said since the case began, and the files of its runs.
 #[derive(Drop)]
@@ -49,6 +65,12 @@ fn push_usual(alloc: Global, words: &mut Vec<String>, command: &[&str]) -> Resul
         ["condition", ..] => {
             push_words(alloc, words, &ARRIVALS)?;
             push_words(alloc, words, &MARKED)
+        }
+        ["chain", ..] => {
+            push_words(alloc, words, &ARRIVALS)?;
+            push_words(alloc, words, &GIVEN)?;
+            push_words(alloc, words, &OTHERS)?;
+            push_words(alloc, words, &NEXT)
         }
         ["verify", ..] => {
             push_words(alloc, words, &ARRIVALS)?;
@@ -151,7 +173,23 @@ impl Case {
             ["flow", heads @ ..] => flow_of(alloc, heads),
             ["curve", m1, d, m2, "at", time] => amount(alloc, [m1, d, m2], time),
             ["curve", m1, d, m2, "first", units] => first(alloc, [m1, d, m2], units),
+            ["curve", m1, d, m2, "deadline", units, "over", openings @ ..] => {
+                deadline(alloc, [m1, d, m2], units, openings)
+            }
+            ["next", moment] => self.next(moment),
+            ["average", rate, happened @ ..] => average(alloc, rate, happened),
             words => self.run(words),
+        }
+    }
+
+    // Tells what the discipline of the configuration answers at a moment.
+    fn next(&self, moment: &str) -> Result<String, NoMemory> {
+        let mut files = MemoryFiles::new(self.alloc);
+        files.put("conf", self.config.as_bytes())?;
+        files.put("in", self.arrivals.as_slice())?;
+        match number(moment) {
+            Some(moment) if moment <= i64::MAX as u64 => next_at(self.alloc, &mut files, moment),
+            _ => told(self.alloc, false),
         }
     }
 
@@ -206,7 +244,12 @@ impl Case {
         let status = run(alloc, &words, &mut self.files);
         let mut answer = quoted(alloc, self.files.said().get(before..))?;
         let (code, kind) = (status.code, status.kind);
-        let line = format!(in alloc; "> status {code} kind {kind}\n")?;
+        let line = match (code, status.line) {
+            (4 | 7, link) if link > 0 => {
+                format!(in alloc; "> status {code} kind {kind} link {link}\n")?
+            }
+            _ => format!(in alloc; "> status {code} kind {kind}\n")?,
+        };
         answer.push_str(line.as_str())?;
         Ok(answer)
     }

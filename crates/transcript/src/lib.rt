@@ -5,11 +5,15 @@
 #![tactic(auto)]
 
 mod arrivals;
+mod averages;
 mod calls;
 mod case;
 mod changes;
+mod moments;
+mod openings;
 mod packet;
 mod quoted;
+mod sendings;
 
 use case::Case;
 use play_base::NoMemory;

@@ -1,0 +1,2 @@
+mod InterfaceLemmas
+mod StandingLemmas
