@@ -1,5 +1,5 @@
-//! Literal cases of the calls that read and write the files of a play: files, links' clocks, lines, captures, command lines and the
-//! rows of an output. There are tests alone.
+//! Literal cases of the calls that read and write the files of a play: files, links' clocks, lines, captures and the rows of an
+//! output. There are tests alone.
 #![tactic(auto)]
 
 #[cfg(test)]
@@ -12,5 +12,3 @@ mod files;
 mod lines;
 #[cfg(test)]
 mod texts;
-#[cfg(test)]
-mod words;

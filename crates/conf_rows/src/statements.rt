@@ -1,48 +1,9 @@
 //! Literal cases of every statement and every kind of `conf_lines`.
-use conf_lines::{ConfKind, statements};
+use conf_lines::statements;
 use std::alloc::Global;
 use std::test::Fail;
 
-/// The place and kind of the first fault of a text.
-fn first_fault(alloc: Global, text: &str) -> Result<Option<(u64, u64, ConfKind)>, Fail> {
-    let found = statements(alloc, text.as_bytes())?;
-    for statement in &found {
-        if let Some(place) = statement.fault {
-            return Ok(Some((place.line, place.word, place.kind)));
-        }
-    }
-    Ok(None)
-}
-
-#[test]
-fn faults_at_their_words(rt: HostRuntime) -> Result<(), Fail> {
-    let cases = [
-        ("", None),
-        ("# nothing\n\n", None),
-        ("interface if0 hfsc", None),
-        (
-            "interface if0 bandwidth 18446744073709551616 hfsc",
-            Some((1, 4, ConfKind::BadNumber)),
-        ),
-        ("\n\ninterface\n", Some((3, 2, ConfKind::MissingWord))),
-        ("class \u{e9}", Some((1, 2, ConfKind::BadByte))),
-        (
-            "interface if0 tbrsize \u{7f}",
-            Some((1, 4, ConfKind::BadByte)),
-        ),
-        (
-            "class cbq if0 a root pbandwidth 0 priority 8",
-            Some((1, 9, ConfKind::BadNumber)),
-        ),
-    ];
-    for (text, expected) in cases {
-        let fault = first_fault(rt.alloc(), text)?;
-        assert_eq!(rt; fault, expected, "{text}");
-    }
-    Ok(())
-}
-
-/// The statements of a text: form, number behind the last word, and the items, a bar behind each.
+/// The statements of a text: form, number behind the last word, the items, a bar behind each, and the word and kind of its fault.
 fn shown(alloc: Global, text: &str) -> Result<String, Fail> {
     let found = statements(alloc, text.as_bytes())?;
     let mut out = String::new(alloc);
@@ -54,6 +15,10 @@ fn shown(alloc: Global, text: &str) -> Result<String, Fail> {
         out.push_str(head.as_str())?;
         for item in statement.items.as_slice() {
             let shown = format!(in alloc; " {} {:?}|", item.word, item.what)?;
+            out.push_str(shown.as_str())?;
+        }
+        if let Some(place) = statement.fault {
+            let shown = format!(in alloc; " {} {:?}", place.word, place.kind)?;
             out.push_str(shown.as_str())?;
         }
         out.push('\n')?;
@@ -89,10 +54,23 @@ fn items_of_statements(rt: HostRuntime) -> Result<(), Fail> {
             "1 Filter6 11: 2 Name(Text { string: \"if0\" })| 3 Name(Text { string: \"a\" })| 4 Ip6([0, 0, 0, 0, 0, 0, 0, 0, 0, 0, 0, 0, 0, 0, 0, 1], 64)| 5 Whole(0)| 6 Ip6([0, 0, 0, 0, 0, 0, 0, 0, 0, 0, 0, 0, 0, 0, 0, 0], 128)| 7 Whole(0)| 8 Whole(1)| 9 Key(Tclass)| 10 Whole(1)|\n",
         ),
         (
-            "class hfsc if0 a root pshare 0 red\n",
-            "1 ClassHfsc 9: 3 Name(Text { string: \"if0\" })| 4 Name(Text { string: \"a\" })| 5 Name(Text { string: \"root\" })| 6 Key(Pshare)|\n",
+            "class cbq if0 a root pbandwidth 0 priority 8",
+            "1 ClassCbq 10: 3 Name(Text { string: \"if0\" })| 4 Name(Text { string: \"a\" })| 5 Name(Text { string: \"root\" })| 6 Key(Pbandwidth)| 7 Whole(0)| 8 Key(Priority)| 9 BadNumber\n",
         ),
-        ("class red\nx y z\n", "1 Unread 3:\n2 Unread 4:\n"),
+        (
+            "interface if0 tbrsize \u{7f}",
+            "1 Interface 5: 2 Name(Text { string: \"if0\" })| 3 Key(Tbrsize)| 4 BadByte\n",
+        ),
+        ("class \u{e9}", "1 Unread 3: 2 BadByte\n"),
+        ("# nothing\n\n", ""),
+        (
+            "class hfsc if0 a root pshare 0 red\n",
+            "1 ClassHfsc 9: 3 Name(Text { string: \"if0\" })| 4 Name(Text { string: \"a\" })| 5 Name(Text { string: \"root\" })| 6 Key(Pshare)| 7 BadNumber\n",
+        ),
+        (
+            "class red\nx y z\n",
+            "1 Unread 3: 2 UnknownWord\n2 Unread 4: 1 UnknownWord\n",
+        ),
     ];
     for (text, expected) in cases {
         let shown = shown(rt.alloc(), text)?;

@@ -3,10 +3,8 @@ use Rattle.std.proofs.Common.{◌≡◌, ◌≤◌, ◌<◌, ℕ, zero, suc, Lis
 use Rattle.std.specs.Prelude.{Option, All, ◌^◌}
 use Rattle.hfsc_model.specs.declared.HfscClass.{HfscClass}
 use Rattle.hfsc_model.specs.Tree.{no_class, class_of, path, path_up}
-use Rattle.hfsc_share.specs.declared.Shares.{Shares}
 use Rattle.hfsc_share.specs.Curves.{IsCurve}
 use Rattle.hfsc_share.specs.Classes.{AreClasses, IsClass}
-use Rattle.hfsc_share.specs.Shares.{IsLeafAt, IsSameBut, IsNew}
 
 -- each class is a child of the first
 abbrev pub AreLeaves : List HfscClass → Type 0
@@ -57,10 +55,6 @@ flat_classes r ks e c l = record {
     each zero d h = c
     each (suc k) d h = each_class ks l k d (omega arith)
 
--- a leaf stays one, and as active as it was where another is woken or served
-pub leaf_stays : (old new : Shares) (l c : ℕ) → IsSameBut l old new → IsLeafAt old c → IsLeafAt new c
-leaf_stays old new l c s leaf = λ d e. leaf d (sym (s.parents d) ∙ e)
-
 -- its classes, by their curves
 is_line : (m : ℕ) → m ≤ 10 ^ 12 → IsCurve (record { m1 = m; d = 0; m2 = m })
 is_line m h = record { in_range = record { first = h; bend = omega arith; second = h }; slopes = λ e. absurd (omega arith) }
@@ -68,20 +62,9 @@ is_line m h = record { in_range = record { first = h; bend = omega arith; second
 pub root_class : IsClass (record { parent = None; real = None; share = None; limit = None })
 root_class = record { share = λ e. absurd cc; limit = tt }
 
-pub plain_class : (m : ℕ) → 1 ≤ m → m ≤ 10 ^ 12 → IsClass (record { parent = Some 0; real = None; share = Some (record { m1 = m; d = 0; m2 = m }); limit = None })
-plain_class m k h = record { share = λ e. record { curve = is_line m h; second = k }; limit = tt }
-
 pub limited_class : (m n : ℕ) → 1 ≤ m → m ≤ 10 ^ 12 → 1000 ≤ n → n ≤ 10 ^ 12
     → IsClass (record { parent = Some 0; real = None; share = Some (record { m1 = m; d = 0; m2 = m }); limit = Some (record { m1 = n; d = 0; m2 = n }) })
 limited_class m n k h low high = record {
   share = λ e. record { curve = is_line m h; second = k };
   limit = record { curve = is_line n high; first = low; second = low };
 }
-
--- a new value's leaves are leaves and idle
-pub new_leaf : (cs : List HfscClass) (s : Shares) (c : ℕ) → IsNew cs s → ((d : ℕ) → (class_of cs d).parent ≡ Some c → ⊥) → IsLeafAt s c
-new_leaf cs s c n l = λ d e. l d (sym (n.parents d) ∙ e)
-
-pub flat_leaf : (r : HfscClass) (ks : List HfscClass) (c d : ℕ) → r.parent ≡ None → AreLeaves ks → 1 ≤ c → (class_of (r ∷ ks) d).parent ≡ Some c → ⊥
-flat_leaf r ks c zero e l h f = let no : None ≡ Some c = sym e ∙ f in cc
-flat_leaf r ks c (suc d) e l h f = let zero_is = leaf_parent ks d c l f in omega arith

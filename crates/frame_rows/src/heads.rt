@@ -51,17 +51,6 @@ fn flow_over_ipv6(rt: HostRuntime) {
 }
 
 #[test]
-fn code_point_is_cleared(rt: HostRuntime) {
-    let mut frame = GENERATED;
-    dress(&mut frame, true, false);
-    assert!(rt; frame[14..16] == [0x45, 0x00]);
-    assert!(rt; frame[24..26] == [0x00, 0x28]);
-    assert!(rt; frame[..14] == GENERATED[..14]);
-    assert!(rt; frame[16..24] == GENERATED[16..24]);
-    assert!(rt; frame[26..] == GENERATED[26..]);
-}
-
-#[test]
 fn checksum_follows_the_mark(rt: HostRuntime) {
     let mut frame = GENERATED;
     frame[15] = 0x02;

@@ -1,4 +1,4 @@
-//! Literal offers to the queues of classes, and sendings of the two plain disciplines. There are tests alone.
+//! Literal offers to the queues of classes, and sendings of a plain discipline. There are tests alone.
 #![tactic(auto)]
 
 #[cfg(test)]

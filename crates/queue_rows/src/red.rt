@@ -21,48 +21,7 @@ fn red_average_moves(rt: HostRuntime) {
     assert_eq!(rt; red.step, 1_000_000);
     assert_eq!(rt; red.arrive(5, 0, &mut words), Verdict::Keep);
     assert_eq!(rt; (red.average, red.count), (20_480, -1));
-    assert_eq!(rt; red.arrive(6, 0, &mut words), Verdict::Keep);
-    assert_eq!(rt; (red.average, red.count), (45_016, -1));
     assert_eq!(rt; words.drawn(), 0);
-}
-
-#[test]
-fn red_drops_at_max(rt: HostRuntime) {
-    let mut red = Red::new(50, 8_000_000);
-    let mut words = Words::new(42);
-    red.average = 31_457_280;
-    assert_eq!(rt;
-        red.arrive(15, 0, &mut words),
-        Verdict::Drop(Reason::Forced)
-    );
-    assert_eq!(rt; (red.average, red.count), (31_457_280, 0));
-    assert_eq!(rt; words.drawn(), 0);
-}
-
-#[test]
-fn red_draws_words(rt: HostRuntime) {
-    let mut red = Red::new(50, 8_000_000);
-    let mut words = Words::new(42);
-    red.average = 20_971_520;
-    assert_eq!(rt; red.arrive(10, 0, &mut words), Verdict::Keep);
-    assert_eq!(rt; (red.average, red.count), (20_971_520, 0));
-    assert_eq!(rt; red.arrive(10, 0, &mut words), Verdict::Keep);
-    assert_eq!(rt; (red.average, red.count), (20_971_520, 1));
-    // The first two random words of the seed, a15c02b7 and 7b47f409, are drawn: this is the third.
-    assert_eq!(rt; words.drawn(), 2);
-    assert_eq!(rt; words.next(), 0xba1d_3330);
-
-    red.count = 19;
-    assert_eq!(rt; red.arrive(10, 0, &mut words), Verdict::Drop(Reason::Early));
-    assert_eq!(rt; (red.average, red.count), (20_971_520, 0));
-    assert_eq!(rt; words.drawn(), 3);
-
-    let mut words = Words::new(42);
-    red.count = -1;
-    assert_eq!(rt; red.arrive(0, 3_000_000, &mut words), Verdict::Keep);
-    assert_eq!(rt; (red.average, red.count), (20_848_880, 0));
-    assert_eq!(rt; words.drawn(), 1);
-    assert_eq!(rt; words.next(), 0x7b47_f409);
 }
 
 // As a rule of a queue: full at its limit, and idle from the start of the packet that left it empty.
@@ -76,21 +35,8 @@ fn red_is_a_queue_rule(rt: HostRuntime) {
         Verdict::Drop(Reason::Full)
     );
     assert_eq!(rt; (red.average, red.count), (8_192, 0));
-    red.left(5, 0, waits(1));
-    assert_eq!(rt; red.idle, 0);
     red.left(1_000_005, 0, waits(0));
     assert_eq!(rt; red.idle, 1_000_005);
-    // 999,999 ns are no step, 2,000,000 ns are two.
-    assert_eq!(rt;
-        red.offer(2_000_004, waits(0), 0, &mut words),
-        Verdict::Keep
-    );
-    assert_eq!(rt; (red.average, red.count), (8_192, -1));
-    assert_eq!(rt;
-        red.offer(3_000_005, waits(0), 0, &mut words),
-        Verdict::Keep
-    );
-    assert_eq!(rt; red.average, 8_161);
 }
 
 // The longest time that a play can last without a packet, at once: the average of the limit's packets is gone.
