@@ -24,6 +24,7 @@ MODULES = {
     "sweep": "sweep",
     "gap": "gap",
     "meter": "meter",
+    "path": "path",
 }
 REFUSED, MISSING = 2, 77
 

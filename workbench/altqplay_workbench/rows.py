@@ -1,6 +1,6 @@
-"""Reads fates and statistics, the CSV files that a play writes (docs/FORMATS.md). Moments and lengths are exact integers.
+"""Reads fates, statistics and paths, the CSV files that plays write (docs/FORMATS.md). Moments and lengths are exact integers.
 
-`fate_rows` gives row after row and needs no library. `read_fates` gives columns, a million rows in a second.
+`fate_rows` and `path_rows` give row after row and need no library. `read_fates` gives columns, a million rows in a second.
 """
 
 import re
@@ -10,12 +10,16 @@ from .faults import Refused
 
 FATES_HEAD = ["number", "arrival", "length", "class", "fate", "start", "end"]
 STATS_HEAD = ["class", "arrived", "arrivedbytes", "raised", "sent", "sentbytes", "full", "early", "forced"]
+PATH_HEAD = ["number", "arrival", "outcome", "end"]
 SENT = ("realtime", "share", "own", "borrow")
 DROPPED = ("full", "early", "forced")
+OUTCOMES = ("dropped1", "dropped2", "sent")
 WHOLE, NAME = re.compile("0|[1-9][0-9]{0,18}"), re.compile(r"[A-Za-z0-9_.:/-]{1,64}")
 
 # One packet's fate. Times are in nanoseconds, the length in bytes; start and end are None where it was dropped.
 Fate = namedtuple("Fate", "number arrival length name fate start end")
+# What became of one packet on two links; the end is that on the second, None where it was dropped.
+Path = namedtuple("Path", "number arrival outcome end")
 
 
 def whole(name, line, what, word):
@@ -40,6 +44,18 @@ def fate_of(name, line, row):
     return Fate(*numbers, row[3], row[4], *times)
 
 
+def path_of(name, line, row):
+    """The path of a row."""
+    if len(row) != len(PATH_HEAD):
+        raise Refused(f"{name}: row {line}: {len(row)} words, and not {len(PATH_HEAD)}")
+    number, arrival = [whole(name, line, what, word) for what, word in zip(PATH_HEAD, row[:2])]
+    if row[2] not in OUTCOMES:
+        raise Refused(f"{name}: row {line}: no outcome: {row[2]!r}")
+    if row[2] != "sent" and row[3]:
+        raise Refused(f"{name}: row {line}: a packet that was dropped has an end")
+    return Path(number, arrival, row[2], whole(name, line, "end", row[3]) if row[2] == "sent" else None)
+
+
 def lines(name, head):
     """The lines of a file behind its head, each as its number and its words."""
     with open(name, newline="\n", encoding="ascii", errors="replace") as file:
@@ -55,6 +71,12 @@ def fate_rows(name):
     """The fates of a file, in its order. `Refused` names the first row that is none."""
     for number, words in lines(name, FATES_HEAD):
         yield fate_of(name, number, words)
+
+
+def path_rows(name):
+    """The paths of a file, in its order. `Refused` names the first row that is none."""
+    for number, words in lines(name, PATH_HEAD):
+        yield path_of(name, number, words)
 
 
 def read_fates(name):
