@@ -83,7 +83,7 @@ def lines(conf, names):
     yield "altqplay ", list(COMMANDS)
     for name, options in COMMANDS.items():
         for given in ["", *[option + value for option in options for value in (" x ", "=x ")]]:
-            yield f"altqplay {name} {given}", [option for option in options if not given.startswith(option)]
+            yield f"altqplay {name} {given}", [option for option in options if not re.match(rf"{option}[ =]", given)]
         for option, value in options.items():
             for sign in " =":
                 first = "" if option == "--config" else f"--config{sign}{conf} "

@@ -37,7 +37,7 @@ MESSAGES = {
     3: rb"altqplay: configuration line \d+ word \d+: (?:%s)\n" % "|".join(CONFIGURATION_FAULTS).encode(),
     4: rb"altqplay: capture byte \d+: (?:%s)\n" % "|".join(CAPTURE_FAULTS).encode(),
     5: rb"altqplay: reading (?:configuration|arrivals|departures|fates) failed\n",
-    6: rb"altqplay: writing (?:arrivals|departures|fates|statistics|result) failed\n",
+    6: rb"altqplay: writing (?:(?:marked )?arrivals|(?:second )?(?:departures|fates|statistics)|path|result) failed\n",
     7: rb"altqplay: limit [1-5] reached\n",
     8: rb"altqplay: out of memory\n",
     10: rb"altqplay: not verified, row \d+ kind [1-9]\n",
@@ -58,8 +58,8 @@ def is_stated(status, said, command):
 
 def is_help(run):
     """Whether this may stand on standard error, where it is no terminal: nothing where the run is done, else one to three lines
-    of bytes 32 to 126, or six that say how the program is called; none where standard error is closed or a signal ended the run."""
-    return run.complaint == b"" if run.status == 0 else re.fullmatch(rb"(?:[ -~]+\n){0,6}", run.complaint) is not None
+    of bytes 32 to 126, or seven that say how the program is called; none where standard error is closed or a signal ended the run."""
+    return run.complaint == b"" if run.status == 0 else re.fullmatch(rb"(?:[ -~]+\n){0,7}", run.complaint) is not None
 
 
 def kind_of(run):

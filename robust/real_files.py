@@ -417,6 +417,8 @@ QUICK = [
     *[Try("`verify` of a folder in place of departures or fates", verified, (which, "folder"), 5, reading(which), WHOLE) for which in OUTPUTS[:2]],
     Try("`verify` of `/dev/null` as departures", verified, ("departures", "/dev/null"), 10, "altqplay: not verified, row 0 kind 8\n", WHOLE),
     Try("`verify` of `/dev/null` as fates", verified, ("fates", "/dev/null"), 10, "altqplay: not verified, row 0 kind 1\n", WHOLE),
+    Try("`verify` of `/dev/zero` as fates", verified, ("fates", "/dev/zero"), 7, "altqplay: limit 4 reached\n", WHOLE),
+    Try("`verify` of `/dev/zero` as departures", verified, ("departures", "/dev/zero"), 7, "altqplay: limit 5 reached\n", WHOLE),
     Try("`verify` with standard output closed, or full", verified, (None, None, ">&-"), 6, "", WHOLE),
     Try("`verify` with standard output closed, or full", verified, (None, None, ">/dev/full"), 6, "", WHOLE),
 ]
