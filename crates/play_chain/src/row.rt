@@ -1,9 +1,9 @@
 // The rows of the text of paths.
 ghost use Rattle.std.specs.Prelude.{◌≡◌, ◌∷◌, ◌++◌, [], IfOk, OnOk, length, map};
-ghost use Rattle.csv.specs.Writing.{default_writer, row_text, writer_under};
-ghost use Rattle.play_text.specs.Ready.{IsReady};
+ghost use Rattle.csv.specs.Writing.{default_writer, row_text, writer_pending, writer_under};
 ghost use Rattle.play_chain.specs.Stands.{in_table};
 ghost use Rattle.play_chain.specs.Text.{path_header, path_row, rows_below};
+ghost use Rattle.play_chain.specs.Written.{IsBetweenRows};
 
 use crate::outcome::{Outcome, Passage};
 use crate::table::passage_of;
@@ -21,8 +21,8 @@ fn path_header() -> &'static [u8]
 
 // A writer that has written nothing, behind these bytes.
 fn writer_over(bytes: Vec<u8>) -> Writer<Vec<u8>>
-    ensures ready { IsReady result }
-    ensures text { (writer_under result).items ≡ bytes.items }
+    ensures between { IsBetweenRows result }
+    ensures text { (writer_under result).items ++ writer_pending result ≡ bytes.items }
 {
     WriterBuilder::new().from_writer(bytes)
 }
@@ -35,10 +35,11 @@ fn write_fields<'a>(
     word: &'a str,
     end: &'a str,
 ) -> Result<(), NoMemory>
-    requires { IsReady writer.old }
-    ensures ready { OnOk result (IsReady writer.new) }
-    ensures text { OnOk result ((writer_under writer.new).items ≡ (writer_under writer.old).items ++ row_text default_writer
-        (number.now ∷ arrival.now ∷ word.now ∷ end.now ∷ [])) }
+    requires { IsBetweenRows writer.old }
+    ensures between { OnOk result (IsBetweenRows writer.new) }
+    ensures text { OnOk result ((writer_under writer.new).items ++ writer_pending writer.new
+        ≡ ((writer_under writer.old).items ++ writer_pending writer.old)
+        ++ row_text default_writer (number.now ∷ arrival.now ∷ word.now ∷ end.now ∷ [])) }
 {
     let fields = [
         number.as_bytes(),
@@ -47,10 +48,6 @@ fn write_fields<'a>(
         end.as_bytes(),
     ];
     match writer.write_fields(&fields) {
-        Ok(()) => {}
-        Err(_) => return Err(NoMemory),
-    }
-    match writer.flush() {
         Ok(()) => Ok(()),
         Err(_) => Err(NoMemory),
     }
@@ -58,9 +55,10 @@ fn write_fields<'a>(
 
 // Writes the row of a packet behind those that were written. The only error is lack of memory.
 fn add_row(writer: &mut Writer<Vec<u8>>, number: u64, passage: Passage) -> Result<(), NoMemory>
-    requires { IsReady writer.old }
-    ensures ready { OnOk result (IsReady writer.new) }
-    ensures text { OnOk result ((writer_under writer.new).items ≡ (writer_under writer.old).items ++ path_row number passage) }
+    requires { IsBetweenRows writer.old }
+    ensures between { OnOk result (IsBetweenRows writer.new) }
+    ensures text { OnOk result ((writer_under writer.new).items ++ writer_pending writer.new
+        ≡ ((writer_under writer.old).items ++ writer_pending writer.old) ++ path_row number passage) }
 {
     let (mut number_text, mut arrival_text, mut end_text) = (
         Buffer::new(),
