@@ -16,7 +16,8 @@ const SLOWEST: u64 = 1_000;
 
 const FASTEST: u64 = 1_000_000_000_000;
 
-// RED after what happened, told in pairs: at a moment an arrival found so many packets, or a packet left that was the last.
+// RED after some events, each of two words: its moment, and the number of packets that an arrival found waiting, or `empty` where the last
+// packet left.
 fn red_after(rate: u64, happened: &[&str]) -> Option<Red>
     requires { 1000 ≤ rate }
 {
