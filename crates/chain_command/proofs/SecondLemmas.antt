@@ -155,7 +155,7 @@ module _ (u w c : View) (n : Links) (seed : ℕ) (d : AreApart n) (files : play.
       fates = kept t n.fates (λ e. d.second.arrivals_fates (sym e)) (λ e. d.fates_fates (sym e)) (λ e. d.stats_fates (sym e));
       stats = kept t n.stats (λ e. d.second.arrivals_stats (sym e)) (λ e. d.fates_stats (sym e)) (λ e. d.stats_stats (sym e));
     };
-    untouched = λ x. back 3 (omega arith) (omega arith) x;
+    untouched = λ part l m x. back part l m x;
     part = λ f p e. part_seen (w.part f) p (files.others.part f (own_part p) (part_behind (u.part f) p e));
     read = λ p. files.others.later.read (own_part p);
     write = λ p. files.others.later.write (own_part p);

@@ -20,6 +20,7 @@ use Rattle.command_base.specs.declared.status.Status.{Status}
 use Rattle.command_base.proofs.SayingLemmas.{config_after, message_behind, quiet_before, read_after, says_only, untouched_after, write_after}
 use Rattle.play_command.specs.Played.{IsCutShort}
 use Rattle.play_command.proofs.SayingLemmas.{late_after, short_after}
+use Rattle.play_command.proofs.TellLemmas.{at_stats_after}
 use Rattle.make_command.specs.Making.{LimitFails, MakeEnds, MakeFails, ReadFails, WriteFails, supplied}
 use Rattle.make_command.proofs.MadeLemmas.{leaves_read, leaves_said}
 use Rattle.make_command.proofs.MakeLemmas.{memory_ends, was_made_said}
@@ -38,7 +39,8 @@ reads_after u v w n seed count other o x = x
 writes_after : (u v w : View) (n : Names) (seed count : ℕ) (part : WrittenPart) → OnlySays v w → WriteFails u v n seed count part → WriteFails u w n seed count part
 writes_after u v w n seed count written.Departures o x = (x.0, write_after u v w 3 o x.1)
 writes_after u v w n seed count written.Fates o x = (x.0, write_after u v w 4 o x.1)
-writes_after u v w n seed count written.Statistics o x = (x.0, write_after u v w 5 o x.1)
+writes_after u v w n seed count written.Statistics o x =
+    (x.0, write_after u v w 5 o x.1, at_stats_after (supplied u n seed count) v w n seed o x.2)
 writes_after u v w n seed count written.Arrivals o x = (x.0, write_after u v w 2 o x.1)
 writes_after u v w n seed count (written.Chained part) o x = x
 writes_after u v w n seed count written.Marked o x = x

@@ -22,7 +22,7 @@ use Rattle.command_base.specs.declared.parts.RunLimit.{RunLimit}
 use Rattle.command_base.specs.declared.parts.RunLimit.TheVariants as limit
 use Rattle.command_base.specs.declared.parts.WrittenPart.{WrittenPart}
 use Rattle.command_base.specs.declared.parts.WrittenPart.TheVariants as written
-use Rattle.play_command.specs.Ending.{HasName, IsAccepting}
+use Rattle.play_command.specs.Ending.{EndsAtStats, HasName, IsAccepting}
 use Rattle.play_command.specs.Opening.{OtherThree}
 use Rattle.play_command.specs.Order.{IsInOrder, KeepUncreated}
 use Rattle.play_command.specs.Played.{EndsLate, Fronts, HasPlayed, IsCutShort, IsFrontAt, IsLate, IsPlayable}
@@ -62,6 +62,7 @@ abbrev pub WriteFails : View → View → Names → (seed count : ℕ) → Writt
 WriteFails old new n seed count written.Departures = IsAccepting old n × Rose (old.write_faults 3) (new.write_faults 3)
 WriteFails old new n seed count written.Fates = IsAccepting old n × Rose (old.write_faults 4) (new.write_faults 4)
 WriteFails old new n seed count written.Statistics = IsAccepting old n × Rose (old.write_faults 5) (new.write_faults 5)
+    × EndsAtStats (supplied old n seed count) new n seed
 WriteFails old new n seed count written.Arrivals = IsAccepting old n × Rose (old.write_faults 2) (new.write_faults 2)
 WriteFails old new n seed count (written.Chained part) = ⊥
 WriteFails old new n seed count written.Marked = ⊥

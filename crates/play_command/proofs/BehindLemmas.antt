@@ -75,7 +75,7 @@ starts u a c n s = record {
     fates = s.read.keeps.bytes n.fates tt;
     stats = s.read.keeps.bytes n.stats tt;
   };
-  untouched = λ x. untouched_on u a c n 3 s (omega arith) x;
+  untouched = λ part l m x. untouched_on u a c n part s (omega (arith, l)) x;
   part = s.read.keeps.part;
   read = s.read.keeps.later.read;
   write = s.read.keeps.later.write;

@@ -15,7 +15,7 @@ use Rattle.play_command.specs.Ending.{PlayEnds}
 use Rattle.play_command.specs.Failing.{play_failure, unplayed_failure}
 use Rattle.play_command.specs.Found.{IsBehind, PlaysTo}
 use Rattle.play_command.specs.InterfaceSetup.{setup_of}
-use Rattle.play_command.specs.Opening.{AreNamed, AreOpened, OpenedFar, ArrivalsCauses, IsOpened, OutputCauses}
+use Rattle.play_command.specs.Opening.{AreNamed, AreOpened, OpenedFar, ArrivalsCauses, IsOpened, LeavesOutStats, OutputCauses}
 use Rattle.play_base.proofs.ViewLaws.{keeps_refl}
 use Rattle.play_command.proofs.OpeningLemmas.{far_none}
 use Rattle.play_command.proofs.NamedLemmas.{named_none, named_within}
@@ -85,11 +85,12 @@ there_opened a g arrivals file x y = let z = some_bytes (a.bytes arrivals) (x.th
 
 -- its outputs are not all there
 pub found_uncreated : (a g b : View) (n : Names) (i : Interface) (file seed : ℕ) (f : PlayFault) → HaveLaws → Accepts a n.config n.interface i
-    → AreDistinct n.config n.arrivals n.departures n.fates n.stats → IsOpened a g n.arrivals file → OutputCauses g b f → OpenedFar a b n.departures n.fates n.stats
+    → AreDistinct n.config n.arrivals n.departures n.fates n.stats → IsOpened a g n.arrivals file → OutputCauses g b f → LeavesOutStats a b f
+    → OpenedFar a b n.departures n.fates n.stats
     → AreNamed a b n 6 → PlayEnds a b n seed (Err (play_failure f))
-found_uncreated a g b n i file seed f laws accepted d opened why far named =
+found_uncreated a g b n i file seed f laws accepted d opened why none far named =
     let course = course_opened a b n d far named in
-    let fails = fails_outputs a g b n i seed f accepted opened.keeps.later.write why in
+    let fails = fails_outputs a g b n i seed f accepted opened.keeps.later.write why none in
     record {
       comes = fails;
       told = λ t q. unplayed_is_told a b n seed (Play f) i laws accepted fails t q;

@@ -20,12 +20,12 @@ use Rattle.command_base.specs.Names.{Names}
 use Rattle.command_base.specs.Outcome.{Outcome}
 use Rattle.command_base.proofs.ConfLemmas.{one_interface, same_some}
 use Rattle.command_base.proofs.PartLemmas.{fresh_before}
-use Rattle.play_command.specs.Ending.{IsAccepting, IsUnread, PlayFails, PlayIsTold}
+use Rattle.play_command.specs.Ending.{EndsAtStats, IsAccepting, IsUnread, PlayFails, PlayIsTold}
 use Rattle.play_command.specs.Failing.{play_failure, unplayed_failure}
 use Rattle.play_command.specs.InterfaceSetup.{setup_of}
 use Rattle.play_command.specs.declared.failing.Unplayed.{Unplayed}
 use Rattle.play_command.specs.declared.failing.Unplayed.TheVariants.{Pcapng, Play}
-use Rattle.play_command.specs.Played.{Accepted, EndsLate, EndsWith, Fronts, HasFronts, HasPlayed, HasStatsFront, IsCutShort, IsFrontAt, IsLate, IsLimited, IsNoCapture, IsOffered}
+use Rattle.play_command.specs.Played.{Accepted, EndsLate, EndsWith, Fronts, HasFronts, HasPlayed, HasStatsFront, HasWholeTexts, IsCutShort, IsFrontAt, IsLate, IsLimited, IsNoCapture, IsOffered}
 use Rattle.arrivals_front.specs.Given as arrivals
 use Rattle.arrivals_front.proofs.ReadLaws.{read_one_way}
 use Rattle.pcapng_files.specs.declared.fault.NgFault.{NgFault}
@@ -130,6 +130,17 @@ late_by u v c n seed s part h = record {
   streams = h.streams;
 }
 
+whole_texts_by : (u v c : View) (n : Names) (seed : ℕ) → SameInput u v n → HasWholeTexts u c n seed → HasWholeTexts v c n seed
+unfolding accepted_by
+whole_texts_by u v c n seed s h = record {
+  accepted = accepted_by u v n s h.accepted;
+  records = h.records;
+  history = h.history;
+  capture = h.capture;
+  play = h.play;
+  texts = h.texts;
+}
+
 pub ends_late_by : (u v : View) (n : Names) (seed : ℕ) → SameInput u v n → EndsLate u n seed → EndsLate v n seed
 unfolding accepted_by
 ends_late_by u v n seed s h = record {
@@ -201,7 +212,7 @@ pub record Starts (w g c : View) (n : Names) : Type 0 where
   pub tells : w.tells ≡ g.tells
   pub input : IsTrue g.tells → SameInput w g n
   pub outputs : IsTrue g.tells → SameOutputs w g c n
-  pub untouched : Untouched w c 3 → Untouched g c 3
+  pub untouched : (part : ℕ) → 3 ≤ part → part ≤ 5 → Untouched w c part → Untouched g c part
   pub part : (f p : ℕ) → g.part f ≡ Some p → w.part f ≡ Some p
   pub read : (p : ℕ) → g.read_faults p ≤ w.read_faults p
   pub write : (p : ℕ) → g.write_faults p ≤ w.write_faults p
@@ -220,7 +231,7 @@ cannot_from w g c n s (inl r) = inl (rose_later _ _ _ (s.read 2) r)
 cannot_from w g c n s (inr a) = let t : IsTrue g.tells = sym s.tells ∙ a.0 in inr (t, (s.input t).arrivals ∙ a.1)
 
 unread_from : (w g c : View) (n : Names) (seed : ℕ) → Starts w g c n → IsUnread w c n seed → IsUnread g c n seed
-unread_from w g c n seed s (inl x) = inl (s.untouched x.0, cannot_from w g c n s x.1)
+unread_from w g c n seed s (inl x) = inl (s.untouched 3 (omega arith) (omega arith) x.0, cannot_from w g c n s x.1)
 unread_from w g c n seed s (inr x) =
     inr (rose_later _ _ _ (s.read 2) x.0, λ t. short_by w g c n seed (s.input t) s.part (x.1 (s.tells ∙ t)))
 
@@ -228,7 +239,11 @@ limited_from : (w g c : View) (n : Names) (seed : ℕ) → Starts w g c n
     → (IsTrue w.tells → IsLimited w c n seed) ⊎ (Untouched w c 3 × (IsTrue w.tells → IsNoCapture w n ng.Limit))
     → (IsTrue g.tells → IsLimited g c n seed) ⊎ (Untouched g c 3 × (IsTrue g.tells → IsNoCapture g n ng.Limit))
 limited_from w g c n seed s (inl x) = inl (λ t. offered_by w g c n seed _ (s.input t) (x (s.tells ∙ t)))
-limited_from w g c n seed s (inr x) = inr (s.untouched x.0, λ t. no_capture_by w g n ng.Limit (s.input t) (x.1 (s.tells ∙ t)))
+limited_from w g c n seed s (inr x) = inr (s.untouched 3 (omega arith) (omega arith) x.0, λ t. no_capture_by w g n ng.Limit (s.input t) (x.1 (s.tells ∙ t)))
+
+at_stats_from : (w g c : View) (n : Names) (seed : ℕ) → Starts w g c n → EndsAtStats w c n seed → EndsAtStats g c n seed
+at_stats_from w g c n seed s (inl x) = inl (s.untouched 5 (omega arith) (omega arith) x)
+at_stats_from w g c n seed s (inr x) = inr (λ t. whole_texts_by w g c n seed (s.input t) (x (s.tells ∙ t)))
 
 fails_from : (w g c : View) (n : Names) (seed : ℕ) (f : PlayFault) → Starts w g c n → PlayFails w c n seed (play_failure f)
     → PlayFails g c n seed (play_failure f)
@@ -236,7 +251,8 @@ fails_from w g c n seed (play.Capture d) s x = (accepting_from w g c n s x.0, λ
 fails_from w g c n seed play.Read s x = (accepting_from w g c n s x.0, unread_from w g c n seed s x.1)
 fails_from w g c n seed (play.Write output.Departures) s x = (accepting_from w g c n s x.0, rose_later _ _ _ (s.write 3) x.1)
 fails_from w g c n seed (play.Write output.Fates) s x = (accepting_from w g c n s x.0, rose_later _ _ _ (s.write 4) x.1)
-fails_from w g c n seed (play.Write output.Statistics) s x = (accepting_from w g c n s x.0, rose_later _ _ _ (s.write 5) x.1)
+fails_from w g c n seed (play.Write output.Statistics) s x =
+    (accepting_from w g c n s x.0, rose_later _ _ _ (s.write 5) x.1, at_stats_from w g c n seed s x.2)
 fails_from w g c n seed (play.Limit limit.Capture) s x = (accepting_from w g c n s x.0, limited_from w g c n seed s x.1)
 fails_from w g c n seed (play.Limit limit.Clock) s x = (accepting_from w g c n s x.0, λ t. late_by w g c n seed (s.input t) s.part (x.1 (s.tells ∙ t)))
 fails_from w g c n seed play.NoMemory s x = tt
@@ -244,7 +260,7 @@ fails_from w g c n seed play.NoMemory s x = tt
 pub unplayed_from : (w g c : View) (n : Names) (seed : ℕ) (f : Unplayed) → Starts w g c n → PlayFails w c n seed (unplayed_failure f)
     → PlayFails g c n seed (unplayed_failure f)
 unplayed_from w g c n seed (Pcapng block) s x =
-    (accepting_from w g c n s x.0, s.untouched x.1, λ t. no_capture_by w g n (ng.At block) (s.input t) (x.2 (s.tells ∙ t)))
+    (accepting_from w g c n s x.0, s.untouched 3 (omega arith) (omega arith) x.1, λ t. no_capture_by w g n (ng.At block) (s.input t) (x.2 (s.tells ∙ t)))
 unplayed_from w g c n seed (Play f) s x = fails_from w g c n seed f s x
 
 pub told_from : (w g c : View) (n : Names) (seed : ℕ) (o : Outcome) → Starts w g c n → IsTrue g.tells → PlayIsTold w n seed o → PlayIsTold g n seed o

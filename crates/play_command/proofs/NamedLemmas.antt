@@ -2,9 +2,14 @@
 use Rattle.std.proofs.Common.{◌≡◌, ◌≤◌, ◌<◌, ◌+◌, ◌∙◌, ◌⊎◌, ℕ, List, None, Some, ap, sym, refl, subst, inl, inr, arith}
 use Rattle.std.specs.Prelude.{IsTrue}
 use Rattle.play_base.specs.View.{View, Created, IsNew, NoneAppears, Unchanged}
+use Rattle.play_base.specs.declared.trouble.Trouble.{Trouble}
+use Rattle.play_base.specs.declared.trouble.Trouble.TheVariants as trouble
+use Rattle.play_loop.specs.declared.fault.Output.TheVariants as output
+use Rattle.play_loop.specs.declared.fault.PlayFault.TheVariants as play
+use Rattle.command_base.specs.Faults.{Untouched}
 use Rattle.command_base.specs.Names.{Names}
 use Rattle.command_base.proofs.PartLemmas.{new_part, none_some, same_part, there_or_not, there_then}
-use Rattle.play_command.specs.Opening.{AreNamed, IsNamed, IsOpened}
+use Rattle.play_command.specs.Opening.{AreNamed, IsNamed, IsOpened, create_fault}
 
 -- none yet
 pub named_none : (a : View) (n : Names) → AreNamed a a n 2
@@ -102,3 +107,18 @@ named_four a b c d e n f g h k x y z w =
 pub named_less : (a b c : View) (n : Names) (end : ℕ) → end ≤ 6 → AreNamed a b n end → Unchanged b c → AreNamed a c n 6
 named_less a b c n end l h x =
     named_within a c n end 6 l (named_same a b c n end h x.none x.keeps.part x.keeps.name)
+
+-- where the statistics could not be created they are not there
+pub without_stats : (a b c d e : View) (n : Names) (f g h : ℕ) → IsOpened a b n.arrivals f → Created b c 3 n.departures g → Created c d 4 n.fates h
+    → Unchanged d e → Untouched a e 5
+without_stats a b c d e n f g h x y z u = λ k fresh at.
+    let named = named_same a d e n 5 (named_three a b c d n f g h x y z) u.none u.keeps.part u.keeps.name in
+    let l = named.below k 5 fresh at in omega (arith, l)
+
+pub not_departures : (t : Trouble) → create_fault output.Departures t ≡ play.Write output.Statistics → ⊥
+not_departures trouble.Failed e = cc
+not_departures trouble.NoMemory e = cc
+
+pub not_fates : (t : Trouble) → create_fault output.Fates t ≡ play.Write output.Statistics → ⊥
+not_fates trouble.Failed e = cc
+not_fates trouble.NoMemory e = cc

@@ -11,7 +11,7 @@ use Rattle.command_base.specs.Telling.{OnlySays}
 use Rattle.play_command.specs.Ending.{FilesEnd, HasName}
 use Rattle.play_command.specs.Opening.{KeepsOthers, OtherThree}
 use Rattle.play_command.specs.Order.{IsInOrder, KeepUncreated}
-use Rattle.play_command.specs.Played.{Fronts, HasFronts, HasOffered, HasStatsFront, HoldTexts, IsCutShort, IsFrontAt, IsLate, IsOffered, AreTaken, StreamsWithin}
+use Rattle.play_command.specs.Played.{Fronts, HasFronts, HasOffered, HasStatsFront, HasWholeTexts, HoldTexts, IsCutShort, IsFrontAt, IsLate, IsOffered, AreTaken, StreamsWithin}
 use Rattle.arrivals_front.specs.Given.{is_pcapng}
 use Rattle.interface_marks.specs.Conditioners.{is_conditioned}
 
@@ -101,6 +101,16 @@ streams_after : (past : ℕ) (v w : View) (file : ℕ) (bytes : List ℕ) (recor
 streams_after past v w file bytes records moment o there h = λ before r after split early late.
     let x = h before r after split early late in
     record { rest = x.rest; left = o.keeps.left file 2 there tt ∙ x.left; within = x.within }
+
+pub whole_texts_after : (u v w : View) (n : Names) (seed : ℕ) → OnlySays v w → HasWholeTexts u v n seed → HasWholeTexts u w n seed
+whole_texts_after u v w n seed o h = record {
+  accepted = h.accepted;
+  records = h.records;
+  history = h.history;
+  capture = h.capture;
+  play = h.play;
+  texts = texts_after v w n _ h.records h.history o h.texts;
+}
 
 pub late_after : (u v w : View) (n : Names) (seed : ℕ) → OnlySays v w → IsLate u v n seed → IsLate u w n seed
 late_after u v w n seed o h = record {

@@ -20,7 +20,7 @@ use Rattle.play_loop.specs.declared.fault.Opened.{Opened}
 use Rattle.play_loop.specs.declared.fault.Output.TheVariants as output
 use Rattle.play_loop.specs.declared.fault.PlayFault.{PlayFault}
 use Rattle.play_loop.specs.declared.fault.PlayFault.TheVariants as play
-use Rattle.play_loop.specs.Played.{BeginsStats, Explains, Fronts, HasBegunStats, HasOffered, HasPlayed, HasStopped, HoldTexts, LeavesStats, OfArrivals, Plays, Streams, WasCutOff, start_of}
+use Rattle.play_loop.specs.Played.{AreBegun, BeginsStats, Explains, Fronts, HasBegunStats, HasOffered, HasPlayed, HasStopped, HoldTexts, LeavesStats, OfArrivals, Plays, Streams, WasCutOff, start_of}
 use Rattle.play_loop.specs.Setup.{Setup, arrivals_in}
 use Rattle.command_base.specs.Configuration.{Accepts, Configures}
 use Rattle.command_base.specs.Names.{Names}
@@ -101,7 +101,7 @@ StatsLeft a c n i o x (play.Capture damage) = HoldsAt c o.stats []
 StatsLeft a c n i o x play.Read = HoldsAt c o.stats []
 StatsLeft a c n i o x (play.Write output.Departures) = HoldsAt c o.stats []
 StatsLeft a c n i o x (play.Write output.Fates) = HoldsAt c o.stats []
-StatsLeft a c n i o x (play.Write output.Statistics) = StatsBegun a c n i o x
+StatsLeft a c n i o x (play.Write output.Statistics) = Sees a n i (StatsIn x c o)
 StatsLeft a c n i o x (play.Limit limit) = HoldsAt c o.stats []
 StatsLeft a c n i o x play.NoMemory = StatsBegun a c n i o x
 
@@ -230,11 +230,15 @@ explained_itself a g b c n i o gv x (play.Limit limit.Clock) s w h =
     (sees a g b n i o gv (LateOf x c o) s w h)
 explained_itself a g b c n i o gv x play.NoMemory s w h = tt
 
+are_itself : (a g b c : View) (n : Names) (i : Interface) (o : Opened) (gv : Given) (x : Setup) → Begins a g b n i o gv → Itself i o gv
+    → AreBegun x b c o → Sees a n i (StatsIn x c o)
+are_itself a g b c n i o gv x s w h =
+    seen a n i (Kind false (StatsOf x c o)) (StatsIn x c o) (λ given bytes y. y.1) (sees a g b n i o gv (StatsOf x c o) s w h)
+
 begun_itself : (a g b c : View) (n : Names) (i : Interface) (o : Opened) (gv : Given) (x : Setup) → Begins a g b n i o gv → Itself i o gv
     → BeginsStats x b c o → StatsBegun a c n i o x
 begun_itself a g b c n i o gv x s w (inl h) = inl h
-begun_itself a g b c n i o gv x s w (inr h) =
-    inr (seen a n i (Kind false (StatsOf x c o)) (StatsIn x c o) (λ given bytes y. y.1) (sees a g b n i o gv (StatsOf x c o) s w h))
+begun_itself a g b c n i o gv x s w (inr h) = inr (are_itself a g b c n i o gv x s w h)
 
 pub stats_itself : (a g b c : View) (n : Names) (i : Interface) (o : Opened) (gv : Given) (x : Setup) (f : PlayFault) → Begins a g b n i o gv → Itself i o gv
     → LeavesStats x b c o f → StatsLeft a c n i o x f
@@ -242,7 +246,7 @@ stats_itself a g b c n i o gv x (play.Capture d) s w h = h
 stats_itself a g b c n i o gv x play.Read s w h = h
 stats_itself a g b c n i o gv x (play.Write output.Departures) s w h = h
 stats_itself a g b c n i o gv x (play.Write output.Fates) s w h = h
-stats_itself a g b c n i o gv x (play.Write output.Statistics) s w h = begun_itself a g b c n i o gv x s w h
+stats_itself a g b c n i o gv x (play.Write output.Statistics) s w h = are_itself a g b c n i o gv x s w h
 stats_itself a g b c n i o gv x (play.Limit limit) s w h = h
 stats_itself a g b c n i o gv x play.NoMemory s w h = begun_itself a g b c n i o gv x s w h
 

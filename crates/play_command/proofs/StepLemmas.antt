@@ -29,14 +29,14 @@ use Rattle.command_base.proofs.PartLemmas.{none_some, short_or_long}
 use Rattle.play_command.specs.Ending.{FilesEnd, PlayFails}
 use Rattle.play_command.specs.Failing.{play_failure, unplayed_failure}
 use Rattle.play_command.specs.InterfaceSetup.{setup_of}
-use Rattle.play_command.specs.Opening.{AreNamed, AreOpened, HaveParts, OpenedFar, ArrivalsCauses, GivesNoCapture, OutputCauses}
-use Rattle.play_command.specs.Played.{Accepted, Fronts, HasFronts, HasPlayed, HasStatsFront, HoldTexts, IsCutShort, IsFrontAt, IsLate, IsOffered, IsNoCapture}
+use Rattle.play_command.specs.Opening.{AreNamed, AreOpened, HaveParts, OpenedFar, ArrivalsCauses, GivesNoCapture, LeavesOutStats, OutputCauses}
+use Rattle.play_command.specs.Played.{Accepted, Fronts, HasFronts, HasPlayed, HasStatsFront, HasWholeTexts, HoldTexts, IsCutShort, IsFrontAt, IsLate, IsOffered, IsNoCapture}
 use Rattle.play_command.proofs.FilesLemmas.{Course, course_high, course_keeps, course_parts, files_played, untouched}
 use Rattle.play_command.proofs.InputLemmas.{one_accepted}
 use Rattle.play_command.proofs.Laws.{HaveLaws, promises_kept}
 use Rattle.play_command.specs.declared.failing.Unplayed.{Unplayed}
 use Rattle.play_command.specs.declared.failing.Unplayed.TheVariants.{Pcapng, Play}
-use Rattle.play_command.proofs.SeeingLemmas.{Explained, FrontsIn, LateIn, OffersIn, PlayedIn, Sees, ShortIn, StatsBegun, StatsLeft, as_accepted}
+use Rattle.play_command.proofs.SeeingLemmas.{Explained, FrontsIn, LateIn, OffersIn, PlayedIn, Sees, ShortIn, StatsBegun, StatsIn, StatsLeft, as_accepted}
 
 -- where the outputs were not created, or emptied
 front_far : (u v : View) (end part : ℕ) (name text : List ℕ) → HaveParts u v end → (end ≤ part → v.bytes name ≡ u.bytes name)
@@ -192,7 +192,7 @@ front_at a c part name text written rest e s = inr (written, rest, e, s)
 begins : (a c : View) (n : Names) (i : Interface) (o : Opened) (x : Setup) (f : PlayFault) → StatsLeft a c n i o x f → StatsBegun a c n i o x
 begins a c n i o x (play.Write output.Departures) h = inl h
 begins a c n i o x (play.Write output.Fates) h = inl h
-begins a c n i o x (play.Write output.Statistics) h = h
+begins a c n i o x (play.Write output.Statistics) h = inr h
 begins a c n i o x play.NoMemory h = h
 begins a c n i o x (play.Capture damage) h = inl h
 begins a c n i o x play.Read h = inl h
@@ -292,6 +292,22 @@ late_of a b c n i o seed s x q t =
       streams = z.streams;
     }
 
+-- the statistics could not be written behind the rest
+whole_texts_of : (a b c : View) (n : Names) (i : Interface) (o : Opened) (seed : ℕ) → Steps a b c n i o → Sees a n i (StatsIn (setup_of i seed) c o)
+    → IsTrue a.tells → HasWholeTexts a c n seed
+whole_texts_of a b c n i o seed s x t =
+    let found = x t in
+    let y = found.1 in
+    let z = y.2 in
+    record {
+      accepted = as_accepted a n i found.0;
+      records = y.0;
+      history = z.history;
+      capture = y.1;
+      play = z.play;
+      texts = texts_of a b c n i o (setup_of i seed) y.0 z.history s t z.texts;
+    }
+
 rose_since : (a b c : View) (n : Names) (i : Interface) (o : Opened) (p : ℕ) → Steps a b c n i o → Rose (b.write_faults p) (c.write_faults p) → Rose (a.write_faults p) (c.write_faults p)
 rose_since a b c n i o p s x = rose_later _ _ _ (s.far.keeps.later.write p) x
 
@@ -302,7 +318,8 @@ fails_of a b c n i o seed play.Read s x q =
     ((i, s.accepted), inr (rose_later _ _ _ (s.far.keeps.later.read 2) (x.0 2 s.opened.arrivals_part), λ t. short_of a b c n i o seed s x.1 q t))
 fails_of a b c n i o seed (play.Write output.Departures) s x q = ((i, s.accepted), rose_since a b c n i o 3 s (x 3 s.opened.departures_part))
 fails_of a b c n i o seed (play.Write output.Fates) s x q = ((i, s.accepted), rose_since a b c n i o 4 s (x 4 s.opened.fates_part))
-fails_of a b c n i o seed (play.Write output.Statistics) s x q = ((i, s.accepted), rose_since a b c n i o 5 s (x 5 s.opened.stats_part))
+fails_of a b c n i o seed (play.Write output.Statistics) s x q =
+    ((i, s.accepted), rose_since a b c n i o 5 s (x 5 s.opened.stats_part), inr (λ t. whole_texts_of a b c n i o seed s q t))
 fails_of a b c n i o seed (play.Limit limit.Capture) s x q = ((i, s.accepted), inl (λ t. offered_of a b c n i o seed Limit s x q t))
 fails_of a b c n i o seed (play.Limit limit.Clock) s x q = ((i, s.accepted), λ t. late_of a b c n i o seed s x q t)
 fails_of a b c n i o seed play.NoMemory s x q = tt
@@ -352,11 +369,11 @@ fails_arrivals a b n i seed (Play play.NoMemory) k x = tt
 
 -- and why the outputs are not
 pub fails_outputs : (a g b : View) (n : Names) (i : Interface) (seed : ℕ) (f : PlayFault) → Accepts a n.config n.interface i
-    → ((p : ℕ) → a.write_faults p ≤ g.write_faults p) → OutputCauses g b f → PlayFails a b n seed (play_failure f)
-fails_outputs a g b n i seed (play.Capture d) k l x = absurd x
-fails_outputs a g b n i seed play.Read k l x = absurd x
-fails_outputs a g b n i seed (play.Write output.Departures) k l x = ((i, k), rose_later _ _ _ (l 3) x)
-fails_outputs a g b n i seed (play.Write output.Fates) k l x = ((i, k), rose_later _ _ _ (l 4) x)
-fails_outputs a g b n i seed (play.Write output.Statistics) k l x = ((i, k), rose_later _ _ _ (l 5) x)
-fails_outputs a g b n i seed (play.Limit limit) k l x = absurd x
-fails_outputs a g b n i seed play.NoMemory k l x = tt
+    → ((p : ℕ) → a.write_faults p ≤ g.write_faults p) → OutputCauses g b f → LeavesOutStats a b f → PlayFails a b n seed (play_failure f)
+fails_outputs a g b n i seed (play.Capture d) k l x none = absurd x
+fails_outputs a g b n i seed play.Read k l x none = absurd x
+fails_outputs a g b n i seed (play.Write output.Departures) k l x none = ((i, k), rose_later _ _ _ (l 3) x)
+fails_outputs a g b n i seed (play.Write output.Fates) k l x none = ((i, k), rose_later _ _ _ (l 4) x)
+fails_outputs a g b n i seed (play.Write output.Statistics) k l x none = ((i, k), rose_later _ _ _ (l 5) x, inl (none refl))
+fails_outputs a g b n i seed (play.Limit limit) k l x none = absurd x
+fails_outputs a g b n i seed play.NoMemory k l x none = tt

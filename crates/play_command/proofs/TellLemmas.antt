@@ -18,8 +18,8 @@ use Rattle.command_base.specs.declared.parts.WrittenPart.TheVariants as written
 use Rattle.command_base.specs.declared.status.Status.{Status}
 use Rattle.command_base.proofs.SayingLemmas.{config_after, message_behind, quiet_before, read_after, untouched_after, write_after}
 use Rattle.play_command.specs.Played.{IsLimited}
-use Rattle.play_command.specs.Ending.{IsUnread, LimitFails, PlayEnds, PlayFails, PlayIsTold, PlayLeaves, ReadFails, WriteFails}
-use Rattle.play_command.proofs.SayingLemmas.{files_after, fronts_after, late_after, offered_after, short_after}
+use Rattle.play_command.specs.Ending.{EndsAtStats, IsUnread, LimitFails, PlayEnds, PlayFails, PlayIsTold, PlayLeaves, ReadFails, WriteFails}
+use Rattle.play_command.proofs.SayingLemmas.{files_after, fronts_after, late_after, offered_after, short_after, whole_texts_after}
 
 pub unread_after : (u v w : View) (n : Names) (seed : ℕ) → OnlySays v w → IsUnread u v n seed → IsUnread u w n seed
 unread_after u v w n seed o (inl x) = inl (untouched_after u v w 3 o x.0, read_after u v w 2 n.arrivals o x.1)
@@ -30,11 +30,15 @@ reads_after u v w n seed read.Configuration o x = (config_after u v w n.config o
 reads_after u v w n seed read.Arrivals o x = (x.0, unread_after u v w n seed o x.1)
 reads_after u v w n seed other o x = x
 
-writes_after : (u v w : View) (n : Names) (part : WrittenPart) → OnlySays v w → WriteFails u v n part → WriteFails u w n part
-writes_after u v w n written.Departures o x = (x.0, write_after u v w 3 o x.1)
-writes_after u v w n written.Fates o x = (x.0, write_after u v w 4 o x.1)
-writes_after u v w n written.Statistics o x = (x.0, write_after u v w 5 o x.1)
-writes_after u v w n other o x = x
+pub at_stats_after : (u v w : View) (n : Names) (seed : ℕ) → OnlySays v w → EndsAtStats u v n seed → EndsAtStats u w n seed
+at_stats_after u v w n seed o (inl x) = inl (untouched_after u v w 5 o x)
+at_stats_after u v w n seed o (inr x) = inr (λ t. whole_texts_after u v w n seed o (x t))
+
+writes_after : (u v w : View) (n : Names) (seed : ℕ) (part : WrittenPart) → OnlySays v w → WriteFails u v n seed part → WriteFails u w n seed part
+writes_after u v w n seed written.Departures o x = (x.0, write_after u v w 3 o x.1)
+writes_after u v w n seed written.Fates o x = (x.0, write_after u v w 4 o x.1)
+writes_after u v w n seed written.Statistics o x = (x.0, write_after u v w 5 o x.1, at_stats_after u v w n seed o x.2)
+writes_after u v w n seed other o x = x
 
 limited_after : (u v w : View) (n : Names) (seed : ℕ) {C : Type 0} → OnlySays v w → (IsTrue u.tells → IsLimited u v n seed) ⊎ (Untouched u v 3 × C)
     → (IsTrue u.tells → IsLimited u w n seed) ⊎ (Untouched u w 3 × C)
@@ -52,7 +56,7 @@ fails_after u v w n seed (failure.Configuration place) o x = (config_after u v w
 fails_after u v w n seed (failure.Capture damage) o x = (x.0, λ t. offered_after u v w n seed _ o (x.1 t))
 fails_after u v w n seed (failure.Pcapng block) o x = (x.0, untouched_after u v w 3 o x.1, x.2)
 fails_after u v w n seed (failure.Read part) o x = reads_after u v w n seed part o x
-fails_after u v w n seed (failure.Write part) o x = writes_after u v w n part o x
+fails_after u v w n seed (failure.Write part) o x = writes_after u v w n seed part o x
 fails_after u v w n seed (failure.Limit l) o x = limits_after u v w n seed l o x
 fails_after u v w n seed other o x = x
 

@@ -20,7 +20,7 @@ use Rattle.play_loop.specs.declared.fault.Output.TheVariants as output
 use Rattle.play_loop.specs.declared.fault.PlayFault.{PlayFault}
 use Rattle.play_loop.specs.declared.fault.PlayFault.TheVariants as play
 use Rattle.play_loop.specs.Gathered.{HoldsFront}
-use Rattle.play_loop.specs.Played.{AreReady, BeginsStats, Explains, Fronts, HasBegunStats, HasOffered, HasPlayed, HasStopped, HoldTexts, LeavesStats, OfArrivals, Plays, Streams, start_of}
+use Rattle.play_loop.specs.Played.{AreBegun, AreReady, BeginsStats, Explains, Fronts, HasBegunStats, HasOffered, HasPlayed, HasStopped, HoldTexts, LeavesStats, OfArrivals, Plays, Streams, start_of}
 use Rattle.play_loop.specs.Setup.{Setup, arrivals_in}
 use Rattle.command_base.specs.Names.{Names}
 use Rattle.play_command.specs.Converting.{CameOf, Through, with_left}
@@ -223,22 +223,26 @@ module _ (a g b c : View) (n : Names) (i : Interface) (o : Opened) (gv : Given) 
       (through (λ u w. Explains x Untold u w o (play.Limit limit.Clock)) h (LateOf x v o) h.holds)
   explained_through play.NoMemory h = tt
 
+  are_through : (P : View → View → Type 0) (h : Through P b c o.arrivals shown gv.rest)
+      → AreBegun x (with_left b h.before h.fixed_before) (with_left c h.after h.fixed_after) o → Sees a n i (StatsIn x c o)
+  are_through P h k =
+      seen a n i (Wayed gv.rest (StatsOf x (with_left c h.after h.fixed_after) o)) (StatsIn x c o)
+      (λ given bytes y. (y.1.0, y.1.1, begun_stats c h.after h.fixed_after x o y.1.0 y.1.2))
+      (through P h (StatsOf x (with_left c h.after h.fixed_after) o) k)
+
   begun_through : Through (λ u w. BeginsStats x u w o) b c o.arrivals shown gv.rest → StatsBegun a c n i o x
   begun_through h = by h.holds
     where
       by : BeginsStats x (with_left b h.before h.fixed_before) (with_left c h.after h.fixed_after) o → StatsBegun a c n i o x
       by (inl k) = inl (holds c h.after h.fixed_after o.stats [] k)
-      by (inr k) =
-          inr (seen a n i (Wayed gv.rest (StatsOf x (with_left c h.after h.fixed_after) o)) (StatsIn x c o)
-          (λ given bytes y. (y.1.0, y.1.1, begun_stats c h.after h.fixed_after x o y.1.0 y.1.2))
-          (through (λ u w. BeginsStats x u w o) h (StatsOf x (with_left c h.after h.fixed_after) o) k))
+      by (inr k) = inr (are_through (λ u w. BeginsStats x u w o) h k)
 
   pub stats_through : (f : PlayFault) → Through (λ u w. LeavesStats x u w o f) b c o.arrivals shown gv.rest → StatsLeft a c n i o x f
   stats_through (play.Capture d) h = holds c h.after h.fixed_after o.stats [] h.holds
   stats_through play.Read h = holds c h.after h.fixed_after o.stats [] h.holds
   stats_through (play.Write output.Departures) h = holds c h.after h.fixed_after o.stats [] h.holds
   stats_through (play.Write output.Fates) h = holds c h.after h.fixed_after o.stats [] h.holds
-  stats_through (play.Write output.Statistics) h = begun_through h
+  stats_through (play.Write output.Statistics) h = are_through (λ u w. AreBegun x u w o) h h.holds
   stats_through (play.Limit limit) h = holds c h.after h.fixed_after o.stats [] h.holds
   stats_through play.NoMemory h = begun_through h
 

@@ -23,7 +23,7 @@ use Rattle.command_base.specs.declared.parts.WrittenPart.{WrittenPart}
 use Rattle.command_base.specs.declared.parts.WrittenPart.TheVariants as written
 use Rattle.play_command.specs.Opening.{IsNamed, KeepsOthers}
 use Rattle.play_command.specs.Order.{IsInOrder, KeepUncreated}
-use Rattle.play_command.specs.Played.{EndsLate, EndsWith, Fronts, HasPlayed, IsCutShort, IsDamaged, IsLate, IsLimited, IsPlayable, IsNoCapture}
+use Rattle.play_command.specs.Played.{EndsLate, EndsWith, Fronts, HasPlayed, HasWholeTexts, IsCutShort, IsDamaged, IsLate, IsLimited, IsPlayable, IsNoCapture}
 
 -- where the files tell: the configuration has the interface asked for
 abbrev pub IsAccepting : View → Names → Type 0
@@ -47,11 +47,15 @@ ReadFails old new n seed read.Configuration = EndsAtConfig old new n.config × C
 ReadFails old new n seed read.Arrivals = IsAccepting old n × IsUnread old new n seed
 ReadFails old new n seed other = ⊥
 
-abbrev pub WriteFails : View → View → Names → WrittenPart → Type 0
-WriteFails old new n written.Departures = IsAccepting old n × Rose (old.write_faults 3) (new.write_faults 3)
-WriteFails old new n written.Fates = IsAccepting old n × Rose (old.write_faults 4) (new.write_faults 4)
-WriteFails old new n written.Statistics = IsAccepting old n × Rose (old.write_faults 5) (new.write_faults 5)
-WriteFails old new n other = ⊥
+-- the statistics could not be created, or all else was written
+abbrev pub EndsAtStats : View → View → Names → (seed : ℕ) → Type 0
+EndsAtStats old new n seed = Untouched old new 5 ⊎ (IsTrue old.tells → HasWholeTexts old new n seed)
+
+abbrev pub WriteFails : View → View → Names → (seed : ℕ) → WrittenPart → Type 0
+WriteFails old new n seed written.Departures = IsAccepting old n × Rose (old.write_faults 3) (new.write_faults 3)
+WriteFails old new n seed written.Fates = IsAccepting old n × Rose (old.write_faults 4) (new.write_faults 4)
+WriteFails old new n seed written.Statistics = IsAccepting old n × Rose (old.write_faults 5) (new.write_faults 5) × EndsAtStats old new n seed
+WriteFails old new n seed other = ⊥
 
 abbrev pub LimitFails : View → View → Names → (seed : ℕ) → RunLimit → Type 0
 LimitFails old new n seed limit.Capture = IsAccepting old n
@@ -67,7 +71,7 @@ PlayFails old new n seed (failure.Capture damage) = IsAccepting old n × (IsTrue
 PlayFails old new n seed (failure.Pcapng block) =
     IsAccepting old n × Untouched old new 3 × (IsTrue old.tells → IsNoCapture old n (ng.At block))
 PlayFails old new n seed (failure.Read part) = ReadFails old new n seed part
-PlayFails old new n seed (failure.Write part) = WriteFails old new n part
+PlayFails old new n seed (failure.Write part) = WriteFails old new n seed part
 PlayFails old new n seed (failure.Limit limit) = LimitFails old new n seed limit
 PlayFails old new n seed failure.NoMemory = Unit {0}
 PlayFails old new n seed other = ⊥

@@ -103,6 +103,10 @@ OutputCauses old new (play.Write output) = Rose (old.write_faults (output_part o
 OutputCauses old new (play.Limit limit) = ⊥
 OutputCauses old new play.NoMemory = Unit {0}
 
+-- where it is the statistics that could not be created, they are not there
+abbrev pub LeavesOutStats : View → View → PlayFault → Type 0
+LeavesOutStats old new f = f ≡ play.Write output.Statistics → Untouched old new 5
+
 -- the file is new, of part 2 and of this name, which is there
 pub record IsOpened (old new : View) (arrivals : List ℕ) (file : ℕ) : Type 0 where
   pub is_new : IsNew old new 2 arrivals file

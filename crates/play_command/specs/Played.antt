@@ -133,6 +133,16 @@ IsDamaged old new n seed damage = IsOffered old new n seed (Fault damage)
 abbrev pub IsLimited : View → View → Names → (seed : ℕ) → Type 0
 IsLimited old new n seed = IsOffered old new n seed Limit
 
+-- what is accepted is a capture, and departures and fates hold exactly the texts of its whole play
+pub record HasWholeTexts (old new : View) (n : Names) (seed : ℕ) : Type 0 where
+  pub accepted : Accepted old n
+  pub records : List Record
+  pub history : List Happened
+  pub capture : IsCapture accepted.bytes records
+  pub play : IsPlay (setup_of accepted.interface seed).policy accepted.interface.rate seed
+      (comings (arrivals_in (setup_of accepted.interface seed) records)) history
+  pub texts : HoldTexts new n (setup_of accepted.interface seed) records history
+
 -- a sending that is due next would end too late. It starts before the last of these records arrives, or these are a whole capture
 pub record IsCutEarly (x : Setup) (records : List Record) (last : Step) (g : List Happened) : Type 0 where
   pub cut : IsCutOff x.policy x.rate x.seed (comings (arrivals_in x records)) g

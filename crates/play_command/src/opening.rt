@@ -4,7 +4,7 @@ ghost use Rattle.arrivals_front.specs.Given.{Follows, is_pcapng};
 ghost use Rattle.play_base.specs.View.{Any, Keeps, SameCounts, View};
 ghost use Rattle.play_words.specs.Words.{AreDistinct};
 ghost use Rattle.command_base.specs.Names.{Names, names_read};
-ghost use Rattle.play_command.specs.Opening.{AreNamed, AreOpened, ArrivalsCauses, IsOpened, OpenedFar, OutputCauses, create_fault};
+ghost use Rattle.play_command.specs.Opening.{AreNamed, AreOpened, ArrivalsCauses, IsOpened, LeavesOutStats, OpenedFar, OutputCauses, create_fault};
 
 use crate::failing::{Unplayed, given_fault};
 use arrivals_front::{Given, given_arrivals};
@@ -112,6 +112,8 @@ pub fn create_outputs<'a, F: Files>(
     ensures far { (a : View) → IsOpened a (F.view files.old) words.now.arrivals.now arrivals
         → OpenedFar a (F.view files.new) words.now.departures.now words.now.fates.now words.now.stats.now }
     ensures why { IfErr result (OutputCauses (F.view files.old) (F.view files.new)) }
+    ensures left_out { IfErr result (λ fault. (a : View) → IsOpened a (F.view files.old) words.now.arrivals.now arrivals
+        → LeavesOutStats a (F.view files.new) fault) }
     ensures no_fault { OnOk result (SameCounts (F.view files.old) (F.view files.new)) }
 {
     let departures = match files.create(3, words.departures) {

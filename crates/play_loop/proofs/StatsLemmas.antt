@@ -18,8 +18,8 @@ use Rattle.play_loop.specs.declared.fault.PlayFault.TheVariants as play
 use Rattle.play_loop.specs.declared.kept.KeptFate.{KeptFate}
 use Rattle.play_loop.specs.Gathered.{HoldsFront}
 use Rattle.play_loop.specs.Kept.{IsNoOutput, IsOther, KeepsBeside, KeepsPlayed}
-use Rattle.play_loop.specs.Outputs.{IsStatsCause}
-use Rattle.play_loop.specs.Played.{AreReady, BeginsStats, Explains, Fronts, HasStopped, HoldTexts, LeavesStats, Plays, Writes}
+use Rattle.play_loop.specs.Outputs.{IsBeforeStats, IsStatsCause}
+use Rattle.play_loop.specs.Played.{AreBegun, AreReady, Explains, Fronts, HasStopped, HoldTexts, LeavesStats, Plays, Writes}
 use Rattle.play_loop.specs.Setup.{Setup, arrivals_in}
 use Rattle.play_loop.specs.Told.{Tells}
 use Rattle.play_loop.proofs.GatherLemmas.{take_drop}
@@ -110,8 +110,8 @@ fronts_whole x stood kept u v w o t text r k p s = λ told rest l records last r
     })
 
 begins_stats : (x : Setup) (stood : List Happened → Type 0) (kept : List KeptFate → Type 0) (u v w : View) (o : Opened) (t : Tally) → AreReady u o
-    → KeepsBeside o.arrivals o.departures o.fates u v → Writes x stood kept u v o t → WroteFront v w o.stats (stats_of x.names t.counts.items) → BeginsStats x u w o
-begins_stats x stood kept u v w o t r k p s = inr (λ told rest l.
+    → KeepsBeside o.arrivals o.departures o.fates u v → Writes x stood kept u v o t → WroteFront v w o.stats (stats_of x.names t.counts.items) → AreBegun x u w o
+begins_stats x stood kept u v w o t r k p s = λ told rest l.
     let y = p told rest l in
     let z = y.2 in
     let text : List ℕ = stats_of x.names t.counts.items in (
@@ -128,7 +128,7 @@ begins_stats x stood kept u v w o t r k p s = inr (λ told rest l.
           split = take_drop s.0 text ∙ ap (stats_of x.names) z.counted.counts_are;
         };
       },
-    ))
+    )
 
 pub leaves_stats : (x : Setup) (stood : List Happened → Type 0) (kept : List KeptFate → Type 0) (u v w : View) (o : Opened) (t : Tally) (f : PlayFault) → AreReady u o
     → KeepsBeside o.arrivals o.departures o.fates u v → Writes x stood kept u v o t → WroteFront v w o.stats (stats_of x.names t.counts.items) → IsStatsCause o.stats v w f
@@ -136,19 +136,19 @@ pub leaves_stats : (x : Setup) (stood : List Happened → Type 0) (kept : List K
 leaves_stats x stood kept u v w o t (play.Write output.Departures) r k p s h = absurd h
 leaves_stats x stood kept u v w o t (play.Write output.Fates) r k p s h = absurd h
 leaves_stats x stood kept u v w o t (play.Write output.Statistics) r k p s h = begins_stats x stood kept u v w o t r k p s
-leaves_stats x stood kept u v w o t play.NoMemory r k p s h = begins_stats x stood kept u v w o t r k p s
+leaves_stats x stood kept u v w o t play.NoMemory r k p s h = inr (begins_stats x stood kept u v w o t r k p s)
 leaves_stats x stood kept u v w o t (play.Capture damage) r k p s h = absurd h
 leaves_stats x stood kept u v w o t play.Read r k p s h = absurd h
 leaves_stats x stood kept u v w o t (play.Limit limit) r k p s h = absurd h
 
-pub leaves_none : (x : Setup) (u v : View) (o : Opened) (f : PlayFault) → HoldsAt v o.stats [] → LeavesStats x u v o f
-leaves_none x u v o (play.Write output.Departures) h = h
-leaves_none x u v o (play.Write output.Fates) h = h
-leaves_none x u v o (play.Write output.Statistics) h = inl h
-leaves_none x u v o play.NoMemory h = inl h
-leaves_none x u v o (play.Capture damage) h = h
-leaves_none x u v o play.Read h = h
-leaves_none x u v o (play.Limit limit) h = h
+pub leaves_none : (x : Setup) (u v : View) (o : Opened) (f : PlayFault) → IsBeforeStats f → HoldsAt v o.stats [] → LeavesStats x u v o f
+leaves_none x u v o (play.Write output.Departures) b h = h
+leaves_none x u v o (play.Write output.Fates) b h = h
+leaves_none x u v o (play.Write output.Statistics) b h = absurd b
+leaves_none x u v o play.NoMemory b h = inl h
+leaves_none x u v o (play.Capture damage) b h = h
+leaves_none x u v o play.Read b h = h
+leaves_none x u v o (play.Limit limit) b h = h
 
 pub explains_stats : (x : Setup) (stood : List Happened → Type 0) (u v w : View) (o : Opened) (f : PlayFault) → KeepsBeside o.arrivals o.departures o.fates u v
     → IsStatsCause o.stats v w f → Explains x stood u w o f

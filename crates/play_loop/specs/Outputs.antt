@@ -74,3 +74,13 @@ IsStatsCause stats old new play.NoMemory = Unit {0}
 IsStatsCause stats old new (play.Capture damage) = ⊥
 IsStatsCause stats old new play.Read = ⊥
 IsStatsCause stats old new (play.Limit limit) = ⊥
+
+-- what ends a play before its statistics are written: none of theirs
+abbrev pub IsBeforeStats : PlayFault → Type 0
+IsBeforeStats (play.Write output.Departures) = Unit {0}
+IsBeforeStats (play.Write output.Fates) = Unit {0}
+IsBeforeStats (play.Write output.Statistics) = ⊥
+IsBeforeStats play.NoMemory = Unit {0}
+IsBeforeStats (play.Capture damage) = Unit {0}
+IsBeforeStats play.Read = Unit {0}
+IsBeforeStats (play.Limit limit) = Unit {0}

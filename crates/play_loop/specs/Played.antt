@@ -166,17 +166,20 @@ pub record HasBegunStats (x : Setup) (v : View) (o : Opened) (records : List Rec
   pub texts : HoldTexts v o x (arrivals_in x records) history
   pub stats : HoldsFront v o.stats (statistics_of x (arrivals_in x records) history)
 
--- the statistics are empty, or the play ended and they hold a front of its statistics
-abbrev pub BeginsStats : Setup → View → View → Opened → Type 0
-BeginsStats x old new o =
-    HoldsAt new o.stats [] ⊎ OfArrivals old o (λ bytes. (records : List Record) × IsCapture bytes records × HasBegunStats x new o records)
+-- what the arrivals hold is a capture, its play ended, and the statistics hold a front of those of the play
+abbrev pub AreBegun : Setup → View → View → Opened → Type 0
+AreBegun x old new o = OfArrivals old o (λ bytes. (records : List Record) × IsCapture bytes records × HasBegunStats x new o records)
 
--- what the statistics hold after each fault: nothing, but where it may have come while they were written
+-- the statistics are empty, or they are begun
+abbrev pub BeginsStats : Setup → View → View → Opened → Type 0
+BeginsStats x old new o = HoldsAt new o.stats [] ⊎ AreBegun x old new o
+
+-- what the statistics hold after each fault: nothing, but where it came, or may have come, while they were written
 abbrev pub LeavesStats : Setup → View → View → Opened → PlayFault → Type 0
 LeavesStats x old new o (play.Capture damage) = HoldsAt new o.stats []
 LeavesStats x old new o play.Read = HoldsAt new o.stats []
 LeavesStats x old new o (play.Write output.Departures) = HoldsAt new o.stats []
 LeavesStats x old new o (play.Write output.Fates) = HoldsAt new o.stats []
-LeavesStats x old new o (play.Write output.Statistics) = BeginsStats x old new o
+LeavesStats x old new o (play.Write output.Statistics) = AreBegun x old new o
 LeavesStats x old new o (play.Limit limit) = HoldsAt new o.stats []
 LeavesStats x old new o play.NoMemory = BeginsStats x old new o

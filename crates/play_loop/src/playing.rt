@@ -14,7 +14,7 @@ ghost use Rattle.play_loop.specs.Counting.{AreCountable, HasCounted};
 ghost use Rattle.play_loop.specs.Ending.{AreFirst, EndsAs, IsClean};
 ghost use Rattle.play_loop.specs.Kept.{KeepsBeside, KeepsPlayed, OnlyPlayed, OnlyWrote};
 ghost use Rattle.play_loop.specs.KeptFates.{fates_in};
-ghost use Rattle.play_loop.specs.Outputs.{FrontsAre, IsWriteCause, SameFiles, TextsAre};
+ghost use Rattle.play_loop.specs.Outputs.{FrontsAre, IsBeforeStats, IsWriteCause, SameFiles, TextsAre};
 ghost use Rattle.play_loop.specs.Played.{AreEmpty, AreReady, Explains, Fronts, LeavesStats, Plays, Writes};
 ghost use Rattle.play_loop.specs.Setup.{setup_of};
 ghost use Rattle.play_loop.specs.Told.{HasDecided, Tells};
@@ -260,6 +260,7 @@ fn play_capture<D: Discipline, C: Classify, F: Files, K: Keeper>(
         (D.stands discipline.new) (F.view files.old) (F.view files.new) opened.now) }
     ensures front { OnErr result (Fronts (setup_of (D.policy discipline.old) (C.placed classify.now) (C.dressed classify.now) names.now rate words.old.seed)
         (F.view files.old) (F.view files.new) opened.now) }
+    ensures before_stats { IfErr result IsBeforeStats }
     ensures keeps { KeepsBeside opened.now.arrivals opened.now.departures opened.now.fates (F.view files.old) (F.view files.new) }
     ensures none { NoneAppears (F.view files.old) (F.view files.new) }
     ensures said { (F.view files.new).said ≡ (F.view files.old).said }

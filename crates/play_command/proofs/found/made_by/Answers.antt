@@ -19,7 +19,7 @@ returns-in-Err-clause-ends g c =
     c.interfaces_keep_their_promises.ensures.held c.interfaces_keep_their_promises.ensures.named c.interfaces_keep_their_promises.ensures.promises in
     λ a x.
     found_uncreated a _ _ (names_read c.args.words.now) c.args.found.now c.args.arrivals.now.file c.args.words.now.seed c.in-Err.fault laws x.accepted
-    c.requires.distinct x.opened c.in-Err.ensures.why (c.in-Err.ensures.far a x.opened)
+    c.requires.distinct x.opened c.in-Err.ensures.why (c.in-Err.ensures.left_out a x.opened) (c.in-Err.ensures.far a x.opened)
     (c.in-Err.ensures.named a x.opened)
 
 pub returns-in-Err-clause-silent : goal.returns-in-Err-clause-silent

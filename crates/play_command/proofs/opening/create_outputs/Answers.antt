@@ -1,8 +1,8 @@
 -- How far the outputs came to be at each end.
 use Rattle.play_command.proofs.OpeningLemmas.{are_opened, arrivals_left, far_four, far_opened, far_three, far_two, far_unchanged}
-use Rattle.std.proofs.Common.{arith}
+use Rattle.std.proofs.Common.{arith, sym, ◌∙◌}
 use Rattle.command_base.specs.Names.{names_read}
-use Rattle.play_command.proofs.NamedLemmas.{named_four, named_less, named_one, named_three, named_two}
+use Rattle.play_command.proofs.NamedLemmas.{named_four, named_less, named_one, named_three, named_two, not_departures, not_fates, without_stats}
 use Rattle.play_command.proofs.opening.create_outputs.Goals as goal
 
 pub returns-in-Err-clause-far : goal.returns-in-Err-clause-far
@@ -56,3 +56,14 @@ pub returns-clause-named : goal.returns-clause-named
 returns-clause-named g c = λ a x.
     named_four a _ _ _ _ (names_read c.args.words.now) c.args.arrivals _ _ _ x c.in-Ok.ensures.created c.in-Ok-create.ensures.created
     c.in-Ok-create-2.ensures.created
+
+-- which is not there
+pub returns-in-Err-clause-left_out : goal.returns-in-Err-clause-left_out
+returns-in-Err-clause-left_out g c = λ a x e. absurd (not_departures c.in-Err.trouble (sym c.create_fault.ensures ∙ e))
+
+pub returns-in-Err-create-clause-left_out : goal.returns-in-Err-create-clause-left_out
+returns-in-Err-create-clause-left_out g c = λ a x e. absurd (not_fates c.in-Err-create.trouble (sym c.create_fault-in-Err-create.ensures ∙ e))
+
+pub returns-in-Err-create-2-clause-left_out : goal.returns-in-Err-create-2-clause-left_out
+returns-in-Err-create-2-clause-left_out g c = λ a x e.
+    without_stats a _ _ _ _ (names_read c.args.words.now) c.args.arrivals _ _ x c.in-Ok.ensures.created c.in-Ok-create.ensures.created c.in-Err-create-2.ensures.refused

@@ -13,7 +13,7 @@ returns-in_default-clause-front g c = λ t rest l records last r s. stopped_empt
 
 pub returns-in-Err-clause-stats : goal.returns-in-Err-clause-stats
 returns-in-Err-clause-stats g c = leaves_none (setup_of (g.D.Discipline.policy c.args.discipline.now) (g.C.Classify.placed c.args.classify.now) (g.C.Classify.dressed c.args.classify.now) c.args.names.now c.args.rate c.args.words.now.seed) (g.F.Files.view c.args.files.now)
-    (g.F.Files.view c.play_capture.new.files) c.args.opened.now c.in-Err.fault (no_stats (g.F.Files.view c.args.files.now) (g.F.Files.view c.play_capture.new.files) c.args.opened.now c.requires.ready c.in-Err.ensures.keeps)
+    (g.F.Files.view c.play_capture.new.files) c.args.opened.now c.in-Err.fault c.in-Err.ensures.before_stats (no_stats (g.F.Files.view c.args.files.now) (g.F.Files.view c.play_capture.new.files) c.args.opened.now c.requires.ready c.in-Err.ensures.keeps)
 
 pub returns-in-Err-clause-keeps : goal.returns-in-Err-clause-keeps
 returns-in-Err-clause-keeps g c = keeps_played (g.F.Files.view c.args.files.now) (g.F.Files.view c.play_capture.new.files) c.args.opened.now c.in-Err.ensures.keeps
