@@ -6,7 +6,7 @@ use Rattle.altq_model.specs.Play.{IsPlay}
 use Rattle.capture_model.specs.declared.damage.Damage.{Damage}
 use Rattle.capture_model.specs.Capture.{End, Fault, Limit}
 use Rattle.command_base.specs.Configuration.{Configures, Refused, Says, TooLong}
-use Rattle.command_base.specs.Faults.{CannotRead, IsQuiet}
+use Rattle.command_base.specs.Faults.{CannotRead, IsQuiet, ReadFailed, WriteFailed}
 use Rattle.command_base.specs.Input.{EndsAtConfig}
 use Rattle.command_base.specs.Outcome.{IsOrMemory, Outcome}
 use Rattle.command_base.specs.declared.done.Done.TheVariants as done
@@ -26,7 +26,7 @@ use Rattle.conf_lines.specs.declared.fault.ConfPlace.{ConfPlace}
 use Rattle.conf_tree.specs.declared.interface.Interface.{Interface}
 use Rattle.pcapng_files.specs.declared.fault.NgFault.TheVariants as ng
 use Rattle.pcapng_model.specs.declared.fault.NgPlace.{NgPlace}
-use Rattle.play_base.specs.View.{View, Rose, SameCounts}
+use Rattle.play_base.specs.View.{View, SameCounts}
 use Rattle.play_loop.specs.Setup.{arrivals_in, departures_of}
 use Rattle.play_command.specs.Ending.{PlayFails}
 use Rattle.play_command.specs.InterfaceSetup.{setup_of}
@@ -34,6 +34,7 @@ use Rattle.play_command.specs.Played.{EndsLate, EndsWith, HasPlayed, IsNoCapture
 use Rattle.chain_command.specs.Chained.{ArePlayed, HasChained, passed_on, sent_by}
 use Rattle.chain_command.specs.Leaving.{ChainLeaves, HasNext, IsAccepting, OnSecond}
 use Rattle.chain_command.specs.Links.{Links, second_names}
+use Rattle.command_base.specs.Parts as parts
 
 -- the text of the configuration is refused at this place, or lacks an interface: the first one first
 abbrev pub RefusesAt : View → Links → ConfPlace → Type 0
@@ -52,7 +53,7 @@ NoneAbove most old new = (f p : ℕ) → old.part f ≡ None → new.part f ≡ 
 
 -- the first play fails as `play` does with this failure; nothing of the second link was created
 abbrev pub FailsFirst : View → View → Links → (seed : ℕ) → Failure → Type 0
-FailsFirst old new n seed f = IsAccepting old n × NoneAbove 5 old new × PlayFails old new n.first seed f
+FailsFirst old new n seed f = IsAccepting old n × NoneAbove parts.statistics old new × PlayFails old new n.first seed f
 
 -- the first play is whole, and the second, of what that sent, fails as `play` does with this failure
 abbrev pub FailsAfterFirst : View → View → Links → (seed : ℕ) → Failure → Type 0
@@ -60,7 +61,7 @@ FailsAfterFirst old new n seed f = (h : HasPlayed old new n.first seed) × OnSec
 
 -- that, where the files tell; the paths were not created
 abbrev pub FailsSecond : View → View → Links → (seed : ℕ) → Failure → Type 0
-FailsSecond old new n seed f = IsAccepting old n × NoneAbove 9 old new × (IsTrue old.tells → FailsAfterFirst old new n seed f)
+FailsSecond old new n seed f = IsAccepting old n × NoneAbove parts.second_statistics old new × (IsTrue old.tells → FailsAfterFirst old new n seed f)
 
 -- what is wrong with the capture or the play of a link, as `play` tells it
 abbrev pub alone : LinkFault → Failure
@@ -71,27 +72,27 @@ alone fault.Clock = failure.Limit limit.Clock
 
 -- on the second link: where the files tell, its capture has neither a damage nor too many records
 abbrev pub SecondFails : View → View → Links → (seed : ℕ) → LinkFault → Type 0
-SecondFails old new n seed (fault.Capture damage) = IsAccepting old n × NoneAbove 9 old new × (IsTrue old.tells → ⊥)
+SecondFails old new n seed (fault.Capture damage) = IsAccepting old n × NoneAbove parts.second_statistics old new × (IsTrue old.tells → ⊥)
 SecondFails old new n seed (fault.Pcapng block) = ⊥
-SecondFails old new n seed fault.Long = IsAccepting old n × NoneAbove 9 old new × (IsTrue old.tells → ⊥)
+SecondFails old new n seed fault.Long = IsAccepting old n × NoneAbove parts.second_statistics old new × (IsTrue old.tells → ⊥)
 SecondFails old new n seed fault.Clock = FailsSecond old new n seed (failure.Limit limit.Clock)
 
 -- when what is read fails
 abbrev pub ReadFails : View → View → Links → (seed : ℕ) → ReadPart → Type 0
-ReadFails old new n seed read.Configuration = EndsAtConfig old new n.first.config × CannotRead old new 1 n.first.config
+ReadFails old new n seed read.Configuration = EndsAtConfig old new n.first.config × CannotRead old new parts.configuration n.first.config
 ReadFails old new n seed read.Arrivals = FailsFirst old new n seed (failure.Read read.Arrivals)
-ReadFails old new n seed read.Departures = Rose (old.read_faults 3) (new.read_faults 3) × FailsSecond old new n seed (failure.Read read.Arrivals)
+ReadFails old new n seed read.Departures = ReadFailed old new parts.departures × FailsSecond old new n seed (failure.Read read.Arrivals)
 ReadFails old new n seed other = ⊥
 
 -- when an output of the second link cannot be written, and when the paths cannot
 abbrev pub ChainedFails : View → View → Links → (seed : ℕ) → ChainPart → Type 0
 ChainedFails old new n seed chained.Departures =
-    Rose (old.write_faults 7) (new.write_faults 7) × FailsSecond old new n seed (failure.Write written.Departures)
-ChainedFails old new n seed chained.Fates = Rose (old.write_faults 8) (new.write_faults 8) × FailsSecond old new n seed (failure.Write written.Fates)
+    WriteFailed old new parts.second_departures × FailsSecond old new n seed (failure.Write written.Departures)
+ChainedFails old new n seed chained.Fates = WriteFailed old new parts.second_fates × FailsSecond old new n seed (failure.Write written.Fates)
 ChainedFails old new n seed chained.Statistics =
-    Rose (old.write_faults 9) (new.write_faults 9) × FailsSecond old new n seed (failure.Write written.Statistics)
+    WriteFailed old new parts.second_statistics × FailsSecond old new n seed (failure.Write written.Statistics)
 ChainedFails old new n seed chained.Path =
-    Rose (old.write_faults 10) (new.write_faults 10) × IsAccepting old n × (IsTrue old.tells → ArePlayed old new n seed)
+    WriteFailed old new parts.path × IsAccepting old n × (IsTrue old.tells → ArePlayed old new n seed)
 
 abbrev pub WriteFails : View → View → Links → (seed : ℕ) → WrittenPart → Type 0
 WriteFails old new n seed written.Departures = FailsFirst old new n seed (failure.Write written.Departures)

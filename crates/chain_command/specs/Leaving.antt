@@ -10,6 +10,7 @@ use Rattle.play_command.specs.Played.{Fronts, HasPlayed, IsFrontAt}
 use Rattle.second_files.specs.Parts.{second_view}
 use Rattle.chain_command.specs.Chained.{ArePlayed, passed_on, paths_of, sent_by}
 use Rattle.chain_command.specs.Links.{Links, second_names}
+use Rattle.command_base.specs.Parts as parts
 
 -- where the files tell: the configuration has both interfaces
 abbrev pub IsAccepting : View → Links → Type 0
@@ -27,17 +28,23 @@ OnSecond old new n sent P = (reference : ℕ) × P (second_view (passed_on old n
 -- the name of each part in the words: the first departures are created under part 3, and opened under it
 abbrev pub HasName : Links → (part : ℕ) → (name : List ℕ) → Type 0
 HasName n part name =
-    ((part ≡ 1) × (name ≡ n.first.config)) ⊎ ((part ≡ 2) × (name ≡ n.first.arrivals)) ⊎ ((part ≡ 3) × (name ≡ n.first.departures))
-    ⊎ ((part ≡ 4) × (name ≡ n.first.fates)) ⊎ ((part ≡ 5) × (name ≡ n.first.stats)) ⊎ ((part ≡ 7) × (name ≡ n.departures))
-    ⊎ ((part ≡ 8) × (name ≡ n.fates)) ⊎ ((part ≡ 9) × (name ≡ n.stats)) ⊎ ((part ≡ 10) × (name ≡ n.path))
+    ((part ≡ parts.configuration) × (name ≡ n.first.config))
+    ⊎ ((part ≡ parts.arrivals) × (name ≡ n.first.arrivals))
+    ⊎ ((part ≡ parts.departures) × (name ≡ n.first.departures))
+    ⊎ ((part ≡ parts.fates) × (name ≡ n.first.fates))
+    ⊎ ((part ≡ parts.statistics) × (name ≡ n.first.stats))
+    ⊎ ((part ≡ parts.second_departures) × (name ≡ n.departures))
+    ⊎ ((part ≡ parts.second_fates) × (name ≡ n.fates))
+    ⊎ ((part ≡ parts.second_statistics) × (name ≡ n.stats))
+    ⊎ ((part ≡ parts.path) × (name ≡ n.path))
 
 -- each output of a play is created only after the one before it, and the second departures after the first; no other part is used
 pub record IsInOrder (old new : View) : Type 0 where
-  pub fates : Untouched old new 3 → Untouched old new 4
-  pub stats : Untouched old new 4 → Untouched old new 5
-  pub second_departures : Untouched old new 3 → Untouched old new 7
-  pub second_fates : Untouched old new 7 → Untouched old new 8
-  pub second_stats : Untouched old new 8 → Untouched old new 9
+  pub fates : Untouched old new parts.departures → Untouched old new parts.fates
+  pub stats : Untouched old new parts.fates → Untouched old new parts.statistics
+  pub second_departures : Untouched old new parts.departures → Untouched old new parts.second_departures
+  pub second_fates : Untouched old new parts.second_departures → Untouched old new parts.second_fates
+  pub second_stats : Untouched old new parts.second_fates → Untouched old new parts.second_statistics
   pub no_more : (f p : ℕ) → old.part f ≡ None → new.part f ≡ Some p → (p ≤ 10) × (p ≢ 6)
 
 -- a name that is that of no output, where the files tell
@@ -53,18 +60,18 @@ pub record IsOther (old : View) (n : Links) (m : List ℕ) : Type 0 where
 
 -- an output of the second link, and the paths, keep their bytes where they were not created
 pub record KeepUncreated (old new : View) (n : Links) : Type 0 where
-  pub departures : Untouched old new 7 → new.bytes n.departures ≡ old.bytes n.departures
-  pub fates : Untouched old new 8 → new.bytes n.fates ≡ old.bytes n.fates
-  pub stats : Untouched old new 9 → new.bytes n.stats ≡ old.bytes n.stats
-  pub path : Untouched old new 10 → new.bytes n.path ≡ old.bytes n.path
+  pub departures : Untouched old new parts.second_departures → new.bytes n.departures ≡ old.bytes n.departures
+  pub fates : Untouched old new parts.second_fates → new.bytes n.fates ≡ old.bytes n.fates
+  pub stats : Untouched old new parts.second_statistics → new.bytes n.stats ≡ old.bytes n.stats
+  pub path : Untouched old new parts.path → new.bytes n.path ≡ old.bytes n.path
 
 -- what becomes of the files: each new file has the part of its name, no part but the configuration's comes twice, and that of the
 -- first departures, which are created and then opened, at most so
 pub record FilesEnd (old new : View) (n : Links) : Type 0 where
   pub named : IsTrue old.tells → (f p : ℕ) → old.part f ≡ None → new.part f ≡ Some p → HasName n p (new.name f)
   pub once : (f g p : ℕ) → 2 ≤ p → p ≢ 3 → old.part f ≡ None → old.part g ≡ None → new.part f ≡ Some p → new.part g ≡ Some p → f ≡ g
-  pub twice : (f g h : ℕ) → old.part f ≡ None → old.part g ≡ None → old.part h ≡ None → new.part f ≡ Some 3 → new.part g ≡ Some 3
-      → new.part h ≡ Some 3 → (f ≡ g) ⊎ (f ≡ h) ⊎ (g ≡ h)
+  pub twice : (f g h : ℕ) → old.part f ≡ None → old.part g ≡ None → old.part h ≡ None → new.part f ≡ Some parts.departures
+      → new.part g ≡ Some parts.departures → new.part h ≡ Some parts.departures → (f ≡ g) ⊎ (f ≡ h) ⊎ (g ≡ h)
   pub order : IsInOrder old new
   pub uncreated : IsTrue old.tells → KeepUncreated old new n
   pub few : TakesFew old new n.first.config
@@ -72,7 +79,7 @@ pub record FilesEnd (old new : View) (n : Links) : Type 0 where
 
 -- the paths were not created, or both plays are whole, and they hold a front of the text of their paths
 abbrev pub HasPathFront : View → View → Links → (seed : ℕ) → Type 0
-HasPathFront old new n seed = Untouched old new 10 ⊎ ((p : ArePlayed old new n seed) × IsFrontAt old new 10 n.path (paths_of p))
+HasPathFront old new n seed = Untouched old new parts.path ⊎ ((p : ArePlayed old new n seed) × IsFrontAt old new parts.path n.path (paths_of p))
 
 -- it came to the second play: the first is whole, and the outputs of the second hold fronts of the texts of its play
 pub record LeavesSecond (old new : View) (n : Links) (seed : ℕ) : Type 0 where

@@ -7,6 +7,7 @@ ghost use Rattle.play_chain.specs.Text.{path_text};
 ghost use Rattle.play_loop.specs.KeptFates.{fates_in};
 ghost use Rattle.chain_command.specs.Playing.{AddsFile};
 
+use command_base::part;
 use play_base::{Files, NoMemory, Trouble, write_all};
 use play_chain::paths_through;
 use play_loop::Kept;
@@ -20,7 +21,7 @@ fn write_text<F: Files>(files: &mut F, name: &str, text: &[u8]) -> Result<(), Tr
     ensures failed { IsErrOf result Trouble.Failed → Rose ((F.view files.old).write_faults 10) ((F.view files.new).write_faults 10) }
     ensures no_fault { OnOk result (SameCounts (F.view files.old) (F.view files.new)) }
 {
-    let file = match files.create(10, name) {
+    let file = match files.create(part::PATH, name) {
         Ok(file) => file,
         Err(trouble) => return Err(trouble),
     };

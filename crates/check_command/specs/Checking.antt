@@ -6,9 +6,9 @@ use Rattle.conf_tree.specs.declared.interface.Interface.{Interface}
 use Rattle.conf_tree.specs.Canonical.{canonical_text}
 use Rattle.link_fit.specs.Curves.{IsFitOf}
 use Rattle.link_fit.specs.Lines.{fit_line}
-use Rattle.play_base.specs.View.{View, Rose, SameCounts}
+use Rattle.play_base.specs.View.{View, SameCounts}
 use Rattle.command_base.specs.Configuration.{Accepts, Configures, Refused, Said, Says, TooLong}
-use Rattle.command_base.specs.Faults.{CannotRead, IsQuiet}
+use Rattle.command_base.specs.Faults.{CannotRead, IsQuiet, WriteFailed}
 use Rattle.command_base.specs.Input.{EndsAtConfig}
 use Rattle.command_base.specs.Outcome.{IsOrMemory, Outcome}
 use Rattle.command_base.specs.declared.done.Done.TheVariants as done
@@ -17,6 +17,7 @@ use Rattle.command_base.specs.declared.failure.Failure.TheVariants as failure
 use Rattle.command_base.specs.declared.parts.ReadPart.TheVariants as read
 use Rattle.command_base.specs.declared.parts.RunLimit.TheVariants as limit
 use Rattle.command_base.specs.declared.parts.WrittenPart.TheVariants as written
+use Rattle.command_base.specs.Parts as parts
 
 -- the configuration has the interface asked for; its canonical text was printed, and in a last line how the real-time curves of the
 -- interface fit its link
@@ -35,10 +36,10 @@ pub record IsChecked (old new : View) (config interface : List ℕ) (fit : Fit) 
 -- when each failure comes, and no other: the answer is printed only once the configuration is accepted
 abbrev pub CheckFails : View → View → (config interface : List ℕ) → Failure → Type 0
 CheckFails old new config interface (failure.Configuration place) = IsTrue old.tells → Says old config interface (Refused place)
-CheckFails old new config interface (failure.Read read.Configuration) = CannotRead old new 1 config
+CheckFails old new config interface (failure.Read read.Configuration) = CannotRead old new parts.configuration config
 CheckFails old new config interface (failure.Limit limit.Configuration) = IsTrue old.tells → Says old config interface TooLong
 CheckFails old new config interface (failure.Write written.Answer) =
-    Rose (old.write_faults 0) (new.write_faults 0) × ((found : Interface) × Accepts old config interface found)
+    WriteFailed old new parts.printed × ((found : Interface) × Accepts old config interface found)
 CheckFails old new config interface failure.NoMemory = Unit {0}
 CheckFails old new config interface other = ⊥
 

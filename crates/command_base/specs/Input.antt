@@ -9,6 +9,7 @@ use Rattle.command_base.specs.Configuration.{Refused, Says, TooLong, most_bytes}
 use Rattle.command_base.specs.Faults.{CannotRead}
 use Rattle.command_base.specs.declared.fault.ConfigFault.{ConfigFault}
 use Rattle.command_base.specs.declared.fault.ConfigFault.TheVariants as conf
+use Rattle.command_base.specs.Parts as parts
 
 -- these are all the bytes that the file had left
 abbrev pub HadLeft : View → ℕ → List ℕ → Type 0
@@ -47,13 +48,13 @@ pub record IsLonger (old : View) (config : List ℕ) : Type 0 where
 abbrev pub BytesCauses : View → View → (config : List ℕ) → ConfigFault → Type 0
 BytesCauses old new config (conf.At place) = ⊥
 BytesCauses old new config conf.TooLong = IsTrue old.tells → IsLonger old config
-BytesCauses old new config conf.Read = CannotRead old new 1 config
+BytesCauses old new config conf.Read = CannotRead old new parts.configuration config
 BytesCauses old new config conf.NoMemory = Unit {0}
 
 abbrev pub InputCauses : View → View → (config : List ℕ) → ConfigFault → Type 0
 InputCauses old new config (conf.At place) = IsRead old config (Err place)
 InputCauses old new config conf.TooLong = IsTrue old.tells → IsLonger old config
-InputCauses old new config conf.Read = CannotRead old new 1 config
+InputCauses old new config conf.Read = CannotRead old new parts.configuration config
 InputCauses old new config conf.NoMemory = Unit {0}
 
 -- the faults that one file can show
@@ -65,7 +66,7 @@ IsOfFile conf.NoMemory = Unit {0}
 
 -- of the bytes under the configuration's name at most 2^20 + 1 were taken from the file that was opened for them
 abbrev pub TakesFew : View → View → (config : List ℕ) → Type 0
-TakesFew old new config = IsTrue old.tells → (f : ℕ) → old.part f ≡ None → new.part f ≡ Some 1
+TakesFew old new config = IsTrue old.tells → (f : ℕ) → old.part f ≡ None → new.part f ≡ Some parts.configuration
     → (text : List ℕ) → old.bytes config ≡ Some text
     → (rest : List ℕ) × (new.left f ≡ Some rest) × (length text ≤ most_bytes + 1 + length rest)
 
@@ -78,5 +79,5 @@ pub record EndsAtConfig (old new : View) (config : List ℕ) : Type 0 where
 abbrev pub ConfigCauses : View → View → (config interface : List ℕ) → ConfigFault → Type 0
 ConfigCauses old new config interface (conf.At place) = IsTrue old.tells → Says old config interface (Refused place)
 ConfigCauses old new config interface conf.TooLong = IsTrue old.tells → Says old config interface TooLong
-ConfigCauses old new config interface conf.Read = CannotRead old new 1 config
+ConfigCauses old new config interface conf.Read = CannotRead old new parts.configuration config
 ConfigCauses old new config interface conf.NoMemory = Unit {0}

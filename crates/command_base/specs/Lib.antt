@@ -4,4 +4,5 @@ pub mod Input
 pub mod Message
 pub mod Names
 pub mod Outcome
+pub mod Parts
 pub mod Telling

@@ -1,11 +1,13 @@
 -- What is printed of what came of a command.
 use Rattle.std.specs.Prelude.{◌≡◌, ◌⊎◌, List, ℕ, ◌++◌, IsTrue, Ok, Err}
-use Rattle.play_base.specs.View.{View, Any, Keeps, NoneAppears, Rose}
+use Rattle.play_base.specs.View.{View, Any, Keeps, NoneAppears}
 use Rattle.command_base.specs.Message.{message_of, out_of_memory}
 use Rattle.command_base.specs.Outcome.{Outcome, done_status, failure_status, status_of}
 use Rattle.command_base.specs.declared.failure.Failure.{Failure}
 use Rattle.command_base.specs.declared.failure.Failure.TheVariants as failure
 use Rattle.command_base.specs.declared.status.Status.{Status}
+use Rattle.command_base.specs.Faults.{WriteFailed}
+use Rattle.command_base.specs.Parts as parts
 
 -- nothing changes but what was printed, and counts
 pub record OnlySays (old new : View) : Type 0 where
@@ -19,7 +21,7 @@ SaysOrNot old new text = IsTrue old.tells → (new.said ≡ old.said ++ text) �
 -- exactly the text was printed, or nothing, and then the count of write faults of part 0 rose
 abbrev pub SaysOrFails : View → View → List ℕ → Type 0
 SaysOrFails old new text = IsTrue old.tells
-    → (new.said ≡ old.said ++ text) ⊎ ((new.said ≡ old.said) × Rose (old.write_faults 0) (new.write_faults 0))
+    → (new.said ≡ old.said ++ text) ⊎ ((new.said ≡ old.said) × WriteFailed old new parts.printed)
 
 -- what is printed of a failure: its message, or nothing where that fails; where memory ran out, its message or nothing
 abbrev pub HasMessage : View → View → Failure → Type 0

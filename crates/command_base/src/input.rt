@@ -8,6 +8,7 @@ ghost use Rattle.command_base.specs.Configuration.{absent, most_bytes};
 ghost use Rattle.command_base.specs.Input.{BytesCauses, HadLeft, HadMore, InputCauses, IsOfFile, IsRead, OnlyReads, TookFew};
 
 use crate::ConfigFault;
+use crate::part;
 use conf_lines::{ConfFault, ConfKind, ConfPlace, statements};
 use conf_tree::Conf;
 use play_base::{Files, Trouble};
@@ -75,7 +76,7 @@ fn read_input<F: Files>(alloc: Global, files: &mut F, name: &str) -> Result<Vec<
     ensures said { (F.view files.new).said ≡ (F.view files.old).said }
     ensures no_fault { OnOk result (SameCounts (F.view files.old) (F.view files.new)) }
 {
-    match files.open(1, name) {
+    match files.open(part::CONFIGURATION, name) {
         Ok(file) => read_whole(alloc, files, file),
         Err(Trouble::Failed) => Err(ConfigFault::Read),
         Err(Trouble::NoMemory) => Err(ConfigFault::NoMemory),

@@ -7,6 +7,7 @@ mod fault;
 mod input;
 mod link;
 mod message;
+pub mod part;
 mod parts;
 mod status;
 mod telling;

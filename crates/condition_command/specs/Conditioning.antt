@@ -10,10 +10,10 @@ use Rattle.marked_files.specs.Standing.{AreWhole}
 use Rattle.pcapng_files.specs.declared.fault.NgFault.{NgFault}
 use Rattle.pcapng_files.specs.declared.fault.NgFault.TheVariants as ng
 use Rattle.pcapng_model.specs.declared.fault.NgPlace.{NgPlace}
-use Rattle.play_base.specs.View.{View, Keeps, NotNamed, OtherThan, Rose, SameCounts}
+use Rattle.play_base.specs.View.{View, Keeps, NotNamed, OtherThan, SameCounts}
 use Rattle.play_words.specs.declared.words.ConditionWords.{ConditionWords}
 use Rattle.command_base.specs.Configuration.{Configures, Refused, Says, TooLong}
-use Rattle.command_base.specs.Faults.{CannotRead, IsQuiet, Untouched}
+use Rattle.command_base.specs.Faults.{CannotRead, IsQuiet, ReadFailed, Untouched, WriteFailed}
 use Rattle.command_base.specs.Input.{TakesFew}
 use Rattle.command_base.specs.Outcome.{IsOrMemory, Outcome}
 use Rattle.command_base.specs.declared.done.Done.TheVariants as done
@@ -26,6 +26,7 @@ use Rattle.command_base.specs.declared.parts.RunLimit.TheVariants as limit
 use Rattle.command_base.specs.declared.parts.WrittenPart.{WrittenPart}
 use Rattle.command_base.specs.declared.parts.WrittenPart.TheVariants as written
 use Rattle.early_stops.specs.Arriving.{IsNoPcapng}
+use Rattle.command_base.specs.Parts as parts
 
 -- the names of the words
 pub record MarkNames : Type 0 where
@@ -98,7 +99,7 @@ pub record IsCutShort (old new : View) (n : MarkNames) : Type 0 where
   pub split : capture ≡ taken ++ left
   pub file : ℕ
   pub fresh : old.part file ≡ None
-  pub part : new.part file ≡ Some 2
+  pub part : new.part file ≡ Some parts.arrivals
   pub leaves : is_pcapng arrive.given ≡ false → new.left file ≡ Some left
   pub last : Step
   pub is_last : IsLast last
@@ -106,31 +107,31 @@ pub record IsCutShort (old new : View) (n : MarkNames) : Type 0 where
 
 -- the arrivals could not be opened, or their first bytes not be read, and nothing was created; or a later read failed
 abbrev pub IsUnread : View → View → MarkNames → Type 0
-IsUnread old new n = (Untouched old new 6 × CannotRead old new 2 n.arrivals)
-    ⊎ (Rose (old.read_faults 2) (new.read_faults 2) × (IsTrue old.tells → IsCutShort old new n))
+IsUnread old new n = (Untouched old new parts.marked × CannotRead old new parts.arrivals n.arrivals)
+    ⊎ (ReadFailed old new parts.arrivals × (IsTrue old.tells → IsCutShort old new n))
 
 -- when what is read fails, when what is written, and when a limit is reached
 abbrev pub ReadFails : View → View → MarkNames → ReadPart → Type 0
-ReadFails old new n read.Configuration = Untouched old new 6 × CannotRead old new 1 n.config
+ReadFails old new n read.Configuration = Untouched old new parts.marked × CannotRead old new parts.configuration n.config
 ReadFails old new n read.Arrivals = (IsTrue old.tells → HasInterface old n) × IsUnread old new n
 ReadFails old new n other = ⊥
 
 abbrev pub WriteFails : View → View → MarkNames → WrittenPart → Type 0
-WriteFails old new n written.Marked = (IsTrue old.tells → HasInterface old n) × Rose (old.write_faults 6) (new.write_faults 6)
+WriteFails old new n written.Marked = (IsTrue old.tells → HasInterface old n) × WriteFailed old new parts.marked
 WriteFails old new n other = ⊥
 
 abbrev pub LimitFails : View → View → MarkNames → RunLimit → Type 0
 LimitFails old new n limit.Capture =
-    (IsTrue old.tells → IsStopped old new n Limit) ⊎ (Untouched old new 6 × (IsTrue old.tells → AreBroken old n ng.Limit))
-LimitFails old new n limit.Configuration = Untouched old new 6 × (IsTrue old.tells → Says old n.config n.interface TooLong)
+    (IsTrue old.tells → IsStopped old new n Limit) ⊎ (Untouched old new parts.marked × (IsTrue old.tells → AreBroken old n ng.Limit))
+LimitFails old new n limit.Configuration = Untouched old new parts.marked × (IsTrue old.tells → Says old n.config n.interface TooLong)
 LimitFails old new n other = ⊥
 
 -- when each failure comes, and no other
 abbrev pub ConditionFails : View → View → MarkNames → Failure → Type 0
 ConditionFails old new n (failure.Configuration place) =
-    Untouched old new 6 × (IsTrue old.tells → Says old n.config n.interface (Refused place))
+    Untouched old new parts.marked × (IsTrue old.tells → Says old n.config n.interface (Refused place))
 ConditionFails old new n (failure.Capture found) = IsTrue old.tells → IsStopped old new n (Fault found)
-ConditionFails old new n (failure.Pcapng block) = Untouched old new 6 × (IsTrue old.tells → AreBroken old n (ng.At block))
+ConditionFails old new n (failure.Pcapng block) = Untouched old new parts.marked × (IsTrue old.tells → AreBroken old n (ng.At block))
 ConditionFails old new n (failure.Read part) = ReadFails old new n part
 ConditionFails old new n (failure.Write part) = WriteFails old new n part
 ConditionFails old new n (failure.Limit limit) = LimitFails old new n limit
@@ -158,7 +159,7 @@ pub record ConditionIsTold (old : View) (n : MarkNames) (o : Outcome) : Type 0 w
 -- the marked file was not created and holds what it held before the run, or it holds a front of this text
 abbrev pub IsFrontAt : View → View → MarkNames → (text : List ℕ) → Type 0
 IsFrontAt old new n text =
-    (Untouched old new 6 × (new.bytes n.marked ≡ old.bytes n.marked))
+    (Untouched old new parts.marked × (new.bytes n.marked ≡ old.bytes n.marked))
     ⊎ ((front : List ℕ) × (tail : List ℕ) × (new.bytes n.marked ≡ Some front) × (text ≡ front ++ tail))
 
 -- of the capture at most 262,160 bytes more were taken from the file than the marked file holds
@@ -174,9 +175,10 @@ pub record TookWithin (new : View) (n : MarkNames) (file : ℕ) (capture : List 
 pub record ConditionLeaves (old new : View) (n : MarkNames) : Type 0 where
   pub front : IsTrue old.tells → (found : Interface) (capture : List ℕ) → Arrive old n found capture → IsFrontAt old new n (marked_in found capture)
   pub streams : IsTrue old.tells → (found : Interface) (capture : List ℕ) (x : Arrive old n found capture) → is_pcapng x.given ≡ false
-      → (f g : ℕ) → old.part f ≡ None → new.part f ≡ Some 2 → old.part g ≡ None → new.part g ≡ Some 6 → TookWithin new n f capture
-  pub uncreated : Untouched old new 6 → new.bytes n.marked ≡ old.bytes n.marked
-  pub order : Untouched old new 2 → Untouched old new 6
+      → (f g : ℕ) → old.part f ≡ None → new.part f ≡ Some parts.arrivals → old.part g ≡ None → new.part g ≡ Some parts.marked
+      → TookWithin new n f capture
+  pub uncreated : Untouched old new parts.marked → new.bytes n.marked ≡ old.bytes n.marked
+  pub order : Untouched old new parts.arrivals → Untouched old new parts.marked
   pub parts : (f p : ℕ) → old.part f ≡ None → new.part f ≡ Some p → (p ≡ 1) ⊎ (p ≡ 2) ⊎ (p ≡ 6)
   pub keeps : Keeps (OtherThan old n.marked) (NotNamed old n.marked) old new
   pub few : TakesFew old new n.config

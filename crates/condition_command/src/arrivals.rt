@@ -6,7 +6,7 @@ ghost use Rattle.condition_command.specs.Arriving.{ArrivalCauses};
 ghost use Rattle.play_base.specs.View.{Any, IsNew, Keeps, SameCounts};
 
 use arrivals_front::{Given, given_arrivals};
-use command_base::{Failure, ReadPart};
+use command_base::{Failure, ReadPart, part};
 use early_stops::given_failure;
 use play_base::{Files, Trouble};
 use std::alloc::Global;
@@ -36,7 +36,7 @@ pub(crate) fn open_arrivals<F: Files>(
     ensures said { (F.view files.new).said ≡ (F.view files.old).said }
     ensures no_fault { OnOk result (SameCounts (F.view files.old) (F.view files.new)) }
 {
-    let file = match files.open(2, name) {
+    let file = match files.open(part::ARRIVALS, name) {
         Ok(file) => file,
         Err(Trouble::Failed) => return Err(Failure::Read(ReadPart::Arrivals)),
         Err(Trouble::NoMemory) => return Err(Failure::NoMemory),

@@ -9,7 +9,7 @@ ghost use Rattle.play_words.specs.Words.{AreDistinctMarks};
 use crate::arrivals::open_arrivals;
 use crate::marking::{unmarked_failure, write_marked};
 use arrivals_front::Given;
-use command_base::{Done, Failure, WrittenPart, absent, read_conf};
+use command_base::{Done, Failure, WrittenPart, absent, part, read_conf};
 use conf_laws::configurations_fit;
 use conf_tree::Interface;
 use frame_classes::Classifier;
@@ -73,7 +73,7 @@ pub fn condition<F: Files>(
     let Ok(mut marker) = marker_for(alloc, found, &arrivals.given) else {
         return Err(Failure::NoMemory);
     };
-    let marked = match files.create(6, words.marked) {
+    let marked = match files.create(part::MARKED, words.marked) {
         Ok(file) => file,
         Err(Trouble::Failed) => return Err(Failure::Write(WrittenPart::Marked)),
         Err(Trouble::NoMemory) => return Err(Failure::NoMemory),

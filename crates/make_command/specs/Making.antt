@@ -3,13 +3,13 @@
 use Rattle.std.specs.Prelude.{◌≡◌, ◌≢◌, ◌≤◌, ◌⊎◌, ◌++◌, ℕ, List, None, Some, Ok, Err, IsTrue}
 use Rattle.conf_lines.specs.declared.fault.ConfPlace.{ConfPlace}
 use Rattle.generated.specs.Packets.{generated_capture}
-use Rattle.play_base.specs.View.{View, Keeps, Rose, SameCounts}
+use Rattle.play_base.specs.View.{View, Keeps, SameCounts}
 use Rattle.play_base.specs.declared.trouble.Trouble.{Trouble}
 use Rattle.play_base.specs.declared.trouble.Trouble.TheVariants as trouble
 use Rattle.play_core.specs.declared.totals.Totals.{Totals}
 use Rattle.play_text.specs.Summary.{summary_text}
 use Rattle.command_base.specs.Configuration.{AcceptsNone, Refused, Says, TooLong}
-use Rattle.command_base.specs.Faults.{CannotRead, IsQuiet, Untouched}
+use Rattle.command_base.specs.Faults.{CannotRead, IsQuiet, ReadFailed, Untouched, WriteFailed}
 use Rattle.command_base.specs.Input.{EndsAtConfig, TakesFew}
 use Rattle.command_base.specs.Names.{Names}
 use Rattle.command_base.specs.Outcome.{IsOrMemory, Outcome}
@@ -27,6 +27,7 @@ use Rattle.play_command.specs.Opening.{OtherThree}
 use Rattle.play_command.specs.Order.{IsInOrder, KeepUncreated}
 use Rattle.play_command.specs.Played.{EndsLate, Fronts, HasPlayed, IsCutShort, IsFrontAt, IsLate, IsPlayable}
 use Rattle.play_command.specs.Supplied.{with_bytes}
+use Rattle.command_base.specs.Parts as parts
 
 -- the files as they would be, if the capture of the first `count` packets of the seed stood under the arrivals' name
 abbrev pub supplied : View → Names → (seed count : ℕ) → View
@@ -53,20 +54,20 @@ pub record IsMade (old new : View) (n : Names) (seed count : ℕ) : Type 0 where
 
 -- when what is read fails, when what is written or said, and when a limit is reached: a generated capture is at no limit
 abbrev pub ReadFails : View → View → Names → (seed count : ℕ) → ReadPart → Type 0
-ReadFails old new n seed count read.Configuration = EndsAtConfig old new n.config × CannotRead old new 1 n.config
-ReadFails old new n seed count read.Arrivals = IsAccepting old n × Rose (old.read_faults 2) (new.read_faults 2)
-    × (Untouched old new 3 ⊎ (IsTrue old.tells → IsCutShort (supplied old n seed count) new n seed))
+ReadFails old new n seed count read.Configuration = EndsAtConfig old new n.config × CannotRead old new parts.configuration n.config
+ReadFails old new n seed count read.Arrivals = IsAccepting old n × ReadFailed old new parts.arrivals
+    × (Untouched old new parts.departures ⊎ (IsTrue old.tells → IsCutShort (supplied old n seed count) new n seed))
 ReadFails old new n seed count other = ⊥
 
 abbrev pub WriteFails : View → View → Names → (seed count : ℕ) → WrittenPart → Type 0
-WriteFails old new n seed count written.Departures = IsAccepting old n × Rose (old.write_faults 3) (new.write_faults 3)
-WriteFails old new n seed count written.Fates = IsAccepting old n × Rose (old.write_faults 4) (new.write_faults 4)
-WriteFails old new n seed count written.Statistics = IsAccepting old n × Rose (old.write_faults 5) (new.write_faults 5)
+WriteFails old new n seed count written.Departures = IsAccepting old n × WriteFailed old new parts.departures
+WriteFails old new n seed count written.Fates = IsAccepting old n × WriteFailed old new parts.fates
+WriteFails old new n seed count written.Statistics = IsAccepting old n × WriteFailed old new parts.statistics
     × EndsAtStats (supplied old n seed count) new n seed
-WriteFails old new n seed count written.Arrivals = IsAccepting old n × Rose (old.write_faults 2) (new.write_faults 2)
+WriteFails old new n seed count written.Arrivals = IsAccepting old n × WriteFailed old new parts.arrivals
 WriteFails old new n seed count (written.Chained part) = ⊥
 WriteFails old new n seed count written.Marked = ⊥
-WriteFails old new n seed count written.Answer = IsAccepting old n × Rose (old.write_faults 0) (new.write_faults 0)
+WriteFails old new n seed count written.Answer = IsAccepting old n × WriteFailed old new parts.printed
     × (IsTrue old.tells → WasMade old new n seed count)
 
 abbrev pub LimitFails : View → View → Names → (seed count : ℕ) → RunLimit → Type 0
@@ -110,17 +111,17 @@ KeepsOtherFour n old new = Keeps (OtherFour old n) (λ f. OtherFour old n (old.n
 -- the departures are created only behind the whole capture of the arrivals
 abbrev pub IsBehindArrivals : View → View → Names → (seed count : ℕ) → Type 0
 IsBehindArrivals old new n seed count =
-    IsTrue old.tells → Untouched old new 3 ⊎ (new.bytes n.arrivals ≡ Some (generated_capture seed count))
+    IsTrue old.tells → Untouched old new parts.departures ⊎ (new.bytes n.arrivals ≡ Some (generated_capture seed count))
 
 -- what becomes of the files, whatever comes: each new file has the part of its name, no output comes twice, and the arrivals, which are
 -- created and then opened, at most so. The arrivals hold a front of their capture, and the others fronts as those of a play
 pub record MakeLeaves (old new : View) (n : Names) (seed count : ℕ) : Type 0 where
   pub named : IsTrue old.tells → (f p : ℕ) → old.part f ≡ None → new.part f ≡ Some p → HasName n p (new.name f)
   pub once : (f g p : ℕ) → 3 ≤ p → old.part f ≡ None → old.part g ≡ None → new.part f ≡ Some p → new.part g ≡ Some p → f ≡ g
-  pub twice : (f g h : ℕ) → old.part f ≡ None → old.part g ≡ None → old.part h ≡ None → new.part f ≡ Some 2 → new.part g ≡ Some 2
-      → new.part h ≡ Some 2 → (f ≡ g) ⊎ (f ≡ h) ⊎ (g ≡ h)
+  pub twice : (f g h : ℕ) → old.part f ≡ None → old.part g ≡ None → old.part h ≡ None → new.part f ≡ Some parts.arrivals
+      → new.part g ≡ Some parts.arrivals → new.part h ≡ Some parts.arrivals → (f ≡ g) ⊎ (f ≡ h) ⊎ (g ≡ h)
   pub front : Fronts (supplied old n seed count) new n seed
-  pub arrivals : IsTrue old.tells → IsFrontAt old new 2 n.arrivals (generated_capture seed count)
+  pub arrivals : IsTrue old.tells → IsFrontAt old new parts.arrivals n.arrivals (generated_capture seed count)
   pub nothing : IsTrue old.tells → AcceptsNone old n.config n.interface → (m : List ℕ) → new.bytes m ≡ old.bytes m
   pub order : IsInOrder old new
   pub behind : IsBehindArrivals old new n seed count

@@ -7,7 +7,7 @@ ghost use Rattle.command_base.specs.Names.{names_read};
 ghost use Rattle.play_command.specs.Played.{IsFrontAt};
 ghost use Rattle.make_command.specs.Making.{MakeEnds, arrivals_failure, summary_of};
 
-use command_base::{Done, Failure, WrittenPart, absent, read_conf, say_failure};
+use command_base::{Done, Failure, WrittenPart, absent, part, read_conf, say_failure};
 use generated::{generated_captures_read, write_capture};
 use play_base::{Files, Trouble};
 use play_command::play_found;
@@ -49,7 +49,7 @@ fn write_arrivals<F: Files>(
     ensures said { (F.view files.new).said ≡ (F.view files.old).said }
     ensures no_fault { OnOk result (SameCounts (F.view files.old) (F.view files.new)) }
 {
-    let file = match files.create(2, words.play.arrivals) {
+    let file = match files.create(part::ARRIVALS, words.play.arrivals) {
         Ok(file) => file,
         Err(trouble) => return Err(trouble),
     };

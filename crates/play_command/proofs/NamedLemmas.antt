@@ -6,10 +6,11 @@ use Rattle.play_base.specs.declared.trouble.Trouble.{Trouble}
 use Rattle.play_base.specs.declared.trouble.Trouble.TheVariants as trouble
 use Rattle.play_loop.specs.declared.fault.Output.TheVariants as output
 use Rattle.play_loop.specs.declared.fault.PlayFault.TheVariants as play
+use Rattle.play_loop.specs.Outputs.{output_fault}
 use Rattle.command_base.specs.Faults.{Untouched}
 use Rattle.command_base.specs.Names.{Names}
 use Rattle.command_base.proofs.PartLemmas.{new_part, none_some, same_part, there_or_not, there_then}
-use Rattle.play_command.specs.Opening.{AreNamed, IsNamed, IsOpened, create_fault}
+use Rattle.play_command.specs.Opening.{AreNamed, IsNamed, IsOpened}
 
 -- none yet
 pub named_none : (a : View) (n : Names) → AreNamed a a n 2
@@ -115,10 +116,10 @@ without_stats a b c d e n f g h x y z u = λ k fresh at.
     let named = named_same a d e n 5 (named_three a b c d n f g h x y z) u.none u.keeps.part u.keeps.name in
     let l = named.below k 5 fresh at in omega (arith, l)
 
-pub not_departures : (t : Trouble) → create_fault output.Departures t ≡ play.Write output.Statistics → ⊥
+pub not_departures : (t : Trouble) → output_fault output.Departures t ≡ play.Write output.Statistics → ⊥
 not_departures trouble.Failed e = cc
 not_departures trouble.NoMemory e = cc
 
-pub not_fates : (t : Trouble) → create_fault output.Fates t ≡ play.Write output.Statistics → ⊥
+pub not_fates : (t : Trouble) → output_fault output.Fates t ≡ play.Write output.Statistics → ⊥
 not_fates trouble.Failed e = cc
 not_fates trouble.NoMemory e = cc

@@ -6,9 +6,9 @@ use Rattle.conf_lines.specs.declared.fault.ConfPlace.{ConfPlace}
 use Rattle.pcapng_files.specs.declared.fault.NgFault.TheVariants as ng
 use Rattle.pcapng_model.specs.declared.fault.NgPlace.{NgPlace}
 use Rattle.conf_tree.specs.declared.interface.Interface.{Interface}
-use Rattle.play_base.specs.View.{View, IsAbsent, Rose, SameCounts}
+use Rattle.play_base.specs.View.{View, IsAbsent, SameCounts}
 use Rattle.command_base.specs.Configuration.{Accepts, AcceptsNone, Refused, Says, TooLong}
-use Rattle.command_base.specs.Faults.{CannotRead, IsQuiet, Untouched}
+use Rattle.command_base.specs.Faults.{CannotRead, IsQuiet, ReadFailed, Untouched, WriteFailed}
 use Rattle.command_base.specs.Input.{EndsAtConfig, TakesFew}
 use Rattle.command_base.specs.Names.{Names}
 use Rattle.command_base.specs.Outcome.{IsOrMemory, Outcome}
@@ -24,6 +24,7 @@ use Rattle.command_base.specs.declared.parts.WrittenPart.TheVariants as written
 use Rattle.play_command.specs.Opening.{IsNamed, KeepsOthers}
 use Rattle.play_command.specs.Order.{IsInOrder, KeepUncreated}
 use Rattle.play_command.specs.Played.{EndsLate, EndsWith, Fronts, HasPlayed, HasWholeTexts, IsCutShort, IsDamaged, IsLate, IsLimited, IsPlayable, IsNoCapture}
+use Rattle.command_base.specs.Parts as parts
 
 -- where the files tell: the configuration has the interface asked for
 abbrev pub IsAccepting : View → Names → Type 0
@@ -37,29 +38,29 @@ pub record IsDone (old new : View) (n : Names) (seed : ℕ) : Type 0 where
 
 -- the arrivals could not be opened, and no output was created; or a read of them failed
 abbrev pub IsUnread : View → View → Names → (seed : ℕ) → Type 0
-IsUnread old new n seed = (Untouched old new 3 × CannotRead old new 2 n.arrivals)
-    ⊎ (Rose (old.read_faults 2) (new.read_faults 2) × (IsTrue old.tells → IsCutShort old new n seed))
+IsUnread old new n seed = (Untouched old new parts.departures × CannotRead old new parts.arrivals n.arrivals)
+    ⊎ (ReadFailed old new parts.arrivals × (IsTrue old.tells → IsCutShort old new n seed))
 
 -- when what is read fails, when what is written, and when a limit is reached: none but the configuration's comes before it is accepted,
 -- and where a pcapng file is at a limit no output was created
 abbrev pub ReadFails : View → View → Names → (seed : ℕ) → ReadPart → Type 0
-ReadFails old new n seed read.Configuration = EndsAtConfig old new n.config × CannotRead old new 1 n.config
+ReadFails old new n seed read.Configuration = EndsAtConfig old new n.config × CannotRead old new parts.configuration n.config
 ReadFails old new n seed read.Arrivals = IsAccepting old n × IsUnread old new n seed
 ReadFails old new n seed other = ⊥
 
 -- the statistics could not be created, or all else was written
 abbrev pub EndsAtStats : View → View → Names → (seed : ℕ) → Type 0
-EndsAtStats old new n seed = Untouched old new 5 ⊎ (IsTrue old.tells → HasWholeTexts old new n seed)
+EndsAtStats old new n seed = Untouched old new parts.statistics ⊎ (IsTrue old.tells → HasWholeTexts old new n seed)
 
 abbrev pub WriteFails : View → View → Names → (seed : ℕ) → WrittenPart → Type 0
-WriteFails old new n seed written.Departures = IsAccepting old n × Rose (old.write_faults 3) (new.write_faults 3)
-WriteFails old new n seed written.Fates = IsAccepting old n × Rose (old.write_faults 4) (new.write_faults 4)
-WriteFails old new n seed written.Statistics = IsAccepting old n × Rose (old.write_faults 5) (new.write_faults 5) × EndsAtStats old new n seed
+WriteFails old new n seed written.Departures = IsAccepting old n × WriteFailed old new parts.departures
+WriteFails old new n seed written.Fates = IsAccepting old n × WriteFailed old new parts.fates
+WriteFails old new n seed written.Statistics = IsAccepting old n × WriteFailed old new parts.statistics × EndsAtStats old new n seed
 WriteFails old new n seed other = ⊥
 
 abbrev pub LimitFails : View → View → Names → (seed : ℕ) → RunLimit → Type 0
 LimitFails old new n seed limit.Capture = IsAccepting old n
-    × ((IsTrue old.tells → IsLimited old new n seed) ⊎ (Untouched old new 3 × (IsTrue old.tells → IsNoCapture old n ng.Limit)))
+    × ((IsTrue old.tells → IsLimited old new n seed) ⊎ (Untouched old new parts.departures × (IsTrue old.tells → IsNoCapture old n ng.Limit)))
 LimitFails old new n seed limit.Clock = IsAccepting old n × (IsTrue old.tells → IsLate old new n seed)
 LimitFails old new n seed limit.Configuration = EndsAtConfig old new n.config × (IsTrue old.tells → Says old n.config n.interface TooLong)
 LimitFails old new n seed other = ⊥
@@ -69,7 +70,7 @@ abbrev pub PlayFails : View → View → Names → (seed : ℕ) → Failure → 
 PlayFails old new n seed (failure.Configuration place) = EndsAtConfig old new n.config × (IsTrue old.tells → Says old n.config n.interface (Refused place))
 PlayFails old new n seed (failure.Capture damage) = IsAccepting old n × (IsTrue old.tells → IsDamaged old new n seed damage)
 PlayFails old new n seed (failure.Pcapng block) =
-    IsAccepting old n × Untouched old new 3 × (IsTrue old.tells → IsNoCapture old n (ng.At block))
+    IsAccepting old n × Untouched old new parts.departures × (IsTrue old.tells → IsNoCapture old n (ng.At block))
 PlayFails old new n seed (failure.Read part) = ReadFails old new n seed part
 PlayFails old new n seed (failure.Write part) = WriteFails old new n seed part
 PlayFails old new n seed (failure.Limit limit) = LimitFails old new n seed limit
@@ -95,7 +96,7 @@ pub record PlayIsTold (old : View) (n : Names) (seed : ℕ) (o : Outcome) : Type
 
 -- the name of a part in the words
 abbrev pub HasName : Names → (part : ℕ) → (name : List ℕ) → Type 0
-HasName n part name = ((part ≡ 1) × (name ≡ n.config)) ⊎ IsNamed n part name
+HasName n part name = ((part ≡ parts.configuration) × (name ≡ n.config)) ⊎ IsNamed n part name
 
 -- what becomes of the files, whatever comes: each new file has the part of its name, and no part but the configuration's comes twice
 pub record FilesEnd (old new : View) (n : Names) : Type 0 where

@@ -1,8 +1,6 @@
 -- The files of a play: which are opened and created, and what stands where one of these fails.
 use Rattle.std.specs.Prelude.{◌≡◌, ◌≢◌, ◌≤◌, ◌<◌, ◌⊎◌, ℕ, List, [], None, Some, IsTrue, IsSome, true}
 use Rattle.altq_model.specs.History.{Happened}
-use Rattle.play_base.specs.declared.trouble.Trouble.{Trouble}
-use Rattle.play_base.specs.declared.trouble.Trouble.TheVariants as trouble
 use Rattle.play_base.specs.View.{View, Keeps, Rose, Any, IsNew}
 use Rattle.play_loop.specs.declared.fault.Opened.{Opened}
 use Rattle.play_loop.specs.declared.fault.Output.{Output}
@@ -19,6 +17,7 @@ use Rattle.pcapng_files.specs.declared.fault.NgFault.TheVariants as ng
 use Rattle.play_loop.specs.declared.fault.Limit.TheVariants as limit
 use Rattle.play_command.specs.declared.failing.Unplayed.{Unplayed}
 use Rattle.play_command.specs.declared.failing.Unplayed.TheVariants.{Pcapng, Play}
+use Rattle.command_base.specs.Parts as parts
 
 -- nothing is claimed of a history
 abbrev pub Untold : List Happened → Type 0
@@ -59,7 +58,10 @@ pub record OpenedFar (old new : View) (dep fat stats : List ℕ) : Type 0 where
 -- the name of each part of a play
 abbrev pub IsNamed : Names → (part : ℕ) → (name : List ℕ) → Type 0
 IsNamed n part name =
-    ((part ≡ 2) × (name ≡ n.arrivals)) ⊎ ((part ≡ 3) × (name ≡ n.departures)) ⊎ ((part ≡ 4) × (name ≡ n.fates)) ⊎ ((part ≡ 5) × (name ≡ n.stats))
+    ((part ≡ parts.arrivals) × (name ≡ n.arrivals))
+    ⊎ ((part ≡ parts.departures) × (name ≡ n.departures))
+    ⊎ ((part ≡ parts.fates) × (name ≡ n.fates))
+    ⊎ ((part ≡ parts.statistics) × (name ≡ n.stats))
 
 -- each new file has a part below `end` and, where the object tells, the name of that part; and no two have one part
 pub record AreNamed (old new : View) (n : Names) (end : ℕ) : Type 0 where
@@ -73,11 +75,6 @@ output_part output.Departures = 3
 output_part output.Fates = 4
 output_part output.Statistics = 5
 
--- what trouble with the creation of an output means for the play
-abbrev pub create_fault : Output → Trouble → PlayFault
-create_fault output trouble.Failed = play.Write output
-create_fault output trouble.NoMemory = play.NoMemory
-
 -- what is given under the name is a pcapng file that cannot be played, for this fault
 pub record GivesNoCapture (v : View) (name : List ℕ) (fault : NgFault) : Type 0 where
   pub given : List ℕ
@@ -87,11 +84,11 @@ pub record GivesNoCapture (v : View) (name : List ℕ) (fault : NgFault) : Type 
 
 -- why the arrivals are not there to be played: no output was created yet
 abbrev pub ArrivalsCauses : View → View → (arrivals : List ℕ) → Unplayed → Type 0
-ArrivalsCauses old new arrivals (Pcapng block) = Untouched old new 3 × (IsTrue old.tells → GivesNoCapture old arrivals (ng.At block))
+ArrivalsCauses old new arrivals (Pcapng block) = Untouched old new parts.departures × (IsTrue old.tells → GivesNoCapture old arrivals (ng.At block))
 ArrivalsCauses old new arrivals (Play (play.Capture damage)) = ⊥
-ArrivalsCauses old new arrivals (Play play.Read) = Untouched old new 3 × CannotRead old new 2 arrivals
+ArrivalsCauses old new arrivals (Play play.Read) = Untouched old new parts.departures × CannotRead old new parts.arrivals arrivals
 ArrivalsCauses old new arrivals (Play (play.Write output)) = ⊥
-ArrivalsCauses old new arrivals (Play (play.Limit limit.Capture)) = Untouched old new 3 × (IsTrue old.tells → GivesNoCapture old arrivals ng.Limit)
+ArrivalsCauses old new arrivals (Play (play.Limit limit.Capture)) = Untouched old new parts.departures × (IsTrue old.tells → GivesNoCapture old arrivals ng.Limit)
 ArrivalsCauses old new arrivals (Play (play.Limit limit.Clock)) = ⊥
 ArrivalsCauses old new arrivals (Play play.NoMemory) = Unit {0}
 
@@ -105,7 +102,7 @@ OutputCauses old new play.NoMemory = Unit {0}
 
 -- where it is the statistics that could not be created, they are not there
 abbrev pub LeavesOutStats : View → View → PlayFault → Type 0
-LeavesOutStats old new f = f ≡ play.Write output.Statistics → Untouched old new 5
+LeavesOutStats old new f = f ≡ play.Write output.Statistics → Untouched old new parts.statistics
 
 -- the file is new, of part 2 and of this name, which is there
 pub record IsOpened (old new : View) (arrivals : List ℕ) (file : ℕ) : Type 0 where
@@ -124,7 +121,7 @@ pub record AreOpened (old new : View) (arrivals departures fates stats : List �
   pub departures_new : old.part o.departures ≡ None
   pub fates_new : old.part o.fates ≡ None
   pub stats_new : old.part o.stats ≡ None
-  pub arrivals_part : new.part o.arrivals ≡ Some 2
-  pub departures_part : new.part o.departures ≡ Some 3
-  pub fates_part : new.part o.fates ≡ Some 4
-  pub stats_part : new.part o.stats ≡ Some 5
+  pub arrivals_part : new.part o.arrivals ≡ Some parts.arrivals
+  pub departures_part : new.part o.departures ≡ Some parts.departures
+  pub fates_part : new.part o.fates ≡ Some parts.fates
+  pub stats_part : new.part o.stats ≡ Some parts.statistics

@@ -25,6 +25,7 @@ use Rattle.arrivals_front.specs.Given.{is_pcapng}
 use Rattle.arrivals_front.specs.Given as arrivals
 use Rattle.pcapng_files.specs.Converted.{IsCause}
 use Rattle.pcapng_files.specs.declared.fault.NgFault.{NgFault}
+use Rattle.command_base.specs.Parts as parts
 
 -- what an interface plays of the bytes given under the arrivals' name: of a classic capture these bytes, of a pcapng file the classic
 -- capture of its packets; and of that the marked one, where the interface has conditioners
@@ -90,16 +91,16 @@ IsFrontAt old new part name text =
 -- front of its own
 abbrev pub HasStatsFront : View → View → Names → Setup → List Record → Type 0
 HasStatsFront old new n x records =
-    IsFrontAt old new 5 n.stats []
+    IsFrontAt old new parts.statistics n.stats []
     ⊎ ((g : List Happened) × IsPlay x.policy x.rate x.seed (comings (arrivals_in x records)) g × HoldTexts new n x records g
-    × IsFrontAt old new 5 n.stats (statistics_of x (arrivals_in x records) g))
+    × IsFrontAt old new parts.statistics n.stats (statistics_of x (arrivals_in x records) g))
 
 -- departures and fates hold fronts of the texts of the first events of the play of these records
 pub record HasFronts (old new : View) (n : Names) (x : Setup) (records : List Record) : Type 0 where
   pub history : List Happened
   pub begun : IsBegun x.policy x.rate x.seed (comings (arrivals_in x records)) history
-  pub departures : IsFrontAt old new 3 n.departures (departures_of x (arrivals_in x records) history)
-  pub fates : IsFrontAt old new 4 n.fates (fates_of x (arrivals_in x records) history)
+  pub departures : IsFrontAt old new parts.departures n.departures (departures_of x (arrivals_in x records) history)
+  pub fates : IsFrontAt old new parts.fates n.fates (fates_of x (arrivals_in x records) history)
   pub stats : HasStatsFront old new n x records
 
 -- what is accepted and can be read: of its complete records
@@ -182,7 +183,7 @@ pub record IsLate (old new : View) (n : Names) (seed : ℕ) : Type 0 where
   pub stats : new.bytes n.stats ≡ Some []
   pub file : ℕ
   pub fresh : old.part file ≡ None
-  pub part : new.part file ≡ Some 2
+  pub part : new.part file ≡ Some parts.arrivals
   pub streams : is_pcapng accepted.given ≡ false
       → StreamsWithin (most_past accepted.interface) new file accepted.bytes records (start_of early.cut.next.what)
 
@@ -215,7 +216,7 @@ pub record IsCutShort (old new : View) (n : Names) (seed : ℕ) : Type 0 where
   pub records : List Record
   pub file : ℕ
   pub fresh : old.part file ≡ None
-  pub part : new.part file ≡ Some 2
+  pub part : new.part file ≡ Some parts.arrivals
   pub taken : AreTaken (is_pcapng accepted.given) (is_conditioned accepted.interface) new file accepted.bytes records
   pub decided : HasOffered new n (setup_of accepted.interface seed) records
 

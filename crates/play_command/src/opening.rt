@@ -4,12 +4,13 @@ ghost use Rattle.arrivals_front.specs.Given.{Follows, is_pcapng};
 ghost use Rattle.play_base.specs.View.{Any, Keeps, SameCounts, View};
 ghost use Rattle.play_words.specs.Words.{AreDistinct};
 ghost use Rattle.command_base.specs.Names.{Names, names_read};
-ghost use Rattle.play_command.specs.Opening.{AreNamed, AreOpened, ArrivalsCauses, IsOpened, LeavesOutStats, OpenedFar, OutputCauses, create_fault};
+ghost use Rattle.play_command.specs.Opening.{AreNamed, AreOpened, ArrivalsCauses, IsOpened, LeavesOutStats, OpenedFar, OutputCauses};
 
 use crate::failing::{Unplayed, given_fault};
 use arrivals_front::{Given, given_arrivals};
+use command_base::part;
 use play_base::{Files, Trouble};
-use play_loop::{Opened, Output, PlayFault};
+use play_loop::{Opened, Output, PlayFault, output_fault};
 use play_words::PlayWords;
 use std::alloc::Global;
 
@@ -18,16 +19,6 @@ use std::alloc::Global;
 pub struct Arrivals {
     pub file: u32,
     pub given: Given,
-}
-
-// What trouble with the creation of an output means for the play.
-fn create_fault(output: Output, trouble: Trouble) -> PlayFault
-    ensures { result ≡ create_fault output trouble }
-{
-    match trouble {
-        Trouble::Failed => PlayFault::Write(output),
-        Trouble::NoMemory => PlayFault::NoMemory,
-    }
 }
 
 /// Opens the arrivals, and takes their first bytes, of a pcapng file all. What each error means `Unplayed` says; no error is that of
@@ -48,7 +39,7 @@ pub fn open_arrivals<F: Files>(
     ensures keeps { Keeps Any Any (F.view files.old) (F.view files.new) }
     ensures no_fault { OnOk result (SameCounts (F.view files.old) (F.view files.new)) }
 {
-    let file = match files.open(2, name) {
+    let file = match files.open(part::ARRIVALS, name) {
         Ok(file) => file,
         Err(Trouble::Failed) => return Err(Unplayed::Play(PlayFault::Read)),
         Err(Trouble::NoMemory) => return Err(Unplayed::Play(PlayFault::NoMemory)),
@@ -78,7 +69,7 @@ pub fn open_classic<F: Files>(
     ensures keeps { Keeps Any Any (F.view files.old) (F.view files.new) }
     ensures no_fault { OnOk result (SameCounts (F.view files.old) (F.view files.new)) }
 {
-    match files.open(2, name) {
+    match files.open(part::ARRIVALS, name) {
         Ok(file) => Ok(Arrivals {
             file,
             given: Given {
@@ -116,17 +107,17 @@ pub fn create_outputs<'a, F: Files>(
         → LeavesOutStats a (F.view files.new) fault) }
     ensures no_fault { OnOk result (SameCounts (F.view files.old) (F.view files.new)) }
 {
-    let departures = match files.create(3, words.departures) {
+    let departures = match files.create(part::DEPARTURES, words.departures) {
         Ok(file) => file,
-        Err(trouble) => return Err(create_fault(Output::Departures, trouble)),
+        Err(trouble) => return Err(output_fault(Output::Departures, trouble)),
     };
-    let fates = match files.create(4, words.fates) {
+    let fates = match files.create(part::FATES, words.fates) {
         Ok(file) => file,
-        Err(trouble) => return Err(create_fault(Output::Fates, trouble)),
+        Err(trouble) => return Err(output_fault(Output::Fates, trouble)),
     };
-    let stats = match files.create(5, words.stats) {
+    let stats = match files.create(part::STATISTICS, words.stats) {
         Ok(file) => file,
-        Err(trouble) => return Err(create_fault(Output::Statistics, trouble)),
+        Err(trouble) => return Err(output_fault(Output::Statistics, trouble)),
     };
     Ok(Opened {
         arrivals,

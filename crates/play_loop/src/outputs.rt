@@ -17,7 +17,7 @@ pub struct Outputs {
     pub counts: Vec<Counts>,
 }
 
-// What trouble with an output means for the play.
+/// What trouble with an output, when it is created or written, means for the play.
 pub fn output_fault(output: Output, trouble: Trouble) -> PlayFault
     ensures { result ≡ output_fault output trouble }
 {

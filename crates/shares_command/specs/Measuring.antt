@@ -9,13 +9,13 @@ use Rattle.hfsc_model.specs.declared.HfscClass.{HfscClass}
 use Rattle.hfsc_model.specs.Event.{HfscHistory}
 use Rattle.hfsc_policy.specs.Events.{hfsc_history}
 use Rattle.interface_policy.specs.Classes.{hfsc_classes}
-use Rattle.play_base.specs.View.{View, Rose, SameCounts}
+use Rattle.play_base.specs.View.{View, SameCounts}
 use Rattle.share_gaps.specs.declared.siblings.Siblings.{Siblings}
 use Rattle.share_gaps.specs.Rows.{rows}
 use Rattle.share_gaps.specs.Watching.{gap_after}
 use Rattle.share_lines.specs.Lines.{gap_lines}
 use Rattle.share_report.specs.Report.{IsGapOf, IsWithinBound, gaps_after}
-use Rattle.command_base.specs.Faults.{IsQuiet}
+use Rattle.command_base.specs.Faults.{IsQuiet, WriteFailed}
 use Rattle.command_base.specs.Names.{Names}
 use Rattle.command_base.specs.Outcome.{Outcome}
 use Rattle.command_base.specs.declared.done.Done.TheVariants as done
@@ -23,6 +23,7 @@ use Rattle.command_base.specs.declared.failure.Failure.TheVariants as failure
 use Rattle.command_base.specs.declared.parts.WrittenPart.TheVariants as written
 use Rattle.play_command.specs.Ending.{IsAccepting, PlayFails, PlayIsTold, PlayLeaves}
 use Rattle.play_command.specs.Played.{HasPlayed}
+use Rattle.command_base.specs.Parts as parts
 
 -- the lines of a history: of HFSC one for each pair of siblings, of CBQ none
 abbrev pub lines_by : Kind → List Class → HfscHistory → List ℕ
@@ -52,7 +53,7 @@ pub record IsMeasured (old new : View) (n : Names) (seed : ℕ) : Type 0 where
 -- the lines could not be said, behind a play that was done
 pub record IsUnsaid (old new : View) (n : Names) (seed : ℕ) : Type 0 where
   pub accepting : IsAccepting old n
-  pub failed : Rose (old.write_faults 0) (new.write_faults 0)
+  pub failed : WriteFailed old new parts.printed
   pub played : IsTrue old.tells → HasPlayed old new n seed
 
 -- when each failure comes: as of a play, and where the lines cannot be said

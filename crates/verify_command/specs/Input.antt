@@ -24,6 +24,7 @@ use Rattle.command_base.specs.declared.parts.ReadPart.TheVariants as read
 use Rattle.command_base.specs.declared.parts.RunLimit.TheVariants as limit
 use Rattle.verify_command.specs.declared.input.InputFault.{InputFault}
 use Rattle.verify_command.specs.declared.input.InputFault.TheVariants as input
+use Rattle.command_base.specs.Parts as parts
 
 -- the bytes under a name are more than 2^30
 pub record IsLong (v : View) (name : List ℕ) : Type 0 where
@@ -60,7 +61,7 @@ abbrev pub ArrivalCauses : View → View → Interface → (name : List ℕ) →
 ArrivalCauses old new i name (failure.Capture damage) = IsTrue old.tells → StopsAt old i name (Fault damage)
 ArrivalCauses old new i name (failure.Pcapng block) = IsTrue old.tells → IsNoPcapng old name (ng.At block)
 ArrivalCauses old new i name (failure.Limit limit.Capture) = IsTrue old.tells → StopsAt old i name Limit ⊎ IsNoPcapng old name ng.Limit
-ArrivalCauses old new i name (failure.Read read.Arrivals) = CannotRead old new 2 name
+ArrivalCauses old new i name (failure.Read read.Arrivals) = CannotRead old new parts.arrivals name
 ArrivalCauses old new i name failure.NoMemory = Unit {0}
 ArrivalCauses old new i name other = ⊥
 

@@ -11,10 +11,10 @@ use Rattle.file_tests.specs.declared.Test.{Test}
 use Rattle.pcapng_files.specs.declared.fault.NgFault.{NgFault}
 use Rattle.pcapng_files.specs.declared.fault.NgFault.TheVariants as ng
 use Rattle.pcapng_model.specs.declared.fault.NgPlace.{NgPlace}
-use Rattle.play_base.specs.View.{View, Any, Keeps, Rose, SameCounts}
+use Rattle.play_base.specs.View.{View, Any, Keeps, SameCounts}
 use Rattle.play_words.specs.declared.words.VerifyWords.{VerifyWords}
 use Rattle.command_base.specs.Configuration.{Configures, Refused, Says, TooLong}
-use Rattle.command_base.specs.Faults.{CannotRead, IsQuiet}
+use Rattle.command_base.specs.Faults.{CannotRead, IsQuiet, WriteFailed}
 use Rattle.command_base.specs.Input.{TakesFew}
 use Rattle.command_base.specs.Outcome.{IsOrMemory, Outcome, read_number}
 use Rattle.command_base.specs.declared.done.Done.TheVariants as done
@@ -27,6 +27,7 @@ use Rattle.command_base.specs.declared.parts.WrittenPart.TheVariants as written
 use Rattle.early_stops.specs.Arriving.{IsNoPcapng}
 use Rattle.verify_command.specs.Input.{HasRecords, IsLong}
 use Rattle.verify_command.specs.Lines.{verdict_text}
+use Rattle.command_base.specs.Parts as parts
 
 -- the names of the words
 pub record Inputs : Type 0 where
@@ -139,7 +140,7 @@ VerifyFails old new n (failure.Configuration place) = IsTrue old.tells → Says 
 VerifyFails old new n (failure.Capture damage) = IsTrue old.tells → EndsWith old n (Fault damage)
 VerifyFails old new n (failure.Pcapng block) = IsTrue old.tells → AreBroken old n (ng.At block)
 VerifyFails old new n (failure.Read part) = CannotRead old new (read_number part) (name_of n part) × (IsTrue old.tells → IsReached old n part)
-VerifyFails old new n (failure.Write written.Answer) = Rose (old.write_faults 0) (new.write_faults 0) × (IsTrue old.tells → IsVerified old n)
+VerifyFails old new n (failure.Write written.Answer) = WriteFailed old new parts.printed × (IsTrue old.tells → IsVerified old n)
 VerifyFails old new n (failure.Limit limit.Configuration) = IsTrue old.tells → Says old n.config n.interface TooLong
 VerifyFails old new n (failure.Limit limit.Capture) = IsTrue old.tells → ExceedLimits old n
 VerifyFails old new n (failure.Limit limit.Departures) = IsTrue old.tells → HasLongDepartures old n

@@ -12,7 +12,7 @@ ghost use Rattle.early_stops.specs.Arriving.{OnlyOpens, given_failure};
 ghost use Rattle.verify_command.specs.Input.{ArrivalCauses, HoldsCapture, capture_failure};
 
 use arrivals_front::{Given, given_arrivals};
-use command_base::{Failure, ReadPart, RunLimit};
+use command_base::{Failure, ReadPart, RunLimit, part};
 use conf_tree::Interface;
 use early_stops::given_failure;
 use frame_classes::Classifier;
@@ -150,7 +150,7 @@ pub(crate) fn read_arrivals<F: Files>(
     ensures said { (F.view files.new).said ≡ (F.view files.old).said }
     ensures no_fault { OnOk result (SameCounts (F.view files.old) (F.view files.new)) }
 {
-    let file = match files.open(2, name) {
+    let file = match files.open(part::ARRIVALS, name) {
         Ok(file) => file,
         Err(Trouble::Failed) => return Err(Failure::Read(ReadPart::Arrivals)),
         Err(Trouble::NoMemory) => return Err(Failure::NoMemory),

@@ -1,6 +1,6 @@
 -- The files that a play left, as they are verified.
 use Rattle.std.specs.Prelude.{◌≡◌, ◌≢◌, ◌<◌, ◌⊎◌, ℕ, List, All, Some, Ok, Err}
-use Rattle.command_base.specs.Faults.{IsQuiet}
+use Rattle.command_base.specs.Faults.{IsQuiet, WriteFailed}
 use Rattle.command_base.specs.Names.{Names}
 use Rattle.command_base.specs.Outcome.{IsOrMemory, Outcome}
 use Rattle.command_base.specs.declared.done.Done.TheVariants.{Verified}
@@ -8,8 +8,9 @@ use Rattle.command_base.specs.declared.failure.Failure.TheVariants as failure
 use Rattle.command_base.specs.declared.status.Status.{Status}
 use Rattle.command_base.specs.declared.parts.WrittenPart.TheVariants.{Answer}
 use Rattle.file_tests.specs.declared.Test.{Test}
-use Rattle.play_base.specs.View.{View, Rose}
+use Rattle.play_base.specs.View.{View}
 use Rattle.verify_command.specs.Verifying.{Inputs}
+use Rattle.command_base.specs.Parts as parts
 
 -- the bytes that are told under a name are bytes
 abbrev pub HoldsBytes : View → (name : List ℕ) → Type 0
@@ -34,9 +35,9 @@ inputs_played n =
 pub record IsVerification (old new : View) (o : Outcome) : Type 0 where
   pub never_refuted : (row : ℕ) (test : Test) → o ≢ Err (failure.Refuted row test)
   pub quiet : IsQuiet old new → (o ≡ Ok Verified) ⊎ IsOrMemory o (Err (failure.Write Answer))
-  pub verified : IsQuiet old new → (Rose (old.write_faults 0) (new.write_faults 0) → ⊥) → IsOrMemory o (Ok Verified)
+  pub verified : IsQuiet old new → (WriteFailed old new parts.printed → ⊥) → IsOrMemory o (Ok Verified)
 
 -- Its status then never has code 10; and where no count of faults rises, it has code 0, or 8 where memory ran out.
 pub record HasItsStatus (old new : View) (s : Status) : Type 0 where
   pub never_ten : s.code ≢ 10
-  pub quiet : IsQuiet old new → (Rose (old.write_faults 0) (new.write_faults 0) → ⊥) → (s.code ≡ 0) ⊎ (s.code ≡ 8)
+  pub quiet : IsQuiet old new → (WriteFailed old new parts.printed → ⊥) → (s.code ≡ 0) ⊎ (s.code ≡ 8)

@@ -59,10 +59,10 @@ returns-clause-named g c = λ a x.
 
 -- which is not there
 pub returns-in-Err-clause-left_out : goal.returns-in-Err-clause-left_out
-returns-in-Err-clause-left_out g c = λ a x e. absurd (not_departures c.in-Err.trouble (sym c.create_fault.ensures ∙ e))
+returns-in-Err-clause-left_out g c = λ a x e. absurd (not_departures c.in-Err.trouble (sym c.output_fault.ensures ∙ e))
 
 pub returns-in-Err-create-clause-left_out : goal.returns-in-Err-create-clause-left_out
-returns-in-Err-create-clause-left_out g c = λ a x e. absurd (not_fates c.in-Err-create.trouble (sym c.create_fault-in-Err-create.ensures ∙ e))
+returns-in-Err-create-clause-left_out g c = λ a x e. absurd (not_fates c.in-Err-create.trouble (sym c.output_fault-in-Err-create.ensures ∙ e))
 
 pub returns-in-Err-create-2-clause-left_out : goal.returns-in-Err-create-2-clause-left_out
 returns-in-Err-create-2-clause-left_out g c = λ a x e.
