@@ -1,11 +1,13 @@
 -- The least start at which a packet ends late enough.
-use Rattle.std.proofs.Common.{◌≡◌, ◌≤◌, ◌<◌, ◌+◌, ◌-◌, ℕ, Bool, true, false, refl, sym, subst, arith}
+use Rattle.std.proofs.Common.{◌≡◌, ◌≤◌, ◌<◌, ◌+◌, ◌-◌, ◌*◌, ℕ, Bool, true, false, refl, sym, subst, arith}
 use Rattle.std.proofs.Common.{FitsSigned, to_z, of_z, w64}
-use Rattle.std.specs.Prelude.{ℤ, pos, ◌-ℤ◌, int_lt, int_le, ◌||◌, nat_eq, List}
+use Rattle.std.specs.Prelude.{ℤ, pos, ◌-ℤ◌, int_lt, int_le, ◌||◌, nat_eq, nat_le, List}
 use Rattle.std.proofs.lemmas.Int.{ints, to_z-of_z}
 use Rattle.std.proofs.lemmas.Bool.Decides.{nat_tests}
-use Rattle.play_base.specs.Units.{time_of}
+use Rattle.std.proofs.lemmas.Nat.{mul-le}
+use Rattle.play_base.specs.Units.{ceil_div, time_of, units}
 use Rattle.altq_model.specs.Link.{Link, end_of}
+use Rattle.link_clock.proofs.Rounded.{ceil_le, le_ceil}
 use Rattle.cbq_estimator.specs.Average.{Pace, Ended, average, last_end}
 use Rattle.cbq_estimator.specs.Starts.{enough, wanted, allows, IsLeastStart}
 
@@ -111,3 +113,28 @@ later_for p h rate l now len want end next gap free low w e n short g =
     let P : ℕ → Type 0 = λ x. IsLeastStart p h rate l now len (now + 1 + x) in
     let same : gap ≡ wanted p h len - end_of rate l (now + 1) len = omega (arith, w, n, g) in
     subst P (sym same) (starts_later p h rate l now len free low (omega (arith, w, e, short)))
+
+-- a time that carries less than some units is less than theirs, rounded up
+below_by : (a rate end least : ℕ) (b : Bool) → nat_le (least + ceil_div a rate) end ≡ b → 0 < rate → least ≤ end → (end - least) * rate < a
+    → end < least + ceil_div a rate
+below_by a rate end least true e some low more =
+    let fits : least + ceil_div a rate ≤ end = grind (arith, nat_tests) in
+    let all = le_ceil a rate some in
+    let product = mul-le rate (ceil_div a rate) rate (end - least) (omega arith) (omega (arith, fits)) in
+    absurd (omega (arith, all, product, more))
+below_by a rate end least false e some low more = grind (arith, nat_tests)
+
+late_by : (end last need len rate : ℕ) (b : Bool) → 0 < rate → last + need ≤ end → nat_le (units len) ((end - (last + need)) * rate) ≡ b
+    → b ≡ int_le (pos need) ((pos end -ℤ pos last) -ℤ pos (time_of len rate))
+late_by end last need len rate true some low e =
+    let fits : units len ≤ (end - (last + need)) * rate = grind (arith, nat_tests) in
+    let time = ceil_le (units len) rate (end - (last + need)) some (omega (arith, fits)) in
+    sym (late_enough end last (time_of len rate) need (omega (arith, low, time)))
+late_by end last need len rate false some low e =
+    let more : (end - (last + need)) * rate < units len = grind (arith, nat_tests) in
+    sym (too_early end last (time_of len rate) need (omega (arith, below_by (units len) rate end (last + need) (nat_le (last + need + time_of len rate) end) refl some low more)))
+
+-- the rest of the time from the enough idle time on carries the packet exactly where its own time fits
+pub units_late : (end last need len rate : ℕ) → 0 < rate → last + need ≤ end
+    → nat_le (units len) ((end - (last + need)) * rate) ≡ int_le (pos need) ((pos end -ℤ pos last) -ℤ pos (time_of len rate))
+units_late end last need len rate some low = late_by end last need len rate (nat_le (units len) ((end - (last + need)) * rate)) some low refl

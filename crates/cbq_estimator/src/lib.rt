@@ -6,14 +6,14 @@
 //! that was idle for long may send no more than that burst ahead. After Floyd and Jacobson 1995.
 #![tactic(auto)]
 
-ghost use Rattle.std.specs.Prelude.{◌≡◌, ◌<◌, ◌≤◌, ◌+◌, ◌*◌, ◌^◌, ◌-◌, ℤ, pos, negsuc, ◌≤ℤ◌, ◌+ℤ◌, ◌-ℤ◌, ◌∷◌, [], List, unwrap_or, unsigned_abs};
+ghost use Rattle.std.specs.Prelude.{◌≡◌, ◌<◌, ◌≤◌, ◌+◌, ◌*◌, ◌^◌, ◌-◌, ℤ, pos, negsuc, ◌≤ℤ◌, ◌+ℤ◌, ◌-ℤ◌, ◌∷◌, [], List, unwrap_or, unsigned_abs, int_le};
 ghost use Rattle.std.specs.Int.{int_min};
 ghost use Rattle.play_base.specs.Units.{time_of};
 ghost use Rattle.altq_model.specs.Link.{end_of};
 ghost use Rattle.cbq_estimator.specs.Average.{Ended, cap_of, decayed, average};
-ghost use Rattle.cbq_estimator.specs.Starts.{enough, wanted, IsLeastStart};
+ghost use Rattle.cbq_estimator.specs.Starts.{allows, enough, wanted, IsLeastStart};
 ghost use Rattle.cbq_estimator.specs.Estimate.{Estimate, StandsFor};
-ghost use Rattle.cbq_estimator.specs.Now.{after_end, start_now, wanted_now};
+ghost use Rattle.cbq_estimator.specs.Now.{after_end, allows_now, idle_now, start_now, wanted_now};
 
 mod laws;
 mod rows;
@@ -136,13 +136,21 @@ impl Estimator {
         }
     }
 
+    // The end from which on a packet would be allowed at an average of 0 or less if it took no time.
+    fn earliest(&self) -> u64
+        ensures value { result ≡ unwrap_or self.now.last 0 + enough self.now.average }
+        ensures bound { result < 2 ^ 63 + 2 ^ 62 + 2 ^ 52 }
+    {
+        self.last.unwrap_or(0) + enough(self.average)
+    }
+
     // The end from which on a packet is allowed at an average of 0 or less.
     fn wanted(&self, len: u32) -> u64
         requires { len ≤ 262144 }
         ensures value { result ≡ wanted_now self.now len }
         ensures history { (h : List Ended) → StandsFor self.now h → result ≡ wanted self.now.pace h len }
     {
-        self.last.unwrap_or(0) + own_time(len, self.rate) + enough(self.average)
+        self.earliest() + own_time(len, self.rate)
     }
 
     /// 32 times the average idle time, in nanoseconds.
@@ -175,6 +183,25 @@ impl Estimator {
         }
         let later = now + 1;
         later + wanted.saturating_sub(clock.end_of(later, len))
+    }
+
+    // Whether the idle time of a packet that would end at `end` is enough at an average of 0 or less. It compares units, which needs no
+    // division.
+    fn is_late(&self, end: u64, len: u32) -> bool
+        ensures { result ≡ int_le (pos (enough self.now.average)) (idle_now self.now end len) }
+    {
+        let least = self.earliest();
+        let units = u128::from(len) * u128::from(BYTE);
+        end >= least && u128::from(end - least) * u128::from(self.rate) >= units
+    }
+
+    /// Whether a packet of `len` bytes that would end at `end`, in nanoseconds, is allowed. Constant time, without a division; takes no
+    /// memory.
+    pub fn allows(&self, end: u64, len: u32) -> bool
+        ensures value { result ≡ allows_now self.now end len }
+        ensures history { (h : List Ended) → StandsFor self.now h → result ≡ allows self.now.pace h end len }
+    {
+        self.average > 0 || self.is_late(end, len)
     }
 
     /// A packet of `len` bytes, of the class or of a class below it, ended at `end`: no earlier than the end before, and before

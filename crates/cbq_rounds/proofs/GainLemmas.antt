@@ -3,8 +3,9 @@ use Rattle.std.proofs.Common.{◌≡◌, ◌≤◌, ◌<◌, ◌+◌, ◌*◌, �
 use Rattle.std.specs.declared.option.Option.{Option}
 use Rattle.std.specs.Prelude.{slice_set, if◌then◌else◌, unwrap_or}
 use Rattle.std.specs.List.{list_any}
-use Rattle.std.proofs.lemmas.Bool.{cases_lt, eq-eqb, eqb-true, ne_eqb}
+use Rattle.std.proofs.lemmas.Bool.{cases_lt, eq-eqb, eqb-true}
 use Rattle.std.proofs.lemmas.Bool.Decides.{nat_tests}
+use Rattle.altq_model.specs.Link.{end_of}
 use Rattle.altq_model.specs.Play.{IsOneOf}
 use Rattle.leaf_queue.specs.declared.node.Entry.{Entry}
 use Rattle.link_clock.specs.Clock.{Clock}
@@ -20,10 +21,13 @@ use Rattle.cbq_model.proofs.Members.{kept, passes_some, some_passes, was_kept}
 use Rattle.cbq_model.proofs.Places.{at_place}
 use Rattle.cbq_rounds.specs.Due.{due_in}
 use Rattle.cbq_rounds.specs.Gained.{HasGained, gained_by, transmission, with_credits, with_gains}
+use Rattle.cbq_rounds.specs.declared.lent.Lent.{Lent}
+use Rattle.cbq_rounds.specs.Lent.{IsLent}
 use Rattle.cbq_rounds.specs.Sent.{with_credit}
-use Rattle.cbq_rounds.specs.Shared.{Shared, head_len, situation_in, start_now_in}
+use Rattle.cbq_rounds.specs.Shared.{Shared, head_len, may_end, situation_in}
 use Rattle.cbq_rounds.proofs.DueLemmas.{SendsPicked, front_len, member_from, sends_picked}
-use Rattle.cbq_rounds.proofs.Moments.{head_seen, may_not, may_where}
+use Rattle.cbq_rounds.proofs.LookLemmas.{waiting_may}
+use Rattle.cbq_rounds.proofs.Moments.{head_seen, may_not}
 
 -- lists of one length that have the same at each place are the same
 pub same_lists : (xs ys : List ℕ) → length xs ≡ length ys → ((i : ℕ) → i < length xs → get_or xs i 0 ≡ get_or ys i 0) → xs ≡ ys
@@ -167,13 +171,8 @@ module _ (d : Shared) (lists : ℕ → List Entry) (clock : Clock) (x : Sending)
     pub due : due_in d lists clock x.start ≡ Send x.ticket x.class x.len x.rule
     pub place : i < length d.tree
     pub head : head_len (lists i) ≡ Some len
-    pub now : start_now_in d clock.rate clock.link i x.start len ≡ x.start
+    pub able : may d.tree d.rate s i x.start ≡ true
     pub alike : priority i ≡ priority x.class
-
-  able_now : (i len : ℕ) → IsDueNow i len → may d.tree d.rate s i x.start ≡ true
-  able_now i len q =
-      let now : start_now_in d d.rate clock.link i x.start len ≡ x.start = ap (λ (r : ℕ). start_now_in d r clock.link i x.start len) (sym q.rate) ∙ q.now in
-      may_where d lists clock.link i x.start len q.place q.free q.head ∙ eq-eqb (start_now_in d d.rate clock.link i x.start len) x.start now
 
   picked_is : (i len : ℕ) → IsDueNow i len → SendsPicked d lists clock x.start x.class x.len x.ticket x.rule
   picked_is i len q = sends_picked d lists clock x.start x.class x.len x.ticket x.rule q.free q.rate q.due
@@ -181,7 +180,7 @@ module _ (d : Shared) (lists : ℕ → List Entry) (clock : Clock) (x : Sending)
   pub is_candidate : (i len : ℕ) → IsDueNow i len → IsOneOf i ready
   is_candidate i len q =
       let y = picked_is i len q in
-      candidate i (member_from 0 i d.tree (omega arith) (omega (arith, q.place))) (able_now i len q) (q.alike ∙ ap priority (sym y.of_class))
+      candidate i (member_from 0 i d.tree (omega arith) (omega (arith, q.place))) q.able (q.alike ∙ ap priority (sym y.of_class))
 
   rounds_of_head : (c len : ℕ) → c < length d.tree → head_len (lists c) ≡ Some len
       → rounds d.tree d.rate s c ≡ rounds_for (get_or d.credits c 0) (quantum_of d.rate (class_of d.tree c)) len
@@ -193,7 +192,7 @@ module _ (d : Shared) (lists : ℕ → List Entry) (clock : Clock) (x : Sending)
   few_rounds i len q =
       let y = picked_is i len q in
       let m : IsOneOf i (able d.tree d.rate s x.start) =
-      kept (λ k. may d.tree d.rate s k x.start) i (numbers d.tree) (member_from 0 i d.tree (omega arith) (omega (arith, q.place))) (able_now i len q) in
+      kept (λ k. may d.tree d.rate s k x.start) i (numbers d.tree) (member_from 0 i d.tree (omega arith) (omega (arith, q.place))) q.able in
       let b = best_of d.tree d.rate s i (able d.tree d.rate s x.start) m in
       let one : b.one ≡ x.class = sym (ap class_in b.is) ∙ y.of_class in
       let same : priority i ≡ priority b.one = q.alike ∙ ap priority (sym one) in
@@ -223,42 +222,47 @@ module _ (d : Shared) (lists : ℕ → List Entry) (clock : Clock) (x : Sending)
       ∙ ap (λ (c : ℕ). rounds_for c (quantum_of d.rate (class_of d.tree i)) len) (g.rest i (omega arith)) in
       omega (arith, few_rounds i len q, same, e)
 
-  -- the class's moment, by what stands
-  start_by : (i len start : ℕ) (now : Shared) → HasGained d lists clock x i now → start ≡ start_now_in now clock.rate clock.link i x.start len
-      → start ≡ start_now_in d clock.rate clock.link i x.start len
-  start_by i len start now g e = e ∙ ap (λ (k : Shared). start_now_in k clock.rate clock.link i x.start len) g.same
+  -- gains change no answer of a lender
+  pub lent_now : (i : ℕ) (now : Shared) (l : Lent) → HasGained d lists clock x i now → IsLent d.tree d.estimates clock x.start l
+      → IsLent now.tree now.estimates clock x.start l
+  lent_now i now l g e = let P : Shared → Type 0 = λ k. IsLent k.tree k.estimates clock x.start l in subst P (sym g.same) e
+
+  pub lent_by : (i : ℕ) (now : Shared) (l : Lent) → HasGained d lists clock x i now → IsLent now.tree now.estimates clock x.start l
+      → IsLent d.tree d.estimates clock x.start l
+  lent_by i now l g e = let P : Shared → Type 0 = λ k. IsLent k.tree k.estimates clock x.start l in subst P g.same e
 
   -- a class that waits, as it is found
-  pub record IsLookedAt (i len start : ℕ) (now : Shared) : Type 0 where
+  pub record IsLookedAt (i len end : ℕ) (now : Shared) : Type 0 where
     pub gone : HasGained d lists clock x i now
     pub free : clock.link.free ≤ x.start
     pub rate : clock.rate ≡ d.rate
     pub due : due_in d lists clock x.start ≡ Send x.ticket x.class x.len x.rule
     pub place : i < length d.tree
     pub head : head_len (lists i) ≡ Some len
-    pub start_is : start ≡ start_now_in now clock.rate clock.link i x.start len
+    pub end_is : end ≡ end_of clock.rate clock.link x.start len
 
-  pub due_now : (i len start : ℕ) (now : Shared) → IsLookedAt i len start now → start ≡ x.start → priority i ≡ priority x.class → IsDueNow i len
-  due_now i len start now q e alike = record {
+  -- whether it may be sent, by what stands
+  may_by : (i len end : ℕ) (now : Shared) → IsLookedAt i len end now → may d.tree d.rate s i x.start ≡ may_end now.tree now.estimates end len i
+  may_by i len end now q =
+      waiting_may d lists clock x.start i len end (record { place = q.place; rate = q.rate; head = q.head; end_is = q.end_is })
+      ∙ ap (λ (k : Shared). may_end k.tree k.estimates end len i) (sym q.gone.same)
+
+  pub due_now : (i len end : ℕ) (now : Shared) (b : Bool) → IsLookedAt i len end now → b ≡ may_end now.tree now.estimates end len i → b ≡ true
+      → priority i ≡ priority x.class → IsDueNow i len
+  due_now i len end now b q is passes alike = record {
     free = q.free;
     rate = q.rate;
     due = q.due;
     place = q.place;
     head = q.head;
-    now = sym (start_by i len start now q.gone q.start_is) ∙ e;
+    able = may_by i len end now q ∙ sym is ∙ passes;
     alike = alike;
   }
 
   -- it may not be sent now
-  pub later_gains_nothing : (i len start : ℕ) (now : Shared) → IsLookedAt i len start now → (start ≡ x.start → ⊥)
+  pub held_gains_nothing : (i len end : ℕ) (now : Shared) (b : Bool) → IsLookedAt i len end now → b ≡ may_end now.tree now.estimates end len i → b ≡ false
       → gained_by d lists clock x i ≡ get_or d.credits i 0
-  later_gains_nothing i len start now q other =
-      let is : start ≡ start_now_in d d.rate clock.link i x.start len =
-      start_by i len start now q.gone q.start_is ∙ ap (λ (r : ℕ). start_now_in d r clock.link i x.start len) q.rate in
-      let late : may d.tree d.rate s i x.start ≡ false =
-      may_where d lists clock.link i x.start len q.place q.free q.head
-      ∙ ne_eqb (start_now_in d d.rate clock.link i x.start len) x.start (λ e. other (is ∙ e)) in
-      gains_nothing i (not_able i late)
+  held_gains_nothing i len end now b q is held = gains_nothing i (not_able i (may_by i len end now q ∙ sym is ∙ held))
 
   -- nothing waits in it
   pub empty_gains_nothing : (i : ℕ) → i < length d.tree → head_len (lists i) ≡ None → gained_by d lists clock x i ≡ get_or d.credits i 0

@@ -12,7 +12,7 @@ use Rattle.cbq_model.specs.Tree.{lenders}
 use Rattle.cbq_model.proofs.Least.{IsLeastAllowed, IsLeastOwn, IsLeastSend, least_or, own_from, send_from}
 use Rattle.cbq_model.proofs.Places.{at_place}
 use Rattle.leaf_queue.specs.declared.node.Entry.{Entry}
-use Rattle.cbq_rounds.specs.Shared.{Shared, head_len, least_with, own_now, situation_in, start_now_in}
+use Rattle.cbq_rounds.specs.Shared.{Shared, head_len, least_with, may_end, own_now, situation_in, start_now_in}
 
 -- the least of a moment and of those of some classes, from either side
 with_more : (f : ℕ → ℕ) (a b : ℕ) (ps : List ℕ) → least_with f (min a b) ps ≡ min a (least_with f b ps)
@@ -61,6 +61,11 @@ is_now cs rate s t len c start x = is_now_by cs rate s t len c start (may_send c
 -- the head that a choice sees
 pub head_seen : (d : Shared) (lists : ℕ → List Entry) (l : Link) (c : ℕ) → c < length d.tree → head_in (situation_in d lists l) c ≡ head_len (lists c)
 head_seen d lists l c low = at_place (λ k x. head_len (lists k)) d.tree c None low
+
+-- a class whose head is this one may send now exactly where it, or one that may lend to it, allows the head's end
+pub may_at : (d : Shared) (lists : ℕ → List Entry) (l : Link) (c t len : ℕ) → c < length d.tree → head_len (lists c) ≡ Some len
+    → may d.tree d.rate (situation_in d lists l) c t ≡ may_end d.tree d.estimates (end_of d.rate l t len) len c
+may_at d lists l c t len low e = ap (may_with d.tree d.rate (situation_in d lists l) c t) (head_seen d lists l c low ∙ e)
 
 pub may_where : (d : Shared) (lists : ℕ → List Entry) (l : Link) (c t len : ℕ) → c < length d.tree → l.free ≤ t → head_len (lists c) ≡ Some len
     → may d.tree d.rate (situation_in d lists l) c t ≡ eqb (start_now_in d d.rate l c t len) t

@@ -1,8 +1,7 @@
 -- What stands at a place, and the least over lenders.
 use Rattle.std.proofs.Common.{◌≡◌, ◌≤◌, ◌<◌, ◌+◌, ◌-◌, ◌*◌, ◌/◌, ◌^◌, ◌∙◌, inl, inr, ℕ, zero, suc, Bool, true, false, List, [], ◌∷◌, None, Some, length, get_or, map, min, refl, ap, sym, arith}
 use Rattle.std.specs.declared.option.Option.{Option}
-use Rattle.std.specs.Prelude.{◌||◌, int_lt, nat_le, pos, if◌then◌else◌}
-use Rattle.std.specs.List.{list_any}
+use Rattle.std.specs.Prelude.{int_lt, nat_le, pos, if◌then◌else◌}
 use Rattle.std.proofs.Math.Nat.{div-le_of_le-mul}
 use Rattle.std.proofs.lemmas.Bool.{cases_lt}
 use Rattle.std.proofs.lemmas.List.{get_or-map}
@@ -11,7 +10,7 @@ use Rattle.cbq_estimator.specs.Estimate.{Estimate}
 use Rattle.cbq_estimator.specs.Now.{wanted_now}
 use Rattle.cbq_model.specs.declared.CbqClass.{CbqClass}
 use Rattle.cbq_model.specs.Tree.{class_of, is_root, lender_of, lenders_up, no_class, quantum_of}
-use Rattle.cbq_rounds.specs.Shared.{IsTree, is_free, least_with, no_estimate, own_now}
+use Rattle.cbq_rounds.specs.Shared.{IsTree, least_with, no_estimate, own_now}
 
 pub at_any : {X : Type 0} (xs : List X) (i : ℕ) (d e : X) → i < length xs → get_or xs i d ≡ get_or xs i e
 at_any [] i d e l = absurd (omega arith)
@@ -90,47 +89,3 @@ least_is_now f t [] from = refl
 least_is_now f t (p ∷ ps) from =
     let same : min t (f p) ≡ t = omega (arith, from p) in
     ap (λ (n : ℕ). least_with f n ps) same ∙ least_is_now f t ps from
-
--- a class that holds back no packet lets it start at once
-free_now : (a b c : Bool) (t u : ℕ) → (a || b) ≡ true → (if a then t else if b then t else if c then t else u) ≡ t
-free_now true b c t u e = refl
-free_now false true c t u e = refl
-free_now false false c t u e = absurd (cc)
-
-module _ (cs : List CbqClass) (es : List Estimate) (rate : ℕ) (l : Link) (t len : ℕ) where
-  pub own_free : (c : ℕ) → is_free cs es c ≡ true → own_now cs es rate l t len c ≡ t
-  own_free c free =
-      let e : Estimate = get_or es c no_estimate in
-      free_now (is_root cs c) (int_lt (pos 0) e.average) (nat_le (wanted_now e len) (end_of rate l t len)) t
-      (t + 1 + (wanted_now e len - end_of rate l (t + 1) len)) free
-
-  abbrev f : ℕ → ℕ
-  f = own_now cs es rate l t len
-
-  from_all : (c : ℕ) → t ≤ f c
-  from_all c = own_from cs es rate l t len c
-
-  free_by : (b : Bool) (u p : ℕ) (ps : List ℕ) → is_free cs es p ≡ b → (b || list_any (is_free cs es) ps) ≡ true
-      → (list_any (is_free cs es) ps ≡ true → least_with f (min u (f p)) ps ≡ t) → t ≤ u → least_with f (min u (f p)) ps ≡ t
-  free_by true u p ps e any rest low =
-      let now : f p ≡ t = own_free p e in
-      let same : min u (f p) ≡ t = omega (arith, now, low) in
-      ap (λ (n : ℕ). least_with f n ps) same ∙ least_is_now f t ps from_all
-  free_by false u p ps e any rest low = rest any
-
-  -- where one of the lenders is such a class, that moment is the least
-  pub least_free : (u : ℕ) (ps : List ℕ) → t ≤ u → list_any (is_free cs es) ps ≡ true → least_with f u ps ≡ t
-  least_free u [] low any = absurd (cc)
-  least_free u (p ∷ ps) low any =
-      free_by (is_free cs es p) u p ps refl any (λ e. least_free (min u (f p)) ps (omega (arith, low, from_all p)) e) low
-
-  -- the least moment of a class that holds back no packet, or has such a lender
-  pub start_free : (c : ℕ) (ps : List ℕ) → is_free cs es c ≡ true → least_with f (f c) ps ≡ t
-  start_free c ps free = ap (λ (n : ℕ). least_with f n ps) (own_free c free) ∙ least_is_now f t ps from_all
-
-  pub start_lent : (c levels : ℕ) (o p : Option ℕ) (b : Bool) → o ≡ p → b ≡ list_any (is_free cs es) (lenders_up levels cs o) → b ≡ true
-      → least_with f (f c) (lenders_up levels cs p) ≡ t
-  start_lent c levels o p b same e any =
-      let lent : list_any (is_free cs es) (lenders_up levels cs p) ≡ true =
-      ap (λ (q : Option ℕ). list_any (is_free cs es) (lenders_up levels cs q)) (sym same) ∙ sym e ∙ any in
-      least_free (f c) (lenders_up levels cs p) (from_all c) lent

@@ -1,5 +1,5 @@
 -- The rings, as they are made one after the other.
-use Rattle.std.proofs.Common.{◌≡◌, ◌≤◌, ◌<◌, ◌+◌, ◌∙◌, ◌++◌, inl, inr, ℕ, List, [], ◌∷◌, length, get_or, refl, ap, sym, subst, arith, eqb}
+use Rattle.std.proofs.Common.{◌≡◌, ◌≤◌, ◌<◌, ◌+◌, ◌∙◌, ◌++◌, inl, inr, ℕ, List, [], ◌∷◌, length, get_or, ap, sym, subst, arith}
 use Rattle.std.specs.Prelude.{if◌then◌else◌}
 use Rattle.std.proofs.Common.{length-append}
 use Rattle.std.proofs.lemmas.Bool.{cases_eq, cases_lt, eq-eqb}
@@ -7,7 +7,6 @@ use Rattle.std.proofs.lemmas.List.{get_or_append_left}
 use Rattle.std.proofs.Math.Seq.{get_or-append_seam}
 use Rattle.cbq_model.specs.declared.CbqClass.{CbqClass}
 use Rattle.cbq_model.specs.Tree.{class_of}
-use Rattle.cbq_rounds.specs.Fresh.{IsClass}
 use Rattle.cbq_rounds.specs.Rings.{AreRings, IsRing, IsTop}
 use Rattle.cbq_rounds.specs.Waiting.{marked}
 

@@ -1,8 +1,9 @@
 -- The classes of a priority that wait.
-use Rattle.std.proofs.Common.{◌≡◌, ◌≤◌, ◌<◌, ◌-◌, ◌∙◌, ◌⊎◌, inl, inr, ℕ, Bool, true, false, List, [], ◌∷◌, None, length, get_or, min, refl, ap, sym, arith, eqb}
+use Rattle.std.proofs.Common.{◌≡◌, ◌≤◌, ◌<◌, ◌-◌, ◌∙◌, inl, inr, ℕ, Bool, true, false, List, [], ◌∷◌, None, Some, length, get_or, min, refl, ap, sym, arith, eqb}
 use Rattle.std.specs.declared.option.Option.{Option}
 use Rattle.std.specs.Prelude.{if◌then◌else◌}
-use Rattle.std.proofs.lemmas.Bool.{cases_eq, cases_lt, eq-eqb, eqb-true, ne_eqb}
+use Rattle.std.proofs.lemmas.Bool.{cases_eq, cases_lt, eq-eqb, eqb-true}
+use Rattle.altq_model.specs.Link.{end_of}
 use Rattle.leaf_queue.specs.declared.node.Entry.{Entry}
 use Rattle.link_clock.specs.Clock.{Clock}
 use Rattle.discipline.specs.declared.pick.Pick.TheVariants.{Send}
@@ -12,13 +13,13 @@ use Rattle.cbq_model.specs.declared.Rank.{Rank}
 use Rattle.cbq_model.specs.Tree.{class_of}
 use Rattle.cbq_rounds.specs.Due.{due_in}
 use Rattle.cbq_rounds.specs.Gained.{gained_by}
-use Rattle.cbq_rounds.specs.Looked.{HasSeen}
+use Rattle.cbq_rounds.specs.Looked.{HasAsked}
 use Rattle.cbq_rounds.specs.Rings.{IsRing, IsTop}
 use Rattle.cbq_rounds.specs.Shared.{Shared, head_len}
-use Rattle.cbq_rounds.specs.Waiting.{AreWaiting, marked, waits}
+use Rattle.cbq_rounds.specs.Waiting.{AreWaiting, IsFirst, marked, waits}
 use Rattle.cbq_rounds.proofs.DueLemmas.{len_none, sends_picked}
 use Rattle.cbq_rounds.proofs.GainLemmas.{empty_gains_nothing, gains_nothing, other_priority}
-use Rattle.cbq_rounds.proofs.LookLemmas.{seen_as}
+use Rattle.cbq_rounds.proofs.LookLemmas.{IsNext, asked_as}
 use Rattle.cbq_rounds.proofs.WaitLemmas.{marked_inside, no_head, not_marked}
 
 few_waits : (xs : List Entry) → waits xs ≤ 1
@@ -56,6 +57,25 @@ module _ (cs : List CbqClass) (lists : ℕ → List Entry) (waiting ring both : 
       let none : waits (lists c) ≡ 0 = ap waits (len_none (lists c) h) in
       omega (arith, wait c, within c, e, none)
 
+-- the sets of a walk over the classes of a priority that wait
+pub record IsWalk (cs : List CbqClass) (lists : ℕ → List Entry) (waiting ring both : List ℕ) (p : ℕ) : Type 0 where
+  pub wait : AreWaiting waiting lists
+  pub ring_is : IsRing cs p ring
+  pub others : (c : ℕ) → length cs ≤ c → lists c ≡ []
+  pub within : (c : ℕ) → marked both c ≡ min (marked waiting c) (marked ring c)
+
+-- the next class of the walk is asked
+pub next_of_walk : (d : Shared) (lists : ℕ → List Entry) (clock : Clock) (now p from i len end : ℕ) (found : Option Rank) (waiting ring both : List ℕ)
+    → IsWalk d.tree lists waiting ring both p → HasAsked d lists clock now p from found → IsFirst both from i → clock.rate ≡ d.rate
+    → head_len (lists i) ≡ Some len → end ≡ end_of clock.rate clock.link now len → IsNext d lists clock now p from i len end found
+next_of_walk d lists clock now p from i len end found waiting ring both w x first rate head end_is = record {
+  asked = x;
+  low = first.low;
+  of_priority = of_ring d.tree lists waiting ring both p w.wait w.ring_is w.others w.within i first.is;
+  none = λ k a b l e. none_of_ring d.tree lists waiting ring both p w.wait w.ring_is w.others w.within k (first.before k a b) l e;
+  waits = record { place = inside d.tree lists waiting ring both p w.wait w.ring_is w.others w.within i first.is; rate = rate; head = head; end_is = end_is };
+}
+
 -- one that is not in both gains nothing
 pub unmarked_gains_nothing : (d : Shared) (lists : ℕ → List Entry) (clock : Clock) (x : Sending) (waiting ring both : List ℕ) (p c : ℕ)
     → AreWaiting waiting lists → IsRing d.tree p ring → ((k : ℕ) → length d.tree ≤ k → lists k ≡ [])
@@ -70,12 +90,12 @@ unmarked_gains_nothing d lists clock x waiting ring both p c wait is others with
       (other_priority d lists clock x c (λ k. other (k ∙ ap (λ (n : ℕ). (class_of d.tree n).priority) y.of_class ∙ sym of_class)))
 ]
 
--- where a ring was looked at, all from its top on were
-pub seen_ring : (d : Shared) (lists : ℕ → List Entry) (clock : Clock) (now p from q : ℕ) (at : Option ℕ) (found : Option Rank)
-    → HasSeen d lists clock now p from at found → IsTop d.tree p q
-    → ((c : ℕ) → from ≤ c → c < length d.tree → (class_of d.tree c).priority ≡ p → lists c ≡ []) → HasSeen d lists clock now q 256 at found
-seen_ring d lists clock now p from q at found x t none =
-    seen_as d lists clock now p from q 256 at found x t.low (λ c l s. elim (cases_lt (class_of d.tree c).priority p) [
+-- where a ring was asked, all from its top on were
+pub asked_ring : (d : Shared) (lists : ℕ → List Entry) (clock : Clock) (now p from q : ℕ) (found : Option Rank)
+    → HasAsked d lists clock now p from found → IsTop d.tree p q
+    → ((c : ℕ) → from ≤ c → c < length d.tree → (class_of d.tree c).priority ≡ p → lists c ≡ []) → HasAsked d lists clock now q 256 found
+asked_ring d lists clock now p from q found x t none =
+    asked_as d lists clock now p from q 256 found x t.low (λ c l s. elim (cases_lt (class_of d.tree c).priority p) [
       | inl m ↦ absurd (let low = t.below c l m in omega (arith, low, s.low))
       | inr m ↦ elim (cases_lt c from) [
         | inl a ↦ inl (record { low = m; before = λ k. a })
@@ -86,11 +106,11 @@ seen_ring d lists clock now p from q at found x t none =
       ]
     ])
 
--- where all from a priority on were looked at, its ring's below it is next
-pub seen_above : (d : Shared) (lists : ℕ → List Entry) (clock : Clock) (now level : ℕ) (at : Option ℕ) (found : Option Rank)
-    → HasSeen d lists clock now level 256 at found → length d.tree ≤ 256 → HasSeen d lists clock now (level - 1) 0 at found
-seen_above d lists clock now level at found x few =
-    seen_as d lists clock now level 256 (level - 1) 0 at found x (omega arith) (λ c l s. elim (cases_eq (class_of d.tree c).priority (level - 1)) [
+-- where all from a priority on were asked, its ring's below it is next
+pub asked_above : (d : Shared) (lists : ℕ → List Entry) (clock : Clock) (now level : ℕ) (found : Option Rank)
+    → HasAsked d lists clock now level 256 found → length d.tree ≤ 256 → HasAsked d lists clock now (level - 1) 0 found
+asked_above d lists clock now level found x few =
+    asked_as d lists clock now level 256 (level - 1) 0 found x (omega arith) (λ c l s. elim (cases_eq (class_of d.tree c).priority (level - 1)) [
       | inl same ↦ absurd (let none : c < 0 = s.before same in omega (arith, none))
       | inr other ↦ inl (record { low = omega (arith, s.low, other); before = λ k. omega (arith, l, few) })
     ])

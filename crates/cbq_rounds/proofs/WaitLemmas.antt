@@ -1,6 +1,5 @@
 -- The classes that wait, and those between them, which have nothing.
 use Rattle.std.proofs.Common.{◌≡◌, ◌≢◌, ◌≤◌, ◌<◌, ◌+◌, ◌-◌, ◌∙◌, inl, inr, ℕ, zero, suc, Bool, true, false, List, [], ◌∷◌, ◌++◌, None, length, get_or, drop, refl, ap, sym, subst, arith, eqb}
-use Rattle.std.specs.declared.option.Option.{Option}
 use Rattle.std.specs.Prelude.{◌&&◌, if◌then◌else◌, is_none, slice_get}
 use Rattle.std.proofs.lemmas.Bool.{cases_eq, cases_lt, eq-eqb, ne_eqb}
 use Rattle.altq_model.specs.declared.Verdict.{Verdict}

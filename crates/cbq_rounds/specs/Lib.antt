@@ -2,6 +2,7 @@ pub mod Due
 pub mod Fresh
 pub mod Gained
 pub mod Kept
+pub mod Lent
 pub mod Looked
 pub mod Rings
 pub mod Sent

@@ -46,15 +46,13 @@ pub record IsLed (found : Option Rank) (r : Rank) : Type 0 where
   pub is : found ≡ Some one
   pub behind : goes_before r one ≡ false
 
--- the first moment and the best class of those that were seen
-pub record HasSeen (d : Shared) (lists : ℕ → List Entry) (clock : Clock) (now p from : ℕ) (at : Option ℕ) (found : Option Rank) : Type 0 where
-  pub of_one : (u : ℕ) → at ≡ Some u → IsOfOne (start_in d lists clock now) 0 (length d.tree) u
-  pub no_later : (c v : ℕ) → c < length d.tree → IsSeen d.tree p from c → start_in d lists clock now c ≡ Some v → IsNoLater at v
+-- the best class of those that were seen and may send now
+pub record HasAsked (d : Shared) (lists : ℕ → List Entry) (clock : Clock) (now p from : ℕ) (found : Option Rank) : Type 0 where
   pub of_able : (r : Rank) → found ≡ Some r → IsAble d lists clock now p r
   pub led : (c : ℕ) → c < length d.tree → IsSeen d.tree p from c → may d.tree d.rate (situation_in d lists clock.link) c now ≡ true
       → IsLed found (rank_in d.tree d.rate (situation_in d lists clock.link) c)
 
--- no moment before now was found, and where a class was found that may send, now is the first
-pub record AreFrom (now : ℕ) (at : Option ℕ) (found : Option Rank) : Type 0 where
-  pub from : (t : ℕ) → at ≡ Some t → now ≤ t
-  pub first : (r : Rank) → found ≡ Some r → at ≡ Some now
+-- the first moment of the classes before `from`
+pub record HasFirst (d : Shared) (lists : ℕ → List Entry) (clock : Clock) (now from : ℕ) (at : Option ℕ) : Type 0 where
+  pub of_one : (u : ℕ) → at ≡ Some u → IsOfOne (start_in d lists clock now) 0 (length d.tree) u
+  pub no_later : (c v : ℕ) → c < length d.tree → c < from → start_in d lists clock now c ≡ Some v → IsNoLater at v

@@ -1,8 +1,9 @@
 -- What CBQ keeps of its classes beside their queues, and what a choice looks at of it.
 use Rattle.std.specs.Prelude.{◌≡◌, ◌≤◌, ◌<◌, ◌^◌, ◌||◌, ℕ, pos, int_lt, Bool, min, List, [], ◌∷◌, length, get_or, map, Option, Some, option_map, slice_get, unwrap_or, if◌then◌else◌}
+use Rattle.std.specs.List.{list_any}
 use Rattle.altq_model.specs.Link.{Link}
 use Rattle.cbq_estimator.specs.Estimate.{Estimate}
-use Rattle.cbq_estimator.specs.Now.{estimate_of, start_now}
+use Rattle.cbq_estimator.specs.Now.{allows_now, estimate_of, start_now}
 use Rattle.cbq_model.specs.declared.CbqClass.{CbqClass}
 use Rattle.cbq_model.specs.Choice.{Situation}
 use Rattle.cbq_model.specs.Tree.{class_of, each, is_root, lenders, no_class, pace_of, quantum_of}
@@ -59,6 +60,14 @@ own_now cs es rate l t len c = if is_root cs c then t else start_now (get_or es 
 -- a class holds back no packet at any moment: the root, or one whose average is above 0
 abbrev pub is_free : List CbqClass → List Estimate → (c : ℕ) → Bool
 is_free cs es c = is_root cs c || int_lt (pos 0) (get_or es c no_estimate).average
+
+-- a class allows a packet that would end at `end`: the root each one
+abbrev pub allows_end : List CbqClass → List Estimate → (end len c : ℕ) → Bool
+allows_end cs es end len c = is_root cs c || allows_now (get_or es c no_estimate) end len
+
+-- a class may send such a packet: it allows it itself, or one that may lend to it does
+abbrev pub may_end : List CbqClass → List Estimate → (end len c : ℕ) → Bool
+may_end cs es end len c = allows_end cs es end len c || list_any (allows_end cs es end len) (lenders cs c)
 
 -- the least of t and of the moments that f gives some classes
 abbrev pub least_with : (ℕ → ℕ) → (t : ℕ) → List ℕ → ℕ

@@ -8,6 +8,7 @@ ghost use Rattle.cbq_rounds.specs.Gained.{with_gains};
 ghost use Rattle.cbq_rounds.specs.Rings.{AreRings};
 ghost use Rattle.cbq_rounds.specs.Waiting.{AreWaiting};
 
+use crate::lent::Lent;
 use crate::rings::Rings;
 use crate::sharing::Shares;
 use crate::waiting::Waiting;
@@ -17,7 +18,7 @@ use leaf_queue::QueueRule;
 use link_clock::LinkClock;
 
 /// Gives each candidate of a sending, which is the one due at its start, its quantum in each of the rounds that the class sent needed.
-/// If it needed any, it looks once at each class of its priority that waits, and at that one's way to the root as far as it may borrow.
+/// If it needed any, it asks each class of its priority that waits once, and the lenders of each once for those of one parent in turn.
 pub fn gain_all<Q: QueueRule + Drop>(
     shares: &mut Shares,
     rows: &Rows<Q>,
@@ -47,12 +48,12 @@ pub fn gain_all<Q: QueueRule + Drop>(
     }
     let priority = shares.priority(sending.class);
     let some = rings.among(waiting, priority);
+    let mut last = Lent::none();
     let mut from = 0;
     'classes: while let Some(class) = some.first_from(from) {
         from = class + 1;
         if let Some(head) = rows.head(class) {
-            let start = shares.start_of(class, head.len, sending.start, clock);
-            if start == sending.start {
+            if shares.may_send(class, head.len, sending.start, clock, &mut last) {
                 shares.gain(class, rounds, head.len);
             }
         }

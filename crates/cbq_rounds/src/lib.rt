@@ -4,10 +4,12 @@
 //! send the greatest priority goes first, and weighted rounds share the link within a priority. After Floyd and Jacobson 1995.
 #![tactic(auto)]
 
+mod able;
 mod build;
 mod cbq;
 mod gains;
 mod laws;
+mod lent;
 mod look;
 mod rings;
 mod sent;

@@ -1,10 +1,14 @@
 // What CBQ keeps of its classes beside their queues.
 ghost use Rattle.std.specs.Prelude.{◌≡◌, ◌==◌, ◌≤◌, ◌<◌, ◌+◌, ◌^◌, ℕ, List, length, get_or, nat_lt};
 ghost use Rattle.std.specs.List.{list_any};
+ghost use Rattle.altq_model.specs.Link.{end_of};
+ghost use Rattle.link_clock.specs.Clock.{Clock};
 ghost use Rattle.cbq_model.specs.Choice.{rounds_for};
 ghost use Rattle.cbq_model.specs.Tree.{class_of, lender_of, lenders_up, quantum_of};
-ghost use Rattle.cbq_rounds.specs.Shared.{IsShared, Shared, is_free, least_with, own_now, start_now_in};
+ghost use Rattle.cbq_rounds.specs.Lent.{IsLent};
+ghost use Rattle.cbq_rounds.specs.Shared.{IsShared, Shared, allows_end, is_free, least_with, may_end, own_now, start_now_in};
 
+use crate::lent::Lent;
 use cbq_estimator::Estimator;
 use cbq_model::{CbqClass, Rank};
 use link_clock::LinkClock;
@@ -66,6 +70,48 @@ impl Shares {
         if k.borrow { k.parent } else { None }
     }
 
+    // Whether a class allows a packet of `len` bytes that would end at `end`; the root allows each.
+    fn allows_end(&self, class: u32, len: u32, end: u64) -> bool
+        requires class { class < length self.now.tree }
+        ensures { result ≡ allows_end self.now.tree self.now.estimates end len class }
+    {
+        self.classes[class as usize].parent.is_none()
+            || self.estimators[class as usize].allows(end, len)
+    }
+
+    // Whether a class that may lend, or one of the lenders above it, over at most `levels` levels, allows such a packet.
+    fn lends(&self, levels: u32, lender: Option<u32>, len: u32, end: u64) -> bool
+        requires lender { (p : ℕ) → lender ≡ Some p → p < length self.now.tree }
+        ensures { result ≡ list_any (allows_end self.now.tree self.now.estimates end len) (lenders_up levels self.now.tree lender) }
+    {
+        let Some(class) = lender else {
+            return false;
+        };
+        if levels == 0 {
+            return false;
+        }
+        if self.allows_end(class, len, end) {
+            return true;
+        }
+        let next = self.lender(class);
+        self.lends(levels - 1, next, len, end)
+    }
+
+    // Asks the lenders of a class, where others were asked last.
+    fn ask(&self, class: u32, last: &mut Lent)
+        requires class { class < length self.now.tree }
+        ensures lent { (clock : Clock) (t : ℕ) → IsLent self.now.tree self.now.estimates clock t last.old
+            → IsLent self.now.tree self.now.estimates clock t last.new }
+        ensures lender { last.new.lender ≡ lender_of (class_of self.now.tree class) }
+        ensures len { last.new.len ≡ last.old.len }
+    {
+        let lender = self.lender(class);
+        if last.lender != lender {
+            last.lends = self.lends(LEVELS, lender, last.len, last.end);
+            last.lender = lender;
+        }
+    }
+
     // Whether a class holds back no packet, whatever its length and whenever it starts.
     fn is_free(&self, class: u32) -> bool
         requires class { class < length self.now.tree }
@@ -75,26 +121,38 @@ impl Shares {
             || self.estimators[class as usize].average() > 0
     }
 
-    // Whether a class that may lend, or one of the lenders above it, over at most `levels` levels, holds back no packet.
-    fn has_free(&self, levels: u32, lender: Option<u32>) -> bool
-        requires lender { (p : ℕ) → lender ≡ Some p → p < length self.now.tree }
-        ensures { result ≡ list_any (is_free self.now.tree self.now.estimates) (lenders_up levels self.now.tree lender) }
+    /// Whether a class may send a packet of `len` bytes at `now`, of itself or by a loan. It asks the class first, and the lenders above
+    /// it only where they are not those that were asked last of this length. One division where the class holds packets back and the
+    /// length is another; none else.
+    pub fn may_send(
+        &self,
+        class: u32,
+        len: u32,
+        now: u64,
+        clock: &LinkClock,
+        last: &mut Lent,
+    ) -> bool
+        requires class { class < length self.now.tree }
+        requires free { clock.now.link.free ≤ now }
+        requires early { now < 2 ^ 63 }
+        requires some_bytes { 1 ≤ len }
+        requires lent { IsLent self.now.tree self.now.estimates clock.now now last.old }
+        ensures may { result ≡ may_end self.now.tree self.now.estimates (end_of clock.now.rate clock.now.link now len) len class }
+        ensures lent { IsLent self.now.tree self.now.estimates clock.now now last.new }
     {
-        let Some(class) = lender else {
-            return false;
-        };
-        if levels == 0 {
-            return false;
-        }
         if self.is_free(class) {
             return true;
         }
-        let next = self.lender(class);
-        self.has_free(levels - 1, next)
+        last.keep_of(len, now, clock);
+        if self.allows_end(class, len, last.end) {
+            return true;
+        }
+        self.ask(class, last);
+        last.lends
     }
 
     // The least of `start` and of the moments from which `lender`, and each lender above it over at most `levels` levels, allows the
-    // packet. None is before `now`, so no further lender is asked once the moment is `now`.
+    // packet.
     fn least_start(
         &self,
         levels: u32,
@@ -112,9 +170,6 @@ impl Shares {
         ensures { result ≡ least_with (own_now self.now.tree self.now.estimates clock.now.rate clock.now.link now len) start
             (lenders_up levels self.now.tree lender) }
     {
-        if start == now {
-            return start;
-        }
         let Some(class) = lender else {
             return start;
         };
@@ -127,8 +182,7 @@ impl Shares {
     }
 
     /// The least moment from `now` on, no earlier than the last end and before 2^63, at which a class may send a packet of `len` bytes, of
-    /// itself or by a loan. It looks at the class and at those above it that may lend, and computes a moment
-    /// only where each of them holds packets back.
+    /// itself or by a loan. It computes the moments of the class and of those above it that may lend.
     pub fn start_of(&self, class: u32, len: u32, now: u64, clock: &LinkClock) -> u64
         requires class { class < length self.now.tree }
         requires free { clock.now.link.free ≤ now }
@@ -138,9 +192,6 @@ impl Shares {
         ensures { result ≡ start_now_in self.now clock.now.rate clock.now.link class now len }
     {
         let lender = self.lender(class);
-        if self.is_free(class) || self.has_free(LEVELS, lender) {
-            return now;
-        }
         let own = self.own_start(class, len, now, clock);
         self.least_start(LEVELS, lender, own, len, now, clock)
     }

@@ -1,5 +1,5 @@
 -- A packet's own time is bounded.
-use Rattle.std.proofs.Common.{◌≤◌, arith}
+use Rattle.std.proofs.Common.{arith}
 use Rattle.cbq_estimator.proofs.Times.{own_time}
 use Rattle.cbq_estimator.proofs.Estimator.ended.Goals as goal
 

@@ -1,18 +1,9 @@
-use Rattle.std.proofs.Common.{◌≡◌, ◌<◌, ◌-◌, ◌∙◌, ℕ, List, ap, arith, min, sym}
+use Rattle.std.proofs.Common.{◌<◌, ◌-◌, ◌∙◌, ℕ, ap, arith, min, sym}
 use Rattle.std.specs.declared.option.Option.{Option}
 use Rattle.cbq_model.specs.Tree.{lenders_up}
 use Rattle.cbq_rounds.specs.Shared.{Shared, least_with, own_now}
-use Rattle.cbq_rounds.proofs.Places.{least_is_now, one_lender, own_from}
+use Rattle.cbq_rounds.proofs.Places.{one_lender}
 use Rattle.cbq_rounds.proofs.sharing.Shares.+least_start.Goals as goal
-
-pub returns-then-start-now : goal.returns-then-start-now
-returns-then-start-now t c =
-    let d : Shared = c.args.self.now in
-    let f : ℕ → ℕ = own_now d.tree d.estimates c.args.clock.now.rate c.args.clock.now.link c.args.now c.args.len in
-    let ps : List ℕ = lenders_up c.args.levels d.tree c.args.lender in
-    let from = own_from d.tree d.estimates c.args.clock.now.rate c.args.clock.now.link c.args.now c.args.len in
-    let least : least_with f c.args.now ps ≡ c.args.now = least_is_now f c.args.now ps from in
-    c.if-start-now.true ∙ sym (ap (λ (n : ℕ). least_with f n ps) c.if-start-now.true ∙ least)
 
 pub returns : goal.returns
 returns t c =
