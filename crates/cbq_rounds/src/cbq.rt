@@ -3,10 +3,11 @@ ghost use Rattle.std.specs.Prelude.{◌≡◌, ◌≤◌, ◌<◌, ◌^◌, [], 
 ghost use Rattle.altq_model.specs.declared.Rule.TheVariants.{Own, Borrow};
 ghost use Rattle.class_rows.specs.Rows.{IsNew, limit_at, list_in};
 ghost use Rattle.leaf_queue.specs.Queue.{by_queues};
+ghost use Rattle.cbq_laws.specs.Ways.{IsEightDeep};
 ghost use Rattle.cbq_model.specs.Choice.{able, best};
 ghost use Rattle.cbq_model.specs.Rounds.{cbq};
 ghost use Rattle.cbq_rounds.specs.Due.{due_in, first_in};
-ghost use Rattle.cbq_rounds.specs.Fresh.{HasEarlierParents, IsClass};
+ghost use Rattle.cbq_rounds.specs.Fresh.{IsClass};
 ghost use Rattle.cbq_rounds.specs.Looked.{AreSized};
 ghost use Rattle.cbq_rounds.specs.Shared.{situation_in};
 ghost use Rattle.cbq_rounds.specs.Stands.{IsRuling, Ruling};
@@ -58,7 +59,7 @@ impl<Q: QueueRule + Drop> Cbq<Q> {
         requires most { rate ≤ 10 ^ 12 }
         requires few { length classes.now ≤ 256 }
         requires one_each { length queues.items ≡ length classes.now }
-        requires parents { HasEarlierParents classes.now }
+        requires tree { IsEightDeep classes.now }
         requires classes { All IsClass classes.now }
         requires queues { All (IsNew Q.stands Q.most) queues.items }
         ensures empty { IfOk result (λ d. ⟦<Cbq<Q> as Discipline>⟧.stands d []) }

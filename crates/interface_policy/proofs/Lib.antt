@@ -1,3 +1,4 @@
+pub mod EightDeep
 pub mod Held
 pub mod Named
 pub mod Numbers
@@ -6,3 +7,4 @@ pub mod Promised
 pub mod PromisedEnds
 pub mod PromisedSums
 pub mod Trees
+pub mod Zeros

@@ -12,5 +12,5 @@ mod names;
 mod queues;
 
 pub use disciplines::{cbq_of, hfsc_of};
-pub use laws::interfaces_keep_their_promises;
+pub use laws::{interfaces_keep_their_promises, walks_are_whole, zeros_give_nothing};
 pub use names::names_of;

@@ -1,8 +1,10 @@
 -- A root and a class below it may be built.
-use Rattle.std.proofs.Common.{◌≡◌, ◌≤◌, ℕ, zero, suc, false, List, [], ◌∷◌, None, Some, get_or, arith, refl}
+use Rattle.std.proofs.Common.{◌≡◌, ◌≤◌, ◌<◌, ℕ, zero, suc, false, List, [], ◌∷◌, length, None, Some, get_or, arith, refl}
 use Rattle.std.specs.Prelude.{All}
 use Rattle.cbq_model.specs.declared.CbqClass.{CbqClass}
-use Rattle.cbq_rounds.specs.Fresh.{HasEarlierParents, IsClass}
+use Rattle.cbq_model.specs.Tree.{class_of}
+use Rattle.cbq_laws.specs.Ways.{IsEightDeep, IsWay}
+use Rattle.cbq_rounds.specs.Fresh.{IsClass}
 
 abbrev pub two : (rate size : ℕ) → List CbqClass
 two rate size =
@@ -10,10 +12,21 @@ two rate size =
     ∷ record { parent = Some 0; rate = rate; priority = 1; borrow = false; maxburst = 1; packetsize = size }
     ∷ []
 
-pub parents : (rate size : ℕ) → HasEarlierParents (two rate size)
+parents : (rate size c p : ℕ) → (class_of (two rate size) c).parent ≡ Some p → p < c
 parents rate size zero p e = absurd cc
 parents rate size (suc zero) p e = let same : 0 ≡ p = cc in omega (arith, same)
 parents rate size (suc (suc c)) p e = absurd cc
+
+ways : (rate size c : ℕ) (way : List ℕ) → IsWay (two rate size) (Some c) way → length way ≤ 8
+ways rate size c [] w = omega arith
+ways rate size c (d ∷ []) w = omega arith
+ways rate size c (d ∷ e ∷ []) w = omega arith
+ways rate size zero (d ∷ e ∷ f ∷ way) w = absurd w.1
+ways rate size (suc zero) (d ∷ e ∷ f ∷ way) w = absurd w.1.1
+ways rate size (suc (suc c)) (d ∷ e ∷ f ∷ way) w = absurd w.1
+
+pub tree : (rate size : ℕ) → IsEightDeep (two rate size)
+tree rate size = record { earlier = parents rate size; levels = ways rate size }
 
 is_class : (k : CbqClass) → 1000 ≤ k.rate → k.rate ≤ 8000000 → 1 ≤ k.packetsize → k.packetsize ≤ 1500 → k.priority ≡ 1 → k.maxburst ≡ 1 → IsClass k
 is_class k l m s t p b = record {

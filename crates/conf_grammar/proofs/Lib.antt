@@ -1,0 +1,14 @@
+pub mod Addresses
+pub mod Classes
+pub mod Curves
+pub mod Filters
+pub mod Forms
+pub mod Leads
+pub mod Many
+pub mod Meters
+pub mod OneWord
+pub mod Optionals
+pub mod Places
+pub mod Statements
+pub mod Values
+pub mod WorkedLines

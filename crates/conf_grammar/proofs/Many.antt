@@ -1,0 +1,108 @@
+-- Options in any order.
+use Rattle.std.proofs.Common.{◌≡◌, ◌∙◌, ◌≤◌, ℕ, zero, suc, ◌+◌, ◌||◌, Bool, true, false, cond, List, [], ◌∷◌, ◌++◌, length, Option, None, Some, refl, sym, ap, subst, arith}
+use Rattle.std.proofs.lemmas.List.{length-append}
+use Rattle.std.specs.List.{AllByRecursion as Every}
+use Rattle.conf_lines.proofs.GrammarPlaces.{at_option}
+use Rattle.conf_lines.proofs.Readings.{past}
+use Rattle.conf_lines.specs.Grammar.{chosen, end, step}
+use Rattle.conf_lines.specs.Options.{one_of, option_of, options_of, settles, slots_of, word_of_key}
+use Rattle.conf_lines.specs.Slots.{is_text}
+use Rattle.conf_lines.specs.Texts.{fault_at}
+use Rattle.conf_lines.specs.declared.item.What.{What}
+use Rattle.conf_lines.specs.declared.item.What.TheVariants as what
+use Rattle.conf_lines.specs.declared.options.Key.{Key}
+use Rattle.conf_lines.specs.declared.statement.Form.{Form}
+use Rattle.conf_grammar.proofs.Leads.{Good, NoFault, one_more}
+use Rattle.conf_grammar.proofs.Places.{err_is, is_word, refused_is, wanting}
+use Rattle.conf_grammar.proofs.Values.{Values, values_are_none, values_lead}
+use Rattle.conf_grammar.specs.Phrases.{has, Many, none, more}
+use Rattle.conf_grammar.specs.Words.{Phrase}
+
+-- an option by its row of the table
+pub data Keyed (form : Form) (test : Key → Bool) : List (List ℕ) → List What → Type 0 where
+  keyed : (k : Key) {values : List (List ℕ)} {said : List What} → option_of form (word_of_key k) ≡ Some k → test k ≡ settles k
+      → Values (slots_of k) values said → Keyed form test (word_of_key k ∷ values) (what.Key k ∷ said)
+
+pub record Row (test : Key → Bool) (Of : Phrase) (k : Key) : Type 0 where
+  pub settles : test k ≡ settles k
+  pub is : (values : List (List ℕ)) (said : List What) → Values (slots_of k) values said → Of (word_of_key k ∷ values) (what.Key k ∷ said)
+
+-- the options of a form are these
+pub record Choice (form : Form) (test : Key → Bool) (Of : Phrase) : Type 0 where
+  pub keyed : (words : List (List ℕ)) (says : List What) → Of words says → Keyed form test words says
+  pub rows : Every (Row test Of) (options_of form)
+
+module _ (form : Form) (test : Key → Bool) (Of : Phrase) (choice : Choice form test Of) where
+  -- THE READING OF OPTIONS
+  end_read : (settled : Bool) → (settled || false) ≡ true → Good form (at_option form settled) [] []
+  unfolding end
+  end_read true e = record { is = λ line at. refl }
+  end_read false e = absurd cc
+
+  settled_by : (settled : Bool) (k : Key) (said rest : List What) → test k ≡ settles k → has test (said ++ rest) ≡ has test rest
+      → (settled || has test (what.Key k ∷ (said ++ rest))) ≡ ((settled || settles k) || has test rest)
+  settled_by true k said rest e f = refl
+  settled_by false k said rest e f = rw (e, f) refl
+
+  key_read : (settled : Bool) {words rest : List (List ℕ)} {says others : List What} → Keyed form test words says
+      → (settled || has test (says ++ others)) ≡ true
+      → ((next : Bool) → (next || has test others) ≡ true → Good form (at_option form next) rest others)
+      → Good form (at_option form settled) (words ++ rest) (says ++ others)
+  unfolding step
+  key_read settled {others = others} (keyed k {values} {said} found is v) s next =
+      let q = at_option form (settled || settles k) in
+      let quiet = values_are_none test (slots_of k) values said others v in
+      one_more (at_option form settled) (wanting (slots_of k) q) (word_of_key k) (what.Key k) (rw found refl)
+      ((values_lead (slots_of k) q).read v (next (settled || settles k) (sym (settled_by settled k said others is quiet) ∙ s)))
+
+  pub many_read : (settled : Bool) {words : List (List ℕ)} {says : List What} → Many Of words says → (settled || has test says) ≡ true
+      → Good form (at_option form settled) words says
+  many_read settled none s = end_read settled s
+  many_read settled (more {words = words} {says = says} o os) s = key_read settled (choice.keyed words says o) s (λ next t. many_read next os t)
+
+  -- WHAT WAS READ
+  pub record Options (settled : Bool) (words : List (List ℕ)) : Type 0 where
+    pub says : List What
+    pub are : Many Of words says
+    pub whole : (settled || has test says) ≡ true
+
+  find_row : (keys : List Key) (w : List ℕ) (k : Key) → Every (Row test Of) keys → one_of keys w ≡ Some k → (w ≡ word_of_key k) × Row test Of k
+  find_row [] w k rows e = absurd cc
+  find_row (key ∷ keys) w k rows e = go (find_row keys w k rows.1) (is_text (word_of_key key) w) refl e
+    where
+      go : (one_of keys w ≡ Some k → (w ≡ word_of_key k) × Row test Of k) → (b : Bool) → is_text (word_of_key key) w ≡ b
+          → cond b (Some key) (one_of keys w) ≡ Some k → (w ≡ word_of_key k) × Row test Of k
+      go later true t e = let same : key ≡ k = cc in subst (λ x. (w ≡ word_of_key x) × Row test Of x) same (is_word (word_of_key key) w t, rows.0)
+      go later false t e = later e
+
+  no_end : (settled : Bool) (line at : ℕ) → fault_at line at (end (at_option form settled)) ≡ None → settled ≡ true
+  unfolding end
+  no_end true line at e = refl
+  no_end false line at e = absurd cc
+
+  pub many_found : (n : ℕ) (settled : Bool) (line : ℕ) (words : List (List ℕ)) (at : ℕ) → length words ≤ n
+      → NoFault line words (at_option form settled) at → Options settled words
+  unfolding step
+  many_found n settled line [] at few h =
+      let s = no_end settled line at h in record { says = []; are = none; whole = rw s refl }
+  many_found zero settled line (w ∷ words) at few h = absurd (omega (arith, few))
+  many_found (suc n) settled line (w ∷ words) at few h = go (many_found n) (option_of form w) refl h
+    where
+      go : ((s : Bool) (line : ℕ) (rest : List (List ℕ)) (at : ℕ) → length rest ≤ n → NoFault line rest (at_option form s) at → Options s rest)
+          → (o : Option Key) → option_of form w ≡ o → (past line words (at_option form settled) at (chosen (at_option form settled) w o)).fault ≡ None
+          → Options settled (w ∷ words)
+      go later None e h = absurd (err_is line words (at_option form settled) at (chosen (at_option form settled) w None) (refused_is w) h)
+      go later (Some k) e h =
+          let row = find_row (options_of form) w k choice.rows e in
+          let f = (values_lead (slots_of k) (at_option form (settled || settles k))).found line words (at + 1) h in
+          let len = ap length f.split in
+          let short : length f.rest ≤ n = omega (arith, few, len, length-append f.front f.rest) in
+          let os = later (settled || settles k) line f.rest f.at short f.on in
+          let quiet = values_are_none test (slots_of k) f.front f.says os.says f.is in
+          let all : w ∷ words ≡ (word_of_key k ∷ f.front) ++ f.rest =
+          ap (λ (v : List ℕ). v ∷ words) row.0 ∙ ap (λ (ws : List (List ℕ)). word_of_key k ∷ ws) f.split in
+          record {
+            says = (what.Key k ∷ f.says) ++ os.says;
+            are = subst (λ (ws : List (List ℕ)). Many Of ws ((what.Key k ∷ f.says) ++ os.says)) (sym all) (more (row.1.is f.front f.says f.is) os.are);
+            whole = settled_by settled k f.says os.says row.1.settles quiet ∙ os.whole;
+          }

@@ -1,0 +1,6 @@
+pub mod Laws
+pub mod Options
+pub mod Phrases
+pub mod Rows
+pub mod Spells
+pub mod Words
