@@ -92,7 +92,8 @@ fn whole_file<F: Files>(files: &mut F, file: u32, taken: &mut Vec<u8>) -> Result
 /// Takes the first four bytes of the arrivals, in a loop, since a read may give one. Where they are those of a pcapng file, all of it is
 /// taken, and what is played of it is the classic capture of its packets. Any other file is played as it stands, and no more than
 /// four bytes of it are taken. `At` and `Limit` come only of a pcapng file, exactly where it has no such capture. `Read` comes only
-/// where the count of read faults of the file's part rose. One pass; a pcapng file takes memory for at most three times its bytes.
+/// where the count of read faults of the file's part rose. One pass; a pcapng file takes memory for at most twice its bytes, and what
+/// `convert` takes for the interfaces of a section.
 #[tactic(auto, using(play_base::proofs::ViewLaws::same_trans, play_base::proofs::ViewLaws::same_refl))]
 pub fn given_arrivals<F: Files>(
     alloc: Global,
@@ -124,7 +125,7 @@ pub fn given_arrivals<F: Files>(
         Ok(()) => {}
         Err(fault) => return Err(fault),
     }
-    match convert(alloc, taken.as_slice()) {
+    match convert(alloc, taken) {
         Ok(front) => Ok(Given { front, rest: false }),
         Err(fault) => Err(conversion_fault(fault)),
     }

@@ -1,5 +1,5 @@
 // A block of a file.
-ghost use Rattle.std.specs.Prelude.{◌≡◌, ◌≤◌, ◌+◌, ◌^◌, option_map, IfOk, IfErr, length};
+ghost use Rattle.std.specs.Prelude.{◌≡◌, ◌≤◌, ◌+◌, ◌^◌, option_map, IfOk, IfErr, drop, length, take};
 ghost use Rattle.pcapng_model.specs.Block.{Whole, Broken, framed, order_at};
 
 use crate::numbers::four;
@@ -38,6 +38,7 @@ pub fn block_at(big: bool, bytes: &[u8], at: usize) -> Result<Block<'_>, NgKind>
     requires small { length bytes.now ≤ 2 ^ 30 }
     ensures ok { IfOk result (λ b. framed big bytes.now at ≡ Whole b.big b.kind b.body.now b.after) }
     ensures size { IfOk result (λ b. at + 12 + length b.body.now ≡ b.after) }
+    ensures body { IfOk result (λ b. b.body.now ≡ take (length b.body.now) (drop (at + 8) bytes.now)) }
     ensures within { IfOk result (λ b. b.after ≤ length bytes.now) }
     ensures err { IfErr result (λ kind. framed big bytes.now at ≡ Broken kind) }
 {

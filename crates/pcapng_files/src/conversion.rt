@@ -1,11 +1,10 @@
-// A file that is being converted, block by block.
-ghost use Rattle.std.specs.Prelude.{◌≡◌, ◌≤◌, ◌<◌, ◌+◌, ◌*◌, ◌^◌, ◌++◌, map, vec_len, length, IfOk, IfErr, OnOk};
-ghost use Rattle.capture_model.specs.Header.{capture_header};
-ghost use Rattle.capture_model.specs.Written.{IsWithin, record_text};
+// A file that is being converted, block by block, in its own place.
+ghost use Rattle.std.specs.Prelude.{◌≡◌, ◌≤◌, ◌<◌, ◌+◌, ◌*◌, ◌^◌, None, Some, map, vec_len, length, IfOk, IfErr, IfSome, OnOk};
+ghost use Rattle.capture_model.specs.Written.{IsWithin};
 ghost use Rattle.pcapng_model.specs.Block.{Refuses, told, told_interface, told_packet, told_section};
 ghost use Rattle.pcapng_model.specs.Reading.{start, step};
 ghost use Rattle.pcapng_files.specs.Converted.{IsFault, IsRefusal};
-ghost use Rattle.pcapng_files.specs.Converting.{Advanced, Took, place_of};
+ghost use Rattle.pcapng_files.specs.Converting.{Advanced, IsBehind, Took, place_of};
 ghost use Rattle.pcapng_files.specs.Views.{interface, packet};
 
 use crate::block::{Block, SECTION, block_at};
@@ -13,10 +12,9 @@ use crate::fault::{NgFault, Refusal};
 use crate::interface::Interface;
 use crate::numbers::two;
 use crate::packet::{Packet, packet_in};
-use pcap_files::{head_bytes, record_head};
+use crate::record::put_found;
 use pcapng_model::NgKind;
-use play_base::NoMemory;
-use std::alloc::{AllocError, Global};
+use std::alloc::Global;
 
 const INTERFACE: u32 = 1;
 
@@ -28,39 +26,47 @@ const ENHANCED_PACKET: u32 = 6;
 
 const MOST_BYTES: usize = 1 << 30;
 
-// How far a file was converted: the order of bytes and the interfaces of its section, the classic capture so far and the count of
-// its packets, and the place of the next block.
+// The bytes of the head of a classic capture.
+pub const CAPTURE_HEAD: usize = 24;
+
+// The bytes of a block before its body.
+const BLOCK_HEAD: usize = 8;
+
+// How far a file was converted: the order of bytes and the interfaces of its section, the count of its packets, where what is written
+// of the classic capture ends, and the place of the next block. The records stand from byte 24 on, and the head is written last, for
+// it would take the place of a file's first block. A record is at least 16 bytes shorter than its block, so no byte is written over
+// that was not read.
 #[derive(Drop)]
 pub struct Conversion {
     pub big: bool,
     pub interfaces: Vec<Interface>,
-    pub written: Vec<u8>,
     pub packets: u32,
+    pub written: usize,
     pub place: usize,
 }
 
 impl Conversion {
-    // Before the first block, with room for the capture of a file of this size.
-    pub fn start(alloc: Global, size: usize) -> Result<Conversion, NoMemory>
-        ensures place { IfOk result (λ c. place_of c ≡ start) }
-        ensures header { IfOk result (λ c. c.written.items ≡ capture_header) }
+    // Before the first block.
+    pub fn start(alloc: Global) -> Conversion
+        ensures place { place_of result ≡ start }
+        ensures written { result.written ≡ 24 }
+        ensures behind { IsBehind result }
     {
-        let mut written = Vec::with_capacity(alloc, size)?;
-        written.extend_from_slice(&head_bytes())?;
-        Ok(Conversion {
+        Conversion {
             big: false,
             interfaces: Vec::new(alloc),
-            written,
             packets: 0,
+            written: CAPTURE_HEAD,
             place: 0,
-        })
+        }
     }
 
     // Begins the section of a header with this body.
     fn begin_section(&mut self, big: bool, body: &[u8]) -> Result<(), Refusal>
-        ensures took { OnOk result (Took self.old self.new (told_section big body.now)) }
+        ensures took { OnOk result (Took self.old self.new (told_section big body.now) body.now None) }
         ensures packets { OnOk result (self.new.packets ≡ self.old.packets) }
-        ensures written { OnOk result (self.new.written.items ≡ self.old.written.items) }
+        ensures interfaces { OnOk result (vec_len self.new.interfaces ≡ 0) }
+        ensures written { self.new.written ≡ self.old.written }
         ensures place { self.new.place ≡ self.old.place }
         ensures err { IfErr result (λ r. IsRefusal r (told_section big body.now)) }
     {
@@ -77,9 +83,10 @@ impl Conversion {
 
     // Adds the interface that a body describes.
     fn add_interface(&mut self, big: bool, body: &[u8]) -> Result<(), Refusal>
-        ensures took { OnOk result (Took self.old self.new (told_interface big body.now)) }
+        ensures took { OnOk result (Took self.old self.new (told_interface big body.now) body.now None) }
         ensures packets { OnOk result (self.new.packets ≡ self.old.packets) }
-        ensures written { OnOk result (self.new.written.items ≡ self.old.written.items) }
+        ensures interfaces { OnOk result (vec_len self.new.interfaces ≡ vec_len self.old.interfaces + 1) }
+        ensures written { self.new.written ≡ self.old.written }
         ensures place { self.new.place ≡ self.old.place }
         ensures err { IfErr result (λ r. IsRefusal r (told_interface big body.now)) }
     {
@@ -93,15 +100,17 @@ impl Conversion {
         Ok(())
     }
 
-    // Adds the packet of a body.
-    fn add_packet(&mut self, big: bool, body: &[u8]) -> Result<(), Refusal>
+    // Counts the packet of a body, and says what it is.
+    fn add_packet(&mut self, big: bool, body: &[u8]) -> Result<Packet, Refusal>
         requires few { self.old.packets ≤ 4000000 }
-        ensures took { OnOk result (Took self.old self.new
-            (told_packet big body.now (map interface self.old.interfaces.items) self.old.packets)) }
+        ensures took { IfOk result (λ p. Took self.old self.new
+            (told_packet big body.now (map interface self.old.interfaces.items) self.old.packets) body.now (Some p)) }
         ensures few { OnOk result (self.new.packets ≤ 4000000) }
-        ensures room { OnOk result (vec_len self.new.written + 16 ≤ vec_len self.old.written + 12 + length body.now) }
-        ensures most { OnOk result (vec_len self.new.written ≤ vec_len self.old.written + 262160) }
-        ensures packets { OnOk result (self.new.packets ≡ self.old.packets + 1) }
+        ensures within { IfOk result (λ p. IsWithin (packet body.now p)) }
+        ensures short { IfOk result (λ p. 20 + p.captured ≤ length body.now) }
+        ensures some { OnOk result (1 ≤ vec_len self.old.interfaces) }
+        ensures interfaces { self.new.interfaces ≡ self.old.interfaces }
+        ensures written { self.new.written ≡ self.old.written }
         ensures place { self.new.place ≡ self.old.place }
         ensures err { IfErr result (λ r. IsRefusal r
             (told_packet big body.now (map interface self.old.interfaces.items) self.old.packets)) }
@@ -110,51 +119,57 @@ impl Conversion {
             Ok(found) => found,
             Err(refusal) => return Err(refusal),
         };
-        match append_record(&mut self.written, &found) {
-            Ok(()) => {}
-            Err(_) => return Err(Refusal::NoMemory),
-        }
         self.packets += 1;
-        Ok(())
+        Ok(found)
     }
 
-    // Takes what a whole block holds.
-    fn take(&mut self, block: &Block) -> Result<(), Refusal>
+    // Takes what a whole block holds, and says which packet that is, if it is one.
+    fn take(&mut self, block: &Block) -> Result<Option<Packet>, Refusal>
         requires few { self.old.packets ≤ 4000000 }
-        ensures took { OnOk result (Took self.old self.new
-            (told block.now.big block.now.kind block.now.body.now (map interface self.old.interfaces.items) self.old.packets)) }
+        ensures took { IfOk result (λ p. Took self.old self.new
+            (told block.now.big block.now.kind block.now.body.now (map interface self.old.interfaces.items) self.old.packets)
+            block.now.body.now p) }
         ensures few { OnOk result (self.new.packets ≤ 4000000) }
-        ensures room { OnOk result (vec_len self.new.written + 16 * self.new.packets
-            ≤ vec_len self.old.written + 16 * self.old.packets + 12 + length block.now.body.now) }
-        ensures most { OnOk result (vec_len self.new.written + 262160 * self.old.packets
-            ≤ vec_len self.old.written + 262160 * self.new.packets) }
+        ensures within { IfOk result (λ found. IfSome found (λ p. IsWithin (packet block.now.body.now p))) }
+        ensures short { IfOk result (λ found. IfSome found (λ p. 20 + p.captured ≤ length block.now.body.now)) }
+        ensures some { IfOk result (λ found. IfSome found (λ p. 1 ≤ vec_len self.old.interfaces)) }
+        ensures interfaces { OnOk result (vec_len self.new.interfaces ≤ vec_len self.old.interfaces + 1) }
+        ensures written { self.new.written ≡ self.old.written }
         ensures place { self.new.place ≡ self.old.place }
         ensures err { IfErr result (λ r. IsRefusal r
             (told block.now.big block.now.kind block.now.body.now (map interface self.old.interfaces.items) self.old.packets)) }
     {
-        match block.kind {
+        if block.kind == ENHANCED_PACKET {
+            return match self.add_packet(block.big, block.body) {
+                Ok(packet) => Ok(Some(packet)),
+                Err(refusal) => Err(refusal),
+            };
+        }
+        let taken = match block.kind {
             SECTION => self.begin_section(block.big, block.body),
             INTERFACE => self.add_interface(block.big, block.body),
             OLD_PACKET | SIMPLE_PACKET => Err(Refusal::Broken(NgKind::OldPacket)),
-            ENHANCED_PACKET => self.add_packet(block.big, block.body),
             _ => Ok(()),
+        };
+        match taken {
+            Ok(()) => Ok(None),
+            Err(refusal) => Err(refusal),
         }
     }
 
-    // Takes the next block of a file. Its cost is linear in the block.
-    pub fn next(&mut self, bytes: &[u8]) -> Result<(), NgFault>
-        requires here { self.old.place < length bytes.now }
+    // Takes the next block of a file, and writes the record of its packet. Its cost is linear in the block.
+    pub fn next(&mut self, bytes: &mut [u8]) -> Result<(), NgFault>
+        requires here { self.old.place < length bytes.old }
         requires few { self.old.packets ≤ 4000000 }
-        ensures advanced { OnOk result (Advanced bytes.now self.old self.new) }
+        requires behind { IsBehind self.old }
+        ensures advanced { OnOk result (Advanced bytes.old bytes.new self.old self.new) }
         ensures few { OnOk result (self.new.packets ≤ 4000000) }
-        ensures room { OnOk result (vec_len self.new.written + 16 * self.new.packets + self.old.place
-            ≤ vec_len self.old.written + 16 * self.old.packets + self.new.place) }
-        ensures most { OnOk result (vec_len self.new.written + 262160 * self.old.packets
-            ≤ vec_len self.old.written + 262160 * self.new.packets) }
+        ensures behind { OnOk result (IsBehind self.new) }
+        ensures size { length bytes.new ≡ length bytes.old }
         ensures further { OnOk result (self.old.place < self.new.place) }
-        ensures within { OnOk result (self.new.place ≤ length bytes.now) }
-        ensures small { OnOk result (length bytes.now ≤ 2 ^ 30) }
-        ensures err { IfErr result (λ f. IsFault f (step bytes.now (place_of self.old))) }
+        ensures within { OnOk result (self.new.place ≤ length bytes.old) }
+        ensures small { OnOk result (length bytes.old ≤ 2 ^ 30) }
+        ensures err { IfErr result (λ f. IsFault f (step bytes.old (place_of self.old))) }
     {
         if bytes.len() > MOST_BYTES {
             return Err(NgFault::Limit);
@@ -164,21 +179,12 @@ impl Conversion {
             Ok(block) => block,
             Err(kind) => return Err(Refusal::Broken(kind).at(place)),
         };
-        match self.take(&block) {
-            Ok(()) => {}
+        let found = match self.take(&block) {
+            Ok(found) => found,
             Err(refusal) => return Err(refusal.at(place)),
-        }
+        };
         self.place = block.after;
+        self.written = put_found(bytes, self.written, place + BLOCK_HEAD, &found);
         Ok(())
     }
-}
-
-// Adds the record of a packet.
-fn append_record(written: &mut Vec<u8>, found: &Packet) -> Result<(), AllocError>
-    requires { IsWithin (packet found.now) }
-    ensures { OnOk result (written.new.items ≡ written.old.items ++ record_text (packet found.now)) }
-{
-    let head = record_head(found.stamp, found.captured.len() as u32, found.original);
-    written.extend_from_slice(&head)?;
-    written.extend_from_slice(found.captured)
 }

@@ -11,6 +11,7 @@ mod interface;
 mod numbers;
 mod options;
 mod packet;
+mod record;
 mod units;
 
 pub use converting::convert;

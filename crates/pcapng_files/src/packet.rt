@@ -1,5 +1,5 @@
 // The packet of an enhanced packet block.
-ghost use Rattle.std.specs.Prelude.{◌≡◌, ◌≤◌, ◌<◌, ◌+◌, ◌*◌, map, slice_get, Some, IfOk, IfErr, OnOk, length};
+ghost use Rattle.std.specs.Prelude.{◌≡◌, ◌≤◌, ◌+◌, map, slice_get, Some, IfOk, IfErr, OnOk, length};
 ghost use Rattle.capture_model.specs.Written.{IsWithin};
 ghost use Rattle.pcapng_model.specs.Block.{Packet as PacketFound, Refuses, Tells, count_in, packet_on, told_packet};
 ghost use Rattle.pcapng_model.specs.Number.{number, padded};
@@ -20,13 +20,13 @@ const LONGEST: u32 = 262_144;
 const ETHERNET: u16 = 1;
 
 // The bytes of a body before the captured ones.
-const HEAD: usize = 20;
+pub const HEAD: usize = 20;
 
-// A packet: its stamp in nanoseconds, the captured bytes, and the length that it had.
+// A packet of a body: its stamp in nanoseconds, the count of its captured bytes, and the length that it had.
 #[derive(Clone, Copy)]
-pub struct Packet<'a> {
+pub struct Packet {
     pub stamp: u64,
-    pub captured: &'a [u8],
+    pub captured: u32,
     pub original: u32,
 }
 
@@ -39,11 +39,11 @@ fn count_in(big: bool, body: &[u8]) -> u64
 }
 
 // The packet of a body whose captured bytes stand, on this interface; or the first of the further tests that it fails.
-fn packet_on<'a>(from: &Interface, big: bool, body: &'a [u8]) -> Result<Packet<'a>, NgKind>
+fn packet_on(from: &Interface, big: bool, body: &[u8]) -> Result<Packet, NgKind>
     requires { 20 + padded (number big 4 body.now 12) ≤ length body.now }
-    ensures ok { IfOk result (λ p. packet_on (Some (interface from.now)) big body.now ≡ Tells (PacketFound (packet p))) }
-    ensures within { IfOk result (λ p. IsWithin (packet p)) }
-    ensures short { IfOk result (λ p. 20 + length p.captured.now ≤ length body.now) }
+    ensures ok { IfOk result (λ p. packet_on (Some (interface from.now)) big body.now ≡ Tells (PacketFound (packet body.now p))) }
+    ensures within { IfOk result (λ p. IsWithin (packet body.now p)) }
+    ensures short { IfOk result (λ p. 20 + p.captured ≤ length body.now) }
     ensures err { IfErr result (λ kind. packet_on (Some (interface from.now)) big body.now ≡ Refuses kind) }
 {
     let captured = four(big, body, 12);
@@ -62,22 +62,23 @@ fn packet_on<'a>(from: &Interface, big: bool, body: &'a [u8]) -> Result<Packet<'
     };
     Ok(Packet {
         stamp,
-        captured: &body[HEAD..HEAD + captured as usize],
+        captured,
         original,
     })
 }
 
 // The packet that a body holds behind `count` others, or the first test that the body fails, or the limit.
-pub fn packet_in<'a>(
+pub fn packet_in(
     big: bool,
-    body: &'a [u8],
+    body: &[u8],
     interfaces: &[Interface],
     count: u32,
-) -> Result<Packet<'a>, Refusal>
-    ensures ok { IfOk result (λ p. told_packet big body.now (map interface interfaces.now) count ≡ Tells (PacketFound (packet p))) }
-    ensures within { IfOk result (λ p. IsWithin (packet p)) }
-    ensures short { IfOk result (λ p. 20 + length p.captured.now ≤ length body.now) }
+) -> Result<Packet, Refusal>
+    ensures ok { IfOk result (λ p. told_packet big body.now (map interface interfaces.now) count ≡ Tells (PacketFound (packet body.now p))) }
+    ensures within { IfOk result (λ p. IsWithin (packet body.now p)) }
+    ensures short { IfOk result (λ p. 20 + p.captured ≤ length body.now) }
     ensures few { OnOk result (count ≡ 4000000 → ⊥) }
+    ensures some { OnOk result (1 ≤ length interfaces.now) }
     ensures err { IfErr result (λ r. IsRefusal r (told_packet big body.now (map interface interfaces.now) count)) }
 {
     if body.len() < HEAD {

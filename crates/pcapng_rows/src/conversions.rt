@@ -26,7 +26,7 @@ const CLASSIC: [u8; 43] = [
 fn pcapng_of_one_packet(rt: HostRuntime) -> Result<(), Fail> {
     let mut file = HEAD.to_vec(rt.alloc())?;
     file.extend_from_slice(&packet(0))?;
-    let Ok(capture) = convert(rt.alloc(), file.as_slice()) else {
+    let Ok(capture) = convert(rt.alloc(), file) else {
         return Err("a file without a fault".into());
     };
     assert_eq!(rt; capture.as_slice(), CLASSIC.as_slice());
@@ -37,7 +37,7 @@ fn pcapng_of_one_packet(rt: HostRuntime) -> Result<(), Fail> {
 fn pcapng_unknown_interface(rt: HostRuntime) -> Result<(), Fail> {
     let mut file = HEAD.to_vec(rt.alloc())?;
     file.extend_from_slice(&packet(1))?;
-    let Err(fault) = convert(rt.alloc(), file.as_slice()) else {
+    let Err(fault) = convert(rt.alloc(), file) else {
         return Err("a packet of no interface".into());
     };
     let kind = NgKind::UnknownInterface;

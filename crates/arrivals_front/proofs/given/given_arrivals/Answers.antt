@@ -1,5 +1,4 @@
-use Rattle.std.proofs.Common.{List, ℕ, ap, sym, subst, refl, ◌∙◌, ◌≡◌, true, false}
-use Rattle.pcapng_files.specs.Converted.{IsCause, IsConversion}
+use Rattle.std.proofs.Common.{ap, sym, subst, refl, ◌∙◌, ◌≡◌, true, false}
 use Rattle.play_base.specs.View.{Any}
 use Rattle.play_base.proofs.ViewLaws.{keeps_trans}
 use Rattle.arrivals_front.specs.Given.{IsRefused, is_pcapng}
@@ -35,17 +34,15 @@ returns-in-Ok-convert-clause-given g c =
     let whole = c.whole_file.new.taken.items in
     let x = begun old mid c.args.file _ taken c.new-taken.ensures.items c.in-Ok.ensures.gained c.in-Ok.ensures.enough c.in-Ok.ensures.most in
     let begins : is_pcapng taken ≡ true = ap is_pcapng (sym c.as_slice.ensures.value) ∙ sym c.begins_section.ensures ∙ c.if-not-begins_section.false in
-    let converted : IsConversion whole c.in-Ok-convert.front.items =
-    subst (λ (xs : List ℕ). IsConversion xs c.in-Ok-convert.front.items) c.as_slice-2.ensures.value c.in-Ok-convert.ensures.converted in
     λ given h.
     follows_converted old new c.args.file given whole (record { front = c.in-Ok-convert.front; rest = false }) refl
-    (taken_all old mid new c.args.file taken whole given x begins c.in-Ok-whole_file.ensures.whole h) converted
+    (taken_all old mid new c.args.file taken whole given x begins c.in-Ok-whole_file.ensures.whole h) c.in-Ok-convert.ensures.converted
 
 pub returns-in-Ok-convert-clause-keeps : goal.returns-in-Ok-convert-clause-keeps
 returns-in-Ok-convert-clause-keeps g c = keeps_trans Any _ _ _ _ c.in-Ok.ensures.keeps c.in-Ok-whole_file.ensures.keeps
 
-pub returns-clause-refused : goal.returns-clause-refused
-returns-clause-refused g c =
+pub returns-in-Err-convert-clause-refused : goal.returns-in-Err-convert-clause-refused
+returns-in-Err-convert-clause-refused g c =
     let old = g.F.Files.view c.args.files.now in
     let mid = g.F.Files.view c.take_to.new.files in
     let new = g.F.Files.view c.whole_file.new.files in
@@ -53,9 +50,8 @@ returns-clause-refused g c =
     let whole = c.whole_file.new.taken.items in
     let x = begun old mid c.args.file _ taken c.new-taken.ensures.items c.in-Ok.ensures.gained c.in-Ok.ensures.enough c.in-Ok.ensures.most in
     let begins : is_pcapng taken ≡ true = ap is_pcapng (sym c.as_slice.ensures.value) ∙ sym c.begins_section.ensures ∙ c.if-not-begins_section.false in
-    let cause : IsCause c.in-Err-convert.fault whole = subst (λ (xs : List ℕ). IsCause c.in-Err-convert.fault xs) c.as_slice-2.ensures.value c.in-Err-convert.ensures.fault in
     subst (λ (f : GivenFault). IsRefused old new c.args.file f) (sym c.conversion_fault.ensures)
-    (refused_converted old mid new c.args.file taken whole c.in-Err-convert.fault x begins c.in-Ok-whole_file.ensures.whole cause)
+    (refused_converted old mid new c.args.file taken whole c.in-Err-convert.fault x begins c.in-Ok-whole_file.ensures.whole c.in-Err-convert.ensures.fault)
 
-pub returns-clause-keeps : goal.returns-clause-keeps
-returns-clause-keeps g c = keeps_trans Any _ _ _ _ c.in-Ok.ensures.keeps c.in-Ok-whole_file.ensures.keeps
+pub returns-in-Err-convert-clause-keeps : goal.returns-in-Err-convert-clause-keeps
+returns-in-Err-convert-clause-keeps g c = keeps_trans Any _ _ _ _ c.in-Ok.ensures.keeps c.in-Ok-whole_file.ensures.keeps

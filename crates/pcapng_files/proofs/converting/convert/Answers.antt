@@ -1,13 +1,17 @@
-use Rattle.std.proofs.Common.{rules, arith, vec_len}
-use Rattle.pcapng_files.proofs.ConvertingLemmas.{cause_of, converting_more, converting_none, fits, whole}
+use Rattle.std.proofs.Common.{◌≤◌, rules, arith, sym, subst, length, List, ℕ}
+use Rattle.capture_model.specs.Capture.{most_bytes}
+use Rattle.pcapng_model.specs.Reading.{step}
+use Rattle.pcapng_files.specs.Converted.{IsFault}
+use Rattle.pcapng_files.specs.Converting.{place_of}
+use Rattle.pcapng_files.proofs.ConvertingLemmas.{cause_of, converting_none, turned, whole}
+use Rattle.pcapng_files.proofs.RecordLemmas.{finished_fits}
 use Rattle.pcapng_files.proofs.converting.convert.Goals as goal
 
 pub loop-conversion-init : goal.loop-conversion-init
 loop-conversion-init c = record {
   converting = converting_none _ _ (search rules) (search rules);
   few = search rules;
-  room = search rules;
-  most = search rules;
+  behind = search rules;
   within = search rules;
   small = search rules;
 }
@@ -15,21 +19,30 @@ loop-conversion-init c = record {
 pub loop-conversion-preserved : goal.loop-conversion-preserved
 loop-conversion-preserved c =
     let known = c.loop-conversion.invariant in
-    let next = c.in-Ok-next.ensures in
+    let next = c.in-Ok.ensures in
     record {
-      converting = converting_more _ _ _ known.converting next.advanced;
+      converting = turned c.args.bytes.items c.loop-conversion.file.items c.as_mut_slice.result.now c.next.new.bytes c.loop-conversion.file.len
+          c.loop-conversion.conversion c.next.new.self c.as_mut_slice.ensures.value c.loop-conversion.file.ok.0
+          known.converting next.advanced next.size next.further;
       few = next.few;
-      room = omega (arith, known.room, next.room);
-      most = omega (arith, known.most, next.most);
-      within = next.within;
-      small = λ _. next.small;
+      behind = next.behind;
+      within = omega (arith, next.within, c.as_mut_slice.ensures.len);
+      small = λ _. omega (arith, next.small, c.as_mut_slice.ensures.len);
     }
 
 pub returns-in-Err-clause-fault : goal.returns-in-Err-clause-fault
-returns-in-Err-clause-fault c = cause_of _ _ _ c.loop-conversion.invariant.converting c.in-Err.ensures.err
+returns-in-Err-clause-fault c =
+    let P : List ℕ → Type 0 = λ bytes. IsFault c.in-Err.fault (step bytes (place_of c.loop-conversion.conversion)) in
+    cause_of c.args.bytes.items c.loop-conversion.file.items c.loop-conversion.conversion c.in-Err.fault c.loop-conversion.invariant.converting
+    (subst P c.as_mut_slice.ensures.value c.in-Err.ensures.err)
 
 pub returns-clause-converted : goal.returns-clause-converted
 returns-clause-converted c =
     let known = c.loop-conversion.invariant in
-    whole _ _ known.converting c.loop-conversion-test.false known.few
-    (fits (vec_len c.loop-conversion.conversion.written) c.loop-conversion.conversion.packets c.loop-conversion.conversion.place _ known.room known.most known.within known.small)
+    let file = c.loop-conversion.file.items in
+    let done = c.loop-conversion.conversion in
+    let past : length file ≤ done.place = omega (arith, c.loop-conversion-test.false, c.loop-conversion.file.ok.0) in
+    whole c.args.bytes.items file c.in-Ok-finished.capture.items done known.converting past known.few
+    (subst (λ (t : List ℕ). length t ≤ most_bytes) (sym c.in-Ok-finished.ensures)
+    (finished_fits file done.written done.place past (λ some. omega (arith, known.small some, c.loop-conversion.file.ok.0))))
+    c.in-Ok-finished.ensures
