@@ -1,24 +1,23 @@
 -- A chain from its beginning: the configuration was read, and then the first play was done.
-use Rattle.std.proofs.Common.{◌≡◌, ◌≤◌, ◌∙◌, ℕ, List, Ok, Err, false, Some, ap, sym, subst, refl}
+use Rattle.std.proofs.Common.{◌≡◌, ◌∙◌, ℕ, List, Ok, Err, false, Some, ap, sym, subst, refl}
 use Rattle.std.specs.Prelude.{IsTrue}
 use Rattle.arrivals_front.specs.Given.{is_pcapng}
-use Rattle.altq_model.specs.History.{Decision, journal}
-use Rattle.altq_model.specs.Laws.{IsConserved, occurs}
+use Rattle.altq_model.specs.History.{Decision}
+use Rattle.altq_model.specs.Laws.{IsConserved}
 use Rattle.conf_laws.specs.Laws.{ConfigurationsFit}
 use Rattle.conf_tree.specs.declared.interface.Interface.{Interface}
 use Rattle.play_base.specs.View.{View, Rose, SameCounts}
 use Rattle.play_base.specs.declared.trouble.Trouble.{Trouble}
 use Rattle.play_base.specs.declared.trouble.Trouble.TheVariants as trouble
-use Rattle.play_chain.specs.Path.{decisions_of, numbers_of}
+use Rattle.play_chain.specs.declared.firsts.Firsts.{Firsts}
+use Rattle.play_chain.specs.declared.seconds.Seconds.{Seconds}
+use Rattle.play_chain.specs.Tables.{AreOnce, HoldsFirsts, HoldsSeconds, text_in}
 use Rattle.play_chain.specs.Text.{path_text}
 use Rattle.play_chain.proofs.KeptLemmas.{decisions_kept, once_kept}
-use Rattle.play_core.specs.declared.totals.Totals.{Totals}
+use Rattle.play_chain.proofs.TextLemmas.{text_held}
 use Rattle.play_laws.proofs.ArrivalLemmas.{comings_length}
 use Rattle.play_loop.specs.declared.fault.PlayFault.{PlayFault}
-use Rattle.play_loop.specs.declared.kept.KeptFate.{KeptFate}
 use Rattle.play_loop.specs.KeptFates.{kept_fates}
-use Rattle.play_loop.specs.Setup.{Setup}
-use Rattle.play_loop.specs.Told.{HasDecided}
 use Rattle.play_words.specs.Words.{AreAllDistinct}
 use Rattle.command_base.specs.Configuration.{Accepts, interface_of}
 use Rattle.command_base.specs.Input.{EndsAtConfig, IsRead}
@@ -28,7 +27,6 @@ use Rattle.command_base.specs.Outcome.{Outcome}
 use Rattle.command_base.specs.declared.done.Done.TheVariants as done
 use Rattle.play_command.specs.Ending.{PlayEnds}
 use Rattle.play_command.specs.Failing.{play_failure, unplayed_failure}
-use Rattle.play_command.specs.Found.{PlaysFor}
 use Rattle.play_command.specs.Played.{HasPlayed}
 use Rattle.play_command.specs.declared.failing.Unplayed.{Unplayed}
 use Rattle.play_command.proofs.BehindLemmas.{Reading, accepts_since, done_behind, fault_behind, reading_of}
@@ -39,7 +37,7 @@ use Rattle.chain_command.specs.Chaining.{ChainEnds}
 use Rattle.chain_command.specs.Failing.{path_failure, second_failure, unplayed_first}
 use Rattle.chain_command.specs.Leaving.{IsAccepting}
 use Rattle.chain_command.specs.Links.{Links, second_names}
-use Rattle.chain_command.specs.Playing.{AddsFile, IsBehindConfig, SecondEnds, SecondPlays}
+use Rattle.chain_command.specs.Playing.{AddsFile, IsBehindConfig, PlaysTold, SecondEnds, SecondPlays}
 use Rattle.chain_command.proofs.EndLemmas.{HasPassed, HasWritten, done_ends, path_ends, second_ends}
 use Rattle.chain_command.proofs.FirstLemmas.{first_ends}
 use Rattle.chain_command.proofs.LeavingLemmas.{apart, names_in}
@@ -124,26 +122,25 @@ module _ (u a : View) (n : Links) (found next : Interface) (r : HasRead u a n fo
         second_ends u w c y.reference n seed f (passed c m k (Err (play_failure f)) y.reference names same y.ends y.high)
 
 -- each number has one fate at most
-pub once_decided : (x : Setup) (fates : List KeptFate) (t : Totals) → HasDecided x (λ ks. fates ≡ ks) t → (n : ℕ) → occurs n (numbers_of fates) ≤ 1
-once_decided x fates t h n =
-    let C : ℕ → Type 0 = λ count. IsConserved count (journal h.history) in
-    let P : List KeptFate → Type 0 = λ ks. occurs n (numbers_of ks) ≤ 1 in
-    subst P (sym h.told) (once_kept h.arrived (journal h.history) (subst C (comings_length h.arrived) h.play.laws.conserved) n)
+once_played : (old new : View) (n : Names) (seed : ℕ) (h : HasPlayed old new n seed) → AreOnce (kept_fates (arrivals_of h) (journal_of h))
+once_played old new n seed h =
+    let C : ℕ → Type 0 = λ count. IsConserved count (journal_of h) in
+    once_kept (arrivals_of h) (journal_of h) (subst C (comings_length (arrivals_of h)) h.played.play.laws.conserved)
 
 -- both are done, and then the paths were written
 module _ (u a w c e : View) (n : Links) (found next : Interface) (r : HasRead u a n found next) (seed k : ℕ) (m : Names) (names : m ≡ second_names n)
-    (same : k ≡ seed) (firsts seconds : List KeptFate) (x : PlaysFor a w n.first seed found firsts) (high : IsBehindConfig a w)
-    (y : SecondPlays w c m k next seconds) (fit : ConfigurationsFit) (adds : AddsFile c e 10 n.path (path_text firsts (decisions_of seconds))) where
+    (same : k ≡ seed) (firsts : Firsts) (seconds : Seconds) (x : PlaysTold (HoldsFirsts firsts) a w n.first seed) (high : IsBehindConfig a w)
+    (y : SecondPlays (HoldsSeconds seconds) w c m k) (fit : ConfigurationsFit) (adds : AddsFile c e 10 n.path (text_in firsts seconds)) where
   told_first : IsTrue u.tells → IsTrue a.tells
   told_first t = r.read.keeps.tells ∙ t
 
   told_second : IsTrue u.tells → IsTrue w.tells
   told_second t = x.ends.leaves.files.others.tells ∙ told_first t
 
-  plays : PlaysFor (second_view w y.reference) (second_view c y.reference) (second_names n) seed next seconds
+  plays : PlaysTold (HoldsSeconds seconds) (second_view w y.reference) (second_view c y.reference) (second_names n) seed
   plays =
-      let P : Names → Type 0 = λ z. PlaysFor (second_view w y.reference) (second_view c y.reference) z k next seconds in
-      let Q : ℕ → Type 0 = λ z. PlaysFor (second_view w y.reference) (second_view c y.reference) (second_names n) z next seconds in
+      let P : Names → Type 0 = λ z. PlaysTold (HoldsSeconds seconds) (second_view w y.reference) (second_view c y.reference) z k in
+      let Q : ℕ → Type 0 = λ z. PlaysTold (HoldsSeconds seconds) (second_view w y.reference) (second_view c y.reference) (second_names n) z in
       subst Q same (subst P names y.plays)
 
   abbrev first_played : IsTrue u.tells → HasPlayed u w n.first seed
@@ -154,24 +151,23 @@ module _ (u a w c e : View) (n : Links) (found next : Interface) (r : HasRead u 
   abbrev second_played : IsTrue u.tells → HasPlayed (second_view w y.reference) (second_view c y.reference) (second_names n) seed
   second_played t = (plays.told (told_second t)).0
 
-  pub written : HasWritten u w c e y.reference n seed (path_text firsts (decisions_of seconds))
+  pub written : HasWritten u w c e y.reference n seed (text_in firsts seconds)
   written = record {
     passed = passed u a n found next r w seed x.ends high c (second_names n) seed (Ok done.Played) y.reference refl refl plays.ends y.high;
     fit = fit;
     x = first_played;
     y = second_played;
     text_is = λ t.
-        let one : firsts ≡ kept_fates (arrivals_of (first_played t)) (journal_of (first_played t)) = (x.told (told_first t)).1 in
-        let two : decisions_of seconds ≡ journal_of (second_played t) =
-        ap decisions_of (plays.told (told_second t)).1 ∙ decisions_kept (arrivals_of (second_played t)) (journal_of (second_played t)) in
-        ap (λ (ks : List KeptFate). path_text ks (decisions_of seconds)) one
-        ∙ ap (λ (js : List Decision). path_text (kept_fates (arrivals_of (first_played t)) (journal_of (first_played t))) js) two;
+        let one = x.told (told_first t) in
+        let two = plays.told (told_second t) in
+        text_held firsts seconds (kept_fates (arrivals_of one.0) (journal_of one.0)) (kept_fates (arrivals_of two.0) (journal_of two.0))
+        (once_played _ _ _ _ one.0) (once_played _ _ _ _ two.0) one.1 two.1
+        ∙ ap (λ (js : List Decision). path_text (kept_fates (arrivals_of one.0) (journal_of one.0)) js) (decisions_kept (arrivals_of two.0) (journal_of two.0));
     adds = adds;
   }
 
-  pub chained_ends : (IsTrue c.tells → e.bytes n.path ≡ Some (path_text firsts (decisions_of seconds))) → SameCounts c e
-      → ChainEnds u e n seed (Ok done.Chained)
-  chained_ends whole counts = done_ends u w c e y.reference n seed (path_text firsts (decisions_of seconds)) written whole counts
+  pub chained_ends : (IsTrue c.tells → e.bytes n.path ≡ Some (text_in firsts seconds)) → SameCounts c e → ChainEnds u e n seed (Ok done.Chained)
+  chained_ends whole counts = done_ends u w c e y.reference n seed (text_in firsts seconds) written whole counts
 
   pub unwritten_ends : (t : Trouble) → (t ≡ trouble.Failed → Rose (c.write_faults 10) (e.write_faults 10)) → ChainEnds u e n seed (Err (path_failure t))
-  unwritten_ends t rose = path_ends u w c e y.reference n seed (path_text firsts (decisions_of seconds)) written t rose
+  unwritten_ends t rose = path_ends u w c e y.reference n seed (text_in firsts seconds) written t rose

@@ -1,13 +1,13 @@
 -- What each step of a chain leaves.
-use Rattle.std.specs.Prelude.{◌≡◌, ◌≤◌, ℕ, List, None, Some, IsTrue}
-use Rattle.conf_tree.specs.declared.interface.Interface.{Interface}
+use Rattle.std.specs.Prelude.{◌≡◌, ◌≤◌, ℕ, List, None, Some, Ok, IsTrue}
 use Rattle.play_base.specs.View.{View, Keeps, NotNamed, OtherThan}
 use Rattle.play_loop.specs.declared.kept.KeptFate.{KeptFate}
 use Rattle.command_base.specs.Faults.{Untouched}
 use Rattle.command_base.specs.Names.{Names}
 use Rattle.command_base.specs.Outcome.{Outcome}
+use Rattle.command_base.specs.declared.done.Done.TheVariants.{Played}
 use Rattle.play_command.specs.Ending.{PlayEnds}
-use Rattle.play_command.specs.Found.{PlaysFor}
+use Rattle.play_command.specs.Found.{HasTold}
 use Rattle.play_command.specs.Played.{IsFrontAt}
 use Rattle.second_files.specs.Parts.{second_view}
 
@@ -15,16 +15,21 @@ use Rattle.second_files.specs.Parts.{second_view}
 abbrev pub IsBehindConfig : View → View → Type 0
 IsBehindConfig old new = (f p : ℕ) → old.part f ≡ None → new.part f ≡ Some p → 2 ≤ p
 
+-- the play is done, and `held` holds of the fates of its journal
+pub record PlaysTold (held : List KeptFate → Type 0) (old new : View) (n : Names) (seed : ℕ) : Type 0 where
+  pub ends : PlayEnds old new n seed (Ok Played)
+  pub told : IsTrue old.tells → HasTold held old new n seed
+
 -- the second play ends so, of the files as it sees them by its own parts, and by the reference by which they are lent to it
 pub record SecondEnds (old new : View) (n : Names) (seed : ℕ) (o : Outcome) : Type 0 where
   pub reference : ℕ
   pub ends : PlayEnds (second_view old reference) (second_view new reference) n seed o
   pub high : IsBehindConfig (second_view old reference) (second_view new reference)
 
--- it is done, and these are its fates
-pub record SecondPlays (old new : View) (n : Names) (seed : ℕ) (i : Interface) (fates : List KeptFate) : Type 0 where
+-- it is done, and this holds of its fates
+pub record SecondPlays (held : List KeptFate → Type 0) (old new : View) (n : Names) (seed : ℕ) : Type 0 where
   pub reference : ℕ
-  pub plays : PlaysFor (second_view old reference) (second_view new reference) n seed i fates
+  pub plays : PlaysTold held (second_view old reference) (second_view new reference) n seed
   pub high : IsBehindConfig (second_view old reference) (second_view new reference)
 
 -- at most one file came to be, of this part and name, which holds a front of this text; nothing else changed

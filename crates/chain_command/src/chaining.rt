@@ -6,12 +6,11 @@ ghost use Rattle.chain_command.specs.Chaining.{ChainEnds};
 ghost use Rattle.chain_command.specs.Links.{links_read};
 
 use crate::failing::{path_failure, second_failure, unplayed_first};
-use crate::links::{play_second, second_words};
+use crate::links::{play_first, play_second, second_words};
 use crate::paths::write_paths;
 use command_base::{Done, Failure, absent, read_conf};
 use conf_laws::configurations_fit;
 use play_base::Files;
-use play_command::play_found_kept;
 use play_words::ChainWords;
 use std::alloc::Global;
 
@@ -25,8 +24,8 @@ use std::alloc::Global;
 /// are too long, or a packet would end too late, and of the second where a packet of its play would; as `Read` of the arrivals, or of
 /// the departures of the first link, and as `Write`, where a call on that file failed; and as `NoMemory`.
 ///
-/// Besides what `play` takes it holds the fates of both plays, 40 bytes each in lists that grow by half, what is known of each packet, and
-/// the text of the paths: some 200 bytes for each arrival, which no clause bounds.
+/// Besides what `play` takes it holds a table of the fates of each play, 24 bytes for each arrival of the first and 16 for each of the
+/// second and the room by which a `Vec` grows, and then the text of the paths; no clause bounds that.
 #[tactic(auto, using(play_base::proofs::ViewLaws::same_trans, play_base::proofs::ViewLaws::same_refl))]
 pub fn chain<F: Files>(
     alloc: Global,
@@ -48,15 +47,15 @@ pub fn chain<F: Files>(
     let Some(next) = conf.interface(words.next) else {
         return Err(Failure::Configuration(absent()));
     };
-    let first = match play_found_kept(alloc, files, found, &words.play) {
-        Ok(kept) => kept,
+    let firsts = match play_first(alloc, files, found, &words.play) {
+        Ok(firsts) => firsts,
         Err(fault) => return Err(unplayed_first(fault)),
     };
-    let second = match play_second(alloc, files, next, &second_words(words)) {
-        Ok(kept) => kept,
+    let seconds = match play_second(alloc, files, next, &second_words(words)) {
+        Ok(seconds) => seconds,
         Err(fault) => return Err(second_failure(fault)),
     };
-    match write_paths(alloc, files, words.path, &first, &second) {
+    match write_paths(alloc, files, words.path, firsts, seconds) {
         Ok(()) => Ok(Done::Chained),
         Err(trouble) => Err(path_failure(trouble)),
     }

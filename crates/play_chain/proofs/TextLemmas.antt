@@ -1,17 +1,22 @@
 -- The rows of the numbers below a bound.
-use Rattle.std.proofs.Common.{◌≡◌, ◌≤◌, ◌<◌, ◌+◌, ◌-◌, ◌∙◌, ℕ, zero, suc, List, [], ◌∷◌, ◌++◌, length, None, Some, refl, ap, sym, arith}
+use Rattle.std.proofs.Common.{◌≡◌, ◌≤◌, ◌+◌, ◌-◌, ◌∙◌, ℕ, zero, suc, List, [], ◌++◌, length, None, Some, Ok, Err, refl, ap, arith}
 use Rattle.std.proofs.lemmas.List.{append-nil}
-use Rattle.std.specs.Prelude.{option_map, slice_get}
+use Rattle.std.specs.Prelude.{IfOk, Result, option_map}
 use Rattle.std.specs.Option.{option_map_or}
 use Rattle.std.specs.declared.option.Option.{Option}
 use Rattle.altq_model.specs.History.{Decision}
 use Rattle.play_loop.specs.declared.kept.KeptFate.{KeptFate}
+use Rattle.play_chain.specs.declared.firsts.First.{First}
+use Rattle.play_chain.specs.declared.firsts.First.TheVariants as first
+use Rattle.play_chain.specs.declared.firsts.Firsts.{Firsts}
 use Rattle.play_chain.specs.declared.outcome.Passage.{Passage}
-use Rattle.play_chain.specs.declared.path.Path.{Path}
-use Rattle.play_chain.specs.Path.{outcome_of, passage, sendings}
-use Rattle.play_chain.specs.Stands.{StandsFor, in_table}
+use Rattle.play_chain.specs.declared.seconds.Second.{Second}
+use Rattle.play_chain.specs.declared.seconds.Seconds.{Seconds}
+use Rattle.play_chain.specs.Path.{decisions_of, outcome_of, passage, sendings}
+use Rattle.play_chain.specs.Tables.{AreOnce, HoldsFirsts, HoldsSeconds, first_in, in_tables, outcome_by, passage_by, second_in, text_in}
 use Rattle.play_chain.specs.Text.{above, path_header, path_row, path_text, rows_below}
 use Rattle.play_chain.proofs.ListLemmas.{none_above}
+use Rattle.play_chain.proofs.PathLemmas.{passages}
 
 both : (as' bs cs ds : List ℕ) → as' ≡ cs → bs ≡ ds → as' ++ bs ≡ cs ++ ds
 both as' bs cs ds e f = cc
@@ -32,14 +37,39 @@ rows_more a (suc d) f h =
 abbrev through : (sent : List ℕ) → List Decision → (n : ℕ) → KeptFate → Passage
 through sent second n f = record { arrival = f.arrival; outcome = outcome_of sent second n f.fate }
 
-none_passes : (first : List KeptFate) (second : List Decision) (n : ℕ) → above first ≤ n → passage first second n ≡ None
-none_passes first second n l = ap (λ (o : Option KeptFate). option_map (through (sendings first) second n) o) (none_above first n l)
+none_passes : (fates : List KeptFate) (js : List Decision) (n : ℕ) → above fates ≤ n → passage fates js n ≡ None
+none_passes fates js n l = ap (λ (o : Option KeptFate). option_map (through (sendings fates) js n) o) (none_above fates n l)
 
-pub text_is : (p : Path) (first : List KeptFate) (second : List Decision) → StandsFor p first second
-    → path_header ++ rows_below (length p.rows.items) (in_table p.rows.items) ≡ path_text first second
-text_is p first second s =
-    let size : length p.rows.items ≡ (length p.rows.items - above first) + above first = omega (arith, s.within) in
-    ap (λ (t : List ℕ). path_header ++ t)
-    (rows_same (length p.rows.items) (in_table p.rows.items) (passage first second) s.table
-    ∙ ap (λ (n : ℕ). rows_below n (passage first second)) size
-    ∙ rows_more (above first) (length p.rows.items - above first) (passage first second) (none_passes first second))
+-- the text of tables that hold these passages
+pub text_is : (t : Firsts) (u : Seconds) (fates : List KeptFate) (js : List Decision) → ((n : ℕ) → in_tables t.rows.items u.rows.items n ≡ passage fates js n)
+    → above fates ≤ length t.rows.items → text_in t u ≡ path_text fates js
+text_is t u fates js table within =
+    let size : length t.rows.items ≡ (length t.rows.items - above fates) + above fates = omega (arith, within) in
+    ap (λ (l : List ℕ). path_header ++ l)
+    (rows_same (length t.rows.items) (in_tables t.rows.items u.rows.items) (passage fates js) table
+    ∙ ap (λ (n : ℕ). rows_below n (passage fates js)) size
+    ∙ rows_more (above fates) (length t.rows.items - above fates) (passage fates js) (none_passes fates js))
+
+-- of what two plays were told
+pub text_held : (t : Firsts) (u : Seconds) (xs ys : List KeptFate) → AreOnce xs → AreOnce ys → HoldsFirsts t xs → HoldsSeconds u ys
+    → text_in t u ≡ path_text xs (decisions_of ys)
+text_held t u xs ys x y first second =
+    text_is t u xs (decisions_of ys) (passages t u.rows.items xs (decisions_of ys) (first x) (λ k some l. second y k)) (first x).within
+
+-- of a second table that was made longer
+passage_same : (row : First) (xs ys : List Second) → ((k : ℕ) → second_in ys k ≡ second_in xs k) → passage_by ys row ≡ passage_by xs row
+passage_same first.Absent xs ys h = refl
+passage_same (first.Dropped at) xs ys h = refl
+passage_same (first.Sent at place) xs ys h =
+    let with_row : Second → Passage = λ row. record { arrival = at; outcome = outcome_by row } in ap (λ (row : Second). Some (with_row row)) (h place)
+
+pub text_same : (t : Firsts) (u v : Seconds) → ((k : ℕ) → second_in v.rows.items k ≡ second_in u.rows.items k) → text_in t v ≡ text_in t u
+text_same t u v h =
+    ap (λ (l : List ℕ). path_header ++ l)
+    (rows_same (length t.rows.items) (in_tables t.rows.items v.rows.items) (in_tables t.rows.items u.rows.items)
+    (λ n. passage_same (first_in t.rows.items n) u.rows.items v.rows.items h))
+
+-- what holds of a value that is answered
+pub ok_as : {T E : Type 0} (r : Result T E) (P Q : T → Type 0) → ((x : T) → P x → Q x) → IfOk r P → IfOk r Q
+ok_as (Ok x) P Q f h = f x h
+ok_as (Err e) P Q f h = h

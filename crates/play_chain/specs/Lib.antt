@@ -1,5 +1,6 @@
 pub mod Path
 pub mod Rows
 pub mod Stands
+pub mod Tables
 pub mod Text
 pub mod Written

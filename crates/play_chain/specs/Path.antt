@@ -42,11 +42,7 @@ abbrev pub second_number : (sent : List ℕ) → (n : ℕ) → ℕ
 second_number [] n = 0
 second_number (m ∷ ms) n = if m == n then 1 else second_number ms n + 1
 
--- the outcome by a first fate alone, and that of a packet that was sent, by its second
-abbrev pub first_outcome : Fate → Outcome
-first_outcome (Dropped r) = outcome.DroppedFirst
-first_outcome (Sent start end rule) = outcome.Sent None
-
+-- the outcome of a packet that was sent, by its second fate
 abbrev pub second_outcome : Option Fate → Outcome
 second_outcome None = outcome.Sent None
 second_outcome (Some (Dropped r)) = outcome.DroppedSecond

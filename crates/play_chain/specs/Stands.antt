@@ -1,27 +1,23 @@
 -- The journals that a path stands for.
-use Rattle.std.specs.Prelude.{◌≡◌, ◌≤◌, ◌<◌, ◌&&◌, ℕ, nat_lt, nat_le, List, [], ◌∷◌, length, None, Some, slice_get, if◌then◌else◌}
-use Rattle.std.specs.declared.option.Option.{Option}
+use Rattle.std.specs.Prelude.{◌≡◌, ◌≤◌, ◌<◌, ◌&&◌, ℕ, nat_lt, nat_le, List, [], ◌∷◌, length, None, if◌then◌else◌}
 use Rattle.altq_model.specs.History.{Decision}
 use Rattle.altq_model.specs.Laws.{numbers, occurs}
 use Rattle.play_loop.specs.declared.kept.KeptFate.{KeptFate}
-use Rattle.play_chain.specs.declared.outcome.Passage.{Passage}
 use Rattle.play_chain.specs.declared.path.Path.{Path}
+use Rattle.play_chain.specs.declared.seconds.Second.{Second}
 use Rattle.play_chain.specs.Path.{fate_under, numbers_of, passage, sendings}
-use Rattle.play_chain.specs.Text.{above}
+use Rattle.play_chain.specs.Tables.{IsFirstTable, in_tables, second_in, second_row}
 
--- the passage that stands in a table under a number
-abbrev pub found : Option (Option Passage) → Option Passage
-found None = None
-found (Some p) = p
+-- the second fate of each sending up to this count has a row, and stands there if it is known
+pub record HasSeconds (rows : List Second) (count : ℕ) (second : List Decision) : Type 0 where
+  pub stands : (k : ℕ) → 0 < k → k ≤ count → second_in rows k ≡ second_row (fate_under second k)
+  pub room : (k : ℕ) → 0 < k → k ≤ count → k < length rows
 
-abbrev pub in_table : List (Option Passage) → (n : ℕ) → Option Passage
-in_table rows n = found (slice_get rows n)
-
--- its table holds the passages through these two journals, each of which has a number once; second fates are of sendings
+-- its tables hold the passages through these two journals, each of which has a number once; second fates are of sendings
 pub record StandsFor (p : Path) (first : List KeptFate) (second : List Decision) : Type 0 where
-  pub table : (n : ℕ) → in_table p.rows.items n ≡ passage first second n
-  pub within : above first ≤ length p.rows.items
-  pub sent : p.sent.items ≡ sendings first
+  pub table : (n : ℕ) → in_tables p.firsts.rows.items p.seconds.rows.items n ≡ passage first second n
+  pub firsts : IsFirstTable p.firsts first
+  pub seconds : HasSeconds p.seconds.rows.items (length (sendings first)) second
   pub once : (n : ℕ) → occurs n (numbers_of first) ≤ 1
   pub of_sent : (k : ℕ) → length (sendings first) < k → fate_under second k ≡ None
 

@@ -2,16 +2,20 @@
 //! the fates of both plays, and makes a text of comma-separated values.
 #![tactic(auto)]
 
+mod firsts;
 mod laws;
 mod outcome;
 mod path;
 mod row;
+mod seconds;
 mod table;
 mod through;
 mod worked;
 
+pub use firsts::{First, Firsts};
 pub use laws::kept_journals_are_journals;
 pub use outcome::{Outcome, Passage};
 pub use path::Path;
+pub use seconds::{Second, Seconds};
 pub use through::paths_through;
 pub use worked::worked_paths;

@@ -1,7 +1,7 @@
 // The paths of packets through two links.
-use crate::outcome::{Passage, first_outcome, second_outcome};
+use crate::firsts::Firsts;
 use crate::row::table_text;
-use crate::table::{make_room, note_sending, passage_of, set_passage};
+use crate::seconds::{Second, Seconds, make_room, row_of, set_row};
 use altq_model::Fate;
 use play_base::NoMemory;
 use std::alloc::Global;
@@ -11,10 +11,8 @@ use std::alloc::Global;
 #[derive(Debug, Drop)]
 pub struct Path {
     pub(crate) alloc: Global,
-    // what is known of each number, from 0
-    pub(crate) rows: Vec<Option<Passage>>,
-    // the numbers of the sendings of the first play
-    pub(crate) sent: Vec<u64>,
+    pub(crate) firsts: Firsts,
+    pub(crate) seconds: Seconds,
 }
 
 impl Path {
@@ -22,7 +20,8 @@ impl Path {
     ghost use Rattle.altq_model.specs.History.{Decision};
     ghost use Rattle.play_loop.specs.declared.kept.KeptFate.{KeptFate};
     ghost use Rattle.play_chain.specs.Path.{sendings};
-    ghost use Rattle.play_chain.specs.Stands.{StandsFor, TakesFirst, TakesSecond};
+    ghost use Rattle.play_chain.specs.Stands.{StandsFor, TakesFirst, TakesSecond, of_sendings};
+    ghost use Rattle.play_chain.specs.Tables.{AreOnce, IsFirstTable, IsSecondTable, text_in};
     ghost use Rattle.play_chain.specs.Text.{path_text};
 
     /// No packet. Takes no memory.
@@ -31,9 +30,25 @@ impl Path {
     {
         Path {
             alloc,
-            rows: Vec::new(alloc),
-            sent: Vec::new(alloc),
+            firsts: Firsts::new(alloc),
+            seconds: Seconds::new(alloc),
         }
+    }
+
+    /// The paths by the fates of both plays. Second fates whose number is not that of a sending of the first play are passed over. The
+    /// only error is lack of memory; takes at most 16 bytes for each sending, and none where each has a second fate.
+    pub fn through(alloc: Global, firsts: Firsts, seconds: Seconds) -> Result<Path, NoMemory>
+        ensures stands { IfOk result (λ path. (first : List KeptFate) (second : List Decision) → AreOnce first → IsFirstTable firsts first
+            → IsSecondTable seconds second → StandsFor path first (of_sendings (length (sendings first)) second)) }
+        ensures text { IfOk result (λ path. text_in path.firsts path.seconds ≡ text_in firsts seconds) }
+    {
+        let mut path = Path {
+            alloc,
+            firsts,
+            seconds,
+        };
+        make_room(&mut path.seconds.rows, path.firsts.sent)?;
+        Ok(path)
     }
 
     /// The next fate of the first play: the number of its packet, which was not given before, its arrival in nanoseconds, and its fate.
@@ -45,21 +60,17 @@ impl Path {
             → StandsFor self.new (first ++ record { number = number; arrival = at; fate = fate.now } ∷ []) second) }
         ensures refused { OnErr result ((first : List KeptFate) (second : List Decision) → StandsFor self.old first second → StandsFor self.new first second) }
     {
-        make_room(&mut self.rows, number)?;
-        note_sending(&mut self.sent, number, fate)?;
-        let passage = Passage {
-            arrival: at,
-            outcome: first_outcome(fate),
-        };
-        set_passage(&mut self.rows, number, passage);
-        Ok(())
+        let place = self.firsts.next_place()?;
+        make_room(&mut self.seconds.rows, place)?;
+        set_row(&mut self.seconds.rows, place, Second::Absent);
+        self.firsts.add(number, at, fate)
     }
 
     /// How many packets the first play sent, of those whose fates were given. Takes no memory.
     pub fn sendings(&self) -> u64
         ensures { (first : List KeptFate) (second : List Decision) → StandsFor self.now first second → result ≡ length (sendings first) }
     {
-        self.sent.len() as u64
+        self.firsts.sent
     }
 
     /// The next fate of the second play: the number of its packet there, from 1 to the count of sendings that were given, and not given
@@ -69,15 +80,7 @@ impl Path {
         ensures { (first : List KeptFate) (second : List Decision) → StandsFor self.old first second
             → StandsFor self.new first (second ++ (number, fate.now) ∷ []) }
     {
-        let first = self.sent[number as usize - 1];
-        let Some(passage) = passage_of(&self.rows, first) else {
-            return;
-        };
-        let passage = Passage {
-            arrival: passage.arrival,
-            outcome: second_outcome(fate),
-        };
-        set_passage(&mut self.rows, first, passage);
+        set_row(&mut self.seconds.rows, number, row_of(fate));
     }
 
     /// The text of the paths: the head row `number,arrival,outcome,end`, and a row for each packet of the first play, in the order of
@@ -85,10 +88,11 @@ impl Path {
     /// where the second fate is not known. The only error is lack of memory. Costs the length of the text, and a step for each number
     /// up to the greatest.
     pub fn text(&self) -> Result<Vec<u8>, NoMemory>
-        ensures { IfOk result (λ text. (first : List KeptFate) (second : List Decision) → StandsFor self.now first second
+        ensures paths { IfOk result (λ text. (first : List KeptFate) (second : List Decision) → StandsFor self.now first second
             → text.items ≡ path_text first second) }
+        ensures tables { IfOk result (λ text. text.items ≡ text_in self.now.firsts self.now.seconds) }
     {
-        let text = table_text(self.alloc, &self.rows)?;
+        let text = table_text(self.alloc, &self.firsts.rows, &self.seconds.rows)?;
         Ok(text)
     }
 }

@@ -1,11 +1,13 @@
 // The rows of the text of paths.
 ghost use Rattle.std.specs.Prelude.{◌≡◌, ◌∷◌, ◌++◌, [], IfOk, OnOk, length, map};
 ghost use Rattle.csv.specs.Writing.{default_writer, row_text, writer_pending, writer_under};
-ghost use Rattle.play_chain.specs.Stands.{in_table};
+ghost use Rattle.play_chain.specs.Tables.{in_tables};
 ghost use Rattle.play_chain.specs.Text.{path_header, path_row, rows_below};
 ghost use Rattle.play_chain.specs.Written.{IsBetweenRows};
 
+use crate::firsts::First;
 use crate::outcome::{Outcome, Passage};
+use crate::seconds::Second;
 use crate::table::passage_of;
 use csv::{Writer, WriterBuilder};
 use itoa::Buffer;
@@ -78,15 +80,15 @@ fn add_row(writer: &mut Writer<Vec<u8>>, number: u64, passage: Passage) -> Resul
     }
 }
 
-/// The text of a table of passages: the head row, and a row for each number that has one. The only error is lack of memory.
-pub fn table_text(alloc: Global, rows: &[Option<Passage>]) -> Result<Vec<u8>, NoMemory>
-    ensures { IfOk result (λ text. text.items ≡ path_header ++ rows_below (length rows.now) (in_table rows.now)) }
+/// The text of the passages of two tables: the head row, and a row for each number that has one. The only error is lack of memory.
+pub fn table_text(alloc: Global, firsts: &[First], seconds: &[Second]) -> Result<Vec<u8>, NoMemory>
+    ensures { IfOk result (λ text. text.items ≡ path_header ++ rows_below (length firsts.now) (in_tables firsts.now seconds.now)) }
 {
     let mut text = Vec::new(alloc);
     text.extend_from_slice(path_header())?;
     let mut writer = writer_over(text);
-    'rows: for number in 0..rows.len() {
-        if let Some(passage) = passage_of(rows, number as u64) {
+    'rows: for number in 0..firsts.len() {
+        if let Some(passage) = passage_of(firsts, seconds, number as u64) {
             add_row(&mut writer, number as u64, passage)?;
         }
     }

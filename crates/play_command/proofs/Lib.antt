@@ -4,7 +4,6 @@ pub mod EndLemmas
 pub mod FilesLemmas
 pub mod FoundLemmas
 pub mod InputLemmas
-pub mod KeptLemmas
 pub mod LateLemmas
 pub mod Laws
 pub mod NamedLemmas

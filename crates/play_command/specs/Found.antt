@@ -52,10 +52,3 @@ pub record TellsOf (kept : List KeptFate → Type 0) (old new : View) (n : Names
 pub record PlaysBy (stands : List Happened → Type 0) (kept : List KeptFate → Type 0) (old new : View) (n : Names) (seed : ℕ) (i : Interface) (totals : Totals) : Type 0 where
   pub stood : IsTrue old.tells → HasStood stands old new n seed
   pub tells : TellsOf kept old new n seed i totals
-
--- the play is done, and these are its fates
-pub record PlaysFor (old new : View) (n : Names) (seed : ℕ) (i : Interface) (fates : List KeptFate) : Type 0 where
-  pub ends : PlayEnds old new n seed (Ok Played)
-  pub told : IsTrue old.tells → HasTold (λ ks. fates ≡ ks) old new n seed
-  pub totals : Totals
-  pub decided : HasDecided (setup_of i seed) (λ ks. fates ≡ ks) totals

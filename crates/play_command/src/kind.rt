@@ -18,8 +18,9 @@ use play_loop::{Keeper, KeepsNothing, PlayFault, Totals};
 use play_words::PlayWords;
 use std::alloc::Global;
 
-/// Plays an interface by HFSC or CBQ as the configuration says, and tells a keeper the journal.
-pub(crate) fn play_told<K: Keeper, F: Files>(
+/// Does what `play_found` does, and tells each decision of the play to a keeper that was told nothing. After Ok that was told exactly
+/// the journal of the play, each packet with its arrival.
+pub fn play_found_told<K: Keeper, F: Files>(
     alloc: Global,
     files: &mut F,
     found: &Interface,
@@ -70,5 +71,5 @@ pub fn play_found<F: Files>(
     ensures silent { (F.view files.new).said ≡ (F.view files.old).said }
     ensures high { (f p : ℕ) → (F.view files.old).part f ≡ None → (F.view files.new).part f ≡ Some p → 2 ≤ p }
 {
-    play_told(alloc, files, found, words, &mut KeepsNothing)
+    play_found_told(alloc, files, found, words, &mut KeepsNothing)
 }

@@ -14,7 +14,7 @@ use Rattle.command_base.proofs.ReadingLemmas.{accepts_of, configured_of, input_c
 use Rattle.chain_command.specs.Chaining.{ChainEnds}
 use Rattle.chain_command.specs.Links.{links_read}
 use Rattle.play_command.proofs.BehindLemmas.{accepts_since}
-use Rattle.chain_command.proofs.ChainLemmas.{chained_ends, classic_then, has_read, next_then, once_decided, unplayed_ends, unplayed_second, unwritten_ends}
+use Rattle.chain_command.proofs.ChainLemmas.{chained_ends, classic_then, has_read, next_then, unplayed_ends, unplayed_second, unwritten_ends}
 use Rattle.chain_command.proofs.FirstLemmas.{config_ends, next_ends}
 use Rattle.chain_command.proofs.LeavingLemmas.{apart}
 use Rattle.chain_command.proofs.chaining.chain.Goals as goal
@@ -52,32 +52,32 @@ returns-in_default-interface-clause-ends g c =
     (λ t. read_absent u n.first.config n.next c.in-Ok.conf c.in-Ok.ensures.read (sym c.in_default-interface.ensures) t)
     (record { keeps = c.in-Ok.ensures.keeps; only = c.in-Ok.ensures.only }))
 
-pub play_found_kept-requires-clause-configured : goal.play_found_kept-requires-clause-configured
-play_found_kept-requires-clause-configured g c = configured_of c.args.words.now.play.interface.now c.in-Ok.ensures.read.text c.in-Ok.conf c.in-Some.found.now
+pub play_first-requires-clause-configured : goal.play_first-requires-clause-configured
+play_first-requires-clause-configured g c = configured_of c.args.words.now.play.interface.now c.in-Ok.ensures.read.text c.in-Ok.conf c.in-Some.found.now
     c.in-Ok.ensures.read.reads (sym c.in-Some.ensures)
 
-pub play_found_kept-requires-clause-accepted : goal.play_found_kept-requires-clause-accepted
-play_found_kept-requires-clause-accepted g c =
+pub play_first-requires-clause-accepted : goal.play_first-requires-clause-accepted
+play_first-requires-clause-accepted g c =
     let n = links_read c.args.words.now in
     let u = g.F.Files.view c.args.files.now in
     accepts_since u (g.F.Files.view c.read_conf.new.files) n.first.config n.first.interface c.in-Some.found.now c.in-Ok.ensures.keeps
     (accepts_of u n.first.config n.first.interface c.in-Ok.conf c.in-Some.found.now c.in-Ok.ensures.read (sym c.in-Some.ensures))
 
-pub play_found_kept-requires-clause-distinct : goal.play_found_kept-requires-clause-distinct
-play_found_kept-requires-clause-distinct g c = (apart (links_read c.args.words.now) c.requires).first
+pub play_first-requires-clause-distinct : goal.play_first-requires-clause-distinct
+play_first-requires-clause-distinct g c = (apart (links_read c.args.words.now) c.requires).first
 
-pub returns-in-Err-play_found_kept-clause-ends : goal.returns-in-Err-play_found_kept-clause-ends
-returns-in-Err-play_found_kept-clause-ends g c =
+pub returns-in-Err-play_first-clause-ends : goal.returns-in-Err-play_first-clause-ends
+returns-in-Err-play_first-clause-ends g c =
     let n = links_read c.args.words.now in
     let u = g.F.Files.view c.args.files.now in
     let a = g.F.Files.view c.read_conf.new.files in
-    let w = g.F.Files.view c.play_found_kept.new.files in
-    let x = c.in-Err-play_found_kept.ensures in
+    let w = g.F.Files.view c.play_first.new.files in
+    let x = c.in-Err-play_first.ensures in
     let P : Failure → Type 0 = λ f. ChainEnds u w n c.args.words.now.play.seed (Err f) in
     let r = has_read u a n c.in-Ok.conf _ _ c.requires (record { keeps = c.in-Ok.ensures.keeps; only = c.in-Ok.ensures.only }) c.in-Ok.ensures.said
     c.in-Ok.ensures.no_fault c.in-Ok.ensures.read (sym c.in-Some.ensures) (sym c.in-Some-interface.ensures) in
     subst P (sym c.unplayed_first.ensures)
-    (unplayed_ends u a n c.in-Some.found.now c.in-Some-interface.next.now r w c.args.words.now.play.seed c.in-Err-play_found_kept.fault x.ends x.high)
+    (unplayed_ends u a n c.in-Some.found.now c.in-Some-interface.next.now r w c.args.words.now.play.seed c.in-Err-play_first.fault x.ends x.high)
 
 pub play_second-requires-clause-configured : goal.play_second-requires-clause-configured
 play_second-requires-clause-configured g c = configured_of c.args.words.now.next.now c.in-Ok.ensures.read.text c.in-Ok.conf c.in-Some-interface.next.now
@@ -88,11 +88,11 @@ play_second-requires-clause-accepted g c =
     let n = links_read c.args.words.now in
     let u = g.F.Files.view c.args.files.now in
     let a = g.F.Files.view c.read_conf.new.files in
-    let w = g.F.Files.view c.play_found_kept.new.files in
+    let w = g.F.Files.view c.play_first.new.files in
     let found = c.in-Some.found.now in
     let next = c.in-Some-interface.next.now in
     let seed = c.args.words.now.play.seed in
-    let x = c.in-Ok-play_found_kept.ensures in
+    let x = c.in-Ok-play_first.ensures in
     let r = has_read u a n c.in-Ok.conf _ _ c.requires (record { keeps = c.in-Ok.ensures.keeps; only = c.in-Ok.ensures.only }) c.in-Ok.ensures.said
     c.in-Ok.ensures.no_fault c.in-Ok.ensures.read (sym c.in-Some.ensures) (sym c.in-Some-interface.ensures) in
     let P : Names → Type 0 = λ z. Accepts w z.config z.interface next in
@@ -103,11 +103,11 @@ play_second-requires-clause-classic g c =
     let n = links_read c.args.words.now in
     let u = g.F.Files.view c.args.files.now in
     let a = g.F.Files.view c.read_conf.new.files in
-    let w = g.F.Files.view c.play_found_kept.new.files in
+    let w = g.F.Files.view c.play_first.new.files in
     let found = c.in-Some.found.now in
     let next = c.in-Some-interface.next.now in
     let seed = c.args.words.now.play.seed in
-    let x = c.in-Ok-play_found_kept.ensures in
+    let x = c.in-Ok-play_first.ensures in
     let r = has_read u a n c.in-Ok.conf _ _ c.requires (record { keeps = c.in-Ok.ensures.keeps; only = c.in-Ok.ensures.only }) c.in-Ok.ensures.said
     c.in-Ok.ensures.no_fault c.in-Ok.ensures.read (sym c.in-Some.ensures) (sym c.in-Some-interface.ensures) in
     let P : Names → Type 0 = λ z. IsTrue w.tells → (given : List ℕ) → w.bytes z.arrivals ≡ Some given → is_pcapng given ≡ false in
@@ -123,11 +123,11 @@ returns-in-Err-play_second-clause-ends g c =
     let n = links_read c.args.words.now in
     let u = g.F.Files.view c.args.files.now in
     let a = g.F.Files.view c.read_conf.new.files in
-    let w = g.F.Files.view c.play_found_kept.new.files in
+    let w = g.F.Files.view c.play_first.new.files in
     let found = c.in-Some.found.now in
     let next = c.in-Some-interface.next.now in
     let seed = c.args.words.now.play.seed in
-    let x = c.in-Ok-play_found_kept.ensures in
+    let x = c.in-Ok-play_first.ensures in
     let r = has_read u a n c.in-Ok.conf _ _ c.requires (record { keeps = c.in-Ok.ensures.keeps; only = c.in-Ok.ensures.only }) c.in-Ok.ensures.said
     c.in-Ok.ensures.no_fault c.in-Ok.ensures.read (sym c.in-Some.ensures) (sym c.in-Some-interface.ensures) in
     let P : Failure → Type 0 = λ f. ChainEnds u (g.F.Files.view c.play_second.new.files) n seed (Err f) in
@@ -135,41 +135,34 @@ returns-in-Err-play_second-clause-ends g c =
     (unplayed_second u a n found next r w seed x.done.ends x.high (g.F.Files.view c.play_second.new.files) _ _ c.in-Err-play_second.fault
     c.second_words.ensures.names c.second_words.ensures.seed c.in-Err-play_second.ensures.ends)
 
-pub write_paths-requires-clause-first : goal.write_paths-requires-clause-first
-write_paths-requires-clause-first g c =
-    let x = c.in-Ok-play_found_kept.ensures in once_decided _ _ x.done.totals x.done.decided
-
-pub write_paths-requires-clause-second : goal.write_paths-requires-clause-second
-write_paths-requires-clause-second g c =
-    let y = c.in-Ok-play_second.ensures in once_decided _ _ y.done.plays.totals y.done.plays.decided
-
 pub returns-in-Ok-write_paths-clause-ends : goal.returns-in-Ok-write_paths-clause-ends
 returns-in-Ok-write_paths-clause-ends g c =
     let n = links_read c.args.words.now in
     let u = g.F.Files.view c.args.files.now in
     let a = g.F.Files.view c.read_conf.new.files in
-    let w = g.F.Files.view c.play_found_kept.new.files in
+    let w = g.F.Files.view c.play_first.new.files in
     let found = c.in-Some.found.now in
     let next = c.in-Some-interface.next.now in
     let seed = c.args.words.now.play.seed in
-    let x = c.in-Ok-play_found_kept.ensures in
+    let x = c.in-Ok-play_first.ensures in
     let r = has_read u a n c.in-Ok.conf _ _ c.requires (record { keeps = c.in-Ok.ensures.keeps; only = c.in-Ok.ensures.only }) c.in-Ok.ensures.said
     c.in-Ok.ensures.no_fault c.in-Ok.ensures.read (sym c.in-Some.ensures) (sym c.in-Some-interface.ensures) in
     let y = c.in-Ok-play_second.ensures in
     let z = c.in-Ok-write_paths.ensures in
     chained_ends u a w (g.F.Files.view c.play_second.new.files) (g.F.Files.view c.write_paths.new.files) n found next r seed _ _ c.second_words.ensures.names
-    c.second_words.ensures.seed _ _ x.done x.high y.done c.configurations_fit.ensures z.adds z.whole z.no_fault
+    c.second_words.ensures.seed c.in-Ok-play_first.firsts c.in-Ok-play_second.seconds
+    x.done x.high y.done c.configurations_fit.ensures z.adds z.whole z.no_fault
 
 pub returns-clause-ends : goal.returns-clause-ends
 returns-clause-ends g c =
     let n = links_read c.args.words.now in
     let u = g.F.Files.view c.args.files.now in
     let a = g.F.Files.view c.read_conf.new.files in
-    let w = g.F.Files.view c.play_found_kept.new.files in
+    let w = g.F.Files.view c.play_first.new.files in
     let found = c.in-Some.found.now in
     let next = c.in-Some-interface.next.now in
     let seed = c.args.words.now.play.seed in
-    let x = c.in-Ok-play_found_kept.ensures in
+    let x = c.in-Ok-play_first.ensures in
     let r = has_read u a n c.in-Ok.conf _ _ c.requires (record { keeps = c.in-Ok.ensures.keeps; only = c.in-Ok.ensures.only }) c.in-Ok.ensures.said
     c.in-Ok.ensures.no_fault c.in-Ok.ensures.read (sym c.in-Some.ensures) (sym c.in-Some-interface.ensures) in
     let y = c.in-Ok-play_second.ensures in
@@ -177,5 +170,6 @@ returns-clause-ends g c =
     let P : Failure → Type 0 = λ f. ChainEnds u (g.F.Files.view c.write_paths.new.files) n seed (Err f) in
     subst P (sym c.path_failure.ensures)
     (unwritten_ends u a w (g.F.Files.view c.play_second.new.files) (g.F.Files.view c.write_paths.new.files) n found next r seed _ _ c.second_words.ensures.names
-    c.second_words.ensures.seed _ _ x.done x.high y.done c.configurations_fit.ensures z.adds c.in-Err-write_paths.trouble
+    c.second_words.ensures.seed c.in-Ok-play_first.firsts c.in-Ok-play_second.seconds
+    x.done x.high y.done c.configurations_fit.ensures z.adds c.in-Err-write_paths.trouble
     (λ e. z.failed (ap {B = Result (Unit {0}) Trouble} (λ (t : Trouble). Err t) e)))

@@ -10,4 +10,4 @@ returns-in-Err-clause-adds g c = adds_nothing _ 10 _ _
 pub returns-in-Ok-write_text-clause-adds : goal.returns-in-Ok-write_text-clause-adds
 returns-in-Ok-write_text-clause-adds g c =
     let P : List ℕ → Type 0 = λ text. AddsFile (g.F.Files.view c.args.files.now) (g.F.Files.view c.write_text.new.files) 10 c.args.name.now text in
-    subst P (c.as_slice.ensures.value ∙ c.in-Ok.ensures) c.in-Ok-write_text.ensures.adds
+    subst P (c.as_slice.ensures.value ∙ c.in-Ok.ensures.tables) c.in-Ok-write_text.ensures.adds

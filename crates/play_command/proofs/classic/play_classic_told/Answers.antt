@@ -3,7 +3,7 @@ use Rattle.command_base.specs.Names.{names_read}
 use Rattle.command_base.proofs.ReadingLemmas.{fits}
 use Rattle.play_command.proofs.FoundLemmas.{found_unbuilt}
 use Rattle.play_command.proofs.Laws.{have_laws}
-use Rattle.play_command.proofs.kept.classic_told.Goals as goal
+use Rattle.play_command.proofs.classic.play_classic_told.Goals as goal
 
 pub hfsc_of-requires-clause-fit : goal.hfsc_of-requires-clause-fit
 hfsc_of-requires-clause-fit g c = fits c.args.found.now c.configurations_fit.ensures c.requires.configured
