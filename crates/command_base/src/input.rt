@@ -7,8 +7,7 @@ ghost use Rattle.play_base.specs.View.{Any, Keeps, NoneAppears, ReadFault, SameC
 ghost use Rattle.command_base.specs.Configuration.{absent, most_bytes};
 ghost use Rattle.command_base.specs.Input.{BytesCauses, HadLeft, HadMore, InputCauses, IsOfFile, IsRead, OnlyReads, TookFew};
 
-use crate::ConfigFault;
-use crate::part;
+use crate::{ConfigFault, part};
 use conf_lines::{ConfFault, ConfKind, ConfPlace, statements};
 use conf_tree::Conf;
 use play_base::{Files, Trouble};

@@ -51,7 +51,7 @@ plain_byte : (b : ℕ) → eqb b 44 ≡ false → eqb b 34 ≡ false → eqb b 1
 plain_byte b comma quote cr feed = rw (comma, quote, cr, feed) refl
 
 -- digits
-digit_is_not : (b m : ℕ) → IsInRange 48 57 b → m < 48 → eqb b m ≡ false
+pub digit_is_not : (b m : ℕ) → IsInRange 48 57 b → m < 48 → eqb b m ≡ false
 digit_is_not b m h l = not-true (eqb b m) (λ t. omega (arith, h.0, l, eqb-true b m t))
 
 plain_digit : (b : ℕ) → IsInRange 48 57 b → needs_byte default_writer b ≡ false

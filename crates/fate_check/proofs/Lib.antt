@@ -1,5 +1,6 @@
 pub mod CutLemmas
 pub mod FieldLemmas
+pub mod FrontLemmas
 pub mod NameLemmas
 pub mod NumberLemmas
 pub mod OneLemmas

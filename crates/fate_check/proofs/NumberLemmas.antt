@@ -15,7 +15,7 @@ digits_are : (radix : ℕ) (text : List ℕ) → AllDigits radix text → are_di
 digits_are radix [] h = refl
 digits_are radix (byte ∷ text) h = rw (lt-ltb (digit_value byte) radix h.0, digits_are radix text h.1) refl
 
-are_all : (radix : ℕ) (text : List ℕ) → are_digits radix text ≡ true → AllDigits radix text
+pub are_all : (radix : ℕ) (text : List ℕ) → are_digits radix text ≡ true → AllDigits radix text
 are_all radix [] h = tt
 are_all radix (byte ∷ text) h =
     let parts = and_parts (is_digit byte radix) (are_digits radix text) h in (below-by _ _ parts.0, are_all radix text parts.1)

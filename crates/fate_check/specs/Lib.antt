@@ -1,4 +1,5 @@
 pub mod Fault
+pub mod Front
 pub mod Given
 pub mod Parse
 pub mod RowFields

@@ -1,6 +1,7 @@
 //! Given fates against the arrivals, whoever made them.
 #![tactic(auto)]
 
+mod front;
 mod laws;
 mod parse;
 mod reading;

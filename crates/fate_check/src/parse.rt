@@ -1,8 +1,10 @@
 // A row of fates at the front of a text.
-ghost use Rattle.std.specs.Prelude.{◌≡◌, option_map};
+ghost use Rattle.std.specs.Prelude.{◌≡◌, IfSome, Some, option_map};
+ghost use Rattle.fate_check.specs.Front.{StandsBehind};
 ghost use Rattle.fate_check.specs.Parse.{dropped_of, fate_of, fields_of, len_of, number_of, reason_of, row_in, row_of, rule_of, sent_of};
 ghost use Rattle.fate_check.specs.RowFields.{texts_in};
 
+use crate::front::number_before;
 use crate::reading::Row;
 use altq_model::{Fate, Reason, Rule};
 use line_text::{cut, decimal};
@@ -150,11 +152,54 @@ fn row_by(fields: RowFields<'_>, names: &Names) -> Option<Row>
     })
 }
 
+// The fate of a word, by the two fields at the front of a text, and what stands behind them. Where none is found there may still be
+// one.
+fn fate_before<'a>(word: &[u8], text: &'a [u8]) -> Option<(Fate, &'a [u8])>
+    ensures { IfSome result (λ p. StandsBehind word.now text.now p.0 p.1.now) }
+{
+    let Some(rule) = rule_named(word) else {
+        let (start, text) = cut(b',', text)?;
+        let (end, rest) = cut(b'\n', text)?;
+        return Some((fate_in(word, start, end)?, rest));
+    };
+    let (start, text) = number_before(b',', text)?;
+    let (end, text) = number_before(b'\n', text)?;
+    Some((Fate::Sent { start, end, rule }, text))
+}
+
+// The row at the front of a text, and what stands behind it, where its numbers are found in one look. Where none is found there may
+// still be one.
+fn row_before<'a>(text: &'a [u8], names: &Names) -> Option<(Row, &'a [u8])>
+    ensures { IfSome result (λ p. row_of names.now text.now ≡ Some (p.0, p.1.now)) }
+{
+    let (number, text) = number_before(b',', text)?;
+    let (at, text) = number_before(b',', text)?;
+    let (len, text) = number_before(b',', text)?;
+    let (class, text) = cut(b',', text)?;
+    let (word, text) = cut(b',', text)?;
+    let (fate, text) = fate_before(word, text)?;
+    let Ok(len) = u32::try_from(len) else {
+        return None;
+    };
+    let row = Row {
+        number,
+        at,
+        len,
+        class: names.class(class)?,
+        fate,
+    };
+    Some((row, text))
+}
+
 // The row at the front of a text, and what stands behind it.
 #[tactic(auto, unfolding(crate::specs::Parse::row_of))]
 pub(crate) fn row_at<'a>(text: &'a [u8], names: &Names) -> Option<(Row, &'a [u8])>
     ensures { option_map (λ p. (p.0, p.1.now)) result ≡ row_of names.now text.now }
 {
+    let found = row_before(text, names);
+    if found.is_some() {
+        return found;
+    }
     let (fields, rest) = fields_in(text)?;
     Some((row_by(fields, names)?, rest))
 }

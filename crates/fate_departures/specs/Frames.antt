@@ -4,7 +4,7 @@ use Rattle.std.specs.Option.{option_map_or}
 use Rattle.altq_model.specs.History.{Coming}
 use Rattle.fate_judge.specs.Given.{comings}
 use Rattle.fate_departures.specs.declared.frames.Frames.{Frames}
-use Rattle.pcap_files.specs.declared.record.Record.{Record}
+use Rattle.input_files.specs.Records.{Shown}
 
 -- packets in order of number, and which classes have a queue that marks
 pub record Packets : Type 0 where
@@ -13,8 +13,8 @@ pub record Packets : Type 0 where
   pub marks : List Bool
 
 -- the captured bytes of a record
-abbrev pub bytes_of : Record → List ℕ
-bytes_of r = r.bytes
+abbrev pub bytes_of : Shown → List ℕ
+bytes_of s = s.bytes
 
 abbrev pub frames_in : Frames → Packets
 frames_in f = record { arrived = comings f.arrived.now; frames = map bytes_of f.records.now; marks = f.marks.now }

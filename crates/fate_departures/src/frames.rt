@@ -3,14 +3,14 @@ ghost use Rattle.std.specs.Prelude.{◌≡◌, ◌<◌, ◌-◌, ◌^◌, length
 ghost use Rattle.fate_departures.specs.Frames.{frame_of, frames_in, is_markable};
 
 use fate_judge::Arrived;
-use pcap_files::Record;
+use input_files::Records;
 
 /// Packets as they arrived, and their records.
 #[derive(Clone, Copy)]
 pub struct Frames<'a> {
     pub arrived: &'a [Arrived],
     /// The records of all packets, in the order of number.
-    pub records: &'a [Record],
+    pub records: &'a Records,
     /// By class: whether its queue marks packets in place of early drops.
     pub marks: &'a [bool],
 }
@@ -29,7 +29,7 @@ impl Frames<'_> {
         ensures short { length result.now < 2 ^ 32 }
     {
         match self.records.get(Self::index(number)) {
-            Some(record) => record.bytes.as_slice(),
+            Some(found) => found.bytes,
             None => &[],
         }
     }

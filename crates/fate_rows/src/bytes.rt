@@ -6,6 +6,7 @@ use altq_model::Placed;
 use discipline::Classify;
 use fate_check::Row;
 use fate_departures::{Frames, first_other_departure};
+use input_files::Records;
 use pcap_files::Record;
 use play_base::{Bytes, NoMemory};
 use std::alloc::Global;
@@ -42,13 +43,13 @@ fn other(alloc: Global, departures: &[u8]) -> Result<Option<u64>, NoMemory> {
     let mut row: Row = sent(1, 0, 1_000_000);
     row.len = 1000;
     let captured = [69u8, 2, 0, 40].to_vec(alloc)?;
-    let record = Record {
+    let mut records = Records::new(alloc);
+    records.add(&Record {
         number: 1,
         stamp: 0,
         len: 1000,
         bytes: Bytes::of(captured),
-    };
-    let records = vec![in alloc; record]?;
+    })?;
     let frames = Frames {
         arrived: &[packet(0)],
         records: &records,

@@ -20,9 +20,8 @@ use Rattle.fate_laws.specs.Plays.{AreSome}
 use Rattle.file_tests.specs.declared.Test.{Test}
 use Rattle.file_tests.specs.declared.Test.TheVariants as test
 use Rattle.given_play.specs.Rights.{allowed_of, marks_of}
-use Rattle.input_files.specs.Records.{Shown, shown_by, shown_of}
+use Rattle.input_files.specs.Records.{Shown, shown_of}
 use Rattle.interface_policy.specs.Policy.{queue_names}
-use Rattle.pcap_files.specs.declared.record.Record.{Record as Answer}
 use Rattle.play_text.specs.Names.{NameList}
 use Rattle.file_judge.specs.Given.{Given, arrived_in, captured_of, case_of, dress_of, is_unlimited, packets_in}
 use Rattle.file_judge.specs.Verdict.{AreBusy, AreRows, AreTheirDepartures, EndsByDue, FitTheLink, IfRows, IfTest, IsRefuted, IsUnverified, test_of}
@@ -42,16 +41,12 @@ abbrev pub with_frames : Given → List Coming → List (List ℕ) → Packets
 with_frames g arrived frames = record { arrived = arrived; frames = frames; marks = marks_of g.interface }
 
 -- the bytes of shown records are those captured
-shown_bytes : (answers : List Answer) → map (λ (s : Shown). s.bytes) (map shown_by answers) ≡ map bytes_of answers
-shown_bytes [] = refl
-shown_bytes (a ∷ answers) = ap (λ (xs : List (List ℕ)). a.bytes ∷ xs) (shown_bytes answers)
-
-captured_bytes : (capture : List Record) → map (λ (s : Shown). s.bytes) (map shown_of capture) ≡ map captured_of capture
+captured_bytes : (capture : List Record) → map bytes_of (map shown_of capture) ≡ map captured_of capture
 captured_bytes [] = refl
 captured_bytes (r ∷ capture) = ap (λ (xs : List (List ℕ)). r.captured ∷ xs) (captured_bytes capture)
 
-pub bytes_same : (answers : List Answer) (capture : List Record) → map shown_by answers ≡ map shown_of capture → map bytes_of answers ≡ map captured_of capture
-bytes_same answers capture e = sym (shown_bytes answers) ∙ ap (map (λ (s : Shown). s.bytes)) e ∙ captured_bytes capture
+pub bytes_same : (shown : List Shown) (capture : List Record) → shown ≡ map shown_of capture → map bytes_of shown ≡ map captured_of capture
+bytes_same shown capture e = ap (map bytes_of) e ∙ captured_bytes capture
 
 -- a test of rows
 rows_fail : (g : Given) (rows : List Row) (row : ℕ) (k : Kind) → AreRows g rows → IsRefutedBy (case_of g rows) row k → IsRefuted g row (test_of k)

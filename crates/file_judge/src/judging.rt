@@ -3,7 +3,7 @@ ghost use Rattle.std.specs.Prelude.{◌≡◌, ◌≤◌, List, IfErr, IfOk, len
 ghost use Rattle.capture_model.specs.Capture.{Record as Original};
 ghost use Rattle.conf_laws.specs.Fit.{IsInterface};
 ghost use Rattle.file_judge.specs.Verdict.{AreVerified, IsUnverified};
-ghost use Rattle.input_files.specs.Records.{shown_by, shown_of};
+ghost use Rattle.input_files.specs.Records.{shown_of};
 
 use crate::due::judge_due;
 use crate::tests::{judge_busy, judge_departures, judge_rows};
@@ -15,8 +15,8 @@ use fate_timely::Late;
 use file_tests::Test;
 use frame_classes::Classifier;
 use given_play::arrived;
+use input_files::Records;
 use interface_policy::names_of;
-use pcap_files::Record;
 use std::alloc::Global;
 
 /// Holds departures and fates to the play of an interface over the records of its arrivals, whoever made them, by the tests of `Test`;
@@ -27,15 +27,15 @@ use std::alloc::Global;
 pub fn judge(
     alloc: Global,
     interface: &Interface,
-    records: &[Record],
+    records: &Records,
     departures: &[u8],
     fates: &[u8],
 ) -> Result<Vec<Late>, Unverified>
     requires interface { IsInterface interface.now }
     requires few { length records.now ≤ 4000000 }
-    ensures verified { IfOk result (λ late. (capture : List Original) → map shown_by records.now ≡ map shown_of capture
+    ensures verified { IfOk result (λ late. (capture : List Original) → records.now ≡ map shown_of capture
         → AreVerified (record { interface = interface.now; records = capture; departures = departures.now; fates = fates.now }) late.items) }
-    ensures refuted { IfErr result (λ u. (capture : List Original) → map shown_by records.now ≡ map shown_of capture
+    ensures refuted { IfErr result (λ u. (capture : List Original) → records.now ≡ map shown_of capture
         → IsUnverified (record { interface = interface.now; records = capture; departures = departures.now; fates = fates.now }) u) }
 {
     let names = names_of(alloc, interface)?;

@@ -25,7 +25,7 @@ use fate_judge::{Arrived, Refuted, judge_order};
 use file_tests::Test;
 use frame_classes::Classifier;
 use given_play::{allowed, marks};
-use pcap_files::Record;
+use input_files::Records;
 use std::alloc::Global;
 
 /// Holds rows to the tests that look at the rows alone.
@@ -80,7 +80,7 @@ pub(crate) fn judge_departures(
     interface: &Interface,
     classify: &Classifier,
     packets: &[Arrived],
-    records: &[Record],
+    records: &Records,
     rows: &[Row],
     departures: &[u8],
 ) -> Result<(), Unverified>

@@ -1,15 +1,16 @@
 -- Packets that arrive.
-use Rattle.std.proofs.Common.{◌≡◌, ◌≤◌, ◌∙◌, ℕ, List, [], ◌∷◌, ◌++◌, length, drop, map, max, refl, ap, sym, subst, arith, append-nil}
+use Rattle.std.proofs.Common.{◌≡◌, ◌≤◌, ◌+◌, ◌∙◌, ℕ, zero, suc, List, [], Some, None, ◌∷◌, ◌++◌, length, drop, map, max, refl, ap, sym, subst, arith, add-one, append-nil}
 use Rattle.std.proofs.Math.ListN.{drop_of_length-le}
+use Rattle.std.specs.Prelude.{slice_get}
+use Rattle.std.proofs.lemmas.List.{append_assoc, map_push}
 use Rattle.altq_model.specs.declared.Placed.{Placed}
 use Rattle.altq_model.specs.History.{Coming}
 use Rattle.altq_model.specs.Lawful.{AreRising, RiseFrom}
 use Rattle.altq_model.specs.Arrivals.{arrivals_from, arrivals_of, comings as comings_of}
 use Rattle.capture_model.specs.Capture.{Record}
 use Rattle.fate_judge.specs.declared.given.Arrived.{Arrived}
-use Rattle.fate_judge.specs.Given.{comings}
-use Rattle.input_files.specs.Records.{Shown, shown_by, shown_of}
-use Rattle.pcap_files.specs.declared.record.Record.{Record as Answer}
+use Rattle.fate_judge.specs.Given.{coming_of, comings}
+use Rattle.input_files.specs.Records.{Shown, shown_of}
 use Rattle.given_play.specs.Packets.{coming_at, comings_shown}
 
 -- the packets of records that are shown
@@ -24,24 +25,51 @@ shown_rise : (place : List ℕ → Placed) (latest : ℕ) (ss : List Shown) → 
 shown_rise place latest [] = tt
 shown_rise place latest (s ∷ ss) = (omega arith, shown_rise place (max latest s.stamp) ss)
 
+-- where there is no record, all stand before
+pub none_past : (ss : List Shown) (i : ℕ) → slice_get ss i ≡ None → length ss ≤ i
+none_past [] i h = omega arith
+none_past (s ∷ ss) zero h = absurd (cc)
+none_past (s ∷ ss) (suc i) h = let rest = none_past ss i h in omega (arith, rest)
+
+-- a record, and those behind it
+pub drop_at : (ss : List Shown) (i : ℕ) (s : Shown) → slice_get ss i ≡ Some s → drop i ss ≡ s ∷ drop (suc i) ss
+drop_at [] i s h = absurd (cc)
+drop_at (x ∷ ss) zero s h = let same : x ≡ s = cc in ap (λ (y : Shown). y ∷ ss) same
+drop_at (x ∷ ss) (suc i) s h = drop_at ss i s h
+
+-- one packet more
+pub one_more : (place : List ℕ → Placed) (latest at : ℕ) (shown : List Shown) (i : ℕ) (s : Shown) (all : List Arrived) (a : Arrived) → slice_get shown i ≡ Some s
+    → at ≡ max latest s.stamp → coming_of a ≡ coming_at place at s
+    → comings_shown place 0 shown ≡ comings all ++ comings_shown place latest (drop i shown)
+    → comings_shown place 0 shown ≡ comings (all ++ a ∷ []) ++ comings_shown place at (drop (i + 1) shown)
+one_more place latest at shown i s all a found is same h =
+    let rest : List Shown = drop (suc i) shown in
+    let P : ℕ → Type 0 = λ m. comings_shown place latest (drop i shown) ≡ coming_at place m s ∷ comings_shown place m rest in
+    let next : comings_shown place latest (drop i shown) ≡ coming_at place at s ∷ comings_shown place at rest =
+    subst P (sym is) (ap (comings_shown place latest) (drop_at shown i s found)) in
+    let pushed : comings (all ++ a ∷ []) ++ comings_shown place at rest ≡ comings all ++ coming_at place at s ∷ comings_shown place at rest =
+    ap (λ (cs : List Coming). cs ++ comings_shown place at rest) (map_push coming_of all a ∙ ap (λ (x : Coming). comings all ++ x ∷ []) same)
+    ∙ append_assoc (comings all) (coming_at place at s ∷ []) (comings_shown place at rest) in
+    rw add-one (h ∙ ap (λ (cs : List Coming). comings all ++ cs) next ∙ sym pushed)
+
 -- all packets, where none are to come
-all_shown : (place : List ℕ → Placed) (latest : ℕ) (answers : List Answer) (i : ℕ) (all : List Arrived) → length answers ≤ i
-    → comings_shown place 0 (map shown_by answers) ≡ comings all ++ comings_shown place latest (map shown_by (drop i answers))
-    → comings all ≡ comings_shown place 0 (map shown_by answers)
-all_shown place latest answers i all end h =
-    let none : comings_shown place latest (map shown_by (drop i answers)) ≡ [] =
-    ap (λ (ys : List Answer). comings_shown place latest (map shown_by ys)) (drop_of_length-le answers end) in
+all_shown : (place : List ℕ → Placed) (latest : ℕ) (shown : List Shown) (i : ℕ) (all : List Arrived) → length shown ≤ i
+    → comings_shown place 0 shown ≡ comings all ++ comings_shown place latest (drop i shown)
+    → comings all ≡ comings_shown place 0 shown
+all_shown place latest shown i all end h =
+    let none : comings_shown place latest (drop i shown) ≡ [] =
+    ap (λ (ys : List Shown). comings_shown place latest ys) (drop_of_length-le shown end) in
     sym (append-nil (comings all)) ∙ ap (λ (cs : List Coming). comings all ++ cs) (sym none) ∙ sym h
 
-pub all_rise : (place : List ℕ → Placed) (latest : ℕ) (answers : List Answer) (i : ℕ) (all : List Arrived) → length answers ≤ i
-    → comings_shown place 0 (map shown_by answers) ≡ comings all ++ comings_shown place latest (map shown_by (drop i answers))
+pub all_rise : (place : List ℕ → Placed) (latest : ℕ) (shown : List Shown) (i : ℕ) (all : List Arrived) → length shown ≤ i
+    → comings_shown place 0 shown ≡ comings all ++ comings_shown place latest (drop i shown)
     → AreRising (comings all)
-all_rise place latest answers i all end h =
+all_rise place latest shown i all end h =
     let P : List Coming → Type 0 = λ cs. AreRising cs in
-    subst P (sym (all_shown place latest answers i all end h)) (shown_rise place 0 (map shown_by answers))
+    subst P (sym (all_shown place latest shown i all end h)) (shown_rise place 0 shown)
 
-pub all_comings : (place : List ℕ → Placed) (latest : ℕ) (answers : List Answer) (i : ℕ) (all : List Arrived) (rs : List Record) → length answers ≤ i
-    → comings_shown place 0 (map shown_by answers) ≡ comings all ++ comings_shown place latest (map shown_by (drop i answers))
-    → map shown_by answers ≡ map shown_of rs → comings all ≡ comings_of (arrivals_of place rs)
-all_comings place latest answers i all rs end h shown =
-    all_shown place latest answers i all end h ∙ ap (λ (ss : List Shown). comings_shown place 0 ss) shown ∙ comings_same place 0 rs
+pub all_comings : (place : List ℕ → Placed) (latest : ℕ) (shown : List Shown) (i : ℕ) (all : List Arrived) (rs : List Record) → length shown ≤ i
+    → comings_shown place 0 shown ≡ comings all ++ comings_shown place latest (drop i shown)
+    → shown ≡ map shown_of rs → comings all ≡ comings_of (arrivals_of place rs)
+all_comings place latest shown i all rs end h is =
+    all_shown place latest shown i all end h ∙ ap (λ (ss : List Shown). comings_shown place 0 ss) is ∙ comings_same place 0 rs

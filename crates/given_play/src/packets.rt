@@ -6,19 +6,20 @@ ghost use Rattle.altq_model.specs.Lawful.{AreRising};
 ghost use Rattle.capture_model.specs.Capture.{Record as Original};
 ghost use Rattle.fate_judge.specs.Given.{coming_of, comings};
 ghost use Rattle.given_play.specs.Packets.{coming_at};
-ghost use Rattle.input_files.specs.Records.{shown_by, shown_of};
+ghost use Rattle.input_files.specs.Held.{shown_in};
+ghost use Rattle.input_files.specs.Records.{shown_of};
 
 use discipline::Classify;
 use fate_judge::Arrived;
-use pcap_files::Record;
+use input_files::{Records, Seen};
 use play_base::NoMemory;
 use std::alloc::Global;
 
 // The packet of a record, which arrives at this moment.
-fn arrived_at<C: Classify>(classify: &C, found: &Record, at: u64) -> Arrived
-    ensures { coming_of result ≡ coming_at (C.placed classify.now) at (shown_by found.now) }
+fn arrived_at<C: Classify>(classify: &C, found: Seen<'_>, at: u64) -> Arrived
+    ensures { coming_of result ≡ coming_at (C.placed classify.now) at (shown_in found.entry) }
 {
-    let placed = classify.class(found.bytes.as_slice());
+    let placed = classify.class(found.bytes);
     Arrived {
         at,
         len: found.len,
@@ -32,9 +33,9 @@ fn arrived_at<C: Classify>(classify: &C, found: &Record, at: u64) -> Arrived
 pub fn arrived<C: Classify>(
     alloc: Global,
     classify: &C,
-    records: &[Record],
+    records: &Records,
 ) -> Result<Vec<Arrived>, NoMemory>
-    ensures packets { IfOk result (λ all. (capture : List Original) → map shown_by records.now ≡ map shown_of capture →
+    ensures packets { IfOk result (λ all. (capture : List Original) → records.now ≡ map shown_of capture →
         comings all.items ≡ comings_of (arrivals_of (C.placed classify.now) capture)) }
     ensures count { IfOk result (λ all. length all.items ≡ length records.now) }
     ensures some { IfOk result (λ all. All (λ a. 0 < a.len) (comings all.items)) }
@@ -42,9 +43,11 @@ pub fn arrived<C: Classify>(
 {
     let mut all = Vec::with_capacity(alloc, records.len())?;
     let mut latest = 0u64;
-    for record in records {
-        latest = latest.max(record.stamp);
-        all.push(arrived_at(classify, record, latest))?;
+    let mut place = 0;
+    while let Some(found) = records.get(place) {
+        latest = latest.max(found.stamp);
+        all.push(arrived_at(classify, found, latest))?;
+        place += 1;
     }
     Ok(all)
 }

@@ -13,7 +13,7 @@ use Rattle.pcap_files.specs.Reading.{Answers, IsHeadFault, Shows, StandsFor}
 use Rattle.pcap_files.proofs.ReaderLemmas.{took_unchanged}
 use Rattle.play_base.specs.View.{View, ReadFault, Took, Unchanged}
 use Rattle.play_base.proofs.ViewLaws.{rose_before, rose_later, took_more, took_nothing}
-use Rattle.input_files.specs.Records.{HasFault, IsReadOut, IsToldLast, StaysOrFails, shown_by, shown_of}
+use Rattle.input_files.specs.Records.{HasFault, IsReadOut, IsToldLast, Shown, StaysOrFails, shown_by, shown_of}
 
 pub some_nothing : (a : View) (file : ℕ) → TookSome a a file
 some_nothing a file = ([], took_nothing a file)
@@ -53,17 +53,17 @@ pub shown_same : (a : Answer) (n : ℕ) (r : Record) → Shows a n r → shown_b
 shown_same a n r s = rw (s.stamp, s.len, s.bytes) refl
 
 -- one more record is read
-pub read_more : (u v : View) (old new : Reader) (bytes : List ℕ) (answers after : List Answer) (o : Option Answer) (a : Answer)
-    → IfSome o (λ x. Answers u v old new x) → o ≡ Some a → after ≡ answers ++ a ∷ []
-    → ((records : List Record) × StandsFor u old bytes records × (map shown_by answers ≡ map shown_of records))
-    → (records : List Record) × StandsFor v new bytes records × (map shown_by after ≡ map shown_of records)
-read_more u v old new bytes answers after o a answered is grown h =
+pub read_more : (u v : View) (old new : Reader) (bytes : List ℕ) (shown after : List Shown) (o : Option Answer) (a : Answer)
+    → IfSome o (λ x. Answers u v old new x) → o ≡ Some a → after ≡ shown ++ shown_by a ∷ []
+    → ((records : List Record) × StandsFor u old bytes records × (shown ≡ map shown_of records))
+    → (records : List Record) × StandsFor v new bytes records × (after ≡ map shown_of records)
+read_more u v old new bytes shown after o a answered is grown h =
     let W : Option Answer → Type 0 = λ x. IfSome x (λ y. Answers u v old new y) in
     let answer : Answers u v old new a = subst W is answered in
     let x = answer bytes h.0 h.1 in (
       h.0 ++ x.0 ∷ [],
       x.2,
-      ap (map shown_by) grown ∙ map-append shown_by answers (a ∷ []) ∙ ap (λ ys. ys ++ shown_by a ∷ []) h.2
+      grown ∙ ap (λ ys. ys ++ shown_by a ∷ []) h.2
           ∙ ap (λ y. map shown_of h.0 ++ y ∷ []) (shown_same a (length h.0) x.0 x.1) ∙ sym (map-append shown_of h.0 (x.0 ∷ [])),
     )
 

@@ -19,11 +19,11 @@ shown_by a = record { stamp = a.stamp; len = a.len; bytes = a.bytes }
 abbrev pub shown_of : Record → Shown
 shown_of r = record { stamp = r.stamp; len = max r.original (length r.captured); bytes = r.captured }
 
--- the bytes are a capture of records that these answers show, one by one
-pub record AreRecords (bytes : List ℕ) (answers : List Answer) : Type 0 where
+-- the bytes are a capture of records of which this is shown, one by one
+pub record AreRecords (bytes : List ℕ) (shown : List Shown) : Type 0 where
   pub records : List Record
   pub capture : IsCapture bytes records
-  pub shown : map shown_by answers ≡ map shown_of records
+  pub are : shown ≡ map shown_of records
 
 -- where the fault is told by the bytes, it follows their complete records
 pub record HasFault (bytes : List ℕ) (f : CaptureFault) : Type 0 where

@@ -2,7 +2,9 @@
 #![tactic(auto)]
 
 mod bytes;
+mod held;
 mod records;
 
 pub use bytes::read_front;
+pub use held::{Records, Seen};
 pub use records::read_records;

@@ -4,26 +4,23 @@ ghost use Rattle.input_files.specs.Records.{AreRecords, HasFault, IsReadOut, IsT
 ghost use Rattle.pcap_files.specs.Ahead.{TookSome};
 ghost use Rattle.play_base.specs.View.{ReadFault, SameCounts};
 
-use pcap_files::{CaptureFault, Reader, Record};
+use crate::held::Records;
+use pcap_files::{CaptureFault, Reader};
 use play_base::{Files, Trouble};
 use std::alloc::Global;
 
 // The records, up to the first fault.
 #[tactic(auto, using(play_base::proofs::ViewLaws::same_trans, play_base::proofs::ViewLaws::same_refl))]
-fn records_of<F: Files>(
-    alloc: Global,
-    files: &mut F,
-    file: u32,
-) -> Result<Vec<Record>, CaptureFault>
+fn records_of<F: Files>(alloc: Global, files: &mut F, file: u32) -> Result<Records, CaptureFault>
     requires { IsSome ((F.view files.old).part file) }
-    ensures whole { IfOk result (λ answers. (bytes : List ℕ) → (F.view files.old).left file ≡ Some bytes → AreRecords bytes answers.items) }
-    ensures few { IfOk result (λ answers. length answers.items ≤ 4000000) }
+    ensures whole { IfOk result (λ answers. (bytes : List ℕ) → (F.view files.old).left file ≡ Some bytes → AreRecords bytes answers) }
+    ensures few { IfOk result (λ answers. length answers ≤ 4000000) }
     ensures fault { IfErr result (λ fault. (bytes : List ℕ) → (F.view files.old).left file ≡ Some bytes → HasFault bytes fault) }
     ensures read { IsErrOf result CaptureFault.Read → ReadFault (F.view files.old) (F.view files.new) file }
     ensures no_fault { OnOk result (SameCounts (F.view files.old) (F.view files.new)) }
     ensures some { TookSome (F.view files.old) (F.view files.new) file }
 {
-    let mut records = Vec::new(alloc);
+    let mut records = Records::new(alloc);
     let mut reader = match Reader::start(alloc, files, file, &[]) {
         Ok(reader) => reader,
         Err(fault) => return Err(fault),
@@ -36,7 +33,7 @@ fn records_of<F: Files>(
         let Some(record) = found else {
             return Ok(records);
         };
-        if records.push(record).is_err() {
+        if records.add(&record).is_err() {
             return Err(CaptureFault::NoMemory);
         }
     }
@@ -98,10 +95,10 @@ pub fn read_records<F: Files>(
     alloc: Global,
     files: &mut F,
     file: u32,
-) -> Result<Vec<Record>, CaptureFault>
+) -> Result<Records, CaptureFault>
     requires { IsSome ((F.view files.old).part file) }
-    ensures whole { IfOk result (λ answers. (bytes : List ℕ) → (F.view files.old).left file ≡ Some bytes → AreRecords bytes answers.items) }
-    ensures few { IfOk result (λ answers. length answers.items ≤ 4000000) }
+    ensures whole { IfOk result (λ answers. (bytes : List ℕ) → (F.view files.old).left file ≡ Some bytes → AreRecords bytes answers) }
+    ensures few { IfOk result (λ answers. length answers ≤ 4000000) }
     ensures fault { IfErr result (λ fault. (bytes : List ℕ) → (F.view files.old).left file ≡ Some bytes → HasFault bytes fault) }
     ensures last { IfErr result (IsToldLast (F.view files.old) (F.view files.new) file) }
     ensures read { IsErrOf result CaptureFault.Read → ReadFault (F.view files.old) (F.view files.new) file }

@@ -11,10 +11,10 @@ use conf_laws::configurations_fit;
 use conf_tree::{Interface, Kind};
 use discipline::{Classify, Discipline, Pick, Rule};
 use frame_classes::{Classifier, frames_have_classes};
-use input_files::read_records;
+use input_files::{Records, read_records};
 use interface_policy::{cbq_of, hfsc_of, interfaces_keep_their_promises};
 use link_clock::LinkClock;
-use pcap_files::{CaptureFault, Record};
+use pcap_files::CaptureFault;
 use play_base::{Files, MemoryFiles, NoMemory, Trouble};
 use std::alloc::Global;
 
@@ -56,7 +56,7 @@ fn answer_of<D: Discipline, C: Classify>(
     interface: &Interface,
     discipline: &mut D,
     classify: &C,
-    records: &[Record],
+    records: &Records,
     moment: u64,
 ) -> Result<String, NoMemory>
     requires early { moment < 2 ^ 63 }
@@ -83,7 +83,7 @@ fn answer_of<D: Discipline, C: Classify>(
 fn answer_in(
     alloc: Global,
     interface: &Interface,
-    records: &[Record],
+    records: &Records,
     moment: u64,
 ) -> Result<String, NoMemory>
     requires early { moment < 2 ^ 63 }
@@ -107,8 +107,8 @@ fn answer_in(
 }
 
 // The records of the capture `in`, or nothing where it has a fault.
-fn records_in(alloc: Global, files: &mut MemoryFiles) -> Result<Option<Vec<Record>>, NoMemory>
-    ensures { IfOk result (λ found. IfSome found (λ records. length records.items ≤ 4000000)) }
+fn records_in(alloc: Global, files: &mut MemoryFiles) -> Result<Option<Records>, NoMemory>
+    ensures { IfOk result (λ found. IfSome found (λ records. length records ≤ 4000000)) }
 {
     let file = match files.open(0, "in") {
         Ok(file) => file,
@@ -136,7 +136,7 @@ pub fn next_at(alloc: Global, files: &mut MemoryFiles, moment: u64) -> Result<St
         return Ok(refused);
     };
     match records_in(alloc, files)? {
-        Some(records) => answer_in(alloc, interface, records.as_slice(), moment),
+        Some(records) => answer_in(alloc, interface, &records, moment),
         None => Ok(refused),
     }
 }

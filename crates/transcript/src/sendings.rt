@@ -6,9 +6,9 @@ ghost use Rattle.discipline.specs.Laws.{HasRate};
 ghost use Rattle.transcript.specs.Standing.{IsAt};
 
 use discipline::{Classify, Discipline, Pick, Sending};
+use input_files::Records;
 use leaf_queue::Words;
 use link_clock::LinkClock;
-use pcap_files::Record;
 use play_base::Ticket;
 
 // The seed of the usual options.
@@ -90,7 +90,7 @@ pub fn play_until<D: Discipline, C: Classify>(
     discipline: &mut D,
     clock: &mut LinkClock,
     classify: &C,
-    records: &[Record],
+    records: &Records,
     moment: u64,
 )
     requires early { moment < 2 ^ 63 }
@@ -104,23 +104,19 @@ pub fn play_until<D: Discipline, C: Classify>(
 {
     let mut words = Words::new(SEED);
     let mut latest = 0u64;
-    for record in records {
-        let at = latest.max(record.stamp);
+    for place in 0..records.len() {
+        let Some(found) = records.get(place) else {
+            break;
+        };
+        let at = latest.max(found.stamp);
         if at > moment {
             break;
         }
         send_before(discipline, clock, latest, at);
         latest = at;
-        let ticket = Ticket(record.number as u32);
-        let placed = classify.class(record.bytes.as_slice());
-        let _ = discipline.offer(
-            ticket,
-            placed.class,
-            record.len,
-            placed.prec,
-            at,
-            &mut words,
-        );
+        let ticket = Ticket(place as u32 + 1);
+        let placed = classify.class(found.bytes);
+        let _ = discipline.offer(ticket, placed.class, found.len, placed.prec, at, &mut words);
     }
     send_before(discipline, clock, latest, moment);
 }

@@ -6,7 +6,7 @@ use Rattle.arrivals_front.specs.declared.given.Given.{Given}
 use Rattle.arrivals_front.specs.declared.given.GivenFault.{GivenFault}
 use Rattle.arrivals_front.specs.declared.given.GivenFault.TheVariants as given
 use Rattle.conf_tree.specs.declared.interface.Interface.{Interface}
-use Rattle.input_files.specs.Records.{AreRecords, HasFault}
+use Rattle.input_files.specs.Records.{AreRecords, HasFault, Shown}
 use Rattle.interface_marks.specs.Conditioners.{marked_in}
 use Rattle.marked_files.specs.Through.{marked_view, with_marks}
 use Rattle.marked_files.proofs.BackLaws.{keeps_back as marks_back}
@@ -14,7 +14,6 @@ use Rattle.marked_files.proofs.ViewLaws.{left_self, told_is}
 use Rattle.pcap_files.specs.Ahead.{TookSome}
 use Rattle.pcap_files.specs.declared.fault.CaptureFault.{CaptureFault}
 use Rattle.pcap_files.specs.declared.fault.CaptureFault.TheVariants as fault
-use Rattle.pcap_files.specs.declared.record.Record.{Record as Answer}
 use Rattle.pcapng_files.specs.Fronts.{front_view, with_front}
 use Rattle.pcapng_files.proofs.BackLaws.{keeps_back}
 use Rattle.play_base.specs.View.{View, Any, Keeps, NoneAppears, Opened, ReadFault, SameCounts}
@@ -103,7 +102,7 @@ played c file given front gv P e f h t = h t f.bytes (ap (λ (l : List ℕ). wit
 still_tells : (a b c : View) (name : List ℕ) (file : ℕ) → Opened a b 2 name file → Ran b c file → IsTrue a.tells → IsTrue c.tells
 still_tells a b c name file x k t = k.keeps.tells ∙ x.keeps.tells ∙ t
 
-pub captured : (a b c : View) (i : Interface) (name : List ℕ) (file : ℕ) (gv : Given) (front : List ℕ) (answers : List Answer)
+pub captured : (a b c : View) (i : Interface) (name : List ℕ) (file : ℕ) (gv : Given) (front : List ℕ) (answers : List Shown)
     → Opened a b 2 name file → Ran b c file → ((given : List ℕ) → b.left file ≡ Some given → Follows c file given gv) → front ≡ gv.front.items
     → OfPlayed c file gv.rest front (λ bytes. AreRecords (marked_in i bytes) answers) → IsTrue a.tells → HoldsCapture a i name answers
 captured a b c i name file gv front answers x k g e h t =
@@ -113,7 +112,7 @@ captured a b c i name file gv front answers x k g e h t =
     record {
       records = z.records;
       held = record { given = y.given; at = y.at; capture = y.follows.bytes; read = y.follows.read; reads = z.capture };
-      shown = z.shown;
+      are = z.are;
     }
 
 pub given_why : (a b c : View) (i : Interface) (name : List ℕ) (file : ℕ) (f : GivenFault) → Opened a b 2 name file → IsRefused b c file f

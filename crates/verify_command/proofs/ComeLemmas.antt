@@ -8,8 +8,7 @@ use Rattle.file_judge.specs.Given.{Given}
 use Rattle.file_judge.specs.Verdict.{AreVerified, IsUnverified}
 use Rattle.file_judge.specs.declared.verdict.Unverified.{Unverified}
 use Rattle.file_judge.specs.declared.verdict.Unverified.TheVariants as unverified
-use Rattle.input_files.specs.Records.{shown_by, shown_of}
-use Rattle.pcap_files.specs.declared.record.Record.{Record as Answer}
+use Rattle.input_files.specs.Records.{Shown, shown_of}
 use Rattle.pcapng_files.specs.declared.fault.NgFault.{NgFault}
 use Rattle.pcapng_files.specs.declared.fault.NgFault.TheVariants as ng
 use Rattle.play_base.specs.View.{View, Any, Keeps, Rose, SameCounts}
@@ -98,29 +97,29 @@ arrivals_fail u v w n found (failure.OfLink link fault) k a x = absurd x
 arrivals_fail u v w n found failure.NoMemory k a x = tt
 
 -- they are one
-pub record HasRead (u : View) (n : Inputs) (found : Interface) (answers : List Answer) : Type 0 where
+pub record HasRead (u : View) (n : Inputs) (found : Interface) (answers : List Shown) : Type 0 where
   pub records : List Record
   pub arrive : Arrive u n found records End
-  pub shown : map shown_by answers ≡ map shown_of records
+  pub shown : answers ≡ map shown_of records
 
-pub has_read : (u v : View) (n : Inputs) (found : Interface) (answers : List Answer) → Keeps Any Any u v → Accepts u n.config n.interface found
+pub has_read : (u v : View) (n : Inputs) (found : Interface) (answers : List Shown) → Keeps Any Any u v → Accepts u n.config n.interface found
     → (IsTrue v.tells → HoldsCapture v found n.arrivals answers) → IsTrue u.tells → HasRead u n found answers
 has_read u v n found answers k a x t =
     let y = x (tells_since u v k t) in
     record {
       records = y.records;
       arrive = record { configures = a t; held = held_since u v found n.arrivals y.records End k y.held };
-      shown = y.shown;
+      shown = y.are;
     }
 
-read_ends : (u : View) (n : Inputs) (found : Interface) (answers : List Answer) → HasRead u n found answers → EndsWith u n End
+read_ends : (u : View) (n : Inputs) (found : Interface) (answers : List Shown) → HasRead u n found answers → EndsWith u n End
 read_ends u n found answers x = record { found = found; records = x.records; arrive = x.arrive }
 
 pub holds : (u v : View) (name bytes : List ℕ) → Keeps Any Any u v → (IsTrue v.tells → v.bytes name ≡ Some bytes) → length bytes ≤ 2 ^ 30 → IsTrue u.tells → Holds u name bytes
 holds u v name bytes k x short t = record { at = sym (k.bytes name tt) ∙ x (tells_since u v k t); short = short }
 
 -- the departures are not had
-pub departures_fail : (u v w : View) (n : Inputs) (found : Interface) (answers : List Answer) (f : InputFault) → Keeps Any Any u v
+pub departures_fail : (u v w : View) (n : Inputs) (found : Interface) (answers : List Shown) (f : InputFault) → Keeps Any Any u v
     → (IsTrue u.tells → HasRead u n found answers) → InputCauses v w 3 n.departures f → VerifyFails u w n (departures_failure f)
 departures_fail u v w n found answers input.TooLong k r x = λ t. record {
   arrivals = read_ends u n found answers (r t);
@@ -129,12 +128,12 @@ departures_fail u v w n found answers input.TooLong k r x = λ t. record {
 departures_fail u v w n found answers input.Read k r x = (cannot_since u v w 3 n.departures k x, λ t. read_ends u n found answers (r t))
 departures_fail u v w n found answers input.NoMemory k r x = tt
 
-has_departures : (u : View) (n : Inputs) (found : Interface) (answers : List Answer) (departures : List ℕ) → HasRead u n found answers
+has_departures : (u : View) (n : Inputs) (found : Interface) (answers : List Shown) (departures : List ℕ) → HasRead u n found answers
     → Holds u n.departures departures → HasDepartures u n
 has_departures u n found answers departures r h = record { arrivals = read_ends u n found answers r; bytes = departures; departures = h }
 
 -- the fates are not had
-pub fates_fail : (u v w : View) (n : Inputs) (found : Interface) (answers : List Answer) (departures : List ℕ) (f : InputFault) → Keeps Any Any u v
+pub fates_fail : (u v w : View) (n : Inputs) (found : Interface) (answers : List Shown) (departures : List ℕ) (f : InputFault) → Keeps Any Any u v
     → (IsTrue u.tells → HasRead u n found answers) → (IsTrue u.tells → Holds u n.departures departures) → InputCauses v w 4 n.fates f
     → VerifyFails u w n (fates_failure f)
 fates_fail u v w n found answers departures input.TooLong k r d x = λ t. record {
@@ -149,20 +148,20 @@ fates_fail u v w n found answers departures input.NoMemory k r d x = tt
 abbrev pub given_by : (found : Interface) (records : List Record) (departures fates : List ℕ) → Given
 given_by found records departures fates = record { interface = found; records = records; departures = departures; fates = fates }
 
-pub record AreHad (u : View) (n : Inputs) (found : Interface) (answers : List Answer) (departures fates : List ℕ) : Type 0 where
+pub record AreHad (u : View) (n : Inputs) (found : Interface) (answers : List Shown) (departures fates : List ℕ) : Type 0 where
   pub arrivals : HasRead u n found answers
   pub departures_had : Holds u n.departures departures
   pub fates_had : Holds u n.fates fates
 
-are_given : (u : View) (n : Inputs) (found : Interface) (answers : List Answer) (departures fates : List ℕ) (h : AreHad u n found answers departures fates)
+are_given : (u : View) (n : Inputs) (found : Interface) (answers : List Shown) (departures fates : List ℕ) (h : AreHad u n found answers departures fates)
     → AreGiven u n (given_by found h.arrivals.records departures fates)
 are_given u n found answers departures fates h = record { arrive = h.arrivals.arrive; departures = h.departures_had; fates = h.fates_had }
 
 -- what a judgement says, whichever records these show
-abbrev pub AreJudged : (found : Interface) (answers : List Answer) (departures fates : List ℕ) → (Given → Type 0) → Type 0
-AreJudged found answers departures fates P = (capture : List Record) → map shown_by answers ≡ map shown_of capture → P (given_by found capture departures fates)
+abbrev pub AreJudged : (found : Interface) (answers : List Shown) (departures fates : List ℕ) → (Given → Type 0) → Type 0
+AreJudged found answers departures fates P = (capture : List Record) → answers ≡ map shown_of capture → P (given_by found capture departures fates)
 
-pub refuted_fails : (u v : View) (n : Inputs) (found : Interface) (answers : List Answer) (departures fates : List ℕ) (why : Unverified)
+pub refuted_fails : (u v : View) (n : Inputs) (found : Interface) (answers : List Shown) (departures fates : List ℕ) (why : Unverified)
     → (IsTrue u.tells → AreHad u n found answers departures fates) → AreJudged found answers departures fates (λ g. IsUnverified g why)
     → VerifyFails u v n (refutation why)
 refuted_fails u v n found answers departures fates (unverified.At row least) h x = λ t.
@@ -174,7 +173,7 @@ refuted_fails u v n found answers departures fates (unverified.At row least) h x
     }
 refuted_fails u v n found answers departures fates unverified.NoMemory h x = tt
 
-is_verified : (u : View) (n : Inputs) (found : Interface) (answers : List Answer) (departures fates : List ℕ) (late : List Late)
+is_verified : (u : View) (n : Inputs) (found : Interface) (answers : List Shown) (departures fates : List ℕ) (late : List Late)
     → AreHad u n found answers departures fates → AreJudged found answers departures fates (λ g. AreVerified g late) → IsVerified u n
 is_verified u n found answers departures fates late h x = record {
   given = given_by found h.arrivals.records departures fates;
@@ -191,7 +190,7 @@ unsaid_comes u v w n f k verified (inr e) =
     let P : Failure → Type 0 = λ x. VerifyFails u w n x in
     subst P (sym e.0) (rose_later _ _ _ (k.later.write 0) e.1, verified)
 
-pub says_comes : (u v w : View) (n : Inputs) (found : Interface) (answers : List Answer) (departures fates : List ℕ) (late : List Late) (o : Outcome)
+pub says_comes : (u v w : View) (n : Inputs) (found : Interface) (answers : List Shown) (departures fates : List ℕ) (late : List Late) (o : Outcome)
     → Keeps Any Any u v → v.said ≡ u.said → SameCounts u v → (IsTrue u.tells → AreHad u n found answers departures fates)
     → AreJudged found answers departures fates (λ g. AreVerified g late) → SaysBy v w (verdict_text found late) o → VerifyComes u w n o
 says_comes u v w n found answers departures fates late (Ok d) k silent counts h x s =
@@ -212,14 +211,10 @@ says_comes u v w n found answers departures fates late (Err f) k silent counts h
     unsaid_comes u v w n f k (λ t. is_verified u n found answers departures fates late (h t) x) s.by
 
 -- the same of lists that are these
-pub same_read : (v : View) (i : Interface) (name : List ℕ) (answers answers' : List Answer) → answers' ≡ answers
-    → (IsTrue v.tells → HoldsCapture v i name answers) → IsTrue v.tells → HoldsCapture v i name answers'
-same_read v i name answers answers' same x = let P : List Answer → Type 0 = λ xs. IsTrue v.tells → HoldsCapture v i name xs in subst P (sym same) x
-
 pub same_holds : (u : View) (name bytes bytes' : List ℕ) → bytes' ≡ bytes → (IsTrue u.tells → Holds u name bytes) → IsTrue u.tells → Holds u name bytes'
 same_holds u name bytes bytes' same x = let P : List ℕ → Type 0 = λ xs. IsTrue u.tells → Holds u name xs in subst P (sym same) x
 
-pub same_judged : (found : Interface) (answers : List Answer) (departures fates : List ℕ) (late late' : List Late) → late' ≡ late
+pub same_judged : (found : Interface) (answers : List Shown) (departures fates : List ℕ) (late late' : List Late) → late' ≡ late
     → AreJudged found answers departures fates (λ g. AreVerified g late) → AreJudged found answers departures fates (λ g. AreVerified g late')
 same_judged found answers departures fates late late' same x =
     let P : List Late → Type 0 = λ l. AreJudged found answers departures fates (λ g. AreVerified g l) in

@@ -1,10 +1,9 @@
 -- What is told of a verification: the message behind it, and a want of memory before it.
-use Rattle.std.proofs.Common.{◌≡◌, ◌⊎◌, ℕ, Ok, Err, sym, subst, refl, inl, inr}
+use Rattle.std.proofs.Common.{◌≡◌, ◌⊎◌, Ok, Err, sym, subst, refl, inl, inr}
 use Rattle.std.specs.Prelude.{OnErr}
 use Rattle.play_base.specs.View.{View, Any}
 use Rattle.command_base.specs.Outcome.{Outcome, read_number}
 use Rattle.command_base.specs.Telling.{Ends, IsTold, OnlySays}
-use Rattle.command_base.specs.declared.done.Done.TheVariants as done
 use Rattle.command_base.specs.declared.failure.Failure.{Failure}
 use Rattle.command_base.specs.declared.failure.Failure.TheVariants as failure
 use Rattle.command_base.specs.declared.parts.WrittenPart.TheVariants as written

@@ -1,7 +1,7 @@
 -- What the files say must come is one outcome.
 use Rattle.std.proofs.Common.{◌≡◌, ◌∙◌, ◌⊎◌, inl, inr, ℕ, List, length, None, Result, Ok, Err, ap, refl, sym, subst, arith}
 use Rattle.arrivals_front.specs.Given.{ReadAs}
-use Rattle.arrivals_front.proofs.ReadLaws.{fault_not_read, limit_not_read, no_limit_at, one_fault, read_one_way}
+use Rattle.arrivals_front.proofs.ReadLaws.{fault_not_read, limit_not_read, read_one_way}
 use Rattle.capture_model.specs.Capture.{End, Fault, IsLast, Limit, Next, Reads, Record, Step}
 use Rattle.conf_laws.specs.Fit.{IsInterface}
 use Rattle.conf_laws.specs.Laws.{ConfigurationsFit}
@@ -13,7 +13,6 @@ use Rattle.file_judge.proofs.OneVerdict.{never_both, one_answer}
 use Rattle.file_tests.specs.declared.Test.{Test}
 use Rattle.interface_marks.specs.Conditioners.{marked_in}
 use Rattle.pcap_files.proofs.ReadingLaws.{one_reading}
-use Rattle.pcapng_files.specs.Converted.{IsCause}
 use Rattle.pcapng_files.specs.declared.fault.NgFault.{NgFault}
 use Rattle.pcapng_files.specs.declared.fault.NgFault.TheVariants as ng
 use Rattle.play_base.specs.View.{View}
@@ -26,7 +25,7 @@ use Rattle.command_base.specs.declared.failure.Failure.TheVariants as failure
 use Rattle.command_base.specs.declared.parts.ReadPart.{ReadPart}
 use Rattle.command_base.specs.declared.parts.ReadPart.TheVariants as read
 use Rattle.command_base.specs.declared.parts.RunLimit.TheVariants as limit
-use Rattle.command_base.proofs.ConfLemmas.{long_not, no_bytes, one_interface, one_says, refused_not, same_some}
+use Rattle.command_base.proofs.ConfLemmas.{no_bytes, one_interface, same_some}
 use Rattle.command_base.proofs.ReadingLemmas.{configured_said, fits}
 use Rattle.early_stops.specs.Arriving.{IsNoPcapng}
 use Rattle.early_stops.proofs.StopLemmas.{ConfGone, ConfLong, ConfRefused, ConfStop, IsOfBytes, break_outcome, conf_not, conf_one, one_broken}

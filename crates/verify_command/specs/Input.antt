@@ -1,19 +1,14 @@
 -- What is read of the files that are verified, and why they are not.
-use Rattle.std.specs.Prelude.{◌≡◌, ◌⊎◌, ◌<◌, ◌^◌, ℕ, true, List, length, map, None, Some, IsTrue}
-use Rattle.arrivals_front.specs.Given.{ReadAs, is_pcapng}
-use Rattle.arrivals_front.specs.declared.given.GivenFault.{GivenFault}
-use Rattle.arrivals_front.specs.declared.given.GivenFault.TheVariants as given
+use Rattle.std.specs.Prelude.{◌≡◌, ◌⊎◌, ◌<◌, ◌^◌, ℕ, List, length, map, Some, IsTrue}
+use Rattle.arrivals_front.specs.Given.{ReadAs}
 use Rattle.capture_model.specs.Capture.{End, Fault, Limit, Reads, Record, Step}
 use Rattle.conf_tree.specs.declared.interface.Interface.{Interface}
 use Rattle.file_judge.specs.declared.verdict.Unverified.{Unverified}
 use Rattle.file_judge.specs.declared.verdict.Unverified.TheVariants as unverified
-use Rattle.input_files.specs.Records.{shown_by, shown_of}
+use Rattle.input_files.specs.Records.{Shown, shown_of}
 use Rattle.interface_marks.specs.Conditioners.{marked_in}
 use Rattle.pcap_files.specs.declared.fault.CaptureFault.{CaptureFault}
 use Rattle.pcap_files.specs.declared.fault.CaptureFault.TheVariants as fault
-use Rattle.pcap_files.specs.declared.record.Record.{Record as Answer}
-use Rattle.pcapng_files.specs.Converted.{IsCause}
-use Rattle.pcapng_files.specs.declared.fault.NgFault.{NgFault}
 use Rattle.pcapng_files.specs.declared.fault.NgFault.TheVariants as ng
 use Rattle.play_base.specs.View.{View}
 use Rattle.early_stops.specs.Arriving.{IsNoPcapng}
@@ -47,11 +42,11 @@ pub record HasRecords (v : View) (i : Interface) (name : List ℕ) (records : Li
   pub read : ReadAs given capture
   pub reads : Reads (marked_in i capture) records last
 
--- the bytes under a name are, once they are marked, a capture of records that these answers show, one by one
-pub record HoldsCapture (v : View) (i : Interface) (name : List ℕ) (answers : List Answer) : Type 0 where
+-- the bytes under a name are, once they are marked, a capture of records of which this is shown, one by one
+pub record HoldsCapture (v : View) (i : Interface) (name : List ℕ) (shown : List Shown) : Type 0 where
   pub records : List Record
   pub held : HasRecords v i name records End
-  pub shown : map shown_by answers ≡ map shown_of records
+  pub are : shown ≡ map shown_of records
 
 abbrev pub StopsAt : View → Interface → (name : List ℕ) → Step → Type 0
 StopsAt v i name last = (records : List Record) × HasRecords v i name records last

@@ -16,10 +16,10 @@ use command_base::{Failure, ReadPart, RunLimit, part};
 use conf_tree::Interface;
 use early_stops::given_failure;
 use frame_classes::Classifier;
-use input_files::read_records;
+use input_files::{Records, read_records};
 use interface_marks::{is_conditioned, marker_of, nothing_is_marked_without_conditioners};
 use marked_files::{MarkedFiles, Marker};
-use pcap_files::{CaptureFault, Record};
+use pcap_files::CaptureFault;
 use pcapng_files::{Front, FrontFiles};
 use play_base::{Files, Trouble};
 use std::alloc::Global;
@@ -42,12 +42,12 @@ fn marked_records<F: Files>(
     files: &mut F,
     file: u32,
     marker: &mut Marker<Classifier>,
-) -> Result<Vec<Record>, CaptureFault>
+) -> Result<Records, CaptureFault>
     requires there { IsSome ((F.view files.old).part file) }
     requires room { holds marker.old ≤ 262160 }
     ensures whole { IfOk result (λ answers. IsTrue (F.view files.old).tells → (bytes : List ℕ) → (F.view files.old).left file ≡ Some bytes
-        → AreRecords (given placed_by marker.old bytes) answers.items) }
-    ensures few { IfOk result (λ answers. length answers.items ≤ 4000000) }
+        → AreRecords (given placed_by marker.old bytes) answers) }
+    ensures few { IfOk result (λ answers. length answers ≤ 4000000) }
     ensures fault { IfErr result (λ fault. IsTrue (F.view files.old).tells → (bytes : List ℕ) → (F.view files.old).left file ≡ Some bytes
         → HasFault (given placed_by marker.old bytes) fault) }
     ensures read { IsErrOf result CaptureFault.Read → ReadFault (F.view files.old) (F.view files.new) file }
@@ -74,12 +74,12 @@ fn shown_records<F: Files>(
     files: &mut F,
     interface: &Interface,
     file: u32,
-) -> Result<Vec<Record>, CaptureFault>
+) -> Result<Records, CaptureFault>
     requires fits { IsInterface interface.now }
     requires there { IsSome ((F.view files.old).part file) }
     ensures whole { IfOk result (λ answers. IsTrue (F.view files.old).tells → (bytes : List ℕ) → (F.view files.old).left file ≡ Some bytes
-        → AreRecords (marked_in interface.now bytes) answers.items) }
-    ensures few { IfOk result (λ answers. length answers.items ≤ 4000000) }
+        → AreRecords (marked_in interface.now bytes) answers) }
+    ensures few { IfOk result (λ answers. length answers ≤ 4000000) }
     ensures fault { IfErr result (λ fault. IsTrue (F.view files.old).tells → (bytes : List ℕ) → (F.view files.old).left file ≡ Some bytes
         → HasFault (marked_in interface.now bytes) fault) }
     ensures read { IsErrOf result CaptureFault.Read → ReadFault (F.view files.old) (F.view files.new) file }
@@ -108,12 +108,12 @@ fn records_behind<F: Files>(
     file: u32,
     front: &[u8],
     rest: bool,
-) -> Result<Vec<Record>, CaptureFault>
+) -> Result<Records, CaptureFault>
     requires fits { IsInterface interface.now }
     requires there { IsSome ((F.view files.old).part file) }
     ensures whole { IfOk result (λ answers. IsTrue (F.view files.old).tells → (bytes : List ℕ)
-        → with_front true rest front.now ((F.view files.old).left file) ≡ Some bytes → AreRecords (marked_in interface.now bytes) answers.items) }
-    ensures few { IfOk result (λ answers. length answers.items ≤ 4000000) }
+        → with_front true rest front.now ((F.view files.old).left file) ≡ Some bytes → AreRecords (marked_in interface.now bytes) answers) }
+    ensures few { IfOk result (λ answers. length answers ≤ 4000000) }
     ensures fault { IfErr result (λ fault. IsTrue (F.view files.old).tells → (bytes : List ℕ)
         → with_front true rest front.now ((F.view files.old).left file) ≡ Some bytes → HasFault (marked_in interface.now bytes) fault) }
     ensures read { IsErrOf result CaptureFault.Read → ReadFault (F.view files.old) (F.view files.new) file }
@@ -140,10 +140,10 @@ pub(crate) fn read_arrivals<F: Files>(
     files: &mut F,
     interface: &Interface,
     name: &str,
-) -> Result<Vec<Record>, Failure>
+) -> Result<Records, Failure>
     requires fits { IsInterface interface.now }
-    ensures whole { IfOk result (λ answers. IsTrue (F.view files.old).tells → HoldsCapture (F.view files.old) interface.now name.now answers.items) }
-    ensures few { IfOk result (λ answers. length answers.items ≤ 4000000) }
+    ensures whole { IfOk result (λ answers. IsTrue (F.view files.old).tells → HoldsCapture (F.view files.old) interface.now name.now answers) }
+    ensures few { IfOk result (λ answers. length answers ≤ 4000000) }
     ensures why { IfErr result (ArrivalCauses (F.view files.old) (F.view files.new) interface.now name.now) }
     ensures keeps { Keeps Any Any (F.view files.old) (F.view files.new) }
     ensures opens { OnlyOpens (F.view files.old) (F.view files.new) 2 }

@@ -1,4 +1,4 @@
-use Rattle.std.proofs.Common.{◌≡◌, ◌+◌, ◌++◌, ◌∷◌, ◌∙◌, inl, inr, [], Some, None, ap, length, length-append, map, sym, subst, arith}
+use Rattle.std.proofs.Common.{◌≡◌, ◌+◌, ◌++◌, ◌∷◌, ◌∙◌, inl, inr, [], Some, None, ap, length, length-append, sym, subst, arith}
 use Rattle.std.specs.Prelude.{Err, IfSome}
 use Rattle.std.specs.declared.option.Option.{Option}
 use Rattle.std.proofs.lemmas.Grind.{common_steps}
@@ -20,9 +20,9 @@ records-init g c = record {
   sound = c.in-Ok.ensures.sound;
   took = c.in-Ok.ensures.some;
   no_fault = c.in-Ok.ensures.counts;
-  counted = rw c.new-records.ensures.items (omega arith);
-  few = rw c.new-records.ensures.items (omega arith);
-  read = λ bytes left. ([], c.in-Ok.ensures.stands bytes left, ap (map shown_by) c.new-records.ensures.items);
+  counted = rw c.new-records.ensures (omega arith);
+  few = rw c.new-records.ensures (omega arith);
+  read = λ bytes left. ([], c.in-Ok.ensures.stands bytes left, c.new-records.ensures);
 }
 
 pub returns-in-Err-next-clause-read : goal.returns-in-Err-next-clause-read
@@ -44,8 +44,8 @@ returns-then-is_err-clause-some g c = some_more _ _ _ _ _ c.records.invariant.fi
 
 pub records-preserved : goal.records-preserved
 records-preserved g c =
-    let grown : c.push.new.self.items ≡ c.records.records.items ++ c.in-Some.record ∷ [] = grind (arith, common_steps) in
-    let longer : length c.push.new.self.items ≡ length c.records.records.items + 1 = ap length grown ∙ length-append c.records.records.items (c.in-Some.record ∷ []) in
+    let grown : c.add.new.self ≡ c.records.records ++ shown_by c.in-Some.record ∷ [] = grind (arith, common_steps, c.add.ensures, c.if-is_err.ensures.value) in
+    let longer : length c.add.new.self ≡ length c.records.records + 1 = ap length grown ∙ length-append c.records.records (shown_by c.in-Some.record ∷ []) in
     let W : Option Answer → Type 0 = λ x. IfSome x (λ y. Counts c.records.reader c.next.new.self y) in
     let counts : Counts c.records.reader c.next.new.self c.in-Some.record = subst W c.in-Some.is c.in-Ok-next.ensures.counted in
     record {
@@ -56,5 +56,5 @@ records-preserved g c =
       no_fault = same_trans _ _ _ c.records.invariant.no_fault c.in-Ok-next.ensures.counts;
       counted = omega (arith, counts.number, counts.count, longer, c.records.invariant.counted);
       few = omega (arith, counts.number, longer, c.records.invariant.counted, c.in-Some.record.counted);
-      read = λ bytes left. read_more (g.F.Files.view c.records.files) (g.F.Files.view c.next.new.files) c.records.reader c.next.new.self bytes c.records.records.items _ c.in-Ok-next.found c.in-Some.record c.in-Ok-next.ensures.record c.in-Some.is grown (c.records.invariant.read bytes left);
+      read = λ bytes left. read_more (g.F.Files.view c.records.files) (g.F.Files.view c.next.new.files) c.records.reader c.next.new.self bytes c.records.records _ c.in-Ok-next.found c.in-Some.record c.in-Ok-next.ensures.record c.in-Some.is grown (c.records.invariant.read bytes left);
     }

@@ -4,7 +4,7 @@ use Rattle.capture_model.specs.Capture.{Record}
 use Rattle.pcap_files.specs.Ahead.{TookSome}
 use Rattle.pcap_files.specs.Reading.{StandsFor, answered}
 use Rattle.play_base.specs.View.{SameCounts}
-use Rattle.input_files.specs.Records.{shown_by, shown_of}
+use Rattle.input_files.specs.Records.{shown_of}
 use Rattle.input_files.proofs.records.records_of.Given as goal
 
 abbrev pub invariant-records : goal.invariant-records
@@ -14,10 +14,10 @@ invariant-records g l = record {
   sound : l.reader.fault ≡ None;
   took : TookSome (g.F.Files.view l.fn.files) (g.F.Files.view l.files) l.file;
   no_fault : SameCounts (g.F.Files.view l.fn.files) (g.F.Files.view l.files);
-  counted : length l.records.items ≤ answered l.reader;
-  few : length l.records.items ≤ 4000000;
+  counted : length l.records ≤ answered l.reader;
+  few : length l.records ≤ 4000000;
   read : (bytes : List ℕ) → (g.F.Files.view l.fn.files).left l.file ≡ Some bytes
-      → (records : List Record) × StandsFor (g.F.Files.view l.files) l.reader bytes records × (map shown_by l.records.items ≡ map shown_of records);
+      → (records : List Record) × StandsFor (g.F.Files.view l.files) l.reader bytes records × (l.records ≡ map shown_of records);
 }
 
 abbrev pub decreases-records : goal.decreases-records

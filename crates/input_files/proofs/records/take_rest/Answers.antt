@@ -1,4 +1,4 @@
-use Rattle.std.proofs.Common.{◌++◌, arith, inl, inr, length, length-append, length-take, take}
+use Rattle.std.proofs.Common.{◌++◌, arith, inl, inr, length-append, length-take, take}
 use Rattle.std.proofs.lemmas.Grind.{common_steps}
 use Rattle.play_base.proofs.ViewLaws.{still_there, took_more}
 use Rattle.input_files.proofs.records.take_rest.Goals as goal

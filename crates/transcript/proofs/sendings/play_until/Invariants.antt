@@ -3,11 +3,11 @@ use Rattle.discipline.specs.Laws.{HasRate}
 use Rattle.transcript.specs.Standing.{IsAt}
 use Rattle.transcript.proofs.sendings.play_until.Given as goal
 
-abbrev pub invariant-loop-record : goal.invariant-loop-record
-invariant-loop-record g l = record {
+abbrev pub invariant-loop-place : goal.invariant-loop-place
+invariant-loop-place g l = record {
   order : l.latest ≤ l.moment;
-  drawn : l.words.drawn ≤ l.record-index;
+  drawn : l.words.drawn ≤ l.place;
   rate : HasRate (g.D.Discipline.link_rate l.discipline) l.clock.rate;
   policy : g.D.Discipline.policy l.discipline ≡ g.D.Discipline.policy l.fn.discipline;
-  at : IsAt (g.D.Discipline.stands l.discipline) l.clock l.record-index l.latest l.latest;
+  at : IsAt (g.D.Discipline.stands l.discipline) l.clock l.place l.latest l.latest;
 }

@@ -8,7 +8,7 @@ pub returns-in-Ok-records_behind-clause-whole : goal.returns-in-Ok-records_behin
 returns-in-Ok-records_behind-clause-whole g c = λ t.
     let x = c.in-Ok-given_arrivals.ensures in
     captured (g.F.Files.view c.args.files.now) (g.F.Files.view c.open.new.self) (g.F.Files.view c.given_arrivals.new.files) c.args.interface.now
-    c.args.name.now c.in-Ok.file c.in-Ok-given_arrivals.given c.as_slice.result.now c.in-Ok-records_behind.records.items c.in-Ok.ensures.opened
+    c.args.name.now c.in-Ok.file c.in-Ok-given_arrivals.given c.as_slice.result.now c.in-Ok-records_behind.records c.in-Ok.ensures.opened
     (record { keeps = x.keeps; none = x.none; said = x.said }) x.given c.as_slice.ensures.value c.in-Ok-records_behind.ensures.whole t
 
 pub returns-clause-why : goal.returns-clause-why

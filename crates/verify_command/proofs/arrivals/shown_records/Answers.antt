@@ -13,9 +13,9 @@ returns-clause-whole g c =
     let v = g.F.Files.view c.args.files.now in
     let i = c.args.interface.now in
     let m = c.in-Ok.marker in
-    IfOk-weaker c.marked_records.result (λ answers. OfLeft v c.args.file (λ bytes. AreRecords (given placed_by m bytes) answers.items))
-    (λ answers. OfLeft v c.args.file (λ bytes. AreRecords (marked_in i bytes) answers.items))
-    (λ answers h t bytes e. subst (λ (l : List ℕ). AreRecords l answers.items) (c.in-Ok.ensures.marks bytes) (h t bytes e)) c.marked_records.ensures.whole
+    IfOk-weaker c.marked_records.result (λ answers. OfLeft v c.args.file (λ bytes. AreRecords (given placed_by m bytes) answers))
+    (λ answers. OfLeft v c.args.file (λ bytes. AreRecords (marked_in i bytes) answers))
+    (λ answers h t bytes e. subst (λ (l : List ℕ). AreRecords l answers) (c.in-Ok.ensures.marks bytes) (h t bytes e)) c.marked_records.ensures.whole
 
 pub returns-clause-fault : goal.returns-clause-fault
 returns-clause-fault g c =

@@ -7,7 +7,7 @@ use Rattle.command_base.specs.declared.failure.Failure.TheVariants as failure
 use Rattle.command_base.specs.declared.fault.ConfigFault.TheVariants as conf
 use Rattle.command_base.proofs.ReadingLemmas.{accepts_of, configured_of, fits, input_config, read_absent}
 use Rattle.verify_command.specs.Verifying.{VerifyEnds, inputs_of}
-use Rattle.verify_command.proofs.ComeLemmas.{AreHad, arrivals_fail, config_fails, departures_fail, fates_fail, has_read, holds, refuted_fails, same_holds, same_judged, same_read, says_comes}
+use Rattle.verify_command.proofs.ComeLemmas.{AreHad, arrivals_fail, config_fails, departures_fail, fates_fail, has_read, holds, refuted_fails, same_holds, same_judged, says_comes}
 use Rattle.verify_command.proofs.LeaveLemmas.{fails_at, fails_more, leaves_conf, leaves_said, reached_conf, reached_more}
 use Rattle.verify_command.proofs.TellLemmas.{told}
 use Rattle.verify_command.proofs.verifying.verify.Goals as goal
@@ -62,11 +62,11 @@ returns-in-Err-read_file-clause-ends g c =
     let accepted = accepts_of _ _ _ c.in-Ok.conf c.in-Some.found.now c.in-Ok.ensures.read (sym c.in-Some.ensures) in
     let at = reached_conf u a n (record { keeps = c.in-Ok.ensures.keeps; only = c.in-Ok.ensures.only }) c.in-Ok.ensures.said c.in-Ok.ensures.no_fault in
     let next = reached_more u a b n 2 (omega arith) (omega arith) at y.keeps y.opens y.said y.no_fault in
-    let read = has_read u a n c.in-Some.found.now c.in-Ok-read_arrivals.records.items at.leaves.keeps accepted y.whole in
+    let read = has_read u a n c.in-Some.found.now c.in-Ok-read_arrivals.records at.leaves.keeps accepted y.whole in
     let P : Failure → Type 0 = λ f. VerifyEnds u d n (Err f) in
     subst P (sym c.departures_failure.ensures)
     (fails_more c.configurations_fit.ensures u b d n 3 _ (omega arith) (omega arith) next x.keeps x.opens
-    (departures_fail u b d n c.in-Some.found.now c.in-Ok-read_arrivals.records.items c.in-Err-read_file.fault next.leaves.keeps read x.why))
+    (departures_fail u b d n c.in-Some.found.now c.in-Ok-read_arrivals.records c.in-Err-read_file.fault next.leaves.keeps read x.why))
 
 pub returns-in-Err-read_file-2-clause-ends : goal.returns-in-Err-read_file-2-clause-ends
 returns-in-Err-read_file-2-clause-ends g c =
@@ -83,12 +83,12 @@ returns-in-Err-read_file-2-clause-ends g c =
     let at = reached_conf u a n (record { keeps = c.in-Ok.ensures.keeps; only = c.in-Ok.ensures.only }) c.in-Ok.ensures.said c.in-Ok.ensures.no_fault in
     let next = reached_more u a b n 2 (omega arith) (omega arith) at y.keeps y.opens y.said y.no_fault in
     let then = reached_more u b d n 3 (omega arith) (omega arith) next z.keeps z.opens z.said z.no_fault in
-    let read = has_read u a n c.in-Some.found.now c.in-Ok-read_arrivals.records.items at.leaves.keeps accepted y.whole in
+    let read = has_read u a n c.in-Some.found.now c.in-Ok-read_arrivals.records at.leaves.keeps accepted y.whole in
     let had = holds u b n.departures c.in-Ok-read_file.departures.items next.leaves.keeps z.whole z.short in
     let P : Failure → Type 0 = λ f. VerifyEnds u e n (Err f) in
     subst P (sym c.fates_failure.ensures)
     (fails_more c.configurations_fit.ensures u d e n 4 _ (omega arith) (omega arith) then x.keeps x.opens
-    (fates_fail u d e n c.in-Some.found.now c.in-Ok-read_arrivals.records.items c.in-Ok-read_file.departures.items c.in-Err-read_file-2.fault then.leaves.keeps read had x.why))
+    (fates_fail u d e n c.in-Some.found.now c.in-Ok-read_arrivals.records c.in-Ok-read_file.departures.items c.in-Err-read_file-2.fault then.leaves.keeps read had x.why))
 
 pub judge-requires-clause-interface : goal.judge-requires-clause-interface
 judge-requires-clause-interface g c =
@@ -112,18 +112,18 @@ returns-in-Err-judge-clause-ends g c =
     let next = reached_more u a b n 2 (omega arith) (omega arith) at y.keeps y.opens y.said y.no_fault in
     let then = reached_more u b d n 3 (omega arith) (omega arith) next z.keeps z.opens z.said z.no_fault in
     let all = reached_more u d e n 4 (omega arith) (omega arith) then f.keeps f.opens f.said f.no_fault in
-    let answers = c.deref.result.now in
-    let read = has_read u a n found answers at.leaves.keeps accepted (same_read a found n.arrivals c.in-Ok-read_arrivals.records.items answers c.deref.ensures.value y.whole) in
-    let had = same_holds u n.departures c.in-Ok-read_file.departures.items c.deref-2.result.now c.deref-2.ensures.value
+    let answers = c.in-Ok-read_arrivals.records in
+    let read = has_read u a n found answers at.leaves.keeps accepted y.whole in
+    let had = same_holds u n.departures c.in-Ok-read_file.departures.items c.deref.result.now c.deref.ensures.value
     (holds u b n.departures c.in-Ok-read_file.departures.items next.leaves.keeps z.whole z.short) in
-    let last = same_holds u n.fates c.in-Ok-read_file-2.fates.items c.deref-3.result.now c.deref-3.ensures.value
+    let last = same_holds u n.fates c.in-Ok-read_file-2.fates.items c.deref-2.result.now c.deref-2.ensures.value
     (holds u d n.fates c.in-Ok-read_file-2.fates.items then.leaves.keeps f.whole f.short) in
-    let have : IsTrue u.tells → AreHad u n found answers c.deref-2.result.now c.deref-3.result.now =
+    let have : IsTrue u.tells → AreHad u n found answers c.deref.result.now c.deref-2.result.now =
     λ t. record { arrivals = read t; departures_had = had t; fates_had = last t } in
     let P : Failure → Type 0 = λ x. VerifyEnds u e n (Err x) in
     subst P (sym c.refutation.ensures)
     (fails_at c.configurations_fit.ensures u e n _ all.leaves
-    (refuted_fails u e n found answers c.deref-2.result.now c.deref-3.result.now c.in-Err-judge.why have c.in-Err-judge.ensures.refuted))
+    (refuted_fails u e n found answers c.deref.result.now c.deref-2.result.now c.in-Err-judge.why have c.in-Err-judge.ensures.refuted))
 
 pub returns-in-Ok-say_verdict-clause-ends : goal.returns-in-Ok-say_verdict-clause-ends
 returns-in-Ok-say_verdict-clause-ends g c =
@@ -142,17 +142,17 @@ returns-in-Ok-say_verdict-clause-ends g c =
     let next = reached_more u a b n 2 (omega arith) (omega arith) at y.keeps y.opens y.said y.no_fault in
     let then = reached_more u b d n 3 (omega arith) (omega arith) next z.keeps z.opens z.said z.no_fault in
     let all = reached_more u d e n 4 (omega arith) (omega arith) then f.keeps f.opens f.said f.no_fault in
-    let answers = c.deref.result.now in
-    let read = has_read u a n found answers at.leaves.keeps accepted (same_read a found n.arrivals c.in-Ok-read_arrivals.records.items answers c.deref.ensures.value y.whole) in
-    let had = same_holds u n.departures c.in-Ok-read_file.departures.items c.deref-2.result.now c.deref-2.ensures.value
+    let answers = c.in-Ok-read_arrivals.records in
+    let read = has_read u a n found answers at.leaves.keeps accepted y.whole in
+    let had = same_holds u n.departures c.in-Ok-read_file.departures.items c.deref.result.now c.deref.ensures.value
     (holds u b n.departures c.in-Ok-read_file.departures.items next.leaves.keeps z.whole z.short) in
-    let last = same_holds u n.fates c.in-Ok-read_file-2.fates.items c.deref-3.result.now c.deref-3.ensures.value
+    let last = same_holds u n.fates c.in-Ok-read_file-2.fates.items c.deref-2.result.now c.deref-2.ensures.value
     (holds u d n.fates c.in-Ok-read_file-2.fates.items then.leaves.keeps f.whole f.short) in
-    let have : IsTrue u.tells → AreHad u n found answers c.deref-2.result.now c.deref-3.result.now =
+    let have : IsTrue u.tells → AreHad u n found answers c.deref.result.now c.deref-2.result.now =
     λ t. record { arrivals = read t; departures_had = had t; fates_had = last t } in
     let w = g.F.Files.view c.say_verdict.new.files in
-    let judged = same_judged found answers c.deref-2.result.now c.deref-3.result.now c.in-Ok-judge.late.items c.deref-4.result.now c.deref-4.ensures.value c.in-Ok-judge.ensures.verified in
-    let comes = says_comes u e w n found answers c.deref-2.result.now c.deref-3.result.now c.deref-4.result.now (Ok c.in-Ok-say_verdict.done)
+    let judged = same_judged found answers c.deref.result.now c.deref-2.result.now c.in-Ok-judge.late.items c.deref-3.result.now c.deref-3.ensures.value c.in-Ok-judge.ensures.verified in
+    let comes = says_comes u e w n found answers c.deref.result.now c.deref-2.result.now c.deref-3.result.now (Ok c.in-Ok-say_verdict.done)
     all.leaves.keeps all.silent all.counts have judged c.in-Ok-say_verdict.ensures.said.says in
     record {
       comes = comes;
@@ -177,17 +177,17 @@ returns-clause-ends g c =
     let next = reached_more u a b n 2 (omega arith) (omega arith) at y.keeps y.opens y.said y.no_fault in
     let then = reached_more u b d n 3 (omega arith) (omega arith) next z.keeps z.opens z.said z.no_fault in
     let all = reached_more u d e n 4 (omega arith) (omega arith) then f.keeps f.opens f.said f.no_fault in
-    let answers = c.deref.result.now in
-    let read = has_read u a n found answers at.leaves.keeps accepted (same_read a found n.arrivals c.in-Ok-read_arrivals.records.items answers c.deref.ensures.value y.whole) in
-    let had = same_holds u n.departures c.in-Ok-read_file.departures.items c.deref-2.result.now c.deref-2.ensures.value
+    let answers = c.in-Ok-read_arrivals.records in
+    let read = has_read u a n found answers at.leaves.keeps accepted y.whole in
+    let had = same_holds u n.departures c.in-Ok-read_file.departures.items c.deref.result.now c.deref.ensures.value
     (holds u b n.departures c.in-Ok-read_file.departures.items next.leaves.keeps z.whole z.short) in
-    let last = same_holds u n.fates c.in-Ok-read_file-2.fates.items c.deref-3.result.now c.deref-3.ensures.value
+    let last = same_holds u n.fates c.in-Ok-read_file-2.fates.items c.deref-2.result.now c.deref-2.ensures.value
     (holds u d n.fates c.in-Ok-read_file-2.fates.items then.leaves.keeps f.whole f.short) in
-    let have : IsTrue u.tells → AreHad u n found answers c.deref-2.result.now c.deref-3.result.now =
+    let have : IsTrue u.tells → AreHad u n found answers c.deref.result.now c.deref-2.result.now =
     λ t. record { arrivals = read t; departures_had = had t; fates_had = last t } in
     let w = g.F.Files.view c.say_verdict.new.files in
-    let judged = same_judged found answers c.deref-2.result.now c.deref-3.result.now c.in-Ok-judge.late.items c.deref-4.result.now c.deref-4.ensures.value c.in-Ok-judge.ensures.verified in
-    let comes = says_comes u e w n found answers c.deref-2.result.now c.deref-3.result.now c.deref-4.result.now (Err c.in-Err-say_verdict.failure)
+    let judged = same_judged found answers c.deref.result.now c.deref-2.result.now c.in-Ok-judge.late.items c.deref-3.result.now c.deref-3.ensures.value c.in-Ok-judge.ensures.verified in
+    let comes = says_comes u e w n found answers c.deref.result.now c.deref-2.result.now c.deref-3.result.now (Err c.in-Err-say_verdict.failure)
     all.leaves.keeps all.silent all.counts have judged c.in-Err-say_verdict.ensures.said.says in
     record {
       comes = comes;

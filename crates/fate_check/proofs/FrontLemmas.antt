@@ -1,0 +1,107 @@
+-- Numbers that stand at the front of a text.
+use Rattle.std.proofs.Common.{◌≡◌, ◌∙◌, ◌+◌, ◌<◌, ◌^◌, ◌++◌, ◌&&◌, ℕ, zero, suc, true, false, List, [], ◌∷◌, Some, length, take, drop, get_or, nat_lt, eqb, add-one, refl, sym, ap, arith, length-take}
+use Rattle.std.proofs.Math.Seq.{drop-cons}
+use Rattle.std.proofs.lemmas.List.{take-append-drop, take_all}
+use Rattle.std.proofs.lemmas.Str.Parse.{tells_digits}
+use Rattle.std.specs.Str.Parse.{AllDigits, digits_value}
+use Rattle.line_text.specs.Numbers.{are_digits, cut, number}
+use Rattle.line_text.proofs.Digits.{number_whole}
+use Rattle.altq_model.specs.declared.Fate.TheVariants.{Sent}
+use Rattle.altq_model.specs.declared.Rule.{Rule}
+use Rattle.play_text.specs.Names.{NameList, class_named}
+use Rattle.fate_check.specs.declared.reading.Row.{Row}
+use Rattle.fate_check.specs.Front.{StandsBefore, StandsBehind}
+use Rattle.fate_check.specs.Parse.{fate_by, fate_of, fields_of, len_of, number_of, row_in, row_of, rule_of, sent_of}
+use Rattle.fate_check.proofs.CutLemmas.{Lacks, cut-front}
+use Rattle.fate_check.proofs.FieldLemmas.{digit_is_not}
+use Rattle.fate_check.proofs.NumberLemmas.{are_all}
+
+-- digits at the front of a text write a value, and the mark stands behind them
+pub record DigitsEnd (mark : ℕ) (text : List ℕ) (count n : ℕ) : Type 0 where
+  pub low : mark < 48
+  pub some : 0 < count
+  pub inside : count < length text
+  pub digits : are_digits 10 (take count text) ≡ true
+  pub value : n ≡ digits_value 10 (take count text)
+  pub small : n < 2 ^ 64
+  pub here : get_or text count 0 ≡ mark
+  pub leads : (nat_lt 1 count && eqb (get_or text 0 0) 48) ≡ false
+
+digits_lack : (mark : ℕ) (text : List ℕ) → mark < 48 → AllDigits 10 text → Lacks mark text
+digits_lack mark [] low h = tt
+digits_lack mark (b ∷ text) low h = let p = tells_digits.parts b text h in (digit_is_not b mark p.0 low, digits_lack mark text low p.1)
+
+parts_are : (mark : ℕ) (text : List ℕ) (count n : ℕ) → DigitsEnd mark text count n → cut mark text ≡ Some (take count text, drop (count + 1) text)
+parts_are mark text count n h =
+    let behind : drop count text ≡ mark ∷ drop (count + 1) text =
+    rw add-one (drop-cons text count 0 h.inside ∙ ap (λ (b : ℕ). b ∷ drop (suc count) text) h.here) in
+    let whole : text ≡ take count text ++ mark ∷ drop (count + 1) text = sym (take-append-drop count text) ∙ ap (λ (r : List ℕ). take count text ++ r) behind in
+    ap (cut mark) whole ∙ cut-front mark (take count text) (drop (count + 1) text) (digits_lack mark (take count text) h.low (are_all 10 (take count text) h.digits))
+
+number_is : (mark : ℕ) (text : List ℕ) (count n : ℕ) → DigitsEnd mark text count n → number_of (take count text) ≡ Some n
+unfolding number_of
+number_is mark [] count n h = absurd (omega (arith, h.inside))
+number_is mark (b ∷ text) zero n h = absurd (omega (arith, h.some))
+number_is mark (b ∷ text) (suc count) n h =
+    let field : List ℕ = b ∷ take count text in
+    let long : length field ≡ suc count = omega (arith, h.inside, length-take (suc count) (b ∷ text)) in
+    let same : take (suc count) field ≡ field = take_all (suc count) field (omega (arith, long)) in
+    let digits : are_digits 10 (take (suc count) field) ≡ true = ap (are_digits 10) same ∙ h.digits in
+    let value_is : n ≡ digits_value 10 (take (suc count) field) = h.value ∙ ap (digits_value 10) (sym same) in
+    let whole : number 10 field ≡ Some n =
+    number_whole 10 field (suc count) n (omega (arith, long)) digits value_is h.small (omega (arith, long)) in
+    let test : (nat_lt 1 (length field) && eqb b 48) ≡ false = rw long h.leads in
+    rw test whole
+
+pub stands_before : (mark : ℕ) (text : List ℕ) (count n : ℕ) → DigitsEnd mark text count n → StandsBefore mark text n (drop (count + 1) text)
+stands_before mark text count n h =
+    record { field = take count text; parts = parts_are mark text count n h; number = number_is mark text count n h }
+
+-- the numbers of a sending
+pub sent_behind : (word text middle rest : List ℕ) (rule : Rule) (s e : ℕ) → rule_of word ≡ Some rule → StandsBefore 44 text s middle → StandsBefore 10 middle e rest
+    → StandsBehind word text (Sent s e rule) rest
+unfolding fate_of fate_by sent_of
+sent_behind word text middle rest rule s e is first last = record {
+  start = first.field;
+  middle = middle;
+  end = last.field;
+  first = first.parts;
+  last = last.parts;
+  is = rw (is, first.number, last.number) refl;
+}
+
+-- what stands one behind the other at the front of a text
+pub record RowStands (names : NameList) (text : List ℕ) (r : Row) (rest : List ℕ) : Type 0 where
+  pub at : List ℕ
+  pub len : List ℕ
+  pub class : List ℕ
+  pub word : List ℕ
+  pub start : List ℕ
+  pub name : List ℕ
+  pub by : List ℕ
+  pub number_stands : StandsBefore 44 text r.number at
+  pub at_stands : StandsBefore 44 at r.at len
+  pub len_stands : StandsBefore 44 len r.len class
+  pub class_stands : cut 44 class ≡ Some (name, word)
+  pub word_stands : cut 44 word ≡ Some (by, start)
+  pub fate_stands : StandsBehind by start r.fate rest
+  pub small : nat_lt r.len (2 ^ 32) ≡ true
+  pub named : class_named names name ≡ Some r.class
+
+pub row_is : (names : NameList) (text : List ℕ) (r : Row) (rest : List ℕ) → RowStands names text r rest → row_of names text ≡ Some (r, rest)
+unfolding row_of fields_of row_in len_of
+row_is names text r rest h = rw (
+  h.number_stands.parts,
+  h.at_stands.parts,
+  h.len_stands.parts,
+  h.class_stands,
+  h.word_stands,
+  h.fate_stands.first,
+  h.fate_stands.last,
+  h.number_stands.number,
+  h.at_stands.number,
+  h.len_stands.number,
+  h.small,
+  h.named,
+  h.fate_stands.is,
+) refl

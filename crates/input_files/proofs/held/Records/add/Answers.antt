@@ -1,0 +1,33 @@
+use Rattle.std.proofs.Common.{◌∙◌, ◌++◌, ◌∷◌, [], ℕ, List, length, length-append, arith, ap, refl}
+use Rattle.input_files.specs.Held.{IsHeld}
+use Rattle.input_files.specs.Records.{Shown}
+use Rattle.input_files.specs.declared.held.Held.{Held}
+use Rattle.input_files.proofs.HeldLemmas.{added, held_push, more_held}
+use Rattle.input_files.proofs.held.Records.add.Goals as goal
+
+pub invariant_of-self-in_err-push : goal.invariant_of-self-in_err-push
+invariant_of-self-in_err-push c = rw (c.in_ok-extend_from_slice.ensures.items, c.in_err-push.ensures.items) (more_held _ _ _ c.self.invariant)
+
+pub invariant_of-self-2 : goal.invariant_of-self-2
+invariant_of-self-2 c =
+    let bytes = c.self.inside.bytes.items in
+    let more = c.as_slice-bytes.result.now in
+    let h : Held = record { stamp = c.args.record.now.stamp; from = c.len-from.result; len = c.args.record.now.len; captured = length more } in
+    let is : IsHeld (bytes ++ more) h = record {
+      there = omega (arith, c.len-from.ensures, length-append bytes more);
+      some = c.args.record.now.some;
+      most = c.args.record.now.short;
+      short = omega (arith, ap length c.as_slice-bytes.ensures, c.args.record.now.within, c.args.record.now.short);
+    } in
+    rw (c.in_ok-extend_from_slice.ensures.items, c.in_ok-push.ensures.items) (held_push (bytes ++ more) c.self.inside.held.items h (more_held bytes more c.self.inside.held.items c.self.invariant) is)
+
+pub returns : goal.returns
+returns c =
+    let bytes = c.self.inside.bytes.items in
+    let more = c.as_slice-bytes.result.now in
+    let r = c.args.record.now in
+    let h : Held = record { stamp = r.stamp; from = c.len-from.result; len = r.len; captured = length more } in
+    rw (c.in_ok-extend_from_slice.ensures.items, c.in_ok-push.ensures.items)
+    (added bytes more c.self.inside.held.items h c.self.invariant (c.len-from.ensures ∙ c.self.inside.bytes.ok.0) refl
+    ∙ ap (λ (ss : List Shown). ss ++ record { stamp = r.stamp; len = r.len; bytes = more } ∷ []) c.self.view_is
+    ∙ ap (λ (b : List ℕ). c.args.self.now ++ record { stamp = r.stamp; len = r.len; bytes = b } ∷ []) c.as_slice-bytes.ensures)
