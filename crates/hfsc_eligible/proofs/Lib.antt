@@ -1,3 +1,4 @@
+pub mod Leaders
 pub mod Slots
 pub mod Lists
 pub mod Picks

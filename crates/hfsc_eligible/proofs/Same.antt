@@ -1,5 +1,5 @@
 -- What a call leaves of the classes, by what is held.
-use Rattle.std.proofs.Common.{◌≡◌, ◌≤◌, ◌<◌, ◌⊎◌, inl, inr, ℕ, List, None, Some, length, sym, ap, arith, ◌∙◌, get_or}
+use Rattle.std.proofs.Common.{◌≡◌, ◌≤◌, ◌<◌, ◌⊎◌, inl, inr, ℕ, List, None, Some, length, sym, ap, arith, ◌∙◌}
 use Rattle.std.specs.Prelude.{Option, slice_get, slice_set}
 use Rattle.std.specs.Option.{ForSome}
 use Rattle.std.proofs.lemmas.Bool.{cases_lt}

@@ -1,9 +1,9 @@
 -- What a value stands for, and what it answers by what it holds.
-use Rattle.std.specs.Prelude.{◌≡◌, ◌≤◌, ◌<◌, ℕ, List, [], ◌∷◌, length, slice_get, slice_index_or, Option, None, Some, MatchOption}
+use Rattle.std.specs.Prelude.{◌≡◌, ◌≤◌, ◌<◌, ℕ, Bool, true, List, [], ◌∷◌, length, get_or, slice_get, slice_index_or, Option, None, Some, MatchOption, if◌then◌else◌}
 use Rattle.std.specs.List.{find}
 use Rattle.service_curve.specs.declared.Curve.{Curve}
 use Rattle.runtime_curve.specs.declared.Opening.{Opening}
-use Rattle.ranking.specs.Order.{key_of}
+use Rattle.ranking.specs.Order.{is_before, is_in, key_of}
 use Rattle.ranking.specs.Ranking.{keys_of, order_of}
 use Rattle.hfsc_model.specs.Event.{HfscHistory}
 use Rattle.hfsc_model.specs.Leaf.{leaf}
@@ -57,6 +57,20 @@ soonest_now e = first_key (keys_of e.moments) (order_of e.moments)
 
 abbrev pub pick_now : Eligible → ℕ → Option ℕ
 pick_now e now = find (λ c. has_come (key_of (keys_of e.moments) c) now) (order_of e.deadlines)
+
+-- the class at a place in the order of the moments, where its head is eligible
+abbrev pub come_with : (ℕ → Bool) → Option ℕ → Option ℕ
+come_with test None = None
+come_with test (Some c) = if test c then Some c else None
+
+abbrev pub come_at : Eligible → (place now : ℕ) → Option ℕ
+come_at e place now = come_with (λ c. has_come (key_of (keys_of e.moments) c) now) (slice_get (order_of e.moments) place)
+
+-- of the first classes of a list, up to a place, one that passes a test and goes before all others
+pub record IsLeader (keys : List (Option ℕ)) (test : ℕ → Bool) (xs : List ℕ) (place best : ℕ) : Type 0 where
+  pub there : is_in best xs ≡ true
+  pub passes : test best ≡ true
+  pub first : (j : ℕ) → j ≤ place → j < length xs → (get_or xs j 0 ≡ best → ⊥) → is_before keys best (get_or xs j 0) ≡ true
 
 -- the least of the moments of classes, none where no class has one
 pub record IsLeastKey (key : ℕ → Option ℕ) (t : ℕ) : Type 0 where

@@ -7,11 +7,11 @@
 //! for Link-Sharing, Real-Time and Priority Services", SIGCOMM 1997.
 #![tactic(auto)]
 
-ghost use Rattle.std.specs.Prelude.{◌≡◌, ◌<◌, ◌≤◌, ◌^◌, ◌∷◌, [], ℕ, List, Option, None, Some, All, length, IfOk, MatchOption};
+ghost use Rattle.std.specs.Prelude.{◌≡◌, ◌<◌, ◌≤◌, ◌^◌, ◌∷◌, [], ℕ, List, Option, None, Some, All, length, IfOk, MatchOption, true, if◌then◌else◌};
 ghost use Rattle.std.specs.List.{find};
 ghost use Rattle.std.specs.Option.{ForSome};
 ghost use Rattle.service_curve.specs.declared.Curve.{Curve};
-ghost use Rattle.ranking.specs.Order.{IsOrderOf, key_of};
+ghost use Rattle.ranking.specs.Order.{IsOrderOf, is_before, key_of};
 ghost use Rattle.ranking.specs.Ranking.{keys_of, order_of};
 ghost use Rattle.hfsc_model.specs.Event.{HfscHistory, Kept, Sent};
 ghost use Rattle.hfsc_model.specs.Leaf.{leaf, head_len};
@@ -46,7 +46,7 @@ pub struct Eligible {
 }
 
 impl Eligible {
-    ghost use Rattle.hfsc_eligible.specs.Eligible.{StandsFor, IsLeastSoonest, IsNew, IsSameBut, classes_of, head_at, opening_at, pick_now, soonest_now};
+    ghost use Rattle.hfsc_eligible.specs.Eligible.{StandsFor, IsLeastSoonest, IsNew, IsSameBut, classes_of, come_at, head_at, opening_at, pick_now, soonest_now};
 
     /// The classes of these real-time curves, without a packet. A curve that is 0 everywhere counts as none. There are at
     /// most 256; a curve whose slope rises has to rise from 0.
@@ -111,8 +111,8 @@ impl Eligible {
 
     /// The class whose head is eligible at `now` and has the least deadline, a head without one coming after all others and
     /// a tie going to the class that stands earlier in the file. `None` comes exactly where no head is eligible. No opening
-    /// is later than `now`. It looks at the heads in the order of their deadlines up to the first that is eligible, and at
-    /// none where none is.
+    /// is later than `now`. It looks at the heads in both orders by turns, up to the first eligible one by deadline or to the last
+    /// eligible one by moment, whichever comes sooner.
     pub fn pick(&self, now: u64) -> Option<u32>
         ensures pick { (curves : List (Option Curve)) (h : HfscHistory) → StandsFor self.now curves h → AreOpenBy h now
             → MatchOption result (NoneIsEligible curves h now) (IsRealPick curves h now) }
@@ -167,16 +167,52 @@ impl Eligible {
         self.first_come(now)
     }
 
-    /// The first class in the order of the deadlines whose head is eligible.
+    /// The first class in the order of the deadlines whose head is eligible, where some head is: the first that comes in that order, or
+    /// the one of least deadline among those that come in the order of the moments, whichever walk is shorter.
     fn first_come(&self, now: u128) -> Option<u32>
+        requires { has_come (soonest_now self.now) now ≡ true }
         ensures { result ≡ pick_now self.now now }
     {
-        for class in self.deadlines.as_slice() {
-            if has_come(self.moments.key(*class), now) {
-                return Some(*class);
+        let order = self.deadlines.as_slice();
+        let mut best = self.moments.as_slice()[0];
+        for place in 0..order.len() {
+            let class = order[place];
+            if has_come(self.moments.key(class), now) {
+                return Some(class);
             }
+            let Some(other) = self.come_at(place + 1, now) else {
+                return Some(best);
+            };
+            best = self.ahead(other, best);
         }
         None
+    }
+
+    /// Of two classes the one that goes before the other in the order of the deadlines.
+    fn ahead(&self, other: u32, best: u32) -> u32
+        ensures { result ≡ (if is_before (keys_of self.now.deadlines) other best then other else best) }
+    {
+        if self.deadlines.leads(other, best) {
+            other
+        } else {
+            best
+        }
+    }
+
+    /// The class at a place in the order of the moments, where there is one whose head is eligible.
+    fn come_at(&self, place: usize, now: u128) -> Option<u32>
+        ensures { result ≡ come_at self.now place now }
+    {
+        let early = self.moments.as_slice();
+        if place >= early.len() {
+            return None;
+        }
+        let class = early[place];
+        if has_come(self.moments.key(class), now) {
+            Some(class)
+        } else {
+            None
+        }
     }
 }
 

@@ -7,14 +7,14 @@
 ghost use Rattle.std.specs.Prelude.{◌≡◌, ◌==◌, ◌<◌, ◌≤◌, ◌^◌, ℕ, [], length, true, false, slice_set, None, IfOk, if◌then◌else◌};
 ghost use Rattle.std.specs.Vec.{vec_len, vec_capacity};
 ghost use Rattle.std.specs.List.{insert, remove};
-ghost use Rattle.ranking.specs.Order.{is_ranked, are_below, is_in, key_of, with_class, without};
+ghost use Rattle.ranking.specs.Order.{is_before, is_ranked, are_below, is_in, key_of, with_class, without};
 
 use play_base::NoMemory;
 use std::alloc::Global;
 
 mod search;
 
-use search::{place_in, place_of};
+use search::{goes_before, place_in, place_of};
 
 /// Some of the classes from 0 on, in the order of their keys.
 ///
@@ -54,6 +54,13 @@ impl Ranking {
         ensures { result ≡ key_of (keys_of self.now) class }
     {
         self.keys[class as usize]
+    }
+
+    /// Whether a class goes before another by the keys that they were put in with last, whether they are there or not. Constant time.
+    pub fn leads(&self, class: u32, other: u32) -> bool
+        ensures { result ≡ is_before (keys_of self.now) class other }
+    {
+        goes_before(&self.keys, class, other)
     }
 
     /// Puts in a class that is not there, with its key. It takes the logarithm of the classes to find the place, and moves

@@ -1,7 +1,7 @@
 //! The place of a class in a list in the order of the keys.
 ghost use Rattle.std.specs.Prelude.{◌≡◌, length, true};
 ghost use Rattle.hfsc_model.specs.RealTime.{goes_first, is_earlier};
-ghost use Rattle.ranking.specs.Order.{is_ranked, key_of};
+ghost use Rattle.ranking.specs.Order.{is_before, is_ranked, key_of};
 ghost use Rattle.ranking.specs.Search.{IsFound};
 
 /// Whether the first moment is before the second, where `None` means never.
@@ -38,6 +38,13 @@ fn goes_first(a: Option<u128>, one: u32, b: Option<u128>, other: u32) -> bool
         return false;
     }
     one < other
+}
+
+/// Whether a class goes before another.
+pub fn goes_before(keys: &[Option<u128>], class: u32, other: u32) -> bool
+    ensures { result ≡ is_before keys.now class other }
+{
+    goes_first(key_of(keys, class), class, key_of(keys, other), other)
 }
 
 /// How many classes of the list go before a class.

@@ -1,35 +1,23 @@
-use Rattle.std.proofs.Common.{◌≡◌, ◌∙◌, List, ℕ, Some, true, false, length, get_or, ap, sym, arith}
-use Rattle.std.specs.Prelude.{Option}
-use Rattle.ranking.specs.Order.{key_of}
-use Rattle.ranking.specs.Ranking.{keys_of, order_of}
-use Rattle.ranking.proofs.Orders.{find_more, find_hit, item_below}
-use Rattle.hfsc_model.specs.RealTime.{has_come}
+use Rattle.std.proofs.Common.{arith}
+use Rattle.hfsc_eligible.proofs.Leaders.{hit, leader_is_pick, leads_on, miss, order_low}
 use Rattle.hfsc_eligible.proofs.Eligible.first_come.Goals as goal
 
 pub key-requires : goal.key-requires
-key-requires c =
-    let len = ap (λ (xs : List ℕ). length xs) c.as_slice-class-items.ensures in
-    let low = item_below (length (keys_of c.args.self.now.deadlines)) (order_of c.args.self.now.deadlines) c.loop-class.class-index c.args.self.now.deadlines.below (omega arith) in
-    let item = ap (λ (xs : List ℕ). get_or xs c.loop-class.class-index 0) c.as_slice-class-items.ensures in
-    let one = c.args.self.now.by_deadline.classes in
-    let two = c.args.self.now.by_moment.classes in
-    omega arith
+key-requires c = order_low c.args.self.now c.args.now c.as_slice-order.result.now c.loop-place.place c.as_slice-order.ensures (omega arith)
 
 pub returns-then-has_come : goal.returns-then-has_come
 returns-then-has_come c =
-    let len = ap (λ (xs : List ℕ). length xs) c.as_slice-class-items.ensures in
-    let item = ap (λ (xs : List ℕ). get_or xs c.loop-class.class-index 0) c.as_slice-class-items.ensures in
-    let here : has_come (key_of (keys_of c.args.self.now.moments) (get_or c.as_slice-class-items.result.now c.loop-class.class-index 0)) c.args.now ≡ true
-    = ap (λ (k : Option ℕ). has_come k c.args.now) (sym c.key.ensures) ∙ sym c.has_come.ensures ∙ c.if-has_come.true in
-    ap (λ n. Some n) item
-    ∙ find_hit (λ d. has_come (key_of (keys_of c.args.self.now.moments) d) c.args.now) (order_of c.args.self.now.deadlines) c.loop-class.class-index c.loop-class.invariant (omega arith)
-    (ap (λ n. has_come (key_of (keys_of c.args.self.now.moments) n) c.args.now) (sym item) ∙ here)
+    hit c.args.self.now c.args.now c.as_slice-order.result.now c.loop-place.place c.key.result c.has_come.result c.as_slice-order.ensures (omega arith)
+    c.loop-place.invariant.0 c.key.ensures c.has_come.ensures c.if-has_come.true
 
-pub loop-class-preserved : goal.loop-class-preserved
-loop-class-preserved c =
-    let len = ap (λ (xs : List ℕ). length xs) c.as_slice-class-items.ensures in
-    let item = ap (λ (xs : List ℕ). get_or xs c.loop-class.class-index 0) c.as_slice-class-items.ensures in
-    let here : has_come (key_of (keys_of c.args.self.now.moments) (get_or c.as_slice-class-items.result.now c.loop-class.class-index 0)) c.args.now ≡ false
-    = ap (λ (k : Option ℕ). has_come k c.args.now) (sym c.key.ensures) ∙ sym c.has_come.ensures ∙ c.if-has_come.false in
-    find_more (λ d. has_come (key_of (keys_of c.args.self.now.moments) d) c.args.now) (order_of c.args.self.now.deadlines) c.loop-class.class-index c.loop-class.invariant (omega arith)
-    (ap (λ n. has_come (key_of (keys_of c.args.self.now.moments) n) c.args.now) (sym item) ∙ here)
+pub returns-in_default : goal.returns-in_default
+returns-in_default c =
+    leader_is_pick c.args.self.now c.args.now c.loop-place.place c.loop-place.best c.come_at.result c.loop-place.invariant.1 c.come_at.ensures c.in_default.is
+
+pub loop-place-preserved : goal.loop-place-preserved
+loop-place-preserved c = (
+  miss c.args.self.now c.args.now c.as_slice-order.result.now c.loop-place.place c.key.result c.has_come.result c.as_slice-order.ensures (omega arith)
+      c.loop-place.invariant.0 c.key.ensures c.has_come.ensures c.if-has_come.false,
+  leads_on c.args.self.now c.args.now c.loop-place.place c.loop-place.best c.in-Some.other c.ahead-best.result c.come_at.result c.loop-place.invariant.1
+      c.come_at.ensures c.in-Some.is c.ahead-best.ensures,
+)

@@ -1,4 +1,4 @@
-use Rattle.std.proofs.Common.{◌∙◌, refl, sym}
+use Rattle.std.proofs.Common.{◌∙◌, refl}
 use Rattle.hfsc_eligible.specs.Slot.{slot_deadline, slot_soonest}
 use Rattle.hfsc_eligible.proofs.Lists.{has_place, holds_changed, opened_stands, was_there}
 use Rattle.hfsc_eligible.proofs.Same.{head_here, opened_here, same_but}

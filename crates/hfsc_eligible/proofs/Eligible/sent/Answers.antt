@@ -1,4 +1,3 @@
-use Rattle.std.proofs.Common.{◌∙◌, refl, sym}
 use Rattle.hfsc_eligible.specs.Slot.{slot_deadline, slot_soonest}
 use Rattle.hfsc_eligible.proofs.Lists.{has_place, holds_changed, was_there}
 use Rattle.hfsc_eligible.proofs.Eligible.sent.Goals as goal
