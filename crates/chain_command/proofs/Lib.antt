@@ -5,6 +5,7 @@ pub mod LawLemmas
 pub mod LeavingLemmas
 pub mod LentLemmas
 pub mod PartLemmas
+pub mod PieceLemmas
 pub mod SecondLemmas
 pub mod TellLemmas
 pub mod WrittenLemmas

@@ -1,6 +1,6 @@
 -- What each step of a chain leaves.
-use Rattle.std.specs.Prelude.{◌≡◌, ◌≤◌, ℕ, List, None, Some, Ok, IsTrue}
-use Rattle.play_base.specs.View.{View, Keeps, NotNamed, OtherThan}
+use Rattle.std.specs.Prelude.{◌≡◌, ◌≤◌, ◌++◌, ℕ, List, None, Some, Ok, IsTrue}
+use Rattle.play_base.specs.View.{View, Keeps, NotNamed, OtherThan, Wrote}
 use Rattle.play_loop.specs.declared.kept.KeptFate.{KeptFate}
 use Rattle.command_base.specs.Faults.{Untouched}
 use Rattle.command_base.specs.Names.{Names}
@@ -41,3 +41,10 @@ pub record AddsFile (old new : View) (part_given : ℕ) (name_given text : List 
   pub one : (f g p q : ℕ) → old.part f ≡ None → old.part g ≡ None → new.part f ≡ Some p → new.part g ≡ Some q → f ≡ g
   pub named : IsTrue old.tells → (f p : ℕ) → old.part f ≡ None → new.part f ≡ Some p → new.name f ≡ name_given
   pub said : new.said ≡ old.said
+
+-- a front of this text was written to the file
+pub record WroteSome (old new : View) (file : ℕ) (text : List ℕ) : Type 0 where
+  pub front : List ℕ
+  pub rest : List ℕ
+  pub split : front ++ rest ≡ text
+  pub wrote : Wrote old new file front

@@ -25,7 +25,7 @@ use std::alloc::Global;
 /// the departures of the first link, and as `Write`, where a call on that file failed; and as `NoMemory`.
 ///
 /// Besides what `play` takes it holds a table of the fates of each play, 24 bytes for each arrival of the first and 16 for each of the
-/// second and the room by which a `Vec` grows, and then the text of the paths; no clause bounds that.
+/// second and the room by which a `Vec` grows; no clause bounds that.
 #[tactic(auto, using(play_base::proofs::ViewLaws::same_trans, play_base::proofs::ViewLaws::same_refl))]
 pub fn chain<F: Files>(
     alloc: Global,

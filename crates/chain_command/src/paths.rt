@@ -1,34 +1,44 @@
 // Writing what became of each packet.
-ghost use Rattle.std.specs.Prelude.{◌≡◌, [], ℕ, Some, IsErrOf, IsTrue, OnOk, OnErr};
-ghost use Rattle.play_base.specs.View.{Rose, SameCounts};
+ghost use Rattle.std.specs.Prelude.{◌≡◌, [], ℕ, Some, IsErrOf, IsSome, IsTrue, OnOk, OnErr};
+ghost use Rattle.play_base.specs.View.{Rose, SameCounts, WriteFault, Wrote};
+ghost use Rattle.play_chain.specs.Stands.{text_of};
 ghost use Rattle.play_chain.specs.Tables.{text_in};
-ghost use Rattle.chain_command.specs.Playing.{AddsFile};
+ghost use Rattle.chain_command.specs.Playing.{AddsFile, WroteSome};
 
 use command_base::part;
 use play_base::{Files, NoMemory, Trouble, write_all};
-use play_chain::{Firsts, Seconds, paths_through};
+use play_chain::{Firsts, Path, Seconds, path_header};
 use std::alloc::Global;
 
-// Creates a file and writes a text there.
+// Writes the head row, and then piece by piece the rows of all numbers.
 #[tactic(auto, using(play_base::proofs::ViewLaws::same_trans, play_base::proofs::ViewLaws::same_refl))]
-fn write_text<F: Files>(files: &mut F, name: &str, text: &[u8]) -> Result<(), Trouble>
-    ensures whole { OnOk result (IsTrue (F.view files.old).tells → (F.view files.new).bytes name.now ≡ Some text.now) }
-    ensures adds { AddsFile (F.view files.old) (F.view files.new) 10 name.now text.now }
-    ensures failed { IsErrOf result Trouble.Failed → Rose ((F.view files.old).write_faults 10) ((F.view files.new).write_faults 10) }
+fn write_rows<F: Files>(files: &mut F, file: u32, path: &Path) -> Result<(), Trouble>
+    requires there { IsSome ((F.view files.old).part file) }
+    ensures wrote { OnOk result (Wrote (F.view files.old) (F.view files.new) file (text_of path.now)) }
+    ensures front { OnErr result (WroteSome (F.view files.old) (F.view files.new) file (text_of path.now)) }
+    ensures failed { IsErrOf result Trouble.Failed → WriteFault (F.view files.old) (F.view files.new) file }
     ensures no_fault { OnOk result (SameCounts (F.view files.old) (F.view files.new)) }
 {
-    let file = match files.create(part::PATH, name) {
-        Ok(file) => file,
+    match write_all(files, file, path_header()) {
+        Ok(()) => {}
         Err(trouble) => return Err(trouble),
-    };
-    match write_all(files, file, text) {
-        Ok(()) => Ok(()),
-        Err(trouble) => Err(trouble),
     }
+    let mut from = 0;
+    while from < path.bound() {
+        let Ok(piece) = path.piece_from(from) else {
+            return Err(Trouble::NoMemory);
+        };
+        match write_all(files, file, piece.text.as_slice()) {
+            Ok(()) => {}
+            Err(trouble) => return Err(trouble),
+        }
+        from = piece.next;
+    }
+    Ok(())
 }
 
-/// Makes the text of the paths of all packets by the tables of both plays, creates its file, and writes it there. No name's bytes
-/// change before that is created.
+/// Creates the file of the paths, and writes there the paths of all packets by the tables of both plays, a piece after another. No
+/// name's bytes change before that is created.
 #[tactic(auto, using(play_base::proofs::ViewLaws::same_trans, play_base::proofs::ViewLaws::same_refl))]
 pub fn write_paths<F: Files>(
     alloc: Global,
@@ -42,11 +52,15 @@ pub fn write_paths<F: Files>(
     ensures failed { IsErrOf result Trouble.Failed → Rose ((F.view files.old).write_faults 10) ((F.view files.new).write_faults 10) }
     ensures no_fault { OnOk result (SameCounts (F.view files.old) (F.view files.new)) }
 {
-    let text = match paths_through(alloc, firsts, seconds) {
-        Ok(text) => text,
+    let path = match Path::through(alloc, firsts, seconds) {
+        Ok(path) => path,
         Err(NoMemory) => return Err(Trouble::NoMemory),
     };
-    match write_text(files, name, text.as_slice()) {
+    let file = match files.create(part::PATH, name) {
+        Ok(file) => file,
+        Err(trouble) => return Err(trouble),
+    };
+    match write_rows(files, file, &path) {
         Ok(()) => Ok(()),
         Err(trouble) => Err(trouble),
     }

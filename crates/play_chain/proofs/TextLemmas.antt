@@ -1,7 +1,7 @@
 -- The rows of the numbers below a bound.
-use Rattle.std.proofs.Common.{◌≡◌, ◌≤◌, ◌+◌, ◌-◌, ◌∙◌, ℕ, zero, suc, List, [], ◌++◌, length, None, Some, Ok, Err, refl, ap, arith}
+use Rattle.std.proofs.Common.{◌≡◌, ◌≤◌, ◌+◌, ◌-◌, ◌∙◌, ℕ, zero, suc, List, [], ◌++◌, length, None, Some, refl, ap, sym, append_assoc, arith}
 use Rattle.std.proofs.lemmas.List.{append-nil}
-use Rattle.std.specs.Prelude.{IfOk, Result, option_map}
+use Rattle.std.specs.Prelude.{option_map}
 use Rattle.std.specs.Option.{option_map_or}
 use Rattle.std.specs.declared.option.Option.{Option}
 use Rattle.altq_model.specs.History.{Decision}
@@ -15,6 +15,7 @@ use Rattle.play_chain.specs.declared.seconds.Seconds.{Seconds}
 use Rattle.play_chain.specs.Path.{decisions_of, outcome_of, passage, sendings}
 use Rattle.play_chain.specs.Tables.{AreOnce, HoldsFirsts, HoldsSeconds, first_in, in_tables, outcome_by, passage_by, second_in, text_in}
 use Rattle.play_chain.specs.Text.{above, path_header, path_row, path_text, rows_below}
+use Rattle.play_chain.specs.Written.{Continues}
 use Rattle.play_chain.proofs.ListLemmas.{none_above}
 use Rattle.play_chain.proofs.PathLemmas.{passages}
 
@@ -33,6 +34,33 @@ rows_more a (suc d) f h =
     ∙ ap (λ (t : List ℕ). t ++ option_map_or (path_row (d + a)) (f (d + a)) []) (rows_more a d f h)
     ∙ ap (λ (o : Option Passage). rows_below a f ++ option_map_or (path_row (d + a)) o []) (h (d + a) (omega arith))
     ∙ append-nil (rows_below a f)
+
+next : (n : ℕ) → suc n ≡ n + 1
+next n = omega arith
+
+-- the row of one number more, where it has one
+pub one_row : (old now new : List ℕ) (from n : ℕ) (f : ℕ → Option Passage) (p : Passage) → f n ≡ Some p → new ≡ now ++ path_row n p → Continues old now from n f
+    → Continues old new from (n + 1) f
+one_row old now new from n f p is e h = λ before front g.
+    ap (λ (t : List ℕ). before ++ t) e ∙ sym (append_assoc before now (path_row n p))
+    ∙ ap (λ (t : List ℕ). t ++ path_row n p) (h before front g) ∙ append_assoc front (rows_below n f) (path_row n p)
+    ∙ ap (λ (o : Option Passage). front ++ (rows_below n f ++ option_map_or (path_row n) o [])) (sym is) ∙ ap (λ (k : ℕ). front ++ rows_below k f) (next n)
+
+pub no_row : (old now : List ℕ) (from n : ℕ) (f : ℕ → Option Passage) → f n ≡ None → Continues old now from n f → Continues old now from (n + 1) f
+no_row old now from n f is h = λ before front g.
+    h before front g ∙ ap (λ (t : List ℕ). front ++ t) (sym (append-nil (rows_below n f)))
+    ∙ ap (λ (o : Option Passage). front ++ (rows_below n f ++ option_map_or (path_row n) o [])) (sym is) ∙ ap (λ (k : ℕ). front ++ rows_below k f) (next n)
+
+-- from the head row on, and from rows on
+pub from_head : (old new text : List ℕ) (m : ℕ) (f : ℕ → Option Passage) → old ≡ path_header → text ≡ new → Continues old new 0 m f
+    → text ≡ path_header ++ rows_below m f
+from_head old new text m f e is h = is ∙ h [] path_header (e ∙ sym (append-nil path_header))
+
+pub from_rows : (old new text : List ℕ) (from m : ℕ) (f : ℕ → Option Passage) → old ≡ [] → text ≡ new → Continues old new from m f
+    → rows_below m f ≡ rows_below from f ++ text
+from_rows old new text from m f e is h =
+    sym (h (rows_below from f) [] (ap (λ (t : List ℕ). rows_below from f ++ t) e ∙ append-nil (rows_below from f)))
+    ∙ ap (λ (t : List ℕ). rows_below from f ++ t) (sym is)
 
 abbrev through : (sent : List ℕ) → List Decision → (n : ℕ) → KeptFate → Passage
 through sent second n f = record { arrival = f.arrival; outcome = outcome_of sent second n f.fate }
@@ -68,8 +96,3 @@ text_same t u v h =
     ap (λ (l : List ℕ). path_header ++ l)
     (rows_same (length t.rows.items) (in_tables t.rows.items v.rows.items) (in_tables t.rows.items u.rows.items)
     (λ n. passage_same (first_in t.rows.items n) u.rows.items v.rows.items h))
-
--- what holds of a value that is answered
-pub ok_as : {T E : Type 0} (r : Result T E) (P Q : T → Type 0) → ((x : T) → P x → Q x) → IfOk r P → IfOk r Q
-ok_as (Ok x) P Q f h = f x h
-ok_as (Err e) P Q f h = h

@@ -1,5 +1,5 @@
 -- The journals that a path stands for.
-use Rattle.std.specs.Prelude.{◌≡◌, ◌≤◌, ◌<◌, ◌&&◌, ℕ, nat_lt, nat_le, List, [], ◌∷◌, length, None, if◌then◌else◌}
+use Rattle.std.specs.Prelude.{◌≡◌, ◌≤◌, ◌<◌, ◌&&◌, ◌++◌, ℕ, nat_lt, nat_le, List, [], ◌∷◌, length, None, if◌then◌else◌}
 use Rattle.altq_model.specs.History.{Decision}
 use Rattle.altq_model.specs.Laws.{numbers, occurs}
 use Rattle.play_loop.specs.declared.kept.KeptFate.{KeptFate}
@@ -7,6 +7,7 @@ use Rattle.play_chain.specs.declared.path.Path.{Path}
 use Rattle.play_chain.specs.declared.seconds.Second.{Second}
 use Rattle.play_chain.specs.Path.{fate_under, numbers_of, passage, sendings}
 use Rattle.play_chain.specs.Tables.{IsFirstTable, in_tables, second_in, second_row}
+use Rattle.play_chain.specs.Text.{path_header, rows_below}
 
 -- the second fate of each sending up to this count has a row, and stands there if it is known
 pub record HasSeconds (rows : List Second) (count : ℕ) (second : List Decision) : Type 0 where
@@ -41,3 +42,14 @@ pub record TakesSecond (p : Path) (k : ℕ) : Type 0 where
 abbrev pub of_sendings : (count : ℕ) → List Decision → List Decision
 of_sendings count [] = []
 of_sendings count (d ∷ js) = if nat_lt 0 d.0 && nat_le d.0 count then d ∷ of_sendings count js else of_sendings count js
+
+-- no number that has a row is as great as this
+abbrev pub bound : Path → ℕ
+bound p = length p.firsts.rows.items
+
+-- the rows of the numbers below m, and the text of all
+abbrev pub rows_to : Path → (m : ℕ) → List ℕ
+rows_to p m = rows_below m (in_tables p.firsts.rows.items p.seconds.rows.items)
+
+abbrev pub text_of : Path → List ℕ
+text_of p = path_header ++ rows_to p (bound p)

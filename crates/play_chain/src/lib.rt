@@ -9,13 +9,12 @@ mod path;
 mod row;
 mod seconds;
 mod table;
-mod through;
 mod worked;
 
 pub use firsts::{First, Firsts};
 pub use laws::kept_journals_are_journals;
 pub use outcome::{Outcome, Passage};
 pub use path::Path;
+pub use row::{Piece, path_header};
 pub use seconds::{Second, Seconds};
-pub use through::paths_through;
 pub use worked::worked_paths;

@@ -1,6 +1,6 @@
 // The paths of packets through two links.
 use crate::firsts::Firsts;
-use crate::row::table_text;
+use crate::row::{Piece, piece_from, table_text};
 use crate::seconds::{Second, Seconds, make_room, row_of, set_row};
 use altq_model::Fate;
 use play_base::NoMemory;
@@ -16,11 +16,11 @@ pub struct Path {
 }
 
 impl Path {
-    ghost use Rattle.std.specs.Prelude.{◌≡◌, ◌++◌, ◌∷◌, [], List, length, IfOk, OnErr, OnOk};
+    ghost use Rattle.std.specs.Prelude.{◌≡◌, ◌≤◌, ◌<◌, ◌++◌, ◌∷◌, [], List, length, IfOk, OnErr, OnOk};
     ghost use Rattle.altq_model.specs.History.{Decision};
     ghost use Rattle.play_loop.specs.declared.kept.KeptFate.{KeptFate};
     ghost use Rattle.play_chain.specs.Path.{sendings};
-    ghost use Rattle.play_chain.specs.Stands.{StandsFor, TakesFirst, TakesSecond, of_sendings};
+    ghost use Rattle.play_chain.specs.Stands.{StandsFor, TakesFirst, TakesSecond, bound, of_sendings, rows_to, text_of};
     ghost use Rattle.play_chain.specs.Tables.{AreOnce, IsFirstTable, IsSecondTable, text_in};
     ghost use Rattle.play_chain.specs.Text.{path_text};
 
@@ -40,7 +40,7 @@ impl Path {
     pub fn through(alloc: Global, firsts: Firsts, seconds: Seconds) -> Result<Path, NoMemory>
         ensures stands { IfOk result (λ path. (first : List KeptFate) (second : List Decision) → AreOnce first → IsFirstTable firsts first
             → IsSecondTable seconds second → StandsFor path first (of_sendings (length (sendings first)) second)) }
-        ensures text { IfOk result (λ path. text_in path.firsts path.seconds ≡ text_in firsts seconds) }
+        ensures text { IfOk result (λ path. text_of path ≡ text_in firsts seconds) }
     {
         let mut path = Path {
             alloc,
@@ -90,9 +90,28 @@ impl Path {
     pub fn text(&self) -> Result<Vec<u8>, NoMemory>
         ensures paths { IfOk result (λ text. (first : List KeptFate) (second : List Decision) → StandsFor self.now first second
             → text.items ≡ path_text first second) }
-        ensures tables { IfOk result (λ text. text.items ≡ text_in self.now.firsts self.now.seconds) }
+        ensures tables { IfOk result (λ text. text.items ≡ text_of self.now) }
     {
         let text = table_text(self.alloc, &self.firsts.rows, &self.seconds.rows)?;
         Ok(text)
+    }
+
+    /// No number that has a row is as great as this. Takes no memory.
+    pub fn bound(&self) -> usize
+        ensures { result ≡ bound self.now }
+    {
+        self.firsts.rows.len()
+    }
+
+    /// The rows of at most 1,024 numbers from `from` on, and the number behind those: the text is the head row and the pieces from 0 on.
+    /// The only error is lack of memory. Costs the length of the piece, and a step for each number.
+    pub fn piece_from(&self, from: usize) -> Result<Piece, NoMemory>
+        requires { from ≤ bound self.now }
+        ensures rows { IfOk result (λ p. rows_to self.now p.next ≡ rows_to self.now from ++ p.text.items) }
+        ensures on { IfOk result (λ p. from < bound self.now → from < p.next) }
+        ensures within { IfOk result (λ p. p.next ≤ bound self.now) }
+    {
+        let found = piece_from(self.alloc, &self.firsts.rows, &self.seconds.rows, from)?;
+        Ok(found)
     }
 }

@@ -1,9 +1,9 @@
 // The rows of the text of paths.
-ghost use Rattle.std.specs.Prelude.{◌≡◌, ◌∷◌, ◌++◌, [], IfOk, OnOk, length, map};
+ghost use Rattle.std.specs.Prelude.{◌≡◌, ◌≤◌, ◌<◌, ◌∷◌, ◌++◌, [], IfOk, OnOk, length, map};
 ghost use Rattle.csv.specs.Writing.{default_writer, row_text, writer_pending, writer_under};
 ghost use Rattle.play_chain.specs.Tables.{in_tables};
 ghost use Rattle.play_chain.specs.Text.{path_header, path_row, rows_below};
-ghost use Rattle.play_chain.specs.Written.{IsBetweenRows};
+ghost use Rattle.play_chain.specs.Written.{Continues, IsBetweenRows};
 
 use crate::firsts::First;
 use crate::outcome::{Outcome, Passage};
@@ -14,8 +14,8 @@ use itoa::Buffer;
 use play_base::NoMemory;
 use std::alloc::Global;
 
-// The head row.
-fn path_header() -> &'static [u8]
+/// The head row.
+pub fn path_header() -> &'static [u8]
     ensures { result.now ≡ path_header }
 {
     b"number,arrival,outcome,end\n"
@@ -80,6 +80,28 @@ fn add_row(writer: &mut Writer<Vec<u8>>, number: u64, passage: Passage) -> Resul
     }
 }
 
+// Writes the rows of the numbers from `from` on and below `to` that have one. The only error is lack of memory.
+fn add_rows(
+    writer: &mut Writer<Vec<u8>>,
+    firsts: &[First],
+    seconds: &[Second],
+    from: usize,
+    to: usize,
+) -> Result<(), NoMemory>
+    requires between { IsBetweenRows writer.old }
+    requires order { from ≤ to }
+    ensures between { OnOk result (IsBetweenRows writer.new) }
+    ensures text { OnOk result (Continues ((writer_under writer.old).items ++ writer_pending writer.old)
+        ((writer_under writer.new).items ++ writer_pending writer.new) from to (in_tables firsts.now seconds.now)) }
+{
+    'rows: for number in from..to {
+        if let Some(passage) = passage_of(firsts, seconds, number as u64) {
+            add_row(writer, number as u64, passage)?;
+        }
+    }
+    Ok(())
+}
+
 /// The text of the passages of two tables: the head row, and a row for each number that has one. The only error is lack of memory.
 pub fn table_text(alloc: Global, firsts: &[First], seconds: &[Second]) -> Result<Vec<u8>, NoMemory>
     ensures { IfOk result (λ text. text.items ≡ path_header ++ rows_below (length firsts.now) (in_tables firsts.now seconds.now)) }
@@ -87,13 +109,55 @@ pub fn table_text(alloc: Global, firsts: &[First], seconds: &[Second]) -> Result
     let mut text = Vec::new(alloc);
     text.extend_from_slice(path_header())?;
     let mut writer = writer_over(text);
-    'rows: for number in 0..firsts.len() {
-        if let Some(passage) = passage_of(firsts, seconds, number as u64) {
-            add_row(&mut writer, number as u64, passage)?;
-        }
-    }
+    add_rows(&mut writer, firsts, seconds, 0, firsts.len())?;
     match writer.into_inner() {
         Ok(text) => Ok(text),
+        Err(_) => Err(NoMemory),
+    }
+}
+
+/// Some rows of the text, and the number behind theirs.
+#[derive(Debug, Drop)]
+pub struct Piece {
+    pub text: Vec<u8>,
+    pub next: usize,
+}
+
+// The most numbers of a piece. A row has fewer than 80 bytes.
+const PIECE: usize = 1024;
+
+// The number behind those of a piece, of so many numbers in all.
+fn behind_piece(from: usize, count: usize) -> usize
+    requires { from ≤ count }
+    ensures on { from < count → from < result }
+    ensures order { from ≤ result }
+    ensures within { result ≤ count }
+{
+    if count - from < PIECE {
+        count
+    } else {
+        from + PIECE
+    }
+}
+
+/// The rows of at most 1,024 numbers from `from` on. The only error is lack of memory.
+pub fn piece_from(
+    alloc: Global,
+    firsts: &[First],
+    seconds: &[Second],
+    from: usize,
+) -> Result<Piece, NoMemory>
+    requires { from ≤ length firsts.now }
+    ensures rows { IfOk result (λ p. rows_below p.next (in_tables firsts.now seconds.now)
+        ≡ rows_below from (in_tables firsts.now seconds.now) ++ p.text.items) }
+    ensures on { IfOk result (λ p. from < length firsts.now → from < p.next) }
+    ensures within { IfOk result (λ p. p.next ≤ length firsts.now) }
+{
+    let next = behind_piece(from, firsts.len());
+    let mut writer = writer_over(Vec::new(alloc));
+    add_rows(&mut writer, firsts, seconds, from, next)?;
+    match writer.into_inner() {
+        Ok(text) => Ok(Piece { text, next }),
         Err(_) => Err(NoMemory),
     }
 }
