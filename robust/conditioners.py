@@ -7,10 +7,11 @@ The cases follow from SEED and their numbers, PLAYS of them (500 without the wor
 is an interface of HFSC or CBQ with conditioners and filters, some of which look at the type of service, and a capture of tagged and untagged
 frames of IPv4, IPv6 and ARP, of either order of bytes and either unit, or pcapng; some are damaged. `play`, `shares` and `verify` over it must
 end as without conditioners over the capture that the workbench's meters mark: the same status, the same said, the same files. `verify` is asked
-of the files of the play, and of departures with one byte changed. `make` must write the capture that it writes without conditioners, and leave
-what `play` leaves of it; `check` must say text that is read as the same. With --reference all of this must be what another program of the same
-command line does, too. --quick is 60 plays of a fixed seed, which the gate runs. --keep leaves the files of the play of --only in a folder. An
-interrupt ends the script with the counts of what was played so far. The exit status is 0 where nothing differs, 1 where something does, 2 for other words.
+of the files of the play, and of departures with one byte changed. `condition` must write that marked capture, of a damaged one its head and
+complete records. `make` must write the capture that it writes without conditioners, and leave what `play` leaves of it; `check` must say text
+that is read as the same. With --reference all of this must be what another program of the same command line does, too. --quick is 60 plays of a
+fixed seed, which the gate runs. --keep leaves the files of the play of --only in a folder. An interrupt ends the script with the counts of what
+was played so far. The exit status is 0 where nothing differs, 1 where something does, 2 for other words.
 """
 
 import argparse
@@ -38,7 +39,7 @@ from program import DEPARTURES_HEAD, PROGRAM, content, prepare, run, store, word
 from transcript import Case  # noqa: E402
 
 QUICK = ("7", 60)
-CONFIG, UNMARKED, ARRIVALS, MARKED, MADE = "c.conf", "u.conf", "a.pcap", "m.pcap", "n.pcap"
+CONFIG, UNMARKED, ARRIVALS, MARKED, MADE, WRITTEN = "c.conf", "u.conf", "a.pcap", "m.pcap", "n.pcap", "w.pcap"
 OUTPUTS = ("d.pcap", "f.csv", "s.csv")
 RATES = ("8K", "100K", "1M", "8M", "64M", "479999999999", "480G")
 TYPES = ("0", "0x28", "0x30", "0x38", "0x48", "0x50", "0x03", "0xff", "0xb8")
@@ -206,7 +207,26 @@ def fault_of(options, folder, number):
         store(os.path.join(folder, MARKED), other)
         if endings(options, options.program, folder, number, UNMARKED, MARKED) != found:
             return "a play of the marked capture ends otherwise", how
-    return made_fault(options, folder, number), how
+    return condition_fault(options, folder, other) or made_fault(options, folder, number), how
+
+
+def condition_fault(options, folder, other):
+    """What is wrong with `condition`, or None. `other` is the capture as the meters mark it, or None where that is not known."""
+    def end(program):
+        place = os.path.join(folder, WRITTEN)
+        if os.path.exists(place):
+            os.remove(place)
+        words = ["--config", CONFIG, "--interface", "if0", "--arrivals", ARRIVALS, "--marked", WRITTEN]
+        done = run([program, "condition", *words], folder)
+        return done.status, done.said, content(place) if os.path.exists(place) else None
+
+    found = end(options.program)
+    if options.reference and end(options.reference) != found:
+        return "condition of the reference ends otherwise"
+    if other is None:
+        return None
+    behind = of_records(other, lambda _number, frame: frame)[1]
+    return None if found[2] == (other if found[0] == 0 else other[:behind]) else "condition writes other bytes than the meters mark"
 
 
 def made_fault(options, folder, number):
