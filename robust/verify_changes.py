@@ -43,10 +43,10 @@ def text_of(lines):
 
 
 def records_of(departures):
-    """The records of departures, each as its bytes."""
+    """The records of departures, each as its bytes; the last may be cut short."""
     found, place = [], 24
     while place < len(departures):
-        size = 16 + struct.unpack("<I", departures[place + 8:place + 12])[0]
+        size = 16 + int.from_bytes(departures[place + 8:place + 12], "little")
         found.append(departures[place:place + size])
         place += size
     return found
