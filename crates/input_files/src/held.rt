@@ -84,16 +84,16 @@ impl Records {
     }
 
     /// Puts a record at the end. The only error is lack of memory. Costs the length of its captured bytes, and now and then a move of all.
-    pub fn add(&mut self, record: &Record) -> Result<(), NoMemory>
-        ensures { OnOk result (self.new ≡ self.old ++ shown_by record.now ∷ []) }
+    pub fn add(&mut self, found: &Record) -> Result<(), NoMemory>
+        ensures { OnOk result (self.new ≡ self.old ++ shown_by found.now ∷ []) }
     {
-        let bytes = record.bytes.as_slice();
+        let bytes = found.bytes.as_slice();
         let from = self.bytes.len();
         self.bytes.extend_from_slice(bytes)?;
         self.held.push(Held {
-            stamp: record.stamp,
+            stamp: found.stamp,
             from,
-            len: record.len,
+            len: found.len,
             captured: bytes.len() as u32,
         })?;
         Ok(())

@@ -12,12 +12,12 @@ pub invariant_of-self-2 : goal.invariant_of-self-2
 invariant_of-self-2 c =
     let bytes = c.self.inside.bytes.items in
     let more = c.as_slice-bytes.result.now in
-    let h : Held = record { stamp = c.args.record.now.stamp; from = c.len-from.result; len = c.args.record.now.len; captured = length more } in
+    let h : Held = record { stamp = c.args.found.now.stamp; from = c.len-from.result; len = c.args.found.now.len; captured = length more } in
     let is : IsHeld (bytes ++ more) h = record {
       there = omega (arith, c.len-from.ensures, length-append bytes more);
-      some = c.args.record.now.some;
-      most = c.args.record.now.short;
-      short = omega (arith, ap length c.as_slice-bytes.ensures, c.args.record.now.within, c.args.record.now.short);
+      some = c.args.found.now.some;
+      most = c.args.found.now.short;
+      short = omega (arith, ap length c.as_slice-bytes.ensures, c.args.found.now.within, c.args.found.now.short);
     } in
     rw (c.in_ok-extend_from_slice.ensures.items, c.in_ok-push.ensures.items) (held_push (bytes ++ more) c.self.inside.held.items h (more_held bytes more c.self.inside.held.items c.self.invariant) is)
 
@@ -25,7 +25,7 @@ pub returns : goal.returns
 returns c =
     let bytes = c.self.inside.bytes.items in
     let more = c.as_slice-bytes.result.now in
-    let r = c.args.record.now in
+    let r = c.args.found.now in
     let h : Held = record { stamp = r.stamp; from = c.len-from.result; len = r.len; captured = length more } in
     rw (c.in_ok-extend_from_slice.ensures.items, c.in_ok-push.ensures.items)
     (added bytes more c.self.inside.held.items h c.self.invariant (c.len-from.ensures ∙ c.self.inside.bytes.ok.0) refl
