@@ -1,31 +1,26 @@
 -- An interface and a class, from behind the words that say which statement it is up to the end.
-use Rattle.std.proofs.Common.{◌≡◌, ℕ, ◌+◌, ◌||◌, Bool, true, false, List, [], ◌∷◌, drop, length, None, Result, Ok, Err, refl, sym, subst, codes, arith}
+use Rattle.std.proofs.Common.{◌≡◌, ◌∙◌, ℕ, ◌||◌, Bool, true, false, List, ◌∷◌, drop, length, None, Ok, refl, sym, subst, codes, arith}
 use Rattle.std.proofs.Math.Bool.{or-true}
 use Rattle.line_text.specs.Names.{is_name}
-use Rattle.conf_lines.proofs.GrammarPlaces.{at_interface_name, at_option}
-use Rattle.conf_lines.proofs.Readings.{past}
-use Rattle.conf_lines.specs.Grammar.{Place, Step, at_parent, end, reads, step}
+use Rattle.conf_lines.proofs.GrammarPlaces.{at_option}
+use Rattle.conf_lines.specs.Grammar.{Place, at_parent, end, reads, step}
 use Rattle.conf_lines.specs.Parts.{parts_of}
 use Rattle.conf_lines.specs.Slots.{is_text, name_in}
-use Rattle.conf_lines.specs.declared.fault.ConfKind.{ConfKind}
 use Rattle.conf_lines.specs.declared.item.What.{What}
 use Rattle.conf_lines.specs.declared.item.What.TheVariants as what
 use Rattle.conf_lines.specs.declared.options.Key.{Key}
 use Rattle.conf_lines.specs.declared.statement.Form.{Form}
 use Rattle.conf_lines.specs.declared.statement.Form.TheVariants as form
 use Rattle.conf_grammar.proofs.Forms.{cbq_choice, hfsc_choice, interface_choice}
-use Rattle.conf_grammar.proofs.Leads.{Ends, Good, Leads, NoFault, Spelled, no_fault, one_more, ◌>>◌}
+use Rattle.conf_grammar.proofs.Leads.{Ends, Good, NoFault, Spelled, found_by, one_more, ◌>>◌}
 use Rattle.conf_grammar.proofs.Many.{Choice, Options, many_found, many_read}
-use Rattle.conf_grammar.proofs.OneWord.{name_back, name_by, name_read}
-use Rattle.conf_grammar.proofs.Places.{is_itself, is_word}
+use Rattle.conf_grammar.proofs.OneWord.{name_back, name_read}
+use Rattle.conf_grammar.proofs.Parts.{at_name, at_part, name_part}
+use Rattle.conf_grammar.proofs.Places.{behind_word, is_itself, is_word, reads_leading}
 use Rattle.conf_grammar.specs.Options.{CbqOption, HfscOption, InterfaceOption, is_discipline, is_rate, is_share}
 use Rattle.conf_grammar.specs.Phrases.{◌▷◌, has, Many}
 use Rattle.conf_grammar.specs.Spells.{Below, below, root, Needing, needing}
 use Rattle.conf_grammar.specs.Words.{Name, Phrase}
-
--- where the parts from one on are still to come
-abbrev pub at_part : Form → ℕ → Place
-at_part form n = record (at_interface_name form) { parts = drop n (parts_of form) }
 
 -- AN INTERFACE
 needing_read : (form : Form) (test : Key → Bool) (Of : Phrase) → Choice form test Of → {words : List (List ℕ)} {says : List What} → Needing test Of words says
@@ -44,27 +39,34 @@ options_end = record {
   found = needing_found form.Interface is_discipline InterfaceOption interface_choice;
 }
 
-interface_name : Leads form.Interface Name (at_part form.Interface 0) (at_option form.Interface false)
-unfolding step end
-interface_name = name_by form.Interface (at_part form.Interface 0) (at_option form.Interface false) (λ w. refl) (λ e. cc)
-
 pub interface_ends : Ends form.Interface (Name ▷ Needing is_discipline InterfaceOption) (at_part form.Interface 0)
-interface_ends = interface_name >> options_end
+interface_ends = name_part (at_option form.Interface false) >> options_end
 
--- A CLASS, from its parent on
-module _ (form : Form) (test : Key → Bool) (Of : Phrase) (choice : Choice form test Of) (p : Place)
-    (steps : (w : List ℕ) → step p w ≡ reads (name_in w) (at_option form (is_text (codes "NULL") w))) (unended : end p ≡ None → ⊥) where
+-- A CLASS
+module _ (f : Form) (test : Key → Bool) (Of : Phrase) (choice : Choice f test Of) where
+  -- where the parent of a class is still to come
+  abbrev at_below : Place
+  at_below = record (at_option f false) { parts = drop 2 (parts_of form.ClassHfsc) }
+
+  steps : (w : List ℕ) → step at_below w ≡ reads (name_in w) (at_option f (is_text (codes "NULL") w))
+  unfolding step at_parent
+  steps w = refl
+
+  unended : end at_below ≡ None → ⊥
+  unfolding end
+  unended e = cc
+
   read_parent : (parent : List ℕ) {words : List (List ℕ)} {says : List What} → is_name parent ≡ true → Many Of words says
-      → (is_text (codes "NULL") parent || has test says) ≡ true → Good form p (parent ∷ words) (what.Name parent ∷ says)
+      → (is_text (codes "NULL") parent || has test says) ≡ true → Good f at_below (parent ∷ words) (what.Name parent ∷ says)
   read_parent parent is os s =
-      one_more p (at_option form (is_text (codes "NULL") parent)) parent (what.Name parent) (rw (steps parent, name_read parent is) refl)
-      (many_read form test Of choice (is_text (codes "NULL") parent) os s)
+      one_more at_below (at_option f (is_text (codes "NULL") parent)) parent (what.Name parent) (rw (steps parent, name_read parent is) refl)
+      (many_read f test Of choice (is_text (codes "NULL") parent) os s)
 
-  read_below : {words : List (List ℕ)} {says : List What} → Below test Of words says → Good form p words says
+  read_below : {words : List (List ℕ)} {says : List What} → Below test Of words says → Good f at_below words says
   read_below (root os) = read_parent (codes "NULL") refl os (rw (is_itself (codes "NULL")) refl)
   read_below (below {parent = parent} is (needing os s)) = read_parent parent is os (rw (s, or-true (is_text (codes "NULL") parent)) refl)
 
-  spelled : (w : List ℕ) (words : List (List ℕ)) (t : Bool) → is_text (codes "NULL") w ≡ t → is_name w ≡ true → Options form test Of choice t words
+  spelled : (w : List ℕ) (words : List (List ℕ)) (t : Bool) → is_text (codes "NULL") w ≡ t → is_name w ≡ true → Options f test Of choice t words
       → Spelled (Below test Of) (w ∷ words)
   spelled w words true t is os =
       record {
@@ -73,51 +75,24 @@ module _ (form : Form) (test : Key → Bool) (Of : Phrase) (choice : Choice form
       }
   spelled w words false t is os = record { says = what.Name w ∷ os.says; is = below is (needing os.are os.whole) }
 
-  by_name : (line : ℕ) (w : List ℕ) (words : List (List ℕ)) (at : ℕ) (r : Result What ConfKind) → name_in w ≡ r
-      → (past line words p at (reads r (at_option form (is_text (codes "NULL") w)))).fault ≡ None → Spelled (Below test Of) (w ∷ words)
-  by_name line w words at (Err kind) e h = absurd cc
-  by_name line w words at (Ok x) e h =
+  by_name : (line : ℕ) (w : List ℕ) (x : What) (words : List (List ℕ)) (at : ℕ) → name_in w ≡ Ok x
+      → NoFault line words (behind_word (at_option f (is_text (codes "NULL") w)) x) at → Spelled (Below test Of) (w ∷ words)
+  by_name line w x words at e h =
       let is = name_back w x e in
-      let on = subst (λ (y : What). (past line words p at (reads (Ok y) (at_option form (is_text (codes "NULL") w)))).fault ≡ None) (sym is.1) h in
+      let on = subst (λ (y : What). NoFault line words (behind_word (at_option f (is_text (codes "NULL") w)) y) at) (sym is.1) h in
       spelled w words (is_text (codes "NULL") w) refl is.0
-      (many_found form test Of choice (length words) (is_text (codes "NULL") w) line words (at + 1) (omega arith) on)
+      (many_found f test Of choice (length words) (is_text (codes "NULL") w) line words at (omega arith) on)
 
-  found_below : (line : ℕ) (words : List (List ℕ)) (at : ℕ) → NoFault line words p at → Spelled (Below test Of) words
-  found_below line [] at h = absurd (unended (no_fault line at (end p) h))
-  found_below line (w ∷ words) at h =
-      by_name line w words at (name_in w) refl (subst (λ (r : Result Step ConfKind). (past line words p at r).fault ≡ None) (steps w) h)
+  found_below : (line : ℕ) (words : List (List ℕ)) (at : ℕ) → NoFault line words at_below at → Spelled (Below test Of) words
+  found_below line words at h =
+      found_by (Spelled (Below test Of)) line at_below name_in (λ w x. behind_word (at_option f (is_text (codes "NULL") w)) x) unended
+      (λ w. steps w ∙ reads_leading (at_option f (is_text (codes "NULL") w)) (name_in w)) (by_name line) words at h
 
-  below_ends : Ends form (Below test Of) p
-  below_ends = record { read = read_below; found = found_below }
-
--- of HFSC
-hfsc_name : Leads form.ClassHfsc Name (at_part form.ClassHfsc 0) (at_part form.ClassHfsc 1)
-unfolding step end
-hfsc_name = name_by form.ClassHfsc (at_part form.ClassHfsc 0) (at_part form.ClassHfsc 1) (λ w. refl) (λ e. cc)
-
-hfsc_second : Leads form.ClassHfsc Name (at_part form.ClassHfsc 1) (at_part form.ClassHfsc 2)
-unfolding step end
-hfsc_second = name_by form.ClassHfsc (at_part form.ClassHfsc 1) (at_part form.ClassHfsc 2) (λ w. refl) (λ e. cc)
-
-hfsc_below : Ends form.ClassHfsc (Below is_share HfscOption) (at_part form.ClassHfsc 2)
-unfolding step end at_parent
-hfsc_below = below_ends form.ClassHfsc is_share HfscOption hfsc_choice (at_part form.ClassHfsc 2) (λ w. refl) (λ e. cc)
+  pub class_ends : Ends f (Name ▷ Name ▷ Below test Of) (at_name (at_name at_below))
+  class_ends = name_part (at_name at_below) >> name_part at_below >> record { read = read_below; found = found_below }
 
 pub hfsc_ends : Ends form.ClassHfsc (Name ▷ Name ▷ Below is_share HfscOption) (at_part form.ClassHfsc 0)
-hfsc_ends = hfsc_name >> hfsc_second >> hfsc_below
-
--- of CBQ
-cbq_name : Leads form.ClassCbq Name (at_part form.ClassCbq 0) (at_part form.ClassCbq 1)
-unfolding step end
-cbq_name = name_by form.ClassCbq (at_part form.ClassCbq 0) (at_part form.ClassCbq 1) (λ w. refl) (λ e. cc)
-
-cbq_second : Leads form.ClassCbq Name (at_part form.ClassCbq 1) (at_part form.ClassCbq 2)
-unfolding step end
-cbq_second = name_by form.ClassCbq (at_part form.ClassCbq 1) (at_part form.ClassCbq 2) (λ w. refl) (λ e. cc)
-
-cbq_below : Ends form.ClassCbq (Below is_rate CbqOption) (at_part form.ClassCbq 2)
-unfolding step end at_parent
-cbq_below = below_ends form.ClassCbq is_rate CbqOption cbq_choice (at_part form.ClassCbq 2) (λ w. refl) (λ e. cc)
+hfsc_ends = class_ends form.ClassHfsc is_share HfscOption hfsc_choice
 
 pub cbq_ends : Ends form.ClassCbq (Name ▷ Name ▷ Below is_rate CbqOption) (at_part form.ClassCbq 0)
-cbq_ends = cbq_name >> cbq_second >> cbq_below
+cbq_ends = class_ends form.ClassCbq is_rate CbqOption cbq_choice

@@ -1,179 +1,86 @@
 -- The options of each statement are those of its rows of the table of options.
 use Rattle.std.proofs.Common.{ℕ, List, refl}
+use Rattle.conf_lines.specs.Options.{class_options, options_of}
 use Rattle.conf_lines.specs.Slots.{is_text}
 use Rattle.conf_lines.specs.declared.item.What.{What}
 use Rattle.conf_lines.specs.declared.options.Key.TheVariants as key
 use Rattle.conf_lines.specs.declared.statement.Form.TheVariants as form
-use Rattle.conf_grammar.proofs.Many.{Choice, Keyed, keyed}
+use Rattle.conf_grammar.proofs.Many.{Choice, Each, done, ◌&◌, Keyed, keyed, Row, also_keyed}
 use Rattle.conf_grammar.specs.Options.{CbqOption, ClassOption, HfscOption, InterfaceOption, is_discipline, is_rate, is_share, bandwidth, tbrsize, hfsc, cbq, efficient, cbq_wrr, sc, rt, ls, ul, pshare, grate, priority, pbandwidth, exactbandwidth, borrow, control, maxburst, packetsize, qlimit, red, ecn, rio, cleardscp, admission, default, hfsc_shared, cbq_shared}
-use Rattle.conf_grammar.specs.Phrases.{option}
+use Rattle.conf_grammar.specs.Words.{Phrase}
 
 -- of an interface
-interface_keyed : (words : List (List ℕ)) (says : List What) → InterfaceOption words says → Keyed form.Interface is_discipline words says
+interface_keyed : {words : List (List ℕ)} {says : List What} → InterfaceOption words says → Keyed (options_of form.Interface) words says
 unfolding is_text
-interface_keyed words says (bandwidth (option v)) = keyed key.Bandwidth refl refl v
-interface_keyed words says (tbrsize (option v)) = keyed key.Tbrsize refl refl v
-interface_keyed words says (hfsc (option v)) = keyed key.Hfsc refl refl v
-interface_keyed words says (cbq (option v)) = keyed key.Cbq refl refl v
-interface_keyed words says (efficient (option v)) = keyed key.Efficient refl refl v
-interface_keyed words says (cbq_wrr (option v)) = keyed key.CbqWrr refl refl v
+interface_keyed (bandwidth o) = keyed key.Bandwidth refl o
+interface_keyed (tbrsize o) = keyed key.Tbrsize refl o
+interface_keyed (hfsc o) = keyed key.Hfsc refl o
+interface_keyed (cbq o) = keyed key.Cbq refl o
+interface_keyed (efficient o) = keyed key.Efficient refl o
+interface_keyed (cbq_wrr o) = keyed key.CbqWrr refl o
 
 pub interface_choice : Choice form.Interface is_discipline InterfaceOption
 interface_choice = record {
+  settles = refl & refl & refl & refl & refl & refl & done;
   keyed = interface_keyed;
-  rows = (
-    record { settles = refl; is = λ values said v. bandwidth (option v) },
-    (
-      record { settles = refl; is = λ values said v. tbrsize (option v) },
-      (
-        record { settles = refl; is = λ values said v. hfsc (option v) },
-        (
-          record { settles = refl; is = λ values said v. cbq (option v) },
-          (
-            record { settles = refl; is = λ values said v. efficient (option v) },
-            (
-              record { settles = refl; is = λ values said v. cbq_wrr (option v) },
-              tt,
-            ),
-          ),
-        ),
-      ),
-    ),
-  );
+  rows =
+      (λ ws xs o. bandwidth o) & (λ ws xs o. tbrsize o) & (λ ws xs o. hfsc o) & (λ ws xs o. cbq o) & (λ ws xs o. efficient o) & (λ ws xs o. cbq_wrr o)
+      & done;
 }
 
--- of a class of HFSC
-hfsc_class_keyed : (words : List (List ℕ)) (says : List What) → ClassOption words says → Keyed form.ClassHfsc is_share words says
+-- of both kinds of class
+class_keyed : {words : List (List ℕ)} {says : List What} → ClassOption words says → Keyed class_options words says
 unfolding is_text
-hfsc_class_keyed words says (qlimit (option v)) = keyed key.Qlimit refl refl v
-hfsc_class_keyed words says (red (option v)) = keyed key.Red refl refl v
-hfsc_class_keyed words says (ecn (option v)) = keyed key.Ecn refl refl v
-hfsc_class_keyed words says (rio (option v)) = keyed key.Rio refl refl v
-hfsc_class_keyed words says (cleardscp (option v)) = keyed key.Cleardscp refl refl v
-hfsc_class_keyed words says (admission (option v)) = keyed key.Admission refl refl v
-hfsc_class_keyed words says (default (option v)) = keyed key.Default refl refl v
+class_keyed (qlimit o) = keyed key.Qlimit refl o
+class_keyed (red o) = keyed key.Red refl o
+class_keyed (ecn o) = keyed key.Ecn refl o
+class_keyed (rio o) = keyed key.Rio refl o
+class_keyed (cleardscp o) = keyed key.Cleardscp refl o
+class_keyed (admission o) = keyed key.Admission refl o
+class_keyed (default o) = keyed key.Default refl o
 
-hfsc_keyed : (words : List (List ℕ)) (says : List What) → HfscOption words says → Keyed form.ClassHfsc is_share words says
+class_rows : {Of : Phrase} → ((words : List (List ℕ)) (says : List What) → ClassOption words says → Of words says) → Each (Row Of) class_options
+class_rows shared =
+    (λ ws xs o. shared ws xs (qlimit o)) & (λ ws xs o. shared ws xs (red o)) & (λ ws xs o. shared ws xs (ecn o)) & (λ ws xs o. shared ws xs (rio o))
+    & (λ ws xs o. shared ws xs (cleardscp o)) & (λ ws xs o. shared ws xs (admission o)) & (λ ws xs o. shared ws xs (default o)) & done
+
+-- of a class of HFSC
+hfsc_keyed : {words : List (List ℕ)} {says : List What} → HfscOption words says → Keyed (options_of form.ClassHfsc) words says
 unfolding is_text
-hfsc_keyed words says (sc (option v)) = keyed key.Sc refl refl v
-hfsc_keyed words says (rt (option v)) = keyed key.Rt refl refl v
-hfsc_keyed words says (ls (option v)) = keyed key.Ls refl refl v
-hfsc_keyed words says (ul (option v)) = keyed key.Ul refl refl v
-hfsc_keyed words says (pshare (option v)) = keyed key.Pshare refl refl v
-hfsc_keyed words says (grate (option v)) = keyed key.Grate refl refl v
-hfsc_keyed words says (hfsc_shared o) = hfsc_class_keyed words says o
+hfsc_keyed (sc o) = keyed key.Sc refl o
+hfsc_keyed (rt o) = keyed key.Rt refl o
+hfsc_keyed (ls o) = keyed key.Ls refl o
+hfsc_keyed (ul o) = keyed key.Ul refl o
+hfsc_keyed (pshare o) = keyed key.Pshare refl o
+hfsc_keyed (grate o) = keyed key.Grate refl o
+hfsc_keyed (hfsc_shared o) = also_keyed (class_keyed o) (refl & refl & refl & refl & refl & refl & refl & done)
 
 pub hfsc_choice : Choice form.ClassHfsc is_share HfscOption
 hfsc_choice = record {
+  settles = refl & refl & refl & refl & refl & refl & refl & refl & refl & refl & refl & refl & refl & done;
   keyed = hfsc_keyed;
-  rows = (
-    record { settles = refl; is = λ values said v. sc (option v) },
-    (
-      record { settles = refl; is = λ values said v. rt (option v) },
-      (
-        record { settles = refl; is = λ values said v. ls (option v) },
-        (
-          record { settles = refl; is = λ values said v. ul (option v) },
-          (
-            record { settles = refl; is = λ values said v. pshare (option v) },
-            (
-              record { settles = refl; is = λ values said v. grate (option v) },
-              (
-                record { settles = refl; is = λ values said v. hfsc_shared (qlimit (option v)) },
-                (
-                  record { settles = refl; is = λ values said v. hfsc_shared (red (option v)) },
-                  (
-                    record { settles = refl; is = λ values said v. hfsc_shared (ecn (option v)) },
-                    (
-                      record { settles = refl; is = λ values said v. hfsc_shared (rio (option v)) },
-                      (
-                        record { settles = refl; is = λ values said v. hfsc_shared (cleardscp (option v)) },
-                        (
-                          record { settles = refl; is = λ values said v. hfsc_shared (admission (option v)) },
-                          (
-                            record { settles = refl; is = λ values said v. hfsc_shared (default (option v)) },
-                            tt,
-                          ),
-                        ),
-                      ),
-                    ),
-                  ),
-                ),
-              ),
-            ),
-          ),
-        ),
-      ),
-    ),
-  );
+  rows =
+      (λ ws xs o. sc o) & (λ ws xs o. rt o) & (λ ws xs o. ls o) & (λ ws xs o. ul o) & (λ ws xs o. pshare o) & (λ ws xs o. grate o)
+      & class_rows (λ ws xs o. hfsc_shared o);
 }
 
 -- of a class of CBQ
-cbq_class_keyed : (words : List (List ℕ)) (says : List What) → ClassOption words says → Keyed form.ClassCbq is_rate words says
+cbq_keyed : {words : List (List ℕ)} {says : List What} → CbqOption words says → Keyed (options_of form.ClassCbq) words says
 unfolding is_text
-cbq_class_keyed words says (qlimit (option v)) = keyed key.Qlimit refl refl v
-cbq_class_keyed words says (red (option v)) = keyed key.Red refl refl v
-cbq_class_keyed words says (ecn (option v)) = keyed key.Ecn refl refl v
-cbq_class_keyed words says (rio (option v)) = keyed key.Rio refl refl v
-cbq_class_keyed words says (cleardscp (option v)) = keyed key.Cleardscp refl refl v
-cbq_class_keyed words says (admission (option v)) = keyed key.Admission refl refl v
-cbq_class_keyed words says (default (option v)) = keyed key.Default refl refl v
-
-cbq_keyed : (words : List (List ℕ)) (says : List What) → CbqOption words says → Keyed form.ClassCbq is_rate words says
-unfolding is_text
-cbq_keyed words says (priority (option v)) = keyed key.Priority refl refl v
-cbq_keyed words says (pbandwidth (option v)) = keyed key.Pbandwidth refl refl v
-cbq_keyed words says (exactbandwidth (option v)) = keyed key.Exactbandwidth refl refl v
-cbq_keyed words says (borrow (option v)) = keyed key.Borrow refl refl v
-cbq_keyed words says (control (option v)) = keyed key.Control refl refl v
-cbq_keyed words says (maxburst (option v)) = keyed key.Maxburst refl refl v
-cbq_keyed words says (packetsize (option v)) = keyed key.Packetsize refl refl v
-cbq_keyed words says (cbq_shared o) = cbq_class_keyed words says o
+cbq_keyed (priority o) = keyed key.Priority refl o
+cbq_keyed (pbandwidth o) = keyed key.Pbandwidth refl o
+cbq_keyed (exactbandwidth o) = keyed key.Exactbandwidth refl o
+cbq_keyed (borrow o) = keyed key.Borrow refl o
+cbq_keyed (control o) = keyed key.Control refl o
+cbq_keyed (maxburst o) = keyed key.Maxburst refl o
+cbq_keyed (packetsize o) = keyed key.Packetsize refl o
+cbq_keyed (cbq_shared o) = also_keyed (class_keyed o) (refl & refl & refl & refl & refl & refl & refl & done)
 
 pub cbq_choice : Choice form.ClassCbq is_rate CbqOption
 cbq_choice = record {
+  settles = refl & refl & refl & refl & refl & refl & refl & refl & refl & refl & refl & refl & refl & refl & done;
   keyed = cbq_keyed;
-  rows = (
-    record { settles = refl; is = λ values said v. priority (option v) },
-    (
-      record { settles = refl; is = λ values said v. pbandwidth (option v) },
-      (
-        record { settles = refl; is = λ values said v. exactbandwidth (option v) },
-        (
-          record { settles = refl; is = λ values said v. borrow (option v) },
-          (
-            record { settles = refl; is = λ values said v. control (option v) },
-            (
-              record { settles = refl; is = λ values said v. maxburst (option v) },
-              (
-                record { settles = refl; is = λ values said v. packetsize (option v) },
-                (
-                  record { settles = refl; is = λ values said v. cbq_shared (qlimit (option v)) },
-                  (
-                    record { settles = refl; is = λ values said v. cbq_shared (red (option v)) },
-                    (
-                      record { settles = refl; is = λ values said v. cbq_shared (ecn (option v)) },
-                      (
-                        record { settles = refl; is = λ values said v. cbq_shared (rio (option v)) },
-                        (
-                          record { settles = refl; is = λ values said v. cbq_shared (cleardscp (option v)) },
-                          (
-                            record { settles = refl; is = λ values said v. cbq_shared (admission (option v)) },
-                            (
-                              record { settles = refl; is = λ values said v. cbq_shared (default (option v)) },
-                              tt,
-                            ),
-                          ),
-                        ),
-                      ),
-                    ),
-                  ),
-                ),
-              ),
-            ),
-          ),
-        ),
-      ),
-    ),
-  );
+  rows =
+      (λ ws xs o. priority o) & (λ ws xs o. pbandwidth o) & (λ ws xs o. exactbandwidth o) & (λ ws xs o. borrow o) & (λ ws xs o. control o)
+      & (λ ws xs o. maxburst o) & (λ ws xs o. packetsize o) & class_rows (λ ws xs o. cbq_shared o);
 }

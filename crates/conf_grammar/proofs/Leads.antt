@@ -32,6 +32,24 @@ pub record Found (A : Phrase) (q : Place) (line : ℕ) (words : List (List ℕ))
   pub is : A front says
   pub on : NoFault line rest q at
 
+-- one word, and one word more in front
+pub found_one : {A : Phrase} {q : Place} {line : ℕ} {words : List (List ℕ)} (word : List ℕ) (x : What) (at : ℕ) → A (word ∷ []) (x ∷ [])
+    → NoFault line words q at → Found A q line (word ∷ words)
+found_one {words = words} word x at is on =
+    record { front = word ∷ []; says = x ∷ []; rest = words; at = at; split = refl; is = is; on = on }
+
+pub found_more : {A B : Phrase} {q : Place} {line : ℕ} {words : List (List ℕ)} (word : List ℕ) (x : What)
+    → ((front : List (List ℕ)) (says : List What) → A front says → B (word ∷ front) (x ∷ says)) → Found A q line words → Found B q line (word ∷ words)
+found_more word x is f = record {
+  front = word ∷ f.front;
+  says = x ∷ f.says;
+  rest = f.rest;
+  at = f.at;
+  split = ap (λ (ws : List (List ℕ)). word ∷ ws) f.split;
+  is = is f.front f.says f.is;
+  on = f.on;
+}
+
 pub record Leads (form : Form) (A : Phrase) (p q : Place) : Type 0 where
   pub read : {words more : List (List ℕ)} {says rest : List What} → A words says → Good form q more rest → Good form p (words ++ more) (says ++ rest)
   pub found : (line : ℕ) (words : List (List ℕ)) (at : ℕ) → NoFault line words p at → Found A q line words
@@ -82,10 +100,13 @@ pub ◌>+◌ : {form : Form} {A B : Phrase} {p q r : Place} → Leads form A p q
         }
 
 -- ONE WORD
--- the step of a word that says something, where the place behind it is the same for all
+-- the step of a word that says something: the place behind it is by what it says, or the same for all
+abbrev pub leading : (What → Place) → Result What ConfKind → Result Step ConfKind
+leading after (Ok says) = Ok (record { what = Some says; after = after says })
+leading after (Err kind) = Err kind
+
 abbrev pub taken : Place → Result What ConfKind → Result Step ConfKind
-taken q (Ok says) = Ok (record { what = Some says; after = q })
-taken q (Err kind) = Err kind
+taken q read = leading (λ x. q) read
 
 pub one_more : {form : Form} (p q : Place) (word : List ℕ) (x : What) {more : List (List ℕ)} {rest : List What}
     → step p word ≡ Ok (record { what = Some x; after = q }) → Good form q more rest → Good form p (word ∷ more) (x ∷ rest)
@@ -94,6 +115,20 @@ one_more p q word x e good = record { is = λ line at. rw (read_from, e, good.is
 pub no_fault : (line at : ℕ) (o : Option ConfKind) → fault_at line at o ≡ None → o ≡ None
 no_fault line at None e = refl
 no_fault line at (Some kind) e = absurd cc
+
+-- what is found at a place where a word must stand, which `read` reads
+module _ (C : List (List ℕ) → Type 0) (line : ℕ) (p : Place) (read : List ℕ → Result What ConfKind) (behind : List ℕ → What → Place)
+    (unended : end p ≡ None → ⊥) (steps : (word : List ℕ) → step p word ≡ leading (behind word) (read word))
+    (by_word : (word : List ℕ) (x : What) (more : List (List ℕ)) (at : ℕ) → read word ≡ Ok x → NoFault line more (behind word x) at → C (word ∷ more)) where
+  by_read : (word : List ℕ) (more : List (List ℕ)) (at : ℕ) (r : Result What ConfKind) → read word ≡ r
+      → (past line more p at (leading (behind word) r)).fault ≡ None → C (word ∷ more)
+  by_read word more at (Ok x) e h = by_word word x more (at + 1) e h
+  by_read word more at (Err kind) e h = absurd cc
+
+  pub found_by : (words : List (List ℕ)) (at : ℕ) → NoFault line words p at → C words
+  found_by [] at h = absurd (unended (no_fault line at (end p) h))
+  found_by (word ∷ more) at h =
+      by_read word more at (read word) refl (subst (λ (r : Result Step ConfKind). (past line more p at r).fault ≡ None) (steps word) h)
 
 -- a phrase of one word, which `read` reads
 pub data One (read : List ℕ → Result What ConfKind) : List (List ℕ) → List What → Type 0 where
@@ -111,13 +146,6 @@ one_leads form A p q read steps unended one_of of_one = record { read = reads; f
     reads : {words more : List (List ℕ)} {says rest : List What} → A words says → Good form q more rest → Good form p (words ++ more) (says ++ rest)
     reads {words = words} {says = says} a good = by_one (one_of words says a) good
 
-    finds_by : (line : ℕ) (word : List ℕ) (more : List (List ℕ)) (at : ℕ) (r : Result What ConfKind) → read word ≡ r
-        → (past line more p at (taken q r)).fault ≡ None → Found A q line (word ∷ more)
-    finds_by line word more at (Ok x) e h =
-        record { front = word ∷ []; says = x ∷ []; rest = more; at = at + 1; split = refl; is = of_one word x e; on = h }
-    finds_by line word more at (Err kind) e h = absurd cc
-
     finds : (line : ℕ) (words : List (List ℕ)) (at : ℕ) → NoFault line words p at → Found A q line words
-    finds line [] at h = absurd (unended (no_fault line at (end p) h))
-    finds line (word ∷ more) at h =
-        finds_by line word more at (read word) refl (subst (λ (r : Result Step ConfKind). (past line more p at r).fault ≡ None) (steps word) h)
+    finds line words at h =
+        found_by (Found A q line) line p read (λ w x. q) unended steps (λ w x more n e on. found_one w x n (of_one w x e) on) words at h

@@ -8,6 +8,7 @@ pub mod Many
 pub mod Meters
 pub mod OneWord
 pub mod Optionals
+pub mod Parts
 pub mod Places
 pub mod Statements
 pub mod Values

@@ -1,7 +1,6 @@
 -- Options in any order.
 use Rattle.std.proofs.Common.{◌≡◌, ◌∙◌, ◌≤◌, ℕ, zero, suc, ◌+◌, ◌||◌, Bool, true, false, cond, List, [], ◌∷◌, ◌++◌, length, Option, None, Some, refl, sym, ap, subst, arith}
 use Rattle.std.proofs.lemmas.List.{length-append}
-use Rattle.std.specs.List.{AllByRecursion as Every}
 use Rattle.conf_lines.proofs.GrammarPlaces.{at_option}
 use Rattle.conf_lines.proofs.Readings.{past}
 use Rattle.conf_lines.specs.Grammar.{chosen, end, step}
@@ -15,22 +14,46 @@ use Rattle.conf_lines.specs.declared.statement.Form.{Form}
 use Rattle.conf_grammar.proofs.Leads.{Good, NoFault, one_more}
 use Rattle.conf_grammar.proofs.Places.{err_is, is_word, refused_is, wanting}
 use Rattle.conf_grammar.proofs.Values.{Values, values_are_none, values_lead}
-use Rattle.conf_grammar.specs.Phrases.{has, Many, none, more}
+use Rattle.conf_grammar.specs.Phrases.{has, Many, none, more, Option as Opt, option}
 use Rattle.conf_grammar.specs.Words.{Phrase}
 
--- an option by its row of the table
-pub data Keyed (form : Form) (test : Key → Bool) : List (List ℕ) → List What → Type 0 where
-  keyed : (k : Key) {values : List (List ℕ)} {said : List What} → option_of form (word_of_key k) ≡ Some k → test k ≡ settles k
-      → Values (slots_of k) values said → Keyed form test (word_of_key k ∷ values) (what.Key k ∷ said)
+-- the option of a key, as its row of the table has it
+abbrev pub Written : Key → Phrase
+Written k = Opt (word_of_key k) k (Values (slots_of k))
 
-pub record Row (test : Key → Bool) (Of : Phrase) (k : Key) : Type 0 where
-  pub settles : test k ≡ settles k
-  pub is : (values : List (List ℕ)) (said : List What) → Values (slots_of k) values said → Of (word_of_key k ∷ values) (what.Key k ∷ said)
+-- one of these options, which its word names among them
+pub data Keyed (keys : List Key) : List (List ℕ) → List What → Type 0 where
+  keyed : (k : Key) {words : List (List ℕ)} {says : List What} → one_of keys (word_of_key k) ≡ Some k → Written k words says → Keyed keys words says
 
--- the options of a form are these
+-- what is so of each of these keys
+infixr 5 ◌&◌
+pub data Each (P : Key → Type 0) : List Key → Type 0 where
+  done : Each P []
+  ◌&◌ : {k : Key} {keys : List Key} → P k → Each P keys → Each P (k ∷ keys)
+
+-- an option of a key is one of these options
+abbrev pub Row : Phrase → Key → Type 0
+Row Of k = (words : List (List ℕ)) (says : List What) → Written k words says → Of words says
+
+-- the options of a form are these, and the test of what must be among them is that of the table
 pub record Choice (form : Form) (test : Key → Bool) (Of : Phrase) : Type 0 where
-  pub keyed : (words : List (List ℕ)) (says : List What) → Of words says → Keyed form test words says
-  pub rows : Every (Row test Of) (options_of form)
+  pub settles : Each (λ k. test k ≡ settles k) (options_of form)
+  pub keyed : {words : List (List ℕ)} {says : List What} → Of words says → Keyed (options_of form) words says
+  pub rows : Each (Row Of) (options_of form)
+
+find_row : {P : Key → Type 0} (keys : List Key) (w : List ℕ) (k : Key) → Each P keys → one_of keys w ≡ Some k → (w ≡ word_of_key k) × P k
+find_row [] w k rows e = absurd cc
+find_row {P} (key ∷ keys) w k (row & rows) e = go (find_row keys w k rows) (is_text (word_of_key key) w) refl e
+  where
+    go : (one_of keys w ≡ Some k → (w ≡ word_of_key k) × P k) → (b : Bool) → is_text (word_of_key key) w ≡ b
+        → cond b (Some key) (one_of keys w) ≡ Some k → (w ≡ word_of_key k) × P k
+    go later true t e = let same : key ≡ k = cc in subst (λ x. (w ≡ word_of_key x) × P x) same (is_word (word_of_key key) w t, row)
+    go later false t e = later e
+
+-- options that their words name among others too
+pub also_keyed : {keys others : List Key} {words : List (List ℕ)} {says : List What} → Keyed keys words says
+    → Each (λ k. one_of others (word_of_key k) ≡ Some k) keys → Keyed others words says
+also_keyed {keys} (keyed k found o) named = keyed k (find_row keys (word_of_key k) k named found).1 o
 
 module _ (form : Form) (test : Key → Bool) (Of : Phrase) (choice : Choice form test Of) where
   -- THE READING OF OPTIONS
@@ -44,12 +67,13 @@ module _ (form : Form) (test : Key → Bool) (Of : Phrase) (choice : Choice form
   settled_by true k said rest e f = refl
   settled_by false k said rest e f = rw (e, f) refl
 
-  key_read : (settled : Bool) {words rest : List (List ℕ)} {says others : List What} → Keyed form test words says
+  key_read : (settled : Bool) {words rest : List (List ℕ)} {says others : List What} → Keyed (options_of form) words says
       → (settled || has test (says ++ others)) ≡ true
       → ((next : Bool) → (next || has test others) ≡ true → Good form (at_option form next) rest others)
       → Good form (at_option form settled) (words ++ rest) (says ++ others)
   unfolding step
-  key_read settled {others = others} (keyed k {values} {said} found is v) s next =
+  key_read settled {others = others} (keyed k found (option {words = values} {says = said} v)) s next =
+      let is = (find_row (options_of form) (word_of_key k) k choice.settles found).1 in
       let q = at_option form (settled || settles k) in
       let quiet = values_are_none test (slots_of k) values said others v in
       one_more (at_option form settled) (wanting (slots_of k) q) (word_of_key k) (what.Key k) (rw found refl)
@@ -58,22 +82,13 @@ module _ (form : Form) (test : Key → Bool) (Of : Phrase) (choice : Choice form
   pub many_read : (settled : Bool) {words : List (List ℕ)} {says : List What} → Many Of words says → (settled || has test says) ≡ true
       → Good form (at_option form settled) words says
   many_read settled none s = end_read settled s
-  many_read settled (more {words = words} {says = says} o os) s = key_read settled (choice.keyed words says o) s (λ next t. many_read next os t)
+  many_read settled (more o os) s = key_read settled (choice.keyed o) s (λ next t. many_read next os t)
 
   -- WHAT WAS READ
   pub record Options (settled : Bool) (words : List (List ℕ)) : Type 0 where
     pub says : List What
     pub are : Many Of words says
     pub whole : (settled || has test says) ≡ true
-
-  find_row : (keys : List Key) (w : List ℕ) (k : Key) → Every (Row test Of) keys → one_of keys w ≡ Some k → (w ≡ word_of_key k) × Row test Of k
-  find_row [] w k rows e = absurd cc
-  find_row (key ∷ keys) w k rows e = go (find_row keys w k rows.1) (is_text (word_of_key key) w) refl e
-    where
-      go : (one_of keys w ≡ Some k → (w ≡ word_of_key k) × Row test Of k) → (b : Bool) → is_text (word_of_key key) w ≡ b
-          → cond b (Some key) (one_of keys w) ≡ Some k → (w ≡ word_of_key k) × Row test Of k
-      go later true t e = let same : key ≡ k = cc in subst (λ x. (w ≡ word_of_key x) × Row test Of x) same (is_word (word_of_key key) w t, rows.0)
-      go later false t e = later e
 
   no_end : (settled : Bool) (line at : ℕ) → fault_at line at (end (at_option form settled)) ≡ None → settled ≡ true
   unfolding end
@@ -94,7 +109,9 @@ module _ (form : Form) (test : Key → Bool) (Of : Phrase) (choice : Choice form
       go later None e h = absurd (err_is line words (at_option form settled) at (chosen (at_option form settled) w None) (refused_is w) h)
       go later (Some k) e h =
           let row = find_row (options_of form) w k choice.rows e in
+          let is = (find_row (options_of form) w k choice.settles e).1 in
           let f = (values_lead (slots_of k) (at_option form (settled || settles k))).found line words (at + 1) h in
+          let one = row.1 (word_of_key k ∷ f.front) (what.Key k ∷ f.says) (option f.is) in
           let len = ap length f.split in
           let short : length f.rest ≤ n = omega (arith, few, len, length-append f.front f.rest) in
           let os = later (settled || settles k) line f.rest f.at short f.on in
@@ -103,6 +120,6 @@ module _ (form : Form) (test : Key → Bool) (Of : Phrase) (choice : Choice form
           ap (λ (v : List ℕ). v ∷ words) row.0 ∙ ap (λ (ws : List (List ℕ)). word_of_key k ∷ ws) f.split in
           record {
             says = (what.Key k ∷ f.says) ++ os.says;
-            are = subst (λ (ws : List (List ℕ)). Many Of ws ((what.Key k ∷ f.says) ++ os.says)) (sym all) (more (row.1.is f.front f.says f.is) os.are);
-            whole = settled_by settled k f.says os.says row.1.settles quiet ∙ os.whole;
+            are = subst (λ (ws : List (List ℕ)). Many Of ws ((what.Key k ∷ f.says) ++ os.says)) (sym all) (more one os.are);
+            whole = settled_by settled k f.says os.says is quiet ∙ os.whole;
           }

@@ -1,29 +1,18 @@
 -- The numbers of a meter lead from where they are wanted to behind them.
-use Rattle.std.proofs.Common.{◌≡◌, ℕ, ◌+◌, ◌^◌, true, List, [], ◌∷◌, ◌++◌, None, Result, Ok, Err, refl, ap, codes}
+use Rattle.std.proofs.Common.{◌≡◌, ℕ, ◌+◌, ◌^◌, List, [], ◌∷◌, ◌++◌, None, Result, Ok, Err, refl, codes}
 use Rattle.conf_lines.proofs.Readings.{past}
-use Rattle.conf_lines.specs.Grammar.{Place, as_read, at_pir, end, leads, step}
+use Rattle.conf_lines.specs.Grammar.{Place, at_pir, end, step}
 use Rattle.conf_lines.specs.Slots.{are_plain, rate_in, whole_in}
 use Rattle.conf_lines.specs.declared.fault.ConfKind.{ConfKind}
 use Rattle.conf_lines.specs.declared.item.What.{What}
 use Rattle.conf_lines.specs.declared.item.What.TheVariants as what
 use Rattle.conf_lines.specs.declared.options.Slots.TheVariants as slots
-use Rattle.conf_grammar.proofs.Leads.{Found, Good, Leads, NoFault, one_more, taken, ◌>+◌}
-use Rattle.conf_grammar.proofs.OneWord.{rate_back, rate_by, rate_read, whole_by, whole_leads}
+use Rattle.conf_grammar.proofs.Leads.{Found, Good, Leads, NoFault, found_more, one_more, ◌>+◌}
+use Rattle.conf_grammar.proofs.OneWord.{rate_back, rate_by, rate_read, rate_then, whole_by, whole_leads, whole_then}
 use Rattle.conf_grammar.proofs.Places.{after, resumed, wanting}
 use Rattle.conf_grammar.specs.Phrases.{◌▷◌, then}
 use Rattle.conf_grammar.specs.Spells.{OneRate}
 use Rattle.conf_grammar.specs.Words.{IsRate, Rate, rate, TwoRates, two_rates, Whole, whole}
-
--- a number, and what is next behind it
-rate_then : (p n : Place) (r : Result ℕ ConfKind) → leads (as_read what.Rate r) p n.next
-    ≡ taken (record p { next = n.next; stands = true }) (as_read what.Rate r)
-rate_then p n (Ok k) = refl
-rate_then p n (Err kind) = refl
-
-whole_then : (p n : Place) (r : Result ℕ ConfKind) → leads (as_read what.Whole r) p n.next
-    ≡ taken (record p { next = n.next; stands = true }) (as_read what.Whole r)
-whole_then p n (Ok k) = refl
-whole_then p n (Err kind) = refl
 
 -- ONE RATE: behind CIR, which is there for instance as 1000
 behind_cir : Place → Place
@@ -90,16 +79,7 @@ find_two q line (w ∷ words) at h = go (rate_in 1000 (10 ^ 12) w) refl h
         → Found TwoRates (resumed q) line (w ∷ words)
     go (Err kind) e h = absurd cc
     go (Ok pir) e h =
-        let f = (behind_leads q pir).found line words (at + 1) h in
-        record {
-          front = w ∷ f.front;
-          says = what.Rate pir ∷ f.says;
-          rest = f.rest;
-          at = f.at;
-          split = ap (λ (ws : List (List ℕ)). w ∷ ws) f.split;
-          is = with_pir w pir (rate_back 1000 (10 ^ 12) w pir e) f.is;
-          on = f.on;
-        }
+        found_more w (what.Rate pir) (λ ws xs v. with_pir w pir (rate_back 1000 (10 ^ 12) w pir e) v) ((behind_leads q pir).found line words (at + 1) h)
 
 pub two_rates_lead : (q : Place) → Leads q.form TwoRates (wanting slots.Two q) (resumed q)
 two_rates_lead q = record { read = read_two q; found = find_two q }

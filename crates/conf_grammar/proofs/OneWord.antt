@@ -4,7 +4,7 @@ use Rattle.std.proofs.lemmas.Bool.{and_parts}
 use Rattle.line_text.specs.Addresses.{ip4_of}
 use Rattle.line_text.specs.Names.{is_name}
 use Rattle.line_text.specs.Numbers.{rate_of, whole_of}
-use Rattle.conf_lines.specs.Grammar.{Place, as_read, end, reads, step}
+use Rattle.conf_lines.specs.Grammar.{Place, as_read, end, leads, reads, stands_by, step}
 use Rattle.conf_lines.specs.Slots.{are_plain, as_ip4, checked, found_in, mask_in, name_in, protocol_in, rate_in, skipped_in, whole_in, within, is_text}
 use Rattle.conf_lines.specs.declared.fault.ConfKind.{ConfKind}
 use Rattle.conf_lines.specs.declared.fault.ConfKind.TheVariants.{BadByte, BadNumber, RateRange}
@@ -14,7 +14,7 @@ use Rattle.conf_lines.specs.declared.options.Slots.TheVariants as slots
 use Rattle.conf_lines.specs.declared.statement.Form.{Form}
 use Rattle.conf_grammar.proofs.Leads.{Leads, One, one, one_leads, taken}
 use Rattle.conf_grammar.proofs.Places.{is_word, resumed, wanting}
-use Rattle.conf_grammar.specs.Words.{Ip4, ip4, IsRate, IsWhole, Name, name, Protocol, icmp, tcp, udp, by_number, Rate, rate, Whole, whole, Word, word}
+use Rattle.conf_grammar.specs.Words.{Ip4, ip4, IsRate, IsWhole, Name, name, Phrase, Protocol, icmp, tcp, udp, by_number, Rate, rate, Whole, whole, Word, word}
 
 -- a word whose bytes are tested first
 pub checked_back : {A : Type 0} (w : List ℕ) (r : Result A ConfKind) (x : A) → checked w r ≡ Ok x → (are_plain w ≡ true) × (r ≡ Ok x)
@@ -41,72 +41,84 @@ within_back low high out (Some m) n e = go (nat_le low m && nat_le m high) refl 
         subst (λ k. Within low high (Some m) k) same (record { is = refl; least = leb-true low m parts.0; most = leb-true m high parts.1 })
     go false t e = absurd cc
 
+number_read : (low high : ℕ) (out : ConfKind) (w : List ℕ) (o : Option ℕ) (n : ℕ) → are_plain w ≡ true → Within low high o n
+    → checked w (within low high out o) ≡ Ok n
+number_read low high out w o n plain is = rw (plain, is.is, le-leb low n is.least, le-leb n high is.most) refl
+
+number_back : (low high : ℕ) (out : ConfKind) (w : List ℕ) (o : Option ℕ) (n : ℕ) → checked w (within low high out o) ≡ Ok n
+    → (are_plain w ≡ true) × Within low high o n
+number_back low high out w o n e = let plain = checked_back w (within low high out o) n e in (plain.0, within_back low high out o n plain.1)
+
 pub rate_read : (low high : ℕ) (w : List ℕ) (n : ℕ) → IsRate low high w n → rate_in low high w ≡ Ok n
 unfolding rate_in
-rate_read low high w n is = rw (is.plain, is.is, le-leb low n is.least, le-leb n high is.most) refl
+rate_read low high w n is = number_read low high RateRange w (rate_of w) n is.plain (record { is = is.is; least = is.least; most = is.most })
 
 pub rate_back : (low high : ℕ) (w : List ℕ) (n : ℕ) → rate_in low high w ≡ Ok n → IsRate low high w n
 unfolding rate_in
 rate_back low high w n e =
-    let plain = checked_back w (within low high RateRange (rate_of w)) n e in
-    let is = within_back low high RateRange (rate_of w) n plain.1 in
-    record { plain = plain.0; is = is.is; least = is.least; most = is.most }
+    let of = number_back low high RateRange w (rate_of w) n e in record { plain = of.0; is = of.1.is; least = of.1.least; most = of.1.most }
 
 pub whole_read : (low high : ℕ) (w : List ℕ) (n : ℕ) → IsWhole low high w n → whole_in low high w ≡ Ok n
 unfolding whole_in
-whole_read low high w n is = rw (is.plain, is.is, le-leb low n is.least, le-leb n high is.most) refl
+whole_read low high w n is = number_read low high BadNumber w (whole_of w) n is.plain (record { is = is.is; least = is.least; most = is.most })
 
 pub whole_back : (low high : ℕ) (w : List ℕ) (n : ℕ) → whole_in low high w ≡ Ok n → IsWhole low high w n
 unfolding whole_in
 whole_back low high w n e =
-    let plain = checked_back w (within low high BadNumber (whole_of w)) n e in
-    let is = within_back low high BadNumber (whole_of w) n plain.1 in
-    record { plain = plain.0; is = is.is; least = is.least; most = is.most }
+    let of = number_back low high BadNumber w (whole_of w) n e in record { plain = of.0; is = of.1.is; least = of.1.least; most = of.1.most }
 
 -- WHERE THE WORDS OF AN OPTION ARE WANTED
-rate_taken : (p : Place) (r : Result ℕ ConfKind) → reads (as_read what.Rate r) p ≡ taken (resumed p) (as_read what.Rate r)
-rate_taken p (Ok n) = refl
-rate_taken p (Err kind) = refl
+-- a number, and what is next behind it
+number_then : (as_what : ℕ → What) → ((n : ℕ) → stands_by (as_what n) ≡ true) → (p q : Place) (r : Result ℕ ConfKind)
+    → leads (as_read as_what r) p q.next ≡ taken (record p { next = q.next; stands = true }) (as_read as_what r)
+number_then as_what stands p q (Ok n) = rw (stands n) refl
+number_then as_what stands p q (Err kind) = refl
+
+pub rate_then : (p q : Place) (r : Result ℕ ConfKind) → leads (as_read what.Rate r) p q.next
+    ≡ taken (record p { next = q.next; stands = true }) (as_read what.Rate r)
+rate_then = number_then what.Rate (λ n. refl)
+
+pub whole_then : (p q : Place) (r : Result ℕ ConfKind) → leads (as_read what.Whole r) p q.next
+    ≡ taken (record p { next = q.next; stands = true }) (as_read what.Whole r)
+whole_then = number_then what.Whole (λ n. refl)
 
 pub whole_taken : (p : Place) (r : Result ℕ ConfKind) → reads (as_read what.Whole r) p ≡ taken (resumed p) (as_read what.Whole r)
-whole_taken p (Ok n) = refl
-whole_taken p (Err kind) = refl
+whole_taken p r = whole_then p (resumed p) r
 
-one_rate_of : (low high : ℕ) (ws : List (List ℕ)) (xs : List What) → Rate low high ws xs → One (λ w. as_read what.Rate (rate_in low high w)) ws xs
-one_rate_of low high ws xs (rate {w = w} {n = n} is) = one (rw (rate_read low high w n is) refl)
-
-rate_of_one : (low high : ℕ) (w : List ℕ) (x : What) (r : Result ℕ ConfKind) → rate_in low high w ≡ r → as_read what.Rate r ≡ Ok x
-    → Rate low high (w ∷ []) (x ∷ [])
-rate_of_one low high w x (Ok n) f e = let same : what.Rate n ≡ x = cc in subst (λ y. Rate low high (w ∷ []) (y ∷ [])) same (rate (rate_back low high w n f))
-rate_of_one low high w x (Err kind) f e = absurd cc
-
-one_whole_of : (low high : ℕ) (ws : List (List ℕ)) (xs : List What) → Whole low high ws xs → One (λ w. as_read what.Whole (whole_in low high w)) ws xs
-one_whole_of low high ws xs (whole {w = w} {n = n} is) = one (rw (whole_read low high w n is) refl)
-
-whole_of_one : (low high : ℕ) (w : List ℕ) (x : What) (r : Result ℕ ConfKind) → whole_in low high w ≡ r → as_read what.Whole r ≡ Ok x
-    → Whole low high (w ∷ []) (x ∷ [])
-whole_of_one low high w x (Ok n) f e =
-    let same : what.Whole n ≡ x = cc in subst (λ y. Whole low high (w ∷ []) (y ∷ [])) same (whole (whole_back low high w n f))
-whole_of_one low high w x (Err kind) f e = absurd cc
+-- a phrase of one number
+number_by : (form : Form) (A : Phrase) (p q : Place) (as_what : ℕ → What) (read : List ℕ → Result ℕ ConfKind)
+    → ((w : List ℕ) → step p w ≡ taken q (as_read as_what (read w))) → (end p ≡ None → ⊥)
+    → ((ws : List (List ℕ)) (xs : List What) → A ws xs → One (λ w. as_read as_what (read w)) ws xs)
+    → ((w : List ℕ) (n : ℕ) → read w ≡ Ok n → A (w ∷ []) (as_what n ∷ [])) → Leads form A p q
+number_by form A p q as_what read steps unended to back =
+    one_leads form A p q (λ w. as_read as_what (read w)) steps unended to (λ w x e. of_read w x (read w) refl e)
+  where
+    of_read : (w : List ℕ) (x : What) (r : Result ℕ ConfKind) → read w ≡ r → as_read as_what r ≡ Ok x → A (w ∷ []) (x ∷ [])
+    of_read w x (Ok n) f e = let same : as_what n ≡ x = cc in subst (λ y. A (w ∷ []) (y ∷ [])) same (back w n f)
+    of_read w x (Err kind) f e = absurd cc
 
 -- a RATE or a WHOLE, wherever it is read as one
 pub rate_by : (form : Form) (low high : ℕ) (p q : Place) → ((w : List ℕ) → step p w ≡ taken q (as_read what.Rate (rate_in low high w)))
     → (end p ≡ None → ⊥) → Leads form (Rate low high) p q
 rate_by form low high p q steps unended =
-    one_leads form (Rate low high) p q (λ w. as_read what.Rate (rate_in low high w)) steps unended (one_rate_of low high)
-    (λ w x e. rate_of_one low high w x (rate_in low high w) refl e)
+    number_by form (Rate low high) p q what.Rate (rate_in low high) steps unended to (λ w n e. rate (rate_back low high w n e))
+  where
+    to : (ws : List (List ℕ)) (xs : List What) → Rate low high ws xs → One (λ w. as_read what.Rate (rate_in low high w)) ws xs
+    to ws xs (rate {w = w} {n = n} is) = one (rw (rate_read low high w n is) refl)
 
 pub whole_by : (form : Form) (low high : ℕ) (p q : Place) → ((w : List ℕ) → step p w ≡ taken q (as_read what.Whole (whole_in low high w)))
     → (end p ≡ None → ⊥) → Leads form (Whole low high) p q
 whole_by form low high p q steps unended =
-    one_leads form (Whole low high) p q (λ w. as_read what.Whole (whole_in low high w)) steps unended (one_whole_of low high)
-    (λ w x e. whole_of_one low high w x (whole_in low high w) refl e)
+    number_by form (Whole low high) p q what.Whole (whole_in low high) steps unended to (λ w n e. whole (whole_back low high w n e))
+  where
+    to : (ws : List (List ℕ)) (xs : List What) → Whole low high ws xs → One (λ w. as_read what.Whole (whole_in low high w)) ws xs
+    to ws xs (whole {w = w} {n = n} is) = one (rw (whole_read low high w n is) refl)
 
 pub rate_leads : (low high : ℕ) (q : Place) → Leads q.form (Rate low high) (wanting (slots.Rate low high) q) (resumed q)
 unfolding step end
 rate_leads low high q =
     let p = wanting (slots.Rate low high) q in
-    rate_by q.form low high p (resumed q) (λ w. rate_taken p (rate_in low high w)) (λ e. cc)
+    rate_by q.form low high p (resumed q) (λ w. rate_then p (resumed q) (rate_in low high w)) (λ e. cc)
 
 pub whole_leads : (low high : ℕ) (q : Place) → Leads q.form (Whole low high) (wanting (slots.Whole low high) q) (resumed q)
 unfolding step end
@@ -248,12 +260,7 @@ protocol_of w n e = first (is_text (codes "icmp") w) refl e
     first true t e = says_one (codes "icmp") 1 t (cc) icmp
     first false t e = second (is_text (codes "tcp") w) refl e
 
-protocol_back : (w : List ℕ) (x : What) (r : Result ℕ ConfKind) → protocol_in w ≡ r → as_read what.Whole r ≡ Ok x → Protocol (w ∷ []) (x ∷ [])
-protocol_back w x (Ok n) f e = let same : what.Whole n ≡ x = cc in subst (λ y. Protocol (w ∷ []) (y ∷ [])) same (protocol_of w n f)
-protocol_back w x (Err kind) f e = absurd cc
-
 pub protocol_by : (form : Form) (p q : Place) → ((w : List ℕ) → step p w ≡ reads (as_read what.Whole (protocol_in w)) q) → (end p ≡ None → ⊥)
     → Leads form Protocol p (resumed q)
 protocol_by form p q steps unended =
-    one_leads form Protocol p (resumed q) (λ w. as_read what.Whole (protocol_in w)) (λ w. rw (steps w) (whole_taken q (protocol_in w))) unended protocol_read
-    (λ w x e. protocol_back w x (protocol_in w) refl e)
+    number_by form Protocol p (resumed q) what.Whole protocol_in (λ w. rw (steps w) (whole_taken q (protocol_in w))) unended protocol_read protocol_of

@@ -11,10 +11,16 @@ use Rattle.conf_lines.specs.declared.item.What.{What}
 use Rattle.conf_lines.specs.declared.item.What.TheVariants as what
 use Rattle.conf_lines.specs.declared.options.Key.{Key}
 use Rattle.conf_lines.specs.declared.statement.Form.{Form}
-use Rattle.conf_grammar.proofs.Leads.{Ends, Found, Good, Leads, NoFault, Spelled, one_more}
+use Rattle.conf_grammar.proofs.Leads.{Ends, Found, Good, Leads, NoFault, Spelled, found_more, one_more}
 use Rattle.conf_grammar.proofs.Places.{IsErr, err_is, is_itself, is_word, past_same}
 use Rattle.conf_grammar.specs.Phrases.{◌▷◌, then, Maybe, absent, present, Option, option}
 use Rattle.conf_grammar.specs.Words.{Phrase}
+
+-- the word of an option, and what stands behind it
+pub read_option : {form : Form} {V : Phrase} {words more : List (List ℕ)} {says rest : List What} (p b q : Place) (text : List ℕ) (k : Key)
+    → step p text ≡ Ok (record { what = Some (what.Key k); after = b }) → Leads form V b q → Option text k V words says → Good form q more rest
+    → Good form p (words ++ more) (says ++ rest)
+read_option p b q text k e values (option v) good = one_more p b text (what.Key k) e (values.read v good)
 
 -- At p the option of a key may stand: its word leads to b, and every other one is read as at q, which has no such word.
 pub record MayStand (k : Key) (p b q : Place) : Type 0 where
@@ -69,28 +75,16 @@ module _ (k : Key) (p b q : Place) (o : MayStand k p b q) where
   pub maybe_leads : {form : Form} {V : Phrase} → Leads form V b q → Leads form (Maybe (Option (word_of_key k) k V)) p q
   maybe_leads {form} {V} values = record { read = reads; found = finds }
     where
-      read_option : {words more : List (List ℕ)} {says rest : List What} → Option (word_of_key k) k V words says → Good form q more rest
-          → Good form p (words ++ more) (says ++ rest)
-      read_option (option v) good = one_more p b (word_of_key k) (what.Key k) (o.named (word_of_key k) (is_itself (word_of_key k))) (values.read v good)
-
       reads : {words more : List (List ℕ)} {says rest : List What} → Maybe (Option (word_of_key k) k V) words says → Good form q more rest
           → Good form p (words ++ more) (says ++ rest)
       reads {more = more} {rest = rest} absent good = skip more rest good
-      reads (present x) good = read_option x good
+      reads (present x) good = read_option p b q (word_of_key k) k (o.named (word_of_key k) (is_itself (word_of_key k))) values x good
 
       by_first : (line : ℕ) (words : List (List ℕ)) (at : ℕ) → FirstWord line words at → Found (Maybe (Option (word_of_key k) k V)) q line words
       by_first line words at (has_none h) = record { front = []; says = []; rest = words; at = at; split = refl; is = absent; on = h }
       by_first line words at (has_word more split h) =
-          let f = values.found line more (at + 1) h in
-          record {
-            front = word_of_key k ∷ f.front;
-            says = what.Key k ∷ f.says;
-            rest = f.rest;
-            at = f.at;
-            split = split ∙ ap (λ (ws : List (List ℕ)). word_of_key k ∷ ws) f.split;
-            is = present (option f.is);
-            on = f.on;
-          }
+          subst (λ (ws : List (List ℕ)). Found (Maybe (Option (word_of_key k) k V)) q line ws) (sym split)
+          (found_more (word_of_key k) (what.Key k) (λ ws xs v. present (option v)) (values.found line more (at + 1) h))
 
       finds : (line : ℕ) (words : List (List ℕ)) (at : ℕ) → NoFault line words p at → Found (Maybe (Option (word_of_key k) k V)) q line words
       finds line words at h = by_first line words at (first_word line words at h)
@@ -99,6 +93,13 @@ module _ (k : Key) (p b q : Place) (o : MayStand k p b q) where
 pub record Closes (form : Form) (q : Place) : Type 0 where
   pub ends : Good form q [] []
   pub alone : (line : ℕ) (words : List (List ℕ)) (at : ℕ) → NoFault line words q at → words ≡ []
+
+pub closes_by : (q : Place) → end q ≡ None → ((w : List ℕ) → IsErr (step q w)) → Closes q.form q
+closes_by q ended refused = record { ends = record { is = λ line at. rw (read_from, ended) refl }; alone = alone }
+  where
+    alone : (line : ℕ) (words : List (List ℕ)) (at : ℕ) → NoFault line words q at → words ≡ []
+    alone line [] at h = refl
+    alone line (w ∷ words) at h = absurd (err_is line words q at (step q w) (refused w) h)
 
 pub closed : {form : Form} {A : Phrase} (p q : Place) → Leads form A p q → Closes form q → Ends form A p
 closed {form} {A} p q leads closes = record { read = reads; found = finds }

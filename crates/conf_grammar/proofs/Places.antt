@@ -2,7 +2,7 @@
 use Rattle.std.proofs.Common.{◌≡◌, ◌∙◌, ℕ, Bool, true, false, cond, List, [], ◌∷◌, None, Result, Ok, Err, refl, sym, ap}
 use Rattle.std.specs.Cmp.Lexicographic.{bytes_decides}
 use Rattle.conf_lines.proofs.Readings.{past}
-use Rattle.conf_lines.specs.Grammar.{Place, Step, behind_option, end, refused, step}
+use Rattle.conf_lines.specs.Grammar.{Place, Step, behind_option, end, reads, refused, stands_by, step}
 use Rattle.conf_lines.specs.Slots.{are_plain, is_text}
 use Rattle.conf_lines.specs.Texts.{Reading, read_from}
 use Rattle.conf_lines.specs.declared.fault.ConfKind.{ConfKind}
@@ -11,7 +11,7 @@ use Rattle.conf_lines.specs.declared.item.What.{What}
 use Rattle.conf_lines.specs.declared.options.Slots.{Slots}
 use Rattle.conf_lines.specs.declared.options.Slots.TheVariants as slots
 use Rattle.conf_lines.specs.declared.statement.Form.{Form}
-use Rattle.conf_grammar.proofs.Leads.{Found, Good, NoFault}
+use Rattle.conf_grammar.proofs.Leads.{Found, Good, NoFault, leading}
 use Rattle.conf_grammar.specs.Words.{Phrase}
 
 -- what an option asks for comes next; and behind it a part or an option
@@ -26,6 +26,14 @@ abbrev pub after : Place → Result Step ConfKind → Place
 after p (Ok t) = t.after
 after p (Err kind) = p
 
+-- a word is read at the place of a part, and behind it
+abbrev pub behind_word : Place → What → Place
+behind_word q x = record (resumed q) { stands = stands_by x }
+
+pub reads_leading : (q : Place) (r : Result What ConfKind) → reads r q ≡ leading (behind_word q) r
+reads_leading q (Ok x) = refl
+reads_leading q (Err kind) = refl
+
 -- WORDS
 pub is_word : (text word : List ℕ) → is_text text word ≡ true → word ≡ text
 unfolding is_text
@@ -34,6 +42,14 @@ is_word text word e = (bytes_decides word text).0 e
 pub is_itself : (text : List ℕ) → is_text text text ≡ true
 unfolding is_text
 is_itself text = (bytes_decides text text).1 refl
+
+-- a word is this one, or it is not
+pub by_text : {A : Type 0} (text word : List ℕ) → (is_text text word ≡ true → A) → (is_text text word ≡ false → A) → A
+by_text {A} text word same other = go (is_text text word) refl
+  where
+    go : (b : Bool) → is_text text word ≡ b → A
+    go true e = same e
+    go false e = other e
 
 abbrev pub IsErr : Result Step ConfKind → Type 0
 IsErr (Ok t) = ⊥

@@ -2,11 +2,11 @@
 use Rattle.std.proofs.Common.{◌≡◌, ◌∙◌, ℕ, ◌+◌, Bool, true, false, cond, List, [], ◌∷◌, None, Some, refl, sym, ap, subst, codes, length, nat_lt, le-ltb}
 use Rattle.line_text.specs.Lines.{joined, longest_line}
 use Rattle.line_text.specs.Words.{words_of}
-use Rattle.conf_lines.proofs.GrammarPlaces.{at_discipline_word}
+use Rattle.conf_lines.proofs.GrammarPlaces.{at_discipline_word, at_interface_name}
 use Rattle.conf_lines.proofs.Readings.{past}
 use Rattle.conf_lines.specs.Grammar.{at_discipline, at_statement, begins, behind_option, end, refused, start, step}
 use Rattle.conf_lines.specs.Slots.{is_text}
-use Rattle.conf_lines.specs.Texts.{Reading, as_statement, behind, by_words, line_too_long, read_from, statement_of}
+use Rattle.conf_lines.specs.Texts.{Reading, as_statement, by_words, line_too_long, read_from, statement_of}
 use Rattle.conf_lines.specs.declared.item.What.{What}
 use Rattle.conf_lines.specs.declared.options.Slots.TheVariants as slots
 use Rattle.conf_lines.specs.declared.statement.Form.{Form}
@@ -15,48 +15,35 @@ use Rattle.conf_lines.specs.declared.statement.Statement.{Statement as Stated}
 use Rattle.conf_laws.specs.Statements.{numbered}
 use Rattle.conf_grammar.proofs.Classes.{cbq_ends, hfsc_ends, interface_ends}
 use Rattle.conf_grammar.proofs.Filters.{conditioner_ends, filter6_ends, filter_ends}
-use Rattle.conf_grammar.proofs.Leads.{NoFault, Spelled, clean}
+use Rattle.conf_grammar.proofs.Leads.{Ends, NoFault, Spelled, clean}
 use Rattle.conf_grammar.proofs.Places.{err_is, is_word, refused_is}
 use Rattle.conf_grammar.specs.Laws.{ReadIsSpelled, SpelledIsRead, SpelledLinesAreStatements, StatementsAreSpelled, first_item, whats}
-use Rattle.conf_grammar.specs.Phrases.{then, fixed}
+use Rattle.conf_grammar.specs.Phrases.{◌▷◌, then, Fixed, fixed}
 use Rattle.conf_grammar.specs.Spells.{Spells}
 use Rattle.conf_grammar.specs.Words.{Phrase}
 
 -- SPELLED WORDS ARE READ
-abbrev IsReadAs : ℕ → Form → List (List ℕ) → List What → Type 0
-IsReadAs line form words says = read_from line words start 1 ≡ clean (first_item form) form says
+-- behind a first word that says which statement it is, and behind class and such a word
+begun_read : (line : ℕ) (form : Form) (text : List ℕ) {A : Phrase} → step start text ≡ begins form (behind_option slots.Nothing)
+    → Ends form A (at_interface_name form) → (words : List (List ℕ)) (says : List What) → (Fixed text ▷ A) words says
+    → read_from line words start 1 ≡ clean 2 form says
+begun_read line form text e ends words says (then fixed x) = rw (read_from, e, (ends.read x).is line 2) refl
 
-interface_read : (line : ℕ) (words : List (List ℕ)) (says : List What) → Spells form.Interface words says → IsReadAs line form.Interface words says
+class_read : (line : ℕ) (form : Form) (kind : List ℕ) {A : Phrase} → step at_discipline_word kind ≡ begins form (behind_option slots.Nothing)
+    → Ends form A (at_interface_name form) → (words : List (List ℕ)) (says : List What) → (Fixed (codes "class") ▷ Fixed kind ▷ A) words says
+    → read_from line words start 1 ≡ clean 3 form says
 unfolding step at_statement is_text
-interface_read line words says (then fixed x) = ap (λ (r : Reading). behind [] r) ((interface_ends.read x).is line 2)
-
-filter_read : (line : ℕ) (words : List (List ℕ)) (says : List What) → Spells form.Filter words says → IsReadAs line form.Filter words says
-unfolding step at_statement is_text
-filter_read line words says (then fixed x) = ap (λ (r : Reading). behind [] r) ((filter_ends.read x).is line 2)
-
-filter6_read : (line : ℕ) (words : List (List ℕ)) (says : List What) → Spells form.Filter6 words says → IsReadAs line form.Filter6 words says
-unfolding step at_statement is_text
-filter6_read line words says (then fixed x) = ap (λ (r : Reading). behind [] r) ((filter6_ends.read x).is line 2)
-
-conditioner_read : (line : ℕ) (words : List (List ℕ)) (says : List What) → Spells form.Conditioner words says → IsReadAs line form.Conditioner words says
-unfolding step at_statement is_text
-conditioner_read line words says (then fixed x) = ap (λ (r : Reading). behind [] r) ((conditioner_ends.read x).is line 2)
-
-hfsc_read : (line : ℕ) (words : List (List ℕ)) (says : List What) → Spells form.ClassHfsc words says → IsReadAs line form.ClassHfsc words says
-unfolding step at_statement at_discipline is_text
-hfsc_read line words says (then fixed (then fixed x)) = ap (λ (r : Reading). behind [] (behind [] r)) ((hfsc_ends.read x).is line 3)
-
-cbq_read : (line : ℕ) (words : List (List ℕ)) (says : List What) → Spells form.ClassCbq words says → IsReadAs line form.ClassCbq words says
-unfolding step at_statement at_discipline is_text
-cbq_read line words says (then fixed (then fixed x)) = ap (λ (r : Reading). behind [] (behind [] r)) ((cbq_ends.read x).is line 3)
+class_read line form kind e ends words says (then fixed (then fixed x)) =
+    rw (read_from, e, (ends.read x).is line 3) refl
 
 pub spelled_is_read : SpelledIsRead
-spelled_is_read line form.Interface words says x = interface_read line words says x
-spelled_is_read line form.ClassHfsc words says x = hfsc_read line words says x
-spelled_is_read line form.ClassCbq words says x = cbq_read line words says x
-spelled_is_read line form.Filter words says x = filter_read line words says x
-spelled_is_read line form.Filter6 words says x = filter6_read line words says x
-spelled_is_read line form.Conditioner words says x = conditioner_read line words says x
+unfolding step at_statement at_discipline is_text
+spelled_is_read line form.Interface words says x = begun_read line form.Interface (codes "interface") refl interface_ends words says x
+spelled_is_read line form.ClassHfsc words says x = class_read line form.ClassHfsc (codes "hfsc") refl hfsc_ends words says x
+spelled_is_read line form.ClassCbq words says x = class_read line form.ClassCbq (codes "cbq") refl cbq_ends words says x
+spelled_is_read line form.Filter words says x = begun_read line form.Filter (codes "filter") refl filter_ends words says x
+spelled_is_read line form.Filter6 words says x = begun_read line form.Filter6 (codes "filter6") refl filter6_ends words says x
+spelled_is_read line form.Conditioner words says x = begun_read line form.Conditioner (codes "conditioner") refl conditioner_ends words says x
 spelled_is_read line form.Unread words says x = absurd x
 
 -- READ WORDS ARE SPELLED
