@@ -3,6 +3,13 @@
 use play_base::NoMemory;
 use std::alloc::Global;
 
+// Adds a line behind `> `.
+fn add_line(answer: &mut String, line: &str) -> Result<(), NoMemory> {
+    answer.push_str("> ")?;
+    answer.push_str(line)?;
+    Ok(answer.push_str("\n")?)
+}
+
 /// The text of a file, each line behind `> `.
 pub fn quoted(alloc: Global, bytes: Option<&[u8]>) -> Result<String, NoMemory> {
     let mut answer = String::new(alloc);
@@ -11,12 +18,10 @@ pub fn quoted(alloc: Global, bytes: Option<&[u8]>) -> Result<String, NoMemory> {
         None => "absent\n",
     };
     for line in text.lines() {
-        answer.push_str("> ")?;
-        answer.push_str(line)?;
-        answer.push_str("\n")?;
+        add_line(&mut answer, line)?;
     }
     if !text.is_empty() && !text.ends_with('\n') {
-        answer.push_str("> without a line feed\n")?;
+        add_line(&mut answer, "without a line feed")?;
     }
     Ok(answer)
 }
@@ -28,9 +33,7 @@ pub fn lines(alloc: Global, bytes: Option<&[u8]>, from: u64, to: u64) -> Result<
     let mut number = 1u64;
     for line in text.lines() {
         if from <= number && number <= to {
-            answer.push_str("> ")?;
-            answer.push_str(line)?;
-            answer.push_str("\n")?;
+            add_line(&mut answer, line)?;
         }
         number = number.wrapping_add(1);
     }
@@ -74,11 +77,12 @@ pub fn records(alloc: Global, bytes: &[u8], most: u64) -> Result<String, NoMemor
 }
 
 // The four numbers of a record's head.
-fn words_of(h: &[u8; 16]) -> [u32; 4] {
+fn words_of(head: &[u8; 16]) -> [u32; 4] {
+    let [a, b, c, d, e, f, g, h, i, j, k, l, m, n, o, p] = *head;
     [
-        u32::from_le_bytes([h[0], h[1], h[2], h[3]]),
-        u32::from_le_bytes([h[4], h[5], h[6], h[7]]),
-        u32::from_le_bytes([h[8], h[9], h[10], h[11]]),
-        u32::from_le_bytes([h[12], h[13], h[14], h[15]]),
+        u32::from_le_bytes([a, b, c, d]),
+        u32::from_le_bytes([e, f, g, h]),
+        u32::from_le_bytes([i, j, k, l]),
+        u32::from_le_bytes([m, n, o, p]),
     ]
 }
