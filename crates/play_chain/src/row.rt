@@ -126,7 +126,7 @@ pub struct Piece {
 // The most numbers of a piece. A row has fewer than 80 bytes.
 const PIECE: usize = 1024;
 
-// The number behind those of a piece, of so many numbers in all.
+// The first number behind a piece that begins at `from`, where `count` numbers have a place.
 fn behind_piece(from: usize, count: usize) -> usize
     requires { from ≤ count }
     ensures on { from < count → from < result }
