@@ -7,16 +7,20 @@ use Rattle.altq_model.specs.History.{is_kept}
 use Rattle.altq_model.specs.Lawful.{IsOneOf}
 use Rattle.altq_model.specs.Laws.{occurs}
 use Rattle.leaf_queue.specs.declared.node.Entry.{Entry}
-use Rattle.discipline.specs.Laws.{AreDistinct, after_offer, after_sent, held_in}
+use Rattle.discipline.specs.Laws.{AreDistinct, after_offer, after_sent, held_in, tickets}
 use Rattle.play_core.specs.Going.{one_kept}
 
 pub held_same : (old new : ℕ → List Entry) (cs : List ℕ) → ((c : ℕ) → new c ≡ old c) → held_in new cs ≡ held_in old cs
 held_same old new [] e = refl
 held_same old new (c ∷ cs) e = omega (arith, ap (λ (l : List Entry). length l) (e c), held_same old new cs e)
 
-pub held_none : (lists : ℕ → List Entry) (cs : List ℕ) → ((c : ℕ) → lists c ≡ []) → held_in lists cs ≡ 0
+no_tickets : (xs : List Entry) → tickets xs ≡ [] → xs ≡ []
+no_tickets [] e = refl
+no_tickets (x ∷ xs) e = absurd (cc)
+
+pub held_none : (lists : ℕ → List Entry) (cs : List ℕ) → ((c : ℕ) → tickets (lists c) ≡ []) → held_in lists cs ≡ 0
 held_none lists [] e = refl
-held_none lists (c ∷ cs) e = omega (arith, ap (λ (l : List Entry). length l) (e c), held_none lists cs e)
+held_none lists (c ∷ cs) e = omega (arith, ap (λ (l : List Entry). length l) (no_tickets (lists c) (e c)), held_none lists cs e)
 
 -- where a class is not among these, its list does not count
 not_here : (class c : ℕ) (cs : List ℕ) → occurs class (c ∷ cs) ≤ 0 → (b : Bool) → (c == class) ≡ b → (c ≡ class) → ⊥
@@ -37,31 +41,22 @@ there_one : (class c : ℕ) (cs : List ℕ) → (c ≡ class → ⊥) → IsOneO
 there_one class c cs d (inl e) = absurd (d e)
 there_one class c cs d (inr i) = i
 
--- where one list grows by so much, the count does
-record Grows (class more less : ℕ) (old new : ℕ → List Entry) : Type 0 where
-  here : length (new class) + less ≡ length (old class) + more
-  other : (c : ℕ) → (class ≡ c → ⊥) → new c ≡ old c
-
-count_case : (class more less : ℕ) (old new : ℕ → List Entry) (c : ℕ) (cs : List ℕ) (b : Bool) → (c == class) ≡ b → Grows class more less old new → IsOneOf class (c ∷ cs)
-    → occurs class (c ∷ cs) ≤ 1 → (IsOneOf class cs → occurs class cs ≤ 1 → held_in new cs + less ≡ held_in old cs + more)
-    → held_in new (c ∷ cs) + less ≡ held_in old (c ∷ cs) + more
-count_case class more less old new c cs true t x i l f =
+-- where one list alone changes, the count changes as its length does
+count_case : (class : ℕ) (old new : ℕ → List Entry) (c : ℕ) (cs : List ℕ) (b : Bool) → (c == class) ≡ b → ((k : ℕ) → (class ≡ k → ⊥) → new k ≡ old k) → IsOneOf class (c ∷ cs)
+    → occurs class (c ∷ cs) ≤ 1 → (IsOneOf class cs → occurs class cs ≤ 1 → held_in new cs + length (old class) ≡ held_in old cs + length (new class))
+    → held_in new (c ∷ cs) + length (old class) ≡ held_in old (c ∷ cs) + length (new class)
+count_case class old new c cs true t x i l f =
     let e : c ≡ class = eqb-true c class t in
-    let rest = others_count class old new cs (here_once class c cs l e) x.other in
-    omega (arith, rest, x.here, ap (λ (k : ℕ). length (new k)) e, ap (λ (k : ℕ). length (old k)) e)
-count_case class more less old new c cs false t x i l f =
+    omega (arith, others_count class old new cs (here_once class c cs l e) x, ap (λ (k : ℕ). length (new k)) e, ap (λ (k : ℕ). length (old k)) e)
+count_case class old new c cs false t x i l f =
     let d : c ≡ class → ⊥ = λ q. (let y = eq-eqb c class q in let no : true ≡ false = sym y ∙ t in (cc)) in
-    let same = x.other c (λ q. d (sym q)) in
+    let same = x c (λ q. d (sym q)) in
     omega (arith, f (there_one class c cs d i) (omega (arith, l)), ap (λ (k : List Entry). length k) same)
 
-counts : (class more less : ℕ) (old new : ℕ → List Entry) (cs : List ℕ) → Grows class more less old new → IsOneOf class cs → occurs class cs ≤ 1
-    → held_in new cs + less ≡ held_in old cs + more
-counts class more less old new [] x i l = absurd i
-counts class more less old new (c ∷ cs) x i l = count_case class more less old new c cs (c == class) refl x i l (counts class more less old new cs x)
-
-offer_here : (k : Bool) (x : Entry) (xs : List Entry) → length (cond k (xs ++ x ∷ []) xs) ≡ length xs + cond k 1 0
-offer_here true x xs = omega (arith, length-append xs (x ∷ []))
-offer_here false x xs = omega arith
+one_changes : (class : ℕ) (old new : ℕ → List Entry) (cs : List ℕ) → ((k : ℕ) → (class ≡ k → ⊥) → new k ≡ old k) → IsOneOf class cs → occurs class cs ≤ 1
+    → held_in new cs + length (old class) ≡ held_in old cs + length (new class)
+one_changes class old new [] x i l = absurd i
+one_changes class old new (c ∷ cs) x i l = count_case class old new c cs (c == class) refl x i l (one_changes class old new cs x)
 
 off_if : (k b : Bool) (xs ys : List Entry) → b ≡ false → cond (k && b) ys xs ≡ xs
 off_if true true xs ys e = absurd (cc)
@@ -69,22 +64,17 @@ off_if true false xs ys e = refl
 off_if false b xs ys e = refl
 
 on_if : (k b : Bool) (x : Entry) (xs : List Entry) → b ≡ true → length (cond (k && b) (xs ++ x ∷ []) xs) ≡ length xs + cond k 1 0
-on_if k true x xs e = on_case k x xs
-  where
-    on_case : (k : Bool) (x : Entry) (xs : List Entry) → length (cond (k && true) (xs ++ x ∷ []) xs) ≡ length xs + cond k 1 0
-    on_case true x xs = offer_here true x xs
-    on_case false x xs = offer_here false x xs
-on_if k false x xs e = absurd (cc)
+on_if true true x xs e = omega (arith, length-append xs (x ∷ []))
+on_if true false x xs e = absurd (cc)
+on_if false b x xs e = omega arith
 
 -- an offer that keeps adds one
 pub held_offered : (class : ℕ) (v : Verdict) (x : Entry) (old new : ℕ → List Entry) (cs : List ℕ) → IsOneOf class cs → AreDistinct cs
     → ((c : ℕ) → new c ≡ after_offer v class x old c) → held_in new cs ≡ held_in old cs + one_kept v
 held_offered class v x old new cs i d e =
-    let y : Grows class (one_kept v) 0 old new = record {
-      here = omega (arith, ap (λ (l : List Entry). length l) (e class), on_if (is_kept v) (class == class) x (old class) (eq-eqb class class refl));
-      other = λ c n. e c ∙ off_if (is_kept v) (class == c) (old c) (old c ++ x ∷ []) (ne_eqb class c n);
-    } in
-    omega (arith, counts class (one_kept v) 0 old new cs y i (d class))
+    let here = on_if (is_kept v) (class == class) x (old class) (eq-eqb class class refl) in
+    let all = one_changes class old new cs (λ c n. e c ∙ off_if (is_kept v) (class == c) (old c) (old c ++ x ∷ []) (ne_eqb class c n)) i (d class) in
+    omega (arith, all, here, ap (λ (l : List Entry). length l) (e class))
 
 rest_here : (b : Bool) (xs : List Entry) → b ≡ true → 0 < length xs → length (cond b (drop 1 xs) xs) + 1 ≡ length xs
 rest_here true [] e l = absurd (omega arith)
@@ -99,8 +89,6 @@ rest_other false xs ys e = refl
 pub held_sent : (class : ℕ) (old new : ℕ → List Entry) (cs : List ℕ) → IsOneOf class cs → AreDistinct cs → 0 < length (old class)
     → ((c : ℕ) → new c ≡ after_sent class old c) → held_in new cs + 1 ≡ held_in old cs
 held_sent class old new cs i d l e =
-    let y : Grows class 0 1 old new = record {
-      here = omega (arith, ap (λ (k : List Entry). length k) (e class), rest_here (class == class) (old class) (eq-eqb class class refl) l);
-      other = λ c n. e c ∙ rest_other (class == c) (old c) (drop 1 (old c)) (ne_eqb class c n);
-    } in
-    omega (arith, counts class 0 1 old new cs y i (d class))
+    let here = rest_here (class == class) (old class) (eq-eqb class class refl) l in
+    let all = one_changes class old new cs (λ c n. e c ∙ rest_other (class == c) (old c) (drop 1 (old c)) (ne_eqb class c n)) i (d class) in
+    omega (arith, all, here, ap (λ (k : List Entry). length k) (e class))

@@ -1,10 +1,9 @@
 pub mod Come
-pub mod CutLemmas
 pub mod GoingLemmas
 pub mod HeldLemmas
-pub mod Moves
 pub mod OfferLemmas
 pub mod PoolLemmas
 pub mod ReadLemmas
+pub mod SendLemmas
 pub mod StepLemmas
 pub mod TotalLemmas

@@ -1,5 +1,5 @@
 -- What is due under the clock is what comes next in the play.
-use Rattle.std.proofs.Common.{◌≡◌, ◌≤◌, ◌<◌, ◌∙◌, ℕ, Bool, true, false, cond, List, [], ◌∷◌, None, Some, refl, ap, sym, subst, inl, inr, arith}
+use Rattle.std.proofs.Common.{◌≡◌, ◌≤◌, ◌<◌, ◌∙◌, ℕ, min, Bool, true, false, cond, List, [], ◌∷◌, None, Some, refl, ap, sym, subst, inl, inr, arith}
 use Rattle.std.specs.Prelude.{slice_get, nat_le, option_map}
 use Rattle.std.specs.declared.option.Option.{Option}
 use Rattle.altq_model.specs.declared.Rule.{Rule}
@@ -114,13 +114,7 @@ start_later p t h c s (Some b) law held e f =
 lesser_later : (t s : ℕ) (a b : Option ℕ) → ((x : ℕ) → a ≡ Some x → t ≤ x) → ((x : ℕ) → b ≡ Some x → t ≤ x) → lesser a b ≡ Some s → t ≤ s
 lesser_later t s None b f g e = g s e
 lesser_later t s (Some x) None f g e = f s e
-lesser_later t s (Some x) (Some y) f g e =
-    let k = f x refl in
-    let l = g y refl in
-    least_of x y s k l e
-  where
-    least_of : (x y s : ℕ) → t ≤ x → t ≤ y → lesser (Some x) (Some y) ≡ Some s → t ≤ s
-    least_of x y s k l e = grind (arith, k, l, e)
+lesser_later t s (Some x) (Some y) f g e = let m : min x y ≡ s = cc in omega (arith, f x refl, g y refl)
 
 first_later : (p : Policy) (t : ℕ) (h : List Event) (cs : List ℕ) (s : ℕ) → IsLawful p → ((c : ℕ) → IsOneOf c cs → IsOneOf c p.classes)
     → first_at p t h cs ≡ Some s → t ≤ s

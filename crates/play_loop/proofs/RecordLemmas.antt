@@ -119,9 +119,9 @@ under_more F place dress names p stood lists limits rate v v' o kept x w told r 
     let R : List Coming → Type 0 = λ cs. AreRising cs in
     let T : Outputs → Type 0 = λ z. HasTexts v' z (departures dress (arrived ++ more) g) (fates (name_of names) (arrived ++ more) (journal g)) in
     record {
-      going = read_more p stood lists limits rate arrived more w x g m u.last
+      going = read_more more u.last
           (subst R (sym (comings_append arrived more)) (rises_on 0 (comings arrived) (coming_of b) y.rising (omega (arith, u.last_is, l))))
-          (omega (arith, length-append arrived more, few)) y;
+          (omega (arith, length-append arrived more, few)) (record { promised = m; going = y });
       given = subst T (sym same) (texts_same v' _ _ _ _ _ _ _ _
           (ap written (sym (records_stay dress arrived more g laws.of_arrivals)))
           (ap (λ (t : List ℕ). fates_header ++ t) (sym (rows_stay (name_of names) arrived more g laws.of_arrivals)))

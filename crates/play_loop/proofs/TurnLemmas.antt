@@ -71,7 +71,7 @@ pub counts_up : (p q : Policy) (stood stood' : List Happened → Type 0) (lists 
     → IsGoing q stood' lists' limits' rate' arrived w x' (departs d ∷ g) → CountsUp x.totals x'.totals
 counts_up p q stood stood' lists lists' limits limits' rate rate' arrived w x x' g d m y z = record {
   sent = omega (arith, y.totals.sent, z.totals.sent, sent_push (journal g) (d.packet.number, fate.Sent d.start d.end d.rule));
-  within = (few_counts q stood' lists' limits' rate' arrived w x' (departs d ∷ g) m z).sent;
+  within = (few_counts (record { promised = m; going = z })).sent;
 }
 
 pub same_begun : (p q : Policy) (r s seed : ℕ) (cs : List Coming) (g : List Happened) → p ≡ q → r ≡ s → IsBegun p r seed cs g → IsBegun q s seed cs g

@@ -202,7 +202,7 @@ returns-in-Whole-clause-done g c =
     let H : List Arrival → Type 0 = λ a. AreHeld (g.D.Discipline.policy c.args.discipline.now) (comings a) in
     let K : Policy → Type 0 = λ p. AreHeld p (comings e.0) in
     let held = subst K (sym c.in-Ok-play_records.ensures.policy) (subst H (sym all.arrivals) (arrivals_held (g.D.Discipline.policy c.args.discipline.now) (g.C.Classify.placed c.args.classify.now) all.records c.requires.held)) in
-    let end = finished (g.D.Discipline.policy c.play_records.new.discipline) _ _ _ _ e.0 c.play_records.new.words c.play_records.new.progress e.1 n held nothing e.2.going in
+    let end = finished (record { promised = n; going = e.2.going }) held nothing in
     let ours = same_play (λ (p : Policy) (k q : ℕ). IsFinished p k q e.0 e.1 c.play_records.new.progress.totals) _ _ _ _ _ _ c.in-Ok-play_records.ensures.policy (c.in-Ok-play_records.ensures.rate ∙ c.in-Ok-begin.ensures.rate) c.in-Ok-play_records.ensures.seed end in
     let C : List Arrival → Type 0 = λ a. HasCounted x.names a (journal e.1) c.finish.new.outputs.counts.items in
     let G : List Counts → Type 0 = λ k. HasCounted x.names e.0 (journal e.1) k in
@@ -241,7 +241,7 @@ returns-in-Whole-clause-decided g c =
     let nothing = same_play (λ (p : Policy) (k q : ℕ). due p k q (comings e.0) e.1 ≡ None) (g.D.Discipline.policy c.args.discipline.now) (g.D.Discipline.policy c.play_records.new.discipline) c.in-Ok-begin.progress.clock.rate c.play_records.new.progress.clock.rate c.args.words.now.seed c.play_records.new.words.seed (sym c.in-Ok-play_records.ensures.policy) (sym c.in-Ok-play_records.ensures.rate) (sym c.in-Ok-play_records.ensures.seed) d.done in
     let K : Policy → Type 0 = λ p. AreHeld p (comings e.0) in
     let held = subst K (sym c.in-Ok-play_records.ensures.policy) (fit_held (g.D.Discipline.policy c.args.discipline.now) (g.C.Classify.placed c.args.classify.now) e.0 c.requires.held e.2.fit) in
-    let end = finished (g.D.Discipline.policy c.play_records.new.discipline) _ _ _ _ e.0 c.play_records.new.words c.play_records.new.progress e.1 n held nothing e.2.going in
+    let end = finished (record { promised = n; going = e.2.going }) held nothing in
     let ours = same_play (λ (p : Policy) (k q : ℕ). IsFinished p k q e.0 e.1 c.play_records.new.progress.totals) _ _ _ _ _ _ c.in-Ok-play_records.ensures.policy (c.in-Ok-play_records.ensures.rate ∙ c.in-Ok-begin.ensures.rate) c.in-Ok-play_records.ensures.seed end in
     let T : Totals → Type 0 = λ k. IsFinished (g.D.Discipline.policy c.args.discipline.now) c.args.rate c.args.words.now.seed e.0 e.1 k in
     record { arrived = e.0; history = e.1; play = subst T (sym c.totals.ensures) ours; told = e.2.was_told }

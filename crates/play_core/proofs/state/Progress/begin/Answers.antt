@@ -2,15 +2,14 @@ use Rattle.std.proofs.Common.{◌≡◌, ◌∙◌, ℕ, [], refl, ap, sym, subs
 use Rattle.link_clock.specs.Clock.{Clock}
 use Rattle.discipline.specs.Laws.{HasRate}
 use Rattle.play_core.proofs.HeldLemmas.{held_none}
-use Rattle.play_core.proofs.GoingLemmas.{no_tickets}
 use Rattle.play_core.proofs.state.Progress.begin.Goals as goal
 
 pub returns-clause-going : goal.returns-clause-going
 returns-clause-going g c = λ arrived w d rise few.
     let same : c.new.result.rate ≡ c.args.rate = ap (λ (k : Clock). k.rate) c.new.ensures in
     let R : ℕ → Type 0 = λ k. HasRate (g.D.Discipline.link_rate c.args.discipline.now) k in
-    let none = held_none (g.D.Discipline.lists c.args.discipline.now) (g.D.Discipline.policy c.args.discipline.now).classes (λ k.
-    no_tickets (g.D.Discipline.lists c.args.discipline.now k) (g.met.D.Discipline.shows c.args.discipline.now [] c.requires.new k).labels) in
+    let none = held_none (g.D.Discipline.lists c.args.discipline.now) (g.D.Discipline.policy c.args.discipline.now).classes
+    (λ k. (g.met.D.Discipline.shows c.args.discipline.now [] c.requires.new k).labels) in
     record {
       begun = record { events = tt; in_time = tt };
       rising = rise;

@@ -1,16 +1,19 @@
 use Rattle.std.proofs.Common.{◌≡◌, ◌+◌, ◌∙◌, ℕ, List, refl, ap, arith}
-use Rattle.altq_model.specs.declared.Placed.{Placed}
 use Rattle.altq_model.specs.declared.Verdict.{Verdict}
 use Rattle.altq_model.specs.Arrivals.{Arrival, coming_of}
-use Rattle.altq_model.specs.History.{Event, Happened, bare, offered}
-use Rattle.altq_model.specs.Play.{Policy}
+use Rattle.altq_model.specs.History.{DrawnWords, Event, Happened, bare, offered}
 use Rattle.play_base.specs.declared.packet.Packet.{Packet}
-use Rattle.discipline.specs.Laws.{entry}
-use Rattle.play_core.specs.Turns.{handed_back}
-use Rattle.play_core.proofs.Moves.{before_by}
-use Rattle.play_core.proofs.GoingLemmas.{IsPromised, few_counts, renamed, within_old}
-use Rattle.play_core.proofs.OfferLemmas.{same_taken, may_offer, is_coming, going_offered, answered, history_for, same_coming, sized, most_lost, lost}
+use Rattle.discipline.specs.Laws.{IsAnswer, entry}
+use Rattle.play_core.specs.declared.state.Progress.{Progress}
+use Rattle.play_core.specs.Turns.{Offers, handed_back}
+use Rattle.play_core.proofs.GoingLemmas.{Going, Goes, goes_by, few_counts, state}
+use Rattle.play_core.proofs.OfferLemmas.{answered, going_offered, is_coming, is_later, lost, most_lost}
+use Rattle.play_core.proofs.state.Progress.offer.Given.{Over}
 use Rattle.play_core.proofs.state.Progress.offer.Goals as goal
+
+abbrev goes : (g : Over) (d : g.row.D.Denot) {arrived : List Arrival} {w : DrawnWords} {x : Progress} {h : List Happened} → Going (state g.D.Discipline d w x) arrived h
+    → Goes (state g.D.Discipline d w x) arrived h
+goes g d y = goes_by g.D.Discipline d g.met.D.Discipline.lawful g.met.D.Discipline.steady g.met.D.Discipline.distinct y
 
 pub offer-verdict-requires-clause-few : goal.offer-verdict-requires-clause-few
 offer-verdict-requires-clause-few g c =
@@ -22,57 +25,38 @@ offer-verdict-requires-clause-few g c =
 pub offer-verdict-requires-clause-later : goal.offer-verdict-requires-clause-later
 offer-verdict-requires-clause-later g c =
     let y = c.requires.next.3 in
-    let m : IsPromised (g.D.Discipline.policy c.args.discipline.now) c.args.self.now.clock.rate = record {
-      positive = omega (arith, c.args.self.now.least);
-      lawful = g.met.D.Discipline.lawful c.args.discipline.now y.told y.stands;
-      steady = g.met.D.Discipline.steady c.args.discipline.now y.told y.stands;
-      distinct = g.met.D.Discipline.distinct c.args.discipline.now y.told y.stands;
-    } in
-    let a : Arrival = c.requires.next.2 in
-    let o = may_offer _ _ _ _ _ c.requires.next.0 c.args.words.now c.args.self.now c.requires.next.1 a m y c.requires.next.4.next.there
-    (sized (offered (bare c.requires.next.1) + 1) a c.args.packet c.requires.next.4.packet_is c.requires.some c.requires.short) in
-    let l = g.met.D.Discipline.moments c.args.discipline.now y.told y.stands a.at o.arrived (before_by a.at (bare y.told) o.started) in
+    let later = is_later (goes g c.args.discipline.now y) c.requires.next.4.next.there in
+    let l = g.met.D.Discipline.moments c.args.discipline.now y.told y.stands c.requires.next.2.at later.arrived later.by in
     omega (arith, l, ap (λ (k : Packet). k.at) c.requires.next.4.packet_is)
 
 pub overflow_add-self-2 : goal.overflow_add-self-2
 overflow_add-self-2 g c =
-    let y = c.requires.next.3 in
-    let m : IsPromised (g.D.Discipline.policy c.args.discipline.now) c.args.self.now.clock.rate = record {
-      positive = omega (arith, c.args.self.now.least);
-      lawful = g.met.D.Discipline.lawful c.args.discipline.now y.told y.stands;
-      steady = g.met.D.Discipline.steady c.args.discipline.now y.told y.stands;
-      distinct = g.met.D.Discipline.distinct c.args.discipline.now y.told y.stands;
-    } in
-    let f = few_counts _ _ _ _ _ c.requires.next.0 c.args.words.now c.args.self.now c.requires.next.1 m y in
-    let l = most_lost c.settle-dropped.result in
-    grind (arith, f.dropped, l, c.lost.ensures)
+    let f = few_counts (goes g c.args.discipline.now c.requires.next.3) in
+    grind (arith, f.dropped, most_lost c.settle-dropped.result, c.lost.ensures)
+
+-- the answer was the policy's
+answer : (g : Over) (c : goal.After-self-3-1 g) (arrived : List Arrival) (h : List Happened) (a : Arrival)
+    → Going (state g.D.Discipline c.args.discipline.now c.args.words.now c.args.self.now) arrived h
+    → Offers (g.D.Discipline.policy c.args.discipline.now) c.args.self.now.clock.rate c.args.words.now.seed arrived h a c.args.packet c.args.placed
+    → IsAnswer (g.D.Discipline.policy c.args.discipline.now) (bare h) c.args.words.now (coming_of a) c.offer-verdict.result c.offer-verdict.new.words
+answer g c arrived h a y o =
+    answered {stood = g.D.Discipline.stands c.offer-verdict.new.self} (goes g c.args.discipline.now y) o
+    (record { history = c.offer-verdict.ensures.history; sized = record { least = c.requires.some; most = c.requires.short } })
 
 pub returns-clause-offered : goal.returns-clause-offered
-returns-clause-offered g c = λ arrived g' a y o.
-    let m : IsPromised (g.D.Discipline.policy c.args.discipline.now) c.args.self.now.clock.rate = record {
-      positive = omega (arith, c.args.self.now.least);
-      lawful = g.met.D.Discipline.lawful c.args.discipline.now y.told y.stands;
-      steady = g.met.D.Discipline.steady c.args.discipline.now y.told y.stands;
-      distinct = g.met.D.Discipline.distinct c.args.discipline.now y.told y.stands;
-    } in
-    let p : Policy = g.D.Discipline.policy c.args.discipline.now in
+returns-clause-offered g c = λ arrived h a y o.
     let e = c.offer-verdict.ensures in
     let s = c.settle-dropped.ensures in
     let put = c.put-ticket.ensures in
     let back : c.settle-dropped.result ≡ handed_back c.offer-verdict.result c.args.packet = s.told c.args.packet put.put in
     let few = c.lost.ensures ∙ lost c.settle-dropped.result c.offer-verdict.result c.args.packet back in
-    renamed p _ _ _ _ _ _ _ arrived c.offer-verdict.new.words _ _ e.policy e.limits e.rate
-    (going_offered p _ _ _ _ (g.D.Discipline.limits c.args.discipline.now) _ arrived c.args.words.now c.offer-verdict.new.words c.args.self.now _ g' a c.args.packet c.args.placed
-    c.put-ticket.result c.offer-verdict.result m y o
-    (sized (offered (bare g') + 1) a c.args.packet o.packet_is c.requires.some c.requires.short)
-    (same_taken _ _ _ _ _ p _ _ _ _ c.args.placed.class a.class c.args.packet.at a.at _ (coming_of a) c.args.packet c.put-ticket.result c.offer-verdict.result
-    (ap (λ (k : Placed). k.class) o.placed_is) (ap (λ (k : Packet). k.at) o.packet_is)
-    (same_coming (offered (bare g') + 1) a c.args.packet c.args.placed o.packet_is o.placed_is) (record {
+    going_offered {t = state g.D.Discipline c.offer-verdict.new.self c.offer-verdict.new.words _} (goes g c.args.discipline.now y) o (record {
+      kind = record { policy = e.policy; limits = e.limits; rate = e.rate };
       entry = entry c.put-ticket.result c.args.packet.len c.args.placed.prec;
-      history = e.history;
+      answers = record { history = e.history; sized = record { least = c.requires.some; most = c.requires.short } };
       one_of = c.requires.class;
       lists_are = e.lists;
-      within = within_old p _ _ _ _ e.policy e.limits e.within;
+      within = e.within;
       clock_is = refl;
       latest_is = refl;
       arrived = refl;
@@ -86,39 +70,11 @@ returns-clause-offered g c = λ arrived g' a y o.
       mark = s.mark;
       count = omega (arith, s.count, put.count);
       room = s.room ∙ put.room;
-    }))).going
+    })
 
 pub returns-clause-told : goal.returns-clause-told
-returns-clause-told g c = λ arrived g' a y o.
-    let m : IsPromised (g.D.Discipline.policy c.args.discipline.now) c.args.self.now.clock.rate = record {
-      positive = omega (arith, c.args.self.now.least);
-      lawful = g.met.D.Discipline.lawful c.args.discipline.now y.told y.stands;
-      steady = g.met.D.Discipline.steady c.args.discipline.now y.told y.stands;
-      distinct = g.met.D.Discipline.distinct c.args.discipline.now y.told y.stands;
-    } in
-    let p : Policy = g.D.Discipline.policy c.args.discipline.now in
-    let after : List Happened → Type 0 = g.D.Discipline.stands c.offer-verdict.new.self in
-    let r = answered p _ after _ _ _ arrived c.args.words.now c.offer-verdict.new.words c.args.self.now g' a c.put-ticket.result c.offer-verdict.result m y o.next.there
-    (sized (offered (bare g') + 1) a c.args.packet o.packet_is c.requires.some c.requires.short)
-    (history_for p (g.D.Discipline.stands c.args.discipline.now) after _ _ c.put-ticket.result c.offer-verdict.result _ (coming_of a)
-    (same_coming (offered (bare g') + 1) a c.args.packet c.args.placed o.packet_is o.placed_is) c.offer-verdict.ensures.history) in
-    c.settle-dropped.ensures.told c.args.packet c.put-ticket.ensures.put ∙ ap (λ (v : Verdict). handed_back v c.args.packet) r.verdict
+returns-clause-told g c = λ arrived h a y o.
+    c.settle-dropped.ensures.told c.args.packet c.put-ticket.ensures.put ∙ ap (λ (v : Verdict). handed_back v c.args.packet) (answer g c arrived h a y o).verdict
 
 pub returns-clause-seed : goal.returns-clause-seed
-returns-clause-seed g c =
-    let arrived : List Arrival = c.requires.next.0 in
-    let a : Arrival = c.requires.next.2 in
-    let y = c.requires.next.3 in
-    let o = c.requires.next.4 in
-    let m : IsPromised (g.D.Discipline.policy c.args.discipline.now) c.args.self.now.clock.rate = record {
-      positive = omega (arith, c.args.self.now.least);
-      lawful = g.met.D.Discipline.lawful c.args.discipline.now y.told y.stands;
-      steady = g.met.D.Discipline.steady c.args.discipline.now y.told y.stands;
-      distinct = g.met.D.Discipline.distinct c.args.discipline.now y.told y.stands;
-    } in
-    let p : Policy = g.D.Discipline.policy c.args.discipline.now in
-    let after : List Happened → Type 0 = g.D.Discipline.stands c.offer-verdict.new.self in
-    (answered p _ after _ _ _ arrived c.args.words.now c.offer-verdict.new.words c.args.self.now c.requires.next.1 a c.put-ticket.result c.offer-verdict.result m y o.next.there
-    (sized (offered (bare c.requires.next.1) + 1) a c.args.packet o.packet_is c.requires.some c.requires.short)
-    (history_for p (g.D.Discipline.stands c.args.discipline.now) after _ _ c.put-ticket.result c.offer-verdict.result _ (coming_of a)
-    (same_coming (offered (bare c.requires.next.1) + 1) a c.args.packet c.args.placed o.packet_is o.placed_is) c.offer-verdict.ensures.history)).seed
+returns-clause-seed g c = let n = c.requires.next in (answer g c n.0 n.1 n.2 n.3 n.4).words.seed
