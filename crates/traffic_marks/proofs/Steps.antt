@@ -1,6 +1,6 @@
 -- What stands at a place of a capture, of what is read there: the size of the file, the numbers of the header, and the bytes behind
 -- it.
-use Rattle.std.proofs.Common.{◌≡◌, ◌≤◌, ◌+◌, ◌*◌, ◌^◌, ◌∙◌, ap, ℕ, List, length, take, drop, Bool, true, false, refl, arith, sym}
+use Rattle.std.proofs.Common.{◌≡◌, ◌≤◌, ◌+◌, ◌*◌, ◌^◌, ◌∙◌, ap, ℕ, List, [], ◌∷◌, length, take, drop, Bool, true, false, refl, arith, sym}
 use Rattle.std.specs.Prelude.{if◌then◌else◌, ◌==◌, ◌&&◌, ◌||◌, nat_le, nat_lt, None, Some}
 use Rattle.std.specs.declared.option.Option.{Option}
 use Rattle.std.specs.Int.{w16, w32, from_be_bytes, from_le_bytes}
@@ -25,10 +25,33 @@ seen form bytes at = record {
   original = word form.big bytes (at + 12);
 }
 
+-- what stands where no record does
+pub data Stop : Type 0 where
+  AtEnd : Stop
+  AtLimit : Stop
+  AtFault : Damage → Stop
+
+abbrev stopped : Stop → Step
+stopped AtEnd = End
+stopped AtLimit = Limit
+stopped (AtFault d) = Fault d
+
+-- the first test that holds says what stands there
+abbrev tested : List (Bool × Stop) → (last : Step) → Step
+tested [] last = last
+tested (t ∷ ts) last = if t.0 then stopped t.1 else tested ts last
+
 -- the tests, in their order
-abbrev tested : (a b c d e f g : Bool) (p q r s : Damage) → Step → Step
-tested a b c d e f g p q r s last =
-    if a then End else if b then Limit else if c then Fault p else if d then Fault q else if e then Fault r else if f then Limit else if g then Fault s else last
+abbrev tests : (count at : ℕ) → Seen → List (Bool × Stop)
+tests count at s =
+    (nat_le s.size at, AtEnd)
+    ∷ (count == most_records, AtLimit)
+    ∷ (nat_lt s.size (at + 16), AtFault (damage at ShortRecord))
+    ∷ (nat_lt longest s.captured || nat_lt longest s.original, AtFault (damage at LongRecord))
+    ∷ ((s.captured == 0) && (s.original == 0), AtFault (damage at EmptyRecord))
+    ∷ (nat_lt most_bytes (at + 16 + s.captured), AtLimit)
+    ∷ (nat_lt s.size (at + 16 + s.captured), AtFault (damage at ShortRecord))
+    ∷ []
 
 abbrev record_of : Form → Seen → (tail : List ℕ) → Record
 record_of form s tail = record {
@@ -38,11 +61,7 @@ record_of form s tail = record {
 }
 
 abbrev pub stepped : Form → (count at : ℕ) → Seen → (tail : List ℕ) → Step
-stepped form count at s tail =
-    tested (nat_le s.size at) (count == most_records) (nat_lt s.size (at + 16)) (nat_lt longest s.captured || nat_lt longest s.original)
-    ((s.captured == 0) && (s.original == 0)) (nat_lt most_bytes (at + 16 + s.captured)) (nat_lt s.size (at + 16 + s.captured))
-    (damage at ShortRecord) (damage at LongRecord) (damage at EmptyRecord) (damage at ShortRecord)
-    (Next (record_of form s tail) (at + 16 + s.captured))
+stepped form count at s tail = tested (tests count at s) (Next (record_of form s tail) (at + 16 + s.captured))
 
 abbrev captured_in : Step → (other : List ℕ) → List ℕ
 captured_in (Next r after) other = r.captured
@@ -57,23 +76,20 @@ after_in (Fault d) other = other
 after_in Limit other = other
 
 -- a record comes where all tests fail
-only_last : (a b c d e f g : Bool) (p q r s : Damage) (last : Step) (x : Record) (n : ℕ) → tested a b c d e f g p q r s last ≡ Next x n → last ≡ Next x n
-only_last true b c d e f g p q r s last x n h = absurd (cc)
-only_last false true c d e f g p q r s last x n h = absurd (cc)
-only_last false false true d e f g p q r s last x n h = absurd (cc)
-only_last false false false true e f g p q r s last x n h = absurd (cc)
-only_last false false false false true f g p q r s last x n h = absurd (cc)
-only_last false false false false false true g p q r s last x n h = absurd (cc)
-only_last false false false false false false true p q r s last x n h = absurd (cc)
-only_last false false false false false false false p q r s last x n h = h
+past_test : (b : Bool) (stop : Stop) (rest : Step) (x : Record) (n : ℕ) → (if b then stopped stop else rest) ≡ Next x n → rest ≡ Next x n
+past_test true AtEnd rest x n h = absurd (cc)
+past_test true AtLimit rest x n h = absurd (cc)
+past_test true (AtFault d) rest x n h = absurd (cc)
+past_test false stop rest x n h = h
+
+only_last : (ts : List (Bool × Stop)) (last : Step) (x : Record) (n : ℕ) → tested ts last ≡ Next x n → last ≡ Next x n
+only_last [] last x n h = h
+only_last (t ∷ ts) last x n h = only_last ts last x n (past_test t.0 t.1 (tested ts last) x n h)
 
 pub is_next : (form : Form) (count at : ℕ) (s : Seen) (tail : List ℕ) (x : Record) (n : ℕ) → stepped form count at s tail ≡ Next x n
     → (x.captured ≡ take s.captured tail) × (n ≡ at + 16 + s.captured)
 is_next form count at s tail x n h =
-    let last = only_last (nat_le s.size at) (count == most_records) (nat_lt s.size (at + 16)) (nat_lt longest s.captured || nat_lt longest s.original)
-    ((s.captured == 0) && (s.original == 0)) (nat_lt most_bytes (at + 16 + s.captured)) (nat_lt s.size (at + 16 + s.captured))
-    (damage at ShortRecord) (damage at LongRecord) (damage at EmptyRecord) (damage at ShortRecord)
-    (Next (record_of form s tail) (at + 16 + s.captured)) x n h in
+    let last = only_last (tests count at s) (Next (record_of form s tail) (at + 16 + s.captured)) x n h in
     (sym (ap (λ (t : Step). captured_in t x.captured) last), sym (ap (λ (t : Step). after_in t n) last))
 
 -- the same record with other captured bytes
@@ -83,25 +99,22 @@ recapture frame End = End
 recapture frame (Fault d) = Fault d
 recapture frame Limit = Limit
 
-through : (a b c d e f g : Bool) (p q r s : Damage) (last : Step) (frame : List ℕ)
-    → recapture frame (tested a b c d e f g p q r s last) ≡ tested a b c d e f g p q r s (recapture frame last)
-through true b c d e f g p q r s last frame = refl
-through false true c d e f g p q r s last frame = refl
-through false false true d e f g p q r s last frame = refl
-through false false false true e f g p q r s last frame = refl
-through false false false false true f g p q r s last frame = refl
-through false false false false false true g p q r s last frame = refl
-through false false false false false false true p q r s last frame = refl
-through false false false false false false false p q r s last frame = refl
+through_test : (b : Bool) (stop : Stop) (rest : Step) (frame : List ℕ)
+    → recapture frame (if b then stopped stop else rest) ≡ (if b then stopped stop else recapture frame rest)
+through_test true AtEnd rest frame = refl
+through_test true AtLimit rest frame = refl
+through_test true (AtFault d) rest frame = refl
+through_test false stop rest frame = refl
+
+through : (ts : List (Bool × Stop)) (last : Step) (frame : List ℕ) → recapture frame (tested ts last) ≡ tested ts (recapture frame last)
+through [] last frame = refl
+through (t ∷ ts) last frame =
+    through_test t.0 t.1 (tested ts last) frame ∙ ap (λ (s : Step). if t.0 then stopped t.1 else s) (through ts last frame)
 
 -- other bytes behind the header
 other_tail : (form : Form) (count at : ℕ) (s : Seen) (tail other : List ℕ)
     → recapture (take s.captured other) (stepped form count at s tail) ≡ stepped form count at s other
-other_tail form count at s tail other =
-    through (nat_le s.size at) (count == most_records) (nat_lt s.size (at + 16)) (nat_lt longest s.captured || nat_lt longest s.original)
-    ((s.captured == 0) && (s.original == 0)) (nat_lt most_bytes (at + 16 + s.captured)) (nat_lt s.size (at + 16 + s.captured))
-    (damage at ShortRecord) (damage at LongRecord) (damage at EmptyRecord) (damage at ShortRecord)
-    (Next (record_of form s tail) (at + 16 + s.captured)) (take s.captured other)
+other_tail form count at s tail other = through (tests count at s) (Next (record_of form s tail) (at + 16 + s.captured)) (take s.captured other)
 
 -- lists that begin alike
 pub part_same : (n k m : ℕ) (x y : List ℕ) → take n x ≡ take n y → k + m ≤ n → take m (drop k x) ≡ take m (drop k y)
