@@ -1,6 +1,6 @@
 -- What a marker holds once it has taken bytes from a file.
-use Rattle.std.proofs.Common.{◌≡◌, ◌≤◌, ◌<◌, ◌+◌, ◌∙◌, ap, ℕ, List, [], ◌++◌, length, refl, arith, sym, subst, inl, inr, append_assoc, append-nil, length-append}
-use Rattle.std.specs.Prelude.{IsSome, Some, min}
+use Rattle.std.proofs.Common.{◌≡◌, ◌≤◌, ◌<◌, ◌+◌, ◌∙◌, ap, ℕ, List, [], ◌++◌, length, arith, sym, subst, inl, inr, append_assoc, append-nil, length-append}
+use Rattle.std.specs.Prelude.{IsSome, min}
 use Rattle.std.proofs.lemmas.List.{nil_from_length}
 use Rattle.altq_model.specs.declared.Placed.{Placed}
 use Rattle.play_base.specs.View.{View, IsAtEnd, Took, Unchanged}
@@ -88,46 +88,39 @@ filled_stuck v w file m n s f =
     stuck m n m.stage m.course [] (m.held.pending ++ []) f.came (subst (HoldsNone m.stage m.course) (sym (append-nil m.held.pending)) s.none)
     (omega (arith, s.room, length-append m.held.pending []))
 
--- a turn of a marker: it advances to a marking that the code has by its parts, and bytes are taken
-pub record Turn {C : Type 0} (placed : C → List ℕ → Placed) (v w : View) (file : ℕ) (m a b n : Marking C) (more : List ℕ) : Type 0 where
-  pub advanced : HasAdvanced placed m a
-  pub is : b ≡ a
+-- a turn of a marker: it advances, and bytes are taken
+pub record Turn {C : Type 0} (placed : C → List ℕ → Placed) (v w : View) (file : ℕ) (m b n : Marking C) (more : List ℕ) : Type 0 where
+  pub advanced : HasAdvanced placed m b
   pub filled : Filled v w file b n more
 
-advanced_by : {C : Type 0} (placed : C → List ℕ → Placed) (m a b : Marking C) → b ≡ a → HasAdvanced placed m a → HasAdvanced placed m b
+-- to a marking that the code has by its parts
+pub advanced_by : {C : Type 0} (placed : C → List ℕ → Placed) (m a b : Marking C) → b ≡ a → HasAdvanced placed m a → HasAdvanced placed m b
 advanced_by placed m a b is h = subst (HasAdvanced placed m) (sym is) h
 
-pub turn_taken : {C : Type 0} (placed : C → List ℕ → Placed) (v w : View) (file : ℕ) (m a b n : Marking C) (more : List ℕ) → Turn placed v w file m a b n more
+pub turn_taken : {C : Type 0} (placed : C → List ℕ → Placed) (v w : View) (file : ℕ) (m b n : Marking C) (more : List ℕ) → Turn placed v w file m b n more
     → HasTaken placed v w file m n
-turn_taken placed v w file m a b n more t =
-    taken_more placed v v w file m b n (keeps_taken placed v file m b (advanced_by placed m a b t.is t.advanced).keeps) (filled_taken placed v w file b n more t.filled)
+turn_taken placed v w file m b n more t =
+    taken_more placed v v w file m b n (keeps_taken placed v file m b t.advanced.keeps) (filled_taken placed v w file b n more t.filled)
 
--- one in which the read failed
-pub turn_failed : {C : Type 0} (placed : C → List ℕ → Placed) (v w : View) (file : ℕ) (m a b n : Marking C) → HasAdvanced placed m a → b ≡ a → IsSome (v.part file)
-    → Unchanged v w → length b.held.ready ≡ 0 → Comes b n b.stage b.course [] b.held.pending → Turn placed v w file m a b n []
-turn_failed placed v w file m a b n advanced is there same none j = record {
-  advanced = advanced;
-  is = is;
-  filled = record {
-    took = took_unchanged v v w file [] there (took_nothing v file) same;
-    none = none;
-    came = record { stage = j.stage; course = j.course; ready = j.ready; pending = j.pending ∙ sym (append-nil b.held.pending); classes = j.classes };
-  };
+-- where the read failed, none was taken
+pub filled_nothing : {C : Type 0} (v w : View) (file : ℕ) (b n : Marking C) → IsSome (v.part file) → Unchanged v w → length b.held.ready ≡ 0
+    → Comes b n b.stage b.course [] b.held.pending → Filled v w file b n []
+filled_nothing v w file b n there same none j = record {
+  took = took_unchanged v v w file [] there (took_nothing v file) same;
+  none = none;
+  came = record { stage = j.stage; course = j.course; ready = j.ready; pending = j.pending ∙ sym (append-nil b.held.pending); classes = j.classes };
 }
 
 -- one in which no byte was taken
-pub turn_waits : {C : Type 0} (placed : C → List ℕ → Placed) (v w : View) (file : ℕ) (m a b n : Marking C) → Turn placed v w file m a b n [] → HasGivenAll n
-turn_waits placed v w file m a b n t = record {
-  ready = t.filled.came.ready;
-  none = (filled_stuck v w file b n (advanced_by placed m a b t.is t.advanced).stuck t.filled).none;
-}
+pub turn_waits : {C : Type 0} (placed : C → List ℕ → Placed) (v w : View) (file : ℕ) (m b n : Marking C) → Turn placed v w file m b n [] → HasGivenAll n
+turn_waits placed v w file m b n t = record { ready = t.filled.came.ready; none = (filled_stuck v w file b n t.advanced.stuck t.filled).none }
 
 -- the last one, at the file's end
-pub turn_ended : {C : Type 0} (placed : C → List ℕ → Placed) (v w : View) (file : ℕ) (m a b n e : Marking C) (more : List ℕ) → Turn placed v w file m a b n more → more ≡ []
+pub turn_ended : {C : Type 0} (placed : C → List ℕ → Placed) (v w : View) (file : ℕ) (m b n e : Marking C) (more : List ℕ) → Turn placed v w file m b n more → more ≡ []
     → IsAtEnd w file → Comes n e Rest n.course (n.held.ready ++ n.held.pending) [] → HasTaken placed v w file m e
-turn_ended placed v w file m a b n e more t none ended j =
-    let still = filled_stuck v w file b n (advanced_by placed m a b t.is t.advanced).stuck (subst (Filled v w file b n) none t.filled) in
-    taken_more placed v w w file m n e (turn_taken placed v w file m a b n more t) (ended_taken placed w file n e still ended j)
+turn_ended placed v w file m b n e more t none ended j =
+    let still = filled_stuck v w file b n t.advanced.stuck (subst (Filled v w file b n) none t.filled) in
+    taken_more placed v w w file m n e (turn_taken placed v w file m b n more t) (ended_taken placed w file n e still ended j)
 
 -- a marking of which these bytes were given
 pub record Gave {C : Type 0} (m n : Marking C) (bytes : List ℕ) : Type 0 where

@@ -11,12 +11,13 @@ use Rattle.capture_model.specs.Capture as capture
 use Rattle.capture_model.proofs.OutcomeLemmas.{next_place, outcome_ends, reads_outcome}
 use Rattle.pcap_files.proofs.PlaceLemmas.{step_here}
 use Rattle.pcap_files.specs.Stand.{stand_at, step_of}
+use Rattle.pcap_files.specs.declared.stand.Stand.{Stand as Standing}
 use Rattle.pcap_files.specs.declared.stand.Stand.TheVariants.{End, Limit, Damaged, Headed}
 use Rattle.traffic_marks.proofs.Lengths.{length-marked_frame}
 use Rattle.traffic_marks.proofs.Steps.{formed_whole}
 use Rattle.traffic_meter.specs.declared.rule.MeterRule.{MeterRule}
-use Rattle.traffic_marks.specs.Marked.{frames, marked, marked_frame, marked_frames, metered, rule_of, with_frames}
-use Rattle.marked_files.specs.Courses.{Course, MakesMarked, begun, behind_head, frame_in, made, marked_record, passed, records_from}
+use Rattle.traffic_marks.specs.Marked.{frames, marked_frame, marked_frames, metered, rule_of, with_frames}
+use Rattle.marked_files.specs.Courses.{Course, MakesMarked, begun, behind_head, frame_in, marked_record, passed, records_from}
 use Rattle.marked_files.specs.Heads.{headed, whole}
 use Rattle.marked_files.specs.Metering.{conditioners_from, frame_by, meter_of, meters_after}
 use Rattle.marked_files.specs.declared.record_head.RecordHead.{RecordHead}
@@ -75,30 +76,37 @@ agree_whole false count at xs stamp captured original h more =
       more = more;
     }
 
--- over the tests of a header in their order
-agree : (a b c d e f : Bool) (count at : ℕ) (xs : List ℕ) (stamp captured original : ℕ) → (a ≡ true → c ≡ true) → (count == most_records) ≡ b
-    → Agrees (step_of (if a then End else if b then Limit else if c then Damaged ShortRecord else if d then Damaged LongRecord else if e then Damaged EmptyRecord else if f then Limit else Headed stamp captured original) at xs) count xs
-    (whole (if c then None else if b then None else if d then None else if e then None else if f then None else Some (record { stamp = stamp; captured = captured; original = original })) xs)
-agree true b true d e f count at xs stamp captured original none more = refl
-agree true b false d e f count at xs stamp captured original none more = absurd (not_both refl (none refl))
-agree false true true d e f count at xs stamp captured original none more = refl
-agree false true false d e f count at xs stamp captured original none more = refl
-agree false false true d e f count at xs stamp captured original none more = refl
-agree false false false true e f count at xs stamp captured original none more = refl
-agree false false false false true f count at xs stamp captured original none more = refl
-agree false false false false false true count at xs stamp captured original none more = refl
-agree false false false false false false count at xs stamp captured original none more =
-    agree_whole (nat_lt (length xs) (16 + captured)) count at xs stamp captured original refl more
+-- the first three tests, which the reading makes in another order
+agree_first : (none many short : Bool) (count at : ℕ) (xs : List ℕ) (there : Standing) (found : Option RecordHead) → (none ≡ true → short ≡ true)
+    → (many ≡ false → Agrees (step_of there at xs) count xs (whole found xs))
+    → Agrees (step_of (if none then End else if many then Limit else if short then Damaged ShortRecord else there) at xs) count xs
+    (whole (if short then None else if many then None else found) xs)
+agree_first true many true count at xs there found follows rest = refl
+agree_first true many false count at xs there found follows rest = absurd (not_both refl (follows refl))
+agree_first false true true count at xs there found follows rest = refl
+agree_first false true false count at xs there found follows rest = refl
+agree_first false false true count at xs there found follows rest = refl
+agree_first false false false count at xs there found follows rest = rest refl
+
+-- and each of the others: where it holds, the reading stops too
+agree_test : (b : Bool) (stop there : Standing) (count at : ℕ) (xs : List ℕ) (found : Option RecordHead) → Agrees (step_of stop at xs) count xs None
+    → Agrees (step_of there at xs) count xs (whole found xs)
+    → Agrees (step_of (if b then stop else there) at xs) count xs (whole (if b then None else found) xs)
+agree_test true stop there count at xs found none rest = none
+agree_test false stop there count at xs found none rest = rest
 
 none_short : (xs : List ℕ) → (length xs == 0) ≡ true → nat_lt (length xs) 16 ≡ true
 none_short xs h = grind (arith, h)
 
 agrees : (form : Form) (count at : ℕ) (xs : List ℕ) → Agrees (step_of (stand_at form count at xs) at xs) count xs (whole (headed form count at xs) xs)
 agrees form count at xs =
-    agree (length xs == 0) (count == most_records) (nat_lt (length xs) 16)
-    (nat_lt longest (word form.big xs 8) || nat_lt longest (word form.big xs 12))
-    ((word form.big xs 8 == 0) && (word form.big xs 12 == 0)) (nat_lt most_bytes (at + 16 + word form.big xs 8))
-    count at xs (stamp form xs 0) (word form.big xs 8) (word form.big xs 12) (none_short xs) refl
+    let captured = word form.big xs 8 in
+    let original = word form.big xs 12 in
+    agree_first (length xs == 0) (count == most_records) (nat_lt (length xs) 16) count at xs _ _ (none_short xs) (λ more.
+    agree_test (nat_lt longest captured || nat_lt longest original) (Damaged LongRecord) _ count at xs _ refl
+    (agree_test ((captured == 0) && (original == 0)) (Damaged EmptyRecord) _ count at xs _ refl
+    (agree_test (nat_lt most_bytes (at + 16 + captured)) Limit _ count at xs _ refl
+    (agree_whole (nat_lt (length xs) (16 + captured)) count at xs (stamp form xs 0) captured original refl more))))
 
 -- at a place of a capture
 agrees_at : (form : Form) (bytes : List ℕ) (count at : ℕ) (s : Step) → at ≤ length bytes → step form bytes count at ≡ s

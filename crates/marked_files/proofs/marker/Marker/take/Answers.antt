@@ -1,7 +1,7 @@
 use Rattle.std.proofs.Common.{◌≡◌, ap, [], length, refl, arith, length-append}
 use Rattle.std.proofs.lemmas.Grind.{common_steps}
 use Rattle.std.proofs.lemmas.List.{nil_from_length}
-use Rattle.marked_files.proofs.Turns.{turn_ended, turn_failed, turn_taken, turn_waits}
+use Rattle.marked_files.proofs.Turns.{advanced_by, filled_nothing, turn_ended, turn_taken, turn_waits}
 use Rattle.marked_files.proofs.marker.Marker.take.Goals as goal
 
 pub returns-in-Ok-eq0-clause-taken : goal.returns-in-Ok-eq0-clause-taken
@@ -9,11 +9,10 @@ returns-in-Ok-eq0-clause-taken g c =
     let t = c.in-Ok-eq0.ensures.took in
     let none : t.0 ≡ [] =
     nil_from_length t.0 (omega (arith, ap length t.2, length-append c.self.inside.window.pending t.0, c.in-Ok-eq0.ensures.count, c.in-Ok-eq0.field-0-test)) in
-    turn_ended g.C.Classify.placed _ _ c.args.file c.args.self.now c.advance.new.self _
+    turn_ended g.C.Classify.placed _ _ c.args.file c.args.self.now _
     (record { classes = c.self.inside.classes; stage = c.self.inside.stage; course = _; held = c.fill.new.self }) _ t.0
     (record {
-      advanced = c.advance.ensures.all;
-      is = c.self.view_is;
+      advanced = advanced_by g.C.Classify.placed _ _ _ c.self.view_is c.advance.ensures.all;
       filled = record {
         took = t.1;
         none = grind (arith, common_steps);
@@ -25,10 +24,9 @@ returns-in-Ok-eq0-clause-taken g c =
 pub returns-in-Ok-clause-taken : goal.returns-in-Ok-clause-taken
 returns-in-Ok-clause-taken g c =
     let t = c.in-Ok.ensures.took in
-    turn_taken g.C.Classify.placed _ _ c.args.file c.args.self.now c.advance.new.self _ _ t.0
+    turn_taken g.C.Classify.placed _ _ c.args.file c.args.self.now _ _ t.0
     (record {
-      advanced = c.advance.ensures.all;
-      is = c.self.view_is;
+      advanced = advanced_by g.C.Classify.placed _ _ _ c.self.view_is c.advance.ensures.all;
       filled = record {
         took = t.1;
         none = grind (arith, common_steps);
@@ -38,14 +36,18 @@ returns-in-Ok-clause-taken g c =
 
 pub returns-in-Err-clause-taken : goal.returns-in-Err-clause-taken
 returns-in-Err-clause-taken g c =
-    turn_taken g.C.Classify.placed _ _ c.args.file c.args.self.now c.advance.new.self _ _ []
-    (turn_failed g.C.Classify.placed _ _ c.args.file c.args.self.now c.advance.new.self _ _ c.advance.ensures.all c.self.view_is c.requires.there
-    c.in-Err.ensures.refused (grind (arith, common_steps))
-    (record { stage = refl; course = refl; ready = c.fill.ensures.ready; pending = c.in-Err.ensures.stays; classes = refl }))
+    turn_taken g.C.Classify.placed _ _ c.args.file c.args.self.now _ _ []
+    (record {
+      advanced = advanced_by g.C.Classify.placed _ _ _ c.self.view_is c.advance.ensures.all;
+      filled = filled_nothing _ _ c.args.file _ _ c.requires.there c.in-Err.ensures.refused (grind (arith, common_steps))
+          (record { stage = refl; course = refl; ready = c.fill.ensures.ready; pending = c.in-Err.ensures.stays; classes = refl });
+    })
 
 pub returns-in-Err-clause-refused : goal.returns-in-Err-clause-refused
 returns-in-Err-clause-refused g c =
-    turn_waits g.C.Classify.placed _ _ c.args.file c.args.self.now c.advance.new.self _ _
-    (turn_failed g.C.Classify.placed _ _ c.args.file c.args.self.now c.advance.new.self _ _ c.advance.ensures.all c.self.view_is c.requires.there
-    c.in-Err.ensures.refused (grind (arith, common_steps))
-    (record { stage = refl; course = refl; ready = c.fill.ensures.ready; pending = c.in-Err.ensures.stays; classes = refl }))
+    turn_waits g.C.Classify.placed _ _ c.args.file c.args.self.now _ _
+    (record {
+      advanced = advanced_by g.C.Classify.placed _ _ _ c.self.view_is c.advance.ensures.all;
+      filled = filled_nothing _ _ c.args.file _ _ c.requires.there c.in-Err.ensures.refused (grind (arith, common_steps))
+          (record { stage = refl; course = refl; ready = c.fill.ensures.ready; pending = c.in-Err.ensures.stays; classes = refl });
+    })
