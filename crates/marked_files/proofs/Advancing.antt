@@ -6,7 +6,6 @@ use Rattle.capture_model.specs.declared.damage.Damage.{Damage}
 use Rattle.capture_model.specs.Capture.{Formed, Unformed, header, most_records}
 use Rattle.pcap_files.specs.Forms.{form}
 use Rattle.pcap_files.specs.declared.form.Head.{Head}
-use Rattle.traffic_meter.specs.History.{Metered}
 use Rattle.marked_files.specs.Courses.{Course, frame_in, made, marked_record, packet_of, passed}
 use Rattle.marked_files.specs.Heads.{headed}
 use Rattle.marked_files.specs.Markings.{Marking, given}

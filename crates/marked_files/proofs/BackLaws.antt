@@ -1,7 +1,7 @@
 -- What a call on marked files did is what happened to the files behind them.
 use Rattle.std.proofs.Common.{◌≡◌, ◌∙◌, ◌∷◌, ℕ, List, sym}
 use Rattle.std.specs.Prelude.{◌≢◌}
-use Rattle.play_base.specs.View.{View, Any, Keeps, Later, NoneAppears, SameCounts, Took, Unchanged}
+use Rattle.play_base.specs.View.{View, Keeps, Later, SameCounts}
 use Rattle.marked_files.specs.Through.{marked_view}
 use Rattle.marked_files.proofs.ViewLaws.{left_other}
 

@@ -2,7 +2,7 @@
 use Rattle.std.proofs.Common.{◌≡◌, ◌≤◌, ◌<◌, ◌+◌, ◌∙◌, Ok, Err, Result, ap, ℕ, List, [], ◌++◌, length, take, drop, refl, arith, sym, subst, inl, inr, append_assoc, append-nil, length-append}
 use Rattle.std.specs.Prelude.{◌⊎◌, ◌==◌, ◌||◌, ◌&&◌, Bool, true, false, nat_lt, nat_le, if◌then◌else◌, Option, Some, None}
 use Rattle.std.proofs.Math.Seq.{take-append_seam}
-use Rattle.std.proofs.lemmas.Bool.{leb-true, ltb-false}
+use Rattle.std.proofs.lemmas.Bool.{leb-true}
 use Rattle.std.proofs.lemmas.List.{drop-append-le, nil_from_length}
 use Rattle.altq_model.specs.declared.Placed.{Placed}
 use Rattle.capture_model.specs.declared.damage.Damage.{Damage}
@@ -21,8 +21,7 @@ use Rattle.traffic_marks.specs.Marked.{Conditioning, marked}
 use Rattle.marked_files.specs.Courses.{Course, made}
 use Rattle.marked_files.specs.Heads.{headed, whole}
 use Rattle.marked_files.specs.Markings.{Marking, given}
-use Rattle.marked_files.specs.Standing.{AreWhole, HasRecords, IsBehind, IsNone, IsPart, IsRefused, Stands, StandsAt, Tells, Waits, has_header, has_header_at, head_tells, stand_tells, told_at, told_last, told_of, whole_end}
-use Rattle.marked_files.specs.Taking.{holds}
+use Rattle.marked_files.specs.Standing.{AreWhole, IsBehind, IsNone, IsPart, IsRefused, Stands, StandsAt, Tells, Waits, has_header, has_header_at, head_tells, stand_tells, told_at, told_last, told_of, whole_end}
 use Rattle.marked_files.specs.declared.behind.Behind.{Behind}
 use Rattle.marked_files.specs.declared.behind.Behind.TheVariants as behind
 use Rattle.marked_files.specs.declared.record_head.RecordHead.{RecordHead}

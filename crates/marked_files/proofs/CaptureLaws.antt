@@ -1,6 +1,6 @@
 -- What a marked file has left is the marked capture, and so is what is read of it.
-use Rattle.std.proofs.Common.{◌≡◌, ◌∙◌, ap, ℕ, List, [], ◌++◌, length, sym, append-nil}
-use Rattle.std.specs.Prelude.{IsTrue, Option, Some, true}
+use Rattle.std.proofs.Common.{◌≡◌, ◌∙◌, ap, ℕ, List, [], ◌++◌, sym, append-nil}
+use Rattle.std.specs.Prelude.{IsTrue, Option, Some}
 use Rattle.std.proofs.lemmas.List.{nil_from_length}
 use Rattle.altq_model.specs.declared.Placed.{Placed}
 use Rattle.play_base.specs.View.{View, IsAtEnd, Took}
@@ -8,7 +8,7 @@ use Rattle.traffic_marks.specs.Marked.{marked}
 use Rattle.traffic_meter.specs.declared.rule.MeterRule.{MeterRule}
 use Rattle.marked_files.specs.Courses.{Course, begun, conditioning, made}
 use Rattle.marked_files.specs.Markings.{IsUnused, Marking, given}
-use Rattle.marked_files.specs.Through.{ReadsMarked, marked_view, with_marks}
+use Rattle.marked_files.specs.Through.{ReadsMarked, marked_view}
 use Rattle.marked_files.specs.declared.stage.Stage.{Stage}
 use Rattle.marked_files.specs.declared.stage.Stage.TheVariants.{Start}
 use Rattle.marked_files.proofs.ViewLaws.{left_self, told_is}

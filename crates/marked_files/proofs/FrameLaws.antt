@@ -1,5 +1,5 @@
 -- A buffer in which a frame was replaced by one of its length.
-use Rattle.std.proofs.Common.{◌≡◌, ◌≤◌, ◌+◌, ◌-◌, ◌∙◌, ap, ℕ, List, ◌++◌, length, take, drop, refl, arith, sym, append_assoc, length-append, length-take, length-drop}
+use Rattle.std.proofs.Common.{◌≡◌, ◌≤◌, ◌+◌, ◌-◌, ◌∙◌, ap, ℕ, List, ◌++◌, length, take, drop, arith, sym, append_assoc, length-append, length-take, length-drop}
 use Rattle.std.proofs.lemmas.List.{drop-append-le, drop-drop, drop-take, drop_at, take-append-drop, take-take, take_at}
 
 -- the buffer with that frame

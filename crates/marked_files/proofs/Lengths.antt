@@ -1,5 +1,5 @@
 -- What becomes of bytes is as long as they are.
-use Rattle.std.proofs.Common.{◌≡◌, ◌≤◌, ◌+◌, ◌∙◌, ap, ℕ, zero, suc, List, [], ◌∷◌, ◌++◌, length, take, drop, Bool, true, false, refl, sym, arith, length-append, length-take, length-drop}
+use Rattle.std.proofs.Common.{◌≡◌, ◌≤◌, ◌+◌, ℕ, zero, suc, List, ◌++◌, length, take, drop, Bool, true, false, refl, arith, length-append, length-take, length-drop}
 use Rattle.std.specs.Prelude.{◌-◌, if◌then◌else◌, nat_lt, Option, Some, None}
 use Rattle.std.proofs.lemmas.Bool.{ltb-false}
 use Rattle.altq_model.specs.declared.Placed.{Placed}

@@ -9,7 +9,7 @@ use Rattle.traffic_meter.specs.Buckets.{Buckets}
 use Rattle.traffic_meter.specs.History.{Metered, after, buckets}
 use Rattle.traffic_meter.specs.History as meter
 use Rattle.traffic_marks.proofs.Lengths.{length-retagged}
-use Rattle.traffic_marks.specs.Marked.{Conditioner, assured_class, history, marked_frame, metered, rule_of}
+use Rattle.traffic_marks.specs.Marked.{assured_class, history, marked_frame, metered, rule_of}
 use Rattle.marked_files.specs.Metering.{AreAssured, AreReady, conditioners_from, frame_by, is_assured, is_ready, meter_after, meter_of, meters_after, new_meter, new_meters}
 
 -- the meter of a class after packets, the newest first

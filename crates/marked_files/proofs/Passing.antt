@@ -1,7 +1,7 @@
 -- Bytes that a marker makes ready: what is given stays the same.
-use Rattle.std.proofs.Common.{◌≡◌, ◌≤◌, ◌<◌, ◌+◌, ◌∙◌, ap, ℕ, List, [], ◌∷◌, ◌++◌, length, take, drop, refl, arith, sym, inl, append_assoc}
+use Rattle.std.proofs.Common.{◌≡◌, ◌≤◌, ◌<◌, ◌+◌, ◌∙◌, ap, ℕ, List, [], ◌++◌, length, take, drop, refl, arith, sym, inl, append_assoc}
 use Rattle.std.specs.Prelude.{Bool, true, nat_lt, if◌then◌else◌, Some, None}
-use Rattle.std.proofs.lemmas.List.{take-append-le, drop-append-le, take-append-drop}
+use Rattle.std.proofs.lemmas.List.{take-append-le, drop-append-le}
 use Rattle.altq_model.specs.declared.Placed.{Placed}
 use Rattle.capture_model.specs.declared.damage.Damage.{Damage}
 use Rattle.capture_model.specs.declared.damage.DamageKind.TheVariants.{ShortHead}
@@ -9,7 +9,7 @@ use Rattle.capture_model.specs.Capture.{Header, Formed, Unformed, damage, form_o
 use Rattle.pcap_files.proofs.ReaderLemmas.{head_seen}
 use Rattle.pcap_files.specs.Forms.{form}
 use Rattle.pcap_files.specs.declared.form.Head.{Head}
-use Rattle.marked_files.specs.Courses.{Course, behind_head, frame_in, made, marked_record, packet_of, passed, records_from}
+use Rattle.marked_files.specs.Courses.{Course, behind_head, made, marked_record, passed, records_from}
 use Rattle.marked_files.specs.Heads.{headed}
 use Rattle.marked_files.specs.declared.record_head.RecordHead.{RecordHead}
 use Rattle.marked_files.specs.declared.stage.Stage.{Stage}

@@ -1,6 +1,6 @@
 -- A marker that stands somewhere in a capture stands further on once it has passed a head or a record, or taken more bytes.
 use Rattle.std.proofs.Common.{◌≡◌, ◌≤◌, ◌<◌, ◌+◌, ◌∙◌, ap, ℕ, List, [], ◌∷◌, ◌++◌, length, take, drop, refl, arith, sym, subst, inl, inr, append_assoc, append-nil, length-append, length-take, length-drop}
-use Rattle.std.specs.Prelude.{◌⊎◌, Bool, true, false, IsSome, Option, Some, None}
+use Rattle.std.specs.Prelude.{true, false, IsSome, Some, None}
 use Rattle.std.proofs.lemmas.Bool.{ltb-false}
 use Rattle.std.proofs.lemmas.List.{drop-drop, drop-append-le, nil_from_length}
 use Rattle.altq_model.specs.declared.Placed.{Placed}
@@ -20,7 +20,7 @@ use Rattle.marked_files.specs.Heads.{headed, whole}
 use Rattle.marked_files.specs.Held.{Held}
 use Rattle.marked_files.specs.Markings.{Marking, given}
 use Rattle.marked_files.specs.Standing.{HasRecords, HasTakenOn, IsHalted, IsNone, IsPart, IsSameButStage, KeepsStanding, Stands, StandsAt, Waits, reach, reach_at}
-use Rattle.marked_files.specs.Taking.{KeepsGiven, holds}
+use Rattle.marked_files.specs.Taking.{KeepsGiven}
 use Rattle.marked_files.specs.declared.record_head.RecordHead.{RecordHead}
 use Rattle.marked_files.specs.declared.stage.Stage.{Stage}
 use Rattle.marked_files.specs.declared.stage.Stage.TheVariants.{Start, Records, Rest}

@@ -1,9 +1,9 @@
 -- What becomes of bytes is told by those that were taken.
-use Rattle.std.proofs.Common.{◌≡◌, ◌≤◌, ◌<◌, ◌+◌, ◌-◌, ◌∙◌, ap, ℕ, zero, suc, List, ◌++◌, length, take, drop, refl, arith, sym, append_assoc, length-append}
-use Rattle.std.specs.Prelude.{◌==◌, ◌||◌, false, true, Bool, nat_lt, if◌then◌else◌, Option, Some, None, max}
+use Rattle.std.proofs.Common.{◌≡◌, ◌≤◌, ◌<◌, ◌+◌, ◌-◌, ◌∙◌, ap, ℕ, zero, suc, List, ◌++◌, length, take, drop, refl, arith, length-append}
+use Rattle.std.specs.Prelude.{false, true, Bool, nat_lt, if◌then◌else◌, Option, Some, None}
 use Rattle.std.proofs.lemmas.List.{take-append-le, drop-append-le}
 use Rattle.altq_model.specs.declared.Placed.{Placed}
-use Rattle.capture_model.specs.Capture.{Form, most_records, most_bytes, longest, stamp, word}
+use Rattle.capture_model.specs.Capture.{Form, most_records, stamp}
 use Rattle.pcap_files.proofs.PlaceLemmas.{seen, word_seen}
 use Rattle.marked_files.specs.Courses.{Course, frame_in, marked_record, passed, records_from, records_on}
 use Rattle.marked_files.specs.Heads.{headed, whole}

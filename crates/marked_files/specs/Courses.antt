@@ -1,6 +1,6 @@
 -- What becomes of the bytes of a capture from a place on: they are marked as they are read. Together they are the marked capture of
 -- `traffic_marks`.
-use Rattle.std.specs.Prelude.{ℕ, ◌+◌, ◌-◌, ◌≡◌, zero, suc, max, Option, Some, None, List, ◌++◌, take, drop, map}
+use Rattle.std.specs.Prelude.{ℕ, ◌+◌, ◌-◌, ◌≡◌, zero, suc, max, Option, Some, None, List, ◌++◌, take, drop}
 use Rattle.capture_model.specs.Capture.{Form, Header, Formed, Unformed, header, most_records}
 use Rattle.altq_model.specs.declared.Placed.{Placed}
 use Rattle.pcap_files.specs.Forms.{form}

@@ -1,5 +1,5 @@
 -- How far a marker has come in a capture, and what is given of it: the head and the complete records, marked, and no byte behind them.
-use Rattle.std.specs.Prelude.{◌≡◌, ◌≤◌, ◌<◌, ◌+◌, ◌++◌, ◌⊎◌, ℕ, List, [], length, take, drop, Option, None, Some, Bool, true, nat_le}
+use Rattle.std.specs.Prelude.{◌≡◌, ◌≤◌, ◌<◌, ◌+◌, ◌++◌, ◌⊎◌, ℕ, List, length, take, drop, None, Some, Bool, true, nat_le}
 use Rattle.altq_model.specs.declared.Placed.{Placed}
 use Rattle.capture_model.specs.declared.damage.Damage.{Damage}
 use Rattle.capture_model.specs.declared.damage.DamageKind.TheVariants.{ShortRecord}
@@ -9,7 +9,7 @@ use Rattle.pcap_files.specs.Forms.{form}
 use Rattle.pcap_files.specs.Stand.{stand_at}
 use Rattle.pcap_files.specs.declared.stand.Stand.{Stand as Standing}
 use Rattle.pcap_files.specs.declared.stand.Stand.TheVariants as stand
-use Rattle.play_base.specs.View.{View, IsAtEnd, Took}
+use Rattle.play_base.specs.View.{View, Took}
 use Rattle.traffic_marks.specs.Marked.{Conditioning, marked}
 use Rattle.marked_files.specs.Courses.{Course}
 use Rattle.marked_files.specs.Heads.{headed}

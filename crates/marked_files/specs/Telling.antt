@@ -1,6 +1,6 @@
 -- Files of which one is marked tell what each of them has left, where those behind them do: a lemma that the impl of `Files` cites,
 -- and so of specs/.
-use Rattle.std.proofs.Common.{◌≡◌, ap, ℕ, List, refl}
+use Rattle.std.proofs.Common.{◌≡◌, ap, ℕ, List}
 use Rattle.std.specs.Prelude.{Bool, true, false, eqb, IsSome, is_some, None, Some}
 use Rattle.std.specs.declared.option.Option.{Option}
 use Rattle.play_base.specs.View.{View, TellsLeft}

@@ -1,4 +1,4 @@
-use Rattle.std.proofs.Common.{rules, ◌≡◌, ◌≤◌, ◌<◌, ◌∙◌, sym, length, arith, Some, None}
+use Rattle.std.proofs.Common.{rules, ◌≡◌, ◌≤◌, ◌<◌, ◌∙◌, length, Some, None}
 use Rattle.marked_files.specs.Metering.{meter_of}
 use Rattle.marked_files.proofs.Meters.{at_place, frame_some, past_meter, past_meters, ready_again, set_none, set_some}
 use Rattle.marked_files.proofs.metering.mark_by.Goals as goal

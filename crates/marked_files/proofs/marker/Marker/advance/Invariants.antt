@@ -1,4 +1,4 @@
-use Rattle.std.proofs.Common.{ℕ, length}
+use Rattle.std.proofs.Common.{length}
 use Rattle.marked_files.specs.Taking.{KeepsGiven}
 use Rattle.marked_files.proofs.marker.Marker.advance.Given as goal
 

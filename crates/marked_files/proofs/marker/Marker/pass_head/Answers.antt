@@ -1,4 +1,4 @@
-use Rattle.std.proofs.Common.{◌≡◌, ◌∙◌, ap, length, true, false, refl, sym, arith}
+use Rattle.std.proofs.Common.{◌∙◌, ap, length, true, false, refl, sym, arith}
 use Rattle.capture_model.specs.Capture.{header}
 use Rattle.marked_files.specs.Markings.{Marking}
 use Rattle.marked_files.proofs.Advancing.{head_fails, head_passes, passed_by}

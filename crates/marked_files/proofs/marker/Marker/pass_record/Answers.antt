@@ -1,5 +1,4 @@
-use Rattle.std.proofs.Common.{◌≡◌, ◌+◌, ◌-◌, ◌++◌, ◌<◌, ◌≤◌, ◌∙◌, ap, ℕ, List, length, take, drop, true, false, Some, None, refl, sym, arith, length-take, length-drop}
-use Rattle.std.specs.Prelude.{max}
+use Rattle.std.proofs.Common.{◌≡◌, ◌+◌, ◌-◌, ◌++◌, ◌≤◌, ◌∙◌, ap, ℕ, List, length, take, drop, true, false, refl, sym, arith, length-take, length-drop}
 use Rattle.altq_model.specs.declared.Placed.{Placed}
 use Rattle.pcap_files.specs.Forms.{form}
 use Rattle.traffic_meter.specs.History.{Arrival}

@@ -1,4 +1,4 @@
-use Rattle.std.proofs.Common.{◌≡◌, ◌∙◌, ap, refl}
+use Rattle.std.proofs.Common.{◌∙◌, ap}
 use Rattle.marked_files.specs.Markings.{Marking}
 use Rattle.marked_files.proofs.StandingLemmas.{standing_back, standing_trans}
 use Rattle.marked_files.proofs.marker.Marker.pass_whole.Goals as goal

@@ -1,4 +1,4 @@
-use Rattle.std.proofs.Common.{◌≡◌, ℕ, length}
+use Rattle.std.proofs.Common.{◌≡◌, length}
 use Rattle.marked_files.specs.Standing.{KeepsStanding}
 use Rattle.marked_files.specs.Taking.{holds}
 use Rattle.marked_files.proofs.marker.Marker.pass_whole.Given as goal

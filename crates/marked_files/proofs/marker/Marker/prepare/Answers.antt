@@ -1,4 +1,3 @@
-use Rattle.std.proofs.Common.{◌≡◌, arith}
 use Rattle.play_base.proofs.ViewLaws.{same_refl, same_trans, still_there}
 use Rattle.marked_files.proofs.Advancing.{keeps_refl}
 use Rattle.marked_files.proofs.Turns.{keeps_taken, taken_more}

@@ -1,4 +1,4 @@
-use Rattle.std.proofs.Common.{◌-◌, ℕ, IsSome, length}
+use Rattle.std.proofs.Common.{◌-◌, IsSome, length}
 use Rattle.play_base.specs.View.{SameCounts}
 use Rattle.marked_files.specs.Taking.{HasTaken}
 use Rattle.marked_files.proofs.marker.Marker.prepare.Given as goal

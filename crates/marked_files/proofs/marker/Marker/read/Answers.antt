@@ -1,6 +1,6 @@
-use Rattle.std.proofs.Common.{◌≡◌, [], length, refl, sym, arith, ap, take}
+use Rattle.std.proofs.Common.{[], length, refl, arith, ap, take}
 use Rattle.marked_files.specs.Markings.{Marking}
-use Rattle.marked_files.proofs.Turns.{Gave, gave_by, none_read, taken_read}
+use Rattle.marked_files.proofs.Turns.{gave_by, none_read, taken_read}
 use Rattle.marked_files.proofs.marker.Marker.read.Goals as goal
 
 pub returns-in-Ok-clause-read : goal.returns-in-Ok-clause-read

@@ -1,4 +1,4 @@
-use Rattle.std.proofs.Common.{◌≡◌, ◌∙◌, ap, length, refl, arith, length-append}
+use Rattle.std.proofs.Common.{◌∙◌, ap, length, refl, arith, length-append}
 use Rattle.marked_files.specs.Markings.{Marking}
 use Rattle.marked_files.proofs.StandingLemmas.{filled_on, none_on, reach_by, taken_by, waits_by, waits_on}
 use Rattle.marked_files.proofs.marker.Marker.take_piece.Goals as goal
