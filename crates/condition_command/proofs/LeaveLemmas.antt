@@ -1,6 +1,6 @@
 -- What a marking leaves: before anything is created, and behind that.
 use Rattle.std.proofs.Common.{◌≡◌, ◌∙◌, ◌⊎◌, ap, inl, inr, ℕ, false, List, Option, None, Some, sym, subst, refl, arith}
-use Rattle.std.specs.Prelude.{◌≢◌, IsTrue}
+use Rattle.std.specs.Prelude.{◌≢◌, ◌<◌, IsTrue}
 use Rattle.arrivals_front.specs.Given.{is_pcapng}
 use Rattle.conf_tree.specs.declared.interface.Interface.{Interface}
 use Rattle.interface_marks.specs.Conditioners.{marked_in}
@@ -92,79 +92,96 @@ leaves_reading u v n x =
 one_not_two : ◌≡◌ {A = Option ℕ} (Some 1) (Some 2) → ⊥
 one_not_two h = cc
 
--- the marked file is created, and written
-pub record IsMarking (u v d e : View) (n : MarkNames) (from to : ℕ) : Type 0 where
+-- then the arrivals were opened, as this file
+pub record HasArrivals (u v : View) (n : MarkNames) (from : ℕ) : Type 0 where
   pub reading : IsReading u v n
-  pub arrivals : v.part from ≡ Some 2
-  pub fresh_from : u.part from ≡ None
+  pub part : v.part from ≡ Some 2
+  pub fresh : u.part from ≡ None
   pub only : (f : ℕ) → u.part f ≡ None → v.part f ≡ Some 2 → f ≡ from
-  pub created : Created v d 6 n.marked to
-  pub keeps : KeepsOthers d e from to
-  pub none : NoneAppears d e
+  pub named : IsTrue u.tells → v.name from ≡ n.arrivals
+
+-- the way of a marking: what the files tell before it, once the arrivals are opened, once the marked file is created, and in the end
+pub record Way : Type 0 where
+  pub old : View
+  pub opened : View
+  pub created : View
+  pub new : View
+  pub names : MarkNames
+  pub from : ℕ
+  pub to : ℕ
+
+-- the marked file is created, and written
+pub record IsMarking (w : Way) : Type 0 where
+  pub arrivals : HasArrivals w.old w.opened w.names w.from
+  pub created : Created w.opened w.created 6 w.names.marked w.to
+  pub keeps : KeepsOthers w.created w.new w.from w.to
+  pub none : NoneAppears w.created w.new
+
+pub tells_at : (w : Way) → IsMarking w → IsTrue w.old.tells → IsTrue w.created.tells
+tells_at w x t = x.created.keeps.tells ∙ x.arrivals.reading.keeps.tells ∙ t
 
 -- the names are those that they were
-marking_named : (u v d e : View) (n : MarkNames) (from to : ℕ) → IsMarking u v d e n from to → IsTrue u.tells → d.name to ≡ n.marked
-marking_named u v d e n from to x t = x.created.is_new.name (x.reading.keeps.tells ∙ t)
+pub marking_named : (w : Way) → IsMarking w → IsTrue w.old.tells → w.created.name w.to ≡ w.names.marked
+marking_named w x t = x.created.is_new.name (x.arrivals.reading.keeps.tells ∙ t)
 
-old_here : (u v d e : View) (n : MarkNames) (from to f p : ℕ) → IsMarking u v d e n from to → u.part f ≡ Some p → d.part f ≡ Some p
-old_here u v d e n from to f p x at = x.created.keeps.part f p (x.reading.keeps.part f p at)
+old_here : (w : Way) (f p : ℕ) → IsMarking w → w.old.part f ≡ Some p → w.created.part f ≡ Some p
+old_here w f p x at = x.created.keeps.part f p (x.arrivals.reading.keeps.part f p at)
 
 -- a file that came to be is the marked one, or was there before that
-new_in : (u v d e : View) (n : MarkNames) (from to f p : ℕ) → IsMarking u v d e n from to → e.part f ≡ Some p
-    → (v.part f ≡ None) ⊎ ((q : ℕ) × (v.part f ≡ Some q)) → ((p ≡ 6) × (f ≡ to)) ⊎ (v.part f ≡ Some p)
-new_in u v d e n from to f p x at (inl none) =
-    let there : d.part f ≡ Some p = there_then d e f p x.none x.keeps.part at (there_or_not (d.part f)) in
-    inl (new_part v d 6 n.marked to f p x.created.is_new none there)
-new_in u v d e n from to f p x at (inr old) =
-    let now : e.part f ≡ Some old.0 = x.keeps.part f old.0 (x.created.keeps.part f old.0 old.1) in
-    let P : ℕ → Type 0 = λ q. v.part f ≡ Some q in
+new_by : (w : Way) (f p : ℕ) → IsMarking w → w.new.part f ≡ Some p → (w.opened.part f ≡ None) ⊎ ((q : ℕ) × (w.opened.part f ≡ Some q))
+    → ((p ≡ 6) × (f ≡ w.to)) ⊎ (w.opened.part f ≡ Some p)
+new_by w f p x at (inl none) =
+    let there : w.created.part f ≡ Some p = there_then w.created w.new f p x.none x.keeps.part at (there_or_not (w.created.part f)) in
+    inl (new_part w.opened w.created 6 w.names.marked w.to f p x.created.is_new none there)
+new_by w f p x at (inr old) =
+    let now : w.new.part f ≡ Some old.0 = x.keeps.part f old.0 (x.created.keeps.part f old.0 old.1) in
+    let P : ℕ → Type 0 = λ q. w.opened.part f ≡ Some q in
     inr (subst P (same_part old.0 p (sym now ∙ at)) old.1)
 
-part_in : (u v d e : View) (n : MarkNames) (from to f p : ℕ) → IsMarking u v d e n from to → u.part f ≡ None
-    → ((p ≡ 6) × (f ≡ to)) ⊎ (v.part f ≡ Some p) → (p ≡ 1) ⊎ (p ≡ 2) ⊎ (p ≡ 6)
-part_in u v d e n from to f p x fresh (inl h) = inr (inr h.0)
-part_in u v d e n from to f p x fresh (inr h) = part_or p (x.reading.parts f p fresh h)
+new_in : (w : Way) (f p : ℕ) → IsMarking w → w.new.part f ≡ Some p → ((p ≡ 6) × (f ≡ w.to)) ⊎ (w.opened.part f ≡ Some p)
+new_in w f p x at = new_by w f p x at (there_or_not (w.opened.part f))
 
-config_in : (v : View) (to f : ℕ) → ((◌≡◌ {A = ℕ} 1 6) × (f ≡ to)) ⊎ (v.part f ≡ Some 1) → v.part f ≡ Some 1
-config_in v to f (inl h) = absurd (omega (arith, h.0))
-config_in v to f (inr h) = h
+part_in : (w : Way) (f p : ℕ) → IsMarking w → w.old.part f ≡ None → ((p ≡ 6) × (f ≡ w.to)) ⊎ (w.opened.part f ≡ Some p) → (p ≡ 1) ⊎ (p ≡ 2) ⊎ (p ≡ 6)
+part_in w f p x fresh (inl h) = inr (inr h.0)
+part_in w f p x fresh (inr h) = part_or p (x.arrivals.reading.parts f p fresh h)
 
-arrivals_in : (v : View) (to f : ℕ) → ((◌≡◌ {A = ℕ} 2 6) × (f ≡ to)) ⊎ (v.part f ≡ Some 2) → v.part f ≡ Some 2
-arrivals_in v to f (inl h) = absurd (omega (arith, h.0))
-arrivals_in v to f (inr h) = h
+-- one of another part was there
+other_part : (w : Way) (f p : ℕ) → p < 6 → ((p ≡ 6) × (f ≡ w.to)) ⊎ (w.opened.part f ≡ Some p) → w.opened.part f ≡ Some p
+other_part w f p less (inl h) = absurd (omega (arith, less, h.0))
+other_part w f p less (inr h) = h
 
-pub marking_touched : (u v d e : View) (n : MarkNames) (from to : ℕ) → IsMarking u v d e n from to → Untouched u e 6 → ⊥
-marking_touched u v d e n from to x h =
-    h to (fresh_before u v to x.reading.keeps.part x.created.is_new.fresh) (x.keeps.part to 6 x.created.is_new.part)
+opened_in : (w : Way) (f p : ℕ) → IsMarking w → p < 6 → w.new.part f ≡ Some p → w.opened.part f ≡ Some p
+opened_in w f p x less at = other_part w f p less (new_in w f p x at)
 
-marking_opened : (u v d e : View) (n : MarkNames) (from to : ℕ) → IsMarking u v d e n from to → Untouched u e 2 → ⊥
-marking_opened u v d e n from to x h =
-    h from x.fresh_from (x.keeps.part from 2 (x.created.keeps.part from 2 x.arrivals))
+marking_touched : (w : Way) → IsMarking w → Untouched w.old w.new 6 → ⊥
+marking_touched w x h =
+    h w.to (fresh_before w.old w.opened w.to x.arrivals.reading.keeps.part x.created.is_new.fresh) (x.keeps.part w.to 6 x.created.is_new.part)
 
-marking_keeps : (u v d e : View) (n : MarkNames) (from to : ℕ) → IsMarking u v d e n from to → Keeps (OtherThan u n.marked) (NotNamed u n.marked) u e
-marking_keeps u v d e n from to x = record {
-  tells = x.keeps.tells ∙ x.created.keeps.tells ∙ x.reading.keeps.tells;
-  bytes = λ m h.
-      let named = marking_named u v d e n from to x h.0 in
-      x.keeps.bytes m (x.created.keeps.tells ∙ x.reading.keeps.tells ∙ h.0, λ s. h.1 (s ∙ named))
-      ∙ x.created.keeps.bytes m (λ s. h.1 s) ∙ x.reading.keeps.bytes m tt;
-  left = λ f p at h.
-      let named = marking_named u v d e n from to x h.0 in
-      let before : v.name f ≡ u.name f = x.reading.keeps.name f p at in
-      let there = x.reading.keeps.part f p at in
-      let created : d.name f ≡ v.name f = x.created.keeps.name f p there in
-      x.keeps.left f p (x.created.keeps.part f p there) (
-        λ s. none_some p (sym (ap u.part s ∙ x.fresh_from) ∙ at),
-        (x.created.keeps.tells ∙ x.reading.keeps.tells ∙ h.0, λ s. h.1 (sym (created ∙ before) ∙ s ∙ named)),
-      )
-      ∙ x.created.keeps.left f p there (λ s. h.1 (sym before ∙ s))
-      ∙ x.reading.keeps.left f p at tt;
-  part = λ f p at. x.keeps.part f p (old_here u v d e n from to f p x at);
-  name = λ f p at.
-      x.keeps.name f p (old_here u v d e n from to f p x at)
-      ∙ x.created.keeps.name f p (x.reading.keeps.part f p at) ∙ x.reading.keeps.name f p at;
-  later = later_trans u v e x.reading.keeps.later (later_trans v d e x.created.keeps.later x.keeps.later);
-}
+marking_opened : (w : Way) → IsMarking w → Untouched w.old w.new 2 → ⊥
+marking_opened w x h = h w.from x.arrivals.fresh (x.keeps.part w.from 2 (x.created.keeps.part w.from 2 x.arrivals.part))
+
+marking_keeps : (w : Way) → IsMarking w → Keeps (OtherThan w.old w.names.marked) (NotNamed w.old w.names.marked) w.old w.new
+marking_keeps w x =
+    let first = x.arrivals.reading.keeps in
+    let second = x.created.keeps in
+    record {
+      tells = x.keeps.tells ∙ second.tells ∙ first.tells;
+      bytes = λ m h.
+          let named = marking_named w x h.0 in
+          x.keeps.bytes m (tells_at w x h.0, λ s. h.1 (s ∙ named)) ∙ second.bytes m (λ s. h.1 s) ∙ first.bytes m tt;
+      left = λ f p at h.
+          let named = marking_named w x h.0 in
+          let there = first.part f p at in
+          let same : w.opened.name f ≡ w.old.name f = first.name f p at in
+          x.keeps.left f p (second.part f p there) (
+            λ s. none_some p (sym (ap w.old.part s ∙ x.arrivals.fresh) ∙ at),
+            (tells_at w x h.0, λ s. h.1 (sym (second.name f p there ∙ same) ∙ s ∙ named)),
+          )
+          ∙ second.left f p there (λ s. h.1 (sym same ∙ s)) ∙ first.left f p at tt;
+      part = λ f p at. x.keeps.part f p (old_here w f p x at);
+      name = λ f p at. x.keeps.name f p (old_here w f p x at) ∙ second.name f p (first.part f p at) ∙ first.name f p at;
+      later = later_trans w.old w.opened w.new first.later (later_trans w.opened w.created w.new second.later x.keeps.later);
+    }
 
 -- what the marked file holds, where the files tell, of the capture that arrives
 pub record Holds (u e : View) (n : MarkNames) (from : ℕ) : Type 0 where
@@ -172,35 +189,32 @@ pub record Holds (u e : View) (n : MarkNames) (from : ℕ) : Type 0 where
   pub within : IsTrue u.tells → (found : Interface) (capture : List ℕ) (x : Arrive u n found capture) → is_pcapng x.given ≡ false → TookWithin e n from capture
 
 -- what the configuration has left stays
-config_left : (u v d e : View) (n : MarkNames) (from to f : ℕ) → IsMarking u v d e n from to → n.config ≢ n.marked → IsTrue u.tells → u.part f ≡ None
-    → v.part f ≡ Some 1 → e.left f ≡ v.left f
-config_left u v d e n from to f x differ t fresh at =
-    let named : v.name f ≡ n.config = x.reading.named t f fresh at in
-    let created : d.name f ≡ v.name f = x.created.keeps.name f 1 at in
-    let to_named = marking_named u v d e n from to x t in
-    let other : f ≢ from = λ s. one_not_two (sym at ∙ ap v.part s ∙ x.arrivals) in
-    x.keeps.left f 1 (x.created.keeps.part f 1 at)
-    (other, (x.created.keeps.tells ∙ x.reading.keeps.tells ∙ t, λ s. differ (sym (created ∙ named) ∙ s ∙ to_named)))
+config_left : (w : Way) (f : ℕ) → IsMarking w → w.names.config ≢ w.names.marked → IsTrue w.old.tells → w.old.part f ≡ None
+    → w.opened.part f ≡ Some 1 → w.new.left f ≡ w.opened.left f
+config_left w f x differ t fresh at =
+    let named : w.opened.name f ≡ w.names.config = x.arrivals.reading.named t f fresh at in
+    let created : w.created.name f ≡ w.opened.name f = x.created.keeps.name f 1 at in
+    let other : f ≢ w.from = λ s. one_not_two (sym at ∙ ap w.opened.part s ∙ x.arrivals.part) in
+    x.keeps.left f 1 (x.created.keeps.part f 1 at) (other, (tells_at w x t, λ s. differ (sym (created ∙ named) ∙ s ∙ marking_named w x t)))
     ∙ x.created.keeps.left f 1 at (λ s. differ (sym named ∙ s))
 
-few_in : (u v d e : View) (n : MarkNames) (from to : ℕ) → IsMarking u v d e n from to → n.config ≢ n.marked → TakesFew u e n.config
-few_in u v d e n from to x differ t f fresh at text is =
-    let there : v.part f ≡ Some 1 = config_in v to f (new_in u v d e n from to f 1 x at (there_or_not (v.part f))) in
-    let y = x.reading.few t f fresh there text is in
-    (y.0, config_left u v d e n from to f x differ t fresh there ∙ y.1, y.2)
+few_in : (w : Way) → IsMarking w → w.names.config ≢ w.names.marked → TakesFew w.old w.new w.names.config
+few_in w x differ t f fresh at text is =
+    let there : w.opened.part f ≡ Some 1 = opened_in w f 1 x (omega arith) at in
+    let y = x.arrivals.reading.few t f fresh there text is in
+    (y.0, config_left w f x differ t fresh there ∙ y.1, y.2)
 
-pub leaves_marking : (u v d e : View) (n : MarkNames) (from to : ℕ) → IsMarking u v d e n from to → n.config ≢ n.marked → Holds u e n from
-    → ConditionLeaves u e n
-leaves_marking u v d e n from to x differ h = record {
+pub leaves_marking : (w : Way) → IsMarking w → w.names.config ≢ w.names.marked → Holds w.old w.new w.names w.from → ConditionLeaves w.old w.new w.names
+leaves_marking w x differ h = record {
   front = h.front;
   streams = λ t found capture a classic f g ff fp gf gp.
-      let there : v.part f ≡ Some 2 = arrivals_in v to f (new_in u v d e n from to f 2 x fp (there_or_not (v.part f))) in
-      subst (λ (k : ℕ). TookWithin e n k capture) (sym (x.only f ff there)) (h.within t found capture a classic);
-  uncreated = λ s. absurd (marking_touched u v d e n from to x s);
-  order = λ s. absurd (marking_opened u v d e n from to x s);
-  parts = λ f p fresh at. part_in u v d e n from to f p x fresh (new_in u v d e n from to f p x at (there_or_not (v.part f)));
-  keeps = marking_keeps u v d e n from to x;
-  few = few_in u v d e n from to x differ;
+      let is = x.arrivals.only f ff (opened_in w f 2 x (omega arith) fp) in
+      subst (λ (k : ℕ). TookWithin w.new w.names k capture) (sym is) (h.within t found capture a classic);
+  uncreated = λ s. absurd (marking_touched w x s);
+  order = λ s. absurd (marking_opened w x s);
+  parts = λ f p fresh at. part_in w f p x fresh (new_in w f p x at);
+  keeps = marking_keeps w x;
+  few = few_in w x differ;
 }
 
 -- and something is printed

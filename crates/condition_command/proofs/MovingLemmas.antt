@@ -1,6 +1,6 @@
 -- What a marker takes from one file it writes to another.
 use Rattle.std.proofs.Common.{◌≡◌, ◌≤◌, ◌∙◌, ap, ℕ, List, [], ◌++◌, length, take, drop, Err, refl, arith, sym, subst, append_assoc, append-nil, length-append, true≢false}
-use Rattle.std.specs.Prelude.{◌≢◌, Bool, None, Some, true, false, ⊤}
+use Rattle.std.specs.Prelude.{◌≢◌, None, Some, true, false, ⊤}
 use Rattle.std.specs.declared.option.Option.{Option}
 use Rattle.std.proofs.Math.Seq.{take-length}
 use Rattle.std.proofs.lemmas.List.{append_cancel_left, take-append-drop}
@@ -16,7 +16,7 @@ use Rattle.play_base.specs.declared.trouble.Trouble.{Trouble}
 use Rattle.play_base.specs.declared.trouble.Trouble.TheVariants as trouble
 use Rattle.pcapng_files.specs.Fronts.{front_view, with_front}
 use Rattle.pcapng_files.proofs.FrontLaws.{left_self}
-use Rattle.play_base.specs.View.{View, Any, Keeps, NotNamed, OtherThan, Took, Wrote, WroteFront}
+use Rattle.play_base.specs.View.{View, Any, NotNamed, OtherThan, Took, Wrote, WroteFront}
 use Rattle.play_base.proofs.ViewLaws.{keeps_fewer, keeps_refl, keeps_trans, later_trans, part_of_there, still_there, wrote_nothing}
 use Rattle.traffic_marks.specs.Marked.{Conditioning, marked}
 use Rattle.condition_command.specs.Marking.{CameOf, HasMarked, Marks, MarksLeft, read_trouble, write_trouble}
@@ -190,15 +190,14 @@ marks_told u v w from to m n b r apart x told y room ends =
     ends c (taken ++ left) taken (bytes ++ take (length n.held.ready) n.held.ready)
     (subst (λ (l : List ℕ). IsBehind c (taken ++ left) (bytes ++ l) b) all (told left at c taken bytes s)))
 
--- WHAT STANDS IN FRONT: marked files over a front, of which no byte follows it
-pub marks_behind : (N : List ℕ → Type 0) (F : ℕ → Type 0) (v w : View) (g h file now to : ℕ) (more : Bool) (front next : List ℕ) (m : Marking Classes) (r : Result ⊤ Unmarked)
-    → Keeps N F (front_view v g file false front) (front_view w h now more next)
-    → MarksLeft (front_view v g file false front) (front_view w h now more next) file to m r → Marks v w file to false front m r
-marks_behind N F v w g h file now to more front next m r kept x t c stands capture at =
-    let y = x t c [] stands capture (left_self file false front (v.left file) ∙ at) in
+-- WHAT STANDS IN FRONT: marked files over a front, of which no byte follows it; under the names the files behind hold the same
+pub marks_behind : (v w x : View) (g from to : ℕ) (front : List ℕ) (m : Marking Classes) (r : Result ⊤ Unmarked)
+    → MarksLeft (front_view v g from false front) x from to m r → x.bytes ≡ w.bytes → Marks v w from to false front m r
+marks_behind v w x g from to front m r h same t c stands capture at =
+    let y = h t c [] stands capture (left_self from false front (v.left from) ∙ at) in
     record {
       written = y.written;
-      grown = y.grown;
+      grown = λ before held. sym (ap (λ (bytes : List ℕ → Option (List ℕ)). bytes (v.name to)) same) ∙ y.grown before held;
       front = y.front;
       taken = y.taken;
       left = y.left;

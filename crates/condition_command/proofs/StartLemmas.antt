@@ -1,19 +1,14 @@
 -- How a marking ends before the marked file is created, and what stands when it is.
-use Rattle.std.proofs.Common.{◌≡◌, ◌∙◌, ◌⊎◌, inl, inr, ℕ, List, [], None, Some, Err, sym, subst, arith}
-use Rattle.std.specs.Prelude.{IsSome, IsTrue, if◌then◌else◌, ⊤}
+use Rattle.std.proofs.Common.{◌≡◌, ◌∙◌, ◌⊎◌, inl, inr, ℕ, List, None, Some, Err, sym, subst, arith}
+use Rattle.std.specs.Prelude.{IsSome, IsTrue}
 use Rattle.std.specs.declared.option.Option.{Option}
-use Rattle.std.specs.declared.result.Result.{Result}
 use Rattle.arrivals_front.specs.Given.{Follows}
 use Rattle.arrivals_front.specs.declared.given.Given.{Given}
 use Rattle.conf_tree.specs.declared.interface.Interface.{Interface}
-use Rattle.frame_classes.specs.Frames.{Classes}
-use Rattle.interface_marks.specs.Conditioners.{Begins}
-use Rattle.marked_files.specs.Markings.{Marking}
 use Rattle.pcapng_files.specs.declared.fault.NgFault.{NgFault}
 use Rattle.pcapng_files.specs.declared.fault.NgFault.TheVariants as ng
-use Rattle.play_base.specs.View.{View, Any, Created, IsNew, Keeps, NoneAppears, Rose, Unchanged}
+use Rattle.play_base.specs.View.{View, Any, IsNew, Keeps, Rose, Unchanged}
 use Rattle.play_base.proofs.ViewLaws.{rose_later}
-use Rattle.play_words.specs.Words.{AreDistinctMarks}
 use Rattle.command_base.specs.Configuration.{Accepts}
 use Rattle.command_base.specs.Faults.{CannotRead, Untouched}
 use Rattle.command_base.specs.Input.{ConfigCauses, EndsAtConfig, OnlyReads}
@@ -29,10 +24,8 @@ use Rattle.command_base.proofs.PartLemmas.{fresh_before, new_part, same_part, th
 use Rattle.early_stops.specs.Arriving.{IsNoPcapng, OnlyOpens}
 use Rattle.condition_command.specs.Arriving.{ArrivalCauses}
 use Rattle.condition_command.specs.Conditioning.{AreBroken, ConditionEnds, ConditionFails, MarkNames}
-use Rattle.condition_command.specs.Marking.{KeepsOthers, Marks}
-use Rattle.condition_command.specs.declared.marking.Unmarked.{Unmarked}
-use Rattle.condition_command.proofs.LeaveLemmas.{IsReading, leaves_reading, reading_conf, reading_more, reading_unchanged, reading_untouched}
-use Rattle.condition_command.proofs.EndLemmas.{HasRun, IsReady}
+use Rattle.condition_command.proofs.LeaveLemmas.{HasArrivals, IsReading, leaves_reading, reading_conf, reading_more, reading_unchanged, reading_untouched}
+use Rattle.condition_command.proofs.EndLemmas.{IsAsked}
 use Rattle.condition_command.proofs.TellLemmas.{told}
 
 ends_reading : (u v : View) (n : MarkNames) (f : Failure) → IsReading u v n → ConditionFails u v n f → ConditionEnds u v n (Err f)
@@ -122,28 +115,24 @@ opened_one u v w n from f g r o fresh at (inr old) =
     let one : old.0 ≡ 1 = r.part f old.0 fresh old.1 in
     absurd (omega (arith, same, one))
 
-pub ready_of : (u v w : View) (n : MarkNames) (found : Interface) (from : ℕ) (g : Given) → EndsAtConfig u v n.config → Accepts u n.config n.interface found
-    → HasOpened v w n from g → IsReady u w n found from g
-ready_of u v w n found from g e a o = record {
-  reading = reading_more u v w n (reading_conf u v n e) o.keeps o.opens;
-  arrivals = o.is_new.part;
-  fresh = fresh_before u v from e.keeps.part o.is_new.fresh;
-  only = λ f fresh at. opened_one u v w n from f g e.only o fresh at (there_or_not (v.part f));
-  accepts = a;
-  named = λ t. o.is_new.name (e.keeps.tells ∙ t);
-  there = λ t. subst (λ (b : Option (List ℕ)). IsSome b) (e.keeps.bytes n.arrivals tt) (o.there (e.keeps.tells ∙ t));
-  follows = λ t given at. o.follows (e.keeps.tells ∙ t) given (e.keeps.bytes n.arrivals tt ∙ at);
+-- the configuration was read, with the interface asked for, and then the arrivals were opened
+pub record HasStarted (u v w : View) (n : MarkNames) (found : Interface) (from : ℕ) (g : Given) : Type 0 where
+  pub read : EndsAtConfig u v n.config
+  pub accepts : Accepts u n.config n.interface found
+  pub opened : HasOpened v w n from g
+
+pub arrivals_of : (u v w : View) (n : MarkNames) (found : Interface) (from : ℕ) (g : Given) → HasStarted u v w n found from g → HasArrivals u w n from
+arrivals_of u v w n found from g x = record {
+  reading = reading_more u v w n (reading_conf u v n x.read) x.opened.keeps x.opened.opens;
+  part = x.opened.is_new.part;
+  fresh = fresh_before u v from x.read.keeps.part x.opened.is_new.fresh;
+  only = λ f fresh at. opened_one u v w n from f g x.read.only x.opened fresh at (there_or_not (v.part f));
+  named = λ t. x.opened.is_new.name (x.read.keeps.tells ∙ t);
 }
 
--- and the marker wrote
-pub run_of : (u v d e : View) (n : MarkNames) (found : Interface) (from to : ℕ) (g : Given) (m : Marking Classes) (r : Result ⊤ Unmarked)
-    → IsReady u v n found from g → AreDistinctMarks n.config n.arrivals n.marked → Created v d 6 n.marked to
-    → KeepsOthers d e from to → NoneAppears d e → Begins found (if g.rest then g.front.items else []) m → Marks d e from to g.rest g.front.items m r
-    → HasRun u v d e n found from to g m r
-run_of u v d e n found from to g m r x distinct c keeps none begins marks = record {
-  ready = x;
-  marking = record { reading = x.reading; arrivals = x.arrivals; fresh_from = x.fresh; only = x.only; created = c; keeps = keeps; none = none };
-  distinct = distinct;
-  begins = begins;
-  marks = marks;
+pub asked_of : (u v w : View) (n : MarkNames) (found : Interface) (from : ℕ) (g : Given) → HasStarted u v w n found from g → IsAsked u w n found from g
+asked_of u v w n found from g x = record {
+  accepts = x.accepts;
+  there = λ t. subst (λ (b : Option (List ℕ)). IsSome b) (x.read.keeps.bytes n.arrivals tt) (x.opened.there (x.read.keeps.tells ∙ t));
+  follows = λ t given at. x.opened.follows (x.read.keeps.tells ∙ t) given (x.read.keeps.bytes n.arrivals tt ∙ at);
 }

@@ -1,5 +1,6 @@
 -- Each turn moves what it takes: the return of a turn tells what came of all.
-use Rattle.std.proofs.Common.{List, ℕ, Ok, Err, ap, length, sym, subst}
+use Rattle.std.proofs.Common.{◌≡◌, List, ℕ, Ok, Err, ap, length, sym, subst}
+use Rattle.std.specs.Prelude.{Result, ⊤}
 use Rattle.frame_classes.specs.Frames.{placed_by}
 use Rattle.marked_files.specs.Standing.{TellsLeft}
 use Rattle.marked_files.specs.declared.behind.Behind.{Behind}
@@ -9,7 +10,9 @@ use Rattle.play_base.proofs.ViewLaws.{same_refl, same_trans}
 use Rattle.condition_command.specs.Marking.{MarksLeft}
 use Rattle.condition_command.specs.declared.marking.Unmarked.{Unmarked}
 use Rattle.condition_command.specs.declared.marking.Unmarked.TheVariants as unmarked
-use Rattle.condition_command.proofs.MovingLemmas.{marks_cut, marks_told, marks_unwritten, on_begun, on_taken, on_wrote}
+use Rattle.condition_command.proofs.MovingLemmas.{EndsAs, marks_cut, marks_told, marks_unwritten, on_begun, on_taken, on_wrote}
+use Rattle.condition_command.proofs.marking.mark_file.Given.{Over}
+use Rattle.condition_command.proofs.marking.mark_file.Goals.{In_default}
 use Rattle.condition_command.proofs.marking.mark_file.Goals as goal
 
 pub turns-init : goal.turns-init
@@ -68,51 +71,30 @@ turns-preserved g c =
       counts = same_trans u w z (same_trans u v w c.turns.invariant.counts y.counts) c.in_default.ensures.counts;
     }
 
-pub returns-in-End-clause-marks : goal.returns-in-End-clause-marks
-returns-in-End-clause-marks g c =
+-- all that is ready was written, and this stands behind it
+told : (g : Over) (c : In_default g) (b : Behind) (r : Result ⊤ Unmarked) → c.in-Ok.behind ≡ b → EndsAs b r
+    → MarksLeft (g.F.Files.view c.args.files.now) (g.F.Files.view c.write_all.new.files) c.args.from c.args.to c.args.marker.now r
+told g c b r is ends =
     let u = g.F.Files.view c.args.files.now in
-    let v = g.F.Files.view c.turns.files in
     let w = g.F.Files.view c.next_records.new.files in
     let z = g.F.Files.view c.write_all.new.files in
     let m = c.args.marker.now in
     let o = c.next_records.new.self in
     let y = c.in-Ok.ensures in
-    let on = on_taken u v w c.args.from c.args.to m c.turns.marker o c.turns.invariant.on y.taken in
+    let on = on_taken u (g.F.Files.view c.turns.files) w c.args.from c.args.to m c.turns.marker o c.turns.invariant.on y.taken in
     let P : List ℕ → Type 0 = λ l. Wrote w z c.args.to l in
-    let wrote : Wrote w z c.args.to o.held.ready = subst P c.ready.ensures c.in_default.ensures.wrote in
-    let B : Behind → Type 0 = λ b. TellsLeft placed_by w c.args.from o b in
-    let told : TellsLeft placed_by w c.args.from o behind.End = subst B c.in-End.is y.tells in
-    marks_told u w z c.args.from c.args.to m o behind.End (Ok tt) c.requires.apart on told wrote y.room (λ k capture taken written h. h)
+    let B : Behind → Type 0 = λ x. TellsLeft placed_by w c.args.from o x in
+    marks_told u w z c.args.from c.args.to m o b r c.requires.apart on (subst B is y.tells) (subst P c.ready.ensures c.in_default.ensures.wrote) y.room ends
+
+pub returns-in-End-clause-marks : goal.returns-in-End-clause-marks
+returns-in-End-clause-marks g c =
+    told g (goal.at.returns-in-End-clause-marks g c).In_default behind.End (Ok tt) c.in-End.is (λ k capture taken written h. h)
 
 pub returns-in-Damaged-clause-marks : goal.returns-in-Damaged-clause-marks
 returns-in-Damaged-clause-marks g c =
-    let u = g.F.Files.view c.args.files.now in
-    let v = g.F.Files.view c.turns.files in
-    let w = g.F.Files.view c.next_records.new.files in
-    let z = g.F.Files.view c.write_all.new.files in
-    let m = c.args.marker.now in
-    let o = c.next_records.new.self in
     let d = c.in-Damaged.damage in
-    let y = c.in-Ok.ensures in
-    let on = on_taken u v w c.args.from c.args.to m c.turns.marker o c.turns.invariant.on y.taken in
-    let P : List ℕ → Type 0 = λ l. Wrote w z c.args.to l in
-    let wrote : Wrote w z c.args.to o.held.ready = subst P c.ready.ensures c.in_default.ensures.wrote in
-    let B : Behind → Type 0 = λ b. TellsLeft placed_by w c.args.from o b in
-    let told : TellsLeft placed_by w c.args.from o (behind.Damaged d) = subst B c.in-Damaged.is y.tells in
-    marks_told u w z c.args.from c.args.to m o (behind.Damaged d) (Err (unmarked.Damaged d)) c.requires.apart on told wrote y.room (λ k capture taken written h. h)
+    told g (goal.at.returns-in-Damaged-clause-marks g c).In_default (behind.Damaged d) (Err (unmarked.Damaged d)) c.in-Damaged.is (λ k capture taken written h. h)
 
 pub returns-in-Limit-clause-marks : goal.returns-in-Limit-clause-marks
 returns-in-Limit-clause-marks g c =
-    let u = g.F.Files.view c.args.files.now in
-    let v = g.F.Files.view c.turns.files in
-    let w = g.F.Files.view c.next_records.new.files in
-    let z = g.F.Files.view c.write_all.new.files in
-    let m = c.args.marker.now in
-    let o = c.next_records.new.self in
-    let y = c.in-Ok.ensures in
-    let on = on_taken u v w c.args.from c.args.to m c.turns.marker o c.turns.invariant.on y.taken in
-    let P : List ℕ → Type 0 = λ l. Wrote w z c.args.to l in
-    let wrote : Wrote w z c.args.to o.held.ready = subst P c.ready.ensures c.in_default.ensures.wrote in
-    let B : Behind → Type 0 = λ b. TellsLeft placed_by w c.args.from o b in
-    let told : TellsLeft placed_by w c.args.from o behind.Limit = subst B c.in-Limit.is y.tells in
-    marks_told u w z c.args.from c.args.to m o behind.Limit (Err unmarked.Limit) c.requires.apart on told wrote y.room (λ k capture taken written h. h)
+    told g (goal.at.returns-in-Limit-clause-marks g c).In_default behind.Limit (Err unmarked.Limit) c.in-Limit.is (λ k capture taken written h. h)

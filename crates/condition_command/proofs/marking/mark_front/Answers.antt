@@ -1,5 +1,5 @@
 -- What is written of the files that have the capture in front is written by the files behind them.
-use Rattle.std.proofs.Common.{false, Ok, Err, rules, subst}
+use Rattle.std.proofs.Common.{false, Ok, Err, refl, rules, subst}
 use Rattle.play_base.specs.View.{View}
 use Rattle.pcapng_files.proofs.BackLaws.{same_reference}
 use Rattle.condition_command.specs.Marking.{Marks}
@@ -13,8 +13,7 @@ returns-in-Ok-clause-marks g c =
     let w = g.F.Files.view s.files.now in
     let y = c.in-Ok.ensures in
     let same = same_reference _ _ v w _ s.files.ghost_name c.args.from s.file false s.front.rest c.args.capture.now s.front.bytes.now y.keeps in
-    let back =
-    marks_behind _ _ v w _ s.files.ghost_name c.args.from s.file c.args.to s.front.rest c.args.capture.now s.front.bytes.now c.args.marker.now (Ok tt) y.keeps y.marks in
+    let back = marks_behind v w _ _ c.args.from c.args.to c.args.capture.now c.args.marker.now (Ok tt) y.marks refl in
     let Q : View → Type 0 = λ u. Marks v u c.args.from c.args.to false c.args.capture.now c.args.marker.now (Ok tt) in
     subst Q (search rules) back
 
@@ -25,7 +24,6 @@ returns-in-Err-clause-marks g c =
     let w = g.F.Files.view s.files.now in
     let y = c.in-Err.ensures in
     let same = same_reference _ _ v w _ s.files.ghost_name c.args.from s.file false s.front.rest c.args.capture.now s.front.bytes.now y.keeps in
-    let back =
-    marks_behind _ _ v w _ s.files.ghost_name c.args.from s.file c.args.to s.front.rest c.args.capture.now s.front.bytes.now c.args.marker.now (Err c.in-Err.why) y.keeps y.marks in
+    let back = marks_behind v w _ _ c.args.from c.args.to c.args.capture.now c.args.marker.now (Err c.in-Err.why) y.marks refl in
     let Q : View → Type 0 = λ u. Marks v u c.args.from c.args.to false c.args.capture.now c.args.marker.now (Err c.in-Err.why) in
     subst Q (search rules) back
