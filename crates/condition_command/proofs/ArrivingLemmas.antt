@@ -7,7 +7,7 @@ use Rattle.arrivals_front.specs.declared.given.GivenFault.TheVariants as given
 use Rattle.pcapng_files.specs.Converted.{IsCause}
 use Rattle.pcapng_files.specs.declared.fault.NgFault.{NgFault}
 use Rattle.pcapng_files.specs.declared.fault.NgFault.TheVariants as ng
-use Rattle.play_base.specs.View.{View, Any, Keeps, Opened, ReadFault}
+use Rattle.play_base.specs.View.{View, Any, Keeps, Opened}
 use Rattle.play_base.proofs.ViewLaws.{opened_then, rose_later}
 use Rattle.command_base.proofs.ConfLemmas.{some_bytes}
 use Rattle.early_stops.specs.Arriving.{IsNoPcapng, given_failure}

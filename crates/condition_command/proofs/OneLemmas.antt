@@ -1,26 +1,23 @@
 -- What the files say must come is one outcome.
-use Rattle.std.proofs.Common.{◌≡◌, ◌∙◌, ◌⊎◌, inl, inr, ℕ, List, None, Result, Ok, Err, ap, refl, sym, subst}
+use Rattle.std.proofs.Common.{◌≡◌, ◌∙◌, ◌⊎◌, inl, inr, ℕ, List, None, Ok, Err, ap, refl, sym, subst}
 use Rattle.arrivals_front.specs.Given.{ReadAs}
-use Rattle.arrivals_front.proofs.ReadLaws.{fault_not_read, limit_not_read, no_limit_at, one_fault, read_one_way}
+use Rattle.arrivals_front.proofs.ReadLaws.{fault_not_read, limit_not_read, read_one_way}
 use Rattle.capture_model.specs.Capture.{End, Fault, IsLast, Limit, Next, Reads, Step}
 use Rattle.conf_lines.specs.declared.fault.ConfPlace.{ConfPlace}
 use Rattle.pcap_files.proofs.ReadingLaws.{one_reading}
-use Rattle.pcapng_files.specs.Converted.{IsCause}
 use Rattle.pcapng_files.specs.declared.fault.NgFault.{NgFault}
 use Rattle.pcapng_files.specs.declared.fault.NgFault.TheVariants as ng
 use Rattle.play_base.specs.View.{View}
 use Rattle.command_base.specs.Configuration.{Refused, Says, TooLong}
 use Rattle.command_base.specs.Outcome.{Outcome}
-use Rattle.command_base.specs.declared.done.Done.{Done}
 use Rattle.command_base.specs.declared.done.Done.TheVariants as done
-use Rattle.command_base.specs.declared.failure.Failure.{Failure}
 use Rattle.command_base.specs.declared.failure.Failure.TheVariants as failure
 use Rattle.command_base.specs.declared.parts.ReadPart.TheVariants as read
 use Rattle.command_base.specs.declared.parts.RunLimit.TheVariants as limit
-use Rattle.command_base.proofs.ConfLemmas.{long_not, no_bytes, one_says, refused_not, same_some}
+use Rattle.command_base.proofs.ConfLemmas.{no_bytes, same_some}
 use Rattle.early_stops.specs.Arriving.{IsNoPcapng}
 use Rattle.early_stops.proofs.StopLemmas.{ConfGone, ConfLong, ConfRefused, ConfStop, IsOfBytes, break_outcome, conf_not, conf_one, one_broken}
-use Rattle.condition_command.specs.Conditioning.{AreBroken, Arrive, EndsWith, HasInterface, MarkNames}
+use Rattle.condition_command.specs.Conditioning.{AreBroken, EndsWith, HasInterface, MarkNames}
 
 -- THE ARRIVALS
 one_end : (v : View) (n : MarkNames) (p q : Step) → IsLast p → IsLast q → EndsWith v n p → EndsWith v n q → p ≡ q

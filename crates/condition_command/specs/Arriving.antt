@@ -1,10 +1,5 @@
 -- Why the arrivals cannot be had, before anything is created.
-use Rattle.std.specs.Prelude.{◌≡◌, ℕ, true, List, None, Some, IsTrue}
-use Rattle.arrivals_front.specs.Given.{is_pcapng}
-use Rattle.arrivals_front.specs.declared.given.GivenFault.{GivenFault}
-use Rattle.arrivals_front.specs.declared.given.GivenFault.TheVariants as given
-use Rattle.pcapng_files.specs.Converted.{IsCause}
-use Rattle.pcapng_files.specs.declared.fault.NgFault.{NgFault}
+use Rattle.std.specs.Prelude.{ℕ, List, IsTrue}
 use Rattle.pcapng_files.specs.declared.fault.NgFault.TheVariants as ng
 use Rattle.play_base.specs.View.{View}
 use Rattle.early_stops.specs.Arriving.{IsNoPcapng}

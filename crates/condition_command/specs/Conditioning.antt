@@ -1,5 +1,5 @@
 -- How `condition` ends: what done means, when each failure comes, what must come, and what is left.
-use Rattle.std.specs.Prelude.{◌≡◌, ◌⊎◌, ◌≤◌, ◌+◌, ◌++◌, ℕ, true, false, List, length, None, Some, Ok, Err, IsTrue}
+use Rattle.std.specs.Prelude.{◌≡◌, ◌⊎◌, ◌≤◌, ◌+◌, ◌++◌, ℕ, false, List, length, None, Some, Ok, Err, IsTrue}
 use Rattle.arrivals_front.specs.Given.{ReadAs, is_pcapng}
 use Rattle.capture_model.specs.declared.damage.Damage.{Damage}
 use Rattle.capture_model.specs.Capture.{End, Fault, IsCapture, IsLast, Limit, Reads, Record, Step}
