@@ -1,7 +1,10 @@
 use Rattle.std.proofs.Common.{Err, ap, subst, sym}
+use Rattle.play_base.specs.View.{View}
 use Rattle.command_base.specs.declared.failure.Failure.{Failure}
 use Rattle.verify_command.specs.Input.{ArrivalCauses}
 use Rattle.verify_command.proofs.ArrivalLemmas.{Ran, capture_why, captured, ran_keeps, ran_opens, ran_then}
+use Rattle.verify_command.proofs.arrivals.read_arrivals.Given.{Over}
+use Rattle.verify_command.proofs.arrivals.read_arrivals.Goals.{In-Ok-given_arrivals}
 use Rattle.verify_command.proofs.arrivals.read_arrivals.Goals as goal
 
 pub returns-in-Ok-records_behind-clause-whole : goal.returns-in-Ok-records_behind-clause-whole
@@ -30,50 +33,33 @@ returns-in-Err-clause-keeps g c =
     ran_keeps (g.F.Files.view c.args.files.now) (g.F.Files.view c.open.new.self) (g.F.Files.view c.given_arrivals.new.files) c.args.name.now c.in-Ok.file
     c.in-Ok.ensures.opened (record { keeps = x.keeps; none = x.none; said = x.said })
 
+-- all calls after the first were on the file that it opened
+behind : (g : Over) (c : In-Ok-given_arrivals g) (w : View) → Ran (g.F.Files.view c.given_arrivals.new.files) w c.in-Ok.file
+    → Ran (g.F.Files.view c.open.new.self) w c.in-Ok.file
+behind g c w y =
+    let x = c.in-Ok-given_arrivals.ensures in
+    ran_then _ (g.F.Files.view c.given_arrivals.new.files) w c.in-Ok.file (record { keeps = x.keeps; none = x.none; said = x.said }) y
+
 pub returns-in-Ok-records_behind-clause-keeps : goal.returns-in-Ok-records_behind-clause-keeps
 returns-in-Ok-records_behind-clause-keeps g c =
-    let a = g.F.Files.view c.args.files.now in
-    let b = g.F.Files.view c.open.new.self in
-    let d = g.F.Files.view c.given_arrivals.new.files in
-    let e = g.F.Files.view c.records_behind.new.files in
-    let x = c.in-Ok-given_arrivals.ensures in
     let y = c.in-Ok-records_behind.ensures in
-    let first : Ran b d c.in-Ok.file = record { keeps = x.keeps; none = x.none; said = x.said } in
-    ran_keeps a b e c.args.name.now c.in-Ok.file c.in-Ok.ensures.opened
-    (ran_then b d e c.in-Ok.file first (record { keeps = y.keeps; none = y.none; said = y.said }))
+    let ran = behind g (goal.at.returns-in-Ok-records_behind-clause-keeps g c).In-Ok-given_arrivals _ (record { keeps = y.keeps; none = y.none; said = y.said }) in
+    ran_keeps _ _ (g.F.Files.view c.records_behind.new.files) c.args.name.now c.in-Ok.file c.in-Ok.ensures.opened ran
 
 pub returns-in-Ok-records_behind-clause-opens : goal.returns-in-Ok-records_behind-clause-opens
 returns-in-Ok-records_behind-clause-opens g c =
-    let a = g.F.Files.view c.args.files.now in
-    let b = g.F.Files.view c.open.new.self in
-    let d = g.F.Files.view c.given_arrivals.new.files in
-    let e = g.F.Files.view c.records_behind.new.files in
-    let x = c.in-Ok-given_arrivals.ensures in
     let y = c.in-Ok-records_behind.ensures in
-    let first : Ran b d c.in-Ok.file = record { keeps = x.keeps; none = x.none; said = x.said } in
-    ran_opens a b e c.args.name.now c.in-Ok.file c.in-Ok.ensures.opened
-    (ran_then b d e c.in-Ok.file first (record { keeps = y.keeps; none = y.none; said = y.said }))
+    let ran = behind g (goal.at.returns-in-Ok-records_behind-clause-opens g c).In-Ok-given_arrivals _ (record { keeps = y.keeps; none = y.none; said = y.said }) in
+    ran_opens _ _ (g.F.Files.view c.records_behind.new.files) c.args.name.now c.in-Ok.file c.in-Ok.ensures.opened ran
 
 pub returns-clause-keeps : goal.returns-clause-keeps
 returns-clause-keeps g c =
-    let a = g.F.Files.view c.args.files.now in
-    let b = g.F.Files.view c.open.new.self in
-    let d = g.F.Files.view c.given_arrivals.new.files in
-    let e = g.F.Files.view c.records_behind.new.files in
-    let x = c.in-Ok-given_arrivals.ensures in
     let y = c.in-Err-records_behind.ensures in
-    let first : Ran b d c.in-Ok.file = record { keeps = x.keeps; none = x.none; said = x.said } in
-    ran_keeps a b e c.args.name.now c.in-Ok.file c.in-Ok.ensures.opened
-    (ran_then b d e c.in-Ok.file first (record { keeps = y.keeps; none = y.none; said = y.said }))
+    let ran = behind g (goal.at.returns-clause-keeps g c).In-Ok-given_arrivals _ (record { keeps = y.keeps; none = y.none; said = y.said }) in
+    ran_keeps _ _ (g.F.Files.view c.records_behind.new.files) c.args.name.now c.in-Ok.file c.in-Ok.ensures.opened ran
 
 pub returns-clause-opens : goal.returns-clause-opens
 returns-clause-opens g c =
-    let a = g.F.Files.view c.args.files.now in
-    let b = g.F.Files.view c.open.new.self in
-    let d = g.F.Files.view c.given_arrivals.new.files in
-    let e = g.F.Files.view c.records_behind.new.files in
-    let x = c.in-Ok-given_arrivals.ensures in
     let y = c.in-Err-records_behind.ensures in
-    let first : Ran b d c.in-Ok.file = record { keeps = x.keeps; none = x.none; said = x.said } in
-    ran_opens a b e c.args.name.now c.in-Ok.file c.in-Ok.ensures.opened
-    (ran_then b d e c.in-Ok.file first (record { keeps = y.keeps; none = y.none; said = y.said }))
+    let ran = behind g (goal.at.returns-clause-opens g c).In-Ok-given_arrivals _ (record { keeps = y.keeps; none = y.none; said = y.said }) in
+    ran_opens _ _ (g.F.Files.view c.records_behind.new.files) c.args.name.now c.in-Ok.file c.in-Ok.ensures.opened ran

@@ -2,14 +2,17 @@
 use Rattle.std.proofs.Common.{Ok, Err, sym, subst, arith}
 use Rattle.std.specs.Prelude.{IsTrue}
 use Rattle.conf_lines.specs.declared.fault.ConfPlace.{ConfPlace}
+use Rattle.command_base.specs.Configuration.{Accepts}
 use Rattle.command_base.specs.declared.failure.Failure.{Failure}
 use Rattle.command_base.specs.declared.failure.Failure.TheVariants as failure
 use Rattle.command_base.specs.declared.fault.ConfigFault.TheVariants as conf
 use Rattle.command_base.proofs.ReadingLemmas.{accepts_of, configured_of, fits, input_config, read_absent}
 use Rattle.verify_command.specs.Verifying.{VerifyEnds, inputs_of}
 use Rattle.verify_command.proofs.ComeLemmas.{AreHad, arrivals_fail, config_fails, departures_fail, fates_fail, has_read, holds, refuted_fails, same_holds, same_judged, says_comes}
-use Rattle.verify_command.proofs.LeaveLemmas.{fails_at, fails_more, leaves_conf, leaves_said, reached_conf, reached_more}
+use Rattle.verify_command.proofs.LeaveLemmas.{IsPassed, fails_at, fails_more, leaves_conf, leaves_said, reached_conf, reached_more}
 use Rattle.verify_command.proofs.TellLemmas.{told}
+use Rattle.verify_command.proofs.verifying.verify.Given.{Over}
+use Rattle.verify_command.proofs.verifying.verify.Goals.{After-deref-2, In-Some}
 use Rattle.verify_command.proofs.verifying.verify.Goals as goal
 
 pub returns-in-Err-clause-ends : goal.returns-in-Err-clause-ends
@@ -38,6 +41,15 @@ read_arrivals-requires g c = record {
       (configured_of c.args.words.now.interface.now c.in-Ok.ensures.read.text c.in-Ok.conf c.in-Some.found.now c.in-Ok.ensures.read.reads (sym c.in-Some.ensures));
 }
 
+-- once the configuration is read, the interface asked for is in it
+begun : (g : Over) (c : In-Some g)
+    → IsPassed (g.F.Files.view c.args.files.now) (g.F.Files.view c.read_conf.new.files) (inputs_of c.args.words.now)
+begun g c = reached_conf _ _ _ (record { keeps = c.in-Ok.ensures.keeps; only = c.in-Ok.ensures.only }) c.in-Ok.ensures.said c.in-Ok.ensures.no_fault
+
+accepted : (g : Over) (c : In-Some g)
+    → Accepts (g.F.Files.view c.args.files.now) (inputs_of c.args.words.now).config (inputs_of c.args.words.now).interface c.in-Some.found.now
+accepted g c = accepts_of _ _ _ c.in-Ok.conf c.in-Some.found.now c.in-Ok.ensures.read (sym c.in-Some.ensures)
+
 pub returns-in-Err-read_arrivals-clause-ends : goal.returns-in-Err-read_arrivals-clause-ends
 returns-in-Err-read_arrivals-clause-ends g c =
     let u = g.F.Files.view c.args.files.now in
@@ -45,10 +57,9 @@ returns-in-Err-read_arrivals-clause-ends g c =
     let b = g.F.Files.view c.read_arrivals.new.files in
     let n = inputs_of c.args.words.now in
     let x = c.in-Err-read_arrivals.ensures in
-    let accepted = accepts_of _ _ _ c.in-Ok.conf c.in-Some.found.now c.in-Ok.ensures.read (sym c.in-Some.ensures) in
-    let at = reached_conf u a n (record { keeps = c.in-Ok.ensures.keeps; only = c.in-Ok.ensures.only }) c.in-Ok.ensures.said c.in-Ok.ensures.no_fault in
-    fails_more c.configurations_fit.ensures u a b n 2 _ (omega arith) (omega arith) at x.keeps x.opens
-    (arrivals_fail u a b n c.in-Some.found.now c.in-Err-read_arrivals.failure at.leaves.keeps accepted x.why)
+    let first = (goal.at.returns-in-Err-read_arrivals-clause-ends g c).In-Some in
+    fails_more c.configurations_fit.ensures u a b n 2 _ (omega arith) (omega arith) (begun g first) x.keeps x.opens
+    (arrivals_fail u a b n c.in-Some.found.now c.in-Err-read_arrivals.failure (begun g first).leaves.keeps (accepted g first) x.why)
 
 pub returns-in-Err-read_file-clause-ends : goal.returns-in-Err-read_file-clause-ends
 returns-in-Err-read_file-clause-ends g c =
@@ -59,10 +70,9 @@ returns-in-Err-read_file-clause-ends g c =
     let n = inputs_of c.args.words.now in
     let y = c.in-Ok-read_arrivals.ensures in
     let x = c.in-Err-read_file.ensures in
-    let accepted = accepts_of _ _ _ c.in-Ok.conf c.in-Some.found.now c.in-Ok.ensures.read (sym c.in-Some.ensures) in
-    let at = reached_conf u a n (record { keeps = c.in-Ok.ensures.keeps; only = c.in-Ok.ensures.only }) c.in-Ok.ensures.said c.in-Ok.ensures.no_fault in
-    let next = reached_more u a b n 2 (omega arith) (omega arith) at y.keeps y.opens y.said y.no_fault in
-    let read = has_read u a n c.in-Some.found.now c.in-Ok-read_arrivals.records at.leaves.keeps accepted y.whole in
+    let first = (goal.at.returns-in-Err-read_file-clause-ends g c).In-Some in
+    let next = reached_more u a b n 2 (omega arith) (omega arith) (begun g first) y.keeps y.opens y.said y.no_fault in
+    let read = has_read u a n c.in-Some.found.now c.in-Ok-read_arrivals.records (begun g first).leaves.keeps (accepted g first) y.whole in
     let P : Failure → Type 0 = λ f. VerifyEnds u d n (Err f) in
     subst P (sym c.departures_failure.ensures)
     (fails_more c.configurations_fit.ensures u b d n 3 _ (omega arith) (omega arith) next x.keeps x.opens
@@ -79,11 +89,10 @@ returns-in-Err-read_file-2-clause-ends g c =
     let y = c.in-Ok-read_arrivals.ensures in
     let z = c.in-Ok-read_file.ensures in
     let x = c.in-Err-read_file-2.ensures in
-    let accepted = accepts_of _ _ _ c.in-Ok.conf c.in-Some.found.now c.in-Ok.ensures.read (sym c.in-Some.ensures) in
-    let at = reached_conf u a n (record { keeps = c.in-Ok.ensures.keeps; only = c.in-Ok.ensures.only }) c.in-Ok.ensures.said c.in-Ok.ensures.no_fault in
-    let next = reached_more u a b n 2 (omega arith) (omega arith) at y.keeps y.opens y.said y.no_fault in
+    let first = (goal.at.returns-in-Err-read_file-2-clause-ends g c).In-Some in
+    let next = reached_more u a b n 2 (omega arith) (omega arith) (begun g first) y.keeps y.opens y.said y.no_fault in
     let then = reached_more u b d n 3 (omega arith) (omega arith) next z.keeps z.opens z.said z.no_fault in
-    let read = has_read u a n c.in-Some.found.now c.in-Ok-read_arrivals.records at.leaves.keeps accepted y.whole in
+    let read = has_read u a n c.in-Some.found.now c.in-Ok-read_arrivals.records (begun g first).leaves.keeps (accepted g first) y.whole in
     let had = holds u b n.departures c.in-Ok-read_file.departures.items next.leaves.keeps z.whole z.short in
     let P : Failure → Type 0 = λ f. VerifyEnds u e n (Err f) in
     subst P (sym c.fates_failure.ensures)
@@ -95,8 +104,12 @@ judge-requires-clause-interface g c =
     fits c.in-Some.found.now c.configurations_fit.ensures
     (configured_of c.args.words.now.interface.now c.in-Ok.ensures.read.text c.in-Ok.conf c.in-Some.found.now c.in-Ok.ensures.read.reads (sym c.in-Some.ensures))
 
-pub returns-in-Err-judge-clause-ends : goal.returns-in-Err-judge-clause-ends
-returns-in-Err-judge-clause-ends g c =
+-- once all four files are read
+all : (g : Over) (c : After-deref-2 g)
+    → IsPassed (g.F.Files.view c.args.files.now) (g.F.Files.view c.read_file-2.new.files) (inputs_of c.args.words.now)
+    × (IsTrue (g.F.Files.view c.args.files.now).tells
+    → AreHad (g.F.Files.view c.args.files.now) (inputs_of c.args.words.now) c.in-Some.found.now c.in-Ok-read_arrivals.records c.deref.result.now c.deref-2.result.now)
+all g c =
     let u = g.F.Files.view c.args.files.now in
     let a = g.F.Files.view c.read_conf.new.files in
     let b = g.F.Files.view c.read_arrivals.new.files in
@@ -106,91 +119,62 @@ returns-in-Err-judge-clause-ends g c =
     let y = c.in-Ok-read_arrivals.ensures in
     let z = c.in-Ok-read_file.ensures in
     let f = c.in-Ok-read_file-2.ensures in
-    let found = c.in-Some.found.now in
-    let accepted = accepts_of _ _ _ c.in-Ok.conf found c.in-Ok.ensures.read (sym c.in-Some.ensures) in
-    let at = reached_conf u a n (record { keeps = c.in-Ok.ensures.keeps; only = c.in-Ok.ensures.only }) c.in-Ok.ensures.said c.in-Ok.ensures.no_fault in
-    let next = reached_more u a b n 2 (omega arith) (omega arith) at y.keeps y.opens y.said y.no_fault in
-    let then = reached_more u b d n 3 (omega arith) (omega arith) next z.keeps z.opens z.said z.no_fault in
-    let all = reached_more u d e n 4 (omega arith) (omega arith) then f.keeps f.opens f.said f.no_fault in
-    let answers = c.in-Ok-read_arrivals.records in
-    let read = has_read u a n found answers at.leaves.keeps accepted y.whole in
-    let had = same_holds u n.departures c.in-Ok-read_file.departures.items c.deref.result.now c.deref.ensures.value
-    (holds u b n.departures c.in-Ok-read_file.departures.items next.leaves.keeps z.whole z.short) in
-    let last = same_holds u n.fates c.in-Ok-read_file-2.fates.items c.deref-2.result.now c.deref-2.ensures.value
-    (holds u d n.fates c.in-Ok-read_file-2.fates.items then.leaves.keeps f.whole f.short) in
-    let have : IsTrue u.tells → AreHad u n found answers c.deref.result.now c.deref-2.result.now =
-    λ t. record { arrivals = read t; departures_had = had t; fates_had = last t } in
-    let P : Failure → Type 0 = λ x. VerifyEnds u e n (Err x) in
+    let first = (goal.at.judge-requires-clause-interface g c).In-Some in
+    let next = reached_more u a b n 2 (omega arith) (omega arith) (begun g first) y.keeps y.opens y.said y.no_fault in
+    let then = reached_more u b d n 3 (omega arith) (omega arith) next z.keeps z.opens z.said z.no_fault in (
+      reached_more u d e n 4 (omega arith) (omega arith) then f.keeps f.opens f.said f.no_fault,
+      λ t. record {
+        arrivals = has_read u a n c.in-Some.found.now c.in-Ok-read_arrivals.records (begun g first).leaves.keeps (accepted g first) y.whole t;
+        departures_had = same_holds u n.departures c.in-Ok-read_file.departures.items c.deref.result.now c.deref.ensures.value
+            (holds u b n.departures c.in-Ok-read_file.departures.items next.leaves.keeps z.whole z.short) t;
+        fates_had = same_holds u n.fates c.in-Ok-read_file-2.fates.items c.deref-2.result.now c.deref-2.ensures.value
+            (holds u d n.fates c.in-Ok-read_file-2.fates.items then.leaves.keeps f.whole f.short) t;
+      },
+    )
+
+pub returns-in-Err-judge-clause-ends : goal.returns-in-Err-judge-clause-ends
+returns-in-Err-judge-clause-ends g c =
+    let u = g.F.Files.view c.args.files.now in
+    let e = g.F.Files.view c.read_file-2.new.files in
+    let n = inputs_of c.args.words.now in
+    let x = all g (goal.at.returns-in-Err-judge-clause-ends g c).After-deref-2 in
+    let P : Failure → Type 0 = λ f. VerifyEnds u e n (Err f) in
     subst P (sym c.refutation.ensures)
-    (fails_at c.configurations_fit.ensures u e n _ all.leaves
-    (refuted_fails u e n found answers c.deref.result.now c.deref-2.result.now c.in-Err-judge.why have c.in-Err-judge.ensures.refuted))
+    (fails_at c.configurations_fit.ensures u e n _ x.0.leaves
+    (refuted_fails u e n c.in-Some.found.now c.in-Ok-read_arrivals.records c.deref.result.now c.deref-2.result.now c.in-Err-judge.why x.1 c.in-Err-judge.ensures.refuted))
 
 pub returns-in-Ok-say_verdict-clause-ends : goal.returns-in-Ok-say_verdict-clause-ends
 returns-in-Ok-say_verdict-clause-ends g c =
     let u = g.F.Files.view c.args.files.now in
-    let a = g.F.Files.view c.read_conf.new.files in
-    let b = g.F.Files.view c.read_arrivals.new.files in
-    let d = g.F.Files.view c.read_file.new.files in
     let e = g.F.Files.view c.read_file-2.new.files in
-    let n = inputs_of c.args.words.now in
-    let y = c.in-Ok-read_arrivals.ensures in
-    let z = c.in-Ok-read_file.ensures in
-    let f = c.in-Ok-read_file-2.ensures in
-    let found = c.in-Some.found.now in
-    let accepted = accepts_of _ _ _ c.in-Ok.conf found c.in-Ok.ensures.read (sym c.in-Some.ensures) in
-    let at = reached_conf u a n (record { keeps = c.in-Ok.ensures.keeps; only = c.in-Ok.ensures.only }) c.in-Ok.ensures.said c.in-Ok.ensures.no_fault in
-    let next = reached_more u a b n 2 (omega arith) (omega arith) at y.keeps y.opens y.said y.no_fault in
-    let then = reached_more u b d n 3 (omega arith) (omega arith) next z.keeps z.opens z.said z.no_fault in
-    let all = reached_more u d e n 4 (omega arith) (omega arith) then f.keeps f.opens f.said f.no_fault in
-    let answers = c.in-Ok-read_arrivals.records in
-    let read = has_read u a n found answers at.leaves.keeps accepted y.whole in
-    let had = same_holds u n.departures c.in-Ok-read_file.departures.items c.deref.result.now c.deref.ensures.value
-    (holds u b n.departures c.in-Ok-read_file.departures.items next.leaves.keeps z.whole z.short) in
-    let last = same_holds u n.fates c.in-Ok-read_file-2.fates.items c.deref-2.result.now c.deref-2.ensures.value
-    (holds u d n.fates c.in-Ok-read_file-2.fates.items then.leaves.keeps f.whole f.short) in
-    let have : IsTrue u.tells → AreHad u n found answers c.deref.result.now c.deref-2.result.now =
-    λ t. record { arrivals = read t; departures_had = had t; fates_had = last t } in
     let w = g.F.Files.view c.say_verdict.new.files in
+    let n = inputs_of c.args.words.now in
+    let found = c.in-Some.found.now in
+    let answers = c.in-Ok-read_arrivals.records in
+    let x = all g (goal.at.returns-in-Ok-say_verdict-clause-ends g c).After-deref-2 in
     let judged = same_judged found answers c.deref.result.now c.deref-2.result.now c.in-Ok-judge.late.items c.deref-3.result.now c.deref-3.ensures.value c.in-Ok-judge.ensures.verified in
     let comes = says_comes u e w n found answers c.deref.result.now c.deref-2.result.now c.deref-3.result.now (Ok c.in-Ok-say_verdict.done)
-    all.leaves.keeps all.silent all.counts have judged c.in-Ok-say_verdict.ensures.said.says in
+    x.0.leaves.keeps x.0.silent x.0.counts x.1 judged c.in-Ok-say_verdict.ensures.said.says in
     record {
       comes = comes;
       told = λ t q. told c.configurations_fit.ensures u w n (Ok c.in-Ok-say_verdict.done) comes t q;
-      leaves = leaves_said u e w n all.leaves c.in-Ok-say_verdict.ensures.said.only;
+      leaves = leaves_said u e w n x.0.leaves c.in-Ok-say_verdict.ensures.said.only;
     }
 
 pub returns-clause-ends : goal.returns-clause-ends
 returns-clause-ends g c =
     let u = g.F.Files.view c.args.files.now in
-    let a = g.F.Files.view c.read_conf.new.files in
-    let b = g.F.Files.view c.read_arrivals.new.files in
-    let d = g.F.Files.view c.read_file.new.files in
     let e = g.F.Files.view c.read_file-2.new.files in
-    let n = inputs_of c.args.words.now in
-    let y = c.in-Ok-read_arrivals.ensures in
-    let z = c.in-Ok-read_file.ensures in
-    let f = c.in-Ok-read_file-2.ensures in
-    let found = c.in-Some.found.now in
-    let accepted = accepts_of _ _ _ c.in-Ok.conf found c.in-Ok.ensures.read (sym c.in-Some.ensures) in
-    let at = reached_conf u a n (record { keeps = c.in-Ok.ensures.keeps; only = c.in-Ok.ensures.only }) c.in-Ok.ensures.said c.in-Ok.ensures.no_fault in
-    let next = reached_more u a b n 2 (omega arith) (omega arith) at y.keeps y.opens y.said y.no_fault in
-    let then = reached_more u b d n 3 (omega arith) (omega arith) next z.keeps z.opens z.said z.no_fault in
-    let all = reached_more u d e n 4 (omega arith) (omega arith) then f.keeps f.opens f.said f.no_fault in
-    let answers = c.in-Ok-read_arrivals.records in
-    let read = has_read u a n found answers at.leaves.keeps accepted y.whole in
-    let had = same_holds u n.departures c.in-Ok-read_file.departures.items c.deref.result.now c.deref.ensures.value
-    (holds u b n.departures c.in-Ok-read_file.departures.items next.leaves.keeps z.whole z.short) in
-    let last = same_holds u n.fates c.in-Ok-read_file-2.fates.items c.deref-2.result.now c.deref-2.ensures.value
-    (holds u d n.fates c.in-Ok-read_file-2.fates.items then.leaves.keeps f.whole f.short) in
-    let have : IsTrue u.tells → AreHad u n found answers c.deref.result.now c.deref-2.result.now =
-    λ t. record { arrivals = read t; departures_had = had t; fates_had = last t } in
     let w = g.F.Files.view c.say_verdict.new.files in
+    let n = inputs_of c.args.words.now in
+    let found = c.in-Some.found.now in
+    let answers = c.in-Ok-read_arrivals.records in
+    let x = all g (goal.at.returns-clause-ends g c).After-deref-2 in
     let judged = same_judged found answers c.deref.result.now c.deref-2.result.now c.in-Ok-judge.late.items c.deref-3.result.now c.deref-3.ensures.value c.in-Ok-judge.ensures.verified in
     let comes = says_comes u e w n found answers c.deref.result.now c.deref-2.result.now c.deref-3.result.now (Err c.in-Err-say_verdict.failure)
-    all.leaves.keeps all.silent all.counts have judged c.in-Err-say_verdict.ensures.said.says in
+    x.0.leaves.keeps x.0.silent x.0.counts x.1 judged c.in-Err-say_verdict.ensures.said.says in
     record {
       comes = comes;
       told = λ t q. told c.configurations_fit.ensures u w n (Err c.in-Err-say_verdict.failure) comes t q;
-      leaves = leaves_said u e w n all.leaves c.in-Err-say_verdict.ensures.said.only;
+      leaves = leaves_said u e w n x.0.leaves c.in-Err-say_verdict.ensures.said.only;
     }
