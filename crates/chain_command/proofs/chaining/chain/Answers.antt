@@ -14,9 +14,11 @@ use Rattle.command_base.proofs.ReadingLemmas.{accepts_of, configured_of, input_c
 use Rattle.chain_command.specs.Chaining.{ChainEnds}
 use Rattle.chain_command.specs.Links.{links_read}
 use Rattle.play_command.proofs.BehindLemmas.{accepts_since}
-use Rattle.chain_command.proofs.ChainLemmas.{chained_ends, classic_then, has_read, next_then, unplayed_ends, unplayed_second, unwritten_ends}
+use Rattle.chain_command.proofs.ChainLemmas.{HasRead, chained_ends, classic_then, has_read, next_then, unplayed_ends, unplayed_second, unwritten_ends}
 use Rattle.chain_command.proofs.FirstLemmas.{config_ends, next_ends}
 use Rattle.chain_command.proofs.LeavingLemmas.{apart}
+use Rattle.chain_command.proofs.chaining.chain.Given.{Over}
+use Rattle.chain_command.proofs.chaining.chain.Goals.{In-Some-interface}
 use Rattle.chain_command.proofs.chaining.chain.Goals as goal
 
 pub returns-in-Err-clause-ends : goal.returns-in-Err-clause-ends
@@ -66,6 +68,13 @@ play_first-requires-clause-accepted g c =
 pub play_first-requires-clause-distinct : goal.play_first-requires-clause-distinct
 play_first-requires-clause-distinct g c = (apart (links_read c.args.words.now) c.requires).first
 
+-- both interfaces are in the configuration that was read
+both : (g : Over) (c : In-Some-interface g)
+    → HasRead (g.F.Files.view c.args.files.now) (g.F.Files.view c.read_conf.new.files) (links_read c.args.words.now) c.in-Some.found.now c.in-Some-interface.next.now
+both g c =
+    has_read _ _ _ c.in-Ok.conf _ _ c.requires (record { keeps = c.in-Ok.ensures.keeps; only = c.in-Ok.ensures.only }) c.in-Ok.ensures.said
+    c.in-Ok.ensures.no_fault c.in-Ok.ensures.read (sym c.in-Some.ensures) (sym c.in-Some-interface.ensures)
+
 pub returns-in-Err-play_first-clause-ends : goal.returns-in-Err-play_first-clause-ends
 returns-in-Err-play_first-clause-ends g c =
     let n = links_read c.args.words.now in
@@ -74,8 +83,7 @@ returns-in-Err-play_first-clause-ends g c =
     let w = g.F.Files.view c.play_first.new.files in
     let x = c.in-Err-play_first.ensures in
     let P : Failure → Type 0 = λ f. ChainEnds u w n c.args.words.now.play.seed (Err f) in
-    let r = has_read u a n c.in-Ok.conf _ _ c.requires (record { keeps = c.in-Ok.ensures.keeps; only = c.in-Ok.ensures.only }) c.in-Ok.ensures.said
-    c.in-Ok.ensures.no_fault c.in-Ok.ensures.read (sym c.in-Some.ensures) (sym c.in-Some-interface.ensures) in
+    let r = both g (goal.at.returns-in-Err-play_first-clause-ends g c).In-Some-interface in
     subst P (sym c.unplayed_first.ensures)
     (unplayed_ends u a n c.in-Some.found.now c.in-Some-interface.next.now r w c.args.words.now.play.seed c.in-Err-play_first.fault x.ends x.high)
 
@@ -93,8 +101,7 @@ play_second-requires-clause-accepted g c =
     let next = c.in-Some-interface.next.now in
     let seed = c.args.words.now.play.seed in
     let x = c.in-Ok-play_first.ensures in
-    let r = has_read u a n c.in-Ok.conf _ _ c.requires (record { keeps = c.in-Ok.ensures.keeps; only = c.in-Ok.ensures.only }) c.in-Ok.ensures.said
-    c.in-Ok.ensures.no_fault c.in-Ok.ensures.read (sym c.in-Some.ensures) (sym c.in-Some-interface.ensures) in
+    let r = both g (goal.at.play_second-requires-clause-accepted g c).In-Some-interface in
     let P : Names → Type 0 = λ z. Accepts w z.config z.interface next in
     subst P (sym c.second_words.ensures.names) (next_then u a n found next r w seed x.done.ends x.high)
 
@@ -108,8 +115,7 @@ play_second-requires-clause-classic g c =
     let next = c.in-Some-interface.next.now in
     let seed = c.args.words.now.play.seed in
     let x = c.in-Ok-play_first.ensures in
-    let r = has_read u a n c.in-Ok.conf _ _ c.requires (record { keeps = c.in-Ok.ensures.keeps; only = c.in-Ok.ensures.only }) c.in-Ok.ensures.said
-    c.in-Ok.ensures.no_fault c.in-Ok.ensures.read (sym c.in-Some.ensures) (sym c.in-Some-interface.ensures) in
+    let r = both g (goal.at.play_second-requires-clause-classic g c).In-Some-interface in
     let P : Names → Type 0 = λ z. IsTrue w.tells → (given : List ℕ) → w.bytes z.arrivals ≡ Some given → is_pcapng given ≡ false in
     subst P (sym c.second_words.ensures.names) (classic_then u a n found next r w seed x.done.ends x.high)
 
@@ -128,8 +134,7 @@ returns-in-Err-play_second-clause-ends g c =
     let next = c.in-Some-interface.next.now in
     let seed = c.args.words.now.play.seed in
     let x = c.in-Ok-play_first.ensures in
-    let r = has_read u a n c.in-Ok.conf _ _ c.requires (record { keeps = c.in-Ok.ensures.keeps; only = c.in-Ok.ensures.only }) c.in-Ok.ensures.said
-    c.in-Ok.ensures.no_fault c.in-Ok.ensures.read (sym c.in-Some.ensures) (sym c.in-Some-interface.ensures) in
+    let r = both g (goal.at.returns-in-Err-play_second-clause-ends g c).In-Some-interface in
     let P : Failure → Type 0 = λ f. ChainEnds u (g.F.Files.view c.play_second.new.files) n seed (Err f) in
     subst P (sym c.second_failure.ensures)
     (unplayed_second u a n found next r w seed x.done.ends x.high (g.F.Files.view c.play_second.new.files) _ _ c.in-Err-play_second.fault
@@ -145,8 +150,7 @@ returns-in-Ok-write_paths-clause-ends g c =
     let next = c.in-Some-interface.next.now in
     let seed = c.args.words.now.play.seed in
     let x = c.in-Ok-play_first.ensures in
-    let r = has_read u a n c.in-Ok.conf _ _ c.requires (record { keeps = c.in-Ok.ensures.keeps; only = c.in-Ok.ensures.only }) c.in-Ok.ensures.said
-    c.in-Ok.ensures.no_fault c.in-Ok.ensures.read (sym c.in-Some.ensures) (sym c.in-Some-interface.ensures) in
+    let r = both g (goal.at.returns-in-Ok-write_paths-clause-ends g c).In-Some-interface in
     let y = c.in-Ok-play_second.ensures in
     let z = c.in-Ok-write_paths.ensures in
     chained_ends u a w (g.F.Files.view c.play_second.new.files) (g.F.Files.view c.write_paths.new.files) n found next r seed _ _ c.second_words.ensures.names
@@ -163,8 +167,7 @@ returns-clause-ends g c =
     let next = c.in-Some-interface.next.now in
     let seed = c.args.words.now.play.seed in
     let x = c.in-Ok-play_first.ensures in
-    let r = has_read u a n c.in-Ok.conf _ _ c.requires (record { keeps = c.in-Ok.ensures.keeps; only = c.in-Ok.ensures.only }) c.in-Ok.ensures.said
-    c.in-Ok.ensures.no_fault c.in-Ok.ensures.read (sym c.in-Some.ensures) (sym c.in-Some-interface.ensures) in
+    let r = both g (goal.at.returns-clause-ends g c).In-Some-interface in
     let y = c.in-Ok-play_second.ensures in
     let z = c.in-Err-write_paths.ensures in
     let P : Failure → Type 0 = λ f. ChainEnds u (g.F.Files.view c.write_paths.new.files) n seed (Err f) in
