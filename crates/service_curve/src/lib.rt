@@ -7,7 +7,7 @@
 //! Curve Algorithm for Link-Sharing, Real-Time and Priority Services", SIGCOMM 1997.
 #![tactic(auto)]
 
-ghost use Rattle.std.specs.Prelude.{◌≡◌, ◌≢◌, ◌<◌, ◌≤◌, ◌+◌, ◌-◌, ◌*◌, ◌^◌, ◌↔◌, ℕ, IfSome, Some, None};
+ghost use Rattle.std.specs.Prelude.{◌≡◌, ◌≢◌, ◌<◌, ◌≤◌, ◌+◌, ◌-◌, ◌*◌, ◌/◌, ◌^◌, ◌↔◌, ℕ, IfSome, Some, None};
 ghost use Rattle.service_curve.specs.Curve.{IsInRange, amount, curve, first, straight};
 ghost use Rattle.service_curve.specs.Moment.{IsFirst};
 
@@ -74,12 +74,24 @@ impl Curve {
             if m1 == 0 {
                 return Some(0);
             }
-            return Some((wanted + (m1 - 1)) / m1);
+            return Some(quotient(wanted + (m1 - 1), self.m1));
         }
         if m2 == 0 {
             return None;
         }
-        Some(self.d as u128 + (wanted - bend + (m2 - 1)) / m2)
+        Some(self.d as u128 + quotient(wanted - bend + (m2 - 1), self.m2))
+    }
+}
+
+/// The whole times that a slope goes into an amount. Most amounts are short enough for a division of 64 bits, which is cheaper.
+fn quotient(amount: u128, slope: u64) -> u128
+    requires { 0 < slope }
+    ensures { result ≡ amount / slope }
+{
+    if amount <= u128::from(u64::MAX) {
+        u128::from(amount as u64 / slope)
+    } else {
+        amount / u128::from(slope)
     }
 }
 
