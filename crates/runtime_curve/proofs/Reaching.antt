@@ -4,7 +4,7 @@ use Rattle.std.specs.Prelude.{nat_le, if◌then◌else◌, IsTrue, ◌↔◌, Op
 use Rattle.service_curve.specs.declared.Curve.{Curve}
 use Rattle.runtime_curve.specs.declared.Opening.{Opening}
 use Rattle.runtime_curve.specs.Opening.{line, least_of, least_over, IsAtLeast, Reaches}
-use Rattle.runtime_curve.specs.Deadline.{reaches}
+use Rattle.runtime_curve.specs.Deadline.{deadline, reaches}
 
 -- a least of one and more reaches what all of them reach
 both_reach : (x n : ℕ) (o : Option ℕ) → n ≤ x → IsAtLeast o n → IsAtLeast (least_of x o) n
@@ -50,3 +50,7 @@ true_reaches s (o ∷ os) t count r = go (nat_le count (line s t o)) refl (true_
 pub reaches_least : (s : Curve) (os : List Opening) (t count : ℕ) → IsTrue (reaches s os t count) ↔ IsAtLeast (least_over s os t) count
 reaches_least s os t count =
     (λ e. least_reaches s os t count (reaches_true s os t count e), λ r. true_reaches s os t count (least_reached s os t count r))
+
+-- openings that had a count already allow it at every moment
+pub counted : (s : Curve) (one other : Opening) (count : ℕ) → nat_le count one.count ≡ true → nat_le count other.count ≡ true → deadline s (one ∷ other ∷ []) count ≡ Some 0
+counted s one other count e f = rw e (rw f refl)

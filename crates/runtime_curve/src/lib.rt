@@ -25,7 +25,7 @@ mod held;
 mod lines;
 
 use held::{Held, with_opening};
-use lines::{both_allow, eligible_curve, later_of, latest_of};
+use lines::{both_allow, both_counted, eligible_curve, later_of, latest_of};
 
 /// A moment at which a class opened, in nanoseconds, and the units that it had been sent by real time before it.
 #[derive(Clone, Copy, Debug, PartialEq, Eq)]
@@ -126,6 +126,9 @@ impl Running {
         match self.held {
             None => Some(0),
             Some(held) => {
+                if both_counted(held.steep, held.flat, count) {
+                    return Some(held.last.at);
+                }
                 let curve = eligible_curve(&self.curve);
                 let reached = latest_of(&curve, held.steep, held.flat, count);
                 later_of(reached, Some(held.last.at))

@@ -1,5 +1,6 @@
 //! What openings allow, one by one and two together.
-ghost use Rattle.std.specs.Prelude.{◌≡◌, ◌<◌, ◌≤◌, ◌^◌, ◌∷◌, [], nat_le};
+ghost use Rattle.std.specs.Prelude.{◌≡◌, ◌<◌, ◌≤◌, ◌^◌, ◌∷◌, [], Some, nat_le, true};
+ghost use Rattle.service_curve.specs.declared.Curve.{Curve};
 ghost use Rattle.service_curve.specs.Curve.{IsInRange};
 ghost use Rattle.runtime_curve.specs.Opening.{IsWithin, line, eligible_curve};
 ghost use Rattle.runtime_curve.specs.Deadline.{later_of, reached_at, deadline, reaches};
@@ -46,6 +47,14 @@ pub fn latest_of(curve: &Curve, one: Opening, other: Opening, count: u128) -> Op
         return reached;
     }
     later_of(reached, later_of(reached_at(curve, other, count), Some(0)))
+}
+
+/// Two openings already had a count, so that they allow it at every moment: most classes open so.
+#[tactic(auto, using(crate::proofs::Reaching::counted))]
+pub fn both_counted(one: Opening, other: Opening, count: u128) -> bool
+    ensures { result ≡ true → (s : Curve) → deadline s (one ∷ other ∷ []) count ≡ Some 0 }
+{
+    count <= one.count && count <= other.count
 }
 
 /// The curve that makes a class eligible.

@@ -1,5 +1,5 @@
-use Rattle.std.proofs.Common.{refl, ap, sym, subst, ◌∙◌}
-use Rattle.std.specs.Prelude.{◌≡◌, ℕ, Some}
+use Rattle.std.proofs.Common.{refl, ap, sym, subst, arith, ◌≡◌, ◌∙◌}
+use Rattle.std.specs.Prelude.{ℕ, Some, max}
 use Rattle.std.specs.declared.option.Option.{Option}
 use Rattle.service_curve.specs.declared.Curve.{Curve}
 use Rattle.runtime_curve.specs.declared.held.Held.{Held}
@@ -15,18 +15,37 @@ unfolding soonest_now last_of
 returns-in-None-clause-now c =
     subst (λ (o : Option Held). Some 0 ≡ from_last (last_held o) (deadline (eligible_curve c.args.self.now.curve) (both o) c.args.count)) (sym c.in-None.is) refl
 
-pub returns-in-Some-clause-now : goal.returns-in-Some-clause-now
+pub returns-else-both_counted-clause-now : goal.returns-else-both_counted-clause-now
 unfolding soonest_now last_of
-returns-in-Some-clause-now c =
+returns-else-both_counted-clause-now c =
     subst (λ (o : Option Held). c.later_of.result ≡ from_last (last_held o) (deadline (eligible_curve c.args.self.now.curve) (both o) c.args.count)) (sym c.in-Some.is)
     (subst (λ (x : Curve). c.later_of.result ≡ later_of (deadline x (both (Some c.in-Some.held)) c.args.count) (Some c.in-Some.held.last.at))
     c.eligible_curve-curve.ensures.is
     (c.later_of.ensures ∙ ap (λ (o : Option ℕ). later_of o (Some c.in-Some.held.last.at)) c.latest_of-reached.ensures))
 
-pub returns-in-Some-clause-is : goal.returns-in-Some-clause-is
-returns-in-Some-clause-is c = λ s os stands. returns-in-Some-clause-now c ∙ soonest_stands c.args.self.now s os c.args.count stands c.requires.opened
+pub returns-else-both_counted-clause-is : goal.returns-else-both_counted-clause-is
+returns-else-both_counted-clause-is c = λ s os stands. returns-else-both_counted-clause-now c ∙ soonest_stands c.args.self.now s os c.args.count stands c.requires.opened
 
-pub returns-in-Some-clause-first : goal.returns-in-Some-clause-first
-returns-in-Some-clause-first c = λ s os stands.
+pub returns-else-both_counted-clause-first : goal.returns-else-both_counted-clause-first
+returns-else-both_counted-clause-first c = λ s os stands.
     let truth = soonest_now_first c.args.self.now s os c.args.count stands c.requires.opened in
-    rw (sym (returns-in-Some-clause-now c)) at truth
+    rw (sym (returns-else-both_counted-clause-now c)) at truth
+
+pub returns-then-both_counted-clause-now : goal.returns-then-both_counted-clause-now
+unfolding soonest_now last_of
+returns-then-both_counted-clause-now c =
+    subst (λ (o : Option Held). Some c.in-Some.held.last.at ≡ from_last (last_held o) (deadline (eligible_curve c.args.self.now.curve) (both o) c.args.count)) (sym c.in-Some.is)
+    (ap (λ n. Some n) (at_last c.in-Some.held.last.at)
+    ∙ sym (ap (λ (o : Option ℕ). later_of o (Some c.in-Some.held.last.at)) (c.both_counted.ensures c.if-both_counted.true (eligible_curve c.args.self.now.curve))))
+  where
+    at_last : (t : ℕ) → t ≡ max 0 t
+    at_last t = omega arith
+
+pub returns-then-both_counted-clause-is : goal.returns-then-both_counted-clause-is
+returns-then-both_counted-clause-is c = λ s os stands.
+    returns-then-both_counted-clause-now c ∙ soonest_stands c.args.self.now s os c.args.count stands c.requires.opened
+
+pub returns-then-both_counted-clause-first : goal.returns-then-both_counted-clause-first
+returns-then-both_counted-clause-first c = λ s os stands.
+    let truth = soonest_now_first c.args.self.now s os c.args.count stands c.requires.opened in
+    rw (sym (returns-then-both_counted-clause-now c)) at truth
