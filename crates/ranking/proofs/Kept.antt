@@ -9,7 +9,7 @@ use Rattle.ranking.proofs.Placed.{IsTakenAt, taken_found, put_found}
 use Rattle.ranking.proofs.Ranks.{ranked_true, true_ranked, below_true, true_below, rekeyed, with_ranked, with_below, without_ranked, without_below, has_room}
 
 -- a search over copies of the lists is one over the lists
-found_in : (keys seen_keys : List (Option ℕ)) (order seen : List ℕ) (c k : ℕ) → seen_keys ≡ keys → seen ≡ order → IsFound seen_keys seen c k k → IsFound keys order c k k
+pub found_in : (keys seen_keys : List (Option ℕ)) (order seen : List ℕ) (c k : ℕ) → seen_keys ≡ keys → seen ≡ order → IsFound seen_keys seen c k k → IsFound keys order c k k
 found_in keys seen_keys order seen c k e f found =
     subst (λ (xs : List ℕ). IsFound keys xs c k k) f (subst (λ (ks : List (Option ℕ)). IsFound ks seen c k k) e found)
 

@@ -5,3 +5,4 @@ pub mod Ranks
 pub mod Kept
 pub mod Orders
 pub mod Subsets
+pub mod Rekeyed

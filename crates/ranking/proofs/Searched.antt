@@ -1,7 +1,8 @@
 -- What a look at the middle adds to a search.
-use Rattle.std.proofs.Common.{◌≡◌, ◌<◌, ◌≤◌, ◌+◌, ◌⊎◌, inl, inr, ℕ, Bool, true, false, List, [], ◌∷◌, Some, length, refl, sym, ap, arith, get_or, ◌∙◌}
+use Rattle.std.proofs.Common.{◌≡◌, ◌<◌, ◌≤◌, ◌+◌, ◌⊎◌, inl, inr, ℕ, Bool, true, false, List, [], ◌∷◌, Some, length, refl, sym, ap, arith, get_or, ◌-◌, ◌∙◌}
 use Rattle.std.specs.Prelude.{Option, slice_get}
 use Rattle.std.proofs.lemmas.Bool.{cases_lt}
+use Rattle.std.proofs.lemmas.Option.{get_or_from_slice_get}
 use Rattle.ranking.specs.Order.{is_before, is_ranked, key_of}
 use Rattle.ranking.specs.Search.{IsFound, IsRanked}
 use Rattle.ranking.proofs.Ordered.{before_trans, goes_not, in_order}
@@ -59,3 +60,22 @@ front_below keys (y ∷ ys) c x r e b =
 -- where the front is the class itself
 pub front_found : (keys : List (Option ℕ)) (xs : List ℕ) (c x : ℕ) → is_ranked keys xs ≡ true → slice_get xs 0 ≡ Some x → x ≡ c → IsFound keys xs c 0 0
 front_found keys xs c x r e same = front_below keys xs c x r e (ap (λ n. is_before keys n c) same ∙ goes_not (key_of keys c) c)
+
+-- where the last is the class itself
+pub last_found : (keys : List (Option ℕ)) (xs : List ℕ) (c x : ℕ) → is_ranked keys xs ≡ true → slice_get xs (length xs - 1) ≡ Some x → x ≡ c
+    → IsFound keys xs c (length xs - 1) (length xs - 1)
+last_found keys [] c x r e same = absurd cc
+last_found keys (y ∷ ys) c x r e same = record {
+  in_order = omega arith;
+  within = omega arith;
+  before = λ k a. ap (λ n. is_before keys (get_or (y ∷ ys) k 0) n) (sym is) ∙ in_order keys (y ∷ ys) k (length ys) (ranked_true keys (y ∷ ys) r) (omega (arith, a)) (omega arith);
+  from = λ k a b.
+      let at : k ≡ length ys = omega (arith, a, b) in
+      ap (λ n. is_before keys n c) (ap (λ n. get_or (y ∷ ys) n 0) at ∙ is) ∙ goes_not (key_of keys c) c;
+}
+  where
+    is : get_or (y ∷ ys) (length ys) 0 ≡ c
+    is = get_or_from_slice_get (y ∷ ys) (length ys) x 0 (ap (λ n. slice_get (y ∷ ys) n) back ∙ e) ∙ same
+      where
+        back : length ys ≡ length (y ∷ ys) - 1
+        back = omega arith

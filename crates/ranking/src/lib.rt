@@ -14,7 +14,7 @@ use std::alloc::Global;
 
 mod search;
 
-use search::{goes_before, place_in, place_of};
+use search::{goes_before, is_ahead, is_behind, place_in, place_of};
 
 /// Some of the classes from 0 on, in the order of their keys.
 ///
@@ -88,13 +88,18 @@ impl Ranking {
     }
 
     /// Takes a class out where it `was` there, and puts it in with a key where it `is` to be there. It takes the time of
-    /// `take` and `put`, and constant time where the class stays with the key that it has.
+    /// `take` and `put`, and constant time where the class stays with the key that it has. A class that keeps its place moves
+    /// no other.
     pub fn replace(&mut self, class: u32, was: bool, is: bool, key: Option<u128>)
         requires class { class < length (keys_of self.old) }
         requires was { is_in class (order_of self.old) ≡ was }
         ensures { IsReplaced class is key self.old self.new }
     {
         if was && is && self.key(class) == key {
+            return;
+        }
+        if was && is && self.stays(class, key) {
+            self.rekey(class, key);
             return;
         }
         self.take_if(class, was);
@@ -110,6 +115,28 @@ impl Ranking {
     {
         let place = class as usize;
         self.keys[place] = key;
+    }
+
+    /// Whether a class that is there keeps its place with another key: it still goes between its neighbours.
+    fn stays(&self, class: u32, key: Option<u128>) -> bool
+        requires class { class < length (keys_of self.now) }
+        requires there { is_in class (order_of self.now) ≡ true }
+        ensures { result ≡ true → is_ranked (slice_set (keys_of self.now) class key) (order_of self.now) ≡ true }
+    {
+        let place = place_in(&self.order, &self.keys, class);
+        is_behind(&self.order, &self.keys, place, class, key)
+            && is_ahead(&self.order, &self.keys, place + 1, class, key)
+    }
+
+    /// Gives a class another key with which it keeps its place.
+    fn rekey(&mut self, class: u32, key: Option<u128>)
+        requires class { class < length (keys_of self.old) }
+        requires stays { is_ranked (slice_set (keys_of self.old) class key) (order_of self.old) ≡ true }
+        ensures keys { keys_of self.new ≡ slice_set (keys_of self.old) class key }
+        ensures order { order_of self.new ≡ order_of self.old }
+    {
+        let index = class as usize;
+        self.keys[index] = key;
     }
 
     /// Takes a class out, where it is there.

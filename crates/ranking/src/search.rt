@@ -1,8 +1,8 @@
 //! The place of a class in a list in the order of the keys.
-ghost use Rattle.std.specs.Prelude.{◌≡◌, length, true};
+ghost use Rattle.std.specs.Prelude.{◌≡◌, ◌≤◌, length, true};
 ghost use Rattle.hfsc_model.specs.RealTime.{goes_first, is_earlier};
 ghost use Rattle.ranking.specs.Order.{is_before, is_ranked, key_of};
-ghost use Rattle.ranking.specs.Search.{IsFound};
+ghost use Rattle.ranking.specs.Search.{IsAhead, IsBehind, IsFound};
 
 /// Whether the first moment is before the second, where `None` means never.
 fn is_earlier(a: Option<u128>, b: Option<u128>) -> bool
@@ -67,7 +67,7 @@ pub fn place_of(order: &[u32], keys: &[Option<u128>], class: u32) -> usize
     low
 }
 
-/// The same of a class that is in the list. The front is tried first: there most classes stand that leave.
+/// The same of a class that is in the list. The ends are tried first: there most classes stand that leave.
 pub fn place_in(order: &[u32], keys: &[Option<u128>], class: u32) -> usize
     requires { is_ranked keys.now order.now ≡ true }
     ensures { IsFound keys.now order.now class result result }
@@ -77,5 +77,45 @@ pub fn place_in(order: &[u32], keys: &[Option<u128>], class: u32) -> usize
             return 0;
         }
     }
+    if let Some(last) = order.last() {
+        if *last == class {
+            return order.len() - 1;
+        }
+    }
     place_of(order, keys, class)
+}
+
+/// Whether a class with a key goes behind the class before a place, where there is one.
+pub fn is_behind(
+    order: &[u32],
+    keys: &[Option<u128>],
+    place: usize,
+    class: u32,
+    key: Option<u128>,
+) -> bool
+    requires { place ≤ length order.now }
+    ensures { result ≡ true → IsBehind keys.now order.now place class key }
+{
+    if place == 0 {
+        return true;
+    }
+    let other = order[place - 1];
+    goes_first(key_of(keys, other), other, key, class)
+}
+
+/// Whether a class with a key goes before the class at a place, where there is one.
+pub fn is_ahead(
+    order: &[u32],
+    keys: &[Option<u128>],
+    place: usize,
+    class: u32,
+    key: Option<u128>,
+) -> bool
+    ensures { result ≡ true → IsAhead keys.now order.now place class key }
+{
+    if place >= order.len() {
+        return true;
+    }
+    let other = order[place];
+    goes_first(key, class, key_of(keys, other), other)
 }
