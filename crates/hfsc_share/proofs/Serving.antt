@@ -25,7 +25,7 @@ use Rattle.hfsc_share.specs.declared.node.Node.{Node}
 use Rattle.hfsc_share.specs.declared.group.Group.{Group}
 use Rattle.hfsc_share.specs.Curves.{RunningStands, share_of}
 use Rattle.hfsc_share.specs.Classes.{AreSmall, IsClass, IsShare, waits_in}
-use Rattle.hfsc_share.specs.Node.{NodeStands, IsServed}
+use Rattle.hfsc_share.specs.Node.{IsServed}
 use Rattle.hfsc_share.specs.Group.{Ranks, ranked_in, time_key}
 use Rattle.hfsc_share.specs.Walk.{has_some}
 use Rattle.hfsc_share.proofs.Moments.{deadline_some}
@@ -164,10 +164,10 @@ served_active cs g last l c nodes r t e u s ranks =
             is_active cs g c y.one (is_waits cs g c y.one w.leaf_is (under_is cs c x.0 y.one t both.0 w.under) w.waiting)
 
 -- all that its node stands for, but the moment from which it opens
-pub served_has : (cs : List HfscClass) (h : HfscHistory) (last l len : ℕ) (real : Bool) (start c amount : ℕ) (waits : Bool) (x y : Node) → IsClass (class_of cs c)
-    → is_under cs c l ≡ true → AreSmall cs (Sent l len real start ∷ h) → NodeStands cs h last c x → x.active ≡ true → amount ≡ units len
-    → IsServed amount waits x y → active cs (Sent l len real start ∷ h) c ≡ waits → NodeHas cs (Sent l len real start ∷ h) c y
-served_has cs h last l len real start c amount waits x y class u small s a e r w = record {
+pub served_has : (cs : List HfscClass) (h : HfscHistory) (l len : ℕ) (real : Bool) (start c : ℕ) (waits : Bool) (x y : Node) → IsClass (class_of cs c)
+    → is_under cs c l ≡ true → AreSmall cs (Sent l len real start ∷ h) → NodeHas cs h c x → x.active ≡ true
+    → IsServed (units len) waits x y → active cs (Sent l len real start ∷ h) c ≡ waits → NodeHas cs (Sent l len real start ∷ h) c y
+served_has cs h l len real start c waits x y class u small s a r w = record {
   parent = r.parent ∙ s.parent;
   share = subst (λ (k : Option Running). RunningStands k (share_of (class_of cs c)) (activations cs h c)) (sym r.share) s.share;
   limit = subst (λ (k : Option Running). RunningStands k (class_of cs c).limit (arrivals_of cs h c)) (sym r.limit) s.limit;
@@ -185,13 +185,12 @@ served_has cs h last l len real start c amount waits x y class u small s a e r w
         let most = (small c).units in
         let made = r.total in
         let was = s.total in
-        let same = e in
         omega arith
 
     go : (total cs h c < total cs (Sent l len real start ∷ h) c) ⊎ (total cs (Sent l len real start ∷ h) c ≤ total cs h c)
         → virtual_time cs (Sent l len real start ∷ h) c ≡ y.time
     go (inl less) =
-        grown (class_of cs c) (activations cs h c) (total cs h c) (total cs (Sent l len real start ∷ h) c) x y amount waits class (root_acts cs h c)
+        grown (class_of cs c) (activations cs h c) (total cs h c) (total cs (Sent l len real start ∷ h) c) x y (units len) waits class (root_acts cs h c)
         s.share s.time s.total total_is a (small c).time r less
     go (inr k) =
         let one = more in

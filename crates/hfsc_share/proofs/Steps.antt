@@ -35,7 +35,7 @@ use Rattle.hfsc_share.proofs.Moments.{open_later}
 use Rattle.hfsc_share.proofs.Opening.{active_is, is_active, is_waits, leaf_alone, waits_is}
 use Rattle.hfsc_share.proofs.Children.{missing, opens_at}
 use Rattle.hfsc_share.proofs.Off.{AllOff, Off, below_stands, kept_off, off_stands, sent_off}
-use Rattle.hfsc_share.proofs.Waking.{NodeHas, reopened_stands, start_taken, woken_active, woken_child, woken_root}
+use Rattle.hfsc_share.proofs.Waking.{NodeHas, reopened_stands, stands_has, start_taken, woken_active, woken_child, woken_root}
 use Rattle.hfsc_share.proofs.Serving.{served_active, served_has}
 use Rattle.hfsc_share.proofs.Walking.{walked, walks_children, walks_siblings}
 
@@ -78,99 +78,115 @@ group_of groups c h = go (slice_get groups c) refl
     go None e = absurd (absent groups c h e)
     go (Some g) e = record { group = g; at = e }
 
--- one class of a walk is taken in, whose node has what it has after the event
-pub record IsTaken (cs : List HfscClass) (h g : HfscHistory) (last leaf c : ℕ) (nodes : List Node) (groups : List Group) (x y z : Node) : Type 0 where
-  pub walks : Walks cs h g last leaf (Some c) nodes
-  pub holds : GroupsHold nodes groups
-  pub within : c < length nodes
-  pub at : slice_get nodes c ≡ Some x
-  pub has : NodeHas cs g c y
-  pub reopened : IsReopened (moment_of (slice_get groups c)) y z
+-- a class of a walk: the classes and groups as they are before it, its number, and its node before the event, after it,
+-- and opened anew
+pub record Taking : Type 0 where
+  pub nodes : List Node
+  pub groups : List Group
+  pub class : ℕ
+  pub before : Node
+  pub after : Node
+  pub opened : Node
 
-pub taken : (cs : List HfscClass) (h g : HfscHistory) (last leaf c : ℕ) (nodes : List Node) (groups : List Group) (x y z : Node) (next : Option ℕ) (new : List Node)
-    → IsTaken cs h g last leaf c nodes groups x y z → next ≡ x.parent → new ≡ slice_set nodes c z → Walks cs h g last leaf next new
-taken cs h g last leaf c nodes groups x y z next new s n set =
-    subst (λ (xs : List Node). Walks cs h g last leaf next xs) (sym set)
-    (walked cs h g last leaf c nodes z next s.walks s.within
-    (reopened_stands cs g last c (moment_of (slice_get groups c)) y z s.has s.reopened opens)
-    (sym (s.walks.before c x s.at (under_self cs c)).parent ∙ sym n))
+-- what holds whatever the event is
+pub record IsTaking (last : ℕ) (t : Taking) : Type 0 where
+  pub holds : GroupsHold t.nodes t.groups
+  pub within : t.class < length t.nodes
+  pub at : slice_get t.nodes t.class ≡ Some t.before
+  pub reopened : IsReopened last (moment_of (slice_get t.groups t.class)) t.after t.opened
+
+-- one class is taken in, whose node has what it has after the event
+pub taken : (cs : List HfscClass) (h g : HfscHistory) (last leaf : ℕ) (t : Taking) (next : Option ℕ) → IsTaking last t → Walks cs h g last leaf (Some t.class) t.nodes
+    → NodeHas cs g t.class t.after → next ≡ t.before.parent → Walks cs h g last leaf next (slice_set t.nodes t.class t.opened)
+taken cs h g last leaf t next s w has n =
+    walked cs h g last leaf t.class t.nodes t.opened next w s.within
+    (reopened_stands cs g last t.class (moment_of (slice_get t.groups t.class)) t.after t.opened has s.reopened opens)
+    (sym (w.before t.class t.before s.at (under_self cs t.class)).parent ∙ sym n)
   where
-    group : IsGroup groups c
-    group = group_of groups c (let count = s.holds.count in let low = s.within in omega arith)
+    c : ℕ
+    c = t.class
 
-    opens : active cs g c ≡ true → OpensAt cs g last c (later_of (limit_opens (class_of cs c).limit (arrivals_of cs g c) (total cs g c)) (moment_of (slice_get groups c)))
+    group : IsGroup t.groups c
+    group = group_of t.groups c (let count = s.holds.count in let low = s.within in omega arith)
+
+    opens : active cs g c ≡ true → OpensAt cs g last c (later_of (limit_opens (class_of cs c).limit (arrivals_of cs g c) (total cs g c)) (moment_of (slice_get t.groups c)))
     opens a =
         subst (λ (o : Option Group). OpensAt cs g last c (later_of (limit_opens (class_of cs c).limit (arrivals_of cs g c) (total cs g c)) (moment_of o))) (sym group.at)
-        (opens_at cs g last c nodes group.group s.walks.classes.tree (limit_is cs c s.walks.classes) (s.walks.arrivals c)
-        (walks_children cs h g last leaf c nodes s.walks) (s.holds.each c group.group group.at) a)
+        (opens_at cs g last c t.nodes group.group w.classes.tree (limit_is cs c w.classes) (w.arrivals c)
+        (walks_children cs h g last leaf c t.nodes w) (s.holds.each c group.group group.at) a)
 
 -- a packet is kept
-pub record IsWakeOf (last : ℕ) (nodes : List Node) (groups : List Group) (c : ℕ) (x y z : Node) : Type 0 where
-  pub holds : GroupsHold nodes groups
-  pub within : c < length nodes
-  pub at : slice_get nodes c ≡ Some x
-  pub awake : IsAwake last (start_below nodes groups x.parent) x y
-  pub reopened : IsReopened (moment_of (slice_get groups c)) y z
+pub record IsWakeOf (last : ℕ) (t : Taking) : Type 0 where
+  pub taking : IsTaking last t
+  pub awake : IsAwake last (start_below t.nodes t.groups t.before.parent) t.before t.after
 
-wake_has : (cs : List HfscClass) (h : HfscHistory) (last leaf len c : ℕ) (nodes : List Node) (groups : List Group) (x y z : Node) → IsLeafThat cs h leaf false
-    → Walks cs h (Kept leaf last len ∷ h) last leaf (Some c) nodes → IsWakeOf last nodes groups c x y z → NodeHas cs (Kept leaf last len ∷ h) c y
-wake_has cs h last leaf len c nodes groups x y z l w s = go x.active refl
+wake_has : (cs : List HfscClass) (h : HfscHistory) (last leaf len : ℕ) (t : Taking) → IsLeafThat cs h leaf false
+    → Walks cs h (Kept leaf last len ∷ h) last leaf (Some t.class) t.nodes → IsWakeOf last t → NodeHas cs (Kept leaf last len ∷ h) t.class t.after
+wake_has cs h last leaf len t l w s = go x.active refl
   where
-    stands : NodeStands cs h last c x
-    stands = w.before c x s.at (under_self cs c)
+    c : ℕ
+    c = t.class
+
+    x : Node
+    x = t.before
+
+    y : Node
+    y = t.after
+
+    has : NodeHas cs h c x
+    has = stands_has cs h last c x (w.before c x s.taking.at (under_self cs c))
 
     under : is_under cs c leaf ≡ true
     under = w.on_path c refl
 
-    parent : (o : Option ℕ) → (class_of cs c).parent ≡ o → IsActivated last (start_below nodes groups o) x y → x.active ≡ false → NodeHas cs (Kept leaf last len ∷ h) c y
-    parent None of r a = woken_root cs h last leaf last len c x y l.leaf_is under stands a of r
+    parent : (o : Option ℕ) → (class_of cs c).parent ≡ o → IsActivated last (start_below t.nodes t.groups o) x y → x.active ≡ false → NodeHas cs (Kept leaf last len ∷ h) c y
+    parent None of r a = woken_root cs h leaf last len c x y l.leaf_is under has a of r
     parent (Some p) of r a =
         let low = w.classes.tree.earlier c p of in
-        let group = group_of groups p (let count = s.holds.count in let low2 = s.within in omega arith) in
-        let holds = s.holds.each p group.group group.at in
-        woken_child cs h last leaf last len c p (start_among_of group.group) x y l.leaf_is under w.small stands a of
-        (start_taken cs h last c p nodes group.group of (walks_siblings cs h (Kept leaf last len ∷ h) last leaf c p nodes w (λ d e. kept_off cs h leaf last len d e) of) holds.times holds.high)
-        (subst (λ (o : Option Group). IsActivated last (start_of nodes o) x y) group.at r)
+        let group = group_of t.groups p (let count = s.taking.holds.count in let low2 = s.taking.within in omega arith) in
+        let holds = s.taking.holds.each p group.group group.at in
+        woken_child cs h leaf last len c p (start_among_of group.group) x y l.leaf_is under w.small has a of
+        (start_taken cs h last c p t.nodes group.group of (walks_siblings cs h (Kept leaf last len ∷ h) last leaf c p t.nodes w (λ d e. kept_off cs h leaf last len d e) of) holds.times holds.high)
+        (subst (λ (o : Option Group). IsActivated last (start_of t.nodes o) x y) group.at r)
       where
         start_among_of : Group → ℕ
-        start_among_of g = start_of nodes (Some g)
+        start_among_of g = start_of t.nodes (Some g)
 
     go : (b : Bool) → x.active ≡ b → NodeHas cs (Kept leaf last len ∷ h) c y
-    go true a = subst (λ (n : Node). NodeHas cs (Kept leaf last len ∷ h) c n) (sym (s.awake.same a)) (woken_active cs h last leaf last len c x l.leaf_is under stands a)
+    go true a = subst (λ (n : Node). NodeHas cs (Kept leaf last len ∷ h) c n) (sym (s.awake.same a)) (woken_active cs h leaf last len c x l.leaf_is under has a)
     go false a =
         parent (class_of cs c).parent refl
-        (subst (λ (o : Option ℕ). IsActivated last (start_below nodes groups o) x y) stands.parent (s.awake.begun a)) a
+        (subst (λ (o : Option ℕ). IsActivated last (start_below t.nodes t.groups o) x y) has.parent (s.awake.begun a)) a
 
-pub wake_step : (cs : List HfscClass) (h : HfscHistory) (last leaf len c : ℕ) (nodes : List Node) (groups : List Group) (x y z : Node) (next : Option ℕ) (new : List Node)
-    → IsLeafThat cs h leaf false → Walks cs h (Kept leaf last len ∷ h) last leaf (Some c) nodes → IsWakeOf last nodes groups c x y z → next ≡ x.parent → new ≡ slice_set nodes c z
-    → Walks cs h (Kept leaf last len ∷ h) last leaf next new
-wake_step cs h last leaf len c nodes groups x y z next new l w s n set =
-    taken cs h (Kept leaf last len ∷ h) last leaf c nodes groups x y z next new
-    (record { walks = w; holds = s.holds; within = s.within; at = s.at; has = wake_has cs h last leaf len c nodes groups x y z l w s; reopened = s.reopened }) n set
+pub wake_step : (cs : List HfscClass) (h : HfscHistory) (last leaf len : ℕ) (t : Taking) (next : Option ℕ) → IsLeafThat cs h leaf false
+    → Walks cs h (Kept leaf last len ∷ h) last leaf (Some t.class) t.nodes → IsWakeOf last t → next ≡ t.before.parent
+    → Walks cs h (Kept leaf last len ∷ h) last leaf next (slice_set t.nodes t.class t.opened)
+wake_step cs h last leaf len t next l w s n = taken cs h (Kept leaf last len ∷ h) last leaf t next s.taking w (wake_has cs h last leaf len t l w s) n
 
 -- a packet is sent
-pub record IsServiceOf (amount : ℕ) (waits : Bool) (nodes : List Node) (groups : List Group) (c : ℕ) (x y z : Node) : Type 0 where
-  pub holds : GroupsHold nodes groups
-  pub within : c < length nodes
-  pub at : slice_get nodes c ≡ Some x
-  pub served : IsServed amount (waits || has_ranked (slice_get groups c)) x y
-  pub reopened : IsReopened (moment_of (slice_get groups c)) y z
+pub record IsServiceOf (last amount : ℕ) (waits : Bool) (t : Taking) : Type 0 where
+  pub taking : IsTaking last t
+  pub served : IsServed amount (waits || has_ranked (slice_get t.groups t.class)) t.before t.after
 
-pub serve_step : (cs : List HfscClass) (h : HfscHistory) (last leaf len : ℕ) (real : Bool) (start c amount : ℕ) (waits : Bool) (nodes : List Node) (groups : List Group) (x y z : Node)
-    (next : Option ℕ) (new : List Node) → IsLeafThat cs h leaf true → amount ≡ units len → waits ≡ ((leaf == c) && waits_in (Sent leaf len real start ∷ h) leaf)
-    → Walks cs h (Sent leaf len real start ∷ h) last leaf (Some c) nodes → IsServiceOf amount waits nodes groups c x y z → next ≡ x.parent → new ≡ slice_set nodes c z
-    → Walks cs h (Sent leaf len real start ∷ h) last leaf next new
-serve_step cs h last leaf len real start c amount waits nodes groups x y z next new l e f w s n set =
-    taken cs h (Sent leaf len real start ∷ h) last leaf c nodes groups x y z next new
-    (record { walks = w; holds = s.holds; within = s.within; at = s.at; has = has; reopened = s.reopened }) n set
+pub serve_step : (cs : List HfscClass) (h : HfscHistory) (last leaf len : ℕ) (real : Bool) (start : ℕ) (waits : Bool) (t : Taking) (next : Option ℕ)
+    → IsLeafThat cs h leaf true → waits ≡ ((leaf == t.class) && waits_in (Sent leaf len real start ∷ h) leaf)
+    → Walks cs h (Sent leaf len real start ∷ h) last leaf (Some t.class) t.nodes → IsServiceOf last (units len) waits t → next ≡ t.before.parent
+    → Walks cs h (Sent leaf len real start ∷ h) last leaf next (slice_set t.nodes t.class t.opened)
+serve_step cs h last leaf len real start waits t next l f w s n = taken cs h (Sent leaf len real start ∷ h) last leaf t next s.taking w has n
   where
-    stands : NodeStands cs h last c x
-    stands = w.before c x s.at (under_self cs c)
+    c : ℕ
+    c = t.class
+
+    groups : List Group
+    groups = t.groups
+
+    stands : NodeStands cs h last c t.before
+    stands = w.before c t.before s.taking.at (under_self cs c)
 
     under : is_under cs c leaf ≡ true
     under = w.on_path c refl
 
-    was : x.active ≡ true
+    was : t.before.active ≡ true
     was =
         let a = active_is cs h leaf l.waits_is in
         let v = waits_is cs h leaf a.one a.waits in
@@ -178,17 +194,19 @@ serve_step cs h last leaf len real start c amount waits nodes groups x y z next 
         sym stands.active ∙ is_active cs h c leaf (is_waits cs h c leaf l.leaf_is under (subst (λ m. waits_in h m ≡ true) same v.waiting))
 
     group : IsGroup groups c
-    group = group_of groups c (let count = s.holds.count in let low = s.within in omega arith)
+    group = group_of groups c (let count = s.taking.holds.count in let low = s.taking.within in omega arith)
 
     now : active cs (Sent leaf len real start ∷ h) c ≡ (waits || has_ranked (slice_get groups c))
     now =
-        served_active cs (Sent leaf len real start ∷ h) last leaf c nodes group.group w.classes.tree l.leaf_is under
-        (walks_children cs h (Sent leaf len real start ∷ h) last leaf c nodes w) (s.holds.each c group.group group.at).times
+        served_active cs (Sent leaf len real start ∷ h) last leaf c t.nodes group.group w.classes.tree l.leaf_is under
+        (walks_children cs h (Sent leaf len real start ∷ h) last leaf c t.nodes w) (s.taking.holds.each c group.group group.at).times
         ∙ ap (λ b. b || has_some (ranked_in group.group)) (sym f)
         ∙ ap (λ (o : Option Group). waits || has_ranked o) (sym group.at)
 
-    has : NodeHas cs (Sent leaf len real start ∷ h) c y
-    has = served_has cs h last leaf len real start c amount (waits || has_ranked (slice_get groups c)) x y (class_is cs c w.classes) under w.small stands was e s.served now
+    has : NodeHas cs (Sent leaf len real start ∷ h) c t.after
+    has =
+        served_has cs h leaf len real start c (waits || has_ranked (slice_get groups c)) t.before t.after (class_is cs c w.classes) under w.small
+        (stands_has cs h last c t.before stands) was s.served now
 
 -- by value: one class after another
 pub stepped : (nodes new : List Node) (class : ℕ) (z : Node) → class < length nodes → z.parent ≡ parent_in (slice_get nodes class) → new ≡ slice_set nodes class z → IsStep class nodes new
@@ -373,8 +391,8 @@ kept_more s cs h class at len stands waits = record {
             waits_push (leaf h c).waiting (record { at = at; len = len }) ∙ sym (subst (λ m. is_waiting (leaf h m).waiting ≡ true) same waits)
         go false e = refl
 
-pub reopened_by : (below other : Option ℕ) (x y : Node) → below ≡ other → IsReopened below x y → IsReopened other x y
-reopened_by below other x y e r = subst (λ (o : Option ℕ). IsReopened o x y) e r
+pub reopened_by : (last : ℕ) (below other : Option ℕ) (x y : Node) → below ≡ other → IsReopened last below x y → IsReopened last other x y
+reopened_by last below other x y e r = subst (λ (o : Option ℕ). IsReopened last o x y) e r
 
 pub awake_by : (at start other : ℕ) (x y : Node) → (x.active ≡ false → start ≡ other) → IsAwake at start x y → IsAwake at other x y
 awake_by at start other x y e a = record {
@@ -386,8 +404,8 @@ awake_by at start other x y e a = record {
   begun = λ f. subst (λ n. IsActivated at n x y) (e f) (a.begun f);
 }
 
-pub served_by : (amount : ℕ) (b d : Bool) (x y : Node) → b ≡ d → IsServed amount b x y → IsServed amount d x y
-served_by amount b d x y e r = subst (λ (a : Bool). IsServed amount a x y) e r
+pub served_by : (amount other : ℕ) (b d : Bool) (x y : Node) → amount ≡ other → b ≡ d → IsServed amount b x y → IsServed other d x y
+served_by amount other b d x y e f r = subst (λ n. IsServed n d x y) e (subst (λ (a : Bool). IsServed amount a x y) f r)
 
 -- a class of the way that is no leaf is not the leaf
 pub not_here : (leaf class : ℕ) (waits b : Bool) (old new : List Node) → IsOnWay leaf b (Some class) old new → ((d : ℕ) → parent_in (slice_get old d) ≡ Some leaf → ⊥)

@@ -1,6 +1,7 @@
 -- A class on whose path a packet was kept.
-use Rattle.std.proofs.Common.{◌≡◌, ℕ, Bool, true, false, List, ◌∷◌, None, Some, map, refl, ap, sym, subst, arith, ◌∙◌}
-use Rattle.std.specs.Prelude.{Option, ◌&&◌, ◌||◌, max, not, if◌then◌else◌}
+use Rattle.std.proofs.Common.{◌≡◌, ◌≤◌, ℕ, Bool, true, false, List, ◌∷◌, None, Some, map, refl, ap, sym, subst, arith, ◌∙◌}
+use Rattle.std.specs.Prelude.{Option, ◌&&◌, ◌||◌, max, nat_le, not, if◌then◌else◌}
+use Rattle.std.proofs.lemmas.Bool.Decides.{nat_tests}
 use Rattle.std.specs.List.{filter}
 use Rattle.service_curve.specs.declared.Curve.{Curve}
 use Rattle.runtime_curve.specs.declared.Opening.{Opening}
@@ -16,7 +17,7 @@ use Rattle.hfsc_laws.proofs.Activity.{active_kept, activated_time}
 use Rattle.hfsc_laws.proofs.Tree.{true_and}
 use Rattle.hfsc_share.specs.declared.node.Node.{Node}
 use Rattle.hfsc_share.specs.declared.group.Group.{Group}
-use Rattle.hfsc_share.specs.Curves.{RunningStands, share_of, limit_opens}
+use Rattle.hfsc_share.specs.Curves.{RunningStands, share_of, limit_opens, since}
 use Rattle.hfsc_share.specs.Classes.{AreSmall}
 use Rattle.hfsc_share.specs.Node.{NodeStands, OpensAt, IsActivated, IsReopened}
 use Rattle.hfsc_share.specs.Group.{Ranks, IsHigh, ranked_in, time_key}
@@ -33,7 +34,22 @@ pub record NodeHas (cs : List HfscClass) (h : HfscHistory) (c : ℕ) (x : Node) 
   pub active : active cs h c ≡ x.active
   pub time : virtual_time cs h c ≡ x.time
 
-pub reopened_stands : (cs : List HfscClass) (h : HfscHistory) (last c : ℕ) (below : Option ℕ) (x y : Node) → NodeHas cs h c x → IsReopened below x y
+pub stands_has : (cs : List HfscClass) (h : HfscHistory) (last c : ℕ) (x : Node) → NodeStands cs h last c x → NodeHas cs h c x
+stands_has cs h last c x s = record { parent = s.parent; share = s.share; limit = s.limit; total = s.total; active = s.active; time = s.time }
+
+-- from the last wake on no earlier moment tells more
+since_opens : (cs : List HfscClass) (h : HfscHistory) (last c : ℕ) (o : Option ℕ) → OpensAt cs h last c o → OpensAt cs h last c (since last o)
+since_opens cs h last c None s = s
+since_opens cs h last c (Some t) s = go (nat_le t last) refl
+  where
+    go : (b : Bool) → nat_le t last ≡ b → OpensAt cs h last c (if b then Some 0 else Some t)
+    go true e = record { some = refl; from = λ now later. s.from now later ∙ come now later }
+      where
+        come : (now : ℕ) → last ≤ now → nat_le t now ≡ nat_le 0 now
+        come now later = grind (arith, nat_tests, e, later)
+    go false e = s
+
+pub reopened_stands : (cs : List HfscClass) (h : HfscHistory) (last c : ℕ) (below : Option ℕ) (x y : Node) → NodeHas cs h c x → IsReopened last below x y
     → (active cs h c ≡ true → OpensAt cs h last c (later_of (limit_opens (class_of cs c).limit (arrivals_of cs h c) (total cs h c)) below))
     → NodeStands cs h last c y
 reopened_stands cs h last c below x y s r o = record {
@@ -47,8 +63,8 @@ reopened_stands cs h last c below x y s r o = record {
       let was = sym r.active ∙ a in
       subst (λ (m : Option ℕ). OpensAt cs h last c m)
       (sym (r.opens was (class_of cs c).limit (arrivals_of cs h c) s.limit
-      ∙ ap (λ n. later_of (limit_opens (class_of cs c).limit (arrivals_of cs h c) n) below) (sym s.total)))
-      (o (s.active ∙ was));
+      ∙ ap (λ n. since last (later_of (limit_opens (class_of cs c).limit (arrivals_of cs h c) n) below)) (sym s.total)))
+      (since_opens cs h last c (later_of (limit_opens (class_of cs c).limit (arrivals_of cs h c) (total cs h c)) below) (o (s.active ∙ was)));
 }
 
 -- a class that is active stays so
@@ -75,9 +91,9 @@ none : (a b : Bool) → b ≡ false → (a && b) ≡ false
 none true b e = e
 none false b e = refl
 
-pub woken_active : (cs : List HfscClass) (h : HfscHistory) (last l at len c : ℕ) (x : Node) → is_leaf cs l ≡ true → is_under cs c l ≡ true → NodeStands cs h last c x
+pub woken_active : (cs : List HfscClass) (h : HfscHistory) (l at len c : ℕ) (x : Node) → is_leaf cs l ≡ true → is_under cs c l ≡ true → NodeHas cs h c x
     → x.active ≡ true → NodeHas cs (Kept l at len ∷ h) c x
-woken_active cs h last l at len c x e u s a = record {
+woken_active cs h l at len c x e u s a = record {
   parent = s.parent;
   share = subst (λ (os : List Opening). RunningStands x.share (share_of (class_of cs c)) os) (sym acts) s.share;
   limit = subst (λ (os : List Opening). RunningStands x.limit (class_of cs c).limit os)
@@ -99,9 +115,9 @@ any_none : (r : Option Running) (os others : List Opening) → RunningStands r N
 any_none None os others s = tt
 any_none (Some r) os others s = absurd s
 
-woken_limit : (cs : List HfscClass) (h : HfscHistory) (last l at len c start : ℕ) (x y : Node) → is_leaf cs l ≡ true → is_under cs c l ≡ true
-    → NodeStands cs h last c x → x.active ≡ false → IsActivated at start x y → RunningStands y.limit (class_of cs c).limit (arrivals_of cs (Kept l at len ∷ h) c)
-woken_limit cs h last l at len c start x y e u s a r =
+woken_limit : (cs : List HfscClass) (h : HfscHistory) (l at len c start : ℕ) (x y : Node) → is_leaf cs l ≡ true → is_under cs c l ≡ true
+    → NodeHas cs h c x → x.active ≡ false → IsActivated at start x y → RunningStands y.limit (class_of cs c).limit (arrivals_of cs (Kept l at len ∷ h) c)
+woken_limit cs h l at len c start x y e u s a r =
     subst (λ (os : List Opening). RunningStands y.limit (class_of cs c).limit os)
     (sym (ap (λ b. if b then opening at (total cs h c) ∷ arrivals_of cs h c else arrivals_of cs h c) (begins cs h l c e u (s.active ∙ a))))
     (subst (λ n. RunningStands y.limit (class_of cs c).limit (opening at n ∷ arrivals_of cs h c)) (sym s.total)
@@ -114,17 +130,17 @@ shared k p e = ap (λ (o : Option ℕ). elim o [ None ↦ None | Some q ↦ k.sh
 pub unshared : (k : HfscClass) → k.parent ≡ None → share_of k ≡ None
 unshared k e = ap (λ (o : Option ℕ). elim o [ None ↦ None | Some q ↦ k.share ]) e
 
-pub woken_child : (cs : List HfscClass) (h : HfscHistory) (last l at len c p start : ℕ) (x y : Node) → is_leaf cs l ≡ true → is_under cs c l ≡ true
-    → AreSmall cs (Kept l at len ∷ h) → NodeStands cs h last c x → x.active ≡ false → (class_of cs c).parent ≡ Some p
+pub woken_child : (cs : List HfscClass) (h : HfscHistory) (l at len c p start : ℕ) (x y : Node) → is_leaf cs l ≡ true → is_under cs c l ≡ true
+    → AreSmall cs (Kept l at len ∷ h) → NodeHas cs h c x → x.active ≡ false → (class_of cs c).parent ≡ Some p
     → max (virtual_time cs h c) start ≡ activation_time cs h (activations cs h) c
     → IsActivated at start x y → NodeHas cs (Kept l at len ∷ h) c y
-woken_child cs h last l at len c p start x y e u small s a of v r = record {
+woken_child cs h l at len c p start x y e u small s a of v r = record {
   parent = r.parent ∙ s.parent;
   share = subst (λ (os : List Opening). RunningStands y.share (share_of (class_of cs c)) os) (sym acts)
       (subst (λ n. RunningStands y.share (share_of (class_of cs c)) (opening n (total cs h c) ∷ activations cs h c)) (sym time)
       (subst (λ n. RunningStands y.share (share_of (class_of cs c)) (opening y.time n ∷ activations cs h c)) (sym s.total)
       (r.share (share_of (class_of cs c)) (activations cs h c) s.share)));
-  limit = woken_limit cs h last l at len c start x y e u s a r;
+  limit = woken_limit cs h l at len c start x y e u s a r;
   total = s.total ∙ sym r.total;
   active = kept_active cs h l at len c e u ∙ sym r.active;
   time = is ∙ time;
@@ -152,14 +168,14 @@ woken_child cs h last l at len c p start x y e u small s a of v r = record {
         let i = is in
         omega arith
 
-pub woken_root : (cs : List HfscClass) (h : HfscHistory) (last l at len c : ℕ) (x y : Node) → is_leaf cs l ≡ true → is_under cs c l ≡ true
-    → NodeStands cs h last c x → x.active ≡ false → (class_of cs c).parent ≡ None → IsActivated at 0 x y → NodeHas cs (Kept l at len ∷ h) c y
-woken_root cs h last l at len c x y e u s a of r = record {
+pub woken_root : (cs : List HfscClass) (h : HfscHistory) (l at len c : ℕ) (x y : Node) → is_leaf cs l ≡ true → is_under cs c l ≡ true
+    → NodeHas cs h c x → x.active ≡ false → (class_of cs c).parent ≡ None → IsActivated at 0 x y → NodeHas cs (Kept l at len ∷ h) c y
+woken_root cs h l at len c x y e u s a of r = record {
   parent = r.parent ∙ s.parent;
   share = subst (λ (k : Option Curve). RunningStands y.share k (activations cs (Kept l at len ∷ h) c)) (sym none_is)
       (any_none y.share (opening y.time x.total ∷ activations cs h c) (activations cs (Kept l at len ∷ h) c)
       (r.share None (activations cs h c) (subst (λ (k : Option Curve). RunningStands x.share k (activations cs h c)) none_is s.share)));
-  limit = woken_limit cs h last l at len c 0 x y e u s a r;
+  limit = woken_limit cs h l at len c 0 x y e u s a r;
   total = s.total ∙ sym r.total;
   active = kept_active cs h l at len c e u ∙ sym r.active;
   time = ap (λ (os : List Opening). virtual_time_of (class_of cs c).share os (total cs h c)) acts ∙ s.time ∙ (let made = r.time in let most = x.time_small in omega arith);

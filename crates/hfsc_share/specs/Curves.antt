@@ -1,5 +1,5 @@
 -- What a class holds of one of its curves.
-use Rattle.std.specs.Prelude.{◌≡◌, ◌≤◌, ℕ, Bool, true, List, Option, None, Some, IsSome}
+use Rattle.std.specs.Prelude.{◌≡◌, ◌≤◌, ℕ, nat_le, Bool, true, List, Option, None, Some, IsSome, if◌then◌else◌}
 use Rattle.service_curve.specs.declared.Curve.{Curve}
 use Rattle.service_curve.specs.Curve.{IsInRange}
 use Rattle.runtime_curve.specs.declared.Opening.{Opening}
@@ -48,3 +48,8 @@ share_of k = elim k.parent [ None ↦ None | Some p ↦ k.share ]
 abbrev pub limit_opens : Option Curve → List Opening → ℕ → Option ℕ
 limit_opens None os u = Some 0
 limit_opens (Some s) os u = soonest s os u
+
+-- a moment, 0 in place of one that is not after `last`: from then on they tell the same
+abbrev pub since : ℕ → Option ℕ → Option ℕ
+since last None = None
+since last (Some t) = if nat_le t last then Some 0 else Some t

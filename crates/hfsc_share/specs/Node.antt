@@ -11,7 +11,7 @@ use Rattle.hfsc_model.specs.Tree.{class_of, is_number}
 use Rattle.hfsc_model.specs.Share.{active, activations, or_zero, total, virtual_time}
 use Rattle.hfsc_model.specs.Limit.{arrivals_of}
 use Rattle.hfsc_share.specs.declared.node.Node.{Node}
-use Rattle.hfsc_share.specs.Curves.{IsBy, RunningStands, last_in, limit_opens, share_of}
+use Rattle.hfsc_share.specs.Curves.{IsBy, RunningStands, last_in, limit_opens, share_of, since}
 use Rattle.hfsc_share.specs.Classes.{opens_under}
 
 -- the fields of a node, where there is one
@@ -108,8 +108,8 @@ pub record IsServed (amount : ℕ) (waits : Bool) (x y : Node) : Type 0 where
       → y.time ≡ min (max x.time (or_zero (deadline s os y.total))) (2 ^ 79)
   pub later : x.time ≤ y.time
 
--- y is x with the moment from which it opens computed anew
-pub record IsReopened (below : Option ℕ) (x y : Node) : Type 0 where
+-- y is x with the moment from which it opens computed anew, after a last wake
+pub record IsReopened (last : ℕ) (below : Option ℕ) (x y : Node) : Type 0 where
   pub parent : y.parent ≡ x.parent
   pub total : y.total ≡ x.total
   pub active : y.active ≡ x.active
@@ -117,4 +117,4 @@ pub record IsReopened (below : Option ℕ) (x y : Node) : Type 0 where
   pub limit : y.limit ≡ x.limit
   pub time : y.time ≡ x.time
   pub opens : x.active ≡ true → (o : Option Curve) (os : List Opening) → RunningStands x.limit o os
-      → y.opens ≡ later_of (limit_opens o os x.total) below
+      → y.opens ≡ since last (later_of (limit_opens o os x.total) below)

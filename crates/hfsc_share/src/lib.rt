@@ -157,7 +157,7 @@ impl Shares {
         let was = node.is_active();
         let opens = node.opens();
         node.wake(self.woken, start);
-        node.reopen(below);
+        node.reopen(below, self.woken);
         let same = was && node.opens() == opens;
         rank_unless(same, &mut self.groups, class, was, node);
         node.parent()
@@ -194,7 +194,7 @@ impl Shares {
         let node = &mut self.nodes[class as usize];
         let was = node.is_active();
         node.serve(amount, waits);
-        node.reopen(below);
+        node.reopen(below, self.woken);
         rank(&mut self.groups, class, was, node);
         node.parent()
     }

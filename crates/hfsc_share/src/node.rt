@@ -6,7 +6,7 @@ ghost use Rattle.runtime_curve.specs.declared.Opening.{Opening};
 ghost use Rattle.runtime_curve.specs.Opening.{opening};
 ghost use Rattle.runtime_curve.specs.Deadline.{deadline, later_of};
 ghost use Rattle.hfsc_model.specs.Share.{or_zero};
-ghost use Rattle.hfsc_share.specs.Curves.{CanCarry, RunningStands, IsBy, IsUpTo, IsOpen, last_in, limit_opens, share_of};
+ghost use Rattle.hfsc_share.specs.Curves.{CanCarry, RunningStands, IsBy, IsUpTo, IsOpen, last_in, limit_opens, share_of, since};
 ghost use Rattle.hfsc_share.specs.Classes.{IsClass};
 
 use hfsc_model::HfscClass;
@@ -113,12 +113,13 @@ impl Node {
         }
     }
 
-    /// The class opens from the moment from which its limit lets it be served, or from that below it where this is later.
-    pub fn reopen(&mut self, below: Option<u128>)
-        ensures { IsReopened below self.old self.new }
+    /// The class opens from the moment from which its limit lets it be served, or from that below it where this is later. From
+    /// the last wake on, which this comes after, an earlier moment is as good as 0.
+    pub fn reopen(&mut self, below: Option<u128>, last: u64)
+        ensures { IsReopened last below self.old self.new }
     {
         self.opens = if self.active {
-            opens_with(&self.limit, self.total, below)
+            since(opens_with(&self.limit, self.total, below), u128::from(last))
         } else {
             None
         };
@@ -146,7 +147,8 @@ impl Node {
         self.time
     }
 
-    /// The moment from which a packet waits on a path that is open up to the class; told while the class is active.
+    /// The moment from which a packet waits on a path that is open up to the class, 0 where that is not after the last wake; told
+    /// while the class is active.
     pub fn opens(&self) -> Option<u128>
         ensures { result ≡ self.now.opens }
     {
@@ -199,6 +201,17 @@ fn opens_with(limit: &Option<Running>, total: u128, below: Option<u128>) -> Opti
     match limit {
         None => below,
         Some(limit) => later_of(limit.soonest(total), below),
+    }
+}
+
+/// A moment, 0 in place of one that is not after `last`.
+fn since(moment: Option<u128>, last: u128) -> Option<u128>
+    ensures { result ≡ since last moment }
+{
+    match moment {
+        None => None,
+        Some(moment) if moment <= last => Some(0),
+        Some(moment) => Some(moment),
     }
 }
 

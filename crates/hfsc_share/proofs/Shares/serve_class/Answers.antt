@@ -3,6 +3,7 @@ use Rattle.std.specs.Prelude.{Option, ◌||◌, ◌&&◌, slice_set}
 use Rattle.runtime_curve.specs.declared.Running.{Running}
 use Rattle.hfsc_share.specs.declared.node.Node.{Node}
 use Rattle.hfsc_share.specs.Curves.{IsBy}
+use Rattle.play_base.specs.Units.{units}
 use Rattle.hfsc_share.specs.Node.{active_in}
 use Rattle.hfsc_share.proofs.Places.{get_read}
 use Rattle.hfsc_share.proofs.Held.{held_ranked, is_put, limits_put, may_change, parent_within, parents_put}
@@ -37,17 +38,26 @@ pub returns-clause-walks : goal.returns-clause-walks
 returns-clause-walks c =
     let at = get_read c.args.self.now.nodes.items c.args.class c.index_mut-node.result.now c.requires.class c.index_mut-node.ensures.value in
     λ cs h leaf len real start l e f w.
-    serve_step cs h c.args.self.now.woken leaf len real start c.args.class c.args.amount c.args.waits c.args.self.now.nodes.items c.args.self.now.groups.items
-    c.index_mut-node.result.now c.serve.new.self c.reopen.new.self c.parent.result
-    (slice_set c.args.self.now.nodes.items c.args.class c.reopen.new.self) l e f w
+    serve_step cs h c.args.self.now.woken leaf len real start c.args.waits
     (record {
-      holds = c.args.self.now.groups_hold;
-      within = c.requires.class;
-      at = at;
-      served = served_by c.args.amount c.waits_below-waits.result _ c.index_mut-node.result.now c.serve.new.self c.waits_below-waits.ensures c.serve.ensures;
-      reopened = reopened_by c.first_moment_below-below.result _ c.serve.new.self c.reopen.new.self c.first_moment_below-below.ensures c.reopen.ensures;
+      nodes = c.args.self.now.nodes.items;
+      groups = c.args.self.now.groups.items;
+      class = c.args.class;
+      before = c.index_mut-node.result.now;
+      after = c.serve.new.self;
+      opened = c.reopen.new.self;
     })
-    (c.parent.ensures ∙ c.reopen.ensures.parent ∙ c.serve.ensures.parent) refl
+    c.parent.result l f w
+    (record {
+      taking = record {
+        holds = c.args.self.now.groups_hold;
+        within = c.requires.class;
+        at = at;
+        reopened = reopened_by c.args.self.now.woken c.first_moment_below-below.result _ c.serve.new.self c.reopen.new.self c.first_moment_below-below.ensures c.reopen.ensures;
+      };
+      served = served_by c.args.amount (units len) c.waits_below-waits.result _ c.index_mut-node.result.now c.serve.new.self e c.waits_below-waits.ensures c.serve.ensures;
+    })
+    (c.parent.ensures ∙ c.reopen.ensures.parent ∙ c.serve.ensures.parent)
 
 pub returns-clause-step : goal.returns-clause-step
 returns-clause-step c =

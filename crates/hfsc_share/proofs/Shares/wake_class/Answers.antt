@@ -73,20 +73,29 @@ pub returns-clause-walks : goal.returns-clause-walks
 returns-clause-walks c =
     let at = get_read c.args.self.now.nodes.items c.args.class c.index_mut-node.result.now c.requires c.index_mut-node.ensures.value in
     λ cs h leaf len l w.
-    wake_step cs h c.args.self.now.woken leaf len c.args.class c.args.self.now.nodes.items c.args.self.now.groups.items
-    c.index_mut-node.result.now c.wake.new.self c.reopen.new.self c.parent.result
-    (slice_set c.args.self.now.nodes.items c.args.class c.reopen.new.self) l w
+    wake_step cs h c.args.self.now.woken leaf len
     (record {
-      holds = c.args.self.now.groups_hold;
-      within = c.requires;
-      at = at;
+      nodes = c.args.self.now.nodes.items;
+      groups = c.args.self.now.groups.items;
+      class = c.args.class;
+      before = c.index_mut-node.result.now;
+      after = c.wake.new.self;
+      opened = c.reopen.new.self;
+    })
+    c.parent.result l w
+    (record {
+      taking = record {
+        holds = c.args.self.now.groups_hold;
+        within = c.requires;
+        at = at;
+        reopened = reopened_by c.args.self.now.woken c.first_moment_below-below.result _ c.wake.new.self c.reopen.new.self c.first_moment_below-below.ensures c.reopen.ensures;
+      };
       awake = awake_by c.args.self.now.woken c.start_of-start.result _ c.index_mut-node.result.now c.wake.new.self
           (λ a. c.start_of-start.ensures (ap active_in at ∙ a)
           ∙ ap (start_below c.args.self.now.nodes.items c.args.self.now.groups.items) (ap parent_in at))
           c.wake.ensures;
-      reopened = reopened_by c.first_moment_below-below.result _ c.wake.new.self c.reopen.new.self c.first_moment_below-below.ensures c.reopen.ensures;
     })
-    (c.parent.ensures ∙ c.reopen.ensures.parent ∙ c.wake.ensures.parent) refl
+    (c.parent.ensures ∙ c.reopen.ensures.parent ∙ c.wake.ensures.parent)
 
 pub returns-clause-step : goal.returns-clause-step
 returns-clause-step c =
