@@ -42,25 +42,25 @@ pub record IsSent (cs : List HfscClass) (h : HfscHistory) (list : List Entry) (n
   pub long : front.len ≡ len
   pub pick : choice_of (choice cs h now) ≡ record { class = c; rule = r }
 
-from_head : (cs : List HfscClass) (h : HfscHistory) (lists : ℕ → List Entry) (now d c len : ℕ) (q r : Rule) (t : Ticket) (xs : List Entry) → lists d ≡ xs → send_head d q xs ≡ Send t c len r
-    → choice_of (choice cs h now) ≡ record { class = d; rule = q } → IsSender cs h now d → IsSent cs h (lists c) now c len r
-from_head cs h lists now d c len q r t [] e f p s = absurd cc
-from_head cs h lists now d c len q r t (x ∷ xs) e f p s =
-    let class : d ≡ c = cc in
+from_head : (cs : List HfscClass) (h : HfscHistory) (lists : ℕ → List Entry) (now : ℕ) (p : Choice) (c len : ℕ) (r : Rule) (t : Ticket) (xs : List Entry) → lists p.class ≡ xs
+    → send_head p.class p.rule xs ≡ Send t c len r → choice_of (choice cs h now) ≡ p → IsSender cs h now p.class → IsSent cs h (lists c) now c len r
+from_head cs h lists now p c len r t [] e f k s = absurd cc
+from_head cs h lists now p c len r t (x ∷ xs) e f k s =
+    let class : p.class ≡ c = cc in
     let long : x.len ≡ len = cc in
-    let rule : q ≡ r = cc in
+    let rule : p.rule ≡ r = cc in
     subst (λ n. IsSent cs h (lists n) now n len r) class (record {
       sender = s;
       front = x;
       here = ap (λ (ys : List Entry). slice_get ys 0) e;
       long = long;
-      pick = p ∙ ap {B = Choice} (λ (z : Rule). record { class = d; rule = z }) rule;
+      pick = k ∙ ap {B = Choice} (λ (z : Rule). record { class = p.class; rule = z }) rule;
     })
 
 pub sent_is : (cs : List HfscClass) (h : HfscHistory) (lists : ℕ → List Entry) (now c len : ℕ) (r : Rule) (t : Ticket) (q : Chosen) → ChosenIs cs h now q
     → pick_of lists q ≡ Send t c len r → IsSent cs h (lists c) now c len r
-sent_is cs h lists now c len r t (Real d) i e = from_head cs h lists now d c len RealTime r t (lists d) refl e (ap choice_of i.0) i.1
-sent_is cs h lists now c len r t (Shared d) i e = from_head cs h lists now d c len Share r t (lists d) refl e (ap choice_of i.0) i.1
+sent_is cs h lists now c len r t (Real d) i e = from_head cs h lists now (record { class = d; rule = RealTime }) c len r t (lists d) refl e (ap choice_of i.0) i.1
+sent_is cs h lists now c len r t (Shared d) i e = from_head cs h lists now (record { class = d; rule = Share }) c len r t (lists d) refl e (ap choice_of i.0) i.1
 sent_is cs h lists now c len r t (Later u) i e = absurd cc
 sent_is cs h lists now c len r t Nothing i e = absurd cc
 

@@ -141,13 +141,12 @@ module _ {Q : Type 0} (stands : Q → List QueueEvent → Type 0) (says : Q → 
   }
 
   -- an offer that is dropped
-  pub offer_dropped : (d : Held Q) (rows : Rowed Q) (h : List Happened) (ticket : Ticket) (class len prec now : ℕ) (w z : DrawnWords) (v : Verdict) → SameRow most says d.rows rows
-      → HfscStands stands says d h → IsOffer (coming class len prec now) (bare h) → Answers stands says d.rows rows h class (entry ticket len prec) now w v z → is_kept v ≡ false
-      → IsAnswer (policy_of says d) (bare h) w (coming class len prec now) v z
-      × HfscStands stands says (record { chooser = d.chooser; rows = rows; kept = d.kept }) (offer_of (policy_of says d) h ticket w (coming class len prec now) ∷ h)
-  offer_dropped d rows h ticket class len prec now w z v same k o a e =
+  pub offer_dropped : (d : Held Q) (rows : Rowed Q) (h : List Happened) (ticket : Ticket) (c : Coming) (w z : DrawnWords) (v : Verdict) → SameRow most says d.rows rows
+      → HfscStands stands says d h → IsOffer c (bare h) → Answers stands says d.rows rows h c.class (entry ticket c.len c.prec) c.at w v z → is_kept v ≡ false
+      → IsAnswer (policy_of says d) (bare h) w c v z
+      × HfscStands stands says (record { chooser = d.chooser; rows = rows; kept = d.kept }) (offer_of (policy_of says d) h ticket w c ∷ h)
+  offer_dropped d rows h ticket c w z v same k o a e =
       let n : Held Q = record { chooser = d.chooser; rows = rows; kept = d.kept } in
-      let c : Coming = coming class len prec now in
       let x : Answer = answering says d.rows (bare h) w c in
       let history = drop_is x.verdict c (hfsc_history (bare h)) (sym (ap is_kept a.verdict) ∙ e) in
       let counted = k.counted in (
@@ -163,14 +162,13 @@ module _ {Q : Type 0} (stands : Q → List QueueEvent → Type 0) (says : Q → 
       )
 
   -- an offer that is kept
-  pub offer_kept : (d : Held Q) (y : Chooser) (rows : Rowed Q) (h : List Happened) (ticket : Ticket) (class len prec now : ℕ) (w z : DrawnWords) (v : Verdict) → SameRow most says d.rows rows
-      → HfscStands stands says d h → IsOffer (coming class len prec now) (bare h) → Answers stands says d.rows rows h class (entry ticket len prec) now w v z → is_kept v ≡ true
-      → classes_of y ≡ classes_of d.chooser → woken_at y ≤ now → Stands y (Kept class now len ∷ hfsc_history (bare h))
-      → IsAnswer (policy_of says d) (bare h) w (coming class len prec now) v z
-      × HfscStands stands says (record { chooser = y; rows = rows; kept = d.kept + 1 }) (offer_of (policy_of says d) h ticket w (coming class len prec now) ∷ h)
-  offer_kept d y rows h ticket class len prec now w z v same k o a e classes woken s =
+  pub offer_kept : (d : Held Q) (y : Chooser) (rows : Rowed Q) (h : List Happened) (ticket : Ticket) (c : Coming) (w z : DrawnWords) (v : Verdict) → SameRow most says d.rows rows
+      → HfscStands stands says d h → IsOffer c (bare h) → Answers stands says d.rows rows h c.class (entry ticket c.len c.prec) c.at w v z → is_kept v ≡ true
+      → classes_of y ≡ classes_of d.chooser → woken_at y ≤ c.at → Stands y (Kept c.class c.at c.len ∷ hfsc_history (bare h))
+      → IsAnswer (policy_of says d) (bare h) w c v z
+      × HfscStands stands says (record { chooser = y; rows = rows; kept = d.kept + 1 }) (offer_of (policy_of says d) h ticket w c ∷ h)
+  offer_kept d y rows h ticket c w z v same k o a e classes woken s =
       let n : Held Q = record { chooser = y; rows = rows; kept = d.kept + 1 } in
-      let c : Coming = coming class len prec now in
       let x : Answer = answering says d.rows (bare h) w c in
       let history = keep_is x.verdict c (hfsc_history (bare h)) (sym (ap is_kept a.verdict) ∙ e) in
       let counted = k.counted in

@@ -26,7 +26,7 @@ returns-then-not-is_kept-clause-history g c =
     × HfscStands g.Q.QueueRule.stands g.Q.QueueRule.says (record { chooser = i.chooser; rows = c.offer-verdict.new.self; kept = i.kept })
     (offer_of (policy_of g.Q.QueueRule.says d) h c.args.ticket c.args.words.now (coming c.args.class c.args.len c.args.prec c.args.now) ∷ h) in
     subst P c.self.view_is (λ h s o few. offer_dropped g.Q.QueueRule.stands g.Q.QueueRule.says g.Q.QueueRule.most
-    (record { chooser = i.chooser; rows = i.rows; kept = i.kept }) c.offer-verdict.new.self h c.args.ticket c.args.class c.args.len c.args.prec c.args.now
+    (record { chooser = i.chooser; rows = i.rows; kept = i.kept }) c.offer-verdict.new.self h c.args.ticket (coming c.args.class c.args.len c.args.prec c.args.now)
     c.args.words.now c.offer-verdict.new.words c.offer-verdict.result c.offer-verdict.ensures.same s o (c.offer-verdict.ensures.told h s.told few)
     (sym c.is_kept.ensures ∙ c.if-not-is_kept.true))
 
@@ -74,6 +74,6 @@ returns-clause-history g c =
     let may = may_keep i.chooser (list_in i.rows) i.kept c.args.class c.args.now c.args.len c.head.result c.is_none-empty.result (hfsc_history (bare h)) k of c.head.ensures
     c.is_none-empty.ensures (record { least = c.requires.least; most = c.requires.most }) fewer later in
     offer_kept g.Q.QueueRule.stands g.Q.QueueRule.says g.Q.QueueRule.most
-    (record { chooser = i.chooser; rows = i.rows; kept = i.kept }) c.kept.new.self c.offer-verdict.new.self h c.args.ticket c.args.class c.args.len c.args.prec c.args.now
+    (record { chooser = i.chooser; rows = i.rows; kept = i.kept }) c.kept.new.self c.offer-verdict.new.self h c.args.ticket (coming c.args.class c.args.len c.args.prec c.args.now)
     c.args.words.now c.offer-verdict.new.words c.offer-verdict.result c.offer-verdict.ensures.same s o (c.offer-verdict.ensures.told h s.told few)
     (sym c.is_kept.ensures ∙ c.if-not-is_kept.false) c.kept.ensures.classes c.kept.ensures.woken (c.kept.ensures.stands (hfsc_history (bare h)) may))
