@@ -15,7 +15,8 @@ use Rattle.share_gaps.specs.declared.lead.Lead.{Lead}
 use Rattle.share_gaps.specs.declared.siblings.Siblings.{Siblings}
 use Rattle.share_gaps.specs.Rows.{are_siblings, pair, rows, rows_from, rows_of}
 use Rattle.share_gaps.specs.Bounds.{bound_of, gap_of, shares_alone}
-use Rattle.share_gaps.specs.Watching.{Stand, bound_in, gap_after, gap_in, lead_of}
+use Rattle.share_gaps.specs.declared.watch.Watch.{Watch}
+use Rattle.share_gaps.specs.Watching.{Stand, StandsFor, bound_in, gap_after, gap_in, lead_of}
 use Rattle.share_gaps.specs.Within.{rate_of}
 use Rattle.share_gaps.specs.declared.gap.Gap.{Gap}
 use Rattle.share_gaps.proofs.Pairs.{IsPair, row_pair}
@@ -70,27 +71,36 @@ length_rates [] = refl
 length_rates (k ∷ ks) = let rest = length_rates ks in omega (arith, rest)
 
 -- the gap of a row
-pub gap_is : (cs : List HfscClass) (ss : List Siblings) (rates : List (Option ℕ)) (ws : List ℕ) (ls : List Lead) (n row : ℕ) (x : Lead) (h : HfscHistory) (s : Siblings) (one two : Option ℕ) (gap bound : Option ℕ)
-    → Stand cs ss ws ls n h → ss ≡ rows cs → rates ≡ map rate_of cs → slice_get ss row ≡ Some s → x ≡ get_or ls row x
-    → one ≡ get_or rates s.first one → two ≡ get_or rates s.second two → gap ≡ gap_of x.most one two
-    → bound ≡ (if shares_alone cs && is_some gap then bound_of cs (class_of cs s.first).parent (units n) else None)
-    → Some (record { first = s.first; second = s.second; gap = gap; bound = bound }) ≡ option_map (gap_after cs h) (slice_get (rows cs) row)
-gap_is cs ss rates ws ls n row x h s one two gap bound stand pairs rates_are at lead_is one_is two_is gap_eq bound_eq =
-    made_same ∙ sym (ap (option_map (gap_after cs h)) (sym (ap (λ (xs : List Siblings). slice_get xs row) pairs) ∙ at))
+pub gap_is : (w : Watch) (row : ℕ) (x : Lead) (h : HfscHistory) (s : Siblings) (one two : Option ℕ) (gap bound : Option ℕ)
+    → StandsFor w h → slice_get w.siblings.items row ≡ Some s → x ≡ get_or w.leads.items row x
+    → one ≡ get_or w.rates.items s.first one → two ≡ get_or w.rates.items s.second two → gap ≡ gap_of x.most one two
+    → bound ≡ (if shares_alone w.classes.items && is_some gap then bound_of w.classes.items (class_of w.classes.items s.first).parent (units w.longest) else None)
+    → Some (record { first = s.first; second = s.second; gap = gap; bound = bound }) ≡ option_map (gap_after w.classes.items h) (slice_get (rows w.classes.items) row)
+gap_is w row x h s one two gap bound stand at lead_is one_is two_is gap_eq bound_eq =
+    made_same ∙ sym (ap (option_map (gap_after cs h)) (sym (ap (λ (xs : List Siblings). slice_get xs row) w.pairs_are) ∙ at))
   where
+    cs : List HfscClass
+    cs = w.classes.items
+
+    rates : List (Option ℕ)
+    rates = w.rates.items
+
+    n : ℕ
+    n = w.longest
+
     pair_is : IsPair cs s
-    pair_is = row_pair cs ss row s pairs at
+    pair_is = row_pair cs w.siblings.items row s w.pairs_are at
 
     made : Option ℕ → Option ℕ → Gap
     made g b = record { first = s.first; second = s.second; gap = g; bound = b }
 
     lead : x.most ≡ (lead_of cs s h).most
-    lead = ap (λ (y : Lead). y.most) (lead_is ∙ get_or_from_slice_get ls row (lead_of cs s h) x (stand.lead_at row s at))
+    lead = ap (λ (y : Lead). y.most) (lead_is ∙ get_or_from_slice_get w.leads.items row (lead_of cs s h) x (stand.lead_at row s at))
 
     rate_at_is : (c : ℕ) (o : Option ℕ) → c < length cs → get_or rates c o ≡ rate_of (class_of cs c)
     rate_at_is c o low =
         get_or_from_slice_get rates c (rate_of (class_of cs c)) o
-        (ap (λ (xs : List (Option ℕ)). slice_get xs c) rates_are ∙ slice_get-map rate_of cs c ∙ ap (option_map rate_of) (slice_get-get_or cs c no_class low))
+        (ap (λ (xs : List (Option ℕ)). slice_get xs c) w.rates_are ∙ slice_get-map rate_of cs c ∙ ap (option_map rate_of) (slice_get-get_or cs c no_class low))
 
     gap_same : gap ≡ gap_in cs h s
     gap_same =

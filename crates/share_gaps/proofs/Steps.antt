@@ -27,7 +27,8 @@ use Rattle.share_gaps.specs.declared.siblings.Siblings.{Siblings}
 use Rattle.share_gaps.specs.Leads.{held, lead, most_lead}
 use Rattle.share_gaps.specs.Rows.{IsPlace, first_in, firsts_in, is_in, rows, second_in, seconds_in}
 use Rattle.share_gaps.specs.Serve.{after_gains, both_active, first_served, gain_of, one_less, one_more, rate_at, second_served, update_all}
-use Rattle.share_gaps.specs.Watching.{Stand, lead_of, rate_in}
+use Rattle.share_gaps.specs.declared.watch.Watch.{Watch}
+use Rattle.share_gaps.specs.Watching.{Stand, StandsFor, lead_of, rate_in}
 use Rattle.share_gaps.specs.Within.{line_rate, rate_of}
 use Rattle.share_gaps.proofs.Held.{active_is_held}
 use Rattle.share_gaps.proofs.Leads.{lead_active, lead_within, leads_back, leads_in}
@@ -199,13 +200,6 @@ product_small x r low rate =
     let two = mul_mono (10 ^ 12) x (2 ^ 73) low in
     omega (arith, one, two)
 
--- what is known of a sending and of the lists after it
-record IsSending (cs : List HfscClass) (ss : List Siblings) (rates : List (Option ℕ)) (ws : List ℕ) (ls : List Lead) (l len : ℕ) (real : Bool) (start n : ℕ) (h : HfscHistory) : Type 0 where
-  pub stand : Stand cs ss ws ls n h
-  pub head : IsHead (leaf h l).waiting len
-  pub pairs : ss ≡ rows cs
-  pub rates_are : rates ≡ map rate_of cs
-
 abbrev left : List HfscClass → ℕ → List ℕ → List ℕ
 left cs l ws = if is_leaf cs l then update_all one_less (path cs l) ws else ws
 
@@ -297,23 +291,41 @@ left_waits : (cs : List HfscClass) (h : HfscHistory) (l len : ℕ) (real : Bool)
     → slice_get (left cs l ws) c ≡ Some (held cs c (Sent l len real start ∷ h))
 left_waits cs h l len real start c ws t e = counted_down cs ws l c (held cs c h) (is_leaf cs l) t e
 
-sent_row : (cs : List HfscClass) (ss : List Siblings) (rates : List (Option ℕ)) (ws : List ℕ) (ls : List Lead) (l len : ℕ) (real : Bool) (start n : ℕ) (h : HfscHistory)
-    → IsSending cs ss rates ws ls l len real start n h → (i : ℕ) (s : Siblings) → slice_get ss i ≡ Some s
-    → slice_get (update_all (second_served ss (left cs l ws) rates (units len)) (seconds_in ss (path cs l))
-    (update_all (first_served ss (left cs l ws) rates (units len)) (firsts_in ss (path cs l)) ls)) i
-    ≡ Some (lead_of cs s (Sent l len real start ∷ h))
-sent_row cs ss rates ws ls l len real start n h x i s e =
+-- the leads once a head of l was sent
+abbrev leads_after : Watch → (l len : ℕ) → List Lead
+leads_after w l len =
+    update_all (second_served w.siblings.items (left w.classes.items l w.waiting.items) w.rates.items (units len)) (seconds_in w.siblings.items (path w.classes.items l))
+    (update_all (first_served w.siblings.items (left w.classes.items l w.waiting.items) w.rates.items (units len)) (firsts_in w.siblings.items (path w.classes.items l)) w.leads.items)
+
+sent_row : (w : Watch) (l len : ℕ) (real : Bool) (start : ℕ) (h : HfscHistory) → StandsFor w h → IsHead (leaf h l).waiting len
+    → (i : ℕ) (s : Siblings) → slice_get w.siblings.items i ≡ Some s → slice_get (leads_after w l len) i ≡ Some (lead_of w.classes.items s (Sent l len real start ∷ h))
+sent_row w l len real start h stand head i s e =
     second_all
     ∙ some_map (second_served ss (left cs l ws) rates (units len) i) (is_in i (seconds_in ss (path cs l))) (slice_get (update_all (first_served ss (left cs l ws) rates (units len)) (firsts_in ss (path cs l)) ls) i)
     (if is_in i (firsts_in ss (path cs l)) then first_served ss (left cs l ws) rates (units len) i was else was)
-    (first_all ∙ some_map (first_served ss (left cs l ws) rates (units len) i) (is_in i (firsts_in ss (path cs l))) (slice_get ls i) was (x.stand.lead_at i s e))
-    ∙ ap (λ (y : Lead). Some y) (shape ∙ row_is _ _ _ _ _ _ _ _ _ (row_known cs h l len real start s x.stand.tree x.stand.heads x.stand.few x.head pair))
+    (first_all ∙ some_map (first_served ss (left cs l ws) rates (units len) i) (is_in i (firsts_in ss (path cs l))) (slice_get ls i) was (stand.lead_at i s e))
+    ∙ ap (λ (y : Lead). Some y) (shape ∙ row_is _ _ _ _ _ _ _ _ _ (row_known cs h l len real start s stand.tree stand.heads stand.few head pair))
   where
+    cs : List HfscClass
+    cs = w.classes.items
+
+    ss : List Siblings
+    ss = w.siblings.items
+
+    rates : List (Option ℕ)
+    rates = w.rates.items
+
+    ws : List ℕ
+    ws = w.waiting.items
+
+    ls : List Lead
+    ls = w.leads.items
+
     was : Lead
     was = lead_of cs s h
 
     pair : IsPair cs s
-    pair = row_pair cs ss i s x.pairs e
+    pair = row_pair cs ss i s w.pairs_are e
 
     low : i < length ss
     low = slice_get_within ss i s e
@@ -342,20 +354,20 @@ sent_row cs ss rates ws ls l len real start n h x i s e =
     second_is = passes_in (λ j. second_in (path cs l) (slice_get ss j)) 0 (length ss) i (omega arith) (omega (arith, low)) ∙ ap (second_in (path cs l)) e
 
     both : both_active (left cs l ws) s ≡ (active cs (Sent l len real start ∷ h) s.first && active cs (Sent l len real start ∷ h) s.second)
-    both = both_is cs (left cs l ws) s (Sent l len real start ∷ h) (x.head, x.stand.heads)
-        (left_waits cs h l len real start s.first ws x.stand.tree.tree (x.stand.waits s.first first_low))
-        (left_waits cs h l len real start s.second ws x.stand.tree.tree (x.stand.waits s.second second_low))
+    both = both_is cs (left cs l ws) s (Sent l len real start ∷ h) (head, stand.heads)
+        (left_waits cs h l len real start s.first ws stand.tree.tree (stand.waits s.first first_low))
+        (left_waits cs h l len real start s.second ws stand.tree.tree (stand.waits s.second second_low))
 
     gain_small : (c : ℕ) → rate_in cs c ≤ 10 ^ 12 → units len * rate_in cs c < 2 ^ 128
-    gain_small c r = let one = product_small (units len) (rate_in cs c) (sent_units cs h l len x.stand.heads x.head) r in omega (arith, one)
+    gain_small c r = let one = product_small (units len) (rate_in cs c) (sent_units cs h l len stand.heads head) r in omega (arith, one)
 
     second_gain : gain_of (units len) (rate_at rates s.second) ≡ units len * rate_in cs s.second
-    second_gain = gain_is (units len) (rate_in cs s.second) (rate_at rates s.second) (ap or_zero (rate_is cs rates s.second x.rates_are second_low))
-        (gain_small s.second (rate_small cs pair.parent s.second x.stand.tree pair.second))
+    second_gain = gain_is (units len) (rate_in cs s.second) (rate_at rates s.second) (ap or_zero (rate_is cs rates s.second w.rates_are second_low))
+        (gain_small s.second (rate_small cs pair.parent s.second stand.tree pair.second))
 
     first_gain : gain_of (units len) (rate_at rates s.first) ≡ units len * rate_in cs s.first
-    first_gain = gain_is (units len) (rate_in cs s.first) (rate_at rates s.first) (ap or_zero (rate_is cs rates s.first x.rates_are first_low))
-        (gain_small s.first (rate_small cs pair.parent s.first x.stand.tree pair.first))
+    first_gain = gain_is (units len) (rate_in cs s.first) (rate_at rates s.first) (ap or_zero (rate_is cs rates s.first w.rates_are first_low))
+        (gain_small s.first (rate_small cs pair.parent s.first stand.tree pair.first))
 
     first_does : (y : Lead) → first_served ss (left cs l ws) rates (units len) i y
         ≡ after_gains y (active cs (Sent l len real start ∷ h) s.first && active cs (Sent l len real start ∷ h) s.second) (units len * rate_in cs s.second) 0
@@ -396,19 +408,35 @@ left_of x ws = if x.leaf then update_all one_less x.path.items ws else ws
 abbrev pub served : List Siblings → Place → List (Option ℕ) → (amount : ℕ) → (ws : List ℕ) → List Lead → List Lead
 served ss x rates u ws ls = update_all (second_served ss ws rates u) x.seconds.items (update_all (first_served ss ws rates u) x.firsts.items ls)
 
-pub sent_stands : (cs : List HfscClass) (ss : List Siblings) (rates : List (Option ℕ)) (x : Place) (ws : List ℕ) (ls : List Lead) (n l len : ℕ) (real : Bool) (start : ℕ) (h : HfscHistory)
-    → IsPlace cs ss l x → ss ≡ rows cs → rates ≡ map rate_of cs → Stand cs ss ws ls n h → IsHead (leaf h l).waiting len
-    → Stand cs ss (left_of x ws) (served ss x rates (units len) (left_of x ws) ls) (max n len) (Sent l len real start ∷ h)
-sent_stands cs ss rates x ws ls n l len real start h place pairs rates_are s head = record {
+pub sent_stands : (w : Watch) (x : Place) (l len : ℕ) (real : Bool) (start : ℕ) (h : HfscHistory)
+    → IsPlace w.classes.items w.siblings.items l x → StandsFor w h → IsHead (leaf h l).waiting len
+    → Stand w.classes.items w.siblings.items (left_of x w.waiting.items) (served w.siblings.items x w.rates.items (units len) (left_of x w.waiting.items) w.leads.items)
+    (max w.longest len) (Sent l len real start ∷ h)
+sent_stands w x l len real start h place s head = record {
   tree = s.tree;
   heads = (head, s.heads);
   few = s.few;
   longest_is = let was = s.longest_is in omega (arith, was);
   waits = λ c low. ap (λ (ys : List ℕ). slice_get ys c) waits_are ∙ left_waits cs h l len real start c ws s.tree.tree (s.waits c low);
   lead_at = λ i k e. ap (λ (ys : List Lead). slice_get ys i) leads_are
-      ∙ sent_row cs ss rates ws ls l len real start n h (record { stand = s; head = head; pairs = pairs; rates_are = rates_are }) i k e;
+      ∙ sent_row w l len real start h s head i k e;
 }
   where
+    cs : List HfscClass
+    cs = w.classes.items
+
+    ss : List Siblings
+    ss = w.siblings.items
+
+    rates : List (Option ℕ)
+    rates = w.rates.items
+
+    ws : List ℕ
+    ws = w.waiting.items
+
+    ls : List Lead
+    ls = w.leads.items
+
     waits_are : left_of x ws ≡ left cs l ws
     waits_are = ap (λ (b : Bool). if b then update_all one_less x.path.items ws else ws) place.ends
         ∙ ap (λ (way : List ℕ). if is_leaf cs l then update_all one_less way ws else ws) place.way
@@ -463,19 +491,36 @@ sent_beyond cs ss ws ls n l len real start h beyond pairs s head = record {
 }
 
 -- the same, by equal lists
-pub same_firsts : (S T : List Siblings) (V W : List ℕ) (R Q : List (Option ℕ)) (u w : ℕ) (I J : List ℕ) (K L : List Lead) → S ≡ T → V ≡ W → R ≡ Q → u ≡ w → I ≡ J → K ≡ L
-    → update_all (first_served S V R u) I K ≡ update_all (first_served T W Q w) J L
-same_firsts S T V W R Q u w I J K L a b c d e f =
-    ap (λ (s : List Siblings). update_all (first_served s V R u) I K) a ∙ ap (λ (s : List ℕ). update_all (first_served T s R u) I K) b
-    ∙ ap (λ (s : List (Option ℕ)). update_all (first_served T W s u) I K) c ∙ ap (λ (s : ℕ). update_all (first_served T W Q s) I K) d
-    ∙ ap (λ (s : List ℕ). update_all (first_served T W Q w) s K) e ∙ ap (λ (s : List Lead). update_all (first_served T W Q w) J s) f
+pub record Serving : Type 0 where
+  pub siblings : List Siblings
+  pub waiting : List ℕ
+  pub rates : List (Option ℕ)
+  pub amount : ℕ
+  pub rows : List ℕ
+  pub leads : List Lead
 
-pub same_seconds : (S T : List Siblings) (V W : List ℕ) (R Q : List (Option ℕ)) (u w : ℕ) (I J : List ℕ) (K L : List Lead) → S ≡ T → V ≡ W → R ≡ Q → u ≡ w → I ≡ J → K ≡ L
-    → update_all (second_served S V R u) I K ≡ update_all (second_served T W Q w) J L
-same_seconds S T V W R Q u w I J K L a b c d e f =
-    ap (λ (s : List Siblings). update_all (second_served s V R u) I K) a ∙ ap (λ (s : List ℕ). update_all (second_served T s R u) I K) b
-    ∙ ap (λ (s : List (Option ℕ)). update_all (second_served T W s u) I K) c ∙ ap (λ (s : ℕ). update_all (second_served T W Q s) I K) d
-    ∙ ap (λ (s : List ℕ). update_all (second_served T W Q w) s K) e ∙ ap (λ (s : List Lead). update_all (second_served T W Q w) J s) f
+pub record AreSame (x y : Serving) : Type 0 where
+  pub siblings : x.siblings ≡ y.siblings
+  pub waiting : x.waiting ≡ y.waiting
+  pub rates : x.rates ≡ y.rates
+  pub amount : x.amount ≡ y.amount
+  pub rows : x.rows ≡ y.rows
+  pub leads : x.leads ≡ y.leads
+
+same_serving : (x y : Serving) → AreSame x y → x ≡ y
+same_serving x y s =
+    ap (λ (k : List Siblings). record x { siblings = k }) s.siblings ∙ ap (λ (k : List ℕ). record x { siblings = y.siblings; waiting = k }) s.waiting
+    ∙ ap (λ (k : List (Option ℕ)). record y { rates = k; amount = x.amount; rows = x.rows; leads = x.leads }) s.rates
+    ∙ ap (λ (k : ℕ). record y { amount = k; rows = x.rows; leads = x.leads }) s.amount
+    ∙ ap (λ (k : List ℕ). record y { rows = k; leads = x.leads }) s.rows ∙ ap (λ (k : List Lead). record y { leads = k }) s.leads
+
+pub same_firsts : (x y : Serving) → AreSame x y
+    → update_all (first_served x.siblings x.waiting x.rates x.amount) x.rows x.leads ≡ update_all (first_served y.siblings y.waiting y.rates y.amount) y.rows y.leads
+same_firsts x y s = ap (λ (z : Serving). update_all (first_served z.siblings z.waiting z.rates z.amount) z.rows z.leads) (same_serving x y s)
+
+pub same_seconds : (x y : Serving) → AreSame x y
+    → update_all (second_served x.siblings x.waiting x.rates x.amount) x.rows x.leads ≡ update_all (second_served y.siblings y.waiting y.rates y.amount) y.rows y.leads
+same_seconds x y s = ap (λ (z : Serving). update_all (second_served z.siblings z.waiting z.rates z.amount) z.rows z.leads) (same_serving x y s)
 
 -- the places of a path are classes
 pub way_below : (cs : List HfscClass) (ss : List Siblings) (l : ℕ) (x : Place) → IsTree cs → l < length cs → IsPlace cs ss l x

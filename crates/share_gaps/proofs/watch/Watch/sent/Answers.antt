@@ -62,16 +62,56 @@ returns-clause-stands c = λ h real start s head.
     let amount : c.units-amount.result ≡ units c.args.len = c.units-amount.ensures ∙ ap (λ (n : ℕ). units n) c.from.ensures in
     let firsts : c.serve_firsts.new.leads ≡ update_all (first_served w.siblings.items (left_of x w.waiting.items) w.rates.items u) x.firsts.items w.leads.items =
     c.serve_firsts.ensures
-    ∙ same_firsts _ _ _ _ _ _ _ _ _ _ _ _ c.deref-2.ensures.value (c.deref-3.ensures.value ∙ waits) c.deref-4.ensures.value amount c.deref.ensures.value c.deref_mut-2.ensures.value in
+    ∙ same_firsts
+    (record {
+      siblings = c.deref-2.result.now;
+      waiting = c.deref-3.result.now;
+      rates = c.deref-4.result.now;
+      amount = c.units-amount.result;
+      rows = c.deref.result.now;
+      leads = c.deref_mut-2.result.now;
+    })
+    (record { siblings = w.siblings.items; waiting = left_of x w.waiting.items; rates = w.rates.items; amount = u; rows = x.firsts.items; leads = w.leads.items })
+    (record {
+      siblings = c.deref-2.ensures.value;
+      waiting = c.deref-3.ensures.value ∙ waits;
+      rates = c.deref-4.ensures.value;
+      amount = amount;
+      rows = c.deref.ensures.value;
+      leads = c.deref_mut-2.ensures.value;
+    }) in
     let lead_len : length w.leads.items ≡ w.leads.len = sym (ap length c.deref_mut-2.ensures.value) ∙ c.deref_mut-2.ensures.len in
     let firsts_count = ap length firsts ∙ length_all _ x.firsts.items w.leads.items ∙ lead_len in
     let back = taken w.leads.len c.serve_firsts.new.leads _ firsts_count ∙ firsts in
     let seconds : c.serve_seconds.new.leads ≡ served w.siblings.items x w.rates.items u (left_of x w.waiting.items) w.leads.items =
     c.serve_seconds.ensures
-    ∙ same_seconds _ _ _ _ _ _ _ _ _ _ _ _ c.deref-6.ensures.value (c.deref-7.ensures.value ∙ waits) c.deref-8.ensures.value amount c.deref-5.ensures.value
-    (c.deref_mut-3.ensures.value ∙ back) in
+    ∙ same_seconds
+    (record {
+      siblings = c.deref-6.result.now;
+      waiting = c.deref-7.result.now;
+      rates = c.deref-8.result.now;
+      amount = c.units-amount.result;
+      rows = c.deref-5.result.now;
+      leads = c.deref_mut-3.result.now;
+    })
+    (record {
+      siblings = w.siblings.items;
+      waiting = left_of x w.waiting.items;
+      rates = w.rates.items;
+      amount = u;
+      rows = x.seconds.items;
+      leads = update_all (first_served w.siblings.items (left_of x w.waiting.items) w.rates.items u) x.firsts.items w.leads.items;
+    })
+    (record {
+      siblings = c.deref-6.ensures.value;
+      waiting = c.deref-7.ensures.value ∙ waits;
+      rates = c.deref-8.ensures.value;
+      amount = amount;
+      rows = c.deref-5.ensures.value;
+      leads = c.deref_mut-3.ensures.value ∙ back;
+    }) in
     let seconds_count = ap length seconds ∙ length_all _ x.seconds.items (update_all (first_served w.siblings.items (left_of x w.waiting.items) w.rates.items u) x.firsts.items w.leads.items)
     ∙ length_all _ x.firsts.items w.leads.items ∙ lead_len in
     stand_same w.classes.items w.siblings.items _ (left_of x w.waiting.items) _ (served w.siblings.items x w.rates.items u (left_of x w.waiting.items) w.leads.items)
     c.max-self.result (max w.longest c.args.len) (Sent c.args.class c.args.len real start ∷ h) waits (taken w.leads.len c.serve_seconds.new.leads _ seconds_count ∙ seconds) c.max-self.ensures
-    (sent_stands w.classes.items w.siblings.items w.rates.items x w.waiting.items w.leads.items w.longest c.args.class c.args.len real start h place w.pairs_are w.rates_are s head)
+    (sent_stands w x c.args.class c.args.len real start h place s head)
