@@ -21,30 +21,31 @@ use Rattle.share_report.specs.Watched.{BothStand, IsHfscOver}
 pub still_hfsc : (p q : Policy) (cs ds : List HfscClass) → q ≡ p → ds ≡ cs → IsHfscOver cs p → IsHfscOver ds q
 still_hfsc p q cs ds e f x = record { answer = x.answer; is = e ∙ x.is ∙ ap (λ (ks : List HfscClass). hfsc_policy ks x.answer) (sym f) }
 
-pub after_offer : (old new : List Happened → Type 0) (p q : Policy) (w v : Watch) (kept label : ℕ) (a : Coming) (d : DrawnWords) (answer : Answer) (h : List Happened)
-    → BothStand old p w kept h → q ≡ p → classes_of v ≡ classes_of w → is_kept answer.verdict ≡ true → IsOffer a (bare h) → kept < 4000000
-    → ((g : HfscHistory) (at len : ℕ) → StandsFor w g → kept_in g < 4000000 → IsSized len → StandsFor v (Kept a.class at len ∷ g))
-    → new (record { label = label; what = Offered a d answer } ∷ h) → BothStand new q v (kept + 1) (record { label = label; what = Offered a d answer } ∷ h)
-after_offer old new p q w v kept label a d answer h s same classes k offer few stands is = record {
-  stands = is;
-  shares = still_hfsc p q (classes_of w) (classes_of v) same classes s.shares;
-  watches = subst (λ (b : Bool). StandsFor v (if b then Kept a.class a.at a.len ∷ hfsc_history (bare h) else hfsc_history (bare h))) (sym k)
-      (stands (hfsc_history (bare h)) a.at a.len s.watches (let count = s.kept_is in omega (arith, count, few)) offer.sized);
-  kept_is = ap (λ (b : Bool). kept_in (if b then Kept a.class a.at a.len ∷ hfsc_history (bare h) else hfsc_history (bare h))) k ∙ ap (λ (n : ℕ). n + 1) s.kept_is;
-  counted = let more = s.counted in omega (arith, more);
-}
+-- the discipline and what watches it, before and after; neither the policy nor the classes change
+module _ (old new : List Happened → Type 0) (p q : Policy) (w v : Watch) (same : q ≡ p) (classes : classes_of v ≡ classes_of w) where
+  pub after_offer : (kept label : ℕ) (a : Coming) (d : DrawnWords) (answer : Answer) (h : List Happened)
+      → BothStand old p w kept h → is_kept answer.verdict ≡ true → IsOffer a (bare h) → kept < 4000000
+      → ((g : HfscHistory) (at len : ℕ) → StandsFor w g → kept_in g < 4000000 → IsSized len → StandsFor v (Kept a.class at len ∷ g))
+      → new (record { label = label; what = Offered a d answer } ∷ h) → BothStand new q v (kept + 1) (record { label = label; what = Offered a d answer } ∷ h)
+  after_offer kept label a d answer h s k offer few stands is = record {
+    stands = is;
+    shares = still_hfsc p q (classes_of w) (classes_of v) same classes s.shares;
+    watches = subst (λ (b : Bool). StandsFor v (if b then Kept a.class a.at a.len ∷ hfsc_history (bare h) else hfsc_history (bare h))) (sym k)
+        (stands (hfsc_history (bare h)) a.at a.len s.watches (let count = s.kept_is in omega (arith, count, few)) offer.sized);
+    kept_is = ap (λ (b : Bool). kept_in (if b then Kept a.class a.at a.len ∷ hfsc_history (bare h) else hfsc_history (bare h))) k ∙ ap (λ (n : ℕ). n + 1) s.kept_is;
+    counted = let more = s.counted in omega (arith, more);
+  }
 
-pub after_sending : (old new : List Happened → Type 0) (p q : Policy) (w v : Watch) (kept label : ℕ) (x : Transmission) (h : List Happened)
-    → BothStand old p w kept h → q ≡ p → classes_of v ≡ classes_of w → ((g : List Happened) → new g → IsOrderly q (bare g))
-    → ((g : HfscHistory) (real : Bool) (start : ℕ) → StandsFor w g → IsHead (leaf g x.class).waiting x.len → StandsFor v (Went x.class x.len real start ∷ g))
-    → new (record { label = label; what = Sent x } ∷ h) → BothStand new q v kept (record { label = label; what = Sent x } ∷ h)
-after_sending old new p q w v kept label x h s same classes orderly stands is =
-    let due = (orderly (record { label = label; what = Sent x } ∷ h) is).0 in
-    record {
-      stands = is;
-      shares = still_hfsc p q (classes_of w) (classes_of v) same classes s.shares;
-      watches = stands (hfsc_history (bare h)) (is_real x.rule) x.start s.watches
-          (subst (λ (ws : List Waiting). IsHead ws x.len) (sym (leaf_waits x.class (bare h))) (front_head (waiting x.class (bare h)) due.packet x.len due.front due.len));
-      kept_is = s.kept_is;
-      counted = s.counted;
-    }
+  pub after_sending : (kept label : ℕ) (x : Transmission) (h : List Happened) → BothStand old p w kept h → ((g : List Happened) → new g → IsOrderly q (bare g))
+      → ((g : HfscHistory) (real : Bool) (start : ℕ) → StandsFor w g → IsHead (leaf g x.class).waiting x.len → StandsFor v (Went x.class x.len real start ∷ g))
+      → new (record { label = label; what = Sent x } ∷ h) → BothStand new q v kept (record { label = label; what = Sent x } ∷ h)
+  after_sending kept label x h s orderly stands is =
+      let due = (orderly (record { label = label; what = Sent x } ∷ h) is).0 in
+      record {
+        stands = is;
+        shares = still_hfsc p q (classes_of w) (classes_of v) same classes s.shares;
+        watches = stands (hfsc_history (bare h)) (is_real x.rule) x.start s.watches
+            (subst (λ (ws : List Waiting). IsHead ws x.len) (sym (leaf_waits x.class (bare h))) (front_head (waiting x.class (bare h)) due.packet x.len due.front due.len));
+        kept_is = s.kept_is;
+        counted = s.counted;
+      }
