@@ -9,7 +9,7 @@ use Rattle.fate_judge.specs.Reading.{HasClass, IsRead, can_occur_in}
 use Rattle.fate_judge.specs.Tests.{IsNumbered}
 use Rattle.fate_judge.specs.Walk.{EachRow}
 
-each_weaker : (P Q : List Row → Row → Type 0) (before rows : List Row) → ((b : List Row) (r : Row) → P b r → Q b r) → EachRow P before rows → EachRow Q before rows
+pub each_weaker : (P Q : List Row → Row → Type 0) (before rows : List Row) → ((b : List Row) (r : Row) → P b r → Q b r) → EachRow P before rows → EachRow Q before rows
 each_weaker P Q before [] h each = tt
 each_weaker P Q before (r ∷ rows) h each = (h before r each.0, each_weaker P Q (r ∷ before) rows h each.1)
 

@@ -1,3 +1,4 @@
+pub mod All
 pub mod Ends
 pub mod Given
 pub mod Judged

@@ -1,5 +1,5 @@
 // Ends as the link's.
-ghost use Rattle.std.specs.Prelude.{◌≡◌, ◌≤◌, ◌<◌, ◌*◌, ◌+◌, ◌^◌, ℕ, List, [], ◌∷◌, MatchOption, true, false};
+ghost use Rattle.std.specs.Prelude.{◌≡◌, ◌≢◌, ◌≤◌, ◌<◌, ◌*◌, ◌+◌, ◌^◌, ℕ, List, [], ◌∷◌, MatchOption, true, false};
 ghost use Rattle.altq_model.specs.History.{Coming};
 ghost use Rattle.altq_model.specs.Link.{after_sending};
 ghost use Rattle.fate_check.specs.declared.reading.Row.{Row};
@@ -17,21 +17,38 @@ const BYTE: u128 = 8_000_000_000;
 
 // The last end; and of the run that it belongs to, the start and the units so far.
 #[derive(Clone, Copy)]
-struct Run {
-    free: u64,
-    start: u64,
-    sent: u128,
+pub(crate) struct Run {
+    pub(crate) free: u64,
+    pub(crate) start: u64,
+    pub(crate) sent: u128,
 }
 
-// A moment as a whole number.
-fn whole(moment: u64) -> u128
-    ensures value { result ≡ moment }
-    ensures fits { result < 2 ^ 64 }
+// Whether a link takes this time for so many units, rounded up: at its end they are sent, and a nanosecond before they were not.
+fn takes(rate: u64, sent: u128, time: u64) -> bool
+    requires some { 0 < rate }
+    requires most { rate ≤ 10 ^ 12 }
+    requires few { sent ≤ 2 ^ 127 }
+    ensures yes { result ≡ true → ceil_div sent rate ≡ time }
+    ensures no { result ≡ false → ceil_div sent rate ≢ time }
 {
-    u128::from(moment)
+    let rate = u128::from(rate);
+    let most = u128::from(time) * rate;
+    sent <= most && most < sent + rate
 }
 
 impl Run {
+    // Before the first row.
+    pub(crate) fn new() -> Run
+        ensures none { result.sent ≡ 0 }
+        ensures link { (rate : ℕ) (arrived : List Coming) → IsLink rate arrived [] result }
+    {
+        Run {
+            free: 0,
+            start: 0,
+            sent: 0,
+        }
+    }
+
     // The start and the units of the run to which a packet belongs that starts at `start`.
     fn after(self, start: u64, len: u32) -> (u64, u128)
         requires { self.sent ≤ 2 ^ 127 }
@@ -49,7 +66,7 @@ impl Run {
     }
 
     // Whether a row passes the test; then it is told of the row.
-    fn passes(&mut self, rate: u64, row: &Row) -> bool
+    pub(crate) fn passes(&mut self, rate: u64, row: &Row) -> bool
         requires some { 0 < rate }
         requires most { rate ≤ 10 ^ 12 }
         requires few { self.old.sent ≤ rate * 2 ^ 64 }
@@ -62,8 +79,10 @@ impl Run {
             return true;
         };
         let (run, sent) = self.after(start, row.len);
-        let time = (sent + u128::from(rate - 1)) / u128::from(rate);
-        if u128::from(run) + time != whole(end) {
+        let Some(time) = end.checked_sub(run) else {
+            return false;
+        };
+        if !takes(rate, sent, time) {
             return false;
         }
         *self = Run {
@@ -82,11 +101,7 @@ pub(crate) fn first_other_end(rate: u64, rows: &[Row]) -> Option<u64>
     ensures { (classes : List Allowed) (arrived : List Coming) → EachRow (IsRead classes arrived) [] rows.now
         → MatchOption result (EachRow (HasEnd rate arrived) [] rows.now) (FirstFails (HasEnd rate arrived) rows.now) }
 {
-    let mut run = Run {
-        free: 0,
-        start: 0,
-        sent: 0,
-    };
+    let mut run = Run::new();
     for (i, row) in rows.iter().enumerate() {
         if !run.passes(rate, row) {
             return Some(i as u64 + 1);

@@ -3,6 +3,7 @@ ghost use Rattle.std.specs.Prelude.{◌≤◌, ◌<◌, ◌^◌, IfErr, OnOk};
 ghost use Rattle.fate_judge.specs.Given.{comings};
 ghost use Rattle.fate_judge.specs.Judged.{IfAt, IsRefuted, PassesAll};
 
+use crate::all::all_pass;
 use crate::ends::first_other_end;
 use crate::given::{Allowed, Arrived, Kind, Refuted};
 use crate::moments::first_early;
@@ -12,14 +13,8 @@ use crate::reading::first_unread;
 use fate_check::Row;
 use std::alloc::Global;
 
-/// Holds rows of fates to the tests of `Kind`, for the packets that arrived at a link of `rate` bits per second, 1 to 10^12, and for
-/// what can become of packets in each class: `classes` stands in order of class. It is the part of a check that looks at the rows
-/// alone; it tests neither that the link is busy, nor which class was picked, nor why a packet was dropped.
-///
-/// `At` comes exactly where a test fails, with the least kind that fails and its first row. `NoMemory` comes only where memory is
-/// wanted: a byte for each packet and 16 bytes for each class are taken. Each test is one pass over the rows; all numbers are
-/// reckoned whole, so a row may hold any.
-pub fn judge_order(
+// The same by each test in turn.
+fn judge_each(
     alloc: Global,
     rate: u64,
     classes: &[Allowed],
@@ -68,4 +63,29 @@ pub fn judge_order(
         });
     }
     Ok(())
+}
+
+/// Holds rows of fates to the tests of `Kind`, for the packets that arrived at a link of `rate` bits per second, 1 to 10^12, and for
+/// what can become of packets in each class: `classes` stands in order of class. It is the part of a check that looks at the rows
+/// alone; it tests neither that the link is busy, nor which class was picked, nor why a packet was dropped.
+///
+/// `At` comes exactly where a test fails, with the least kind that fails and its first row. `NoMemory` comes only where memory is
+/// wanted: a byte for each packet and 16 bytes for each class are taken. Rows that pass cost one pass over them; of others each test is
+/// one pass more. All numbers are reckoned whole, so a row may hold any.
+pub fn judge_order(
+    alloc: Global,
+    rate: u64,
+    classes: &[Allowed],
+    arrived: &[Arrived],
+    rows: &[Row],
+) -> Result<(), Refuted>
+    requires some { 0 < rate }
+    requires most { rate ≤ 10 ^ 12 }
+    ensures passed { OnOk result (PassesAll (record { rate = rate; classes = classes.now; arrived = comings arrived.now; rows = rows.now })) }
+    ensures refuted { IfErr result (IfAt (IsRefuted (record { rate = rate; classes = classes.now; arrived = comings arrived.now; rows = rows.now }))) }
+{
+    if let Ok(true) = all_pass(alloc, rate, classes, arrived, rows) {
+        return Ok(());
+    }
+    judge_each(alloc, rate, classes, arrived, rows)
 }

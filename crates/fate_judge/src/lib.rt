@@ -1,6 +1,7 @@
 //! Rows of given fates against the packets that arrived, whoever made them.
 #![tactic(auto)]
 
+mod all;
 mod ends;
 mod given;
 mod judge;

@@ -13,13 +13,20 @@ use fate_check::Row;
 
 // The end of the newest sending, 0 where there is none.
 #[derive(Drop)]
-struct Free {
-    end: u64,
+pub(crate) struct Free {
+    pub(crate) end: u64,
 }
 
 impl Free {
+    // Before the first row.
+    pub(crate) fn new() -> Free
+        ensures { IsFree [] result.end }
+    {
+        Free { end: 0 }
+    }
+
     // Whether a row passes the test; then it is told of the row.
-    fn passes(&mut self, row: &Row) -> bool
+    pub(crate) fn passes(&mut self, row: &Row) -> bool
         ensures passes { result ≡ true → (classes : List Allowed) (arrived : List Coming) (before : List Row) → IsOfArrival classes arrived row.now → IsFree before self.old.end → IsInTime arrived before row.now }
         ensures stands { result ≡ true → (before : List Row) → IsFree before self.old.end → IsFree (row.now ∷ before) self.new.end }
         ensures fails { result ≡ false → (classes : List Allowed) (arrived : List Coming) (before : List Row) → IsOfArrival classes arrived row.now → IsFree before self.old.end → ¬ IsInTime arrived before row.now }
@@ -40,7 +47,7 @@ pub(crate) fn first_early(rows: &[Row]) -> Option<u64>
     ensures { (classes : List Allowed) (arrived : List Coming) → EachRow (IsRead classes arrived) [] rows.now
         → MatchOption result (EachRow (IsInTime arrived) [] rows.now) (FirstFails (IsInTime arrived) rows.now) }
 {
-    let mut free = Free { end: 0 };
+    let mut free = Free::new();
     for (i, row) in rows.iter().enumerate() {
         if !free.passes(row) {
             return Some(i as u64 + 1);

@@ -25,13 +25,23 @@ pub(crate) fn first_unset(set: &[bool], from: usize) -> usize
 
 // Which numbers have a row.
 #[derive(Drop)]
-struct Seen {
-    numbers: Vec<bool>,
+pub(crate) struct Seen {
+    pub(crate) numbers: Vec<bool>,
 }
 
 impl Seen {
+    // Before the first row.
+    pub(crate) fn new(alloc: Global, count: usize) -> Result<Seen, NoMemory>
+        ensures count { IfOk result (λ seen. vec_len seen.numbers ≡ count) }
+        ensures none { IfOk result (λ seen. AreSeen seen.numbers.items []) }
+    {
+        Ok(Seen {
+            numbers: vec![in alloc; false; count]?,
+        })
+    }
+
     // Whether a row passes the test; then it is told of the row.
-    fn passes(&mut self, row: &Row) -> bool
+    pub(crate) fn passes(&mut self, row: &Row) -> bool
         requires from_one { 0 < row.now.number }
         requires there { row.now.number ≤ vec_len self.old.numbers }
         ensures count { vec_len self.new.numbers ≡ vec_len self.old.numbers }
@@ -57,9 +67,7 @@ pub(crate) fn first_again(
     requires { EachRow (IsNumbered count) [] rows.now }
     ensures { IfOk result (λ o. MatchOption o (HaveOne count rows.now) (LacksOne count rows.now)) }
 {
-    let mut seen = Seen {
-        numbers: vec![in alloc; false; count]?,
-    };
+    let mut seen = Seen::new(alloc, count)?;
     for (i, row) in rows.iter().enumerate() {
         if !seen.passes(row) {
             return Ok(Some(i as u64 + 1));

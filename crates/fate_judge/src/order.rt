@@ -15,16 +15,29 @@ use std::alloc::Global;
 // The least number above all that a class sent, by class; above all starts; above all numbers that were dropped, and above their
 // arrivals.
 #[derive(Drop)]
-struct Order {
-    sent: Vec<u128>,
-    start: u128,
-    drop: u128,
-    moment: u128,
+pub(crate) struct Order {
+    pub(crate) sent: Vec<u128>,
+    pub(crate) start: u128,
+    pub(crate) drop: u128,
+    pub(crate) moment: u128,
 }
 
 impl Order {
+    // Before the first row.
+    pub(crate) fn new(alloc: Global, count: usize) -> Result<Order, NoMemory>
+        ensures count { IfOk result (λ order. vec_len order.sent ≡ count) }
+        ensures none { IfOk result (λ order. (arrived : List Coming) → IsOrder arrived [] order.sent.items order.start order.drop order.moment) }
+    {
+        Ok(Order {
+            sent: vec![in alloc; 0; count]?,
+            start: 0,
+            drop: 0,
+            moment: 0,
+        })
+    }
+
     // Whether a row passes the test; then it is told of the row.
-    fn passes(&mut self, row: &Row) -> bool
+    pub(crate) fn passes(&mut self, row: &Row) -> bool
         requires class { row.now.class < vec_len self.old.sent }
         ensures count { vec_len self.new.sent ≡ vec_len self.old.sent }
         ensures passes { result ≡ true → (classes : List Allowed) (arrived : List Coming) (before : List Row) → IsOfArrival classes arrived row.now → IsOrder arrived before self.old.sent.items self.old.start self.old.drop self.old.moment → IsInOrder arrived before row.now }
@@ -67,12 +80,7 @@ pub(crate) fn first_out_of_order(
     ensures { (classes : List Allowed) (arrived : List Coming) → EachRow (IsRead classes arrived) [] rows.now
         → IfOk result (λ o. MatchOption o (EachRow (IsInOrder arrived) [] rows.now) (FirstFails (IsInOrder arrived) rows.now)) }
 {
-    let mut order = Order {
-        sent: vec![in alloc; 0; count]?,
-        start: 0,
-        drop: 0,
-        moment: 0,
-    };
+    let mut order = Order::new(alloc, count)?;
     for (i, row) in rows.iter().enumerate() {
         if !order.passes(row) {
             return Ok(Some(i as u64 + 1));

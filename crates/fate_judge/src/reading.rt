@@ -33,7 +33,7 @@ fn can_occur(allowed: Allowed, fate: Fate) -> bool
     }
 }
 
-fn is_of_arrival(classes: &[Allowed], arrived: &[Arrived], row: &Row) -> bool
+pub(crate) fn is_of_arrival(classes: &[Allowed], arrived: &[Arrived], row: &Row) -> bool
     ensures passes { result ≡ true → IsOfArrival classes.now (comings arrived.now) row.now }
     ensures fails { result ≡ false → IsOfArrival classes.now (comings arrived.now) row.now → ⊥ }
 {

@@ -1,9 +1,16 @@
-use Rattle.std.proofs.Common.{List, sym, subst}
+use Rattle.std.proofs.Common.{List, sym, subst, arith}
 use Rattle.fate_check.specs.declared.reading.Row.{Row}
 use Rattle.fate_judge.specs.Ends.{HasEnd, IsLink}
 use Rattle.fate_judge.specs.Reading.{IsRead}
 use Rattle.fate_judge.proofs.Walking.{at_row, before_at, before_more, first_fails, one_more}
 use Rattle.fate_judge.proofs.ends.first_other_end.Goals as goal
+
+pub loop-i-init : goal.loop-i-init
+loop-i-init c = record {
+  few = omega (arith, c.new-run.ensures.none);
+  stands = λ classes arrived read. c.new-run.ensures.link c.args.rate arrived;
+  each = λ classes arrived read. tt;
+}
 
 pub returns-then-not-passes : goal.returns-then-not-passes
 returns-then-not-passes c = λ classes arrived read.

@@ -10,6 +10,13 @@ passes-requires c =
     let inside = at_row (HasClass c.args.count) c.args.rows.now c.loop-i.i c.loop-i-test.true c.requires in
     omega (arith, inside, c.loop-i.invariant.count)
 
+pub loop-i-init : goal.loop-i-init
+loop-i-init c = record {
+  count = c.in_ok-order.ensures.count;
+  stands = λ classes arrived read. c.in_ok-order.ensures.none arrived;
+  each = λ classes arrived read. tt;
+}
+
 pub returns-then-not-passes : goal.returns-then-not-passes
 returns-then-not-passes c = λ classes arrived read.
     let rows = c.args.rows.now in let i = c.loop-i.i in

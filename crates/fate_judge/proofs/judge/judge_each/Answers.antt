@@ -1,5 +1,5 @@
 use Rattle.fate_judge.proofs.Passing.{have_classes, numbered}
-use Rattle.fate_judge.proofs.judge.judge_order.Goals as goal
+use Rattle.fate_judge.proofs.judge.judge_each.Goals as goal
 
 pub first_again-requires : goal.first_again-requires
 first_again-requires c = numbered c.args.classes.now c.args.arrived.now c.args.rows.now c.in_default.ensures
