@@ -1,5 +1,6 @@
 -- Numbers that stand at the front of a text.
-use Rattle.std.proofs.Common.{◌≡◌, ◌∙◌, ◌+◌, ◌<◌, ◌^◌, ◌++◌, ◌&&◌, ℕ, zero, suc, true, false, List, [], ◌∷◌, Some, length, take, drop, get_or, nat_lt, eqb, add-one, refl, sym, ap, arith, length-take}
+use Rattle.std.proofs.Common.{◌≡◌, ◌∙◌, ◌+◌, ◌*◌, ◌<◌, ◌≤◌, ◌^◌, ◌++◌, ◌&&◌, ℕ, zero, suc, true, false, List, [], ◌∷◌, Some, length, take, drop, get_or, nat_lt, eqb, add-one, refl, sym, ap, arith, length-take}
+use Rattle.std.proofs.Math.Nat.{pow-le-pow_right, pow-succ'}
 use Rattle.std.proofs.Math.Seq.{drop-cons}
 use Rattle.std.proofs.lemmas.List.{take-append-drop, take_all}
 use Rattle.std.proofs.lemmas.Str.Parse.{tells_digits}
@@ -15,6 +16,17 @@ use Rattle.fate_check.specs.Parse.{fate_by, fate_of, fields_of, len_of, number_o
 use Rattle.fate_check.proofs.CutLemmas.{Lacks, cut-front}
 use Rattle.fate_check.proofs.FieldLemmas.{digit_is_not}
 use Rattle.fate_check.proofs.NumberLemmas.{are_all}
+
+-- what some digits write, with one digit more
+pub small_more : (value count digit : ℕ) → value < 10 ^ count → digit < 10 → value * 10 + digit < 10 ^ (count + 1)
+small_more value count digit small few =
+    let same : 10 ^ (count + 1) ≡ 10 * 10 ^ count = ap (λ (n : ℕ). 10 ^ n) (add-one count) ∙ pow-succ' 10 count in
+    omega (arith, same, small, few)
+
+pub fits_more : (value count : ℕ) → value < 10 ^ count → count < 19 → value * 10 + 10 ≤ 2 ^ 64
+fits_more value count small few =
+    let most : 10 ^ count ≤ 10 ^ 18 = pow-le-pow_right {n = 10} (omega arith) {i = count} {j = 18} (omega (arith, few)) in
+    omega (arith, small, most)
 
 -- digits at the front of a text write a value, and the mark stands behind them
 pub record DigitsEnd (mark : ℕ) (text : List ℕ) (count n : ℕ) : Type 0 where

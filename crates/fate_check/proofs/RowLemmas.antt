@@ -252,10 +252,12 @@ pub record StandsAs (names : NameList) (t : Texts) (r : Row) : Type 0 where
   pub is : IsRow names r
   pub fields : t ≡ texts names r
 
-texts_are : (n a l c w s e n' a' l' c' w' s' e' : List ℕ) → n ≡ n' → a ≡ a' → l ≡ l' → c ≡ c' → w ≡ w' → s ≡ s' → e ≡ e'
-    → (let t : Texts = record { number = n; at = a; len = l; class = c; word = w; start = s; end = e } in
-    let t' : Texts = record { number = n'; at = a'; len = l'; class = c'; word = w'; start = s'; end = e' } in t ≡ t')
-texts_are n a l c w s e n' a' l' c' w' s' e' e1 e2 e3 e4 e5 e6 e7 = cc
+texts_are : (t u : Texts) → t.number ≡ u.number → t.at ≡ u.at → t.len ≡ u.len → t.class ≡ u.class → t.word ≡ u.word → t.start ≡ u.start
+    → t.end ≡ u.end → t ≡ u
+texts_are t u e1 e2 e3 e4 e5 e6 e7 =
+    let field : Texts → Texts = λ x. record { number = x.number; at = x.at; len = x.len; class = x.class; word = x.word; start = x.start; end = x.end } in
+    let same : field t ≡ field u = cc in
+    same
 
 row_is : (names : NameList) (t : Texts) (r : Row) → AreNames names → row_in names t ≡ Some r → StandsAs names t r
 unfolding row_in
@@ -274,8 +276,7 @@ row_is names t r good h =
     let f = fate_is t.word t.start t.end fate.0 fate.1 in
     let whole : IsRow names s = record { class = c.class; number = n.small; at = a.small; len = l.small; fate = f.fits } in
     let fields : t ≡ texts names s =
-    texts_are t.number t.at t.len t.class t.word t.start t.end (decimal number.0) (decimal at.0) (decimal len.0) (name_of names class.0) (fate_word fate.0) (fate_start fate.0) (fate_end fate.0)
-    n.is a.is l.is (sym c.is) f.is_word f.is_start f.is_end in
+    texts_are t (texts names s) n.is a.is l.is (sym c.is) f.is_word f.is_start f.is_end in
     let P : Row → Type 0 = λ q. StandsAs names t q in
     subst P same (record { is = whole; fields = fields })
 

@@ -4,8 +4,8 @@ ghost use Rattle.std.specs.Str.Parse.{digits_value};
 ghost use Rattle.line_text.specs.Numbers.{are_digits};
 ghost use Rattle.fate_check.specs.Front.{StandsBefore};
 
-// No digit behind a number up to this one brings it to 2^64.
-const MOST: u64 = 1_844_674_407_370_955_160;
+// So many digits write a number below 2^64, whichever they are.
+const MOST: usize = 19;
 
 // A number and what stands behind the mark, if the digits that write it end at the mark, and no zero leads them.
 fn behind(mark: u8, value: u64, digits: usize, text: &[u8]) -> Option<(u64, &[u8])>
@@ -30,14 +30,18 @@ pub(crate) fn number_before(mark: u8, text: &[u8]) -> Option<(u64, &[u8])>
     requires { mark < 48 }
     ensures { IfSome result (λ p. StandsBefore mark text.now p.0 p.1.now) }
 {
+    let most = text.len().min(MOST);
     let mut value = 0u64;
     let mut digits = 0;
-    while digits < text.len() && value <= MOST {
+    while digits < most {
         let Some(digit) = char::from(text[digits]).to_digit(10) else {
             return behind(mark, value, digits, text);
         };
         value = value * 10 + u64::from(digit);
         digits += 1;
     }
-    None
+    if digits == text.len() {
+        return None;
+    }
+    behind(mark, value, digits, text)
 }
