@@ -13,7 +13,7 @@ use crate::reading::first_unread;
 use fate_check::Row;
 use std::alloc::Global;
 
-// The same by each test in turn.
+// Holds rows to each test in turn.
 fn judge_each(
     alloc: Global,
     rate: u64,
