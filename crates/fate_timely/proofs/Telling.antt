@@ -1,8 +1,9 @@
 -- What is held of all classes, from row to row.
-use Rattle.std.proofs.Common.{◌≡◌, ◌∙◌, ◌+◌, ◌<◌, ◌≤◌, ◌≢◌, ◌^◌, inl, inr, ℕ, Bool, true, false, List, [], ◌∷◌, length, Option, None, Some, refl, ap, sym, subst, arith, get_or-set_same, get_or-set_other}
+use Rattle.std.proofs.Common.{◌≡◌, ◌∙◌, ◌+◌, ◌<◌, ◌≤◌, ◌≢◌, ◌^◌, inl, inr, ℕ, Bool, true, false, List, [], ◌∷◌, length, get_or, Option, None, Some, refl, ap, sym, subst, arith, get_or-set_same, get_or-set_other}
 use Rattle.std.specs.Prelude.{◌==◌, if◌then◌else◌, IfSome}
 use Rattle.std.proofs.Math.ListN.{set, length-set}
 use Rattle.std.proofs.lemmas.Bool.{cases_eq}
+use Rattle.std.proofs.lemmas.List.{get_or_default}
 use Rattle.std.proofs.lemmas.Bool.Decides.{nat_tests}
 use Rattle.altq_model.specs.declared.Fate.{Fate}
 use Rattle.altq_model.specs.declared.Fate.TheVariants.{Dropped, Sent}
@@ -152,21 +153,20 @@ in_time : (end m u : ℕ) (due : Option ℕ) → is_in_time end due (Some m) ≡
 in_time end m u None e h = absurd h
 in_time end m u (Some t) e h = let le : end ≤ t + m = grind (arith, nat_tests, e) in omega (arith, le, h)
 
-pub passes_sent : (curves : List (Option Curve)) (before : List Row) (leaves : List (Option Leaf)) (r : Row) (old : Leaf) (start end m : ℕ) (rule : Rule) (due most : Option ℕ)
+pub passes_sent : (curves : List (Option Curve)) (before : List Row) (leaves : List (Option Leaf)) (r : Row) (old : Leaf) (start end m : ℕ) (rule : Rule) (due : Option ℕ)
     → r.fate ≡ Sent start end rule → AreDues curves before leaves → leaf_at leaves r.class ≡ Some old
     → ((s : Curve) (rs : List SentRow) → IsLeaf s rs old → due ≡ deadline s (opens (sent_row r start end ∷ rs)) (units_of (sent_row r start end ∷ rs)))
-    → is_in_time end due most ≡ true → most ≡ Some m → EndsInTime curves m before r
-passes_sent curves before leaves r old start end m rule due most f d e is test bound =
+    → is_in_time end due (Some m) ≡ true → EndsInTime curves m before r
+passes_sent curves before leaves r old start end m rule due f d e is test =
     let h = held curves before leaves r.class old d e in
     let rs = sent_row r start end ∷ sent_rows r.class before in
-    let M : Option ℕ → Type 0 = λ o. is_in_time end due o ≡ true in
     let D : Option ℕ → ℕ → Type 0 = λ o u. HasCome o u in
     let S : List SentRow → Type 0 = λ xs. (u : ℕ) → IsDue h.curve xs u → end ≤ u + m in
     let C : Option Curve → Type 0 = λ o. ForCurve o (λ s. (u : ℕ) → IsDue s (sent_rows r.class (r ∷ before)) u → end ≤ u + m) in
     let F : Fate → Type 0 = λ t. IfSent t (λ start' end'. ForCurve (curve_at curves r.class) (λ s. (u : ℕ) → IsDue s (sent_rows r.class (r ∷ before)) u → end' ≤ u + m)) in
     let all : S rs = λ u reach.
     let K : Option ℕ → Type 0 = λ o. HasCome o u in
-    in_time end m u due (subst M bound test) (subst K (sym (is h.curve (sent_rows r.class before) h.leaf_is)) (deadline_comes h.curve (opens rs) u (units_of rs) reach)) in
+    in_time end m u due test (subst K (sym (is h.curve (sent_rows r.class before) h.leaf_is)) (deadline_comes h.curve (opens rs) u (units_of rs) reach)) in
     subst F (sym f) (subst C (sym h.of) (subst S (sym (sent_adds r before start end rule f)) all))
 
 -- what is not in time has a due moment, and a bound after it
@@ -234,7 +234,6 @@ units_same n leaves few = λ d. wider (leaf_at leaves d) (few d)
     wider None h = tt
     wider (Some leaf) h = omega (arith, h)
 
-pub leaf_there : (items now : List (Option Leaf)) (class : ℕ) (leaf : Leaf) → now ≡ items → Some leaf ≡ leaf_at now class → class < length now
-    → (leaf_at items class ≡ Some leaf) × (class < length items)
-leaf_there items now class leaf same e lt =
-    (ap (λ (ls : List (Option Leaf)). leaf_at ls class) (sym same) ∙ sym e, omega (arith, lt, ap length same))
+pub leaf_there : (leaves : List (Option Leaf)) (now : Option Leaf) (class : ℕ) (leaf : Leaf) → class < length leaves → now ≡ get_or leaves class now
+    → now ≡ Some leaf → leaf_at leaves class ≡ Some leaf
+leaf_there leaves now class leaf lt value is = sym (value ∙ get_or_default leaves class now None lt) ∙ is

@@ -1,9 +1,9 @@
 // What is held of all classes.
-ghost use Rattle.std.specs.Prelude.{◌≡◌, ◌<◌, ◌≤◌, ◌+◌, ◌^◌, ◌∷◌, [], ℕ, List, Option, IfOk, IfSome, length, true, false};
+ghost use Rattle.std.specs.Prelude.{◌≡◌, ◌<◌, ◌≤◌, ◌+◌, ◌^◌, ◌∷◌, [], ℕ, List, Option, IfOk, IfSome, true, false};
 ghost use Rattle.play_base.specs.Units.{ceil_div, units};
 ghost use Rattle.service_curve.specs.declared.Curve.{Curve};
 ghost use Rattle.fate_check.specs.declared.reading.Row.{Row};
-ghost use Rattle.fate_timely.specs.Dues.{AreDues, AreRealTime, IsLeafOf, IsRealTime, IsToTell, UnitsAreUpTo, leaf_at};
+ghost use Rattle.fate_timely.specs.Dues.{AreDues, AreRealTime, IsLeafOf, IsRealTime, IsToTell, UnitsAreUpTo};
 ghost use Rattle.fate_timely.specs.Timely.{EndsInTime, ForCurve, StartsInTurn, is_in_time, longest_sent, longest_then};
 
 use crate::leaf::Leaf;
@@ -47,17 +47,6 @@ fn leaf_of(curve: Option<Curve>) -> Option<Leaf>
 {
     match curve {
         Some(curve) => Some(Leaf::new(curve)),
-        None => None,
-    }
-}
-
-// The leaf of a class, where it has a curve.
-fn leaf_at(leaves: &[Option<Leaf>], class: u32) -> Option<Leaf>
-    ensures value { result ≡ leaf_at leaves.now class }
-    ensures there { IfSome result (λ _. class < length leaves.now) }
-{
-    match leaves.get(class as usize) {
-        Some(leaf) => *leaf,
         None => None,
     }
 }
@@ -109,12 +98,14 @@ impl Dues {
         let Fate::Sent { start, end, .. } = row.fate else {
             return true;
         };
-        let Some(mut leaf) = leaf_at(&self.leaves, row.class) else {
+        let class = row.class as usize;
+        if class >= self.leaves.len() {
+            return true;
+        }
+        let Some(leaf) = &mut self.leaves[class] else {
             return true;
         };
         let due = leaf.sent(row.at, row.len, start, end);
-        let class = row.class as usize;
-        self.leaves[class] = Some(leaf);
         is_in_time(end, due, most)
     }
 }
