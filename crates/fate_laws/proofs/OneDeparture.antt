@@ -37,12 +37,11 @@ behind : (left piece more rest : List ℕ) → left ≡ piece ++ more → left +
 behind left piece more rest e = ap (λ (xs : List ℕ). xs ++ rest) e ∙ append_assoc piece more rest
 
 -- behind the pieces of one row, where the whole is the same
-next_same : (dress : Dressing) (p : Packets) (x y : Row) (left left' px py mx my rest rest' : List ℕ) → KeepsLength dress → x ≡ y → Leaves dress p x px
-    → Leaves dress p y py → left ≡ px ++ mx → left' ≡ py ++ my → left ++ rest ≡ left' ++ rest' → mx ++ rest ≡ my ++ rest'
-next_same dress p x y left left' px py mx my rest rest' keeps same lx ly ex ey e =
-    let P : Row → Type 0 = λ r. Leaves dress p r py in
-    split_same px py (mx ++ rest) (my ++ rest') (piece_length dress p x x.fate px py keeps lx (subst P (sym same) ly))
-    (sym (behind left px mx rest ex) ∙ e ∙ behind left' py my rest' ey)
+next_same : (dress : Dressing) (p : Packets) (x : Row) (xs ys : List Row) (left left' rest rest' : List ℕ) → KeepsLength dress
+    → (l : Leave dress p (x ∷ xs) left) → (m : Leave dress p (x ∷ ys) left') → left ++ rest ≡ left' ++ rest' → l.1 ++ rest ≡ m.1 ++ rest'
+next_same dress p x xs ys left left' rest rest' keeps l m e =
+    split_same l.0 m.0 (l.1 ++ rest) (m.1 ++ rest') (piece_length dress p x x.fate l.0 m.0 keeps l.3 m.3)
+    (sym (behind left l.0 l.1 rest l.2) ∙ e ∙ behind left' m.0 m.1 rest' m.2)
 
 -- where nothing of the next row stands in front, the departures do not go on with it
 not_next : (dress : Dressing) (p : Packets) (a y : Row) (left left' rest rest' piece more : List ℕ) → a ≡ y → left ≡ [] → left' ≡ piece ++ more
@@ -52,21 +51,28 @@ not_next dress p a y left left' rest rest' piece more same none e l whole front 
     let start : rest ≡ left ++ rest = ap (λ (xs : List ℕ). xs ++ rest) (sym none) in
     front piece (more ++ rest') (start ∙ whole ∙ behind left' piece more rest' e) (subst P (sym same) l)
 
-as_far : (dress : Dressing) (p : Packets) (xs ys : List Row) (a b : Row) (va vb : List Row) (left left' rest rest' : List ℕ) → KeepsLength dress
-    → xs ++ a ∷ va ≡ ys ++ b ∷ vb → left ++ rest ≡ left' ++ rest' → Leave dress p xs left → LeavesNoFront dress p a rest
-    → Leave dress p ys left' → LeavesNoFront dress p b rest' → length xs ≡ length ys
-as_far dress p [] [] a b va vb left left' rest rest' keeps e w lx fx ly fy = refl
-as_far dress p [] (y ∷ ys) a b va vb left left' rest rest' keeps e w lx fx ly fy =
-    let same : a ≡ y = cc in
-    absurd (not_next dress p a y left left' rest rest' ly.0 ly.1 same lx ly.2 ly.3 w fx)
-as_far dress p (x ∷ xs) [] a b va vb left left' rest rest' keeps e w lx fx ly fy =
-    let same : b ≡ x = cc in
-    absurd (not_next dress p b x left' left rest' rest lx.0 lx.1 same ly lx.2 lx.3 (sym w) fy)
-as_far dress p (x ∷ xs) (y ∷ ys) a b va vb left left' rest rest' keeps e w lx fx ly fy =
-    let same : x ≡ y = cc in
-    let later : xs ++ a ∷ va ≡ ys ++ b ∷ vb = cc in
-    let far = as_far dress p xs ys a b va vb lx.1 ly.1 rest rest' keeps later
-    (next_same dress p x y left left' lx.0 ly.0 lx.1 ly.1 rest rest' keeps same lx.3 ly.3 lx.2 ly.2 w) lx.4 fx ly.4 fy in
+-- a row, those behind it, and what is left of the departures there
+record Ahead : Type 0 where
+  at : Row
+  behind : List Row
+  rest : List ℕ
+
+as_far : (dress : Dressing) (p : Packets) (xs ys : List Row) (s t : Ahead) (left left' : List ℕ) → KeepsLength dress
+    → xs ++ s.at ∷ s.behind ≡ ys ++ t.at ∷ t.behind → left ++ s.rest ≡ left' ++ t.rest → Leave dress p xs left → LeavesNoFront dress p s.at s.rest
+    → Leave dress p ys left' → LeavesNoFront dress p t.at t.rest → length xs ≡ length ys
+as_far dress p [] [] s t left left' keeps e w lx fx ly fy = refl
+as_far dress p [] (y ∷ ys) s t left left' keeps e w lx fx ly fy =
+    let same : s.at ≡ y = cc in
+    absurd (not_next dress p s.at y left left' s.rest t.rest ly.0 ly.1 same lx ly.2 ly.3 w fx)
+as_far dress p (x ∷ xs) [] s t left left' keeps e w lx fx ly fy =
+    let same : t.at ≡ x = cc in
+    absurd (not_next dress p t.at x left' left t.rest s.rest lx.0 lx.1 same ly lx.2 lx.3 (sym w) fy)
+as_far dress p (x ∷ xs) (y ∷ ys) s t left left' keeps e w lx fx ly fy =
+    let same : y ≡ x = cc in
+    let later : xs ++ s.at ∷ s.behind ≡ ys ++ t.at ∷ t.behind = cc in
+    let P : Row → Type 0 = λ r. Leave dress p (r ∷ ys) left' in
+    let my = subst P same ly in
+    let far = as_far dress p xs ys s t lx.1 my.1 keeps later (next_same dress p x xs ys left left' s.rest t.rest keeps lx my w) lx.4 fx my.4 fy in
     omega (arith, far)
 
 not_all : (dress : Dressing) (p : Packets) (xs : List Row) (a : Row) (va : List Row) (left left' rest rest' : List ℕ) → KeepsLength dress
@@ -75,7 +81,7 @@ not_all dress p [] a va left left' rest rest' keeps w lx fx ly =
     not_next dress p a a left left' rest rest' ly.0 ly.1 refl lx ly.2 ly.3 w fx
 not_all dress p (x ∷ xs) a va left left' rest rest' keeps w lx fx ly =
     not_all dress p xs a va lx.1 ly.1 rest rest' keeps
-    (next_same dress p x x left left' lx.0 ly.0 lx.1 ly.1 rest rest' keeps refl lx.3 ly.3 lx.2 ly.2 w) lx.4 fx ly.4
+    (next_same dress p x xs (xs ++ a ∷ va) left left' rest rest' keeps lx ly w) lx.4 fx ly.4
 
 same_length : (dress : Dressing) (p : Packets) (rows : List Row) (left left' : List ℕ) → KeepsLength dress → Leave dress p rows left → Leave dress p rows left'
     → length left ≡ length left'
@@ -95,7 +101,8 @@ two_stops : (dress : Dressing) (p : Packets) (rows : List Row) (departures : Lis
     → StopsAt dress p rows departures other → row ≡ other
 two_stops dress p rows departures row other keeps s t =
     let whole = append_cancel_left capture_header (s.left ++ s.rest) (t.left ++ t.rest) (sym s.whole ∙ t.whole) in
-    let far = as_far dress p s.before t.before s.at t.at s.behind t.behind s.left t.left s.rest t.rest keeps (sym s.parts ∙ t.parts) whole s.passed s.fails t.passed t.fails in
+    let far = as_far dress p s.before t.before (record { at = s.at; behind = s.behind; rest = s.rest }) (record { at = t.at; behind = t.behind; rest = t.rest })
+    s.left t.left keeps (sym s.parts ∙ t.parts) whole s.passed s.fails t.passed t.fails in
     omega (arith, far, s.place, t.place)
 
 stops_and_passes : (dress : Dressing) (p : Packets) (rows : List Row) (departures left rest : List ℕ) (row : ℕ) → KeepsLength dress

@@ -1,5 +1,5 @@
 -- The rows of a play of HFSC are timely.
-use Rattle.std.proofs.Common.{◌≡◌, ◌∙◌, ◌+◌, ◌-◌, ◌<◌, ◌≤◌, ℕ, max, Bool, true, false, List, [], ◌∷◌, ◌++◌, ◌⊎◌, inl, inr, Option, None, Some, get_or, refl, ap, sym, subst, arith}
+use Rattle.std.proofs.Common.{◌≡◌, ◌∙◌, ◌+◌, ◌-◌, ◌<◌, ◌≤◌, ℕ, Bool, true, false, List, [], ◌∷◌, ◌++◌, ◌⊎◌, inl, inr, Option, None, Some, refl, ap, sym, subst, arith}
 use Rattle.std.specs.Prelude.{◌==◌, if◌then◌else◌, slice_get}
 use Rattle.std.specs.Option.{option_map_or}
 use Rattle.std.proofs.lemmas.Bool.Decides.{nat_tests}
@@ -11,21 +11,19 @@ use Rattle.altq_model.specs.declared.Verdict.{Verdict}
 use Rattle.altq_model.specs.declared.Verdict.TheVariants.{Keep, Mark, Drop}
 use Rattle.altq_model.specs.Arrivals.{Arrival, arrival, comings}
 use Rattle.altq_model.specs.declared.Rule.{Rule}
-use Rattle.altq_model.specs.History.{Coming, Decision, DrawnWords, Event, Offered, Sent, Transmission, Happened, bare, drawn, dropped_by, head, journal, offered, waiting}
-use Rattle.altq_model.specs.Laws.{at_of}
-use Rattle.altq_model.specs.Link.{link}
+use Rattle.altq_model.specs.History.{Coming, Decision, DrawnWords, Event, Sent, Transmission, Happened, bare, drawn, dropped_by, head, journal, offered, waiting}
 use Rattle.altq_model.specs.Play.{Policy}
 use Rattle.play_laws.specs.Events.{AreOfArrivals, EachFollows, HasLaws, IsOfArrival, IsOffer, IsSending, SendsArrival}
-use Rattle.play_laws.proofs.OrderLemmas.{IsNumbered, head_numbered}
-use Rattle.journal_laws.specs.Journal.{IfSent, class_of, len_of}
+use Rattle.play_laws.proofs.OrderLemmas.{head_numbered}
+use Rattle.journal_laws.specs.Journal.{IfSent}
 use Rattle.service_curve.specs.declared.Curve.{Curve}
-use Rattle.hfsc_model.specs.Event.{HfscHistory, Kept, Sent as Went}
+use Rattle.hfsc_model.specs.Event.{HfscHistory}
 use Rattle.hfsc_model.specs.Leaf.{Waiting, leaf}
 use Rattle.hfsc_model.specs.Link.{free, run_after}
 use Rattle.hfsc_model.specs.RealTime.{curve_of}
 use Rattle.hfsc_model.specs.Timely.{AreTimely, IsDue, IsTimely, longest, rows, with_row, Row as SentRow}
 use Rattle.hfsc_laws.proofs.Past.{ceil_mono}
-use Rattle.hfsc_policy.specs.Events.{hfsc_history, is_real, waits, with_offer}
+use Rattle.hfsc_policy.specs.Events.{hfsc_history, waits, with_offer}
 use Rattle.hfsc_policy.proofs.Histories.{leaf_waits}
 use Rattle.hfsc_policy.proofs.Timely.{link_is}
 use Rattle.fate_check.specs.declared.reading.Row.{Row}
