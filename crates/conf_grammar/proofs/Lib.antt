@@ -12,4 +12,5 @@ pub mod Parts
 pub mod Places
 pub mod Statements
 pub mod Values
+pub mod WorkedBounds
 pub mod WorkedLines

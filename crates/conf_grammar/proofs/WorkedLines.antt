@@ -75,7 +75,7 @@ conditioner_line =
     (whole (is_whole 1 4 (codes "4") 4 refl refl refl refl)))))
 
 -- LINES THAT SPELL NOTHING: the reading, which is the grammar, has a fault
-refuted : (form : Form) (words : List (List ℕ)) → ((read_from 1 words start 1).fault ≡ None → ⊥) → (says : List What) → Spells form words says → ⊥
+pub refuted : (form : Form) (words : List (List ℕ)) → ((read_from 1 words start 1).fault ≡ None → ⊥) → (says : List What) → Spells form words says → ⊥
 refuted form words fault says x = fault (ap (λ (r : Reading). r.fault) (spelled_is_read 1 form words says x))
 
 pub rate_below : SaysNothing (Spells form.Interface) (codes "interface if0 bandwidth 999 hfsc")

@@ -7,7 +7,7 @@ ghost use Rattle.conf_grammar.specs.Laws.{ReadIsSpelled, SpelledIsRead, SpelledL
 
 mod rows;
 
-pub use rows::{worked_lines, worked_refusals};
+pub use rows::{worked_bounds, worked_lines, worked_refusals};
 
 /// Words that spell a statement are read without a fault as this statement, with exactly what they say as its items, each at its word;
 /// and words that are read without a fault spell the statement that they are read as. The same holds of each logical line of at most
