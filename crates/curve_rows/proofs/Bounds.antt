@@ -2,7 +2,6 @@
 use Rattle.std.proofs.Common.{◌≡◌, ◌≤◌, ◌∷◌, ℕ, zero, suc, [], Some, refl, arith, subst}
 use Rattle.std.proofs.Math.Nat.{min-zero}
 use Rattle.service_curve.specs.declared.Curve.{Curve}
-use Rattle.hfsc_model.specs.RealTime.{curve_of}
 use Rattle.hfsc_model.specs.Timely.{AreTimely, IsDue, IsTimely, Row}
 use Rattle.curve_rows.specs.Timely.{curves_of_one, link_rate, sent_from}
 

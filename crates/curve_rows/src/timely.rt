@@ -1,4 +1,4 @@
-//! A packet at the bound of the guarantee of its curve, and one behind it, told by the checker from the definition.
+// A packet at the bound of the guarantee of its curve, and one behind it.
 ghost use Rattle.hfsc_model.specs.Timely.{IsTimely};
 ghost use Rattle.curve_rows.specs.Timely.{curves_of_one, link_rate, sent_from};
 

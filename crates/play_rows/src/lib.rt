@@ -12,8 +12,8 @@ mod frames;
 #[cfg(test)]
 mod loops;
 #[cfg(test)]
-mod one_queue;
-#[cfg(test)]
 mod runs;
+#[cfg(test)]
+mod steady;
 #[cfg(test)]
 mod turns;

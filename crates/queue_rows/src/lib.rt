@@ -1,13 +1,7 @@
-//! Literal offers to the queues of classes, and sendings of a plain discipline. There are tests alone.
+//! The random words of a seed, and sendings of the plain disciplines. There are tests alone.
 #![tactic(auto)]
 
 #[cfg(test)]
-mod classes;
-#[cfg(test)]
-mod leaves;
-#[cfg(test)]
 mod plain;
 #[cfg(test)]
-mod red;
-#[cfg(test)]
-mod rio;
+mod words;

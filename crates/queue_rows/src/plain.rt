@@ -1,10 +1,10 @@
-//! Literal sendings of a plain discipline, which paces.
+//! Literal sendings of the plain disciplines.
 ghost use Rattle.std.specs.Prelude.{◌≡◌, ◌≤◌, ◌<◌, ◌^◌};
 ghost use Rattle.discipline.specs.Laws.{HasRate};
 
 use leaf_queue::{Tail, Words};
 use link_clock::LinkClock;
-use plain_disciplines::{Discipline, Paced, Pick, Sending, Verdict};
+use plain_disciplines::{Discipline, Paced, Pick, Rule, Sending, Strict, Verdict};
 use play_base::Ticket;
 use std::test::Fail;
 
@@ -68,5 +68,28 @@ fn paced_waits_for_its_gap(rt: HostRuntime) -> Result<(), Fail> {
     );
     assert_eq!(rt; clock.free(), 1_100_000);
     assert_eq!(rt; paced.next(1_100_000, &clock), Pick::Empty);
+    Ok(())
+}
+
+// Both packets arrive at 0, that of the second class first.
+#[test]
+fn strict_sends_the_first_class(rt: HostRuntime) -> Result<(), Fail> {
+    let mut words = Words::new(0);
+    let mut clock = LinkClock::new(8_000_000);
+    let queues = vec![in rt.alloc(); Tail { limit: 50 }, Tail { limit: 50 }]?;
+    let built = Strict::build(rt.alloc(), 1, Rule::Share, queues);
+    let mut strict = built.ok().ok_or("no memory")?;
+    let kept = Verdict::Keep;
+    assert_eq!(rt; strict.offer(Ticket(0), 2, 1000, 0, 0, &mut words), kept);
+    assert_eq!(rt; strict.offer(Ticket(1), 1, 1000, 0, 0, &mut words), kept);
+    assert_eq!(rt;
+        sent_at(&mut strict, &mut clock, 0),
+        Some((Ticket(1), 1_000_000))
+    );
+    assert_eq!(rt; clock.free(), 1_000_000);
+    assert_eq!(rt;
+        sent_at(&mut strict, &mut clock, 1_000_000),
+        Some((Ticket(0), 2_000_000))
+    );
     Ok(())
 }
