@@ -1,5 +1,6 @@
 // Captures in little-endian nanoseconds.
 
+use crate::frames::PLAIN;
 use play_base::NoMemory;
 use std::alloc::Global;
 
@@ -13,51 +14,33 @@ pub fn no_arrivals(alloc: Global) -> Result<Vec<u8>, NoMemory> {
     Ok(Vec::from_slice(alloc, &HEAD)?)
 }
 
-/// Adds packets of one length and one frame that arrive at one nanosecond.
+// Adds a record of these four numbers and this frame.
+fn push_record(capture: &mut Vec<u8>, numbers: [u32; 4], frame: &[u8]) -> Result<(), NoMemory> {
+    for number in numbers {
+        capture.extend_from_slice(&number.to_le_bytes())?;
+    }
+    capture.extend_from_slice(frame)?;
+    Ok(())
+}
+
+/// Adds packets of one length and one frame that arrive at one second and nanosecond.
 pub fn arrive(
     capture: &mut Vec<u8>,
     count: u32,
-    at: u32,
+    at: (u32, u32),
     len: u32,
     frame: &[u8],
 ) -> Result<(), NoMemory> {
     let captured = u32::try_from(frame.len()).unwrap_or(u32::MAX);
     for _ in 0..count {
-        capture.extend_from_slice(&[0; 4])?;
-        capture.extend_from_slice(&at.to_le_bytes())?;
-        capture.extend_from_slice(&captured.to_le_bytes())?;
-        capture.extend_from_slice(&len.to_le_bytes())?;
-        capture.extend_from_slice(frame)?;
+        push_record(capture, [at.0, at.1, captured, len], frame)?;
     }
     Ok(())
 }
 
-/// Adds a packet of 60 captured bytes.
-pub fn push_packet(
-    bytes: &mut Vec<u8>,
-    second: u32,
-    nanosecond: u32,
-    len: u32,
-) -> Result<(), NoMemory> {
-    bytes.extend_from_slice(&second.to_le_bytes())?;
-    bytes.extend_from_slice(&nanosecond.to_le_bytes())?;
-    bytes.extend_from_slice(&60u32.to_le_bytes())?;
-    bytes.extend_from_slice(&len.to_le_bytes())?;
-    bytes.extend_from_slice(&[0; 60])?;
-    Ok(())
-}
-
-/// A capture of `count` equal packets at one second and nanosecond.
-pub fn packets(
-    alloc: Global,
-    count: u32,
-    second: u32,
-    nanosecond: u32,
-    len: u32,
-) -> Result<Vec<u8>, NoMemory> {
-    let mut bytes = no_arrivals(alloc)?;
-    for _ in 0..count {
-        push_packet(&mut bytes, second, nanosecond, len)?;
-    }
-    Ok(bytes)
+/// A capture of equal packets of 60 captured bytes.
+pub fn packets(alloc: Global, count: u32, at: (u32, u32), len: u32) -> Result<Vec<u8>, NoMemory> {
+    let mut capture = no_arrivals(alloc)?;
+    arrive(&mut capture, count, at, len, &PLAIN)?;
+    Ok(capture)
 }

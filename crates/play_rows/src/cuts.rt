@@ -15,7 +15,7 @@ fn cuts_to_each_length(rt: HostRuntime) -> Result<(), Fail> {
             101..176 => ended(4, 100, 5),
             _ => ended(0, 0, 0),
         };
-        let mut arrivals = packets(rt.alloc(), 2, 0, 0, 100)?;
+        let mut arrivals = packets(rt.alloc(), 2, (0, 0), 100)?;
         arrivals.truncate(count as usize);
         let mut files = MemoryFiles::new(rt.alloc());
         assert_eq!(rt;

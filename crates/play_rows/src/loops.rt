@@ -3,8 +3,8 @@ ghost use Rattle.std.specs.Prelude.{◌≡◌, ◌≤◌, ◌^◌, ◌∷◌, []
 ghost use Rattle.play_base.specs.Memory.{memory_view};
 ghost use Rattle.play_loop.specs.Played.{AreReady};
 
-use crate::arrivals::{arrive, no_arrivals, packets, push_packet};
-use crate::frames::datagram;
+use crate::arrivals::{arrive, no_arrivals, packets};
+use crate::frames::{PLAIN, datagram};
 use crate::runs::{VOICE_AND_DATA, play_words};
 use altq_model::{Placed, Rule};
 use conf_lines::statements;
@@ -139,8 +139,8 @@ fn filters_over_strict(rt: HostRuntime) -> Result<(), Fail> {
     let alloc = rt.alloc();
     let classes = voice_and_data(alloc)?;
     let mut arrivals = no_arrivals(alloc)?;
-    arrive(&mut arrivals, 1, 0, 1000, &datagram(alloc, 5001)?)?;
-    arrive(&mut arrivals, 1, 0, 1000, &datagram(alloc, 5004)?)?;
+    arrive(&mut arrivals, 1, (0, 0), 1000, &datagram(alloc, 5001)?)?;
+    arrive(&mut arrivals, 1, (0, 0), 1000, &datagram(alloc, 5004)?)?;
     let mut files = MemoryFiles::new(alloc);
     files.put("in", &arrivals)?;
     let none: [u8; 0] = [];
@@ -159,10 +159,14 @@ fn filters_over_strict(rt: HostRuntime) -> Result<(), Fail> {
 fn reading_stops_at_the_late_sending(rt: HostRuntime) -> Result<(), Fail> {
     let alloc = rt.alloc();
     let classes = voice_and_data(alloc)?;
-    let mut arrivals = packets(alloc, 1, 4_294_965_198, 848_000_000, 262_144)?;
-    for _ in 0..2_000 {
-        push_packet(&mut arrivals, 4_294_965_198, 848_000_001, 100)?;
-    }
+    let mut arrivals = packets(alloc, 1, (4_294_965_198, 848_000_000), 262_144)?;
+    arrive(
+        &mut arrivals,
+        2_000,
+        (4_294_965_198, 848_000_001),
+        100,
+        &PLAIN,
+    )?;
     assert_eq!(rt; arrivals.len(), 152_100);
     let mut files = MemoryFiles::new(alloc);
     files.put("in", &arrivals)?;

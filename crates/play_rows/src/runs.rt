@@ -17,8 +17,14 @@ pub const VOICE_AND_DATA: &str =
 /// 50 packets of data at 0, and one of voice after 10 ms.
 pub fn voice_and_data(alloc: Global) -> Result<Vec<u8>, NoMemory> {
     let mut arrivals = no_arrivals(alloc)?;
-    arrive(&mut arrivals, 50, 0, 1000, &PLAIN)?;
-    arrive(&mut arrivals, 1, 10_000_000, 200, &datagram(alloc, 5004)?)?;
+    arrive(&mut arrivals, 50, (0, 0), 1000, &PLAIN)?;
+    arrive(
+        &mut arrivals,
+        1,
+        (0, 10_000_000),
+        200,
+        &datagram(alloc, 5004)?,
+    )?;
     Ok(arrivals)
 }
 

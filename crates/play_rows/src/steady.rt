@@ -13,7 +13,7 @@ fn files_that_never_fail(rt: HostRuntime) -> Result<(), Fail> {
     files.chunk(1);
     files.short_writes(7);
     files.put("conf", IMPLIED.as_bytes())?;
-    files.put("in", &packets(rt.alloc(), 1, 5, 0, 1000)?)?;
+    files.put("in", &packets(rt.alloc(), 1, (5, 0), 1000)?)?;
     let words = play_words(rt.alloc())?;
     assert_eq!(rt; run_steady(rt.alloc(), &words, &mut files), ended(0, 0, 0));
     let rows =
