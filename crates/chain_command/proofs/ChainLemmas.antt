@@ -26,9 +26,9 @@ use Rattle.command_base.specs.Names.{Names}
 use Rattle.command_base.specs.Outcome.{Outcome}
 use Rattle.command_base.specs.declared.done.Done.TheVariants as done
 use Rattle.play_command.specs.Ending.{PlayEnds}
-use Rattle.play_command.specs.Failing.{play_failure, unplayed_failure}
+use Rattle.play_files.specs.Failing.{play_failure, unplayed_failure}
 use Rattle.play_command.specs.Played.{HasPlayed}
-use Rattle.play_command.specs.declared.failing.Unplayed.{Unplayed}
+use Rattle.play_files.specs.declared.failing.Unplayed.{Unplayed}
 use Rattle.play_command.proofs.BehindLemmas.{Reading, accepts_since, done_behind, fault_behind, reading_of}
 use Rattle.play_command.proofs.InputLemmas.{configures_by}
 use Rattle.second_files.specs.Parts.{second_view}

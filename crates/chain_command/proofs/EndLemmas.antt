@@ -29,9 +29,9 @@ use Rattle.command_base.specs.declared.parts.WrittenPart.TheVariants as written
 use Rattle.command_base.proofs.ConfLemmas.{long_not, no_bytes, refused_not}
 use Rattle.command_base.proofs.PartLemmas.{same_part, there_or_not}
 use Rattle.play_command.specs.Ending.{IsUnread, PlayEnds, PlayFails, PlayIsTold}
-use Rattle.play_command.specs.Failing.{play_failure}
+use Rattle.play_files.specs.Failing.{play_failure}
 use Rattle.play_command.specs.Played.{Fronts, HasPlayed, IsFrontAt, IsLimited, IsNoCapture}
-use Rattle.play_command.specs.declared.failing.Unplayed.TheVariants.{Play}
+use Rattle.play_files.specs.declared.failing.Unplayed.TheVariants.{Play}
 use Rattle.play_command.proofs.InputLemmas.{SameInput, ends_late_by, ends_with_by, fronts_from, fronts_whole, told_from, unplayed_from}
 use Rattle.play_command.proofs.WholeLemmas.{capture_not_damaged, capture_not_limited, capture_not_pcapng, own_bytes}
 use Rattle.second_files.specs.Parts.{second_view}

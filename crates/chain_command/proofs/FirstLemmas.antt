@@ -24,9 +24,9 @@ use Rattle.play_loop.specs.declared.fault.Limit.TheVariants as loop
 use Rattle.play_loop.specs.declared.fault.Output.TheVariants as output
 use Rattle.play_loop.specs.declared.fault.PlayFault.TheVariants as play
 use Rattle.play_command.specs.Ending.{PlayEnds, PlayFails, PlayIsTold, PlayLeaves}
-use Rattle.play_command.specs.Failing.{unplayed_failure}
-use Rattle.play_command.specs.declared.failing.Unplayed.{Unplayed}
-use Rattle.play_command.specs.declared.failing.Unplayed.TheVariants.{Pcapng, Play}
+use Rattle.play_files.specs.Failing.{unplayed_failure}
+use Rattle.play_files.specs.declared.failing.Unplayed.{Unplayed}
+use Rattle.play_files.specs.declared.failing.Unplayed.TheVariants.{Pcapng, Play}
 use Rattle.play_command.proofs.BehindLemmas.{leaves_read}
 use Rattle.play_command.proofs.InputLemmas.{configures_by}
 use Rattle.play_command.proofs.WholeLemmas.{other_bytes}

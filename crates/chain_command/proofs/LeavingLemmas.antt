@@ -6,7 +6,7 @@ use Rattle.command_base.specs.Faults.{Untouched}
 use Rattle.command_base.specs.Input.{TakesFew}
 use Rattle.command_base.proofs.PartLemmas.{fresh_before, there_or_not}
 use Rattle.play_command.specs.Ending as play
-use Rattle.play_command.specs.Opening.{OtherThree}
+use Rattle.play_files.specs.Opening.{OtherThree}
 use Rattle.play_words.specs.Words.{AreAllDistinct, AreDistinct}
 use Rattle.chain_command.specs.Leaving.{FilesEnd, HasName, IsOther, KeepUncreated}
 use Rattle.chain_command.specs.Links.{Links}

@@ -6,7 +6,7 @@ use Rattle.play_base.proofs.ViewLaws.{rose_later}
 use Rattle.command_base.specs.Faults.{IsQuiet, Untouched}
 use Rattle.play_command.specs.Ending.{FilesEnd}
 use Rattle.play_command.specs.Ending as play
-use Rattle.play_command.specs.Opening.{KeepsOthers}
+use Rattle.play_files.specs.Opening.{KeepsOthers}
 use Rattle.second_files.specs.Parts.{own_part, play_part, second_view}
 use Rattle.second_files.proofs.BackLaws.{keeps_back}
 use Rattle.second_files.proofs.PartLaws.{none_behind, none_seen, own_play, part_behind, part_seen}

@@ -10,8 +10,8 @@ use Rattle.command_base.specs.declared.parts.WrittenPart.{WrittenPart}
 use Rattle.command_base.specs.declared.parts.WrittenPart.TheVariants as written
 use Rattle.play_base.specs.declared.trouble.Trouble.{Trouble}
 use Rattle.play_base.specs.declared.trouble.Trouble.TheVariants as trouble
-use Rattle.play_command.specs.declared.failing.Unplayed.{Unplayed}
-use Rattle.play_command.specs.declared.failing.Unplayed.TheVariants.{Pcapng, Play}
+use Rattle.play_files.specs.declared.failing.Unplayed.{Unplayed}
+use Rattle.play_files.specs.declared.failing.Unplayed.TheVariants.{Pcapng, Play}
 use Rattle.play_loop.specs.declared.fault.Limit.TheVariants as limit
 use Rattle.play_loop.specs.declared.fault.Output.{Output}
 use Rattle.play_loop.specs.declared.fault.Output.TheVariants as output

@@ -6,7 +6,7 @@ ghost use Rattle.play_words.specs.Words.{AreDistinct};
 ghost use Rattle.command_base.specs.Configuration.{Accepts, IsConfigured};
 ghost use Rattle.command_base.specs.Names.{names_read};
 ghost use Rattle.play_command.specs.Ending.{PlayEnds};
-ghost use Rattle.play_command.specs.Failing.{play_failure, unplayed_failure};
+ghost use Rattle.play_files.specs.Failing.{play_failure, unplayed_failure};
 ghost use Rattle.chain_command.specs.Links.{links_read, second_names};
 ghost use Rattle.chain_command.specs.Playing.{PlaysTold, SecondEnds, SecondPlays};
 

@@ -19,7 +19,7 @@ use Rattle.play_command.proofs.InputLemmas.{SameInput, SameOutputs, Starts, conf
 use Rattle.play_command.proofs.WholeLemmas.{other_bytes, own_bytes}
 use Rattle.play_command.proofs.SayingLemmas.{front_after, fronts_after, in_order_after, uncreated_after}
 use Rattle.play_command.specs.Ending.{FilesEnd, HasName}
-use Rattle.play_command.specs.Opening.{OtherThree}
+use Rattle.play_files.specs.Opening.{OtherThree}
 use Rattle.play_command.specs.Order.{IsInOrder}
 use Rattle.play_command.specs.Played.{Fronts, IsFrontAt}
 

@@ -27,7 +27,7 @@ use Rattle.command_base.specs.declared.fault.ConfigFault.TheVariants as conf
 use Rattle.command_base.specs.declared.parts.WrittenPart.TheVariants as written
 use Rattle.command_base.proofs.ConfLemmas.{config_not, is_memory, long_not, no_bytes, refused_not, told_long, told_place}
 use Rattle.play_command.specs.Ending.{FilesEnd, IsAccepting, IsUnread, PlayEnds, PlayFails, PlayIsTold}
-use Rattle.play_command.specs.Failing.{play_failure, unplayed_failure}
+use Rattle.play_files.specs.Failing.{play_failure, unplayed_failure}
 use Rattle.play_command.specs.Found.{PlaysTo}
 use Rattle.play_command.specs.Played.{EndsLate, HasPlayed, IsCutShort, IsLimited, IsNoCapture}
 use Rattle.play_command.proofs.EndLemmas.{late_not_played}
@@ -38,8 +38,8 @@ use Rattle.make_command.proofs.SuppliedLemmas.{is_classic}
 use Rattle.play_command.proofs.WholeLemmas.{capture_not_damaged, capture_not_limited, capture_not_pcapng, own_bytes}
 use Rattle.pcapng_files.specs.declared.fault.NgFault.{NgFault}
 use Rattle.pcapng_files.specs.declared.fault.NgFault.TheVariants as ng
-use Rattle.play_command.specs.declared.failing.Unplayed.{Unplayed}
-use Rattle.play_command.specs.declared.failing.Unplayed.TheVariants.{Pcapng, Play}
+use Rattle.play_files.specs.declared.failing.Unplayed.{Unplayed}
+use Rattle.play_files.specs.declared.failing.Unplayed.TheVariants.{Pcapng, Play}
 
 -- the configuration cannot be used
 config_fails : (u v : View) (n : Names) (seed count : ℕ) (f : ConfigFault) → ConfigCauses u v n.config n.interface f → EndsAtConfig u v n.config

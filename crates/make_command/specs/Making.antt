@@ -23,7 +23,7 @@ use Rattle.command_base.specs.declared.parts.RunLimit.TheVariants as limit
 use Rattle.command_base.specs.declared.parts.WrittenPart.{WrittenPart}
 use Rattle.command_base.specs.declared.parts.WrittenPart.TheVariants as written
 use Rattle.play_command.specs.Ending.{EndsAtStats, HasName, IsAccepting}
-use Rattle.play_command.specs.Opening.{OtherThree}
+use Rattle.play_files.specs.Opening.{OtherThree}
 use Rattle.play_command.specs.Order.{IsInOrder, KeepUncreated}
 use Rattle.play_command.specs.Played.{EndsLate, Fronts, HasPlayed, IsCutShort, IsFrontAt, IsLate, IsPlayable}
 use Rattle.play_command.specs.Supplied.{with_bytes}

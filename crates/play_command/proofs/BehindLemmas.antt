@@ -18,11 +18,11 @@ use Rattle.command_base.specs.declared.fault.ConfigFault.TheVariants as conf
 use Rattle.command_base.proofs.PartLemmas.{fresh_before, same_part, there_or_not}
 use Rattle.command_base.proofs.SayingLemmas.{says_only}
 use Rattle.play_command.specs.Ending.{FilesEnd, HasName, PlayEnds, PlayFails, PlayLeaves}
-use Rattle.play_command.specs.Failing.{unplayed_failure}
-use Rattle.play_command.specs.Opening.{KeepsOthers, OtherThree}
+use Rattle.play_files.specs.Failing.{unplayed_failure}
+use Rattle.play_files.specs.Opening.{KeepsOthers, OtherThree}
 use Rattle.play_command.proofs.InputLemmas.{Starts, configures_by, fronts_from, played_by, quiet_from, told_from, unplayed_from}
 use Rattle.play_command.proofs.ToldLemmas.{config_is_told}
-use Rattle.play_command.specs.declared.failing.Unplayed.{Unplayed}
+use Rattle.play_files.specs.declared.failing.Unplayed.{Unplayed}
 
 -- the configuration was read, and then the play went from a to c
 pub record Reading (u a c : View) (n : Names) : Type 0 where

@@ -12,7 +12,8 @@ use Rattle.command_base.proofs.ReadingLemmas.{configured_said, has_rate}
 use Rattle.command_base.specs.Names.{Names}
 use Rattle.play_command.proofs.InputLemmas.{one_accepted}
 use Rattle.play_command.proofs.LateLemmas.{not_cut, offered_not_early}
-use Rattle.play_command.proofs.Laws.{HaveLaws, is_lawful}
+use Rattle.play_command.specs.Laws.{HaveLaws}
+use Rattle.play_command.proofs.Laws.{is_lawful}
 use Rattle.play_command.specs.InterfaceSetup.{setup_of}
 use Rattle.play_command.specs.Played.{Accepted, EndsLate, EndsWith, HasPlayed, IsCutEarly, IsLate, IsOffered}
 

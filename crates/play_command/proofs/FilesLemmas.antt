@@ -7,9 +7,9 @@ use Rattle.command_base.specs.Input.{TakesFew}
 use Rattle.command_base.specs.Names.{Names}
 use Rattle.command_base.proofs.PartLemmas.{short_or_long, there_or_not, there_then}
 use Rattle.play_command.specs.Ending.{FilesEnd}
-use Rattle.play_command.specs.Opening.{AreNamed, HaveParts, KeepsOthers, OpenedFar, OtherThree}
+use Rattle.play_files.specs.Opening.{AreNamed, HaveParts, KeepsOthers, OpenedFar, OtherThree}
 use Rattle.play_command.specs.Order.{IsInOrder}
-use Rattle.play_command.proofs.NamedLemmas.{named_same}
+use Rattle.play_files.proofs.NamedLemmas.{named_same}
 
 -- no file of a part came to be, exactly where the parts end before it
 pub untouched : (u c : View) (end part : ℕ) → HaveParts u c end → end ≤ part → Untouched u c part

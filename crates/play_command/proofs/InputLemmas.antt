@@ -21,10 +21,10 @@ use Rattle.command_base.specs.Outcome.{Outcome}
 use Rattle.command_base.proofs.ConfLemmas.{one_interface, same_some}
 use Rattle.command_base.proofs.PartLemmas.{fresh_before}
 use Rattle.play_command.specs.Ending.{EndsAtStats, IsAccepting, IsUnread, PlayFails, PlayIsTold}
-use Rattle.play_command.specs.Failing.{play_failure, unplayed_failure}
+use Rattle.play_files.specs.Failing.{play_failure, unplayed_failure}
 use Rattle.play_command.specs.InterfaceSetup.{setup_of}
-use Rattle.play_command.specs.declared.failing.Unplayed.{Unplayed}
-use Rattle.play_command.specs.declared.failing.Unplayed.TheVariants.{Pcapng, Play}
+use Rattle.play_files.specs.declared.failing.Unplayed.{Unplayed}
+use Rattle.play_files.specs.declared.failing.Unplayed.TheVariants.{Pcapng, Play}
 use Rattle.play_command.specs.Played.{Accepted, EndsLate, EndsWith, Fronts, HasFronts, HasPlayed, HasStatsFront, HasWholeTexts, IsCutShort, IsFrontAt, IsLate, IsLimited, IsNoCapture, IsOffered}
 use Rattle.arrivals_front.specs.Given as arrivals
 use Rattle.arrivals_front.proofs.ReadLaws.{read_one_way}

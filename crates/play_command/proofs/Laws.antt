@@ -21,14 +21,7 @@ use Rattle.play_laws.proofs.SizeLemmas.{reads_sized}
 use Rattle.play_laws.specs.Sizes.{HasSizes, HaveSizes}
 use Rattle.play_text.specs.Names.{HasClass}
 use Rattle.command_base.specs.Configuration.{IsConfigured}
-
-pub record HaveLaws : Type 0 where
-  pub fit : ConfigurationsFit
-  pub queues : FramesHaveQueues
-  pub lawful : PoliciesAreLawful
-  pub held : QueueClassesAreHeld
-  pub named : QueueClassesAreNamed
-  pub promises : PlaysKeepPromises
+use Rattle.play_command.specs.Laws.{HaveLaws}
 
 pub have_laws : ConfigurationsFit → FramesHaveQueues → PoliciesAreLawful → QueueClassesAreHeld → QueueClassesAreNamed → PlaysKeepPromises → HaveLaws
 have_laws fit queues lawful held named promises =

@@ -1,13 +1,10 @@
 pub mod BehindLemmas
-pub mod DisciplineLemmas
 pub mod EndLemmas
 pub mod FilesLemmas
 pub mod FoundLemmas
 pub mod InputLemmas
 pub mod LateLemmas
 pub mod Laws
-pub mod NamedLemmas
-pub mod OpeningLemmas
 pub mod SayingLemmas
 pub mod SeeingLemmas
 pub mod SetupLemmas

@@ -9,7 +9,7 @@ use Rattle.command_base.proofs.SayingLemmas.{few_after, there_before, untouched_
 use Rattle.command_base.specs.Names.{Names}
 use Rattle.command_base.specs.Telling.{OnlySays}
 use Rattle.play_command.specs.Ending.{FilesEnd, HasName}
-use Rattle.play_command.specs.Opening.{KeepsOthers, OtherThree}
+use Rattle.play_files.specs.Opening.{KeepsOthers, OtherThree}
 use Rattle.play_command.specs.Order.{IsInOrder, KeepUncreated}
 use Rattle.play_command.specs.Played.{Fronts, HasFronts, HasOffered, HasStatsFront, HasWholeTexts, HoldTexts, IsCutShort, IsFrontAt, IsLate, IsOffered, AreTaken, StreamsWithin}
 use Rattle.arrivals_front.specs.Given.{is_pcapng}

@@ -1,15 +1,14 @@
--- From what the arrivals' file has left to what is accepted.
-use Rattle.std.proofs.Common.{◌≡◌, ◌≤◌, ◌<◌, ◌+◌, ◌++◌, ◌∙◌, ◌⊎◌, ℕ, Bool, true, false, List, [], ◌∷◌, length, None, Some, ap, sym, refl, subst, inl, inr}
-use Rattle.std.specs.Prelude.{IsSome, IsTrue, if◌then◌else◌}
+-- A play as it went, and what is seen of it from what is accepted.
+use Rattle.std.proofs.Common.{◌≡◌, ◌≤◌, ◌<◌, ◌+◌, ◌++◌, ◌∙◌, ◌⊎◌, ℕ, Bool, true, false, List, [], length, None, Some, Ok, Err, ap, sym, refl, subst}
+use Rattle.std.specs.Prelude.{IsSome, IsTrue}
 use Rattle.std.specs.declared.option.Option.{Option}
+use Rattle.std.specs.declared.result.Result.{Result}
 use Rattle.altq_model.specs.History.{Happened}
 use Rattle.altq_model.specs.Lawful.{greatest}
 use Rattle.arrivals_front.specs.Given.{Follows, is_pcapng}
-use Rattle.arrivals_front.specs.declared.given.Given.{Given}
-use Rattle.capture_model.specs.Capture.{Record, Step, End, Fault, Limit, Reads, IsCapture, IsLast, place_after}
+use Rattle.capture_model.specs.Capture.{Record, Step, End, Fault, Limit, Reads, IsCapture, IsLast}
 use Rattle.conf_tree.specs.declared.interface.Interface.{Interface}
 use Rattle.interface_marks.specs.Conditioners.{is_conditioned, marked_in}
-use Rattle.pcap_files.specs.Reading.{AreAllTaken}
 use Rattle.pcapng_files.specs.Fronts.{with_front}
 use Rattle.play_base.specs.Holds.{HoldsAt}
 use Rattle.play_base.specs.View.{View, ReadFault, WriteFault}
@@ -20,27 +19,45 @@ use Rattle.play_loop.specs.declared.fault.Opened.{Opened}
 use Rattle.play_loop.specs.declared.fault.Output.TheVariants as output
 use Rattle.play_loop.specs.declared.fault.PlayFault.{PlayFault}
 use Rattle.play_loop.specs.declared.fault.PlayFault.TheVariants as play
-use Rattle.play_loop.specs.Played.{AreBegun, BeginsStats, Explains, Fronts, HasBegunStats, HasOffered, HasPlayed, HasStopped, HoldTexts, LeavesStats, OfArrivals, Plays, Streams, WasCutOff, start_of}
+use Rattle.play_loop.specs.declared.kept.KeptFate.{KeptFate}
+use Rattle.play_loop.specs.Played.{HasBegunStats, HasOffered, HasStopped, HoldTexts, start_of}
 use Rattle.play_loop.specs.Setup.{Setup, arrivals_in}
+use Rattle.play_loop.specs.Told.{HasDecided, HasTold}
 use Rattle.command_base.specs.Configuration.{Accepts, Configures}
 use Rattle.command_base.specs.Names.{Names}
 use Rattle.command_base.proofs.ConfLemmas.{some_bytes}
 use Rattle.play_command.specs.Found.{IsBehind}
-use Rattle.play_command.specs.Opening.{Untold}
-use Rattle.play_command.specs.declared.opening.Arrivals.{Arrivals}
+use Rattle.play_command.specs.InterfaceSetup.{Untold, setup_of}
 use Rattle.play_command.specs.Played.{Accepted, AreTaken, ReadAs, StreamsWithin, most_past}
+use Rattle.play_files.specs.declared.opening.Arrivals.{Arrivals}
 
--- what is accepted of this interface
-pub record AcceptedOf (v : View) (n : Names) (i : Interface) : Type 0 where
+-- the files before it, with the first bytes of the arrivals taken, with the outputs created, and after it; the names, the interface and
+-- the seed; the files that it plays, and the arrivals that were opened
+pub record Run : Type 0 where
+  pub before : View
+  pub taken : View
+  pub created : View
+  pub after : View
+  pub names : Names
+  pub interface : Interface
+  pub seed : ℕ
+  pub opened : Opened
+  pub arrivals : Arrivals
+
+abbrev pub setup_in : Run → Setup
+setup_in r = setup_of r.interface r.seed
+
+-- what is accepted of its interface
+pub record AcceptedOf (r : Run) : Type 0 where
   pub given : List ℕ
   pub bytes : List ℕ
-  pub configuration : Configures v n.config n.interface i
-  pub arrivals : v.bytes n.arrivals ≡ Some given
-  pub read : ReadAs i given bytes
+  pub configuration : Configures r.before r.names.config r.names.interface r.interface
+  pub arrivals : r.before.bytes r.names.arrivals ≡ Some given
+  pub read : ReadAs r.interface given bytes
 
-abbrev pub as_accepted : (v : View) (n : Names) (i : Interface) → AcceptedOf v n i → Accepted v n
-as_accepted v n i x = record {
-  interface = i;
+abbrev pub as_accepted : (r : Run) → AcceptedOf r → Accepted r.before r.names
+as_accepted r x = record {
+  interface = r.interface;
   given = x.given;
   bytes = x.bytes;
   configuration = x.configuration;
@@ -49,89 +66,121 @@ as_accepted v n i x = record {
 }
 
 -- P holds of what is given and what is played of it, where the files tell
-abbrev pub Sees : View → Names → Interface → ((given bytes : List ℕ) → Type 0) → Type 0
-Sees a n i P = IsTrue a.tells → (x : AcceptedOf a n i) × P x.given x.bytes
+abbrev pub Sees : Run → ((given bytes : List ℕ) → Type 0) → Type 0
+Sees r P = IsTrue r.before.tells → (x : AcceptedOf r) × P x.given x.bytes
 
 -- what came of these bytes
-abbrev pub PlayedIn : Setup → View → Opened → Totals → (given bytes : List ℕ) → Type 0
-PlayedIn x c o totals given bytes = (records : List Record) × IsCapture bytes records × HasPlayed x Untold c o records totals
+abbrev pub ToldOf : Setup → (List Happened → Type 0) → (List KeptFate → Type 0) → View → Opened → Totals → (bytes : List ℕ) → Type 0
+ToldOf x stands kept c o totals bytes = (records : List Record) × IsCapture bytes records × HasTold x stands kept c o records totals
 
-abbrev pub FrontsIn : Setup → View → Opened → (given bytes : List ℕ) → Type 0
-FrontsIn x c o given bytes = (records : List Record) (last : Step) → Reads bytes records last → IsLast last → HasStopped x c o records
+abbrev pub FrontsOf : Setup → View → Opened → (bytes : List ℕ) → Type 0
+FrontsOf x c o bytes = (records : List Record) (last : Step) → Reads bytes records last → IsLast last → HasStopped x c o records
 
-abbrev pub OffersIn : Setup → View → Opened → Step → (given bytes : List ℕ) → Type 0
-OffersIn x c o last given bytes = (records : List Record) × Reads bytes records last × HasOffered x Untold c o records
+abbrev pub OffersOf : Setup → View → Opened → Step → (bytes : List ℕ) → Type 0
+OffersOf x c o last bytes = (records : List Record) × Reads bytes records last × HasOffered x Untold c o records
 
-abbrev pub ShortIn : Interface → Setup → View → Opened → (given bytes : List ℕ) → Type 0
-ShortIn i x c o given bytes =
-    (records : List Record) × AreTaken (is_pcapng given) (is_conditioned i) c o.arrivals bytes records × HasOffered x Untold c o records
+abbrev pub StatsOf : Setup → View → Opened → (bytes : List ℕ) → Type 0
+StatsOf x c o bytes = (records : List Record) × IsCapture bytes records × HasBegunStats x c o records
 
-pub record LateIn (i : Interface) (x : Setup) (c : View) (o : Opened) (given bytes : List ℕ) : Type 0 where
+abbrev pub ToldIn : Run → (List Happened → Type 0) → (List KeptFate → Type 0) → Totals → (given bytes : List ℕ) → Type 0
+ToldIn r stands kept totals given bytes = ToldOf (setup_in r) stands kept r.after r.opened totals bytes
+
+abbrev pub FrontsIn : Run → (given bytes : List ℕ) → Type 0
+FrontsIn r given bytes = FrontsOf (setup_in r) r.after r.opened bytes
+
+abbrev pub OffersIn : Run → Step → (given bytes : List ℕ) → Type 0
+OffersIn r last given bytes = OffersOf (setup_in r) r.after r.opened last bytes
+
+abbrev pub StatsIn : Run → (given bytes : List ℕ) → Type 0
+StatsIn r given bytes = StatsOf (setup_in r) r.after r.opened bytes
+
+abbrev pub ShortIn : Run → (given bytes : List ℕ) → Type 0
+ShortIn r given bytes = (records : List Record) × AreTaken (is_pcapng given) (is_conditioned r.interface) r.after r.opened.arrivals bytes records
+    × HasOffered (setup_in r) Untold r.after r.opened records
+
+pub record LateIn (r : Run) (given bytes : List ℕ) : Type 0 where
   pub records : List Record
   pub last : Step
   pub history : List Happened
   pub totals : Totals
   pub reads : Reads bytes records last
   pub is_last : IsLast last
-  pub play : IsStopped x.policy x.rate x.seed (arrivals_in x records) history totals
-  pub texts : HoldTexts c o x (arrivals_in x records) history
+  pub play : IsStopped (setup_in r).policy (setup_in r).rate (setup_in r).seed (arrivals_in (setup_in r) records) history totals
+  pub texts : HoldTexts r.after r.opened (setup_in r) (arrivals_in (setup_in r) records) history
   pub before : (last ≡ End) ⊎ (start_of play.cut.next.what < greatest 0 records)
-  pub streams : is_pcapng given ≡ false → StreamsWithin (most_past i) c o.arrivals bytes records (start_of play.cut.next.what)
-
-abbrev pub StatsIn : Setup → View → Opened → (given bytes : List ℕ) → Type 0
-StatsIn x c o given bytes = (records : List Record) × IsCapture bytes records × HasBegunStats x c o records
+  pub streams : is_pcapng given ≡ false
+      → StreamsWithin (most_past r.interface) r.after r.opened.arrivals bytes records (start_of play.cut.next.what)
 
 -- when each fault of a play comes
-abbrev pub Explained : View → View → View → Names → Interface → Opened → Setup → PlayFault → Type 0
-Explained a b c n i o x (play.Capture damage) = Sees a n i (OffersIn x c o (Fault damage))
-Explained a b c n i o x play.Read = ReadFault b c o.arrivals × Sees a n i (ShortIn i x c o)
-Explained a b c n i o x (play.Write output.Departures) = WriteFault b c o.departures
-Explained a b c n i o x (play.Write output.Fates) = WriteFault b c o.fates
-Explained a b c n i o x (play.Write output.Statistics) = WriteFault b c o.stats
-Explained a b c n i o x (play.Limit limit.Capture) = Sees a n i (OffersIn x c o Limit)
-Explained a b c n i o x (play.Limit limit.Clock) = Sees a n i (LateIn i x c o)
-Explained a b c n i o x play.NoMemory = Unit {0}
+abbrev pub Explained : Run → PlayFault → Type 0
+Explained r (play.Capture damage) = Sees r (OffersIn r (Fault damage))
+Explained r play.Read = ReadFault r.created r.after r.opened.arrivals × Sees r (ShortIn r)
+Explained r (play.Write output.Departures) = WriteFault r.created r.after r.opened.departures
+Explained r (play.Write output.Fates) = WriteFault r.created r.after r.opened.fates
+Explained r (play.Write output.Statistics) = WriteFault r.created r.after r.opened.stats
+Explained r (play.Limit limit.Capture) = Sees r (OffersIn r Limit)
+Explained r (play.Limit limit.Clock) = Sees r (LateIn r)
+Explained r play.NoMemory = Unit {0}
 
 -- what the statistics hold
-abbrev pub StatsBegun : View → View → Names → Interface → Opened → Setup → Type 0
-StatsBegun a c n i o x = HoldsAt c o.stats [] ⊎ Sees a n i (StatsIn x c o)
+abbrev pub StatsBegun : Run → Type 0
+StatsBegun r = HoldsAt r.after r.opened.stats [] ⊎ Sees r (StatsIn r)
 
-abbrev pub StatsLeft : View → View → Names → Interface → Opened → Setup → PlayFault → Type 0
-StatsLeft a c n i o x (play.Capture damage) = HoldsAt c o.stats []
-StatsLeft a c n i o x play.Read = HoldsAt c o.stats []
-StatsLeft a c n i o x (play.Write output.Departures) = HoldsAt c o.stats []
-StatsLeft a c n i o x (play.Write output.Fates) = HoldsAt c o.stats []
-StatsLeft a c n i o x (play.Write output.Statistics) = Sees a n i (StatsIn x c o)
-StatsLeft a c n i o x (play.Limit limit) = HoldsAt c o.stats []
-StatsLeft a c n i o x play.NoMemory = StatsBegun a c n i o x
+abbrev pub StatsLeft : Run → PlayFault → Type 0
+StatsLeft r (play.Capture damage) = HoldsAt r.after r.opened.stats []
+StatsLeft r play.Read = HoldsAt r.after r.opened.stats []
+StatsLeft r (play.Write output.Departures) = HoldsAt r.after r.opened.stats []
+StatsLeft r (play.Write output.Fates) = HoldsAt r.after r.opened.stats []
+StatsLeft r (play.Write output.Statistics) = Sees r (StatsIn r)
+StatsLeft r (play.Limit limit) = HoldsAt r.after r.opened.stats []
+StatsLeft r play.NoMemory = StatsBegun r
+
+-- what came of the play
+abbrev pub CameIn : Run → (List Happened → Type 0) → (List KeptFate → Type 0) → Result Totals PlayFault → Type 0
+CameIn r stands kept (Ok totals) = Sees r (ToldIn r stands kept totals) × HasDecided (setup_in r) kept totals
+CameIn r stands kept (Err fault) = Explained r fault × Sees r (FrontsIn r) × StatsLeft r fault
 
 -- the arrivals as they were opened, and the outputs created behind them
-pub record Begins (a g b : View) (n : Names) (i : Interface) (o : Opened) (gv : Given) : Type 0 where
-  pub accepted : Accepts a n.config n.interface i
-  pub there : IsTrue a.tells → IsSome (a.bytes n.arrivals)
-  pub tells : b.tells ≡ a.tells
-  pub follows : IsTrue a.tells → (given : List ℕ) → a.bytes n.arrivals ≡ Some given → Follows g o.arrivals given gv
-  pub left : IsTrue a.tells → b.left o.arrivals ≡ g.left o.arrivals
+pub record Begins (r : Run) : Type 0 where
+  pub accepted : Accepts r.before r.names.config r.names.interface r.interface
+  pub there : IsTrue r.before.tells → IsSome (r.before.bytes r.names.arrivals)
+  pub tells : r.created.tells ≡ r.before.tells
+  pub follows : IsTrue r.before.tells → (given : List ℕ) → r.before.bytes r.names.arrivals ≡ Some given → Follows r.taken r.opened.arrivals given r.arrivals.given
+  pub left : IsTrue r.before.tells → r.created.left r.opened.arrivals ≡ r.taken.left r.opened.arrivals
+
+pub begins_of : (r : Run) → r.opened.arrivals ≡ r.arrivals.file → IsBehind r.before r.taken r.names r.interface r.arrivals → r.created.tells ≡ r.before.tells
+    → (IsTrue r.before.tells → r.created.left r.arrivals.file ≡ r.taken.left r.arrivals.file) → Begins r
+begins_of r e s tells left = record {
+  accepted = s.accepted;
+  there = s.opened.there;
+  tells = tells;
+  follows = λ t given at. subst (λ (f : ℕ). Follows r.taken f given r.arrivals.given) (sym e) (s.follows t given at);
+  left = λ t. subst (λ (f : ℕ). r.created.left f ≡ r.taken.left f) (sym e) (left t);
+}
 
 -- what is accepted
-pub record Found (a g : View) (n : Names) (i : Interface) (o : Opened) (gv : Given) : Type 0 where
+pub record Found (r : Run) : Type 0 where
   pub given : List ℕ
-  pub at : a.bytes n.arrivals ≡ Some given
-  pub follows : Follows g o.arrivals given gv
+  pub at : r.before.bytes r.names.arrivals ≡ Some given
+  pub follows : Follows r.taken r.opened.arrivals given r.arrivals.given
 
-pub found : (a g b : View) (n : Names) (i : Interface) (o : Opened) (gv : Given) → Begins a g b n i o gv → IsTrue a.tells → Found a g n i o gv
-found a g b n i o gv s t =
-    let y = some_bytes (a.bytes n.arrivals) (s.there t) in
+pub found : (r : Run) → Begins r → IsTrue r.before.tells → Found r
+found r s t =
+    let y = some_bytes (r.before.bytes r.names.arrivals) (s.there t) in
     record { given = y.0; at = y.1; follows = s.follows t y.0 y.1 }
 
-abbrev pub accepted_in : (a g b : View) (n : Names) (i : Interface) (o : Opened) (gv : Given) → Begins a g b n i o gv → IsTrue a.tells → Found a g n i o gv → AcceptedOf a n i
-accepted_in a g b n i o gv s t y = record {
+abbrev pub accepted_in : (r : Run) → Begins r → IsTrue r.before.tells → Found r → AcceptedOf r
+accepted_in r s t y = record {
   given = y.given;
-  bytes = marked_in i y.follows.bytes;
+  bytes = marked_in r.interface y.follows.bytes;
   configuration = s.accepted t;
   arrivals = y.at;
   read = record { capture = y.follows.bytes; read = y.follows.read; marked = refl };
 }
+
+-- what is seen is less
+pub seen : (r : Run) (P Q : (given bytes : List ℕ) → Type 0) → ((given bytes : List ℕ) → P given bytes → Q given bytes) → Sees r P → Sees r Q
+seen r P Q k s = λ t. let y = s t in (y.0, k y.0.given y.0.bytes y.1)
 
 pub own_left : (front bytes : List ℕ) (left : Option (List ℕ)) → with_front true true front left ≡ Some bytes
     → (rest : List ℕ) × (left ≡ Some rest) × (front ++ rest ≡ bytes)
@@ -141,131 +190,39 @@ own_left front bytes (Some rest) h = (rest, refl, some_is (front ++ rest) bytes 
     some_is : (x y : List ℕ) → Some x ≡ Some y → x ≡ y
     some_is x y h = cc
 
--- what is said of the bytes that are played, and how they are given
-abbrev pub Kind : Bool → (List ℕ → Type 0) → (given bytes : List ℕ) → Type 0
-Kind k P given bytes = (is_pcapng given ≡ k) × P bytes
+-- the bytes that a marker holds, which were taken of a file and not given: without conditioners none
+abbrev pub IsHeld : (conditioned : Bool) → (rest mine : List ℕ) → Type 0
+IsHeld true rest mine = length rest ≤ length mine + 262160
+IsHeld false rest mine = rest ≡ mine
 
-abbrev pub OffersOf : Setup → View → Opened → Step → List ℕ → Type 0
-OffersOf x c o last bytes = (records : List Record) × Reads bytes records last × HasOffered x Untold c o records
-
-abbrev pub TakenOf : Setup → View → Opened → List ℕ → Type 0
-TakenOf x c o bytes = (records : List Record) × AreAllTaken c o.arrivals bytes records × HasOffered x Untold c o records
-
-abbrev pub LateOf : Setup → View → Opened → List ℕ → Type 0
-LateOf x c o bytes = (records : List Record) × ((last : Step) × Reads bytes records last × IsLast last × WasCutOff x Untold c o bytes records last)
-
-abbrev pub StatsOf : Setup → View → Opened → List ℕ → Type 0
-StatsOf x c o bytes = (records : List Record) × IsCapture bytes records × HasBegunStats x c o records
-
-abbrev pub PlayedOf : Setup → View → Opened → Totals → List ℕ → Type 0
-PlayedOf x c o totals bytes = (records : List Record) × IsCapture bytes records × HasPlayed x Untold c o records totals
-
-abbrev pub FrontsOf : Setup → View → Opened → List ℕ → Type 0
-FrontsOf x c o bytes = (records : List Record) (last : Step) → Reads bytes records last → IsLast last → HasStopped x c o records
+-- what the play saw of the arrivals' file: what was taken of it before and what it has left are what is played, and of a classic
+-- capture few bytes more are taken than are given
+pub record Passage (r : Run) : Type 0 where
+  pub before : ℕ → Option (List ℕ)
+  pub after : ℕ → Option (List ℕ)
+  pub fixed_before : List ℕ
+  pub fixed_after : List ℕ
+  pub joined : IsTrue r.before.tells → (y : Found r)
+      → (rest : List ℕ) × (before r.opened.arrivals ≡ Some rest) × (r.opened.first.now ++ rest ≡ marked_in r.interface y.follows.bytes)
+  pub past : r.arrivals.given.rest ≡ true → (rest : List ℕ) → after r.opened.arrivals ≡ Some rest
+      → (mine : List ℕ) × (r.after.left r.opened.arrivals ≡ Some mine) × IsHeld (is_conditioned r.interface) rest mine
 
 -- a classic capture of an interface without conditioners
-pub record Itself (i : Interface) (o : Opened) (gv : Given) : Type 0 where
-  pub rest : gv.rest ≡ true
-  pub first : o.first.now ≡ gv.front.items
-  pub unmarked : (capture : List ℕ) → marked_in i capture ≡ capture
-  pub plain : is_conditioned i ≡ false
+pub record Itself (r : Run) : Type 0 where
+  pub rest : r.arrivals.given.rest ≡ true
+  pub first : r.opened.first.now ≡ r.arrivals.given.front.items
+  pub unmarked : (capture : List ℕ) → marked_in r.interface capture ≡ capture
+  pub plain : is_conditioned r.interface ≡ false
 
-pub sees : (a g b : View) (n : Names) (i : Interface) (o : Opened) (gv : Given) (P : List ℕ → Type 0) → Begins a g b n i o gv → Itself i o gv
-    → OfArrivals b o P → Sees a n i (Kind false P)
-sees a g b n i o gv P s x p = λ t.
-    let y = found a g b n i o gv s t in
-    let f = y.follows in
-    let own = own_left gv.front.items f.bytes (g.left o.arrivals)
-    (ap (λ (k : Bool). with_front true k gv.front.items (g.left o.arrivals)) (sym x.rest) ∙ f.left) in
-    let joined : o.first.now ++ own.0 ≡ marked_in i f.bytes = ap (λ (l : List ℕ). l ++ own.0) x.first ∙ own.2 ∙ sym (x.unmarked f.bytes) in
-    (accepted_in a g b n i o gv s t y, ((f.classic x.rest).0, subst P joined (p (s.tells ∙ t) own.0 (s.left t ∙ own.1))))
-
--- what is seen is less
-pub seen : (a : View) (n : Names) (i : Interface) (P Q : (given bytes : List ℕ) → Type 0) → ((given bytes : List ℕ) → P given bytes → Q given bytes)
-    → Sees a n i P → Sees a n i Q
-seen a n i P Q k s = λ t. let y = s t in (y.0, k y.0.given y.0.bytes y.1)
-
-taken_itself : (k m : Bool) (c : View) (file : ℕ) (bytes : List ℕ) (records : List Record) → k ≡ false → m ≡ false → AreAllTaken c file bytes records
-    → AreTaken k m c file bytes records
-taken_itself k m c file bytes records e h x =
-    subst (λ (b : Bool). AreTaken b m c file bytes records) (sym e) (subst (λ (b : Bool). AreTaken false b c file bytes records) (sym h) x)
-
-streams_itself : (i : Interface) (c : View) (file : ℕ) (bytes : List ℕ) (records : List Record) (moment : ℕ) → is_conditioned i ≡ false
-    → Streams c file bytes records moment → StreamsWithin (most_past i) c file bytes records moment
-streams_itself i c file bytes records moment plain h =
-    let same : (if is_conditioned i then 65536 + 262160 else 65536) ≡ 65536 = ap (λ (b : Bool). if b then 65536 + 262160 else 65536) plain in
-    λ before r after split early late.
-    let x = h before r after split early late in
-    record { rest = x.rest; left = x.left; within = subst (λ (past : ℕ). length bytes ≤ place_after 24 (before ++ r ∷ []) + past + length x.rest) (sym same) x.within }
-
-pub explained_itself : (a g b c : View) (n : Names) (i : Interface) (o : Opened) (gv : Given) (x : Setup) (f : PlayFault) → Begins a g b n i o gv → Itself i o gv
-    → Explains x Untold b c o f → Explained a b c n i o x f
-explained_itself a g b c n i o gv x (play.Capture d) s w h =
-    seen a n i (Kind false (OffersOf x c o (Fault d))) (OffersIn x c o (Fault d)) (λ given bytes y. y.1) (sees a g b n i o gv (OffersOf x c o (Fault d)) s w h)
-explained_itself a g b c n i o gv x play.Read s w h = (
-  h.0,
-  seen a n i (Kind false (TakenOf x c o)) (ShortIn i x c o)
-      (λ given bytes y. (y.1.0, taken_itself (is_pcapng given) (is_conditioned i) c o.arrivals bytes y.1.0 y.0 w.plain y.1.1, y.1.2))
-      (sees a g b n i o gv (TakenOf x c o) s w h.1),
-)
-explained_itself a g b c n i o gv x (play.Write output.Departures) s w h = h
-explained_itself a g b c n i o gv x (play.Write output.Fates) s w h = h
-explained_itself a g b c n i o gv x (play.Write output.Statistics) s w h = h
-explained_itself a g b c n i o gv x (play.Limit limit.Capture) s w h =
-    seen a n i (Kind false (OffersOf x c o Limit)) (OffersIn x c o Limit) (λ given bytes y. y.1) (sees a g b n i o gv (OffersOf x c o Limit) s w h)
-explained_itself a g b c n i o gv x (play.Limit limit.Clock) s w h =
-    seen a n i (Kind false (LateOf x c o)) (LateIn i x c o)
-    (λ given bytes y. (let z = y.1.1.3 in record {
-      records = y.1.0;
-      last = y.1.1.0;
-      history = z.history;
-      totals = z.totals;
-      reads = y.1.1.1;
-      is_last = y.1.1.2;
-      play = z.play;
-      texts = z.texts;
-      before = z.before;
-      streams = λ e. streams_itself i c o.arrivals bytes y.1.0 (start_of z.play.cut.next.what) w.plain z.streams;
-    }))
-    (sees a g b n i o gv (LateOf x c o) s w h)
-explained_itself a g b c n i o gv x play.NoMemory s w h = tt
-
-are_itself : (a g b c : View) (n : Names) (i : Interface) (o : Opened) (gv : Given) (x : Setup) → Begins a g b n i o gv → Itself i o gv
-    → AreBegun x b c o → Sees a n i (StatsIn x c o)
-are_itself a g b c n i o gv x s w h =
-    seen a n i (Kind false (StatsOf x c o)) (StatsIn x c o) (λ given bytes y. y.1) (sees a g b n i o gv (StatsOf x c o) s w h)
-
-begun_itself : (a g b c : View) (n : Names) (i : Interface) (o : Opened) (gv : Given) (x : Setup) → Begins a g b n i o gv → Itself i o gv
-    → BeginsStats x b c o → StatsBegun a c n i o x
-begun_itself a g b c n i o gv x s w (inl h) = inl h
-begun_itself a g b c n i o gv x s w (inr h) = inr (are_itself a g b c n i o gv x s w h)
-
-pub stats_itself : (a g b c : View) (n : Names) (i : Interface) (o : Opened) (gv : Given) (x : Setup) (f : PlayFault) → Begins a g b n i o gv → Itself i o gv
-    → LeavesStats x b c o f → StatsLeft a c n i o x f
-stats_itself a g b c n i o gv x (play.Capture d) s w h = h
-stats_itself a g b c n i o gv x play.Read s w h = h
-stats_itself a g b c n i o gv x (play.Write output.Departures) s w h = h
-stats_itself a g b c n i o gv x (play.Write output.Fates) s w h = h
-stats_itself a g b c n i o gv x (play.Write output.Statistics) s w h = are_itself a g b c n i o gv x s w h
-stats_itself a g b c n i o gv x (play.Limit limit) s w h = h
-stats_itself a g b c n i o gv x play.NoMemory s w h = begun_itself a g b c n i o gv x s w h
-
-pub played_itself : (a g b c : View) (n : Names) (i : Interface) (o : Opened) (gv : Given) (x : Setup) (totals : Totals) → Begins a g b n i o gv → Itself i o gv
-    → Plays x Untold b c o totals → Sees a n i (PlayedIn x c o totals)
-played_itself a g b c n i o gv x totals s w h =
-    seen a n i (Kind false (PlayedOf x c o totals)) (PlayedIn x c o totals) (λ given bytes y. y.1) (sees a g b n i o gv (PlayedOf x c o totals) s w h)
-
-pub fronts_itself : (a g b c : View) (n : Names) (i : Interface) (o : Opened) (gv : Given) (x : Setup) → Begins a g b n i o gv → Itself i o gv
-    → Fronts x b c o → Sees a n i (FrontsIn x c o)
-fronts_itself a g b c n i o gv x s w h = seen a n i (Kind false (FrontsOf x c o)) (FrontsIn x c o) (λ given bytes y. y.1) (sees a g b n i o gv (FrontsOf x c o) s w h)
-
--- the outputs were created behind the arrivals
-pub begins_of : (a g b : View) (n : Names) (i : Interface) (o : Opened) (x : Arrivals) → o.arrivals ≡ x.file → IsBehind a g n i x → b.tells ≡ a.tells
-    → (IsTrue a.tells → b.left x.file ≡ g.left x.file) → Begins a g b n i o x.given
-begins_of a g b n i o x e s tells left = record {
-  accepted = s.accepted;
-  there = s.opened.there;
-  tells = tells;
-  follows = λ t given at. subst (λ (f : ℕ). Follows g f given x.given) (sym e) (s.follows t given at);
-  left = λ t. subst (λ (f : ℕ). b.left f ≡ g.left f) (sym e) (left t);
+abbrev pub passage_itself : (r : Run) → Begins r → Itself r → Passage r
+passage_itself r s x = record {
+  before = r.created.left;
+  after = r.after.left;
+  fixed_before = r.created.fixed;
+  fixed_after = r.after.fixed;
+  joined = λ t y.
+      let own = own_left r.arrivals.given.front.items y.follows.bytes (r.taken.left r.opened.arrivals)
+      (ap (λ (k : Bool). with_front true k r.arrivals.given.front.items (r.taken.left r.opened.arrivals)) (sym x.rest) ∙ y.follows.left) in
+      (own.0, s.left t ∙ own.1, ap (λ (l : List ℕ). l ++ own.0) x.first ∙ own.2 ∙ sym (x.unmarked y.follows.bytes));
+  past = λ e rest at. (rest, at, subst (λ (b : Bool). IsHeld b rest rest) (sym x.plain) refl);
 }

@@ -1,5 +1,7 @@
 -- What was built of an interface is what is played of it.
-use Rattle.std.proofs.Common.{◌≡◌, ◌∙◌, ℕ, List, refl, ap, sym, subst}
+use Rattle.std.proofs.Common.{◌≡◌, ◌∙◌, ℕ, List, Ok, Err, refl, ap, sym, subst}
+use Rattle.std.specs.Prelude.{IfErr, IfOk, OnErr}
+use Rattle.std.specs.declared.result.Result.{Result}
 use Rattle.altq_model.specs.declared.Placed.{Placed}
 use Rattle.altq_model.specs.Departures.{Dressing}
 use Rattle.altq_model.specs.History.{Happened}
@@ -16,25 +18,20 @@ use Rattle.play_loop.specs.declared.fault.Opened.{Opened}
 use Rattle.play_loop.specs.declared.fault.Output.TheVariants as output
 use Rattle.play_loop.specs.declared.fault.PlayFault.{PlayFault}
 use Rattle.play_loop.specs.declared.fault.PlayFault.TheVariants as play
-use Rattle.play_loop.specs.Played.{Explains, Fronts, HasOffered, IsStanding, LeavesStats, Plays}
+use Rattle.play_loop.specs.Played.{Explains, Fronts, HasOffered, IsStanding, LeavesStats}
 use Rattle.play_loop.specs.declared.kept.KeptFate.{KeptFate}
 use Rattle.play_loop.specs.Setup.{Setup}
 use Rattle.play_loop.specs.Setup as loop
 use Rattle.play_loop.specs.Told.{HasDecided, Tells}
 use Rattle.command_base.specs.Configuration.{IsConfigured}
-use Rattle.play_command.proofs.Laws.{HaveLaws, is_held, is_named}
-use Rattle.play_command.specs.InterfaceSetup.{setup_of}
-use Rattle.play_command.specs.Opening.{Untold}
+use Rattle.play_command.specs.Laws.{HaveLaws}
+use Rattle.play_command.proofs.Laws.{is_held, is_named}
+use Rattle.play_command.specs.Discipline.{CameOf}
+use Rattle.play_command.specs.InterfaceSetup.{Untold, setup_of}
 
 -- where nothing is told of what stands for a history
-pub untold : (g : List Happened) → IsStanding Untold g
+untold : (g : List Happened) → IsStanding Untold g
 untold g = (g, tt, refl)
-
-plays_untold : (x : Setup) (stood : List Happened → Type 0) (u v : View) (o : Opened) (t : Totals) → Plays x stood u v o t → Plays x Untold u v o t
-plays_untold x stood u v o t h = λ told bytes l.
-    let y = h told bytes l in
-    let z = y.2 in
-    (y.0, y.1, record { history = z.history; play = z.play; texts = z.texts; stats = z.stats; reads = z.reads; stands = untold z.history })
 
 offered_untold : (x : Setup) (stood : List Happened → Type 0) (v : View) (o : Opened) (records : List Record) → HasOffered x stood v o records
     → HasOffered x Untold v o records
@@ -78,7 +75,7 @@ pub record IsBuilt (i : Interface) (p : Policy) (place : List ℕ → Placed) (d
   pub named : names ≡ queue_names i
   pub seed_is : given ≡ seed
 
-setup_is : (i : Interface) (p : Policy) (place : List ℕ → Placed) (dress : Dressing) (names : NameList) (given seed : ℕ)
+pub setup_is : (i : Interface) (p : Policy) (place : List ℕ → Placed) (dress : Dressing) (names : NameList) (given seed : ℕ)
     → IsBuilt i p place dress names given seed → loop.setup_of p place dress names i.rate given ≡ setup_of i seed
 setup_is i p place dress names given seed b =
     ap (λ (k : ℕ). loop.setup_of p place dress names i.rate k) b.seed_is
@@ -102,41 +99,11 @@ named_of laws i names place x e f frame =
     let Q : (List ℕ → Placed) → Type 0 = λ m. HasClass (queue_names i) (m frame).class in
     subst N (sym e) (subst Q (sym f) (is_named laws i x frame))
 
--- what the loop says of what was built
-pub plays_of : (i : Interface) (p : Policy) (place : List ℕ → Placed) (dress : Dressing) (names : NameList) (given seed : ℕ)
-    → IsBuilt i p place dress names given seed → (stood : List Happened → Type 0) (u v : View) (o : Opened) (t : Totals)
-    → Plays (loop.setup_of p place dress names i.rate given) stood u v o t → Plays (setup_of i seed) Untold u v o t
-plays_of i p place dress names given seed b stood u v o t h =
-    let P : Setup → Type 0 = λ x. Plays x stood u v o t in
-    plays_untold (setup_of i seed) stood u v o t (subst P (setup_is i p place dress names given seed b) h)
-
-pub told_of : (i : Interface) (p : Policy) (place : List ℕ → Placed) (dress : Dressing) (names : NameList) (given seed : ℕ)
-    → IsBuilt i p place dress names given seed → (stood : List Happened → Type 0) (kept : List KeptFate → Type 0) (u v : View) (o : Opened) (t : Totals)
-    → Tells (loop.setup_of p place dress names i.rate given) stood kept u v o t → Tells (setup_of i seed) stood kept u v o t
-told_of i p place dress names given seed b stood kept u v o t h =
-    let P : Setup → Type 0 = λ x. Tells x stood kept u v o t in subst P (setup_is i p place dress names given seed b) h
-
-pub decided_of : (i : Interface) (p : Policy) (place : List ℕ → Placed) (dress : Dressing) (names : NameList) (given seed : ℕ)
-    → IsBuilt i p place dress names given seed → (kept : List KeptFate → Type 0) (t : Totals)
-    → HasDecided (loop.setup_of p place dress names i.rate given) kept t → HasDecided (setup_of i seed) kept t
-decided_of i p place dress names given seed b kept t h =
-    let P : Setup → Type 0 = λ x. HasDecided x kept t in subst P (setup_is i p place dress names given seed b) h
-
-pub explains_of : (i : Interface) (p : Policy) (place : List ℕ → Placed) (dress : Dressing) (names : NameList) (given seed : ℕ)
-    → IsBuilt i p place dress names given seed → (stood : List Happened → Type 0) (u v : View) (o : Opened) (f : PlayFault)
-    → Explains (loop.setup_of p place dress names i.rate given) stood u v o f → Explains (setup_of i seed) Untold u v o f
-explains_of i p place dress names given seed b stood u v o f h =
-    let P : Setup → Type 0 = λ x. Explains x stood u v o f in
-    explains_untold (setup_of i seed) stood u v o f (subst P (setup_is i p place dress names given seed b) h)
-
-pub fronts_built : (i : Interface) (p : Policy) (place : List ℕ → Placed) (dress : Dressing) (names : NameList) (given seed : ℕ)
-    → IsBuilt i p place dress names given seed → (u v : View) (o : Opened)
-    → Fronts (loop.setup_of p place dress names i.rate given) u v o → Fronts (setup_of i seed) u v o
-fronts_built i p place dress names given seed b u v o h =
-    let P : Setup → Type 0 = λ x. Fronts x u v o in subst P (setup_is i p place dress names given seed b) h
-
-pub stats_of : (i : Interface) (p : Policy) (place : List ℕ → Placed) (dress : Dressing) (names : NameList) (given seed : ℕ)
-    → IsBuilt i p place dress names given seed → (u v : View) (o : Opened) (f : PlayFault)
-    → LeavesStats (loop.setup_of p place dress names i.rate given) u v o f → LeavesStats (setup_of i seed) u v o f
-stats_of i p place dress names given seed b u v o f h =
-    let P : Setup → Type 0 = λ x. LeavesStats x u v o f in subst P (setup_is i p place dress names given seed b) h
+-- what the loop says of what was built came of the play of the interface
+pub came_built : (x y : Setup) (stands : List Happened → Type 0) (kept : List KeptFate → Type 0) (u v : View) (o : Opened) (r : Result Totals PlayFault) → x ≡ y
+    → IfOk r (Tells x stands kept u v o) → IfOk r (HasDecided x kept) → IfErr r (Explains x stands u v o) → OnErr r (Fronts x u v o) → IfErr r (LeavesStats x u v o)
+    → CameOf y stands kept o r u v
+came_built x y stands kept u v o (Ok totals) e told decided why front stats =
+    subst (λ (z : Setup). CameOf z stands kept o (Ok totals) u v) e (told, decided)
+came_built x y stands kept u v o (Err fault) e told decided why front stats =
+    subst (λ (z : Setup). CameOf z stands kept o (Err fault) u v) e (explains_untold x stands u v o fault why, front, stats)

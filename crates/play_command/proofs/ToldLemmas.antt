@@ -23,18 +23,18 @@ use Rattle.command_base.specs.declared.fault.ConfigFault.{ConfigFault}
 use Rattle.command_base.specs.declared.parts.RunLimit.TheVariants as run
 use Rattle.command_base.proofs.ConfLemmas.{config_not, is_memory, long_not, no_bytes, refused_not, told_long, told_place, same_some}
 use Rattle.play_command.specs.Ending.{IsUnread, PlayFails, PlayIsTold}
-use Rattle.play_command.specs.Failing.{play_failure, unplayed_failure}
+use Rattle.play_files.specs.Failing.{play_failure, unplayed_failure}
 use Rattle.play_command.specs.Played.{Accepted, EndsLate, EndsWith, HasPlayed, IsPlayable, IsLimited, IsNoCapture}
 use Rattle.play_command.proofs.EndLemmas.{damaged_not, end_fault, end_limit, fault_end, fault_same, late_not_ended, late_not_played, limit_end, limit_fault, limited_not, offered_not_late, one_end}
-use Rattle.play_command.proofs.Laws.{HaveLaws}
+use Rattle.play_command.specs.Laws.{HaveLaws}
 use Rattle.arrivals_front.specs.Given as arrivals
 use Rattle.arrivals_front.proofs.ReadLaws.{fault_not_read, limit_not_read, no_limit_at, one_fault}
 use Rattle.pcapng_files.specs.Converted.{IsCause}
 use Rattle.pcapng_files.specs.declared.fault.NgFault.{NgFault}
 use Rattle.pcapng_files.specs.declared.fault.NgFault.TheVariants as ng
 use Rattle.pcapng_model.specs.declared.fault.NgPlace.{NgPlace}
-use Rattle.play_command.specs.declared.failing.Unplayed.{Unplayed}
-use Rattle.play_command.specs.declared.failing.Unplayed.TheVariants.{Pcapng, Play}
+use Rattle.play_files.specs.declared.failing.Unplayed.{Unplayed}
+use Rattle.play_files.specs.declared.failing.Unplayed.TheVariants.{Pcapng, Play}
 
 -- what is accepted can be read and written, where no count of faults rose
 cannot_not : (u v : View) (n : Names) → IsQuiet u v → Accepted u n → CannotRead u v 2 n.arrivals → ⊥

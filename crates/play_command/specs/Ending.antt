@@ -21,7 +21,7 @@ use Rattle.command_base.specs.declared.parts.RunLimit.{RunLimit}
 use Rattle.command_base.specs.declared.parts.RunLimit.TheVariants as limit
 use Rattle.command_base.specs.declared.parts.WrittenPart.{WrittenPart}
 use Rattle.command_base.specs.declared.parts.WrittenPart.TheVariants as written
-use Rattle.play_command.specs.Opening.{IsNamed, KeepsOthers}
+use Rattle.play_files.specs.Opening.{IsNamed, KeepsOthers}
 use Rattle.play_command.specs.Order.{IsInOrder, KeepUncreated}
 use Rattle.play_command.specs.Played.{EndsLate, EndsWith, Fronts, HasPlayed, HasWholeTexts, IsCutShort, IsDamaged, IsLate, IsLimited, IsPlayable, IsNoCapture}
 use Rattle.command_base.specs.Parts as parts

@@ -4,28 +4,26 @@ ghost use Rattle.arrivals_front.specs.Given.{is_pcapng};
 ghost use Rattle.command_base.specs.Configuration.{Accepts, IsConfigured};
 ghost use Rattle.command_base.specs.Names.{names_read};
 ghost use Rattle.interface_marks.specs.Conditioners.{is_conditioned};
-ghost use Rattle.play_base.specs.View.{SameCounts, View};
+ghost use Rattle.play_base.specs.View.{View};
+ghost use Rattle.play_command.specs.Discipline.{AreNew};
 ghost use Rattle.play_command.specs.Ending.{PlayEnds};
-ghost use Rattle.play_command.specs.Failing.{play_failure, unplayed_failure};
-ghost use Rattle.play_command.specs.Found.{IsBehind, PlaysBy, PlaysTo};
-ghost use Rattle.play_command.specs.Opening.{IsOpened};
+ghost use Rattle.play_command.specs.Found.{HasEnded, IsBehind, PlaysBy, PlaysTo};
+ghost use Rattle.play_files.specs.Failing.{unplayed_failure};
+ghost use Rattle.play_files.specs.Opening.{IsOpened};
 ghost use Rattle.play_words.specs.Words.{AreDistinct};
 ghost use Rattle.std.specs.Prelude.{Err, IfErr, IfOk, IsTrue, List, None, Some, [], false, length, true, ℕ, ◌≡◌, ◌≤◌};
 ghost use Rattle.discipline.specs.Laws.{HasRate};
 ghost use Rattle.interface_policy.specs.Policy.{policy_of};
 
-use crate::failing::Unplayed;
+use crate::cited_laws::laws_hold;
 use crate::interface::play_by;
-use crate::opening::{Arrivals, create_outputs, open_arrivals, open_classic};
 use crate::shown::shown_by;
 use arrivals_front::Given;
-use conf_laws::configurations_fit;
 use conf_tree::Interface;
 use discipline::Discipline;
-use frame_classes::frames_have_classes;
 use interface_marks::{is_conditioned, nothing_is_marked_without_conditioners};
-use interface_policy::interfaces_keep_their_promises;
 use play_base::Files;
+use play_files::{Arrivals, Unplayed, create_outputs, open_arrivals, open_classic};
 use play_loop::{Keeper, PlayFault, Totals};
 use play_words::PlayWords;
 use std::alloc::Global;
@@ -43,7 +41,6 @@ fn stands_as_given(given: &Given, found: &Interface) -> bool
 }
 
 // Creates the outputs, and plays a classic capture that was opened, as it stands, by a discipline: the interface has no conditioner.
-#[tactic(auto, using(play_base::proofs::ViewLaws::same_trans, play_base::proofs::ViewLaws::same_refl))]
 fn itself_by<D: Discipline, K: Keeper, F: Files>(
     alloc: Global,
     files: &mut F,
@@ -53,45 +50,28 @@ fn itself_by<D: Discipline, K: Keeper, F: Files>(
     discipline: &mut D,
     keeper: &mut K,
 ) -> Result<Totals, PlayFault>
-    requires new { D.stands discipline.old [] }
-    requires begun { K.told keeper.old [] }
-    requires policy { D.policy discipline.old ≡ policy_of found.now }
-    requires rate { HasRate (D.link_rate discipline.old) found.now.rate }
-    requires configured { IsConfigured found.now }
+    requires new { AreNew (D.stands discipline.old) (D.policy discipline.old) (D.link_rate discipline.old) (K.told keeper.old) found.now }
     requires distinct { AreDistinct words.now.config.now words.now.arrivals.now words.now.departures.now words.now.fates.now words.now.stats.now }
     requires opened { (a : View) × IsOpened a (F.view files.old) words.now.arrivals.now arrivals.now.file }
     requires classic { arrivals.now.given.rest ≡ true }
     requires plain { is_conditioned found.now ≡ false }
     requires few { length arrivals.now.given.front.items ≤ 24 }
-    ensures done { IfOk result (λ totals. (a : View) → IsBehind a (F.view files.old) (names_read words.now) found.now arrivals.now
-        → SameCounts a (F.view files.old) → PlaysTo a (F.view files.new) (names_read words.now) words.now.seed totals) }
-    ensures ends { IfErr result (λ fault. (a : View) → IsBehind a (F.view files.old) (names_read words.now) found.now arrivals.now
-        → PlayEnds a (F.view files.new) (names_read words.now) words.now.seed (Err (play_failure fault))) }
-    ensures told { IfOk result (λ totals. (a : View) → IsBehind a (F.view files.old) (names_read words.now) found.now arrivals.now
-        → PlaysBy (D.stands discipline.new) (K.told keeper.new) a (F.view files.new) (names_read words.now) words.now.seed found.now totals) }
+    ensures ended { (a : View) → IsBehind a (F.view files.old) (names_read words.now) found.now arrivals.now
+        → HasEnded (D.stands discipline.new) (K.told keeper.new) a (F.view files.new) (names_read words.now) words.now.seed found.now result }
     ensures before { K.before keeper.new ≡ K.before keeper.old }
-    ensures silent { (a : View) → IsBehind a (F.view files.old) (names_read words.now) found.now arrivals.now → (F.view files.new).said ≡ a.said }
-    ensures high { (a : View) → IsBehind a (F.view files.old) (names_read words.now) found.now arrivals.now
-        → (f p : ℕ) → a.part f ≡ None → (F.view files.new).part f ≡ Some p → 2 ≤ p }
 {
-    configurations_fit();
-    frames_have_classes();
-    interfaces_keep_their_promises();
+    laws_hold();
     nothing_is_marked_without_conditioners();
     let front = arrivals.given.front.as_slice();
     let opened = match create_outputs(files, words, arrivals.file, front) {
         Ok(opened) => opened,
         Err(fault) => return Err(fault),
     };
-    match play_by(alloc, files, found, discipline, keeper, words.seed, &opened) {
-        Ok(totals) => Ok(totals),
-        Err(fault) => Err(fault),
-    }
+    play_by(alloc, files, found, discipline, keeper, words.seed, &opened)
 }
 
 // Creates the outputs, and plays what an interface makes of arrivals that were opened, by a discipline: of a pcapng file, or by its
 // conditioners.
-#[tactic(auto, using(play_base::proofs::ViewLaws::same_trans, play_base::proofs::ViewLaws::same_refl))]
 fn made_by<D: Discipline, K: Keeper, F: Files>(
     alloc: Global,
     files: &mut F,
@@ -101,35 +81,22 @@ fn made_by<D: Discipline, K: Keeper, F: Files>(
     discipline: &mut D,
     keeper: &mut K,
 ) -> Result<Totals, PlayFault>
-    requires new { D.stands discipline.old [] }
-    requires begun { K.told keeper.old [] }
-    requires policy { D.policy discipline.old ≡ policy_of found.now }
-    requires rate { HasRate (D.link_rate discipline.old) found.now.rate }
-    requires configured { IsConfigured found.now }
+    requires new { AreNew (D.stands discipline.old) (D.policy discipline.old) (D.link_rate discipline.old) (K.told keeper.old) found.now }
     requires distinct { AreDistinct words.now.config.now words.now.arrivals.now words.now.departures.now words.now.fates.now words.now.stats.now }
     requires opened { (a : View) × IsOpened a (F.view files.old) words.now.arrivals.now arrivals.now.file }
     requires marked { arrivals.now.given.rest ≡ true → is_conditioned found.now ≡ true }
     requires few { arrivals.now.given.rest ≡ true → length arrivals.now.given.front.items ≤ 24 }
-    ensures done { IfOk result (λ totals. (a : View) → IsBehind a (F.view files.old) (names_read words.now) found.now arrivals.now
-        → SameCounts a (F.view files.old) → PlaysTo a (F.view files.new) (names_read words.now) words.now.seed totals) }
-    ensures ends { IfErr result (λ fault. (a : View) → IsBehind a (F.view files.old) (names_read words.now) found.now arrivals.now
-        → PlayEnds a (F.view files.new) (names_read words.now) words.now.seed (Err (play_failure fault))) }
-    ensures told { IfOk result (λ totals. (a : View) → IsBehind a (F.view files.old) (names_read words.now) found.now arrivals.now
-        → PlaysBy (D.stands discipline.new) (K.told keeper.new) a (F.view files.new) (names_read words.now) words.now.seed found.now totals) }
+    ensures ended { (a : View) → IsBehind a (F.view files.old) (names_read words.now) found.now arrivals.now
+        → HasEnded (D.stands discipline.new) (K.told keeper.new) a (F.view files.new) (names_read words.now) words.now.seed found.now result }
     ensures before { K.before keeper.new ≡ K.before keeper.old }
-    ensures silent { (a : View) → IsBehind a (F.view files.old) (names_read words.now) found.now arrivals.now → (F.view files.new).said ≡ a.said }
-    ensures high { (a : View) → IsBehind a (F.view files.old) (names_read words.now) found.now arrivals.now
-        → (f p : ℕ) → a.part f ≡ None → (F.view files.new).part f ≡ Some p → 2 ≤ p }
 {
-    configurations_fit();
-    frames_have_classes();
-    interfaces_keep_their_promises();
+    laws_hold();
     let none: [u8; 0] = [];
     let opened = match create_outputs(files, words, arrivals.file, &none) {
         Ok(opened) => opened,
         Err(fault) => return Err(fault),
     };
-    match shown_by(
+    shown_by(
         alloc,
         files,
         found,
@@ -138,14 +105,10 @@ fn made_by<D: Discipline, K: Keeper, F: Files>(
         discipline,
         keeper,
         &arrivals.given,
-    ) {
-        Ok(totals) => Ok(totals),
-        Err(fault) => Err(fault),
-    }
+    )
 }
 
 // Creates the outputs, and plays arrivals that were opened, by a discipline.
-#[tactic(auto, using(play_base::proofs::ViewLaws::same_trans, play_base::proofs::ViewLaws::same_refl))]
 fn opened_by<D: Discipline, K: Keeper, F: Files>(
     alloc: Global,
     files: &mut F,
@@ -155,24 +118,13 @@ fn opened_by<D: Discipline, K: Keeper, F: Files>(
     discipline: &mut D,
     keeper: &mut K,
 ) -> Result<Totals, PlayFault>
-    requires new { D.stands discipline.old [] }
-    requires begun { K.told keeper.old [] }
-    requires policy { D.policy discipline.old ≡ policy_of found.now }
-    requires rate { HasRate (D.link_rate discipline.old) found.now.rate }
-    requires configured { IsConfigured found.now }
+    requires new { AreNew (D.stands discipline.old) (D.policy discipline.old) (D.link_rate discipline.old) (K.told keeper.old) found.now }
     requires distinct { AreDistinct words.now.config.now words.now.arrivals.now words.now.departures.now words.now.fates.now words.now.stats.now }
     requires opened { (a : View) × IsOpened a (F.view files.old) words.now.arrivals.now arrivals.now.file }
     requires few { arrivals.now.given.rest ≡ true → length arrivals.now.given.front.items ≤ 24 }
-    ensures done { IfOk result (λ totals. (a : View) → IsBehind a (F.view files.old) (names_read words.now) found.now arrivals.now
-        → SameCounts a (F.view files.old) → PlaysTo a (F.view files.new) (names_read words.now) words.now.seed totals) }
-    ensures ends { IfErr result (λ fault. (a : View) → IsBehind a (F.view files.old) (names_read words.now) found.now arrivals.now
-        → PlayEnds a (F.view files.new) (names_read words.now) words.now.seed (Err (play_failure fault))) }
-    ensures told { IfOk result (λ totals. (a : View) → IsBehind a (F.view files.old) (names_read words.now) found.now arrivals.now
-        → PlaysBy (D.stands discipline.new) (K.told keeper.new) a (F.view files.new) (names_read words.now) words.now.seed found.now totals) }
+    ensures ended { (a : View) → IsBehind a (F.view files.old) (names_read words.now) found.now arrivals.now
+        → HasEnded (D.stands discipline.new) (K.told keeper.new) a (F.view files.new) (names_read words.now) words.now.seed found.now result }
     ensures before { K.before keeper.new ≡ K.before keeper.old }
-    ensures silent { (a : View) → IsBehind a (F.view files.old) (names_read words.now) found.now arrivals.now → (F.view files.new).said ≡ a.said }
-    ensures high { (a : View) → IsBehind a (F.view files.old) (names_read words.now) found.now arrivals.now
-        → (f p : ℕ) → a.part f ≡ None → (F.view files.new).part f ≡ Some p → 2 ≤ p }
 {
     if stands_as_given(&arrivals.given, found) {
         return itself_by(alloc, files, found, words, arrivals, discipline, keeper);
@@ -208,9 +160,7 @@ pub fn play_found_by<D: Discipline, K: Keeper, F: Files>(
     ensures silent { (F.view files.new).said ≡ (F.view files.old).said }
     ensures high { (f p : ℕ) → (F.view files.old).part f ≡ None → (F.view files.new).part f ≡ Some p → 2 ≤ p }
 {
-    configurations_fit();
-    frames_have_classes();
-    interfaces_keep_their_promises();
+    laws_hold();
     let arrivals = match open_arrivals(alloc, files, words.arrivals) {
         Ok(arrivals) => arrivals,
         Err(fault) => return Err(fault),
@@ -221,10 +171,9 @@ pub fn play_found_by<D: Discipline, K: Keeper, F: Files>(
     }
 }
 
-/// Does what `play_found_by` does with arrivals that are a classic capture, whatever they begin with: nothing is taken of them before
-/// the outputs are created. No fault is that of a pcapng file.
-#[tactic(auto, using(play_base::proofs::ViewLaws::same_trans, play_base::proofs::ViewLaws::same_refl))]
-pub fn play_classic_by<D: Discipline, K: Keeper, F: Files>(
+// Does what `play_found_by` does with arrivals that are a classic capture, whatever they begin with: nothing is taken of them before the
+// outputs are created. No fault is that of a pcapng file.
+pub(crate) fn play_classic_by<D: Discipline, K: Keeper, F: Files>(
     alloc: Global,
     files: &mut F,
     found: &Interface,
@@ -232,33 +181,19 @@ pub fn play_classic_by<D: Discipline, K: Keeper, F: Files>(
     discipline: &mut D,
     keeper: &mut K,
 ) -> Result<Totals, PlayFault>
-    requires new { D.stands discipline.old [] }
-    requires begun { K.told keeper.old [] }
-    requires policy { D.policy discipline.old ≡ policy_of found.now }
-    requires rate { HasRate (D.link_rate discipline.old) found.now.rate }
-    requires configured { IsConfigured found.now }
+    requires new { AreNew (D.stands discipline.old) (D.policy discipline.old) (D.link_rate discipline.old) (K.told keeper.old) found.now }
     requires accepted { Accepts (F.view files.old) words.now.config.now words.now.interface.now found.now }
     requires classic { IsTrue (F.view files.old).tells → (given : List ℕ) → (F.view files.old).bytes words.now.arrivals.now ≡ Some given
         → is_pcapng given ≡ false }
     requires distinct { AreDistinct words.now.config.now words.now.arrivals.now words.now.departures.now words.now.fates.now words.now.stats.now }
-    ensures done { IfOk result (PlaysTo (F.view files.old) (F.view files.new) (names_read words.now) words.now.seed) }
-    ensures ends { IfErr result (λ fault. PlayEnds (F.view files.old) (F.view files.new) (names_read words.now) words.now.seed
-        (Err (play_failure fault))) }
-    ensures told { IfOk result (PlaysBy (D.stands discipline.new) (K.told keeper.new) (F.view files.old) (F.view files.new)
-        (names_read words.now) words.now.seed found.now) }
+    ensures ended { HasEnded (D.stands discipline.new) (K.told keeper.new) (F.view files.old) (F.view files.new) (names_read words.now) words.now.seed
+        found.now result }
     ensures before { K.before keeper.new ≡ K.before keeper.old }
-    ensures silent { (F.view files.new).said ≡ (F.view files.old).said }
-    ensures high { (f p : ℕ) → (F.view files.old).part f ≡ None → (F.view files.new).part f ≡ Some p → 2 ≤ p }
 {
-    configurations_fit();
-    frames_have_classes();
-    interfaces_keep_their_promises();
+    laws_hold();
     let arrivals = match open_classic(alloc, files, words.arrivals) {
         Ok(arrivals) => arrivals,
         Err(fault) => return Err(fault),
     };
-    match opened_by(alloc, files, found, words, &arrivals, discipline, keeper) {
-        Ok(totals) => Ok(totals),
-        Err(fault) => Err(fault),
-    }
+    opened_by(alloc, files, found, words, &arrivals, discipline, keeper)
 }

@@ -1,19 +1,19 @@
 // The play of an interface by the discipline of its kind.
-ghost use Rattle.std.specs.Prelude.{◌≡◌, ◌≤◌, ℕ, [], None, Some, Err, IfErr, IfOk};
+ghost use Rattle.std.specs.Prelude.{◌≡◌, ◌≤◌, ℕ, [], false, List, None, Some, Err, IfErr, IfOk, IsTrue};
+ghost use Rattle.arrivals_front.specs.Given.{is_pcapng};
 ghost use Rattle.play_words.specs.Words.{AreDistinct};
 ghost use Rattle.command_base.specs.Names.{names_read};
 ghost use Rattle.command_base.specs.Configuration.{Accepts, IsConfigured};
 ghost use Rattle.play_command.specs.Ending.{PlayEnds};
-ghost use Rattle.play_command.specs.Failing.{unplayed_failure};
+ghost use Rattle.play_files.specs.Failing.{play_failure, unplayed_failure};
 ghost use Rattle.play_command.specs.Found.{PlaysTo, TellsOf};
 
-use crate::failing::Unplayed;
-use crate::found::play_found_by;
-use conf_laws::configurations_fit;
+use crate::cited_laws::laws_hold;
+use crate::found::{play_classic_by, play_found_by};
 use conf_tree::{Interface, Kind};
-use frame_classes::frames_have_classes;
-use interface_policy::{cbq_of, hfsc_of, interfaces_keep_their_promises};
+use interface_policy::{cbq_of, hfsc_of};
 use play_base::{Files, NoMemory};
+use play_files::Unplayed;
 use play_loop::{Keeper, KeepsNothing, PlayFault, Totals};
 use play_words::PlayWords;
 use std::alloc::Global;
@@ -39,9 +39,7 @@ pub fn play_found_told<K: Keeper, F: Files>(
     ensures silent { (F.view files.new).said ≡ (F.view files.old).said }
     ensures high { (f p : ℕ) → (F.view files.old).part f ≡ None → (F.view files.new).part f ≡ Some p → 2 ≤ p }
 {
-    configurations_fit();
-    frames_have_classes();
-    interfaces_keep_their_promises();
+    laws_hold();
     match found.kind {
         Kind::Hfsc => match hfsc_of(alloc, found) {
             Ok(mut hfsc) => play_found_by(alloc, files, found, words, &mut hfsc, keeper),
@@ -72,4 +70,40 @@ pub fn play_found<F: Files>(
     ensures high { (f p : ℕ) → (F.view files.old).part f ≡ None → (F.view files.new).part f ≡ Some p → 2 ≤ p }
 {
     play_found_told(alloc, files, found, words, &mut KeepsNothing)
+}
+
+/// Does what `play_found_told` does with arrivals that are a classic capture, whatever they begin with: nothing is taken of them before
+/// the outputs are created, and no fault is that of a pcapng file. What a play wrote is read so.
+pub fn play_classic_told<K: Keeper, F: Files>(
+    alloc: Global,
+    files: &mut F,
+    found: &Interface,
+    words: &PlayWords<'_>,
+    keeper: &mut K,
+) -> Result<Totals, PlayFault>
+    requires begun { K.told keeper.old [] }
+    requires configured { IsConfigured found.now }
+    requires accepted { Accepts (F.view files.old) words.now.config.now words.now.interface.now found.now }
+    requires classic { IsTrue (F.view files.old).tells → (given : List ℕ) → (F.view files.old).bytes words.now.arrivals.now ≡ Some given
+        → is_pcapng given ≡ false }
+    requires distinct { AreDistinct words.now.config.now words.now.arrivals.now words.now.departures.now words.now.fates.now words.now.stats.now }
+    ensures done { IfOk result (PlaysTo (F.view files.old) (F.view files.new) (names_read words.now) words.now.seed) }
+    ensures ends { IfErr result (λ fault. PlayEnds (F.view files.old) (F.view files.new) (names_read words.now) words.now.seed
+        (Err (play_failure fault))) }
+    ensures told { IfOk result (TellsOf (K.told keeper.new) (F.view files.old) (F.view files.new) (names_read words.now) words.now.seed found.now) }
+    ensures before { K.before keeper.new ≡ K.before keeper.old }
+    ensures silent { (F.view files.new).said ≡ (F.view files.old).said }
+    ensures high { (f p : ℕ) → (F.view files.old).part f ≡ None → (F.view files.new).part f ≡ Some p → 2 ≤ p }
+{
+    laws_hold();
+    match found.kind {
+        Kind::Hfsc => match hfsc_of(alloc, found) {
+            Ok(mut hfsc) => play_classic_by(alloc, files, found, words, &mut hfsc, keeper),
+            Err(NoMemory) => Err(PlayFault::NoMemory),
+        },
+        Kind::Cbq => match cbq_of(alloc, found) {
+            Ok(mut cbq) => play_classic_by(alloc, files, found, words, &mut cbq, keeper),
+            Err(NoMemory) => Err(PlayFault::NoMemory),
+        },
+    }
 }

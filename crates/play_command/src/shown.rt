@@ -1,26 +1,19 @@
 // What an interface plays of the arrivals where these are not played as they stand: the capture of a pcapng file, and what its
 // conditioners make of a capture.
-ghost use Rattle.command_base.specs.Configuration.{IsConfigured};
-ghost use Rattle.discipline.specs.Laws.{HasRate};
-ghost use Rattle.interface_marks.specs.Conditioners.{Marks, is_conditioned, marked_in};
-ghost use Rattle.interface_policy.specs.Policy.{policy_of};
-ghost use Rattle.marked_files.specs.Taking.{holds};
-ghost use Rattle.play_base.specs.View.{NoneAppears, SameCounts};
-ghost use Rattle.play_command.specs.Converting.{CameOf, Through, marked_of, shown_of};
+ghost use Rattle.interface_marks.specs.Conditioners.{is_conditioned, marked_in};
+ghost use Rattle.play_command.specs.Converting.{Through, marked_of, shown_of};
+ghost use Rattle.play_command.specs.Discipline.{AreNew, CameOf, Stays};
 ghost use Rattle.play_command.specs.InterfaceSetup.{setup_of};
-ghost use Rattle.play_loop.specs.Kept.{KeepsPlayed};
 ghost use Rattle.play_loop.specs.Played.{AreReady};
-ghost use Rattle.play_loop.specs.Told.{HasDecided, Tells};
-ghost use Rattle.std.specs.Prelude.{IfOk, List, OnOk, Some, [], false, length, true, ℕ, ◌≡◌, ◌≤◌};
+ghost use Rattle.std.specs.Prelude.{Some, false, length, true, ◌≡◌, ◌≤◌};
 
+use crate::cited_laws::laws_hold;
 use crate::interface::play_by;
 use arrivals_front::Given;
-use conf_laws::configurations_fit;
 use conf_tree::Interface;
 use discipline::Discipline;
-use frame_classes::Classifier;
 use interface_marks::{is_conditioned, marker_of, nothing_is_marked_without_conditioners};
-use marked_files::{MarkedFiles, Marker};
+use marked_files::MarkedFiles;
 use pcapng_files::{Front, FrontFiles};
 use play_base::Files;
 use play_loop::{Keeper, Opened, PlayFault, Totals};
@@ -38,22 +31,12 @@ fn converted_by<D: Discipline, K: Keeper, F: Files>(
     keeper: &mut K,
     capture: &[u8],
 ) -> Result<Totals, PlayFault>
-    requires new { D.stands discipline.old [] }
-    requires begun { K.told keeper.old [] }
-    requires policy { D.policy discipline.old ≡ policy_of interface.now }
-    requires rate { HasRate (D.link_rate discipline.old) interface.now.rate }
-    requires configured { IsConfigured interface.now }
+    requires new { AreNew (D.stands discipline.old) (D.policy discipline.old) (D.link_rate discipline.old) (K.told keeper.old) interface.now }
     requires ready { AreReady (F.view files.old) opened.now }
-    ensures ends { Through (CameOf (setup_of interface.now seed) opened.now result)
+    ensures came { Through (CameOf (setup_of interface.now seed) (D.stands discipline.new) (K.told keeper.new) opened.now result)
         (F.view files.old) (F.view files.new) opened.now.arrivals (Some capture.now) false }
-    ensures told { Through (λ u w. IfOk result (Tells (setup_of interface.now seed) (D.stands discipline.new) (K.told keeper.new) u w opened.now))
-        (F.view files.old) (F.view files.new) opened.now.arrivals (Some capture.now) false }
-    ensures decided { IfOk result (HasDecided (setup_of interface.now seed) (K.told keeper.new)) }
+    ensures stays { Stays opened.now result (F.view files.old) (F.view files.new) }
     ensures before { K.before keeper.new ≡ K.before keeper.old }
-    ensures keeps { KeepsPlayed opened.now (F.view files.old) (F.view files.new) }
-    ensures none { NoneAppears (F.view files.old) (F.view files.new) }
-    ensures said { (F.view files.new).said ≡ (F.view files.old).said }
-    ensures no_fault { OnOk result (SameCounts (F.view files.old) (F.view files.new)) }
 {
     let mut fronted = FrontFiles {
         files,
@@ -74,7 +57,7 @@ fn converted_by<D: Discipline, K: Keeper, F: Files>(
     )
 }
 
-// Plays what a marker makes of what the arrivals have left, by a discipline.
+// Plays what an interface's conditioners make of these first bytes and of what the arrivals have left, by a discipline.
 #[tactic(auto, using(play_base::proofs::ViewLaws::same_trans, play_base::proofs::ViewLaws::same_refl))]
 fn marked_by<D: Discipline, K: Keeper, F: Files>(
     alloc: Global,
@@ -84,31 +67,24 @@ fn marked_by<D: Discipline, K: Keeper, F: Files>(
     opened: &Opened<'_>,
     discipline: &mut D,
     keeper: &mut K,
-    marker: &mut Marker<Classifier>,
+    first: &[u8],
 ) -> Result<Totals, PlayFault>
-    requires new { D.stands discipline.old [] }
-    requires begun { K.told keeper.old [] }
-    requires policy { D.policy discipline.old ≡ policy_of interface.now }
-    requires rate { HasRate (D.link_rate discipline.old) interface.now.rate }
-    requires configured { IsConfigured interface.now }
+    requires new { AreNew (D.stands discipline.old) (D.policy discipline.old) (D.link_rate discipline.old) (K.told keeper.old) interface.now }
     requires ready { AreReady (F.view files.old) opened.now }
-    requires room { holds marker.old ≤ 262160 }
-    ensures ends { (first : List ℕ) → Marks interface.now first marker.old → Through (CameOf (setup_of interface.now seed) opened.now result)
-        (F.view files.old) (F.view files.new) opened.now.arrivals (marked_of interface.now first (F.view files.old) opened.now.arrivals) true }
-    ensures told { (first : List ℕ) → Marks interface.now first marker.old
-        → Through (λ u w. IfOk result (Tells (setup_of interface.now seed) (D.stands discipline.new) (K.told keeper.new) u w opened.now))
-        (F.view files.old) (F.view files.new) opened.now.arrivals (marked_of interface.now first (F.view files.old) opened.now.arrivals) true }
-    ensures decided { IfOk result (HasDecided (setup_of interface.now seed) (K.told keeper.new)) }
+    requires few { length first.now ≤ 24 }
+    ensures came { Through (CameOf (setup_of interface.now seed) (D.stands discipline.new) (K.told keeper.new) opened.now result)
+        (F.view files.old) (F.view files.new) opened.now.arrivals (marked_of interface.now first.now (F.view files.old) opened.now.arrivals) true }
+    ensures stays { Stays opened.now result (F.view files.old) (F.view files.new) }
     ensures before { K.before keeper.new ≡ K.before keeper.old }
-    ensures keeps { KeepsPlayed opened.now (F.view files.old) (F.view files.new) }
-    ensures none { NoneAppears (F.view files.old) (F.view files.new) }
-    ensures said { (F.view files.new).said ≡ (F.view files.old).said }
-    ensures no_fault { OnOk result (SameCounts (F.view files.old) (F.view files.new)) }
 {
+    laws_hold();
+    let Ok(mut marker) = marker_of(alloc, interface, first) else {
+        return Err(PlayFault::NoMemory);
+    };
     let mut marked = MarkedFiles {
         files,
         file: opened.arrivals,
-        marker,
+        marker: &mut marker,
     };
     play_by(
         alloc,
@@ -121,7 +97,7 @@ fn marked_by<D: Discipline, K: Keeper, F: Files>(
     )
 }
 
-// Plays what a marker makes of a capture that is in memory, by a discipline.
+// Plays what an interface's conditioners make of a capture that is in memory, by a discipline.
 #[tactic(auto, using(play_base::proofs::ViewLaws::same_trans, play_base::proofs::ViewLaws::same_refl))]
 fn marked_converted_by<D: Discipline, K: Keeper, F: Files>(
     alloc: Global,
@@ -131,28 +107,16 @@ fn marked_converted_by<D: Discipline, K: Keeper, F: Files>(
     opened: &Opened<'_>,
     discipline: &mut D,
     keeper: &mut K,
-    marker: &mut Marker<Classifier>,
     capture: &[u8],
 ) -> Result<Totals, PlayFault>
-    requires new { D.stands discipline.old [] }
-    requires begun { K.told keeper.old [] }
-    requires policy { D.policy discipline.old ≡ policy_of interface.now }
-    requires rate { HasRate (D.link_rate discipline.old) interface.now.rate }
-    requires configured { IsConfigured interface.now }
+    requires new { AreNew (D.stands discipline.old) (D.policy discipline.old) (D.link_rate discipline.old) (K.told keeper.old) interface.now }
     requires ready { AreReady (F.view files.old) opened.now }
-    requires room { holds marker.old ≤ 262160 }
-    requires marks { Marks interface.now [] marker.old }
-    ensures ends { Through (CameOf (setup_of interface.now seed) opened.now result)
+    ensures came { Through (CameOf (setup_of interface.now seed) (D.stands discipline.new) (K.told keeper.new) opened.now result)
         (F.view files.old) (F.view files.new) opened.now.arrivals (Some (marked_in interface.now capture.now)) false }
-    ensures told { Through (λ u w. IfOk result (Tells (setup_of interface.now seed) (D.stands discipline.new) (K.told keeper.new) u w opened.now))
-        (F.view files.old) (F.view files.new) opened.now.arrivals (Some (marked_in interface.now capture.now)) false }
-    ensures decided { IfOk result (HasDecided (setup_of interface.now seed) (K.told keeper.new)) }
+    ensures stays { Stays opened.now result (F.view files.old) (F.view files.new) }
     ensures before { K.before keeper.new ≡ K.before keeper.old }
-    ensures keeps { KeepsPlayed opened.now (F.view files.old) (F.view files.new) }
-    ensures none { NoneAppears (F.view files.old) (F.view files.new) }
-    ensures said { (F.view files.new).said ≡ (F.view files.old).said }
-    ensures no_fault { OnOk result (SameCounts (F.view files.old) (F.view files.new)) }
 {
+    let none: [u8; 0] = [];
     let mut fronted = FrontFiles {
         files,
         file: opened.arrivals,
@@ -169,7 +133,7 @@ fn marked_converted_by<D: Discipline, K: Keeper, F: Files>(
         opened,
         discipline,
         keeper,
-        marker,
+        &none,
     )
 }
 
@@ -186,26 +150,15 @@ pub(crate) fn shown_by<D: Discipline, K: Keeper, F: Files>(
     keeper: &mut K,
     given: &Given,
 ) -> Result<Totals, PlayFault>
-    requires new { D.stands discipline.old [] }
-    requires begun { K.told keeper.old [] }
-    requires policy { D.policy discipline.old ≡ policy_of interface.now }
-    requires rate { HasRate (D.link_rate discipline.old) interface.now.rate }
-    requires configured { IsConfigured interface.now }
+    requires new { AreNew (D.stands discipline.old) (D.policy discipline.old) (D.link_rate discipline.old) (K.told keeper.old) interface.now }
     requires ready { AreReady (F.view files.old) opened.now }
     requires marked { given.now.rest ≡ true → is_conditioned interface.now ≡ true }
     requires few { given.now.rest ≡ true → length given.now.front.items ≤ 24 }
-    ensures ends { Through (CameOf (setup_of interface.now seed) opened.now result)
+    ensures came { Through (CameOf (setup_of interface.now seed) (D.stands discipline.new) (K.told keeper.new) opened.now result)
         (F.view files.old) (F.view files.new) opened.now.arrivals (shown_of interface.now given.now (F.view files.old) opened.now.arrivals) given.now.rest }
-    ensures told { Through (λ u w. IfOk result (Tells (setup_of interface.now seed) (D.stands discipline.new) (K.told keeper.new) u w opened.now))
-        (F.view files.old) (F.view files.new) opened.now.arrivals (shown_of interface.now given.now (F.view files.old) opened.now.arrivals) given.now.rest }
-    ensures decided { IfOk result (HasDecided (setup_of interface.now seed) (K.told keeper.new)) }
+    ensures stays { Stays opened.now result (F.view files.old) (F.view files.new) }
     ensures before { K.before keeper.new ≡ K.before keeper.old }
-    ensures keeps { KeepsPlayed opened.now (F.view files.old) (F.view files.new) }
-    ensures none { NoneAppears (F.view files.old) (F.view files.new) }
-    ensures said { (F.view files.new).said ≡ (F.view files.old).said }
-    ensures no_fault { OnOk result (SameCounts (F.view files.old) (F.view files.new)) }
 {
-    configurations_fit();
     nothing_is_marked_without_conditioners();
     let front = given.front.as_slice();
     if !is_conditioned(interface) {
@@ -214,33 +167,11 @@ pub(crate) fn shown_by<D: Discipline, K: Keeper, F: Files>(
         );
     }
     if given.rest {
-        let Ok(mut marker) = marker_of(alloc, interface, front) else {
-            return Err(PlayFault::NoMemory);
-        };
         return marked_by(
-            alloc,
-            files,
-            interface,
-            seed,
-            opened,
-            discipline,
-            keeper,
-            &mut marker,
+            alloc, files, interface, seed, opened, discipline, keeper, front,
         );
     }
-    let none: [u8; 0] = [];
-    let Ok(mut marker) = marker_of(alloc, interface, &none) else {
-        return Err(PlayFault::NoMemory);
-    };
     marked_converted_by(
-        alloc,
-        files,
-        interface,
-        seed,
-        opened,
-        discipline,
-        keeper,
-        &mut marker,
-        front,
+        alloc, files, interface, seed, opened, discipline, keeper, front,
     )
 }

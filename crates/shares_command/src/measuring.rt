@@ -10,7 +10,7 @@ ghost use Rattle.hfsc_policy.specs.Events.{hfsc_history};
 ghost use Rattle.interface_policy.specs.Policy.{policy_of};
 ghost use Rattle.play_base.specs.View.{Rose, Said, SameCounts, Unchanged, View};
 ghost use Rattle.play_command.specs.Ending.{PlayEnds};
-ghost use Rattle.play_command.specs.Failing.{unplayed_failure};
+ghost use Rattle.play_files.specs.Failing.{unplayed_failure};
 ghost use Rattle.play_words.specs.Words.{AreDistinct};
 ghost use Rattle.share_lines.specs.Lines.{gap_lines};
 ghost use Rattle.share_report.specs.Report.{gaps_after};

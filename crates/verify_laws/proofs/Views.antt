@@ -21,7 +21,8 @@ use Rattle.file_tests.specs.declared.Test.{Test}
 use Rattle.play_base.specs.View.{View, Rose}
 use Rattle.play_command.specs.Ending.{PlayComes, PlayEnds}
 use Rattle.play_command.specs.Played.{HasPlayed}
-use Rattle.play_command.proofs.Laws.{HaveLaws, is_held, is_interface, is_named}
+use Rattle.play_command.specs.Laws.{HaveLaws}
+use Rattle.play_command.proofs.Laws.{is_held, is_interface, is_named}
 use Rattle.play_laws.proofs.SizeLemmas.{reads_sized}
 use Rattle.play_words.specs.Words.{AreDistinct}
 use Rattle.verify_command.specs.Verifying.{AreRefuted, Inputs, IsVerified, VerifyComes, VerifyEnds}

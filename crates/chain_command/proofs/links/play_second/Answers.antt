@@ -3,7 +3,7 @@ use Rattle.std.proofs.Common.{Err, rules, subst}
 use Rattle.play_base.specs.View.{View}
 use Rattle.play_chain.specs.Tables.{HoldsSeconds}
 use Rattle.command_base.specs.Names.{names_read}
-use Rattle.play_command.specs.Failing.{play_failure}
+use Rattle.play_files.specs.Failing.{play_failure}
 use Rattle.chain_command.specs.Playing.{SecondEnds, SecondPlays}
 use Rattle.chain_command.proofs.LentLemmas.{accepts_seen, second_done, second_ended}
 use Rattle.chain_command.proofs.links.play_second.Goals as goal

@@ -1,67 +1,25 @@
 -- The arrivals cannot be opened, or they are played as a classic capture.
-use Rattle.std.proofs.Common.{[], refl}
+use Rattle.std.proofs.Common.{refl}
 use Rattle.command_base.specs.Names.{names_read}
-use Rattle.play_command.proofs.FoundLemmas.{found_unread, opened_behind}
-use Rattle.play_command.proofs.Laws.{have_laws}
-use Rattle.play_command.specs.declared.failing.Unplayed.TheVariants.{Play}
+use Rattle.play_command.proofs.FoundLemmas.{found_unread, opened_behind, unread_ended}
+use Rattle.play_files.specs.declared.failing.Unplayed.TheVariants.{Play}
 use Rattle.play_command.proofs.found.play_classic_by.Goals as goal
 
-pub returns-in-Err-clause-ends : goal.returns-in-Err-clause-ends
-returns-in-Err-clause-ends g c =
-    found_unread _ _ (names_read c.args.words.now) c.args.found.now c.args.words.now.seed (Play c.in-Err.fault)
-    (have_laws c.configurations_fit.ensures c.frames_have_classes.ensures.class c.interfaces_keep_their_promises.ensures.lawful
-    c.interfaces_keep_their_promises.ensures.held c.interfaces_keep_their_promises.ensures.named c.interfaces_keep_their_promises.ensures.promises)
-    c.requires.accepted c.requires.distinct c.in-Err.ensures.why (c.in-Err.ensures.far _ _ _)
-    (c.in-Err.ensures.named (names_read c.args.words.now) refl) c.in-Err.ensures.keeps
-
-pub returns-in-Err-clause-silent : goal.returns-in-Err-clause-silent
-returns-in-Err-clause-silent g c = (c.in-Err.ensures.far [] [] []).said
-
-pub returns-in-Err-clause-high : goal.returns-in-Err-clause-high
-returns-in-Err-clause-high g c = (c.in-Err.ensures.far [] [] []).not_config
+pub returns-in-Err-clause-ended : goal.returns-in-Err-clause-ended
+returns-in-Err-clause-ended g c =
+    let n = names_read c.args.words.now in
+    let y = c.in-Err.ensures in
+    unread_ended _ _ n c.args.found.now c.args.words.now.seed c.in-Err.fault _ _
+    (found_unread _ _ n c.args.found.now c.args.words.now.seed (Play c.in-Err.fault) c.laws_hold.ensures c.requires.accepted c.requires.distinct y.why
+    (y.far _ _ _) (y.named n refl) y.keeps)
+    (y.far _ _ _)
 
 -- the arrivals were opened behind the accepted configuration
 pub opened_by-requires-clause-opened : goal.opened_by-requires-clause-opened
 opened_by-requires-clause-opened g c = (g.F.Files.view c.args.files.now, c.in-Ok.ensures.opened)
 
-pub returns-in-Ok-opened_by-clause-done : goal.returns-in-Ok-opened_by-clause-done
-returns-in-Ok-opened_by-clause-done g c =
-    c.in-Ok-opened_by.ensures.done _
-    (opened_behind _ _ (names_read c.args.words.now) c.args.found.now c.in-Ok.arrivals c.requires.accepted c.in-Ok.ensures.opened
-    (λ t given at. c.in-Ok.ensures.given t given at (c.requires.classic t given at))) c.in-Ok.ensures.no_fault
-
-pub returns-in-Ok-opened_by-clause-told : goal.returns-in-Ok-opened_by-clause-told
-returns-in-Ok-opened_by-clause-told g c =
-    c.in-Ok-opened_by.ensures.told _
-    (opened_behind _ _ (names_read c.args.words.now) c.args.found.now c.in-Ok.arrivals c.requires.accepted c.in-Ok.ensures.opened
-    (λ t given at. c.in-Ok.ensures.given t given at (c.requires.classic t given at)))
-
-pub returns-in-Ok-opened_by-clause-silent : goal.returns-in-Ok-opened_by-clause-silent
-returns-in-Ok-opened_by-clause-silent g c =
-    c.in-Ok-opened_by.ensures.silent _
-    (opened_behind _ _ (names_read c.args.words.now) c.args.found.now c.in-Ok.arrivals c.requires.accepted c.in-Ok.ensures.opened
-    (λ t given at. c.in-Ok.ensures.given t given at (c.requires.classic t given at)))
-
-pub returns-in-Ok-opened_by-clause-high : goal.returns-in-Ok-opened_by-clause-high
-returns-in-Ok-opened_by-clause-high g c =
-    c.in-Ok-opened_by.ensures.high _
-    (opened_behind _ _ (names_read c.args.words.now) c.args.found.now c.in-Ok.arrivals c.requires.accepted c.in-Ok.ensures.opened
-    (λ t given at. c.in-Ok.ensures.given t given at (c.requires.classic t given at)))
-
-pub returns-clause-ends : goal.returns-clause-ends
-returns-clause-ends g c =
-    c.in-Err-opened_by.ensures.ends _
-    (opened_behind _ _ (names_read c.args.words.now) c.args.found.now c.in-Ok.arrivals c.requires.accepted c.in-Ok.ensures.opened
-    (λ t given at. c.in-Ok.ensures.given t given at (c.requires.classic t given at)))
-
-pub returns-clause-silent : goal.returns-clause-silent
-returns-clause-silent g c =
-    c.in-Err-opened_by.ensures.silent _
-    (opened_behind _ _ (names_read c.args.words.now) c.args.found.now c.in-Ok.arrivals c.requires.accepted c.in-Ok.ensures.opened
-    (λ t given at. c.in-Ok.ensures.given t given at (c.requires.classic t given at)))
-
-pub returns-clause-high : goal.returns-clause-high
-returns-clause-high g c =
-    c.in-Err-opened_by.ensures.high _
-    (opened_behind _ _ (names_read c.args.words.now) c.args.found.now c.in-Ok.arrivals c.requires.accepted c.in-Ok.ensures.opened
-    (λ t given at. c.in-Ok.ensures.given t given at (c.requires.classic t given at)))
+pub returns-clause-ended : goal.returns-clause-ended
+returns-clause-ended g c =
+    let y = c.in-Ok.ensures in
+    c.opened_by.ensures.ended _
+    (opened_behind _ _ _ _ _ c.requires.accepted y.opened (λ t given at. y.given t given at (c.requires.classic t given at)) y.no_fault)

@@ -2,16 +2,12 @@
 use Rattle.std.proofs.Common.{[], refl}
 use Rattle.command_base.specs.Names.{names_read}
 use Rattle.play_command.proofs.FoundLemmas.{found_unread, opened_behind}
-use Rattle.play_command.proofs.Laws.{have_laws}
 use Rattle.play_command.proofs.found.play_found_by.Goals as goal
 
 pub returns-in-Err-clause-ends : goal.returns-in-Err-clause-ends
 returns-in-Err-clause-ends g c =
-    found_unread _ _ (names_read c.args.words.now) c.args.found.now c.args.words.now.seed c.in-Err.fault
-    (have_laws c.configurations_fit.ensures c.frames_have_classes.ensures.class c.interfaces_keep_their_promises.ensures.lawful
-    c.interfaces_keep_their_promises.ensures.held c.interfaces_keep_their_promises.ensures.named c.interfaces_keep_their_promises.ensures.promises)
-    c.requires.accepted c.requires.distinct c.in-Err.ensures.why (c.in-Err.ensures.far _ _ _)
-    (c.in-Err.ensures.named (names_read c.args.words.now) refl) c.in-Err.ensures.keeps
+    found_unread _ _ (names_read c.args.words.now) c.args.found.now c.args.words.now.seed c.in-Err.fault c.laws_hold.ensures c.requires.accepted
+    c.requires.distinct c.in-Err.ensures.why (c.in-Err.ensures.far _ _ _) (c.in-Err.ensures.named (names_read c.args.words.now) refl) c.in-Err.ensures.keeps
 
 pub returns-in-Err-clause-silent : goal.returns-in-Err-clause-silent
 returns-in-Err-clause-silent g c = (c.in-Err.ensures.far [] [] []).said
@@ -25,42 +21,28 @@ opened_by-requires-clause-opened g c = (g.F.Files.view c.args.files.now, c.in-Ok
 
 pub returns-in-Ok-opened_by-clause-done : goal.returns-in-Ok-opened_by-clause-done
 returns-in-Ok-opened_by-clause-done g c =
-    c.in-Ok-opened_by.ensures.done _
-    (opened_behind _ _ (names_read c.args.words.now) c.args.found.now c.in-Ok.arrivals c.requires.accepted c.in-Ok.ensures.opened
-    c.in-Ok.ensures.given) c.in-Ok.ensures.no_fault
+    (c.in-Ok-opened_by.ensures.ended _ (opened_behind _ _ _ _ _ c.requires.accepted c.in-Ok.ensures.opened c.in-Ok.ensures.given c.in-Ok.ensures.no_fault)).done
 
 pub returns-in-Ok-opened_by-clause-told : goal.returns-in-Ok-opened_by-clause-told
 returns-in-Ok-opened_by-clause-told g c =
-    c.in-Ok-opened_by.ensures.told _
-    (opened_behind _ _ (names_read c.args.words.now) c.args.found.now c.in-Ok.arrivals c.requires.accepted c.in-Ok.ensures.opened
-    c.in-Ok.ensures.given)
+    (c.in-Ok-opened_by.ensures.ended _ (opened_behind _ _ _ _ _ c.requires.accepted c.in-Ok.ensures.opened c.in-Ok.ensures.given c.in-Ok.ensures.no_fault)).told
 
 pub returns-in-Ok-opened_by-clause-silent : goal.returns-in-Ok-opened_by-clause-silent
 returns-in-Ok-opened_by-clause-silent g c =
-    c.in-Ok-opened_by.ensures.silent _
-    (opened_behind _ _ (names_read c.args.words.now) c.args.found.now c.in-Ok.arrivals c.requires.accepted c.in-Ok.ensures.opened
-    c.in-Ok.ensures.given)
+    (c.in-Ok-opened_by.ensures.ended _ (opened_behind _ _ _ _ _ c.requires.accepted c.in-Ok.ensures.opened c.in-Ok.ensures.given c.in-Ok.ensures.no_fault)).silent
 
 pub returns-in-Ok-opened_by-clause-high : goal.returns-in-Ok-opened_by-clause-high
 returns-in-Ok-opened_by-clause-high g c =
-    c.in-Ok-opened_by.ensures.high _
-    (opened_behind _ _ (names_read c.args.words.now) c.args.found.now c.in-Ok.arrivals c.requires.accepted c.in-Ok.ensures.opened
-    c.in-Ok.ensures.given)
+    (c.in-Ok-opened_by.ensures.ended _ (opened_behind _ _ _ _ _ c.requires.accepted c.in-Ok.ensures.opened c.in-Ok.ensures.given c.in-Ok.ensures.no_fault)).high
 
 pub returns-clause-ends : goal.returns-clause-ends
 returns-clause-ends g c =
-    c.in-Err-opened_by.ensures.ends _
-    (opened_behind _ _ (names_read c.args.words.now) c.args.found.now c.in-Ok.arrivals c.requires.accepted c.in-Ok.ensures.opened
-    c.in-Ok.ensures.given)
+    (c.in-Err-opened_by.ensures.ended _ (opened_behind _ _ _ _ _ c.requires.accepted c.in-Ok.ensures.opened c.in-Ok.ensures.given c.in-Ok.ensures.no_fault)).ends
 
 pub returns-clause-silent : goal.returns-clause-silent
 returns-clause-silent g c =
-    c.in-Err-opened_by.ensures.silent _
-    (opened_behind _ _ (names_read c.args.words.now) c.args.found.now c.in-Ok.arrivals c.requires.accepted c.in-Ok.ensures.opened
-    c.in-Ok.ensures.given)
+    (c.in-Err-opened_by.ensures.ended _ (opened_behind _ _ _ _ _ c.requires.accepted c.in-Ok.ensures.opened c.in-Ok.ensures.given c.in-Ok.ensures.no_fault)).silent
 
 pub returns-clause-high : goal.returns-clause-high
 returns-clause-high g c =
-    c.in-Err-opened_by.ensures.high _
-    (opened_behind _ _ (names_read c.args.words.now) c.args.found.now c.in-Ok.arrivals c.requires.accepted c.in-Ok.ensures.opened
-    c.in-Ok.ensures.given)
+    (c.in-Err-opened_by.ensures.ended _ (opened_behind _ _ _ _ _ c.requires.accepted c.in-Ok.ensures.opened c.in-Ok.ensures.given c.in-Ok.ensures.no_fault)).high

@@ -2,25 +2,16 @@
 use Rattle.command_base.specs.Names.{names_read}
 use Rattle.command_base.proofs.ReadingLemmas.{fits}
 use Rattle.play_command.proofs.FoundLemmas.{found_unbuilt}
-use Rattle.play_command.proofs.Laws.{have_laws}
 use Rattle.play_command.proofs.kind.play_found_told.Goals as goal
 
 pub hfsc_of-requires-clause-fit : goal.hfsc_of-requires-clause-fit
-hfsc_of-requires-clause-fit g c = fits c.args.found.now c.configurations_fit.ensures c.requires.configured
+hfsc_of-requires-clause-fit g c = fits c.args.found.now c.laws_hold.ensures.fit c.requires.configured
 
 pub cbq_of-requires-clause-fit : goal.cbq_of-requires-clause-fit
-cbq_of-requires-clause-fit g c = fits c.args.found.now c.configurations_fit.ensures c.requires.configured
+cbq_of-requires-clause-fit g c = fits c.args.found.now c.laws_hold.ensures.fit c.requires.configured
 
 pub returns-in-Err-clause-ends : goal.returns-in-Err-clause-ends
-returns-in-Err-clause-ends g c =
-    found_unbuilt (g.F.Files.view c.args.files.now) (names_read c.args.words.now) c.args.found.now c.args.words.now.seed
-    (have_laws c.configurations_fit.ensures c.frames_have_classes.ensures.class c.interfaces_keep_their_promises.ensures.lawful
-    c.interfaces_keep_their_promises.ensures.held c.interfaces_keep_their_promises.ensures.named c.interfaces_keep_their_promises.ensures.promises)
-    c.requires.accepted c.requires.distinct
+returns-in-Err-clause-ends g c = found_unbuilt _ (names_read c.args.words.now) c.args.found.now c.args.words.now.seed c.laws_hold.ensures c.requires.accepted c.requires.distinct
 
 pub returns-in-Err-cbq_of-clause-ends : goal.returns-in-Err-cbq_of-clause-ends
-returns-in-Err-cbq_of-clause-ends g c =
-    found_unbuilt (g.F.Files.view c.args.files.now) (names_read c.args.words.now) c.args.found.now c.args.words.now.seed
-    (have_laws c.configurations_fit.ensures c.frames_have_classes.ensures.class c.interfaces_keep_their_promises.ensures.lawful
-    c.interfaces_keep_their_promises.ensures.held c.interfaces_keep_their_promises.ensures.named c.interfaces_keep_their_promises.ensures.promises)
-    c.requires.accepted c.requires.distinct
+returns-in-Err-cbq_of-clause-ends g c = found_unbuilt _ (names_read c.args.words.now) c.args.found.now c.args.words.now.seed c.laws_hold.ensures c.requires.accepted c.requires.distinct

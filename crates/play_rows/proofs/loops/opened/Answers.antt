@@ -1,7 +1,7 @@
 -- The outputs are ready, since the arrivals were opened before them.
 use Rattle.std.proofs.Common.{ℕ, List}
 use Rattle.play_base.specs.View.{View, Opened}
-use Rattle.play_command.specs.Opening.{IsOpened}
+use Rattle.play_files.specs.Opening.{IsOpened}
 use Rattle.play_rows.proofs.loops.opened.Goals as goal
 
 opened_is : (a b : View) (name : List ℕ) (file : ℕ) → Opened a b 2 name file → IsOpened a b name file

@@ -2,9 +2,9 @@
 use Rattle.std.proofs.Common.{ℕ, Err, ap, refl, arith}
 use Rattle.std.specs.Prelude.{Result}
 use Rattle.play_base.specs.declared.trouble.Trouble.{Trouble}
-use Rattle.play_command.proofs.OpeningLemmas.{cannot_read, classic_follows, classic_opened, far_none, far_opened, far_unchanged, unopened}
-use Rattle.play_command.proofs.NamedLemmas.{named_arrivals, named_less, named_none}
-use Rattle.play_command.proofs.opening.open_classic.Goals as goal
+use Rattle.play_files.proofs.OpeningLemmas.{cannot_read, classic_follows, classic_opened, far_none, far_opened, far_unchanged, unopened}
+use Rattle.play_files.proofs.NamedLemmas.{named_arrivals, named_less, named_none}
+use Rattle.play_files.proofs.opening.open_classic.Goals as goal
 
 pub returns-in-Ok-clause-opened : goal.returns-in-Ok-clause-opened
 returns-in-Ok-clause-opened g c = classic_opened _ _ c.args.name.now c.in-Ok.file c.in-Ok.ensures.opened

@@ -1,6 +1,6 @@
 // What a fault of a play ends the command as.
 ghost use Rattle.std.specs.Prelude.{◌≡◌};
-ghost use Rattle.play_command.specs.Failing.{given_fault, play_failure, run_limit, unplayed_failure, written_part};
+ghost use Rattle.play_files.specs.Failing.{given_fault, play_failure, run_limit, unplayed_failure, written_part};
 
 use arrivals_front::GivenFault;
 use command_base::{Failure, ReadPart, RunLimit, WrittenPart};

@@ -10,7 +10,7 @@ use Rattle.play_loop.specs.Outputs.{output_fault}
 use Rattle.command_base.specs.Faults.{Untouched}
 use Rattle.command_base.specs.Names.{Names}
 use Rattle.command_base.proofs.PartLemmas.{new_part, none_some, same_part, there_or_not, there_then}
-use Rattle.play_command.specs.Opening.{AreNamed, IsNamed, IsOpened}
+use Rattle.play_files.specs.Opening.{AreNamed, IsNamed, IsOpened}
 
 -- none yet
 pub named_none : (a : View) (n : Names) → AreNamed a a n 2

@@ -14,8 +14,8 @@ use Rattle.play_loop.specs.declared.fault.Output.{Output}
 use Rattle.play_loop.specs.declared.fault.Output.TheVariants as output
 use Rattle.play_loop.specs.declared.fault.PlayFault.{PlayFault}
 use Rattle.play_loop.specs.declared.fault.PlayFault.TheVariants as play
-use Rattle.play_command.specs.declared.failing.Unplayed.{Unplayed}
-use Rattle.play_command.specs.declared.failing.Unplayed.TheVariants.{Pcapng, Play}
+use Rattle.play_files.specs.declared.failing.Unplayed.{Unplayed}
+use Rattle.play_files.specs.declared.failing.Unplayed.TheVariants.{Pcapng, Play}
 
 abbrev pub written_part : Output → WrittenPart
 written_part output.Departures = written.Departures

@@ -1,6 +1,5 @@
 -- The files of a play: which are opened and created, and what stands where one of these fails.
 use Rattle.std.specs.Prelude.{◌≡◌, ◌≢◌, ◌≤◌, ◌<◌, ◌⊎◌, ℕ, List, [], None, Some, IsTrue, IsSome, true}
-use Rattle.altq_model.specs.History.{Happened}
 use Rattle.play_base.specs.View.{View, Keeps, Rose, Any, IsNew}
 use Rattle.play_loop.specs.declared.fault.Opened.{Opened}
 use Rattle.play_loop.specs.declared.fault.Output.{Output}
@@ -15,13 +14,9 @@ use Rattle.pcapng_files.specs.Converted.{IsCause}
 use Rattle.pcapng_files.specs.declared.fault.NgFault.{NgFault}
 use Rattle.pcapng_files.specs.declared.fault.NgFault.TheVariants as ng
 use Rattle.play_loop.specs.declared.fault.Limit.TheVariants as limit
-use Rattle.play_command.specs.declared.failing.Unplayed.{Unplayed}
-use Rattle.play_command.specs.declared.failing.Unplayed.TheVariants.{Pcapng, Play}
+use Rattle.play_files.specs.declared.failing.Unplayed.{Unplayed}
+use Rattle.play_files.specs.declared.failing.Unplayed.TheVariants.{Pcapng, Play}
 use Rattle.command_base.specs.Parts as parts
-
--- nothing is claimed of a history
-abbrev pub Untold : List Happened → Type 0
-Untold g = Unit {0}
 
 -- where the object tells: every name but the three
 abbrev pub OtherThree : View → (dep fat stats : List ℕ) → List ℕ → Type 0

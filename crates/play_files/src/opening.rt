@@ -4,7 +4,7 @@ ghost use Rattle.arrivals_front.specs.Given.{Follows, is_pcapng};
 ghost use Rattle.play_base.specs.View.{Any, Keeps, SameCounts, View};
 ghost use Rattle.play_words.specs.Words.{AreDistinct};
 ghost use Rattle.command_base.specs.Names.{Names, names_read};
-ghost use Rattle.play_command.specs.Opening.{AreNamed, AreOpened, ArrivalsCauses, IsOpened, LeavesOutStats, OpenedFar, OutputCauses};
+ghost use Rattle.play_files.specs.Opening.{AreNamed, AreOpened, ArrivalsCauses, IsOpened, LeavesOutStats, OpenedFar, OutputCauses};
 
 use crate::failing::{Unplayed, given_fault};
 use arrivals_front::{Given, given_arrivals};

@@ -9,7 +9,8 @@ use Rattle.play_base.specs.Holds.{HoldsAt}
 use Rattle.play_words.specs.Words.{AreDistinct}
 use Rattle.command_base.proofs.PartLemmas.{fresh_before, new_part, none_some, same_part, short_or_long, there_or_not}
 use Rattle.command_base.specs.Faults.{CannotRead, Untouched}
-use Rattle.play_command.specs.Opening.{AreOpened, HaveParts, KeepsOthers, OpenedFar, OtherThree, ArrivalsCauses, GivesNoCapture, IsOpened}
+use Rattle.command_base.specs.Names.{Names}
+use Rattle.play_files.specs.Opening.{AreOpened, HaveParts, KeepsOthers, OpenedFar, OtherThree, ArrivalsCauses, GivesNoCapture, IsOpened}
 use Rattle.arrivals_front.specs.Given.{Follows, IsRefused, ReadBy, is_pcapng}
 use Rattle.arrivals_front.specs.declared.given.Given.{Given}
 use Rattle.pcapng_files.specs.Fronts.{with_front}
@@ -20,7 +21,7 @@ use Rattle.pcapng_files.specs.declared.fault.NgFault.{NgFault}
 use Rattle.pcapng_files.specs.declared.fault.NgFault.TheVariants as ng
 use Rattle.play_loop.specs.declared.fault.Opened as loop
 use Rattle.command_base.proofs.ConfLemmas.{some_bytes}
-use Rattle.play_command.specs.Failing.{given_fault}
+use Rattle.play_files.specs.Failing.{given_fault}
 
 parts_none : (a : View) → HaveParts a a 2
 parts_none a = record {
@@ -219,26 +220,29 @@ far_stats a b c dep fat stats file ds fs h e x = record {
 }
 
 -- the arrivals, and then one output, two or three
-pub far_two : (a b c : View) (dep fat stats name : List ℕ) (f g : ℕ) → dep ≢ fat → dep ≢ stats → IsOpened a b name f → Created b c 3 dep g → OpenedFar a c dep fat stats
+pub far_two : (a b c : View) (n : Names) (f g : ℕ) → AreDistinct n.config n.arrivals n.departures n.fates n.stats → IsOpened a b n.arrivals f
+    → Created b c 3 n.departures g → OpenedFar a c n.departures n.fates n.stats
 unfolding far_opened
-far_two a b c dep fat stats name f g df ds x y = far_departures a b c dep fat stats g df ds (far_opened a b dep fat stats name f x) refl y
+far_two a b c n f g q x y =
+    far_departures a b c n.departures n.fates n.stats g q.departures_fates q.departures_stats (far_opened a b n.departures n.fates n.stats n.arrivals f x) refl y
 
-pub far_three : (a b c d : View) (dep fat stats name : List ℕ) (f g h : ℕ) → dep ≢ fat → dep ≢ stats → fat ≢ stats → IsOpened a b name f → Created b c 3 dep g
-    → Created c d 4 fat h → OpenedFar a d dep fat stats
+pub far_three : (a b c d : View) (n : Names) (f g h : ℕ) → AreDistinct n.config n.arrivals n.departures n.fates n.stats → IsOpened a b n.arrivals f
+    → Created b c 3 n.departures g → Created c d 4 n.fates h → OpenedFar a d n.departures n.fates n.stats
 unfolding far_two far_departures
-far_three a b c d dep fat stats name f g h df ds fs x y z =
-    far_fates a c d dep fat stats h df fs (far_two a b c dep fat stats name f g df ds x y) refl z
+far_three a b c d n f g h q x y z =
+    far_fates a c d n.departures n.fates n.stats h q.departures_fates q.fates_stats (far_two a b c n f g q x y) refl z
 
-pub far_four : (a b c d e : View) (dep fat stats name : List ℕ) (f g h k : ℕ) → dep ≢ fat → dep ≢ stats → fat ≢ stats → IsOpened a b name f → Created b c 3 dep g
-    → Created c d 4 fat h → Created d e 5 stats k → OpenedFar a e dep fat stats
+pub far_four : (a b c d e : View) (n : Names) (f g h k : ℕ) → AreDistinct n.config n.arrivals n.departures n.fates n.stats → IsOpened a b n.arrivals f
+    → Created b c 3 n.departures g → Created c d 4 n.fates h → Created d e 5 n.stats k → OpenedFar a e n.departures n.fates n.stats
 unfolding far_three far_fates
-far_four a b c d e dep fat stats name f g h k df ds fs x y z w =
-    far_stats a d e dep fat stats k ds fs (far_three a b c d dep fat stats name f g h df ds fs x y z) refl w
+far_four a b c d e n f g h k q x y z w =
+    far_stats a d e n.departures n.fates n.stats k q.departures_stats q.fates_stats (far_three a b c d n f g h q x y z) refl w
 
 -- all four
-pub are_opened : (a b c d e : View) (config arr dep fat stats : List ℕ) (o : loop.Opened) → length o.first.now ≤ 24 → AreDistinct config arr dep fat stats
-    → IsOpened a b arr o.arrivals → Created b c 3 dep o.departures → Created c d 4 fat o.fates → Created d e 5 stats o.stats → AreOpened a e arr dep fat stats o
-are_opened a b c d e config arr dep fat stats o few q x y z w =
+pub are_opened : (a b c d e : View) (n : Names) (o : loop.Opened) → length o.first.now ≤ 24 → AreDistinct n.config n.arrivals n.departures n.fates n.stats
+    → IsOpened a b n.arrivals o.arrivals → Created b c 3 n.departures o.departures → Created c d 4 n.fates o.fates → Created d e 5 n.stats o.stats
+    → AreOpened a e n.arrivals n.departures n.fates n.stats o
+are_opened a b c d e n o few q x y z w =
     let f : ℕ = o.arrivals in
     let g : ℕ = o.departures in
     let h : ℕ = o.fates in
@@ -252,30 +256,30 @@ are_opened a b c d e config arr dep fat stats o few q x y z w =
     let tc : IsTrue a.tells → IsTrue c.tells = λ t. y.keeps.tells ∙ x.keeps.tells ∙ t in
     let td : IsTrue a.tells → IsTrue d.tells = λ t. z.keeps.tells ∙ tc t in
     let back : IsTrue e.tells → IsTrue a.tells = λ t. sym (w.keeps.tells ∙ z.keeps.tells ∙ y.keeps.tells ∙ x.keeps.tells) ∙ t in
-    let nf : IsTrue a.tells → b.name f ≡ arr = λ t. x.is_new.name t in
-    let nfc : IsTrue a.tells → c.name f ≡ arr = λ t. y.keeps.name f 2 x.is_new.part ∙ nf t in
-    let nfd : IsTrue a.tells → d.name f ≡ arr = λ t. z.keeps.name f 2 fc ∙ nfc t in
-    let nfe : IsTrue a.tells → e.name f ≡ arr = λ t. w.keeps.name f 2 fd ∙ nfd t in
-    let ngd : IsTrue a.tells → d.name g ≡ dep = λ t. z.keeps.name g 3 y.is_new.part ∙ y.is_new.name (x.keeps.tells ∙ t) in
-    let nge : IsTrue a.tells → e.name g ≡ dep = λ t. w.keeps.name g 3 gd ∙ ngd t in
-    let nhe : IsTrue a.tells → e.name h ≡ fat = λ t. w.keeps.name h 4 z.is_new.part ∙ z.is_new.name (tc t) in
-    let nke : IsTrue a.tells → e.name k ≡ stats = λ t. w.is_new.name (td t) in
+    let nf : IsTrue a.tells → b.name f ≡ n.arrivals = λ t. x.is_new.name t in
+    let nfc : IsTrue a.tells → c.name f ≡ n.arrivals = λ t. y.keeps.name f 2 x.is_new.part ∙ nf t in
+    let nfd : IsTrue a.tells → d.name f ≡ n.arrivals = λ t. z.keeps.name f 2 fc ∙ nfc t in
+    let nfe : IsTrue a.tells → e.name f ≡ n.arrivals = λ t. w.keeps.name f 2 fd ∙ nfd t in
+    let ngd : IsTrue a.tells → d.name g ≡ n.departures = λ t. z.keeps.name g 3 y.is_new.part ∙ y.is_new.name (x.keeps.tells ∙ t) in
+    let nge : IsTrue a.tells → e.name g ≡ n.departures = λ t. w.keeps.name g 3 gd ∙ ngd t in
+    let nhe : IsTrue a.tells → e.name h ≡ n.fates = λ t. w.keeps.name h 4 z.is_new.part ∙ z.is_new.name (tc t) in
+    let nke : IsTrue a.tells → e.name k ≡ n.stats = λ t. w.is_new.name (td t) in
     let one : HoldsAt d g [] =
-    holds_beside_created c d 4 fat h g [] (holds_created b c 3 dep g y)
+    holds_beside_created c d 4 n.fates h g [] (holds_created b c 3 n.departures g y)
     (λ t s. q.departures_fates (sym (y.is_new.name (sym y.keeps.tells ∙ t)) ∙ s)) z in
     record {
       ready = record {
         arrivals = is_some_of (e.part f) 2 fe;
         few = few;
         empty = record {
-          departures = holds_beside_created d e 5 stats k g [] one (λ t s. q.departures_stats (sym (ngd (back (w.keeps.tells ∙ t))) ∙ s)) w;
-          fates = holds_beside_created d e 5 stats k h [] (holds_created c d 4 fat h z)
+          departures = holds_beside_created d e 5 n.stats k g [] one (λ t s. q.departures_stats (sym (ngd (back (w.keeps.tells ∙ t))) ∙ s)) w;
+          fates = holds_beside_created d e 5 n.stats k h [] (holds_created c d 4 n.fates h z)
               (λ t s. q.fates_stats (sym (z.is_new.name (sym z.keeps.tells ∙ t)) ∙ s)) w;
           apart = λ t s. q.departures_fates (sym (nge (back t)) ∙ s ∙ nhe (back t));
         };
         from_departures = λ t s. q.arrivals_departures (sym (nfe (back t)) ∙ s ∙ nge (back t));
         from_fates = λ t s. q.arrivals_fates (sym (nfe (back t)) ∙ s ∙ nhe (back t));
-        stats = holds_created d e 5 stats k w;
+        stats = holds_created d e 5 n.stats k w;
         departures_from_stats = λ t s. q.departures_stats (sym (nge (back t)) ∙ s ∙ nke (back t));
         fates_from_stats = λ t s. q.fates_stats (sym (nhe (back t)) ∙ s ∙ nke (back t));
       };
@@ -294,14 +298,14 @@ are_opened a b c d e config arr dep fat stats o few q x y z w =
     }
 
 -- the arrivals have left what they had
-pub arrivals_left : (a b c d e : View) (config arr dep fat stats : List ℕ) (f g h k : ℕ) → AreDistinct config arr dep fat stats → IsOpened a b arr f
-    → Created b c 3 dep g → Created c d 4 fat h → Created d e 5 stats k → IsTrue a.tells → e.left f ≡ b.left f
-arrivals_left a b c d e config arr dep fat stats f g h k q x y z w t =
+pub arrivals_left : (a b c d e : View) (n : Names) (f g h k : ℕ) → AreDistinct n.config n.arrivals n.departures n.fates n.stats → IsOpened a b n.arrivals f
+    → Created b c 3 n.departures g → Created c d 4 n.fates h → Created d e 5 n.stats k → IsTrue a.tells → e.left f ≡ b.left f
+arrivals_left a b c d e n f g h k q x y z w t =
     let fc : c.part f ≡ Some 2 = y.keeps.part f 2 x.is_new.part in
     let fd : d.part f ≡ Some 2 = z.keeps.part f 2 fc in
-    let nf : b.name f ≡ arr = x.is_new.name t in
-    let nfc : c.name f ≡ arr = y.keeps.name f 2 x.is_new.part ∙ nf in
-    let nfd : d.name f ≡ arr = z.keeps.name f 2 fc ∙ nfc in
+    let nf : b.name f ≡ n.arrivals = x.is_new.name t in
+    let nfc : c.name f ≡ n.arrivals = y.keeps.name f 2 x.is_new.part ∙ nf in
+    let nfd : d.name f ≡ n.arrivals = z.keeps.name f 2 fc ∙ nfc in
     w.keeps.left f 2 fd (λ s. q.arrivals_stats (sym nfd ∙ s)) ∙ z.keeps.left f 2 fc (λ s. q.arrivals_fates (sym nfc ∙ s))
     ∙ y.keeps.left f 2 x.is_new.part (λ s. q.arrivals_departures (sym nf ∙ s))
 

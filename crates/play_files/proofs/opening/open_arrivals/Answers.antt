@@ -4,11 +4,11 @@ use Rattle.std.specs.Prelude.{Result}
 use Rattle.play_base.specs.declared.trouble.Trouble.{Trouble}
 use Rattle.play_base.specs.View.{Any}
 use Rattle.play_base.proofs.ViewLaws.{opened_then}
-use Rattle.play_command.specs.Opening.{ArrivalsCauses}
-use Rattle.play_command.specs.declared.failing.Unplayed.{Unplayed}
-use Rattle.play_command.proofs.OpeningLemmas.{cannot_read, far_none, far_opened, far_unchanged, opened_given, refused_causes, unopened}
-use Rattle.play_command.proofs.NamedLemmas.{named_arrivals, named_less, named_none}
-use Rattle.play_command.proofs.opening.open_arrivals.Goals as goal
+use Rattle.play_files.specs.Opening.{ArrivalsCauses}
+use Rattle.play_files.specs.declared.failing.Unplayed.{Unplayed}
+use Rattle.play_files.proofs.OpeningLemmas.{cannot_read, far_none, far_opened, far_unchanged, opened_given, refused_causes, unopened}
+use Rattle.play_files.proofs.NamedLemmas.{named_arrivals, named_less, named_none}
+use Rattle.play_files.proofs.opening.open_arrivals.Goals as goal
 
 pub returns-in-Err-Failed-clause-far : goal.returns-in-Err-Failed-clause-far
 returns-in-Err-Failed-clause-far g c = λ dep fat stats. far_unchanged _ _ _ dep fat stats (far_none _ dep fat stats) c.in-Err-Failed.ensures.refused

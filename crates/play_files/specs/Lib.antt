@@ -1,0 +1,3 @@
+pub mod Failing
+pub mod Opening
+pub use Rattle.command_base.specs.Names
