@@ -17,6 +17,7 @@ use Rattle.pcapng_files.specs.Fronts.{front_view, with_front}
 use Rattle.pcapng_files.proofs.BackLaws.{keeps_back}
 use Rattle.pcapng_files.proofs.FrontLaws.{left_self}
 use Rattle.play_base.specs.View.{View, SameCounts}
+use Rattle.play_base.proofs.ViewLaws.{keeps_refl}
 use Rattle.play_core.specs.declared.totals.Totals.{Totals}
 use Rattle.play_loop.specs.declared.fault.Opened.{Opened}
 use Rattle.play_loop.specs.declared.fault.PlayFault.{PlayFault}
@@ -24,7 +25,7 @@ use Rattle.play_loop.specs.declared.fault.PlayFault.TheVariants.{NoMemory}
 use Rattle.play_loop.specs.Played.{AreReady, Explains, Fronts, LeavesStats}
 use Rattle.play_loop.specs.Setup.{Setup}
 use Rattle.play_loop.proofs.PlayLemmas.{stopped_empty}
-use Rattle.play_command.specs.Converting.{Through, marked_of, shown_of}
+use Rattle.play_command.specs.Converting.{ComesThrough, Through, marked_of, shown_of}
 use Rattle.play_command.specs.Discipline.{Stays}
 use Rattle.play_command.specs.InterfaceSetup.{Untold}
 use Rattle.play_command.proofs.SeeingLemmas.{Begins, Run, own_left}
@@ -66,48 +67,48 @@ pub record Fronted : Type 0 where
 abbrev pub fronted : Fronted → View
 fronted s = front_view s.view s.reference s.file s.rest s.front
 
-front_stays : (s t : Fronted) (o : Opened) (r : Result Totals PlayFault) → s.file ≡ o.arrivals → Stays o r (fronted s) (fronted t) → Stays o r s.view t.view
-front_stays s t o r same x = record {
-  keeps = keeps_back _ _ s.view t.view s.reference t.reference s.file t.file s.rest t.rest s.front t.front (λ f h e. h.0 (e ∙ same)) x.keeps;
-  none = x.none;
-  said = x.said;
-  no_fault = same_counts (fronted s) (fronted t) s.view t.view r (λ y. record { read = y.read; write = y.write }) x.no_fault;
-}
-
 -- the files behind a front of which all is in memory
-pub front_back : (P : View → View → Type 0) (s t : Fronted) (o : Opened) (r : Result Totals PlayFault) → s.rest ≡ false → s.file ≡ o.arrivals
-    → Stays o r (fronted s) (fronted t) → P (fronted s) (fronted t) → Through P s.view t.view s.file (Some s.front) false × Stays o r s.view t.view
-front_back P s t o r whole same stays x = (
-  record {
-    before = (fronted s).left;
-    after = (fronted t).left;
-    fixed_before = (fronted s).fixed;
-    fixed_after = (fronted t).fixed;
-    holds = x;
-    plays = λ told. left_self s.file s.rest s.front (s.view.left s.file) ∙ ap (λ (k : Bool). with_front true k s.front (s.view.left s.file)) whole;
-    past = λ e. absurd (cc);
-  },
-  front_stays s t o r same stays,
-)
+module _ (P : View → View → Type 0) (v : View) (reference : ℕ) (capture : List ℕ) (t : Fronted) (o : Opened) (r : Result Totals PlayFault) where
+  abbrev Fore : View
+  Fore = front_view v reference o.arrivals false capture
 
--- the files behind marked ones over a front of which all is in memory
-pub marked_front_back : (P : View → View → Type 0) (s t : Fronted) (o : Opened) (r : Result Totals PlayFault) (i : Interface) → s.rest ≡ false → s.file ≡ o.arrivals
-    → Stays o r (fronted s) (fronted t) → Through P (fronted s) (fronted t) s.file (marked_of i [] (fronted s) s.file) true
-    → Through P s.view t.view s.file (Some (marked_in i s.front)) false × Stays o r s.view t.view
-marked_front_back P s t o r i whole same stays x = (
-  record {
-    before = x.before;
-    after = x.after;
-    fixed_before = x.fixed_before;
-    fixed_after = x.fixed_after;
-    holds = x.holds;
-    plays = λ told.
-        x.plays told ∙ ap (option_map (λ (left : List ℕ). marked_in i left))
-        (left_self s.file s.rest s.front (s.view.left s.file) ∙ ap (λ (k : Bool). with_front true k s.front (s.view.left s.file)) whole);
-    past = λ e. absurd (cc);
-  },
-  front_stays s t o r same stays,
-)
+  front_stays : Stays o r Fore (fronted t) → Stays o r v t.view
+  front_stays x = record {
+    keeps = keeps_back _ _ v t.view reference t.reference o.arrivals t.file false t.rest capture t.front (λ f h. h.0) x.keeps;
+    none = x.none;
+    said = x.said;
+    no_fault = same_counts Fore (fronted t) v t.view r (λ y. record { read = y.read; write = y.write }) x.no_fault;
+  }
+
+  pub front_back : Stays o r Fore (fronted t) → P Fore (fronted t) → ComesThrough P o r v t.view (Some capture) false
+  front_back stays x = record {
+    came = record {
+      before = Fore.left;
+      after = (fronted t).left;
+      fixed_before = Fore.fixed;
+      fixed_after = (fronted t).fixed;
+      holds = x;
+      plays = λ told. left_self o.arrivals false capture (v.left o.arrivals);
+      past = λ e. absurd (cc);
+    };
+    stays = front_stays stays;
+  }
+
+  -- and marked
+  pub marked_front_back : (i : Interface) → ComesThrough P o r Fore (fronted t) (marked_of i [] Fore o.arrivals) true
+      → ComesThrough P o r v t.view (Some (marked_in i capture)) false
+  marked_front_back i x = record {
+    came = record {
+      before = x.came.before;
+      after = x.came.after;
+      fixed_before = x.came.fixed_before;
+      fixed_after = x.came.fixed_after;
+      holds = x.came.holds;
+      plays = λ told. x.came.plays told ∙ ap (option_map (λ (left : List ℕ). marked_in i left)) (left_self o.arrivals false capture (v.left o.arrivals));
+      past = λ e. absurd (cc);
+    };
+    stays = front_stays x.stays;
+  }
 
 -- files of which one is marked
 pub record Marked : Type 0 where
@@ -120,21 +121,12 @@ pub record Marked : Type 0 where
 abbrev pub marked : Marked → View
 marked s = marked_view s.view s.reference s.file s.marker (given placed_by s.marking)
 
-marked_stays : (s t : Marked) (o : Opened) (r : Result Totals PlayFault) → s.file ≡ o.arrivals → Stays o r (marked s) (marked t) → Stays o r s.view t.view
-marked_stays s t o r same x = record {
-  keeps = marks_back s.view t.view s.reference t.reference s.file t.file s.marker t.marker (given placed_by s.marking) (given placed_by t.marking) _ _
-      (λ f h e. h.0 (e ∙ same)) x.keeps;
-  none = x.none;
-  said = x.said;
-  no_fault = same_counts (marked s) (marked t) s.view t.view r (λ y. record { read = y.read; write = y.write }) x.no_fault;
-}
-
 -- the files behind marked ones
-pub marked_back : (P : View → View → Type 0) (s t : Marked) (o : Opened) (r : Result Totals PlayFault) (i : Interface) (first : List ℕ) → s.file ≡ o.arrivals
+pub marked_back : (P : View → View → Type 0) (s t : Marked) (o : Opened) (r : Result Totals PlayFault) (i : Interface) (first : List ℕ) → o.arrivals ≡ s.file
     → t.file ≡ s.file → holds t.marking ≤ 262160 → Marks i first s.marking → Stays o r (marked s) (marked t) → P (marked s) (marked t)
-    → Through P s.view t.view s.file (marked_of i first s.view s.file) true × Stays o r s.view t.view
-marked_back P s t o r i first is same few marks stays x = (
-  record {
+    → ComesThrough P o r s.view t.view (marked_of i first s.view o.arrivals) true
+marked_back P s t o r i first is same few marks stays x = record {
+  came = subst (λ (f : ℕ). Through P s.view t.view f (marked_of i first s.view f) true) (sym is) (record {
     before = (marked s).left;
     after = (marked t).left;
     fixed_before = (marked s).fixed;
@@ -146,9 +138,15 @@ marked_back P s t o r i first is same few marks stays x = (
         past_of t.view.tells (t.view.left s.file) rest
         (sym (marks_self s.file t.view.tells (given placed_by t.marking) (t.view.left s.file))
         ∙ ap (λ (f : ℕ). with_marks (eqb s.file f) t.view.tells (given placed_by t.marking) (t.view.left s.file)) (sym same) ∙ has);
-  },
-  marked_stays s t o r is stays,
-)
+  });
+  stays = record {
+    keeps = marks_back s.view t.view s.reference t.reference s.file t.file s.marker t.marker (given placed_by s.marking) (given placed_by t.marking) _ _
+        (λ f h e. h.0 (e ∙ sym is)) stays.keeps;
+    none = stays.none;
+    said = stays.said;
+    no_fault = same_counts (marked s) (marked t) s.view t.view r (λ y. record { read = y.read; write = y.write }) stays.no_fault;
+  };
+}
   where
     become : (tells : Bool) (left : Option (List ℕ)) → tells ≡ true
         → with_marks true tells (given placed_by s.marking) left ≡ option_map (λ (own : List ℕ). marked_in i (first ++ own)) left
@@ -167,27 +165,30 @@ marked_back P s t o r i first is same few marks stays x = (
     past_of false left rest e = absurd (cc)
 
 -- what is played is what an interface makes of the arrivals
-pub shown_through : (P : View → View → Type 0) (v w : View) (file : ℕ) (i : Interface) (gv : Given) (k : Bool) (one : Option (List ℕ)) → gv.rest ≡ k
-    → one ≡ (if k then marked_of i gv.front.items v file else Some (marked_in i gv.front.items)) → Through P v w file one k
-    → Through P v w file (shown_of i gv v file) gv.rest
-shown_through P v w file i gv k one e is x =
-    let Q : Bool → Type 0 = λ b. Through P v w file (if b then marked_of i gv.front.items v file else Some (marked_in i gv.front.items)) b in
-    let R : Option (List ℕ) → Type 0 = λ o. Through P v w file o k in
+pub shown_through : (P : View → View → Type 0) (o : Opened) (r : Result Totals PlayFault) (v w : View) (i : Interface) (gv : Given) (k : Bool) (one : Option (List ℕ))
+    → gv.rest ≡ k → one ≡ (if k then marked_of i gv.front.items v o.arrivals else Some (marked_in i gv.front.items)) → ComesThrough P o r v w one k
+    → ComesThrough P o r v w (shown_of i gv v o.arrivals) gv.rest
+shown_through P o r v w i gv k one e is x =
+    let Q : Bool → Type 0 = λ b. ComesThrough P o r v w (if b then marked_of i gv.front.items v o.arrivals else Some (marked_in i gv.front.items)) b in
+    let R : Option (List ℕ) → Type 0 = λ l. ComesThrough P o r v w l k in
     subst Q (sym e) (subst R is x)
 
 -- without memory for a marker nothing is played
 pub unplayed : (x : Setup) (v : View) (o : Opened) (shown : Option (List ℕ)) (streamed : Bool) → AreReady v o
-    → Through (λ u w. Explains x Untold u w o NoMemory × Fronts x u w o × LeavesStats x u w o NoMemory) v v o.arrivals shown streamed
+    → ComesThrough (λ u w. Explains x Untold u w o NoMemory × Fronts x u w o × LeavesStats x u w o NoMemory) o (Err NoMemory) v v shown streamed
 unplayed x v o shown streamed ready = record {
-  before = λ f. shown;
-  after = λ f. None;
-  fixed_before = [];
-  fixed_after = [];
-  holds = (
-    tt,
-    λ t bytes l records last r s. stopped_empty _ _ _ records (ready_seen v (λ f. None) [] o ready),
-    inl (record { there = ready.stats.there; bytes = ready.stats.bytes }),
-  );
-  plays = λ t. refl;
-  past = λ e rest h. absurd (cc);
+  came = record {
+    before = λ f. shown;
+    after = λ f. None;
+    fixed_before = [];
+    fixed_after = [];
+    holds = (
+      tt,
+      λ t bytes l records last r s. stopped_empty _ _ _ records (ready_seen v (λ f. None) [] o ready),
+      inl (record { there = ready.stats.there; bytes = ready.stats.bytes }),
+    );
+    plays = λ t. refl;
+    past = λ e rest h. absurd (cc);
+  };
+  stays = record { keeps = keeps_refl _ _ v; none = λ f h. h; said = refl; no_fault = tt };
 }

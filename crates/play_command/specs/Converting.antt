@@ -1,10 +1,15 @@
 -- A play over files of which one has other bytes left: a capture in memory, or what conditioners make of what it has left.
 use Rattle.std.specs.Prelude.{◌≡◌, ◌≤◌, ◌+◌, ◌++◌, ℕ, Bool, true, List, length, Some, IsTrue, option_map, if◌then◌else◌}
 use Rattle.std.specs.declared.option.Option.{Option}
+use Rattle.std.specs.declared.result.Result.{Result}
 use Rattle.arrivals_front.specs.declared.given.Given.{Given}
 use Rattle.conf_tree.specs.declared.interface.Interface.{Interface}
 use Rattle.interface_marks.specs.Conditioners.{marked_in}
 use Rattle.play_base.specs.View.{View}
+use Rattle.play_core.specs.declared.totals.Totals.{Totals}
+use Rattle.play_loop.specs.declared.fault.Opened.{Opened}
+use Rattle.play_loop.specs.declared.fault.PlayFault.{PlayFault}
+use Rattle.play_command.specs.Discipline.{Stays}
 
 -- the files, of which these bytes are left and these numbers are fixed
 abbrev pub with_left : View → (left : ℕ → Option (List ℕ)) → (fixed : List ℕ) → View
@@ -21,6 +26,11 @@ pub record Through (P : View → View → Type 0) (old new : View) (file : ℕ) 
   pub plays : IsTrue old.tells → before file ≡ shown
   pub past : streamed ≡ true → (rest : List ℕ) → after file ≡ Some rest
       → (mine : List ℕ) × (new.left file ≡ Some mine) × (length rest ≤ length mine + 262160)
+
+-- what came of a play so, and what stays as it was
+pub record ComesThrough (P : View → View → Type 0) (o : Opened) (r : Result Totals PlayFault) (old new : View) (shown : Option (List ℕ)) (streamed : Bool) : Type 0 where
+  pub came : Through P old new o.arrivals shown streamed
+  pub stays : Stays o r old new
 
 -- what conditioners make of these bytes, which were taken of a file, and what it has left
 abbrev pub marked_of : Interface → (first : List ℕ) → View → (file : ℕ) → Option (List ℕ)

@@ -1,8 +1,8 @@
 // What an interface plays of the arrivals where these are not played as they stand: the capture of a pcapng file, and what its
 // conditioners make of a capture.
 ghost use Rattle.interface_marks.specs.Conditioners.{is_conditioned, marked_in};
-ghost use Rattle.play_command.specs.Converting.{Through, marked_of, shown_of};
-ghost use Rattle.play_command.specs.Discipline.{AreNew, CameOf, Stays};
+ghost use Rattle.play_command.specs.Converting.{ComesThrough, marked_of, shown_of};
+ghost use Rattle.play_command.specs.Discipline.{AreNew, CameOf};
 ghost use Rattle.play_command.specs.InterfaceSetup.{setup_of};
 ghost use Rattle.play_loop.specs.Played.{AreReady};
 ghost use Rattle.std.specs.Prelude.{Some, false, length, true, ◌≡◌, ◌≤◌};
@@ -33,9 +33,8 @@ fn converted_by<D: Discipline, K: Keeper, F: Files>(
 ) -> Result<Totals, PlayFault>
     requires new { AreNew (D.stands discipline.old) (D.policy discipline.old) (D.link_rate discipline.old) (K.told keeper.old) interface.now }
     requires ready { AreReady (F.view files.old) opened.now }
-    ensures came { Through (CameOf (setup_of interface.now seed) (D.stands discipline.new) (K.told keeper.new) opened.now result)
-        (F.view files.old) (F.view files.new) opened.now.arrivals (Some capture.now) false }
-    ensures stays { Stays opened.now result (F.view files.old) (F.view files.new) }
+    ensures come { ComesThrough (CameOf (setup_of interface.now seed) (D.stands discipline.new) (K.told keeper.new) opened.now result) opened.now result
+        (F.view files.old) (F.view files.new) (Some capture.now) false }
     ensures before { K.before keeper.new ≡ K.before keeper.old }
 {
     let mut fronted = FrontFiles {
@@ -72,9 +71,8 @@ fn marked_by<D: Discipline, K: Keeper, F: Files>(
     requires new { AreNew (D.stands discipline.old) (D.policy discipline.old) (D.link_rate discipline.old) (K.told keeper.old) interface.now }
     requires ready { AreReady (F.view files.old) opened.now }
     requires few { length first.now ≤ 24 }
-    ensures came { Through (CameOf (setup_of interface.now seed) (D.stands discipline.new) (K.told keeper.new) opened.now result)
-        (F.view files.old) (F.view files.new) opened.now.arrivals (marked_of interface.now first.now (F.view files.old) opened.now.arrivals) true }
-    ensures stays { Stays opened.now result (F.view files.old) (F.view files.new) }
+    ensures come { ComesThrough (CameOf (setup_of interface.now seed) (D.stands discipline.new) (K.told keeper.new) opened.now result) opened.now result
+        (F.view files.old) (F.view files.new) (marked_of interface.now first.now (F.view files.old) opened.now.arrivals) true }
     ensures before { K.before keeper.new ≡ K.before keeper.old }
 {
     laws_hold();
@@ -111,9 +109,8 @@ fn marked_converted_by<D: Discipline, K: Keeper, F: Files>(
 ) -> Result<Totals, PlayFault>
     requires new { AreNew (D.stands discipline.old) (D.policy discipline.old) (D.link_rate discipline.old) (K.told keeper.old) interface.now }
     requires ready { AreReady (F.view files.old) opened.now }
-    ensures came { Through (CameOf (setup_of interface.now seed) (D.stands discipline.new) (K.told keeper.new) opened.now result)
-        (F.view files.old) (F.view files.new) opened.now.arrivals (Some (marked_in interface.now capture.now)) false }
-    ensures stays { Stays opened.now result (F.view files.old) (F.view files.new) }
+    ensures come { ComesThrough (CameOf (setup_of interface.now seed) (D.stands discipline.new) (K.told keeper.new) opened.now result) opened.now result
+        (F.view files.old) (F.view files.new) (Some (marked_in interface.now capture.now)) false }
     ensures before { K.before keeper.new ≡ K.before keeper.old }
 {
     let none: [u8; 0] = [];
@@ -154,9 +151,8 @@ pub(crate) fn shown_by<D: Discipline, K: Keeper, F: Files>(
     requires ready { AreReady (F.view files.old) opened.now }
     requires marked { given.now.rest ≡ true → is_conditioned interface.now ≡ true }
     requires few { given.now.rest ≡ true → length given.now.front.items ≤ 24 }
-    ensures came { Through (CameOf (setup_of interface.now seed) (D.stands discipline.new) (K.told keeper.new) opened.now result)
-        (F.view files.old) (F.view files.new) opened.now.arrivals (shown_of interface.now given.now (F.view files.old) opened.now.arrivals) given.now.rest }
-    ensures stays { Stays opened.now result (F.view files.old) (F.view files.new) }
+    ensures come { ComesThrough (CameOf (setup_of interface.now seed) (D.stands discipline.new) (K.told keeper.new) opened.now result) opened.now result
+        (F.view files.old) (F.view files.new) (shown_of interface.now given.now (F.view files.old) opened.now.arrivals) given.now.rest }
     ensures before { K.before keeper.new ≡ K.before keeper.old }
 {
     nothing_is_marked_without_conditioners();

@@ -1,15 +1,15 @@
 -- The play of the files that have the capture in front is one of the files behind them.
-use Rattle.std.proofs.Common.{Some, false, refl, rules, subst}
-use Rattle.play_base.specs.View.{View}
+use Rattle.std.proofs.Common.{Some, false, rules, subst}
 use Rattle.pcapng_files.proofs.BackLaws.{same_reference}
-use Rattle.play_command.specs.Converting.{Through}
-use Rattle.play_command.specs.Discipline.{CameOf, Stays}
+use Rattle.play_base.specs.View.{View}
+use Rattle.play_command.specs.Converting.{ComesThrough}
+use Rattle.play_command.specs.Discipline.{CameOf}
 use Rattle.play_command.specs.InterfaceSetup.{setup_of}
-use Rattle.play_command.proofs.ShownLemmas.{front_back}
+use Rattle.play_command.proofs.ShownLemmas.{Fronted, front_back}
 use Rattle.play_command.proofs.shown.converted_by.Goals as goal
 
-pub returns-clause-came : goal.returns-clause-came
-returns-clause-came g c =
+pub returns-clause-come : goal.returns-clause-come
+returns-clause-come g c =
     let v = g.F.Files.view c.args.files.now in
     let f = c.play_by.new.files in
     let w = g.F.Files.view f.files.now in
@@ -17,19 +17,5 @@ returns-clause-came g c =
     let y = c.play_by.ensures in
     let same = same_reference _ _ v w _ f.files.ghost_name o.arrivals f.file false f.front.rest c.args.capture.now f.front.bytes.now y.stays.keeps in
     let P : View → View → Type 0 = CameOf (setup_of c.args.interface.now c.args.seed) (g.D.Discipline.stands c.play_by.new.discipline) (g.K.Keeper.told c.play_by.new.keeper) o c.play_by.result in
-    let back = front_back P (record { view = v; reference = _; file = o.arrivals; rest = false; front = c.args.capture.now })
-    (record { view = w; reference = f.files.ghost_name; file = f.file; rest = f.front.rest; front = f.front.bytes.now }) o c.play_by.result refl refl y.stays y.came in
-    subst (λ (u : View). Through P v u o.arrivals (Some c.args.capture.now) false) (search rules) back.0
-
-pub returns-clause-stays : goal.returns-clause-stays
-returns-clause-stays g c =
-    let v = g.F.Files.view c.args.files.now in
-    let f = c.play_by.new.files in
-    let w = g.F.Files.view f.files.now in
-    let o = c.args.opened.now in
-    let y = c.play_by.ensures in
-    let same = same_reference _ _ v w _ f.files.ghost_name o.arrivals f.file false f.front.rest c.args.capture.now f.front.bytes.now y.stays.keeps in
-    let P : View → View → Type 0 = CameOf (setup_of c.args.interface.now c.args.seed) (g.D.Discipline.stands c.play_by.new.discipline) (g.K.Keeper.told c.play_by.new.keeper) o c.play_by.result in
-    let back = front_back P (record { view = v; reference = _; file = o.arrivals; rest = false; front = c.args.capture.now })
-    (record { view = w; reference = f.files.ghost_name; file = f.file; rest = f.front.rest; front = f.front.bytes.now }) o c.play_by.result refl refl y.stays y.came in
-    subst (λ (u : View). Stays o c.play_by.result v u) (search rules) back.1
+    let t : Fronted = record { view = w; reference = f.files.ghost_name; file = f.file; rest = f.front.rest; front = f.front.bytes.now } in
+    subst (λ (u : View). ComesThrough P o c.play_by.result v u (Some c.args.capture.now) false) (search rules) (front_back P v _ c.args.capture.now t o c.play_by.result y.stays y.came)

@@ -5,20 +5,20 @@ use Rattle.frame_classes.specs.Frames.{placed_by}
 use Rattle.marked_files.specs.Markings.{given}
 use Rattle.marked_files.proofs.BackLaws.{same_file, same_reference}
 use Rattle.play_base.specs.View.{View}
-use Rattle.play_command.specs.Converting.{Through, marked_of}
-use Rattle.play_command.specs.Discipline.{CameOf, Stays}
+use Rattle.play_command.specs.Converting.{ComesThrough, marked_of}
+use Rattle.play_command.specs.Discipline.{CameOf}
 use Rattle.play_command.specs.InterfaceSetup.{setup_of}
-use Rattle.play_command.proofs.ShownLemmas.{marked_back, unplayed}
+use Rattle.play_command.proofs.ShownLemmas.{Marked, marked_back, unplayed}
 use Rattle.play_command.proofs.shown.marked_by.Goals as goal
 
 pub marker_of-requires-clause-fits : goal.marker_of-requires-clause-fits
 marker_of-requires-clause-fits g c = fits c.args.interface.now c.laws_hold.ensures.fit c.requires.new.configured
 
-pub returns-in_default-clause-came : goal.returns-in_default-clause-came
-returns-in_default-clause-came g c = unplayed _ _ _ _ _ c.requires.ready
+pub returns-in_default-clause-come : goal.returns-in_default-clause-come
+returns-in_default-clause-come g c = unplayed _ _ _ _ _ c.requires.ready
 
-pub returns-clause-came : goal.returns-clause-came
-returns-clause-came g c =
+pub returns-clause-come : goal.returns-clause-come
+returns-clause-come g c =
     let v = g.F.Files.view c.args.files.now in
     let f = c.play_by.new.files in
     let w = g.F.Files.view f.files.now in
@@ -30,25 +30,7 @@ returns-clause-came g c =
     let one = same_reference v w _ f.files.ghost_name o.arrivals f.file _ f.marker.ghost_name become later _ _ y.stays.keeps in
     let file = same_file v w _ f.files.ghost_name o.arrivals f.file _ f.marker.ghost_name become later _ _ y.stays.keeps in
     let P : View → View → Type 0 = CameOf (setup_of c.args.interface.now c.args.seed) (g.D.Discipline.stands c.play_by.new.discipline) (g.K.Keeper.told c.play_by.new.keeper) o c.play_by.result in
-    let back = marked_back P (record { view = v; reference = _; file = o.arrivals; marker = _; marking = c.in-Ok.marker })
-    (record { view = w; reference = f.files.ghost_name; file = f.file; marker = f.marker.ghost_name; marking = f.marker.now }) o c.play_by.result i
-    c.args.first.now refl file f.few c.in-Ok.ensures.marks y.stays y.came in
-    subst (λ (u : View). Through P v u o.arrivals (marked_of i c.args.first.now v o.arrivals) true) (search rules) back.0
-
-pub returns-clause-stays : goal.returns-clause-stays
-returns-clause-stays g c =
-    let v = g.F.Files.view c.args.files.now in
-    let f = c.play_by.new.files in
-    let w = g.F.Files.view f.files.now in
-    let o = c.args.opened.now in
-    let i = c.args.interface.now in
-    let y = c.play_by.ensures in
-    let become = given placed_by c.in-Ok.marker in
-    let later = given placed_by f.marker.now in
-    let one = same_reference v w _ f.files.ghost_name o.arrivals f.file _ f.marker.ghost_name become later _ _ y.stays.keeps in
-    let file = same_file v w _ f.files.ghost_name o.arrivals f.file _ f.marker.ghost_name become later _ _ y.stays.keeps in
-    let P : View → View → Type 0 = CameOf (setup_of c.args.interface.now c.args.seed) (g.D.Discipline.stands c.play_by.new.discipline) (g.K.Keeper.told c.play_by.new.keeper) o c.play_by.result in
-    let back = marked_back P (record { view = v; reference = _; file = o.arrivals; marker = _; marking = c.in-Ok.marker })
-    (record { view = w; reference = f.files.ghost_name; file = f.file; marker = f.marker.ghost_name; marking = f.marker.now }) o c.play_by.result i
-    c.args.first.now refl file f.few c.in-Ok.ensures.marks y.stays y.came in
-    subst (λ (u : View). Stays o c.play_by.result v u) (search rules) back.1
+    let t : Marked = record { view = w; reference = f.files.ghost_name; file = f.file; marker = f.marker.ghost_name; marking = f.marker.now } in
+    let back = marked_back P (record { view = v; reference = _; file = o.arrivals; marker = _; marking = c.in-Ok.marker }) t o c.play_by.result i c.args.first.now
+    refl file f.few c.in-Ok.ensures.marks y.stays y.came in
+    subst (λ (u : View). ComesThrough P o c.play_by.result v u (marked_of i c.args.first.now v o.arrivals) true) (search rules) back
