@@ -113,8 +113,8 @@ impl Node {
         }
     }
 
-    /// The class opens from the moment from which its limit lets it be served, or from that below it where this is later. From
-    /// the last wake on, which this comes after, an earlier moment is as good as 0.
+    /// The class opens from the moment from which its limit lets it be served, or from that below it where this is later. One
+    /// that is not after `last`, the last wake, counts as 0: it has come.
     pub fn reopen(&mut self, below: Option<u128>, last: u64)
         ensures { IsReopened last below self.old self.new }
     {
@@ -147,8 +147,8 @@ impl Node {
         self.time
     }
 
-    /// The moment from which a packet waits on a path that is open up to the class, 0 where that is not after the last wake; told
-    /// while the class is active.
+    /// The moment from which a packet waits on a path that is open up to the class, 0 where it came by the last wake; told while
+    /// the class is active.
     pub fn opens(&self) -> Option<u128>
         ensures { result ≡ self.now.opens }
     {

@@ -49,7 +49,7 @@ pub fn latest_of(curve: &Curve, one: Opening, other: Opening, count: u128) -> Op
     later_of(reached, later_of(reached_at(curve, other, count), Some(0)))
 }
 
-/// Two openings already had a count, so that they allow it at every moment: most classes open so.
+/// Whether two openings had a count already, and so allow it at every moment. Those of a class that just opened mostly do.
 #[tactic(auto, using(crate::proofs::Reaching::counted))]
 pub fn both_counted(one: Opening, other: Opening, count: u128) -> bool
     ensures { result ≡ true → (s : Curve) → deadline s (one ∷ other ∷ []) count ≡ Some 0 }
