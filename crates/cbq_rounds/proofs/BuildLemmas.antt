@@ -15,7 +15,9 @@ use Rattle.cbq_rounds.specs.Looked.{AreSized}
 use Rattle.cbq_rounds.specs.Rings.{AreRings}
 use Rattle.cbq_rounds.specs.Shared.{IsShared, Shared, no_estimate}
 use Rattle.cbq_rounds.specs.Stands.{IsRuling, Stands}
-use Rattle.cbq_rounds.specs.Waiting.{marked, waits}
+use Rattle.class_sets.specs.Held.{HeldBack}
+use Rattle.class_sets.specs.Marked.{marked}
+use Rattle.cbq_rounds.specs.Waiting.{waits}
 use Rattle.cbq_rounds.proofs.Places.{past_end}
 use Rattle.cbq_rounds.proofs.StandsLemmas.{distinct_in}
 
@@ -113,8 +115,9 @@ module _ {Q : Type 0} (stands : Q → List QueueEvent → Type 0) (says : Q → 
   tree_is = ap (λ (s : Shared). s.tree) is
 
   pub is_ruling : (words : List ℕ) → rows.first ≡ 0 → length rows.queues ≡ length cs → length cs ≤ 256 → ((c : ℕ) → marked words c ≡ 0)
-      → (sets : List (List ℕ)) (tops : List ℕ) → AreRings cs sets tops → IsRuling shares rows words sets tops
-  is_ruling words first count few none sets tops rings =
+      → (sets : List (List ℕ)) (tops : List ℕ) → AreRings cs sets tops → (h : HeldBack) → ((c : ℕ) → marked h.set c ≡ 0) → 0 < rate
+      → IsRuling shares rows (record { waiting = words; held = h; sets = sets; tops = tops })
+  is_ruling words first count few none sets tops rings h awake some =
       let S : List Entry → Type 0 = λ xs. AreSized xs in
       let R : List CbqClass → Type 0 = λ ks. AreRings ks sets tops in
       record {
@@ -126,6 +129,11 @@ module _ {Q : Type 0} (stands : Q → List QueueEvent → Type 0) (says : Q → 
         others = λ c l. all_empty stands rows told c;
         few = omega (arith, few, ap (λ (ks : List CbqClass). length ks) tree_is);
         waiting = λ c. none c ∙ ap waits (sym (all_empty stands rows told c));
+        held = record {
+          rate = omega (arith, some, ap (λ (s : Shared). s.rate) is);
+          wait = λ c e. absurd (let z = awake c in omega (arith, z, e));
+          head = λ c n e f. absurd (let z = awake c in omega (arith, z, e));
+        };
         rings = subst R (sym tree_is) rings;
       }
 

@@ -264,10 +264,6 @@ module _ (d : Shared) (lists : ℕ → List Entry) (clock : Clock) (x : Sending)
       → gained_by d lists clock x i ≡ get_or d.credits i 0
   held_gains_nothing i len end now b q is held = gains_nothing i (not_able i (may_by i len end now q ∙ sym is ∙ held))
 
-  -- nothing waits in it
-  pub empty_gains_nothing : (i : ℕ) → i < length d.tree → head_len (lists i) ≡ None → gained_by d lists clock x i ≡ get_or d.credits i 0
-  empty_gains_nothing i l e = gains_nothing i (not_able i (may_not d lists clock.link i x.start l e))
-
   pub gained_on : (i len r : ℕ) (now after : Shared) → HasGained d lists clock x i now → IsDueNow i len → length d.credits ≡ length d.tree
       → r ≡ rounds_for (get_or d.credits x.class 0) (quantum_of d.rate (class_of d.tree x.class)) x.len
       → after ≡ with_credit now i (get_or now.credits i 0 + r * quantum_of now.rate (class_of now.tree i)) → HasGained d lists clock x (i + 1) after

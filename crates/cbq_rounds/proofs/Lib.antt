@@ -4,6 +4,7 @@ pub mod FirstLemmas
 pub mod Firsts
 pub mod FoundLemmas
 pub mod GainLemmas
+pub mod HeldLemmas
 pub mod Keeping
 pub mod LentLemmas
 pub mod LookLemmas
@@ -15,4 +16,3 @@ pub mod RingLemmas
 pub mod SentLemmas
 pub mod StandsLemmas
 pub mod WaitLemmas
-mod Marks

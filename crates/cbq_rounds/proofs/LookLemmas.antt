@@ -102,18 +102,14 @@ module _ (d : Shared) (lists : ℕ → List Entry) (clock : Clock) (now : ℕ) w
   abbrev rank : ℕ → Rank
   rank c = rank_in d.tree d.rate (situation_in d lists clock.link) c
 
-  -- where nothing waits, nothing may be sent
-  pub never_able : (c : ℕ) → c < length d.tree → lists c ≡ [] → is_able c ≡ false
-  never_able c l e = may_not d lists clock.link c now l (ap head_len e)
-
   led_by : (p from c : ℕ) (found : Option Rank) → HasAsked d lists clock now p from found → c < length d.tree
-      → is_able c ≡ true → IsSeen d.tree p from c ⊎ (lists c ≡ []) → IsLed found (rank c)
+      → is_able c ≡ true → IsSeen d.tree p from c ⊎ (is_able c ≡ false) → IsLed found (rank c)
   led_by p from c found x l e (inl i) = x.led c l i e
-  led_by p from c found x l e (inr none) = let n = never_able c l none in absurd (cc)
+  led_by p from c found x l e (inr none) = absurd (cc)
 
-  -- those that wait are the same
+  -- those that may send are the same
   pub asked_as : (p from q to : ℕ) (found : Option Rank) → HasAsked d lists clock now p from found → q ≤ p
-      → ((c : ℕ) → c < length d.tree → IsSeen d.tree q to c → IsSeen d.tree p from c ⊎ (lists c ≡ [])) → HasAsked d lists clock now q to found
+      → ((c : ℕ) → c < length d.tree → IsSeen d.tree q to c → IsSeen d.tree p from c ⊎ (is_able c ≡ false)) → HasAsked d lists clock now q to found
   asked_as p from q to found x low more = record {
     of_able = λ r e.
         let a = x.of_able r e in
@@ -126,7 +122,7 @@ module _ (d : Shared) (lists : ℕ → List Entry) (clock : Clock) (now : ℕ) w
     pub asked : HasAsked d lists clock now p from found
     pub low : from ≤ i
     pub of_priority : (class_of d.tree i).priority ≡ p
-    pub none : (c : ℕ) → from ≤ c → c < i → c < length d.tree → (class_of d.tree c).priority ≡ p → lists c ≡ []
+    pub none : (c : ℕ) → from ≤ c → c < i → c < length d.tree → (class_of d.tree c).priority ≡ p → is_able c ≡ false
     pub waits : Waiting d lists clock now i len end
 
   before_i : (p from i c : ℕ) → IsSeen d.tree p (i + 1) c → (c ≡ i → ⊥) → ((class_of d.tree c).priority ≡ p → c < i)
@@ -134,7 +130,7 @@ module _ (d : Shared) (lists : ℕ → List Entry) (clock : Clock) (now : ℕ) w
 
   seen_before : (p from i len end c : ℕ) (found : Option Rank) → IsNext p from i len end found → IsSeen d.tree p (i + 1) c
       → c < length d.tree
-      → (c ≡ i → ⊥) → IsSeen d.tree p from c ⊎ (lists c ≡ [])
+      → (c ≡ i → ⊥) → IsSeen d.tree p from c ⊎ (is_able c ≡ false)
   seen_before p from i len end c found x s l other = elim (cases_eq (class_of d.tree c).priority p) [
     | inl e ↦ elim (cases_lt c from) [
       | inl m ↦ inl (record { low = s.low; before = λ k. m })

@@ -8,7 +8,7 @@ use Rattle.std.proofs.Math.Seq.{get_or-append_seam}
 use Rattle.cbq_model.specs.declared.CbqClass.{CbqClass}
 use Rattle.cbq_model.specs.Tree.{class_of}
 use Rattle.cbq_rounds.specs.Rings.{AreRings, IsRing, IsTop}
-use Rattle.cbq_rounds.specs.Waiting.{marked}
+use Rattle.class_sets.specs.Marked.{marked}
 
 -- the rings of the priorities below one
 pub record IsBuilt (cs : List CbqClass) (p : ℕ) (sets : List (List ℕ)) (tops : List ℕ) (top : ℕ) : Type 0 where

@@ -1,106 +1,167 @@
--- The classes of a priority that wait.
-use Rattle.std.proofs.Common.{◌≡◌, ◌≤◌, ◌<◌, ◌-◌, ◌∙◌, inl, inr, ℕ, Bool, true, false, List, [], ◌∷◌, None, Some, length, get_or, min, refl, ap, sym, arith, eqb}
+-- The classes of a priority that are awake.
+use Rattle.std.proofs.Common.{◌≡◌, ◌≤◌, ◌<◌, ◌-◌, ◌/◌, ◌%◌, ◌∙◌, inl, inr, ℕ, Bool, true, false, List, [], ◌∷◌, None, Some, length, get_or, min, refl, ap, sym, arith, eqb}
 use Rattle.std.specs.declared.option.Option.{Option}
 use Rattle.std.specs.Prelude.{if◌then◌else◌}
+use Rattle.std.specs.Int.{bit_at}
 use Rattle.std.proofs.lemmas.Bool.{cases_eq, cases_lt, eq-eqb, eqb-true}
+use Rattle.std.proofs.lemmas.Nat.Bits.{bit_at-lt}
 use Rattle.altq_model.specs.Link.{end_of}
 use Rattle.leaf_queue.specs.declared.node.Entry.{Entry}
 use Rattle.link_clock.specs.Clock.{Clock}
 use Rattle.discipline.specs.declared.pick.Pick.TheVariants.{Send}
 use Rattle.discipline.specs.declared.pick.Sending.{Sending}
-use Rattle.cbq_model.specs.declared.CbqClass.{CbqClass}
 use Rattle.cbq_model.specs.declared.Rank.{Rank}
+use Rattle.cbq_model.specs.Choice.{may}
 use Rattle.cbq_model.specs.Tree.{class_of}
+use Rattle.class_sets.specs.Marked.{IsFirst, marked}
 use Rattle.cbq_rounds.specs.Due.{due_in}
-use Rattle.cbq_rounds.specs.Gained.{gained_by}
-use Rattle.cbq_rounds.specs.Looked.{HasAsked}
-use Rattle.cbq_rounds.specs.Rings.{IsRing, IsTop}
-use Rattle.cbq_rounds.specs.Shared.{Shared, head_len}
-use Rattle.cbq_rounds.specs.Waiting.{AreWaiting, IsFirst, marked, waits}
+use Rattle.cbq_rounds.specs.Gained.{HasGained, gained_by, with_gains}
+use Rattle.cbq_rounds.specs.Looked.{AreAwake, HasAsked}
+use Rattle.cbq_rounds.specs.Rings.{AreRings, IsRing, IsTop}
+use Rattle.cbq_rounds.specs.Shared.{Shared, head_len, situation_in}
+use Rattle.cbq_rounds.specs.Waiting.{waits}
 use Rattle.cbq_rounds.proofs.DueLemmas.{len_none, sends_picked}
-use Rattle.cbq_rounds.proofs.GainLemmas.{empty_gains_nothing, gains_nothing, other_priority}
+use Rattle.cbq_rounds.proofs.GainLemmas.{gains_nothing, not_able, other_priority}
 use Rattle.cbq_rounds.proofs.LookLemmas.{IsNext, asked_as}
-use Rattle.cbq_rounds.proofs.WaitLemmas.{marked_inside, no_head, not_marked}
-
-few_waits : (xs : List Entry) → waits xs ≤ 1
-few_waits [] = omega arith
-few_waits (x ∷ xs) = omega arith
+use Rattle.cbq_rounds.proofs.WaitLemmas.{gain_rest, gain_to}
 
 in_ring_by : (b : Bool) (n : ℕ) → n ≡ (if b then 1 else 0) → 1 ≤ n → b ≡ true
 in_ring_by true n e l = refl
 in_ring_by false n e l = absurd (omega (arith, e, l))
 
-module _ (cs : List CbqClass) (lists : ℕ → List Entry) (waiting ring both : List ℕ) (p : ℕ) (wait : AreWaiting waiting lists) (is : IsRing cs p ring)
-    (others : (c : ℕ) → length cs ≤ c → lists c ≡ []) (within : (c : ℕ) → marked both c ≡ min (marked waiting c) (marked ring c)) where
-  -- one that is in both sets is of the tree, and of the priority
-  pub inside : (c : ℕ) → marked both c ≡ 1 → c < length cs
-  inside c e =
-      let few : marked waiting c ≤ 1 = omega (arith, wait c, few_waits (lists c)) in
-      let one : marked waiting c ≡ 1 = omega (arith, within c, e, few) in
-      marked_inside waiting lists c (length cs) wait others one
+pub few_marked : (words : List ℕ) (c : ℕ) → marked words c ≤ 1
+few_marked words c = let few = bit_at-lt (get_or words (c / 64) 0) (c % 64) in omega (arith, few)
 
-  pub of_ring : (c : ℕ) → marked both c ≡ 1 → (class_of cs c).priority ≡ p
-  of_ring c e =
-      let some : 1 ≤ marked ring c = omega (arith, within c, e) in
-      eqb-true (class_of cs c).priority p (in_ring_by (eqb (class_of cs c).priority p) (marked ring c) (is c (inside c e)) some)
+-- a walk over the classes of a priority that are awake: `both` are those that are awake and in its ring
+pub record IsWalk (d : Shared) (lists : ℕ → List Entry) (clock : Clock) (now p : ℕ) (both : List ℕ) : Type 0 where
+  pub words : List ℕ
+  pub ring : List ℕ
+  pub awake : AreAwake d lists clock now words
+  pub ring_is : IsRing d.tree p ring
+  pub others : (c : ℕ) → length d.tree ≤ c → lists c ≡ []
+  pub within : (c : ℕ) → marked both c ≡ min (marked words c) (marked ring c)
 
-  -- in another one of the priority nothing waits
-  pub none_of_ring : (c : ℕ) → marked both c ≡ 0 → c < length cs → (class_of cs c).priority ≡ p → lists c ≡ []
-  none_of_ring c e l same =
-      let mine : marked ring c ≡ 1 = is c l ∙ ap (λ (b : Bool). if b then 1 else 0) (eq-eqb (class_of cs c).priority p same) in
-      let few : marked waiting c ≤ 1 = omega (arith, wait c, few_waits (lists c)) in
-      not_marked waiting lists c wait (omega (arith, within c, e, mine, few))
+module _ (d : Shared) (lists : ℕ → List Entry) (clock : Clock) (now p : ℕ) (both : List ℕ) (w : IsWalk d lists clock now p both) where
+  -- a packet waits in each of them
+  some_wait : (c : ℕ) → marked both c ≡ 1 → waits (lists c) ≡ 1
+  some_wait c e = w.awake.wait c (omega (arith, w.within c, e, few_marked w.words c))
 
-  -- a packet waits in each that is in both
   pub never_none : (c : ℕ) → marked both c ≡ 1 → head_len (lists c) ≡ None → ⊥
   never_none c e h =
       let none : waits (lists c) ≡ 0 = ap waits (len_none (lists c) h) in
-      omega (arith, wait c, within c, e, none)
+      omega (arith, some_wait c e, none)
 
--- the sets of a walk over the classes of a priority that wait
-pub record IsWalk (cs : List CbqClass) (lists : ℕ → List Entry) (waiting ring both : List ℕ) (p : ℕ) : Type 0 where
-  pub wait : AreWaiting waiting lists
-  pub ring_is : IsRing cs p ring
-  pub others : (c : ℕ) → length cs ≤ c → lists c ≡ []
-  pub within : (c : ℕ) → marked both c ≡ min (marked waiting c) (marked ring c)
+  -- it is of the tree, and of the priority
+  pub inside : (c : ℕ) → marked both c ≡ 1 → c < length d.tree
+  inside c e = elim (cases_lt c (length d.tree)) [
+    | inl m ↦ m
+    | inr m ↦
+        let none : waits (lists c) ≡ 0 = ap waits (w.others c m) in
+        absurd (omega (arith, some_wait c e, none))
+  ]
+
+  pub of_ring : (c : ℕ) → marked both c ≡ 1 → (class_of d.tree c).priority ≡ p
+  of_ring c e =
+      let some : 1 ≤ marked w.ring c = omega (arith, w.within c, e) in
+      eqb-true (class_of d.tree c).priority p (in_ring_by (eqb (class_of d.tree c).priority p) (marked w.ring c) (w.ring_is c (inside c e)) some)
+
+  -- another one of the priority may not send
+  pub asleep : (c : ℕ) → marked both c ≡ 0 → c < length d.tree → (class_of d.tree c).priority ≡ p
+      → may d.tree d.rate (situation_in d lists clock.link) c now ≡ false
+  asleep c e l same =
+      let mine : marked w.ring c ≡ 1 = w.ring_is c l ∙ ap (λ (b : Bool). if b then 1 else 0) (eq-eqb (class_of d.tree c).priority p same) in
+      w.awake.others c l (omega (arith, w.within c, e, mine, few_marked w.words c))
+
+-- the class at which a walk stands, and the length and the end of its head
+pub record IsStep (d : Shared) (lists : ℕ → List Entry) (clock : Clock) (now p from i len end : ℕ) : Type 0 where
+  pub both : List ℕ
+  pub walk : IsWalk d lists clock now p both
+  pub first : IsFirst both from i
+  pub rate : clock.rate ≡ d.rate
+  pub head : head_len (lists i) ≡ Some len
+  pub end_is : end ≡ end_of clock.rate clock.link now len
 
 -- the next class of the walk is asked
-pub next_of_walk : (d : Shared) (lists : ℕ → List Entry) (clock : Clock) (now p from i len end : ℕ) (found : Option Rank) (waiting ring both : List ℕ)
-    → IsWalk d.tree lists waiting ring both p → HasAsked d lists clock now p from found → IsFirst both from i → clock.rate ≡ d.rate
-    → head_len (lists i) ≡ Some len → end ≡ end_of clock.rate clock.link now len → IsNext d lists clock now p from i len end found
-next_of_walk d lists clock now p from i len end found waiting ring both w x first rate head end_is = record {
+pub next_of_walk : (d : Shared) (lists : ℕ → List Entry) (clock : Clock) (now p from i len end : ℕ) (found : Option Rank)
+    → IsStep d lists clock now p from i len end → HasAsked d lists clock now p from found → IsNext d lists clock now p from i len end found
+next_of_walk d lists clock now p from i len end found s x = record {
   asked = x;
-  low = first.low;
-  of_priority = of_ring d.tree lists waiting ring both p w.wait w.ring_is w.others w.within i first.is;
-  none = λ k a b l e. none_of_ring d.tree lists waiting ring both p w.wait w.ring_is w.others w.within k (first.before k a b) l e;
-  waits = record { place = inside d.tree lists waiting ring both p w.wait w.ring_is w.others w.within i first.is; rate = rate; head = head; end_is = end_is };
+  low = s.first.low;
+  of_priority = of_ring d lists clock now p s.both s.walk i s.first.is;
+  none = λ k a b l e. asleep d lists clock now p s.both s.walk k (s.first.before k a b) l e;
+  waits = record { place = inside d lists clock now p s.both s.walk i s.first.is; rate = s.rate; head = s.head; end_is = s.end_is };
 }
 
--- one that is not in both gains nothing
-pub unmarked_gains_nothing : (d : Shared) (lists : ℕ → List Entry) (clock : Clock) (x : Sending) (waiting ring both : List ℕ) (p c : ℕ)
-    → AreWaiting waiting lists → IsRing d.tree p ring → ((k : ℕ) → length d.tree ≤ k → lists k ≡ [])
-    → ((k : ℕ) → marked both k ≡ min (marked waiting k) (marked ring k)) → clock.link.free ≤ x.start
-    → clock.rate ≡ d.rate → due_in d lists clock x.start ≡ Send x.ticket x.class x.len x.rule → p ≡ (class_of d.tree x.class).priority
-    → marked both c ≡ 0 → c < length d.tree → gained_by d lists clock x c ≡ get_or d.credits c 0
-unmarked_gains_nothing d lists clock x waiting ring both p c wait is others within free rate due of_class e l = elim (cases_eq (class_of d.tree c).priority p) [
-  | inl same ↦ empty_gains_nothing d lists clock x c l (no_head lists c (none_of_ring d.tree lists waiting ring both p wait is others within c e l same))
-  | inr other ↦
-      let y = sends_picked d lists clock x.start x.class x.len x.ticket x.rule free rate due in
-      gains_nothing d lists clock x c
-      (other_priority d lists clock x c (λ k. other (k ∙ ap (λ (n : ℕ). (class_of d.tree n).priority) y.of_class ∙ sym of_class)))
-]
+-- a walk over the classes of the priority of a sending
+pub record IsGainWalk (d : Shared) (lists : ℕ → List Entry) (clock : Clock) (x : Sending) (both : List ℕ) : Type 0 where
+  pub priority : ℕ
+  pub walk : IsWalk d lists clock x.start priority both
+  pub free : clock.link.free ≤ x.start
+  pub rate : clock.rate ≡ d.rate
+  pub due : due_in d lists clock x.start ≡ Send x.ticket x.class x.len x.rule
+  pub of_class : priority ≡ (class_of d.tree x.class).priority
+
+-- what is due, whose priority is that of the walk
+pub record IsDueAt (d : Shared) (lists : ℕ → List Entry) (clock : Clock) (x : Sending) (priority : ℕ) : Type 0 where
+  pub free : clock.link.free ≤ x.start
+  pub rate : clock.rate ≡ d.rate
+  pub due : due_in d lists clock x.start ≡ Send x.ticket x.class x.len x.rule
+  pub of_class : priority ≡ (class_of d.tree x.class).priority
+
+pub gain_walk : (d : Shared) (lists : ℕ → List Entry) (clock : Clock) (x : Sending) (words : List ℕ) (sets : List (List ℕ)) (tops : List ℕ) (both : List ℕ) (p : ℕ)
+    → AreRings d.tree sets tops → AreAwake d lists clock x.start words → ((c : ℕ) → length d.tree ≤ c → lists c ≡ [])
+    → ((c : ℕ) → marked both c ≡ min (marked words c) (marked (get_or sets p []) c)) → IsDueAt d lists clock x p → IsGainWalk d lists clock x both
+gain_walk d lists clock x words sets tops both p rings awake others within y =
+    let sends = sends_picked d lists clock x.start x.class x.len x.ticket x.rule y.free y.rate y.due in
+    let few = rings.few x.class sends.place in
+    record {
+      priority = p;
+      walk = record { words = words; ring = get_or sets p []; awake = awake; ring_is = rings.ring_of p (omega (arith, few, y.of_class)); others = others; within = within };
+      free = y.free;
+      rate = y.rate;
+      due = y.due;
+      of_class = y.of_class;
+    }
+
+module _ (d : Shared) (lists : ℕ → List Entry) (clock : Clock) (x : Sending) (both : List ℕ) (w : IsGainWalk d lists clock x both) where
+  -- one that is not of the walk gains nothing
+  unmarked_gains_nothing : (c : ℕ) → marked both c ≡ 0 → c < length d.tree → gained_by d lists clock x c ≡ get_or d.credits c 0
+  unmarked_gains_nothing c e l = elim (cases_eq (class_of d.tree c).priority w.priority) [
+    | inl same ↦ gains_nothing d lists clock x c (not_able d lists clock x c (asleep d lists clock x.start w.priority both w.walk c e l same))
+    | inr other ↦
+        let y = sends_picked d lists clock x.start x.class x.len x.ticket x.rule w.free w.rate w.due in
+        gains_nothing d lists clock x c
+        (other_priority d lists clock x c (λ k. other (k ∙ ap (λ (n : ℕ). (class_of d.tree n).priority) y.of_class ∙ sym w.of_class)))
+  ]
+
+  pub place_in : (i : ℕ) → marked both i ≡ 1 → i < length d.tree
+  place_in i e = inside d lists clock x.start w.priority both w.walk i e
+
+  pub alike_in : (i : ℕ) → marked both i ≡ 1 → (class_of d.tree i).priority ≡ (class_of d.tree x.class).priority
+  alike_in i e = of_ring d lists clock x.start w.priority both w.walk i e ∙ w.of_class
+
+  -- all before the next one have gained, and in the end all have
+  pub gained_to : (from i : ℕ) (now : Shared) → HasGained d lists clock x from now → IsFirst both from i → HasGained d lists clock x i now
+  gained_to from i now g first =
+      let place = place_in i first.is in
+      gain_to d lists clock x from i now g first.low (omega (arith, place))
+      (λ k a b. unmarked_gains_nothing k (first.before k a b) (omega (arith, b, place)))
+
+  pub gained_all : (from : ℕ) (now : Shared) → HasGained d lists clock x from now → ((k : ℕ) → from ≤ k → marked both k ≡ 0)
+      → length d.credits ≡ length d.tree → now ≡ with_gains d lists clock x
+  gained_all from now g none all = gain_rest d lists clock x from now g (λ k a l. unmarked_gains_nothing k (none k a) l) all
 
 -- where a ring was asked, all from its top on were
-pub asked_ring : (d : Shared) (lists : ℕ → List Entry) (clock : Clock) (now p from q : ℕ) (found : Option Rank)
-    → HasAsked d lists clock now p from found → IsTop d.tree p q
-    → ((c : ℕ) → from ≤ c → c < length d.tree → (class_of d.tree c).priority ≡ p → lists c ≡ []) → HasAsked d lists clock now q 256 found
-asked_ring d lists clock now p from q found x t none =
+pub asked_ring : (d : Shared) (lists : ℕ → List Entry) (clock : Clock) (now p from q : ℕ) (found : Option Rank) (both : List ℕ)
+    → IsWalk d lists clock now p both → HasAsked d lists clock now p from found → IsTop d.tree p q
+    → ((c : ℕ) → from ≤ c → marked both c ≡ 0) → HasAsked d lists clock now q 256 found
+asked_ring d lists clock now p from q found both w x t none =
     asked_as d lists clock now p from q 256 found x t.low (λ c l s. elim (cases_lt (class_of d.tree c).priority p) [
       | inl m ↦ absurd (let low = t.below c l m in omega (arith, low, s.low))
       | inr m ↦ elim (cases_lt c from) [
         | inl a ↦ inl (record { low = m; before = λ k. a })
         | inr b ↦ elim (cases_eq (class_of d.tree c).priority p) [
-          | inl same ↦ inr (none c b l same)
+          | inl same ↦ inr (asleep d lists clock now p both w c (none c b) l same)
           | inr other ↦ inl (record { low = m; before = λ k. absurd (other k) })
         ]
       ]

@@ -1,5 +1,5 @@
 -- The histories that CBQ stands for.
-use Rattle.std.proofs.Common.{◌≡◌, ◌≤◌, ◌<◌, ◌+◌, ◌-◌, ◌∙◌, ℕ, Bool, true, false, List, [], ◌∷◌, ◌++◌, None, Some, length, get_or, drop, max, refl, ap, sym, subst, arith, eqb, length-set}
+use Rattle.std.proofs.Common.{◌≡◌, ◌≢◌, ◌≤◌, ◌<◌, ◌+◌, ◌-◌, ◌∙◌, ℕ, Bool, true, false, List, [], ◌∷◌, ◌++◌, None, Some, length, get_or, drop, max, refl, ap, sym, subst, arith, eqb, length-set}
 use Rattle.std.specs.declared.option.Option.{Option}
 use Rattle.std.specs.Prelude.{◌&&◌, is_none, is_some, not, slice_get, slice_set, option_map, if◌then◌else◌}
 use Rattle.std.proofs.lemmas.Bool.{ne_eqb}
@@ -28,6 +28,8 @@ use Rattle.cbq_model.specs.Rounds.{cbq, credits, cursors, estimates, gained, rou
 use Rattle.cbq_model.specs.Tree.{class_of, each, each_from, numbers}
 use Rattle.cbq_model.proofs.Lawful.{cbq_lawful, cbq_steady}
 use Rattle.cbq_model.proofs.Places.{at_place}
+use Rattle.class_sets.specs.Held.{HeldBack}
+use Rattle.class_sets.specs.Marked.{marked}
 use Rattle.cbq_rounds.specs.Looked.{AreSized}
 use Rattle.cbq_rounds.specs.Due.{due_in}
 use Rattle.cbq_rounds.specs.Gained.{gained_by, transmission, with_gains}
@@ -37,7 +39,9 @@ use Rattle.cbq_rounds.specs.Shared.{IsTree, Shared, head_len, situation_in}
 use Rattle.cbq_rounds.proofs.DueLemmas.{SendsPicked, front_len, member_from, sends_picked}
 use Rattle.cbq_rounds.proofs.PolicyLemmas.{each_same, first_is, shown, situation_is}
 use Rattle.cbq_rounds.proofs.SentLemmas.{estimates_after, none_shown, set_each}
-use Rattle.cbq_rounds.specs.Stands.{IsRuling, Ruling, Stands, cbq_of}
+use Rattle.cbq_rounds.specs.Held.{IsUntold}
+use Rattle.cbq_rounds.specs.Stands.{IsRuling, Ruling, Sets, Stands, cbq_of}
+use Rattle.cbq_rounds.proofs.HeldLemmas.{sent_held}
 use Rattle.cbq_rounds.specs.Waiting.{AreWaiting}
 
 -- a list whose packets have lengths of packets keeps so where one more comes, and where its head leaves
@@ -66,6 +70,20 @@ choice_parts k class rule e f =
     let C : ℕ → Rule → Choice = λ c r. record { class = c; rule = r } in
     ap (λ (c : ℕ). C c k.rule) e ∙ ap (λ (r : Rule). C class r) f
 
+-- an offer with its answer, and the random words before and after it
+pub record Offering : Type 0 where
+  pub ticket : Ticket
+  pub class : ℕ
+  pub len : ℕ
+  pub prec : ℕ
+  pub now : ℕ
+  pub words : DrawnWords
+  pub after : DrawnWords
+  pub verdict : Verdict
+
+abbrev coming_of : Offering → Coming
+coming_of x = coming x.class x.len x.prec x.now
+
 -- a packet of a length waits first
 pub record HasFront (o : Option Coming) (length_is : ℕ) : Type 0 where
   pub packet : Coming
@@ -81,13 +99,13 @@ module _ {Q : Type 0} (stands : Q → List QueueEvent → Type 0) (says : Q → 
   distinct_in d e = let P : List ℕ → Type 0 = λ cs. AreDistinct cs in subst P e (holding_distinct d.rows.first d.rows.holds)
 
   -- an offer
-  pub offer_stands : (most : Q → ℕ) (d : Ruling Q) (rows : Rowed Q) (h : List Happened) (ticket : Ticket) (class len prec now : ℕ) (w z : DrawnWords) (v : Verdict)
-      → SameRow most says d.rows rows → Stands stands says d h → IsOffer (coming class len prec now) (bare h)
-      → Answers stands says d.rows rows h class (entry ticket len prec) now w v z
-      → IsAnswer (cbq_of says d) (bare h) w (coming class len prec now) v z
-      × Stands stands says (record { shares = d.shares; rows = rows }) (offer_of (cbq_of says d) h ticket w (coming class len prec now) ∷ h)
-  offer_stands most d rows h ticket class len prec now w z v same k o a =
-      let O : Answering → Type 0 = λ f. IsOrderly (cbq d.shares.tree d.shares.rate f) (bare (offer_of (cbq_of says d) h ticket w (coming class len prec now) ∷ h)) in (
+  pub offer_stands : (most : Q → ℕ) (d : Ruling Q) (rows : Rowed Q) (h : List Happened) (x : Offering)
+      → SameRow most says d.rows rows → Stands stands says d h → IsOffer (coming_of x) (bare h)
+      → Answers stands says d.rows rows h x.class (entry x.ticket x.len x.prec) x.now x.words x.verdict x.after
+      → IsAnswer (cbq_of says d) (bare h) x.words (coming_of x) x.verdict x.after
+      × Stands stands says (record { shares = d.shares; rows = rows }) (offer_of (cbq_of says d) h x.ticket x.words (coming_of x) ∷ h)
+  offer_stands most d rows h x same k o a =
+      let O : Answering → Type 0 = λ f. IsOrderly (cbq d.shares.tree d.shares.rate f) (bare (offer_of (cbq_of says d) h x.ticket x.words (coming_of x) ∷ h)) in (
         record { verdict = a.verdict; words = a.words },
         record {
           told = a.told;
@@ -277,26 +295,41 @@ length_all : (f : ℕ → ℕ) (b : ℕ) (cs : List CbqClass) → length (each_f
 length_all f b [] = refl
 length_all f b (k ∷ ks) = let more = length_all f (b + 1) ks in omega (arith, more)
 
+-- what is kept after a sending, and the rows that its packet has left
+pub record HasLeft {Q : Type 0} (stands : Q → List QueueEvent → Type 0) (says : Q → Saying) (d : Ruling Q) (rows : Rowed Q) (clock : Clock) (x : Sending) (after : Shared)
+    : Type 0 where
+  pub end : ℕ
+  pub emptied : Bool
+  pub most : Q → ℕ
+  pub kept : IsAfter stands says d clock x end emptied after
+  pub same : SameRow most says d.rows rows
+  pub lists : (c : ℕ) → list_in rows c ≡ after_sent x.class (list_in d.rows) c
+
 -- the classes keep their form after a sending
-pub ruling_after : {Q : Type 0} (stands : Q → List QueueEvent → Type 0) (says : Q → Saying) (most : Q → ℕ) (d : Ruling Q) (rows : Rowed Q) (clock : Clock) (x : Sending) (end : ℕ) (emptied : Bool)
-    (after : Shared) (before words : List ℕ) (sets : List (List ℕ)) (tops : List ℕ) → IsRuling d.shares d.rows before sets tops → SameRow most says d.rows rows
-    → ((c : ℕ) → list_in rows c ≡ after_sent x.class (list_in d.rows) c)
-    → IsAfter stands says d clock x end emptied after → AreWaiting words (list_in rows) → IsRuling after rows words sets tops
-ruling_after stands says most d rows clock x end emptied after before words sets tops r same lists i waiting =
+pub ruling_after : {Q : Type 0} (stands : Q → List QueueEvent → Type 0) (says : Q → Saying) (d : Ruling Q) (rows : Rowed Q) (clock : Clock) (x : Sending) (after : Shared)
+    (k : Sets) (words : List ℕ) (h : HeldBack) → IsRuling d.shares d.rows k → HasLeft stands says d rows clock x after
+    → AreWaiting words (list_in rows) → marked h.set x.class ≢ 1 → ((c : ℕ) → marked h.set c ≡ 1 → IsUntold k.held.set d.shares.estimates after.estimates c)
+    → h.moments ≡ k.held.moments → IsRuling after rows (record { waiting = words; held = h; sets = k.sets; tops = k.tops })
+ruling_after stands says d rows clock x after k words h r z wait gone untold moments =
     let f : ℕ → ℕ = gained_by d.shares (list_in d.rows) clock x in
+    let i = z.kept in
+    let same = z.same in
+    let lists = z.lists in
+    let emptied = z.emptied in
     let tree : length after.tree ≡ length d.shares.tree = ap (λ (cs : List CbqClass). length cs) i.tree in
     let S : List Entry → Type 0 = λ xs. AreSized xs in
-    let R : List CbqClass → Type 0 = λ cs. AreRings cs sets tops in
+    let R : List CbqClass → Type 0 = λ cs. AreRings cs k.sets k.tops in
     record {
       first = same.first ∙ r.first;
       count = same.count ∙ r.count ∙ sym tree;
       credit_each = ap (λ (ns : List ℕ). length ns) i.credits
           ∙ length-set (each (λ c k. f c) d.shares.tree) x.class (if emptied then 0 else f x.class - x.len) ∙ length_all f 0 d.shares.tree ∙ sym tree;
-      classes = same_in most says d.rows rows same ∙ r.classes ∙ ap numbers (sym i.tree);
+      classes = same_in z.most says d.rows rows same ∙ r.classes ∙ ap numbers (sym i.tree);
       sized = λ c. subst S (sym (lists c)) (sent_sized x.class c (list_in d.rows) (r.sized c));
       others = λ c l. lists c ∙ sent_others x.class c (list_in d.rows) (r.others c (omega (arith, l, tree)));
       few = omega (arith, tree, r.few);
-      waiting = waiting;
+      waiting = wait;
+      held = sent_held d.shares after x.class (list_in d.rows) (list_in rows) k.held h r.held i.tree i.rate lists gone untold moments;
       rings = subst R (sym i.tree) r.rings;
     }
 

@@ -10,7 +10,8 @@ use Rattle.leaf_queue.specs.declared.node.Entry.{Entry}
 use Rattle.link_clock.specs.Clock.{Clock}
 use Rattle.cbq_rounds.specs.Gained.{HasGained, gained_by, with_gains}
 use Rattle.cbq_rounds.specs.Shared.{Shared, head_len}
-use Rattle.cbq_rounds.specs.Waiting.{AreWaiting, marked, waits}
+use Rattle.class_sets.specs.Marked.{marked}
+use Rattle.cbq_rounds.specs.Waiting.{AreWaiting, waits}
 use Rattle.cbq_rounds.proofs.GainLemmas.{gain_all_is, gain_kept}
 
 no_waits : (xs : List Entry) → waits xs ≡ 0 → xs ≡ []

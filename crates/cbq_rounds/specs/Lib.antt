@@ -1,6 +1,7 @@
 pub mod Due
 pub mod Fresh
 pub mod Gained
+pub mod Held
 pub mod Kept
 pub mod Lent
 pub mod Looked

@@ -2,7 +2,7 @@
 use Rattle.std.specs.Prelude.{◌≡◌, ◌==◌, ◌≤◌, ◌<◌, ℕ, List, [], length, get_or, if◌then◌else◌}
 use Rattle.cbq_model.specs.declared.CbqClass.{CbqClass}
 use Rattle.cbq_model.specs.Tree.{class_of}
-use Rattle.cbq_rounds.specs.Waiting.{marked}
+use Rattle.class_sets.specs.Marked.{marked}
 
 -- of the classes exactly those of a priority are marked
 abbrev pub IsRing : List CbqClass → (priority : ℕ) → List ℕ → Type 0

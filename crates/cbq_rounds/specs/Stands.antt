@@ -11,6 +11,8 @@ use Rattle.discipline.specs.Moments.{IsOrderly}
 use Rattle.cbq_model.specs.Capped.{AreSendings}
 use Rattle.cbq_model.specs.Rounds.{cbq, credits, cursors, estimates}
 use Rattle.cbq_model.specs.Tree.{numbers}
+use Rattle.class_sets.specs.Held.{HeldBack}
+use Rattle.cbq_rounds.specs.Held.{AreHeld}
 use Rattle.cbq_rounds.specs.Looked.{AreSized}
 use Rattle.cbq_rounds.specs.Rings.{AreRings}
 use Rattle.cbq_rounds.specs.Shared.{Shared}
@@ -21,9 +23,15 @@ pub record Ruling (Q : Type 0) : Type 0 where
   pub shares : Shared
   pub rows : Rowed Q
 
--- the classes are numbered from 0 on, each is a queue class, no other number has a packet, those in which a packet waits are marked, and those
--- of each priority are known
-pub record IsRuling {Q : Type 0} (d : Shared) (rows : Rowed Q) (words : List ℕ) (sets : List (List ℕ)) (tops : List ℕ) : Type 0 where
+-- sets of classes: those that wait, those that are held back, and those of each priority with the tops
+pub record Sets : Type 0 where
+  pub waiting : List ℕ
+  pub held : HeldBack
+  pub sets : List (List ℕ)
+  pub tops : List ℕ
+
+-- the classes are numbered from 0 on, each is a queue class, no other number has a packet, and the sets are what they are called
+pub record IsRuling {Q : Type 0} (d : Shared) (rows : Rowed Q) (k : Sets) : Type 0 where
   pub first : rows.first ≡ 0
   pub count : length rows.queues ≡ length d.tree
   pub credit_each : length d.credits ≡ length d.tree
@@ -31,8 +39,9 @@ pub record IsRuling {Q : Type 0} (d : Shared) (rows : Rowed Q) (words : List ℕ
   pub sized : (c : ℕ) → AreSized (list_in rows c)
   pub others : (c : ℕ) → length d.tree ≤ c → list_in rows c ≡ []
   pub few : length d.tree ≤ 256
-  pub waiting : AreWaiting words (list_in rows)
-  pub rings : AreRings d.tree sets tops
+  pub waiting : AreWaiting k.waiting (list_in rows)
+  pub held : AreHeld d (list_in rows) k.held
+  pub rings : AreRings d.tree k.sets k.tops
 
 -- its policy
 abbrev pub cbq_of : {Q : Type 0} → (Q → Saying) → Ruling Q → Policy

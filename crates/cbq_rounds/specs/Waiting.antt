@@ -1,11 +1,7 @@
--- Which classes wait: a bit for each class below 256, 64 in a word.
-use Rattle.std.specs.Prelude.{◌≡◌, ◌≤◌, ◌<◌, ◌/◌, ◌%◌, ℕ, List, [], ◌∷◌, get_or}
-use Rattle.std.specs.Int.{bit_at}
+-- Which classes wait.
+use Rattle.std.specs.Prelude.{◌≡◌, ℕ, List, [], ◌∷◌}
 use Rattle.leaf_queue.specs.declared.node.Entry.{Entry}
-
--- 1 where a class is marked, else 0
-abbrev pub marked : List ℕ → (class : ℕ) → ℕ
-marked words c = bit_at (get_or words (c / 64) 0) (c % 64)
+use Rattle.class_sets.specs.Marked.{marked}
 
 -- 1 where a packet waits, else 0
 abbrev pub waits : List Entry → ℕ
@@ -15,17 +11,3 @@ waits (x ∷ xs) = 1
 -- marked are exactly the classes in which a packet waits
 abbrev pub AreWaiting : List ℕ → (ℕ → List Entry) → Type 0
 AreWaiting words lists = (c : ℕ) → marked words c ≡ waits (lists c)
-
--- the lowest bit of a word that is 1, from a place on
-pub record IsLowest (word place i : ℕ) : Type 0 where
-  pub from : place ≤ i
-  pub inside : i < 64
-  pub is : bit_at word i ≡ 1
-  pub below : (j : ℕ) → place ≤ j → j < i → bit_at word j ≡ 0
-
--- the first class that is marked, from one on
-pub record IsFirst (words : List ℕ) (from class : ℕ) : Type 0 where
-  pub low : from ≤ class
-  pub few : class < 256
-  pub is : marked words class ≡ 1
-  pub before : (c : ℕ) → from ≤ c → c < class → marked words c ≡ 0

@@ -2,17 +2,16 @@
 ghost use Rattle.std.specs.Prelude.{◌≡◌, ◌≤◌, ◌<◌, ◌^◌, ℕ, [], length, get_or, None, Some, if◌then◌else◌};
 ghost use Rattle.class_rows.specs.Rows.{list_in};
 ghost use Rattle.cbq_model.specs.Choice.{able, best, better};
-ghost use Rattle.cbq_rounds.specs.Looked.{AreSized, HasAsked};
+ghost use Rattle.cbq_rounds.specs.Looked.{AreAwake, AreSized, HasAsked};
 ghost use Rattle.cbq_rounds.specs.Rings.{AreRings};
 ghost use Rattle.cbq_rounds.specs.Shared.{situation_in};
-ghost use Rattle.cbq_rounds.specs.Waiting.{AreWaiting};
 
 use crate::lent::Lent;
 use crate::rings::Rings;
 use crate::sharing::Shares;
-use crate::waiting::Waiting;
 use cbq_model::Rank;
 use class_rows::Rows;
+use class_sets::ClassSet;
 use leaf_queue::QueueRule;
 use link_clock::LinkClock;
 
@@ -26,21 +25,23 @@ fn leads(best: Option<Rank>, rank: Rank) -> bool
     }
 }
 
-// The first of the classes of one priority that wait and may send now, where none of a greater priority may.
+// The first of the classes of one priority that may send now, where none of a greater priority may. It asks those that are awake, and
+// puts those that may not and have no lender into `refused`.
 fn able_at<Q: QueueRule + Drop>(
     shares: &Shares,
     rows: &Rows<Q>,
-    waiting: &Waiting,
+    awake: &ClassSet,
     rings: &Rings,
     priority: u8,
     now: u64,
     clock: &LinkClock,
+    refused: &mut ClassSet,
 ) -> Option<Rank>
     requires first { rows.now.first ≡ 0 }
     requires count { length rows.now.queues ≡ length shares.now.tree }
     requires few { length shares.now.tree ≤ 256 }
     requires sized { (c : ℕ) → AreSized (list_in rows.now c) }
-    requires waiting { AreWaiting waiting.now (list_in rows.now) }
+    requires awake { AreAwake shares.now (list_in rows.now) clock.now now awake.now }
     requires rings { AreRings shares.now.tree rings.now.sets.items rings.now.tops.items }
     requires others { (c : ℕ) → length shares.now.tree ≤ c → list_in rows.now c ≡ [] }
     requires free { clock.now.link.free ≤ now }
@@ -50,7 +51,7 @@ fn able_at<Q: QueueRule + Drop>(
     requires asked { HasAsked shares.now (list_in rows.now) clock.now now priority 0 None }
     ensures { HasAsked shares.now (list_in rows.now) clock.now now (get_or rings.now.tops.items priority 0) 256 result }
 {
-    let some = rings.among(waiting, priority);
+    let some = rings.among(awake, priority);
     let mut last = Lent::none();
     let mut best = None;
     let mut from = 0;
@@ -64,26 +65,29 @@ fn able_at<Q: QueueRule + Drop>(
             if leads(best, rank) {
                 best = Some(rank);
             }
+        } else if last.lender.is_none() {
+            refused.put(class, true);
         }
     }
     best
 }
 
-/// The rank of the first of the classes that wait and may send now, where one may. It asks those of the greatest priority first; where
+/// The rank of the first of the classes that may send now, where one may. It asks those of the greatest priority first; where
 /// one of them may send, those of lesser priority need not be asked, since none of them goes before it.
 pub fn first_able<Q: QueueRule + Drop>(
     shares: &Shares,
     rows: &Rows<Q>,
-    waiting: &Waiting,
+    awake: &ClassSet,
     rings: &Rings,
     now: u64,
     clock: &LinkClock,
+    refused: &mut ClassSet,
 ) -> Option<Rank>
     requires first { rows.now.first ≡ 0 }
     requires count { length rows.now.queues ≡ length shares.now.tree }
     requires few { length shares.now.tree ≤ 256 }
     requires sized { (c : ℕ) → AreSized (list_in rows.now c) }
-    requires waiting { AreWaiting waiting.now (list_in rows.now) }
+    requires awake { AreAwake shares.now (list_in rows.now) clock.now now awake.now }
     requires rings { AreRings shares.now.tree rings.now.sets.items rings.now.tops.items }
     requires others { (c : ℕ) → length shares.now.tree ≤ c → list_in rows.now c ≡ [] }
     requires free { clock.now.link.free ≤ now }
@@ -95,7 +99,7 @@ pub fn first_able<Q: QueueRule + Drop>(
     let mut level = rings.tops[8];
     'levels: while level > 0 {
         let priority = level - 1;
-        let best = able_at(shares, rows, waiting, rings, priority, now, clock);
+        let best = able_at(shares, rows, awake, rings, priority, now, clock, refused);
         if best.is_some() {
             return best;
         }

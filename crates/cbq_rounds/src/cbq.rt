@@ -12,14 +12,15 @@ ghost use Rattle.cbq_rounds.specs.Looked.{AreSized};
 ghost use Rattle.cbq_rounds.specs.Shared.{situation_in};
 ghost use Rattle.cbq_rounds.specs.Stands.{IsRuling, Ruling};
 
-use crate::gains::gain_all;
+use crate::gains::gain_awake;
+use crate::held::{hold_refused, wake};
 use crate::look::{Found, look};
 use crate::rings::Rings;
 use crate::sharing::Shares;
-use crate::waiting::Waiting;
 use altq_model::{Rule, Verdict};
 use cbq_model::CbqClass;
 use class_rows::Rows;
+use class_sets::{ClassSet, Held};
 use discipline::{Discipline, Pick, Sending};
 use leaf_queue::{Entry, QueueRule, Words};
 use link_clock::LinkClock;
@@ -32,7 +33,8 @@ use std::marker::Model;
 pub struct Cbq<Q: QueueRule + Drop> {
     shares: Shares,
     rows: Rows<Q>,
-    waiting: Waiting,
+    waiting: ClassSet,
+    held: Held,
     rings: Rings,
 }
 
@@ -41,7 +43,7 @@ impl<Q: QueueRule + Drop> Model for Cbq<Q> {
 
     ghost view = { λ d. record { shares = d.shares; rows = d.rows } };
 
-    ghost invariant = { λ d. IsRuling d.shares d.rows d.waiting d.rings.sets.items d.rings.tops.items };
+    ghost invariant = { λ d. IsRuling d.shares d.rows (record { waiting = d.waiting; held = d.held; sets = d.rings.sets.items; tops = d.rings.tops.items }) };
 }
 
 impl<Q: QueueRule + Drop> Cbq<Q> {
@@ -71,10 +73,12 @@ impl<Q: QueueRule + Drop> Cbq<Q> {
         let rows = Rows::build(alloc, 0, queues, holds)?;
         let shares = Shares::build(alloc, classes, rate)?;
         let rings = Rings::build(alloc, classes)?;
+        let held = Held::none(alloc)?;
         Ok(Cbq {
             shares,
             rows,
-            waiting: Waiting::none(),
+            waiting: ClassSet::none(),
+            held,
             rings,
         })
     }
@@ -173,11 +177,25 @@ impl<Q: QueueRule + Drop> Discipline for Cbq<Q> {
     }
 
     fn next(&mut self, now: u64, clock: &LinkClock) -> Pick {
+        wake(&mut self.held, now, clock);
+        let awake = self.held.awake(&self.waiting);
+        let mut refused = ClassSet::none();
         let found = look(
             &self.shares,
             &self.rows,
             &self.waiting,
+            &awake,
             &self.rings,
+            now,
+            clock,
+            &mut refused,
+        );
+        hold_refused(
+            &mut self.held,
+            &self.shares,
+            &self.rows,
+            &self.waiting,
+            &refused,
             now,
             clock,
         );
@@ -188,8 +206,9 @@ impl<Q: QueueRule + Drop> Discipline for Cbq<Q> {
         let end = clock
             .end_of(sending.start, sending.len)
             .max(self.shares.ended);
-        gain_all(
+        gain_awake(
             &mut self.shares,
+            &mut self.held,
             &self.rows,
             &self.waiting,
             &self.rings,
@@ -201,7 +220,7 @@ impl<Q: QueueRule + Drop> Discipline for Cbq<Q> {
         self.waiting.take(sending.class, emptied);
         self.shares.pay(sending.class, sending.len, emptied);
         self.shares.set_last(sending.class, end);
-        self.shares.tell(sending.class, sending.len);
+        self.shares.tell(sending.class, sending.len, &mut self.held);
     }
 
     ghost shows = { λ d h s. s.told.shown };

@@ -3,26 +3,29 @@ ghost use Rattle.std.specs.Prelude.{◌≡◌, ◌≤◌, ◌<◌, ◌^◌, ℕ,
 ghost use Rattle.class_rows.specs.Rows.{list_in};
 ghost use Rattle.discipline.specs.declared.pick.Pick.{Pick};
 ghost use Rattle.cbq_rounds.specs.Due.{due_in};
-ghost use Rattle.cbq_rounds.specs.Looked.{AreSized};
+ghost use Rattle.class_sets.specs.Marked.{marked};
+ghost use Rattle.cbq_rounds.specs.Held.{AreHeld};
+ghost use Rattle.cbq_rounds.specs.Looked.{AreAwake, AreSized};
 ghost use Rattle.cbq_rounds.specs.Gained.{with_gains};
 ghost use Rattle.cbq_rounds.specs.Rings.{AreRings};
 ghost use Rattle.cbq_rounds.specs.Waiting.{AreWaiting};
 
+use crate::held::wake;
 use crate::lent::Lent;
 use crate::rings::Rings;
 use crate::sharing::Shares;
-use crate::waiting::Waiting;
 use class_rows::Rows;
+use class_sets::{ClassSet, Held};
 use discipline::Sending;
 use leaf_queue::QueueRule;
 use link_clock::LinkClock;
 
-/// Gives each candidate of a sending, which is the one due at its start, its quantum in each of the rounds that the class sent needed.
-/// If it needed any, it asks each class of its priority that waits once, and the lenders of each once for those of one parent in turn.
-pub fn gain_all<Q: QueueRule + Drop>(
+// Gives each candidate of a sending, which is the one due at its start, its quantum in each of the rounds that the class sent needed.
+// If it needed any, it asks each class of its priority that is awake once, and the lenders of each once for those of one parent in turn.
+fn gain_all<Q: QueueRule + Drop>(
     shares: &mut Shares,
     rows: &Rows<Q>,
-    waiting: &Waiting,
+    awake: &ClassSet,
     rings: &Rings,
     sending: &Sending,
     clock: &LinkClock,
@@ -31,7 +34,7 @@ pub fn gain_all<Q: QueueRule + Drop>(
     requires count { length rows.now.queues ≡ length shares.old.tree }
     requires credits { length shares.old.credits ≡ length shares.old.tree }
     requires sized { (c : ℕ) → AreSized (list_in rows.now c) }
-    requires waiting { AreWaiting waiting.now (list_in rows.now) }
+    requires awake { AreAwake shares.old (list_in rows.now) clock.now sending.now.start awake.now }
     requires rings { AreRings shares.old.tree rings.now.sets.items rings.now.tops.items }
     requires few { length shares.old.tree ≤ 256 }
     requires others { (c : ℕ) → length shares.old.tree ≤ c → list_in rows.now c ≡ [] }
@@ -47,7 +50,7 @@ pub fn gain_all<Q: QueueRule + Drop>(
         return;
     }
     let priority = shares.priority(sending.class);
-    let some = rings.among(waiting, priority);
+    let some = rings.among(awake, priority);
     let mut last = Lent::none();
     let mut from = 0;
     'classes: while let Some(class) = some.first_from(from) {
@@ -58,4 +61,37 @@ pub fn gain_all<Q: QueueRule + Drop>(
             }
         }
     }
+}
+
+/// Holds those classes back no longer that may send at the start of a sending, and gives the candidates of it their gains.
+pub fn gain_awake<Q: QueueRule + Drop>(
+    shares: &mut Shares,
+    held: &mut Held,
+    rows: &Rows<Q>,
+    waiting: &ClassSet,
+    rings: &Rings,
+    sending: &Sending,
+    clock: &LinkClock,
+)
+    requires first { rows.now.first ≡ 0 }
+    requires count { length rows.now.queues ≡ length shares.old.tree }
+    requires credits { length shares.old.credits ≡ length shares.old.tree }
+    requires sized { (c : ℕ) → AreSized (list_in rows.now c) }
+    requires waiting { AreWaiting waiting.now (list_in rows.now) }
+    requires held { AreHeld shares.old (list_in rows.now) held.old }
+    requires rings { AreRings shares.old.tree rings.now.sets.items rings.now.tops.items }
+    requires few { length shares.old.tree ≤ 256 }
+    requires others { (c : ℕ) → length shares.old.tree ≤ c → list_in rows.now c ≡ [] }
+    requires free { clock.now.link.free ≤ sending.now.start }
+    requires early { sending.now.start < 2 ^ 63 }
+    requires rate { clock.now.rate ≡ shares.old.rate }
+    requires due { due_in shares.old (list_in rows.now) clock.now sending.now.start
+        ≡ Pick.Send sending.now.ticket sending.now.class sending.now.len sending.now.rule }
+    ensures gains { shares.new ≡ with_gains shares.old (list_in rows.now) clock.now sending.now }
+    ensures fewer { (c : ℕ) → marked held.new.set c ≡ 1 → marked held.old.set c ≡ 1 }
+    ensures moments { held.new.moments ≡ held.old.moments }
+{
+    wake(held, sending.start, clock);
+    let awake = held.awake(waiting);
+    gain_all(shares, rows, &awake, rings, sending, clock);
 }

@@ -8,13 +8,13 @@ mod able;
 mod build;
 mod cbq;
 mod gains;
+mod held;
 mod laws;
 mod lent;
 mod look;
 mod rings;
 mod sent;
 mod sharing;
-mod waiting;
 
 pub use cbq::Cbq;
 pub use cbq_model::CbqClass;

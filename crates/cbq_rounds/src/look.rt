@@ -4,7 +4,7 @@ ghost use Rattle.altq_model.specs.Play.{lesser};
 ghost use Rattle.class_rows.specs.Rows.{list_in};
 ghost use Rattle.cbq_model.specs.Choice.{able, best};
 ghost use Rattle.cbq_rounds.specs.Due.{first_in};
-ghost use Rattle.cbq_rounds.specs.Looked.{AreSized};
+ghost use Rattle.cbq_rounds.specs.Looked.{AreAwake, AreSized};
 ghost use Rattle.cbq_rounds.specs.Rings.{AreRings};
 ghost use Rattle.cbq_rounds.specs.Shared.{situation_in};
 ghost use Rattle.cbq_rounds.specs.Waiting.{AreWaiting};
@@ -12,9 +12,9 @@ ghost use Rattle.cbq_rounds.specs.Waiting.{AreWaiting};
 use crate::able::first_able;
 use crate::rings::Rings;
 use crate::sharing::Shares;
-use crate::waiting::Waiting;
 use cbq_model::Rank;
 use class_rows::Rows;
+use class_sets::ClassSet;
 use leaf_queue::QueueRule;
 use link_clock::LinkClock;
 
@@ -39,7 +39,7 @@ fn earlier(till: Option<u64>, start: u64) -> u64
 fn first_moment<Q: QueueRule + Drop>(
     shares: &Shares,
     rows: &Rows<Q>,
-    waiting: &Waiting,
+    waiting: &ClassSet,
     now: u64,
     clock: &LinkClock,
 ) -> Option<u64>
@@ -66,20 +66,23 @@ fn first_moment<Q: QueueRule + Drop>(
     till
 }
 
-/// Asks who may send now, and only where nobody may computes the moments of all that wait.
+/// Asks who of those that are awake may send now, and only where nobody may computes the moments of all that wait.
 pub fn look<Q: QueueRule + Drop>(
     shares: &Shares,
     rows: &Rows<Q>,
-    waiting: &Waiting,
+    waiting: &ClassSet,
+    awake: &ClassSet,
     rings: &Rings,
     now: u64,
     clock: &LinkClock,
+    refused: &mut ClassSet,
 ) -> Found
     requires first { rows.now.first ≡ 0 }
     requires count { length rows.now.queues ≡ length shares.now.tree }
     requires few { length shares.now.tree ≤ 256 }
     requires sized { (c : ℕ) → AreSized (list_in rows.now c) }
     requires waiting { AreWaiting waiting.now (list_in rows.now) }
+    requires awake { AreAwake shares.now (list_in rows.now) clock.now now awake.now }
     requires rings { AreRings shares.now.tree rings.now.sets.items rings.now.tops.items }
     requires others { (c : ℕ) → length shares.now.tree ≤ c → list_in rows.now c ≡ [] }
     requires free { clock.now.link.free ≤ now }
@@ -89,7 +92,7 @@ pub fn look<Q: QueueRule + Drop>(
     ensures best { result.best ≡ best shares.now.tree shares.now.rate (situation_in shares.now (list_in rows.now) clock.now.link) None
         (able shares.now.tree shares.now.rate (situation_in shares.now (list_in rows.now) clock.now.link) now) }
 {
-    let best = first_able(shares, rows, waiting, rings, now, clock);
+    let best = first_able(shares, rows, awake, rings, now, clock, refused);
     if best.is_some() {
         return Found {
             till: Some(now),

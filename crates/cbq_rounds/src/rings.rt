@@ -3,26 +3,26 @@ ghost use Rattle.std.specs.Prelude.{◌≡◌, ◌≤◌, ◌<◌, ◌==◌, ◌
 ghost use Rattle.cbq_model.specs.Tree.{class_of};
 ghost use Rattle.cbq_rounds.specs.Fresh.{IsClass};
 ghost use Rattle.cbq_rounds.specs.Rings.{AreRings, IsRing, IsTop};
-ghost use Rattle.cbq_rounds.specs.Waiting.{marked};
+ghost use Rattle.class_sets.specs.Marked.{marked};
 
-use crate::waiting::Waiting;
 use cbq_model::CbqClass;
+use class_sets::ClassSet;
 use play_base::NoMemory;
 use std::alloc::Global;
 
 /// For each priority the set of its classes; and for each of 0 to 8 the least priority from which on no class stands below it.
 #[derive(Drop)]
 pub struct Rings {
-    pub sets: Vec<Waiting>,
+    pub sets: Vec<ClassSet>,
     pub tops: Vec<u8>,
 }
 
 // The classes of a priority.
-fn ring_of(classes: &[CbqClass], priority: u8) -> Waiting
+fn ring_of(classes: &[CbqClass], priority: u8) -> ClassSet
     requires few { length classes.now ≤ 256 }
     ensures { IsRing classes.now priority result }
 {
-    let mut ring = Waiting::none();
+    let mut ring = ClassSet::none();
     for place in 0..classes.len() {
         ring.put(place as u32, classes[place].priority == priority);
     }
@@ -30,7 +30,7 @@ fn ring_of(classes: &[CbqClass], priority: u8) -> Waiting
 }
 
 // The top above a priority, by the one at it and by its ring.
-fn top_with(ring: &Waiting, priority: u8, top: u8) -> u8
+fn top_with(ring: &ClassSet, priority: u8, top: u8) -> u8
     requires priority { priority < 8 }
     ensures { (cs : List CbqClass) → IsRing cs priority ring.now → IsTop cs priority top → IsTop cs (priority + 1) result }
 {
@@ -62,7 +62,7 @@ impl Rings {
     }
 
     /// Those of a priority among the classes that wait.
-    pub fn among(&self, waiting: &Waiting, priority: u8) -> Waiting
+    pub fn among(&self, waiting: &ClassSet, priority: u8) -> ClassSet
         requires { priority < length self.now.sets.items }
         ensures { (c : ℕ) → marked result c ≡ min (marked waiting.now c) (marked (get_or self.now.sets.items priority []) c) }
     {

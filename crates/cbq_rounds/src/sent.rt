@@ -1,10 +1,13 @@
 // What a sending changes of the classes.
-ghost use Rattle.std.specs.Prelude.{◌≡◌, ◌≤◌, ◌<◌, ◌+◌, ◌-◌, ◌*◌, ◌^◌, ℕ, length, get_or, Some, if◌then◌else◌};
+ghost use Rattle.std.specs.Prelude.{◌≡◌, ◌≢◌, ◌≤◌, ◌<◌, ◌+◌, ◌-◌, ◌*◌, ◌^◌, ℕ, length, get_or, Some, if◌then◌else◌};
 ghost use Rattle.cbq_model.specs.Choice.{rounds_for};
 ghost use Rattle.cbq_model.specs.Tree.{class_of, quantum_of};
+ghost use Rattle.class_sets.specs.Marked.{marked};
+ghost use Rattle.cbq_rounds.specs.Held.{IsUntold};
 ghost use Rattle.cbq_rounds.specs.Sent.{told_up, with_credit, with_estimates, with_last};
 
 use crate::sharing::{LEVELS, Shares};
+use class_sets::Held;
 
 impl Shares {
     /// A class gains its quantum in each of `rounds` rounds, which are no more than it needs for a packet of `len` bytes.
@@ -43,13 +46,17 @@ impl Shares {
         self.ended = end;
     }
 
-    // Tells a class and those above it, over at most `levels` levels, of a packet of `len` bytes that ended at the last end.
-    fn tell_up(&mut self, levels: u32, at: Option<u32>, len: u32)
+    // Tells a class and those above it, over at most `levels` levels, of a packet of `len` bytes that ended at the last end. None of them is
+    // held back any longer, since its average is another.
+    fn tell_up(&mut self, levels: u32, at: Option<u32>, len: u32, held: &mut Held)
         requires class { (p : ℕ) → at ≡ Some p → p < length self.old.tree }
         requires early { self.old.ended < 2 ^ 63 + 2 ^ 62 }
         requires some_bytes { 1 ≤ len }
         requires few_bytes { len ≤ 262144 }
-        ensures { self.new ≡ with_estimates self.old (told_up levels self.old.tree at (record { end = self.old.ended; len = len }) self.old.estimates) }
+        ensures told { self.new ≡ with_estimates self.old (told_up levels self.old.tree at (record { end = self.old.ended; len = len }) self.old.estimates) }
+        ensures here { (p : ℕ) → at ≡ Some p → 0 < levels → marked held.new.set p ≢ 1 }
+        ensures others { (c : ℕ) → marked held.new.set c ≡ 1 → IsUntold held.old.set self.old.estimates self.new.estimates c }
+        ensures moments { held.new.moments ≡ held.old.moments }
     {
         let Some(class) = at else {
             return;
@@ -58,18 +65,22 @@ impl Shares {
             return;
         }
         self.estimators[class as usize].ended(self.ended, len);
+        held.free(class);
         let parent = self.classes[class as usize].parent;
-        self.tell_up(levels - 1, parent, len);
+        self.tell_up(levels - 1, parent, len, held);
     }
 
-    /// Tells a class and those above it of a packet of `len` bytes that ended at the last end.
-    pub fn tell(&mut self, class: u32, len: u32)
+    /// Tells a class and those above it of a packet of `len` bytes that ended at the last end, and holds none of them back.
+    pub fn tell(&mut self, class: u32, len: u32, held: &mut Held)
         requires class { class < length self.old.tree }
         requires early { self.old.ended < 2 ^ 63 + 2 ^ 62 }
         requires some_bytes { 1 ≤ len }
         requires few_bytes { len ≤ 262144 }
-        ensures { self.new ≡ with_estimates self.old (told_up 8 self.old.tree (Some class) (record { end = self.old.ended; len = len }) self.old.estimates) }
+        ensures told { self.new ≡ with_estimates self.old (told_up 8 self.old.tree (Some class) (record { end = self.old.ended; len = len }) self.old.estimates) }
+        ensures here { marked held.new.set class ≢ 1 }
+        ensures others { (c : ℕ) → marked held.new.set c ≡ 1 → IsUntold held.old.set self.old.estimates self.new.estimates c }
+        ensures moments { held.new.moments ≡ held.old.moments }
     {
-        self.tell_up(LEVELS, Some(class), len);
+        self.tell_up(LEVELS, Some(class), len, held);
     }
 }

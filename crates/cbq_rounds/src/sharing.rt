@@ -1,10 +1,11 @@
 // What CBQ keeps of its classes beside their queues.
-ghost use Rattle.std.specs.Prelude.{◌≡◌, ◌==◌, ◌≤◌, ◌<◌, ◌+◌, ◌^◌, ℕ, List, length, get_or, nat_lt};
+ghost use Rattle.std.specs.Prelude.{◌≡◌, ◌==◌, ◌≤◌, ◌<◌, ◌+◌, ◌^◌, ℕ, List, IfSome, length, get_or, nat_lt};
 ghost use Rattle.std.specs.List.{list_any};
 ghost use Rattle.altq_model.specs.Link.{end_of};
 ghost use Rattle.link_clock.specs.Clock.{Clock};
 ghost use Rattle.cbq_model.specs.Choice.{rounds_for};
 ghost use Rattle.cbq_model.specs.Tree.{class_of, lender_of, lenders_up, quantum_of};
+ghost use Rattle.cbq_rounds.specs.Held.{IsHeld};
 ghost use Rattle.cbq_rounds.specs.Lent.{IsLent};
 ghost use Rattle.cbq_rounds.specs.Shared.{IsShared, Shared, allows_end, is_free, least_with, may_end, own_now, start_now_in};
 
@@ -149,6 +150,24 @@ impl Shares {
         }
         self.ask(class, last);
         last.lends
+    }
+
+    /// The moment till which a class that has no lender is held back with a packet of `len` bytes, where that is later than the next
+    /// nanosecond.
+    pub fn held_till(&self, class: u32, len: u32, now: u64, clock: &LinkClock) -> Option<u64>
+        requires class { class < length self.now.tree }
+        requires free { clock.now.link.free ≤ now }
+        requires early { now < 2 ^ 63 }
+        requires some_bytes { 1 ≤ len }
+        requires few_bytes { len ≤ 262144 }
+        requires rate { clock.now.rate ≡ self.now.rate }
+        ensures { IfSome result (λ moment. IsHeld self.now class len moment) }
+    {
+        if self.lender(class).is_some() {
+            return None;
+        }
+        let start = self.own_start(class, len, now, clock);
+        if start > now + 1 { Some(start) } else { None }
     }
 
     // The least of `start` and of the moments from which `lender`, and each lender above it over at most `levels` levels, allows the

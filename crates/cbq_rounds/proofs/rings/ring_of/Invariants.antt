@@ -1,7 +1,7 @@
 use Rattle.std.proofs.Common.{◌≡◌, ◌≤◌, ◌<◌, ℕ}
 use Rattle.std.specs.Prelude.{◌==◌, if◌then◌else◌}
 use Rattle.cbq_model.specs.Tree.{class_of}
-use Rattle.cbq_rounds.specs.Waiting.{marked}
+use Rattle.class_sets.specs.Marked.{marked}
 use Rattle.cbq_rounds.proofs.rings.ring_of.Given as goal
 
 abbrev pub invariant-loop-place : goal.invariant-loop-place

@@ -14,8 +14,9 @@ invariant_of-result g c =
     let all : r.holds ≡ replicate (length c.args.classes.now) true =
     c.in_ok-rows.ensures.holds ∙ c.in_ok-holds.ensures.items_if_clones_equal (λ y e. e) ∙ ap (λ k. replicate k true) count in
     is_ruling g.Q.QueueRule.stands g.Q.QueueRule.says c.args.rate c.args.classes.now c.in_ok-shares.shares r c.in_ok-shares.ensures c.in_ok-rows.ensures.told
-    (hold_all r c.args.classes.now c.in_ok-rows.ensures.first all) c.none.result c.in_ok-rows.ensures.first
-    (ap (λ (qs : List g.row.Q.Denot). length qs) c.in_ok-rows.ensures.queues ∙ c.requires.one_each) c.requires.few c.none.ensures c.in_ok-rings.rings.sets.items c.in_ok-rings.rings.tops.items c.in_ok-rings.ensures
+    (hold_all r c.args.classes.now c.in_ok-rows.ensures.first all) c.none-2.result c.in_ok-rows.ensures.first
+    (ap (λ (qs : List g.row.Q.Denot). length qs) c.in_ok-rows.ensures.queues ∙ c.requires.one_each) c.requires.few c.none-2.ensures c.in_ok-rings.rings.sets.items c.in_ok-rings.rings.tops.items c.in_ok-rings.ensures
+    c.in_ok-held.held c.in_ok-held.ensures (omega (arith, c.requires.least))
 
 pub returns-clause-empty : goal.returns-clause-empty
 returns-clause-empty g c =

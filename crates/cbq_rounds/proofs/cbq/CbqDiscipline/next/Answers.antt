@@ -9,8 +9,20 @@ use Rattle.class_rows.specs.Rows.{list_in}
 use Rattle.cbq_rounds.specs.Due.{due_in}
 use Rattle.cbq_rounds.specs.Stands.{Ruling, cbq_of}
 use Rattle.cbq_rounds.proofs.DueLemmas.{due_empty, due_names, due_waits}
+use Rattle.cbq_rounds.proofs.HeldLemmas.{are_awake, held_fewer}
 use Rattle.cbq_rounds.proofs.PolicyLemmas.{due_policy}
 use Rattle.cbq_rounds.proofs.cbq.CbqDiscipline.next.Goals as goal
+
+pub look-found-requires-clause-awake : goal.look-found-requires-clause-awake
+look-found-requires-clause-awake g c =
+    let rate : c.args.clock.now.rate ≡ c.self.inside.shares.rate = c.requires.rate ∙ ap (λ (v : Ruling g.row.Q.Denot). v.shares.rate) (sym c.self.view_is) in
+    are_awake c.self.inside.shares (list_in c.self.inside.rows) c.args.clock.now c.args.now c.self.inside.waiting c.awake-awake.result c.wake.new.held c.self.invariant.waiting
+    (held_fewer c.self.inside.shares (list_in c.self.inside.rows) c.self.inside.held c.wake.new.held c.self.invariant.held c.wake.ensures.fewer c.wake.ensures.moments)
+    rate c.wake.ensures.late c.awake-awake.ensures
+
+pub hold_refused-requires-clause-held : goal.hold_refused-requires-clause-held
+hold_refused-requires-clause-held g c =
+    held_fewer c.self.inside.shares (list_in c.self.inside.rows) c.self.inside.held c.wake.new.held c.self.invariant.held c.wake.ensures.fewer c.wake.ensures.moments
 
 pub returns-clause-due : goal.returns-clause-due
 returns-clause-due g c = c.pick_of.ensures ∙ ap (λ (d : Ruling g.row.Q.Denot). due_in d.shares (list_in d.rows) c.args.clock.now c.args.now) c.self.view_is
@@ -49,3 +61,20 @@ returns-clause-policy g c = λ h s o.
     subst P (sym due)
     (due_policy g.Q.QueueRule.stands g.Q.QueueRule.says d h s c.args.clock.now c.requires.rate (sym o.link ∙ ap (λ (r : ℕ). link r (bare h)) c.requires.rate)
     c.args.now c.requires.free)
+
+pub invariant_of-self : goal.invariant_of-self
+invariant_of-self g c = record {
+  first = c.self.invariant.first;
+  count = c.self.invariant.count;
+  credit_each = c.self.invariant.credit_each;
+  classes = c.self.invariant.classes;
+  sized = c.self.invariant.sized;
+  others = c.self.invariant.others;
+  few = c.self.invariant.few;
+  waiting = c.self.invariant.waiting;
+  held = c.hold_refused.ensures;
+  rings = c.self.invariant.rings;
+}
+
+pub returns-clause-dues_kept : goal.returns-clause-dues_kept
+returns-clause-dues_kept g c = λ clock t. ap (λ (d : Ruling g.row.Q.Denot). due_in d.shares (list_in d.rows) clock t) c.self.view_is

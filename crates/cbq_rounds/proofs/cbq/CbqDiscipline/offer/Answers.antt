@@ -7,6 +7,7 @@ use Rattle.discipline.specs.Moments.{IsOffer}
 use Rattle.cbq_model.proofs.Places.{is_below}
 use Rattle.cbq_rounds.specs.Looked.{AreSized}
 use Rattle.cbq_rounds.specs.Stands.{Ruling, Stands, cbq_of}
+use Rattle.cbq_rounds.proofs.HeldLemmas.{offer_held}
 use Rattle.cbq_rounds.proofs.StandsLemmas.{offer_others, offer_sized, offer_stands, same_in}
 use Rattle.cbq_rounds.proofs.WaitLemmas.{offer_waiting}
 use Rattle.cbq_rounds.proofs.cbq.CbqDiscipline.offer.Goals as goal
@@ -31,6 +32,8 @@ invariant_of-self g c =
       few = c.self.invariant.few;
       waiting = offer_waiting c.offer-verdict.result c.args.class x c.is_kept.result c.self.inside.waiting c.put.new.self (list_in c.self.inside.rows) (list_in c.offer-verdict.new.self)
           c.self.invariant.waiting c.offer-verdict.ensures.lists c.is_kept.ensures c.put.ensures.here c.put.ensures.others;
+      held = offer_held c.self.inside.shares c.offer-verdict.result c.args.class x (list_in c.self.inside.rows) (list_in c.offer-verdict.new.self) c.self.inside.held
+          c.self.invariant.held c.offer-verdict.ensures.lists;
       rings = c.self.invariant.rings;
     }
 
@@ -47,5 +50,15 @@ returns-clause-history g c =
     × Stands g.Q.QueueRule.stands g.Q.QueueRule.says (record { shares = c.self.inside.shares; rows = c.offer-verdict.new.self })
     (offer_of (cbq_of g.Q.QueueRule.says d) h c.args.ticket c.args.words.now (coming c.args.class c.args.len c.args.prec c.args.now) ∷ h) in
     subst P c.self.view_is (λ h s o few. offer_stands g.Q.QueueRule.stands g.Q.QueueRule.says g.Q.QueueRule.most
-    (record { shares = c.self.inside.shares; rows = c.self.inside.rows }) c.offer-verdict.new.self h c.args.ticket c.args.class c.args.len c.args.prec c.args.now
-    c.args.words.now c.offer-verdict.new.words c.offer-verdict.result c.offer-verdict.ensures.same s o (c.offer-verdict.ensures.told h s.told few))
+    (record { shares = c.self.inside.shares; rows = c.self.inside.rows }) c.offer-verdict.new.self h
+    (record {
+      ticket = c.args.ticket;
+      class = c.args.class;
+      len = c.args.len;
+      prec = c.args.prec;
+      now = c.args.now;
+      words = c.args.words.now;
+      after = c.offer-verdict.new.words;
+      verdict = c.offer-verdict.result;
+    })
+    c.offer-verdict.ensures.same s o (c.offer-verdict.ensures.told h s.told few))

@@ -1,4 +1,4 @@
-use Rattle.std.proofs.Common.{◌≡◌, ◌∙◌, ℕ, List, ◌∷◌, ap, arith, length, max, refl, subst, sym}
+use Rattle.std.proofs.Common.{◌≡◌, ◌∙◌, ℕ, List, ◌∷◌, ap, arith, get_or, length, max, refl, subst, sym}
 use Rattle.std.specs.Prelude.{is_none}
 use Rattle.std.specs.declared.option.Option.{Option}
 use Rattle.altq_model.specs.History.{Happened, bare}
@@ -9,7 +9,8 @@ use Rattle.discipline.specs.Laws.{sent_of}
 use Rattle.discipline.specs.Moments.{IsChoice}
 use Rattle.cbq_rounds.specs.Due.{due_in}
 use Rattle.cbq_rounds.specs.declared.cbq.Cbq.TheInside.{Inside}
-use Rattle.cbq_rounds.specs.Shared.{IsTree, Shared}
+use Rattle.cbq_estimator.specs.Estimate.{Estimate}
+use Rattle.cbq_rounds.specs.Shared.{IsTree, Shared, no_estimate}
 use Rattle.cbq_rounds.proofs.LookLemmas.{first_sized}
 use Rattle.cbq_rounds.specs.Stands.{Ruling, Stands}
 use Rattle.cbq_rounds.proofs.DueLemmas.{sends_picked}
@@ -17,9 +18,19 @@ use Rattle.cbq_rounds.proofs.StandsLemmas.{after_steps, kept_end, none_of, rulin
 use Rattle.cbq_rounds.proofs.WaitLemmas.{sent_waiting}
 use Rattle.cbq_rounds.proofs.cbq.CbqDiscipline.sent.Goals as goal
 
-pub gain_all-requires-clause-due : goal.gain_all-requires-clause-due
-gain_all-requires-clause-due g c =
+pub gain_awake-requires-clause-due : goal.gain_awake-requires-clause-due
+gain_awake-requires-clause-due g c =
     ap (λ (d : Ruling g.row.Q.Denot). due_in d.shares (list_in d.rows) c.args.clock.now c.args.sending.start) c.self.view_is ∙ c.requires.due
+
+pub pay-requires : goal.pay-requires
+pay-requires g c =
+    let d : Ruling g.row.Q.Denot = record { shares = c.self.inside.shares; rows = c.self.inside.rows } in
+    let rate : c.args.clock.now.rate ≡ d.shares.rate = c.requires.rate ∙ ap (λ (v : Ruling g.row.Q.Denot). v.shares.rate) (sym c.self.view_is) in
+    let due = ap (λ (v : Ruling g.row.Q.Denot). due_in v.shares (list_in v.rows) c.args.clock.now c.args.sending.start) c.self.view_is ∙ c.requires.due in
+    let sends = sends_picked d.shares (list_in d.rows) c.args.clock.now c.args.sending.start c.args.sending.class c.args.sending.len c.args.sending.ticket c.args.sending.rule
+    c.requires.free rate due in
+    let tree : length c.gain_awake.new.shares.tree ≡ length d.shares.tree = ap (λ (s : Shared). length s.tree) c.gain_awake.ensures.gains in
+    record { class = omega (arith, sends.place, tree) }
 
 pub set_last-requires-clause-class : goal.set_last-requires-clause-class
 set_last-requires-clause-class g c =
@@ -28,7 +39,7 @@ set_last-requires-clause-class g c =
     let due = ap (λ (v : Ruling g.row.Q.Denot). due_in v.shares (list_in v.rows) c.args.clock.now c.args.sending.start) c.self.view_is ∙ c.requires.due in
     let sends = sends_picked d.shares (list_in d.rows) c.args.clock.now c.args.sending.start c.args.sending.class c.args.sending.len c.args.sending.ticket c.args.sending.rule
     c.requires.free rate due in
-    let tree : length c.pay.new.self.tree ≡ length d.shares.tree = ap (λ (s : Shared). length s.tree) c.pay.ensures ∙ ap (λ (s : Shared). length s.tree) c.gain_all.ensures in
+    let tree : length c.pay.new.self.tree ≡ length d.shares.tree = ap (λ (s : Shared). length s.tree) c.pay.ensures ∙ ap (λ (s : Shared). length s.tree) c.gain_awake.ensures.gains in
     omega (arith, sends.place, tree)
 
 pub tell-requires-clause-class : goal.tell-requires-clause-class
@@ -39,7 +50,7 @@ tell-requires-clause-class g c =
     let sends = sends_picked d.shares (list_in d.rows) c.args.clock.now c.args.sending.start c.args.sending.class c.args.sending.len c.args.sending.ticket c.args.sending.rule
     c.requires.free rate due in
     let tree : length c.set_last.new.self.tree ≡ length d.shares.tree =
-    ap (λ (s : Shared). length s.tree) c.set_last.ensures ∙ ap (λ (s : Shared). length s.tree) c.pay.ensures ∙ ap (λ (s : Shared). length s.tree) c.gain_all.ensures in
+    ap (λ (s : Shared). length s.tree) c.set_last.ensures ∙ ap (λ (s : Shared). length s.tree) c.pay.ensures ∙ ap (λ (s : Shared). length s.tree) c.gain_awake.ensures.gains in
     omega (arith, sends.place, tree)
 
 pub tell-requires-clause-some_bytes : goal.tell-requires-clause-some_bytes
@@ -69,14 +80,29 @@ invariant_of-self g c =
     let due = ap (λ (v : Ruling g.row.Q.Denot). due_in v.shares (list_in v.rows) c.args.clock.now c.args.sending.start) c.self.view_is ∙ c.requires.due in
     let sends = sends_picked d.shares (list_in d.rows) c.args.clock.now c.args.sending.start c.args.sending.class c.args.sending.len c.args.sending.ticket c.args.sending.rule
     c.requires.free rate due in
-    ruling_after g.Q.QueueRule.stands g.Q.QueueRule.says g.Q.QueueRule.most d c.take.new.self c.args.clock.now c.args.sending c.max-end.result c.is_none-emptied.result
-    c.tell.new.self c.self.inside.waiting c.take-2.new.self c.self.inside.rings.sets.items c.self.inside.rings.tops.items c.self.invariant c.take.ensures.same c.take.ensures.lists
-    (after_steps g.Q.QueueRule.stands g.Q.QueueRule.says d c.args.clock.now c.args.sending c.max-end.result c.is_none-emptied.result c.gain_all.new.shares c.pay.new.self
-    c.set_last.new.self c.tell.new.self sends.place c.gain_all.ensures c.pay.ensures c.set_last.ensures c.tell.ensures)
+    let steps = after_steps g.Q.QueueRule.stands g.Q.QueueRule.says d c.args.clock.now c.args.sending c.max-end.result c.is_none-emptied.result c.gain_awake.new.shares c.pay.new.self
+    c.set_last.new.self c.tell.new.self sends.place c.gain_awake.ensures.gains c.pay.ensures c.set_last.ensures c.tell.ensures.told in
+    ruling_after g.Q.QueueRule.stands g.Q.QueueRule.says d c.take.new.self c.args.clock.now c.args.sending c.tell.new.self
+    (record { waiting = c.self.inside.waiting; held = c.self.inside.held; sets = c.self.inside.rings.sets.items; tops = c.self.inside.rings.tops.items })
+    c.take-2.new.self c.tell.new.held c.self.invariant
+    (record {
+      end = c.max-end.result;
+      emptied = c.is_none-emptied.result;
+      most = g.Q.QueueRule.most;
+      kept = steps;
+      same = c.take.ensures.same;
+      lists = c.take.ensures.lists;
+    })
     (sent_waiting c.args.sending.class c.is_none-emptied.result c.self.inside.waiting c.take-2.new.self (list_in c.self.inside.rows) (list_in c.take.new.self)
     c.self.invariant.waiting c.take.ensures.lists
     (none_of c.head.result c.is_none-emptied.result c.is_none-emptied.ensures ∙ ap (λ (e : Option Entry). is_none e) c.head.ensures)
     c.take-2.ensures.here c.take-2.ensures.others)
+    c.tell.ensures.here
+    (λ k e.
+    let z = c.tell.ensures.others k e in
+    let before = ap (λ (s : Shared). s.estimates) c.set_last.ensures ∙ ap (λ (s : Shared). s.estimates) c.pay.ensures ∙ ap (λ (s : Shared). s.estimates) c.gain_awake.ensures.gains in
+    record { was = c.gain_awake.ensures.fewer k z.was; same = z.same ∙ ap (λ (es : List Estimate). get_or es k no_estimate) before })
+    (c.tell.ensures.moments ∙ c.gain_awake.ensures.moments)
 
 pub returns-clause-history : goal.returns-clause-history
 returns-clause-history g c =
@@ -88,8 +114,8 @@ returns-clause-history g c =
     let T : Inside g.row.Q.Denot → Type 0 = λ v. IsTree v.shares.tree in
     let tree : IsTree d.shares.tree = subst T c.self-inside.view_is c.self-inside.invariant.tree in
     let last = ap (λ (v : Inside g.row.Q.Denot). v.shares.ended) c.self-inside.view_is in
-    let steps = after_steps g.Q.QueueRule.stands g.Q.QueueRule.says d c.args.clock.now c.args.sending c.max-end.result c.is_none-emptied.result c.gain_all.new.shares c.pay.new.self
-    c.set_last.new.self c.tell.new.self sends.place c.gain_all.ensures c.pay.ensures c.set_last.ensures c.tell.ensures in
+    let steps = after_steps g.Q.QueueRule.stands g.Q.QueueRule.says d c.args.clock.now c.args.sending c.max-end.result c.is_none-emptied.result c.gain_awake.new.shares c.pay.new.self
+    c.set_last.new.self c.tell.new.self sends.place c.gain_awake.ensures.gains c.pay.ensures c.set_last.ensures c.tell.ensures.told in
     let P : Ruling g.row.Q.Denot → Type 0 = λ v. (h : List Happened) → Stands g.Q.QueueRule.stands g.Q.QueueRule.says v h
     → IsChoice c.args.sending.start c.args.clock.now (bare h)
     → Stands g.Q.QueueRule.stands g.Q.QueueRule.says (record { shares = c.tell.new.self; rows = c.take.new.self }) (sent_of c.args.sending ∷ h) in

@@ -1,11 +1,12 @@
 -- Bits of words, as a set of classes keeps them.
-use Rattle.std.proofs.Common.{◌≡◌, ◌≢◌, ◌≤◌, ◌<◌, ◌-◌, ◌*◌, ◌/◌, ◌%◌, ◌^◌, ◌∙◌, inl, inr, ℕ, zero, suc, List, [], ◌∷◌, length, get_or, ap, sym, arith, min, bit_and, bit_or, w64, get_or-set_same, get_or-set_other}
+use Rattle.std.proofs.Common.{◌≡◌, ◌≢◌, ◌≤◌, ◌<◌, ◌-◌, ◌*◌, ◌/◌, ◌%◌, ◌^◌, ◌∙◌, inl, inr, ℕ, zero, suc, List, [], ◌∷◌, length, get_or, refl, ap, sym, arith, min, bit_and, bit_or, w64, get_or-set_same, get_or-set_other}
 use Rattle.std.specs.Prelude.{slice_set}
 use Rattle.std.specs.Int.{bit_at, bit_not, trailing_zeros}
+use Rattle.std.specs.Int.Bits.{bit_xor}
 use Rattle.std.proofs.lemmas.Bool.{cases_eq, cases_lt}
-use Rattle.std.proofs.lemmas.Nat.Bits.{bit_at-trailing_zeros, bit_at-zero, bit_at_and, bit_at_clear_other, bit_at_clear_same, bit_at_mask_below, bit_at_mask_inside, bit_at-lt, bit_at_set_other, bit_at_set_same, ones_shl}
-use Rattle.cbq_rounds.specs.Waiting.{IsLowest, marked}
-use Rattle.cbq_rounds.proofs.Places.{past_end}
+use Rattle.std.proofs.lemmas.List.{get_or_past}
+use Rattle.std.proofs.lemmas.Nat.Bits.{bit_at-trailing_zeros, bit_at-zero, bit_at_and, bit_at_xor, bit_at_clear_other, bit_at_clear_same, bit_at_mask_below, bit_at_mask_inside, bit_at-lt, bit_at_set_other, bit_at_set_same, ones_shl}
+use Rattle.class_sets.specs.Marked.{IsLowest, marked}
 
 abbrev with_bit : ℕ → ℕ → ℕ
 with_bit n i = bit_or n (1 * 2 ^ i % 2 ^ 64)
@@ -95,23 +96,46 @@ lowest_left n p h some fits =
 pub marked_past : (words : List ℕ) (c : ℕ) → length words ≡ 4 → 256 ≤ c → marked words c ≡ 0
 marked_past words c l h =
     let past : length words ≤ c / 64 = omega (arith, l, h) in
-    ap (λ (n : ℕ). bit_at n (c % 64)) (past_end words (c / 64) 0 past) ∙ bit_at-zero (c % 64)
+    ap (λ (n : ℕ). bit_at n (c % 64)) (get_or_past words (c / 64) 0 past) ∙ bit_at-zero (c % 64)
+
+-- four words, one by one
+each_word : (f : ℕ → ℕ) (q : ℕ) → q < 4 → get_or (f 0 ∷ f 1 ∷ f 2 ∷ f 3 ∷ []) q 0 ≡ f q
+each_word f zero l = refl
+each_word f (suc zero) l = refl
+each_word f (suc (suc zero)) l = refl
+each_word f (suc (suc (suc zero))) l = refl
+each_word f (suc (suc (suc (suc q)))) l = absurd (omega (arith, l))
 
 -- the words of two sets
-and_word : (a b : List ℕ) (q i : ℕ) → length a ≡ 4 → length b ≡ 4
-    → bit_at (get_or (bit_and (get_or a 0 0) (get_or b 0 0) ∷ bit_and (get_or a 1 0) (get_or b 1 0) ∷ bit_and (get_or a 2 0) (get_or b 2 0) ∷ bit_and (get_or a 3 0) (get_or b 3 0) ∷ []) q 0) i
-    ≡ min (bit_at (get_or a q 0) i) (bit_at (get_or b q 0) i)
-and_word a b zero i l m = bit_at_and (get_or a 0 0) (get_or b 0 0) i
-and_word a b (suc zero) i l m = bit_at_and (get_or a 1 0) (get_or b 1 0) i
-and_word a b (suc (suc zero)) i l m = bit_at_and (get_or a 2 0) (get_or b 2 0) i
-and_word a b (suc (suc (suc zero))) i l m = bit_at_and (get_or a 3 0) (get_or b 3 0) i
-and_word a b (suc (suc (suc (suc q)))) i l m =
-    let none : bit_at (get_or a (suc (suc (suc (suc q)))) 0) i ≡ 0 =
-    ap (λ (n : ℕ). bit_at n i) (past_end a (suc (suc (suc (suc q)))) 0 (omega (arith, l))) ∙ bit_at-zero i in
-    let least : 0 ≡ min (bit_at (get_or a (suc (suc (suc (suc q)))) 0) i) (bit_at (get_or b (suc (suc (suc (suc q)))) 0) i) = omega (arith, none) in
-    bit_at-zero i ∙ least
+abbrev both : List ℕ → List ℕ → ℕ → ℕ
+both a b q = bit_and (get_or a q 0) (get_or b q 0)
+
+abbrev rest_of : List ℕ → List ℕ → ℕ → ℕ
+rest_of a b q = bit_and (get_or a q 0) (bit_xor (get_or a q 0) (get_or b q 0))
 
 pub marked_in_both : (a b : List ℕ) (c : ℕ) → length a ≡ 4 → length b ≡ 4
-    → marked (bit_and (get_or a 0 0) (get_or b 0 0) ∷ bit_and (get_or a 1 0) (get_or b 1 0) ∷ bit_and (get_or a 2 0) (get_or b 2 0) ∷ bit_and (get_or a 3 0) (get_or b 3 0) ∷ []) c
-    ≡ min (marked a c) (marked b c)
-marked_in_both a b c l m = and_word a b (c / 64) (c % 64) l m
+    → marked (both a b 0 ∷ both a b 1 ∷ both a b 2 ∷ both a b 3 ∷ []) c ≡ min (marked a c) (marked b c)
+marked_in_both a b c l m = elim (cases_lt (c / 64) 4) [
+  | inl k ↦ ap (λ (n : ℕ). bit_at n (c % 64)) (each_word (both a b) (c / 64) k) ∙ bit_at_and (get_or a (c / 64) 0) (get_or b (c / 64) 0) (c % 64)
+  | inr k ↦
+      let none = marked_past (both a b 0 ∷ both a b 1 ∷ both a b 2 ∷ both a b 3 ∷ []) c refl (omega (arith, k)) in
+      let first = marked_past a c l (omega (arith, k)) in
+      omega (arith, none, first)
+]
+
+pub marked_in_one : (a b : List ℕ) (c : ℕ) → length a ≡ 4 → length b ≡ 4
+    → marked (rest_of a b 0 ∷ rest_of a b 1 ∷ rest_of a b 2 ∷ rest_of a b 3 ∷ []) c ≡ marked a c - marked b c
+marked_in_one a b c l m = elim (cases_lt (c / 64) 4) [
+  | inl k ↦
+      let i : ℕ = c % 64 in
+      let n : ℕ = get_or a (c / 64) 0 in
+      let o : ℕ = get_or b (c / 64) 0 in
+      let here = ap (λ (w : ℕ). bit_at w i) (each_word (rest_of a b) (c / 64) k) in
+      let bits = bit_at_and n (bit_xor n o) i in
+      let turned = bit_at_xor n o i in
+      omega (arith, here, bits, turned, bit_at-lt n i, bit_at-lt o i)
+  | inr k ↦
+      let none = marked_past (rest_of a b 0 ∷ rest_of a b 1 ∷ rest_of a b 2 ∷ rest_of a b 3 ∷ []) c refl (omega (arith, k)) in
+      let first = marked_past a c l (omega (arith, k)) in
+      omega (arith, none, first)
+]

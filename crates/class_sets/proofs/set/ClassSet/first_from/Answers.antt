@@ -1,7 +1,7 @@
 use Rattle.std.proofs.Common.{◌∙◌, ap, arith, sym}
-use Rattle.cbq_rounds.specs.Waiting.{marked}
-use Rattle.cbq_rounds.proofs.Marks.{marked_past}
-use Rattle.cbq_rounds.proofs.waiting.Waiting.first_from.Goals as goal
+use Rattle.class_sets.specs.Marked.{marked}
+use Rattle.class_sets.proofs.Marks.{marked_past}
+use Rattle.class_sets.proofs.set.ClassSet.first_from.Goals as goal
 
 pub returns-then-first-ge4-clause-none : goal.returns-then-first-ge4-clause-none
 returns-then-first-ge4-clause-none c = λ k l.

@@ -1,8 +1,8 @@
 use Rattle.std.proofs.Common.{◌∙◌, Bool, ap, sym}
 use Rattle.std.specs.Prelude.{if◌then◌else◌}
-use Rattle.cbq_rounds.specs.Waiting.{marked}
-use Rattle.cbq_rounds.proofs.Marks.{put_other, put_same}
-use Rattle.cbq_rounds.proofs.waiting.Waiting.put.Goals as goal
+use Rattle.class_sets.specs.Marked.{marked}
+use Rattle.class_sets.proofs.Marks.{put_other, put_same}
+use Rattle.class_sets.proofs.set.ClassSet.put.Goals as goal
 
 pub returns-then-kept-clause-here : goal.returns-then-kept-clause-here
 returns-then-kept-clause-here c =

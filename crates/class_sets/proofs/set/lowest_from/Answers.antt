@@ -1,7 +1,7 @@
 use Rattle.std.proofs.Common.{◌-◌, ◌*◌, ◌%◌, ◌^◌, arith}
 use Rattle.std.proofs.lemmas.Nat.{and_le_l}
-use Rattle.cbq_rounds.proofs.Marks.{lowest_left, none_left}
-use Rattle.cbq_rounds.proofs.waiting.lowest_from.Goals as goal
+use Rattle.class_sets.proofs.Marks.{lowest_left, none_left}
+use Rattle.class_sets.proofs.set.lowest_from.Goals as goal
 
 pub returns-then-rest-eq0-clause-none : goal.returns-then-rest-eq0-clause-none
 returns-then-rest-eq0-clause-none c = none_left c.args.word c.args.place c.requires c.if-rest-eq0.true

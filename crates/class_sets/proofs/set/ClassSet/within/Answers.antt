@@ -1,7 +1,7 @@
 use Rattle.std.proofs.Common.{◌∙◌, ℕ, List, ap, min}
-use Rattle.cbq_rounds.specs.Waiting.{marked}
-use Rattle.cbq_rounds.proofs.Marks.{marked_in_both}
-use Rattle.cbq_rounds.proofs.waiting.Waiting.within.Goals as goal
+use Rattle.class_sets.specs.Marked.{marked}
+use Rattle.class_sets.proofs.Marks.{marked_in_both}
+use Rattle.class_sets.proofs.set.ClassSet.within.Goals as goal
 
 pub returns : goal.returns
 returns c = λ k.

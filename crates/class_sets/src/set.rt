@@ -1,17 +1,17 @@
-// Which classes wait.
-ghost use Rattle.std.specs.Prelude.{◌≡◌, ◌≢◌, ◌≤◌, ◌<◌, ℕ, IfNone, IfSome, min, if◌then◌else◌};
+// A set of classes.
+ghost use Rattle.std.specs.Prelude.{◌≡◌, ◌≢◌, ◌≤◌, ◌<◌, ◌-◌, ℕ, IfNone, IfSome, min, true, if◌then◌else◌};
 ghost use Rattle.std.specs.Int.{bit_at};
-ghost use Rattle.cbq_rounds.specs.Waiting.{IsFirst, IsLowest, marked};
+ghost use Rattle.class_sets.specs.Marked.{IsFirst, IsLowest, marked};
 
 use std::marker::Model;
 
 /// A set of classes below 256: a bit for each, 64 in a word. Contracts see the words.
 #[derive(Drop)]
-pub struct Waiting {
+pub struct ClassSet {
     words: [u64; 4],
 }
 
-impl Model for Waiting {
+impl Model for ClassSet {
     ghost use Rattle.std.specs.Prelude.{◌≡◌, ℕ, List, length};
 
     ghost Value = { List ℕ };
@@ -35,15 +35,23 @@ fn lowest_from(word: u64, place: u32) -> Option<u32>
     }
 }
 
-impl Waiting {
+impl ClassSet {
     /// No class.
-    pub fn none() -> Waiting
+    pub fn none() -> ClassSet
         ensures { (c : ℕ) → marked result c ≡ 0 }
     {
-        Waiting { words: [0; 4] }
+        ClassSet { words: [0; 4] }
     }
 
-    /// Puts a class in, if a packet was kept in it.
+    /// Whether no class is there.
+    pub fn is_empty(&self) -> bool
+        ensures { result ≡ true → (c : ℕ) → marked self.now c ≡ 0 }
+    {
+        let words = &self.words;
+        words[0] == 0 && words[1] == 0 && words[2] == 0 && words[3] == 0
+    }
+
+    /// Puts a class in, if it is to be there.
     pub fn put(&mut self, class: u32, kept: bool)
         requires { class < 256 }
         ensures here { marked self.new class ≡ (if kept then 1 else marked self.old class) }
@@ -54,7 +62,7 @@ impl Waiting {
         }
     }
 
-    /// Takes a class out, if it was emptied.
+    /// Takes a class out, if it is to leave.
     pub fn take(&mut self, class: u32, emptied: bool)
         requires { class < 256 }
         ensures here { marked self.new class ≡ (if emptied then 0 else marked self.old class) }
@@ -66,13 +74,29 @@ impl Waiting {
     }
 
     /// The classes that are in both sets.
-    pub fn within(&self, other: &Waiting) -> Waiting
+    pub fn within(&self, other: &ClassSet) -> ClassSet
         ensures { (c : ℕ) → marked result c ≡ min (marked self.now c) (marked other.now c) }
     {
         let a = &self.words;
         let b = &other.words;
-        Waiting {
+        ClassSet {
             words: [a[0] & b[0], a[1] & b[1], a[2] & b[2], a[3] & b[3]],
+        }
+    }
+
+    /// The classes that are in this set and not in the other.
+    pub fn without(&self, other: &ClassSet) -> ClassSet
+        ensures { (c : ℕ) → marked result c ≡ marked self.now c - marked other.now c }
+    {
+        let a = &self.words;
+        let b = &other.words;
+        ClassSet {
+            words: [
+                a[0] & (a[0] ^ b[0]),
+                a[1] & (a[1] ^ b[1]),
+                a[2] & (a[2] ^ b[2]),
+                a[3] & (a[3] ^ b[3]),
+            ],
         }
     }
 

@@ -1,8 +1,8 @@
 use Rattle.std.proofs.Common.{◌∙◌, Bool, ap, sym}
 use Rattle.std.specs.Prelude.{if◌then◌else◌}
-use Rattle.cbq_rounds.specs.Waiting.{marked}
-use Rattle.cbq_rounds.proofs.Marks.{take_other, take_same}
-use Rattle.cbq_rounds.proofs.waiting.Waiting.take.Goals as goal
+use Rattle.class_sets.specs.Marked.{marked}
+use Rattle.class_sets.proofs.Marks.{take_other, take_same}
+use Rattle.class_sets.proofs.set.ClassSet.take.Goals as goal
 
 pub returns-then-emptied-clause-here : goal.returns-then-emptied-clause-here
 returns-then-emptied-clause-here c =
