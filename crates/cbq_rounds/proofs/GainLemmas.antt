@@ -1,5 +1,5 @@
 -- The gains of the candidates of a sending, one class after the other.
-use Rattle.std.proofs.Common.{◌≡◌, ◌≤◌, ◌<◌, ◌+◌, ◌*◌, ◌∙◌, inl, inr, ℕ, suc, Bool, true, false, List, [], ◌∷◌, None, Some, length, get_or, refl, ap, sym, subst, arith, eqb, get_or-set_same, get_or-set_other, length-set}
+use Rattle.std.proofs.Common.{◌≡◌, ◌≤◌, ◌<◌, ◌+◌, ◌*◌, ◌∙◌, inl, inr, ℕ, suc, Bool, true, false, List, [], ◌∷◌, Some, length, get_or, refl, ap, sym, subst, arith, eqb, get_or-set_same, get_or-set_other, length-set}
 use Rattle.std.specs.declared.option.Option.{Option}
 use Rattle.std.specs.Prelude.{slice_set, if◌then◌else◌, unwrap_or}
 use Rattle.std.specs.List.{list_any}
@@ -27,7 +27,7 @@ use Rattle.cbq_rounds.specs.Sent.{with_credit}
 use Rattle.cbq_rounds.specs.Shared.{Shared, head_len, may_end, situation_in}
 use Rattle.cbq_rounds.proofs.DueLemmas.{SendsPicked, front_len, member_from, sends_picked}
 use Rattle.cbq_rounds.proofs.LookLemmas.{waiting_may}
-use Rattle.cbq_rounds.proofs.Moments.{head_seen, may_not}
+use Rattle.cbq_rounds.proofs.Moments.{head_seen}
 
 -- lists of one length that have the same at each place are the same
 pub same_lists : (xs ys : List ℕ) → length xs ≡ length ys → ((i : ℕ) → i < length xs → get_or xs i 0 ≡ get_or ys i 0) → xs ≡ ys

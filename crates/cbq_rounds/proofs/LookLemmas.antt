@@ -12,7 +12,7 @@ use Rattle.leaf_queue.specs.declared.node.Entry.{Entry}
 use Rattle.link_clock.specs.Clock.{Clock}
 use Rattle.cbq_rounds.specs.Looked.{AreSized, HasAsked, IsAble, IsLed, IsSeen}
 use Rattle.cbq_rounds.specs.Shared.{Shared, head_len, may_end, situation_in}
-use Rattle.cbq_rounds.proofs.Moments.{head_seen, may_at, may_not}
+use Rattle.cbq_rounds.proofs.Moments.{head_seen, may_at}
 
 pub head_of : (xs : List Entry) (o : Option Entry) → o ≡ slice_get xs 0 → head_len xs ≡ option_map (λ (x : Entry). x.len) o
 head_of xs o e = ap (λ (p : Option Entry). option_map (λ (x : Entry). x.len) p) (sym e)

@@ -296,8 +296,8 @@ length_all f b [] = refl
 length_all f b (k ∷ ks) = let more = length_all f (b + 1) ks in omega (arith, more)
 
 -- what is kept after a sending, and the rows that its packet has left
-pub record HasLeft {Q : Type 0} (stands : Q → List QueueEvent → Type 0) (says : Q → Saying) (d : Ruling Q) (rows : Rowed Q) (clock : Clock) (x : Sending) (after : Shared)
-    : Type 0 where
+pub record HasLeft {Q : Type 0} (stands : Q → List QueueEvent → Type 0) (says : Q → Saying) (d : Ruling Q) (rows : Rowed Q) (x : Sending) (after : Shared) : Type 0 where
+  pub clock : Clock
   pub end : ℕ
   pub emptied : Bool
   pub most : Q → ℕ
@@ -306,12 +306,12 @@ pub record HasLeft {Q : Type 0} (stands : Q → List QueueEvent → Type 0) (say
   pub lists : (c : ℕ) → list_in rows c ≡ after_sent x.class (list_in d.rows) c
 
 -- the classes keep their form after a sending
-pub ruling_after : {Q : Type 0} (stands : Q → List QueueEvent → Type 0) (says : Q → Saying) (d : Ruling Q) (rows : Rowed Q) (clock : Clock) (x : Sending) (after : Shared)
-    (k : Sets) (words : List ℕ) (h : HeldBack) → IsRuling d.shares d.rows k → HasLeft stands says d rows clock x after
+pub ruling_after : {Q : Type 0} (stands : Q → List QueueEvent → Type 0) (says : Q → Saying) (d : Ruling Q) (rows : Rowed Q) (x : Sending) (after : Shared)
+    (k : Sets) (words : List ℕ) (h : HeldBack) → IsRuling d.shares d.rows k → HasLeft stands says d rows x after
     → AreWaiting words (list_in rows) → marked h.set x.class ≢ 1 → ((c : ℕ) → marked h.set c ≡ 1 → IsUntold k.held.set d.shares.estimates after.estimates c)
     → h.moments ≡ k.held.moments → IsRuling after rows (record { waiting = words; held = h; sets = k.sets; tops = k.tops })
-ruling_after stands says d rows clock x after k words h r z wait gone untold moments =
-    let f : ℕ → ℕ = gained_by d.shares (list_in d.rows) clock x in
+ruling_after stands says d rows x after k words h r z wait gone untold moments =
+    let f : ℕ → ℕ = gained_by d.shares (list_in d.rows) z.clock x in
     let i = z.kept in
     let same = z.same in
     let lists = z.lists in

@@ -1,10 +1,9 @@
-use Rattle.std.proofs.Common.{◌≡◌, ◌∙◌, ℕ, Bool, List, [], Some, ap, arith, get_or, refl, sym}
+use Rattle.std.proofs.Common.{◌∙◌, ℕ, Bool, List, [], Some, ap, arith, get_or, refl, sym}
 use Rattle.std.specs.declared.option.Option.{Option}
 use Rattle.std.specs.Prelude.{option_map, if◌then◌else◌}
 use Rattle.altq_model.specs.Link.{end_of}
 use Rattle.leaf_queue.specs.declared.node.Entry.{Entry}
 use Rattle.class_rows.specs.Rows.{list_in}
-use Rattle.cbq_rounds.specs.Shared.{head_len}
 use Rattle.cbq_rounds.proofs.LookLemmas.{IsNext, asked_able, asked_held, first_sized, head_of}
 use Rattle.cbq_rounds.proofs.RingLemmas.{IsWalk, asked_ring, inside, never_none, next_of_walk}
 use Rattle.cbq_rounds.proofs.able.able_at.Given as given

@@ -1,4 +1,4 @@
-use Rattle.std.proofs.Common.{◌≤◌, ◌<◌, ◌/◌, arith}
+use Rattle.std.proofs.Common.{◌<◌, ◌/◌, arith}
 use Rattle.class_sets.proofs.held.take_all_due.Goals as goal
 
 pub returns-clause-late : goal.returns-clause-late

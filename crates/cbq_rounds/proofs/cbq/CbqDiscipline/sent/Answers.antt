@@ -13,10 +13,21 @@ use Rattle.cbq_estimator.specs.Estimate.{Estimate}
 use Rattle.cbq_rounds.specs.Shared.{IsTree, Shared, no_estimate}
 use Rattle.cbq_rounds.proofs.LookLemmas.{first_sized}
 use Rattle.cbq_rounds.specs.Stands.{Ruling, Stands}
-use Rattle.cbq_rounds.proofs.DueLemmas.{sends_picked}
+use Rattle.cbq_rounds.proofs.DueLemmas.{SendsPicked, sends_picked}
 use Rattle.cbq_rounds.proofs.StandsLemmas.{after_steps, kept_end, none_of, ruling_after, sent_stands}
 use Rattle.cbq_rounds.proofs.WaitLemmas.{sent_waiting}
+use Rattle.cbq_rounds.proofs.cbq.CbqDiscipline.sent.Given as given
 use Rattle.cbq_rounds.proofs.cbq.CbqDiscipline.sent.Goals as goal
+use Rattle.cbq_rounds.proofs.cbq.CbqDiscipline.sent.Goals.{After-gain_awake}
+
+-- what is sent is what is due
+picked : (g : given.Over) (c : After-gain_awake g)
+    → SendsPicked c.self.inside.shares (list_in c.self.inside.rows) c.args.clock.now c.args.sending.start c.args.sending.class c.args.sending.len c.args.sending.ticket c.args.sending.rule
+picked g c =
+    let rate : c.args.clock.now.rate ≡ c.self.inside.shares.rate = c.requires.rate ∙ ap (λ (v : Ruling g.row.Q.Denot). v.shares.rate) (sym c.self.view_is) in
+    let due = ap (λ (v : Ruling g.row.Q.Denot). due_in v.shares (list_in v.rows) c.args.clock.now c.args.sending.start) c.self.view_is ∙ c.requires.due in
+    sends_picked c.self.inside.shares (list_in c.self.inside.rows) c.args.clock.now c.args.sending.start c.args.sending.class c.args.sending.len c.args.sending.ticket c.args.sending.rule
+    c.requires.free rate due
 
 pub gain_awake-requires-clause-due : goal.gain_awake-requires-clause-due
 gain_awake-requires-clause-due g c =
@@ -24,68 +35,46 @@ gain_awake-requires-clause-due g c =
 
 pub pay-requires : goal.pay-requires
 pay-requires g c =
-    let d : Ruling g.row.Q.Denot = record { shares = c.self.inside.shares; rows = c.self.inside.rows } in
-    let rate : c.args.clock.now.rate ≡ d.shares.rate = c.requires.rate ∙ ap (λ (v : Ruling g.row.Q.Denot). v.shares.rate) (sym c.self.view_is) in
-    let due = ap (λ (v : Ruling g.row.Q.Denot). due_in v.shares (list_in v.rows) c.args.clock.now c.args.sending.start) c.self.view_is ∙ c.requires.due in
-    let sends = sends_picked d.shares (list_in d.rows) c.args.clock.now c.args.sending.start c.args.sending.class c.args.sending.len c.args.sending.ticket c.args.sending.rule
-    c.requires.free rate due in
-    let tree : length c.gain_awake.new.shares.tree ≡ length d.shares.tree = ap (λ (s : Shared). length s.tree) c.gain_awake.ensures.gains in
+    let sends = picked g (goal.at.pay-requires g c).After-gain_awake in
+    let tree : length c.gain_awake.new.shares.tree ≡ length c.self.inside.shares.tree = ap (λ (s : Shared). length s.tree) c.gain_awake.ensures.gains in
     record { class = omega (arith, sends.place, tree) }
 
 pub set_last-requires-clause-class : goal.set_last-requires-clause-class
 set_last-requires-clause-class g c =
-    let d : Ruling g.row.Q.Denot = record { shares = c.self.inside.shares; rows = c.self.inside.rows } in
-    let rate : c.args.clock.now.rate ≡ d.shares.rate = c.requires.rate ∙ ap (λ (v : Ruling g.row.Q.Denot). v.shares.rate) (sym c.self.view_is) in
-    let due = ap (λ (v : Ruling g.row.Q.Denot). due_in v.shares (list_in v.rows) c.args.clock.now c.args.sending.start) c.self.view_is ∙ c.requires.due in
-    let sends = sends_picked d.shares (list_in d.rows) c.args.clock.now c.args.sending.start c.args.sending.class c.args.sending.len c.args.sending.ticket c.args.sending.rule
-    c.requires.free rate due in
-    let tree : length c.pay.new.self.tree ≡ length d.shares.tree = ap (λ (s : Shared). length s.tree) c.pay.ensures ∙ ap (λ (s : Shared). length s.tree) c.gain_awake.ensures.gains in
+    let sends = picked g (goal.at.set_last-requires-clause-class g c).After-gain_awake in
+    let tree : length c.pay.new.self.tree ≡ length c.self.inside.shares.tree = ap (λ (s : Shared). length s.tree) c.pay.ensures ∙ ap (λ (s : Shared). length s.tree) c.gain_awake.ensures.gains in
     omega (arith, sends.place, tree)
 
 pub tell-requires-clause-class : goal.tell-requires-clause-class
 tell-requires-clause-class g c =
-    let d : Ruling g.row.Q.Denot = record { shares = c.self.inside.shares; rows = c.self.inside.rows } in
-    let rate : c.args.clock.now.rate ≡ d.shares.rate = c.requires.rate ∙ ap (λ (v : Ruling g.row.Q.Denot). v.shares.rate) (sym c.self.view_is) in
-    let due = ap (λ (v : Ruling g.row.Q.Denot). due_in v.shares (list_in v.rows) c.args.clock.now c.args.sending.start) c.self.view_is ∙ c.requires.due in
-    let sends = sends_picked d.shares (list_in d.rows) c.args.clock.now c.args.sending.start c.args.sending.class c.args.sending.len c.args.sending.ticket c.args.sending.rule
-    c.requires.free rate due in
-    let tree : length c.set_last.new.self.tree ≡ length d.shares.tree =
+    let sends = picked g (goal.at.tell-requires-clause-class g c).After-gain_awake in
+    let tree : length c.set_last.new.self.tree ≡ length c.self.inside.shares.tree =
     ap (λ (s : Shared). length s.tree) c.set_last.ensures ∙ ap (λ (s : Shared). length s.tree) c.pay.ensures ∙ ap (λ (s : Shared). length s.tree) c.gain_awake.ensures.gains in
     omega (arith, sends.place, tree)
 
 pub tell-requires-clause-some_bytes : goal.tell-requires-clause-some_bytes
 tell-requires-clause-some_bytes g c =
-    let d : Ruling g.row.Q.Denot = record { shares = c.self.inside.shares; rows = c.self.inside.rows } in
-    let rate : c.args.clock.now.rate ≡ d.shares.rate = c.requires.rate ∙ ap (λ (v : Ruling g.row.Q.Denot). v.shares.rate) (sym c.self.view_is) in
-    let due = ap (λ (v : Ruling g.row.Q.Denot). due_in v.shares (list_in v.rows) c.args.clock.now c.args.sending.start) c.self.view_is ∙ c.requires.due in
-    let sends = sends_picked d.shares (list_in d.rows) c.args.clock.now c.args.sending.start c.args.sending.class c.args.sending.len c.args.sending.ticket c.args.sending.rule
-    c.requires.free rate due in
-    let sized = first_sized (list_in d.rows c.args.sending.class) sends.entry (c.self.invariant.sized c.args.sending.class) sends.front in
+    let sends = picked g (goal.at.tell-requires-clause-some_bytes g c).After-gain_awake in
+    let sized = first_sized (list_in c.self.inside.rows c.args.sending.class) sends.entry (c.self.invariant.sized c.args.sending.class) sends.front in
     omega (arith, sized.0, sends.of_len)
 
 pub tell-requires-clause-few_bytes : goal.tell-requires-clause-few_bytes
 tell-requires-clause-few_bytes g c =
-    let d : Ruling g.row.Q.Denot = record { shares = c.self.inside.shares; rows = c.self.inside.rows } in
-    let rate : c.args.clock.now.rate ≡ d.shares.rate = c.requires.rate ∙ ap (λ (v : Ruling g.row.Q.Denot). v.shares.rate) (sym c.self.view_is) in
-    let due = ap (λ (v : Ruling g.row.Q.Denot). due_in v.shares (list_in v.rows) c.args.clock.now c.args.sending.start) c.self.view_is ∙ c.requires.due in
-    let sends = sends_picked d.shares (list_in d.rows) c.args.clock.now c.args.sending.start c.args.sending.class c.args.sending.len c.args.sending.ticket c.args.sending.rule
-    c.requires.free rate due in
-    let sized = first_sized (list_in d.rows c.args.sending.class) sends.entry (c.self.invariant.sized c.args.sending.class) sends.front in
+    let sends = picked g (goal.at.tell-requires-clause-few_bytes g c).After-gain_awake in
+    let sized = first_sized (list_in c.self.inside.rows c.args.sending.class) sends.entry (c.self.invariant.sized c.args.sending.class) sends.front in
     omega (arith, sized.1, sends.of_len)
 
 pub invariant_of-self : goal.invariant_of-self
 invariant_of-self g c =
     let d : Ruling g.row.Q.Denot = record { shares = c.self.inside.shares; rows = c.self.inside.rows } in
-    let rate : c.args.clock.now.rate ≡ d.shares.rate = c.requires.rate ∙ ap (λ (v : Ruling g.row.Q.Denot). v.shares.rate) (sym c.self.view_is) in
-    let due = ap (λ (v : Ruling g.row.Q.Denot). due_in v.shares (list_in v.rows) c.args.clock.now c.args.sending.start) c.self.view_is ∙ c.requires.due in
-    let sends = sends_picked d.shares (list_in d.rows) c.args.clock.now c.args.sending.start c.args.sending.class c.args.sending.len c.args.sending.ticket c.args.sending.rule
-    c.requires.free rate due in
+    let sends = picked g (goal.at.invariant_of-self g c).After-gain_awake in
     let steps = after_steps g.Q.QueueRule.stands g.Q.QueueRule.says d c.args.clock.now c.args.sending c.max-end.result c.is_none-emptied.result c.gain_awake.new.shares c.pay.new.self
     c.set_last.new.self c.tell.new.self sends.place c.gain_awake.ensures.gains c.pay.ensures c.set_last.ensures c.tell.ensures.told in
-    ruling_after g.Q.QueueRule.stands g.Q.QueueRule.says d c.take.new.self c.args.clock.now c.args.sending c.tell.new.self
+    ruling_after g.Q.QueueRule.stands g.Q.QueueRule.says d c.take.new.self c.args.sending c.tell.new.self
     (record { waiting = c.self.inside.waiting; held = c.self.inside.held; sets = c.self.inside.rings.sets.items; tops = c.self.inside.rings.tops.items })
     c.take-2.new.self c.tell.new.held c.self.invariant
     (record {
+      clock = c.args.clock.now;
       end = c.max-end.result;
       emptied = c.is_none-emptied.result;
       most = g.Q.QueueRule.most;
