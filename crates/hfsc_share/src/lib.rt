@@ -332,15 +332,16 @@ fn groups_of(alloc: Global, classes: &[HfscClass]) -> Result<Vec<Group>, NoMemor
     Ok(groups)
 }
 
-/// How many classes have a place among the children of a class: all, or where it has no child none.
+/// How many classes have a place among the children of a class: those up to its last child, or where it has no child none.
 fn places_below(classes: &[HfscClass], class: u32) -> u32
     requires { length classes.now ≤ 256 }
     ensures { (c : ℕ) → is_child classes.now class c ≡ true → c < result }
 {
-    for other in classes {
-        if other.parent == Some(class) {
-            return classes.len() as u32;
+    let mut places = 0;
+    for index in 0..classes.len() as u32 {
+        if classes[index as usize].parent == Some(class) {
+            places = index + 1;
         }
     }
-    0
+    places
 }
