@@ -5,8 +5,8 @@ use Rattle.capture_model.specs.Header.{capture_header}
 use Rattle.play_base.specs.View.{View, Wrote, WroteFront}
 use Rattle.play_loop.specs.Outputs.{TextsAre, FrontsAre}
 use Rattle.play_loop.specs.Played.{AreEmpty}
-use Rattle.play_loop.proofs.GatheredLaws.{text_of_held}
-use Rattle.play_loop.proofs.GatherLemmas.{grew_whole, stopped_whole}
+use Rattle.gathered_writes.proofs.GatheredLaws.{text_of_held}
+use Rattle.gathered_writes.proofs.GatherLemmas.{grew_whole, stopped_whole}
 use Rattle.play_loop.proofs.OutputLemmas.{texts_departed, texts_rowed, fronts_departed, fronts_rowed}
 
 texts_empty : (v : View) (dep fat : ℕ) → AreEmpty v dep fat → TextsAre v dep fat [] [] [] []

@@ -1,12 +1,20 @@
 -- What calls one after another leave as it was.
-use Rattle.std.proofs.Common.{◌≡◌, ◌≢◌, ◌∙◌, ℕ, List, refl, sym, subst}
-use Rattle.std.specs.Prelude.{IsSome, IsTrue}
-use Rattle.play_base.specs.View.{View, Keeps, Any, Took, Wrote}
-use Rattle.play_base.specs.Holds.{Apart}
-use Rattle.play_base.proofs.ViewLaws.{keeps_fewer, keeps_refl, later_trans, part_of_there, still_there}
-use Rattle.play_base.proofs.HoldsLaws.{apart_kept}
+use Rattle.std.proofs.Common.{◌≡◌, ◌≢◌, ◌∙◌, ℕ, List, Ok, Err, refl, sym, subst}
+use Rattle.std.specs.Prelude.{IsErrOf, IsSome}
+use Rattle.play_base.specs.declared.trouble.Trouble.{Trouble}
+use Rattle.play_base.specs.declared.trouble.Trouble.TheVariants as trouble
+use Rattle.play_base.specs.View.{View, Keeps, Any, WriteFault, Wrote}
+use Rattle.play_base.proofs.ViewLaws.{keeps_fewer, keeps_refl, later_trans, part_of_there, rose_later, same_refl, same_trans as same_counts}
 use Rattle.pcap_files.specs.Ahead.{TookSome}
+use Rattle.play_loop.specs.declared.fault.Opened.{Opened}
+use Rattle.play_loop.specs.declared.fault.Output.TheVariants as output
+use Rattle.play_loop.specs.declared.fault.PlayFault.{PlayFault}
+use Rattle.play_loop.specs.declared.fault.PlayFault.TheVariants as play
+use Rattle.play_loop.specs.declared.outputs.Outputs.{Outputs}
 use Rattle.play_loop.specs.Kept.{IsOther, KeepsBut, KeepsBeside, OnlyWrote, OnlyPlayed}
+use Rattle.play_loop.specs.Outputs.{AddsOnly, AreOpened, HasTexts, IsWriteCause, SameFiles, output_fault}
+use Rattle.play_loop.specs.Played.{AreReady}
+use Rattle.play_loop.proofs.OutputLemmas.{same_trans}
 
 pub wrote_first : (v w : View) (dep fat : ℕ) (xs : List ℕ) → Wrote v w dep xs → OnlyWrote dep fat v w
 wrote_first v w dep fat xs x = record {
@@ -59,6 +67,50 @@ wrote_both u v w dep fat xs ys is_dep is_fat x y = only_more u v w dep fat is_de
 pub only_nothing : (v : View) (dep fat : ℕ) → OnlyWrote dep fat v v
 only_nothing v dep fat = record { keeps = keeps_refl _ _ v; none = λ f h. h; said = refl }
 
+-- why a write failed, where nothing failed before
+pub cause_since : (N : List ℕ → Type 0) (F : ℕ → Type 0) (dep fat dep' fat' : ℕ) (u v w : View) (f : PlayFault) → Keeps N F u v → dep' ≡ dep → fat' ≡ fat
+    → IsWriteCause dep' fat' v w f → IsWriteCause dep fat u w f
+cause_since N F dep fat dep' fat' u v w (play.Write output.Departures) k d f x = λ p at.
+    let Q : ℕ → Type 0 = λ n. WriteFault v w n in rose_later _ _ _ (k.later.write p) (subst Q d x p (k.part dep p at))
+cause_since N F dep fat dep' fat' u v w (play.Write output.Fates) k d f x = λ p at.
+    let Q : ℕ → Type 0 = λ n. WriteFault v w n in rose_later _ _ _ (k.later.write p) (subst Q f x p (k.part fat p at))
+cause_since N F dep fat dep' fat' u v w (play.Write output.Statistics) k d f x = absurd x
+cause_since N F dep fat dep' fat' u v w play.NoMemory k d f x = tt
+cause_since N F dep fat dep' fat' u v w (play.Capture damage) k d f x = absurd x
+cause_since N F dep fat dep' fat' u v w play.Read k d f x = absurd x
+cause_since N F dep fat dep' fat' u v w (play.Limit limit) k d f x = absurd x
+
+-- why the fates were not written
+by_trouble : (dep fat : ℕ) (v w : View) (t : Trouble) → (IsErrOf {T = Unit {0}} (Err t) trouble.Failed → WriteFault v w fat) → IsWriteCause dep fat v w (output_fault output.Fates t)
+by_trouble dep fat v w trouble.Failed h = h refl
+by_trouble dep fat v w trouble.NoMemory h = tt
+
+pub fates_cause : (dep fat : ℕ) (v w : View) (t : Trouble) (f : PlayFault) → f ≡ output_fault output.Fates t
+    → (IsErrOf {T = Unit {0}} (Err t) trouble.Failed → WriteFault v w fat) → IsWriteCause dep fat v w f
+fates_cause dep fat v w t f e h = let P : PlayFault → Type 0 = λ k. IsWriteCause dep fat v w k in subst P (sym e) (by_trouble dep fat v w t h)
+
+-- calls one after another that add to the outputs
+pub adds_nothing : {A : Type 0} (v : View) (o : Outputs) (a : A) → AddsOnly v v o o (Ok a)
+adds_nothing v o a = record { same = record { departures = refl; fates = refl }; others = only_nothing v o.departures o.fates; no_fault = same_refl v; why = tt }
+
+pub then_ok : {A B C : Type 0} (u v w : View) (a b c : Outputs) (x : A) (y : B) (z : C) → IsSome (u.part a.departures) → IsSome (u.part a.fates)
+    → AddsOnly u v a b (Ok x) → AddsOnly v w b c (Ok y) → AddsOnly u w a c (Ok z)
+then_ok u v w a b c x y z is_dep is_fat p q = record {
+  same = same_trans a b c p.same q.same;
+  others = only_trans u v w a.departures a.fates b.departures b.fates is_dep is_fat p.same.departures p.same.fates p.others q.others;
+  no_fault = same_counts u v w p.no_fault q.no_fault;
+  why = tt;
+}
+
+pub then_err : {A B C : Type 0} (u v w : View) (a b c : Outputs) (x : A) (f : PlayFault) → IsSome (u.part a.departures) → IsSome (u.part a.fates)
+    → AddsOnly u v a b (Ok x) → AddsOnly {A = B} v w b c (Err f) → AddsOnly {A = C} u w a c (Err f)
+then_err u v w a b c x f is_dep is_fat p q = record {
+  same = same_trans a b c p.same q.same;
+  others = only_trans u v w a.departures a.fates b.departures b.fates is_dep is_fat p.same.departures p.same.fates p.others q.others;
+  no_fault = tt;
+  why = cause_since _ _ a.departures a.fates b.departures b.fates u v w f p.others.keeps p.same.departures p.same.fates q.why;
+}
+
 -- reads of the arrivals among the writes
 pub played_nothing : (v : View) (arr dep fat : ℕ) → OnlyPlayed arr dep fat v v
 played_nothing v arr dep fat = record { keeps = keeps_refl _ _ v; none = λ f h. h; said = refl }
@@ -94,27 +146,46 @@ played_more u v w arr dep fat is_dep is_fat x y =
       said = y.said ∙ x.said;
     }
 
-pub then_took : (u v w : View) (arr dep fat arr' : ℕ) → IsSome (u.part dep) → IsSome (u.part fat) → arr' ≡ arr → OnlyPlayed arr dep fat u v → TookSome v w arr'
-    → OnlyPlayed arr dep fat u w
-then_took u v w arr dep fat arr' is_dep is_fat e x y =
+-- then the arrivals are read, and the outputs are written
+pub took_more : (u v w : View) (arr arr' : ℕ) (o : Outputs) (ds ts : List ℕ) → HasTexts u o ds ts → arr' ≡ arr → OnlyPlayed arr o.departures o.fates u v → TookSome v w arr'
+    → OnlyPlayed arr o.departures o.fates u w
+took_more u v w arr arr' o ds ts h e x y =
     let P : ℕ → Type 0 = λ n. TookSome v w n in
-    played_more u v w arr dep fat is_dep is_fat x (played_took v w arr dep fat (subst P e y))
+    played_more u v w arr o.departures o.fates h.departures.holds.there h.fates.holds.there x (played_took v w arr o.departures o.fates (subst P e y))
 
-pub then_wrote : (u v w : View) (arr dep fat dep' fat' : ℕ) → IsSome (u.part dep) → IsSome (u.part fat) → dep' ≡ dep → fat' ≡ fat
-    → OnlyPlayed arr dep fat u v → OnlyWrote dep' fat' v w → OnlyPlayed arr dep fat u w
-then_wrote u v w arr dep fat dep' fat' is_dep is_fat d f x y =
-    let P : ℕ → Type 0 = λ n. OnlyWrote n fat' v w in
-    let Q : ℕ → Type 0 = λ n. OnlyWrote dep n v w in
-    played_more u v w arr dep fat is_dep is_fat x (played_wrote v w arr dep fat (subst Q f (subst P d y)))
+pub wrote_more : (u v w : View) (arr : ℕ) (o p : Outputs) (ds ts : List ℕ) → HasTexts u o ds ts → SameFiles o p → OnlyPlayed arr o.departures o.fates u v
+    → OnlyWrote p.departures p.fates v w → OnlyPlayed arr o.departures o.fates u w
+wrote_more u v w arr o p ds ts h same x y =
+    let P : ℕ → Type 0 = λ n. OnlyWrote n p.fates v w in
+    let Q : ℕ → Type 0 = λ n. OnlyWrote o.departures n v w in
+    played_more u v w arr o.departures o.fates h.departures.holds.there h.fates.holds.there x
+    (played_wrote v w arr o.departures o.fates (subst Q same.fates (subst P same.departures y)))
 
-pub first_wrote : (u v : View) (arr dep fat : ℕ) → OnlyWrote dep fat u v → OnlyPlayed arr dep fat u v
-first_wrote u v arr dep fat x = played_wrote u v arr dep fat x
+-- the same over the opened files: the heads are written, the arrivals begun, their records played, and the rest written
+abbrev pub HasPlayedOn : Opened → View → View → Type 0
+HasPlayedOn o u v = OnlyPlayed o.arrivals o.departures o.fates u v
 
--- then another play over the same files
-pub then_played : (u v w : View) (arr dep fat arr' dep' fat' : ℕ) → IsSome (u.part dep) → IsSome (u.part fat) → arr' ≡ arr → dep' ≡ dep → fat' ≡ fat
-    → OnlyPlayed arr dep fat u v → OnlyPlayed arr' dep' fat' v w → OnlyPlayed arr dep fat u w
-then_played u v w arr dep fat arr' dep' fat' is_dep is_fat e d f x y =
-    let O : ℕ → Type 0 = λ n. OnlyPlayed n dep' fat' v w in
-    let P : ℕ → Type 0 = λ n. OnlyPlayed arr n fat' v w in
-    let Q : ℕ → Type 0 = λ n. OnlyPlayed arr dep n v w in
-    played_more u v w arr dep fat is_dep is_fat x (subst Q f (subst P d (subst O e y)))
+pub heads_played : (u v : View) (o : Opened) → OnlyWrote o.departures o.fates u v → HasPlayedOn o u v
+heads_played u v o x = played_wrote u v o.arrivals o.departures o.fates x
+
+pub start_played : (u v w : View) (o : Opened) → AreReady u o → OnlyWrote o.departures o.fates u v → TookSome v w o.arrivals → HasPlayedOn o u w
+start_played u v w o r x y =
+    played_more u v w o.arrivals o.departures o.fates r.empty.departures.there r.empty.fates.there (heads_played u v o x) (played_took v w o.arrivals o.departures o.fates y)
+
+pub records_played : (u v w : View) (o : Opened) (p : Outputs) (file : ℕ) → AreReady u o → AreOpened p o → file ≡ o.arrivals → HasPlayedOn o u v
+    → OnlyPlayed file p.departures p.fates v w → HasPlayedOn o u w
+records_played u v w o p file r a e x y =
+    let O : ℕ → Type 0 = λ n. OnlyPlayed n p.departures p.fates v w in
+    let P : ℕ → Type 0 = λ n. OnlyPlayed o.arrivals n p.fates v w in
+    let Q : ℕ → Type 0 = λ n. OnlyPlayed o.arrivals o.departures n v w in
+    played_more u v w o.arrivals o.departures o.fates r.empty.departures.there r.empty.fates.there x (subst Q a.fates (subst P a.departures (subst O e y)))
+
+pub close_played : (u v w : View) (o : Opened) (p : Outputs) → AreReady u o → AreOpened p o → HasPlayedOn o u v → OnlyWrote p.departures p.fates v w → HasPlayedOn o u w
+close_played u v w o p r a x y =
+    let P : ℕ → Type 0 = λ n. OnlyWrote n p.fates v w in
+    let Q : ℕ → Type 0 = λ n. OnlyWrote o.departures n v w in
+    played_more u v w o.arrivals o.departures o.fates r.empty.departures.there r.empty.fates.there x
+    (played_wrote v w o.arrivals o.departures o.fates (subst Q a.fates (subst P a.departures y)))
+
+pub opened_same : (o : Opened) (p q : Outputs) → AreOpened p o → SameFiles p q → AreOpened q o
+opened_same o p q a s = record { departures = s.departures ∙ a.departures; fates = s.fates ∙ a.fates }

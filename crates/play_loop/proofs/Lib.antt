@@ -1,15 +1,13 @@
-pub mod CountingLemmas
-pub mod GatherLemmas
-pub mod GatheredLaws
+pub mod CloseLemmas
 pub mod HeadLemmas
 pub mod KeptLemmas
 pub mod OutputLemmas
 pub mod PacketLemmas
 pub mod PlayLemmas
 pub mod RecordLemmas
-pub mod SentLemmas
 pub mod StatsLemmas
 pub mod TextLemmas
 pub mod ToldLemmas
 pub mod TurnLemmas
 pub mod WeightLemmas
+pub mod WrittenLemmas

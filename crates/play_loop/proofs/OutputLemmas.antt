@@ -6,11 +6,11 @@ use Rattle.std.specs.declared.option.Option.{Option}
 use Rattle.play_base.specs.View.{View, Wrote, WroteFront}
 use Rattle.play_base.proofs.ViewLaws.{keeps_trans, keeps_fewer, part_of_there}
 use Rattle.play_base.proofs.HoldsLaws.{apart_kept, apart_sym}
-use Rattle.play_loop.specs.Gathered.{Grew, Stopped}
-use Rattle.play_loop.proofs.GatheredLaws.{text_grew, text_stopped, text_beside, text_front, text_same, front_longer, front_same}
+use Rattle.gathered_writes.specs.Gathered.{Grew, Stopped}
+use Rattle.gathered_writes.proofs.GatheredLaws.{text_grew, text_stopped, text_beside, text_front, text_same, front_longer, front_same}
 use Rattle.play_loop.specs.declared.outputs.Outputs.{Outputs}
 use Rattle.play_loop.specs.Outputs.{TextsAre, FrontsAre, SameFiles}
-use Rattle.play_loop.proofs.GatherLemmas.{stopped_at_front}
+use Rattle.gathered_writes.proofs.GatherLemmas.{stopped_at_front}
 
 pub texts_departed : (u v : View) (dep fat : ℕ) (recs recs' rows ds ts d : List ℕ) → TextsAre u dep fat recs rows ds ts → Grew u v dep recs recs' d
     → TextsAre v dep fat recs' rows (ds ++ d) ts

@@ -1,38 +1,23 @@
 -- A packet that was read and is the next to be offered.
-use Rattle.std.proofs.Common.{◌≡◌, ◌≤◌, ◌<◌, ◌++◌, ◌∙◌, ◌+◌, ℕ, List, [], ◌∷◌, length, Some, ap, sym, subst, arith}
+use Rattle.std.proofs.Common.{◌≡◌, ◌≤◌, ◌<◌, ◌∙◌, ◌+◌, ℕ, List, ◌∷◌, length, Some, ap, sym, subst, arith}
 use Rattle.std.specs.Prelude.{slice_get, option_map}
-use Rattle.std.specs.Option.{option_map_or}
 use Rattle.std.specs.declared.option.Option.{Option}
 use Rattle.altq_model.specs.declared.Placed.{Placed}
 use Rattle.altq_model.specs.Arrivals.{Arrival, coming_of, comings}
-use Rattle.altq_model.specs.History.{Coming, DrawnWords, Happened, bare, drawn, offered, journal}
-use Rattle.altq_model.specs.Lawful.{latest}
-use Rattle.altq_model.specs.Play.{Policy, AreDue, offer_of}
-use Rattle.play_text.specs.Texts.{Naming, fates}
-use Rattle.play_base.specs.declared.packet.Packet.{Packet}
+use Rattle.altq_model.specs.History.{Coming, DrawnWords, Happened, bare, offered}
+use Rattle.altq_model.specs.Lawful.{IsOneOf, latest}
+use Rattle.altq_model.specs.Play.{Policy, AreDue}
 use Rattle.play_laws.proofs.ArrivalLemmas.{comings_length}
-use Rattle.play_core.specs.declared.turn.Dropped.{Dropped}
-use Rattle.play_core.specs.Ended.{IsBegun}
-use Rattle.play_core.specs.Going.{IsGoing, numbered}
-use Rattle.play_core.specs.declared.state.Progress.{Progress}
-use Rattle.leaf_queue.specs.declared.node.Entry.{Entry}
 use Rattle.play_laws.proofs.TimeLemmas.{next_later}
-use Rattle.play_core.proofs.GoingLemmas.{IsPromised}
-use Rattle.play_core.specs.Turns.{IsNext, Offers, arrives, handed_back}
+use Rattle.play_core.specs.Finished.{EndsWithOffer}
+use Rattle.play_core.specs.Going.{numbered}
+use Rattle.play_core.specs.Turns.{IsNext, Offers, arrives}
 use Rattle.play_core.proofs.OfferLemmas.{is_coming}
-use Rattle.altq_model.specs.declared.Counts.{Counts}
-use Rattle.play_text.specs.Names.{NameList}
 use Rattle.play_loop.specs.declared.arriving.Arriving.{Arriving}
-use Rattle.play_loop.specs.declared.counting.Counted.TheVariants as counted
-use Rattle.play_loop.specs.Counting.{HasCounted, count_at}
-use Rattle.play_loop.proofs.CountingLemmas.{counted_by}
-use Rattle.play_loop.specs.KeptFates.{dropped_fate, kept_fates}
-use Rattle.play_loop.specs.Outputs.{dropped_row}
 use Rattle.play_loop.specs.Reading.{arrival_of}
-use Rattle.play_loop.specs.Underway.{AreMade, IsHeld, StayDue}
-use Rattle.play_loop.proofs.TextLemmas.{fates_offered}
-use Rattle.play_loop.proofs.ToldLemmas.{told_offered}
-use Rattle.play_loop.proofs.TurnLemmas.{open_stays, offered_stays}
+use Rattle.play_loop.specs.Setup.{Setup}
+use Rattle.play_loop.specs.Underway.{AreMade, IsHeld, IsUnderway, Moment, StayDue}
+use Rattle.play_loop.proofs.TurnLemmas.{begun_of, from_setup, offered_stays, open_stays}
 
 pub held_arrives : (place : List ℕ → Placed) (arrived : List Arrival) (g : List Happened) (p : Arriving) → IsHeld place arrived g p
     → Some p.packet.at ≡ arrives arrived g
@@ -48,76 +33,38 @@ held_same place arrived g k p e h = record {
   placed_is = h.placed_is;
 }
 
+-- it may be offered: it is placed in a class of the policy
+pub held_class : (x : Setup) (m : Moment) (arrived : List Arrival) (w : DrawnWords) (g k : List Happened) (p : Arriving) → IsUnderway x m arrived w g → IsHeld x.place arrived k p
+    → IsOneOf p.placed.class m.shown.policy.classes
+held_class x m arrived w g k p u h =
+    let P : Policy → Type 0 = λ q. IsOneOf p.placed.class q.classes in
+    let Q : Placed → Type 0 = λ q. IsOneOf q.class x.policy.classes in
+    subst P (sym u.setup.policy) (subst Q (sym h.placed_is) (u.setup.sound.held p.packet.bytes))
+
 -- its offer is due once every sending before it was made
-pub offers_it : (place : List ℕ → Placed) (p q : Policy) (r s seed : ℕ) (arrived : List Arrival) (g : List Happened) (x : Arriving) (arrival : Option ℕ) (placed : Placed)
-    → p ≡ q → r ≡ s → IsHeld place arrived g x → AreMade q s seed arrived g arrival → placed ≡ place x.packet.bytes
-    → Offers p r seed arrived g (arrival_of place x) x.packet placed
-offers_it place p q r s seed arrived g x arrival placed e f h m b =
-    let P : Policy → Type 0 = λ k. IsNext k s seed arrived g (arrival_of place x) in
-    let R : ℕ → Type 0 = λ k. IsNext p k seed arrived g (arrival_of place x) in
-    record {
-      next = subst R (sym f) (subst P (sym e) (m.next (arrival_of place x) h.there));
-      packet_is = h.packet_is;
-      placed_is = b;
-    }
-
-words_are : (w : DrawnWords) (n : ℕ) → w.drawn ≡ n → w ≡ record { seed = w.seed; drawn = n }
-words_are w n e = ap (λ (k : ℕ). record { seed = w.seed; drawn = k }) e
-
--- the row that its offer adds
-pub fates_after : (place : List ℕ → Placed) (names : Naming) (p : Policy) (w : DrawnWords) (arrived : List Arrival) (g : List Happened) (x : Arriving) (placed : Placed) (back : Option Dropped)
-    → IsHeld place arrived g x → w.drawn ≡ drawn (bare g) → placed ≡ place x.packet.bytes
-    → back ≡ handed_back (p.answer (bare g) w (coming_of (arrival_of place x))).verdict x.packet
-    → fates names arrived (journal g) ++ option_map_or (dropped_row names placed.class) back []
-    ≡ fates names arrived (journal (offer_of p w.seed g (coming_of (arrival_of place x)) ∷ g))
-fates_after place names p w arrived g x placed back h d b e =
-    let a : Arrival = arrival_of place x in
-    let v : back ≡ handed_back (p.answer (bare g) (record { seed = w.seed; drawn = drawn (bare g) }) (coming_of a)).verdict x.packet =
-    e ∙ ap (λ (k : DrawnWords). handed_back (p.answer (bare g) k (coming_of a)).verdict x.packet) (words_are w (drawn (bare g)) d) in
-    ap (λ (o : Option Dropped). fates names arrived (journal g) ++ option_map_or (dropped_row names placed.class) o []) v
-    ∙ fates_offered names p w.seed arrived g placed.class a x.packet (is_coming arrived g a h.there).numbered_is h.packet_is (ap (λ (k : Placed). k.class) b)
-
--- what its offer tells
-pub told_after : (place : List ℕ → Placed) (p : Policy) (w : DrawnWords) (arrived : List Arrival) (g : List Happened) (x : Arriving) (back : Option Dropped)
-    → IsHeld place arrived g x → w.drawn ≡ drawn (bare g) → back ≡ handed_back (p.answer (bare g) w (coming_of (arrival_of place x))).verdict x.packet
-    → kept_fates arrived (journal g) ++ option_map_or (λ (d : Dropped). dropped_fate d ∷ []) back []
-    ≡ kept_fates arrived (journal (offer_of p w.seed g (coming_of (arrival_of place x)) ∷ g))
-told_after place p w arrived g x back h d e =
-    let a : Arrival = arrival_of place x in
-    let v : back ≡ handed_back (p.answer (bare g) (record { seed = w.seed; drawn = drawn (bare g) }) (coming_of a)).verdict x.packet =
-    e ∙ ap (λ (k : DrawnWords). handed_back (p.answer (bare g) k (coming_of a)).verdict x.packet) (words_are w (drawn (bare g)) d) in
-    ap (λ (o : Option Dropped). kept_fates arrived (journal g) ++ option_map_or (λ (d : Dropped). dropped_fate d ∷ []) o []) v
-    ∙ told_offered p w.seed arrived g a x.packet (is_coming arrived g a h.there).numbered_is h.packet_is
-
--- and the counts with it
-pub counted_after : (place : List ℕ → Placed) (names : NameList) (p : Policy) (w : DrawnWords) (arrived : List Arrival) (g : List Happened) (x : Arriving) (back : Option Dropped) (ks ls : List Counts)
-    → IsHeld place arrived g x → w.drawn ≡ drawn (bare g) → back ≡ handed_back (p.answer (bare g) w (coming_of (arrival_of place x))).verdict x.packet
-    → HasCounted names arrived (journal g) ks → ls ≡ option_map_or (λ (d : Dropped). count_at names x.placed.class (counted.Dropped d.reason) ks) back ks
-    → HasCounted names arrived (journal (offer_of p w.seed g (coming_of (arrival_of place x)) ∷ g)) ls
-counted_after place names p w arrived g x back ks ls h d e k l =
-    let a : Arrival = arrival_of place x in
-    let v : back ≡ handed_back (p.answer (bare g) (record { seed = w.seed; drawn = drawn (bare g) }) (coming_of a)).verdict x.packet =
-    e ∙ ap (λ (q : DrawnWords). handed_back (p.answer (bare g) q (coming_of a)).verdict x.packet) (words_are w (drawn (bare g)) d) in
-    counted_by names arrived (journal g) (offered (bare g) + 1) x.placed.class (p.answer (bare g) (record { seed = w.seed; drawn = drawn (bare g) }) (coming_of a)).verdict x.packet ks ls k
-    (ap (λ (q : Placed). q.class) h.placed_is ∙ ap (λ (b : Arrival). b.class) (sym (is_coming arrived g a h.there).numbered_is))
-    (l ∙ ap (λ (o : Option Dropped). option_map_or (λ (z : Dropped). count_at names x.placed.class (counted.Dropped z.reason) ks) o ks) v)
-
--- what was decided before and with its offer stays so, whatever arrives later
-pub before_stays : (place : List ℕ → Placed) (p : Policy) (rate seed : ℕ) (arrived : List Arrival) (g k : List Happened) (x : Arriving) → IsHeld place arrived g x
-    → offered (bare k) ≡ offered (bare g) → AreDue p rate seed (comings arrived) k → StayDue p rate seed arrived k
-before_stays place p rate seed arrived g k x h e d =
-    open_stays p rate seed arrived k (offered (bare g)) (omega (arith, (is_coming arrived g (arrival_of place x) h.there).inside, comings_length arrived)) (omega (arith, e)) d
-
-pub with_stays : (place : List ℕ → Placed) (p q : Policy) (rate seed w : ℕ) (arrived : List Arrival) (g : List Happened) (x : Arriving) (a : Coming) → IsHeld place arrived g x
-    → AreDue p rate seed (comings arrived) (offer_of q w g a ∷ g) → StayDue p rate seed arrived (offer_of q w g a ∷ g)
-with_stays place p q rate seed w arrived g x a h d =
-    offered_stays p rate seed arrived (offer_of q w g a ∷ g) (omega (arith, (is_coming arrived g (arrival_of place x) h.there).inside, comings_length arrived)) tt d
-
-pub same_seed : (p : Policy) (rate seed s : ℕ) (cs : List Coming) (g : List Happened) → seed ≡ s → IsBegun p rate seed cs g → IsBegun p rate s cs g
-same_seed p rate seed s cs g e x = let P : ℕ → Type 0 = λ k. IsBegun p rate k cs g in subst P e x
+pub offers_it : (x : Setup) (m : Moment) (arrived : List Arrival) (w : DrawnWords) (g : List Happened) (p : Arriving) (arrival : Option ℕ) → IsUnderway x m arrived w g
+    → IsHeld x.place arrived g p → AreMade x arrived g arrival
+    → Offers m.shown.policy m.progress.clock.rate w.seed arrived g (arrival_of x.place p) p.packet p.placed
+offers_it x m arrived w g p arrival u h made = record {
+  next = from_setup (λ q rate seed. IsNext q rate seed arrived g (arrival_of x.place p)) x m w.seed u.setup (made.next (arrival_of x.place p) h.there);
+  packet_is = h.packet_is;
+  placed_is = h.placed_is;
+}
 
 -- nothing that was offered arrived later
-pub not_earlier : (place : List ℕ → Placed) (p : Policy) (stood : List Happened → Type 0) (lists : ℕ → List Entry) (limits : ℕ → ℕ) (rate : Option ℕ) (arrived : List Arrival) (w : DrawnWords)
-    (x : Progress) (g : List Happened) (a : Arriving) → IsPromised p x.clock.rate → IsGoing p stood lists limits rate arrived w x g → IsHeld place arrived g a → latest (bare g) ≤ a.packet.at
-not_earlier place p stood lists limits rate arrived w x g a m y h =
-    next_later p x.clock.rate w.seed (comings arrived) g m.positive m.lawful y.rising y.begun.events (coming_of (arrival_of place a)) (is_coming arrived g (arrival_of place a) h.there).seen
+pub not_earlier : (x : Setup) (m : Moment) (arrived : List Arrival) (w : DrawnWords) (g : List Happened) (p : Arriving) → IsUnderway x m arrived w g → IsHeld x.place arrived g p
+    → latest (bare g) ≤ p.packet.at
+not_earlier x m arrived w g p u h =
+    next_later x.policy x.rate x.seed (comings arrived) g u.setup.sound.positive u.setup.sound.lawful u.going.rising (begun_of x m arrived w g u.setup u.going).events
+    (coming_of (arrival_of x.place p)) (is_coming arrived g (arrival_of x.place p) h.there).seen
+
+-- what was decided before and with its offer stays so, whatever arrives later
+pub before_stays : (x : Setup) (arrived : List Arrival) (g k : List Happened) (p : Arriving) → IsHeld x.place arrived g p → offered (bare k) ≡ offered (bare g)
+    → AreDue x.policy x.rate x.seed (comings arrived) k → StayDue x arrived k
+before_stays x arrived g k p h e d =
+    open_stays x arrived k (offered (bare g)) (omega (arith, (is_coming arrived g (arrival_of x.place p) h.there).inside, comings_length arrived)) (omega (arith, e)) d
+
+pub with_stays : (x : Setup) (arrived : List Arrival) (g : List Happened) (e : Happened) (p : Arriving) → IsHeld x.place arrived g p → offered (bare (e ∷ g)) ≡ offered (bare g) + 1
+    → EndsWithOffer (e ∷ g) → AreDue x.policy x.rate x.seed (comings arrived) (e ∷ g) → StayDue x arrived (e ∷ g)
+with_stays x arrived g e p h more o d =
+    offered_stays x arrived (e ∷ g) (omega (arith, more, (is_coming arrived g (arrival_of x.place p) h.there).inside, comings_length arrived)) o d

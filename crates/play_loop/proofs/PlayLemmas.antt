@@ -5,7 +5,7 @@ use Rattle.altq_model.specs.declared.Placed.{Placed}
 use Rattle.altq_model.specs.Arrivals.{Arrival, arrivals_from, arrivals_of, comings}
 use Rattle.altq_model.specs.Departures.{Dressing, departures}
 use Rattle.altq_model.specs.History.{Coming, Happened, bare, offered, journal}
-use Rattle.altq_model.specs.Lawful.{IsLawful, IsSteady, AreRising, RiseFrom, greatest}
+use Rattle.altq_model.specs.Lawful.{AreRising, RiseFrom, greatest}
 use Rattle.altq_model.specs.Play.{Policy, AreDue}
 use Rattle.play_text.specs.Texts.{Naming, fates, fates_header}
 use Rattle.capture_model.specs.Capture.{Record, Step, End, Fault, Header, Reads, ReadsFrom, IsCapture, IsLast, place_after}
@@ -36,18 +36,14 @@ use Rattle.play_loop.specs.Ending.{IsAhead, IsAll, IsCut, IsPast, capture_fault}
 use Rattle.play_loop.specs.Kept.{OnlyWrote}
 use Rattle.play_loop.specs.declared.fault.Output.TheVariants as output
 use Rattle.play_loop.specs.declared.fault.PlayFault.TheVariants as play
-use Rattle.play_loop.specs.Gathered.{HoldsFront}
-use Rattle.play_loop.specs.Outputs.{FrontsAre, IsWriteCause, TextsAre}
+use Rattle.gathered_writes.specs.Gathered.{HoldsFront}
+use Rattle.play_loop.specs.declared.outputs.Outputs.{Outputs}
+use Rattle.play_loop.specs.Outputs.{AreOpened, FrontsAre, IsWriteCause, TextsAre}
 use Rattle.play_loop.specs.Played.{AreReady, Explains, HasOffered, HasStopped, HoldTexts, IsStanding, OfArrivals, Streams, TookUpTo, WasCutOff, start_of}
-use Rattle.play_loop.specs.Setup.{Setup, arrivals_in, departures_of, fates_of}
-use Rattle.play_loop.proofs.GatheredLaws.{front_same, text_whole}
+use Rattle.play_loop.specs.Setup.{IsSound, Setup, arrivals_in, departures_of, fates_of}
+use Rattle.play_loop.specs.Underway.{HasGiven}
+use Rattle.gathered_writes.proofs.GatheredLaws.{front_same, text_whole}
 use Rattle.play_loop.proofs.OutputLemmas.{texts_same}
-
--- a setup whose policy and rate a discipline and a link promise
-pub record IsSound (x : Setup) : Type 0 where
-  pub positive : 0 < x.rate
-  pub lawful : IsLawful x.policy
-  pub steady : IsSteady x.policy
 
 -- before any event only fronts of the heads stand
 pub stopped_heads : (x : Setup) (v : View) (o : Opened) (records : List Record) → FrontsAre v o.departures o.fates capture_header fates_header → HasStopped x v o records
@@ -237,16 +233,16 @@ none_later v file bytes records moment l = λ before r after e low high.
     ))
 
 -- the bytes that were taken end soon after the last record that was read
-pub took_ahead : (place : List ℕ → Placed) (v w : View) (r : Reader) (file : ℕ) (bytes : List ℕ) (all rest : List Record) (arrived : List Arrival) (moment : ℕ)
-    → (h : IsAhead place v r bytes arrived moment) → all ≡ (h.before ++ h.last ∷ []) ++ rest → w.left file ≡ v.left r.file → Streams w file bytes all moment
-took_ahead place v w r file bytes all rest arrived moment h e left = λ before s after q low high.
+took_ahead : (place : List ℕ → Placed) (v w : View) (r : Reader) (file : ℕ) (bytes : List ℕ) (rest : List Record) (arrived : List Arrival) (moment : ℕ)
+    → (h : IsAhead place v r bytes arrived moment) → w.left file ≡ v.left r.file → Streams w file bytes ((h.before ++ h.last ∷ []) ++ rest) moment
+took_ahead place v w r file bytes rest arrived moment h left = λ before s after q low high.
     let y = h.stands.pending h.sound in
-    let same = first_later moment 0 h.before before h.last s rest after (sym (append_assoc h.before (h.last ∷ []) rest) ∙ sym e ∙ q) h.passed h.later low high in
+    let same = first_later moment 0 h.before before h.last s rest after (sym (append_assoc h.before (h.last ∷ []) rest) ∙ q) h.passed h.later low high in
     let size = taken v r bytes y.rest.0 (h.before ++ h.last ∷ []) h.stands h.sound y.rest.1 in
     record { rest = y.rest.0; left = left ∙ y.rest.1; within = omega (arith, size, ap (λ (rs : List Record). place_after 24 rs) same) }
 
 -- a play that was cut off, over all arrivals
-pub cut_all : (x : Setup) (records : List Record) (arrived more : List Arrival) (g : List Happened) (t : Totals) → IsSound x → (c : IsCutOff x.policy x.rate x.seed (comings arrived) g)
+abbrev pub cut_all : (x : Setup) (records : List Record) (arrived more : List Arrival) (g : List Happened) (t : Totals) → IsSound x → (c : IsCutOff x.policy x.rate x.seed (comings arrived) g)
     → arrivals_in x records ≡ arrived ++ more → AreDue x.policy x.rate x.seed (comings (arrived ++ more)) (c.next ∷ g) → AreTotals x.rate g t
     → IsStopped x.policy x.rate x.seed (arrivals_in x records) g t
 cut_all x records arrived more g t m c e d total =
@@ -276,28 +272,10 @@ found place v w r file bytes records last arrived start h l left (inl y) =
     }
 found place v w r file bytes records last arrived start h l left (inr y) =
     let f = answered_front v r bytes (y.before ++ y.last ∷ []) records last y.stands h l in
+    let S : List Record → Type 0 = λ rs. Streams w file bytes rs start in
     record {
       before = inr (omega (arith, y.later, front_greatest 0 (y.before ++ y.last ∷ []) f.0, ap (λ (rs : List Record). greatest 0 rs) f.1));
-      streams = took_ahead place v w r file bytes records f.0 arrived start y f.1 left;
-    }
-
-pub was_cut : (x : Setup) (stood : List Happened → Type 0) (place : List ℕ → Placed) (v w : View) (o : Opened) (r : Reader) (bytes : List ℕ) (records : List Record) (last : Step)
-    (arrived more : List Arrival) (g : List Happened) (t : Totals) → IsSound x → (c : IsCutOff x.policy x.rate x.seed (comings arrived) g) → arrivals_in x records ≡ arrived ++ more
-    → AreDue x.policy x.rate x.seed (comings (arrived ++ more)) (c.next ∷ g) → AreTotals x.rate g t → Reads bytes records last → IsLast last → w.left o.arrivals ≡ v.left r.file
-    → IsPast place bytes arrived (start_of c.next.what) ⊎ IsAhead place v r bytes arrived (start_of c.next.what)
-    → HoldsAt w o.departures (departures x.dress arrived g) → HoldsAt w o.fates (fates (name_of x.names) arrived (journal g)) → IsStanding stood g
-    → WasCutOff x stood w o bytes records last
-unfolding cut_all
-was_cut x stood place v w o r bytes records last arrived more g t m c e d total h l left a y z s =
-    let f = found place v w r o.arrivals bytes records last arrived (start_of c.next.what) h l left a in
-    record {
-      history = g;
-      totals = t;
-      play = cut_all x records arrived more g t m c e d total;
-      texts = hold_all x w o records arrived more g m e c.begun.events y z;
-      stands = s;
-      before = f.before;
-      streams = f.streams;
+      streams = subst S (sym f.1) (took_ahead place v w r file bytes f.0 arrived start y left);
     }
 
 -- whole texts are fronts
@@ -319,12 +297,15 @@ pub head_rows : (names : Naming) (v : View) (dep fat : ℕ) → TextsAre v dep f
 head_rows names v dep fat h =
     let P : List ℕ → Type 0 = λ t. HoldsAt v fat t in subst P (sym (append-nil fates_header)) (text_whole v fat fates_header h.fates)
 
-pub head_texts : (dress : Dressing) (names : Naming) (v : View) (dep fat : ℕ) (recs rows : List ℕ) → recs ≡ [] → rows ≡ [] → TextsAre v dep fat [] [] capture_header fates_header
-    → TextsAre v dep fat recs rows (departures dress [] []) (fates names [] [])
-head_texts dress names v dep fat recs rows r s h =
-    let P : List ℕ → Type 0 = λ xs. TextsAre v dep fat xs [] (departures dress [] []) (fates names [] []) in
-    let Q : List ℕ → Type 0 = λ xs. TextsAre v dep fat recs xs (departures dress [] []) (fates names [] []) in
-    subst Q (sym s) (subst P (sym r) (texts_same v dep fat [] [] _ _ _ _ (sym (append-nil capture_header)) (sym (append-nil fates_header)) h))
+pub head_texts : (x : Setup) (v : View) (o : Opened) (p : Outputs) → AreOpened p o → p.records.items ≡ [] → p.rows ≡ []
+    → TextsAre v o.departures o.fates [] [] capture_header fates_header → HasGiven x v p [] []
+head_texts x v o p a r s h =
+    let D : ℕ → Type 0 = λ n. TextsAre v n o.fates [] [] (departures_of x [] []) (fates_of x [] []) in
+    let F : ℕ → Type 0 = λ n. TextsAre v p.departures n [] [] (departures_of x [] []) (fates_of x [] []) in
+    let P : List ℕ → Type 0 = λ xs. TextsAre v p.departures p.fates xs [] (departures_of x [] []) (fates_of x [] []) in
+    let Q : List ℕ → Type 0 = λ xs. TextsAre v p.departures p.fates p.records.items xs (departures_of x [] []) (fates_of x [] []) in
+    subst Q (sym s) (subst P (sym r) (subst F (sym a.fates) (subst D (sym a.departures)
+    (texts_same v o.departures o.fates [] [] _ _ _ _ (sym (append-nil capture_header)) (sym (append-nil fates_header)) h))))
 
 pub explains_write : (x : Setup) (stood : List Happened → Type 0) (u v : View) (o : Opened) (f : PlayFault) → IsWriteCause o.departures o.fates u v f → Explains x stood u v o f
 explains_write x stood u v o (play.Write output.Departures) h = h

@@ -1,29 +1,26 @@
 -- The records of a capture, one by one, and the play of those that were read.
-use Rattle.std.proofs.Common.{◌≡◌, ◌≢◌, ◌≤◌, ◌<◌, ◌++◌, ◌∙◌, ◌+◌, ◌⊎◌, inl, inr, ℕ, zero, suc, max, arith, List, [], ◌∷◌, length, None, Some, refl, ap, sym, subst, append_assoc, append-nil, length-append}
-use Rattle.std.specs.Prelude.{slice_get, option_map, nat_lt, IsSome, IsTrue}
+use Rattle.std.proofs.Common.{◌≡◌, ◌≤◌, ◌<◌, ◌++◌, ◌∙◌, ◌+◌, ◌⊎◌, inl, inr, ℕ, zero, suc, max, arith, List, [], ◌∷◌, length, None, Some, refl, ap, sym, subst, append_assoc, append-nil, length-append}
+use Rattle.std.specs.Prelude.{slice_get, option_map, nat_lt, IfNone, IfSome, IsSome, IsTrue}
 use Rattle.std.specs.declared.option.Option.{Option}
 use Rattle.altq_model.specs.declared.Placed.{Placed}
 use Rattle.altq_model.specs.Arrivals.{Arrival, arrivals_from, arrivals_of, coming_of, comings}
-use Rattle.altq_model.specs.Departures.{Dressing, departures}
-use Rattle.altq_model.specs.History.{Coming, Event, Offered, Sent, DrawnWords, Happened, bare, offered, journal}
+use Rattle.altq_model.specs.History.{Coming, Event, DrawnWords, Happened, bare, offered, journal}
 use Rattle.altq_model.specs.Laws.{IsLate}
 use Rattle.altq_model.specs.Lawful.{AreRising, RiseFrom, greatest, latest}
-use Rattle.altq_model.specs.Link.{link}
-use Rattle.altq_model.specs.Play.{Policy, AreDue, due, first_start}
-use Rattle.play_text.specs.Texts.{Naming, fates}
-use Rattle.capture_model.specs.Capture.{Record, Header, Step, Fault, ReadsFrom, Reads, IsCapture, IsLast, most_records}
+use Rattle.altq_model.specs.Play.{AreDue}
+use Rattle.capture_model.specs.Capture.{Record, Step, Reads, IsLast, most_records}
 use Rattle.capture_model.specs.Written.{written}
+use Rattle.play_text.specs.Names.{name_of}
 use Rattle.play_text.specs.Texts.{fates_header}
-use Rattle.leaf_queue.specs.declared.node.Entry.{Entry}
 use Rattle.pcap_files.specs.declared.fault.CaptureFault.{CaptureFault}
 use Rattle.pcap_files.specs.declared.fault.CaptureFault.TheVariants as fault
 use Rattle.pcap_files.specs.declared.reader.Reader.{Reader}
 use Rattle.pcap_files.specs.declared.record.Record.{Record as Read}
-use Rattle.pcap_files.specs.Reading.{StandsFor, Shows, answered}
+use Rattle.pcap_files.specs.Reading.{IsWhole, StandsFor, Shows, answered}
 use Rattle.pcap_files.proofs.ReadingLaws.{answered_front, one_reading, stands_kept}
-use Rattle.play_base.specs.View.{View, Keeps, Any, ReadFault, WriteFault}
+use Rattle.play_base.specs.View.{View, Keeps, Any, ReadFault}
 use Rattle.play_base.specs.Holds.{Apart}
-use Rattle.play_base.proofs.ViewLaws.{rose_later, part_of_there}
+use Rattle.play_base.proofs.ViewLaws.{rose_later, still_there}
 use Rattle.play_base.proofs.HoldsLaws.{holds_kept, apart_kept}
 use Rattle.play_laws.specs.Events.{IsOffer, IsSending}
 use Rattle.play_laws.proofs.AllLaws.{due_laws}
@@ -31,32 +28,28 @@ use Rattle.play_laws.proofs.ArrivalLemmas.{arrivals_append, comings_append, comi
 use Rattle.play_laws.proofs.DepartureLemmas.{records_stay}
 use Rattle.play_text.proofs.TextLemmas.{rows_stay}
 use Rattle.play_laws.proofs.TimeLemmas.{all_arrived}
-use Rattle.play_core.specs.declared.state.Progress.{Progress}
-use Rattle.play_core.specs.Ended.{IsBegun, IsCutOff}
+use Rattle.play_core.specs.Ended.{IsCutOff}
 use Rattle.play_core.specs.Finished.{EndsWithOffer}
-use Rattle.play_core.specs.Going.{IsGoing, numbered}
+use Rattle.play_core.specs.Going.{numbered}
 use Rattle.play_core.specs.Turns.{arrives}
-use Rattle.play_core.proofs.GoingLemmas.{IsPromised}
 use Rattle.play_core.proofs.ReadLemmas.{read_more}
+use Rattle.altq_model.specs.declared.Counts.{Counts}
 use Rattle.play_loop.specs.declared.arriving.Arriving.{Arriving}
-use Rattle.play_loop.specs.declared.kept.KeptFate.{KeptFate}
+use Rattle.class_counts.specs.declared.counting.Counted.TheVariants.{Arrived}
 use Rattle.play_loop.specs.declared.outputs.Outputs.{Outputs}
-use Rattle.play_text.specs.Names.{NameList, name_of}
-use Rattle.play_loop.specs.declared.counting.Counted.TheVariants.{Arrived}
-use Rattle.play_loop.specs.Counting.{count_at}
+use Rattle.class_counts.specs.Counting.{HasCounted, count_at}
 use Rattle.play_loop.specs.Ending.{AreFirst, IsAhead, IsAll}
 use Rattle.play_loop.specs.Kept.{IsOther, OnlyWrote, OnlyPlayed}
-use Rattle.play_loop.specs.declared.fault.Output.TheVariants as output
-use Rattle.play_loop.specs.declared.fault.PlayFault.{PlayFault}
-use Rattle.play_loop.specs.declared.fault.PlayFault.TheVariants as play
-use Rattle.play_loop.specs.Outputs.{HasTexts, IsWriteCause, TextsAre}
+use Rattle.play_loop.specs.Outputs.{SameFiles, TextsAre}
 use Rattle.play_loop.specs.Played.{start_of}
-use Rattle.play_loop.specs.Reading.{AreFit, HasRead, IsFit, IsWithin, arrival_of}
-use Rattle.play_loop.specs.Underway.{IsHeld, IsUnderway, SameOffers, StayDue}
-use Rattle.play_loop.proofs.CountingLemmas.{counted_read}
-use Rattle.play_loop.proofs.OutputLemmas.{texts_same}
+use Rattle.class_counts.specs.Fit.{AreFit, IsFit}
+use Rattle.play_loop.specs.Reading.{CanRead, HasRead, IsRead, IsWithin, arrival_of}
+use Rattle.play_loop.specs.Setup.{IsSound, Setup}
+use Rattle.play_loop.specs.Underway.{HasGiven, IsHeld, IsUnderway, Moment, StayDue}
+use Rattle.class_counts.proofs.CountingLemmas.{counted_read}
+use Rattle.play_loop.proofs.OutputLemmas.{texts_same, there_same}
 use Rattle.play_loop.proofs.ToldLemmas.{told_stays}
-use Rattle.play_loop.proofs.TurnLemmas.{going_laws}
+use Rattle.play_loop.proofs.TurnLemmas.{going_laws, moved_on, promised}
 
 -- what was read leaves what was written
 pub texts_kept : (F : ℕ → Type 0) (v w : View) (dep fat : ℕ) (recs rows ds ts : List ℕ) → TextsAre v dep fat recs rows ds ts → Keeps Any F v w
@@ -89,47 +82,55 @@ there_push [] a = refl
 there_push (x ∷ xs) a = there_push xs a
 
 -- a play in which every arrival that was read was offered, the last of them last
-pub record IsReading (place : List ℕ → Placed) (dress : Dressing) (names : NameList) (p : Policy) (stood : List Happened → Type 0) (lists : ℕ → List Entry) (limits : ℕ → ℕ)
-    (rate : Option ℕ) (v : View) (o : Outputs) (kept : List KeptFate → Type 0) (x : Progress) (w : DrawnWords) (told : List ℕ → Type 0) (r : Reader) (top : ℕ) (arrived : List Arrival) (g : List Happened) : Type 0 where
-  pub under : IsUnderway place dress names p stood lists limits rate v o kept x arrived w g
+pub record IsReading (x : Setup) (m : Moment) (w : DrawnWords) (told : List ℕ → Type 0) (r : Reader) (top : ℕ) (arrived : List Arrival) (g : List Happened) : Type 0 where
+  pub under : IsUnderway x m arrived w g
   pub offers : offered (bare g) ≡ length arrived
   pub last : EndsWithOffer g
   pub newest : latest (bare g) ≡ top
   pub last_is : last_at 0 (comings arrived) ≡ top
   pub counted : length arrived ≤ answered r
-  pub read : (bytes : List ℕ) → told bytes → HasRead place v r bytes arrived top
+  pub read : (bytes : List ℕ) → told bytes → HasRead x.place m.files r bytes arrived top
 
-pub under_kept : (F : ℕ → Type 0) (place : List ℕ → Placed) (dress : Dressing) (names : NameList) (p : Policy) (stood : List Happened → Type 0) (lists : ℕ → List Entry) (limits : ℕ → ℕ)
-    (rate : Option ℕ) (v v' : View) (o : Outputs) (kept : List KeptFate → Type 0) (x : Progress) (arrived : List Arrival) (w : DrawnWords) (g : List Happened)
-    → IsUnderway place dress names p stood lists limits rate v o kept x arrived w g → Keeps Any F v v' → IsUnderway place dress names p stood lists limits rate v' o kept x arrived w g
-under_kept F place dress names p stood lists limits rate v v' o kept x arrived w g u k =
-    record { going = u.going; given = texts_kept F v v' _ _ _ _ _ _ u.given k; counted = u.counted; was_told = u.was_told; fit = u.fit }
+pub under_kept : (F : ℕ → Type 0) (x : Setup) (m : Moment) (v : View) (arrived : List Arrival) (w : DrawnWords) (g : List Happened) → IsUnderway x m arrived w g
+    → Keeps Any F m.files v → IsUnderway x (record m { files = v }) arrived w g
+under_kept F x m v arrived w g u k = record {
+  setup = moved_on x m (record m { files = v }) w.seed w.seed u.setup refl refl refl;
+  going = u.going;
+  written = record {
+    given = texts_kept F m.files v _ _ _ _ _ _ u.written.given k;
+    counted = u.written.counted;
+    was_told = u.written.was_told;
+    fit = u.written.fit;
+  };
+}
 
--- one more packet was read
-pub under_more : (F : ℕ → Type 0) (place : List ℕ → Placed) (dress : Dressing) (names : NameList) (p : Policy) (stood : List Happened → Type 0) (lists : ℕ → List Entry) (limits : ℕ → ℕ)
-    (rate : Option ℕ) (v v' : View) (o : Outputs) (kept : List KeptFate → Type 0) (x : Progress) (w : DrawnWords) (told : List ℕ → Type 0) (r : Reader) (top : ℕ) (arrived : List Arrival) (g : List Happened) (a : Arriving)
-    → IsPromised p x.clock.rate → (u : IsReading place dress names p stood lists limits rate v o kept x w told r top arrived g) → Keeps Any F v v' → IsWithin a → top ≤ a.packet.at
-    → length arrived < most_records → (o' : Outputs) (class : ℕ) → o' ≡ record o { counts = o'.counts } → class ≡ (place a.packet.bytes).class
-    → o'.counts.items ≡ count_at names class (Arrived a.packet.len a.raised) o.counts.items → IsUnderway place dress names p stood lists limits rate v' o' kept x (arrived ++ arrival_of place a ∷ []) w g
-under_more F place dress names p stood lists limits rate v v' o kept x w told r top arrived g a m u k i l few o' class same is more_is =
-    let b : Arrival = arrival_of place a in
+-- one more packet was read and counted
+pub under_read : (x : Setup) (m : Moment) (o : Outputs) (arrived : List Arrival) (w : DrawnWords) (g : List Happened) (top : ℕ) (a : Arriving) → IsUnderway x m arrived w g
+    → EndsWithOffer g → last_at 0 (comings arrived) ≡ top → top ≤ a.packet.at → length arrived < most_records → IsWithin a → o ≡ record m.outputs { counts = o.counts }
+    → o.counts.items ≡ count_at x.names (x.place a.packet.bytes).class (Arrived a.packet.len a.raised) m.outputs.counts.items
+    → IsUnderway x (record m { outputs = o }) (arrived ++ arrival_of x.place a ∷ []) w g
+under_read x m o arrived w g top a u last last_is l few i same more_is =
+    let b : Arrival = arrival_of x.place a in
     let more : List Arrival = b ∷ [] in
-    let y = u.under.going in
-    let laws = going_laws p stood lists limits rate arrived w x g m y in
+    let y = u.going in
+    let laws = going_laws x m arrived w g u.setup y in
     let R : List Coming → Type 0 = λ cs. AreRising cs in
-    let T : Outputs → Type 0 = λ z. HasTexts v' z (departures dress (arrived ++ more) g) (fates (name_of names) (arrived ++ more) (journal g)) in
+    let T : Outputs → Type 0 = λ z. HasGiven x m.files z (arrived ++ more) g in
+    let C : List Counts → Type 0 = λ ks. HasCounted x.names (arrived ++ more) (journal g) ks in
     record {
-      going = read_more more u.last
-          (subst R (sym (comings_append arrived more)) (rises_on 0 (comings arrived) (coming_of b) y.rising (omega (arith, u.last_is, l))))
-          (omega (arith, length-append arrived more, few)) (record { promised = m; going = y });
-      given = subst T (sym same) (texts_same v' _ _ _ _ _ _ _ _
-          (ap written (sym (records_stay dress arrived more g laws.of_arrivals)))
-          (ap (λ (t : List ℕ). fates_header ++ t) (sym (rows_stay (name_of names) arrived more g laws.of_arrivals)))
-          (texts_kept F v v' _ _ _ _ _ _ u.under.given k));
-      counted = counted_read names arrived b g o.counts.items o'.counts.items u.under.counted laws.of_arrivals
-          (more_is ∙ ap (λ (c : ℕ). count_at names c (Arrived a.packet.len a.raised) o.counts.items) is);
-      was_told = subst kept (sym (told_stays arrived more g laws.of_arrivals)) u.under.was_told;
-      fit = fit_push place arrived b u.under.fit (record { class = refl; some = i.some; short = i.short; fits = i.fits });
+      setup = moved_on x m (record m { outputs = o }) w.seed w.seed u.setup refl refl refl;
+      going = read_more more last
+          (subst R (sym (comings_append arrived more)) (rises_on 0 (comings arrived) (coming_of b) y.rising (omega (arith, last_is, l))))
+          (omega (arith, length-append arrived more, few)) (record { promised = promised x m w.seed u.setup; going = y });
+      written = record {
+        given = subst T (sym same) (texts_same m.files _ _ _ _ _ _ _ _
+            (ap written (sym (records_stay x.dress arrived more g laws.of_arrivals)))
+            (ap (λ (t : List ℕ). fates_header ++ t) (sym (rows_stay (name_of x.names) arrived more g laws.of_arrivals)))
+            u.written.given);
+        counted = subst C (sym more_is) (counted_read x.names arrived b g m.outputs.counts.items u.written.counted laws.of_arrivals);
+        was_told = subst m.told (sym (told_stays arrived more g laws.of_arrivals)) u.written.was_told;
+        fit = fit_push x.place arrived b u.written.fit (record { class = refl; some = i.some; short = i.short; fits = i.fits });
+      };
     }
 
 pub held_more : (place : List ℕ → Placed) (arrived : List Arrival) (g : List Happened) (a : Arriving) → offered (bare g) ≡ length arrived → a.packet.number ≡ offered (bare g) + 1
@@ -148,27 +149,30 @@ pub greatest-push : (t : ℕ) (rs : List Record) (r : Record) → greatest t (rs
 greatest-push t [] r = refl
 greatest-push t (s ∷ rs) r = greatest-push (max t s.stamp) rs r
 
--- what an answer shows of a record makes its arrival
-pub record IsRead (answer : Read) (top : ℕ) (a : Arriving) : Type 0 where
-  pub at : a.packet.at ≡ max top answer.stamp
-  pub len : a.packet.len ≡ answer.len
-  pub bytes : a.packet.bytes ≡ answer.bytes
-  pub raised : a.raised ≡ nat_lt answer.stamp top
+pub of_some : {A : Type 0} (P : A → Type 0) (o : Option A) (a : A) → o ≡ Some a → IfSome o P → P a
+of_some {A} P o a e h = let Q : Option A → Type 0 = λ k. IfSome k P in subst Q e h
 
-pub read_record : (place : List ℕ → Placed) (v v' : View) (r r' : Reader) (bytes : List ℕ) (arrived : List Arrival) (top : ℕ) (answer : Read) (a : Arriving) → IsRead answer top a
+pub of_none : {A : Type 0} (P : Type 0) (o : Option A) → o ≡ None → IfNone o P → P
+of_none {A} P o e h = let Q : Option A → Type 0 = λ k. IfNone k P in subst Q e h
+
+pub arrival_made : (place : List ℕ → Placed) (answer : Read) (top now count : ℕ) (a : Arriving) (s : Record) → IsRead answer top a → now ≡ top → Shows answer count s
+    → arrival_of place a ≡ record {
+      at = max now s.stamp;
+      len = max s.original (length s.captured);
+      class = (place s.captured).class;
+      prec = (place s.captured).prec;
+      bytes = s.captured;
+      raised = nat_lt s.stamp now;
+    }
+arrival_made place answer top now count a s i e y = cc (i.at, i.len, i.bytes, i.raised, e, y.stamp, y.len, y.bytes)
+
+abbrev pub read_record : (place : List ℕ → Placed) (v v' : View) (r r' : Reader) (bytes : List ℕ) (arrived : List Arrival) (top : ℕ) (answer : Read) (a : Arriving) → IsRead answer top a
     → (h : HasRead place v r bytes arrived top)
     → (s : Record) × Shows answer (length h.records) s × StandsFor v' r' bytes (h.records ++ s ∷ [])
     → HasRead place v' r' bytes (arrived ++ arrival_of place a ∷ []) a.packet.at
 read_record place v v' r r' bytes arrived top answer a i h y =
     let s : Record = y.0 in
-    let made : arrival_of place a ≡ record {
-      at = max (greatest 0 h.records) s.stamp;
-      len = max s.original (length s.captured);
-      class = (place s.captured).class;
-      prec = (place s.captured).prec;
-      bytes = s.captured;
-      raised = nat_lt s.stamp (greatest 0 h.records);
-    } = cc (i.at, i.len, i.bytes, i.raised, h.latest_is, y.1.stamp, y.1.len, y.1.bytes) in
+    let made = arrival_made place answer top (greatest 0 h.records) (length h.records) a s i h.latest_is y.1 in
     record {
       records = h.records ++ s ∷ [];
       stands = y.2;
@@ -178,7 +182,7 @@ read_record place v v' r r' bytes arrived top answer a i h y =
     }
 
 -- writes to files of other names leave what a reader stands for
-pub read_kept : (place : List ℕ → Placed) (v w : View) (r : Reader) (dep fat : ℕ) (bytes : List ℕ) (arrived : List Arrival) (top : ℕ) → HasRead place v r bytes arrived top
+abbrev pub read_kept : (place : List ℕ → Placed) (v w : View) (r : Reader) (dep fat : ℕ) (bytes : List ℕ) (arrived : List Arrival) (top : ℕ) → HasRead place v r bytes arrived top
     → IsSome (v.part r.file) → IsOther v dep fat (v.name r.file) → OnlyWrote dep fat v w → HasRead place w r bytes arrived top
 read_kept place v w r dep fat bytes arrived top h there other k = record {
   records = h.records;
@@ -187,15 +191,17 @@ read_kept place v w r dep fat bytes arrived top h there other k = record {
   latest_is = h.latest_is;
 }
 
--- reads of one file and writes to others leave their names apart
-pub apart_played : (arr dep fat : ℕ) (u v : View) → IsSome (u.part arr) → IsSome (u.part dep) → IsSome (u.part fat) → Apart u arr dep → Apart u arr fat → OnlyPlayed arr dep fat u v
-    → IsTrue u.tells → IsOther v dep fat (v.name arr)
-apart_played arr dep fat u v is_arr is_dep is_fat d f k t =
-    let told : IsTrue v.tells = k.keeps.tells ∙ t in
-    (apart_kept _ _ u v arr dep is_arr is_dep d k.keeps told, apart_kept _ _ u v arr fat is_arr is_fat f k.keeps told)
+-- reads of one file and writes to others leave it there, and their names apart
+pub there_played : (u v : View) (o : Outputs) (r s : Reader) → CanRead u r o → OnlyPlayed r.file o.departures o.fates u v → s.file ≡ r.file → IsSome (v.part s.file)
+there_played u v o r s c k e = there_same v.part r.file s.file e (still_there _ _ u v r.file k.keeps c.there)
 
-pub other_same : (v : View) (dep fat dep' fat' : ℕ) (n : List ℕ) → dep' ≡ dep → fat' ≡ fat → IsOther v dep fat n → IsOther v dep' fat' n
-other_same v dep fat dep' fat' n d f h = ((λ e. h.0 (e ∙ ap v.name d)), (λ e. h.1 (e ∙ ap v.name f)))
+pub apart_played : (u v : View) (o p : Outputs) (r s : Reader) → CanRead u r o → IsSome (u.part o.departures) → IsSome (u.part o.fates)
+    → OnlyPlayed r.file o.departures o.fates u v → SameFiles o p → s.file ≡ r.file → IsTrue u.tells → IsOther v p.departures p.fates (v.name s.file)
+apart_played u v o p r s c is_dep is_fat k same e t =
+    let told : IsTrue v.tells = k.keeps.tells ∙ t in
+    let d = apart_kept _ _ u v r.file o.departures c.there is_dep c.from_departures k.keeps told in
+    let f = apart_kept _ _ u v r.file o.fates c.there is_fat c.from_fates k.keeps told in
+    ((λ q. d (ap v.name (sym e) ∙ q ∙ ap v.name same.departures)), (λ q. f (ap v.name (sym e) ∙ q ∙ ap v.name same.fates)))
 
 -- nothing more arrives
 none_there : (xs : List Coming) (k : ℕ) → k ≡ length xs → slice_get xs k ≡ None
@@ -207,65 +213,67 @@ pub none_arrives : (arrived : List Arrival) (g : List Happened) → offered (bar
 none_arrives arrived g e =
     sym (ap (λ (o : Option Coming). option_map (λ (a : Coming). a.at) o) (none_there (comings arrived) (offered (bare g)) (e ∙ sym (comings_length arrived))))
 
--- the first arrivals of all complete records
-pub first_of_all : (place : List ℕ → Placed) (p : Policy) (rate seed : ℕ) (bytes : List ℕ) (arrived : List Arrival) (g : List Happened) → IsAll place bytes arrived
-    → AreDue p rate seed (comings arrived) g → (all : List Record) (last : Step) → Reads bytes all last → IsLast last
-    → (more : List Arrival) × (arrivals_of place all ≡ arrived ++ more) × AreDue p rate seed (comings (arrived ++ more)) g
-first_of_all place p rate seed bytes arrived g h d all last x l =
-    let one = one_reading bytes all h.records last _ x l h.reads tt in
-    let P : List Arrival → Type 0 = λ k. AreDue p rate seed (comings k) g in
-    ([], ap (λ (rs : List Record). arrivals_of place rs) one.0 ∙ sym h.arrivals ∙ sym (append-nil arrived), subst P (sym (append-nil arrived)) d)
+-- they are all arrivals of a capture
+abbrev pub all_read : (place : List ℕ → Placed) (told : List ℕ → Type 0) (v : View) (r : Reader) (arrived : List Arrival) (top : ℕ) → IsWhole v r
+    → ((bytes : List ℕ) → told bytes → HasRead place v r bytes arrived top) → (bytes : List ℕ) → told bytes → IsAll place bytes arrived
+all_read place told v r arrived top whole read bytes t =
+    let h = read bytes t in
+    record { records = h.records; arrivals = h.arrivals; reads = whole bytes h.records h.stands; size = omega (arith, h.stands.place, r.progress.placed) }
 
-pub first_of_read : (place : List ℕ → Placed) (p : Policy) (rate seed : ℕ) (v : View) (r : Reader) (bytes : List ℕ) (arrived : List Arrival) (top : ℕ) (g : List Happened)
-    → HasRead place v r bytes arrived top → StayDue p rate seed arrived g → (all : List Record) (last : Step) → Reads bytes all last → IsLast last
-    → (more : List Arrival) × (arrivals_of place all ≡ arrived ++ more) × AreDue p rate seed (comings (arrived ++ more)) g
-first_of_read place p rate seed v r bytes arrived top g h s all last x l =
-    let f = answered_front v r bytes h.records all last h.stands x l in
-    let more : List Arrival = arrivals_from place (greatest 0 h.records) f.0 in
-    let P : List Coming → Type 0 = λ k. AreDue p rate seed k g in (
+-- the first arrivals of all complete records
+pub first_of_all : (x : Setup) (told : List ℕ → Type 0) (arrived : List Arrival) (g : List Happened) → ((bytes : List ℕ) → told bytes → IsAll x.place bytes arrived)
+    → AreDue x.policy x.rate x.seed (comings arrived) g → AreFirst x told arrived g
+first_of_all x told arrived g all d = λ bytes t every last y l.
+    let h = all bytes t in
+    let one = one_reading bytes every h.records last _ y l h.reads tt in
+    let P : List Arrival → Type 0 = λ k. AreDue x.policy x.rate x.seed (comings k) g in
+    ([], ap (λ (rs : List Record). arrivals_of x.place rs) one.0 ∙ sym h.arrivals ∙ sym (append-nil arrived), subst P (sym (append-nil arrived)) d)
+
+pub first_of_read : (x : Setup) (told : List ℕ → Type 0) (v : View) (r : Reader) (arrived : List Arrival) (top : ℕ) (g : List Happened)
+    → ((bytes : List ℕ) → told bytes → HasRead x.place v r bytes arrived top) → StayDue x arrived g → AreFirst x told arrived g
+first_of_read x told v r arrived top g read s = λ bytes t every last y l.
+    let h = read bytes t in
+    let f = answered_front v r bytes h.records every last h.stands y l in
+    let more : List Arrival = arrivals_from x.place (greatest 0 h.records) f.0 in
+    let P : List Coming → Type 0 = λ k. AreDue x.policy x.rate x.seed k g in (
       more,
-      ap (λ (rs : List Record). arrivals_of place rs) f.1 ∙ arrivals_append place h.records f.0 ∙ ap (λ (xs : List Arrival). xs ++ more) (sym h.arrivals),
+      ap (λ (rs : List Record). arrivals_of x.place rs) f.1 ∙ arrivals_append x.place h.records f.0 ∙ ap (λ (xs : List Arrival). xs ++ more) (sym h.arrivals),
       subst P (sym (comings_append arrived more)) (s (comings more)),
     )
 
 -- when a sending that would end too late starts
-pub record StartsThen (p : Policy) (arrived : List Coming) (g : List Happened) (start : ℕ) : Type 0 where
+pub record StartsThen (arrived : List Coming) (g : List Happened) (start : ℕ) : Type 0 where
   pub after : latest (bare g) ≤ start
   pub before : (a : Coming) → slice_get arrived (offered (bare g)) ≡ Some a → start < a.at
 
-late_start : (p : Policy) (rate seed : ℕ) (arrived : List Coming) (g : List Happened) (e : Happened) → 0 < rate → IsPromised p rate → AreRising arrived → AreDue p rate seed arrived g
-    → IsLate e.what → IsOffer p rate seed arrived g e ⊎ IsSending p rate arrived g e → StartsThen p arrived g (start_of e.what)
-late_start p rate seed arrived g e pos m rise d l (inl x) =
-    let P : Event → Type 0 = λ w. IsLate w in absurd (subst P (ap (λ (k : Happened). k.what) x.offer) l)
-late_start p rate seed arrived g e pos m rise d l (inr x) =
-    let same : start_of e.what ≡ x.sending.start = ap start_of x.event in
-    let after = all_arrived p rate seed arrived g m.positive m.lawful rise d x.sending.start x.least in
-    record { after = omega (arith, same, after); before = λ a t. (let b = x.passed a t in omega (arith, same, b)) }
+late_start : (x : Setup) (arrived : List Coming) (g : List Happened) (e : Happened) → IsSound x → AreRising arrived → AreDue x.policy x.rate x.seed arrived g
+    → IsLate e.what → IsOffer x.policy x.rate x.seed arrived g e ⊎ IsSending x.policy x.rate arrived g e → StartsThen arrived g (start_of e.what)
+late_start x arrived g e s rise d l (inl y) =
+    let P : Event → Type 0 = λ w. IsLate w in absurd (subst P (ap (λ (k : Happened). k.what) y.offer) l)
+late_start x arrived g e s rise d l (inr y) =
+    let same : start_of e.what ≡ y.sending.start = ap start_of y.event in
+    let after = all_arrived x.policy x.rate x.seed arrived g s.positive s.lawful rise d y.sending.start y.least in
+    record { after = omega (arith, same, after); before = λ a t. (let b = y.passed a t in omega (arith, same, b)) }
 
-pub cut_starts : (p : Policy) (rate seed : ℕ) (arrived : List Coming) (g : List Happened) → IsPromised p rate → AreRising arrived → (c : IsCutOff p rate seed arrived g)
-    → StartsThen p arrived g (start_of c.next.what)
-cut_starts p rate seed arrived g m rise c =
-    late_start p rate seed arrived g c.next m.positive m rise c.begun.events c.late
-    (due_laws p rate seed arrived (c.next ∷ g) m.positive m.lawful rise (c.is_due, c.begun.events)).each.0
+pub cut_starts : (x : Setup) (arrived : List Coming) (g : List Happened) → IsSound x → AreRising arrived → (c : IsCutOff x.policy x.rate x.seed arrived g)
+    → StartsThen arrived g (start_of c.next.what)
+cut_starts x arrived g s rise c =
+    late_start x arrived g c.next s rise c.begun.events c.late
+    (due_laws x.policy x.rate x.seed arrived (c.next ∷ g) s.positive s.lawful rise (c.is_due, c.begun.events)).each.0
 
 -- that of the last record is the only arrival after it
-pub ahead_of : (place : List ℕ → Placed) (v v' w : View) (r r' : Reader) (dep fat : ℕ) (bytes : List ℕ) (arrived : List Arrival) (top : ℕ) (answer : Read) (a : Arriving) (start : ℕ)
-    → IsRead answer top a → (h : HasRead place v r bytes arrived top)
-    → (y : (s : Record) × Shows answer (length h.records) s × StandsFor v' r' bytes (h.records ++ s ∷ []))
-    → r'.fault ≡ None → IsSome (v'.part r'.file) → IsOther v' dep fat (v'.name r'.file) → OnlyWrote dep fat v' w → top ≤ start → start < a.packet.at
-    → IsAhead place w r' bytes (arrived ++ arrival_of place a ∷ []) start
-unfolding read_kept read_record
-ahead_of place v v' w r r' dep fat bytes arrived top answer a start i h y sound there other k low high =
-    let x = read_record place v v' r r' bytes arrived top answer a i h y in
-    let z = read_kept place v' w r' dep fat bytes (arrived ++ arrival_of place a ∷ []) a.packet.at x there other k in
+pub ahead_of : (place : List ℕ → Placed) (v : View) (r : Reader) (bytes : List ℕ) (arrived : List Arrival) (top start : ℕ) (before : List Record) (last : Record)
+    → (h : HasRead place v r bytes arrived top) → h.records ≡ before ++ last ∷ [] → r.fault ≡ None → greatest 0 before ≤ start → start < top → IsAhead place v r bytes arrived start
+ahead_of place v r bytes arrived top start before last h e sound low high =
+    let S : List Record → Type 0 = λ rs. StandsFor v r bytes rs in
     record {
-      before = h.records;
-      last = y.0;
-      arrivals = z.arrivals;
-      stands = z.stands;
+      before = before;
+      last = last;
+      arrivals = h.arrivals ∙ ap (λ (rs : List Record). arrivals_of place rs) e;
+      stands = subst S e h.stands;
       sound = sound;
-      passed = omega (arith, h.latest_is, low);
-      later = omega (arith, x.latest_is, high);
+      passed = low;
+      later = omega (arith, h.latest_is, ap (λ (rs : List Record). greatest 0 rs) e, high);
     }
 
 some_not_none : (f : CaptureFault) → None ≡ Some f → ⊥
@@ -278,16 +286,3 @@ read_since arr dep fat file u v w had k e none (inl x) = λ p at.
     let Q : ℕ → Type 0 = λ n. ReadFault v w n in
     rose_later _ _ _ (k.keeps.later.read p) (subst Q e x p (k.keeps.part arr p at))
 read_since arr dep fat file u v w had k e none (inr y) = let q : None ≡ Some fault.Read = sym none ∙ y in absurd (some_not_none fault.Read q)
-
-pub cause_since : (arr dep fat dep' fat' : ℕ) (u v w : View) (f : PlayFault) → OnlyPlayed arr dep fat u v → dep' ≡ dep → fat' ≡ fat → IsWriteCause dep' fat' v w f → IsWriteCause dep fat u w f
-cause_since arr dep fat dep' fat' u v w (play.Write output.Departures) k d f x = λ p at.
-    let Q : ℕ → Type 0 = λ n. WriteFault v w n in
-    rose_later _ _ _ (k.keeps.later.write p) (subst Q d x p (k.keeps.part dep p at))
-cause_since arr dep fat dep' fat' u v w (play.Write output.Fates) k d f x = λ p at.
-    let Q : ℕ → Type 0 = λ n. WriteFault v w n in
-    rose_later _ _ _ (k.keeps.later.write p) (subst Q f x p (k.keeps.part fat p at))
-cause_since arr dep fat dep' fat' u v w (play.Write output.Statistics) k d f x = absurd x
-cause_since arr dep fat dep' fat' u v w play.NoMemory k d f x = tt
-cause_since arr dep fat dep' fat' u v w (play.Capture damage) k d f x = absurd x
-cause_since arr dep fat dep' fat' u v w play.Read k d f x = absurd x
-cause_since arr dep fat dep' fat' u v w (play.Limit limit) k d f x = absurd x

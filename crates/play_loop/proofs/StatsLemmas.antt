@@ -9,20 +9,20 @@ use Rattle.play_base.specs.View.{View, Keeps, WriteFault, Wrote, WroteFront}
 use Rattle.play_base.proofs.HoldsLaws.{apart_kept, holds_beside, holds_wrote}
 use Rattle.play_base.proofs.ViewLaws.{keeps_fewer, later_trans, part_of_there, rose_later, still_there}
 use Rattle.play_text.specs.Statistics.{stats_of}
-use Rattle.play_loop.specs.declared.counting.Tally.{Tally}
+use Rattle.play_loop.specs.declared.outputs.Tally.{Tally}
 use Rattle.play_core.specs.declared.totals.Totals.{Totals}
 use Rattle.play_loop.specs.declared.fault.Opened.{Opened}
 use Rattle.play_loop.specs.declared.fault.Output.TheVariants as output
 use Rattle.play_loop.specs.declared.fault.PlayFault.{PlayFault}
 use Rattle.play_loop.specs.declared.fault.PlayFault.TheVariants as play
 use Rattle.play_loop.specs.declared.kept.KeptFate.{KeptFate}
-use Rattle.play_loop.specs.Gathered.{HoldsFront}
+use Rattle.gathered_writes.specs.Gathered.{HoldsFront}
 use Rattle.play_loop.specs.Kept.{IsNoOutput, IsOther, KeepsBeside, KeepsPlayed}
 use Rattle.play_loop.specs.Outputs.{IsBeforeStats, IsStatsCause}
 use Rattle.play_loop.specs.Played.{AreBegun, AreReady, Explains, Fronts, HasStopped, HoldTexts, LeavesStats, Plays, Writes}
 use Rattle.play_loop.specs.Setup.{Setup, arrivals_in}
 use Rattle.play_loop.specs.Told.{Tells}
-use Rattle.play_loop.proofs.GatherLemmas.{take_drop}
+use Rattle.gathered_writes.proofs.GatherLemmas.{take_drop}
 use Rattle.play_loop.proofs.PlayLemmas.{whole_front}
 
 -- before the statistics are written, nothing was

@@ -26,7 +26,7 @@ use Rattle.play_core.specs.declared.turn.Dropped.{Dropped}
 use Rattle.play_core.specs.Going.{numbered}
 use Rattle.play_core.specs.Turns.{Departs, departs, handed_back}
 use Rattle.play_loop.specs.Outputs.{record_of, sent_row, dropped_row}
-use Rattle.play_loop.specs.Reading.{IsFit, AreFit}
+use Rattle.class_counts.specs.Fit.{IsFit, AreFit}
 
 pub fit_in : (place : List ℕ → Placed) (xs : List Arrival) (k : ℕ) (b : Coming) → AreFit place xs → slice_get (comings xs) k ≡ Some b
     → IsFit place (unwrap_or (slice_get xs k) no_arrival)

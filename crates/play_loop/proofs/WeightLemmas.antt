@@ -16,7 +16,7 @@ use Rattle.play_laws.specs.Events.{AreOfArrivals, HasLaws, IsOfArrival}
 use Rattle.play_laws.proofs.ArrivalLemmas.{comings_length}
 use Rattle.play_laws.proofs.DepartureLemmas.{texts-append}
 use Rattle.altq_model.specs.Play.{Policy}
-use Rattle.play_loop.specs.Reading.{AreFit, IsFit}
+use Rattle.class_counts.specs.Fit.{AreFit, IsFit}
 use Rattle.play_loop.proofs.TextLemmas.{fit_in}
 
 -- the weight of a number, where these are the weights of the numbers after k

@@ -2,9 +2,9 @@
 use Rattle.std.specs.Prelude.{◌≡◌, ◌≤◌, ◌<◌, ◌⊎◌, ℕ, List, [], ◌∷◌, ◌++◌, length, None}
 use Rattle.altq_model.specs.declared.Placed.{Placed}
 use Rattle.altq_model.specs.Arrivals.{Arrival, arrivals_of, comings}
-use Rattle.altq_model.specs.History.{Happened, bare, offered}
+use Rattle.altq_model.specs.History.{DrawnWords, Happened, bare, offered}
 use Rattle.altq_model.specs.Lawful.{greatest}
-use Rattle.altq_model.specs.Play.{Policy, AreDue, due}
+use Rattle.altq_model.specs.Play.{AreDue, due}
 use Rattle.capture_model.specs.Capture.{Record, Step, Fault, Limit, Reads, IsLast, IsCapture, place_after, most_bytes}
 use Rattle.pcap_files.specs.declared.fault.CaptureFault.{CaptureFault}
 use Rattle.pcap_files.specs.declared.fault.CaptureFault.TheVariants as capture
@@ -18,7 +18,10 @@ use Rattle.play_loop.specs.declared.ending.Ending.TheVariants.{Whole, Cut, Late}
 use Rattle.play_loop.specs.declared.fault.Limit.TheVariants as limit
 use Rattle.play_loop.specs.declared.fault.PlayFault.{PlayFault}
 use Rattle.play_loop.specs.declared.fault.PlayFault.TheVariants as play
+use Rattle.play_loop.specs.declared.outputs.Outputs.{Outputs}
 use Rattle.play_loop.specs.Played.{start_of}
+use Rattle.play_loop.specs.Setup.{Setup, arrivals_in}
+use Rattle.play_loop.specs.Underway.{IsBroken, IsUnderway, Moment}
 
 -- how a fault of the capture becomes a fault of the play
 abbrev pub capture_fault : CaptureFault → PlayFault
@@ -64,14 +67,14 @@ pub record IsAhead (place : List ℕ → Placed) (v : View) (r : Reader) (bytes 
   pub later : moment < greatest 0 (before ++ last ∷ [])
 
 -- they are the first arrivals of all complete records, and `g` are the first events of the play
-abbrev pub AreFirst : (place : List ℕ → Placed) → Policy → (rate seed : ℕ) → (told : List ℕ → Type 0) → List Arrival → List Happened → Type 0
-AreFirst place p rate seed told arrived g = (bytes : List ℕ) → told bytes → (all : List Record) (last : Step) → Reads bytes all last → IsLast last
-    → (more : List Arrival) × (arrivals_of place all ≡ arrived ++ more) × AreDue p rate seed (comings (arrived ++ more)) g
+abbrev pub AreFirst : Setup → (told : List ℕ → Type 0) → List Arrival → List Happened → Type 0
+AreFirst x told arrived g = (bytes : List ℕ) → told bytes → (all : List Record) (last : Step) → Reads bytes all last → IsLast last
+    → (more : List Arrival) × (arrivals_in x all ≡ arrived ++ more) × AreDue x.policy x.rate x.seed (comings (arrived ++ more)) g
 
 -- every event was made
-pub record IsDone (place : List ℕ → Placed) (p : Policy) (rate seed : ℕ) (told : List ℕ → Type 0) (arrived : List Arrival) (g : List Happened) : Type 0 where
-  pub done : due p rate seed (comings arrived) g ≡ None
-  pub all : (bytes : List ℕ) → told bytes → IsAll place bytes arrived
+pub record IsDone (x : Setup) (told : List ℕ → Type 0) (arrived : List Arrival) (g : List Happened) : Type 0 where
+  pub done : due x.policy x.rate x.seed (comings arrived) g ≡ None
+  pub all : (bytes : List ℕ) → told bytes → IsAll x.place bytes arrived
 
 -- every complete record was offered, the last of them last
 pub record IsStuck (place : List ℕ → Placed) (told : List ℕ → Type 0) (v : View) (file : ℕ) (arrived : List Arrival) (g : List Happened) (fault : CaptureFault) : Type 0 where
@@ -80,10 +83,10 @@ pub record IsStuck (place : List ℕ → Placed) (told : List ℕ → Type 0) (v
   pub faulty : (bytes : List ℕ) → told bytes → IsFaulty place v file bytes arrived fault
 
 -- the next sending would end too late, and starts before the last arrival that was read, or no more arrive
-pub record IsOverdue (place : List ℕ → Placed) (p : Policy) (rate seed : ℕ) (told : List ℕ → Type 0) (v : View) (r : Reader) (arrived : List Arrival) (g : List Happened) : Type 0 where
-  pub cut : IsCutOff p rate seed (comings arrived) g
-  pub first : AreFirst place p rate seed told arrived (cut.next ∷ g)
-  pub ahead : (bytes : List ℕ) → told bytes → IsPast place bytes arrived (start_of cut.next.what) ⊎ IsAhead place v r bytes arrived (start_of cut.next.what)
+pub record IsOverdue (x : Setup) (told : List ℕ → Type 0) (v : View) (r : Reader) (arrived : List Arrival) (g : List Happened) : Type 0 where
+  pub cut : IsCutOff x.policy x.rate x.seed (comings arrived) g
+  pub first : AreFirst x told arrived (cut.next ∷ g)
+  pub ahead : (bytes : List ℕ) → told bytes → IsPast x.place bytes arrived (start_of cut.next.what) ⊎ IsAhead x.place v r bytes arrived (start_of cut.next.what)
 
 -- no fault of reading ended it
 abbrev pub IsClean : Ending → Type 0
@@ -91,7 +94,22 @@ IsClean Whole = Unit {0}
 IsClean (Cut fault) = ⊥
 IsClean Late = Unit {0}
 
-abbrev pub EndsAs : Ending → (place : List ℕ → Placed) → Policy → (rate seed : ℕ) → (told : List ℕ → Type 0) → View → Reader → List Arrival → List Happened → Type 0
-EndsAs Whole place p rate seed told v r arrived g = IsDone place p rate seed told arrived g
-EndsAs (Cut fault) place p rate seed told v r arrived g = IsStuck place told v r.file arrived g fault
-EndsAs Late place p rate seed told v r arrived g = IsOverdue place p rate seed told v r arrived g
+abbrev pub EndsAs : Ending → Setup → (told : List ℕ → Type 0) → View → Reader → List Arrival → List Happened → Type 0
+EndsAs Whole x told v r arrived g = IsDone x told arrived g
+EndsAs (Cut fault) x told v r arrived g = IsStuck x.place told v r.file arrived g fault
+EndsAs Late x told v r arrived g = IsOverdue x told v r arrived g
+
+-- the records that a reader had left were played, up to this end
+pub record HasRun (x : Setup) (told : List ℕ → Type 0) (m : Moment) (r : Reader) (w : DrawnWords) (ending : Ending) : Type 0 where
+  pub arrived : List Arrival
+  pub events : List Happened
+  pub under : IsUnderway x m arrived w events
+  pub ends : EndsAs ending x told m.files r arrived events
+  pub first : AreFirst x told arrived events
+
+-- or up to a write that failed
+pub record HasBroken (x : Setup) (told : List ℕ → Type 0) (v : View) (o : Outputs) : Type 0 where
+  pub arrived : List Arrival
+  pub events : List Happened
+  pub broken : IsBroken x v o arrived events
+  pub first : AreFirst x told arrived events

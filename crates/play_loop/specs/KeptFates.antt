@@ -1,5 +1,7 @@
 -- What is told of a play: for each decision, in the order of the journal, the number of its packet, its arrival and its fate.
 use Rattle.std.specs.Prelude.{ℕ, List, [], ◌∷◌, map}
+use Rattle.std.specs.Option.{option_map_or}
+use Rattle.std.specs.declared.option.Option.{Option}
 use Rattle.altq_model.specs.Arrivals.{Arrival, arrival}
 use Rattle.altq_model.specs.declared.Fate.TheVariants as fate
 use Rattle.altq_model.specs.History.{Decision}
@@ -25,3 +27,7 @@ sent_fate d = record { number = d.packet.number; arrival = d.packet.at; fate = f
 
 abbrev pub dropped_fate : Dropped → KeptFate
 dropped_fate d = record { number = d.packet.number; arrival = d.packet.at; fate = fate.Dropped d.reason }
+
+-- of one that was dropped, or of none
+abbrev pub dropped_fates : Option Dropped → List KeptFate
+dropped_fates dropped = option_map_or (λ d. dropped_fate d ∷ []) dropped []

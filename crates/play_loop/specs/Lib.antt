@@ -1,6 +1,5 @@
-pub mod Counting
+pub mod Answers
 pub mod Ending
-pub mod Gathered
 pub mod Kept
 pub mod KeptFates
 pub mod Outputs
@@ -11,3 +10,4 @@ pub mod Told
 pub mod Underway
 pub use Rattle.play_core.specs.Ended
 pub use Rattle.play_core.specs.Finished
+pub use Rattle.gathered_writes.specs.Gathered

@@ -17,11 +17,11 @@ use Rattle.play_loop.specs.declared.fault.Output.TheVariants as output
 use Rattle.play_loop.specs.declared.fault.PlayFault.{PlayFault}
 use Rattle.play_loop.specs.declared.fault.PlayFault.TheVariants as play
 use Rattle.altq_model.specs.Play.{IsPlay}
-use Rattle.play_loop.specs.declared.counting.Tally.{Tally}
+use Rattle.play_loop.specs.declared.outputs.Tally.{Tally}
 use Rattle.play_loop.specs.declared.kept.KeptFate.{KeptFate}
 use Rattle.play_loop.specs.KeptFates.{kept_fates}
-use Rattle.play_loop.specs.Counting.{HasCounted}
-use Rattle.play_loop.specs.Gathered.{HoldsFront}
+use Rattle.class_counts.specs.Counting.{HasCounted}
+use Rattle.gathered_writes.specs.Gathered.{HoldsFront}
 use Rattle.play_loop.specs.Setup.{Setup, arrivals_in, departures_of, fates_of, statistics_of}
 
 -- two files of different names, to which nothing was written

@@ -1,13 +1,16 @@
 -- The arrivals that were read of a capture.
-use Rattle.std.specs.Prelude.{◌≡◌, ◌≤◌, ◌<◌, ◌+◌, ◌^◌, ℕ, List, [], ◌∷◌, ◌++◌, length}
+use Rattle.std.specs.Prelude.{◌≡◌, ◌≤◌, ◌<◌, ◌+◌, ◌^◌, ℕ, max, List, [], ◌∷◌, ◌++◌, length, nat_lt, None, IsSome, IsTrue}
 use Rattle.altq_model.specs.declared.Placed.{Placed}
 use Rattle.altq_model.specs.Arrivals.{Arrival, arrivals_of}
 use Rattle.altq_model.specs.Lawful.{greatest}
 use Rattle.capture_model.specs.Capture.{Record}
 use Rattle.pcap_files.specs.declared.reader.Reader.{Reader}
+use Rattle.pcap_files.specs.declared.record.Record.{Record as Read}
 use Rattle.pcap_files.specs.Reading.{StandsFor}
+use Rattle.play_base.specs.Holds.{Apart}
 use Rattle.play_base.specs.View.{View}
 use Rattle.play_loop.specs.declared.arriving.Arriving.{Arriving}
+use Rattle.play_loop.specs.declared.outputs.Outputs.{Outputs}
 
 -- the arrival of a packet that was read, where frames are placed so
 abbrev pub arrival_of : (List ℕ → Placed) → Arriving → Arrival
@@ -27,20 +30,27 @@ pub record IsWithin (p : Arriving) : Type 0 where
   pub short : p.packet.len ≤ 262144
   pub fits : length p.packet.bytes ≤ p.packet.len
 
+-- what an answer of the reader shows of a record makes its arrival
+pub record IsRead (answer : Read) (top : ℕ) (a : Arriving) : Type 0 where
+  pub at : a.packet.at ≡ max top answer.stamp
+  pub len : a.packet.len ≡ answer.len
+  pub bytes : a.packet.bytes ≡ answer.bytes
+  pub raised : a.raised ≡ nat_lt answer.stamp top
+
+-- a reader that answered nothing yet stands for these bytes, where the files tell them
+abbrev pub StartsOn : View → Reader → List ℕ → Type 0
+StartsOn v r bytes = IsTrue v.tells × StandsFor v r bytes []
+
+-- its file is neither output
+pub record CanRead (v : View) (r : Reader) (o : Outputs) : Type 0 where
+  pub there : IsSome (v.part r.file)
+  pub sound : r.fault ≡ None
+  pub from_departures : Apart v r.file o.departures
+  pub from_fates : Apart v r.file o.fates
+
 -- `arrived` are the arrivals of the records that a reader returned, and `latest` is the moment of the last
 pub record HasRead (place : List ℕ → Placed) (v : View) (r : Reader) (bytes : List ℕ) (arrived : List Arrival) (latest : ℕ) : Type 0 where
   pub records : List Record
   pub stands : StandsFor v r bytes records
   pub arrivals : arrived ≡ arrivals_of place records
   pub latest_is : greatest 0 records ≡ latest
-
--- an arrival has the class of its bytes, is within the lengths of a capture, and no shorter than its bytes
-pub record IsFit (place : List ℕ → Placed) (a : Arrival) : Type 0 where
-  pub class : a.class ≡ (place a.bytes).class
-  pub some : 1 ≤ a.len
-  pub short : a.len ≤ 262144
-  pub fits : length a.bytes ≤ a.len
-
-abbrev pub AreFit : (List ℕ → Placed) → List Arrival → Type 0
-AreFit place [] = Unit {0}
-AreFit place (a ∷ rest) = IsFit place a × AreFit place rest

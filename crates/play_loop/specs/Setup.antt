@@ -1,13 +1,15 @@
 -- What is played, and the texts of a play of it.
-use Rattle.std.specs.Prelude.{ℕ, List}
+use Rattle.std.specs.Prelude.{◌<◌, ◌≤◌, ℕ, List}
 use Rattle.altq_model.specs.declared.Placed.{Placed}
 use Rattle.altq_model.specs.Arrivals.{Arrival, arrivals_of}
 use Rattle.altq_model.specs.Departures.{Dressing, departures}
 use Rattle.altq_model.specs.History.{Happened, journal}
+use Rattle.altq_model.specs.Lawful.{IsLawful, IsOneOf, IsSteady}
 use Rattle.altq_model.specs.Play.{Policy}
+use Rattle.discipline.specs.Laws.{AreDistinct}
 use Rattle.play_text.specs.Texts.{fates}
 use Rattle.capture_model.specs.Capture.{Record}
-use Rattle.play_text.specs.Names.{NameList, name_of}
+use Rattle.play_text.specs.Names.{HasClass, NameList, name_of}
 use Rattle.play_text.specs.Statistics.{statistics}
 
 -- an interface and a seed: the policy of its queues, where each frame is placed, the bytes with which each leaves, its classes and
@@ -37,3 +39,13 @@ fates_of x arrived g = fates (name_of x.names) arrived (journal g)
 
 abbrev pub statistics_of : Setup → List Arrival → List Happened → List ℕ
 statistics_of x arrived g = statistics x.names arrived (journal g)
+
+-- what a discipline, a link and a classifier promise of a setup: each frame is placed in a class of the policy that has a name
+pub record IsSound (x : Setup) : Type 0 where
+  pub positive : 0 < x.rate
+  pub lawful : IsLawful x.policy
+  pub steady : IsSteady x.policy
+  pub distinct : AreDistinct x.policy.classes
+  pub held : (frame : List ℕ) → IsOneOf (x.place frame).class x.policy.classes
+  pub precs : (frame : List ℕ) → (x.place frame).prec ≤ 2
+  pub named : (frame : List ℕ) → HasClass x.names (x.place frame).class

@@ -3,59 +3,110 @@ use Rattle.std.specs.Prelude.{◌≡◌, ◌+◌, ℕ, List, ◌++◌, None, Som
 use Rattle.std.specs.declared.option.Option.{Option}
 use Rattle.altq_model.specs.declared.Placed.{Placed}
 use Rattle.altq_model.specs.Arrivals.{Arrival, comings}
-use Rattle.altq_model.specs.Departures.{Dressing, departures}
+use Rattle.altq_model.specs.Departures.{Dressing}
 use Rattle.altq_model.specs.History.{Coming, DrawnWords, Happened, bare, offered, journal}
 use Rattle.altq_model.specs.Lawful.{latest}
 use Rattle.altq_model.specs.Play.{Policy, AreDue, due}
-use Rattle.play_text.specs.Texts.{Naming, fates}
-use Rattle.play_text.specs.Names.{NameList, name_of}
+use Rattle.play_text.specs.Names.{NameList}
 use Rattle.leaf_queue.specs.declared.node.Entry.{Entry}
 use Rattle.play_base.specs.View.{View}
 use Rattle.play_core.specs.declared.state.Progress.{Progress}
 use Rattle.play_core.specs.Ended.{IsBegun, IsCutOff}
 use Rattle.play_core.specs.Finished.{EndsWithOffer}
 use Rattle.play_core.specs.Going.{IsGoing, numbered}
-use Rattle.play_core.specs.Turns.{IsNext}
+use Rattle.play_core.specs.Turns.{IsNext, arrives}
 use Rattle.play_loop.specs.declared.arriving.Arriving.{Arriving}
 use Rattle.play_loop.specs.declared.ending.Due.{Due}
 use Rattle.play_loop.specs.declared.ending.Due.TheVariants.{Made, Late}
 use Rattle.play_loop.specs.declared.outputs.Outputs.{Outputs}
 use Rattle.play_loop.specs.declared.kept.KeptFate.{KeptFate}
-use Rattle.play_loop.specs.Counting.{HasCounted}
+use Rattle.class_counts.specs.Counting.{HasCounted}
 use Rattle.play_loop.specs.KeptFates.{kept_fates}
 use Rattle.play_loop.specs.Outputs.{HasTexts, HasFronts}
-use Rattle.play_loop.specs.Reading.{AreFit, arrival_of}
+use Rattle.class_counts.specs.Fit.{AreFit}
+use Rattle.play_loop.specs.Reading.{arrival_of}
+use Rattle.play_loop.specs.Setup.{IsSound, Setup, departures_of, fates_of}
+
+-- how frames are placed and dressed, and how classes are named
+pub record Classing : Type 0 where
+  pub place : List ℕ → Placed
+  pub dress : Dressing
+  pub names : NameList
+
+abbrev pub classing : (List ℕ → Placed) → Dressing → NameList → Classing
+classing place dress names = record { place = place; dress = dress; names = names }
+
+-- a setup with them
+abbrev pub classed : Classing → Setup → Setup
+classed c x = record x { place = c.place; dress = c.dress; names = c.names }
+
+-- what a discipline shows: its policy, the histories that it stands for, its lists and limits by class, and the rate of its link
+pub record Shown : Type 1 where
+  pub policy : Policy
+  pub stood : List Happened → Type 0
+  pub lists : ℕ → List Entry
+  pub limits : ℕ → ℕ
+  pub link_rate : Option ℕ
+
+abbrev pub shown : {D : Type 0} → (D → Policy) → (D → List Happened → Type 0) → (D → ℕ → List Entry) → (D → ℕ → ℕ) → (D → Option ℕ) → D → Shown
+shown policy stood lists limits link_rate d =
+    record { policy = policy d; stood = stood d; lists = lists d; limits = limits d; link_rate = link_rate d }
+
+-- a moment of a play: what the discipline shows, the files, the outputs, what a keeper holds of what it was told, and how far the play has come
+pub record Moment : Type 1 where
+  pub shown : Shown
+  pub files : View
+  pub outputs : Outputs
+  pub told : List KeptFate → Type 0
+  pub progress : Progress
+
+abbrev pub moment : Shown → View → Outputs → (List KeptFate → Type 0) → Progress → Moment
+moment d v o told progress = record { shown = d; files = v; outputs = o; told = told; progress = progress }
+
+abbrev pub Goes : Moment → List Arrival → DrawnWords → List Happened → Type 0
+Goes m arrived w g = IsGoing m.shown.policy m.shown.stood m.shown.lists m.shown.limits m.shown.link_rate arrived w m.progress g
+
+-- this setup is played at that moment, with words of this seed
+pub record IsPlayedAt (x : Setup) (m : Moment) (seed : ℕ) : Type 0 where
+  pub sound : IsSound x
+  pub policy : m.shown.policy ≡ x.policy
+  pub rate : m.progress.clock.rate ≡ x.rate
+  pub seed_is : seed ≡ x.seed
 
 -- the texts of these events were given to the outputs
-abbrev pub HasGiven : Dressing → Naming → View → Outputs → List Arrival → List Happened → Type 0
-HasGiven dress names v o arrived g = HasTexts v o (departures dress arrived g) (fates names arrived (journal g))
+abbrev pub HasGiven : Setup → View → Outputs → List Arrival → List Happened → Type 0
+HasGiven x v o arrived g = HasTexts v o (departures_of x arrived g) (fates_of x arrived g)
 
--- the first events of the play of what arrived so far, their texts, the counts of what arrived and was decided, and what was told of it
-pub record IsUnderway (place : List ℕ → Placed) (dress : Dressing) (names : NameList) (p : Policy) (stood : List Happened → Type 0) (lists : ℕ → List Entry) (limits : ℕ → ℕ)
-    (rate : Option ℕ) (v : View) (o : Outputs) (told : List KeptFate → Type 0) (x : Progress) (arrived : List Arrival) (w : DrawnWords) (g : List Happened) : Type 0 where
-  pub going : IsGoing p stood lists limits rate arrived w x g
-  pub given : HasGiven dress (name_of names) v o arrived g
-  pub counted : HasCounted names arrived (journal g) o.counts.items
+-- their texts, the counts of what arrived and was decided, and what was told of it
+pub record AreWritten (x : Setup) (v : View) (o : Outputs) (told : List KeptFate → Type 0) (arrived : List Arrival) (g : List Happened) : Type 0 where
+  pub given : HasGiven x v o arrived g
+  pub counted : HasCounted x.names arrived (journal g) o.counts.items
   pub was_told : told (kept_fates arrived (journal g))
-  pub fit : AreFit place arrived
+  pub fit : AreFit x.place arrived
+
+-- the first events of the play of what arrived so far, and what was written of them
+pub record IsUnderway (x : Setup) (m : Moment) (arrived : List Arrival) (w : DrawnWords) (g : List Happened) : Type 0 where
+  pub setup : IsPlayedAt x m w.seed
+  pub going : Goes m arrived w g
+  pub written : AreWritten x m.files m.outputs m.told arrived g
 
 -- the outputs hold fronts of the texts of these first events of the play
-pub record IsBroken (dress : Dressing) (names : Naming) (p : Policy) (rate seed : ℕ) (v : View) (o : Outputs) (arrived : List Arrival) (g : List Happened) : Type 0 where
-  pub begun : IsBegun p rate seed (comings arrived) g
-  pub fronts : HasFronts v o (departures dress arrived g) (fates names arrived (journal g))
+pub record IsBroken (x : Setup) (v : View) (o : Outputs) (arrived : List Arrival) (g : List Happened) : Type 0 where
+  pub begun : IsBegun x.policy x.rate x.seed (comings arrived) g
+  pub fronts : HasFronts v o (departures_of x arrived g) (fates_of x arrived g)
 
 -- they are the first events whatever arrives later
-abbrev pub StayDue : Policy → (rate seed : ℕ) → List Arrival → List Happened → Type 0
-StayDue p rate seed arrived g = (more : List Coming) → AreDue p rate seed (comings arrived ++ more) g
+abbrev pub StayDue : Setup → List Arrival → List Happened → Type 0
+StayDue x arrived g = (more : List Coming) → AreDue x.policy x.rate x.seed (comings arrived ++ more) g
 
 -- every sending before the next arrival was made, or all where none is to come
-pub record AreMade (p : Policy) (rate seed : ℕ) (arrived : List Arrival) (g : List Happened) (arrival : Option ℕ) : Type 0 where
-  pub all : arrival ≡ None → due p rate seed (comings arrived) g ≡ None
-  pub next : (a : Arrival) → slice_get arrived (offered (bare g)) ≡ Some a → IsNext p rate seed arrived g a
+pub record AreMade (x : Setup) (arrived : List Arrival) (g : List Happened) (arrival : Option ℕ) : Type 0 where
+  pub all : arrival ≡ None → due x.policy x.rate x.seed (comings arrived) g ≡ None
+  pub next : (a : Arrival) → slice_get arrived (offered (bare g)) ≡ Some a → IsNext x.policy x.rate x.seed arrived g a
 
-abbrev pub DueIs : Due → Policy → (rate seed : ℕ) → List Arrival → List Happened → (arrival : Option ℕ) → Type 0
-DueIs Made p rate seed arrived g arrival = AreMade p rate seed arrived g arrival
-DueIs Late p rate seed arrived g arrival = IsCutOff p rate seed (comings arrived) g
+abbrev pub DueIs : Due → Setup → List Arrival → List Happened → (arrival : Option ℕ) → Type 0
+DueIs Made x arrived g arrival = AreMade x arrived g arrival
+DueIs Late x arrived g arrival = IsCutOff x.policy x.rate x.seed (comings arrived) g
 
 -- this arrival was read, is placed by its bytes and is the next to be offered
 pub record IsHeld (place : List ℕ → Placed) (arrived : List Arrival) (g : List Happened) (p : Arriving) : Type 0 where
@@ -68,6 +119,26 @@ abbrev pub SameOffers : (before after : List Happened) → Type 0
 SameOffers g k = (offered (bare k) ≡ offered (bare g)) × (latest (bare k) ≡ latest (bare g))
 
 -- the next arrival was offered at `at`, or the next sending would end too late
-abbrev pub OfferedIs : Due → Policy → (rate seed : ℕ) → List Arrival → (at : ℕ) → (before after : List Happened) → Type 0
-OfferedIs Made p rate seed arrived at g k = EndsWithOffer k × (offered (bare k) ≡ offered (bare g) + 1) × (latest (bare k) ≡ at)
-OfferedIs Late p rate seed arrived at g k = IsCutOff p rate seed (comings arrived) k × SameOffers g k
+abbrev pub OfferedIs : Due → Setup → List Arrival → (at : ℕ) → (before after : List Happened) → Type 0
+OfferedIs Made x arrived at g k = EndsWithOffer k × (offered (bare k) ≡ offered (bare g) + 1) × (latest (bare k) ≡ at)
+OfferedIs Late x arrived at g k = IsCutOff x.policy x.rate x.seed (comings arrived) k × SameOffers g k
+
+-- whatever play is underway, before an arrival: its sendings were made up to another moment
+abbrev pub SendsTo : Classing → (from to : Moment) → (arrival : Option ℕ) → Due → Type 0
+SendsTo c m n arrival d = (x : Setup) (arrived : List Arrival) (w : DrawnWords) (g : List Happened) → IsUnderway (classed c x) m arrived w g
+    → arrival ≡ arrives arrived g → (k : List Happened) × IsUnderway (classed c x) n arrived w k × SameOffers g k × DueIs d (classed c x) arrived k arrival
+
+-- or a write failed among them
+abbrev pub SendsBroken : Classing → Moment → View → (arrival : Option ℕ) → Type 0
+SendsBroken c m v arrival = (x : Setup) (arrived : List Arrival) (w : DrawnWords) (g : List Happened) → IsUnderway (classed c x) m arrived w g
+    → arrival ≡ arrives arrived g → (k : List Happened) × IsBroken (classed c x) v m.outputs arrived k × SameOffers g k
+
+-- this packet was offered, after the sendings before it
+abbrev pub OffersTo : Classing → (from to : Moment) → (before after : DrawnWords) → Arriving → Due → Type 0
+OffersTo c m n w v p d = (x : Setup) (arrived : List Arrival) (g : List Happened) → IsUnderway (classed c x) m arrived w g → IsHeld c.place arrived g p
+    → (k : List Happened) × IsUnderway (classed c x) n arrived v k × OfferedIs d (classed c x) arrived p.packet.at g k
+
+-- or a write failed before, or of its fate
+abbrev pub OffersBroken : Classing → Moment → View → DrawnWords → Arriving → Type 0
+OffersBroken c m v w p = (x : Setup) (arrived : List Arrival) (g : List Happened) → IsUnderway (classed c x) m arrived w g → IsHeld c.place arrived g p
+    → (k : List Happened) × IsBroken (classed c x) v m.outputs arrived k × StayDue (classed c x) arrived k

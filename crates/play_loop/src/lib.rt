@@ -3,10 +3,8 @@
 #![tactic(auto)]
 
 mod arriving;
-mod counting;
 mod ending;
 mod fault;
-mod gathered;
 mod keeper;
 mod kept;
 mod outputs;

@@ -1,11 +1,13 @@
 // The outputs of a play while it goes on.
-ghost use Rattle.std.specs.Prelude.{◌≡◌};
-ghost use Rattle.play_loop.specs.Outputs.{output_fault};
+ghost use Rattle.std.specs.Prelude.{◌≡◌, []};
+ghost use Rattle.play_loop.specs.Outputs.{AreOpened, output_fault};
 
-use crate::{Output, PlayFault};
+use crate::{Opened, Output, PlayFault};
 use altq_model::Counts;
 use play_base::Trouble;
+use play_core::Totals;
 use play_text::Rows;
+use std::alloc::Global;
 
 /// The numbers of departures and fates, the bytes that are gathered for each, and the counts so far of each class of the names.
 #[derive(Drop)]
@@ -14,6 +16,31 @@ pub struct Outputs {
     pub fates: u32,
     pub records: Vec<u8>,
     pub rows: Rows,
+    pub counts: Vec<Counts>,
+}
+
+impl Outputs {
+    // Nothing is gathered yet. Takes no memory.
+    pub fn new(alloc: Global, opened: &Opened<'_>, counts: Vec<Counts>) -> Outputs
+        ensures files { AreOpened result opened.now }
+        ensures records { result.records.items ≡ [] }
+        ensures rows { result.rows ≡ [] }
+        ensures counts { result.counts.items ≡ counts.items }
+    {
+        Outputs {
+            departures: opened.departures,
+            fates: opened.fates,
+            records: Vec::new(alloc),
+            rows: Rows::new(alloc),
+            counts,
+        }
+    }
+}
+
+/// The counts of a whole play: of all packets, and of each class at the place of its name.
+#[derive(Drop)]
+pub struct Tally {
+    pub totals: Totals,
     pub counts: Vec<Counts>,
 }
 

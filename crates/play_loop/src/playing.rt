@@ -1,36 +1,34 @@
 // The play of an interface, from a capture to departures and fates.
-ghost use Rattle.std.specs.Prelude.{◌≡◌, ◌≢◌, ◌≤◌, ◌^◌, [], ◌∷◌, ◌++◌, ℕ, List, None, Some, IsSome, IsTrue, IfOk, IfErr, IfSome, OnOk, OnErr, IsErrOf};
+ghost use Rattle.std.specs.Prelude.{◌≡◌, ◌≤◌, ◌^◌, [], ◌++◌, ℕ, List, IsSome, IfOk, IfErr, OnOk, OnErr};
 ghost use Rattle.play_text.specs.Texts.{fates_header};
 ghost use Rattle.capture_model.specs.Header.{capture_header};
-ghost use Rattle.altq_model.specs.Arrivals.{Arrival};
-ghost use Rattle.altq_model.specs.History.{Happened};
 ghost use Rattle.altq_model.specs.Lawful.{IsOneOf};
-ghost use Rattle.play_base.specs.Holds.{Apart};
-ghost use Rattle.play_base.specs.View.{NoneAppears, SameCounts, ReadFault, WriteFault};
+ghost use Rattle.play_base.specs.View.{NoneAppears, SameCounts, ReadFault};
 ghost use Rattle.discipline.specs.Laws.{HasRate};
-ghost use Rattle.pcap_files.specs.Reading.{StandsFor, answered};
-ghost use Rattle.play_text.specs.Names.{HasClass, name_of};
-ghost use Rattle.play_loop.specs.Counting.{AreCountable, HasCounted};
-ghost use Rattle.play_loop.specs.Ending.{AreFirst, EndsAs, IsClean};
-ghost use Rattle.play_loop.specs.Kept.{KeepsBeside, KeepsPlayed, OnlyPlayed, OnlyWrote};
+ghost use Rattle.play_text.specs.Names.{HasClass};
+ghost use Rattle.play_loop.specs.Answers.{IsAnswer, answer_of};
+ghost use Rattle.class_counts.specs.Counting.{HasCounted};
+ghost use Rattle.play_loop.specs.Ending.{HasBroken, HasRun, IsClean};
+ghost use Rattle.play_loop.specs.Kept.{KeepsPlayed, OnlyPlayed, OnlyWrote};
 ghost use Rattle.play_loop.specs.KeptFates.{fates_in};
-ghost use Rattle.play_loop.specs.Outputs.{FrontsAre, IsBeforeStats, IsWriteCause, SameFiles, TextsAre};
-ghost use Rattle.play_loop.specs.Played.{AreEmpty, AreReady, Explains, Fronts, LeavesStats, Plays, Writes};
-ghost use Rattle.play_loop.specs.Setup.{setup_of};
+ghost use Rattle.play_loop.specs.Outputs.{FrontsAre, IsWriteCause, SameFiles, TextsAre};
+ghost use Rattle.play_loop.specs.Played.{AreEmpty, AreReady, Explains, Fronts, LeavesStats, Plays};
+ghost use Rattle.play_loop.specs.Reading.{CanRead, StartsOn};
+ghost use Rattle.play_loop.specs.Setup.{IsSound, setup_of};
 ghost use Rattle.play_loop.specs.Told.{HasDecided, Tells};
-ghost use Rattle.play_loop.specs.Underway.{IsBroken, IsUnderway};
+ghost use Rattle.play_loop.specs.Underway.{IsUnderway, moment, shown};
 
-use crate::arriving::arriving_of;
-use crate::counting::{Counted, Tally, count, no_counts};
+use crate::arriving::arrive;
 use crate::ending::{Due, Ending, capture_fault};
 use crate::keeper::{Keeper, KeepsNothing};
 use crate::kept::Kept;
-use crate::outputs::{Outputs, output_fault};
+use crate::outputs::{Outputs, Tally, output_fault};
 use crate::sending::{play_packet, send_due};
 use crate::writing::{finish, write_stats};
 use crate::{Limit, Opened, Output, PlayFault};
 use altq_model::Counts;
 use capture_model::every_file_has_a_reading;
+use class_counts::no_counts;
 use discipline::{Classify, Discipline};
 use leaf_queue::Words;
 use pcap_files::{CaptureFault, Reader, head_bytes};
@@ -244,26 +242,13 @@ fn play_capture<D: Discipline, C: Classify, F: Files, K: Keeper>(
     requires rate { HasRate (D.link_rate discipline.old) rate }
     requires new { D.stands discipline.old [] }
     requires fresh { words.old.drawn ≡ 0 }
-    requires held { (frame : List ℕ) → IsOneOf (C.placed classify.now frame).class (D.policy discipline.old).classes }
-    requires precs { (frame : List ℕ) → (C.placed classify.now frame).prec ≤ 2 }
-    requires named { (frame : List ℕ) → HasClass names.now (C.placed classify.now frame).class }
+    requires sound { IsSound (setup_of (D.policy discipline.old) (C.placed classify.now) (C.dressed classify.now) names.now rate words.old.seed) }
     requires none { HasCounted names.now [] [] counts.items }
     requires begun { K.told keeper.old [] }
-    ensures done { IfOk result (Writes (setup_of (D.policy discipline.old) (C.placed classify.now) (C.dressed classify.now) names.now rate words.old.seed)
-        (D.stands discipline.new) (K.told keeper.new) (F.view files.old) (F.view files.new) opened.now) }
-    ensures decided { IfOk result (λ tally. HasDecided (setup_of (D.policy discipline.old) (C.placed classify.now) (C.dressed classify.now) names.now rate words.old.seed)
-        (K.told keeper.new) tally.totals) }
+    ensures answer { IsAnswer (setup_of (D.policy discipline.old) (C.placed classify.now) (C.dressed classify.now) names.now rate words.old.seed)
+        (D.stands discipline.new) (K.told keeper.new) (F.view files.old) (F.view files.new) opened.now result }
     ensures before { K.before keeper.new ≡ K.before keeper.old }
-    ensures countable { IfOk result (λ tally. AreCountable names.now tally.counts.items) }
-    ensures no_fault { OnOk result (SameCounts (F.view files.old) (F.view files.new)) }
-    ensures why { IfErr result (Explains (setup_of (D.policy discipline.old) (C.placed classify.now) (C.dressed classify.now) names.now rate words.old.seed)
-        (D.stands discipline.new) (F.view files.old) (F.view files.new) opened.now) }
-    ensures front { OnErr result (Fronts (setup_of (D.policy discipline.old) (C.placed classify.now) (C.dressed classify.now) names.now rate words.old.seed)
-        (F.view files.old) (F.view files.new) opened.now) }
-    ensures before_stats { IfErr result IsBeforeStats }
-    ensures keeps { KeepsBeside opened.now.arrivals opened.now.departures opened.now.fates (F.view files.old) (F.view files.new) }
-    ensures none { NoneAppears (F.view files.old) (F.view files.new) }
-    ensures said { (F.view files.new).said ≡ (F.view files.old).said }
+    ensures others { OnlyPlayed opened.now.arrivals opened.now.departures opened.now.fates (F.view files.old) (F.view files.new) }
 {
     match write_heads(files, opened.departures, opened.fates) {
         Ok(()) => {}
@@ -276,13 +261,7 @@ fn play_capture<D: Discipline, C: Classify, F: Files, K: Keeper>(
     let Ok(mut progress) = Progress::begin(alloc, discipline, rate) else {
         return Err(PlayFault::NoMemory);
     };
-    let mut outputs = Outputs {
-        departures: opened.departures,
-        fates: opened.fates,
-        records: Vec::new(alloc),
-        rows: Rows::new(alloc),
-        counts,
-    };
+    let mut outputs = Outputs::new(alloc, opened, counts);
     let ending = match play_records(
         &mut reader,
         &mut progress,
@@ -301,17 +280,19 @@ fn play_capture<D: Discipline, C: Classify, F: Files, K: Keeper>(
         Ok(()) => {}
         Err(fault) => return Err(fault),
     }
+    // A law, which the proof cites: it does nothing.
+    every_file_has_a_reading();
+    answer(ending, progress.totals(), outputs.counts)
+}
+
+// What the play of a capture answers that ended so.
+fn answer(ending: Ending, totals: Totals, counts: Vec<Counts>) -> Result<Tally, PlayFault>
+    ensures { result ≡ answer_of ending (record { totals = totals; counts = counts }) }
+{
     match ending {
-        Ending::Whole => Ok(Tally {
-            totals: progress.totals(),
-            counts: outputs.counts,
-        }),
+        Ending::Whole => Ok(Tally { totals, counts }),
         Ending::Cut(fault) => Err(capture_fault(fault)),
-        Ending::Late => {
-            // A law, which the proof cites: it does nothing.
-            every_file_has_a_reading();
-            Err(PlayFault::Limit(Limit::Clock))
-        }
+        Ending::Late => Err(PlayFault::Limit(Limit::Clock)),
     }
 }
 
@@ -328,32 +309,20 @@ fn play_records<D: Discipline, C: Classify, F: Files, K: Keeper>(
     keeper: &mut K,
     files: &mut F,
 ) -> Result<Ending, PlayFault>
-    requires there { IsSome ((F.view files.old).part reader.old.file) }
-    requires sound { reader.old.fault ≡ None }
-    requires from_departures { Apart (F.view files.old) reader.old.file outputs.old.departures }
-    requires from_fates { Apart (F.view files.old) reader.old.file outputs.old.fates }
-    requires under { IsUnderway (C.placed classify.now) (C.dressed classify.now) names.now (D.policy discipline.old) (D.stands discipline.old) (D.lists discipline.old) (D.limits discipline.old) (D.link_rate discipline.old) (F.view files.old) outputs.old (K.told keeper.old) progress.old [] words.old [] }
-    requires held { (frame : List ℕ) → IsOneOf (C.placed classify.now frame).class (D.policy discipline.old).classes }
-    requires precs { (frame : List ℕ) → (C.placed classify.now frame).prec ≤ 2 }
-    requires named { (frame : List ℕ) → HasClass names.now (C.placed classify.now frame).class }
-    ensures ended { IfOk result (λ ending. (arrived : List Arrival) × (g : List Happened)
-        × IsUnderway (C.placed classify.now) (C.dressed classify.now) names.now (D.policy discipline.new) (D.stands discipline.new) (D.lists discipline.new) (D.limits discipline.new) (D.link_rate discipline.new) (F.view files.new) outputs.new (K.told keeper.new) progress.new arrived words.new g
-        × EndsAs ending (C.placed classify.now) (D.policy discipline.old) progress.old.clock.rate words.old.seed (λ bytes. IsTrue (F.view files.old).tells × StandsFor (F.view files.old) reader.old bytes [])
-        (F.view files.new) reader.new arrived g
-        × AreFirst (C.placed classify.now) (D.policy discipline.old) progress.old.clock.rate words.old.seed (λ bytes. IsTrue (F.view files.old).tells × StandsFor (F.view files.old) reader.old bytes []) arrived g) }
+    requires reads { CanRead (F.view files.old) reader.old outputs.old }
+    requires under { IsUnderway (setup_of (D.policy discipline.old) (C.placed classify.now) (C.dressed classify.now) names.now progress.old.clock.rate words.old.seed)
+        (moment (shown D.policy D.stands D.lists D.limits D.link_rate discipline.old) (F.view files.old) outputs.old (K.told keeper.old) progress.old) [] words.old [] }
+    ensures ended { IfOk result (HasRun (setup_of (D.policy discipline.old) (C.placed classify.now) (C.dressed classify.now) names.now progress.old.clock.rate words.old.seed) (StartsOn (F.view files.old) reader.old)
+        (moment (shown D.policy D.stands D.lists D.limits D.link_rate discipline.new) (F.view files.new) outputs.new (K.told keeper.new) progress.new) reader.new words.new) }
+    ensures broken { OnErr result (HasBroken (setup_of (D.policy discipline.old) (C.placed classify.now) (C.dressed classify.now) names.now progress.old.clock.rate words.old.seed) (StartsOn (F.view files.old) reader.old)
+        (F.view files.new) outputs.old) }
     ensures no_fault { IfOk result (λ ending. IsClean ending → SameCounts (F.view files.old) (F.view files.new)) }
-    ensures broken { OnErr result ((arrived : List Arrival) × (g : List Happened)
-        × IsBroken (C.dressed classify.now) (name_of names.now) (D.policy discipline.old) progress.old.clock.rate words.old.seed (F.view files.new) outputs.old arrived g
-        × AreFirst (C.placed classify.now) (D.policy discipline.old) progress.old.clock.rate words.old.seed (λ bytes. IsTrue (F.view files.old).tells × StandsFor (F.view files.old) reader.old bytes []) arrived g) }
     ensures read { IfOk result (λ ending. ending ≡ Ending.Cut CaptureFault.Read → ReadFault (F.view files.old) (F.view files.new) reader.old.file) }
+    ensures why { IfErr result (IsWriteCause outputs.old.departures outputs.old.fates (F.view files.old) (F.view files.new)) }
     ensures same { SameFiles outputs.old outputs.new }
     ensures file { reader.new.file ≡ reader.old.file }
     ensures others { OnlyPlayed reader.old.file outputs.old.departures outputs.old.fates (F.view files.old) (F.view files.new) }
-    ensures why { IfErr result (IsWriteCause outputs.old.departures outputs.old.fates (F.view files.old) (F.view files.new)) }
     ensures before { K.before keeper.new ≡ K.before keeper.old }
-    ensures policy { D.policy discipline.new ≡ D.policy discipline.old }
-    ensures rate { progress.new.clock.rate ≡ progress.old.clock.rate }
-    ensures seed { words.new.seed ≡ words.old.seed }
 {
     let mut latest = 0;
     'records: loop {
@@ -370,14 +339,10 @@ fn play_records<D: Discipline, C: Classify, F: Files, K: Keeper>(
                 Err(fault) => Err(fault),
             };
         };
-        let placed = classify.class(record.bytes.as_slice());
-        let arriving = arriving_of(record, placed, progress.totals().arrived + 1, latest);
+        let number = progress.totals().arrived + 1;
+        let counts = &mut outputs.counts;
+        let arriving = arrive(record, classify, names, number, latest, counts);
         latest = arriving.packet.at;
-        let what = Counted::Arrived {
-            len: arriving.packet.len,
-            raised: arriving.raised,
-        };
-        count(&mut outputs.counts, names, placed.class, what);
         match play_packet(
             progress, discipline, classify, names, words, arriving, outputs, keeper, files,
         ) {

@@ -1,15 +1,12 @@
 // The turns of a play: the sendings that are due before an arrival, and then its offer.
-ghost use Rattle.std.specs.Prelude.{◌≡◌, ◌≤◌, ℕ, List, Some, IfErr, IfOk, OnErr, OnOk};
+ghost use Rattle.std.specs.Prelude.{◌≡◌, List, IfOk, OnErr};
 ghost use Rattle.altq_model.specs.Arrivals.{Arrival};
 ghost use Rattle.altq_model.specs.History.{DrawnWords, Happened};
-ghost use Rattle.altq_model.specs.Lawful.{IsOneOf};
-ghost use Rattle.play_base.specs.View.{SameCounts};
 ghost use Rattle.play_core.specs.Turns.{arrives};
-ghost use Rattle.play_text.specs.Names.{HasClass, name_of};
-ghost use Rattle.play_loop.specs.Kept.{OnlyWrote};
-ghost use Rattle.play_loop.specs.Outputs.{IsWriteCause, SameFiles};
+ghost use Rattle.play_loop.specs.Outputs.{AddsOnly};
 ghost use Rattle.play_loop.specs.Reading.{IsWithin};
-ghost use Rattle.play_loop.specs.Underway.{DueIs, IsBroken, IsHeld, IsUnderway, OfferedIs, SameOffers, StayDue};
+ghost use Rattle.play_loop.specs.Setup.{Setup};
+ghost use Rattle.play_loop.specs.Underway.{IsHeld, IsUnderway, OffersBroken, OffersTo, SendsBroken, SendsTo, classed, classing, moment, shown};
 
 use crate::PlayFault;
 use crate::arriving::Arriving;
@@ -36,27 +33,18 @@ pub fn send_due<D: Discipline, C: Classify, F: Files, K: Keeper>(
     keeper: &mut K,
     files: &mut F,
 ) -> Result<Due, PlayFault>
-    requires under { (arrived : List Arrival) × (w : DrawnWords) × (g : List Happened)
-        × IsUnderway (C.placed classify.now) (C.dressed classify.now) names.now (D.policy discipline.old) (D.stands discipline.old) (D.lists discipline.old) (D.limits discipline.old) (D.link_rate discipline.old) (F.view files.old) outputs.old (K.told keeper.old) progress.old arrived w g
+    requires under { (x : Setup) × (arrived : List Arrival) × (w : DrawnWords) × (g : List Happened)
+        × IsUnderway (classed (classing (C.placed classify.now) (C.dressed classify.now) names.now) x)
+        (moment (shown D.policy D.stands D.lists D.limits D.link_rate discipline.old) (F.view files.old) outputs.old (K.told keeper.old) progress.old) arrived w g
         × (arrival ≡ arrives arrived g) }
-    requires named { (frame : List ℕ) → HasClass names.now (C.placed classify.now frame).class }
-    ensures due { IfOk result (λ due. (arrived : List Arrival) (w : DrawnWords) (g : List Happened)
-        → IsUnderway (C.placed classify.now) (C.dressed classify.now) names.now (D.policy discipline.old) (D.stands discipline.old) (D.lists discipline.old) (D.limits discipline.old) (D.link_rate discipline.old) (F.view files.old) outputs.old (K.told keeper.old) progress.old arrived w g
-        → arrival ≡ arrives arrived g → (k : List Happened)
-        × IsUnderway (C.placed classify.now) (C.dressed classify.now) names.now (D.policy discipline.new) (D.stands discipline.new) (D.lists discipline.new) (D.limits discipline.new) (D.link_rate discipline.new) (F.view files.new) outputs.new (K.told keeper.new) progress.new arrived w k
-        × SameOffers g k × DueIs due (D.policy discipline.old) progress.old.clock.rate w.seed arrived k arrival) }
-    ensures no_fault { OnOk result (SameCounts (F.view files.old) (F.view files.new)) }
-    ensures broken { OnErr result ((arrived : List Arrival) (w : DrawnWords) (g : List Happened)
-        → IsUnderway (C.placed classify.now) (C.dressed classify.now) names.now (D.policy discipline.old) (D.stands discipline.old) (D.lists discipline.old) (D.limits discipline.old) (D.link_rate discipline.old) (F.view files.old) outputs.old (K.told keeper.old) progress.old arrived w g
-        → arrival ≡ arrives arrived g → (k : List Happened)
-        × IsBroken (C.dressed classify.now) (name_of names.now) (D.policy discipline.old) progress.old.clock.rate w.seed (F.view files.new) outputs.old arrived k
-        × SameOffers g k) }
-    ensures same { SameFiles outputs.old outputs.new }
-    ensures others { OnlyWrote outputs.old.departures outputs.old.fates (F.view files.old) (F.view files.new) }
-    ensures why { IfErr result (IsWriteCause outputs.old.departures outputs.old.fates (F.view files.old) (F.view files.new)) }
+    ensures due { IfOk result (SendsTo (classing (C.placed classify.now) (C.dressed classify.now) names.now)
+        (moment (shown D.policy D.stands D.lists D.limits D.link_rate discipline.old) (F.view files.old) outputs.old (K.told keeper.old) progress.old)
+        (moment (shown D.policy D.stands D.lists D.limits D.link_rate discipline.new) (F.view files.new) outputs.new (K.told keeper.new) progress.new) arrival) }
+    ensures broken { OnErr result (SendsBroken (classing (C.placed classify.now) (C.dressed classify.now) names.now)
+        (moment (shown D.policy D.stands D.lists D.limits D.link_rate discipline.old) (F.view files.old) outputs.old (K.told keeper.old) progress.old)
+        (F.view files.new) arrival) }
+    ensures only { AddsOnly (F.view files.old) (F.view files.new) outputs.old outputs.new result }
     ensures before { K.before keeper.new ≡ K.before keeper.old }
-    ensures policy { D.policy discipline.new ≡ D.policy discipline.old }
-    ensures rate { progress.new.clock.rate ≡ progress.old.clock.rate }
 {
     'turns: loop {
         let departure = match progress.turn(discipline, arrival) {
@@ -85,31 +73,19 @@ pub fn play_packet<D: Discipline, C: Classify, F: Files, K: Keeper>(
     keeper: &mut K,
     files: &mut F,
 ) -> Result<Due, PlayFault>
-    requires under { (arrived : List Arrival) × (g : List Happened)
-        × IsUnderway (C.placed classify.now) (C.dressed classify.now) names.now (D.policy discipline.old) (D.stands discipline.old) (D.lists discipline.old) (D.limits discipline.old) (D.link_rate discipline.old) (F.view files.old) outputs.old (K.told keeper.old) progress.old arrived words.old g
+    requires under { (x : Setup) × (arrived : List Arrival) × (g : List Happened)
+        × IsUnderway (classed (classing (C.placed classify.now) (C.dressed classify.now) names.now) x)
+        (moment (shown D.policy D.stands D.lists D.limits D.link_rate discipline.old) (F.view files.old) outputs.old (K.told keeper.old) progress.old) arrived words.old g
         × IsHeld (C.placed classify.now) arrived g arriving }
     requires within { IsWithin arriving }
-    requires held { (frame : List ℕ) → IsOneOf (C.placed classify.now frame).class (D.policy discipline.old).classes }
-    requires precs { (frame : List ℕ) → (C.placed classify.now frame).prec ≤ 2 }
-    requires named { (frame : List ℕ) → HasClass names.now (C.placed classify.now frame).class }
-    ensures due { IfOk result (λ due. (arrived : List Arrival) (g : List Happened)
-        → IsUnderway (C.placed classify.now) (C.dressed classify.now) names.now (D.policy discipline.old) (D.stands discipline.old) (D.lists discipline.old) (D.limits discipline.old) (D.link_rate discipline.old) (F.view files.old) outputs.old (K.told keeper.old) progress.old arrived words.old g
-        → IsHeld (C.placed classify.now) arrived g arriving → (k : List Happened)
-        × IsUnderway (C.placed classify.now) (C.dressed classify.now) names.now (D.policy discipline.new) (D.stands discipline.new) (D.lists discipline.new) (D.limits discipline.new) (D.link_rate discipline.new) (F.view files.new) outputs.new (K.told keeper.new) progress.new arrived words.new k
-        × OfferedIs due (D.policy discipline.old) progress.old.clock.rate words.old.seed arrived arriving.packet.at g k) }
-    ensures no_fault { OnOk result (SameCounts (F.view files.old) (F.view files.new)) }
-    ensures broken { OnErr result ((arrived : List Arrival) (g : List Happened)
-        → IsUnderway (C.placed classify.now) (C.dressed classify.now) names.now (D.policy discipline.old) (D.stands discipline.old) (D.lists discipline.old) (D.limits discipline.old) (D.link_rate discipline.old) (F.view files.old) outputs.old (K.told keeper.old) progress.old arrived words.old g
-        → IsHeld (C.placed classify.now) arrived g arriving → (k : List Happened)
-        × IsBroken (C.dressed classify.now) (name_of names.now) (D.policy discipline.old) progress.old.clock.rate words.old.seed (F.view files.new) outputs.old arrived k
-        × StayDue (D.policy discipline.old) progress.old.clock.rate words.old.seed arrived k) }
-    ensures same { SameFiles outputs.old outputs.new }
-    ensures others { OnlyWrote outputs.old.departures outputs.old.fates (F.view files.old) (F.view files.new) }
-    ensures why { IfErr result (IsWriteCause outputs.old.departures outputs.old.fates (F.view files.old) (F.view files.new)) }
+    ensures due { IfOk result (OffersTo (classing (C.placed classify.now) (C.dressed classify.now) names.now)
+        (moment (shown D.policy D.stands D.lists D.limits D.link_rate discipline.old) (F.view files.old) outputs.old (K.told keeper.old) progress.old)
+        (moment (shown D.policy D.stands D.lists D.limits D.link_rate discipline.new) (F.view files.new) outputs.new (K.told keeper.new) progress.new) words.old words.new arriving) }
+    ensures broken { OnErr result (OffersBroken (classing (C.placed classify.now) (C.dressed classify.now) names.now)
+        (moment (shown D.policy D.stands D.lists D.limits D.link_rate discipline.old) (F.view files.old) outputs.old (K.told keeper.old) progress.old)
+        (F.view files.new) words.old arriving) }
+    ensures only { AddsOnly (F.view files.old) (F.view files.new) outputs.old outputs.new result }
     ensures before { K.before keeper.new ≡ K.before keeper.old }
-    ensures policy { D.policy discipline.new ≡ D.policy discipline.old }
-    ensures rate { progress.new.clock.rate ≡ progress.old.clock.rate }
-    ensures seed { words.new.seed ≡ words.old.seed }
 {
     let packet = arriving.packet;
     let placed = arriving.placed;

@@ -1,18 +1,10 @@
 // What was decided is written, and then told.
-ghost use Rattle.std.specs.Prelude.{◌≡◌, ◌≤◌, ◌<◌, ◌*◌, ◌^◌, ◌++◌, ◌∷◌, ℕ, List, [], length, IsSome, IfErr, OnOk, OnErr};
-ghost use Rattle.std.specs.Option.{option_map_or};
-ghost use Rattle.capture_model.specs.Written.{record_text};
-ghost use Rattle.play_base.specs.View.{SameCounts};
-ghost use Rattle.play_text.specs.Names.{HasClass, name_of};
-ghost use Rattle.play_core.specs.declared.turn.Dropped.{Dropped};
+ghost use Rattle.std.specs.Prelude.{◌≡◌, ◌≤◌, ◌<◌, ◌*◌, ◌^◌, ◌++◌, ◌∷◌, List, [], length, OnOk, OnErr};
 ghost use Rattle.play_loop.specs.declared.kept.KeptFate.{KeptFate};
-ghost use Rattle.play_loop.specs.Counting.{AreCountable, count_at};
-ghost use Rattle.play_loop.specs.Kept.{OnlyWrote};
-ghost use Rattle.play_loop.specs.KeptFates.{dropped_fate, sent_fate};
-ghost use Rattle.play_loop.specs.Outputs.{HasFronts, HasTexts, IsWriteCause, SameFiles, dropped_row, record_of, sent_row};
+ghost use Rattle.play_loop.specs.KeptFates.{dropped_fate, dropped_fates, sent_fate};
+ghost use Rattle.play_loop.specs.Outputs.{AddsDropped, AddsOnly, AddsSent, CanAdd, StopsDropped, StopsSent};
 
 use crate::PlayFault;
-use crate::counting::Counted;
 use crate::keeper::Keeper;
 use crate::kept::KeptFate;
 use crate::outputs::Outputs;
@@ -59,23 +51,14 @@ pub fn add_sent<C: Classify, F: Files, K: Keeper>(
     classify: &C,
     departure: Departure,
 ) -> Result<(), PlayFault>
-    requires named { HasClass names.now departure.class }
-    requires countable { AreCountable names.now outputs.old.counts.items }
+    requires can { CanAdd names.now (F.view files.old) outputs.old departure.class }
     requires early { departure.end < 2 ^ 32 * 10 ^ 9 }
     requires within { length departure.packet.bytes ≤ departure.packet.len }
-    requires departures { IsSome ((F.view files.old).part outputs.old.departures) }
-    requires fates { IsSome ((F.view files.old).part outputs.old.fates) }
-    ensures wrote { OnOk result ((ds ts : List ℕ) → HasTexts (F.view files.old) outputs.old ds ts → HasTexts (F.view files.new) outputs.new
-        (ds ++ record_text (record_of (C.dressed classify.now) departure)) (ts ++ sent_row (name_of names.now) departure)) }
-    ensures no_fault { OnOk result (SameCounts (F.view files.old) (F.view files.new)) }
-    ensures stopped { OnErr result ((ds ts : List ℕ) → HasTexts (F.view files.old) outputs.old ds ts → HasFronts (F.view files.new) outputs.old
-        (ds ++ record_text (record_of (C.dressed classify.now) departure)) (ts ++ sent_row (name_of names.now) departure)) }
-    ensures counted { OnOk result (outputs.new.counts.items ≡ count_at names.now departure.class (Counted.Sent departure.packet.len) outputs.old.counts.items) }
+    ensures added { OnOk result (AddsSent (C.dressed classify.now) names.now (F.view files.old) (F.view files.new) outputs.old outputs.new departure) }
+    ensures stopped { OnErr result (StopsSent (C.dressed classify.now) names.now (F.view files.old) (F.view files.new) outputs.old departure) }
+    ensures only { AddsOnly (F.view files.old) (F.view files.new) outputs.old outputs.new result }
     ensures told { OnOk result ((ks : List KeptFate) → K.told keeper.old ks → K.told keeper.new (ks ++ sent_fate departure ∷ [])) }
     ensures before { K.before keeper.new ≡ K.before keeper.old }
-    ensures same { SameFiles outputs.old outputs.new }
-    ensures others { OnlyWrote outputs.old.departures outputs.old.fates (F.view files.old) (F.view files.new) }
-    ensures why { IfErr result (IsWriteCause outputs.old.departures outputs.old.fates (F.view files.old) (F.view files.new)) }
 {
     let fate = sent_fate(&departure);
     match write_sent(files, outputs, names, classify, departure) {
@@ -99,21 +82,12 @@ pub fn add_dropped<F: Files, K: Keeper>(
     class: u32,
     dropped: Option<Dropped>,
 ) -> Result<(), PlayFault>
-    requires named { HasClass names.now class }
-    requires countable { AreCountable names.now outputs.old.counts.items }
-    requires departures { IsSome ((F.view files.old).part outputs.old.departures) }
-    requires fates { IsSome ((F.view files.old).part outputs.old.fates) }
-    ensures wrote { OnOk result ((ds ts : List ℕ) → HasTexts (F.view files.old) outputs.old ds ts → HasTexts (F.view files.new) outputs.new
-        ds (ts ++ option_map_or (dropped_row (name_of names.now) class) dropped [])) }
-    ensures no_fault { OnOk result (SameCounts (F.view files.old) (F.view files.new)) }
-    ensures stopped { OnErr result ((ds ts : List ℕ) → HasTexts (F.view files.old) outputs.old ds ts → HasFronts (F.view files.new) outputs.old
-        ds (ts ++ option_map_or (dropped_row (name_of names.now) class) dropped [])) }
-    ensures counted { OnOk result (outputs.new.counts.items ≡ option_map_or (λ d. count_at names.now class (Counted.Dropped d.reason) outputs.old.counts.items) dropped outputs.old.counts.items) }
-    ensures told { OnOk result ((ks : List KeptFate) → K.told keeper.old ks → K.told keeper.new (ks ++ option_map_or (λ d. dropped_fate d ∷ []) dropped [])) }
+    requires can { CanAdd names.now (F.view files.old) outputs.old class }
+    ensures added { OnOk result (AddsDropped names.now (F.view files.old) (F.view files.new) outputs.old outputs.new class dropped) }
+    ensures stopped { OnErr result (StopsDropped names.now (F.view files.old) (F.view files.new) outputs.old class dropped) }
+    ensures only { AddsOnly (F.view files.old) (F.view files.new) outputs.old outputs.new result }
+    ensures told { OnOk result ((ks : List KeptFate) → K.told keeper.old ks → K.told keeper.new (ks ++ dropped_fates dropped)) }
     ensures before { K.before keeper.new ≡ K.before keeper.old }
-    ensures same { SameFiles outputs.old outputs.new }
-    ensures others { OnlyWrote outputs.old.departures outputs.old.fates (F.view files.old) (F.view files.new) }
-    ensures why { IfErr result (IsWriteCause outputs.old.departures outputs.old.fates (F.view files.old) (F.view files.new)) }
 {
     let Some(lost) = dropped else {
         return Ok(());

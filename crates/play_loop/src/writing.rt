@@ -1,23 +1,22 @@
 // Writing what was decided: a record for each sending, and a row for each fate.
-ghost use Rattle.std.specs.Prelude.{◌≡◌, ◌≤◌, ◌<◌, ◌*◌, ◌^◌, ◌++◌, ℕ, List, [], length, IsSome, IfErr, IfOk, IfSome, OnOk, OnErr, IsErrOf};
+ghost use Rattle.std.specs.Prelude.{◌≡◌, ◌≤◌, ◌<◌, ◌*◌, ◌^◌, ℕ, List, length, IsSome, IfErr, OnOk, OnErr, IsErrOf};
 ghost use Rattle.play_text.specs.Texts.{fate_text};
 ghost use Rattle.capture_model.specs.Written.{record_text};
 ghost use Rattle.play_base.specs.View.{SameCounts, WriteFault, Wrote, WroteFront};
 ghost use Rattle.play_base.specs.Holds.{HoldsAt};
 ghost use Rattle.play_text.specs.Names.{HasClass, name_of};
 ghost use Rattle.play_text.specs.Statistics.{stats_of};
-ghost use Rattle.play_core.specs.declared.turn.Dropped.{Dropped};
-ghost use Rattle.play_loop.specs.Counting.{AreCountable, count_at};
-ghost use Rattle.play_loop.specs.Gathered.{Grew, Stopped};
+ghost use Rattle.class_counts.specs.Counting.{AreCountable};
+ghost use Rattle.gathered_writes.specs.Gathered.{Grew, Stopped};
 ghost use Rattle.play_loop.specs.Kept.{OnlyWrote};
-ghost use Rattle.play_loop.specs.Outputs.{HasFronts, HasTexts, IsStatsCause, IsWriteCause, SameFiles, dropped_row, record_of, sent_row};
+ghost use Rattle.play_loop.specs.Outputs.{AddsDropped, AddsOnly, AddsSent, CanAdd, HasFronts, HasTexts, IsStatsCause, IsWriteCause, StopsDropped, StopsSent, dressed, leaving};
 
-use crate::counting::{Counted, count};
-use crate::gathered::{flush, flush_rows, gather};
 use crate::outputs::{Outputs, output_fault};
 use crate::{Output, PlayFault};
 use altq_model::{Counts, Fate};
+use class_counts::{Counted, count};
 use discipline::Classify;
+use gathered_writes::{flush, flush_rows, gather};
 use pcap_files::record_head;
 use play_base::{Files, Packet, Trouble, write_all};
 use play_core::{Departure, Dropped};
@@ -27,27 +26,26 @@ use std::alloc::Global;
 /// Rows are written once they have more bytes than this. A row has fewer than 256, so no more than 65,536 are gathered.
 const ROWS_BOUND: usize = 65_536 - 256;
 
-// Adds the record of a packet of `len` bytes that was sent: its header, and then these bytes of it.
+// Adds the record of a packet that was sent: its header, and then the bytes with which it leaves.
 #[tactic(auto, using(play_base::proofs::ViewLaws::same_trans, play_base::proofs::ViewLaws::same_refl))]
 fn add_record<F: Files>(
     files: &mut F,
     file: u32,
     pending: &mut Vec<u8>,
-    end: u64,
-    len: u32,
-    bytes: &[u8],
+    departure: &Departure,
 ) -> Result<(), Trouble>
     requires there { IsSome ((F.view files.old).part file) }
-    requires early { end < 2 ^ 32 * 10 ^ 9 }
-    requires within { length bytes.now ≤ len }
-    ensures grew { OnOk result (Grew (F.view files.old) (F.view files.new) file pending.old.items pending.new.items
-        (record_text (record { stamp = end; captured = bytes.now; original = len }))) }
+    requires early { departure.now.end < 2 ^ 32 * 10 ^ 9 }
+    requires within { length departure.now.packet.bytes ≤ departure.now.packet.len }
+    ensures grew { OnOk result (Grew (F.view files.old) (F.view files.new) file pending.old.items pending.new.items (record_text (leaving departure.now))) }
     ensures no_fault { OnOk result (SameCounts (F.view files.old) (F.view files.new)) }
-    ensures stopped { OnErr result (Stopped (F.view files.old) (F.view files.new) file pending.old.items
-        (record_text (record { stamp = end; captured = bytes.now; original = len }))) }
+    ensures stopped { OnErr result (Stopped (F.view files.old) (F.view files.new) file pending.old.items (record_text (leaving departure.now))) }
     ensures failed { IsErrOf result Trouble.Failed → WriteFault (F.view files.old) (F.view files.new) file }
 {
-    let head = record_head(end, bytes.len() as u32, len);
+    let packet = &departure.packet;
+    let len = packet.len;
+    let bytes = packet.bytes.as_slice();
+    let head = record_head(departure.end, bytes.len() as u32, len);
     match gather(files, file, pending, &head) {
         Ok(()) => {}
         Err(trouble) => return Err(trouble),
@@ -99,11 +97,7 @@ fn add_row<F: Files>(
 
 // Rewrites the bytes of a sent packet as they leave: marked, or with the code point cleared, as `classify` has it.
 fn dress_packet<C: Classify>(classify: &C, departure: &mut Departure)
-    ensures { departure.new ≡ record departure.old {
-      packet = record departure.old.packet {
-        bytes = C.dressed classify.now departure.old.class departure.old.marked departure.old.packet.bytes;
-      };
-    } }
+    ensures { departure.new ≡ dressed (C.dressed classify.now) departure.old }
 {
     let class = departure.class;
     let marked = departure.marked;
@@ -120,59 +114,30 @@ pub fn write_sent<C: Classify, F: Files>(
     classify: &C,
     mut departure: Departure,
 ) -> Result<(), PlayFault>
-    requires named { HasClass names.now departure.class }
-    requires countable { AreCountable names.now outputs.old.counts.items }
+    requires can { CanAdd names.now (F.view files.old) outputs.old departure.class }
     requires early { departure.end < 2 ^ 32 * 10 ^ 9 }
     requires within { length departure.packet.bytes ≤ departure.packet.len }
-    requires departures { IsSome ((F.view files.old).part outputs.old.departures) }
-    requires fates { IsSome ((F.view files.old).part outputs.old.fates) }
-    ensures wrote { OnOk result ((ds ts : List ℕ) → HasTexts (F.view files.old) outputs.old ds ts → HasTexts (F.view files.new) outputs.new
-        (ds ++ record_text (record_of (C.dressed classify.now) departure)) (ts ++ sent_row (name_of names.now) departure)) }
-    ensures no_fault { OnOk result (SameCounts (F.view files.old) (F.view files.new)) }
-    ensures stopped { OnErr result ((ds ts : List ℕ) → HasTexts (F.view files.old) outputs.old ds ts → HasFronts (F.view files.new) outputs.old
-        (ds ++ record_text (record_of (C.dressed classify.now) departure)) (ts ++ sent_row (name_of names.now) departure)) }
-    ensures counted { OnOk result (outputs.new.counts.items ≡ count_at names.now departure.class (Counted.Sent departure.packet.len) outputs.old.counts.items) }
-    ensures same { SameFiles outputs.old outputs.new }
-    ensures others { OnlyWrote outputs.old.departures outputs.old.fates (F.view files.old) (F.view files.new) }
-    ensures why { IfErr result (IsWriteCause outputs.old.departures outputs.old.fates (F.view files.old) (F.view files.new)) }
+    ensures added { OnOk result (AddsSent (C.dressed classify.now) names.now (F.view files.old) (F.view files.new) outputs.old outputs.new departure) }
+    ensures stopped { OnErr result (StopsSent (C.dressed classify.now) names.now (F.view files.old) (F.view files.new) outputs.old departure) }
+    ensures only { AddsOnly (F.view files.old) (F.view files.new) outputs.old outputs.new result }
 {
+    let class = departure.class;
     let len = departure.packet.len;
-    count(
-        &mut outputs.counts,
-        names,
-        departure.class,
-        Counted::Sent { len },
-    );
+    count(&mut outputs.counts, names, class, Counted::Sent { len });
     dress_packet(classify, &mut departure);
+    let file = outputs.departures;
+    match add_record(files, file, &mut outputs.records, &departure) {
+        Ok(()) => {}
+        Err(trouble) => return Err(output_fault(Output::Departures, trouble)),
+    }
+    let packet = &departure.packet;
     let fate = Fate::Sent {
         start: departure.start,
         end: departure.end,
         rule: departure.rule,
     };
-    let packet = &departure.packet;
-    let file = outputs.departures;
-    let bytes = packet.bytes.as_slice();
-    match add_record(
-        files,
-        file,
-        &mut outputs.records,
-        departure.end,
-        packet.len,
-        bytes,
-    ) {
-        Ok(()) => {}
-        Err(trouble) => return Err(output_fault(Output::Departures, trouble)),
-    }
     let file = outputs.fates;
-    match add_row(
-        files,
-        file,
-        &mut outputs.rows,
-        names,
-        departure.class,
-        packet,
-        &fate,
-    ) {
+    match add_row(files, file, &mut outputs.rows, names, class, packet, &fate) {
         Ok(()) => Ok(()),
         Err(trouble) => Err(output_fault(Output::Fates, trouble)),
     }
@@ -187,19 +152,10 @@ pub fn write_dropped<F: Files>(
     class: u32,
     dropped: Dropped,
 ) -> Result<(), PlayFault>
-    requires named { HasClass names.now class }
-    requires countable { AreCountable names.now outputs.old.counts.items }
-    requires departures { IsSome ((F.view files.old).part outputs.old.departures) }
-    requires fates { IsSome ((F.view files.old).part outputs.old.fates) }
-    ensures wrote { OnOk result ((ds ts : List ℕ) → HasTexts (F.view files.old) outputs.old ds ts → HasTexts (F.view files.new) outputs.new
-        ds (ts ++ dropped_row (name_of names.now) class dropped)) }
-    ensures no_fault { OnOk result (SameCounts (F.view files.old) (F.view files.new)) }
-    ensures stopped { OnErr result ((ds ts : List ℕ) → HasTexts (F.view files.old) outputs.old ds ts → HasFronts (F.view files.new) outputs.old
-        ds (ts ++ dropped_row (name_of names.now) class dropped)) }
-    ensures counted { OnOk result (outputs.new.counts.items ≡ count_at names.now class (Counted.Dropped dropped.reason) outputs.old.counts.items) }
-    ensures same { SameFiles outputs.old outputs.new }
-    ensures others { OnlyWrote outputs.old.departures outputs.old.fates (F.view files.old) (F.view files.new) }
-    ensures why { IfErr result (IsWriteCause outputs.old.departures outputs.old.fates (F.view files.old) (F.view files.new)) }
+    requires can { CanAdd names.now (F.view files.old) outputs.old class }
+    ensures added { OnOk result (AddsDropped names.now (F.view files.old) (F.view files.new) outputs.old outputs.new class (Some dropped)) }
+    ensures stopped { OnErr result (StopsDropped names.now (F.view files.old) (F.view files.new) outputs.old class (Some dropped)) }
+    ensures only { AddsOnly (F.view files.old) (F.view files.new) outputs.old outputs.new result }
 {
     let Dropped { packet, reason } = dropped;
     count(&mut outputs.counts, names, class, Counted::Dropped(reason));

@@ -1,4 +1,4 @@
-use Rattle.play_loop.proofs.GatherLemmas.{stopped_flushed}
+use Rattle.gathered_writes.proofs.GatherLemmas.{stopped_flushed}
 use Rattle.play_loop.proofs.writing.add_row.Goals as goal
 
 pub returns-in-Err-clause-stopped : goal.returns-in-Err-clause-stopped

@@ -4,7 +4,7 @@ use Rattle.std.proofs.lemmas.List.{append-nil}
 use Rattle.std.specs.Prelude.{IsSome}
 use Rattle.play_base.specs.View.{View, Wrote, WroteFront}
 use Rattle.play_base.proofs.ViewLaws.{wrote_more_there}
-use Rattle.play_loop.specs.Gathered.{Grew, Stopped}
+use Rattle.gathered_writes.specs.Gathered.{Grew, Stopped}
 
 pub take_drop : {X : Type 0} (k : ℕ) (xs : List X) → take k xs ++ drop k xs ≡ xs
 take_drop zero xs = refl

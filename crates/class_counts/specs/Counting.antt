@@ -8,8 +8,8 @@ use Rattle.altq_model.specs.Counts.{counts_of}
 use Rattle.altq_model.specs.History.{Decision}
 use Rattle.play_text.specs.Names.{AreNames, NameList}
 use Rattle.play_text.specs.Statistics.{IsCountable}
-use Rattle.play_loop.specs.declared.counting.Counted.{Counted}
-use Rattle.play_loop.specs.declared.counting.Counted.TheVariants.{Arrived, Sent, Dropped}
+use Rattle.class_counts.specs.declared.counting.Counted.{Counted}
+use Rattle.class_counts.specs.declared.counting.Counted.TheVariants.{Arrived, Sent, Dropped}
 
 -- counts with one more drop for this reason
 abbrev pub with_drop : Counts → Reason → Counts

@@ -1,5 +1,5 @@
-use Rattle.play_loop.proofs.GatherLemmas.{stopped_at_front, stopped_behind, stopped_between, grew_by_itself}
-use Rattle.play_loop.proofs.gathered.gather.Goals as goal
+use Rattle.gathered_writes.proofs.GatherLemmas.{stopped_at_front, stopped_behind, stopped_between, grew_by_itself}
+use Rattle.gathered_writes.proofs.gathered.gather.Goals as goal
 
 pub returns-in-Err-flush-clause-stopped : goal.returns-in-Err-flush-clause-stopped
 returns-in-Err-flush-clause-stopped g c = stopped_at_front _ _ _ _ _ c.in-Err-flush.ensures.front

@@ -2,11 +2,10 @@
 ghost use Rattle.std.specs.Prelude.{◌≡◌, [], IfOk};
 ghost use Rattle.play_text.specs.Names.{AreNames, HasClass};
 ghost use Rattle.play_text.specs.Statistics.{IsCountable};
-ghost use Rattle.play_loop.specs.Counting.{AreCountable, count_at, tallied, with_drop, with_one};
+ghost use Rattle.class_counts.specs.Counting.{AreCountable, count_at, tallied, with_drop, with_one};
 
 use altq_model::{Counts, Reason};
 use play_base::NoMemory;
-use play_core::Totals;
 use play_text::Names;
 use std::alloc::Global;
 
@@ -19,13 +18,6 @@ pub enum Counted {
     Sent { len: u32 },
     /// A drop.
     Dropped(Reason),
-}
-
-/// The counts of a whole play: of all packets, and of each class at the place of its name.
-#[derive(Drop)]
-pub struct Tally {
-    pub totals: Totals,
-    pub counts: Vec<Counts>,
 }
 
 /// The counts of each class of these names, where nothing arrived. The only error is lack of memory.

@@ -1,7 +1,6 @@
 -- The counts of each class of one more arrival, sending or drop.
-use Rattle.std.proofs.Common.{◌≡◌, ◌≢◌, ◌≤◌, ◌<◌, ◌+◌, ◌*◌, ◌^◌, ◌∙◌, ◌-◌, ℕ, zero, suc, Bool, true, false, cond, List, [], ◌∷◌, ◌++◌, length, map, take, Some, refl, ap, sym, subst, arith, append-nil}
-use Rattle.std.specs.Prelude.{◌==◌, ◌&&◌, slice_get, unwrap_or, All, AllPairs, if◌then◌else◌}
-use Rattle.std.specs.declared.option.Option.{Option}
+use Rattle.std.proofs.Common.{◌≡◌, ◌≢◌, ◌≤◌, ◌<◌, ◌+◌, ◌*◌, ◌∙◌, ◌-◌, ℕ, zero, suc, Bool, true, false, cond, List, [], ◌∷◌, ◌++◌, length, map, take, Some, refl, ap, sym, subst, arith, append-nil}
+use Rattle.std.specs.Prelude.{◌==◌, ◌&&◌, slice_get, unwrap_or, AllPairs, if◌then◌else◌}
 use Rattle.std.proofs.Math.ListN.{get_or, replicate, set}
 use Rattle.std.proofs.lemmas.Bool.{eqb-true, eq-eqb}
 use Rattle.std.proofs.lemmas.List.Quantifiers.{position-Some}
@@ -13,24 +12,23 @@ use Rattle.altq_model.specs.declared.Reason.{Reason}
 use Rattle.altq_model.specs.declared.Reason.TheVariants.{Full, Early, Forced}
 use Rattle.altq_model.specs.declared.Rule.{Rule}
 use Rattle.altq_model.specs.Arrivals.{Arrival, arrival, no_arrival, comings}
-use Rattle.altq_model.specs.Counts.{counts_of, is_early, is_forced, is_full, is_sent, of_arrivals, of_decisions, one, total}
+use Rattle.altq_model.specs.Counts.{counts_of, is_early, is_forced, is_full, is_sent, of_arrivals, of_decisions, one}
 use Rattle.altq_model.specs.declared.Verdict.{Verdict}
 use Rattle.altq_model.specs.declared.Verdict.TheVariants.{Keep, Mark, Drop}
 use Rattle.altq_model.specs.History.{Decision, Happened, dropped_by, journal}
 use Rattle.play_base.specs.declared.packet.Packet.{Packet}
+use Rattle.play_core.specs.declared.turn.Departure.{Departure}
 use Rattle.play_core.specs.declared.turn.Dropped.{Dropped}
 use Rattle.play_core.specs.Turns.{handed_back}
 use Rattle.std.specs.Option.{option_map_or}
-use Rattle.capture_model.specs.Capture.{most_records}
-use Rattle.play_core.specs.Totals.{count_dropped, count_sent, one_dropped, one_sent}
 use Rattle.play_laws.specs.Events.{AreOfArrivals}
 use Rattle.play_laws.proofs.CountsLemmas.{arrivals_add, decisions_add, decisions_stay}
-use Rattle.play_text.specs.Names.{AreNames, NameList, place_of}
+use Rattle.play_text.specs.Names.{NameList, place_of}
 use Rattle.play_text.specs.Statistics.{IsCountable}
-use Rattle.play_loop.specs.declared.counting.Counted.{Counted}
-use Rattle.play_loop.specs.declared.counting.Counted.TheVariants as counted
-use Rattle.play_loop.specs.Counting.{AreCountable, HasCounted, count_at, tallied, with_drop, with_one}
-use Rattle.play_loop.specs.Reading.{AreFit, IsFit}
+use Rattle.class_counts.specs.declared.counting.Counted.{Counted}
+use Rattle.class_counts.specs.declared.counting.Counted.TheVariants as counted
+use Rattle.class_counts.specs.Counting.{AreCountable, HasCounted, count_at, tallied, with_drop, with_one}
+use Rattle.class_counts.specs.Fit.{AreFit}
 
 -- the place of a class is the first that has it
 set_first : (names : NameList) (class at : ℕ) (what : Counted) (ks : List Counts) (d : Counts) (e : ℕ × List ℕ) → at < length names → length ks ≡ length names
@@ -100,10 +98,16 @@ tally_moves (n ∷ ns) class what f g m rising =
     at_head n ns class what f g m (λ k l. rising 0 (suc k) n (omega arith) (omega (arith, l)))
     (tally_moves ns class what f g m (λ i j d l k. rising (suc i) (suc j) d (omega (arith, l)) (omega (arith, k)))) (n.0 == class) refl
 
-counts_same : (a b c d e f g h i j k l m n o p : ℕ) → a ≡ i → b ≡ j → c ≡ k → d ≡ l → e ≡ m → f ≡ n → g ≡ o → h ≡ p
-    → let x : Counts = record { arrived = a; arrived_bytes = b; raised = c; sent = d; sent_bytes = e; full = f; early = g; forced = h } in
-    x ≡ record { arrived = i; arrived_bytes = j; raised = k; sent = l; sent_bytes = m; full = n; early = o; forced = p }
-counts_same a b c d e f g h i j k l m n o p q r s t u v w x = cc
+-- counts are the same where each of them is
+counts_same : (a b : Counts) → a.arrived ≡ b.arrived → a.arrived_bytes ≡ b.arrived_bytes → a.raised ≡ b.raised → a.sent ≡ b.sent → a.sent_bytes ≡ b.sent_bytes
+    → a.full ≡ b.full → a.early ≡ b.early → a.forced ≡ b.forced → a ≡ b
+counts_same a b q r s t u v w x =
+    ap (λ (n : ℕ). record a { arrived = n }) q ∙ ap (λ (n : ℕ). record a { arrived = b.arrived; arrived_bytes = n }) r
+    ∙ ap (λ (n : ℕ). record b { raised = n; sent = a.sent; sent_bytes = a.sent_bytes; full = a.full; early = a.early; forced = a.forced }) s
+    ∙ ap (λ (n : ℕ). record b { sent = n; sent_bytes = a.sent_bytes; full = a.full; early = a.early; forced = a.forced }) t
+    ∙ ap (λ (n : ℕ). record b { sent_bytes = n; full = a.full; early = a.early; forced = a.forced }) u
+    ∙ ap (λ (n : ℕ). record b { full = n; early = a.early; forced = a.forced }) v ∙ ap (λ (n : ℕ). record b { early = n; forced = a.forced }) w
+    ∙ ap (λ (n : ℕ). record b { forced = n }) x
 
 -- one more arrival
 arrival_step : (meant : Arrival → Bool) (amount : Arrival → ℕ) (xs : List Arrival) (a : Arrival)
@@ -145,7 +149,7 @@ read_moves : (xs : List Arrival) (a : Arrival) (g : List Happened) → AreOfArri
 read_moves xs a g of = record {
   same = λ c n.
       let e = other_class a.class c n (a.class == c) refl in
-      counts_same _ _ _ _ _ _ _ _ _ _ _ _ _ _ _ _
+      counts_same _ _
       (arrival_other (λ b. b.class == c) one xs a e) (arrival_other (λ b. b.class == c) (λ b. b.len) xs a e)
       (arrival_other (λ b. (b.class == c) && b.raised) one xs a (both_false (a.class == c) a.raised e))
       (decisions_stay (λ b. b.class == c) is_sent one xs (a ∷ []) g of) (decisions_stay (λ b. b.class == c) is_sent (λ b. b.len) xs (a ∷ []) g of)
@@ -154,7 +158,7 @@ read_moves xs a g of = record {
   more =
       let c : ℕ = a.class in
       let e = class_is a.class in
-      counts_same _ _ _ _ _ _ _ _ _ _ _ _ _ _ _ _
+      counts_same _ _
       (arrival_mine (λ b. b.class == c) one xs a e) (arrival_mine (λ b. b.class == c) (λ b. b.len) xs a e) (raised_mine c xs a e)
       (decisions_stay (λ b. b.class == c) is_sent one xs (a ∷ []) g of) (decisions_stay (λ b. b.class == c) is_sent (λ b. b.len) xs (a ∷ []) g of)
       (decisions_stay (λ b. b.class == c) is_full one xs (a ∷ []) g of) (decisions_stay (λ b. b.class == c) is_early one xs (a ∷ []) g of)
@@ -186,7 +190,7 @@ same_after : (arrived : List Arrival) (js : List Decision) (n : ℕ) (f : Fate) 
     → counts_of c arrived (js ++ (n, f) ∷ []) ≡ counts_of c arrived js
 same_after arrived js n f c other =
     let e = other_class (arrival arrived n).class c other ((arrival arrived n).class == c) refl in
-    counts_same _ _ _ _ _ _ _ _ _ _ _ _ _ _ _ _ refl refl refl
+    counts_same _ _ refl refl refl
     (decision_other c is_sent one arrived js n f e) (decision_other c is_sent (λ b. b.len) arrived js n f e)
     (decision_other c is_full one arrived js n f e) (decision_other c is_early one arrived js n f e) (decision_other c is_forced one arrived js n f e)
 
@@ -201,82 +205,67 @@ sent_moves arrived js n start end r =
     let e = class_is c in
     record {
       same = same_after arrived js n f;
-      more = counts_same _ _ _ _ _ _ _ _ _ _ _ _ _ _ _ _ refl refl refl
+      more = counts_same _ _ refl refl refl
           (decision_mine c is_sent one arrived js n f e) (decision_mine c is_sent (λ b. b.len) arrived js n f e)
           (plus_none _ _ (decision_mine c is_full one arrived js n f e)) (plus_none _ _ (decision_mine c is_early one arrived js n f e))
           (plus_none _ _ (decision_mine c is_forced one arrived js n f e));
     }
 
+drop_mine : (told : Fate → Bool) (amount : Arrival → ℕ) (arrived : List Arrival) (js : List Decision) (n : ℕ) (r : Reason) → let c : ℕ = (arrival arrived n).class in
+    of_decisions (λ b. b.class == c) told amount arrived (js ++ (n, fate.Dropped r) ∷ [])
+    ≡ of_decisions (λ b. b.class == c) told amount arrived js + (if told (fate.Dropped r) then amount (arrival arrived n) else 0)
+drop_mine told amount arrived js n r = decision_mine (arrival arrived n).class told amount arrived js n (fate.Dropped r) (class_is (arrival arrived n).class)
+
 drop_more : (arrived : List Arrival) (js : List Decision) (n : ℕ) (r : Reason) → let c : ℕ = (arrival arrived n).class in
     counts_of c arrived (js ++ (n, fate.Dropped r) ∷ []) ≡ with_drop (counts_of c arrived js) r
-drop_more arrived js n Full =
-    let f : Fate = fate.Dropped Full in
-    let c : ℕ = (arrival arrived n).class in
-    let e = class_is c in
-    counts_same _ _ _ _ _ _ _ _ _ _ _ _ _ _ _ _ refl refl refl
-    (plus_none _ _ (decision_mine c is_sent one arrived js n f e)) (plus_none _ _ (decision_mine c is_sent (λ b. b.len) arrived js n f e))
-    (decision_mine c is_full one arrived js n f e) (plus_none _ _ (decision_mine c is_early one arrived js n f e))
-    (plus_none _ _ (decision_mine c is_forced one arrived js n f e))
-drop_more arrived js n Early =
-    let f : Fate = fate.Dropped Early in
-    let c : ℕ = (arrival arrived n).class in
-    let e = class_is c in
-    counts_same _ _ _ _ _ _ _ _ _ _ _ _ _ _ _ _ refl refl refl
-    (plus_none _ _ (decision_mine c is_sent one arrived js n f e)) (plus_none _ _ (decision_mine c is_sent (λ b. b.len) arrived js n f e))
-    (plus_none _ _ (decision_mine c is_full one arrived js n f e)) (decision_mine c is_early one arrived js n f e)
-    (plus_none _ _ (decision_mine c is_forced one arrived js n f e))
-drop_more arrived js n Forced =
-    let f : Fate = fate.Dropped Forced in
-    let c : ℕ = (arrival arrived n).class in
-    let e = class_is c in
-    counts_same _ _ _ _ _ _ _ _ _ _ _ _ _ _ _ _ refl refl refl
-    (plus_none _ _ (decision_mine c is_sent one arrived js n f e)) (plus_none _ _ (decision_mine c is_sent (λ b. b.len) arrived js n f e))
-    (plus_none _ _ (decision_mine c is_full one arrived js n f e)) (plus_none _ _ (decision_mine c is_early one arrived js n f e))
-    (decision_mine c is_forced one arrived js n f e)
+drop_more arrived js n Full = counts_same _ _ refl refl refl
+    (plus_none _ _ (drop_mine is_sent one arrived js n Full)) (plus_none _ _ (drop_mine is_sent (λ b. b.len) arrived js n Full))
+    (drop_mine is_full one arrived js n Full) (plus_none _ _ (drop_mine is_early one arrived js n Full)) (plus_none _ _ (drop_mine is_forced one arrived js n Full))
+drop_more arrived js n Early = counts_same _ _ refl refl refl
+    (plus_none _ _ (drop_mine is_sent one arrived js n Early)) (plus_none _ _ (drop_mine is_sent (λ b. b.len) arrived js n Early))
+    (plus_none _ _ (drop_mine is_full one arrived js n Early)) (drop_mine is_early one arrived js n Early) (plus_none _ _ (drop_mine is_forced one arrived js n Early))
+drop_more arrived js n Forced = counts_same _ _ refl refl refl
+    (plus_none _ _ (drop_mine is_sent one arrived js n Forced)) (plus_none _ _ (drop_mine is_sent (λ b. b.len) arrived js n Forced))
+    (plus_none _ _ (drop_mine is_full one arrived js n Forced)) (plus_none _ _ (drop_mine is_early one arrived js n Forced)) (drop_mine is_forced one arrived js n Forced)
 
 drop_moves : (arrived : List Arrival) (js : List Decision) (n : ℕ) (r : Reason)
     → IsMoved (arrival arrived n).class (counted.Dropped r) (λ c. counts_of c arrived js) (λ c. counts_of c arrived (js ++ (n, fate.Dropped r) ∷ []))
 drop_moves arrived js n r = record { same = same_after arrived js n (fate.Dropped r); more = drop_more arrived js n r }
 
 -- what was counted, with one more
-pub counted_read : (names : NameList) (xs : List Arrival) (a : Arrival) (g : List Happened) (ks ls : List Counts) → HasCounted names xs (journal g) ks
-    → AreOfArrivals (comings xs) g → ls ≡ count_at names a.class (counted.Arrived a.len a.raised) ks → HasCounted names (xs ++ a ∷ []) (journal g) ls
-counted_read names xs a g ks ls h of e = record {
+counted_more : (names : NameList) (arrived more : List Arrival) (js ls : List Decision) (class : ℕ) (what : Counted) (ks : List Counts) → HasCounted names arrived js ks
+    → IsMoved class what (λ c. counts_of c arrived js) (λ c. counts_of c more ls) → HasCounted names more ls (count_at names class what ks)
+counted_more names arrived more js ls class what ks h m = record {
   names_are = h.names_are;
-  counts_are = e ∙ ap (count_at names a.class (counted.Arrived a.len a.raised)) h.counts_are
-      ∙ sym (tally_moves names a.class (counted.Arrived a.len a.raised) (λ c. counts_of c xs (journal g)) (λ c. counts_of c (xs ++ a ∷ []) (journal g))
-      (read_moves xs a g of) h.names_are.rising);
+  counts_are = ap (count_at names class what) h.counts_are ∙ sym (tally_moves names class what (λ c. counts_of c arrived js) (λ c. counts_of c more ls) m h.names_are.rising);
 }
 
-pub counted_sent : (names : NameList) (arrived : List Arrival) (js : List Decision) (n start end class len : ℕ) (r : Rule) (ks ls : List Counts) → HasCounted names arrived js ks
-    → class ≡ (arrival arrived n).class → len ≡ (arrival arrived n).len → ls ≡ count_at names class (counted.Sent len) ks
-    → HasCounted names arrived (js ++ (n, fate.Sent start end r) ∷ []) ls
-counted_sent names arrived js n start end class len r ks ls h c l e = record {
-  names_are = h.names_are;
-  counts_are = e ∙ ap (λ (k : ℕ). count_at names k (counted.Sent len) ks) c ∙ ap (λ (k : ℕ). count_at names (arrival arrived n).class (counted.Sent k) ks) l
-      ∙ ap (count_at names (arrival arrived n).class (counted.Sent (arrival arrived n).len)) h.counts_are
-      ∙ sym (tally_moves names (arrival arrived n).class (counted.Sent (arrival arrived n).len) (λ k. counts_of k arrived js)
-      (λ k. counts_of k arrived (js ++ (n, fate.Sent start end r) ∷ [])) (sent_moves arrived js n start end r) h.names_are.rising);
-}
+pub counted_read : (names : NameList) (xs : List Arrival) (a : Arrival) (g : List Happened) (ks : List Counts) → HasCounted names xs (journal g) ks
+    → AreOfArrivals (comings xs) g → HasCounted names (xs ++ a ∷ []) (journal g) (count_at names a.class (counted.Arrived a.len a.raised) ks)
+counted_read names xs a g ks h of = counted_more names xs (xs ++ a ∷ []) (journal g) (journal g) a.class (counted.Arrived a.len a.raised) ks h (read_moves xs a g of)
 
-pub counted_dropped : (names : NameList) (arrived : List Arrival) (js : List Decision) (n class : ℕ) (r : Reason) (ks ls : List Counts) → HasCounted names arrived js ks
-    → class ≡ (arrival arrived n).class → ls ≡ count_at names class (counted.Dropped r) ks → HasCounted names arrived (js ++ (n, fate.Dropped r) ∷ []) ls
-counted_dropped names arrived js n class r ks ls h c e = record {
-  names_are = h.names_are;
-  counts_are = e ∙ ap (λ (k : ℕ). count_at names k (counted.Dropped r) ks) c ∙ ap (count_at names (arrival arrived n).class (counted.Dropped r)) h.counts_are
-      ∙ sym (tally_moves names (arrival arrived n).class (counted.Dropped r) (λ k. counts_of k arrived js)
-      (λ k. counts_of k arrived (js ++ (n, fate.Dropped r) ∷ [])) (drop_moves arrived js n r) h.names_are.rising);
-}
+pub counted_sent : (names : NameList) (arrived : List Arrival) (js : List Decision) (d : Departure) (ks : List Counts) → HasCounted names arrived js ks
+    → d.class ≡ (arrival arrived d.packet.number).class → d.packet.len ≡ (arrival arrived d.packet.number).len
+    → HasCounted names arrived (js ++ (d.packet.number, fate.Sent d.start d.end d.rule) ∷ []) (count_at names d.class (counted.Sent d.packet.len) ks)
+counted_sent names arrived js d ks h c l =
+    let ls : List Decision = js ++ (d.packet.number, fate.Sent d.start d.end d.rule) ∷ [] in
+    let P : ℕ → Type 0 = λ k. HasCounted names arrived ls (count_at names k (counted.Sent d.packet.len) ks) in
+    let Q : ℕ → Type 0 = λ k. HasCounted names arrived ls (count_at names (arrival arrived d.packet.number).class (counted.Sent k) ks) in
+    subst P (sym c) (subst Q (sym l) (counted_more names arrived arrived js ls _ _ ks h (sent_moves arrived js d.packet.number d.start d.end d.rule)))
+
+counted_dropped : (names : NameList) (arrived : List Arrival) (js : List Decision) (n class : ℕ) (r : Reason) (ks : List Counts) → HasCounted names arrived js ks
+    → class ≡ (arrival arrived n).class → HasCounted names arrived (js ++ (n, fate.Dropped r) ∷ []) (count_at names class (counted.Dropped r) ks)
+counted_dropped names arrived js n class r ks h c =
+    let P : ℕ → Type 0 = λ k. HasCounted names arrived (js ++ (n, fate.Dropped r) ∷ []) (count_at names k (counted.Dropped r) ks) in
+    subst P (sym c) (counted_more names arrived arrived js _ _ _ ks h (drop_moves arrived js n r))
 
 -- an offer, of which this is handed back
-pub counted_by : (names : NameList) (arrived : List Arrival) (js : List Decision) (n class : ℕ) (v : Verdict) (packet : Packet) (ks ls : List Counts) → HasCounted names arrived js ks
-    → class ≡ (arrival arrived n).class → ls ≡ option_map_or (λ (d : Dropped). count_at names class (counted.Dropped d.reason) ks) (handed_back v packet) ks
-    → HasCounted names arrived (js ++ dropped_by v n) ls
-counted_by names arrived js n class Keep packet ks ls h c e =
-    record { names_are = h.names_are; counts_are = e ∙ h.counts_are ∙ ap (λ (l : List Decision). tallied names arrived l) (sym (append-nil js)) }
-counted_by names arrived js n class Mark packet ks ls h c e =
-    record { names_are = h.names_are; counts_are = e ∙ h.counts_are ∙ ap (λ (l : List Decision). tallied names arrived l) (sym (append-nil js)) }
-counted_by names arrived js n class (Drop r) packet ks ls h c e = counted_dropped names arrived js n class r ks ls h c e
+pub counted_by : (names : NameList) (arrived : List Arrival) (js : List Decision) (n class : ℕ) (v : Verdict) (packet : Packet) (ks : List Counts) → HasCounted names arrived js ks
+    → class ≡ (arrival arrived n).class
+    → HasCounted names arrived (js ++ dropped_by v n) (option_map_or (λ (d : Dropped). count_at names class (counted.Dropped d.reason) ks) (handed_back v packet) ks)
+counted_by names arrived js n class Keep packet ks h c = let P : List Decision → Type 0 = λ l. HasCounted names arrived l ks in subst P (sym (append-nil js)) h
+counted_by names arrived js n class Mark packet ks h c = let P : List Decision → Type 0 = λ l. HasCounted names arrived l ks in subst P (sym (append-nil js)) h
+counted_by names arrived js n class (Drop r) packet ks h c = counted_dropped names arrived js n class r ks h c
 
 -- no count is large
 at_most : (b : Bool) (n m : ℕ) → n ≤ m → (if b then n else 0) ≤ m

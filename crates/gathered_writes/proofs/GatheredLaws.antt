@@ -5,7 +5,7 @@ use Rattle.std.proofs.lemmas.List.{append-nil}
 use Rattle.play_base.specs.View.{View, Wrote}
 use Rattle.play_base.specs.Holds.{HoldsAt, Apart}
 use Rattle.play_base.proofs.HoldsLaws.{holds_wrote, holds_beside}
-use Rattle.play_loop.specs.Gathered.{Grew, Stopped, HasText, HoldsFront}
+use Rattle.gathered_writes.specs.Gathered.{Grew, Stopped, HasText, HoldsFront}
 
 pub text_grew : (v w : View) (file : ℕ) (before after bytes text : List ℕ) → HasText v file before text → Grew v w file before after bytes → HasText w file after (text ++ bytes)
 text_grew v w file before after bytes text h x = record {

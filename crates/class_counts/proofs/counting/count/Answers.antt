@@ -1,9 +1,9 @@
 use Rattle.std.proofs.Common.{◌∙◌, ap, sym}
 use Rattle.std.specs.Prelude.{slice_set}
 use Rattle.altq_model.specs.declared.Counts.{Counts}
-use Rattle.play_loop.specs.Counting.{with_one}
-use Rattle.play_loop.proofs.CountingLemmas.{set_counts}
-use Rattle.play_loop.proofs.counting.count.Goals as goal
+use Rattle.class_counts.specs.Counting.{with_one}
+use Rattle.class_counts.proofs.CountingLemmas.{set_counts}
+use Rattle.class_counts.proofs.counting.count.Goals as goal
 
 pub returns-in-Some : goal.returns-in-Some
 returns-in-Some c =

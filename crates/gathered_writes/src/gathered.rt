@@ -1,7 +1,7 @@
 // Writing in pieces: short texts are gathered, up to 65,536 bytes, and then written at once.
 ghost use Rattle.std.specs.Prelude.{◌≡◌, ◌≤◌, [], List, ℕ, IsSome, OnOk, OnErr, IsErrOf, max, vec_len};
 ghost use Rattle.play_base.specs.View.{SameCounts, Wrote, WroteFront, WriteFault};
-ghost use Rattle.play_loop.specs.Gathered.{Grew, Stopped};
+ghost use Rattle.gathered_writes.specs.Gathered.{Grew, Stopped};
 
 use play_base::{Files, Trouble, write_all};
 use play_text::Rows;
