@@ -236,12 +236,9 @@ answers_late x told m r w u v o h reads is_last =
     }
 
 -- what the play of a capture answers, by how its events ended
-pub record HasReadings : Type 0 where
-  pub reads : (bytes : List ℕ) → Reads bytes (outcome bytes).records (outcome bytes).last
-  pub last : (bytes : List ℕ) → IsLast (outcome bytes).last
-
 pub closed_answer : (x : Setup) (told : List ℕ → Type 0) (m : Moment) (r : Reader) (w : DrawnWords) (u v : View) (o : Opened) (e : Ending) (t : Tally) → HasClosed x told m r w u v o e
-    → KeepsLength x.dress → HasReadings → t.totals ≡ m.progress.totals → t.counts.items ≡ m.outputs.counts.items → IsAnswer x m.shown.stood m.told u v o (answer_of e t)
-closed_answer x told m r w u v o ending.Whole t h k q totals counts = answers_whole x told m r w u v o t h k totals counts
-closed_answer x told m r w u v o (ending.Cut f) t h k q totals counts = answers_cut x told m r w u v o f h
-closed_answer x told m r w u v o ending.Late t h k q totals counts = answers_late x told m r w u v o h q.reads q.last
+    → KeepsLength x.dress → ((bytes : List ℕ) → Reads bytes (outcome bytes).records (outcome bytes).last)
+    → ((bytes : List ℕ) → IsLast (outcome bytes).last) → t.totals ≡ m.progress.totals → t.counts.items ≡ m.outputs.counts.items → IsAnswer x m.shown.stood m.told u v o (answer_of e t)
+closed_answer x told m r w u v o ending.Whole t h k reads is_last totals counts = answers_whole x told m r w u v o t h k totals counts
+closed_answer x told m r w u v o (ending.Cut f) t h k reads is_last totals counts = answers_cut x told m r w u v o f h
+closed_answer x told m r w u v o ending.Late t h k reads is_last totals counts = answers_late x told m r w u v o h reads is_last

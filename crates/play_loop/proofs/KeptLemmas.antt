@@ -11,7 +11,7 @@ use Rattle.play_loop.specs.declared.fault.Output.TheVariants as output
 use Rattle.play_loop.specs.declared.fault.PlayFault.{PlayFault}
 use Rattle.play_loop.specs.declared.fault.PlayFault.TheVariants as play
 use Rattle.play_loop.specs.declared.outputs.Outputs.{Outputs}
-use Rattle.play_loop.specs.Kept.{IsOther, KeepsBut, KeepsBeside, OnlyWrote, OnlyPlayed}
+use Rattle.play_loop.specs.Kept.{IsOther, OnlyWrote, OnlyPlayed}
 use Rattle.play_loop.specs.Outputs.{AddsOnly, AreOpened, HasTexts, IsWriteCause, SameFiles, output_fault}
 use Rattle.play_loop.specs.Played.{AreReady}
 use Rattle.play_loop.proofs.OutputLemmas.{same_trans}

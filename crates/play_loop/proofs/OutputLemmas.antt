@@ -4,7 +4,6 @@ use Rattle.std.proofs.lemmas.List.{append-nil}
 use Rattle.std.specs.Prelude.{IsSome}
 use Rattle.std.specs.declared.option.Option.{Option}
 use Rattle.play_base.specs.View.{View, Wrote, WroteFront}
-use Rattle.play_base.proofs.ViewLaws.{keeps_trans, keeps_fewer, part_of_there}
 use Rattle.play_base.proofs.HoldsLaws.{apart_kept, apart_sym}
 use Rattle.gathered_writes.specs.Gathered.{Grew, Stopped}
 use Rattle.gathered_writes.proofs.GatheredLaws.{text_grew, text_stopped, text_beside, text_front, text_same, front_longer, front_same}
@@ -41,9 +40,6 @@ fronts_rowed u v dep fat recs rows ds ts t h x = record {
   departures = text_front v dep recs ds (text_beside u v dep fat recs ds x.written h.departures h.apart x.wrote);
   fates = text_stopped u v fat rows t ts h.fates x;
 }
-
-pub fronts_longer : (v : View) (dep fat : ℕ) (ds ts d t : List ℕ) → FrontsAre v dep fat ds ts → FrontsAre v dep fat (ds ++ d) (ts ++ t)
-fronts_longer v dep fat ds ts d t h = record { departures = front_longer v dep ds d h.departures; fates = front_longer v fat ts t h.fates }
 
 pub fronts_of_texts : (v : View) (dep fat : ℕ) (recs rows ds ts : List ℕ) → TextsAre v dep fat recs rows ds ts → FrontsAre v dep fat ds ts
 fronts_of_texts v dep fat recs rows ds ts h = record { departures = text_front v dep recs ds h.departures; fates = text_front v fat rows ts h.fates }

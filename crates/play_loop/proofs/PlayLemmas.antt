@@ -1,27 +1,26 @@
 -- From what was read, decided and written to the play.
-use Rattle.std.proofs.Common.{◌≡◌, ◌≤◌, ◌<◌, ◌++◌, ◌∙◌, ◌+◌, ◌⊎◌, inl, inr, ℕ, max, List, [], ◌∷◌, length, Some, refl, ap, sym, subst, arith, append_assoc, append-nil}
-use Rattle.std.specs.Prelude.{slice_get, IsSome, IsTrue}
+use Rattle.std.proofs.Common.{◌≡◌, ◌≤◌, ◌<◌, ◌++◌, ◌∙◌, ◌⊎◌, inl, inr, ℕ, max, List, [], ◌∷◌, length, refl, ap, sym, subst, arith, append_assoc, append-nil}
+use Rattle.std.specs.Prelude.{IsSome, IsTrue}
 use Rattle.altq_model.specs.declared.Placed.{Placed}
-use Rattle.altq_model.specs.Arrivals.{Arrival, arrivals_from, arrivals_of, comings}
+use Rattle.altq_model.specs.Arrivals.{Arrival, comings}
 use Rattle.altq_model.specs.Departures.{Dressing, departures}
 use Rattle.altq_model.specs.History.{Coming, Happened, bare, offered, journal}
 use Rattle.altq_model.specs.Lawful.{AreRising, RiseFrom, greatest}
-use Rattle.altq_model.specs.Play.{Policy, AreDue}
+use Rattle.altq_model.specs.Play.{AreDue}
 use Rattle.play_text.specs.Texts.{Naming, fates, fates_header}
-use Rattle.capture_model.specs.Capture.{Record, Step, End, Fault, Header, Reads, ReadsFrom, IsCapture, IsLast, place_after}
+use Rattle.capture_model.specs.Capture.{Record, Step, End, Fault, Header, Reads, ReadsFrom, IsLast, place_after}
 use Rattle.capture_model.specs.Header.{capture_header}
 use Rattle.capture_model.specs.Written.{written}
 use Rattle.pcap_files.specs.declared.fault.CaptureFault.{CaptureFault}
 use Rattle.pcap_files.specs.declared.fault.CaptureFault.TheVariants as capture
 use Rattle.pcap_files.specs.declared.reader.Reader.{Reader}
-use Rattle.pcap_files.specs.Reading.{AreAllTaken, IsHeadFault, ReadsTo, StandsFor}
+use Rattle.pcap_files.specs.Reading.{AreAllTaken, IsHeadFault, ReadsTo}
 use Rattle.pcap_files.proofs.ReadingLaws.{answered_front, one_reading, taken}
-use Rattle.play_base.specs.View.{View, Keeps, ReadFault}
+use Rattle.play_base.specs.View.{View, ReadFault}
 use Rattle.play_base.specs.Holds.{Apart, HoldsAt}
 use Rattle.play_base.proofs.ViewLaws.{part_of_there, rose_before}
-use Rattle.play_laws.specs.Events.{HasLaws}
 use Rattle.play_laws.proofs.AllLaws.{due_laws}
-use Rattle.play_laws.proofs.ArrivalLemmas.{arrivals_append, arrivals_length, arrivals_rise, comings_append, comings_length}
+use Rattle.play_laws.proofs.ArrivalLemmas.{arrivals_length, arrivals_rise, comings_append, comings_length}
 use Rattle.play_laws.proofs.BusyLemmas.{is_busy}
 use Rattle.play_laws.proofs.DepartureLemmas.{records_stay}
 use Rattle.play_text.proofs.TextLemmas.{rows_stay}
@@ -32,14 +31,14 @@ use Rattle.play_core.specs.Totals.{AreTotals}
 use Rattle.play_text.specs.Names.{name_of}
 use Rattle.play_loop.specs.declared.fault.Opened.{Opened}
 use Rattle.play_loop.specs.declared.fault.PlayFault.{PlayFault}
-use Rattle.play_loop.specs.Ending.{IsAhead, IsAll, IsCut, IsPast, capture_fault}
+use Rattle.play_loop.specs.Ending.{IsAhead, IsCut, IsPast, capture_fault}
 use Rattle.play_loop.specs.Kept.{OnlyWrote}
 use Rattle.play_loop.specs.declared.fault.Output.TheVariants as output
 use Rattle.play_loop.specs.declared.fault.PlayFault.TheVariants as play
 use Rattle.gathered_writes.specs.Gathered.{HoldsFront}
 use Rattle.play_loop.specs.declared.outputs.Outputs.{Outputs}
 use Rattle.play_loop.specs.Outputs.{AreOpened, FrontsAre, IsWriteCause, TextsAre}
-use Rattle.play_loop.specs.Played.{AreReady, Explains, HasOffered, HasStopped, HoldTexts, IsStanding, OfArrivals, Streams, TookUpTo, WasCutOff, start_of}
+use Rattle.play_loop.specs.Played.{AreReady, Explains, HasOffered, HasStopped, HoldTexts, IsStanding, OfArrivals, Streams}
 use Rattle.play_loop.specs.Setup.{IsSound, Setup, arrivals_in, departures_of, fates_of}
 use Rattle.play_loop.specs.Underway.{HasGiven}
 use Rattle.gathered_writes.proofs.GatheredLaws.{front_same, text_whole}

@@ -1,5 +1,5 @@
 -- The records of a capture, one by one, and the play of those that were read.
-use Rattle.std.proofs.Common.{◌≡◌, ◌≤◌, ◌<◌, ◌++◌, ◌∙◌, ◌+◌, ◌⊎◌, inl, inr, ℕ, zero, suc, max, arith, List, [], ◌∷◌, length, None, Some, refl, ap, sym, subst, append_assoc, append-nil, length-append}
+use Rattle.std.proofs.Common.{◌≡◌, ◌≤◌, ◌<◌, ◌++◌, ◌∙◌, ◌+◌, ◌⊎◌, inl, inr, ℕ, zero, suc, max, arith, List, [], ◌∷◌, length, None, Some, refl, ap, sym, subst, append-nil, length-append}
 use Rattle.std.specs.Prelude.{slice_get, option_map, nat_lt, IfNone, IfSome, IsSome, IsTrue}
 use Rattle.std.specs.declared.option.Option.{Option}
 use Rattle.altq_model.specs.declared.Placed.{Placed}
@@ -8,7 +8,7 @@ use Rattle.altq_model.specs.History.{Coming, Event, DrawnWords, Happened, bare, 
 use Rattle.altq_model.specs.Laws.{IsLate}
 use Rattle.altq_model.specs.Lawful.{AreRising, RiseFrom, greatest, latest}
 use Rattle.altq_model.specs.Play.{AreDue}
-use Rattle.capture_model.specs.Capture.{Record, Step, Reads, IsLast, most_records}
+use Rattle.capture_model.specs.Capture.{Record, most_records}
 use Rattle.capture_model.specs.Written.{written}
 use Rattle.play_text.specs.Names.{name_of}
 use Rattle.play_text.specs.Texts.{fates_header}
@@ -19,7 +19,6 @@ use Rattle.pcap_files.specs.declared.record.Record.{Record as Read}
 use Rattle.pcap_files.specs.Reading.{IsWhole, StandsFor, Shows, answered}
 use Rattle.pcap_files.proofs.ReadingLaws.{answered_front, one_reading, stands_kept}
 use Rattle.play_base.specs.View.{View, Keeps, Any, ReadFault}
-use Rattle.play_base.specs.Holds.{Apart}
 use Rattle.play_base.proofs.ViewLaws.{rose_later, still_there}
 use Rattle.play_base.proofs.HoldsLaws.{holds_kept, apart_kept}
 use Rattle.play_laws.specs.Events.{IsOffer, IsSending}

@@ -1,11 +1,11 @@
 -- The statistics are written behind the other outputs.
-use Rattle.std.proofs.Common.{◌≡◌, ◌≢◌, ◌++◌, ◌∙◌, ◌⊎◌, inl, inr, ℕ, List, [], take, drop, Ok, Err, ap, sym, subst}
-use Rattle.std.specs.Prelude.{IfOk, IsSome, IsTrue, Result}
+use Rattle.std.proofs.Common.{◌≡◌, ◌≢◌, ◌++◌, ◌∙◌, inl, inr, ℕ, List, [], take, drop, Ok, Err, ap, sym, subst}
+use Rattle.std.specs.Prelude.{IfOk, IsTrue, Result}
 use Rattle.altq_model.specs.History.{Happened}
 use Rattle.capture_model.specs.Capture.{Record, End}
 use Rattle.pcap_files.proofs.ReadingLaws.{one_reading}
-use Rattle.play_base.specs.Holds.{Apart, HoldsAt}
-use Rattle.play_base.specs.View.{View, Keeps, WriteFault, Wrote, WroteFront}
+use Rattle.play_base.specs.Holds.{HoldsAt}
+use Rattle.play_base.specs.View.{View, Wrote, WroteFront}
 use Rattle.play_base.proofs.HoldsLaws.{apart_kept, holds_beside, holds_wrote}
 use Rattle.play_base.proofs.ViewLaws.{keeps_fewer, later_trans, part_of_there, rose_later, still_there}
 use Rattle.play_text.specs.Statistics.{stats_of}
@@ -16,7 +16,6 @@ use Rattle.play_loop.specs.declared.fault.Output.TheVariants as output
 use Rattle.play_loop.specs.declared.fault.PlayFault.{PlayFault}
 use Rattle.play_loop.specs.declared.fault.PlayFault.TheVariants as play
 use Rattle.play_loop.specs.declared.kept.KeptFate.{KeptFate}
-use Rattle.gathered_writes.specs.Gathered.{HoldsFront}
 use Rattle.play_loop.specs.Kept.{IsNoOutput, IsOther, KeepsBeside, KeepsPlayed}
 use Rattle.play_loop.specs.Outputs.{IsBeforeStats, IsStatsCause}
 use Rattle.play_loop.specs.Played.{AreBegun, AreReady, Explains, Fronts, HasStopped, HoldTexts, LeavesStats, Plays, Writes}

@@ -1,5 +1,5 @@
 -- What a sending and an offer add to the texts of a play.
-use Rattle.std.proofs.Common.{◌≡◌, ◌≤◌, ◌++◌, ◌∙◌, ◌+◌, ◌-◌, ℕ, zero, suc, Bool, List, [], ◌∷◌, length, None, Some, refl, ap, sym, subst, arith}
+use Rattle.std.proofs.Common.{◌≡◌, ◌++◌, ◌∙◌, ◌+◌, ◌-◌, ℕ, zero, suc, Bool, List, [], ◌∷◌, Some, refl, ap, sym, subst}
 use Rattle.std.proofs.lemmas.List.{append-nil}
 use Rattle.std.specs.Prelude.{slice_get, unwrap_or}
 use Rattle.std.specs.Option.{option_map_or}
@@ -15,16 +15,15 @@ use Rattle.altq_model.specs.Lawful.{AreHeld, IsOneOf}
 use Rattle.altq_model.specs.Play.{Policy, offer_of}
 use Rattle.play_text.specs.Texts.{Naming, fate_text, fate_row, fate_rows, fates}
 use Rattle.capture_model.specs.Capture.{Record}
-use Rattle.capture_model.specs.Written.{record_text, record_texts, written}
+use Rattle.capture_model.specs.Written.{record_text, written}
 use Rattle.play_base.specs.declared.packet.Packet.{Packet}
 use Rattle.play_laws.specs.Events.{AreOfArrivals}
 use Rattle.play_laws.proofs.ArrivalLemmas.{coming_of_number}
 use Rattle.play_laws.proofs.DepartureLemmas.{written-append}
 use Rattle.play_text.proofs.TextLemmas.{fates-append}
 use Rattle.play_core.specs.declared.turn.Departure.{Departure}
-use Rattle.play_core.specs.declared.turn.Dropped.{Dropped}
 use Rattle.play_core.specs.Going.{numbered}
-use Rattle.play_core.specs.Turns.{Departs, departs, handed_back}
+use Rattle.play_core.specs.Turns.{departs, handed_back}
 use Rattle.play_loop.specs.Outputs.{record_of, sent_row, dropped_row}
 use Rattle.class_counts.specs.Fit.{IsFit, AreFit}
 

@@ -5,7 +5,6 @@ use Rattle.std.specs.declared.option.Option.{Option}
 use Rattle.altq_model.specs.Arrivals.{Arrival, arrival, coming_of, comings}
 use Rattle.altq_model.specs.declared.Fate.TheVariants as fate
 use Rattle.altq_model.specs.History.{Coming, Event, Offered, Sent, DrawnWords, Happened, bare, offered, journal, was_marked}
-use Rattle.altq_model.specs.Lawful.{AreRising}
 use Rattle.altq_model.specs.Play.{Policy, AreDue, due}
 use Rattle.play_laws.specs.Events.{HasLaws}
 use Rattle.play_laws.proofs.AllLaws.{due_laws}
@@ -19,7 +18,7 @@ use Rattle.play_core.specs.declared.turn.Turn.{Turn}
 use Rattle.play_core.specs.declared.turn.Turn.TheVariants as turn
 use Rattle.play_core.specs.Ended.{IsBegun}
 use Rattle.play_core.specs.Finished.{WasOffered, EndsWithOffer}
-use Rattle.play_core.specs.Turns.{ComesNext, Departs, IsNext, arrives, departs, turned}
+use Rattle.play_core.specs.Turns.{ComesNext, Departs, arrives, departs, turned}
 use Rattle.play_core.proofs.GoingLemmas.{IsPromised, few_counts}
 use Rattle.play_core.proofs.OfferLemmas.{is_coming}
 use Rattle.play_core.proofs.TotalLemmas.{sent_push}

@@ -1,16 +1,14 @@
 -- The departures of a play are a capture: they are no larger than its arrivals.
-use Rattle.std.proofs.Common.{◌≡◌, ◌≤◌, ◌<◌, ◌++◌, ◌∙◌, ◌+◌, ◌*◌, ◌-◌, ℕ, zero, suc, Bool, true, false, max, List, [], ◌∷◌, length, length-append, Some, refl, ap, sym, subst, arith}
+use Rattle.std.proofs.Common.{◌≡◌, ◌≤◌, ◌<◌, ◌++◌, ◌+◌, ◌*◌, ◌-◌, ℕ, zero, suc, Bool, true, false, max, List, [], ◌∷◌, length, length-append, Some, refl, ap, arith}
 use Rattle.std.specs.Prelude.{◌==◌, ◌&&◌, slice_get, unwrap_or, All, nat_lt, nat_le, if◌then◌else◌}
 use Rattle.std.proofs.lemmas.List.Elements.{All-append, All-cons, All-nil}
 use Rattle.altq_model.specs.declared.Placed.{Placed}
-use Rattle.altq_model.specs.declared.Verdict.{Verdict}
-use Rattle.altq_model.specs.declared.Verdict.TheVariants.{Keep, Mark, Drop}
 use Rattle.altq_model.specs.Arrivals.{Arrival, arrival, arrivals_from, arrivals_of, comings, no_arrival}
 use Rattle.altq_model.specs.Departures.{Dressing, KeepsLength, departure, departed_by, departed, departures}
-use Rattle.altq_model.specs.History.{Coming, Event, Offered, Sent, Happened, bare, offered, was_marked, Decision, decided, dropped_by, journal}
+use Rattle.altq_model.specs.History.{Coming, Event, Offered, Sent, Happened, bare, offered, was_marked, Decision, decided, journal}
 use Rattle.altq_model.specs.Laws.{IsInTime, EndsInTime, numbers, occurs}
 use Rattle.capture_model.specs.Capture.{Record, IsCapture, place_after, most_bytes, most_records}
-use Rattle.capture_model.specs.Written.{record_text, record_texts, written, IsWithin, AreWithin}
+use Rattle.capture_model.specs.Written.{record_text, record_texts, IsWithin}
 use Rattle.pcap_files.proofs.WritingLemmas.{reads_written}
 use Rattle.play_laws.specs.Events.{AreOfArrivals, HasLaws, IsOfArrival}
 use Rattle.play_laws.proofs.ArrivalLemmas.{comings_length}

@@ -3,9 +3,9 @@ use Rattle.std.proofs.Common.{◌≡◌, ◌++◌, ◌∙◌, ◌+◌, ℕ, List
 use Rattle.std.specs.declared.option.Option.{Option}
 use Rattle.altq_model.specs.declared.Counts.{Counts}
 use Rattle.altq_model.specs.declared.Placed.{Placed}
-use Rattle.altq_model.specs.Arrivals.{Arrival, coming_of, comings}
-use Rattle.altq_model.specs.History.{DrawnWords, Happened, bare, drawn, offered, journal, was_marked}
-use Rattle.altq_model.specs.Play.{Policy, offer_of}
+use Rattle.altq_model.specs.Arrivals.{Arrival, coming_of}
+use Rattle.altq_model.specs.History.{DrawnWords, Happened, bare, drawn, offered, journal}
+use Rattle.altq_model.specs.Play.{offer_of}
 use Rattle.play_base.specs.View.{View}
 use Rattle.play_text.specs.Names.{name_of}
 use Rattle.play_core.specs.declared.turn.Departure.{Departure}
@@ -20,7 +20,7 @@ use Rattle.play_loop.specs.KeptFates.{dropped_fates, kept_fates, sent_fate}
 use Rattle.play_loop.specs.Outputs.{AddsDropped, AddsSent, HasFronts, SameFiles, StopsDropped, StopsSent, dropped_counts, dropped_rows}
 use Rattle.play_loop.specs.Reading.{arrival_of}
 use Rattle.play_loop.specs.Setup.{Setup, departures_of, fates_of}
-use Rattle.play_loop.specs.Underway.{AreWritten, Goes, HasGiven, IsBroken, IsHeld, IsPlayedAt, Moment}
+use Rattle.play_loop.specs.Underway.{AreWritten, HasGiven, IsBroken, IsHeld, Moment}
 use Rattle.class_counts.proofs.CountingLemmas.{counted_by, counted_sent}
 use Rattle.play_loop.proofs.OutputLemmas.{fronts_files, fronts_same, texts_same}
 use Rattle.play_loop.proofs.TextLemmas.{departures_offered, departures_sent, fates_offered, fates_sent}
@@ -58,13 +58,11 @@ pub record IsOffered (x : Setup) (m : Moment) (arrived : List Arrival) (w : Draw
 abbrev pub offered_by : Setup → Moment → DrawnWords → List Happened → Arriving → List Happened
 offered_by x m w g a = offer_of m.shown.policy w.seed g (coming_of (arrival_of x.place a)) ∷ g
 
-words_are : (w : DrawnWords) (n : ℕ) → w.drawn ≡ n → w ≡ record { seed = w.seed; drawn = n }
-words_are w n e = ap (λ (k : ℕ). record { seed = w.seed; drawn = k }) e
-
 back_of : (x : Setup) (m : Moment) (arrived : List Arrival) (w : DrawnWords) (g : List Happened) (a : Arriving) (back : Option Dropped) → IsOffered x m arrived w g a back
     → back ≡ handed_back (m.shown.policy.answer (bare g) (record { seed = w.seed; drawn = drawn (bare g) }) (coming_of (arrival_of x.place a))).verdict a.packet
 back_of x m arrived w g a back o =
-    o.back_is ∙ ap (λ (k : DrawnWords). handed_back (m.shown.policy.answer (bare g) k (coming_of (arrival_of x.place a))).verdict a.packet) (words_are w (drawn (bare g)) o.words)
+    o.back_is
+    ∙ ap (λ (n : ℕ). handed_back (m.shown.policy.answer (bare g) (record { seed = w.seed; drawn = n }) (coming_of (arrival_of x.place a))).verdict a.packet) o.words
 
 -- the row that its offer adds, what it tells, and what it counts
 rows_after : (x : Setup) (m : Moment) (arrived : List Arrival) (w : DrawnWords) (g : List Happened) (a : Arriving) (back : Option Dropped) → IsOffered x m arrived w g a back

@@ -1,5 +1,5 @@
 -- What the play of a capture answers, before its statistics are written.
-use Rattle.std.specs.Prelude.{ℕ, List, Result, Ok, Err}
+use Rattle.std.specs.Prelude.{List, Result, Ok, Err}
 use Rattle.altq_model.specs.History.{Happened}
 use Rattle.play_base.specs.View.{View, SameCounts}
 use Rattle.play_loop.specs.declared.outputs.Tally.{Tally}

@@ -1,5 +1,5 @@
 -- What is told of a play: for each decision, in the order of the journal, the number of its packet, its arrival and its fate.
-use Rattle.std.specs.Prelude.{ℕ, List, [], ◌∷◌, map}
+use Rattle.std.specs.Prelude.{List, [], ◌∷◌, map}
 use Rattle.std.specs.Option.{option_map_or}
 use Rattle.std.specs.declared.option.Option.{Option}
 use Rattle.altq_model.specs.Arrivals.{Arrival, arrival}

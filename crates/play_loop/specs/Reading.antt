@@ -1,5 +1,5 @@
 -- The arrivals that were read of a capture.
-use Rattle.std.specs.Prelude.{◌≡◌, ◌≤◌, ◌<◌, ◌+◌, ◌^◌, ℕ, max, List, [], ◌∷◌, ◌++◌, length, nat_lt, None, IsSome, IsTrue}
+use Rattle.std.specs.Prelude.{◌≡◌, ◌≤◌, ◌<◌, ◌^◌, ℕ, max, List, [], length, nat_lt, None, IsSome, IsTrue}
 use Rattle.altq_model.specs.declared.Placed.{Placed}
 use Rattle.altq_model.specs.Arrivals.{Arrival, arrivals_of}
 use Rattle.altq_model.specs.Lawful.{greatest}

@@ -1,5 +1,5 @@
 -- A whole play of which each decision was told: `kept` holds of what was.
-use Rattle.std.specs.Prelude.{ℕ, List}
+use Rattle.std.specs.Prelude.{List}
 use Rattle.altq_model.specs.Arrivals.{Arrival}
 use Rattle.altq_model.specs.History.{Happened, journal}
 use Rattle.capture_model.specs.Capture.{Record, IsCapture}

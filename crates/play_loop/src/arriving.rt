@@ -19,27 +19,6 @@ pub struct Arriving {
     pub raised: bool,
 }
 
-// The arrival of a record under this number, where it is placed so and this was the greatest stamp before it.
-fn arriving_of(read: Record, placed: Placed, number: u64, latest: u64) -> Arriving
-    requires { latest < 2 ^ 62 }
-    ensures read { IsRead read latest result }
-    ensures number { result.packet.number ≡ number }
-    ensures placed { result.placed ≡ placed }
-    ensures within { IsWithin result }
-{
-    let raised = read.stamp < latest;
-    Arriving {
-        packet: Packet {
-            number,
-            at: latest.max(read.stamp),
-            len: read.len,
-            bytes: read.bytes,
-        },
-        placed,
-        raised,
-    }
-}
-
 /// The arrival of a record under this number, where this was the greatest stamp before it: placed by its bytes, and counted.
 pub fn arrive<C: Classify>(
     read: Record,
@@ -59,11 +38,18 @@ pub fn arrive<C: Classify>(
     ensures counted { counts.new.items ≡ count_at names.now (C.placed classify.now result.packet.bytes).class (Counted.Arrived result.packet.len result.raised) counts.old.items }
 {
     let placed = classify.class(read.bytes.as_slice());
-    let arriving = arriving_of(read, placed, number, latest);
-    let what = Counted::Arrived {
-        len: arriving.packet.len,
-        raised: arriving.raised,
-    };
+    let raised = read.stamp < latest;
+    let len = read.len;
+    let what = Counted::Arrived { len, raised };
     count(counts, names, placed.class, what);
-    arriving
+    Arriving {
+        packet: Packet {
+            number,
+            at: latest.max(read.stamp),
+            len,
+            bytes: read.bytes,
+        },
+        placed,
+        raised,
+    }
 }

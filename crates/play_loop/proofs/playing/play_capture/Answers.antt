@@ -1,5 +1,5 @@
 -- Each end of the play of a capture: before it, at an output, and after its records.
-use Rattle.std.proofs.Common.{◌≡◌, ◌∙◌, inl, ℕ, List, [], None, Err, refl, ap, sym, subst, arith}
+use Rattle.std.proofs.Common.{◌∙◌, inl, ℕ, List, [], None, Err, refl, ap, sym, subst, arith}
 use Rattle.std.specs.Prelude.{Result}
 use Rattle.altq_model.specs.declared.Counts.{Counts}
 use Rattle.pcap_files.specs.declared.fault.CaptureFault.{CaptureFault}
@@ -138,7 +138,7 @@ returns-clause-answer g c =
           c.in-Ok-finish.ensures.no_fault;
     })
     (g.met.C.Classify.lengths c.args.classify.now)
-    (record { reads = c.every_file_has_a_reading.ensures.reads; last = c.every_file_has_a_reading.ensures.last }) c.totals.ensures c.finish.ensures.counts)
+    c.every_file_has_a_reading.ensures.reads c.every_file_has_a_reading.ensures.last c.totals.ensures c.finish.ensures.counts)
 
 pub returns-clause-others : goal.returns-clause-others
 returns-clause-others g c = close_played _ _ _ c.args.opened.now c.play_records.new.outputs c.requires.ready (opened_same c.args.opened.now _ _ c.new-outputs.ensures.files c.in-Ok-play_records.ensures.same)

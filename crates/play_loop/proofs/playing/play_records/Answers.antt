@@ -1,5 +1,5 @@
 -- Each record is read, played and left behind; the texts follow.
-use Rattle.std.proofs.Common.{◌≡◌, ◌≤◌, ◌<◌, ◌++◌, ◌∙◌, ◌+◌, inl, inr, ℕ, List, [], ◌∷◌, length, length-append, None, Some, Err, refl, ap, sym, subst, arith}
+use Rattle.std.proofs.Common.{◌≡◌, ◌++◌, ◌∙◌, inl, inr, ℕ, List, [], ◌∷◌, length-append, None, Err, refl, ap, subst, arith}
 use Rattle.std.specs.Prelude.{IsTrue, Result}
 use Rattle.std.specs.declared.option.Option.{Option}
 use Rattle.altq_model.specs.Arrivals.{Arrival, coming_of, comings}
@@ -169,10 +169,9 @@ play_packet-requires-clause-under g c =
     let a : Arriving = c.arrive-arriving.result in
     let more : List Arrival = z.0 ++ arrival_of x.place a ∷ [] in
     let counts = of_some (Counts c.records.reader c.next.new.self) _ c.in-Some.record c.in-Some.is c.in-Ok.ensures.counted in
-    let number = counts.number in
     let u = under_read x _ (record c.records.outputs { counts = c.arrive-arriving.new.counts }) z.0 c.records.words z.1 c.records.latest a
     (under_kept _ _ _ (g.F.Files.view c.next.new.files) z.0 _ z.1 z.2.under c.next.ensures.some.1.keeps) z.2.last z.2.last_is (omega (arith, c.arrive-arriving.ensures.read.at))
-    (omega (arith, z.2.counted, number, c.in-Some.record.counted)) c.arrive-arriving.ensures.within refl c.arrive-arriving.ensures.counted in
+    (omega (arith, z.2.counted, counts.number, c.in-Some.record.counted)) c.arrive-arriving.ensures.within refl c.arrive-arriving.ensures.counted in
     let held = held_more x.place z.0 z.1 a z.2.offers
     (omega (arith, c.arrive-arriving.ensures.number, ap (λ (k : Totals). k.arrived) c.totals-number.ensures, z.2.under.going.totals.arrived)) c.arrive-arriving.ensures.placed in
     (x, more, z.1, u, held)
@@ -184,10 +183,9 @@ records-preserved g c =
     let a : Arriving = c.arrive-arriving.result in
     let more : List Arrival = z.0 ++ arrival_of x.place a ∷ [] in
     let counts = of_some (Counts c.records.reader c.next.new.self) _ c.in-Some.record c.in-Some.is c.in-Ok.ensures.counted in
-    let number = counts.number in
     let u = under_read x _ (record c.records.outputs { counts = c.arrive-arriving.new.counts }) z.0 c.records.words z.1 c.records.latest a
     (under_kept _ _ _ (g.F.Files.view c.next.new.files) z.0 _ z.1 z.2.under c.next.ensures.some.1.keeps) z.2.last z.2.last_is (omega (arith, c.arrive-arriving.ensures.read.at))
-    (omega (arith, z.2.counted, number, c.in-Some.record.counted)) c.arrive-arriving.ensures.within refl c.arrive-arriving.ensures.counted in
+    (omega (arith, z.2.counted, counts.number, c.in-Some.record.counted)) c.arrive-arriving.ensures.within refl c.arrive-arriving.ensures.counted in
     let held = held_more x.place z.0 z.1 a z.2.offers
     (omega (arith, c.arrive-arriving.ensures.number, ap (λ (k : Totals). k.arrived) c.totals-number.ensures, z.2.under.going.totals.arrived)) c.arrive-arriving.ensures.placed in
     let answer = of_some (Answers (g.F.Files.view c.records.files) (g.F.Files.view c.next.new.files) c.records.reader c.next.new.self) _ c.in-Some.record c.in-Some.is c.in-Ok.ensures.record in
@@ -203,7 +201,6 @@ records-preserved g c =
     let Q : Due → Type 0 = λ k. OfferedIs k x more a.packet.at z.1 d.0 in
     let o = subst Q c.in-Ok-Made-play_packet.field-0-is d.2 in
     let size = length-append z.0 (arrival_of x.place a ∷ []) in
-    let count = counts.count in
     record {
       file = file;
       sound = c.in-Ok.ensures.sound;
@@ -224,7 +221,7 @@ records-preserved g c =
           last = o.0;
           newest = o.2;
           last_is = last_more x.place z.0 a;
-          counted = omega (arith, size, z.2.counted, count);
+          counted = omega (arith, size, z.2.counted, counts.count);
           read = λ bytes t. read_kept x.place _ _ c.next.new.self c.records.outputs.departures c.records.outputs.fates bytes more a.packet.at (read bytes t) there (other t.0) c.in-Ok-Made-play_packet.ensures.only.others;
         },
       );
@@ -237,10 +234,9 @@ returns-in-Ok-Late-play_packet-clause-ended g c =
     let a : Arriving = c.arrive-arriving.result in
     let more : List Arrival = z.0 ++ arrival_of x.place a ∷ [] in
     let counts = of_some (Counts c.records.reader c.next.new.self) _ c.in-Some.record c.in-Some.is c.in-Ok.ensures.counted in
-    let number = counts.number in
     let u = under_read x _ (record c.records.outputs { counts = c.arrive-arriving.new.counts }) z.0 c.records.words z.1 c.records.latest a
     (under_kept _ _ _ (g.F.Files.view c.next.new.files) z.0 _ z.1 z.2.under c.next.ensures.some.1.keeps) z.2.last z.2.last_is (omega (arith, c.arrive-arriving.ensures.read.at))
-    (omega (arith, z.2.counted, number, c.in-Some.record.counted)) c.arrive-arriving.ensures.within refl c.arrive-arriving.ensures.counted in
+    (omega (arith, z.2.counted, counts.number, c.in-Some.record.counted)) c.arrive-arriving.ensures.within refl c.arrive-arriving.ensures.counted in
     let held = held_more x.place z.0 z.1 a z.2.offers
     (omega (arith, c.arrive-arriving.ensures.number, ap (λ (k : Totals). k.arrived) c.totals-number.ensures, z.2.under.going.totals.arrived)) c.arrive-arriving.ensures.placed in
     let answer = of_some (Answers (g.F.Files.view c.records.files) (g.F.Files.view c.next.new.files) c.records.reader c.next.new.self) _ c.in-Some.record c.in-Some.is c.in-Ok.ensures.record in
@@ -287,10 +283,9 @@ returns-in-Err-play_packet-clause-broken g c =
     let a : Arriving = c.arrive-arriving.result in
     let more : List Arrival = z.0 ++ arrival_of x.place a ∷ [] in
     let counts = of_some (Counts c.records.reader c.next.new.self) _ c.in-Some.record c.in-Some.is c.in-Ok.ensures.counted in
-    let number = counts.number in
     let u = under_read x _ (record c.records.outputs { counts = c.arrive-arriving.new.counts }) z.0 c.records.words z.1 c.records.latest a
     (under_kept _ _ _ (g.F.Files.view c.next.new.files) z.0 _ z.1 z.2.under c.next.ensures.some.1.keeps) z.2.last z.2.last_is (omega (arith, c.arrive-arriving.ensures.read.at))
-    (omega (arith, z.2.counted, number, c.in-Some.record.counted)) c.arrive-arriving.ensures.within refl c.arrive-arriving.ensures.counted in
+    (omega (arith, z.2.counted, counts.number, c.in-Some.record.counted)) c.arrive-arriving.ensures.within refl c.arrive-arriving.ensures.counted in
     let held = held_more x.place z.0 z.1 a z.2.offers
     (omega (arith, c.arrive-arriving.ensures.number, ap (λ (k : Totals). k.arrived) c.totals-number.ensures, z.2.under.going.totals.arrived)) c.arrive-arriving.ensures.placed in
     let answer = of_some (Answers (g.F.Files.view c.records.files) (g.F.Files.view c.next.new.files) c.records.reader c.next.new.self) _ c.in-Some.record c.in-Some.is c.in-Ok.ensures.record in

@@ -3,7 +3,7 @@ use Rattle.std.proofs.Common.{List, [], subst, arith}
 use Rattle.altq_model.specs.declared.Counts.{Counts}
 use Rattle.play_base.specs.View.{Wrote, WroteFront}
 use Rattle.play_text.specs.Statistics.{stats_of}
-use Rattle.play_loop.specs.Setup.{Setup, setup_of}
+use Rattle.play_loop.specs.Setup.{setup_of}
 use Rattle.play_loop.proofs.PlayLemmas.{stopped_empty}
 use Rattle.play_loop.proofs.StatsLemmas.{explains_stats, fronts_whole, keeps_played, keeps_written, leaves_none, leaves_stats, no_stats, plays_told, tells_whole}
 use Rattle.play_loop.proofs.playing.play_told.Goals as goal

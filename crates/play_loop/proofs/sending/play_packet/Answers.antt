@@ -1,5 +1,5 @@
 -- A packet is offered once every sending before it was made.
-use Rattle.std.proofs.Common.{◌+◌, ℕ, List, Some, refl, ap, sym, subst, arith}
+use Rattle.std.proofs.Common.{◌+◌, ℕ, Some, refl, ap, sym, subst, arith}
 use Rattle.altq_model.specs.declared.Placed.{Placed}
 use Rattle.altq_model.specs.Arrivals.{coming_of}
 use Rattle.altq_model.specs.Play.{offer_of}

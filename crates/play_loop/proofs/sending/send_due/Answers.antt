@@ -1,10 +1,9 @@
 -- The texts of a play grow with its sendings.
-use Rattle.std.proofs.Common.{◌≡◌, ◌∙◌, ◌∷◌, List, refl, arith}
+use Rattle.std.proofs.Common.{◌∙◌, ◌∷◌, refl, arith}
 use Rattle.altq_model.specs.Arrivals.{comings}
 use Rattle.play_core.specs.Ended.{IsCutOff}
-use Rattle.play_core.specs.Turns.{arrives, departs}
-use Rattle.play_loop.specs.Setup.{Setup}
-use Rattle.play_loop.specs.Underway.{Moment, classed, classing, moment, shown}
+use Rattle.play_core.specs.Turns.{departs}
+use Rattle.play_loop.specs.Underway.{Moment, moment, shown}
 use Rattle.play_loop.proofs.KeptLemmas.{adds_nothing, then_err, then_ok}
 use Rattle.play_loop.proofs.TurnLemmas.{arrives_same, can_add, counts_up, is_sent, made_of, moved_on, sent_class, sent_fits, still_under, to_setup}
 use Rattle.play_loop.proofs.WrittenLemmas.{broken_sent, written_sent}
@@ -43,23 +42,18 @@ returns-in-Late-clause-due g c = λ x arrived w g' u e.
       to_setup (λ p rate seed. IsCutOff p rate seed (comings arrived) k.0) _ _ w.seed k.1.setup t.0,
     )
 
-pub add_sent-requires-clause-can : goal.add_sent-requires-clause-can
-add_sent-requires-clause-can g c =
+pub add_sent-requires : goal.add_sent-requires
+add_sent-requires g c =
     let r = c.requires.under in
     let k = c.turns.invariant.under r.0 r.1 r.2 r.3 r.4 r.5 in
     let t = c.in-Send.ensures.turned r.1 r.2 k.0 k.1.going (r.5 ∙ arrives_same r.1 r.3 k.0 k.2.0) in
     let n : Moment = moment (shown g.D.Discipline.policy g.D.Discipline.stands g.D.Discipline.lists g.D.Discipline.limits g.D.Discipline.link_rate c.turn.new.discipline) (g.F.Files.view c.turns.files) c.turns.outputs (g.K.Keeper.told c.turns.keeper) c.turn.new.self in
     let s = is_sent _ _ n r.1 r.2 k.0 c.in-Send.departure k.1 c.turn.ensures.policy c.turn.ensures.rate t.0 t.1 in
-    can_add _ _ r.1 r.2 k.0 c.in-Send.departure.class k.1 (sent_class _ n r.1 r.2 k.0 c.in-Send.departure s)
-
-pub add_sent-requires-clause-within : goal.add_sent-requires-clause-within
-add_sent-requires-clause-within g c =
-    let r = c.requires.under in
-    let k = c.turns.invariant.under r.0 r.1 r.2 r.3 r.4 r.5 in
-    let t = c.in-Send.ensures.turned r.1 r.2 k.0 k.1.going (r.5 ∙ arrives_same r.1 r.3 k.0 k.2.0) in
-    let n : Moment = moment (shown g.D.Discipline.policy g.D.Discipline.stands g.D.Discipline.lists g.D.Discipline.limits g.D.Discipline.link_rate c.turn.new.discipline) (g.F.Files.view c.turns.files) c.turns.outputs (g.K.Keeper.told c.turns.keeper) c.turn.new.self in
-    let s = is_sent _ _ n r.1 r.2 k.0 c.in-Send.departure k.1 c.turn.ensures.policy c.turn.ensures.rate t.0 t.1 in
-    sent_fits _ n r.1 r.2 k.0 c.in-Send.departure s
+    record {
+      can = can_add _ _ r.1 r.2 k.0 c.in-Send.departure.class k.1 (sent_class _ n r.1 r.2 k.0 c.in-Send.departure s);
+      early = c.turn.ensures.in_time c.in-Send.departure c.in-Send.is;
+      within = sent_fits _ n r.1 r.2 k.0 c.in-Send.departure s;
+    }
 
 pub turns-smaller : goal.turns-smaller
 turns-smaller g c =

@@ -1,4 +1,4 @@
-use Rattle.std.proofs.Common.{◌≡◌, ◌-◌, ℕ, List, Ok}
+use Rattle.std.proofs.Common.{◌≡◌, ◌-◌, List, Ok}
 use Rattle.altq_model.specs.Arrivals.{Arrival}
 use Rattle.altq_model.specs.History.{DrawnWords, Happened}
 use Rattle.play_core.specs.Turns.{arrives}

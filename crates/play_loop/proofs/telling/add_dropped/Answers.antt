@@ -1,4 +1,4 @@
-use Rattle.std.proofs.Common.{List, sym, subst}
+use Rattle.std.proofs.Common.{sym, subst}
 use Rattle.std.specs.declared.option.Option.{Option}
 use Rattle.play_core.specs.declared.turn.Dropped.{Dropped}
 use Rattle.play_loop.specs.Outputs.{AddsDropped, StopsDropped}
