@@ -1,0 +1,3 @@
+mod Limited
+mod Moving
+mod Paced
