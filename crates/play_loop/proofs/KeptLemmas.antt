@@ -93,23 +93,24 @@ fates_cause dep fat v w t f e h = let P : PlayFault → Type 0 = λ k. IsWriteCa
 pub adds_nothing : {A : Type 0} (v : View) (o : Outputs) (a : A) → AddsOnly v v o o (Ok a)
 adds_nothing v o a = record { same = record { departures = refl; fates = refl }; others = only_nothing v o.departures o.fates; no_fault = same_refl v; why = tt }
 
-pub then_ok : {A B C : Type 0} (u v w : View) (a b c : Outputs) (x : A) (y : B) (z : C) → IsSome (u.part a.departures) → IsSome (u.part a.fates)
-    → AddsOnly u v a b (Ok x) → AddsOnly v w b c (Ok y) → AddsOnly u w a c (Ok z)
-then_ok u v w a b c x y z is_dep is_fat p q = record {
-  same = same_trans a b c p.same q.same;
-  others = only_trans u v w a.departures a.fates b.departures b.fates is_dep is_fat p.same.departures p.same.fates p.others q.others;
-  no_fault = same_counts u v w p.no_fault q.no_fault;
-  why = tt;
-}
+module _ {A B C : Type 0} where
+  pub then_ok : (u v w : View) (a b c : Outputs) (x : A) (y : B) (z : C) → IsSome (u.part a.departures) → IsSome (u.part a.fates)
+      → AddsOnly u v a b (Ok x) → AddsOnly v w b c (Ok y) → AddsOnly u w a c (Ok z)
+  then_ok u v w a b c x y z is_dep is_fat p q = record {
+    same = same_trans a b c p.same q.same;
+    others = only_trans u v w a.departures a.fates b.departures b.fates is_dep is_fat p.same.departures p.same.fates p.others q.others;
+    no_fault = same_counts u v w p.no_fault q.no_fault;
+    why = tt;
+  }
 
-pub then_err : {A B C : Type 0} (u v w : View) (a b c : Outputs) (x : A) (f : PlayFault) → IsSome (u.part a.departures) → IsSome (u.part a.fates)
-    → AddsOnly u v a b (Ok x) → AddsOnly {A = B} v w b c (Err f) → AddsOnly {A = C} u w a c (Err f)
-then_err u v w a b c x f is_dep is_fat p q = record {
-  same = same_trans a b c p.same q.same;
-  others = only_trans u v w a.departures a.fates b.departures b.fates is_dep is_fat p.same.departures p.same.fates p.others q.others;
-  no_fault = tt;
-  why = cause_since _ _ a.departures a.fates b.departures b.fates u v w f p.others.keeps p.same.departures p.same.fates q.why;
-}
+  pub then_err : (u v w : View) (a b c : Outputs) (x : A) (f : PlayFault) → IsSome (u.part a.departures) → IsSome (u.part a.fates)
+      → AddsOnly u v a b (Ok x) → AddsOnly {A = B} v w b c (Err f) → AddsOnly {A = C} u w a c (Err f)
+  then_err u v w a b c x f is_dep is_fat p q = record {
+    same = same_trans a b c p.same q.same;
+    others = only_trans u v w a.departures a.fates b.departures b.fates is_dep is_fat p.same.departures p.same.fates p.others q.others;
+    no_fault = tt;
+    why = cause_since _ _ a.departures a.fates b.departures b.fates u v w f p.others.keeps p.same.departures p.same.fates q.why;
+  }
 
 -- reads of the arrivals among the writes
 pub played_nothing : (v : View) (arr dep fat : ℕ) → OnlyPlayed arr dep fat v v
