@@ -3,6 +3,7 @@ pub mod Held
 pub mod Ranges
 pub mod Updates
 pub mod Pairs
+pub mod Serving
 pub mod Steps
 pub mod Bounds
 pub mod New

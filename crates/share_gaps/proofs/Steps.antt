@@ -434,19 +434,16 @@ sent_stands w x l len real start h place s head = record {
     ws : List ℕ
     ws = w.waiting.items
 
-    ls : List Lead
-    ls = w.leads.items
-
     waits_are : left_of x ws ≡ left cs l ws
     waits_are = ap (λ (b : Bool). if b then update_all one_less x.path.items ws else ws) place.ends
         ∙ ap (λ (way : List ℕ). if is_leaf cs l then update_all one_less way ws else ws) place.way
 
-    leads_are : served ss x rates (units len) (left_of x ws) ls
-        ≡ update_all (second_served ss (left cs l ws) rates (units len)) (seconds_in ss (path cs l)) (update_all (first_served ss (left cs l ws) rates (units len)) (firsts_in ss (path cs l)) ls)
+    leads_are : served ss x rates (units len) (left_of x ws) w.leads.items
+        ≡ update_all (second_served ss (left cs l ws) rates (units len)) (seconds_in ss (path cs l)) (update_all (first_served ss (left cs l ws) rates (units len)) (firsts_in ss (path cs l)) w.leads.items)
     leads_are =
-        ap (λ (ys : List ℕ). served ss x rates (units len) ys ls) waits_are
-        ∙ ap (λ (is : List ℕ). update_all (second_served ss (left cs l ws) rates (units len)) is (update_all (first_served ss (left cs l ws) rates (units len)) x.firsts.items ls)) place.seconds
-        ∙ ap (λ (is : List ℕ). update_all (second_served ss (left cs l ws) rates (units len)) (seconds_in ss (path cs l)) (update_all (first_served ss (left cs l ws) rates (units len)) is ls)) place.firsts
+        ap (λ (ys : List ℕ). served ss x rates (units len) ys w.leads.items) waits_are
+        ∙ ap (λ (is : List ℕ). update_all (second_served ss (left cs l ws) rates (units len)) is (update_all (first_served ss (left cs l ws) rates (units len)) x.firsts.items w.leads.items)) place.seconds
+        ∙ ap (λ (is : List ℕ). update_all (second_served ss (left cs l ws) rates (units len)) (seconds_in ss (path cs l)) (update_all (first_served ss (left cs l ws) rates (units len)) is w.leads.items)) place.firsts
 
 -- a class beyond the tree stands under none of it
 not_under : (cs : List HfscClass) (l c : ℕ) → IsTree cs → length cs ≤ l → c < length cs → is_under cs c l ≡ false
@@ -490,38 +487,6 @@ sent_beyond cs ss ws ls n l len real start h beyond pairs s head = record {
       (not_under cs l k.second s.tree.tree beyond (child_within cs pair.parent k.second pair.second)));
 }
 
--- the same, by equal lists
-pub record Serving : Type 0 where
-  pub siblings : List Siblings
-  pub waiting : List ℕ
-  pub rates : List (Option ℕ)
-  pub amount : ℕ
-  pub rows : List ℕ
-  pub leads : List Lead
-
-pub record AreSame (x y : Serving) : Type 0 where
-  pub siblings : x.siblings ≡ y.siblings
-  pub waiting : x.waiting ≡ y.waiting
-  pub rates : x.rates ≡ y.rates
-  pub amount : x.amount ≡ y.amount
-  pub rows : x.rows ≡ y.rows
-  pub leads : x.leads ≡ y.leads
-
-same_serving : (x y : Serving) → AreSame x y → x ≡ y
-same_serving x y s =
-    ap (λ (k : List Siblings). record x { siblings = k }) s.siblings ∙ ap (λ (k : List ℕ). record x { siblings = y.siblings; waiting = k }) s.waiting
-    ∙ ap (λ (k : List (Option ℕ)). record y { rates = k; amount = x.amount; rows = x.rows; leads = x.leads }) s.rates
-    ∙ ap (λ (k : ℕ). record y { amount = k; rows = x.rows; leads = x.leads }) s.amount
-    ∙ ap (λ (k : List ℕ). record y { rows = k; leads = x.leads }) s.rows ∙ ap (λ (k : List Lead). record y { leads = k }) s.leads
-
-pub same_firsts : (x y : Serving) → AreSame x y
-    → update_all (first_served x.siblings x.waiting x.rates x.amount) x.rows x.leads ≡ update_all (first_served y.siblings y.waiting y.rates y.amount) y.rows y.leads
-same_firsts x y s = ap (λ (z : Serving). update_all (first_served z.siblings z.waiting z.rates z.amount) z.rows z.leads) (same_serving x y s)
-
-pub same_seconds : (x y : Serving) → AreSame x y
-    → update_all (second_served x.siblings x.waiting x.rates x.amount) x.rows x.leads ≡ update_all (second_served y.siblings y.waiting y.rates y.amount) y.rows y.leads
-same_seconds x y s = ap (λ (z : Serving). update_all (second_served z.siblings z.waiting z.rates z.amount) z.rows z.leads) (same_serving x y s)
-
 -- the places of a path are classes
 pub way_below : (cs : List HfscClass) (ss : List Siblings) (l : ℕ) (x : Place) → IsTree cs → l < length cs → IsPlace cs ss l x
     → (k : ℕ) → k < length x.path.items → slice_index x.path.items k < length cs
@@ -532,8 +497,3 @@ firsts_low cs ss l x place = subst (λ (is : List ℕ). (k : ℕ) → k < length
 
 pub seconds_low : (cs : List HfscClass) (ss : List Siblings) (l : ℕ) (x : Place) → IsPlace cs ss l x → (k : ℕ) → k < length x.seconds.items → slice_index x.seconds.items k < length ss
 seconds_low cs ss l x place = subst (λ (is : List ℕ). (k : ℕ) → k < length is → slice_index is k < length ss) (sym place.seconds) (seconds_below ss (path cs l))
-
-pub stand_same : (cs : List HfscClass) (ss : List Siblings) (V W : List ℕ) (K L : List Lead) (n m : ℕ) (h : HfscHistory) → V ≡ W → K ≡ L → n ≡ m
-    → Stand cs ss W L m h → Stand cs ss V K n h
-stand_same cs ss V W K L n m h a b c s =
-    subst (λ (v : List ℕ). Stand cs ss v K n h) (sym a) (subst (λ (k : List Lead). Stand cs ss W k n h) (sym b) (subst (λ (x : ℕ). Stand cs ss W L x h) (sym c) s))

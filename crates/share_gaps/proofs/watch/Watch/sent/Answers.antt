@@ -5,7 +5,8 @@ use Rattle.hfsc_model.specs.Event.{Sent}
 use Rattle.hfsc_share.proofs.Places.{get_read}
 use Rattle.share_gaps.specs.Serve.{first_served, one_less, update_all}
 use Rattle.share_gaps.specs.Watching.{Stand}
-use Rattle.share_gaps.proofs.Steps.{firsts_low, left_of, same_firsts, same_seconds, seconds_low, sent_beyond, sent_stands, served, stand_same, way_below}
+use Rattle.share_gaps.proofs.Serving.{same_firsts, same_seconds, stand_same}
+use Rattle.share_gaps.proofs.Steps.{firsts_low, left_of, seconds_low, sent_beyond, sent_stands, served, way_below}
 use Rattle.share_gaps.proofs.Updates.{length_all, length_if, taken}
 use Rattle.share_gaps.proofs.watch.Watch.sent.Goals as goal
 
