@@ -19,11 +19,13 @@ pub record AreNoSooner (set moments groups : List ℕ) (until : ℕ) : Type 0 wh
 pub record AreTaken (old set moments : List ℕ) (now group from until : ℕ) : Type 0 where
   pub fewer : (c : ℕ) → marked set c ≡ 1 → marked old c ≡ 1
   pub late : (c : ℕ) → 16 * group ≤ c → c < from → marked set c ≡ 1 → now < get_or moments c 0
+  pub stay : (c : ℕ) → marked old c ≡ 1 → now < get_or moments c 0 → marked set c ≡ 1
   pub no_sooner : (c : ℕ) → 16 * group ≤ c → c < from → marked set c ≡ 1 → until ≤ get_or moments c 0
 
 -- so are those of the groups before one
 pub record AreWoken (old set moments groups : List ℕ) (now group until : ℕ) : Type 0 where
   pub fewer : (c : ℕ) → marked set c ≡ 1 → marked old c ≡ 1
   pub late : (c : ℕ) → c / 16 < group → marked set c ≡ 1 → now < get_or moments c 0
+  pub stay : (c : ℕ) → marked old c ≡ 1 → now < get_or moments c 0 → marked set c ≡ 1
   pub no_sooner : (c : ℕ) → marked set c ≡ 1 → get_or groups (c / 16) 0 ≤ get_or moments c 0
   pub least : (k : ℕ) → k < group → until ≤ get_or groups k 0

@@ -1,5 +1,5 @@
 // The classes that are held back.
-ghost use Rattle.std.specs.Prelude.{◌≡◌, ◌≢◌, ◌≤◌, ◌<◌, ◌-◌, ◌/◌, ℕ, IfOk, length, get_or, true};
+ghost use Rattle.std.specs.Prelude.{◌≡◌, ◌≢◌, ◌≤◌, ◌<◌, ◌-◌, ◌/◌, ℕ, IfOk, length, get_or, false, true};
 ghost use Rattle.class_sets.specs.Marked.{marked};
 
 use crate::set::ClassSet;
@@ -33,6 +33,7 @@ fn take_due(set: &mut ClassSet, moments: &[u64], group: u32, now: u64) -> u64
     requires group { group < 16 }
     ensures fewer { (c : ℕ) → marked set.new c ≡ 1 → marked set.old c ≡ 1 }
     ensures late { (c : ℕ) → c / 16 ≡ group → marked set.new c ≡ 1 → now < get_or moments.now c 0 }
+    ensures stay { (c : ℕ) → marked set.old c ≡ 1 → now < get_or moments.now c 0 → marked set.new c ≡ 1 }
     ensures no_sooner { (c : ℕ) → c / 16 ≡ group → marked set.new c ≡ 1 → result ≤ get_or moments.now c 0 }
 {
     let mut until = u64::MAX;
@@ -60,6 +61,7 @@ fn take_all_due(set: &mut ClassSet, moments: &[u64], groups: &mut [u64], now: u6
     requires before { (c : ℕ) → marked set.old c ≡ 1 → get_or groups.old (c / 16) 0 ≤ get_or moments.now c 0 }
     ensures fewer { (c : ℕ) → marked set.new c ≡ 1 → marked set.old c ≡ 1 }
     ensures late { (c : ℕ) → marked set.new c ≡ 1 → now < get_or moments.now c 0 }
+    ensures stay { (c : ℕ) → marked set.old c ≡ 1 → now < get_or moments.now c 0 → marked set.new c ≡ 1 }
     ensures no_sooner { (c : ℕ) → marked set.new c ≡ 1 → get_or groups.new (c / 16) 0 ≤ get_or moments.now c 0 }
     ensures least { (k : ℕ) → k < 16 → result ≤ get_or groups.new k 0 }
 {
@@ -90,7 +92,8 @@ impl Held {
 
     /// Whether no class is held back.
     pub fn is_empty(&self) -> bool
-        ensures { result ≡ true → (c : ℕ) → marked self.now.set c ≡ 0 }
+        ensures none { result ≡ true → (c : ℕ) → marked self.now.set c ≡ 0 }
+        ensures some { result ≡ false → (c : ℕ) × (marked self.now.set c ≡ 1) }
     {
         self.set.is_empty()
     }
@@ -105,6 +108,7 @@ impl Held {
     /// Holds a class back till a moment.
     pub fn hold(&mut self, class: u32, moment: u64)
         requires { class < 256 }
+        ensures here { marked self.new.set class ≡ 1 }
         ensures others { (c : ℕ) → c ≢ class → marked self.new.set c ≡ marked self.old.set c }
         ensures moment { get_or self.new.moments class 0 ≡ moment }
         ensures moments { (c : ℕ) → c ≢ class → get_or self.new.moments c 0 ≡ get_or self.old.moments c 0 }
@@ -131,6 +135,7 @@ impl Held {
     pub fn wake(&mut self, now: u64)
         ensures fewer { (c : ℕ) → marked self.new.set c ≡ 1 → marked self.old.set c ≡ 1 }
         ensures late { (c : ℕ) → marked self.new.set c ≡ 1 → now < get_or self.new.moments c 0 }
+        ensures stay { (c : ℕ) → marked self.old.set c ≡ 1 → now < get_or self.old.moments c 0 → marked self.new.set c ≡ 1 }
         ensures moments { self.new.moments ≡ self.old.moments }
     {
         if now >= self.until {

@@ -1,5 +1,5 @@
 // A set of classes.
-ghost use Rattle.std.specs.Prelude.{◌≡◌, ◌≢◌, ◌≤◌, ◌<◌, ◌-◌, ℕ, IfNone, IfSome, min, true, if◌then◌else◌};
+ghost use Rattle.std.specs.Prelude.{◌≡◌, ◌≢◌, ◌≤◌, ◌<◌, ◌-◌, ℕ, IfNone, IfSome, false, min, true, if◌then◌else◌};
 ghost use Rattle.std.specs.Int.{bit_at};
 ghost use Rattle.class_sets.specs.Marked.{IsFirst, IsLowest, marked};
 
@@ -45,10 +45,10 @@ impl ClassSet {
 
     /// Whether no class is there.
     pub fn is_empty(&self) -> bool
-        ensures { result ≡ true → (c : ℕ) → marked self.now c ≡ 0 }
+        ensures none { result ≡ true → (c : ℕ) → marked self.now c ≡ 0 }
+        ensures some { result ≡ false → (c : ℕ) × (marked self.now c ≡ 1) }
     {
-        let words = &self.words;
-        words[0] == 0 && words[1] == 0 && words[2] == 0 && words[3] == 0
+        self.first_from(0).is_none()
     }
 
     /// Puts a class in, if it is to be there.
