@@ -4,10 +4,6 @@
 ghost use Rattle.std.specs.Prelude.{◌≡◌};
 ghost use Rattle.std.specs.Process.{exit_status};
 
-#[cfg(test)]
-mod long;
-#[cfg(test)]
-mod plays;
 mod real;
 mod seen;
 mod talk;

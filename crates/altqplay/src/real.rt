@@ -46,7 +46,7 @@ impl<'a, R: rt::Files + Print> RealFiles<'a, R> {
 }
 
 // Puts a file at the end, if there is a number for it.
-pub(crate) fn add_file<T: Drop>(
+fn add_file<T: Drop>(
     parts: &mut Vec<u8>,
     files: &mut Vec<T>,
     part: u8,
@@ -219,7 +219,7 @@ impl<'a, R: rt::Files + Print> Files for RealFiles<'a, R> {
 }
 
 // The part of a file.
-pub(crate) fn part_of(parts: &[u8], file: u32) -> u8
+fn part_of(parts: &[u8], file: u32) -> u8
     requires there { IsSome (slice_get parts.now file) }
     requires parts { AreParts parts.now }
     ensures part { slice_get parts.now file ≡ Some result }

@@ -1,5 +1,5 @@
 //! Plays through `run` over files in memory, and through `play` over plain disciplines, that a transcript of the crate `worked_plays`
-//! cannot reach: files that tell nothing, each call that fails, each length of a capture, and how far a capture is read. There are
+//! cannot reach: files that tell nothing, each call that fails, each length of a capture, one record too many, and how far a capture is read. There are
 //! tests alone; each expected number is reckoned by hand from the rules, as the comments say.
 #![tactic(auto)]
 
@@ -9,6 +9,8 @@ mod arrivals;
 mod cuts;
 #[cfg(test)]
 mod frames;
+#[cfg(test)]
+mod limits;
 #[cfg(test)]
 mod loops;
 #[cfg(test)]
