@@ -27,3 +27,6 @@ pub answer_of-requires-in-Cbq-clause-held : goal.answer_of-requires-in-Cbq-claus
 answer_of-requires-in-Cbq-clause-held c =
     held_in c.args.interface.now _ _ c.frames_have_classes.ensures.class c.interfaces_keep_their_promises.ensures.held c.requires.configured
     c.in_ok-cbq-in-Cbq.ensures.policy c.in_ok-classifier.ensures.placed
+
+pub answer_of-requires-in-Cbq-clause-precs : goal.answer_of-requires-in-Cbq-clause-precs
+answer_of-requires-in-Cbq-clause-precs c = prec_in c.args.interface.now _ c.frames_have_classes.ensures.prec c.in_ok-classifier.ensures.placed
