@@ -4,14 +4,11 @@
 ghost use Rattle.std.specs.Prelude.{◌≡◌};
 ghost use Rattle.std.specs.Process.{exit_status};
 
-mod real;
-mod seen;
 mod talk;
 
 use play_cli::{Status, run};
 use play_hints::{OUT_OF_MEMORY, encoding_hint};
-use real::RealFiles;
-use seen::Seen;
+use real_files::{RealFiles, Seen};
 use std::fs::File;
 use std::io::IsTerminal;
 use std::os::fd::AsRawFd;

@@ -1,6 +1,5 @@
 // The lines on standard error: which text goes with which status.
 
-use crate::seen::Seen;
 use play_cli::Status;
 use play_hints::{
     ConfAt, File, Given, OUT_OF_MEMORY, capture_hint, clock_hint, conf_hint, file_hint,
@@ -9,6 +8,7 @@ use play_hints::{
 use play_words::{
     ChainWords, CheckWords, Command, ConditionWords, PlayWords, VerifyWords, read_words,
 };
+use real_files::Seen;
 use std::alloc::{AllocError, Global};
 
 // The names of a run's files, no text for one that its command has not.

@@ -2,7 +2,7 @@
 ghost use Rattle.std.specs.Prelude.{◌≡◌, ◌≤◌, ◌<◌, ◌++◌, ◌∷◌, ℕ, [], None, Some, false, length, slice_get, slice_index, take, vec_len, IsSome, IfOk, OnErr, OnOk, IsErrOf};
 ghost use Rattle.std.specs.Io.{ReadsAtMost, WritesAtMost};
 ghost use Rattle.std.specs.Io.KnownBytes.{Appends, ReadConsumes};
-ghost use Rattle.altqplay.specs.Parts.{AreParts, AddedPart};
+ghost use Rattle.real_files.specs.Parts.{AreParts, AddedPart};
 ghost use Rattle.play_base.specs.View.{Rose};
 
 use crate::seen::Seen;
