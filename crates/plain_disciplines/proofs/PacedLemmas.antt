@@ -7,8 +7,7 @@ use Rattle.std.proofs.Math.Nat.{mul-le-mul_left}
 use Rattle.std.proofs.lemmas.Bool.{cases_eq, eq-eqb, ne_eqb, eqb-true, le-leb, leb-true, lt-ltb, ltb-true}
 use Rattle.altq_model.specs.declared.Rule.{Rule}
 use Rattle.altq_model.specs.declared.Rule.TheVariants.{Own}
-use Rattle.altq_model.specs.declared.Verdict.{Verdict}
-use Rattle.altq_model.specs.History.{Coming, DrawnWords, Event, Happened, bare, waiting}
+use Rattle.altq_model.specs.History.{Arrival, Event, Happened, bare, waiting}
 use Rattle.altq_model.specs.Play.{Policy, Choice, class_start, lesser}
 use Rattle.altq_model.specs.Policies.{Answering}
 use Rattle.altq_model.specs.Lawful.{IsLawful, IsSteady, first_at}
@@ -22,10 +21,11 @@ use Rattle.leaf_queue.specs.Queue.{QueueEvent, Saying}
 use Rattle.discipline.specs.declared.pick.Pick.{Pick}
 use Rattle.discipline.specs.declared.pick.Pick.TheVariants.{Send, Wait}
 use Rattle.discipline.specs.declared.pick.Sending.{Sending}
-use Rattle.discipline.specs.Laws.{AreDistinct, IsAnswer, IsLeast, Sends, coming, entry, offer_of, seen, seen_of, sent_of}
+use Rattle.discipline.specs.Laws.{AreDistinct, IsAnswer, IsLeast, Sends, offer_of, seen, seen_of, sent_of}
 use Rattle.discipline.specs.Moments.{IsChoice, IsOffer, IsOrderly, WasDue}
 use Rattle.class_rows.specs.Rows.{Answers, IsOther, Rowed, SameRow, Told, answering, list_in}
 use Rattle.class_rows.proofs.FrontLemmas.{front_shown}
+use Rattle.class_rows.proofs.RowHistory.{Offering, bare_arrival}
 use Rattle.plain_disciplines.specs.Plain.{IsPlain}
 use Rattle.plain_disciplines.specs.Paced.{Pacing, Stands, due_at, due_of, multiple_from, paced, paced_due, paced_of}
 
@@ -75,12 +75,12 @@ head_is [] x e = absurd (cc)
 head_is (y ∷ xs) x e = let same : y ≡ x = cc in ap (λ (z : Entry). z ∷ xs) same
 
 -- the packet that a head shows
-shown_head : (xs : List Entry) (ws : List Coming) (x : Entry) → seen xs ≡ seen_of ws → slice_get xs 0 ≡ Some x → (a : Coming) × (slice_get ws 0 ≡ Some a)
+shown_head : (xs : List Entry) (ws : List Arrival) (x : Entry) → seen xs ≡ seen_of ws → slice_get xs 0 ≡ Some x → (a : Arrival) × (slice_get ws 0 ≡ Some a)
 shown_head [] ws x e h = absurd (cc)
 shown_head (y ∷ xs) [] x e h = absurd (cc)
 shown_head (y ∷ xs) (a ∷ ws) x e h = (a, refl)
 
-shown_none : (xs : List Entry) (ws : List Coming) → seen xs ≡ seen_of ws → xs ≡ [] → ws ≡ []
+shown_none : (xs : List Entry) (ws : List Arrival) → seen xs ≡ seen_of ws → xs ≡ [] → ws ≡ []
 shown_none [] [] e h = refl
 shown_none [] (a ∷ ws) e h = absurd (cc)
 shown_none (y ∷ xs) ws e h = absurd (cc)
@@ -89,13 +89,13 @@ pub first_none : (class gap : ℕ) (answer : Answering) (xs : List Entry) (b : L
     → first_at (paced class gap answer) now b (class ∷ []) ≡ None
 first_none class gap answer xs b now f e =
     let none : waiting class b ≡ [] = shown_none xs (waiting class b) f e in
-    ap (λ (ws : List Coming). lesser (option_map (λ (a : Coming). multiple_from gap now) (slice_get ws 0)) None) none
+    ap (λ (ws : List Arrival). lesser (option_map (λ (a : Arrival). multiple_from gap now) (slice_get ws 0)) None) none
 
 pub first_some : (class gap : ℕ) (answer : Answering) (xs : List Entry) (x : Entry) (b : List Event) (now : ℕ) → seen xs ≡ seen_of (waiting class b)
     → slice_get xs 0 ≡ Some x → first_at (paced class gap answer) now b (class ∷ []) ≡ Some (multiple_from gap now)
 first_some class gap answer xs x b now f e =
     let p = shown_head xs (waiting class b) x f e in
-    ap (λ (o : Option Coming). lesser (option_map (λ (a : Coming). multiple_from gap now) o) None) p.1
+    ap (λ (o : Option Arrival). lesser (option_map (λ (a : Arrival). multiple_from gap now) o) None) p.1
 
 -- what is due where the list has this head
 due_of_head : (class gap : ℕ) (xs : List Entry) (x : Entry) (now : ℕ) → slice_get xs 0 ≡ Some x
@@ -263,13 +263,13 @@ module _ {Q : Type 0} (stands : Q → List QueueEvent → Type 0) (says : Q → 
       record { gap = k.gap; told = told; orderly = subst O (sym (same_policy most d rows same)) (was, k.orderly); plain = plain e k.gap }
 
   -- an offer
-  pub offer_stands : (most : Q → ℕ) (d : Pacing Q) (rows : Rowed Q) (h : List Happened) (ticket : Ticket) (class len prec now : ℕ) (w z : DrawnWords) (v : Verdict)
-      → SameRow most says d.rows rows → Stands stands says d h → IsOffer (coming class len prec now) (bare h) → Answers stands says d.rows rows h class (entry ticket len prec) now w v z
-      → IsAnswer (paced_of says d) (bare h) w (coming class len prec now) v z
-      × Stands stands says (record { gap = d.gap; rows = rows }) (offer_of (paced_of says d) h ticket w (coming class len prec now) ∷ h)
-  offer_stands most d rows h ticket class len prec now w z v same k o a =
+  pub offer_stands : (most : Q → ℕ) (d : Pacing Q) (rows : Rowed Q) (h : List Happened) (x : Offering)
+      → SameRow most says d.rows rows → Stands stands says d h → IsOffer (bare_arrival x) (bare h) → Answers stands says d.rows rows h x.class x.entry x.now x.words x.verdict x.after
+      → IsAnswer (paced_of says d) (bare h) x.words (bare_arrival x) x.verdict x.after
+      × Stands stands says (record { gap = d.gap; rows = rows }) (offer_of (paced_of says d) h x.entry.ticket x.words (bare_arrival x) ∷ h)
+  offer_stands most d rows h x same k o a =
       let e : Pacing Q = record { gap = d.gap; rows = rows } in
-      let O : Policy → Type 0 = λ y. IsOrderly y (bare (offer_of (paced_of says d) h ticket w (coming class len prec now) ∷ h)) in (
+      let O : Policy → Type 0 = λ y. IsOrderly y (bare (offer_of (paced_of says d) h x.entry.ticket x.words (bare_arrival x) ∷ h)) in (
         record { verdict = a.verdict; words = a.words },
         record { gap = k.gap; told = a.told; orderly = subst O (sym (same_policy most d rows same)) (o, refl, k.orderly); plain = plain e k.gap },
       )

@@ -4,8 +4,7 @@ use Rattle.std.specs.declared.option.Option.{Option}
 use Rattle.std.specs.Prelude.{slice_get, option_map, nat_le, nat_lt}
 use Rattle.std.proofs.lemmas.Bool.{le-leb, leb-true, lt-ltb, ltb-true}
 use Rattle.altq_model.specs.declared.Rule.{Rule}
-use Rattle.altq_model.specs.declared.Verdict.{Verdict}
-use Rattle.altq_model.specs.History.{Coming, DrawnWords, Event, Happened, bare, waiting}
+use Rattle.altq_model.specs.History.{Arrival, Event, Happened, bare, waiting}
 use Rattle.altq_model.specs.Play.{Choice, Policy, lesser}
 use Rattle.altq_model.specs.Policies.{Answering, strict, first_waiting}
 use Rattle.altq_model.specs.Lawful.{first_at}
@@ -17,11 +16,12 @@ use Rattle.leaf_queue.specs.Queue.{QueueEvent, Saying}
 use Rattle.discipline.specs.declared.pick.Pick.{Pick}
 use Rattle.discipline.specs.declared.pick.Pick.TheVariants.{Send, Wait, Empty}
 use Rattle.discipline.specs.declared.pick.Sending.{Sending}
-use Rattle.discipline.specs.Laws.{IsAnswer, IsDue, NamesHead, Waits, coming, entry, offer_of, seen, seen_of, sent_of}
+use Rattle.discipline.specs.Laws.{IsAnswer, IsDue, NamesHead, Waits, entry, offer_of, seen, seen_of, sent_of}
 use Rattle.discipline.specs.Moments.{IsChoice, IsOffer, IsOrderly, WasDue}
 use Rattle.class_rows.specs.Rows.{Answers, Rowed, SameRow, Told, answering, classes_in, holding, list_in}
 use Rattle.class_rows.proofs.RowLemmas.{holding_distinct}
 use Rattle.class_rows.proofs.FrontLemmas.{front_shown}
+use Rattle.class_rows.proofs.RowHistory.{Offering, bare_arrival}
 use Rattle.plain_disciplines.specs.Plain.{IsPlain}
 use Rattle.plain_disciplines.specs.Strict.{IsStrict, Ordered, Stands, classes_from, first_pick, pick_head, strict_due, strict_of}
 
@@ -109,8 +109,8 @@ module _ (classes : List ℕ) (rule : Rule) (answer : Answering) (now : ℕ) (b 
   abbrev first_of : List ℕ → Option ℕ
   first_of cs = first_at (strict classes rule answer) now b cs
 
-  front_case : (ws : List Coming) (o : Option ℕ) → (o ≡ None) ⊎ (o ≡ Some now)
-      → (lesser (option_map (λ (a : Coming). now) (slice_get ws 0)) o ≡ None) ⊎ (lesser (option_map (λ (a : Coming). now) (slice_get ws 0)) o ≡ Some now)
+  front_case : (ws : List Arrival) (o : Option ℕ) → (o ≡ None) ⊎ (o ≡ Some now)
+      → (lesser (option_map (λ (a : Arrival). now) (slice_get ws 0)) o ≡ None) ⊎ (lesser (option_map (λ (a : Arrival). now) (slice_get ws 0)) o ≡ Some now)
   front_case [] o f = f
   front_case (a ∷ ws) o f = inr (lesser_same now o f)
 
@@ -118,8 +118,8 @@ module _ (classes : List ℕ) (rule : Rule) (answer : Answering) (now : ℕ) (b 
   first_or_none [] = inl refl
   first_or_none (c ∷ cs) = front_case (waiting c b) (first_of cs) (first_or_none cs)
 
-  due_case : (c : ℕ) (cs : List ℕ) (xs : List Entry) (ws : List Coming) (other : Pick) → seen xs ≡ seen_of ws → DueIs rule now (first_of cs) (first_waiting cs b) other
-      → DueIs rule now (lesser (option_map (λ (a : Coming). now) (slice_get ws 0)) (first_of cs)) (elim ws [ [] ↦ first_waiting cs b | a ∷ rest ↦ c ])
+  due_case : (c : ℕ) (cs : List ℕ) (xs : List Entry) (ws : List Arrival) (other : Pick) → seen xs ≡ seen_of ws → DueIs rule now (first_of cs) (first_waiting cs b) other
+      → DueIs rule now (lesser (option_map (λ (a : Arrival). now) (slice_get ws 0)) (first_of cs)) (elim ws [ [] ↦ first_waiting cs b | a ∷ rest ↦ c ])
       (pick_head c rule xs other)
   due_case c cs [] [] other e d = d
   due_case c cs [] (a ∷ ws) other e d = absurd (cc)
@@ -209,13 +209,13 @@ module _ {Q : Type 0} (stands : Q → List QueueEvent → Type 0) (says : Q → 
       record { told = told; orderly = subst O (sym (same_policy most d rows same)) (was, k.orderly); plain = plain e }
 
   -- an offer
-  pub offer_stands : (most : Q → ℕ) (d : Ordered Q) (rows : Rowed Q) (h : List Happened) (ticket : Ticket) (class len prec now : ℕ) (w z : DrawnWords) (v : Verdict)
-      → SameRow most says d.rows rows → Stands stands says d h → IsOffer (coming class len prec now) (bare h) → Answers stands says d.rows rows h class (entry ticket len prec) now w v z
-      → IsAnswer (strict_of says d) (bare h) w (coming class len prec now) v z
-      × Stands stands says (record { rule = d.rule; rows = rows }) (offer_of (strict_of says d) h ticket w (coming class len prec now) ∷ h)
-  offer_stands most d rows h ticket class len prec now w z v same k o a =
+  pub offer_stands : (most : Q → ℕ) (d : Ordered Q) (rows : Rowed Q) (h : List Happened) (x : Offering)
+      → SameRow most says d.rows rows → Stands stands says d h → IsOffer (bare_arrival x) (bare h) → Answers stands says d.rows rows h x.class x.entry x.now x.words x.verdict x.after
+      → IsAnswer (strict_of says d) (bare h) x.words (bare_arrival x) x.verdict x.after
+      × Stands stands says (record { rule = d.rule; rows = rows }) (offer_of (strict_of says d) h x.entry.ticket x.words (bare_arrival x) ∷ h)
+  offer_stands most d rows h x same k o a =
       let e : Ordered Q = record { rule = d.rule; rows = rows } in
-      let O : Policy → Type 0 = λ y. IsOrderly y (bare (offer_of (strict_of says d) h ticket w (coming class len prec now) ∷ h)) in (
+      let O : Policy → Type 0 = λ y. IsOrderly y (bare (offer_of (strict_of says d) h x.entry.ticket x.words (bare_arrival x) ∷ h)) in (
         record { verdict = a.verdict; words = a.words },
         record { told = a.told; orderly = subst O (sym (same_policy most d rows same)) (o, refl, k.orderly); plain = plain e },
       )

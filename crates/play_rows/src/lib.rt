@@ -1,6 +1,6 @@
-//! Plays through `run` over files in memory, and through `play` over plain disciplines, that a transcript of the crate `worked_plays`
-//! cannot reach: files that tell nothing, each call that fails, each length of a capture, one record too many, and how far a capture is read. There are
-//! tests alone; each expected number is reckoned by hand from the rules, as the comments say.
+//! Plays through `run` over files in memory that a transcript of the crate `worked_plays` cannot reach: files that tell nothing, each
+//! call that fails, each length of a capture, one record too many; and through `play` over a plain discipline how far a capture is read.
+//! There are tests alone; each expected number is reckoned by hand from the rules, as the comments say.
 #![tactic(auto)]
 
 #[cfg(test)]
@@ -12,7 +12,9 @@ mod frames;
 #[cfg(test)]
 mod limits;
 #[cfg(test)]
-mod loops;
+mod lines;
+#[cfg(test)]
+mod reading;
 #[cfg(test)]
 mod runs;
 #[cfg(test)]

@@ -1,7 +1,7 @@
 -- What a discipline and its clock stand for, later on and after one more event.
 use Rattle.std.proofs.Common.{◌≡◌, ◌≤◌, ◌<◌, ◌+◌, ◌-◌, ◌^◌, ◌∙◌, ◌∷◌, ℕ, List, [], ap, sym, arith}
 use Rattle.altq_model.specs.declared.Verdict.{Verdict}
-use Rattle.altq_model.specs.History.{Coming, DrawnWords, Event, Happened, Offered, Sent, bare}
+use Rattle.altq_model.specs.History.{Arrival, DrawnWords, Event, Happened, Offered, Sent, bare}
 use Rattle.altq_model.specs.Lawful.{latest}
 use Rattle.altq_model.specs.Link.{Link, after_sending, link}
 use Rattle.altq_model.specs.Play.{Policy}
@@ -81,7 +81,7 @@ at_sent stood still old new most by before s l m r e k x =
     }
 
 -- after an offer
-pub at_offered : (stood still : List Happened → Type 0) (clock : Clock) (most : ℕ) (p : Policy) (ticket : Ticket) (w u : DrawnWords) (a : Coming) (v : Verdict)
+pub at_offered : (stood still : List Happened → Type 0) (clock : Clock) (most : ℕ) (p : Policy) (ticket : Ticket) (w u : DrawnWords) (a : Arrival) (v : Verdict)
     → IsSized a.len → w.drawn < 2 ^ 64 - 1
     → ((h : List Happened) → stood h → IsOffer a (bare h) → w.drawn < 2 ^ 64 - 1 → IsAnswer p (bare h) w a v u × still (offer_of p h ticket w a ∷ h))
     → IsAt stood clock most a.at a.at → IsAt still clock (most + 1) a.at a.at × (u.drawn ≤ w.drawn + 1)

@@ -1,11 +1,10 @@
 // A class of CBQ that is over its rate.
 ghost use Rattle.std.specs.Prelude.{◌≡◌, ◌≤◌, ◌∷◌, [], IfOk, Some};
 
-use crate::steps::{due_at, offer, send_at};
+use crate::steps::{Packets, Step, steps};
 use cbq_rounds::{Cbq, CbqClass};
-use discipline::{Discipline, Pick, Verdict};
+use discipline::Discipline;
 use leaf_queue::Tail;
-use link_clock::LinkClock;
 use play_base::NoMemory;
 use std::alloc::Global;
 use std::test::Fail;
@@ -49,17 +48,20 @@ fn paced(alloc: Global, rate: u64, packetsize: u32) -> Result<Cbq<Tail>, NoMemor
 // before that.
 #[test]
 fn class_over_its_rate_waits(rt: HostRuntime) -> Result<(), Fail> {
-    let mut clock = LinkClock::new(8_000_000);
     let mut cbq = paced(rt.alloc(), 2_000_000, 500)?;
-    assert_eq!(rt; offer(&mut cbq, &clock, 0, 1, 1000, 0), Verdict::Keep);
-    assert_eq!(rt; offer(&mut cbq, &clock, 1, 1, 1000, 0), Verdict::Keep);
-    assert_eq!(rt; offer(&mut cbq, &clock, 2, 1, 1000, 0), Verdict::Keep);
-    assert_eq!(rt; send_at(&mut cbq, &mut clock, 0), Some(1_000_000));
-    assert_eq!(rt; clock.free(), 1_000_000);
-    assert_eq!(rt; send_at(&mut cbq, &mut clock, 1_000_000), Some(2_000_000));
-    assert_eq!(rt; clock.free(), 2_000_000);
-    let wait = Pick::Wait { till: 6_029_297 };
-    assert_eq!(rt; due_at(&mut cbq, &clock, 2_000_000), wait);
+    let packets = Packets {
+        count: 3,
+        class: 1,
+        len: 1000,
+    };
+    let moments = [0, 1_000_000, 2_000_000];
+    let steps = steps(rt.alloc(), &mut cbq, 8_000_000, packets, &moments)?;
+    let waits = [
+        Step::Ends(1_000_000),
+        Step::Ends(2_000_000),
+        Step::Waits(6_029_297),
+    ];
+    assert!(rt; steps.as_slice() == waits.as_slice());
     Ok(())
 }
 
@@ -70,24 +72,22 @@ fn class_over_its_rate_waits(rt: HostRuntime) -> Result<(), Fail> {
 // later. Each starts 1.5 ms before its end.
 #[test]
 fn class_is_paced(rt: HostRuntime) -> Result<(), Fail> {
-    let mut clock = LinkClock::new(8_000_000);
     let mut cbq = paced(rt.alloc(), 1_000_000, 1500)?;
-    assert_eq!(rt; offer(&mut cbq, &clock, 0, 1, 1500, 0), Verdict::Keep);
-    assert_eq!(rt; offer(&mut cbq, &clock, 1, 1, 1500, 0), Verdict::Keep);
-    assert_eq!(rt; offer(&mut cbq, &clock, 2, 1, 1500, 0), Verdict::Keep);
-    assert_eq!(rt; offer(&mut cbq, &clock, 3, 1, 1500, 0), Verdict::Keep);
-    assert_eq!(rt; offer(&mut cbq, &clock, 4, 1, 1500, 0), Verdict::Keep);
-    assert_eq!(rt; send_at(&mut cbq, &mut clock, 0), Some(1_500_000));
-    assert_eq!(rt; clock.free(), 1_500_000);
-    assert_eq!(rt; send_at(&mut cbq, &mut clock, 1_500_000), Some(3_000_000));
-    assert_eq!(rt; clock.free(), 3_000_000);
-    assert_eq!(rt; send_at(&mut cbq, &mut clock, 3_000_000), Some(4_500_000));
-    assert_eq!(rt; clock.free(), 4_500_000);
-    let wait = Pick::Wait { till: 24_116_089 };
-    assert_eq!(rt; due_at(&mut cbq, &clock, 4_500_000), wait);
-    assert_eq!(rt; send_at(&mut cbq, &mut clock, 24_116_089), Some(25_616_089));
-    assert_eq!(rt; clock.free(), 25_616_089);
-    let wait = Pick::Wait { till: 36_116_089 };
-    assert_eq!(rt; due_at(&mut cbq, &clock, 25_616_089), wait);
+    let packets = Packets {
+        count: 5,
+        class: 1,
+        len: 1500,
+    };
+    let moments = [0, 1_500_000, 3_000_000, 4_500_000, 24_116_089, 25_616_089];
+    let steps = steps(rt.alloc(), &mut cbq, 8_000_000, packets, &moments)?;
+    let paced = [
+        Step::Ends(1_500_000),
+        Step::Ends(3_000_000),
+        Step::Ends(4_500_000),
+        Step::Waits(24_116_089),
+        Step::Ends(25_616_089),
+        Step::Waits(36_116_089),
+    ];
+    assert!(rt; steps.as_slice() == paced.as_slice());
     Ok(())
 }

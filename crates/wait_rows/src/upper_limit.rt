@@ -1,12 +1,11 @@
 // A leaf of HFSC that waits for its upper limit.
 ghost use Rattle.std.specs.Prelude.{◌≡◌, ◌∷◌, [], IfOk};
 
-use crate::steps::{due_at, offer, send_at};
-use discipline::{Discipline, Pick, Rule, Verdict};
+use crate::steps::{Packets, Step, steps};
+use discipline::Discipline;
 use hfsc_core::{Hfsc, HfscClass};
 use leaf_queue::Tail;
-use link_clock::LinkClock;
-use play_base::{NoMemory, Ticket};
+use play_base::NoMemory;
 use service_curve::Curve;
 use std::alloc::Global;
 use std::test::Fail;
@@ -47,20 +46,14 @@ fn limited(alloc: Global) -> Result<Hfsc<Tail>, NoMemory>
 // at 0, with nothing sent: its line comes to the bytes of the first packet at 4 ms, and from then on the second may be sent.
 #[test]
 fn link_waits_for_an_upper_limit(rt: HostRuntime) -> Result<(), Fail> {
-    let mut clock = LinkClock::new(8_000_000);
     let mut hfsc = limited(rt.alloc())?;
-    assert_eq!(rt; offer(&mut hfsc, &clock, 0, 1, 1000, 0), Verdict::Keep);
-    assert_eq!(rt; offer(&mut hfsc, &clock, 1, 1, 1000, 0), Verdict::Keep);
-    let first = Pick::Send {
-        ticket: Ticket(0),
+    let packets = Packets {
+        count: 2,
         class: 1,
         len: 1000,
-        rule: Rule::Share,
     };
-    assert_eq!(rt; due_at(&mut hfsc, &clock, 0), first);
-    assert_eq!(rt; send_at(&mut hfsc, &mut clock, 0), Some(1_000_000));
-    assert_eq!(rt; clock.free(), 1_000_000);
-    let wait = Pick::Wait { till: 4_000_000 };
-    assert_eq!(rt; due_at(&mut hfsc, &clock, 1_000_000), wait);
+    let steps = steps(rt.alloc(), &mut hfsc, 8_000_000, packets, &[0, 1_000_000])?;
+    let limited = [Step::Ends(1_000_000), Step::Waits(4_000_000)];
+    assert!(rt; steps.as_slice() == limited.as_slice());
     Ok(())
 }

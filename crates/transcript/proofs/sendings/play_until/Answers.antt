@@ -4,7 +4,7 @@ use Rattle.std.specs.declared.option.Option.{Option}
 use Rattle.altq_model.specs.declared.Placed.{Placed}
 use Rattle.altq_model.specs.Lawful.{IsOneOf}
 use Rattle.altq_model.specs.Play.{Policy}
-use Rattle.discipline.specs.Laws.{HasRate, coming}
+use Rattle.discipline.specs.Laws.{HasRate, arrival_with}
 use Rattle.transcript.proofs.StandingLemmas.{at_offered, moment_come}
 use Rattle.transcript.proofs.sendings.play_until.Goals as goal
 
@@ -30,7 +30,7 @@ pub loop-place-preserved : goal.loop-place-preserved
 loop-place-preserved g c =
     let drawn = c.loop-place.invariant.drawn in
     let R : Option ℕ → Type 0 = λ r. HasRate r c.send_before.new.clock.rate in
-    let a = coming c.class-placed.result.class c.in-Some.found.len c.class-placed.result.prec c.max-at.result in
+    let a = arrival_with c.class-placed.result.class c.in-Some.found.len c.class-placed.result.prec c.max-at.result in
     let y = at_offered _ _ c.send_before.new.clock c.loop-place.place _ _ c.loop-place.words c.offer.new.words a c.offer.result
     (record { least = c.in-Some.ensures.some; most = c.in-Some.ensures.most }) (omega (arith, drawn, c.requires.few, c.loop-place-test.true)) c.offer.ensures.history
     (c.send_before.ensures.at c.loop-place.place c.loop-place.invariant.at) in

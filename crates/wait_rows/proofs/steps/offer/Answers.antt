@@ -2,7 +2,7 @@ use Rattle.std.proofs.Common.{◌<◌, ◌∷◌, arith, ap}
 use Rattle.std.specs.Prelude.{◌^◌, ◌-◌}
 use Rattle.altq_model.specs.History.{DrawnWords, bare}
 use Rattle.altq_model.specs.Lawful.{latest}
-use Rattle.discipline.specs.Laws.{coming, offer_of}
+use Rattle.discipline.specs.Laws.{arrival_with, offer_of}
 use Rattle.discipline.specs.Moments.{IsOffer}
 use Rattle.wait_rows.proofs.Moving.{before_by, latest_by}
 use Rattle.wait_rows.proofs.steps.offer.Goals as goal
@@ -20,7 +20,7 @@ offer-requires-clause-few g c =
 pub returns-clause-known : goal.returns-clause-known
 returns-clause-known g c =
     let k = c.requires.known in
-    let a = coming c.args.class c.args.len 0 c.args.now in
+    let a = arrival_with c.args.class c.args.len 0 c.args.now in
     let may : IsOffer a (bare k.history) = record {
       sized = record { least = c.requires.least; most = c.requires.most };
       arrived = k.arrived;

@@ -1,48 +1,41 @@
-// The loop itself over classes in strict order.
+// How far a capture is read by the loop itself, over two classes in strict order.
 ghost use Rattle.std.specs.Prelude.{◌≡◌, ◌≤◌, ◌^◌, ◌∷◌, [], codes, length, IfOk};
 ghost use Rattle.play_base.specs.Memory.{memory_view};
 ghost use Rattle.play_loop.specs.Played.{AreReady};
 
-use crate::arrivals::{arrive, no_arrivals, packets};
-use crate::frames::{PLAIN, datagram};
-use crate::runs::{VOICE_AND_DATA, play_words};
+use crate::arrivals::{arrive, packets};
+use crate::frames::PLAIN;
+use crate::runs::play_words;
 use altq_model::{Placed, Rule};
-use conf_lines::statements;
-use conf_tree::Conf;
-use frame_classes::Classifier;
 use leaf_queue::{Tail, Words};
 use plain_disciplines::{Classify, Discipline, Strict};
 use play_base::{Call, Files, MemoryFiles, NoMemory};
-use play_command::create_outputs;
+use play_files::create_outputs;
 use play_loop::{Limit, Opened, PlayFault, Totals, play};
 use play_text::Names;
 use play_words::{Command, read_words};
 use std::alloc::Global;
 use std::test::Fail;
 
-// A classifier, of whose classes every one but the first counts as the second; packets leave as they came.
-#[derive(Drop)]
-struct TwoClasses {
-    frames: Classifier,
-}
+// The least rate that a link may have.
+const SLOWEST: u64 = 1000;
 
-impl Classify for TwoClasses {
-    ghost use Rattle.std.specs.Prelude.{◌==◌, if◌then◌else◌, min};
+// Every packet is of the first class, and leaves as it came.
+#[derive(Drop)]
+struct FirstClass;
+
+impl Classify for FirstClass {
     ghost use Rattle.std.proofs.Common.{refl};
 
     ghost placed = { λ c frame. record {
-      class = if (⟦<Classifier as Classify>⟧.placed c.frames frame).class == 1 then 1 else 2;
-      prec = min (⟦<Classifier as Classify>⟧.placed c.frames frame).prec 2;
+      class = 1;
+      prec = 0;
     } };
 
     ghost dressed = { λ c class marked frame. frame };
 
-    fn class(&self, frame: &[u8]) -> Placed {
-        let placed = self.frames.class(frame);
-        Placed {
-            class: if placed.class == 1 { 1 } else { 2 },
-            prec: placed.prec.min(2),
-        }
+    fn class(&self, _frame: &[u8]) -> Placed {
+        Placed { class: 1, prec: 0 }
     }
 
     fn dress(&self, _class: u32, _marked: bool, _frame: &mut [u8]) {}
@@ -50,7 +43,7 @@ impl Classify for TwoClasses {
     ghost lengths = { λ c class marked frame. refl };
 }
 
-// Voice and data.
+// The names of the two classes.
 fn two_names(alloc: Global) -> Result<Names, NoMemory>
     ensures { IfOk result (λ names. names ≡ (1, codes "voice") ∷ (2, codes "data") ∷ []) }
 {
@@ -71,17 +64,13 @@ fn two_queues(alloc: Global) -> Result<Strict<Tail>, NoMemory>
     Strict::build(alloc, 1, Rule::Share, queues)
 }
 
-// Plays the opened capture through both.
+// Plays the opened capture through both on the slowest link.
 fn play_two(
     alloc: Global,
     files: &mut MemoryFiles,
-    classes: &TwoClasses,
-    rate: u64,
     opened: &Opened<'_>,
 ) -> Result<Totals, PlayFault>
     requires ready { AreReady (memory_view files.old) opened.now }
-    requires least { 1000 ≤ rate }
-    requires most { rate ≤ 10 ^ 12 }
 {
     let Ok(names) = two_names(alloc) else {
         return Err(PlayFault::NoMemory);
@@ -93,26 +82,13 @@ fn play_two(
     play(
         alloc,
         &mut queues,
-        classes,
+        &FirstClass,
         &names,
-        rate,
+        SLOWEST,
         &mut words,
         opened,
         files,
     )
-}
-
-// The classifier of voice and data.
-fn voice_and_data(alloc: Global) -> Result<TwoClasses, Fail> {
-    let found = statements(alloc, VOICE_AND_DATA.as_bytes())?;
-    let Ok(conf) = Conf::build(alloc, found.as_slice()) else {
-        return Err(Fail::new("refused"));
-    };
-    let Some(interface) = conf.interface("if0") else {
-        return Err(Fail::new("absent"));
-    };
-    let frames = Classifier::build(alloc, interface)?;
-    Ok(TwoClasses { frames })
 }
 
 // Opens the arrivals, of which these bytes were taken, and creates the outputs of a play.
@@ -133,47 +109,21 @@ fn opened<'a>(alloc: Global, files: &mut MemoryFiles, first: &'a [u8]) -> Result
     }
 }
 
-// Two datagrams, to ports 5001 and 5004: the filter takes the second alone.
-#[test]
-fn filters_over_strict(rt: HostRuntime) -> Result<(), Fail> {
-    let alloc = rt.alloc();
-    let classes = voice_and_data(alloc)?;
-    let mut arrivals = no_arrivals(alloc)?;
-    arrive(&mut arrivals, 1, (0, 0), 1000, &datagram(alloc, 5001)?)?;
-    arrive(&mut arrivals, 1, (0, 0), 1000, &datagram(alloc, 5004)?)?;
-    let mut files = MemoryFiles::new(alloc);
-    files.put("in", &arrivals)?;
-    let none: [u8; 0] = [];
-    let opened = opened(alloc, &mut files, &none)?;
-    let played = play_two(alloc, &mut files, &classes, 8_000_000, &opened);
-    assert!(rt; played.is_ok());
-    let rows =
-        b"number,arrival,length,class,fate,start,end\n2,0,1000,voice,share,0,1000000\n1,0,1000,data,share,1000000,2000000\n";
-    assert!(rt; files.get("fates").unwrap_or_default() == rows.as_slice());
-    Ok(())
-}
-
 // The first packet ends at the end of the clock, so nothing behind the second record needs to be read: at most 65,536 bytes are, past
 // its end at byte 176. Each read moves one byte, so at least 86,388 of the 152,100 bytes are left.
 #[test]
 fn reading_stops_at_the_late_sending(rt: HostRuntime) -> Result<(), Fail> {
     let alloc = rt.alloc();
-    let classes = voice_and_data(alloc)?;
-    let mut arrivals = packets(alloc, 1, (4_294_965_198, 848_000_000), 262_144)?;
-    arrive(
-        &mut arrivals,
-        2_000,
-        (4_294_965_198, 848_000_001),
-        100,
-        &PLAIN,
-    )?;
+    let second = 4_294_965_198;
+    let mut arrivals = packets(alloc, 1, (second, 848_000_000), 262_144)?;
+    arrive(&mut arrivals, 2_000, (second, 848_000_001), 100, &PLAIN)?;
     assert_eq!(rt; arrivals.len(), 152_100);
     let mut files = MemoryFiles::new(alloc);
     files.put("in", &arrivals)?;
     files.chunk(1);
     let none: [u8; 0] = [];
     let opened = opened(alloc, &mut files, &none)?;
-    let played = play_two(alloc, &mut files, &classes, 1_000, &opened);
+    let played = play_two(alloc, &mut files, &opened);
     assert!(rt; played.err() == Some(PlayFault::Limit(Limit::Clock)));
     assert!(rt; files.calls(Call::Read) <= 176 + 65_536);
     assert_eq!(rt; files.get("fates").unwrap_or_default().len(), 43);
