@@ -1,6 +1,6 @@
 -- Sendings that start as soon as they can.
 use Rattle.std.specs.Prelude.{◌≡◌, ◌<◌, ◌+◌, ℕ, nat_lt, Bool, true, false, List, length, get_or, vec_len}
-use Rattle.altq_model.specs.History.{Coming}
+use Rattle.altq_model.specs.History.{Arrival}
 use Rattle.altq_model.specs.Idle.{dropped}
 use Rattle.altq_model.specs.Laws.{occurs}
 use Rattle.journal_laws.specs.Journal.{last_end, numbers_sent, StartsAtOnce as DecisionStartsAtOnce}
@@ -10,7 +10,7 @@ use Rattle.fate_busy.specs.declared.left.Left.{Left}
 
 -- a sending starts at the greater of the end of the one before it and the least arrival of the packets that no row drops and no row
 -- before it sends
-abbrev pub StartsAtOnce : List Coming → (rows before : List Row) → Row → Type 0
+abbrev pub StartsAtOnce : List Arrival → (rows before : List Row) → Row → Type 0
 StartsAtOnce arrived rows before r = DecisionStartsAtOnce arrived (decisions rows) (decisions before) (decision_of r)
 
 -- by number less 1: whether these rows drop it

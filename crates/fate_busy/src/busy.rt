@@ -1,7 +1,7 @@
 // Sendings that start as soon as they can.
 ghost use Rattle.std.specs.Prelude.{[], IfOk, MatchOption, length};
 ghost use Rattle.altq_model.specs.Lawful.{AreRising};
-ghost use Rattle.fate_judge.specs.Given.{comings};
+ghost use Rattle.fate_judge.specs.Given.{bare_arrivals};
 ghost use Rattle.fate_judge.specs.Tests.{IsNumbered};
 ghost use Rattle.fate_judge.specs.Walk.{EachRow, FirstFails};
 ghost use Rattle.fate_busy.specs.Busy.{StartsAtOnce};
@@ -19,10 +19,10 @@ use std::alloc::Global;
 ///
 /// Two passes over the rows and one over the arrivals; a byte for each arrival.
 pub fn first_idle(alloc: Global, arrived: &[Arrived], rows: &[Row]) -> Result<Option<u64>, NoMemory>
-    requires rising { AreRising (comings arrived.now) }
+    requires rising { AreRising (bare_arrivals arrived.now) }
     requires numbered { EachRow (IsNumbered (length arrived.now)) [] rows.now }
-    ensures { IfOk result (λ o. MatchOption o (EachRow (StartsAtOnce (comings arrived.now) rows.now) [] rows.now)
-        (FirstFails (StartsAtOnce (comings arrived.now) rows.now) rows.now)) }
+    ensures { IfOk result (λ o. MatchOption o (EachRow (StartsAtOnce (bare_arrivals arrived.now) rows.now) [] rows.now)
+        (FirstFails (StartsAtOnce (bare_arrivals arrived.now) rows.now) rows.now)) }
 {
     let mut left = Left::new(alloc, arrived.len(), rows)?;
     for (i, row) in rows.iter().enumerate() {

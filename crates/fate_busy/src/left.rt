@@ -2,7 +2,7 @@
 ghost use Rattle.std.specs.Prelude.{◌≡◌, ◌≤◌, ◌<◌, ℕ, List, [], ◌∷◌, IfOk, get_or, length, true, false, vec_len};
 ghost use Rattle.altq_model.specs.Lawful.{AreRising};
 ghost use Rattle.fate_check.specs.declared.reading.Row.{Row};
-ghost use Rattle.fate_judge.specs.Given.{comings};
+ghost use Rattle.fate_judge.specs.Given.{bare_arrivals};
 ghost use Rattle.fate_judge.specs.Tests.{IsNumbered};
 ghost use Rattle.fate_judge.specs.Walk.{EachRow};
 ghost use Rattle.fate_busy.specs.Busy.{AreDropped, IsLeft, StartsAtOnce};
@@ -86,12 +86,12 @@ impl Left {
     pub(crate) fn passes(&mut self, arrived: &[Arrived], row: &Row) -> bool
         requires from_one { 0 < row.now.number }
         requires there { row.now.number ≤ length arrived.now }
-        requires rising { AreRising (comings arrived.now) }
+        requires rising { AreRising (bare_arrivals arrived.now) }
         requires count { vec_len self.old.gone ≡ length arrived.now }
         ensures count { vec_len self.new.gone ≡ vec_len self.old.gone }
-        ensures passes { result ≡ true → (rows before : List Row) → IsLeft (length arrived.now) rows before self.old → StartsAtOnce (comings arrived.now) rows before row.now }
+        ensures passes { result ≡ true → (rows before : List Row) → IsLeft (length arrived.now) rows before self.old → StartsAtOnce (bare_arrivals arrived.now) rows before row.now }
         ensures stands { result ≡ true → (rows before : List Row) → IsLeft (length arrived.now) rows before self.old → IsLeft (length arrived.now) rows (row.now ∷ before) self.new }
-        ensures fails { result ≡ false → (rows before : List Row) → IsLeft (length arrived.now) rows before self.old → ¬ StartsAtOnce (comings arrived.now) rows before row.now }
+        ensures fails { result ≡ false → (rows before : List Row) → IsLeft (length arrived.now) rows before self.old → ¬ StartsAtOnce (bare_arrivals arrived.now) rows before row.now }
     {
         let Fate::Sent { start, end, .. } = row.fate else {
             return true;

@@ -7,7 +7,7 @@ use Rattle.std.proofs.lemmas.Bool.{eqb-true}
 use Rattle.std.proofs.lemmas.List.{append_assoc}
 use Rattle.std.proofs.lemmas.List.Elements.{recursion_from_All}
 use Rattle.std.proofs.lemmas.Slice.Eq.{bytes_eq-Decides}
-use Rattle.altq_model.specs.Arrivals.{Arrival}
+use Rattle.altq_model.specs.Arrivals.{Captured}
 use Rattle.altq_model.specs.History.{Decision}
 use Rattle.play_text.specs.Texts.{fate_row, fate_rows, fates, fates_header}
 use Rattle.fate_check.specs.Given.{rows_for}
@@ -145,10 +145,10 @@ one_fault names text row other good (inr a) (inr b) =
     omega (arith, same, a.place, b.place)
 
 -- the texts of a journal's rows are its fates
-pub journal_texts : (names : NameList) (arrived : List Arrival) (js : List Decision) → fate_rows (name_of names) arrived js ≡ texts_of names (rows_for arrived js)
+pub journal_texts : (names : NameList) (arrived : List Captured) (js : List Decision) → fate_rows (name_of names) arrived js ≡ texts_of names (rows_for arrived js)
 journal_texts names arrived [] = refl
 journal_texts names arrived (d ∷ js) = ap (λ (rest : List ℕ). fate_row (name_of names) arrived d ++ rest) (journal_texts names arrived js)
 
-pub fates_read : (names : NameList) (arrived : List Arrival) (js : List Decision) → AreRows names (rows_for arrived js)
+pub fates_read : (names : NameList) (arrived : List Captured) (js : List Decision) → AreRows names (rows_for arrived js)
     → Reads names (fates (name_of names) arrived js) (rows_for arrived js)
 fates_read names arrived js are = record { rows = are; whole = ap (λ (rest : List ℕ). fates_header ++ rest) (journal_texts names arrived js) }

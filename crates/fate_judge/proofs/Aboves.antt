@@ -4,7 +4,7 @@ use Rattle.altq_model.specs.declared.Fate.{Fate}
 use Rattle.altq_model.specs.declared.Fate.TheVariants.{Dropped, Sent}
 use Rattle.altq_model.specs.declared.Reason.{Reason}
 use Rattle.altq_model.specs.declared.Rule.{Rule}
-use Rattle.altq_model.specs.History.{Coming}
+use Rattle.altq_model.specs.History.{Arrival}
 use Rattle.altq_model.specs.Idle.{dropped}
 use Rattle.altq_model.specs.Laws.{AllBelow, at_of}
 use Rattle.journal_laws.specs.Journal.{IfDropped, IfSent, NoneAbove, class_of, moments, numbers_sent_in, starts}
@@ -32,11 +32,11 @@ none_above_back t [] x = omega arith
 none_above_back t (n ∷ ns) x = omega (arith, x.0, none_above_back t ns x.1)
 
 -- what is held after the rows before one
-abbrev pub Holds : List Coming → (before : List Row) → Order → Type 0
+abbrev pub Holds : List Arrival → (before : List Row) → Order → Type 0
 Holds arrived before held = IsOrder arrived before held.sent.items held.start held.drop held.moment
 
 -- what a class sent, by the class of the row
-above_class : (classes : List Allowed) (arrived : List Coming) (before : List Row) (r : Row) (held : Order)
+above_class : (classes : List Allowed) (arrived : List Arrival) (before : List Row) (r : Row) (held : Order)
     → IsOfArrival classes arrived r → Holds arrived before held → r.class < length held.sent.items
     → get_or held.sent.items r.class 0 ≡ above (numbers_sent_in arrived (class_of arrived r.number) (decisions before))
 above_class classes arrived before r held is o lt =
@@ -48,7 +48,7 @@ pub record MaySend (r : Row) (begin : ℕ) (held : Order) : Type 0 where
   pub start : held.start ≤ begin + 1
   pub moment : held.moment ≤ begin + 1
 
-pub passes_sent : (classes : List Allowed) (arrived : List Coming) (before : List Row) (r : Row) (s e : ℕ) (rule : Rule) (held : Order)
+pub passes_sent : (classes : List Allowed) (arrived : List Arrival) (before : List Row) (r : Row) (s e : ℕ) (rule : Rule) (held : Order)
     → r.fate ≡ Sent s e rule → IsOfArrival classes arrived r → Holds arrived before held → r.class < length held.sent.items
     → MaySend r s held → IsInOrder arrived before r
 passes_sent classes arrived before r s e rule held f is o lt may =
@@ -71,7 +71,7 @@ passes_sent classes arrived before r s e rule held f is o lt may =
       send_after_drops = subst E (sym f) behind;
     }
 
-pub needs_sent : (classes : List Allowed) (arrived : List Coming) (before : List Row) (r : Row) (s e : ℕ) (rule : Rule) (held : Order)
+pub needs_sent : (classes : List Allowed) (arrived : List Arrival) (before : List Row) (r : Row) (s e : ℕ) (rule : Rule) (held : Order)
     → r.fate ≡ Sent s e rule → IsOfArrival classes arrived r → Holds arrived before held → r.class < length held.sent.items
     → IsInOrder arrived before r → MaySend r s held
 needs_sent classes arrived before r s e rule held f is o lt so =
@@ -93,7 +93,7 @@ pub record MayDrop (r : Row) (held : Order) : Type 0 where
   pub number : held.drop ≤ r.number
   pub at : held.start ≤ r.at
 
-pub passes_drop : (classes : List Allowed) (arrived : List Coming) (before : List Row) (r : Row) (reason : Reason) (held : Order)
+pub passes_drop : (classes : List Allowed) (arrived : List Arrival) (before : List Row) (r : Row) (reason : Reason) (held : Order)
     → r.fate ≡ Dropped reason → IsOfArrival classes arrived r → Holds arrived before held
     → MayDrop r held → IsInOrder arrived before r
 passes_drop classes arrived before r reason held f is o may =
@@ -113,7 +113,7 @@ passes_drop classes arrived before r reason held f is o may =
       send_after_drops = subst E (sym f) tt;
     }
 
-pub needs_drop : (classes : List Allowed) (arrived : List Coming) (before : List Row) (r : Row) (reason : Reason) (held : Order)
+pub needs_drop : (classes : List Allowed) (arrived : List Arrival) (before : List Row) (r : Row) (reason : Reason) (held : Order)
     → r.fate ≡ Dropped reason → IsOfArrival classes arrived r → Holds arrived before held
     → IsInOrder arrived before r → MayDrop r held
 needs_drop classes arrived before r reason held f is o so =

@@ -1,6 +1,6 @@
 -- All tests of rows at once.
 use Rattle.std.specs.Prelude.{◌≡◌, ◌≤◌, ◌*◌, ◌^◌, ℕ, List, vec_len}
-use Rattle.altq_model.specs.History.{Coming}
+use Rattle.altq_model.specs.History.{Arrival}
 use Rattle.fate_check.specs.declared.reading.Row.{Row}
 use Rattle.fate_judge.specs.declared.all.AllTests.{AllTests}
 use Rattle.fate_judge.specs.declared.given.Allowed.{Allowed}
@@ -10,7 +10,7 @@ use Rattle.fate_judge.specs.Reading.{IsOfArrival}
 use Rattle.fate_judge.specs.Tests.{AreSeen, IsFree, IsInTime, IsNew}
 
 -- a row passes each test
-pub record PassesEach (rate : ℕ) (classes : List Allowed) (arrived : List Coming) (before : List Row) (r : Row) : Type 0 where
+pub record PassesEach (rate : ℕ) (classes : List Allowed) (arrived : List Arrival) (before : List Row) (r : Row) : Type 0 where
   pub read : IsOfArrival classes arrived r
   pub new : IsNew before r
   pub order : IsInOrder arrived before r
@@ -18,7 +18,7 @@ pub record PassesEach (rate : ℕ) (classes : List Allowed) (arrived : List Comi
   pub end : HasEnd rate arrived before r
 
 -- the tests were told of the rows before
-pub record AreTold (rate : ℕ) (arrived : List Coming) (before : List Row) (t : AllTests) : Type 0 where
+pub record AreTold (rate : ℕ) (arrived : List Arrival) (before : List Row) (t : AllTests) : Type 0 where
   pub seen : AreSeen t.seen.numbers.items before
   pub order : IsOrder arrived before t.order.sent.items t.order.start t.order.drop t.order.moment
   pub free : IsFree before t.free.end

@@ -1,6 +1,6 @@
 -- Which rows pass, and the first row of the least test that fails.
 use Rattle.std.specs.Prelude.{ℕ, List, [], length}
-use Rattle.altq_model.specs.History.{Coming}
+use Rattle.altq_model.specs.History.{Arrival}
 use Rattle.fate_check.specs.declared.reading.Row.{Row}
 use Rattle.fate_judge.specs.declared.given.Allowed.{Allowed}
 use Rattle.fate_judge.specs.declared.given.Kind.{Kind}
@@ -17,7 +17,7 @@ use Rattle.fate_judge.specs.Walk.{EachRow, FirstFails}
 pub record Case : Type 0 where
   pub rate : ℕ
   pub classes : List Allowed
-  pub arrived : List Coming
+  pub arrived : List Arrival
   pub rows : List Row
 
 abbrev pub Passes : Case → Kind → Type 0

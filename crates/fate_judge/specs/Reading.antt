@@ -7,7 +7,7 @@ use Rattle.altq_model.specs.declared.Reason.{Reason}
 use Rattle.altq_model.specs.declared.Reason.TheVariants.{Full, Early, Forced}
 use Rattle.altq_model.specs.declared.Rule.{Rule}
 use Rattle.altq_model.specs.declared.Rule.TheVariants.{RealTime, Share, Own, Borrow}
-use Rattle.altq_model.specs.History.{Coming}
+use Rattle.altq_model.specs.History.{Arrival}
 use Rattle.altq_model.specs.Laws.{at_of}
 use Rattle.journal_laws.specs.Journal.{class_of, len_of}
 use Rattle.fate_check.specs.declared.reading.Row.{Row}
@@ -33,7 +33,7 @@ abbrev pub can_occur_in : List Allowed → (class : ℕ) → Fate → Bool
 can_occur_in classes class fate = option_map_or (λ c. can_occur c fate) (slice_get classes class) false
 
 -- number, arrival, length and class are those of a packet that arrived, and the row's fate can occur in the class
-pub record IsOfArrival (classes : List Allowed) (arrived : List Coming) (r : Row) : Type 0 where
+pub record IsOfArrival (classes : List Allowed) (arrived : List Arrival) (r : Row) : Type 0 where
   pub from_one : 0 < r.number
   pub there : r.number ≤ length arrived
   pub at : r.at ≡ at_of arrived r.number
@@ -42,7 +42,7 @@ pub record IsOfArrival (classes : List Allowed) (arrived : List Coming) (r : Row
   pub fate : can_occur_in classes r.class r.fate ≡ true
 
 -- whatever stands before it
-abbrev pub IsRead : List Allowed → List Coming → (before : List Row) → Row → Type 0
+abbrev pub IsRead : List Allowed → List Arrival → (before : List Row) → Row → Type 0
 IsRead classes arrived before r = IsOfArrival classes arrived r
 
 -- a row's class is one of the first `count`

@@ -1,6 +1,6 @@
 -- The tests of rows: the laws of a journal, said of the decisions of rows.
 use Rattle.std.specs.Prelude.{◌≡◌, ◌≤◌, ◌<◌, ◌+◌, ◌⊎◌, ℕ, nat_lt, Bool, false, List, [], length, get_or}
-use Rattle.altq_model.specs.History.{Coming}
+use Rattle.altq_model.specs.History.{Arrival}
 use Rattle.altq_model.specs.Laws.{numbers, occurs}
 use Rattle.journal_laws.specs.Journal.{StartsAfterArrival, StartsAfterEnd, last_end}
 use Rattle.fate_check.specs.declared.reading.Row.{Row}
@@ -43,7 +43,7 @@ abbrev pub LacksOne : (count : ℕ) → List Row → (row : ℕ) → Type 0
 LacksOne count rows row = FirstFails IsNew rows row ⊎ Lacks count rows row
 
 -- no start is before the packet's arrival or before the end of the sending before it
-pub record IsInTime (arrived : List Coming) (before : List Row) (r : Row) : Type 0 where
+pub record IsInTime (arrived : List Arrival) (before : List Row) (r : Row) : Type 0 where
   pub after_arrival : StartsAfterArrival arrived (decisions before) (decision_of r)
   pub after_end : StartsAfterEnd (decisions before) (decision_of r)
 

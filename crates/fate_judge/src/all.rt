@@ -1,9 +1,9 @@
 // All tests in one pass.
 ghost use Rattle.std.specs.Prelude.{◌≡◌, ◌≤◌, ◌<◌, ◌^◌, ℕ, List, [], ◌∷◌, IfOk, length, true};
-ghost use Rattle.altq_model.specs.History.{Coming};
+ghost use Rattle.altq_model.specs.History.{Arrival};
 ghost use Rattle.fate_check.specs.declared.reading.Row.{Row};
 ghost use Rattle.fate_judge.specs.All.{AreTold, HaveRoom, PassesEach};
-ghost use Rattle.fate_judge.specs.Given.{comings};
+ghost use Rattle.fate_judge.specs.Given.{bare_arrivals};
 ghost use Rattle.fate_judge.specs.Judged.{PassesAll};
 
 use crate::ends::Run;
@@ -29,7 +29,7 @@ impl AllTests {
     // Before the first row.
     fn new(alloc: Global, numbers: usize, classes: usize) -> Result<AllTests, NoMemory>
         ensures room { IfOk result (λ tests. (rate : ℕ) → HaveRoom rate numbers classes tests) }
-        ensures told { IfOk result (λ tests. (rate : ℕ) (arrived : List Coming) → AreTold rate arrived [] tests) }
+        ensures told { IfOk result (λ tests. (rate : ℕ) (arrived : List Arrival) → AreTold rate arrived [] tests) }
     {
         Ok(AllTests {
             seen: Seen::new(alloc, numbers)?,
@@ -45,8 +45,8 @@ impl AllTests {
         requires most { rate ≤ 10 ^ 12 }
         requires room { HaveRoom rate (length arrived.now) (length classes.now) self.old }
         ensures room { result ≡ true → HaveRoom rate (length arrived.now) (length classes.now) self.new }
-        ensures passes { result ≡ true → (before : List Row) → AreTold rate (comings arrived.now) before self.old → PassesEach rate classes.now (comings arrived.now) before row.now }
-        ensures stands { result ≡ true → (before : List Row) → AreTold rate (comings arrived.now) before self.old → AreTold rate (comings arrived.now) (row.now ∷ before) self.new }
+        ensures passes { result ≡ true → (before : List Row) → AreTold rate (bare_arrivals arrived.now) before self.old → PassesEach rate classes.now (bare_arrivals arrived.now) before row.now }
+        ensures stands { result ≡ true → (before : List Row) → AreTold rate (bare_arrivals arrived.now) before self.old → AreTold rate (bare_arrivals arrived.now) (row.now ∷ before) self.new }
     {
         if !is_of_arrival(classes, arrived, row) {
             return false;
@@ -74,7 +74,7 @@ pub(crate) fn all_pass(
 ) -> Result<bool, NoMemory>
     requires some { 0 < rate }
     requires most { rate ≤ 10 ^ 12 }
-    ensures { IfOk result (λ all. all ≡ true → PassesAll (record { rate = rate; classes = classes.now; arrived = comings arrived.now; rows = rows.now })) }
+    ensures { IfOk result (λ all. all ≡ true → PassesAll (record { rate = rate; classes = classes.now; arrived = bare_arrivals arrived.now; rows = rows.now })) }
 {
     let mut tests = AllTests::new(alloc, arrived.len(), classes.len())?;
     for row in rows {

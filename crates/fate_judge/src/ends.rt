@@ -1,6 +1,6 @@
 // Ends as the link's.
 ghost use Rattle.std.specs.Prelude.{◌≡◌, ◌≢◌, ◌≤◌, ◌<◌, ◌*◌, ◌+◌, ◌^◌, ℕ, List, [], ◌∷◌, MatchOption, true, false};
-ghost use Rattle.altq_model.specs.History.{Coming};
+ghost use Rattle.altq_model.specs.History.{Arrival};
 ghost use Rattle.altq_model.specs.Link.{after_sending};
 ghost use Rattle.fate_check.specs.declared.reading.Row.{Row};
 ghost use Rattle.fate_judge.specs.Ends.{HasEnd, IsLink, link_of};
@@ -40,7 +40,7 @@ impl Run {
     // Before the first row.
     pub(crate) fn new() -> Run
         ensures none { result.sent ≡ 0 }
-        ensures link { (rate : ℕ) (arrived : List Coming) → IsLink rate arrived [] result }
+        ensures link { (rate : ℕ) (arrived : List Arrival) → IsLink rate arrived [] result }
     {
         Run {
             free: 0,
@@ -71,9 +71,9 @@ impl Run {
         requires most { rate ≤ 10 ^ 12 }
         requires few { self.old.sent ≤ rate * 2 ^ 64 }
         ensures few { result ≡ true → self.new.sent ≤ rate * 2 ^ 64 }
-        ensures passes { result ≡ true → (classes : List Allowed) (arrived : List Coming) (before : List Row) → IsOfArrival classes arrived row.now → IsLink rate arrived before self.old → HasEnd rate arrived before row.now }
-        ensures stands { result ≡ true → (classes : List Allowed) (arrived : List Coming) (before : List Row) → IsOfArrival classes arrived row.now → IsLink rate arrived before self.old → IsLink rate arrived (row.now ∷ before) self.new }
-        ensures fails { result ≡ false → (classes : List Allowed) (arrived : List Coming) (before : List Row) → IsOfArrival classes arrived row.now → IsLink rate arrived before self.old → ¬ HasEnd rate arrived before row.now }
+        ensures passes { result ≡ true → (classes : List Allowed) (arrived : List Arrival) (before : List Row) → IsOfArrival classes arrived row.now → IsLink rate arrived before self.old → HasEnd rate arrived before row.now }
+        ensures stands { result ≡ true → (classes : List Allowed) (arrived : List Arrival) (before : List Row) → IsOfArrival classes arrived row.now → IsLink rate arrived before self.old → IsLink rate arrived (row.now ∷ before) self.new }
+        ensures fails { result ≡ false → (classes : List Allowed) (arrived : List Arrival) (before : List Row) → IsOfArrival classes arrived row.now → IsLink rate arrived before self.old → ¬ HasEnd rate arrived before row.now }
     {
         let Fate::Sent { start, end, .. } = row.fate else {
             return true;
@@ -98,7 +98,7 @@ impl Run {
 pub(crate) fn first_other_end(rate: u64, rows: &[Row]) -> Option<u64>
     requires some { 0 < rate }
     requires most { rate ≤ 10 ^ 12 }
-    ensures { (classes : List Allowed) (arrived : List Coming) → EachRow (IsRead classes arrived) [] rows.now
+    ensures { (classes : List Allowed) (arrived : List Arrival) → EachRow (IsRead classes arrived) [] rows.now
         → MatchOption result (EachRow (HasEnd rate arrived) [] rows.now) (FirstFails (HasEnd rate arrived) rows.now) }
 {
     let mut run = Run::new();

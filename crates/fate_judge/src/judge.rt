@@ -1,6 +1,6 @@
 // The least test that rows fail.
 ghost use Rattle.std.specs.Prelude.{◌≤◌, ◌<◌, ◌^◌, IfErr, OnOk};
-ghost use Rattle.fate_judge.specs.Given.{comings};
+ghost use Rattle.fate_judge.specs.Given.{bare_arrivals};
 ghost use Rattle.fate_judge.specs.Judged.{IfAt, IsRefuted, PassesAll};
 
 use crate::all::all_pass;
@@ -23,8 +23,8 @@ fn judge_each(
 ) -> Result<(), Refuted>
     requires some { 0 < rate }
     requires most { rate ≤ 10 ^ 12 }
-    ensures passed { OnOk result (PassesAll (record { rate = rate; classes = classes.now; arrived = comings arrived.now; rows = rows.now })) }
-    ensures refuted { IfErr result (IfAt (IsRefuted (record { rate = rate; classes = classes.now; arrived = comings arrived.now; rows = rows.now }))) }
+    ensures passed { OnOk result (PassesAll (record { rate = rate; classes = classes.now; arrived = bare_arrivals arrived.now; rows = rows.now })) }
+    ensures refuted { IfErr result (IfAt (IsRefuted (record { rate = rate; classes = classes.now; arrived = bare_arrivals arrived.now; rows = rows.now }))) }
 {
     if let Some(row) = first_unread(classes, arrived, rows) {
         return Err(Refuted::At {
@@ -81,8 +81,8 @@ pub fn judge_order(
 ) -> Result<(), Refuted>
     requires some { 0 < rate }
     requires most { rate ≤ 10 ^ 12 }
-    ensures passed { OnOk result (PassesAll (record { rate = rate; classes = classes.now; arrived = comings arrived.now; rows = rows.now })) }
-    ensures refuted { IfErr result (IfAt (IsRefuted (record { rate = rate; classes = classes.now; arrived = comings arrived.now; rows = rows.now }))) }
+    ensures passed { OnOk result (PassesAll (record { rate = rate; classes = classes.now; arrived = bare_arrivals arrived.now; rows = rows.now })) }
+    ensures refuted { IfErr result (IfAt (IsRefuted (record { rate = rate; classes = classes.now; arrived = bare_arrivals arrived.now; rows = rows.now }))) }
 {
     if let Ok(true) = all_pass(alloc, rate, classes, arrived, rows) {
         return Ok(());

@@ -1,6 +1,6 @@
 // The order of sendings and drops.
 ghost use Rattle.std.specs.Prelude.{◌≡◌, ◌<◌, ℕ, List, [], ◌∷◌, IfOk, MatchOption, true, false, vec_len};
-ghost use Rattle.altq_model.specs.History.{Coming};
+ghost use Rattle.altq_model.specs.History.{Arrival};
 ghost use Rattle.fate_check.specs.declared.reading.Row.{Row};
 ghost use Rattle.fate_judge.specs.Order.{IsInOrder, IsOrder};
 ghost use Rattle.fate_judge.specs.Reading.{HasClass, IsOfArrival, IsRead};
@@ -26,7 +26,7 @@ impl Order {
     // Before the first row.
     pub(crate) fn new(alloc: Global, count: usize) -> Result<Order, NoMemory>
         ensures count { IfOk result (λ order. vec_len order.sent ≡ count) }
-        ensures none { IfOk result (λ order. (arrived : List Coming) → IsOrder arrived [] order.sent.items order.start order.drop order.moment) }
+        ensures none { IfOk result (λ order. (arrived : List Arrival) → IsOrder arrived [] order.sent.items order.start order.drop order.moment) }
     {
         Ok(Order {
             sent: vec![in alloc; 0; count]?,
@@ -40,9 +40,9 @@ impl Order {
     pub(crate) fn passes(&mut self, row: &Row) -> bool
         requires class { row.now.class < vec_len self.old.sent }
         ensures count { vec_len self.new.sent ≡ vec_len self.old.sent }
-        ensures passes { result ≡ true → (classes : List Allowed) (arrived : List Coming) (before : List Row) → IsOfArrival classes arrived row.now → IsOrder arrived before self.old.sent.items self.old.start self.old.drop self.old.moment → IsInOrder arrived before row.now }
-        ensures stands { result ≡ true → (classes : List Allowed) (arrived : List Coming) (before : List Row) → IsOfArrival classes arrived row.now → IsOrder arrived before self.old.sent.items self.old.start self.old.drop self.old.moment → IsOrder arrived (row.now ∷ before) self.new.sent.items self.new.start self.new.drop self.new.moment }
-        ensures fails { result ≡ false → (classes : List Allowed) (arrived : List Coming) (before : List Row) → IsOfArrival classes arrived row.now → IsOrder arrived before self.old.sent.items self.old.start self.old.drop self.old.moment → ¬ IsInOrder arrived before row.now }
+        ensures passes { result ≡ true → (classes : List Allowed) (arrived : List Arrival) (before : List Row) → IsOfArrival classes arrived row.now → IsOrder arrived before self.old.sent.items self.old.start self.old.drop self.old.moment → IsInOrder arrived before row.now }
+        ensures stands { result ≡ true → (classes : List Allowed) (arrived : List Arrival) (before : List Row) → IsOfArrival classes arrived row.now → IsOrder arrived before self.old.sent.items self.old.start self.old.drop self.old.moment → IsOrder arrived (row.now ∷ before) self.new.sent.items self.new.start self.new.drop self.new.moment }
+        ensures fails { result ≡ false → (classes : List Allowed) (arrived : List Arrival) (before : List Row) → IsOfArrival classes arrived row.now → IsOrder arrived before self.old.sent.items self.old.start self.old.drop self.old.moment → ¬ IsInOrder arrived before row.now }
     {
         let number = u128::from(row.number);
         let above = number + 1;
@@ -77,7 +77,7 @@ pub(crate) fn first_out_of_order(
     rows: &[Row],
 ) -> Result<Option<u64>, NoMemory>
     requires { EachRow (HasClass count) [] rows.now }
-    ensures { (classes : List Allowed) (arrived : List Coming) → EachRow (IsRead classes arrived) [] rows.now
+    ensures { (classes : List Allowed) (arrived : List Arrival) → EachRow (IsRead classes arrived) [] rows.now
         → IfOk result (λ o. MatchOption o (EachRow (IsInOrder arrived) [] rows.now) (FirstFails (IsInOrder arrived) rows.now)) }
 {
     let mut order = Order::new(alloc, count)?;

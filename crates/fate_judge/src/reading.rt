@@ -1,6 +1,6 @@
 // Rows that are of packets which arrived.
 ghost use Rattle.std.specs.Prelude.{◌≡◌, MatchOption, [], true, false};
-ghost use Rattle.fate_judge.specs.Given.{comings};
+ghost use Rattle.fate_judge.specs.Given.{bare_arrivals};
 ghost use Rattle.fate_judge.specs.Walk.{EachRow, FirstFails};
 ghost use Rattle.fate_judge.specs.Reading.{IsOfArrival, IsRead, can_occur};
 
@@ -34,8 +34,8 @@ fn can_occur(allowed: Allowed, fate: Fate) -> bool
 }
 
 pub(crate) fn is_of_arrival(classes: &[Allowed], arrived: &[Arrived], row: &Row) -> bool
-    ensures passes { result ≡ true → IsOfArrival classes.now (comings arrived.now) row.now }
-    ensures fails { result ≡ false → IsOfArrival classes.now (comings arrived.now) row.now → ⊥ }
+    ensures passes { result ≡ true → IsOfArrival classes.now (bare_arrivals arrived.now) row.now }
+    ensures fails { result ≡ false → IsOfArrival classes.now (bare_arrivals arrived.now) row.now → ⊥ }
 {
     if row.number == 0 || row.number > arrived.len() as u64 || row.class as usize >= classes.len() {
         return false;
@@ -50,7 +50,7 @@ pub(crate) fn is_of_arrival(classes: &[Allowed], arrived: &[Arrived], row: &Row)
 
 // The first row that is of no packet which arrived.
 pub(crate) fn first_unread(classes: &[Allowed], arrived: &[Arrived], rows: &[Row]) -> Option<u64>
-    ensures { MatchOption result (EachRow (IsRead classes.now (comings arrived.now)) [] rows.now) (FirstFails (IsRead classes.now (comings arrived.now)) rows.now) }
+    ensures { MatchOption result (EachRow (IsRead classes.now (bare_arrivals arrived.now)) [] rows.now) (FirstFails (IsRead classes.now (bare_arrivals arrived.now)) rows.now) }
 {
     for (i, row) in rows.iter().enumerate() {
         if !is_of_arrival(classes, arrived, row) {

@@ -2,7 +2,7 @@
 use Rattle.std.proofs.Common.{◌≡◌, ◌∙◌, ◌+◌, ◌<◌, ◌≤◌, ◌⊎◌, inl, inr, ℕ, Bool, true, false, List, [], ◌∷◌, length, refl, ap, sym, arith}
 use Rattle.std.specs.Prelude.{◌==◌, ◌&&◌, nat_le, nat_lt, if◌then◌else◌}
 use Rattle.std.proofs.lemmas.Bool.Decides.{nat_tests}
-use Rattle.altq_model.specs.History.{Coming, Decision}
+use Rattle.altq_model.specs.History.{Arrival, Decision}
 use Rattle.altq_model.specs.Laws.{IsConserved}
 use Rattle.journal_laws.specs.Journal.{DropsAtArrival, DropsInOrder, EachAfter, EndsAsLink, IsJournal, SendsAfterDrops, SendsInOrder, StartsAfterArrival, StartsAfterEnd, StartsInOrder, StartsAtOnce}
 use Rattle.fate_check.specs.declared.reading.Row.{Row}
@@ -70,7 +70,7 @@ none_by count n m k out some there none (inl e) =
     absurd (grind (arith, nat_tests, out, same, some, there))
 none_by count n m k out some there none (inr e) = let more = no_more (m == n) k e in omega (arith, more, none)
 
-none_out : (classes : List Allowed) (arrived : List Coming) (n : ℕ) (before rows : List Row) → IsOut (length arrived) n
+none_out : (classes : List Allowed) (arrived : List Arrival) (n : ℕ) (before rows : List Row) → IsOut (length arrived) n
     → EachRow (IsRead classes arrived) before rows → rows_of n rows ≡ 0
 none_out classes arrived n before [] out h = refl
 none_out classes arrived n before (r ∷ rows) out h =
@@ -81,7 +81,7 @@ in_or_out : (b : Bool) (m : ℕ) → (b ≡ true → m ≡ 1) → (b ≡ false �
 in_or_out true m one none = one refl
 in_or_out false m one none = none refl
 
-conserved : (classes : List Allowed) (arrived : List Coming) (rows : List Row) → EachRow (IsRead classes arrived) [] rows → HaveOne (length arrived) rows
+conserved : (classes : List Allowed) (arrived : List Arrival) (rows : List Row) → EachRow (IsRead classes arrived) [] rows → HaveOne (length arrived) rows
     → IsConserved (length arrived) (decisions rows)
 conserved classes arrived rows read one = λ n.
     in_or_out (nat_lt 0 n && nat_le n (length arrived)) (rows_of n rows)

@@ -1,7 +1,7 @@
 -- From the tests of lists to those of files.
 use Rattle.std.proofs.Common.{◌≡◌, ◌≤◌, ◌<◌, ◌∙◌, ℕ, suc, List, [], ◌∷◌, length, map, true, refl, ap, sym, subst, arith}
 use Rattle.std.specs.Prelude.{All}
-use Rattle.altq_model.specs.History.{Coming}
+use Rattle.altq_model.specs.History.{Arrival}
 use Rattle.capture_model.specs.Capture.{Record}
 use Rattle.fate_busy.specs.Busy.{StartsAtOnce}
 use Rattle.fate_check.specs.declared.reading.Row.{Row}
@@ -29,7 +29,7 @@ use Rattle.file_judge.specs.declared.verdict.Unverified.{Unverified}
 use Rattle.file_judge.specs.declared.verdict.Unverified.TheVariants.{At, NoMemory}
 
 -- rows that are read have numbers of packets
-pub numbered : (classes : List Allowed) (arrived : List Coming) (n : ℕ) (before rows : List Row) → length arrived ≡ n
+pub numbered : (classes : List Allowed) (arrived : List Arrival) (n : ℕ) (before rows : List Row) → length arrived ≡ n
     → EachRow (IsRead classes arrived) before rows → EachRow (IsNumbered n) before rows
 numbered classes arrived n before [] is h = tt
 numbered classes arrived n before (r ∷ rows) is h =
@@ -37,7 +37,7 @@ numbered classes arrived n before (r ∷ rows) is h =
     (record { from_one = h.0.from_one; there = subst P is h.0.there }, numbered classes arrived n (r ∷ before) rows is h.1)
 
 -- packets of an interface with these frames
-abbrev pub with_frames : Given → List Coming → List (List ℕ) → Packets
+abbrev pub with_frames : Given → List Arrival → List (List ℕ) → Packets
 with_frames g arrived frames = record { arrived = arrived; frames = frames; marks = marks_of g.interface }
 
 -- the bytes of shown records are those captured
@@ -56,42 +56,42 @@ rows_fail g rows row kind.Order read x = record { rows = rows; read = read; fail
 rows_fail g rows row kind.Moments read x = record { rows = rows; read = read; fails = x }
 rows_fail g rows row kind.Ends read x = record { rows = rows; read = read; fails = x }
 
-pub rows_unverified : (g : Given) (rows : List Row) (arrived : List Coming) (u : Unverified) → arrived ≡ arrived_in g → AreRows g rows
+pub rows_unverified : (g : Given) (rows : List Row) (arrived : List Arrival) (u : Unverified) → arrived ≡ arrived_in g → AreRows g rows
     → IfRows (IsRefutedBy (record { rate = g.interface.rate; classes = allowed_of g.interface; arrived = arrived; rows = rows })) u → IsUnverified g u
 rows_unverified g rows arrived NoMemory is read x = tt
 rows_unverified g rows arrived (At row t) is read x =
-    let P : List Coming → Type 0 = λ a. IsRefutedBy (record { rate = g.interface.rate; classes = allowed_of g.interface; arrived = a; rows = rows }) row x.0 in
+    let P : List Arrival → Type 0 = λ a. IsRefutedBy (record { rate = g.interface.rate; classes = allowed_of g.interface; arrived = a; rows = rows }) row x.0 in
     let Q : Test → Type 0 = λ u. IsRefuted g row u in
     subst Q (sym x.1) (rows_fail g rows row x.0 read (subst P is x.2))
 
-pub rows_passed : (g : Given) (rows : List Row) (arrived : List Coming) → arrived ≡ arrived_in g
+pub rows_passed : (g : Given) (rows : List Row) (arrived : List Arrival) → arrived ≡ arrived_in g
     → PassesAll (record { rate = g.interface.rate; classes = allowed_of g.interface; arrived = arrived; rows = rows }) → PassesAll (case_of g rows)
 rows_passed g rows arrived is x =
-    let P : List Coming → Type 0 = λ a. PassesAll (record { rate = g.interface.rate; classes = allowed_of g.interface; arrived = a; rows = rows }) in
+    let P : List Arrival → Type 0 = λ a. PassesAll (record { rate = g.interface.rate; classes = allowed_of g.interface; arrived = a; rows = rows }) in
     subst P is x
 
 -- the link's
-pub busy_passed : (g : Given) (rows : List Row) (arrived : List Coming) → arrived ≡ arrived_in g
+pub busy_passed : (g : Given) (rows : List Row) (arrived : List Arrival) → arrived ≡ arrived_in g
     → (is_unlimited g.interface ≡ true → EachRow (StartsAtOnce arrived rows) [] rows) → is_unlimited g.interface ≡ true
     → EachRow (StartsAtOnce (arrived_in g) rows) [] rows
 busy_passed g rows arrived is x free =
-    let P : List Coming → Type 0 = λ a. EachRow (StartsAtOnce a rows) [] rows in
+    let P : List Arrival → Type 0 = λ a. EachRow (StartsAtOnce a rows) [] rows in
     subst P is (x free)
 
-pub busy_unverified : (g : Given) (rows : List Row) (arrived : List Coming) (u : Unverified) → arrived ≡ arrived_in g → AreRows g rows
+pub busy_unverified : (g : Given) (rows : List Row) (arrived : List Arrival) (u : Unverified) → arrived ≡ arrived_in g → AreRows g rows
     → PassesAll (case_of g rows)
     → IfTest test.Busy (λ row. (is_unlimited g.interface ≡ true) × FirstFails (StartsAtOnce arrived rows) rows row) u → IsUnverified g u
 busy_unverified g rows arrived NoMemory is read order x = tt
 busy_unverified g rows arrived (At row t) is read order x =
-    let P : List Coming → Type 0 = λ a. FirstFails (StartsAtOnce a rows) rows row in
+    let P : List Arrival → Type 0 = λ a. FirstFails (StartsAtOnce a rows) rows row in
     let Q : Test → Type 0 = λ u. IsRefuted g row u in
     subst Q (sym x.0) (record { rows = rows; read = read; order = order; unlimited = x.1.0; fails = subst P is x.1.1 })
 
 -- the departures'
-pub packets_same : (g : Given) (arrived : List Coming) (frames : List (List ℕ)) → arrived ≡ arrived_in g → frames ≡ map captured_of g.records
+pub packets_same : (g : Given) (arrived : List Arrival) (frames : List (List ℕ)) → arrived ≡ arrived_in g → frames ≡ map captured_of g.records
     → with_frames g arrived frames ≡ packets_in g
 packets_same g arrived frames is same =
-    ap (λ (a : List Coming). with_frames g a frames) is ∙ ap (λ (f : List (List ℕ)). with_frames g (arrived_in g) f) same
+    ap (λ (a : List Arrival). with_frames g a frames) is ∙ ap (λ (f : List (List ℕ)). with_frames g (arrived_in g) f) same
 
 pub departures_unverified : (g : Given) (rows : List Row) (p : Packets) (u : Unverified) → p ≡ packets_in g → AreRows g rows
     → PassesAll (case_of g rows) → AreBusy g rows → IfTest test.Departures (DepartOtherwise (dress_of g) p rows g.departures) u → IsUnverified g u
@@ -121,6 +121,6 @@ pub no_rows : (g : Given) (names : NameList) (row : ℕ) → names ≡ queue_nam
 no_rows g names row is x = let P : NameList → Type 0 = λ ns. FailsAt ns g.fates row in subst P is x
 
 -- no packet is empty
-pub are_some : (arrived : List Coming) → All (λ (a : Coming). 0 < a.len) arrived → AreSome arrived
+pub are_some : (arrived : List Arrival) → All (λ (a : Arrival). 0 < a.len) arrived → AreSome arrived
 are_some [] h = tt
 are_some (a ∷ rest) h = (h 0 a (omega arith), are_some rest (λ k d lt. h (suc k) d (omega arith)))

@@ -1,9 +1,9 @@
 -- Given files, and the play of an interface that they are held to.
 use Rattle.std.specs.Prelude.{◌&&◌, ℕ, Bool, true, false, not, is_some, List, map, Option}
 use Rattle.std.specs.List.{list_any}
-use Rattle.altq_model.specs.Arrivals.{arrivals_of, comings}
+use Rattle.altq_model.specs.Arrivals.{arrivals_of, bare_arrivals}
 use Rattle.altq_model.specs.Departures.{Dressing}
-use Rattle.altq_model.specs.History.{Coming}
+use Rattle.altq_model.specs.History.{Arrival}
 use Rattle.capture_model.specs.Capture.{Record}
 use Rattle.conf_tree.specs.declared.class.Class.{Class}
 use Rattle.conf_tree.specs.declared.interface.Interface.{Interface}
@@ -27,8 +27,8 @@ pub record Given : Type 0 where
   pub fates : List ℕ
 
 -- the packets as they arrive at its classes
-abbrev pub arrived_in : Given → List Coming
-arrived_in g = comings (arrivals_of (place_in g.interface) g.records)
+abbrev pub arrived_in : Given → List Arrival
+arrived_in g = bare_arrivals (arrivals_of (place_in g.interface) g.records)
 
 -- what rows are held to
 abbrev pub case_of : Given → List Row → Case

@@ -1,11 +1,11 @@
 // The packets of a capture as they arrive.
 ghost use Rattle.std.specs.Prelude.{◌≡◌, ◌<◌, All, List, IfOk, length, map};
 ghost use Rattle.altq_model.specs.Arrivals.{arrivals_of};
-ghost use Rattle.altq_model.specs.Arrivals.{comings as comings_of};
+ghost use Rattle.altq_model.specs.Arrivals.{bare_arrivals as bare_arrivals_of};
 ghost use Rattle.altq_model.specs.Lawful.{AreRising};
 ghost use Rattle.capture_model.specs.Capture.{Record as Original};
-ghost use Rattle.fate_judge.specs.Given.{coming_of, comings};
-ghost use Rattle.given_play.specs.Packets.{coming_at};
+ghost use Rattle.fate_judge.specs.Given.{bare_arrival, bare_arrivals};
+ghost use Rattle.given_play.specs.Packets.{bare_arrival_at};
 ghost use Rattle.input_files.specs.Held.{shown_in};
 ghost use Rattle.input_files.specs.Records.{shown_of};
 
@@ -17,7 +17,7 @@ use std::alloc::Global;
 
 // The packet of a record, which arrives at this moment.
 fn arrived_at<C: Classify>(classify: &C, found: Seen<'_>, at: u64) -> Arrived
-    ensures { coming_of result ≡ coming_at (C.placed classify.now) at (shown_in found.entry) }
+    ensures { bare_arrival result ≡ bare_arrival_at (C.placed classify.now) at (shown_in found.entry) }
 {
     let placed = classify.class(found.bytes);
     Arrived {
@@ -36,10 +36,10 @@ pub fn arrived<C: Classify>(
     records: &Records,
 ) -> Result<Vec<Arrived>, NoMemory>
     ensures packets { IfOk result (λ all. (capture : List Original) → records.now ≡ map shown_of capture →
-        comings all.items ≡ comings_of (arrivals_of (C.placed classify.now) capture)) }
+        bare_arrivals all.items ≡ bare_arrivals_of (arrivals_of (C.placed classify.now) capture)) }
     ensures count { IfOk result (λ all. length all.items ≡ length records.now) }
-    ensures some { IfOk result (λ all. All (λ a. 0 < a.len) (comings all.items)) }
-    ensures rising { IfOk result (λ all. AreRising (comings all.items)) }
+    ensures some { IfOk result (λ all. All (λ a. 0 < a.len) (bare_arrivals all.items)) }
+    ensures rising { IfOk result (λ all. AreRising (bare_arrivals all.items)) }
 {
     let mut all = Vec::with_capacity(alloc, records.len())?;
     let mut latest = 0u64;

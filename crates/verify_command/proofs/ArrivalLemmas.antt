@@ -8,15 +8,12 @@ use Rattle.arrivals_front.specs.declared.given.GivenFault.TheVariants as given
 use Rattle.conf_tree.specs.declared.interface.Interface.{Interface}
 use Rattle.input_files.specs.Records.{AreRecords, HasFault, Shown}
 use Rattle.interface_marks.specs.Conditioners.{marked_in}
-use Rattle.marked_files.specs.Through.{marked_view, with_marks}
-use Rattle.marked_files.proofs.BackLaws.{keeps_back as marks_back}
+use Rattle.marked_files.specs.Through.{with_marks}
 use Rattle.marked_files.proofs.ViewLaws.{left_self, told_is}
-use Rattle.pcap_files.specs.Ahead.{TookSome}
 use Rattle.pcap_files.specs.declared.fault.CaptureFault.{CaptureFault}
 use Rattle.pcap_files.specs.declared.fault.CaptureFault.TheVariants as fault
-use Rattle.pcapng_files.specs.Fronts.{front_view, with_front}
-use Rattle.pcapng_files.proofs.BackLaws.{keeps_back}
-use Rattle.play_base.specs.View.{View, Any, Keeps, NoneAppears, Opened, ReadFault, SameCounts}
+use Rattle.pcapng_files.specs.Fronts.{with_front}
+use Rattle.play_base.specs.View.{View, Any, Keeps, NoneAppears, Opened, ReadFault}
 use Rattle.play_base.proofs.ViewLaws.{keeps_trans, opened_then, rose_later}
 use Rattle.early_stops.specs.Arriving.{OnlyOpens, given_failure}
 use Rattle.verify_command.specs.Input.{ArrivalCauses, HoldsCapture, capture_failure}
@@ -44,32 +41,6 @@ ran_opens a b c name file x y = opens_then a b c 2 name file x y.none y.keeps
 
 pub ran_said : (a b c : View) (name : List ℕ) (file : ℕ) → Opened a b 2 name file → Ran b c file → c.said ≡ a.said
 ran_said a b c name file x y = y.said ∙ x.is_new.said
-
--- the files that have a front, and those behind them
-pub ran_behind : (v w : View) (g h file now : ℕ) (more later : Bool) (front next : List ℕ)
-    → TookSome (front_view v g file more front) (front_view w h now later next) file → Ran v w file
-ran_behind v w g h file now more later front next x = record {
-  keeps = keeps_back Any (λ f. f ≢ file) v w g h file now more later front next (λ f k. k) x.1.keeps;
-  none = x.1.none;
-  said = x.1.said;
-}
-
-pub counts_behind : (v w : View) (g h file now : ℕ) (more later : Bool) (front next : List ℕ)
-    → SameCounts (front_view v g file more front) (front_view w h now later next) → SameCounts v w
-counts_behind v w g h file now more later front next x = record { read = x.read; write = x.write }
-
--- marked files, and those behind them
-pub ran_marked : (v w : View) (g h file now k l : ℕ) (become later : List ℕ → List ℕ)
-    → TookSome (marked_view v g file k become) (marked_view w h now l later) file → Ran v w file
-ran_marked v w g h file now k l become later x = record {
-  keeps = marks_back v w g h file now k l become later Any (λ f. f ≢ file) (λ f y. y) x.1.keeps;
-  none = x.1.none;
-  said = x.1.said;
-}
-
-pub counts_marked : (v w : View) (g h file now k l : ℕ) (become later : List ℕ → List ℕ)
-    → SameCounts (marked_view v g file k become) (marked_view w h now l later) → SameCounts v w
-counts_marked v w g h file now k l become later x = record { read = x.read; write = x.write }
 
 -- what a marker makes of what the file has left is left of the marked file, where the files tell
 pub marked_left : (v : View) (file : ℕ) (become : List ℕ → List ℕ) (bytes : List ℕ) → IsTrue v.tells → v.left file ≡ Some bytes

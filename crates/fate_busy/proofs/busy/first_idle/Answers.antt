@@ -1,6 +1,6 @@
 use Rattle.std.proofs.Common.{List, length, sym, subst}
 use Rattle.fate_check.specs.declared.reading.Row.{Row}
-use Rattle.fate_judge.specs.Given.{comings}
+use Rattle.fate_judge.specs.Given.{bare_arrivals}
 use Rattle.fate_judge.specs.Tests.{IsNumbered}
 use Rattle.fate_judge.proofs.Walking.{at_row, before_at, before_more, first_fails, one_more}
 use Rattle.fate_busy.specs.Busy.{IsLeft, StartsAtOnce}
@@ -15,7 +15,7 @@ passes-requires-clause-there c = (at_row (IsNumbered (length c.args.arrived.now)
 pub returns-then-not-passes : goal.returns-then-not-passes
 returns-then-not-passes c =
     let rows = c.args.rows.now in let i = c.loop-i.i in
-    first_fails (StartsAtOnce (comings c.args.arrived.now) rows) rows i c.loop-i-test.true c.loop-i.invariant.each
+    first_fails (StartsAtOnce (bare_arrivals c.args.arrived.now) rows) rows i c.loop-i-test.true c.loop-i.invariant.each
     (c.passes.ensures.fails c.if-not-passes.true rows (before_at rows i) c.loop-i.invariant.stands)
 
 pub loop-i-preserved : goal.loop-i-preserved
@@ -24,6 +24,6 @@ loop-i-preserved c =
     let P : List Row → Type 0 = λ b. IsLeft (length c.args.arrived.now) rows b c.passes.new.self in
     record {
       stands = subst P (sym (before_more rows i c.loop-i-test.true)) (c.passes.ensures.stands c.if-not-passes.false rows before c.loop-i.invariant.stands);
-      each = one_more (StartsAtOnce (comings c.args.arrived.now) rows) rows i c.loop-i-test.true c.loop-i.invariant.each
+      each = one_more (StartsAtOnce (bare_arrivals c.args.arrived.now) rows) rows i c.loop-i-test.true c.loop-i.invariant.each
           (c.passes.ensures.passes c.if-not-passes.false rows before c.loop-i.invariant.stands);
     }

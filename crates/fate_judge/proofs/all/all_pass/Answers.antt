@@ -1,7 +1,7 @@
 use Rattle.std.proofs.Common.{◌≡◌, ◌<◌, ℕ, Bool, true, false, List, length, get_or, ap, sym, subst, arith, eqb-true}
 use Rattle.fate_check.specs.declared.reading.Row.{Row}
 use Rattle.fate_judge.specs.All.{AreTold, PassesEach}
-use Rattle.fate_judge.specs.Given.{comings}
+use Rattle.fate_judge.specs.Given.{bare_arrivals}
 use Rattle.fate_judge.proofs.AllPassed.{all_passed}
 use Rattle.fate_judge.proofs.Passing.{count_of}
 use Rattle.fate_judge.proofs.Walking.{before_at, before_more, one_more}
@@ -10,14 +10,14 @@ use Rattle.fate_judge.proofs.all.all_pass.Goals as goal
 pub loop-row-init : goal.loop-row-init
 loop-row-init c = record {
   room = c.in_ok-tests.ensures.room c.args.rate;
-  told = c.in_ok-tests.ensures.told c.args.rate (comings c.args.arrived.now);
+  told = c.in_ok-tests.ensures.told c.args.rate (bare_arrivals c.args.arrived.now);
   each = tt;
 }
 
 pub loop-row-preserved : goal.loop-row-preserved
 loop-row-preserved c =
     let rows = c.args.rows.now in let i = c.loop-row.row-index in let before = before_at rows i in
-    let arrived = comings c.args.arrived.now in
+    let arrived = bare_arrivals c.args.arrived.now in
     let P : List Row → Type 0 = λ b. AreTold c.args.rate arrived b c.passes.new.self in
     record {
       room = c.passes.ensures.room c.if-not-passes.false;
@@ -28,7 +28,7 @@ loop-row-preserved c =
 
 pub returns : goal.returns
 returns c = λ yes.
-    let arrived = comings c.args.arrived.now in let numbers = c.loop-row.tests.seen.numbers.items in
+    let arrived = bare_arrivals c.args.arrived.now in let numbers = c.loop-row.tests.seen.numbers.items in
     let many = count_of c.args.arrived.now in
     let same = eqb-true c.first_unset.result (length c.args.arrived.now) yes in
     let long : length numbers ≡ length arrived

@@ -1,5 +1,5 @@
 use Rattle.std.proofs.Common.{List, []}
-use Rattle.altq_model.specs.History.{Coming}
+use Rattle.altq_model.specs.History.{Arrival}
 use Rattle.fate_judge.specs.Reading.{IsRead}
 use Rattle.fate_judge.specs.Tests.{IsFree, IsInTime}
 use Rattle.fate_judge.specs.Walk.{EachRow}
@@ -10,5 +10,5 @@ use Rattle.fate_judge.proofs.moments.first_early.Given as goal
 abbrev pub invariant-loop-i : goal.invariant-loop-i
 invariant-loop-i l = record {
   stands : IsFree (before_at l.rows l.i) l.free.end;
-  each : (classes : List Allowed) (arrived : List Coming) → EachRow (IsRead classes arrived) [] l.rows → EachBelow (IsInTime arrived) l.rows l.i;
+  each : (classes : List Allowed) (arrived : List Arrival) → EachRow (IsRead classes arrived) [] l.rows → EachBelow (IsInTime arrived) l.rows l.i;
 }

@@ -1,5 +1,5 @@
 use Rattle.std.proofs.Common.{◌≡◌, List, [], vec_len}
-use Rattle.altq_model.specs.History.{Coming}
+use Rattle.altq_model.specs.History.{Arrival}
 use Rattle.fate_judge.specs.Order.{IsInOrder, IsOrder}
 use Rattle.fate_judge.specs.Reading.{IsRead}
 use Rattle.fate_judge.specs.Walk.{EachRow}
@@ -10,7 +10,7 @@ use Rattle.fate_judge.proofs.order.first_out_of_order.Given as goal
 abbrev pub invariant-loop-i : goal.invariant-loop-i
 invariant-loop-i l = record {
   count : vec_len l.order.sent ≡ l.count;
-  stands : (classes : List Allowed) (arrived : List Coming) → EachRow (IsRead classes arrived) [] l.rows
+  stands : (classes : List Allowed) (arrived : List Arrival) → EachRow (IsRead classes arrived) [] l.rows
       → IsOrder arrived (before_at l.rows l.i) l.order.sent.items l.order.start l.order.drop l.order.moment;
-  each : (classes : List Allowed) (arrived : List Coming) → EachRow (IsRead classes arrived) [] l.rows → EachBelow (IsInOrder arrived) l.rows l.i;
+  each : (classes : List Allowed) (arrived : List Arrival) → EachRow (IsRead classes arrived) [] l.rows → EachBelow (IsInOrder arrived) l.rows l.i;
 }

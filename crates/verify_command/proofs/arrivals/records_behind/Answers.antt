@@ -1,7 +1,7 @@
 -- What is read of the files that have a front is read of the front and of what the file has left.
 use Rattle.std.proofs.Common.{◌∙◌, ℕ, rules, subst}
 use Rattle.std.specs.Prelude.{◌≢◌}
-use Rattle.pcapng_files.proofs.BackLaws.{keeps_back, same_reference}
+use Rattle.pcapng_files.proofs.BackLaws.{Fronted, keeps_back, same_reference}
 use Rattle.pcapng_files.proofs.FrontLaws.{left_self}
 use Rattle.play_base.specs.View.{Any, Keeps, View}
 use Rattle.verify_command.proofs.arrivals.records_behind.Goals as goal
@@ -20,9 +20,10 @@ returns-in-Ok-clause-keeps g c =
     let s = c.shown_records.new.files in
     let w = g.F.Files.view s.files.now in
     let y = c.in-Ok.ensures in
-    let same = same_reference _ _ v w _ s.files.ghost_name c.args.file s.file c.args.rest s.front.rest c.args.front.now s.front.bytes.now y.keeps in
+    let t : Fronted = record { view = w; reference = s.files.ghost_name; file = s.file; rest = s.front.rest; front = s.front.bytes.now } in
+    let same = same_reference _ _ (record { view = v; reference = _; file = c.args.file; rest = c.args.rest; front = c.args.front.now }) t y.keeps in
     let back =
-    keeps_back Any (λ (f : ℕ). f ≢ c.args.file) v w _ s.files.ghost_name c.args.file s.file c.args.rest s.front.rest c.args.front.now s.front.bytes.now
+    keeps_back Any (λ (f : ℕ). f ≢ c.args.file) (record { view = v; reference = _; file = c.args.file; rest = c.args.rest; front = c.args.front.now }) t
     (λ f k. k) y.keeps in
     let Q : View → Type 0 = λ u. Keeps Any (λ (f : ℕ). f ≢ c.args.file) v u in
     subst Q (search rules) back
@@ -33,9 +34,10 @@ returns-in-Err-clause-keeps g c =
     let s = c.shown_records.new.files in
     let w = g.F.Files.view s.files.now in
     let y = c.in-Err.ensures in
-    let same = same_reference _ _ v w _ s.files.ghost_name c.args.file s.file c.args.rest s.front.rest c.args.front.now s.front.bytes.now y.keeps in
+    let t : Fronted = record { view = w; reference = s.files.ghost_name; file = s.file; rest = s.front.rest; front = s.front.bytes.now } in
+    let same = same_reference _ _ (record { view = v; reference = _; file = c.args.file; rest = c.args.rest; front = c.args.front.now }) t y.keeps in
     let back =
-    keeps_back Any (λ (f : ℕ). f ≢ c.args.file) v w _ s.files.ghost_name c.args.file s.file c.args.rest s.front.rest c.args.front.now s.front.bytes.now
+    keeps_back Any (λ (f : ℕ). f ≢ c.args.file) (record { view = v; reference = _; file = c.args.file; rest = c.args.rest; front = c.args.front.now }) t
     (λ f k. k) y.keeps in
     let Q : View → Type 0 = λ u. Keeps Any (λ (f : ℕ). f ≢ c.args.file) v u in
     subst Q (search rules) back

@@ -1,9 +1,9 @@
-use Rattle.fate_judge.specs.Given.{comings}
+use Rattle.fate_judge.specs.Given.{bare_arrivals}
 use Rattle.fate_judge.proofs.all.AllTests.passes.Goals as goal
 
 pub returns-clause-passes : goal.returns-clause-passes
 returns-clause-passes c = λ yes before told.
-    let classes = c.args.classes.now in let arrived = comings c.args.arrived.now in
+    let classes = c.args.classes.now in let arrived = bare_arrivals c.args.arrived.now in
     let is = c.is_of_arrival.ensures.passes c.if-not-is_of_arrival.false in
     record {
       read = is;
@@ -15,7 +15,7 @@ returns-clause-passes c = λ yes before told.
 
 pub returns-clause-stands : goal.returns-clause-stands
 returns-clause-stands c = λ yes before told.
-    let classes = c.args.classes.now in let arrived = comings c.args.arrived.now in
+    let classes = c.args.classes.now in let arrived = bare_arrivals c.args.arrived.now in
     let is = c.is_of_arrival.ensures.passes c.if-not-is_of_arrival.false in
     record {
       seen = c.passes.ensures.stands c.if-not-passes.false before told.seen;
