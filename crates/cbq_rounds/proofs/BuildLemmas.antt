@@ -1,6 +1,6 @@
 -- What CBQ keeps at first.
-use Rattle.std.proofs.Common.{◌≡◌, ◌≤◌, ◌<◌, ◌+◌, ◌^◌, ◌∙◌, inl, inr, ℕ, zero, suc, true, List, [], ◌∷◌, All, length, get_or, map, replicate, refl, ap, sym, subst, arith}
-use Rattle.std.specs.Prelude.{unwrap_or}
+use Rattle.std.proofs.Common.{◌≡◌, ◌≤◌, ◌<◌, ◌+◌, ◌^◌, ◌∙◌, inl, inr, ℕ, zero, suc, Bool, true, false, None, Some, List, [], ◌∷◌, All, length, get_or, map, replicate, refl, ap, sym, subst, arith}
+use Rattle.std.specs.Prelude.{if◌then◌else◌, unwrap_or}
 use Rattle.std.proofs.lemmas.Bool.{cases_lt}
 use Rattle.leaf_queue.specs.Queue.{QueueEvent, Saying}
 use Rattle.leaf_queue.specs.declared.node.Entry.{Entry}
@@ -8,17 +8,18 @@ use Rattle.class_rows.specs.Rows.{Rowed, Told, answering, classes_in, holding, l
 use Rattle.discipline.specs.Laws.{seen}
 use Rattle.cbq_estimator.specs.Estimate.{Estimate}
 use Rattle.cbq_model.specs.declared.CbqClass.{CbqClass}
-use Rattle.cbq_model.specs.Tree.{each_from, no_class, numbers, quantum_of}
+use Rattle.cbq_model.specs.Tree.{class_of, each_from, lender_of, no_class, numbers}
 use Rattle.cbq_model.proofs.Lawful.{cbq_lawful, cbq_steady}
 use Rattle.cbq_rounds.specs.Fresh.{HasEarlierParents, IsClass, fresh, fresh_estimate}
 use Rattle.cbq_rounds.specs.Looked.{AreSized}
 use Rattle.cbq_rounds.specs.Rings.{AreRings}
-use Rattle.cbq_rounds.specs.Shared.{IsShared, Shared, no_estimate}
+use Rattle.cbq_rounds.specs.Shared.{IsShared, Shared, fixed_of, no_estimate}
+use Rattle.cbq_rounds.specs.declared.fixed.Fixed.{Fixed}
 use Rattle.cbq_rounds.specs.Stands.{IsRuling, Stands}
 use Rattle.class_sets.specs.Held.{HeldBack}
 use Rattle.class_sets.specs.Marked.{marked}
 use Rattle.cbq_rounds.specs.Waiting.{waits}
-use Rattle.cbq_rounds.proofs.Places.{past_end}
+use Rattle.cbq_rounds.proofs.Places.{has_parent, past_end}
 use Rattle.cbq_rounds.proofs.StandsLemmas.{distinct_in}
 
 priority_bound : (cs : List CbqClass) (c : ℕ) → All IsClass cs → (get_or cs c no_class).priority ≤ 7
@@ -36,6 +37,16 @@ rate_bound cs c a = elim (cases_lt c (length cs)) [
       let none : (get_or cs c no_class).rate ≡ 0 = ap (λ (k : CbqClass). k.rate) (past_end cs c no_class l) in
       omega (arith, none)
 ]
+
+lender_parent : (k : CbqClass) (p : ℕ) (borrow : Bool) → (if borrow then k.parent else None) ≡ Some p → k.parent ≡ Some p
+lender_parent k p true e = e
+lender_parent k p false e = absurd (cc)
+
+-- a class that may lend is one of the tree's
+pub lender_below : (cs : List CbqClass) (c p : ℕ) → HasEarlierParents cs → lender_of (class_of cs c) ≡ Some p → p < length cs
+lender_below cs c p parents e =
+    let parent = lender_parent (class_of cs c) p (class_of cs c).borrow e in
+    omega (arith, parents c p parent, has_parent cs c p parent)
 
 none_yet : (n c : ℕ) → ◌≡◌ {A = ℕ} (get_or {A = ℕ} (replicate {A = ℕ} n 0) c 0) 0
 none_yet zero c = refl
@@ -56,14 +67,14 @@ count_copies zero = refl
 count_copies (suc n) = let more = count_copies n in omega (arith, more)
 
 pub fresh_is_shared : (rate : ℕ) (cs : List CbqClass) → 1000 ≤ rate → rate ≤ 10 ^ 12 → length cs ≤ 256 → HasEarlierParents cs → All IsClass cs
-    → IsShared rate cs (map fresh_estimate cs) (map (quantum_of rate) cs) (replicate (length cs) 0) (replicate 8 0) 0
+    → IsShared rate cs (map fresh_estimate cs) (map (fixed_of rate cs) cs) (replicate (length cs) 0) (replicate 8 0) 0
 fresh_is_shared rate cs least most few parents classes = record {
   least_rate = least;
   most_rate = most;
   few = few;
   tree = record { earlier = parents; priorities = λ c. priority_bound cs c classes; rates = λ c. rate_bound cs c classes };
   estimate_each = count_map cs;
-  quantum_each = refl;
+  fixed_each = refl;
   credit_each = count_copies (length cs);
   cursor_each = refl;
   credit_bound = λ c. omega (arith, none_yet (length cs) c);
@@ -71,17 +82,17 @@ fresh_is_shared rate cs least most few parents classes = record {
 }
 
 -- the same of lists that are these
-pub is_shared : (rate : ℕ) (cs ks : List CbqClass) (es : List Estimate) (quanta credits cursors : List ℕ) → 1000 ≤ rate → rate ≤ 10 ^ 12
+pub is_shared : (rate : ℕ) (cs ks : List CbqClass) (es : List Estimate) (fixed : List Fixed) (credits cursors : List ℕ) → 1000 ≤ rate → rate ≤ 10 ^ 12
     → length cs ≤ 256 → HasEarlierParents cs
-    → All IsClass cs → ks ≡ cs → es ≡ map fresh_estimate cs → quanta ≡ map (quantum_of rate) cs → credits ≡ replicate (length cs) 0
+    → All IsClass cs → ks ≡ cs → es ≡ map fresh_estimate cs → fixed ≡ map (fixed_of rate cs) cs → credits ≡ replicate (length cs) 0
     → cursors ≡ replicate 8 0
-    → IsShared rate ks es quanta credits cursors 0
-is_shared rate cs ks es quanta credits cursors least most few parents classes k e q c u =
-    let P1 : List CbqClass → Type 0 = λ x. IsShared rate x es quanta credits cursors 0 in
-    let P2 : List Estimate → Type 0 = λ x. IsShared rate cs x quanta credits cursors 0 in
-    let P3 : List ℕ → Type 0 = λ x. IsShared rate cs (map fresh_estimate cs) x credits cursors 0 in
-    let P4 : List ℕ → Type 0 = λ x. IsShared rate cs (map fresh_estimate cs) (map (quantum_of rate) cs) x cursors 0 in
-    let P5 : List ℕ → Type 0 = λ x. IsShared rate cs (map fresh_estimate cs) (map (quantum_of rate) cs) (replicate (length cs) 0) x 0 in
+    → IsShared rate ks es fixed credits cursors 0
+is_shared rate cs ks es fixed credits cursors least most few parents classes k e q c u =
+    let P1 : List CbqClass → Type 0 = λ x. IsShared rate x es fixed credits cursors 0 in
+    let P2 : List Estimate → Type 0 = λ x. IsShared rate cs x fixed credits cursors 0 in
+    let P3 : List Fixed → Type 0 = λ x. IsShared rate cs (map fresh_estimate cs) x credits cursors 0 in
+    let P4 : List ℕ → Type 0 = λ x. IsShared rate cs (map fresh_estimate cs) (map (fixed_of rate cs) cs) x cursors 0 in
+    let P5 : List ℕ → Type 0 = λ x. IsShared rate cs (map fresh_estimate cs) (map (fixed_of rate cs) cs) (replicate (length cs) 0) x 0 in
     subst P1 (sym k) (subst P2 (sym e) (subst P3 (sym q) (subst P4 (sym c) (subst P5 (sym u) (fresh_is_shared rate cs least most few parents classes)))))
 
 hold_numbers : (b n : ℕ) (cs : List CbqClass) → n ≡ length cs → holding b (replicate n true) ≡ each_from (λ c k. c) b cs

@@ -20,7 +20,7 @@ use Rattle.cbq_model.proofs.Best.{best_of}
 use Rattle.cbq_model.proofs.Members.{kept, passes_some, some_passes, was_kept}
 use Rattle.cbq_model.proofs.Places.{at_place}
 use Rattle.cbq_rounds.specs.Due.{due_in}
-use Rattle.cbq_rounds.specs.Gained.{HasGained, gained_by, transmission, with_credits, with_gains}
+use Rattle.cbq_rounds.specs.Gained.{HasGained, gained_by, bare_sending, with_credits, with_gains}
 use Rattle.cbq_rounds.specs.declared.lent.Lent.{Lent}
 use Rattle.cbq_rounds.specs.Lent.{IsLent}
 use Rattle.cbq_rounds.specs.Sent.{with_credit}
@@ -69,7 +69,7 @@ module _ (d : Shared) (lists : ℕ → List Entry) (clock : Clock) (x : Sending)
   ready = candidates d.tree d.rate s x.start
 
   abbrev n : ℕ
-  n = rounds_needed d.tree d.rate s (transmission x)
+  n = rounds_needed d.tree d.rate s (bare_sending x)
 
   abbrev priority : ℕ → ℕ
   priority c = (class_of d.tree c).priority

@@ -1,6 +1,6 @@
 -- What CBQ stands for has the cap of its sendings.
 use Rattle.std.proofs.Common.{◌<◌, ℕ, List, [], ◌∷◌, ◌++◌, subst}
-use Rattle.altq_model.specs.History.{Event, Happened, Offered, Sent, Transmission, bare}
+use Rattle.altq_model.specs.History.{Event, Happened, Offered, Sent, Sending, bare}
 use Rattle.leaf_queue.specs.Queue.{QueueEvent, Saying}
 use Rattle.cbq_model.specs.declared.CbqClass.{CbqClass}
 use Rattle.cbq_model.specs.Capped.{AreSendings, KeepsItsRate}
@@ -16,7 +16,7 @@ sendings_before cs rate (Offered x w v ∷ after) h a = sendings_before cs rate 
 sendings_before cs rate (Sent s ∷ after) h a = sendings_before cs rate after h a.1
 
 pub stood_for : {Q : Type 0} (stands : Q → List QueueEvent → Type 0) (says : Q → Saying) (d : Ruling Q) (h : List Happened) (c : ℕ)
-    (last : Transmission) (between : List Event) (first : Transmission) → Stands stands says d h → 0 < (class_of d.shares.tree c).rate
+    (last : Sending) (between : List Event) (first : Sending) → Stands stands says d h → 0 < (class_of d.shares.tree c).rate
     → IsOwnStretch d.shares.tree c (bare h) last between first → KeepsItsRate d.shares.tree c last between first
 stood_for stands says d h c last between first s some p =
     let A : List Event → Type 0 = λ es. AreSendings d.shares.tree d.shares.rate es in

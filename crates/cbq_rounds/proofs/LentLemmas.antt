@@ -1,5 +1,5 @@
 -- Who may send, by what a class and its lenders answer.
-use Rattle.std.proofs.Common.{◌≡◌, ◌<◌, ◌∙◌, ℕ, Bool, true, false, List, ap, arith, get_or, refl, sym}
+use Rattle.std.proofs.Common.{◌≡◌, ◌≤◌, ◌<◌, ◌∙◌, ℕ, Bool, true, false, List, [], ap, arith, eqb, get_or, refl, sym}
 use Rattle.std.specs.declared.option.Option.{Option}
 use Rattle.std.specs.Prelude.{◌||◌, int_le, int_lt, pos}
 use Rattle.std.specs.List.{list_any}
@@ -12,7 +12,8 @@ use Rattle.cbq_model.specs.Tree.{class_of, is_root, lender_of, lenders, lenders_
 use Rattle.link_clock.specs.Clock.{Clock}
 use Rattle.cbq_rounds.specs.declared.lent.Lent.{Lent}
 use Rattle.cbq_rounds.specs.Lent.{IsLent}
-use Rattle.cbq_rounds.specs.Shared.{allows_end, is_free, may_end, no_estimate}
+use Rattle.cbq_rounds.specs.Shared.{allows_end, is_free, may_end, no_estimate, own_now}
+use Rattle.cbq_rounds.proofs.Moments.{own_where}
 
 module _ (cs : List CbqClass) (es : List Estimate) (clock : Clock) (t len class : ℕ) where
   abbrev end : ℕ
@@ -30,13 +31,24 @@ module _ (cs : List CbqClass) (es : List Estimate) (clock : Clock) (t len class 
   any_end false true c e = refl
   any_end false false c e = absurd (cc)
 
+  -- a class that holds back no packet allows each
+  free_allows : (b : Bool) → b ≡ is_free cs es class → b ≡ true → allows_end cs es end len class ≡ true
+  free_allows b e f =
+      let x : Estimate = get_or es class no_estimate in
+      any_end (is_root cs class) (int_lt (pos 0) x.average) (int_le (pos (enough x.average)) (idle_now x end len)) (sym e ∙ f)
+
+  -- a class allows a packet now exactly where its own moment is now
+  pub own_is_now : clock.link.free ≤ t → allows_end cs es end len class ≡ eqb (own_now cs es clock.rate clock.link t len class) t
+  own_is_now free =
+      own_where (record { rate = clock.rate; tree = cs; estimates = es; credits = []; cursors = []; ended = 0 }) (λ k. []) clock.link class t len free
+
+  pub free_is_now : clock.link.free ≤ t → (b : Bool) → b ≡ is_free cs es class → b ≡ true → b ≡ eqb (own_now cs es clock.rate clock.link t len class) t
+  free_is_now free b e f = f ∙ sym (free_allows b e f) ∙ own_is_now free
+
   -- where the class holds back no packet
   pub free_may : (b : Bool) → b ≡ is_free cs es class → b ≡ true → true ≡ may_end cs es end len class
   free_may b e f =
-      let x : Estimate = get_or es class no_estimate in
-      let own : allows_end cs es end len class ≡ true =
-      any_end (is_root cs class) (int_lt (pos 0) x.average) (int_le (pos (enough x.average)) (idle_now x end len)) (sym e ∙ f) in
-      sym (ap (λ (o : Bool). o || list_any (allows_end cs es end len) (lenders cs class)) own)
+      sym (ap (λ (o : Bool). o || list_any (allows_end cs es end len) (lenders cs class)) (free_allows b e f))
 
   -- where the class itself allows it
   pub own_allows : (last : Lent) (b : Bool) → 0 < len → IsLent cs es clock t last → last.len ≡ len → b ≡ allows_end cs es last.end len class → b ≡ true

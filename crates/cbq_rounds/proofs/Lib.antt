@@ -13,6 +13,7 @@ pub mod Places
 pub mod PolicyLemmas
 pub mod RingBuild
 pub mod RingLemmas
+pub mod RootLemmas
 pub mod SentLemmas
 pub mod StandsLemmas
 pub mod WaitLemmas

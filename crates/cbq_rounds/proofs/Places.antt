@@ -10,7 +10,8 @@ use Rattle.cbq_estimator.specs.Estimate.{Estimate}
 use Rattle.cbq_estimator.specs.Now.{wanted_now}
 use Rattle.cbq_model.specs.declared.CbqClass.{CbqClass}
 use Rattle.cbq_model.specs.Tree.{class_of, is_root, lender_of, lenders_up, no_class, quantum_of}
-use Rattle.cbq_rounds.specs.Shared.{IsTree, least_with, no_estimate, own_now}
+use Rattle.cbq_rounds.specs.declared.fixed.Fixed.{Fixed}
+use Rattle.cbq_rounds.specs.Shared.{IsTree, fixed_of, least_with, no_estimate, own_now}
 
 pub at_any : {X : Type 0} (xs : List X) (i : ℕ) (d e : X) → i < length xs → get_or xs i d ≡ get_or xs i e
 at_any [] i d e l = absurd (omega arith)
@@ -38,10 +39,10 @@ parent_below cs c p k t l e f =
     let parent : (class_of cs c).parent ≡ Some p = ap (λ (x : CbqClass). x.parent) (sym same) ∙ f in
     omega (arith, t.earlier c p parent)
 
--- a class's quantum, as it is kept
-pub quantum_is : (rate : ℕ) (cs : List CbqClass) (qs : List ℕ) (c v : ℕ) → qs ≡ map (quantum_of rate) cs → c < length cs → v ≡ get_or qs c v
-    → v ≡ quantum_of rate (class_of cs c)
-quantum_is rate cs qs c v all l e = e ∙ ap (λ (ns : List ℕ). get_or ns c v) all ∙ get_or-map (quantum_of rate) cs c no_class v l
+-- what never changes of a class, as it is kept
+pub fixed_is : (rate : ℕ) (cs : List CbqClass) (fs : List Fixed) (c : ℕ) (v : Fixed) → fs ≡ map (fixed_of rate cs) cs → c < length cs → v ≡ get_or fs c v
+    → v ≡ fixed_of rate cs (class_of cs c)
+fixed_is rate cs fs c v all l e = e ∙ ap (λ (xs : List Fixed). get_or xs c v) all ∙ get_or-map (fixed_of rate cs) cs c no_class v l
 
 pub some_quantum : (rate : ℕ) (k : CbqClass) → 1 ≤ quantum_of rate k
 some_quantum rate k = omega arith

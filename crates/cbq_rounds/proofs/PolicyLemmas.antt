@@ -2,7 +2,7 @@
 use Rattle.std.proofs.Common.{◌≡◌, ◌≤◌, ◌<◌, ◌+◌, ◌∙◌, inl, inr, ℕ, List, [], ◌∷◌, None, Some, length, refl, ap, sym, subst, arith}
 use Rattle.std.specs.declared.option.Option.{Option}
 use Rattle.std.specs.Prelude.{slice_get, option_map}
-use Rattle.altq_model.specs.History.{Coming, Event, Happened, bare, head, waiting}
+use Rattle.altq_model.specs.History.{Arrival, Event, Happened, bare, head, waiting}
 use Rattle.altq_model.specs.Link.{Link, link}
 use Rattle.altq_model.specs.Play.{Policy, lesser}
 use Rattle.altq_model.specs.Lawful.{first_at, start_at}
@@ -27,7 +27,7 @@ use Rattle.cbq_rounds.proofs.Firsts.{first_same}
 use Rattle.cbq_rounds.proofs.Moments.{start_is}
 
 -- the length that a list shows first is that of what waits first
-len_shown : (xs : List Entry) (ws : List Coming) → seen xs ≡ seen_of ws → head_len xs ≡ option_map (λ (a : Coming). a.len) (slice_get ws 0)
+len_shown : (xs : List Entry) (ws : List Arrival) → seen xs ≡ seen_of ws → head_len xs ≡ option_map (λ (a : Arrival). a.len) (slice_get ws 0)
 len_shown [] [] e = refl
 len_shown [] (a ∷ ws) e = absurd (cc)
 len_shown (x ∷ xs) [] e = absurd (cc)
@@ -58,7 +58,7 @@ module _ {Q : Type 0} (stands : Q → List QueueEvent → Type 0) (says : Q → 
   abbrev lists : ℕ → List Entry
   lists = list_in d.rows
 
-  pub shown : (c : ℕ) → head_len (lists c) ≡ option_map (λ (a : Coming). a.len) (head c (bare h))
+  pub shown : (c : ℕ) → head_len (lists c) ≡ option_map (λ (a : Arrival). a.len) (head c (bare h))
   shown c = len_shown (lists c) (waiting c (bare h)) (k.told.shown c).packets
 
   -- what a choice looks at is what it has to
@@ -68,7 +68,7 @@ module _ {Q : Type 0} (stands : Q → List QueueEvent → Type 0) (says : Q → 
       let hs : List (Option ℕ) = each (λ c x. head_len (lists c)) tree in
       ap (λ (es : List Estimate). seen_as es hs d.shares.credits d.shares.cursors l) k.estimates
       ∙ ap (λ (os : List (Option ℕ)). seen_as (estimates tree b) os d.shares.credits d.shares.cursors l)
-      (each_same (λ c. head_len (lists c)) (λ c. option_map (λ (a : Coming). a.len) (head c b)) 0 tree shown)
+      (each_same (λ c. head_len (lists c)) (λ c. option_map (λ (a : Arrival). a.len) (head c b)) 0 tree shown)
       ∙ ap (λ (ns : List ℕ). seen_as (estimates tree b) (heads tree b) ns d.shares.cursors l) k.credits
       ∙ ap (λ (ns : List ℕ). seen_as (estimates tree b) (heads tree b) (credits tree rate b) ns l) k.cursors
       ∙ ap (λ (m : Link). seen_as (estimates tree b) (heads tree b) (credits tree rate b) (cursors tree b) m) e
@@ -84,15 +84,15 @@ module _ {Q : Type 0} (stands : Q → List QueueEvent → Type 0) (says : Q → 
         subst R (ap (λ (r : ℕ). start_now_in d.shares r clock.link c t n) (sym same_rate))
         (subst P (situation_is clock.link same_link) (start_is d.shares lists rate clock.link c t n free))
 
-    start_same : (c t : ℕ) (o : Option Coming) → head c (bare h) ≡ o → clock.link.free ≤ t → c < length tree
-        → option_map (λ (a : Coming). start_of tree rate (situation tree rate (bare h)) c t) o ≡ start_in d.shares lists clock t c
+    start_same : (c t : ℕ) (o : Option Arrival) → head c (bare h) ≡ o → clock.link.free ≤ t → c < length tree
+        → option_map (λ (a : Arrival). start_of tree rate (situation tree rate (bare h)) c t) o ≡ start_in d.shares lists clock t c
     start_same c t None e free l =
         sym (ap (λ (m : Option ℕ). option_map (λ len. start_now_in d.shares clock.rate clock.link c t len) m)
-        (shown c ∙ ap (λ (m : Option Coming). option_map (λ (a : Coming). a.len) m) e))
+        (shown c ∙ ap (λ (m : Option Arrival). option_map (λ (a : Arrival). a.len) m) e))
     start_same c t (Some a) e free l =
         let s : Situation = situation tree rate (bare h) in
-        let len : head_len (lists c) ≡ Some a.len = shown c ∙ ap (λ (m : Option Coming). option_map (λ (x : Coming). x.len) m) e in
-        let there = head_is tree rate (bare h) c l ∙ ap (λ (m : Option Coming). option_map (λ (x : Coming). x.len) m) e in
+        let len : head_len (lists c) ≡ Some a.len = shown c ∙ ap (λ (m : Option Arrival). option_map (λ (x : Arrival). x.len) m) e in
+        let there = head_is tree rate (bare h) c l ∙ ap (λ (m : Option Arrival). option_map (λ (x : Arrival). x.len) m) e in
         let same = one_least tree rate s t a.len c (least_of (own_start tree rate s t a.len) c (lenders tree c)) (start_now_in d.shares clock.rate clock.link c t a.len)
         (send_is tree rate (bare h) t a.len c k.rate) (least_here c t a.len free) in
         ap (λ (n : ℕ). Some n) (ap (start_with tree rate s c t) there ∙ same)

@@ -4,7 +4,7 @@ use Rattle.std.specs.declared.option.Option.{Option}
 use Rattle.std.specs.Prelude.{◌||◌, slice_get, slice_set, is_none, if◌then◌else◌}
 use Rattle.std.specs.List.{list_any}
 use Rattle.std.proofs.lemmas.Bool.{cases_eq, eq-eqb, ne_eqb}
-use Rattle.altq_model.specs.History.{Coming, Event, Sent, Transmission}
+use Rattle.altq_model.specs.History.{Arrival, Event, Sent, Sending}
 use Rattle.cbq_estimator.specs.Average.{Ended}
 use Rattle.cbq_estimator.specs.Estimate.{Estimate}
 use Rattle.cbq_estimator.specs.Now.{after_end, estimate_of}
@@ -86,7 +86,7 @@ told_case cs c x es true = now.ended (pace_of (class_of cs c)) es x
 told_case cs c x es false = refl
 
 -- the averages after a sending
-pub estimates_after : (cs : List CbqClass) (h : List Event) (s : Transmission) → IsTree cs
+pub estimates_after : (cs : List CbqClass) (h : List Event) (s : Sending) → IsTree cs
     → told_up 8 cs (Some s.class) (record { end = s.end; len = s.len }) (estimates cs h) ≡ estimates cs (Sent s ∷ h)
 estimates_after cs h s t =
     let x : Ended = record { end = s.end; len = s.len } in
@@ -135,7 +135,7 @@ set_each f g cs class v low e =
     ])
 
 -- a list shows none exactly where nothing waits
-pub none_shown : (xs : List Entry) (ws : List Coming) → seen xs ≡ seen_of ws → is_none (slice_get xs 0) ≡ is_none (slice_get ws 0)
+pub none_shown : (xs : List Entry) (ws : List Arrival) → seen xs ≡ seen_of ws → is_none (slice_get xs 0) ≡ is_none (slice_get ws 0)
 none_shown [] [] e = refl
 none_shown [] (a ∷ ws) e = absurd (cc)
 none_shown (x ∷ xs) [] e = absurd (cc)

@@ -5,7 +5,7 @@ use Rattle.std.specs.Prelude.{◌&&◌, is_none, is_some, not, slice_get, slice_
 use Rattle.std.proofs.lemmas.Bool.{ne_eqb}
 use Rattle.altq_model.specs.declared.Rule.{Rule}
 use Rattle.altq_model.specs.declared.Verdict.{Verdict}
-use Rattle.altq_model.specs.History.{Coming, DrawnWords, Event, Happened, Sent, bare, head, is_kept, waiting}
+use Rattle.altq_model.specs.History.{Arrival, DrawnWords, Event, Happened, Sent, bare, head, is_kept, waiting}
 use Rattle.altq_model.specs.Link.{Link, end_of, link}
 use Rattle.altq_model.specs.Play.{Choice}
 use Rattle.altq_model.specs.Policies.{Answering}
@@ -16,7 +16,7 @@ use Rattle.class_rows.specs.Rows.{Answers, Rowed, SameRow, Told, answering, clas
 use Rattle.class_rows.proofs.RowLemmas.{holding_distinct}
 use Rattle.discipline.specs.declared.pick.Pick.TheVariants.{Send}
 use Rattle.discipline.specs.declared.pick.Sending.{Sending}
-use Rattle.discipline.specs.Laws.{AreDistinct, after_offer, after_sent, IsAnswer, coming, entry, offer_of, sent_of}
+use Rattle.discipline.specs.Laws.{AreDistinct, after_offer, after_sent, IsAnswer, arrival_with, entry, offer_of, sent_of}
 use Rattle.discipline.specs.Moments.{IsChoice, IsOffer, IsOrderly, WasDue}
 use Rattle.link_clock.specs.Clock.{Clock}
 use Rattle.play_laws.proofs.LinkLemmas.{end_later}
@@ -32,7 +32,7 @@ use Rattle.class_sets.specs.Held.{HeldBack}
 use Rattle.class_sets.specs.Marked.{marked}
 use Rattle.cbq_rounds.specs.Looked.{AreSized}
 use Rattle.cbq_rounds.specs.Due.{due_in}
-use Rattle.cbq_rounds.specs.Gained.{gained_by, transmission, with_gains}
+use Rattle.cbq_rounds.specs.Gained.{gained_by, bare_sending, with_gains}
 use Rattle.cbq_rounds.specs.Sent.{told_up, with_credit, with_estimates, with_last}
 use Rattle.cbq_rounds.specs.Rings.{AreRings}
 use Rattle.cbq_rounds.specs.Shared.{IsTree, Shared, head_len, situation_in}
@@ -81,16 +81,16 @@ pub record Offering : Type 0 where
   pub after : DrawnWords
   pub verdict : Verdict
 
-abbrev coming_of : Offering → Coming
-coming_of x = coming x.class x.len x.prec x.now
+abbrev bare_arrival : Offering → Arrival
+bare_arrival x = arrival_with x.class x.len x.prec x.now
 
 -- a packet of a length waits first
-pub record HasFront (o : Option Coming) (length_is : ℕ) : Type 0 where
-  pub packet : Coming
+pub record HasFront (o : Option Arrival) (length_is : ℕ) : Type 0 where
+  pub packet : Arrival
   pub front : o ≡ Some packet
   pub len : length_is ≡ packet.len
 
-front_of : (o : Option Coming) (n : ℕ) → option_map (λ (a : Coming). a.len) o ≡ Some n → HasFront o n
+front_of : (o : Option Arrival) (n : ℕ) → option_map (λ (a : Arrival). a.len) o ≡ Some n → HasFront o n
 front_of None n e = absurd (cc)
 front_of (Some a) n e = let same : a.len ≡ n = cc in record { packet = a; front = refl; len = sym same }
 
@@ -100,12 +100,12 @@ module _ {Q : Type 0} (stands : Q → List QueueEvent → Type 0) (says : Q → 
 
   -- an offer
   pub offer_stands : (most : Q → ℕ) (d : Ruling Q) (rows : Rowed Q) (h : List Happened) (x : Offering)
-      → SameRow most says d.rows rows → Stands stands says d h → IsOffer (coming_of x) (bare h)
+      → SameRow most says d.rows rows → Stands stands says d h → IsOffer (bare_arrival x) (bare h)
       → Answers stands says d.rows rows h x.class (entry x.ticket x.len x.prec) x.now x.words x.verdict x.after
-      → IsAnswer (cbq_of says d) (bare h) x.words (coming_of x) x.verdict x.after
-      × Stands stands says (record { shares = d.shares; rows = rows }) (offer_of (cbq_of says d) h x.ticket x.words (coming_of x) ∷ h)
+      → IsAnswer (cbq_of says d) (bare h) x.words (bare_arrival x) x.verdict x.after
+      × Stands stands says (record { shares = d.shares; rows = rows }) (offer_of (cbq_of says d) h x.ticket x.words (bare_arrival x) ∷ h)
   offer_stands most d rows h x same k o a =
-      let O : Answering → Type 0 = λ f. IsOrderly (cbq d.shares.tree d.shares.rate f) (bare (offer_of (cbq_of says d) h x.ticket x.words (coming_of x) ∷ h)) in (
+      let O : Answering → Type 0 = λ f. IsOrderly (cbq d.shares.tree d.shares.rate f) (bare (offer_of (cbq_of says d) h x.ticket x.words (bare_arrival x) ∷ h)) in (
         record { verdict = a.verdict; words = a.words },
         record {
           told = a.told;
@@ -173,7 +173,7 @@ module _ {Q : Type 0} (stands : Q → List QueueEvent → Type 0) (says : Q → 
         let len : head_len (list_in d.rows x.class) ≡ Some x.len = front_len (list_in d.rows x.class) sends.entry sends.front ∙ ap (λ (n : ℕ). Some n) sends.of_len in
         front_of (head x.class b) x.len (sym (shown stands says d h k x.class) ∙ len)
 
-    is_sending : IsSending tree rate b (transmission x)
+    is_sending : IsSending tree rate b (bare_sending x)
     is_sending = record {
       held = member_from 0 x.class tree (omega arith) (omega (arith, sends.place));
       free = omega (arith, free, ap (λ (l : Link). l.free) same_link);
@@ -184,7 +184,7 @@ module _ {Q : Type 0} (stands : Q → List QueueEvent → Type 0) (says : Q → 
       choice = choice;
     }
 
-    was_due : WasDue (cbq_of says d) b (transmission x)
+    was_due : WasDue (cbq_of says d) b (bare_sending x)
     was_due = record {
       packet = waits_here.packet;
       front = waits_here.front;
@@ -197,18 +197,18 @@ module _ {Q : Type 0} (stands : Q → List QueueEvent → Type 0) (says : Q → 
 
     -- credits
     gained_same : (c : ℕ) → gained_by d.shares (list_in d.rows) clock x c
-        ≡ gained tree rate (situation tree rate b) (candidates tree rate (situation tree rate b) x.start) (rounds_needed tree rate (situation tree rate b) (transmission x)) c
+        ≡ gained tree rate (situation tree rate b) (candidates tree rate (situation tree rate b) x.start) (rounds_needed tree rate (situation tree rate b) (bare_sending x)) c
     gained_same c =
-        ap (λ (s : Situation). gained tree rate s (candidates tree rate s x.start) (rounds_needed tree rate s (transmission x)) c)
+        ap (λ (s : Situation). gained tree rate s (candidates tree rate s x.start) (rounds_needed tree rate s (bare_sending x)) c)
         (situation_is stands says d h k clock.link same_link)
 
-    credits_same : (emptied : Bool) → emptied ≡ is_none (head x.class (Sent (transmission x) ∷ b))
+    credits_same : (emptied : Bool) → emptied ≡ is_none (head x.class (Sent (bare_sending x) ∷ b))
         → slice_set (each (λ c y. gained_by d.shares (list_in d.rows) clock x c) tree) x.class (if emptied then 0 else gained_by d.shares (list_in d.rows) clock x x.class - x.len)
-        ≡ credits tree rate (Sent (transmission x) ∷ b)
+        ≡ credits tree rate (Sent (bare_sending x) ∷ b)
     credits_same emptied e =
         let f : ℕ → ℕ = gained_by d.shares (list_in d.rows) clock x in
         let n : ℕ → ℕ = λ c. gained tree rate (situation tree rate b) (candidates tree rate (situation tree rate b) x.start)
-        (rounds_needed tree rate (situation tree rate b) (transmission x)) c in
+        (rounds_needed tree rate (situation tree rate b) (bare_sending x)) c in
         set_each f (λ c. if emptied then 0 else f c - x.len) tree x.class (if emptied then 0 else f x.class - x.len) sends.place refl
         ∙ each_same (λ c. if eqb x.class c then if emptied then 0 else f c - x.len else f c) (λ c. if eqb x.class c then if emptied then 0 else n c - x.len else n c) 0 tree
         (λ c. ap (λ (v : ℕ). if eqb x.class c then if emptied then 0 else v - x.len else v) (gained_same c))
@@ -218,12 +218,12 @@ module _ {Q : Type 0} (stands : Q → List QueueEvent → Type 0) (says : Q → 
         → emptied ≡ is_none (slice_get (list_in rows x.class) 0) → end ≡ x.end → IsAfter d clock x end emptied after
         → Stands stands says (record { shares = after; rows = rows }) (sent_of x ∷ h)
     sent_stands most rows after end emptied same told none e i =
-        let g : List Event = Sent (transmission x) ∷ b in
+        let g : List Event = Sent (bare_sending x) ∷ b in
         let empty : emptied ≡ is_none (head x.class g) = none ∙ none_shown (list_in rows x.class) (waiting x.class g) (told.shown x.class).packets in
         let es : after.estimates ≡ estimates tree g =
         i.estimates ∙ ap (λ (n : ℕ). told_up 8 tree (Some x.class) (record { end = n; len = x.len }) d.shares.estimates) e
         ∙ ap (λ (l : List Estimate). told_up 8 tree (Some x.class) (record { end = x.end; len = x.len }) l) k.estimates
-        ∙ estimates_after tree b (transmission x) t in
+        ∙ estimates_after tree b (bare_sending x) t in
         let credited : after.credits ≡ credits tree rate g = i.credits ∙ credits_same emptied empty in
         let turned : after.cursors ≡ cursors tree g = i.cursors ∙ ap (λ (ns : List ℕ). slice_set ns (class_of tree x.class).priority x.class) k.cursors in
         let some : 0 < after.rate = omega (arith, k.rate, i.rate) in

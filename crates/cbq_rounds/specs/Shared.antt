@@ -6,8 +6,9 @@ use Rattle.cbq_estimator.specs.Estimate.{Estimate}
 use Rattle.cbq_estimator.specs.Now.{allows_now, estimate_of, start_now}
 use Rattle.cbq_model.specs.declared.CbqClass.{CbqClass}
 use Rattle.cbq_model.specs.Choice.{Situation}
-use Rattle.cbq_model.specs.Tree.{class_of, each, is_root, lenders, no_class, pace_of, quantum_of}
+use Rattle.cbq_model.specs.Tree.{class_of, each, is_root, lender_of, lenders, lenders_up, no_class, pace_of, quantum_of}
 use Rattle.leaf_queue.specs.declared.node.Entry.{Entry}
+use Rattle.cbq_rounds.specs.declared.fixed.Fixed.{Fixed}
 
 -- the rate of the link, the classes, and of each its average and its credit; of each priority the class at which its ring begins; and the
 -- end of the latest sending
@@ -28,13 +29,21 @@ pub record IsTree (cs : List CbqClass) : Type 0 where
   pub priorities : (c : ℕ) → (class_of cs c).priority ≤ 7
   pub rates : (c : ℕ) → (class_of cs c).rate ≤ 10 ^ 12
 
-pub record IsShared (rate : ℕ) (cs : List CbqClass) (estimates : List Estimate) (quanta credits cursors : List ℕ) (ended : ℕ) : Type 0 where
+-- the root is one of those that may lend to a class
+abbrev pub borrows_from_root : List CbqClass → CbqClass → Bool
+borrows_from_root cs k = list_any (is_root cs) (lenders_up 8 cs (lender_of k))
+
+-- what never changes of a class
+abbrev pub fixed_of : (rate : ℕ) → List CbqClass → CbqClass → Fixed
+fixed_of rate cs k = record { quantum = quantum_of rate k; rooted = borrows_from_root cs k }
+
+pub record IsShared (rate : ℕ) (cs : List CbqClass) (estimates : List Estimate) (fixed : List Fixed) (credits cursors : List ℕ) (ended : ℕ) : Type 0 where
   pub least_rate : 1000 ≤ rate
   pub most_rate : rate ≤ 10 ^ 12
   pub few : length cs ≤ 256
   pub tree : IsTree cs
   pub estimate_each : length estimates ≡ length cs
-  pub quantum_each : quanta ≡ map (quantum_of rate) cs
+  pub fixed_each : fixed ≡ map (fixed_of rate cs) cs
   pub credit_each : length credits ≡ length cs
   pub cursor_each : length cursors ≡ 8
   pub credit_bound : (c : ℕ) → get_or credits c 0 ≤ 2 ^ 42

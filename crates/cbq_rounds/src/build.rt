@@ -1,8 +1,8 @@
 // What CBQ keeps of its classes at first.
 ghost use Rattle.std.specs.Prelude.{◌≡◌, ◌≤◌, ◌^◌, All, IfOk, length};
-ghost use Rattle.cbq_model.specs.Tree.{quantum_of};
 ghost use Rattle.cbq_rounds.specs.Fresh.{HasEarlierParents, IsClass, fresh, fresh_estimate};
 
+use crate::fixed::fixed_of;
 use crate::sharing::Shares;
 use cbq_estimator::Estimator;
 use cbq_model::CbqClass;
@@ -17,17 +17,6 @@ fn estimator_of(class: &CbqClass) -> Estimator
     Estimator::new(class.rate, class.maxburst, class.packetsize)
 }
 
-// What a class gains in a round on a link of `rate`, in bytes.
-fn quantum_of(class: &CbqClass, rate: u64) -> u64
-    requires class { IsClass class.now }
-    requires least { 1000 ≤ rate }
-    requires most { rate ≤ 10 ^ 12 }
-    ensures { result ≡ quantum_of rate class.now }
-{
-    let part = (1500 * class.rate + (rate - 1)) / rate;
-    part.max(1)
-}
-
 impl Shares {
     /// What CBQ keeps of at most 256 classes that have sent nothing, on a link of `rate` bits per second, 1,000 to 10^12. `NoMemory`
     /// comes only when memory runs out.
@@ -40,10 +29,10 @@ impl Shares {
         ensures { IfOk result (λ s. s ≡ fresh rate classes.now) }
     {
         let mut estimators = Vec::new(alloc);
-        let mut quanta = Vec::new(alloc);
+        let mut fixed = Vec::new(alloc);
         for class in classes {
             estimators.push(estimator_of(class))?;
-            quanta.push(quantum_of(class, rate))?;
+            fixed.push(fixed_of(classes, class, rate))?;
         }
         let credits = vec![in alloc; 0; classes.len()]?;
         let cursors = vec![in alloc; 0; 8]?;
@@ -52,7 +41,7 @@ impl Shares {
             rate,
             classes,
             estimators,
-            quanta,
+            fixed,
             credits,
             cursors,
             ended: 0,

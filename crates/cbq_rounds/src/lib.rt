@@ -7,6 +7,7 @@
 mod able;
 mod build;
 mod cbq;
+mod fixed;
 mod gains;
 mod held;
 mod laws;

@@ -9,6 +9,7 @@ ghost use Rattle.cbq_rounds.specs.Held.{IsHeld};
 ghost use Rattle.cbq_rounds.specs.Lent.{IsLent};
 ghost use Rattle.cbq_rounds.specs.Shared.{IsShared, Shared, allows_end, is_free, least_with, may_end, own_now, start_now_in};
 
+use crate::fixed::Fixed;
 use crate::lent::Lent;
 use cbq_estimator::Estimator;
 use cbq_model::{CbqClass, Rank};
@@ -18,13 +19,13 @@ use std::marker::Model;
 /// The most levels of a tree of classes.
 pub const LEVELS: u32 = 8;
 
-/// The rate of the link, the classes with their averages, quanta and credits, and the cursors of their rings.
+/// The rate of the link, the classes with their averages and credits and with what never changes of them, and the cursors of their rings.
 #[derive(Drop)]
 pub struct Shares {
     pub rate: u64,
     pub classes: Vec<CbqClass>,
     pub estimators: Vec<Estimator>,
-    pub quanta: Vec<u64>,
+    pub fixed: Vec<Fixed>,
     pub credits: Vec<u64>,
     pub cursors: Vec<u32>,
     pub ended: u64,
@@ -42,7 +43,7 @@ impl Model for Shares {
       ended = s.ended;
     } };
 
-    ghost invariant = { λ s. IsShared s.rate s.classes.items s.estimators.items s.quanta.items s.credits.items s.cursors.items s.ended };
+    ghost invariant = { λ s. IsShared s.rate s.classes.items s.estimators.items s.fixed.items s.credits.items s.cursors.items s.ended };
 }
 
 impl Shares {
@@ -122,17 +123,10 @@ impl Shares {
             || self.estimators[class as usize].average() > 0
     }
 
-    /// Whether a class may send a packet of `len` bytes at `now`, of itself or by a loan. It asks the class first, and the lenders above
-    /// it only where they are not those that were asked last of this length. One division where the class holds packets back and the
-    /// length is another; none else.
-    pub fn may_send(
-        &self,
-        class: u32,
-        len: u32,
-        now: u64,
-        clock: &LinkClock,
-        last: &mut Lent,
-    ) -> bool
+    // The same of a class that may have to wait. It asks the class first, and the lenders above it only where they are not those that were
+    // asked last of this length. One division where the class holds packets back and the length is another; none else.
+    #[inline(never)]
+    fn asks(&self, class: u32, len: u32, now: u64, clock: &LinkClock, last: &mut Lent) -> bool
         requires class { class < length self.now.tree }
         requires free { clock.now.link.free ≤ now }
         requires early { now < 2 ^ 63 }
@@ -150,6 +144,27 @@ impl Shares {
         }
         self.ask(class, last);
         last.lends
+    }
+
+    /// Whether a class may send a packet of `len` bytes at `now`, of itself or by a loan. Nobody is asked where the root may lend to it.
+    #[inline]
+    pub fn may_send(
+        &self,
+        class: u32,
+        len: u32,
+        now: u64,
+        clock: &LinkClock,
+        last: &mut Lent,
+    ) -> bool
+        requires class { class < length self.now.tree }
+        requires free { clock.now.link.free ≤ now }
+        requires early { now < 2 ^ 63 }
+        requires some_bytes { 1 ≤ len }
+        requires lent { IsLent self.now.tree self.now.estimates clock.now now last.old }
+        ensures may { result ≡ may_end self.now.tree self.now.estimates (end_of clock.now.rate clock.now.link now len) len class }
+        ensures lent { IsLent self.now.tree self.now.estimates clock.now now last.new }
+    {
+        self.fixed[class as usize].rooted || self.asks(class, len, now, clock, last)
     }
 
     /// The moment till which a class that has no lender is held back with a packet of `len` bytes, where that is later than the next
@@ -215,7 +230,8 @@ impl Shares {
         self.least_start(LEVELS, lender, own, len, now, clock)
     }
 
-    /// Whether a class itself allows a packet of `len` bytes to start at `now`, no earlier than the last end and before 2^63.
+    /// Whether a class itself allows a packet of `len` bytes to start at `now`, no earlier than the last end and before 2^63. One division
+    /// where the class holds packets back; none else.
     pub fn allows(&self, class: u32, len: u32, now: u64, clock: &LinkClock) -> bool
         requires class { class < length self.now.tree }
         requires free { clock.now.link.free ≤ now }
@@ -224,7 +240,7 @@ impl Shares {
         requires few_bytes { len ≤ 262144 }
         ensures { result ≡ (own_now self.now.tree self.now.estimates clock.now.rate clock.now.link now len class == now) }
     {
-        self.own_start(class, len, now, clock) == now
+        self.is_free(class) || self.allows_end(class, len, clock.end_of(now, len))
     }
 
     /// What a class gains in a round, in bytes.
@@ -234,7 +250,7 @@ impl Shares {
         ensures least { 1 ≤ result }
         ensures most { result ≤ 2 ^ 41 }
     {
-        self.quanta[class as usize]
+        self.fixed[class as usize].quantum
     }
 
     /// The priority of a class.

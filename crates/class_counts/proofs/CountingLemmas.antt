@@ -11,7 +11,7 @@ use Rattle.altq_model.specs.declared.Placed.{Placed}
 use Rattle.altq_model.specs.declared.Reason.{Reason}
 use Rattle.altq_model.specs.declared.Reason.TheVariants.{Full, Early, Forced}
 use Rattle.altq_model.specs.declared.Rule.{Rule}
-use Rattle.altq_model.specs.Arrivals.{Arrival, arrival, no_arrival, comings}
+use Rattle.altq_model.specs.Arrivals.{Captured, arrival, no_arrival, bare_arrivals}
 use Rattle.altq_model.specs.Counts.{counts_of, is_early, is_forced, is_full, is_sent, of_arrivals, of_decisions, one}
 use Rattle.altq_model.specs.declared.Verdict.{Verdict}
 use Rattle.altq_model.specs.declared.Verdict.TheVariants.{Keep, Mark, Drop}
@@ -110,7 +110,7 @@ counts_same a b q r s t u v w x =
     ∙ ap (λ (n : ℕ). record b { forced = n }) x
 
 -- one more arrival
-arrival_step : (meant : Arrival → Bool) (amount : Arrival → ℕ) (xs : List Arrival) (a : Arrival)
+arrival_step : (meant : Captured → Bool) (amount : Captured → ℕ) (xs : List Captured) (a : Captured)
     → of_arrivals meant amount (xs ++ a ∷ []) ≡ of_arrivals meant amount xs + (if meant a then amount a else 0)
 arrival_step meant amount xs a = omega (arith, arrivals_add meant amount xs (a ∷ []))
 
@@ -129,22 +129,22 @@ both_false : (b d : Bool) → b ≡ false → (b && d) ≡ false
 both_false true d e = absurd (cc)
 both_false false d e = refl
 
-arrival_other : (meant : Arrival → Bool) (amount : Arrival → ℕ) (xs : List Arrival) (a : Arrival) → meant a ≡ false
+arrival_other : (meant : Captured → Bool) (amount : Captured → ℕ) (xs : List Captured) (a : Captured) → meant a ≡ false
     → of_arrivals meant amount (xs ++ a ∷ []) ≡ of_arrivals meant amount xs
 arrival_other meant amount xs a e = arrival_step meant amount xs a ∙ if_not (meant a) _ (amount a) e
 
-arrival_mine : (meant : Arrival → Bool) (amount : Arrival → ℕ) (xs : List Arrival) (a : Arrival) → meant a ≡ true
+arrival_mine : (meant : Captured → Bool) (amount : Captured → ℕ) (xs : List Captured) (a : Captured) → meant a ≡ true
     → of_arrivals meant amount (xs ++ a ∷ []) ≡ of_arrivals meant amount xs + amount a
 arrival_mine meant amount xs a e =
     arrival_step meant amount xs a ∙ ap (λ (b : Bool). of_arrivals meant amount xs + (if b then amount a else 0)) e
 
-raised_mine : (c : ℕ) (xs : List Arrival) (a : Arrival) → (a.class == c) ≡ true
+raised_mine : (c : ℕ) (xs : List Captured) (a : Captured) → (a.class == c) ≡ true
     → of_arrivals (λ b. (b.class == c) && b.raised) one (xs ++ a ∷ []) ≡ of_arrivals (λ b. (b.class == c) && b.raised) one xs + (if a.raised then 1 else 0)
 raised_mine c xs a e =
     arrival_step (λ b. (b.class == c) && b.raised) one xs a
     ∙ ap (λ (b : Bool). of_arrivals (λ d. (d.class == c) && d.raised) one xs + (if b && a.raised then 1 else 0)) e
 
-read_moves : (xs : List Arrival) (a : Arrival) (g : List Happened) → AreOfArrivals (comings xs) g
+read_moves : (xs : List Captured) (a : Captured) (g : List Happened) → AreOfArrivals (bare_arrivals xs) g
     → IsMoved a.class (counted.Arrived a.len a.raised) (λ c. counts_of c xs (journal g)) (λ c. counts_of c (xs ++ a ∷ []) (journal g))
 read_moves xs a g of = record {
   same = λ c n.
@@ -166,19 +166,19 @@ read_moves xs a g of = record {
 }
 
 -- one more decision
-decision_step : (meant : Arrival → Bool) (told : Fate → Bool) (amount : Arrival → ℕ) (arrived : List Arrival) (js : List Decision) (n : ℕ) (f : Fate)
+decision_step : (meant : Captured → Bool) (told : Fate → Bool) (amount : Captured → ℕ) (arrived : List Captured) (js : List Decision) (n : ℕ) (f : Fate)
     → of_decisions meant told amount arrived (js ++ (n, f) ∷ [])
     ≡ of_decisions meant told amount arrived js + (if meant (arrival arrived n) && told f then amount (arrival arrived n) else 0)
 decision_step meant told amount arrived js n f = omega (arith, decisions_add meant told amount arrived js ((n, f) ∷ []))
 
-decision_other : (c : ℕ) (told : Fate → Bool) (amount : Arrival → ℕ) (arrived : List Arrival) (js : List Decision) (n : ℕ) (f : Fate)
+decision_other : (c : ℕ) (told : Fate → Bool) (amount : Captured → ℕ) (arrived : List Captured) (js : List Decision) (n : ℕ) (f : Fate)
     → ((arrival arrived n).class == c) ≡ false
     → of_decisions (λ b. b.class == c) told amount arrived (js ++ (n, f) ∷ []) ≡ of_decisions (λ b. b.class == c) told amount arrived js
 decision_other c told amount arrived js n f e =
     decision_step (λ b. b.class == c) told amount arrived js n f
     ∙ if_not (((arrival arrived n).class == c) && told f) _ (amount (arrival arrived n)) (both_false ((arrival arrived n).class == c) (told f) e)
 
-decision_mine : (c : ℕ) (told : Fate → Bool) (amount : Arrival → ℕ) (arrived : List Arrival) (js : List Decision) (n : ℕ) (f : Fate)
+decision_mine : (c : ℕ) (told : Fate → Bool) (amount : Captured → ℕ) (arrived : List Captured) (js : List Decision) (n : ℕ) (f : Fate)
     → ((arrival arrived n).class == c) ≡ true
     → of_decisions (λ b. b.class == c) told amount arrived (js ++ (n, f) ∷ [])
     ≡ of_decisions (λ b. b.class == c) told amount arrived js + (if told f then amount (arrival arrived n) else 0)
@@ -186,7 +186,7 @@ decision_mine c told amount arrived js n f e =
     decision_step (λ b. b.class == c) told amount arrived js n f
     ∙ ap (λ (b : Bool). of_decisions (λ d. d.class == c) told amount arrived js + (if b && told f then amount (arrival arrived n) else 0)) e
 
-same_after : (arrived : List Arrival) (js : List Decision) (n : ℕ) (f : Fate) (c : ℕ) → c ≢ (arrival arrived n).class
+same_after : (arrived : List Captured) (js : List Decision) (n : ℕ) (f : Fate) (c : ℕ) → c ≢ (arrival arrived n).class
     → counts_of c arrived (js ++ (n, f) ∷ []) ≡ counts_of c arrived js
 same_after arrived js n f c other =
     let e = other_class (arrival arrived n).class c other ((arrival arrived n).class == c) refl in
@@ -197,7 +197,7 @@ same_after arrived js n f c other =
 plus_none : (a b : ℕ) → a ≡ b + 0 → a ≡ b
 plus_none a b e = omega (arith, e)
 
-sent_moves : (arrived : List Arrival) (js : List Decision) (n start end : ℕ) (r : Rule)
+sent_moves : (arrived : List Captured) (js : List Decision) (n start end : ℕ) (r : Rule)
     → IsMoved (arrival arrived n).class (counted.Sent (arrival arrived n).len) (λ c. counts_of c arrived js) (λ c. counts_of c arrived (js ++ (n, fate.Sent start end r) ∷ []))
 sent_moves arrived js n start end r =
     let f : Fate = fate.Sent start end r in
@@ -211,12 +211,12 @@ sent_moves arrived js n start end r =
           (plus_none _ _ (decision_mine c is_forced one arrived js n f e));
     }
 
-drop_mine : (told : Fate → Bool) (amount : Arrival → ℕ) (arrived : List Arrival) (js : List Decision) (n : ℕ) (r : Reason) → let c : ℕ = (arrival arrived n).class in
+drop_mine : (told : Fate → Bool) (amount : Captured → ℕ) (arrived : List Captured) (js : List Decision) (n : ℕ) (r : Reason) → let c : ℕ = (arrival arrived n).class in
     of_decisions (λ b. b.class == c) told amount arrived (js ++ (n, fate.Dropped r) ∷ [])
     ≡ of_decisions (λ b. b.class == c) told amount arrived js + (if told (fate.Dropped r) then amount (arrival arrived n) else 0)
 drop_mine told amount arrived js n r = decision_mine (arrival arrived n).class told amount arrived js n (fate.Dropped r) (class_is (arrival arrived n).class)
 
-drop_more : (arrived : List Arrival) (js : List Decision) (n : ℕ) (r : Reason) → let c : ℕ = (arrival arrived n).class in
+drop_more : (arrived : List Captured) (js : List Decision) (n : ℕ) (r : Reason) → let c : ℕ = (arrival arrived n).class in
     counts_of c arrived (js ++ (n, fate.Dropped r) ∷ []) ≡ with_drop (counts_of c arrived js) r
 drop_more arrived js n Full = counts_same _ _ refl refl refl
     (plus_none _ _ (drop_mine is_sent one arrived js n Full)) (plus_none _ _ (drop_mine is_sent (λ b. b.len) arrived js n Full))
@@ -228,23 +228,23 @@ drop_more arrived js n Forced = counts_same _ _ refl refl refl
     (plus_none _ _ (drop_mine is_sent one arrived js n Forced)) (plus_none _ _ (drop_mine is_sent (λ b. b.len) arrived js n Forced))
     (plus_none _ _ (drop_mine is_full one arrived js n Forced)) (plus_none _ _ (drop_mine is_early one arrived js n Forced)) (drop_mine is_forced one arrived js n Forced)
 
-drop_moves : (arrived : List Arrival) (js : List Decision) (n : ℕ) (r : Reason)
+drop_moves : (arrived : List Captured) (js : List Decision) (n : ℕ) (r : Reason)
     → IsMoved (arrival arrived n).class (counted.Dropped r) (λ c. counts_of c arrived js) (λ c. counts_of c arrived (js ++ (n, fate.Dropped r) ∷ []))
 drop_moves arrived js n r = record { same = same_after arrived js n (fate.Dropped r); more = drop_more arrived js n r }
 
 -- what was counted, with one more
-counted_more : (names : NameList) (arrived more : List Arrival) (js ls : List Decision) (class : ℕ) (what : Counted) (ks : List Counts) → HasCounted names arrived js ks
+counted_more : (names : NameList) (arrived more : List Captured) (js ls : List Decision) (class : ℕ) (what : Counted) (ks : List Counts) → HasCounted names arrived js ks
     → IsMoved class what (λ c. counts_of c arrived js) (λ c. counts_of c more ls) → HasCounted names more ls (count_at names class what ks)
 counted_more names arrived more js ls class what ks h m = record {
   names_are = h.names_are;
   counts_are = ap (count_at names class what) h.counts_are ∙ sym (tally_moves names class what (λ c. counts_of c arrived js) (λ c. counts_of c more ls) m h.names_are.rising);
 }
 
-pub counted_read : (names : NameList) (xs : List Arrival) (a : Arrival) (g : List Happened) (ks : List Counts) → HasCounted names xs (journal g) ks
-    → AreOfArrivals (comings xs) g → HasCounted names (xs ++ a ∷ []) (journal g) (count_at names a.class (counted.Arrived a.len a.raised) ks)
+pub counted_read : (names : NameList) (xs : List Captured) (a : Captured) (g : List Happened) (ks : List Counts) → HasCounted names xs (journal g) ks
+    → AreOfArrivals (bare_arrivals xs) g → HasCounted names (xs ++ a ∷ []) (journal g) (count_at names a.class (counted.Arrived a.len a.raised) ks)
 counted_read names xs a g ks h of = counted_more names xs (xs ++ a ∷ []) (journal g) (journal g) a.class (counted.Arrived a.len a.raised) ks h (read_moves xs a g of)
 
-pub counted_sent : (names : NameList) (arrived : List Arrival) (js : List Decision) (d : Departure) (ks : List Counts) → HasCounted names arrived js ks
+pub counted_sent : (names : NameList) (arrived : List Captured) (js : List Decision) (d : Departure) (ks : List Counts) → HasCounted names arrived js ks
     → d.class ≡ (arrival arrived d.packet.number).class → d.packet.len ≡ (arrival arrived d.packet.number).len
     → HasCounted names arrived (js ++ (d.packet.number, fate.Sent d.start d.end d.rule) ∷ []) (count_at names d.class (counted.Sent d.packet.len) ks)
 counted_sent names arrived js d ks h c l =
@@ -253,14 +253,14 @@ counted_sent names arrived js d ks h c l =
     let Q : ℕ → Type 0 = λ k. HasCounted names arrived ls (count_at names (arrival arrived d.packet.number).class (counted.Sent k) ks) in
     subst P (sym c) (subst Q (sym l) (counted_more names arrived arrived js ls _ _ ks h (sent_moves arrived js d.packet.number d.start d.end d.rule)))
 
-counted_dropped : (names : NameList) (arrived : List Arrival) (js : List Decision) (n class : ℕ) (r : Reason) (ks : List Counts) → HasCounted names arrived js ks
+counted_dropped : (names : NameList) (arrived : List Captured) (js : List Decision) (n class : ℕ) (r : Reason) (ks : List Counts) → HasCounted names arrived js ks
     → class ≡ (arrival arrived n).class → HasCounted names arrived (js ++ (n, fate.Dropped r) ∷ []) (count_at names class (counted.Dropped r) ks)
 counted_dropped names arrived js n class r ks h c =
     let P : ℕ → Type 0 = λ k. HasCounted names arrived (js ++ (n, fate.Dropped r) ∷ []) (count_at names k (counted.Dropped r) ks) in
     subst P (sym c) (counted_more names arrived arrived js _ _ _ ks h (drop_moves arrived js n r))
 
 -- an offer, of which this is handed back
-pub counted_by : (names : NameList) (arrived : List Arrival) (js : List Decision) (n class : ℕ) (v : Verdict) (packet : Packet) (ks : List Counts) → HasCounted names arrived js ks
+pub counted_by : (names : NameList) (arrived : List Captured) (js : List Decision) (n class : ℕ) (v : Verdict) (packet : Packet) (ks : List Counts) → HasCounted names arrived js ks
     → class ≡ (arrival arrived n).class
     → HasCounted names arrived (js ++ dropped_by v n) (option_map_or (λ (d : Dropped). count_at names class (counted.Dropped d.reason) ks) (handed_back v packet) ks)
 counted_by names arrived js n class Keep packet ks h c = let P : List Decision → Type 0 = λ l. HasCounted names arrived l ks in subst P (sym (append-nil js)) h
@@ -272,22 +272,22 @@ at_most : (b : Bool) (n m : ℕ) → n ≤ m → (if b then n else 0) ≤ m
 at_most true n m l = l
 at_most false n m l = omega arith
 
-few_arrivals : (place : List ℕ → Placed) (meant : Arrival → Bool) (amount : Arrival → ℕ) (arrived : List Arrival) → AreFit place arrived
-    → ((a : Arrival) → a.len ≤ 262144 → amount a ≤ 262144) → of_arrivals meant amount arrived ≤ 262144 * length arrived
+few_arrivals : (place : List ℕ → Placed) (meant : Captured → Bool) (amount : Captured → ℕ) (arrived : List Captured) → AreFit place arrived
+    → ((a : Captured) → a.len ≤ 262144 → amount a ≤ 262144) → of_arrivals meant amount arrived ≤ 262144 * length arrived
 few_arrivals place meant amount [] fit most = omega arith
 few_arrivals place meant amount (a ∷ rest) fit most =
     omega (arith, few_arrivals place meant amount rest fit.1 most, at_most (meant a) (amount a) 262144 (most a fit.0.short))
 
-short_at : (place : List ℕ → Placed) (arrived : List Arrival) (k : ℕ) → AreFit place arrived → (unwrap_or (slice_get arrived k) no_arrival).len ≤ 262144
+short_at : (place : List ℕ → Placed) (arrived : List Captured) (k : ℕ) → AreFit place arrived → (unwrap_or (slice_get arrived k) no_arrival).len ≤ 262144
 short_at place [] k fit = omega arith
 short_at place (a ∷ rest) zero fit = fit.0.short
 short_at place (a ∷ rest) (suc k) fit = short_at place rest k fit.1
 
-few_decisions : (place : List ℕ → Placed) (meant : Arrival → Bool) (told : Fate → Bool) (amount : Arrival → ℕ) (arrived : List Arrival) (js : List Decision) → AreFit place arrived
-    → ((a : Arrival) → a.len ≤ 262144 → amount a ≤ 262144) → of_decisions meant told amount arrived js ≤ 262144 * length js
+few_decisions : (place : List ℕ → Placed) (meant : Captured → Bool) (told : Fate → Bool) (amount : Captured → ℕ) (arrived : List Captured) (js : List Decision) → AreFit place arrived
+    → ((a : Captured) → a.len ≤ 262144 → amount a ≤ 262144) → of_decisions meant told amount arrived js ≤ 262144 * length js
 few_decisions place meant told amount arrived [] fit most = omega arith
 few_decisions place meant told amount arrived (d ∷ js) fit most =
-    let a : Arrival = arrival arrived d.0 in
+    let a : Captured = arrival arrived d.0 in
     let short : a.len ≤ 262144 = short_at place arrived (d.0 - 1) fit in
     omega (
       arith,
@@ -295,10 +295,10 @@ few_decisions place meant told amount arrived (d ∷ js) fit most =
       at_most (meant a && told d.1) (amount a) 262144 (most a short),
     )
 
-one_is_few : (a : Arrival) → a.len ≤ 262144 → one a ≤ 262144
+one_is_few : (a : Captured) → a.len ≤ 262144 → one a ≤ 262144
 one_is_few a l = omega arith
 
-class_countable : (place : List ℕ → Placed) (arrived : List Arrival) (js : List Decision) (c : ℕ) → AreFit place arrived → length arrived ≤ 4000000 → length js ≤ 4000000
+class_countable : (place : List ℕ → Placed) (arrived : List Captured) (js : List Decision) (c : ℕ) → AreFit place arrived → length arrived ≤ 4000000 → length js ≤ 4000000
     → IsCountable (counts_of c arrived js)
 class_countable place arrived js c fit few some = record {
   arrived = omega (arith, few, few_arrivals place (λ a. a.class == c) one arrived fit one_is_few);
@@ -321,7 +321,7 @@ tallied_length : (names : NameList) (f : ℕ → Counts) → length (map (λ (n 
 tallied_length [] f = refl
 tallied_length (n ∷ ns) f = ap suc (tallied_length ns f)
 
-pub counted_countable : (place : List ℕ → Placed) (names : NameList) (arrived : List Arrival) (js : List Decision) (ks : List Counts) → HasCounted names arrived js ks
+pub counted_countable : (place : List ℕ → Placed) (names : NameList) (arrived : List Captured) (js : List Decision) (ks : List Counts) → HasCounted names arrived js ks
     → AreFit place arrived → length arrived ≤ 4000000 → length js ≤ 4000000 → AreCountable names ks
 counted_countable place names arrived js ks h fit few some =
     let P : List Counts → Type 0 = λ l. AreCountable names l in

@@ -3,7 +3,7 @@ use Rattle.std.specs.Prelude.{◌≡◌, ◌+◌, ◌==◌, ℕ, List, [], ◌�
 use Rattle.altq_model.specs.declared.Counts.{Counts}
 use Rattle.altq_model.specs.declared.Reason.{Reason}
 use Rattle.altq_model.specs.declared.Reason.TheVariants.{Full, Early, Forced}
-use Rattle.altq_model.specs.Arrivals.{Arrival}
+use Rattle.altq_model.specs.Arrivals.{Captured}
 use Rattle.altq_model.specs.Counts.{counts_of}
 use Rattle.altq_model.specs.History.{Decision}
 use Rattle.play_text.specs.Names.{AreNames, NameList}
@@ -31,11 +31,11 @@ count_at (n ∷ ns) class what [] = []
 count_at (n ∷ ns) class what (k ∷ ks) = if n.0 == class then with_one k what ∷ ks else k ∷ count_at ns class what ks
 
 -- the counts of each class of what arrived and what was decided
-abbrev pub tallied : NameList → List Arrival → List Decision → List Counts
+abbrev pub tallied : NameList → List Captured → List Decision → List Counts
 tallied names arrived js = map (λ n. counts_of n.0 arrived js) names
 
 -- `counts` are those counts, and the numbers of the classes rise
-pub record HasCounted (names : NameList) (arrived : List Arrival) (js : List Decision) (counts : List Counts) : Type 0 where
+pub record HasCounted (names : NameList) (arrived : List Captured) (js : List Decision) (counts : List Counts) : Type 0 where
   pub names_are : AreNames names
   pub counts_are : counts ≡ tallied names arrived js
 

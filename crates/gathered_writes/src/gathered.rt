@@ -76,9 +76,12 @@ pub fn flush_rows<F: Files>(files: &mut F, file: u32, rows: &mut Rows) -> Result
     ensures front { OnErr result (WroteFront (F.view files.old) (F.view files.new) file rows.old) }
     ensures failed { IsErrOf result Trouble.Failed → WriteFault (F.view files.old) (F.view files.new) file }
 {
-    match write_all(files, file, rows.as_slice()) {
+    let Ok(text) = rows.take_text() else {
+        return Err(Trouble::NoMemory);
+    };
+    match write_all(files, file, &text) {
         Ok(()) => {
-            rows.clear();
+            rows.reuse(text);
             Ok(())
         }
         Err(trouble) => Err(trouble),

@@ -12,6 +12,7 @@ pub mod Serving
 pub mod Walking
 pub mod Steps
 pub mod Staying
+pub mod Stopping
 pub mod Picks
 pub mod Ends
 pub mod New

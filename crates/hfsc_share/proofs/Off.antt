@@ -6,7 +6,7 @@ use Rattle.play_base.specs.Units.{units}
 use Rattle.runtime_curve.specs.declared.Opening.{Opening}
 use Rattle.runtime_curve.specs.Opening.{opening}
 use Rattle.hfsc_model.specs.declared.HfscClass.{HfscClass}
-use Rattle.hfsc_model.specs.Event.{HfscHistory, Kept, Sent}
+use Rattle.hfsc_model.specs.Event.{HfscHistory, Enqueued, Sent}
 use Rattle.hfsc_model.specs.Leaf.{leaf, is_waiting, after_kept, after_sent}
 use Rattle.hfsc_model.specs.Tree.{class_of, is_leaf, is_under, IsTree}
 use Rattle.hfsc_model.specs.Share.{active, activates, activation_time, activations, has_parent, total, virtual_time, virtual_time_of}
@@ -51,7 +51,7 @@ none : (a b : Bool) → b ≡ false → (a && b) ≡ false
 none true b e = e
 none false b e = refl
 
-pub kept_off : (cs : List HfscClass) (h : HfscHistory) (l at len c : ℕ) → is_under cs c l ≡ false → Off cs h (Kept l at len ∷ h) c
+pub kept_off : (cs : List HfscClass) (h : HfscHistory) (l at len c : ℕ) → is_under cs c l ≡ false → Off cs h (Enqueued l at len ∷ h) c
 kept_off cs h l at len c e = record {
   acts = ap (λ b. if b then opening (activation_time cs h (activations cs h) c) (total cs h c) ∷ activations cs h c else activations cs h c)
       (none (has_parent cs c) (activates cs h l c) (idle cs h l c e));

@@ -15,7 +15,7 @@ use Rattle.ranking.specs.Order.{is_in}
 use Rattle.ranking.specs.Ranking.{order_of}
 use Rattle.ranking.proofs.Ranks.{same_test}
 use Rattle.hfsc_model.specs.declared.HfscClass.{HfscClass}
-use Rattle.hfsc_model.specs.Event.{HfscHistory, Kept, Sent}
+use Rattle.hfsc_model.specs.Event.{HfscHistory, Enqueued, Sent}
 use Rattle.hfsc_model.specs.Leaf.{leaf, is_waiting}
 use Rattle.hfsc_model.specs.Tree.{class_of, is_child, is_leaf, is_under, IsTree}
 use Rattle.hfsc_model.specs.Share.{active, activates, activation_time, activations, or_zero, total, virtual_time, virtual_time_of}
@@ -60,7 +60,7 @@ time_same (o ∷ os) u v = refl
 -- a class without a parent has no activation
 root_acts : (cs : List HfscClass) (h : HfscHistory) (c : ℕ) → (class_of cs c).parent ≡ None → activations cs h c ≡ []
 root_acts cs [] c e = refl
-root_acts cs (Kept d at len ∷ h) c e =
+root_acts cs (Enqueued d at len ∷ h) c e =
     ap (λ (o : Option ℕ). if (elim o [ None ↦ false | Some q ↦ true ]) && activates cs h d c
     then opening (activation_time cs h (activations cs h) c) (total cs h c) ∷ activations cs h c else activations cs h c) e
     ∙ root_acts cs h c e

@@ -13,7 +13,7 @@ use Rattle.ranking.specs.Order.{is_in}
 use Rattle.ranking.specs.Ranking.{order_of}
 use Rattle.ranking.proofs.Ranks.{same_test}
 use Rattle.hfsc_model.specs.declared.HfscClass.{HfscClass}
-use Rattle.hfsc_model.specs.Event.{HfscHistory, Kept, Sent}
+use Rattle.hfsc_model.specs.Event.{HfscHistory, Enqueued, Sent}
 use Rattle.hfsc_model.specs.Leaf.{Waiting, leaf, is_waiting, after_kept}
 use Rattle.hfsc_model.specs.RealTime.{IsOpenBy}
 use Rattle.hfsc_model.specs.Tree.{class_of, no_class, is_child, is_leaf, is_number, is_parent, is_under}
@@ -121,7 +121,7 @@ pub record IsWakeOf (last : ℕ) (t : Taking) : Type 0 where
   pub awake : IsAwake last (start_below t.nodes t.groups t.before.parent) t.before t.after
 
 wake_has : (cs : List HfscClass) (h : HfscHistory) (last leaf len : ℕ) (t : Taking) → IsLeafThat cs h leaf false
-    → Walks cs h (Kept leaf last len ∷ h) last leaf (Some t.class) t.nodes → IsWakeOf last t → NodeHas cs (Kept leaf last len ∷ h) t.class t.after
+    → Walks cs h (Enqueued leaf last len ∷ h) last leaf (Some t.class) t.nodes → IsWakeOf last t → NodeHas cs (Enqueued leaf last len ∷ h) t.class t.after
 wake_has cs h last leaf len t l w s = go x.active refl
   where
     c : ℕ
@@ -139,29 +139,29 @@ wake_has cs h last leaf len t l w s = go x.active refl
     under : is_under cs c leaf ≡ true
     under = w.on_path c refl
 
-    parent : (o : Option ℕ) → (class_of cs c).parent ≡ o → IsActivated last (start_below t.nodes t.groups o) x y → x.active ≡ false → NodeHas cs (Kept leaf last len ∷ h) c y
+    parent : (o : Option ℕ) → (class_of cs c).parent ≡ o → IsActivated last (start_below t.nodes t.groups o) x y → x.active ≡ false → NodeHas cs (Enqueued leaf last len ∷ h) c y
     parent None of r a = woken_root cs h leaf last len c x y l.leaf_is under has a of r
     parent (Some p) of r a =
         let low = w.classes.tree.earlier c p of in
         let group = group_of t.groups p (let count = s.taking.holds.count in let low2 = s.taking.within in omega arith) in
         let holds = s.taking.holds.each p group.group group.at in
         woken_child cs h leaf last len c p (start_among_of group.group) x y l.leaf_is under w.small has a of
-        (start_taken cs h last c p t.nodes group.group of (walks_siblings cs h (Kept leaf last len ∷ h) last leaf c p t.nodes w (λ d e. kept_off cs h leaf last len d e) of) holds.times holds.high)
+        (start_taken cs h last c p t.nodes group.group of (walks_siblings cs h (Enqueued leaf last len ∷ h) last leaf c p t.nodes w (λ d e. kept_off cs h leaf last len d e) of) holds.times holds.high)
         (subst (λ (o : Option Group). IsActivated last (start_of t.nodes o) x y) group.at r)
       where
         start_among_of : Group → ℕ
         start_among_of g = start_of t.nodes (Some g)
 
-    go : (b : Bool) → x.active ≡ b → NodeHas cs (Kept leaf last len ∷ h) c y
-    go true a = subst (λ (n : Node). NodeHas cs (Kept leaf last len ∷ h) c n) (sym (s.awake.same a)) (woken_active cs h leaf last len c x l.leaf_is under has a)
+    go : (b : Bool) → x.active ≡ b → NodeHas cs (Enqueued leaf last len ∷ h) c y
+    go true a = subst (λ (n : Node). NodeHas cs (Enqueued leaf last len ∷ h) c n) (sym (s.awake.same a)) (woken_active cs h leaf last len c x l.leaf_is under has a)
     go false a =
         parent (class_of cs c).parent refl
         (subst (λ (o : Option ℕ). IsActivated last (start_below t.nodes t.groups o) x y) has.parent (s.awake.begun a)) a
 
 pub wake_step : (cs : List HfscClass) (h : HfscHistory) (last leaf len : ℕ) (t : Taking) (next : Option ℕ) → IsLeafThat cs h leaf false
-    → Walks cs h (Kept leaf last len ∷ h) last leaf (Some t.class) t.nodes → IsWakeOf last t → next ≡ t.before.parent
-    → Walks cs h (Kept leaf last len ∷ h) last leaf next (slice_set t.nodes t.class t.opened)
-wake_step cs h last leaf len t next l w s n = taken cs h (Kept leaf last len ∷ h) last leaf t next s.taking w (wake_has cs h last leaf len t l w s) n
+    → Walks cs h (Enqueued leaf last len ∷ h) last leaf (Some t.class) t.nodes → IsWakeOf last t → next ≡ t.before.parent
+    → Walks cs h (Enqueued leaf last len ∷ h) last leaf next (slice_set t.nodes t.class t.opened)
+wake_step cs h last leaf len t next l w s n = taken cs h (Enqueued leaf last len ∷ h) last leaf t next s.taking w (wake_has cs h last leaf len t l w s) n
 
 -- a packet is sent
 pub record IsServiceOf (last amount : ℕ) (waits : Bool) (t : Taking) : Type 0 where
@@ -222,25 +222,25 @@ pub set_active : (nodes new : List Node) (class : ℕ) (z : Node) (b : Bool) →
 set_active nodes new class z b low set e = ap (λ (xs : List Node). active_in (slice_get xs class)) set ∙ ap active_in (get_here nodes class z low) ∙ e
 
 pub on_first : (leaf : ℕ) (b : Bool) (next : Option ℕ) (old new : List Node) → leaf < length old → AreParentsFirst old → IsStep leaf old new → active_in (slice_get new leaf) ≡ b
-    → next ≡ parent_in (slice_get old leaf) → IsOnWay leaf b next old new
+    → ((p : ℕ) → next ≡ Some p → parent_in (slice_get old leaf) ≡ Some p) → IsOnWay leaf b next old new
 on_first leaf b next old new low first s a n = record {
   count = s.count;
   parents = s.parents;
   others = λ c l m. s.others c m;
   here = a;
-  low = λ c e. let up = first leaf c (sym n ∙ e) in let same = s.count in omega arith;
-  inner = λ c e l. l leaf (sym n ∙ e);
+  low = λ c e. let up = first leaf c (n c e) in let same = s.count in omega arith;
+  inner = λ c e l. l leaf (n c e);
 }
 
 pub on_next : (leaf class : ℕ) (b : Bool) (next : Option ℕ) (old mid new : List Node) → IsOnWay leaf b (Some class) old mid → ((d : ℕ) → parent_in (slice_get old d) ≡ Some leaf → ⊥)
-    → AreParentsFirst mid → IsStep class mid new → next ≡ parent_in (slice_get mid class) → IsOnWay leaf b next old new
+    → AreParentsFirst mid → IsStep class mid new → ((p : ℕ) → next ≡ Some p → parent_in (slice_get mid class) ≡ Some p) → IsOnWay leaf b next old new
 on_next leaf class b next old mid new w l first s n = record {
   count = s.count ∙ w.count;
   parents = λ c. s.parents c ∙ w.parents c;
   others = λ c k m. s.others c (λ e. w.inner class refl (λ d f. k d (f ∙ ap (λ i. Some i) (sym e)))) ∙ w.others c k m;
   here = s.others leaf (λ e. w.inner class refl (λ d f. l d (f ∙ ap (λ i. Some i) (sym e)))) ∙ w.here;
-  low = λ c e. let up = first class c (sym n ∙ e) in let mid_low = w.low class refl in let same = s.count in omega arith;
-  inner = λ c e k. k class (sym (w.parents class) ∙ sym n ∙ e);
+  low = λ c e. let up = first class c (n c e) in let mid_low = w.low class refl in let same = s.count in omega arith;
+  inner = λ c e k. k class (sym (w.parents class) ∙ n c e);
 }
 
 -- a leaf has no active child
@@ -317,13 +317,13 @@ later_last cs h was last c x k s = record {
   opens = λ a. let o = s.opens a in record { some = o.some; from = λ now later. o.from now (omega arith) };
 }
 
-pub wake_begins : (s : Shares) (cs : List HfscClass) (h : HfscHistory) (leaf at len : ℕ) → StandsFor s cs h → last_wake s ≤ at → AreSmall cs (Kept leaf at len ∷ h)
-    → Walks cs h (Kept leaf at len ∷ h) at leaf (Some leaf) s.nodes.items
+pub wake_begins : (s : Shares) (cs : List HfscClass) (h : HfscHistory) (leaf at len : ℕ) → StandsFor s cs h → last_wake s ≤ at → AreSmall cs (Enqueued leaf at len ∷ h)
+    → Walks cs h (Enqueued leaf at len ∷ h) at leaf (Some leaf) s.nodes.items
 wake_begins s cs h leaf at len stands later small =
-    at_begin cs h (Kept leaf at len ∷ h) at leaf s.nodes.items stands.classes stands.count small arrivals
+    at_begin cs h (Enqueued leaf at len ∷ h) at leaf s.nodes.items stands.classes stands.count small arrivals
     (λ c x e. later_last cs h s.woken at c x later (stands.each c x e)) (λ c e. kept_off cs h leaf at len c e)
   where
-    arrivals : (c : ℕ) → IsOpenBy (arrivals_of cs (Kept leaf at len ∷ h) c) at
+    arrivals : (c : ℕ) → IsOpenBy (arrivals_of cs (Enqueued leaf at len ∷ h) c) at
     arrivals c = go (activates cs h leaf c)
       where
         rest : IsOpenBy (arrivals_of cs h c) at
@@ -356,11 +356,11 @@ waits_push [] w = refl
 waits_push (x ∷ xs) w = refl
 
 -- a packet kept where another waits changes nothing
-pub kept_more : (s : Shares) (cs : List HfscClass) (h : HfscHistory) (class at len : ℕ) → StandsFor s cs h → waits_in h class ≡ true → StandsFor s cs (Kept class at len ∷ h)
+pub kept_more : (s : Shares) (cs : List HfscClass) (h : HfscHistory) (class at len : ℕ) → StandsFor s cs h → waits_in h class ≡ true → StandsFor s cs (Enqueued class at len ∷ h)
 kept_more s cs h class at len stands waits = record {
   classes = stands.classes;
   count = stands.count;
-  each = λ c x e. below_stands cs h (Kept class at len ∷ h) s.woken c x (λ y u. off y) (stands.each c x e);
+  each = λ c x e. below_stands cs h (Enqueued class at len ∷ h) s.woken c x (λ y u. off y) (stands.each c x e);
   arrivals = λ c. subst (λ (os : List Opening). IsOpenBy os s.woken) (sym (off c).arrivals) (stands.arrivals c);
 }
   where
@@ -372,7 +372,7 @@ kept_more s cs h class at len stands waits = record {
         go true false e f = refl
         go true true e f = ap not (is_active cs h c class (is_waits cs h c class e f waits))
 
-    off : (c : ℕ) → Off cs h (Kept class at len ∷ h) c
+    off : (c : ℕ) → Off cs h (Enqueued class at len ∷ h) c
     off c = record {
       acts = ap (λ b. if b then opening (activation_time cs h (activations cs h) c) (total cs h c) ∷ activations cs h c else activations cs h c)
           (none (has_parent cs c) (activates cs h class c) (idle c));

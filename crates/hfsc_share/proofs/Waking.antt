@@ -9,7 +9,7 @@ use Rattle.runtime_curve.specs.declared.Running.{Running}
 use Rattle.runtime_curve.specs.Opening.{opening}
 use Rattle.runtime_curve.specs.Deadline.{later_of}
 use Rattle.hfsc_model.specs.declared.HfscClass.{HfscClass}
-use Rattle.hfsc_model.specs.Event.{HfscHistory, Kept}
+use Rattle.hfsc_model.specs.Event.{HfscHistory, Enqueued}
 use Rattle.hfsc_model.specs.Tree.{class_of, is_leaf, is_under}
 use Rattle.hfsc_model.specs.Share.{active, activates, activation, activation_time, activations, greatest, has_parent, siblings, total, virtual_time, virtual_time_of}
 use Rattle.hfsc_model.specs.Limit.{arrivals_of}
@@ -68,7 +68,7 @@ reopened_stands cs h last c below x y s r o = record {
 }
 
 -- a class that is active stays so
-kept_active : (cs : List HfscClass) (h : HfscHistory) (l at len c : ℕ) → is_leaf cs l ≡ true → is_under cs c l ≡ true → active cs (Kept l at len ∷ h) c ≡ true
+kept_active : (cs : List HfscClass) (h : HfscHistory) (l at len c : ℕ) → is_leaf cs l ≡ true → is_under cs c l ≡ true → active cs (Enqueued l at len ∷ h) c ≡ true
 kept_active cs h l at len c e u =
     active_kept cs h l at len c ∙ ap (λ b. active cs h c || b) (true_and (is_leaf cs l) (is_under cs c l) e u) ∙ always (active cs h c)
   where
@@ -92,7 +92,7 @@ none true b e = e
 none false b e = refl
 
 pub woken_active : (cs : List HfscClass) (h : HfscHistory) (l at len c : ℕ) (x : Node) → is_leaf cs l ≡ true → is_under cs c l ≡ true → NodeHas cs h c x
-    → x.active ≡ true → NodeHas cs (Kept l at len ∷ h) c x
+    → x.active ≡ true → NodeHas cs (Enqueued l at len ∷ h) c x
 woken_active cs h l at len c x e u s a = record {
   parent = s.parent;
   share = subst (λ (os : List Opening). RunningStands x.share (share_of (class_of cs c)) os) (sym acts) s.share;
@@ -106,7 +106,7 @@ woken_active cs h l at len c x e u s a = record {
     was : active cs h c ≡ true
     was = s.active ∙ a
 
-    acts : activations cs (Kept l at len ∷ h) c ≡ activations cs h c
+    acts : activations cs (Enqueued l at len ∷ h) c ≡ activations cs h c
     acts = ap (λ b. if b then opening (activation_time cs h (activations cs h) c) (total cs h c) ∷ activations cs h c else activations cs h c)
         (none (has_parent cs c) (activates cs h l c) (no_more cs h l c was))
 
@@ -116,7 +116,7 @@ any_none None os others s = tt
 any_none (Some r) os others s = absurd s
 
 woken_limit : (cs : List HfscClass) (h : HfscHistory) (l at len c start : ℕ) (x y : Node) → is_leaf cs l ≡ true → is_under cs c l ≡ true
-    → NodeHas cs h c x → x.active ≡ false → IsActivated at start x y → RunningStands y.limit (class_of cs c).limit (arrivals_of cs (Kept l at len ∷ h) c)
+    → NodeHas cs h c x → x.active ≡ false → IsActivated at start x y → RunningStands y.limit (class_of cs c).limit (arrivals_of cs (Enqueued l at len ∷ h) c)
 woken_limit cs h l at len c start x y e u s a r =
     subst (λ (os : List Opening). RunningStands y.limit (class_of cs c).limit os)
     (sym (ap (λ b. if b then opening at (total cs h c) ∷ arrivals_of cs h c else arrivals_of cs h c) (begins cs h l c e u (s.active ∙ a))))
@@ -131,9 +131,9 @@ pub unshared : (k : HfscClass) → k.parent ≡ None → share_of k ≡ None
 unshared k e = ap (λ (o : Option ℕ). elim o [ None ↦ None | Some q ↦ k.share ]) e
 
 pub woken_child : (cs : List HfscClass) (h : HfscHistory) (l at len c p start : ℕ) (x y : Node) → is_leaf cs l ≡ true → is_under cs c l ≡ true
-    → AreSmall cs (Kept l at len ∷ h) → NodeHas cs h c x → x.active ≡ false → (class_of cs c).parent ≡ Some p
+    → AreSmall cs (Enqueued l at len ∷ h) → NodeHas cs h c x → x.active ≡ false → (class_of cs c).parent ≡ Some p
     → max (virtual_time cs h c) start ≡ activation_time cs h (activations cs h) c
-    → IsActivated at start x y → NodeHas cs (Kept l at len ∷ h) c y
+    → IsActivated at start x y → NodeHas cs (Enqueued l at len ∷ h) c y
 woken_child cs h l at len c p start x y e u small s a of v r = record {
   parent = r.parent ∙ s.parent;
   share = subst (λ (os : List Opening). RunningStands y.share (share_of (class_of cs c)) os) (sym acts)
@@ -152,11 +152,11 @@ woken_child cs h l at len c p start x y e u small s a of v r = record {
     parent : has_parent cs c ≡ true
     parent = ap (λ (o : Option ℕ). elim o [ None ↦ false | Some q ↦ true ]) of
 
-    acts : activations cs (Kept l at len ∷ h) c ≡ opening (activation_time cs h (activations cs h) c) (total cs h c) ∷ activations cs h c
+    acts : activations cs (Enqueued l at len ∷ h) c ≡ opening (activation_time cs h (activations cs h) c) (total cs h c) ∷ activations cs h c
     acts = ap (λ b. if b then opening (activation_time cs h (activations cs h) c) (total cs h c) ∷ activations cs h c else activations cs h c)
         (true_and (has_parent cs c) (activates cs h l c) parent begun)
 
-    is : virtual_time cs (Kept l at len ∷ h) c ≡ activation_time cs h (activations cs h) c
+    is : virtual_time cs (Enqueued l at len ∷ h) c ≡ activation_time cs h (activations cs h) c
     is = activated_time cs h l at len c parent begun
 
     time : activation_time cs h (activations cs h) c ≡ y.time
@@ -169,11 +169,11 @@ woken_child cs h l at len c p start x y e u small s a of v r = record {
         omega arith
 
 pub woken_root : (cs : List HfscClass) (h : HfscHistory) (l at len c : ℕ) (x y : Node) → is_leaf cs l ≡ true → is_under cs c l ≡ true
-    → NodeHas cs h c x → x.active ≡ false → (class_of cs c).parent ≡ None → IsActivated at 0 x y → NodeHas cs (Kept l at len ∷ h) c y
+    → NodeHas cs h c x → x.active ≡ false → (class_of cs c).parent ≡ None → IsActivated at 0 x y → NodeHas cs (Enqueued l at len ∷ h) c y
 woken_root cs h l at len c x y e u s a of r = record {
   parent = r.parent ∙ s.parent;
-  share = subst (λ (k : Option Curve). RunningStands y.share k (activations cs (Kept l at len ∷ h) c)) (sym none_is)
-      (any_none y.share (opening y.time x.total ∷ activations cs h c) (activations cs (Kept l at len ∷ h) c)
+  share = subst (λ (k : Option Curve). RunningStands y.share k (activations cs (Enqueued l at len ∷ h) c)) (sym none_is)
+      (any_none y.share (opening y.time x.total ∷ activations cs h c) (activations cs (Enqueued l at len ∷ h) c)
       (r.share None (activations cs h c) (subst (λ (k : Option Curve). RunningStands x.share k (activations cs h c)) none_is s.share)));
   limit = woken_limit cs h l at len c 0 x y e u s a r;
   total = s.total ∙ sym r.total;
@@ -184,7 +184,7 @@ woken_root cs h l at len c x y e u s a of r = record {
     none_is : share_of (class_of cs c) ≡ None
     none_is = unshared (class_of cs c) of
 
-    acts : activations cs (Kept l at len ∷ h) c ≡ activations cs h c
+    acts : activations cs (Enqueued l at len ∷ h) c ≡ activations cs h c
     acts = ap (λ (o : Option ℕ). if (elim o [ None ↦ false | Some q ↦ true ]) && activates cs h l c
         then opening (activation_time cs h (activations cs h) c) (total cs h c) ∷ activations cs h c else activations cs h c) of
 

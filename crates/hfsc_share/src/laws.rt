@@ -1,7 +1,7 @@
 //! Laws of link sharing.
 ghost use Rattle.std.specs.Prelude.{◌≡◌, ◌∷◌, ℕ, List, Some, true};
 ghost use Rattle.hfsc_model.specs.declared.HfscClass.{HfscClass};
-ghost use Rattle.hfsc_model.specs.Event.{HfscHistory, Kept};
+ghost use Rattle.hfsc_model.specs.Event.{HfscHistory, Enqueued};
 ghost use Rattle.hfsc_model.specs.Tree.{IsTree};
 ghost use Rattle.hfsc_model.specs.Limit.{may_share, share_pick};
 ghost use Rattle.hfsc_share.specs.Classes.{waits_in};
@@ -12,7 +12,7 @@ ghost use Rattle.hfsc_share.specs.Shares.{StandsFor};
 /// history as well.
 pub fn waiting_leaves_wake_once()
     ensures { (s : Shares) (cs : List HfscClass) (h : HfscHistory) (class at len : ℕ) → StandsFor s cs h
-        → waits_in h class ≡ true → StandsFor s cs (Kept class at len ∷ h) }
+        → waits_in h class ≡ true → StandsFor s cs (Enqueued class at len ∷ h) }
 {}
 
 /// What is picked by share is a leaf in which a packet waits, and its path is open.

@@ -8,11 +8,11 @@
 //! Algorithm for Link-Sharing, Real-Time and Priority Services", SIGCOMM 1997; upper limits are those of altq.conf(5).
 #![tactic(auto)]
 
-ghost use Rattle.std.specs.Prelude.{◌≡◌, ◌==◌, ◌<◌, ◌≤◌, ◌^◌, ◌&&◌, ◌||◌, ◌∷◌, [], ℕ, not, List, Option, None, Some, All, Bool, true, false, length, slice_get, IfOk};
+ghost use Rattle.std.specs.Prelude.{◌≡◌, ◌==◌, ◌<◌, ◌≤◌, ◌^◌, ◌&&◌, ◌||◌, ◌∷◌, [], ℕ, not, List, Option, None, Some, All, Bool, true, false, length, slice_get, IfOk, if◌then◌else◌};
 ghost use Rattle.play_base.specs.Units.{units};
 ghost use Rattle.ranking.specs.Order.{IsOrderOf, is_in};
 ghost use Rattle.hfsc_model.specs.declared.HfscClass.{HfscClass};
-ghost use Rattle.hfsc_model.specs.Event.{HfscHistory, Kept, Sent};
+ghost use Rattle.hfsc_model.specs.Event.{HfscHistory, Enqueued, Sent};
 ghost use Rattle.hfsc_model.specs.Tree.{is_child, is_leaf};
 ghost use Rattle.hfsc_model.specs.Share.{active, virtual_time};
 ghost use Rattle.hfsc_model.specs.Limit.{share_pick};
@@ -77,7 +77,7 @@ impl Shares {
         requires idle { is_active_at self.old leaf ≡ false }
         requires later { last_wake self.old ≤ at }
         ensures stands { (cs : List HfscClass) (h : HfscHistory) (len : ℕ) → StandsFor self.old cs h
-            → AreSmall cs (Kept leaf at len ∷ h) → StandsFor self.new cs (Kept leaf at len ∷ h) }
+            → AreSmall cs (Enqueued leaf at len ∷ h) → StandsFor self.new cs (Enqueued leaf at len ∷ h) }
         ensures woken { last_wake self.new ≡ at }
         ensures active { is_active_at self.new leaf ≡ true }
         ensures others { IsSameBut leaf self.old self.new }
@@ -140,16 +140,17 @@ impl Shares {
         self.groups[parent as usize].ranked()
     }
 
-    /// A packet was kept below a class: the class becomes active if it was not, and opens anew. Answers its parent.
+    /// A packet was kept below a class: the class becomes active if it was not, and opens anew. Answers its parent, or nothing
+    /// where the class was active and opens as before: then all above it is as it was.
     fn wake_class(&mut self, class: u32) -> Option<u32>
         requires { class < classes_of self.old }
         ensures walks { (cs : List HfscClass) (h : HfscHistory) (leaf len : ℕ) → IsLeafThat cs h leaf false
-            → Walks cs h (Kept leaf (last_wake self.old) len ∷ h) (last_wake self.old) leaf (Some class) self.old.nodes.items
-            → Walks cs h (Kept leaf (last_wake self.old) len ∷ h) (last_wake self.old) leaf result self.new.nodes.items }
+            → Walks cs h (Enqueued leaf (last_wake self.old) len ∷ h) (last_wake self.old) leaf (Some class) self.old.nodes.items
+            → Walks cs h (Enqueued leaf (last_wake self.old) len ∷ h) (last_wake self.old) leaf result self.new.nodes.items }
         ensures step { IsStep class self.old.nodes.items self.new.nodes.items }
         ensures active { is_active_at self.new class ≡ true }
         ensures woken { last_wake self.new ≡ last_wake self.old }
-        ensures parent { result ≡ parent_at self.old class }
+        ensures parent { (p : ℕ) → result ≡ Some p → parent_at self.old class ≡ Some p }
     {
         let start = self.start_of(class);
         let below = self.first_moment_below(class);
@@ -160,7 +161,7 @@ impl Shares {
         node.reopen(below, self.woken);
         let same = was && node.opens() == opens;
         rank_unless(same, &mut self.groups, class, was, node);
-        node.parent()
+        parent_unless(same, node)
     }
 
     /// The virtual time to take where a class becomes active; 0 where it is active.
@@ -306,6 +307,13 @@ fn rank_unless(same: bool, groups: &mut Vec<Group>, class: u32, was: bool, node:
     if !same {
         rank(groups, class, was, node);
     }
+}
+
+/// The parent of a class, unless it is the `same` to it as before.
+fn parent_unless(same: bool, node: &Node) -> Option<u32>
+    ensures { result ≡ (if same then None else node.now.parent) }
+{
+    if same { None } else { node.parent() }
 }
 
 /// What is held of classes without a packet.

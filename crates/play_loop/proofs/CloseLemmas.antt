@@ -2,7 +2,7 @@
 use Rattle.std.proofs.Common.{◌≡◌, ◌≤◌, ◌++◌, ◌∙◌, ℕ, List, [], length, None, Some, ap, sym, subst}
 use Rattle.std.specs.Prelude.{IsTrue}
 use Rattle.altq_model.specs.declared.Counts.{Counts}
-use Rattle.altq_model.specs.Arrivals.{Arrival, comings}
+use Rattle.altq_model.specs.Arrivals.{Captured, bare_arrivals}
 use Rattle.altq_model.specs.Departures.{KeepsLength}
 use Rattle.altq_model.specs.History.{DrawnWords, Happened, journal}
 use Rattle.altq_model.specs.Lawful.{AreHeld}
@@ -129,7 +129,7 @@ closed_front x told m r w u v o e h = λ t rest l records last reads is_last.
     (whole_fronts v o.departures o.fates _ _ h.departures h.fates)
 
 -- what holds of the arrivals and the events of a whole play
-record IsWritten (x : Setup) (m : Moment) (v : View) (o : Opened) (t : Tally) (arrived : List Arrival) (g : List Happened) : Type 0 where
+record IsWritten (x : Setup) (m : Moment) (v : View) (o : Opened) (t : Tally) (arrived : List Captured) (g : List Happened) : Type 0 where
   pub play : IsFinished x.policy x.rate x.seed arrived g t.totals
   pub departures : HoldsAt v o.departures (departures_of x arrived g)
   pub fates : HoldsAt v o.fates (fates_of x arrived g)
@@ -137,17 +137,17 @@ record IsWritten (x : Setup) (m : Moment) (v : View) (o : Opened) (t : Tally) (a
   pub was_told : m.told (kept_fates arrived (journal g))
   pub fit : AreFit x.place arrived
   pub few : length arrived ≤ most_records
-  pub laws : HasLaws x.policy x.rate x.seed (comings arrived) g
+  pub laws : HasLaws x.policy x.rate x.seed (bare_arrivals arrived) g
 
 -- every event was made
-whole_play : (x : Setup) (m : Moment) (w : DrawnWords) (arrived : List Arrival) (g : List Happened) → IsUnderway x m arrived w g
-    → due x.policy x.rate x.seed (comings arrived) g ≡ None → IsFinished x.policy x.rate x.seed arrived g m.progress.totals
+whole_play : (x : Setup) (m : Moment) (w : DrawnWords) (arrived : List Captured) (g : List Happened) → IsUnderway x m arrived w g
+    → due x.policy x.rate x.seed (bare_arrivals arrived) g ≡ None → IsFinished x.policy x.rate x.seed arrived g m.progress.totals
 whole_play x m w arrived g u d =
     let held = fit_held x.policy x.place arrived u.setup.sound.held u.written.fit in
     to_setup (λ p rate seed. IsFinished p rate seed arrived g m.progress.totals) x m w.seed u.setup
     (finished (record { promised = promised x m w.seed u.setup; going = u.going })
-    (from_setup (λ p rate seed. AreHeld p (comings arrived)) x m w.seed u.setup held)
-    (from_setup (λ p rate seed. due p rate seed (comings arrived) g ≡ None) x m w.seed u.setup d))
+    (from_setup (λ p rate seed. AreHeld p (bare_arrivals arrived)) x m w.seed u.setup held)
+    (from_setup (λ p rate seed. due p rate seed (bare_arrivals arrived) g ≡ None) x m w.seed u.setup d))
 
 answers_whole : (x : Setup) (told : List ℕ → Type 0) (m : Moment) (r : Reader) (w : DrawnWords) (u v : View) (o : Opened) (t : Tally) → HasClosed x told m r w u v o ending.Whole
     → KeepsLength x.dress → t.totals ≡ m.progress.totals → t.counts.items ≡ m.outputs.counts.items → IsWhole x m.shown.stood m.told u v o t
@@ -162,7 +162,7 @@ answers_whole x told m r w u v o t h k totals counts =
     record {
       done = λ tells rest l.
           let all = y.ends.all (o.first.now ++ rest) (h.tells tells rest l) in
-          let W : List Arrival → Type 0 = λ a. IsWritten x m v o t a y.events in
+          let W : List Captured → Type 0 = λ a. IsWritten x m v o t a y.events in
           let written = subst W all.arrivals (record { play = ends; departures = h.departures; fates = h.fates; counted = counted; was_told = y.under.written.was_told; fit = y.under.written.fit; few = going.few; laws = going_laws x m y.arrived w y.events y.under.setup going }) in (
             all.records,
             all.reads,

@@ -3,29 +3,29 @@ use Rattle.std.proofs.Common.{◌≡◌, ◌≤◌, ◌∙◌, ◌+◌, ℕ, Lis
 use Rattle.std.specs.Prelude.{slice_get, option_map}
 use Rattle.std.specs.declared.option.Option.{Option}
 use Rattle.altq_model.specs.declared.Placed.{Placed}
-use Rattle.altq_model.specs.Arrivals.{Arrival, coming_of, comings}
-use Rattle.altq_model.specs.History.{Coming, DrawnWords, Happened, bare, offered}
+use Rattle.altq_model.specs.Arrivals.{Captured, bare_arrival, bare_arrivals}
+use Rattle.altq_model.specs.History.{Arrival, DrawnWords, Happened, bare, offered}
 use Rattle.altq_model.specs.Lawful.{IsOneOf, latest}
 use Rattle.altq_model.specs.Play.{Policy, AreDue}
-use Rattle.play_laws.proofs.ArrivalLemmas.{comings_length}
+use Rattle.play_laws.proofs.ArrivalLemmas.{bare_arrivals_length}
 use Rattle.play_laws.proofs.TimeLemmas.{next_later}
 use Rattle.play_core.specs.Finished.{EndsWithOffer}
 use Rattle.play_core.specs.Going.{numbered}
 use Rattle.play_core.specs.Turns.{IsNext, Offers, arrives}
-use Rattle.play_core.proofs.OfferLemmas.{is_coming}
+use Rattle.play_core.proofs.OfferLemmas.{is_bare_arrival}
 use Rattle.play_loop.specs.declared.arriving.Arriving.{Arriving}
 use Rattle.play_loop.specs.Reading.{arrival_of}
 use Rattle.play_loop.specs.Setup.{Setup}
 use Rattle.play_loop.specs.Underway.{AreMade, IsHeld, IsUnderway, Moment, StayDue}
 use Rattle.play_loop.proofs.TurnLemmas.{begun_of, from_setup, offered_stays, open_stays}
 
-pub held_arrives : (place : List ℕ → Placed) (arrived : List Arrival) (g : List Happened) (p : Arriving) → IsHeld place arrived g p
+pub held_arrives : (place : List ℕ → Placed) (arrived : List Captured) (g : List Happened) (p : Arriving) → IsHeld place arrived g p
     → Some p.packet.at ≡ arrives arrived g
 held_arrives place arrived g p h =
-    sym (ap (λ (o : Option Coming). option_map (λ (a : Coming). a.at) o) (is_coming arrived g (arrival_of place p) h.there).seen)
+    sym (ap (λ (o : Option Arrival). option_map (λ (a : Arrival). a.at) o) (is_bare_arrival arrived g (arrival_of place p) h.there).seen)
 
 -- it stays the next while others are sent
-pub held_same : (place : List ℕ → Placed) (arrived : List Arrival) (g k : List Happened) (p : Arriving) → offered (bare k) ≡ offered (bare g) → IsHeld place arrived g p
+pub held_same : (place : List ℕ → Placed) (arrived : List Captured) (g k : List Happened) (p : Arriving) → offered (bare k) ≡ offered (bare g) → IsHeld place arrived g p
     → IsHeld place arrived k p
 held_same place arrived g k p e h = record {
   there = ap (λ (n : ℕ). slice_get arrived n) e ∙ h.there;
@@ -34,7 +34,7 @@ held_same place arrived g k p e h = record {
 }
 
 -- it may be offered: it is placed in a class of the policy
-pub held_class : (x : Setup) (m : Moment) (arrived : List Arrival) (w : DrawnWords) (g k : List Happened) (p : Arriving) → IsUnderway x m arrived w g → IsHeld x.place arrived k p
+pub held_class : (x : Setup) (m : Moment) (arrived : List Captured) (w : DrawnWords) (g k : List Happened) (p : Arriving) → IsUnderway x m arrived w g → IsHeld x.place arrived k p
     → IsOneOf p.placed.class m.shown.policy.classes
 held_class x m arrived w g k p u h =
     let P : Policy → Type 0 = λ q. IsOneOf p.placed.class q.classes in
@@ -42,7 +42,7 @@ held_class x m arrived w g k p u h =
     subst P (sym u.setup.policy) (subst Q (sym h.placed_is) (u.setup.sound.held p.packet.bytes))
 
 -- its offer is due once every sending before it was made
-pub offers_it : (x : Setup) (m : Moment) (arrived : List Arrival) (w : DrawnWords) (g : List Happened) (p : Arriving) (arrival : Option ℕ) → IsUnderway x m arrived w g
+pub offers_it : (x : Setup) (m : Moment) (arrived : List Captured) (w : DrawnWords) (g : List Happened) (p : Arriving) (arrival : Option ℕ) → IsUnderway x m arrived w g
     → IsHeld x.place arrived g p → AreMade x arrived g arrival
     → Offers m.shown.policy m.progress.clock.rate w.seed arrived g (arrival_of x.place p) p.packet p.placed
 offers_it x m arrived w g p arrival u h made = record {
@@ -52,19 +52,19 @@ offers_it x m arrived w g p arrival u h made = record {
 }
 
 -- nothing that was offered arrived later
-pub not_earlier : (x : Setup) (m : Moment) (arrived : List Arrival) (w : DrawnWords) (g : List Happened) (p : Arriving) → IsUnderway x m arrived w g → IsHeld x.place arrived g p
+pub not_earlier : (x : Setup) (m : Moment) (arrived : List Captured) (w : DrawnWords) (g : List Happened) (p : Arriving) → IsUnderway x m arrived w g → IsHeld x.place arrived g p
     → latest (bare g) ≤ p.packet.at
 not_earlier x m arrived w g p u h =
-    next_later x.policy x.rate x.seed (comings arrived) g u.setup.sound.positive u.setup.sound.lawful u.going.rising (begun_of x m arrived w g u.setup u.going).events
-    (coming_of (arrival_of x.place p)) (is_coming arrived g (arrival_of x.place p) h.there).seen
+    next_later x.policy x.rate x.seed (bare_arrivals arrived) g u.setup.sound.positive u.setup.sound.lawful u.going.rising (begun_of x m arrived w g u.setup u.going).events
+    (bare_arrival (arrival_of x.place p)) (is_bare_arrival arrived g (arrival_of x.place p) h.there).seen
 
 -- what was decided before and with its offer stays so, whatever arrives later
-pub before_stays : (x : Setup) (arrived : List Arrival) (g k : List Happened) (p : Arriving) → IsHeld x.place arrived g p → offered (bare k) ≡ offered (bare g)
-    → AreDue x.policy x.rate x.seed (comings arrived) k → StayDue x arrived k
+pub before_stays : (x : Setup) (arrived : List Captured) (g k : List Happened) (p : Arriving) → IsHeld x.place arrived g p → offered (bare k) ≡ offered (bare g)
+    → AreDue x.policy x.rate x.seed (bare_arrivals arrived) k → StayDue x arrived k
 before_stays x arrived g k p h e d =
-    open_stays x arrived k (offered (bare g)) (omega (arith, (is_coming arrived g (arrival_of x.place p) h.there).inside, comings_length arrived)) (omega (arith, e)) d
+    open_stays x arrived k (offered (bare g)) (omega (arith, (is_bare_arrival arrived g (arrival_of x.place p) h.there).inside, bare_arrivals_length arrived)) (omega (arith, e)) d
 
-pub with_stays : (x : Setup) (arrived : List Arrival) (g : List Happened) (e : Happened) (p : Arriving) → IsHeld x.place arrived g p → offered (bare (e ∷ g)) ≡ offered (bare g) + 1
-    → EndsWithOffer (e ∷ g) → AreDue x.policy x.rate x.seed (comings arrived) (e ∷ g) → StayDue x arrived (e ∷ g)
+pub with_stays : (x : Setup) (arrived : List Captured) (g : List Happened) (e : Happened) (p : Arriving) → IsHeld x.place arrived g p → offered (bare (e ∷ g)) ≡ offered (bare g) + 1
+    → EndsWithOffer (e ∷ g) → AreDue x.policy x.rate x.seed (bare_arrivals arrived) (e ∷ g) → StayDue x arrived (e ∷ g)
 with_stays x arrived g e p h more o d =
-    offered_stays x arrived (e ∷ g) (omega (arith, more, (is_coming arrived g (arrival_of x.place p) h.there).inside, comings_length arrived)) o d
+    offered_stays x arrived (e ∷ g) (omega (arith, more, (is_bare_arrival arrived g (arrival_of x.place p) h.there).inside, bare_arrivals_length arrived)) o d

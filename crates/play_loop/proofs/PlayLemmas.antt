@@ -2,9 +2,9 @@
 use Rattle.std.proofs.Common.{◌≡◌, ◌≤◌, ◌<◌, ◌++◌, ◌∙◌, ◌⊎◌, inl, inr, ℕ, max, List, [], ◌∷◌, length, refl, ap, sym, subst, arith, append_assoc, append-nil}
 use Rattle.std.specs.Prelude.{IsSome, IsTrue}
 use Rattle.altq_model.specs.declared.Placed.{Placed}
-use Rattle.altq_model.specs.Arrivals.{Arrival, comings}
+use Rattle.altq_model.specs.Arrivals.{Captured, bare_arrivals}
 use Rattle.altq_model.specs.Departures.{Dressing, departures}
-use Rattle.altq_model.specs.History.{Coming, Happened, bare, offered, journal}
+use Rattle.altq_model.specs.History.{Arrival, Happened, bare, offered, journal}
 use Rattle.altq_model.specs.Lawful.{AreRising, RiseFrom, greatest}
 use Rattle.altq_model.specs.Play.{AreDue}
 use Rattle.play_text.specs.Texts.{Naming, fates, fates_header}
@@ -20,7 +20,7 @@ use Rattle.play_base.specs.View.{View, ReadFault}
 use Rattle.play_base.specs.Holds.{Apart, HoldsAt}
 use Rattle.play_base.proofs.ViewLaws.{part_of_there, rose_before}
 use Rattle.play_laws.proofs.AllLaws.{due_laws}
-use Rattle.play_laws.proofs.ArrivalLemmas.{arrivals_length, arrivals_rise, comings_append, comings_length}
+use Rattle.play_laws.proofs.ArrivalLemmas.{arrivals_length, arrivals_rise, bare_arrivals_append, bare_arrivals_length}
 use Rattle.play_laws.proofs.BusyLemmas.{is_busy}
 use Rattle.play_laws.proofs.DepartureLemmas.{records_stay}
 use Rattle.play_text.proofs.TextLemmas.{rows_stay}
@@ -55,16 +55,16 @@ stopped_heads x v o records h = record {
   };
 }
 
-rise_front : (t : ℕ) (xs ys : List Coming) → RiseFrom t (xs ++ ys) → RiseFrom t xs
+rise_front : (t : ℕ) (xs ys : List Arrival) → RiseFrom t (xs ++ ys) → RiseFrom t xs
 rise_front t [] ys r = tt
 rise_front t (x ∷ xs) ys r = (r.0, rise_front x.at xs ys r.1)
 
 -- the first arrivals of a capture rise
-first_rise : (x : Setup) (records : List Record) (arrived more : List Arrival) → arrivals_in x records ≡ arrived ++ more → AreRising (comings arrived)
+first_rise : (x : Setup) (records : List Record) (arrived more : List Captured) → arrivals_in x records ≡ arrived ++ more → AreRising (bare_arrivals arrived)
 first_rise x records arrived more e =
-    let P : List Coming → Type 0 = λ cs. AreRising cs in
-    rise_front 0 (comings arrived) (comings more)
-    (subst P (ap (λ (l : List Arrival). comings l) e ∙ comings_append arrived more) (arrivals_rise x.place records))
+    let P : List Arrival → Type 0 = λ cs. AreRising cs in
+    rise_front 0 (bare_arrivals arrived) (bare_arrivals more)
+    (subst P (ap (λ (l : List Captured). bare_arrivals l) e ∙ bare_arrivals_append arrived more) (arrivals_rise x.place records))
 
 -- before anything is written
 pub stopped_empty : (x : Setup) (v : View) (o : Opened) (records : List Record) → AreReady v o → HasStopped x v o records
@@ -78,26 +78,26 @@ stopped_empty x v o records h = record {
 }
 
 -- the texts of the first arrivals are those of all
-pub record SameTexts (x : Setup) (records : List Record) (arrived : List Arrival) (g : List Happened) : Type 0 where
+pub record SameTexts (x : Setup) (records : List Record) (arrived : List Captured) (g : List Happened) : Type 0 where
   pub departures_are : departures x.dress arrived g ≡ departures_of x (arrivals_in x records) g
   pub fates_are : fates (name_of x.names) arrived (journal g) ≡ fates_of x (arrivals_in x records) g
 
-same_texts : (x : Setup) (records : List Record) (arrived more : List Arrival) (g : List Happened) → IsSound x → arrivals_in x records ≡ arrived ++ more
-    → AreDue x.policy x.rate x.seed (comings arrived) g → SameTexts x records arrived g
+same_texts : (x : Setup) (records : List Record) (arrived more : List Captured) (g : List Happened) → IsSound x → arrivals_in x records ≡ arrived ++ more
+    → AreDue x.policy x.rate x.seed (bare_arrivals arrived) g → SameTexts x records arrived g
 same_texts x records arrived more g m e d =
-    let laws = due_laws x.policy x.rate x.seed (comings arrived) g m.positive m.lawful (first_rise x records arrived more e) d in
+    let laws = due_laws x.policy x.rate x.seed (bare_arrivals arrived) g m.positive m.lawful (first_rise x records arrived more e) d in
     record {
-      departures_are = ap written (sym (records_stay x.dress arrived more g laws.of_arrivals)) ∙ ap (λ (l : List Arrival). departures x.dress l g) (sym e);
-      fates_are = ap (λ (t : List ℕ). fates_header ++ t) (sym (rows_stay (name_of x.names) arrived more g laws.of_arrivals)) ∙ ap (λ (l : List Arrival). fates (name_of x.names) l (journal g)) (sym e);
+      departures_are = ap written (sym (records_stay x.dress arrived more g laws.of_arrivals)) ∙ ap (λ (l : List Captured). departures x.dress l g) (sym e);
+      fates_are = ap (λ (t : List ℕ). fates_header ++ t) (sym (rows_stay (name_of x.names) arrived more g laws.of_arrivals)) ∙ ap (λ (l : List Captured). fates (name_of x.names) l (journal g)) (sym e);
     }
 
 -- events of the first arrivals that are due of all
-pub stopped : (x : Setup) (v : View) (o : Opened) (records : List Record) (arrived more : List Arrival) (g : List Happened) → IsSound x → arrivals_in x records ≡ arrived ++ more
-    → AreDue x.policy x.rate x.seed (comings (arrived ++ more)) g → IsBegun x.policy x.rate x.seed (comings arrived) g
+pub stopped : (x : Setup) (v : View) (o : Opened) (records : List Record) (arrived more : List Captured) (g : List Happened) → IsSound x → arrivals_in x records ≡ arrived ++ more
+    → AreDue x.policy x.rate x.seed (bare_arrivals (arrived ++ more)) g → IsBegun x.policy x.rate x.seed (bare_arrivals arrived) g
     → FrontsAre v o.departures o.fates (departures x.dress arrived g) (fates (name_of x.names) arrived (journal g)) → HasStopped x v o records
 stopped x v o records arrived more g m e d b h =
     let same = same_texts x records arrived more g m e b.events in
-    let P : List Arrival → Type 0 = λ l. AreDue x.policy x.rate x.seed (comings l) g in
+    let P : List Captured → Type 0 = λ l. AreDue x.policy x.rate x.seed (bare_arrivals l) g in
     record {
       history = g;
       begun = record { events = subst P (sym e) d; in_time = b.in_time };
@@ -108,8 +108,8 @@ stopped x v o records arrived more g m e d b h =
     }
 
 -- whole texts of the first arrivals are those of all
-pub hold_all : (x : Setup) (v : View) (o : Opened) (records : List Record) (arrived more : List Arrival) (g : List Happened) → IsSound x → arrivals_in x records ≡ arrived ++ more
-    → AreDue x.policy x.rate x.seed (comings arrived) g → HoldsAt v o.departures (departures x.dress arrived g) → HoldsAt v o.fates (fates (name_of x.names) arrived (journal g))
+pub hold_all : (x : Setup) (v : View) (o : Opened) (records : List Record) (arrived more : List Captured) (g : List Happened) → IsSound x → arrivals_in x records ≡ arrived ++ more
+    → AreDue x.policy x.rate x.seed (bare_arrivals arrived) g → HoldsAt v o.departures (departures x.dress arrived g) → HoldsAt v o.fates (fates (name_of x.names) arrived (journal g))
     → HoldTexts v o x (arrivals_in x records) g
 hold_all x v o records arrived more g m e d y z =
     let same = same_texts x records arrived more g m e d in
@@ -118,17 +118,17 @@ hold_all x v o records arrived more g m e d y z =
     record { departures = subst P same.departures_are y; fates = subst Q same.fates_are z }
 
 -- the events up to the offer of the last complete record
-pub offered_all : (x : Setup) (stood : List Happened → Type 0) (v : View) (o : Opened) (records : List Record) (arrived : List Arrival) (g : List Happened) → arrived ≡ arrivals_in x records
-    → IsBegun x.policy x.rate x.seed (comings arrived) g → offered (bare g) ≡ length arrived → EndsWithOffer g
+pub offered_all : (x : Setup) (stood : List Happened → Type 0) (v : View) (o : Opened) (records : List Record) (arrived : List Captured) (g : List Happened) → arrived ≡ arrivals_in x records
+    → IsBegun x.policy x.rate x.seed (bare_arrivals arrived) g → offered (bare g) ≡ length arrived → EndsWithOffer g
     → HoldsAt v o.departures (departures x.dress arrived g) → HoldsAt v o.fates (fates (name_of x.names) arrived (journal g)) → IsStanding stood g → HasOffered x stood v o records
 offered_all x stood v o records arrived g e b n l y z s =
-    let B : List Arrival → Type 0 = λ a. IsBegun x.policy x.rate x.seed (comings a) g in
-    let P : List Arrival → Type 0 = λ a. HoldsAt v o.departures (departures x.dress a g) in
-    let Q : List Arrival → Type 0 = λ a. HoldsAt v o.fates (fates (name_of x.names) a (journal g)) in
+    let B : List Captured → Type 0 = λ a. IsBegun x.policy x.rate x.seed (bare_arrivals a) g in
+    let P : List Captured → Type 0 = λ a. HoldsAt v o.departures (departures x.dress a g) in
+    let Q : List Captured → Type 0 = λ a. HoldsAt v o.fates (fates (name_of x.names) a (journal g)) in
     record {
       history = g;
       begun = subst B e b;
-      all = n ∙ ap (λ (a : List Arrival). length a) e ∙ sym (comings_length (arrivals_in x records)) ∙ arrivals_length x.place records;
+      all = n ∙ ap (λ (a : List Captured). length a) e ∙ sym (bare_arrivals_length (arrivals_in x records)) ∙ arrivals_length x.place records;
       last = l;
       texts = record { departures = subst P e y; fates = subst Q e z };
       stands = s;
@@ -232,7 +232,7 @@ none_later v file bytes records moment l = λ before r after e low high.
     ))
 
 -- the bytes that were taken end soon after the last record that was read
-took_ahead : (place : List ℕ → Placed) (v w : View) (r : Reader) (file : ℕ) (bytes : List ℕ) (rest : List Record) (arrived : List Arrival) (moment : ℕ)
+took_ahead : (place : List ℕ → Placed) (v w : View) (r : Reader) (file : ℕ) (bytes : List ℕ) (rest : List Record) (arrived : List Captured) (moment : ℕ)
     → (h : IsAhead place v r bytes arrived moment) → w.left file ≡ v.left r.file → Streams w file bytes ((h.before ++ h.last ∷ []) ++ rest) moment
 took_ahead place v w r file bytes rest arrived moment h left = λ before s after q low high.
     let y = h.stands.pending h.sound in
@@ -241,17 +241,17 @@ took_ahead place v w r file bytes rest arrived moment h left = λ before s after
     record { rest = y.rest.0; left = left ∙ y.rest.1; within = omega (arith, size, ap (λ (rs : List Record). place_after 24 rs) same) }
 
 -- a play that was cut off, over all arrivals
-abbrev pub cut_all : (x : Setup) (records : List Record) (arrived more : List Arrival) (g : List Happened) (t : Totals) → IsSound x → (c : IsCutOff x.policy x.rate x.seed (comings arrived) g)
-    → arrivals_in x records ≡ arrived ++ more → AreDue x.policy x.rate x.seed (comings (arrived ++ more)) (c.next ∷ g) → AreTotals x.rate g t
+abbrev pub cut_all : (x : Setup) (records : List Record) (arrived more : List Captured) (g : List Happened) (t : Totals) → IsSound x → (c : IsCutOff x.policy x.rate x.seed (bare_arrivals arrived) g)
+    → arrivals_in x records ≡ arrived ++ more → AreDue x.policy x.rate x.seed (bare_arrivals (arrived ++ more)) (c.next ∷ g) → AreTotals x.rate g t
     → IsStopped x.policy x.rate x.seed (arrivals_in x records) g t
 cut_all x records arrived more g t m c e d total =
-    let P : List Arrival → Type 0 = λ l. AreDue x.policy x.rate x.seed (comings l) (c.next ∷ g) in
+    let P : List Captured → Type 0 = λ l. AreDue x.policy x.rate x.seed (bare_arrivals l) (c.next ∷ g) in
     let due = subst P (sym e) d in
     let rise = arrivals_rise x.place records in
     record {
       cut = record { begun = record { events = due.1; in_time = c.begun.in_time }; next = c.next; is_due = due.0; late = c.late };
-      laws = due_laws x.policy x.rate x.seed (comings (arrivals_in x records)) g m.positive m.lawful rise due.1;
-      busy = is_busy x.policy x.rate x.seed (comings (arrivals_in x records)) g m.positive m.lawful m.steady rise due.1;
+      laws = due_laws x.policy x.rate x.seed (bare_arrivals (arrivals_in x records)) g m.positive m.lawful rise due.1;
+      busy = is_busy x.policy x.rate x.seed (bare_arrivals (arrivals_in x records)) g m.positive m.lawful m.steady rise due.1;
       totals = total;
     }
 
@@ -260,7 +260,7 @@ pub record IsFound (bytes : List ℕ) (records : List Record) (last : Step) (w :
   pub before : (last ≡ End) ⊎ (start < greatest 0 records)
   pub streams : Streams w file bytes records start
 
-pub found : (place : List ℕ → Placed) (v w : View) (r : Reader) (file : ℕ) (bytes : List ℕ) (records : List Record) (last : Step) (arrived : List Arrival) (start : ℕ)
+pub found : (place : List ℕ → Placed) (v w : View) (r : Reader) (file : ℕ) (bytes : List ℕ) (records : List Record) (last : Step) (arrived : List Captured) (start : ℕ)
     → Reads bytes records last → IsLast last → w.left file ≡ v.left r.file → IsPast place bytes arrived start ⊎ IsAhead place v r bytes arrived start
     → IsFound bytes records last w file start
 found place v w r file bytes records last arrived start h l left (inl y) =

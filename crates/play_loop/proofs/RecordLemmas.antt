@@ -3,8 +3,8 @@ use Rattle.std.proofs.Common.{◌≡◌, ◌≤◌, ◌<◌, ◌++◌, ◌∙◌
 use Rattle.std.specs.Prelude.{slice_get, option_map, nat_lt, IfNone, IfSome, IsSome, IsTrue}
 use Rattle.std.specs.declared.option.Option.{Option}
 use Rattle.altq_model.specs.declared.Placed.{Placed}
-use Rattle.altq_model.specs.Arrivals.{Arrival, arrivals_from, arrivals_of, coming_of, comings}
-use Rattle.altq_model.specs.History.{Coming, Event, DrawnWords, Happened, bare, offered, journal}
+use Rattle.altq_model.specs.Arrivals.{Captured, arrivals_from, arrivals_of, bare_arrival, bare_arrivals}
+use Rattle.altq_model.specs.History.{Arrival, Event, DrawnWords, Happened, bare, offered, journal}
 use Rattle.altq_model.specs.Laws.{IsLate}
 use Rattle.altq_model.specs.Lawful.{AreRising, RiseFrom, greatest, latest}
 use Rattle.altq_model.specs.Play.{AreDue}
@@ -23,7 +23,7 @@ use Rattle.play_base.proofs.ViewLaws.{rose_later, still_there}
 use Rattle.play_base.proofs.HoldsLaws.{holds_kept, apart_kept}
 use Rattle.play_laws.specs.Events.{IsOffer, IsSending}
 use Rattle.play_laws.proofs.AllLaws.{due_laws}
-use Rattle.play_laws.proofs.ArrivalLemmas.{arrivals_append, comings_append, comings_length}
+use Rattle.play_laws.proofs.ArrivalLemmas.{arrivals_append, bare_arrivals_append, bare_arrivals_length}
 use Rattle.play_laws.proofs.DepartureLemmas.{records_stay}
 use Rattle.play_text.proofs.TextLemmas.{rows_stay}
 use Rattle.play_laws.proofs.TimeLemmas.{all_arrived}
@@ -60,37 +60,37 @@ texts_kept F v w dep fat recs rows ds ts h k = record {
 }
 
 -- the last arrival of a list, or this moment
-abbrev pub last_at : (t : ℕ) → List Coming → ℕ
+abbrev pub last_at : (t : ℕ) → List Arrival → ℕ
 last_at t [] = t
 last_at t (a ∷ rest) = last_at a.at rest
 
-rises_on : (t : ℕ) (xs : List Coming) (a : Coming) → RiseFrom t xs → last_at t xs ≤ a.at → RiseFrom t (xs ++ a ∷ [])
+rises_on : (t : ℕ) (xs : List Arrival) (a : Arrival) → RiseFrom t xs → last_at t xs ≤ a.at → RiseFrom t (xs ++ a ∷ [])
 rises_on t [] a r l = (l, tt)
 rises_on t (x ∷ xs) a r l = (r.0, rises_on x.at xs a r.1 l)
 
-last_push : (t : ℕ) (xs : List Coming) (a : Coming) → last_at t (xs ++ a ∷ []) ≡ a.at
+last_push : (t : ℕ) (xs : List Arrival) (a : Arrival) → last_at t (xs ++ a ∷ []) ≡ a.at
 last_push t [] a = refl
 last_push t (x ∷ xs) a = last_push x.at xs a
 
-fit_push : (place : List ℕ → Placed) (xs : List Arrival) (a : Arrival) → AreFit place xs → IsFit place a → AreFit place (xs ++ a ∷ [])
+fit_push : (place : List ℕ → Placed) (xs : List Captured) (a : Captured) → AreFit place xs → IsFit place a → AreFit place (xs ++ a ∷ [])
 fit_push place [] a f h = (h, tt)
 fit_push place (x ∷ xs) a f h = (f.0, fit_push place xs a f.1 h)
 
-there_push : (xs : List Arrival) (a : Arrival) → slice_get (xs ++ a ∷ []) (length xs) ≡ Some a
+there_push : (xs : List Captured) (a : Captured) → slice_get (xs ++ a ∷ []) (length xs) ≡ Some a
 there_push [] a = refl
 there_push (x ∷ xs) a = there_push xs a
 
 -- a play in which every arrival that was read was offered, the last of them last
-pub record IsReading (x : Setup) (m : Moment) (w : DrawnWords) (told : List ℕ → Type 0) (r : Reader) (top : ℕ) (arrived : List Arrival) (g : List Happened) : Type 0 where
+pub record IsReading (x : Setup) (m : Moment) (w : DrawnWords) (told : List ℕ → Type 0) (r : Reader) (top : ℕ) (arrived : List Captured) (g : List Happened) : Type 0 where
   pub under : IsUnderway x m arrived w g
   pub offers : offered (bare g) ≡ length arrived
   pub last : EndsWithOffer g
   pub newest : latest (bare g) ≡ top
-  pub last_is : last_at 0 (comings arrived) ≡ top
+  pub last_is : last_at 0 (bare_arrivals arrived) ≡ top
   pub counted : length arrived ≤ answered r
   pub read : (bytes : List ℕ) → told bytes → HasRead x.place m.files r bytes arrived top
 
-pub under_kept : (F : ℕ → Type 0) (x : Setup) (m : Moment) (v : View) (arrived : List Arrival) (w : DrawnWords) (g : List Happened) → IsUnderway x m arrived w g
+pub under_kept : (F : ℕ → Type 0) (x : Setup) (m : Moment) (v : View) (arrived : List Captured) (w : DrawnWords) (g : List Happened) → IsUnderway x m arrived w g
     → Keeps Any F m.files v → IsUnderway x (record m { files = v }) arrived w g
 under_kept F x m v arrived w g u k = record {
   setup = moved_on x m (record m { files = v }) w.seed w.seed u.setup refl refl refl;
@@ -104,22 +104,22 @@ under_kept F x m v arrived w g u k = record {
 }
 
 -- one more packet was read and counted
-pub under_read : (x : Setup) (m : Moment) (o : Outputs) (arrived : List Arrival) (w : DrawnWords) (g : List Happened) (top : ℕ) (a : Arriving) → IsUnderway x m arrived w g
-    → EndsWithOffer g → last_at 0 (comings arrived) ≡ top → top ≤ a.packet.at → length arrived < most_records → IsWithin a → o ≡ record m.outputs { counts = o.counts }
+pub under_read : (x : Setup) (m : Moment) (o : Outputs) (arrived : List Captured) (w : DrawnWords) (g : List Happened) (top : ℕ) (a : Arriving) → IsUnderway x m arrived w g
+    → EndsWithOffer g → last_at 0 (bare_arrivals arrived) ≡ top → top ≤ a.packet.at → length arrived < most_records → IsWithin a → o ≡ record m.outputs { counts = o.counts }
     → o.counts.items ≡ count_at x.names (x.place a.packet.bytes).class (Arrived a.packet.len a.raised) m.outputs.counts.items
     → IsUnderway x (record m { outputs = o }) (arrived ++ arrival_of x.place a ∷ []) w g
 under_read x m o arrived w g top a u last last_is l few i same more_is =
-    let b : Arrival = arrival_of x.place a in
-    let more : List Arrival = b ∷ [] in
+    let b : Captured = arrival_of x.place a in
+    let more : List Captured = b ∷ [] in
     let y = u.going in
     let laws = going_laws x m arrived w g u.setup y in
-    let R : List Coming → Type 0 = λ cs. AreRising cs in
+    let R : List Arrival → Type 0 = λ cs. AreRising cs in
     let T : Outputs → Type 0 = λ z. HasGiven x m.files z (arrived ++ more) g in
     let C : List Counts → Type 0 = λ ks. HasCounted x.names (arrived ++ more) (journal g) ks in
     record {
       setup = moved_on x m (record m { outputs = o }) w.seed w.seed u.setup refl refl refl;
       going = read_more more last
-          (subst R (sym (comings_append arrived more)) (rises_on 0 (comings arrived) (coming_of b) y.rising (omega (arith, last_is, l))))
+          (subst R (sym (bare_arrivals_append arrived more)) (rises_on 0 (bare_arrivals arrived) (bare_arrival b) y.rising (omega (arith, last_is, l))))
           (omega (arith, length-append arrived more, few)) (record { promised = promised x m w.seed u.setup; going = y });
       written = record {
         given = subst T (sym same) (texts_same m.files _ _ _ _ _ _ _ _
@@ -132,7 +132,7 @@ under_read x m o arrived w g top a u last last_is l few i same more_is =
       };
     }
 
-pub held_more : (place : List ℕ → Placed) (arrived : List Arrival) (g : List Happened) (a : Arriving) → offered (bare g) ≡ length arrived → a.packet.number ≡ offered (bare g) + 1
+pub held_more : (place : List ℕ → Placed) (arrived : List Captured) (g : List Happened) (a : Arriving) → offered (bare g) ≡ length arrived → a.packet.number ≡ offered (bare g) + 1
     → a.placed ≡ place a.packet.bytes → IsHeld place (arrived ++ arrival_of place a ∷ []) g a
 held_more place arrived g a o n q = record {
   there = ap (λ (k : ℕ). slice_get (arrived ++ arrival_of place a ∷ []) k) o ∙ there_push arrived (arrival_of place a);
@@ -140,9 +140,9 @@ held_more place arrived g a o n q = record {
   placed_is = q;
 }
 
-pub last_more : (place : List ℕ → Placed) (arrived : List Arrival) (a : Arriving) → last_at 0 (comings (arrived ++ arrival_of place a ∷ [])) ≡ a.packet.at
+pub last_more : (place : List ℕ → Placed) (arrived : List Captured) (a : Arriving) → last_at 0 (bare_arrivals (arrived ++ arrival_of place a ∷ [])) ≡ a.packet.at
 last_more place arrived a =
-    ap (λ (cs : List Coming). last_at 0 cs) (comings_append arrived (arrival_of place a ∷ [])) ∙ last_push 0 (comings arrived) (coming_of (arrival_of place a))
+    ap (λ (cs : List Arrival). last_at 0 cs) (bare_arrivals_append arrived (arrival_of place a ∷ [])) ∙ last_push 0 (bare_arrivals arrived) (bare_arrival (arrival_of place a))
 
 pub greatest-push : (t : ℕ) (rs : List Record) (r : Record) → greatest t (rs ++ r ∷ []) ≡ max (greatest t rs) r.stamp
 greatest-push t [] r = refl
@@ -165,7 +165,7 @@ pub arrival_made : (place : List ℕ → Placed) (answer : Read) (top now count 
     }
 arrival_made place answer top now count a s i e y = cc (i.at, i.len, i.bytes, i.raised, e, y.stamp, y.len, y.bytes)
 
-abbrev pub read_record : (place : List ℕ → Placed) (v v' : View) (r r' : Reader) (bytes : List ℕ) (arrived : List Arrival) (top : ℕ) (answer : Read) (a : Arriving) → IsRead answer top a
+abbrev pub read_record : (place : List ℕ → Placed) (v v' : View) (r r' : Reader) (bytes : List ℕ) (arrived : List Captured) (top : ℕ) (answer : Read) (a : Arriving) → IsRead answer top a
     → (h : HasRead place v r bytes arrived top)
     → (s : Record) × Shows answer (length h.records) s × StandsFor v' r' bytes (h.records ++ s ∷ [])
     → HasRead place v' r' bytes (arrived ++ arrival_of place a ∷ []) a.packet.at
@@ -175,13 +175,13 @@ read_record place v v' r r' bytes arrived top answer a i h y =
     record {
       records = h.records ++ s ∷ [];
       stands = y.2;
-      arrivals = ap (λ (l : List Arrival). l ++ arrival_of place a ∷ []) h.arrivals ∙ ap (λ (x : Arrival). arrivals_of place h.records ++ x ∷ []) made
+      arrivals = ap (λ (l : List Captured). l ++ arrival_of place a ∷ []) h.arrivals ∙ ap (λ (x : Captured). arrivals_of place h.records ++ x ∷ []) made
           ∙ sym (arrivals_append place h.records (s ∷ []));
       latest_is = greatest-push 0 h.records s ∙ ap (λ (n : ℕ). max n s.stamp) h.latest_is ∙ ap (λ (n : ℕ). max top n) (sym y.1.stamp) ∙ sym i.at;
     }
 
 -- writes to files of other names leave what a reader stands for
-abbrev pub read_kept : (place : List ℕ → Placed) (v w : View) (r : Reader) (dep fat : ℕ) (bytes : List ℕ) (arrived : List Arrival) (top : ℕ) → HasRead place v r bytes arrived top
+abbrev pub read_kept : (place : List ℕ → Placed) (v w : View) (r : Reader) (dep fat : ℕ) (bytes : List ℕ) (arrived : List Captured) (top : ℕ) → HasRead place v r bytes arrived top
     → IsSome (v.part r.file) → IsOther v dep fat (v.name r.file) → OnlyWrote dep fat v w → HasRead place w r bytes arrived top
 read_kept place v w r dep fat bytes arrived top h there other k = record {
   records = h.records;
@@ -203,49 +203,49 @@ apart_played u v o p r s c is_dep is_fat k same e t =
     ((λ q. d (ap v.name (sym e) ∙ q ∙ ap v.name same.departures)), (λ q. f (ap v.name (sym e) ∙ q ∙ ap v.name same.fates)))
 
 -- nothing more arrives
-none_there : (xs : List Coming) (k : ℕ) → k ≡ length xs → slice_get xs k ≡ None
+none_there : (xs : List Arrival) (k : ℕ) → k ≡ length xs → slice_get xs k ≡ None
 none_there [] k e = refl
 none_there (x ∷ xs) zero e = absurd (omega (arith, e))
 none_there (x ∷ xs) (suc k) e = none_there xs k (omega (arith, e))
 
-pub none_arrives : (arrived : List Arrival) (g : List Happened) → offered (bare g) ≡ length arrived → None ≡ arrives arrived g
+pub none_arrives : (arrived : List Captured) (g : List Happened) → offered (bare g) ≡ length arrived → None ≡ arrives arrived g
 none_arrives arrived g e =
-    sym (ap (λ (o : Option Coming). option_map (λ (a : Coming). a.at) o) (none_there (comings arrived) (offered (bare g)) (e ∙ sym (comings_length arrived))))
+    sym (ap (λ (o : Option Arrival). option_map (λ (a : Arrival). a.at) o) (none_there (bare_arrivals arrived) (offered (bare g)) (e ∙ sym (bare_arrivals_length arrived))))
 
 -- they are all arrivals of a capture
-abbrev pub all_read : (place : List ℕ → Placed) (told : List ℕ → Type 0) (v : View) (r : Reader) (arrived : List Arrival) (top : ℕ) → IsWhole v r
+abbrev pub all_read : (place : List ℕ → Placed) (told : List ℕ → Type 0) (v : View) (r : Reader) (arrived : List Captured) (top : ℕ) → IsWhole v r
     → ((bytes : List ℕ) → told bytes → HasRead place v r bytes arrived top) → (bytes : List ℕ) → told bytes → IsAll place bytes arrived
 all_read place told v r arrived top whole read bytes t =
     let h = read bytes t in
     record { records = h.records; arrivals = h.arrivals; reads = whole bytes h.records h.stands; size = omega (arith, h.stands.place, r.progress.placed) }
 
 -- the first arrivals of all complete records
-pub first_of_all : (x : Setup) (told : List ℕ → Type 0) (arrived : List Arrival) (g : List Happened) → ((bytes : List ℕ) → told bytes → IsAll x.place bytes arrived)
-    → AreDue x.policy x.rate x.seed (comings arrived) g → AreFirst x told arrived g
+pub first_of_all : (x : Setup) (told : List ℕ → Type 0) (arrived : List Captured) (g : List Happened) → ((bytes : List ℕ) → told bytes → IsAll x.place bytes arrived)
+    → AreDue x.policy x.rate x.seed (bare_arrivals arrived) g → AreFirst x told arrived g
 first_of_all x told arrived g all d = λ bytes t every last y l.
     let h = all bytes t in
     let one = one_reading bytes every h.records last _ y l h.reads tt in
-    let P : List Arrival → Type 0 = λ k. AreDue x.policy x.rate x.seed (comings k) g in
+    let P : List Captured → Type 0 = λ k. AreDue x.policy x.rate x.seed (bare_arrivals k) g in
     ([], ap (λ (rs : List Record). arrivals_of x.place rs) one.0 ∙ sym h.arrivals ∙ sym (append-nil arrived), subst P (sym (append-nil arrived)) d)
 
-pub first_of_read : (x : Setup) (told : List ℕ → Type 0) (v : View) (r : Reader) (arrived : List Arrival) (top : ℕ) (g : List Happened)
+pub first_of_read : (x : Setup) (told : List ℕ → Type 0) (v : View) (r : Reader) (arrived : List Captured) (top : ℕ) (g : List Happened)
     → ((bytes : List ℕ) → told bytes → HasRead x.place v r bytes arrived top) → StayDue x arrived g → AreFirst x told arrived g
 first_of_read x told v r arrived top g read s = λ bytes t every last y l.
     let h = read bytes t in
     let f = answered_front v r bytes h.records every last h.stands y l in
-    let more : List Arrival = arrivals_from x.place (greatest 0 h.records) f.0 in
-    let P : List Coming → Type 0 = λ k. AreDue x.policy x.rate x.seed k g in (
+    let more : List Captured = arrivals_from x.place (greatest 0 h.records) f.0 in
+    let P : List Arrival → Type 0 = λ k. AreDue x.policy x.rate x.seed k g in (
       more,
-      ap (λ (rs : List Record). arrivals_of x.place rs) f.1 ∙ arrivals_append x.place h.records f.0 ∙ ap (λ (xs : List Arrival). xs ++ more) (sym h.arrivals),
-      subst P (sym (comings_append arrived more)) (s (comings more)),
+      ap (λ (rs : List Record). arrivals_of x.place rs) f.1 ∙ arrivals_append x.place h.records f.0 ∙ ap (λ (xs : List Captured). xs ++ more) (sym h.arrivals),
+      subst P (sym (bare_arrivals_append arrived more)) (s (bare_arrivals more)),
     )
 
 -- when a sending that would end too late starts
-pub record StartsThen (arrived : List Coming) (g : List Happened) (start : ℕ) : Type 0 where
+pub record StartsThen (arrived : List Arrival) (g : List Happened) (start : ℕ) : Type 0 where
   pub after : latest (bare g) ≤ start
-  pub before : (a : Coming) → slice_get arrived (offered (bare g)) ≡ Some a → start < a.at
+  pub before : (a : Arrival) → slice_get arrived (offered (bare g)) ≡ Some a → start < a.at
 
-late_start : (x : Setup) (arrived : List Coming) (g : List Happened) (e : Happened) → IsSound x → AreRising arrived → AreDue x.policy x.rate x.seed arrived g
+late_start : (x : Setup) (arrived : List Arrival) (g : List Happened) (e : Happened) → IsSound x → AreRising arrived → AreDue x.policy x.rate x.seed arrived g
     → IsLate e.what → IsOffer x.policy x.rate x.seed arrived g e ⊎ IsSending x.policy x.rate arrived g e → StartsThen arrived g (start_of e.what)
 late_start x arrived g e s rise d l (inl y) =
     let P : Event → Type 0 = λ w. IsLate w in absurd (subst P (ap (λ (k : Happened). k.what) y.offer) l)
@@ -254,14 +254,14 @@ late_start x arrived g e s rise d l (inr y) =
     let after = all_arrived x.policy x.rate x.seed arrived g s.positive s.lawful rise d y.sending.start y.least in
     record { after = omega (arith, same, after); before = λ a t. (let b = y.passed a t in omega (arith, same, b)) }
 
-pub cut_starts : (x : Setup) (arrived : List Coming) (g : List Happened) → IsSound x → AreRising arrived → (c : IsCutOff x.policy x.rate x.seed arrived g)
+pub cut_starts : (x : Setup) (arrived : List Arrival) (g : List Happened) → IsSound x → AreRising arrived → (c : IsCutOff x.policy x.rate x.seed arrived g)
     → StartsThen arrived g (start_of c.next.what)
 cut_starts x arrived g s rise c =
     late_start x arrived g c.next s rise c.begun.events c.late
     (due_laws x.policy x.rate x.seed arrived (c.next ∷ g) s.positive s.lawful rise (c.is_due, c.begun.events)).each.0
 
 -- that of the last record is the only arrival after it
-pub ahead_of : (place : List ℕ → Placed) (v : View) (r : Reader) (bytes : List ℕ) (arrived : List Arrival) (top start : ℕ) (before : List Record) (last : Record)
+pub ahead_of : (place : List ℕ → Placed) (v : View) (r : Reader) (bytes : List ℕ) (arrived : List Captured) (top start : ℕ) (before : List Record) (last : Record)
     → (h : HasRead place v r bytes arrived top) → h.records ≡ before ++ last ∷ [] → r.fault ≡ None → greatest 0 before ≤ start → start < top → IsAhead place v r bytes arrived start
 ahead_of place v r bytes arrived top start before last h e sound low high =
     let S : List Record → Type 0 = λ rs. StandsFor v r bytes rs in

@@ -2,13 +2,13 @@
 use Rattle.std.proofs.Common.{◌≡◌, ◌≤◌, ◌<◌, ◌∙◌, ◌+◌, ℕ, List, [], ◌∷◌, length, None, Some, ◌⊎◌, inl, inr, refl, ap, sym, subst, arith}
 use Rattle.std.specs.Prelude.{slice_get, option_map, IsSome}
 use Rattle.std.specs.declared.option.Option.{Option}
-use Rattle.altq_model.specs.Arrivals.{Arrival, arrival, coming_of, comings}
+use Rattle.altq_model.specs.Arrivals.{Captured, arrival, bare_arrival, bare_arrivals}
 use Rattle.altq_model.specs.declared.Fate.TheVariants as fate
-use Rattle.altq_model.specs.History.{Coming, Event, Offered, Sent, DrawnWords, Happened, bare, offered, journal, was_marked}
+use Rattle.altq_model.specs.History.{Arrival, Event, Offered, Sent, DrawnWords, Happened, bare, offered, journal, was_marked}
 use Rattle.altq_model.specs.Play.{Policy, AreDue, due}
 use Rattle.play_laws.specs.Events.{HasLaws}
 use Rattle.play_laws.proofs.AllLaws.{due_laws}
-use Rattle.play_laws.proofs.ArrivalLemmas.{comings_length}
+use Rattle.play_laws.proofs.ArrivalLemmas.{bare_arrivals_length}
 use Rattle.play_laws.proofs.DueLemmas.{not_both}
 use Rattle.play_laws.proofs.EndLemmas.{is_over}
 use Rattle.play_laws.proofs.OneLemmas.{later_arrivals}
@@ -20,7 +20,7 @@ use Rattle.play_core.specs.Ended.{IsBegun}
 use Rattle.play_core.specs.Finished.{WasOffered, EndsWithOffer}
 use Rattle.play_core.specs.Turns.{ComesNext, Departs, arrives, departs, turned}
 use Rattle.play_core.proofs.GoingLemmas.{IsPromised, few_counts}
-use Rattle.play_core.proofs.OfferLemmas.{is_coming}
+use Rattle.play_core.proofs.OfferLemmas.{is_bare_arrival}
 use Rattle.play_core.proofs.TotalLemmas.{sent_push}
 use Rattle.play_text.specs.Names.{HasClass}
 use Rattle.class_counts.specs.Counting.{AreCountable}
@@ -54,24 +54,24 @@ pub moved_on : (x : Setup) (m n : Moment) (seed later : ℕ) → IsPlayedAt x m 
     → IsPlayedAt x n later
 moved_on x m n seed later i p r s = record { sound = i.sound; policy = p ∙ i.policy; rate = r ∙ i.rate; seed_is = s ∙ i.seed_is }
 
-pub begun_of : (x : Setup) (m : Moment) (arrived : List Arrival) (w : DrawnWords) (g : List Happened) → IsPlayedAt x m w.seed → Goes m arrived w g
-    → IsBegun x.policy x.rate x.seed (comings arrived) g
-begun_of x m arrived w g i y = to_setup (λ p rate seed. IsBegun p rate seed (comings arrived) g) x m w.seed i y.begun
+pub begun_of : (x : Setup) (m : Moment) (arrived : List Captured) (w : DrawnWords) (g : List Happened) → IsPlayedAt x m w.seed → Goes m arrived w g
+    → IsBegun x.policy x.rate x.seed (bare_arrivals arrived) g
+begun_of x m arrived w g i y = to_setup (λ p rate seed. IsBegun p rate seed (bare_arrivals arrived) g) x m w.seed i y.begun
 
 -- the laws of a play that goes on
-pub going_laws : (x : Setup) (m : Moment) (arrived : List Arrival) (w : DrawnWords) (g : List Happened) → IsPlayedAt x m w.seed → Goes m arrived w g
-    → HasLaws x.policy x.rate x.seed (comings arrived) g
+pub going_laws : (x : Setup) (m : Moment) (arrived : List Captured) (w : DrawnWords) (g : List Happened) → IsPlayedAt x m w.seed → Goes m arrived w g
+    → HasLaws x.policy x.rate x.seed (bare_arrivals arrived) g
 going_laws x m arrived w g i y =
-    due_laws x.policy x.rate x.seed (comings arrived) g i.sound.positive i.sound.lawful y.rising (begun_of x m arrived w g i y).events
+    due_laws x.policy x.rate x.seed (bare_arrivals arrived) g i.sound.positive i.sound.lawful y.rising (begun_of x m arrived w g i y).events
 
 -- its counts are small
-pub under_countable : (x : Setup) (m : Moment) (arrived : List Arrival) (w : DrawnWords) (g : List Happened) → IsUnderway x m arrived w g → AreCountable x.names m.outputs.counts.items
+pub under_countable : (x : Setup) (m : Moment) (arrived : List Captured) (w : DrawnWords) (g : List Happened) → IsUnderway x m arrived w g → AreCountable x.names m.outputs.counts.items
 under_countable x m arrived w g u =
     let laws = going_laws x m arrived w g u.setup u.going in
     counted_countable x.place x.names arrived (journal g) m.outputs.counts.items u.written.counted u.written.fit u.going.few
-    (omega (arith, laws.few, laws.came, comings_length arrived, u.going.few))
+    (omega (arith, laws.few, laws.came, bare_arrivals_length arrived, u.going.few))
 
-pub can_add : (x : Setup) (m : Moment) (arrived : List Arrival) (w : DrawnWords) (g : List Happened) (class : ℕ) → IsUnderway x m arrived w g → HasClass x.names class
+pub can_add : (x : Setup) (m : Moment) (arrived : List Captured) (w : DrawnWords) (g : List Happened) (class : ℕ) → IsUnderway x m arrived w g → HasClass x.names class
     → CanAdd x.names m.files m.outputs class
 can_add x m arrived w g class u named = record {
   named = named;
@@ -81,13 +81,13 @@ can_add x m arrived w g class u named = record {
 }
 
 -- a sending that was made, before it is written: what leaves is an arrival
-pub record IsSent (x : Setup) (n : Moment) (arrived : List Arrival) (w : DrawnWords) (g : List Happened) (d : Departure) : Type 0 where
+pub record IsSent (x : Setup) (n : Moment) (arrived : List Captured) (w : DrawnWords) (g : List Happened) (d : Departure) : Type 0 where
   pub setup : IsPlayedAt x n w.seed
   pub going : Goes n arrived w (departs d ∷ g)
   pub leaves : Leaves x.place arrived d
   pub mark_is : d.marked ≡ was_marked d.packet.number g
 
-pub is_sent : (x : Setup) (m n : Moment) (arrived : List Arrival) (w : DrawnWords) (g : List Happened) (d : Departure) → IsUnderway x m arrived w g
+pub is_sent : (x : Setup) (m n : Moment) (arrived : List Captured) (w : DrawnWords) (g : List Happened) (d : Departure) → IsUnderway x m arrived w g
     → n.shown.policy ≡ m.shown.policy → n.progress.clock.rate ≡ m.progress.clock.rate
     → Departs m.shown.policy m.progress.clock.rate w.seed arrived g d → Goes n arrived w (departs d ∷ g) → IsSent x n arrived w g d
 is_sent x m n arrived w g d u p r e y =
@@ -100,12 +100,12 @@ is_sent x m n arrived w g d u p r e y =
     }
 
 -- its class has a name, and its bytes fit
-pub sent_class : (x : Setup) (n : Moment) (arrived : List Arrival) (w : DrawnWords) (g : List Happened) (d : Departure) → IsSent x n arrived w g d → HasClass x.names d.class
+pub sent_class : (x : Setup) (n : Moment) (arrived : List Captured) (w : DrawnWords) (g : List Happened) (d : Departure) → IsSent x n arrived w g d → HasClass x.names d.class
 sent_class x n arrived w g d s =
     let P : ℕ → Type 0 = λ c. HasClass x.names c in
     subst P (sym (s.leaves.class ∙ s.leaves.fit.class)) (s.setup.sound.named (arrival arrived d.packet.number).bytes)
 
-pub sent_fits : (x : Setup) (n : Moment) (arrived : List Arrival) (w : DrawnWords) (g : List Happened) (d : Departure) → IsSent x n arrived w g d
+pub sent_fits : (x : Setup) (n : Moment) (arrived : List Captured) (w : DrawnWords) (g : List Happened) (d : Departure) → IsSent x n arrived w g d
     → length d.packet.bytes ≤ d.packet.len
 sent_fits x n arrived w g d s = omega (arith, s.leaves.fit.fits, s.leaves.len, ap (length {A = ℕ}) s.leaves.bytes)
 
@@ -114,7 +114,7 @@ pub record CountsUp (t u : Totals) : Type 0 where
   pub sent : u.sent ≡ t.sent + 1
   pub within : u.sent ≤ 4000000
 
-pub counts_up : (x : Setup) (m n : Moment) (arrived : List Arrival) (w : DrawnWords) (g : List Happened) (d : Departure) → IsUnderway x m arrived w g → IsSent x n arrived w g d
+pub counts_up : (x : Setup) (m n : Moment) (arrived : List Captured) (w : DrawnWords) (g : List Happened) (d : Departure) → IsUnderway x m arrived w g → IsSent x n arrived w g d
     → CountsUp m.progress.totals n.progress.totals
 counts_up x m n arrived w g d u s = record {
   sent = omega (arith, u.going.totals.sent, s.going.totals.sent, sent_push (journal g) (d.packet.number, fate.Sent d.start d.end d.rule));
@@ -122,13 +122,13 @@ counts_up x m n arrived w g d u s = record {
 }
 
 -- nothing is due, so nothing is to come
-pub end_made : (x : Setup) (m : Moment) (arrived : List Arrival) (w : DrawnWords) (g : List Happened) (arrival : Option ℕ) → IsUnderway x m arrived w g
-    → due x.policy x.rate x.seed (comings arrived) g ≡ None → AreMade x arrived g arrival
+pub end_made : (x : Setup) (m : Moment) (arrived : List Captured) (w : DrawnWords) (g : List Happened) (arrival : Option ℕ) → IsUnderway x m arrived w g
+    → due x.policy x.rate x.seed (bare_arrivals arrived) g ≡ None → AreMade x arrived g arrival
 end_made x m arrived w g arrival u d = record {
   all = λ _. d;
-  next = λ a there. absurd (not_both (slice_get (comings arrived) (offered (bare g))) (coming_of a)
-      (is_over x.policy x.rate x.seed (comings arrived) g u.setup.sound.positive u.setup.sound.lawful u.going.rising (begun_of x m arrived w g u.setup u.going).events d).all_came
-      (is_coming arrived g a there).seen);
+  next = λ a there. absurd (not_both (slice_get (bare_arrivals arrived) (offered (bare g))) (bare_arrival a)
+      (is_over x.policy x.rate x.seed (bare_arrivals arrived) g u.setup.sound.positive u.setup.sound.lawful u.going.rising (begun_of x m arrived w g u.setup u.going).events d).all_came
+      (is_bare_arrival arrived g a there).seen);
 }
 
 no_arrival : (o : Option ℕ) → o ≡ None → IsSome o → ⊥
@@ -136,7 +136,7 @@ no_arrival None e s = cc
 no_arrival (Some n) e s = cc
 
 -- a turn after which nothing was sent
-pub made_of : (x : Setup) (m : Moment) (arrived : List Arrival) (w : DrawnWords) (g : List Happened) (arrival : Option ℕ) (t : Turn) → IsUnderway x m arrived w g
+pub made_of : (x : Setup) (m : Moment) (arrived : List Captured) (w : DrawnWords) (g : List Happened) (arrival : Option ℕ) (t : Turn) → IsUnderway x m arrived w g
     → (t ≡ turn.Offer) ⊎ (t ≡ turn.End) → (t ≡ turn.Offer → IsSome arrival) → ComesNext m.shown.policy m.progress.clock.rate w.seed arrived g t → AreMade x arrived g arrival
 made_of x m arrived w g arrival t u (inl e) s n =
     let P : Turn → Type 0 = λ k. ComesNext x.policy x.rate x.seed arrived g k in
@@ -149,7 +149,7 @@ still_of : (g : List Happened) (t : Turn) → (t ≡ turn.Offer) ⊎ (t ≡ turn
 still_of g t (inl e) = ap (λ (k : Turn). turned k g) e
 still_of g t (inr e) = ap (λ (k : Turn). turned k g) e
 
-pub still_under : (x : Setup) (m n : Moment) (arrived : List Arrival) (w : DrawnWords) (g : List Happened) (t : Turn) → IsUnderway x m arrived w g
+pub still_under : (x : Setup) (m n : Moment) (arrived : List Captured) (w : DrawnWords) (g : List Happened) (t : Turn) → IsUnderway x m arrived w g
     → n.shown.policy ≡ m.shown.policy → n.progress.clock.rate ≡ m.progress.clock.rate → (t ≡ turn.Offer) ⊎ (t ≡ turn.End) → Goes n arrived w (turned t g)
     → AreWritten x n.files n.outputs n.told arrived g → IsUnderway x n arrived w g
 still_under x m n arrived w g t u p r e y written =
@@ -157,26 +157,26 @@ still_under x m n arrived w g t u p r e y written =
     record { setup = moved_on x m n w.seed w.seed u.setup p r refl; going = subst P (still_of g t e) y; written = written }
 
 -- the next arrival stays so after sendings
-pub arrives_same : (arrived : List Arrival) (g k : List Happened) → offered (bare k) ≡ offered (bare g) → arrives arrived g ≡ arrives arrived k
-arrives_same arrived g k e = ap (λ (n : ℕ). option_map (λ (a : Coming). a.at) (slice_get (comings arrived) n)) (sym e)
+pub arrives_same : (arrived : List Captured) (g k : List Happened) → offered (bare k) ≡ offered (bare g) → arrives arrived g ≡ arrives arrived k
+arrives_same arrived g k e = ap (λ (n : ℕ). option_map (λ (a : Arrival). a.at) (slice_get (bare_arrivals arrived) n)) (sym e)
 
 -- events before the offer of an arrival that is known stay due
 one_less : (e : Event) (h : List Event) (n : ℕ) → offered (e ∷ h) ≤ n → offered h ≤ n
 one_less (Offered a w v) h n l = omega (arith, l)
 one_less (Sent s) h n l = l
 
-pub open_stays : (x : Setup) (arrived : List Arrival) (g : List Happened) (n : ℕ) → n < length (comings arrived) → offered (bare g) ≤ n
-    → AreDue x.policy x.rate x.seed (comings arrived) g → StayDue x arrived g
+pub open_stays : (x : Setup) (arrived : List Captured) (g : List Happened) (n : ℕ) → n < length (bare_arrivals arrived) → offered (bare g) ≤ n
+    → AreDue x.policy x.rate x.seed (bare_arrivals arrived) g → StayDue x arrived g
 open_stays x arrived [] n l o d = λ more. tt
 open_stays x arrived (e ∷ g) n l o d =
-    λ more. later_arrivals x.policy x.rate x.seed (comings arrived) more e g (omega (arith, l, one_less e.what (bare g) n o)) d
+    λ more. later_arrivals x.policy x.rate x.seed (bare_arrivals arrived) more e g (omega (arith, l, one_less e.what (bare g) n o)) d
 
 one_before : (e : Event) (h : List Event) → WasOffered e → offered (e ∷ h) ≡ offered h + 1
 one_before (Offered a w v) h o = refl
 one_before (Sent s) h o = absurd o
 
-pub offered_stays : (x : Setup) (arrived : List Arrival) (g : List Happened) → offered (bare g) ≤ length (comings arrived) → EndsWithOffer g
-    → AreDue x.policy x.rate x.seed (comings arrived) g → StayDue x arrived g
+pub offered_stays : (x : Setup) (arrived : List Captured) (g : List Happened) → offered (bare g) ≤ length (bare_arrivals arrived) → EndsWithOffer g
+    → AreDue x.policy x.rate x.seed (bare_arrivals arrived) g → StayDue x arrived g
 offered_stays x arrived [] l o d = λ more. tt
 offered_stays x arrived (e ∷ g) l o d =
-    λ more. later_arrivals x.policy x.rate x.seed (comings arrived) more e g (omega (arith, l, one_before e.what (bare g) o)) d
+    λ more. later_arrivals x.policy x.rate x.seed (bare_arrivals arrived) more e g (omega (arith, l, one_before e.what (bare g) o)) d

@@ -2,7 +2,7 @@
 use Rattle.std.specs.Prelude.{List, [], ◌∷◌, map}
 use Rattle.std.specs.Option.{option_map_or}
 use Rattle.std.specs.declared.option.Option.{Option}
-use Rattle.altq_model.specs.Arrivals.{Arrival, arrival}
+use Rattle.altq_model.specs.Arrivals.{Captured, arrival}
 use Rattle.altq_model.specs.declared.Fate.TheVariants as fate
 use Rattle.altq_model.specs.History.{Decision}
 use Rattle.play_core.specs.declared.turn.Departure.{Departure}
@@ -15,10 +15,10 @@ abbrev pub fates_in : Kept → List KeptFate
 fates_in k = k.fates.items
 
 -- a decision of a play of these arrivals
-abbrev pub kept_fate : List Arrival → Decision → KeptFate
+abbrev pub kept_fate : List Captured → Decision → KeptFate
 kept_fate arrived d = record { number = d.0; arrival = (arrival arrived d.0).at; fate = d.1 }
 
-abbrev pub kept_fates : List Arrival → List Decision → List KeptFate
+abbrev pub kept_fates : List Captured → List Decision → List KeptFate
 kept_fates arrived js = map (kept_fate arrived) js
 
 -- of a packet that was sent, and of one that was dropped

@@ -1,6 +1,6 @@
 -- What a play over files leaves, and when each of its faults comes.
 use Rattle.std.specs.Prelude.{◌≡◌, ◌≤◌, ◌<◌, ◌+◌, ◌⊎◌, ℕ, List, [], ◌∷◌, ◌++◌, length, Some, IsTrue, IsSome}
-use Rattle.altq_model.specs.Arrivals.{Arrival, comings}
+use Rattle.altq_model.specs.Arrivals.{Captured, bare_arrivals}
 use Rattle.altq_model.specs.Departures.{departed}
 use Rattle.altq_model.specs.History.{Event, Offered, Sent, Happened, bare, offered, journal}
 use Rattle.altq_model.specs.Lawful.{greatest}
@@ -43,12 +43,12 @@ pub record AreReady (v : View) (o : Opened) : Type 0 where
   pub fates_from_stats : Apart v o.fates o.stats
 
 -- the files hold the departures and the fates of this history
-pub record HoldTexts (v : View) (o : Opened) (x : Setup) (arrived : List Arrival) (g : List Happened) : Type 0 where
+pub record HoldTexts (v : View) (o : Opened) (x : Setup) (arrived : List Captured) (g : List Happened) : Type 0 where
   pub departures : HoldsAt v o.departures (departures_of x arrived g)
   pub fates : HoldsAt v o.fates (fates_of x arrived g)
 
 -- they hold a front of each
-pub record HoldFronts (v : View) (o : Opened) (x : Setup) (arrived : List Arrival) (g : List Happened) : Type 0 where
+pub record HoldFronts (v : View) (o : Opened) (x : Setup) (arrived : List Captured) (g : List Happened) : Type 0 where
   pub departures : HoldsFront v o.departures (departures_of x arrived g)
   pub fates : HoldsFront v o.fates (fates_of x arrived g)
 
@@ -80,7 +80,7 @@ pub record HasPlayed (x : Setup) (stood : List Happened → Type 0) (v : View) (
 -- exactly their texts. These are all drops of these records, and all sendings that start before the last of them arrives
 pub record HasOffered (x : Setup) (stood : List Happened → Type 0) (v : View) (o : Opened) (records : List Record) : Type 0 where
   pub history : List Happened
-  pub begun : IsBegun x.policy x.rate x.seed (comings (arrivals_in x records)) history
+  pub begun : IsBegun x.policy x.rate x.seed (bare_arrivals (arrivals_in x records)) history
   pub all : offered (bare history) ≡ length records
   pub last : EndsWithOffer history
   pub texts : HoldTexts v o x (arrivals_in x records) history
@@ -117,7 +117,7 @@ pub record WasCutOff (x : Setup) (stood : List Happened → Type 0) (v : View) (
 -- the files hold fronts of the texts of the first events of the play
 pub record HasStopped (x : Setup) (v : View) (o : Opened) (records : List Record) : Type 0 where
   pub history : List Happened
-  pub begun : IsBegun x.policy x.rate x.seed (comings (arrivals_in x records)) history
+  pub begun : IsBegun x.policy x.rate x.seed (bare_arrivals (arrivals_in x records)) history
   pub texts : HoldFronts v o x (arrivals_in x records) history
 
 -- P holds of the bytes that the arrivals hold: those that were taken before, and what their file has left, where the files tell it
@@ -162,7 +162,7 @@ Explains x stood old new o play.NoMemory = Unit {0}
 -- the statistics hold a front of those of the whole play of these records, behind departures and fates that hold all of its texts
 pub record HasBegunStats (x : Setup) (v : View) (o : Opened) (records : List Record) : Type 0 where
   pub history : List Happened
-  pub play : IsPlay x.policy x.rate x.seed (comings (arrivals_in x records)) history
+  pub play : IsPlay x.policy x.rate x.seed (bare_arrivals (arrivals_in x records)) history
   pub texts : HoldTexts v o x (arrivals_in x records) history
   pub stats : HoldsFront v o.stats (statistics_of x (arrivals_in x records) history)
 

@@ -1,7 +1,7 @@
 -- The arrivals that were read of a capture.
 use Rattle.std.specs.Prelude.{◌≡◌, ◌≤◌, ◌<◌, ◌^◌, ℕ, max, List, [], length, nat_lt, None, IsSome, IsTrue}
 use Rattle.altq_model.specs.declared.Placed.{Placed}
-use Rattle.altq_model.specs.Arrivals.{Arrival, arrivals_of}
+use Rattle.altq_model.specs.Arrivals.{Captured, arrivals_of}
 use Rattle.altq_model.specs.Lawful.{greatest}
 use Rattle.capture_model.specs.Capture.{Record}
 use Rattle.pcap_files.specs.declared.reader.Reader.{Reader}
@@ -13,7 +13,7 @@ use Rattle.play_loop.specs.declared.arriving.Arriving.{Arriving}
 use Rattle.play_loop.specs.declared.outputs.Outputs.{Outputs}
 
 -- the arrival of a packet that was read, where frames are placed so
-abbrev pub arrival_of : (List ℕ → Placed) → Arriving → Arrival
+abbrev pub arrival_of : (List ℕ → Placed) → Arriving → Captured
 arrival_of place p = record {
   at = p.packet.at;
   len = p.packet.len;
@@ -49,7 +49,7 @@ pub record CanRead (v : View) (r : Reader) (o : Outputs) : Type 0 where
   pub from_fates : Apart v r.file o.fates
 
 -- `arrived` are the arrivals of the records that a reader returned, and `latest` is the moment of the last
-pub record HasRead (place : List ℕ → Placed) (v : View) (r : Reader) (bytes : List ℕ) (arrived : List Arrival) (latest : ℕ) : Type 0 where
+pub record HasRead (place : List ℕ → Placed) (v : View) (r : Reader) (bytes : List ℕ) (arrived : List Captured) (latest : ℕ) : Type 0 where
   pub records : List Record
   pub stands : StandsFor v r bytes records
   pub arrivals : arrived ≡ arrivals_of place records

@@ -1,6 +1,6 @@
 -- A whole play of which each decision was told: `kept` holds of what was.
 use Rattle.std.specs.Prelude.{List}
-use Rattle.altq_model.specs.Arrivals.{Arrival}
+use Rattle.altq_model.specs.Arrivals.{Captured}
 use Rattle.altq_model.specs.History.{Happened, journal}
 use Rattle.capture_model.specs.Capture.{Record, IsCapture}
 use Rattle.play_base.specs.View.{View}
@@ -23,7 +23,7 @@ Tells x stood kept old new o t = OfArrivals old o (λ bytes. (records : List Rec
 
 -- whatever the files tell: a whole play of some arrivals, whose journal was told
 pub record HasDecided (x : Setup) (kept : List KeptFate → Type 0) (t : Totals) : Type 0 where
-  pub arrived : List Arrival
+  pub arrived : List Captured
   pub history : List Happened
   pub play : IsFinished x.policy x.rate x.seed arrived history t
   pub told : kept (kept_fates arrived (journal history))

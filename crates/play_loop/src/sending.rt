@@ -1,6 +1,6 @@
 // The turns of a play: the sendings that are due before an arrival, and then its offer.
 ghost use Rattle.std.specs.Prelude.{◌≡◌, List, IfOk, OnErr};
-ghost use Rattle.altq_model.specs.Arrivals.{Arrival};
+ghost use Rattle.altq_model.specs.Arrivals.{Captured};
 ghost use Rattle.altq_model.specs.History.{DrawnWords, Happened};
 ghost use Rattle.play_core.specs.Turns.{arrives};
 ghost use Rattle.play_loop.specs.Outputs.{AddsOnly};
@@ -33,7 +33,7 @@ pub fn send_due<D: Discipline, C: Classify, F: Files, K: Keeper>(
     keeper: &mut K,
     files: &mut F,
 ) -> Result<Due, PlayFault>
-    requires under { (x : Setup) × (arrived : List Arrival) × (w : DrawnWords) × (g : List Happened)
+    requires under { (x : Setup) × (arrived : List Captured) × (w : DrawnWords) × (g : List Happened)
         × IsUnderway (classed (classing (C.placed classify.now) (C.dressed classify.now) names.now) x)
         (moment (shown D.policy D.stands D.lists D.limits D.link_rate discipline.old) (F.view files.old) outputs.old (K.told keeper.old) progress.old) arrived w g
         × (arrival ≡ arrives arrived g) }
@@ -73,7 +73,7 @@ pub fn play_packet<D: Discipline, C: Classify, F: Files, K: Keeper>(
     keeper: &mut K,
     files: &mut F,
 ) -> Result<Due, PlayFault>
-    requires under { (x : Setup) × (arrived : List Arrival) × (g : List Happened)
+    requires under { (x : Setup) × (arrived : List Captured) × (g : List Happened)
         × IsUnderway (classed (classing (C.placed classify.now) (C.dressed classify.now) names.now) x)
         (moment (shown D.policy D.stands D.lists D.limits D.link_rate discipline.old) (F.view files.old) outputs.old (K.told keeper.old) progress.old) arrived words.old g
         × IsHeld (C.placed classify.now) arrived g arriving }

@@ -1,5 +1,5 @@
 // Writing what was decided: a record for each sending, and a row for each fate.
-ghost use Rattle.std.specs.Prelude.{◌≡◌, ◌≤◌, ◌<◌, ◌*◌, ◌^◌, ℕ, List, length, IsSome, IfErr, OnOk, OnErr, IsErrOf};
+ghost use Rattle.std.specs.Prelude.{◌≡◌, ◌≤◌, ◌<◌, ◌*◌, ◌^◌, ℕ, List, [], length, IsSome, IfErr, OnOk, OnErr, IsErrOf};
 ghost use Rattle.play_text.specs.Texts.{fate_text};
 ghost use Rattle.capture_model.specs.Written.{record_text};
 ghost use Rattle.play_base.specs.View.{SameCounts, WriteFault, Wrote, WroteFront};
@@ -86,7 +86,28 @@ fn add_row<F: Files>(
     let Ok(()) = rows.add(names, number, at, len, class, fate) else {
         return Err(Trouble::NoMemory);
     };
-    if rows.as_slice().len() <= ROWS_BOUND {
+    if rows.most() <= ROWS_BOUND {
+        return Ok(());
+    }
+    bound_rows(files, file, rows)
+}
+
+// Writes the rows if they are too many, which their bound alone does not tell.
+#[cold]
+#[inline(never)]
+#[tactic(auto, using(play_base::proofs::ViewLaws::same_trans, play_base::proofs::ViewLaws::same_refl))]
+fn bound_rows<F: Files>(files: &mut F, file: u32, rows: &mut Rows) -> Result<(), Trouble>
+    requires there { IsSome ((F.view files.old).part file) }
+    ensures grew { OnOk result (Grew (F.view files.old) (F.view files.new) file rows.old rows.new []) }
+    ensures bounded { OnOk result (length rows.new ≤ 65280) }
+    ensures no_fault { OnOk result (SameCounts (F.view files.old) (F.view files.new)) }
+    ensures stopped { OnErr result (Stopped (F.view files.old) (F.view files.new) file rows.old []) }
+    ensures failed { IsErrOf result Trouble.Failed → WriteFault (F.view files.old) (F.view files.new) file }
+{
+    let Ok(()) = rows.settle() else {
+        return Err(Trouble::NoMemory);
+    };
+    if rows.most() <= ROWS_BOUND {
         return Ok(());
     }
     match flush_rows(files, file, rows) {

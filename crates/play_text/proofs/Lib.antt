@@ -1,3 +1,4 @@
 pub mod NameLemmas
+pub mod RowLemmas
 pub mod StatsLemmas
 pub mod TextLemmas

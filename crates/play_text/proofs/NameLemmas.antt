@@ -1,5 +1,5 @@
 -- What a binary search finds among entries whose classes rise, and what is read at the place that it found.
-use Rattle.std.proofs.Common.{◌≡◌, ℕ, ◌+◌, ◌<◌, ◌≤◌, ◌≢◌, Bool, true, false, cond, suc, List, [], ◌∷◌, ◌++◌, length, get_or, map, drop, add-one, Option, Some, None, Result, Ok, Err, eqb, refl, sym, ◌∙◌, ap, arith, IsTrue}
+use Rattle.std.proofs.Common.{◌≡◌, ℕ, ◌+◌, ◌<◌, ◌≤◌, ◌≢◌, Bool, true, false, cond, suc, List, [], ◌∷◌, ◌++◌, length, if◌then◌else◌, get_or, map, drop, add-one, Option, Some, None, Result, Ok, Err, eqb, refl, sym, ◌∙◌, ap, arith, IsTrue}
 use Rattle.std.specs.List.{All, AllPairs, position_or_len, slice_get, find}
 use Rattle.std.specs.Option.{unwrap_or, option_map}
 use Rattle.std.specs.List.Sorted.{IsSearchInRange, IsBinarySearchResult, IsNonDecreasingBy}
@@ -17,6 +17,8 @@ use Rattle.std.proofs.lemmas.List.Quantifiers.{position-Some, all_pairs_push}
 use Rattle.std.proofs.lemmas.Option.{slice_get-get_or}
 use Rattle.std.proofs.lemmas.Bool.Decides.{nat_tests}
 use Rattle.std.proofs.lemmas.Grind.{common_steps}
+use Rattle.std.proofs.lemmas.Slice.Eq.{bytes_eq-Decides}
+use Rattle.std.proofs.lemmas.Bool.{false_from_ne_true}
 use Rattle.line_text.specs.Names.{is_name}
 use Rattle.play_text.specs.Names.{NameList, AreNames, class_named, place_of, name_of}
 
@@ -92,6 +94,22 @@ name_at pair xs class at x place read =
     let found_pair : slice_get names at ≡ Some (pair x) = slice_get-get_or names at (0, []) here.0 ∙ ap (λ (e : ℕ × List ℕ). Some e) pair_read in
     ap (λ (o : Option (ℕ × List ℕ)). unwrap_or (option_map (λ e. e.1) o) []) (first_pair ∙ found_pair)
 
+-- an entry with a name is the one of its class, since no other has that name
+pub named_at : {X : Type 0} (pair : X → ℕ × List ℕ) (xs : List X) (name : List ℕ) (at : ℕ) (x : X) → AllPairs (λ x y. x.1 ≢ y.1) (map pair xs)
+    → at < length xs → x ≡ get_or xs at x → bytes_eq (pair x).1 name ≡ true → class_named (map pair xs) name ≡ Some (pair x).0
+named_at pair xs name at x different inside read same =
+    let names = map pair xs in
+    let test : ℕ × List ℕ → Bool = λ e. bytes_eq e.1 name in
+    let within : at < length names = rw length-map inside in
+    let pair_read : get_or names at (0, []) ≡ pair x = get_or-map pair xs at x (0, []) inside ∙ ap pair (sym read) in
+    let here : test (get_or names at (0, [])) ≡ true = rw pair_read same in
+    let before : (k : ℕ) → k < at → test (get_or names k (0, [])) ≡ false = λ k lt. false_from_ne_true _
+    (λ t. different k at (0, []) lt within ((bytes_eq-Decides _ _).0 t ∙ sym ((bytes_eq-Decides _ _).0 here))) in
+    let first : position_or_len test names ≡ at = position_or_len_is test names at (0, []) (omega (arith, within)) before (λ _. here) in
+    let first_pair : find test names ≡ slice_get names at = find_at test names ∙ ap (slice_get names) first in
+    let found_pair : slice_get names at ≡ Some (pair x) = slice_get-get_or names at (0, []) within ∙ ap (λ (e : ℕ × List ℕ). Some e) pair_read in
+    ap (λ (o : Option (ℕ × List ℕ)). option_map (λ e. e.0) o) (first_pair ∙ found_pair)
+
 -- the search for a name, entry by entry
 module _ {X : Type 0} (pair : X → ℕ × List ℕ) (xs : List X) (name : List ℕ) (i : ℕ) where
   -- those from i on decide
@@ -126,3 +144,20 @@ names_grow names class name good last named fresh room = record {
   different = all_pairs_push (λ x y. x.1 ≢ y.1) names (class, name) good.different fresh;
   few = grind (arith, common_steps);
 }
+
+-- a name has at most 64 letters
+short_name : (name : List ℕ) → IsTrue (is_name name) → length name ≤ 64
+short_name name e = grind (arith, nat_tests, e)
+
+by_class : (here : Bool) (n : ℕ × List ℕ) (found : Option (ℕ × List ℕ)) → length n.1 ≤ 64
+    → length (unwrap_or (option_map (λ (pair : ℕ × List ℕ). pair.1) found) []) ≤ 64
+    → length (unwrap_or (option_map (λ (pair : ℕ × List ℕ). pair.1) (if here then Some n else found)) []) ≤ 64
+by_class true n found a b = a
+by_class false n found a b = b
+
+-- so has what stands with a class
+pub name_short : (names : NameList) (class : ℕ) → All (λ pair. IsTrue (is_name pair.1)) names → length (name_of names class) ≤ 64
+name_short [] class named = omega arith
+name_short (n ∷ ns) class named =
+    by_class (eqb n.0 class) n (find (λ (pair : ℕ × List ℕ). eqb pair.0 class) ns) (short_name n.1 (named 0 n (omega arith)))
+    (name_short ns class (λ k d inside. named (suc k) d (omega (arith, inside))))

@@ -20,7 +20,7 @@ read_at [] k d l = absurd (omega arith)
 read_at (x ∷ ks) zero d l = refl
 read_at (x ∷ ks) (suc k) d l = read_at ks k d (omega (arith, l))
 
--- counts with so much more of each
+-- each number of the counts a and b added
 abbrev pub added : Counts → Counts → Counts
 added a b = record {
   arrived = a.arrived + b.arrived;
@@ -33,18 +33,19 @@ added a b = record {
   forced = a.forced + b.forced;
 }
 
-same_counts : (a b c d e f g h i j k l m n o p : ℕ) → a ≡ i → b ≡ j → c ≡ k → d ≡ l → e ≡ m → f ≡ n → g ≡ o → h ≡ p
-    → let x : Counts = record { arrived = a; arrived_bytes = b; raised = c; sent = d; sent_bytes = e; full = f; early = g; forced = h } in
-    x ≡ record { arrived = i; arrived_bytes = j; raised = k; sent = l; sent_bytes = m; full = n; early = o; forced = p }
-same_counts a b c d e f g h i j k l m n o p q r s t u v w x = cc
-
 pub next_sum : (ks : List Counts) (k : ℕ) (x : Counts) → slice_get ks k ≡ Some x → sum_of (take (k + 1) ks) ≡ added (sum_of (take k ks)) x
-next_sum ks k x e =
-    same_counts _ _ _ _ _ _ _ _ _ _ _ _ _ _ _ _ (next_total (λ i. i.arrived) ks k x e) (next_total (λ i. i.arrived_bytes) ks k x e)
-    (next_total (λ i. i.raised) ks k x e) (next_total (λ i. i.sent) ks k x e) (next_total (λ i. i.sent_bytes) ks k x e) (next_total (λ i. i.full) ks k x e)
-    (next_total (λ i. i.early) ks k x e) (next_total (λ i. i.forced) ks k x e)
+next_sum ks k x e = λ i. record {
+  arrived = next_total (λ c. c.arrived) ks k x e i;
+  arrived_bytes = next_total (λ c. c.arrived_bytes) ks k x e i;
+  raised = next_total (λ c. c.raised) ks k x e i;
+  sent = next_total (λ c. c.sent) ks k x e i;
+  sent_bytes = next_total (λ c. c.sent_bytes) ks k x e i;
+  full = next_total (λ c. c.full) ks k x e i;
+  early = next_total (λ c. c.early) ks k x e i;
+  forced = next_total (λ c. c.forced) ks k x e i;
+}
 
--- each of the sums is at most `n` times the bound of one count
+-- each number of the counts is at most `n` times the bound of one count
 pub record IsUnder (n : ℕ) (k : Counts) : Type 0 where
   pub arrived : k.arrived ≤ n * 2 ^ 41
   pub arrived_bytes : k.arrived_bytes ≤ n * 2 ^ 41

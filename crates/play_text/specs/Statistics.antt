@@ -3,7 +3,7 @@ use Rattle.std.specs.Prelude.{◌≤◌, ◌^◌, ℕ, List, [], ◌∷◌, ◌+
 use Rattle.std.specs.Fmt.{decimal}
 use Rattle.csv.specs.Writing.{row_text, default_writer}
 use Rattle.altq_model.specs.declared.Counts.{Counts}
-use Rattle.altq_model.specs.Arrivals.{Arrival}
+use Rattle.altq_model.specs.Arrivals.{Captured}
 use Rattle.altq_model.specs.Counts.{total, counts_of}
 use Rattle.altq_model.specs.History.{Decision}
 use Rattle.play_text.specs.Names.{NameList}
@@ -40,7 +40,7 @@ abbrev pub stats_of : NameList → List Counts → List ℕ
 stats_of names ks = stats_header ++ count_rows names ks ++ count_row (codes "*") (sum_of ks)
 
 -- the statistics of what arrived and what was decided
-abbrev pub statistics : NameList → List Arrival → List Decision → List ℕ
+abbrev pub statistics : NameList → List Captured → List Decision → List ℕ
 statistics names arrived js = stats_of names (map (λ n. counts_of n.0 arrived js) names)
 
 -- no count is above 2^41

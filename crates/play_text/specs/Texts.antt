@@ -8,7 +8,7 @@ use Rattle.altq_model.specs.declared.Reason.{Reason}
 use Rattle.altq_model.specs.declared.Reason.TheVariants.{Full, Early, Forced}
 use Rattle.altq_model.specs.declared.Rule.{Rule}
 use Rattle.altq_model.specs.declared.Rule.TheVariants.{RealTime, Share, Own, Borrow}
-use Rattle.altq_model.specs.Arrivals.{Arrival, arrival}
+use Rattle.altq_model.specs.Arrivals.{Captured, arrival}
 use Rattle.altq_model.specs.History.{Decision}
 
 -- the names of the classes
@@ -36,11 +36,11 @@ abbrev pub fate_text : (number at len : ℕ) → (class : List ℕ) → Fate →
 fate_text number at len class fate =
     row_text default_writer (decimal number ∷ decimal at ∷ decimal len ∷ class ∷ fate_fields fate)
 
-abbrev pub fate_row : Naming → List Arrival → Decision → List ℕ
+abbrev pub fate_row : Naming → List Captured → Decision → List ℕ
 fate_row names arrived d =
     let a = arrival arrived d.0 in fate_text d.0 a.at a.len (names a.class) d.1
 
-abbrev pub fate_rows : Naming → List Arrival → List Decision → List ℕ
+abbrev pub fate_rows : Naming → List Captured → List Decision → List ℕ
 fate_rows names arrived [] = []
 fate_rows names arrived (d ∷ js) = fate_row names arrived d ++ fate_rows names arrived js
 
@@ -48,5 +48,5 @@ abbrev pub fates_header : List ℕ
 fates_header = codes "number,arrival,length,class,fate,start,end" ++ 10 ∷ []
 
 -- the fates of a journal
-abbrev pub fates : Naming → List Arrival → List Decision → List ℕ
+abbrev pub fates : Naming → List Captured → List Decision → List ℕ
 fates names arrived js = fates_header ++ fate_rows names arrived js

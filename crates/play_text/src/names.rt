@@ -1,11 +1,25 @@
 // The names of the queue classes.
-ghost use Rattle.std.specs.Prelude.{◌≡◌, ◌≢◌, ◌<◌, ◌++◌, ◌∷◌, [], length, All, IfSome, IsTrue, OnOk, OnErr, Some, option_map, slice_get};
+ghost use Rattle.std.specs.Prelude.{◌≡◌, ◌≢◌, ◌<◌, ◌≤◌, ◌++◌, ◌∷◌, [], length, All, IfSome, IsTrue, OnOk, OnErr, Some, option_map, slice_get};
 ghost use Rattle.line_text.specs.Names.{is_name};
 ghost use Rattle.play_text.specs.Names.{AreNames, HasClass, class_named, name_of, place_of};
 
 use play_base::NoMemory;
 use std::alloc::Global;
 use std::marker::Model;
+
+// How many sums there are: four for each class.
+const SUMS: usize = 1024;
+
+// A sum of a name, by which different names mostly differ.
+fn sum_of(name: &[u8]) -> usize
+    ensures { result < 1024 }
+{
+    let mut sum = 0;
+    for byte in name {
+        sum = (sum * 31 + usize::from(*byte)) % SUMS;
+    }
+    sum
+}
 
 // A queue class and its name.
 #[derive(Drop)]
@@ -19,6 +33,8 @@ struct Named {
 #[derive(Drop)]
 pub struct Names {
     entries: Vec<Named>,
+    // By the sum of a name: where an entry with that sum was put.
+    likely: [u8; SUMS],
 }
 
 impl Model for Names {
@@ -40,6 +56,7 @@ impl Names {
     {
         Names {
             entries: Vec::new(alloc),
+            likely: [0; SUMS],
         }
     }
 
@@ -55,8 +72,11 @@ impl Names {
         ensures kept { OnErr result (self.new ≡ self.old) }
     {
         let alloc = *self.entries.allocator();
+        let at = self.entries.len() as u8;
+        let sum = sum_of(name.as_bytes());
         let name = String::from_str(alloc, name)?;
         self.entries.push(Named { class, name })?;
+        self.likely[sum] = at;
         Ok(())
     }
 
@@ -78,8 +98,35 @@ impl Names {
         }
     }
 
-    /// The class of a name; None exactly where no class has it. Takes no memory, and compares the name with at most 256 others.
+    /// The class of a name; None exactly where no class has it. Takes no memory, and compares the name with at most 257 others, mostly
+    /// with one.
     pub fn class(&self, name: &[u8]) -> Option<u32>
+        ensures { result ≡ class_named self.now name.now }
+    {
+        match self.likely_class(name) {
+            Some(class) => Some(class),
+            None => self.class_by_each(name),
+        }
+    }
+
+    // The class of a name, if its entry is the one that was put last with its sum.
+    fn likely_class(&self, name: &[u8]) -> Option<u32>
+        ensures { IfSome result (λ class. class_named self.now name.now ≡ Some class) }
+    {
+        let at = usize::from(self.likely[sum_of(name)]);
+        if at >= self.entries.len() {
+            return None;
+        }
+        let named = &self.entries[at];
+        if named.name.as_bytes() == name {
+            Some(named.class)
+        } else {
+            None
+        }
+    }
+
+    // The class of a name, which is compared with each entry's.
+    fn class_by_each(&self, name: &[u8]) -> Option<u32>
         ensures { result ≡ class_named self.now name.now }
     {
         for named in &self.entries {
@@ -93,7 +140,8 @@ impl Names {
     // The name of a class.
     pub(crate) fn name(&self, class: u32) -> &str
         requires { HasClass self.now class }
-        ensures { result.now ≡ name_of self.now class }
+        ensures name { result.now ≡ name_of self.now class }
+        ensures short { length result.now ≤ 64 }
     {
         match self.search(class) {
             Some(at) => self.entries[at].name.as_str(),

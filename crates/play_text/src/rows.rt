@@ -1,9 +1,9 @@
 // The rows of the fates.
-ghost use Rattle.std.specs.Prelude.{◌≡◌, ◌∷◌, ◌++◌, [], true, IfOk, OnErr, OnOk, map};
-ghost use Rattle.csv.specs.Writing.{default_writer, row_text, writer_under};
+ghost use Rattle.std.specs.Prelude.{◌≡◌, ◌≤◌, ◌+◌, ◌∷◌, ◌++◌, [], true, IfOk, OnErr, OnOk, length, map};
+ghost use Rattle.csv.specs.Writing.{default_writer, row_text, writer_pending, writer_under};
 ghost use Rattle.play_text.specs.Texts.{fate_text, fates_header, rule_word, reason_word};
 ghost use Rattle.play_text.specs.Names.{HasClass, name_of};
-ghost use Rattle.play_text.specs.Ready.{IsReady};
+ghost use Rattle.play_text.specs.Ready.{IsBetweenRows, IsReady};
 
 use crate::names::Names;
 use altq_model::{Fate, Reason, Rule};
@@ -15,7 +15,8 @@ use std::marker::Model;
 use std::mem;
 
 fn rule_name(rule: Rule) -> &'static str
-    ensures { result.now ≡ rule_word rule }
+    ensures word { result.now ≡ rule_word rule }
+    ensures short { length result.now ≤ 8 }
 {
     match rule {
         Rule::RealTime => "realtime",
@@ -26,7 +27,8 @@ fn rule_name(rule: Rule) -> &'static str
 }
 
 fn reason_name(reason: Reason) -> &'static str
-    ensures { result.now ≡ reason_word reason }
+    ensures word { result.now ≡ reason_word reason }
+    ensures short { length result.now ≤ 8 }
 {
     match reason {
         Reason::Full => "full",
@@ -35,24 +37,42 @@ fn reason_name(reason: Reason) -> &'static str
     }
 }
 
+// No row takes more bytes: none of its numbers has more than 40 digits, a name has at most 64 letters and a word 8, and quotes would
+// take as many once more, two bytes a field, and its separators.
+const LONGEST_ROW: usize = 565;
+
+// Memory for the digits of a row's numbers, which is cleared once and not for each row.
+#[derive(Drop)]
+struct Digits {
+    number: Buffer,
+    at: Buffer,
+    len: Buffer,
+    start: Buffer,
+    end: Buffer,
+}
+
 /// Rows of fates that are gathered as text: comma-separated values, each row with a line feed at its end. Contracts see the text.
 /// It grows as its rows come, and a row takes no allocation of its own.
 #[derive(Drop)]
 pub struct Rows {
     alloc: Global,
+    // It holds back what it wrote last, until the text is asked for.
     writer: Writer<Vec<u8>>,
+    // A bound of the length of the text, in bytes.
+    most: usize,
+    digits: Digits,
 }
 
 impl Model for Rows {
-    ghost use Rattle.std.specs.Prelude.{ℕ, List};
-    ghost use Rattle.csv.specs.Writing.{writer_under};
-    ghost use Rattle.play_text.specs.Ready.{IsReady};
+    ghost use Rattle.std.specs.Prelude.{ℕ, List, ◌++◌, ◌≤◌, length};
+    ghost use Rattle.csv.specs.Writing.{writer_pending, writer_under};
+    ghost use Rattle.play_text.specs.Ready.{IsBetweenRows};
 
     ghost Value = { List ℕ };
 
-    ghost view = { λ r. (writer_under r.writer).items };
+    ghost view = { λ r. (writer_under r.writer).items ++ writer_pending r.writer };
 
-    ghost invariant = { λ r. IsReady r.writer };
+    ghost invariant = { λ r. IsBetweenRows r.writer × (length ((writer_under r.writer).items ++ writer_pending r.writer) ≤ r.most) };
 }
 
 // A writer that has written nothing, over these bytes.
@@ -71,25 +91,60 @@ impl Rows {
         Rows {
             alloc,
             writer: writer_over(Vec::new(alloc)),
+            most: 0,
+            digits: Digits {
+                number: Buffer::new(),
+                at: Buffer::new(),
+                len: Buffer::new(),
+                start: Buffer::new(),
+                end: Buffer::new(),
+            },
         }
     }
 
-    /// The text of the rows. Takes no memory, in constant time.
-    pub fn as_slice(&self) -> &[u8]
-        ensures { result.now ≡ self.now }
+    /// A bound of the text's length in bytes, which rises by at most 565 with each row, and which `settle` makes exact. Constant time.
+    pub fn most(&self) -> usize
+        ensures { length self.now ≤ result }
     {
-        self.writer.get_ref().as_slice()
+        self.most
     }
 
-    /// Takes all rows away, and keeps their room where it can. Takes no memory.
-    pub fn clear(&mut self)
+    /// Makes the bound of the length exact. Takes the memory and the time of the rows that were held back, at most 8,192 bytes; the only
+    /// error is lack of memory. The rows stay.
+    pub fn settle(&mut self) -> Result<(), NoMemory>
+        ensures { self.new ≡ self.old }
+    {
+        match self.writer.flush() {
+            Ok(()) => {
+                self.most = self.writer.get_ref().len();
+                Ok(())
+            }
+            Err(_) => Err(NoMemory),
+        }
+    }
+
+    /// Takes the text of all rows out, and leaves no row. The only error is lack of memory, and then the rows are gone. Takes the memory
+    /// and the time of the rows that were held back, at most 8,192 bytes.
+    pub fn take_text(&mut self) -> Result<Vec<u8>, NoMemory>
+        ensures text { IfOk result (λ text. text.items ≡ self.old) }
+        ensures none { self.new ≡ [] }
+    {
+        let empty = writer_over(Vec::new(self.alloc));
+        self.most = 0;
+        match mem::replace(&mut self.writer, empty).into_inner() {
+            Ok(text) => Ok(text),
+            Err(_) => Err(NoMemory),
+        }
+    }
+
+    /// Gives the memory of a text that was taken out to rows of which there is none. Takes no memory.
+    pub fn reuse(&mut self, text: Vec<u8>)
+        requires { self.old ≡ [] }
         ensures { self.new ≡ [] }
     {
-        let spare = writer_over(Vec::new(self.alloc));
-        if let Ok(mut bytes) = mem::replace(&mut self.writer, spare).into_inner() {
-            bytes.clear();
-            self.writer = writer_over(bytes);
-        }
+        let mut room = text;
+        room.clear();
+        self.writer = writer_over(room);
     }
 
     /// Adds the row of a packet's fate: its number from 1, its arrival in nanoseconds, its length in bytes, the name of its class, how
@@ -109,57 +164,120 @@ impl Rows {
         ensures emptied { OnErr result (self.new ≡ []) }
     {
         let class = names.name(class);
-        let (mut number_text, mut at_text, mut len_text) = (
-            Buffer::new(),
-            Buffer::new(),
-            Buffer::new(),
+        let most = self.most.checked_add(LONGEST_ROW);
+        let written = add_fate(
+            &mut self.writer,
+            &mut self.digits,
+            number,
+            at,
+            len,
+            class,
+            fate,
         );
-        let number = number_text.format(number);
-        let at = at_text.format(at);
-        let len = len_text.format(len);
-        match *fate {
-            Fate::Sent { start, end, rule } => {
-                let (mut start_text, mut end_text) = (Buffer::new(), Buffer::new());
-                let start = start_text.format(start);
-                let end = end_text.format(end);
-                self.put(number, at, len, class, rule_name(rule), start, end)
-            }
-            Fate::Dropped(reason) => {
-                self.put(number, at, len, class, reason_name(reason), "", "")
-            }
-        }
-    }
-
-    // Adds a row of these fields. All are in one array, which `csv` writes, so they have one lifetime.
-    fn put<'a>(
-        &mut self,
-        number: &'a str,
-        at: &'a str,
-        len: &'a str,
-        class: &'a str,
-        word: &'a str,
-        start: &'a str,
-        end: &'a str,
-    ) -> Result<(), NoMemory>
-        ensures added { OnOk result (self.new ≡ self.old ++ row_text default_writer
-            (number.now ∷ at.now ∷ len.now ∷ class.now ∷ word.now ∷ start.now ∷ end.now ∷ [])) }
-        ensures emptied { OnErr result (self.new ≡ []) }
-    {
-        let fields = [
-            number.as_bytes(),
-            at.as_bytes(),
-            len.as_bytes(),
-            class.as_bytes(),
-            word.as_bytes(),
-            start.as_bytes(),
-            end.as_bytes(),
-        ];
-        if write_row(&mut self.writer, &fields) {
+        if let (true, Some(most)) = (written, most) {
+            self.most = most;
             return Ok(());
         }
         renew(&mut self.writer, self.alloc);
+        self.most = 0;
         Err(NoMemory)
     }
+}
+
+// Writes the row of a fate; false where memory was wanting.
+fn add_fate(
+    writer: &mut Writer<Vec<u8>>,
+    digits: &mut Digits,
+    number: u64,
+    at: u64,
+    len: u32,
+    class: &str,
+    fate: &Fate,
+) -> bool
+    requires between { IsBetweenRows writer.old }
+    requires class { length class.now ≤ 64 }
+    ensures between { result ≡ true → IsBetweenRows writer.new }
+    ensures text { result ≡ true → (writer_under writer.new).items ++ writer_pending writer.new
+        ≡ ((writer_under writer.old).items ++ writer_pending writer.old) ++ fate_text number at len class.now fate.now }
+    ensures longer { result ≡ true → length ((writer_under writer.new).items ++ writer_pending writer.new)
+        ≤ length ((writer_under writer.old).items ++ writer_pending writer.old) + 565 }
+{
+    let number = digits.number.format(number);
+    let at = digits.at.format(at);
+    let len = digits.len.format(len);
+    match *fate {
+        Fate::Sent { start, end, rule } => {
+            let start = digits.start.format(start);
+            let end = digits.end.format(end);
+            put(writer, number, at, len, class, rule_name(rule), start, end)
+        }
+        Fate::Dropped(reason) => {
+            put_dropped(writer, number, at, len, class, reason_name(reason))
+        }
+    }
+}
+
+// Writes the row of a drop; false where memory was wanting.
+fn put_dropped<'a>(
+    writer: &mut Writer<Vec<u8>>,
+    number: &'a str,
+    at: &'a str,
+    len: &'a str,
+    class: &'a str,
+    word: &'a str,
+) -> bool
+    requires between { IsBetweenRows writer.old }
+    requires number { length number.now ≤ 40 }
+    requires at { length at.now ≤ 40 }
+    requires len { length len.now ≤ 40 }
+    requires class { length class.now ≤ 64 }
+    requires word { length word.now ≤ 8 }
+    ensures between { result ≡ true → IsBetweenRows writer.new }
+    ensures text { result ≡ true → (writer_under writer.new).items ++ writer_pending writer.new
+        ≡ ((writer_under writer.old).items ++ writer_pending writer.old) ++ row_text default_writer
+        (number.now ∷ at.now ∷ len.now ∷ class.now ∷ word.now ∷ [] ∷ [] ∷ []) }
+    ensures longer { result ≡ true → length ((writer_under writer.new).items ++ writer_pending writer.new)
+        ≤ length ((writer_under writer.old).items ++ writer_pending writer.old) + 565 }
+{
+    put(writer, number, at, len, class, word, "", "")
+}
+
+// Writes a row of these fields; false where memory was wanting. All are in one array, which `csv` writes, so they have one lifetime.
+fn put<'a>(
+    writer: &mut Writer<Vec<u8>>,
+    number: &'a str,
+    at: &'a str,
+    len: &'a str,
+    class: &'a str,
+    word: &'a str,
+    start: &'a str,
+    end: &'a str,
+) -> bool
+    requires between { IsBetweenRows writer.old }
+    requires number { length number.now ≤ 40 }
+    requires at { length at.now ≤ 40 }
+    requires len { length len.now ≤ 40 }
+    requires class { length class.now ≤ 64 }
+    requires word { length word.now ≤ 8 }
+    requires start { length start.now ≤ 40 }
+    requires end { length end.now ≤ 40 }
+    ensures between { result ≡ true → IsBetweenRows writer.new }
+    ensures text { result ≡ true → (writer_under writer.new).items ++ writer_pending writer.new
+        ≡ ((writer_under writer.old).items ++ writer_pending writer.old) ++ row_text default_writer
+        (number.now ∷ at.now ∷ len.now ∷ class.now ∷ word.now ∷ start.now ∷ end.now ∷ []) }
+    ensures longer { result ≡ true → length ((writer_under writer.new).items ++ writer_pending writer.new)
+        ≤ length ((writer_under writer.old).items ++ writer_pending writer.old) + 565 }
+{
+    let fields = [
+        number.as_bytes(),
+        at.as_bytes(),
+        len.as_bytes(),
+        class.as_bytes(),
+        word.as_bytes(),
+        start.as_bytes(),
+        end.as_bytes(),
+    ];
+    add_row(writer, &fields)
 }
 
 // Puts a new writer over nothing in place of one. It is not inlined, since a writer is large, and a function that makes one pays for
@@ -173,16 +291,26 @@ fn renew(writer: &mut Writer<Vec<u8>>, alloc: Global)
     *writer = writer_over(Vec::new(alloc));
 }
 
+// Writes a row, which may be held back; false where memory was wanting.
+fn add_row(writer: &mut Writer<Vec<u8>>, fields: &[&[u8]]) -> bool
+    requires { IsBetweenRows writer.old }
+    ensures between { result ≡ true → IsBetweenRows writer.new }
+    ensures text { result ≡ true → (writer_under writer.new).items ++ writer_pending writer.new
+        ≡ ((writer_under writer.old).items ++ writer_pending writer.old) ++ row_text default_writer (map (λ f. f.now) fields.now) }
+{
+    match writer.write_fields(fields) {
+        Ok(()) => true,
+        Err(_) => false,
+    }
+}
+
 // Writes a row at once; false where memory was wanting.
 pub(crate) fn write_row(writer: &mut Writer<Vec<u8>>, fields: &[&[u8]]) -> bool
     requires { IsReady writer.old }
     ensures ready { result ≡ true → IsReady writer.new }
     ensures text { result ≡ true → (writer_under writer.new).items ≡ (writer_under writer.old).items ++ row_text default_writer (map (λ f. f.now) fields.now) }
 {
-    match writer.write_fields(fields) {
-        Ok(()) => writer.flush().is_ok(),
-        Err(_) => false,
-    }
+    add_row(writer, fields) && writer.flush().is_ok()
 }
 
 /// The row of a packet's fate by itself, as `Rows::add` writes it. The only error is lack of memory.
@@ -200,11 +328,7 @@ pub fn fate_row(
 {
     let mut rows = Rows::new(alloc);
     rows.add(names, number, at, len, class, fate)?;
-    let Rows { writer, .. } = rows;
-    match writer.into_inner() {
-        Ok(row) => Ok(row),
-        Err(_) => Err(NoMemory),
-    }
+    rows.take_text()
 }
 
 /// The header row of the fates.

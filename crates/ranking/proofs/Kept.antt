@@ -5,17 +5,13 @@ use Rattle.std.specs.List.{insert}
 use Rattle.std.proofs.lemmas.List.{length-set, get_or-set_other}
 use Rattle.ranking.specs.Order.{is_ranked, are_below, is_in, with_class, without}
 use Rattle.ranking.specs.Search.{IsFound}
-use Rattle.ranking.proofs.Placed.{IsTakenAt, taken_found, put_found}
+use Rattle.ranking.proofs.Placed.{put_found}
 use Rattle.ranking.proofs.Ranks.{ranked_true, true_ranked, below_true, true_below, rekeyed, with_ranked, with_below, without_ranked, without_below, has_room}
 
 -- a search over copies of the lists is one over the lists
 pub found_in : (keys seen_keys : List (Option ℕ)) (order seen : List ℕ) (c k : ℕ) → seen_keys ≡ keys → seen ≡ order → IsFound seen_keys seen c k k → IsFound keys order c k k
 found_in keys seen_keys order seen c k e f found =
     subst (λ (xs : List ℕ). IsFound keys xs c k k) f (subst (λ (ks : List (Option ℕ)). IsFound ks seen c k k) e found)
-
-pub taken : (keys seen_keys : List (Option ℕ)) (order seen : List ℕ) (c k : ℕ) → is_ranked keys order ≡ true → is_in c order ≡ true
-    → seen_keys ≡ keys → seen ≡ order → IsFound seen_keys seen c k k → IsTakenAt order c k
-taken keys seen_keys order seen c k r i e f found = taken_found keys order c k (ranked_true keys order r) i (found_in keys seen_keys order seen c k e f found)
 
 pub take_ranked : (keys : List (Option ℕ)) (order new : List ℕ) (c : ℕ) → new ≡ without order c → is_ranked keys order ≡ true → is_ranked keys new ≡ true
 take_ranked keys order new c e r = ap (λ (xs : List ℕ). is_ranked keys xs) e ∙ true_ranked keys (without order c) (without_ranked keys order c (ranked_true keys order r))

@@ -7,6 +7,7 @@
 ghost use Rattle.std.specs.Prelude.{◌≡◌, ◌==◌, ◌<◌, ◌≤◌, ◌^◌, ℕ, [], length, true, false, slice_set, None, IfOk, if◌then◌else◌};
 ghost use Rattle.std.specs.Vec.{vec_len, vec_capacity};
 ghost use Rattle.std.specs.List.{insert, remove};
+ghost use Rattle.ranking.specs.Search.{IsFound};
 ghost use Rattle.ranking.specs.Order.{is_before, is_ranked, are_below, is_in, key_of, with_class, without};
 
 use play_base::NoMemory;
@@ -84,7 +85,7 @@ impl Ranking {
         ensures order { order_of self.new ≡ without (order_of self.old) class }
     {
         let place = place_in(&self.order, &self.keys, class);
-        take_at(&mut self.order, place);
+        self.take_found(class, place);
     }
 
     /// Takes a class out where it `was` there, and puts it in with a key where it `is` to be there. It takes the time of
@@ -95,14 +96,9 @@ impl Ranking {
         requires was { is_in class (order_of self.old) ≡ was }
         ensures { IsReplaced class is key self.old self.new }
     {
-        if was && is && self.key(class) == key {
+        if self.leave(class, was, is, key) {
             return;
         }
-        if was && is && self.stays(class, key) {
-            self.rekey(class, key);
-            return;
-        }
-        self.take_if(class, was);
         self.put_if(class, is, key);
     }
 
@@ -117,13 +113,24 @@ impl Ranking {
         self.keys[place] = key;
     }
 
-    /// Whether a class that is there keeps its place with another key: it still goes between its neighbours.
-    fn stays(&self, class: u32, key: Option<u128>) -> bool
+    /// Takes out a class that is there, at the place where it was found.
+    fn take_found(&mut self, class: u32, place: usize)
+        requires there { is_in class (order_of self.old) ≡ true }
+        requires found { IsFound (keys_of self.old) (order_of self.old) class place place }
+        ensures keys { keys_of self.new ≡ keys_of self.old }
+        ensures order { order_of self.new ≡ without (order_of self.old) class }
+        ensures classes { (c : ℕ) → is_in c (order_of self.new) ≡ (if class == c then false else is_in c (order_of self.old)) }
+    {
+        take_at(&mut self.order, place);
+    }
+
+    /// Whether a class that was found at a place keeps it with another key: it still goes between its neighbours.
+    fn stays(&self, class: u32, place: usize, key: Option<u128>) -> bool
         requires class { class < length (keys_of self.now) }
         requires there { is_in class (order_of self.now) ≡ true }
+        requires found { IsFound (keys_of self.now) (order_of self.now) class place place }
         ensures { result ≡ true → is_ranked (slice_set (keys_of self.now) class key) (order_of self.now) ≡ true }
     {
-        let place = place_in(&self.order, &self.keys, class);
         is_behind(&self.order, &self.keys, place, class, key)
             && is_ahead(&self.order, &self.keys, place + 1, class, key)
     }
@@ -139,15 +146,28 @@ impl Ranking {
         self.keys[index] = key;
     }
 
-    /// Takes a class out, where it is there.
-    fn take_if(&mut self, class: u32, was: bool)
-        requires { is_in class (order_of self.old) ≡ was }
-        ensures keys { keys_of self.new ≡ keys_of self.old }
-        ensures classes { (c : ℕ) → is_in c (order_of self.new) ≡ (if class == c then false else is_in c (order_of self.old)) }
+    /// Takes a class out where it `was` there, and answers no; but one that keeps its place with the key with which it `is` to be
+    /// there gets that key, and the answer is yes.
+    fn leave(&mut self, class: u32, was: bool, is: bool, key: Option<u128>) -> bool
+        requires class { class < length (keys_of self.old) }
+        requires was { is_in class (order_of self.old) ≡ was }
+        ensures stays { result ≡ true → IsReplaced class is key self.old self.new }
+        ensures keys { result ≡ false → keys_of self.new ≡ keys_of self.old }
+        ensures classes { result ≡ false → (c : ℕ) → is_in c (order_of self.new) ≡ (if class == c then false else is_in c (order_of self.old)) }
     {
-        if was {
-            self.take(class);
+        if !was {
+            return false;
         }
+        if is && self.key(class) == key {
+            return true;
+        }
+        let place = place_in(&self.order, &self.keys, class);
+        if is && self.stays(class, place, key) {
+            self.rekey(class, key);
+            return true;
+        }
+        self.take_found(class, place);
+        false
     }
 
     /// Puts a class in with a key, where it is to be there.

@@ -17,7 +17,7 @@ loop-next-init c = record {
       (sym (ap (λ (b : Bool). b && waits_in (Sent c.args.leaf c.args.len real start ∷ h) c.args.leaf) (same_test c.args.leaf) ∙ waits))
       (service_begins c.args.self.now cs h c.args.leaf c.args.len real start stands small);
   way = on_first c.args.leaf (not c.args.empty) c.serve_class-next.result c.args.self.now.nodes.items c.serve_class-next.new.self.nodes.items c.requires.class c.args.self.now.parents_first
-      c.serve_class-next.ensures.step (c.serve_class-next.ensures.active c.requires.leaf ∙ ap (λ (b : Bool). b && not c.args.empty) c.requires.waits) c.serve_class-next.ensures.parent;
+      c.serve_class-next.ensures.step (c.serve_class-next.ensures.active c.requires.leaf ∙ ap (λ (b : Bool). b && not c.args.empty) c.requires.waits) (λ p e. sym c.serve_class-next.ensures.parent ∙ e);
   woken = c.serve_class-next.ensures.woken;
 }
 
@@ -36,7 +36,7 @@ loop-next-preserved c =
           (subst (λ (o : Option ℕ). Walks cs h (Sent c.args.leaf c.args.len real start ∷ h) c.args.self.now.woken c.args.leaf o c.loop-next.self.nodes.items) c.in-Some.is
           (c.loop-next.invariant.walks cs h real start stands waits small));
       way = on_next c.args.leaf c.in-Some.class (not c.args.empty) c.serve_class-next-in-Some.result c.args.self.now.nodes.items c.loop-next.self.nodes.items c.serve_class-next-in-Some.new.self.nodes.items
-          way c.requires.leaf c.loop-next.self.parents_first c.serve_class-next-in-Some.ensures.step c.serve_class-next-in-Some.ensures.parent;
+          way c.requires.leaf c.loop-next.self.parents_first c.serve_class-next-in-Some.ensures.step (λ p e. sym c.serve_class-next-in-Some.ensures.parent ∙ e);
       woken = c.serve_class-next-in-Some.ensures.woken ∙ c.loop-next.invariant.woken;
     }
 

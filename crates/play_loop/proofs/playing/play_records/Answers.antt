@@ -2,16 +2,16 @@
 use Rattle.std.proofs.Common.{◌≡◌, ◌++◌, ◌∙◌, inl, inr, ℕ, List, [], ◌∷◌, length-append, None, Err, refl, ap, subst, arith}
 use Rattle.std.specs.Prelude.{IsTrue, Result}
 use Rattle.std.specs.declared.option.Option.{Option}
-use Rattle.altq_model.specs.Arrivals.{Arrival, coming_of, comings}
+use Rattle.altq_model.specs.Arrivals.{Captured, bare_arrival, bare_arrivals}
 use Rattle.pcap_files.specs.declared.fault.CaptureFault.{CaptureFault}
 use Rattle.pcap_files.specs.declared.record.Record.{Record as Read}
 use Rattle.pcap_files.specs.Reading.{Answers, Counts}
 use Rattle.play_base.proofs.ViewLaws.{same_refl, same_trans as same_counts}
-use Rattle.play_laws.proofs.ArrivalLemmas.{comings_length}
+use Rattle.play_laws.proofs.ArrivalLemmas.{bare_arrivals_length}
 use Rattle.play_laws.proofs.OneLemmas.{later_arrivals}
 use Rattle.play_core.specs.declared.totals.Totals.{Totals}
 use Rattle.play_core.specs.Ended.{IsCutOff}
-use Rattle.play_core.proofs.OfferLemmas.{is_coming}
+use Rattle.play_core.proofs.OfferLemmas.{is_bare_arrival}
 use Rattle.play_loop.specs.declared.arriving.Arriving.{Arriving}
 use Rattle.play_loop.specs.declared.ending.Due.{Due}
 use Rattle.play_loop.specs.Kept.{IsOther}
@@ -70,7 +70,7 @@ returns-in-Err-clause-ended g c =
         });
       };
       first = first_of_read x _ _ _ z.0 _ z.1 z.2.read
-          (offered_stays x z.0 z.1 (omega (arith, z.2.offers, comings_length z.0)) z.2.last (begun_of _ _ z.0 _ z.1 z.2.under.setup z.2.under.going).events);
+          (offered_stays x z.0 z.1 (omega (arith, z.2.offers, bare_arrivals_length z.0)) z.2.last (begun_of _ _ z.0 _ z.1 z.2.under.setup z.2.under.going).events);
     }
 
 pub returns-in-Err-clause-others : goal.returns-in-Err-clause-others
@@ -108,8 +108,8 @@ returns-in-Ok-Late-clause-ended g c =
     let all = all_read x.place (StartsOn (g.F.Files.view c.args.files.now) c.args.reader.now) _ _ z.0 _ (of_none _ _ c.in_default.is c.in-Ok.ensures.end) z.2.read in
     let d = c.in-Ok-Late.ensures.due x z.0 c.records.words z.1 u (none_arrives z.0 z.1 z.2.offers) in
     let Q : Due → Type 0 = λ k. DueIs k x z.0 d.0 None in
-    let cut : IsCutOff x.policy x.rate x.seed (comings z.0) d.0 = subst Q c.in-Ok-Late.field-0-is d.3 in
-    let starts = cut_starts x (comings z.0) d.0 d.1.setup.sound d.1.going.rising cut in
+    let cut : IsCutOff x.policy x.rate x.seed (bare_arrivals z.0) d.0 = subst Q c.in-Ok-Late.field-0-is d.3 in
+    let starts = cut_starts x (bare_arrivals z.0) d.0 d.1.setup.sound d.1.going.rising cut in
     record {
       arrived = z.0;
       events = d.0;
@@ -167,7 +167,7 @@ play_packet-requires-clause-under g c =
     let x : Setup = setup_of (g.D.Discipline.policy c.args.discipline.now) (g.C.Classify.placed c.args.classify.now) (g.C.Classify.dressed c.args.classify.now) c.args.names.now c.args.progress.now.clock.rate c.args.words.now.seed in
     let z = c.records.invariant.reading in
     let a : Arriving = c.arrive-arriving.result in
-    let more : List Arrival = z.0 ++ arrival_of x.place a ∷ [] in
+    let more : List Captured = z.0 ++ arrival_of x.place a ∷ [] in
     let counts = of_some (Counts c.records.reader c.next.new.self) _ c.in-Some.record c.in-Some.is c.in-Ok.ensures.counted in
     let u = under_read x _ (record c.records.outputs { counts = c.arrive-arriving.new.counts }) z.0 c.records.words z.1 c.records.latest a
     (under_kept _ _ _ (g.F.Files.view c.next.new.files) z.0 _ z.1 z.2.under c.next.ensures.some.1.keeps) z.2.last z.2.last_is (omega (arith, c.arrive-arriving.ensures.read.at))
@@ -181,7 +181,7 @@ records-preserved g c =
     let x : Setup = setup_of (g.D.Discipline.policy c.args.discipline.now) (g.C.Classify.placed c.args.classify.now) (g.C.Classify.dressed c.args.classify.now) c.args.names.now c.args.progress.now.clock.rate c.args.words.now.seed in
     let z = c.records.invariant.reading in
     let a : Arriving = c.arrive-arriving.result in
-    let more : List Arrival = z.0 ++ arrival_of x.place a ∷ [] in
+    let more : List Captured = z.0 ++ arrival_of x.place a ∷ [] in
     let counts = of_some (Counts c.records.reader c.next.new.self) _ c.in-Some.record c.in-Some.is c.in-Ok.ensures.counted in
     let u = under_read x _ (record c.records.outputs { counts = c.arrive-arriving.new.counts }) z.0 c.records.words z.1 c.records.latest a
     (under_kept _ _ _ (g.F.Files.view c.next.new.files) z.0 _ z.1 z.2.under c.next.ensures.some.1.keeps) z.2.last z.2.last_is (omega (arith, c.arrive-arriving.ensures.read.at))
@@ -232,7 +232,7 @@ returns-in-Ok-Late-play_packet-clause-ended g c =
     let x : Setup = setup_of (g.D.Discipline.policy c.args.discipline.now) (g.C.Classify.placed c.args.classify.now) (g.C.Classify.dressed c.args.classify.now) c.args.names.now c.args.progress.now.clock.rate c.args.words.now.seed in
     let z = c.records.invariant.reading in
     let a : Arriving = c.arrive-arriving.result in
-    let more : List Arrival = z.0 ++ arrival_of x.place a ∷ [] in
+    let more : List Captured = z.0 ++ arrival_of x.place a ∷ [] in
     let counts = of_some (Counts c.records.reader c.next.new.self) _ c.in-Some.record c.in-Some.is c.in-Ok.ensures.counted in
     let u = under_read x _ (record c.records.outputs { counts = c.arrive-arriving.new.counts }) z.0 c.records.words z.1 c.records.latest a
     (under_kept _ _ _ (g.F.Files.view c.next.new.files) z.0 _ z.1 z.2.under c.next.ensures.some.1.keeps) z.2.last z.2.last_is (omega (arith, c.arrive-arriving.ensures.read.at))
@@ -251,12 +251,12 @@ returns-in-Ok-Late-play_packet-clause-ended g c =
     let d = c.in-Ok-Late-play_packet.ensures.due x more z.1 u held in
     let Q : Due → Type 0 = λ k. OfferedIs k x more a.packet.at z.1 d.0 in
     let o = subst Q c.in-Ok-Late-play_packet.field-0-is d.2 in
-    let cut : IsCutOff x.policy x.rate x.seed (comings more) d.0 = o.0 in
-    let starts = cut_starts x (comings more) d.0 d.1.setup.sound d.1.going.rising cut in
-    let coming = is_coming more d.0 (arrival_of x.place a) (held_same x.place more z.1 d.0 a o.1.0 held).there in
-    let inside = coming.inside in
+    let cut : IsCutOff x.policy x.rate x.seed (bare_arrivals more) d.0 = o.0 in
+    let starts = cut_starts x (bare_arrivals more) d.0 d.1.setup.sound d.1.going.rising cut in
+    let arrival_with = is_bare_arrival more d.0 (arrival_of x.place a) (held_same x.place more z.1 d.0 a o.1.0 held).there in
+    let inside = arrival_with.inside in
     let staying : StayDue x more (cut.next ∷ d.0) =
-    λ others. later_arrivals x.policy x.rate x.seed (comings more) others cut.next d.0 (omega (arith, inside, comings_length more)) (cut.is_due, cut.begun.events) in
+    λ others. later_arrivals x.policy x.rate x.seed (bare_arrivals more) others cut.next d.0 (omega (arith, inside, bare_arrivals_length more)) (cut.is_due, cut.begun.events) in
     record {
       arrived = more;
       events = d.0;
@@ -267,7 +267,7 @@ returns-in-Ok-Late-play_packet-clause-ended g c =
         ahead = λ bytes t. (let h = z.2.read bytes t in
             inr (ahead_of x.place _ c.next.new.self bytes more a.packet.at (start_of cut.next.what) h.records (answer bytes h.records h.stands).0
             (read_kept x.place _ _ c.next.new.self c.records.outputs.departures c.records.outputs.fates bytes more a.packet.at (read bytes t) there (other t.0) c.in-Ok-Late-play_packet.ensures.only.others)
-            refl c.in-Ok.ensures.sound (omega (arith, h.latest_is, z.2.newest, o.1.1, starts.after)) (starts.before (coming_of (arrival_of x.place a)) coming.seen)));
+            refl c.in-Ok.ensures.sound (omega (arith, h.latest_is, z.2.newest, o.1.1, starts.after)) (starts.before (bare_arrival (arrival_of x.place a)) arrival_with.seen)));
       };
       first = first_of_read x _ _ _ more _ d.0 read (before_stays x more z.1 d.0 a held o.1.0 cut.begun.events);
     }
@@ -281,7 +281,7 @@ returns-in-Err-play_packet-clause-broken g c =
     let x : Setup = setup_of (g.D.Discipline.policy c.args.discipline.now) (g.C.Classify.placed c.args.classify.now) (g.C.Classify.dressed c.args.classify.now) c.args.names.now c.args.progress.now.clock.rate c.args.words.now.seed in
     let z = c.records.invariant.reading in
     let a : Arriving = c.arrive-arriving.result in
-    let more : List Arrival = z.0 ++ arrival_of x.place a ∷ [] in
+    let more : List Captured = z.0 ++ arrival_of x.place a ∷ [] in
     let counts = of_some (Counts c.records.reader c.next.new.self) _ c.in-Some.record c.in-Some.is c.in-Ok.ensures.counted in
     let u = under_read x _ (record c.records.outputs { counts = c.arrive-arriving.new.counts }) z.0 c.records.words z.1 c.records.latest a
     (under_kept _ _ _ (g.F.Files.view c.next.new.files) z.0 _ z.1 z.2.under c.next.ensures.some.1.keeps) z.2.last z.2.last_is (omega (arith, c.arrive-arriving.ensures.read.at))

@@ -1,5 +1,5 @@
 use Rattle.std.proofs.Common.{◌≡◌, ◌-◌, ◌<◌, ◌^◌, List, None}
-use Rattle.altq_model.specs.Arrivals.{Arrival}
+use Rattle.altq_model.specs.Arrivals.{Captured}
 use Rattle.altq_model.specs.History.{Happened}
 use Rattle.pcap_files.specs.Reading.{answered}
 use Rattle.play_base.specs.View.{SameCounts}
@@ -23,7 +23,7 @@ invariant-records g l =
       before : g.K.Keeper.before l.keeper ≡ g.K.Keeper.before l.fn.keeper;
       no_fault : SameCounts (g.F.Files.view l.fn.files) (g.F.Files.view l.files);
       early : l.latest < 2 ^ 62;
-      reading : (arrived : List Arrival) × (k : List Happened) × IsReading x m l.words (StartsOn (g.F.Files.view l.fn.files) l.fn.reader) l.reader l.latest arrived k;
+      reading : (arrived : List Captured) × (k : List Happened) × IsReading x m l.words (StartsOn (g.F.Files.view l.fn.files) l.fn.reader) l.reader l.latest arrived k;
     }
 
 abbrev pub decreases-records : goal.decreases-records

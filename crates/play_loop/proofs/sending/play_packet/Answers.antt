@@ -1,7 +1,7 @@
 -- A packet is offered once every sending before it was made.
 use Rattle.std.proofs.Common.{◌+◌, ℕ, Some, refl, ap, sym, subst, arith}
 use Rattle.altq_model.specs.declared.Placed.{Placed}
-use Rattle.altq_model.specs.Arrivals.{coming_of}
+use Rattle.altq_model.specs.Arrivals.{bare_arrival}
 use Rattle.altq_model.specs.Play.{offer_of}
 use Rattle.play_text.specs.Names.{HasClass}
 use Rattle.play_loop.specs.declared.ending.Due.{Due}
@@ -113,7 +113,7 @@ returns-in-Err-add_dropped-clause-broken g c = λ x arrived g' u h.
         fronts = fronts_offered y l l _ _ arrived c.args.words.now d.0 c.args.arriving c.offer-dropped.result i d.1.written.given c.in-Ok-Made.ensures.only.same
             c.in-Err-add_dropped.ensures.stopped;
       },
-      with_stays y arrived d.0 (offer_of l.shown.policy c.args.words.now.seed d.0 (coming_of (arrival_of y.place c.args.arriving))) c.args.arriving held refl tt begun.events,
+      with_stays y arrived d.0 (offer_of l.shown.policy c.args.words.now.seed d.0 (bare_arrival (arrival_of y.place c.args.arriving))) c.args.arriving held refl tt begun.events,
     )
 
 pub returns-in-Err-add_dropped-clause-only : goal.returns-in-Err-add_dropped-clause-only

@@ -1,6 +1,6 @@
 -- The texts of a play grow with its sendings.
 use Rattle.std.proofs.Common.{◌∙◌, ◌∷◌, refl, arith}
-use Rattle.altq_model.specs.Arrivals.{comings}
+use Rattle.altq_model.specs.Arrivals.{bare_arrivals}
 use Rattle.play_core.specs.Ended.{IsCutOff}
 use Rattle.play_core.specs.Turns.{departs}
 use Rattle.play_loop.specs.Underway.{Moment, moment, shown}
@@ -39,7 +39,7 @@ returns-in-Late-clause-due g c = λ x arrived w g' u e.
       k.0,
       record { setup = moved_on _ _ _ w.seed w.seed k.1.setup c.turn.ensures.policy c.turn.ensures.rate refl; going = t.1; written = k.1.written },
       k.2,
-      to_setup (λ p rate seed. IsCutOff p rate seed (comings arrived) k.0) _ _ w.seed k.1.setup t.0,
+      to_setup (λ p rate seed. IsCutOff p rate seed (bare_arrivals arrived) k.0) _ _ w.seed k.1.setup t.0,
     )
 
 pub add_sent-requires : goal.add_sent-requires

@@ -1,5 +1,5 @@
 use Rattle.std.proofs.Common.{◌≡◌, ◌-◌, List, Ok}
-use Rattle.altq_model.specs.Arrivals.{Arrival}
+use Rattle.altq_model.specs.Arrivals.{Captured}
 use Rattle.altq_model.specs.History.{DrawnWords, Happened}
 use Rattle.play_core.specs.Turns.{arrives}
 use Rattle.play_loop.specs.Outputs.{AddsOnly}
@@ -15,7 +15,7 @@ invariant-turns g l =
     record {
       only : AddsOnly {A = Unit {0}} (g.F.Files.view l.fn.files) (g.F.Files.view l.files) l.fn.outputs l.outputs (Ok tt);
       before : g.K.Keeper.before l.keeper ≡ g.K.Keeper.before l.fn.keeper;
-      under : (x : Setup) (arrived : List Arrival) (w : DrawnWords) (k : List Happened) → IsUnderway (classed c x) m arrived w k → l.arrival ≡ arrives arrived k
+      under : (x : Setup) (arrived : List Captured) (w : DrawnWords) (k : List Happened) → IsUnderway (classed c x) m arrived w k → l.arrival ≡ arrives arrived k
           → (h : List Happened) × IsUnderway (classed c x) n arrived w h × SameOffers k h;
     }
 

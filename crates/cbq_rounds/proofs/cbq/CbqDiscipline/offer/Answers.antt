@@ -2,7 +2,7 @@ use Rattle.std.proofs.Common.{◌≡◌, ◌<◌, ◌-◌, ◌^◌, ◌∙◌, L
 use Rattle.altq_model.specs.History.{Happened, bare}
 use Rattle.leaf_queue.specs.declared.node.Entry.{Entry}
 use Rattle.class_rows.specs.Rows.{list_in}
-use Rattle.discipline.specs.Laws.{IsAnswer, coming, entry, offer_of}
+use Rattle.discipline.specs.Laws.{IsAnswer, arrival_with, entry, offer_of}
 use Rattle.discipline.specs.Moments.{IsOffer}
 use Rattle.cbq_model.proofs.Places.{is_below}
 use Rattle.cbq_rounds.specs.Looked.{AreSized}
@@ -44,11 +44,11 @@ put-requires g c =
 
 pub returns-clause-history : goal.returns-clause-history
 returns-clause-history g c =
-    let P : Ruling g.row.Q.Denot → Type 0 = λ d. (h : List Happened) → Stands g.Q.QueueRule.stands g.Q.QueueRule.says d h → IsOffer (coming c.args.class c.args.len c.args.prec c.args.now) (bare h)
+    let P : Ruling g.row.Q.Denot → Type 0 = λ d. (h : List Happened) → Stands g.Q.QueueRule.stands g.Q.QueueRule.says d h → IsOffer (arrival_with c.args.class c.args.len c.args.prec c.args.now) (bare h)
     → c.args.words.now.drawn < 2 ^ 64 - 1
-    → IsAnswer (cbq_of g.Q.QueueRule.says d) (bare h) c.args.words.now (coming c.args.class c.args.len c.args.prec c.args.now) c.offer-verdict.result c.offer-verdict.new.words
+    → IsAnswer (cbq_of g.Q.QueueRule.says d) (bare h) c.args.words.now (arrival_with c.args.class c.args.len c.args.prec c.args.now) c.offer-verdict.result c.offer-verdict.new.words
     × Stands g.Q.QueueRule.stands g.Q.QueueRule.says (record { shares = c.self.inside.shares; rows = c.offer-verdict.new.self })
-    (offer_of (cbq_of g.Q.QueueRule.says d) h c.args.ticket c.args.words.now (coming c.args.class c.args.len c.args.prec c.args.now) ∷ h) in
+    (offer_of (cbq_of g.Q.QueueRule.says d) h c.args.ticket c.args.words.now (arrival_with c.args.class c.args.len c.args.prec c.args.now) ∷ h) in
     subst P c.self.view_is (λ h s o few. offer_stands g.Q.QueueRule.stands g.Q.QueueRule.says g.Q.QueueRule.most
     (record { shares = c.self.inside.shares; rows = c.self.inside.rows }) c.offer-verdict.new.self h
     (record {

@@ -1,30 +1,18 @@
-use Rattle.std.proofs.Common.{arith}
-use Rattle.cbq_rounds.specs.Shared.{Shared}
-use Rattle.cbq_rounds.proofs.LentLemmas.{free_may, lender_allows, own_allows}
+use Rattle.std.proofs.Common.{◌≡◌, ◌∙◌, ap, arith, length}
+use Rattle.altq_model.specs.Link.{end_of}
+use Rattle.cbq_rounds.specs.Shared.{Shared, may_end}
+use Rattle.cbq_rounds.proofs.Places.{fixed_is}
+use Rattle.cbq_rounds.proofs.RootLemmas.{rooted_may}
 use Rattle.cbq_rounds.proofs.sharing.Shares.may_send.Goals as goal
 
-pub returns-then-is_free-clause-may : goal.returns-then-is_free-clause-may
-returns-then-is_free-clause-may c =
+pub returns-then-index-clause-may : goal.returns-then-index-clause-may
+returns-then-index-clause-may c =
     let d : Shared = c.args.self.now in
-    free_may d.tree d.estimates c.args.clock.now c.args.now c.args.len c.args.class c.is_free.result c.is_free.ensures c.if-is_free.true
-
-pub returns-then-allows_end-clause-may : goal.returns-then-allows_end-clause-may
-returns-then-allows_end-clause-may c =
-    let d : Shared = c.args.self.now in
-    own_allows d.tree d.estimates c.args.clock.now c.args.now c.args.len c.args.class c.keep_of.new.self c.allows_end.result (omega (arith, c.requires.some_bytes))
-    (c.keep_of.ensures.lent d.tree d.estimates c.requires.lent) c.keep_of.ensures.len c.allows_end.ensures c.if-allows_end.true
-
-pub returns-then-allows_end-clause-lent : goal.returns-then-allows_end-clause-lent
-returns-then-allows_end-clause-lent c = c.keep_of.ensures.lent c.args.self.now.tree c.args.self.now.estimates c.requires.lent
-
-pub returns-clause-may : goal.returns-clause-may
-returns-clause-may c =
-    let d : Shared = c.args.self.now in
-    let last = c.keep_of.ensures.lent d.tree d.estimates c.requires.lent in
-    lender_allows d.tree d.estimates c.args.clock.now c.args.now c.args.len c.args.class c.keep_of.new.self c.ask.new.last c.allows_end.result
-    (omega (arith, c.requires.some_bytes)) last c.keep_of.ensures.len c.allows_end.ensures c.if-allows_end.false
-    (c.ask.ensures.lent c.args.clock.now c.args.now last) c.ask.ensures.len c.ask.ensures.lender
-
-pub returns-clause-lent : goal.returns-clause-lent
-returns-clause-lent c =
-    c.ask.ensures.lent c.args.clock.now c.args.now (c.keep_of.ensures.lent c.args.self.now.tree c.args.self.now.estimates c.requires.lent)
+    let tree : length c.self.inside.classes.items ≡ length d.tree = ap (λ (s : Shared). length s.tree) c.self.view_is in
+    let kept =
+    fixed_is c.self.inside.rate c.self.inside.classes.items c.self.inside.fixed.items c.args.class c.index.result.now c.self.invariant.fixed_each
+    (omega (arith, tree, c.requires.class)) c.index.ensures in
+    c.if-index.true
+    ∙ rooted_may c.self.inside.classes.items c.self.inside.estimators.items c.self.inside.rate
+    (end_of c.args.clock.now.rate c.args.clock.now.link c.args.now c.args.len) c.args.len c.args.class c.index.result.now kept c.if-index.true
+    ∙ ap (λ (s : Shared). may_end s.tree s.estimates (end_of c.args.clock.now.rate c.args.clock.now.link c.args.now c.args.len) c.args.len c.args.class) c.self.view_is

@@ -1,6 +1,6 @@
 use Rattle.play_text.specs.Named.{pair_of}
 use Rattle.play_text.proofs.NameLemmas.{Decide}
-use Rattle.play_text.proofs.names.Names.class.Given as goal
+use Rattle.play_text.proofs.names.Names.class_by_each.Given as goal
 
 -- the entries from here on decide
 abbrev pub invariant-loop-named : goal.invariant-loop-named

@@ -2,7 +2,7 @@ use Rattle.std.proofs.Common.{ℕ, List, ap, refl, sym, ◌∙◌}
 use Rattle.std.specs.Str.{bytes_eq}
 use Rattle.play_text.specs.Named.{pair_of}
 use Rattle.play_text.proofs.NameLemmas.{named_found, named_nowhere, named_passed}
-use Rattle.play_text.proofs.names.Names.class.Goals as goal
+use Rattle.play_text.proofs.names.Names.class_by_each.Goals as goal
 
 pub loop-named-init : goal.loop-named-init
 loop-named-init c = refl
