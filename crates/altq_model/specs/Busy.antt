@@ -1,6 +1,6 @@
 -- A busy link: each sending starts at the least moment at which one may. It reads the events, whatever their labels are.
 use Rattle.std.specs.Prelude.{◌≡◌, ◌≤◌, ℕ, nat_lt, List, [], ◌∷◌, Some, if◌then◌else◌}
-use Rattle.altq_model.specs.History.{Coming, Event, Offered, Sent, head}
+use Rattle.altq_model.specs.History.{Arrival, Event, Offered, Sent, head}
 use Rattle.altq_model.specs.Link.{link}
 use Rattle.altq_model.specs.Play.{Policy, IsOneOf}
 
@@ -15,7 +15,7 @@ as_of u (Sent s ∷ h) = Sent s ∷ h
 pub record SomeMaySend (p : Policy) (h : List Event) (u : ℕ) : Type 0 where
   pub class : ℕ
   pub held : IsOneOf class p.classes
-  pub packet : Coming
+  pub packet : Arrival
   pub front : head class h ≡ Some packet
   pub may : p.start_from h class u ≡ u
 

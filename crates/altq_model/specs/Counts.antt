@@ -4,7 +4,7 @@ use Rattle.altq_model.specs.declared.Counts.{Counts}
 use Rattle.altq_model.specs.declared.Fate.{Fate}
 use Rattle.altq_model.specs.declared.Fate.TheVariants.{Dropped, Sent}
 use Rattle.altq_model.specs.declared.Reason.TheVariants.{Full, Early, Forced}
-use Rattle.altq_model.specs.Arrivals.{Arrival, arrival}
+use Rattle.altq_model.specs.Arrivals.{Captured, arrival}
 use Rattle.altq_model.specs.History.{Decision}
 
 -- the sum of `amount` over a list
@@ -36,19 +36,19 @@ is_forced (Dropped Forced) = true
 is_forced (Sent start end rule) = false
 
 -- the sum of `amount` over the arrivals that `meant` accepts
-abbrev pub of_arrivals : (meant : Arrival → Bool) → (amount : Arrival → ℕ) → List Arrival → ℕ
+abbrev pub of_arrivals : (meant : Captured → Bool) → (amount : Captured → ℕ) → List Captured → ℕ
 of_arrivals meant amount arrived = total (λ a. if meant a then amount a else 0) arrived
 
 -- the sum of `amount` over the decisions whose arrival `meant` accepts and whose fate `told` accepts
-abbrev pub of_decisions : (meant : Arrival → Bool) → (told : Fate → Bool) → (amount : Arrival → ℕ) → List Arrival → List Decision → ℕ
+abbrev pub of_decisions : (meant : Captured → Bool) → (told : Fate → Bool) → (amount : Captured → ℕ) → List Captured → List Decision → ℕ
 of_decisions meant told amount arrived js =
     total (λ d. if meant (arrival arrived d.0) && told d.1 then amount (arrival arrived d.0) else 0) js
 
-abbrev pub one : Arrival → ℕ
+abbrev pub one : Captured → ℕ
 one a = 1
 
 -- the counts of the arrivals that `meant` accepts, and of what was decided of them
-abbrev pub counts_where : (meant : Arrival → Bool) → List Arrival → List Decision → Counts
+abbrev pub counts_where : (meant : Captured → Bool) → List Captured → List Decision → Counts
 counts_where meant arrived js = record {
   arrived = of_arrivals meant one arrived;
   arrived_bytes = of_arrivals meant (λ a. a.len) arrived;
@@ -61,9 +61,9 @@ counts_where meant arrived js = record {
 }
 
 -- those of a class
-abbrev pub counts_of : (c : ℕ) → List Arrival → List Decision → Counts
+abbrev pub counts_of : (c : ℕ) → List Captured → List Decision → Counts
 counts_of c arrived js = counts_where (λ a. a.class == c) arrived js
 
 -- those of all
-abbrev pub counts_of_all : List Arrival → List Decision → Counts
+abbrev pub counts_of_all : List Captured → List Decision → Counts
 counts_of_all arrived js = counts_where (λ a. true) arrived js

@@ -8,7 +8,7 @@ use Rattle.altq_model.specs.declared.Fate.{Fate}
 use Rattle.altq_model.specs.declared.Fate.TheVariants
 
 -- a packet that comes to its class: its length in bytes, its precedence, its arrival in nanoseconds
-pub record Coming : Type 0 where
+pub record Arrival : Type 0 where
   pub class : ℕ
   pub len : ℕ
   pub prec : ℕ
@@ -25,7 +25,7 @@ pub record Answer : Type 0 where
   pub took : ℕ
 
 -- the sending of a class's head
-pub record Transmission : Type 0 where
+pub record Sending : Type 0 where
   pub class : ℕ
   pub len : ℕ
   pub rule : Rule
@@ -34,8 +34,8 @@ pub record Transmission : Type 0 where
 
 -- an offer of a packet to its class's queue, with the random words as they were before it, or a sending
 pub data Event : Type 0 where
-  Offered : Coming → DrawnWords → Answer → Event
-  Sent : Transmission → Event
+  Offered : Arrival → DrawnWords → Answer → Event
+  Sent : Sending → Event
 
 -- an event and the label of its packet: its number in a play, its ticket in a discipline. No rule reads labels
 pub record Happened : Type 0 where
@@ -79,13 +79,13 @@ abbrev pub without_head : {X : Type 0} → Bool → List X → List X
 without_head mine xs = if mine then drop 1 xs else xs
 
 -- the packets that wait in a class, in order of number: those that were kept and not sent
-abbrev pub waiting : (c : ℕ) → List Event → List Coming
+abbrev pub waiting : (c : ℕ) → List Event → List Arrival
 waiting c [] = []
 waiting c (Offered a w v ∷ h) = with_offer (a.class == c) v.verdict a (waiting c h)
 waiting c (Sent s ∷ h) = without_head (s.class == c) (waiting c h)
 
 -- the head: the first packet that waits in a class
-abbrev pub head : (c : ℕ) → List Event → Option Coming
+abbrev pub head : (c : ℕ) → List Event → Option Arrival
 head c h = slice_get (waiting c h) 0
 
 -- the labels of what waits in a class, in the same order

@@ -1,7 +1,7 @@
 -- What holds of every play, in words that name no rule.
 use Rattle.std.specs.Prelude.{◌≡◌, ◌≤◌, ◌<◌, ◌==◌, ◌&&◌, ◌+◌, ◌-◌, ◌^◌, ◌*◌, ℕ, nat_lt, nat_le, List, [], ◌∷◌, length, if◌then◌else◌, slice_get}
 use Rattle.std.specs.Option.{option_map_or}
-use Rattle.altq_model.specs.History.{Coming, Event, Offered, Sent, Happened, bare, Decision, journal}
+use Rattle.altq_model.specs.History.{Arrival, Event, Offered, Sent, Happened, bare, Decision, journal}
 use Rattle.altq_model.specs.Link.{HasLinkEnds}
 
 -- how often a number occurs in a list
@@ -43,15 +43,15 @@ IsOrdered [] = Unit {0}
 IsOrdered (e ∷ g) = FollowsInOrder e.label e.what g × IsOrdered g
 
 -- the arrival of a number, in nanoseconds
-abbrev pub at_of : List Coming → (n : ℕ) → ℕ
-at_of arrived n = option_map_or (λ (a : Coming). a.at) (slice_get arrived (n - 1)) 0
+abbrev pub at_of : List Arrival → (n : ℕ) → ℕ
+at_of arrived n = option_map_or (λ (a : Arrival). a.at) (slice_get arrived (n - 1)) 0
 
-abbrev pub StartsAfter : List Coming → (n : ℕ) → Event → Type 0
+abbrev pub StartsAfter : List Arrival → (n : ℕ) → Event → Type 0
 StartsAfter arrived n (Offered a w v) = Unit {0}
 StartsAfter arrived n (Sent s) = at_of arrived n ≤ s.start
 
 -- no packet starts before it arrives
-abbrev pub IsNotBefore : List Coming → List Happened → Type 0
+abbrev pub IsNotBefore : List Arrival → List Happened → Type 0
 IsNotBefore arrived [] = Unit {0}
 IsNotBefore arrived (e ∷ g) = StartsAfter arrived e.label e.what × IsNotBefore arrived g
 
@@ -68,7 +68,7 @@ IsPrompt (Offered a w v ∷ h) = StartsBefore a.at h × IsPrompt h
 IsPrompt (Sent s ∷ h) = IsPrompt h
 
 -- what holds of every play, whatever its policy
-pub record KeepsLaws (rate : ℕ) (arrived : List Coming) (g : List Happened) : Type 0 where
+pub record KeepsLaws (rate : ℕ) (arrived : List Arrival) (g : List Happened) : Type 0 where
   pub conserved : IsConserved (length arrived) (journal g)
   pub ordered : IsOrdered g
   pub not_before : IsNotBefore arrived g

@@ -3,7 +3,7 @@
 use Rattle.std.specs.Prelude.{◌≡◌, ◌⊎◌, ◌+◌, ◌*◌, ℕ, zero, suc, min, max, nat_le, List, [], ◌∷◌, length, if◌then◌else◌, None, Some, slice_get, option_map}
 use Rattle.std.specs.declared.option.Option.{Option}
 use Rattle.altq_model.specs.declared.Rule.{Rule}
-use Rattle.altq_model.specs.History.{Coming, Answer, DrawnWords, Event, Offered, Sent, Happened, bare, offered, drawn, head, labels}
+use Rattle.altq_model.specs.History.{Arrival, Answer, DrawnWords, Event, Offered, Sent, Happened, bare, offered, drawn, head, labels}
 use Rattle.altq_model.specs.Link.{link, end_of}
 
 -- which class sends, and by which rule
@@ -16,7 +16,7 @@ pub record Policy : Type 0 where
   -- the queue classes, in the order of the file
   pub classes : List ℕ
   -- after a history, the answer of its class's queue to a packet, by the random words that come next
-  pub answer : List Event → DrawnWords → Coming → Answer
+  pub answer : List Event → DrawnWords → Arrival → Answer
   -- after a history, the least moment from t on at which a class may send its head
   pub start_from : List Event → (c t : ℕ) → ℕ
   -- after a history, the class that sends at a moment at which one may
@@ -29,7 +29,7 @@ IsOneOf c (d ∷ ds) = (d ≡ c) ⊎ IsOneOf c ds
 
 -- the least moment, not before the last end nor before its head's arrival, at which a class may send; None if it is empty
 abbrev pub class_start : Policy → (free : ℕ) → List Event → (c : ℕ) → Option ℕ
-class_start p free h c = option_map (λ (a : Coming). p.start_from h c (max free a.at)) (head c h)
+class_start p free h c = option_map (λ (a : Arrival). p.start_from h c (max free a.at)) (head c h)
 
 abbrev pub lesser : Option ℕ → Option ℕ → Option ℕ
 lesser None o = o
@@ -43,13 +43,13 @@ first_start p free h [] = None
 first_start p free h (c ∷ cs) = lesser (class_start p free h c) (first_start p free h cs)
 
 -- the offer of a packet: its number is its place among the offers
-abbrev pub offer_of : Policy → (seed : ℕ) → List Happened → Coming → Happened
+abbrev pub offer_of : Policy → (seed : ℕ) → List Happened → Arrival → Happened
 offer_of p seed g a =
     let w : DrawnWords = record { seed = seed; drawn = drawn (bare g) } in
     record { label = offered (bare g) + 1; what = Offered a w (p.answer (bare g) w a) }
 
 -- the sending of a class's head, given its number and its packet
-abbrev pub head_sent : (rate : ℕ) → List Happened → (s : ℕ) → Choice → Option ℕ → Option Coming → Option Happened
+abbrev pub head_sent : (rate : ℕ) → List Happened → (s : ℕ) → Choice → Option ℕ → Option Arrival → Option Happened
 head_sent rate g s c (Some n) (Some a) = Some (record {
   label = n;
   what = Sent (record { class = c.class; len = a.len; rule = c.rule; start = s; end = end_of rate (link rate (bare g)) s a.len });
@@ -62,7 +62,7 @@ sent_at rate g s c = head_sent rate g s c (slice_get (labels c.class g) 0) (head
 
 -- what comes next, given the next arrival and the least moment at which something may be sent: an arrival up to that moment is
 -- offered first
-abbrev pub due_from : Policy → (rate seed : ℕ) → List Happened → Option Coming → Option ℕ → Option Happened
+abbrev pub due_from : Policy → (rate seed : ℕ) → List Happened → Option Arrival → Option ℕ → Option Happened
 due_from p rate seed g None None = None
 due_from p rate seed g (Some a) None = Some (offer_of p seed g a)
 due_from p rate seed g None (Some s) = sent_at rate g s (p.pick (bare g) s)
@@ -70,26 +70,26 @@ due_from p rate seed g (Some a) (Some s) =
     if nat_le a.at s then Some (offer_of p seed g a) else sent_at rate g s (p.pick (bare g) s)
 
 -- the event that follows a history, or None at the end
-abbrev pub due : Policy → (rate seed : ℕ) → List Coming → List Happened → Option Happened
+abbrev pub due : Policy → (rate seed : ℕ) → List Arrival → List Happened → Option Happened
 due p rate seed arrived g =
     due_from p rate seed g (slice_get arrived (offered (bare g)))
     (first_start p (link rate (bare g)).free (bare g) p.classes)
 
 -- each event is the one that was due: these are the first events of the play
-abbrev pub AreDue : Policy → (rate seed : ℕ) → List Coming → List Happened → Type 0
+abbrev pub AreDue : Policy → (rate seed : ℕ) → List Arrival → List Happened → Type 0
 AreDue p rate seed arrived [] = Unit {0}
 AreDue p rate seed arrived (e ∷ g) = (due p rate seed arrived g ≡ Some e) × AreDue p rate seed arrived g
 
 -- the play of these arrivals: each event was due, and none is due after the last
-pub record IsPlay (p : Policy) (rate seed : ℕ) (arrived : List Coming) (g : List Happened) : Type 0 where
+pub record IsPlay (p : Policy) (rate seed : ℕ) (arrived : List Arrival) (g : List Happened) : Type 0 where
   pub events : AreDue p rate seed arrived g
   pub done : due p rate seed arrived g ≡ None
 
 -- the play, computed event by event, for at most `turns` events
-abbrev pub play_on : (turns : ℕ) → Policy → (rate seed : ℕ) → List Coming → List Happened → List Happened
+abbrev pub play_on : (turns : ℕ) → Policy → (rate seed : ℕ) → List Arrival → List Happened → List Happened
 play_on zero p rate seed arrived g = g
 play_on (suc turns) p rate seed arrived g =
     elim (due p rate seed arrived g) [ None ↦ g | Some e ↦ play_on turns p rate seed arrived (e ∷ g) ]
 
-abbrev pub play : Policy → (rate seed : ℕ) → List Coming → List Happened
+abbrev pub play : Policy → (rate seed : ℕ) → List Arrival → List Happened
 play p rate seed arrived = play_on (2 * length arrived) p rate seed arrived []

@@ -4,12 +4,12 @@ use Rattle.altq_model.specs.declared.Rule.{Rule}
 use Rattle.altq_model.specs.declared.Rule.TheVariants.{Share}
 use Rattle.altq_model.specs.declared.Reason.TheVariants.{Full}
 use Rattle.altq_model.specs.declared.Verdict.TheVariants.{Keep, Drop}
-use Rattle.altq_model.specs.History.{Coming, Answer, DrawnWords, Event, waiting}
+use Rattle.altq_model.specs.History.{Arrival, Answer, DrawnWords, Event, waiting}
 use Rattle.altq_model.specs.Play.{Policy}
 
 -- how the queues of an interface answer an offer, after a history and by the seed's words
 abbrev pub Answering : Type 0
-Answering = List Event → DrawnWords → Coming → Answer
+Answering = List Event → DrawnWords → Arrival → Answer
 
 -- a queue that drops exactly what comes when its waiting packets equal its limit
 abbrev pub tail : (limit : ℕ) → Answering

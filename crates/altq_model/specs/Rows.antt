@@ -5,7 +5,7 @@ use Rattle.altq_model.specs.declared.Counts.{Counts}
 use Rattle.altq_model.specs.declared.Rule.TheVariants.{Share}
 use Rattle.altq_model.specs.declared.Verdict.TheVariants.{Mark}
 use Rattle.capture_model.specs.Capture.{Record}
-use Rattle.altq_model.specs.Arrivals.{arrivals_of, comings}
+use Rattle.altq_model.specs.Arrivals.{arrivals_of, bare_arrivals}
 use Rattle.altq_model.specs.Counts.{counts_of_all}
 use Rattle.altq_model.specs.Departures.{Dressing, departures}
 use Rattle.altq_model.specs.History.{Decision, Happened, journal}
@@ -18,7 +18,7 @@ abbrev pub one_mark : List ℕ → Placed
 one_mark frame = record { class = 1; prec = 0 }
 
 abbrev pub play_of : Policy → (rate : ℕ) → List Record → List Happened
-play_of p rate records = play p rate 42 (comings (arrivals_of one_mark records))
+play_of p rate records = play p rate 42 (bare_arrivals (arrivals_of one_mark records))
 
 -- the journal of these records, played through one queue of 50
 abbrev pub journal_of : (rate : ℕ) → List Record → List Decision

@@ -2,27 +2,46 @@
 use Rattle.std.specs.Prelude.{◌==◌, ◌&&◌, ◌||◌, nat_lt, nat_le, Bool, true, false, take, drop, if◌then◌else◌}
 use Rattle.std.proofs.Common.{◌≡◌, ◌≤◌, ◌+◌, ◌∙◌, ℕ, zero, suc, List, [], length, refl, ap, sym, subst, arith, length-take, length-drop}
 use Rattle.std.proofs.lemmas.Bool.{ltb-false, le-leb}
-use Rattle.capture_model.specs.declared.damage.Damage.{Damage}
 use Rattle.capture_model.specs.declared.damage.DamageKind.TheVariants.{ShortRecord, EmptyRecord, LongRecord}
 use Rattle.capture_model.specs.Capture.{Form, Record, Step, End, Next, Fault, Limit, Header, Formed, Unformed, Outcome, IsLast, Stand, ReadsFrom, header, more, outcome, outcome_from, outcome_on, Reads, place_after, step, word, longest, most_records, most_bytes, damage, stamp}
 
--- what a count of turns reads from a place on
+-- an outcome is what stands from a place on: its records, each whole, and behind them its last step
 pub record IsRead (form : Form) (bytes : List ℕ) (count at : ℕ) (o : Outcome) : Type 0 where
   pub stand : Stand form bytes count at o.records
   pub ended : step form bytes (count + length o.records) (place_after at o.records) ≡ o.last
 
--- where the tests lead to a record, the last of them held
-pub next_case : (a b c d e f g : Bool) (p q r s : Damage) (last : Step) (x : Record) (n : ℕ)
-    → (if a then End else if b then Limit else if c then Fault p else if d then Fault q else if e then Fault r else if f then Limit else if g then Fault s else last) ≡ Next x n
-    → (last ≡ Next x n) × (g ≡ false)
-next_case true b c d e f g p q r s last x n h = absurd (cc)
-next_case false true c d e f g p q r s last x n h = absurd (cc)
-next_case false false true d e f g p q r s last x n h = absurd (cc)
-next_case false false false true e f g p q r s last x n h = absurd (cc)
-next_case false false false false true f g p q r s last x n h = absurd (cc)
-next_case false false false false false true g p q r s last x n h = absurd (cc)
-next_case false false false false false false true p q r s last x n h = absurd (cc)
-next_case false false false false false false false p q r s last x n h = (h, refl)
+-- where a test stops a reading, and a record stands there, the test failed
+behind : (stops : Bool) (last rest : Step) (x : Record) (n : ℕ) → IsLast last → (if stops then last else rest) ≡ Next x n → (stops ≡ false) × (rest ≡ Next x n)
+behind true last rest x n is h = absurd (subst IsLast h is)
+behind false last rest x n is h = (refl, h)
+
+-- the record that the head at a place tells, and the place after it
+abbrev pub told_at : Form → List ℕ → (at : ℕ) → Step
+told_at form bytes at =
+    let captured = word form.big bytes (at + 8) in
+    Next (record { stamp = stamp form bytes at; captured = take captured (drop (at + 16) bytes); original = word form.big bytes (at + 12) }) (at + 16 + captured)
+
+-- a record stands at a place: what its head tells, and the tests that stop a reading failed
+pub record IsNext (form : Form) (bytes : List ℕ) (count at : ℕ) (x : Record) (n : ℕ) : Type 0 where
+  pub few : (count == most_records) ≡ false
+  pub within : (nat_lt longest (word form.big bytes (at + 8)) || nat_lt longest (word form.big bytes (at + 12))) ≡ false
+  pub some : ((word form.big bytes (at + 8) == 0) && (word form.big bytes (at + 12) == 0)) ≡ false
+  pub room : nat_lt most_bytes (at + 16 + word form.big bytes (at + 8)) ≡ false
+  pub whole : nat_lt (length bytes) (at + 16 + word form.big bytes (at + 8)) ≡ false
+  pub told : told_at form bytes at ≡ Next x n
+
+pub is_next : (form : Form) (bytes : List ℕ) (count at : ℕ) (x : Record) (n : ℕ) → step form bytes count at ≡ Next x n → IsNext form bytes count at x n
+is_next form bytes count at x n h =
+    let captured : ℕ = word form.big bytes (at + 8) in
+    let original : ℕ = word form.big bytes (at + 12) in
+    let not_end = behind (nat_le (length bytes) at) End _ x n tt h in
+    let few = behind (count == most_records) Limit _ x n tt not_end.1 in
+    let headed = behind (nat_lt (length bytes) (at + 16)) (Fault (damage at ShortRecord)) _ x n tt few.1 in
+    let within = behind (nat_lt longest captured || nat_lt longest original) (Fault (damage at LongRecord)) _ x n tt headed.1 in
+    let some = behind ((captured == 0) && (original == 0)) (Fault (damage at EmptyRecord)) _ x n tt within.1 in
+    let room = behind (nat_lt most_bytes (at + 16 + captured)) Limit _ x n tt some.1 in
+    let whole = behind (nat_lt (length bytes) (at + 16 + captured)) (Fault (damage at ShortRecord)) _ x n tt room.1 in
+    record { few = few.0; within = within.0; some = some.0; room = room.0; whole = whole.0; told = whole.1 }
 
 abbrev captured_of : Step → List ℕ
 captured_of (Next r after) = r.captured
@@ -36,19 +55,15 @@ after_of End = 0
 after_of (Fault d) = 0
 after_of Limit = 0
 
--- a record's place is told by its captured bytes, and it ends within the file
+-- the place behind a record follows from how many bytes it captured, and lies within the file
 pub next_place : (form : Form) (bytes : List ℕ) (count at : ℕ) (x : Record) (n : ℕ) → step form bytes count at ≡ Next x n
     → (n ≡ at + 16 + length x.captured) × (n ≤ length bytes)
 next_place form bytes count at x n h =
     let captured : ℕ = word form.big bytes (at + 8) in
-    let original : ℕ = word form.big bytes (at + 12) in
-    let r : Record = record { stamp = stamp form bytes at; captured = take captured (drop (at + 16) bytes); original = original } in
-    let both = next_case (nat_le (length bytes) at) (count == most_records) (nat_lt (length bytes) (at + 16)) (nat_lt longest captured || nat_lt longest original)
-    ((captured == 0) && (original == 0)) (nat_lt most_bytes (at + 16 + captured)) (nat_lt (length bytes) (at + 16 + captured))
-    (damage at ShortRecord) (damage at LongRecord) (damage at EmptyRecord) (damage at ShortRecord) (Next r (at + 16 + captured)) x n h in
-    let fits : at + 16 + captured ≤ length bytes = ltb-false (length bytes) (at + 16 + captured) both.1 in
-    let place : at + 16 + captured ≡ n = ap after_of both.0 in
-    let same : take captured (drop (at + 16) bytes) ≡ x.captured = ap captured_of both.0 in
+    let is = is_next form bytes count at x n h in
+    let fits : at + 16 + captured ≤ length bytes = ltb-false (length bytes) (at + 16 + captured) is.whole in
+    let place : at + 16 + captured ≡ n = ap after_of is.told in
+    let same : take captured (drop (at + 16) bytes) ≡ x.captured = ap captured_of is.told in
     let long : length (take captured (drop (at + 16) bytes)) ≡ captured = omega (arith, length-take captured (drop (at + 16) bytes), length-drop (at + 16) bytes) in
     let size : length x.captured ≡ captured = sym (ap (length {A = ℕ}) same) ∙ long in
     (omega arith, omega arith)
@@ -81,7 +96,7 @@ step_reads turns form bytes count at rest (Next r after) h =
 step_reads turns form bytes count at rest (Fault d) h = where_end form bytes count at (Fault d) h
 step_reads turns form bytes count at rest Limit h = where_end form bytes count at Limit h
 
--- over whatever turns the outcome is a reading
+-- however many turns are given, the outcome is a reading
 outcome_reads : (turns : ℕ) (form : Form) (bytes : List ℕ) (count at : ℕ) → IsRead form bytes count at (outcome_on turns form bytes count at)
 outcome_reads zero form bytes count at = where_end form bytes count at (step form bytes count at) refl
 outcome_reads (suc turns) form bytes count at =
@@ -126,7 +141,7 @@ step_lasts turns form bytes count at rest enough (Next r after) h =
 step_lasts turns form bytes count at rest enough (Fault d) h = tt
 step_lasts turns form bytes count at rest enough Limit h = tt
 
--- over as many turns as the file has bytes something is told that is no record
+-- as many turns as the file has bytes left come to its end, a fault or a limit
 outcome_lasts : (turns : ℕ) (form : Form) (bytes : List ℕ) (count at : ℕ) → length bytes ≤ at + turns → IsLast (outcome_on turns form bytes count at).last
 outcome_lasts zero form bytes count at enough = is_last_end (step form bytes count at) (at_end form bytes count at (omega arith))
 outcome_lasts (suc turns) form bytes count at enough =

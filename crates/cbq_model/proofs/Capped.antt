@@ -5,7 +5,7 @@ use Rattle.std.specs.Prelude.{◌||◌, if◌then◌else◌, unwrap_or}
 use Rattle.std.specs.List.{list_any}
 use Rattle.std.proofs.lemmas.Bool.{eq-eqb, ne_eqb, eqb-true}
 use Rattle.altq_model.specs.declared.Rule.TheVariants.{Own, Borrow}
-use Rattle.altq_model.specs.History.{Event, Offered, Sent, Transmission}
+use Rattle.altq_model.specs.History.{Event, Offered, Sent, Sending}
 use Rattle.altq_model.specs.Link.{end_of, link}
 use Rattle.altq_model.specs.Play.{Choice}
 use Rattle.play_base.specs.Units.{time_of, units}
@@ -58,7 +58,7 @@ rule_own false e = absurd (cc)
 abbrev allows_head : List CbqClass → (rate : ℕ) → Situation → (start c : ℕ) → Bool
 allows_head cs rate x start c = allows_in cs rate x c start (unwrap_or (head_in x c) 0)
 
-pub own_allowed : (cs : List CbqClass) (rate : ℕ) (h : List Event) (s : Transmission) → IsSending cs rate h s → s.rule ≡ Own
+pub own_allowed : (cs : List CbqClass) (rate : ℕ) (h : List Event) (s : Sending) → IsSending cs rate h s → s.rule ≡ Own
     → allows_in cs rate (situation cs rate h) s.class s.start s.len ≡ true
 own_allowed cs rate h s i own =
     let x : Situation = situation cs rate h in
@@ -73,7 +73,7 @@ not_root : (a b : Bool) → a ≡ false → (a || b) ≡ true → b ≡ true
 not_root true b e t = absurd (cc)
 not_root false b e t = t
 
-allowed_by_ends : (cs : List CbqClass) (rate : ℕ) (h : List Event) (s : Transmission) (c : ℕ) → IsBottom cs c → IsSending cs rate h s → s.class ≡ c
+allowed_by_ends : (cs : List CbqClass) (rate : ℕ) (h : List Event) (s : Sending) (c : ℕ) → IsBottom cs c → IsSending cs rate h s → s.class ≡ c
     → s.rule ≡ Own
     → allows (pace_of (class_of cs c)) (sent_by c h) s.end s.len ≡ true
 allowed_by_ends cs rate h s c b i e own =
@@ -144,10 +144,10 @@ at_most : (es : List Ended) → AreAtMost (longest es) es
 at_most [] = tt
 at_most (e ∷ es) = (omega arith, at_most_more (longest es) (max e.len (longest es)) es (omega arith) (at_most es))
 
-sent_one : (c : ℕ) (s : Transmission) (h : List Event) → s.class ≡ c → sent_by c (Sent s ∷ h) ≡ record { end = s.end; len = s.len } ∷ sent_by c h
+sent_one : (c : ℕ) (s : Sending) (h : List Event) → s.class ≡ c → sent_by c (Sent s ∷ h) ≡ record { end = s.end; len = s.len } ∷ sent_by c h
 sent_one c s h e = ap (λ (t : Bool). if t then record { end = s.end; len = s.len } ∷ sent_by c h else sent_by c h) (eq-eqb s.class c e)
 
-pub keeps_its_rate : (cs : List CbqClass) (rate c : ℕ) (last : Transmission) (between : List Event) (first : Transmission) (before : List Event)
+pub keeps_its_rate : (cs : List CbqClass) (rate c : ℕ) (last : Sending) (between : List Event) (first : Sending) (before : List Event)
     → 0 < rate
     → 0 < (class_of cs c).rate → IsStretch cs rate c last between first before → KeepsItsRate cs c last between first
 keeps_its_rate cs rate c last between first before some own_rate s =

@@ -2,7 +2,7 @@
 use Rattle.std.proofs.Common.{◌≡◌, ◌<◌, ◌∙◌, ℕ, true, List, ◌∷◌, None, Some, length, refl, ap, sym, subst, arith}
 use Rattle.std.specs.declared.option.Option.{Option}
 use Rattle.std.specs.Prelude.{option_map, unwrap_or, IsTrue}
-use Rattle.altq_model.specs.History.{Coming, Answer, DrawnWords, Event, Offered, head}
+use Rattle.altq_model.specs.History.{Arrival, Answer, DrawnWords, Event, Offered, head}
 use Rattle.altq_model.specs.Lawful.{IsCandidate, IsHead, IsLawful, IsSteady, SendsWhen}
 use Rattle.altq_model.specs.Play.{IsOneOf, Policy}
 use Rattle.altq_model.specs.Policies.{Answering}
@@ -17,13 +17,13 @@ use Rattle.cbq_model.proofs.Best.{best_of}
 use Rattle.cbq_model.proofs.Members.{kept, was_kept}
 use Rattle.cbq_model.proofs.Places.{at_place, is_below}
 
-abbrev length_of : Option Coming → Option ℕ
-length_of o = option_map (λ (a : Coming). a.len) o
+abbrev length_of : Option Arrival → Option ℕ
+length_of o = option_map (λ (a : Arrival). a.len) o
 
 pub head_is : (cs : List CbqClass) (rate : ℕ) (h : List Event) (c : ℕ) → c < length cs → head_in (situation cs rate h) c ≡ length_of (head c h)
 head_is cs rate h c l = at_place (λ d k. length_of (head d h)) cs c None l
 
-pub head_len : (cs : List CbqClass) (rate : ℕ) (h : List Event) (c : ℕ) (b : Coming) → IsOneOf c (numbers cs) → head c h ≡ Some b
+pub head_len : (cs : List CbqClass) (rate : ℕ) (h : List Event) (c : ℕ) (b : Arrival) → IsOneOf c (numbers cs) → head c h ≡ Some b
     → head_in (situation cs rate h) c ≡ Some b.len
 head_len cs rate h c b m e = head_is cs rate h c (is_below c cs m) ∙ ap length_of e
 
@@ -34,15 +34,15 @@ module _ (cs : List CbqClass) (rate : ℕ) (answer : Answering) where
   abbrev allowed : List Event → (c t : ℕ) → Type 0
   allowed h c t = IsTrue (may cs rate (situation cs rate h) c t)
 
-  start_is : (h : List Event) (c t : ℕ) (b : Coming) → IsHead policy h c b
+  start_is : (h : List Event) (c t : ℕ) (b : Arrival) → IsHead policy h c b
       → start_of cs rate (situation cs rate h) c t ≡ start_with cs rate (situation cs rate h) c t (Some b.len)
   start_is h c t b i = ap (start_with cs rate (situation cs rate h) c t) (head_len cs rate h c b i.held i.front)
 
-  may_is : (h : List Event) (c t : ℕ) (b : Coming) → IsHead policy h c b
+  may_is : (h : List Event) (c t : ℕ) (b : Arrival) → IsHead policy h c b
       → may cs rate (situation cs rate h) c t ≡ may_send cs rate (situation cs rate h) c t b.len
   may_is h c t b i = ap (may_with cs rate (situation cs rate h) c t) (head_len cs rate h c b i.held i.front)
 
-  offer_keeps : (h : List Event) (a : Coming) (w : DrawnWords) (v : Answer) (c t : ℕ) (b : Coming) → IsHead policy h c b
+  offer_keeps : (h : List Event) (a : Arrival) (w : DrawnWords) (v : Answer) (c t : ℕ) (b : Arrival) → IsHead policy h c b
       → may cs rate (situation cs rate (Offered a w v ∷ h)) c t ≡ may cs rate (situation cs rate h) c t
   offer_keeps h a w v c t b i =
       let after : IsHead policy (Offered a w v ∷ h) c b = record { held = i.held; front = head_stays c h a w v b i.front } in
@@ -60,7 +60,7 @@ module _ (cs : List CbqClass) (rate : ℕ) (answer : Answering) where
       subst P (ap class_in (sym one.is)) one.there
 
   -- a class that may send has a head
-  has_head : (h : List Event) (s c : ℕ) (o : Option Coming) → IsOneOf c (numbers cs) → head c h ≡ o
+  has_head : (h : List Event) (s c : ℕ) (o : Option Arrival) → IsOneOf c (numbers cs) → head c h ≡ o
       → may_with cs rate (situation cs rate h) c s (length_of o) ≡ true → IsTrue (may cs rate (situation cs rate h) c s)
       → IsCandidate allowed policy h s c
   has_head h s c None m e t k = absurd (cc)

@@ -1,7 +1,7 @@
 -- What a class that does not borrow may send: no more than its rate carries in the time, a burst ahead.
 use Rattle.std.specs.Prelude.{◌≡◌, ◌≢◌, ◌≤◌, ◌==◌, ◌+◌, ◌-◌, ◌*◌, ◌++◌, ℕ, max, false, List, [], ◌∷◌, Some, if◌then◌else◌}
 use Rattle.altq_model.specs.declared.Rule.TheVariants.{Own}
-use Rattle.altq_model.specs.History.{Coming, Event, Offered, Sent, Transmission, head}
+use Rattle.altq_model.specs.History.{Arrival, Event, Offered, Sent, Sending, head}
 use Rattle.altq_model.specs.Link.{end_of, link}
 use Rattle.altq_model.specs.Play.{IsOneOf}
 use Rattle.play_base.specs.Units.{time_of, units}
@@ -14,11 +14,11 @@ use Rattle.cbq_model.specs.Rounds.{situation}
 
 -- after a history this is CBQ's sending: of the head of a class of its own, no earlier than the last end, with the link's end, the class
 -- and the rule being those of the choice at its start
-pub record IsSending (cs : List CbqClass) (rate : ℕ) (h : List Event) (s : Transmission) : Type 0 where
+pub record IsSending (cs : List CbqClass) (rate : ℕ) (h : List Event) (s : Sending) : Type 0 where
   pub held : IsOneOf s.class (numbers cs)
   pub free : (link rate h).free ≤ s.start
   pub end : s.end ≡ end_of rate (link rate h) s.start s.len
-  pub packet : Coming
+  pub packet : Arrival
   pub front : head s.class h ≡ Some packet
   pub len : s.len ≡ packet.len
   pub choice : choice_of cs rate (situation cs rate h) s.start ≡ record { class = s.class; rule = s.rule }
@@ -52,7 +52,7 @@ AreOwn c (Sent s ∷ h) = (s.class ≡ c → s.rule ≡ Own) × AreOwn c h
 
 -- a stretch of a history, from a sending of a class that has no children and is not the root, up to another one of it; the class borrows
 -- for none of those after the first
-pub record IsStretch (cs : List CbqClass) (rate c : ℕ) (last : Transmission) (between : List Event) (first : Transmission) (before : List Event) : Type 0 where
+pub record IsStretch (cs : List CbqClass) (rate c : ℕ) (last : Sending) (between : List Event) (first : Sending) (before : List Event) : Type 0 where
   pub sendings : AreSendings cs rate (Sent last ∷ between ++ Sent first ∷ before)
   pub bottom : IsBottom cs c
   pub of_last : last.class ≡ c
@@ -61,7 +61,7 @@ pub record IsStretch (cs : List CbqClass) (rate c : ℕ) (last : Transmission) (
 
 -- 31 units <= rate (32 (last end - first end) + 31 (cap + longest packet's time)), the units being those that the class sent after
 -- the first of the two, up to and with the last
-abbrev pub KeepsItsRate : List CbqClass → (c : ℕ) → (last : Transmission) → (between : List Event) → (first : Transmission) → Type 0
+abbrev pub KeepsItsRate : List CbqClass → (c : ℕ) → (last : Sending) → (between : List Event) → (first : Sending) → Type 0
 KeepsItsRate cs c last between first =
     let p = pace_of (class_of cs c) in
     let sent = sent_by c (Sent last ∷ between) in

@@ -1,7 +1,7 @@
 -- What follows from a history of sendings: averages, credits, the cursors of the rings, and so what a choice looks at.
 use Rattle.std.specs.Prelude.{◌==◌, ◌+◌, ◌-◌, ◌*◌, ℕ, Bool, List, [], ◌∷◌, Option, is_none, option_map, replicate, slice_set, if◌then◌else◌}
 use Rattle.std.specs.List.{list_any}
-use Rattle.altq_model.specs.History.{Coming, Event, Offered, Sent, Transmission, head}
+use Rattle.altq_model.specs.History.{Arrival, Event, Offered, Sent, Sending, head}
 use Rattle.altq_model.specs.Link.{link}
 use Rattle.altq_model.specs.Play.{Policy}
 use Rattle.altq_model.specs.Policies.{Answering}
@@ -23,10 +23,9 @@ estimates cs h = each (λ c k. estimate_of (pace_of k) (ends cs c h)) cs
 
 -- the length of the packet that stands first in each class
 abbrev pub heads : List CbqClass → List Event → List (Option ℕ)
-heads cs h = each (λ c k. option_map (λ (a : Coming). a.len) (head c h)) cs
+heads cs h = each (λ c k. option_map (λ (a : Arrival). a.len) (head c h)) cs
 
--- the ring of each priority begins at the class of it that was sent last; before that at the file's first class, which is as good as
--- at its own first one
+-- the ring of each priority starts at the class of it that was served last; before any was, at the first class of the file
 abbrev pub cursors : List CbqClass → List Event → List ℕ
 cursors cs [] = replicate 8 0
 cursors cs (Offered a w v ∷ h) = cursors cs h
@@ -34,18 +33,18 @@ cursors cs (Sent s ∷ h) = slice_set (cursors cs h) (class_of cs s.class).prior
 
 -- A class's credit after a sending. Each candidate gains its quantum in each of the rounds that the class that sends needed. That class
 -- then pays for its packet, and keeps no credit where nothing more waits in it.
-abbrev pub rounds_needed : List CbqClass → (rate : ℕ) → Situation → Transmission → ℕ
+abbrev pub rounds_needed : List CbqClass → (rate : ℕ) → Situation → Sending → ℕ
 rounds_needed cs rate s x = rounds_for (credit_in s x.class) (quantum_of rate (class_of cs x.class)) x.len
 
 abbrev pub gained : List CbqClass → (rate : ℕ) → Situation → (ready : List ℕ) → (n c : ℕ) → ℕ
 gained cs rate s ready n c =
     if list_any (λ d. d == c) ready then credit_in s c + n * quantum_of rate (class_of cs c) else credit_in s c
 
-abbrev pub credit_after : List CbqClass → (rate : ℕ) → Situation → Transmission → (emptied : Bool) → (ready : List ℕ) → (n c : ℕ) → ℕ
+abbrev pub credit_after : List CbqClass → (rate : ℕ) → Situation → Sending → (emptied : Bool) → (ready : List ℕ) → (n c : ℕ) → ℕ
 credit_after cs rate s x emptied ready n c =
     if x.class == c then if emptied then 0 else gained cs rate s ready n c - x.len else gained cs rate s ready n c
 
-abbrev pub credits_after : List CbqClass → (rate : ℕ) → Situation → Transmission → (emptied : Bool) → List ℕ
+abbrev pub credits_after : List CbqClass → (rate : ℕ) → Situation → Sending → (emptied : Bool) → List ℕ
 credits_after cs rate s x emptied =
     let ready = candidates cs rate s x.start in
     let n = rounds_needed cs rate s x in

@@ -1,6 +1,6 @@
 // Laws of CBQ. The functions do nothing: each states its laws.
 ghost use Rattle.std.specs.Prelude.{◌≡◌, ◌≤◌, ◌<◌, ℕ, List, IsTrue};
-ghost use Rattle.altq_model.specs.History.{Coming, Event, Happened, Transmission, bare};
+ghost use Rattle.altq_model.specs.History.{Arrival, Event, Happened, Sending, bare};
 ghost use Rattle.altq_model.specs.Lawful.{AreRising, IsLawful, IsSteady, SendsWhen};
 ghost use Rattle.altq_model.specs.Play.{AreDue};
 ghost use Rattle.altq_model.specs.Policies.{Answering};
@@ -23,8 +23,8 @@ pub fn cbq_is_lawful()
 /// is at most one burst and one packet ahead of 32/31 of its rate. This holds of every history of CBQ's sendings, and the first
 /// events of a play of CBQ are one.
 pub fn class_keeps_its_rate()
-    ensures rate { (cs : List CbqClass) (rate c : ℕ) (last : Transmission) (between : List Event) (first : Transmission) (before : List Event)
+    ensures rate { (cs : List CbqClass) (rate c : ℕ) (last : Sending) (between : List Event) (first : Sending) (before : List Event)
         → 0 < rate → 0 < (class_of cs c).rate → IsStretch cs rate c last between first before → KeepsItsRate cs c last between first }
-    ensures plays { (cs : List CbqClass) (rate seed : ℕ) (answer : Answering) (arrived : List Coming) (g : List Happened) → 0 < rate → AreRising arrived
+    ensures plays { (cs : List CbqClass) (rate seed : ℕ) (answer : Answering) (arrived : List Arrival) (g : List Happened) → 0 < rate → AreRising arrived
         → AreDue (cbq cs rate answer) rate seed arrived g → AreSendings cs rate (bare g) }
 {}

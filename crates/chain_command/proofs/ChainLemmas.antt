@@ -15,7 +15,7 @@ use Rattle.play_chain.specs.Tables.{AreOnce, HoldsFirsts, HoldsSeconds, text_in}
 use Rattle.play_chain.specs.Text.{path_text}
 use Rattle.play_chain.proofs.KeptLemmas.{decisions_kept, once_kept}
 use Rattle.play_chain.proofs.TextLemmas.{text_held}
-use Rattle.play_laws.proofs.ArrivalLemmas.{comings_length}
+use Rattle.play_laws.proofs.ArrivalLemmas.{bare_arrivals_length}
 use Rattle.play_loop.specs.declared.fault.PlayFault.{PlayFault}
 use Rattle.play_loop.specs.KeptFates.{kept_fates}
 use Rattle.play_words.specs.Words.{AreAllDistinct}
@@ -125,7 +125,7 @@ module _ (u a : View) (n : Links) (found next : Interface) (r : HasRead u a n fo
 once_played : (old new : View) (n : Names) (seed : ℕ) (h : HasPlayed old new n seed) → AreOnce (kept_fates (arrivals_of h) (journal_of h))
 once_played old new n seed h =
     let C : ℕ → Type 0 = λ count. IsConserved count (journal_of h) in
-    once_kept (arrivals_of h) (journal_of h) (subst C (comings_length (arrivals_of h)) h.played.play.laws.conserved)
+    once_kept (arrivals_of h) (journal_of h) (subst C (bare_arrivals_length (arrivals_of h)) h.played.play.laws.conserved)
 
 -- both are done, and then the paths were written
 module _ (u a w c e : View) (n : Links) (found next : Interface) (r : HasRead u a n found next) (seed k : ℕ) (m : Names) (names : m ≡ second_names n)

@@ -3,14 +3,14 @@ use Rattle.std.proofs.Common.{◌≡◌, ◌≤◌, ◌<◌, ◌∙◌, ◌⊎�
 use Rattle.std.specs.Prelude.{slice_get, unwrap_or}
 use Rattle.std.specs.Option.{option_map_or}
 use Rattle.std.proofs.lemmas.List.Elements.{Contains-append_cases}
-use Rattle.altq_model.specs.Arrivals.{Arrival, arrivals_from, comings, no_arrival}
+use Rattle.altq_model.specs.Arrivals.{Captured, arrivals_from, bare_arrivals, no_arrival}
 use Rattle.altq_model.specs.declared.Fate.{Fate}
 use Rattle.altq_model.specs.declared.Fate.TheVariants as fate
 use Rattle.altq_model.specs.declared.Placed.{Placed}
 use Rattle.altq_model.specs.declared.Verdict.{Verdict}
 use Rattle.altq_model.specs.declared.Verdict.TheVariants.{Keep, Mark, Drop}
 use Rattle.altq_model.specs.Departures.{Dressing, departed, departed_by}
-use Rattle.altq_model.specs.History.{Coming, Decision, Event, Offered, Sent, Happened, bare, decided, dropped_by, journal}
+use Rattle.altq_model.specs.History.{Arrival, Decision, Event, Offered, Sent, Happened, bare, decided, dropped_by, journal}
 use Rattle.altq_model.specs.Laws.{IsNotBefore, StartsAfter, at_of}
 use Rattle.altq_model.specs.Link.{HasLinkEnds, link}
 use Rattle.capture_model.specs.Capture.{End, IsCapture, Outcome, Record, outcome}
@@ -53,7 +53,7 @@ pub record Rise (rate : ℕ) (ns : List ℕ) (h : List Event) : Type 0 where
   pub rises : Rising 0 ns
   pub last : last_of 0 ns ≤ (link rate h).free
 
-one_more : (rate : ℕ) (dress : Dressing) (arrived : List Arrival) (n : ℕ) (e : Event) (g : List Happened) → 0 < rate → HasLinkEnds rate (e ∷ bare g)
+one_more : (rate : ℕ) (dress : Dressing) (arrived : List Captured) (n : ℕ) (e : Event) (g : List Happened) → 0 < rate → HasLinkEnds rate (e ∷ bare g)
     → (HasLinkEnds rate (bare g) → Rise rate (stamps (departed dress arrived g)) (bare g))
     → Rise rate (stamps (departed dress arrived g ++ departed_by dress arrived n e g)) (e ∷ bare g)
 one_more rate dress arrived n (Offered a w v) g pos h before =
@@ -73,13 +73,13 @@ one_more rate dress arrived n (Sent s) g pos h before =
       last = (let is = last_append 0 ns s.end in omega (arith, is, end));
     })
 
-pub departures_rise : (rate : ℕ) (dress : Dressing) (arrived : List Arrival) (g : List Happened) → 0 < rate → HasLinkEnds rate (bare g)
+pub departures_rise : (rate : ℕ) (dress : Dressing) (arrived : List Captured) (g : List Happened) → 0 < rate → HasLinkEnds rate (bare g)
     → Rise rate (stamps (departed dress arrived g)) (bare g)
 departures_rise rate dress arrived [] pos h = record { rises = tt; last = omega arith }
 departures_rise rate dress arrived (e ∷ g) pos h =
     one_more rate dress arrived e.label e.what g pos h (λ k. departures_rise rate dress arrived g pos k)
 
-pub rise_so : (rate : ℕ) (dress : Dressing) (arrived : List Arrival) (g : List Happened) → 0 < rate → HasLinkEnds rate (bare g)
+pub rise_so : (rate : ℕ) (dress : Dressing) (arrived : List Captured) (g : List Happened) → 0 < rate → HasLinkEnds rate (bare g)
     → Rising 0 (stamps (departed dress arrived g))
 rise_so rate dress arrived g pos h = (departures_rise rate dress arrived g pos h).rises
 
@@ -113,7 +113,7 @@ some_number m n e = cc
 
 -- each arrives at its stamp or later
 pub at_stamp : (mark : List ℕ → Placed) (t : ℕ) (rs : List Record) (k end : ℕ) → slice_get (stamps rs) k ≡ Some end
-    → end ≤ option_map_or (λ (a : Coming). a.at) (slice_get (comings (arrivals_from mark t rs)) k) 0
+    → end ≤ option_map_or (λ (a : Arrival). a.at) (slice_get (bare_arrivals (arrivals_from mark t rs)) k) 0
 at_stamp mark t [] k end e = absurd (cc)
 at_stamp mark t (x ∷ rs) zero end e = let same = some_number x.stamp end e in omega (arith, same)
 at_stamp mark t (x ∷ rs) (suc k) end e = at_stamp mark (max t x.stamp) rs k end e
@@ -127,7 +127,7 @@ ends_append (d ∷ xs) ys = one_end d.1 (ends_of (xs ++ ys)) (ends_of xs) ys (en
     one_end (fate.Dropped reason) all front ys e = e
     one_end (fate.Sent start end rule) all front ys e = ap (λ (ns : List ℕ). end ∷ ns) e
 
-decided_ends : (dress : Dressing) (arrived : List Arrival) (n : ℕ) (e : Event) (g : List Happened)
+decided_ends : (dress : Dressing) (arrived : List Captured) (n : ℕ) (e : Event) (g : List Happened)
     → ends_of (decided n e) ≡ stamps (departed_by dress arrived n e g)
 decided_ends dress arrived n (Offered a w v) g = offered v.verdict
   where
@@ -140,7 +140,7 @@ decided_ends dress arrived n (Sent s) g = refl
 both : (as' bs cs ds : List ℕ) → as' ≡ cs → bs ≡ ds → as' ++ bs ≡ cs ++ ds
 both as' bs cs ds e f = cc
 
-pub ends_are : (dress : Dressing) (arrived : List Arrival) (g : List Happened) → ends_of (journal g) ≡ stamps (departed dress arrived g)
+pub ends_are : (dress : Dressing) (arrived : List Captured) (g : List Happened) → ends_of (journal g) ≡ stamps (departed dress arrived g)
 ends_are dress arrived [] = refl
 ends_are dress arrived (e ∷ g) =
     ends_append (journal g) (decided e.label e.what)
@@ -148,14 +148,14 @@ ends_are dress arrived (e ∷ g) =
     ∙ sym (stamps_append (departed dress arrived g) (departed_by dress arrived e.label e.what g))
 
 -- no sending of a journal starts before its arrival
-abbrev IsAfter : List Coming → Decision → Type 0
+abbrev IsAfter : List Arrival → Decision → Type 0
 IsAfter arrived d = IfSent d.1 (λ start end. at_of arrived d.0 ≤ start)
 
 only_one : (x d : Decision) → Contains (x ∷ []) d → x ≡ d
 only_one x d (zero, l, e) = e
 only_one x d (suc k, l, e) = absurd (omega (arith, l))
 
-decided_after : (arrived : List Coming) (n : ℕ) (e : Event) (d : Decision) → StartsAfter arrived n e → Contains (decided n e) d → IsAfter arrived d
+decided_after : (arrived : List Arrival) (n : ℕ) (e : Event) (d : Decision) → StartsAfter arrived n e → Contains (decided n e) d → IsAfter arrived d
 decided_after arrived n (Offered a w v) d s c = offered v.verdict c
   where
     offered : (x : Verdict) → Contains (dropped_by x n) d → IsAfter arrived d
@@ -164,7 +164,7 @@ decided_after arrived n (Offered a w v) d s c = offered v.verdict c
     offered (Drop reason) c = subst (IsAfter arrived) (only_one (n, fate.Dropped reason) d c) tt
 decided_after arrived n (Sent s) d starts c = subst (IsAfter arrived) (only_one (n, fate.Sent s.start s.end s.rule) d c) starts
 
-pub starts_after : (arrived : List Coming) (g : List Happened) (d : Decision) → IsNotBefore arrived g → Contains (journal g) d → IsAfter arrived d
+pub starts_after : (arrived : List Arrival) (g : List Happened) (d : Decision) → IsNotBefore arrived g → Contains (journal g) d → IsAfter arrived d
 starts_after arrived [] d h c = let l = c.1 in absurd (omega (arith, l))
 starts_after arrived (e ∷ g) d h c =
     by (λ x. starts_after arrived g d h.1 x) (Contains-append_cases (journal g) (decided e.label e.what) d c)

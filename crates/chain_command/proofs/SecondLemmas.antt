@@ -2,7 +2,7 @@
 use Rattle.std.proofs.Common.{◌≡◌, ◌≢◌, ◌≤◌, ◌<◌, ◌-◌, ◌∙◌, ℕ, zero, suc, List, false, Some, ap, sym, subst, refl, arith}
 use Rattle.std.specs.Prelude.{IsTrue, slice_get}
 use Rattle.arrivals_front.specs.Given.{is_pcapng}
-use Rattle.altq_model.specs.Arrivals.{comings}
+use Rattle.altq_model.specs.Arrivals.{bare_arrivals}
 use Rattle.altq_model.specs.declared.Fate.TheVariants.{Sent}
 use Rattle.altq_model.specs.Departures.{departed}
 use Rattle.altq_model.specs.History.{Happened}
@@ -72,10 +72,10 @@ one_sent u v n seed p h =
     let one : i ≡ j = (one_accepted u n.first p.first.accepted h.accepted).0 in
     let reads : p.first.records ≡ h.played.records =
     (one_reads u n.first p.first.accepted h.accepted p.first.records h.played.records End End tt tt p.first.reads h.played.capture).0 in
-    let I : Interface → Type 0 = λ k. IsPlay (setup_of k seed).policy k.rate seed (comings (arrivals_in (setup_of k seed) p.first.records)) p.history in
-    let R : List Record → Type 0 = λ rs. IsPlay (setup_of j seed).policy j.rate seed (comings (arrivals_in (setup_of j seed) rs)) p.history in
+    let I : Interface → Type 0 = λ k. IsPlay (setup_of k seed).policy k.rate seed (bare_arrivals (arrivals_in (setup_of k seed) p.first.records)) p.history in
+    let R : List Record → Type 0 = λ rs. IsPlay (setup_of j seed).policy j.rate seed (bare_arrivals (arrivals_in (setup_of j seed) rs)) p.history in
     let history : p.history ≡ h.played.history =
-    one_whole (setup_of j seed).policy j.rate seed (comings (arrivals_in (setup_of j seed) h.played.records)) p.history h.played.history
+    one_whole (setup_of j seed).policy j.rate seed (bare_arrivals (arrivals_in (setup_of j seed) h.played.records)) p.history h.played.history
     (subst R reads (subst I one p.play)) h.played.play.play in
     ap (λ (k : Interface). departures_of (setup_of k seed) (arrivals_in (setup_of k seed) p.first.records) p.history) one
     ∙ ap (λ (rs : List Record). departures_of (setup_of j seed) (arrivals_in (setup_of j seed) rs) p.history) reads
@@ -106,7 +106,7 @@ module _ (u v e : View) (n : Links) (seed : ℕ) (fit : ConfigurationsFit) (x : 
       let ends = ends_are (setup_of x.accepted.interface seed).dress (arrivals_of x) x.played.history in
       let here = ap (λ (ns : List ℕ). slice_get ns (k - 1)) (same_stamps ∙ sym ends) ∙ at in
       let least = at_stamp (setup_of y.accepted.interface seed).place 0 y.played.records (k - 1) end here in
-      let most = starts_after (comings (arrivals_of y)) y.played.history (k, Sent start later rule) y.played.play.laws.not_before there in
+      let most = starts_after (bare_arrivals (arrivals_of y)) y.played.history (k, Sent start later rule) y.played.play.laws.not_before there in
       omega (arith, least, most)
 
 -- the outputs of the second play are parts 7 to 9 of the run

@@ -1,6 +1,6 @@
 -- What a chain leaves that is done.
 use Rattle.std.specs.Prelude.{◌≡◌, ◌≤◌, ◌-◌, ℕ, List, [], ◌∷◌, Contains, Some, false, slice_get}
-use Rattle.altq_model.specs.Arrivals.{Arrival, arrival}
+use Rattle.altq_model.specs.Arrivals.{Captured, arrival}
 use Rattle.altq_model.specs.declared.Fate.{Fate}
 use Rattle.altq_model.specs.declared.Fate.TheVariants.{Dropped, Sent}
 use Rattle.altq_model.specs.declared.Rule.{Rule}
@@ -16,7 +16,7 @@ use Rattle.play_command.specs.Supplied.{with_bytes}
 use Rattle.chain_command.specs.Links.{Links, second_names}
 
 -- the arrivals and the journal of a play, and what it sent as a capture
-abbrev pub arrivals_of : {old new : View} {n : Names} {seed : ℕ} → HasPlayed old new n seed → List Arrival
+abbrev pub arrivals_of : {old new : View} {n : Names} {seed : ℕ} → HasPlayed old new n seed → List Captured
 arrivals_of {old} {new} {n} {seed} h = arrivals_in (setup_of h.accepted.interface seed) h.played.records
 
 abbrev pub journal_of : {old new : View} {n : Names} {seed : ℕ} → HasPlayed old new n seed → List Decision
@@ -50,7 +50,7 @@ ends_of [] = []
 ends_of (d ∷ ds) = ends_by d.1 (ends_of ds)
 
 -- no arrival is later than its own stamp
-abbrev pub NoneRaised : List Arrival → Type 0
+abbrev pub NoneRaised : List Captured → Type 0
 NoneRaised arrived = (n : ℕ) → (arrival arrived n).raised ≡ false
 
 -- each sending of a second journal starts at the end of its packet's sending in the first, or later

@@ -1,6 +1,6 @@
 -- How `chain` ends: what done means, when each failure comes, what must come, and what is left.
 use Rattle.std.specs.Prelude.{◌≡◌, ◌≤◌, ◌⊎◌, ℕ, List, None, Some, Ok, Err, IsTrue}
-use Rattle.altq_model.specs.Arrivals.{comings}
+use Rattle.altq_model.specs.Arrivals.{bare_arrivals}
 use Rattle.altq_model.specs.History.{Happened}
 use Rattle.altq_model.specs.Play.{IsPlay}
 use Rattle.capture_model.specs.declared.damage.Damage.{Damage}
@@ -123,7 +123,7 @@ pub record PassesOn (old : View) (n : Links) (seed : ℕ) : Type 0 where
   pub first : EndsWith old n.first seed End
   pub history : List Happened
   pub play : IsPlay (setup_of first.accepted.interface seed).policy first.accepted.interface.rate seed
-      (comings (arrivals_in (setup_of first.accepted.interface seed) first.records)) history
+      (bare_arrivals (arrivals_in (setup_of first.accepted.interface seed) first.records)) history
 
 -- the files as they would be, if what that play sends had stood under the name of the first departures
 abbrev pub passed_by : {old : View} {n : Links} {seed : ℕ} → PassesOn old n seed → View

@@ -1,17 +1,17 @@
 -- The front of a list that shows what waits in its class is the head of that class.
 use Rattle.std.proofs.Common.{◌≡◌, ℕ, List, [], ◌∷◌, ◌∙◌, Some, refl, ap}
 use Rattle.std.specs.Prelude.{slice_get}
-use Rattle.altq_model.specs.History.{Coming, Happened, bare, waiting}
+use Rattle.altq_model.specs.History.{Arrival, Happened, bare, waiting}
 use Rattle.leaf_queue.specs.declared.node.Entry.{Entry}
 use Rattle.discipline.specs.Laws.{Shows, seen, seen_of}
 
 -- a packet of this length is at the head
-pub record HasFront (ws : List Coming) (length_is : ℕ) : Type 0 where
-  pub packet : Coming
+pub record HasFront (ws : List Arrival) (length_is : ℕ) : Type 0 where
+  pub packet : Arrival
   pub front : slice_get ws 0 ≡ Some packet
   pub len : length_is ≡ packet.len
 
-seen_front : (xs : List Entry) (ws : List Coming) (x : Entry) → seen xs ≡ seen_of ws → slice_get xs 0 ≡ Some x → HasFront ws x.len
+seen_front : (xs : List Entry) (ws : List Arrival) (x : Entry) → seen xs ≡ seen_of ws → slice_get xs 0 ≡ Some x → HasFront ws x.len
 seen_front [] ws x e f = absurd (cc)
 seen_front (y ∷ xs) [] x e f = absurd (cc)
 seen_front (y ∷ xs) (a ∷ ws) x e f =

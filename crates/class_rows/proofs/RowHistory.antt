@@ -8,13 +8,13 @@ use Rattle.std.proofs.lemmas.Option.{slice_get-map, slice_get-get_or}
 use Rattle.altq_model.specs.declared.Reason.TheVariants.{Full}
 use Rattle.altq_model.specs.declared.Verdict.{Verdict}
 use Rattle.altq_model.specs.declared.Verdict.TheVariants.{Keep, Mark, Drop}
-use Rattle.altq_model.specs.History.{Coming, DrawnWords, Answer, Event, Offered, Sent, Happened, Transmission, bare, waiting, with_offer, without_head}
+use Rattle.altq_model.specs.History.{Arrival, DrawnWords, Answer, Event, Offered, Sent, Happened, Sending, bare, waiting, with_offer, without_head}
 use Rattle.altq_model.specs.Lawful.{IsOneOf}
 use Rattle.leaf_queue.specs.declared.node.Entry.{Entry}
 use Rattle.leaf_queue.specs.Lists.{Listed, list_of, precs_in}
 use Rattle.leaf_queue.specs.Words.{Drew}
-use Rattle.leaf_queue.specs.Queue.{QueueEvent, Asked, Saying, by_queue, by_queues, queue_at, told_of, waiting_of, precs_of}
-use Rattle.discipline.specs.Laws.{seen, seen_of, after_offer, after_sent, coming, held_in, room_of}
+use Rattle.leaf_queue.specs.Queue.{QueueEvent, Enqueued, Saying, by_queue, by_queues, queue_at, told_of, waiting_of, precs_of}
+use Rattle.discipline.specs.Laws.{seen, seen_of, after_offer, after_sent, arrival_with, held_in, room_of}
 use Rattle.class_rows.specs.Leaf.{after_verdict, gone, HasPrecs}
 use Rattle.class_rows.specs.Rows.{Answers, Fit, IsRow, Rowed, RowsStand, SameRow, Told, answering, classes_in, limit_at, limit_in, limits_sum, list_at, list_in}
 use Rattle.class_rows.proofs.ShowsLemmas.{shows_offered, shows_sent, seen_precs, told_here, told_there, gone_here, gone_there, seen-offer, seen-sent}
@@ -30,6 +30,18 @@ queue_there : {Q : Type 0} (says : Q → Saying) (queues : List Q) (k : ℕ) (q 
 queue_there says [] k q e = absurd (cc)
 queue_there {Q} says (p ∷ queues) k q e =
     ap (λ (o : Option Saying). unwrap_or o (says p)) (slice_get-map says (p ∷ queues) k ∙ ap (option_map says) e)
+
+-- an offer of an entry to a class with its answer, and the random words before and after it
+pub record Offering : Type 0 where
+  pub class : ℕ
+  pub entry : Entry
+  pub now : ℕ
+  pub words : DrawnWords
+  pub after : DrawnWords
+  pub verdict : Verdict
+
+abbrev pub bare_arrival : Offering → Arrival
+bare_arrival x = arrival_with x.class x.entry.len x.entry.prec x.now
 
 module _ {Q : Type 0} (stands : Q → List QueueEvent → Type 0) where
   rows_at : (c : ℕ) (queues : List Q) (lists : List (List Entry)) (b : List Event) (k class : ℕ) (q : Q) → RowsStand stands c queues lists b
@@ -76,18 +88,18 @@ module _ {Q : Type 0} (stands : Q → List QueueEvent → Type 0) where
       let here = row_kept c class p xs e b o (λ d. omega arith) s.0 s.1 in
       (here.0, here.1, rows_set (c + 1) queues lists e b k class q ys o (omega arith) s.2 w t)
 
-offer_stays : (v : Verdict) (x : Coming) (xs : List Coming) (m : Bool) → m ≡ false → with_offer m v x xs ≡ xs
+offer_stays : (v : Verdict) (x : Arrival) (xs : List Arrival) (m : Bool) → m ≡ false → with_offer m v x xs ≡ xs
 offer_stays Keep x xs m e = ap (λ (b : Bool). cond b (xs ++ x ∷ []) xs) e
 offer_stays Mark x xs m e = ap (λ (b : Bool). cond b (xs ++ x ∷ []) xs) e
 offer_stays (Drop r) x xs m e = refl
 
-others_offered : (a : Coming) (w : DrawnWords) (s : Answer) (b : List Event) → Others a.class (Offered a w s) b
+others_offered : (a : Arrival) (w : DrawnWords) (s : Answer) (b : List Event) → Others a.class (Offered a w s) b
 others_offered a w s b = record {
   waits = λ c n. offer_stays s.verdict a (waiting c b) (eqb a.class c) (ne_eqb a.class c n);
   told = λ c n. told_there c b a w s n;
 }
 
-others_sent : (s : Transmission) (b : List Event) → Others s.class (Sent s) b
+others_sent : (s : Sending) (b : List Event) → Others s.class (Sent s) b
 others_sent s b = record {
   waits = λ c n. ap (λ (m : Bool). without_head m (waiting c b)) (ne_eqb s.class c n);
   told = λ c n. gone_there c b s n;
@@ -121,13 +133,13 @@ lists_sent c lists k class d l e =
     ∙ drop_or (list_at c lists d) (list_of lists k) (eqb class d)
     (λ t. list_at-here c lists k d l (e ∙ eqb-true class d t))
 
-mine_offered : (v : Verdict) (x : Entry) (xs : List Entry) (a : Coming) (c : ℕ) (b : List Event) (w : DrawnWords) (s : Answer) → v ≡ s.verdict → a.class ≡ c
+mine_offered : (v : Verdict) (x : Entry) (xs : List Entry) (a : Arrival) (c : ℕ) (b : List Event) (w : DrawnWords) (s : Answer) → v ≡ s.verdict → a.class ≡ c
     → x.len ≡ a.len → x.prec ≡ a.prec → seen xs ≡ seen_of (waiting c b) → seen (with_offer true v x xs) ≡ seen_of (waiting c (Offered a w s ∷ b))
 mine_offered v x xs a c b w s e m l p h =
     ap (λ (u : Verdict). seen (with_offer true u x xs)) e ∙ seen-offer true s.verdict x xs a (waiting c b) l p h
     ∙ ap (λ (t : Bool). seen_of (with_offer t s.verdict a (waiting c b))) (sym (eq-eqb a.class c m))
 
-mine_sent : (xs : List Entry) (s : Transmission) (c : ℕ) (b : List Event) → s.class ≡ c → seen xs ≡ seen_of (waiting c b)
+mine_sent : (xs : List Entry) (s : Sending) (c : ℕ) (b : List Event) → s.class ≡ c → seen xs ≡ seen_of (waiting c b)
     → seen (drop 1 xs) ≡ seen_of (waiting c (Sent s ∷ b))
 mine_sent xs s c b m h =
     seen-sent true xs (waiting c b) h ∙ ap (λ (t : Bool). seen_of (without_head t (waiting c b))) (sym (eq-eqb s.class c m))
@@ -244,7 +256,7 @@ module _ {Q : Type 0} (stands : Q → List QueueEvent → Type 0) (says : Q → 
   Asks p q xs x now w z v = (t : List QueueEvent) → stands p t → w.drawn < 2 ^ 64 - 1
       → (v ≡ (says p t now (waiting_of (precs_in xs)) x.prec w).verdict)
       × Drew w z (says p t now (waiting_of (precs_in xs)) x.prec w).took
-      × stands q (Asked now (waiting_of (precs_in xs)) x.prec w (says p t now (waiting_of (precs_in xs)) x.prec w) ∷ t)
+      × stands q (Enqueued now (waiting_of (precs_in xs)) x.prec w (says p t now (waiting_of (precs_in xs)) x.prec w) ∷ t)
 
   -- all that an offer does
   pub record Offers (room : ℕ) (d e : Rowed Q) (class : ℕ) (x : Entry) (now : ℕ) (w : DrawnWords) (v : Verdict) (z : DrawnWords) : Type 0 where
@@ -254,12 +266,19 @@ module _ {Q : Type 0} (stands : Q → List QueueEvent → Type 0) (says : Q → 
     pub told : (h : List Happened) → Told stands d h → w.drawn < 2 ^ 64 - 1 → Answers stands says d e h class x now w v z
     pub same : SameRow most says d e
 
-  pub offers : (room : ℕ) (d : Rowed Q) (class : ℕ) (p q : Q) (l : Listed) (x : Entry) (now : ℕ) (w z : DrawnWords) (v : Verdict)
-      → IsRowed most room d → IsPlace d class → slice_get d.holds (class - d.first) ≡ Some true → slice_get d.queues (class - d.first) ≡ Some p → x.prec ≤ 2
-      → l.lists ≡ after_verdict v (class - d.first) x d.listed.lists → l.room ≡ d.listed.room → says q ≡ says p → most q ≡ most p
-      → ((v ≡ Drop Full) ↔ (length (list_of d.listed.lists (class - d.first)) ≡ most p))
-      → Asks p q (list_of d.listed.lists (class - d.first)) x now w z v → Offers room d (with_row d (class - d.first) q l) class x now w v z
-  offers room d class p q l x now w z v i place held there small lists same_room same limit full asks =
+  pub offers : (room : ℕ) (d : Rowed Q) (p q : Q) (l : Listed) (o : Offering) → IsRowed most room d → IsPlace d o.class
+      → slice_get d.holds (o.class - d.first) ≡ Some true → slice_get d.queues (o.class - d.first) ≡ Some p → o.entry.prec ≤ 2
+      → l.lists ≡ after_verdict o.verdict (o.class - d.first) o.entry d.listed.lists → l.room ≡ d.listed.room → says q ≡ says p → most q ≡ most p
+      → ((o.verdict ≡ Drop Full) ↔ (length (list_of d.listed.lists (o.class - d.first)) ≡ most p))
+      → Asks p q (list_of d.listed.lists (o.class - d.first)) o.entry o.now o.words o.after o.verdict
+      → Offers room d (with_row d (o.class - d.first) q l) o.class o.entry o.now o.words o.verdict o.after
+  offers room d p q l o i place held there small lists same_room same limit full asks =
+      let class : ℕ = o.class in
+      let x : Entry = o.entry in
+      let now : ℕ = o.now in
+      let w : DrawnWords = o.words in
+      let z : DrawnWords = o.after in
+      let v : Verdict = o.verdict in
       let k : ℕ = class - d.first in
       let xs : List Entry = list_of d.listed.lists k in
       let ys : List Entry = with_offer true v x xs in
@@ -275,15 +294,15 @@ module _ {Q : Type 0} (stands : Q → List QueueEvent → Type 0) (says : Q → 
         full = (λ e. ap length here ∙ full.0 e ∙ sym most_is, λ e. full.1 (sym (ap length here) ∙ e ∙ most_is));
         told = λ h s few.
             let b : List Event = bare h in
-            let a : Coming = coming class x.len x.prec now in
+            let a : Arrival = arrival_with class x.len x.prec now in
             let t : List QueueEvent = told_of class b in
             let row = rows_at stands d.first d.queues d.listed.lists b k class p s.rows there place.is in
             let answer : Answer = answering says d b w a in
             let queue : queue_at (map says d.queues) k ≡ says p = queue_there says d.queues k p there in
-            let R : Answer → Type 0 = λ j. (v ≡ j.verdict) × Drew w z j.took × stands q (Asked now (waiting_of (precs_of (waiting class b))) x.prec w j ∷ t) in
+            let R : Answer → Type 0 = λ j. (v ≡ j.verdict) × Drew w z j.took × stands q (Enqueued now (waiting_of (precs_of (waiting class b))) x.prec w j ∷ t) in
             let F : List ℕ → Type 0 = λ ps.
             (v ≡ (says p t now (waiting_of ps) x.prec w).verdict) × Drew w z (says p t now (waiting_of ps) x.prec w).took
-            × stands q (Asked now (waiting_of ps) x.prec w (says p t now (waiting_of ps) x.prec w) ∷ t) in
+            × stands q (Enqueued now (waiting_of ps) x.prec w (says p t now (waiting_of ps) x.prec w) ∷ t) in
             let r0 = subst F (seen_precs xs (waiting class b) row.0) (asks t row.1 few) in
             let S : Saying → Type 0 = λ y. R (by_queue y b w a) in
             let r = subst S (sym queue) r0 in
@@ -306,7 +325,7 @@ module _ {Q : Type 0} (stands : Q → List QueueEvent → Type 0) (says : Q → 
   pub record Leaves (room : ℕ) (d e : Rowed Q) (class now : ℕ) : Type 0 where
     pub row : IsRowed most room e
     pub lists : (c : ℕ) → list_in e c ≡ after_sent class (list_in d) c
-    pub told : (h : List Happened) → Told stands d h → (n : ℕ) (s : Transmission) → s.class ≡ class → s.start ≡ now
+    pub told : (h : List Happened) → Told stands d h → (n : ℕ) (s : Sending) → s.class ≡ class → s.start ≡ now
         → Told stands e (record { label = n; what = Sent s } ∷ h)
     pub same : SameRow most says d e
 

@@ -8,7 +8,7 @@ use Rattle.leaf_queue.specs.declared.node.Entry.{Entry}
 use Rattle.leaf_queue.specs.Lists.{Listed}
 use Rattle.leaf_queue.specs.Words.{Drew}
 use Rattle.leaf_queue.specs.Queue.{QueueEvent, Saying, by_queues, told_of}
-use Rattle.discipline.specs.Laws.{Shows, coming, seen, seen_of}
+use Rattle.discipline.specs.Laws.{Shows, arrival_with, seen, seen_of}
 use Rattle.class_rows.specs.Leaf.{HasPrecs}
 
 -- the numbers of the queue classes of a list whose first class has the number c
@@ -100,11 +100,11 @@ pub record Told {Q : Type 0} (stands : Q → List QueueEvent → Type 0) (d : Ro
 -- after a history an offer was answered by the class's queue, and the row stands for the history with it
 pub record Answers {Q : Type 0} (stands : Q → List QueueEvent → Type 0) (says : Q → Saying) (old new : Rowed Q) (h : List Happened)
     (class : ℕ) (x : Entry) (now : ℕ) (before : DrawnWords) (v : Verdict) (after : DrawnWords) : Type 0 where
-  pub verdict : v ≡ (answering says old (bare h) before (coming class x.len x.prec now)).verdict
-  pub words : Drew before after (answering says old (bare h) before (coming class x.len x.prec now)).took
+  pub verdict : v ≡ (answering says old (bare h) before (arrival_with class x.len x.prec now)).verdict
+  pub words : Drew before after (answering says old (bare h) before (arrival_with class x.len x.prec now)).took
   pub told : Told stands new (record {
     label = x.ticket.0;
-    what = Offered (coming class x.len x.prec now) before (answering says old (bare h) before (coming class x.len x.prec now));
+    what = Offered (arrival_with class x.len x.prec now) before (answering says old (bare h) before (arrival_with class x.len x.prec now));
   } ∷ h)
 
 -- the same classes with queues that answer alike

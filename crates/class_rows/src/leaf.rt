@@ -2,7 +2,7 @@
 ghost use Rattle.std.specs.Prelude.{◌≡◌, ◌≤◌, ◌<◌, ◌-◌, ◌^◌, ◌∷◌, ◌↔◌, ℕ, List, length, drop, slice_set};
 ghost use Rattle.altq_model.specs.declared.Reason.{Reason};
 ghost use Rattle.leaf_queue.specs.Lists.{list_of, total_of, precs_in};
-ghost use Rattle.leaf_queue.specs.Queue.{QueueEvent, Asked, waiting_of};
+ghost use Rattle.leaf_queue.specs.Queue.{QueueEvent, Enqueued, waiting_of};
 ghost use Rattle.leaf_queue.specs.Words.{Drew};
 ghost use Rattle.class_rows.specs.Leaf.{after_verdict, gone, HasPrecs};
 
@@ -30,7 +30,7 @@ pub fn offer_to<Q: QueueRule>(
         → Drew words.old words.new (Q.says queue.old q now (waiting_of (precs_in (list_of lists.old.lists place))) entry.prec words.old).took }
     ensures history { (q : List QueueEvent) → Q.stands queue.old q → words.old.drawn < 2 ^ 64 - 1
         → let waiting = waiting_of (precs_in (list_of lists.old.lists place)) in
-        Q.stands queue.new (Asked now waiting entry.prec words.old (Q.says queue.old q now waiting entry.prec words.old) ∷ q) }
+        Q.stands queue.new (Enqueued now waiting entry.prec words.old (Q.says queue.old q now waiting entry.prec words.old) ∷ q) }
     ensures limit { Q.most queue.new ≡ Q.most queue.old }
     ensures kind { Q.says queue.new ≡ Q.says queue.old }
 {

@@ -1,8 +1,8 @@
-// Classes in a row.
+// The queues of consecutive classes.
 ghost use Rattle.std.specs.Prelude.{◌≡◌, ◌≤◌, ◌<◌, ◌+◌, ◌-◌, ◌^◌, ◌∷◌, ◌↔◌, [], ℕ, List, All, IfOk, length, map, slice_get};
 ghost use Rattle.altq_model.specs.declared.Reason.{Reason};
 ghost use Rattle.altq_model.specs.Lawful.{IsOneOf};
-ghost use Rattle.altq_model.specs.History.{Happened, Sent, Transmission};
+ghost use Rattle.altq_model.specs.History.{Happened, Sent, Sending};
 ghost use Rattle.discipline.specs.Laws.{after_offer, after_sent, held_in, room_of};
 ghost use Rattle.class_rows.specs.Rows.{Answers, IsNew, IsOther, IsRow, Rowed, SameRow, Told, classes_in, holding, limit_in, limits_of, limits_sum, list_in, most_of};
 
@@ -12,7 +12,7 @@ use play_base::NoMemory;
 use std::alloc::Global;
 use std::marker::Model;
 
-/// Classes in a row, numbered from a first one on. Contracts see the number of the first, the queues, which of them are those of
+/// The queues of consecutive classes, numbered from a first one on. Contracts see the number of the first, the queues, which of them are those of
 /// queue classes, and the lists.
 #[derive(Drop)]
 pub struct Rows<Q: QueueRule + Drop> {
@@ -136,7 +136,7 @@ impl<Q: QueueRule + Drop> Rows<Q> {
     pub fn take(&mut self, class: u32, now: u64)
         requires some { 0 < length (list_in self.old class) }
         ensures lists { (c : ℕ) → list_in self.new c ≡ after_sent class (list_in self.old) c }
-        ensures told { (h : List Happened) → Told Q.stands self.old h → (n : ℕ) (s : Transmission) → s.class ≡ class → s.start ≡ now
+        ensures told { (h : List Happened) → Told Q.stands self.old h → (n : ℕ) (s : Sending) → s.class ≡ class → s.start ≡ now
             → Told Q.stands self.new (record { label = n; what = Sent s } ∷ h) }
         ensures within { held_in (list_in self.new) (classes_in self.new) ≤ room_of (limit_in Q.most self.new) (classes_in self.new) }
         ensures same { SameRow Q.most Q.says self.old self.new }

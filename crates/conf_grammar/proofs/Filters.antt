@@ -77,8 +77,8 @@ Meter = Either (Written key.Srtcm) (Written key.Trtcm)
 read_meter : {words more : List (List ℕ)} {says rest : List What} → Meter words says → Good form.Conditioner at_af more rest
     → Good form.Conditioner at_meter (words ++ more) (says ++ rest)
 unfolding step is_text
-read_meter (first x) good = read_option at_meter (wanting slots.Single at_af) at_af (codes "srtcm") key.Srtcm refl (values_lead slots.Single at_af) x good
-read_meter (second x) good = read_option at_meter (wanting slots.Two at_af) at_af (codes "trtcm") key.Trtcm refl (values_lead slots.Two at_af) x good
+read_meter (first x) good = (read_option at_meter (wanting slots.Single at_af) at_af (codes "srtcm") key.Srtcm refl (values_lead slots.Single at_af)).read x good
+read_meter (second x) good = (read_option at_meter (wanting slots.Two at_af) at_af (codes "trtcm") key.Trtcm refl (values_lead slots.Two at_af)).read x good
 
 find_meter : (line : ℕ) (words : List (List ℕ)) (at : ℕ) → NoFault line words at_meter at → Found Meter at_af line words
 unfolding step end

@@ -17,21 +17,21 @@ use Rattle.conf_grammar.proofs.Values.{Values, values_are_none, values_lead}
 use Rattle.conf_grammar.specs.Phrases.{has, Many, none, more, Option as Opt, option}
 use Rattle.conf_grammar.specs.Words.{Phrase}
 
--- the option of a key, as its row of the table has it
+-- the option of a key, with the values that its row of the table of options asks for
 abbrev pub Written : Key → Phrase
 Written k = Opt (word_of_key k) k (Values (slots_of k))
 
--- one of these options, which its word names among them
+-- an option of one of these keys, which its word names among them
 pub data Keyed (keys : List Key) : List (List ℕ) → List What → Type 0 where
   keyed : (k : Key) {words : List (List ℕ)} {says : List What} → one_of keys (word_of_key k) ≡ Some k → Written k words says → Keyed keys words says
 
--- what is so of each of these keys
+-- a fact of each of these keys
 infixr 5 ◌&◌
 pub data Each (P : Key → Type 0) : List Key → Type 0 where
   done : Each P []
   ◌&◌ : {k : Key} {keys : List Key} → P k → Each P keys → Each P (k ∷ keys)
 
--- an option of a key is one of these options
+-- each option of a key is one of a phrase
 abbrev pub Row : Phrase → Key → Type 0
 Row Of k = (words : List (List ℕ)) (says : List What) → Written k words says → Of words says
 
@@ -50,7 +50,7 @@ find_row {P} (key ∷ keys) w k (row & rows) e = go (find_row keys w k rows) (is
     go later true t e = let same : key ≡ k = cc in subst (λ x. (w ≡ word_of_key x) × P x) same (is_word (word_of_key key) w t, row)
     go later false t e = later e
 
--- options that their words name among others too
+-- an option of some keys is one of other keys too, where its word names its key among those
 pub also_keyed : {keys others : List Key} {words : List (List ℕ)} {says : List What} → Keyed keys words says
     → Each (λ k. one_of others (word_of_key k) ≡ Some k) keys → Keyed others words says
 also_keyed {keys} (keyed k found o) named = keyed k (find_row keys (word_of_key k) k named found).1 o

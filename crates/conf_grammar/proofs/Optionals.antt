@@ -16,11 +16,17 @@ use Rattle.conf_grammar.proofs.Places.{IsErr, err_is, is_itself, is_word, past_s
 use Rattle.conf_grammar.specs.Phrases.{◌▷◌, then, Maybe, absent, present, Option, option}
 use Rattle.conf_grammar.specs.Words.{Phrase}
 
--- the word of an option, and what stands behind it
-pub read_option : {form : Form} {V : Phrase} {words more : List (List ℕ)} {says rest : List What} (p b q : Place) (text : List ℕ) (k : Key)
-    → step p text ≡ Ok (record { what = Some (what.Key k); after = b }) → Leads form V b q → Option text k V words says → Good form q more rest
-    → Good form p (words ++ more) (says ++ rest)
-read_option p b q text k e values (option v) good = one_more p b text (what.Key k) e (values.read v good)
+-- a phrase is read from p up to q, and what stands behind it from there on
+pub record Reads (form : Form) (A : Phrase) (p q : Place) : Type 0 where
+  pub read : {words more : List (List ℕ)} {says rest : List What} → A words says → Good form q more rest → Good form p (words ++ more) (says ++ rest)
+
+-- the word of an option, which leads from p to b, and what stands behind it
+pub read_option : {form : Form} {V : Phrase} (p b q : Place) (text : List ℕ) (k : Key) → step p text ≡ Ok (record { what = Some (what.Key k); after = b })
+    → Leads form V b q → Reads form (Option text k V) p q
+read_option {form} {V} p b q text k e values = record { read = reads }
+  where
+    reads : {words more : List (List ℕ)} {says rest : List What} → Option text k V words says → Good form q more rest → Good form p (words ++ more) (says ++ rest)
+    reads (option v) good = one_more p b text (what.Key k) e (values.read v good)
 
 -- At p the option of a key may stand: its word leads to b, and every other one is read as at q, which has no such word.
 pub record MayStand (k : Key) (p b q : Place) : Type 0 where
@@ -78,7 +84,7 @@ module _ (k : Key) (p b q : Place) (o : MayStand k p b q) where
       reads : {words more : List (List ℕ)} {says rest : List What} → Maybe (Option (word_of_key k) k V) words says → Good form q more rest
           → Good form p (words ++ more) (says ++ rest)
       reads {more = more} {rest = rest} absent good = skip more rest good
-      reads (present x) good = read_option p b q (word_of_key k) k (o.named (word_of_key k) (is_itself (word_of_key k))) values x good
+      reads (present x) good = (read_option p b q (word_of_key k) k (o.named (word_of_key k) (is_itself (word_of_key k))) values).read x good
 
       by_first : (line : ℕ) (words : List (List ℕ)) (at : ℕ) → FirstWord line words at → Found (Maybe (Option (word_of_key k) k V)) q line words
       by_first line words at (has_none h) = record { front = []; says = []; rest = words; at = at; split = refl; is = absent; on = h }

@@ -29,7 +29,7 @@ use Rattle.conf_grammar.specs.Words.{Name, Phrase, Protocol}
 abbrev pub at_part : Form → ℕ → Place
 at_part f n = record (at_interface_name f) { parts = drop n (parts_of f) }
 
--- k parts of a filter, from number n on, in front of those of a place: what statements share stands in a filter too
+-- k parts of a filter, from number n on, in front of those of a place: each part that statements share is one of a filter too
 abbrev pub in_front : ℕ → ℕ → Place → Place
 in_front n k q = record (resumed q) { parts = take k (drop n (parts_of form.Filter)) ++ q.parts }
 
@@ -55,7 +55,7 @@ pub protocol_part : (q : Place) → Leads q.form Protocol (at_protocol q) (resum
 unfolding step end
 protocol_part q = protocol_by q.form (at_protocol q) (resumed q) (λ w. refl) (λ e. cc)
 
--- ADDRESSES, each with a port behind it, which is read alike behind `0` and behind another
+-- ADDRESSES, each with a port behind it, which is read alike behind the address `0` and behind any other
 either_way : (q : Place) (r : Result What ConfKind) → reads r (record q { stands = false }) ≡ reads r q
 either_way q (Ok x) = refl
 either_way q (Err kind) = refl

@@ -21,7 +21,7 @@ use Rattle.conf_tree.specs.declared.interface.Kind.{Kind}
 use Rattle.conf_tree.specs.declared.interface.Kind.TheVariants.{Hfsc, Cbq}
 use Rattle.conf_laws.specs.Fit.{IsName, IsWithin, IsOfKind, IsFilter, IsTos, AreAddresses, IsInterface, AreFit, HasParent}
 use Rattle.conf_laws.proofs.Bytes.{every-append}
-use Rattle.conf_laws.proofs.ClassOptions.{Part, settings_of, hfsc_part, cbq_part, all_read}
+use Rattle.conf_laws.proofs.ClassOptions.{Part, between, settings_of, hfsc_part, cbq_part, all_read}
 use Rattle.conf_laws.proofs.ListPlaces.{Each, element}
 use Rattle.conf_laws.proofs.Lines.{IsRead, IsLegible}
 use Rattle.conf_laws.proofs.Printed.{address_is_read, mask_is_read, prefix_is_read, name_is_read, rate_is_read, whole_is_read, protocol_is_read}
@@ -45,7 +45,8 @@ is_settled all None None shared = refl
 is_settled all (Some p) None shared = absurd (shared (λ e. cc) refl)
 
 options_part : (kind : Kind) (all : List Class) (c : Class) → IsOfKind kind c → IsWithin 1 10000 c.limit
-    → Part (class_form kind) c.is_default (is_text (codes "NULL") (parent_word all c.parent)) true unset (settings_of kind c) (class_options kind c) 17
+    → Part (class_form kind) c.is_default (between (is_text (codes "NULL") (parent_word all c.parent)) unset) (between true (settings_of kind c))
+    (class_options kind c) 17
 options_part Hfsc all c own limit =
     let part = hfsc_part {settled = is_text (codes "NULL") (parent_word all c.parent)} c own limit in
     rw (is_settled all c.parent c.share own.shared) at part
@@ -53,7 +54,7 @@ options_part Cbq all c own limit = let part = cbq_part c own limit in record { m
 
 -- class hfsc or class cbq, three names and the options
 class_is_legible : (kind : Kind) (interface name parent : List ℕ) {is_default : Bool} {s t : Settings} {options : List What} → IsName interface → IsName name
-    → IsName parent → Part (class_form kind) is_default (is_text (codes "NULL") parent) true s t options 17
+    → IsName parent → Part (class_form kind) is_default (between (is_text (codes "NULL") parent) s) (between true t) options 17
     → IsLegible (record {
       first = codes "class" ∷ kind_word kind ∷ [];
       form = class_form kind;

@@ -40,18 +40,26 @@ abbrev Reads : ℕ → Form → Bool → List What → ℕ → Type 0
 Reads line form settled whats at =
     read_from line (map word_of whats) (at_option form settled) at ≡ record { form = form; items = numbered at whats; fault = None }
 
--- Options that lead from where an option may stand to where another may: they are read as what they say, whatever follows, and change
--- the settings s to t. `before` and `after` say whether the statement is settled there, `is_default` whether the class is the default class,
--- which no class before it is then, and `most` how many words they are at most.
-pub record Part (form : Form) (is_default before after : Bool) (s t : Settings) (whats : List What) (most : ℕ) : Type 0 where
+-- between two options of a statement: whether the options before it settle the statement, and the settings that they made
+pub record Between : Type 0 where
+  pub settled : Bool
+  pub made : Settings
+
+abbrev pub between : (settled : Bool) → Settings → Between
+between settled made = record { settled = settled; made = made }
+
+-- Options that lead from a place where an option may stand to another such place: whatever follows, they are read as what they say, and
+-- change the settings as the two places tell. `is_default` says whether the class is the default class; no class before it is one then.
+-- `most` is how many words they have at most.
+pub record Part (form : Form) (is_default : Bool) (before after : Between) (whats : List What) (most : ℕ) : Type 0 where
   pub may : Every MaySay whats
   pub few : length whats ≤ most
-  pub read : (line : ℕ) (rest : List What) → ((at : ℕ) → Reads line form after rest at) → (at : ℕ) → Reads line form before (whats ++ rest) at
+  pub read : (line : ℕ) (rest : List What) → ((at : ℕ) → Reads line form after.settled rest at) → (at : ℕ) → Reads line form before.settled (whats ++ rest) at
   pub set : (scope : Scope) → (is_default ≡ true → scope.chosen ≡ false) → (at : ℕ) (rest : List What)
-      → (next : ℕ) × (set_options scope s (numbered at (whats ++ rest)) ≡ set_options scope t (numbered next rest))
+      → (next : ℕ) × (set_options scope before.made (numbered at (whats ++ rest)) ≡ set_options scope after.made (numbered next rest))
 
 -- nothing sets what the settings have already
-none : {form : Form} {is_default settled : Bool} {s t : Settings} {most : ℕ} → s ≡ t → Part form is_default settled settled s t [] most
+none : {form : Form} {is_default settled : Bool} {s t : Settings} {most : ℕ} → s ≡ t → Part form is_default (between settled s) (between settled t) [] most
 none e = record {
   may = tt;
   few = omega arith;
@@ -60,8 +68,8 @@ none e = record {
 }
 
 infixr 10 ◌>>◌
-◌>>◌ : {form : Form} {is_default before mid after : Bool} {s t u : Settings} {ws vs : List What} {m n : ℕ} → Part form is_default before mid s t ws m
-    → Part form is_default mid after t u vs n → Part form is_default before after s u (ws ++ vs) (m + n)
+◌>>◌ : {form : Form} {is_default : Bool} {before middle after : Between} {ws vs : List What} {m n : ℕ} → Part form is_default before middle ws m
+    → Part form is_default middle after vs n → Part form is_default before after (ws ++ vs) (m + n)
 ◌>>◌ {ws = ws} {vs = vs} first second = record {
   may = every-append MaySay ws vs first.may second.may;
   few = let a = first.few in let b = second.few in omega (arith, length-append ws vs);
@@ -79,7 +87,7 @@ number_part : {form : Form} {is_default settled settling : Bool} {s : Settings} 
     → option_of form (word_of_key k) ≡ Some k → slots_of k ≡ Whole low high → settles k ≡ settling
     → ((scope : Scope) (at : ℕ) (items : List Item) → number_behind k items ≡ Some n → set_option scope s at k items ≡ Ok (set s n))
     → IsWithin low high n → high < 2 ^ 64
-    → Part form is_default settled (settling || settled) s (set s n) (what.Key k ∷ what.Whole n ∷ []) 2
+    → Part form is_default (between settled s) (between (settling || settled) (set s n)) (what.Key k ∷ what.Whole n ∷ []) 2
 unfolding step
 number_part {settled = settled} {settling} k {low} {high} {n} set found in_slots settles sets is small = record {
   may = search arith;
@@ -92,7 +100,7 @@ number_part {settled = settled} {settling} k {low} {high} {n} set found in_slots
 }
 
 rate_part : {is_default settled : Bool} {s : Settings} {n : ℕ} → IsWithin 1000 most_rate n
-    → Part form.ClassCbq is_default settled true s (record s { rate = Some n }) (what.Key key.Exactbandwidth ∷ what.Rate n ∷ []) 2
+    → Part form.ClassCbq is_default (between settled s) (between true (record s { rate = Some n })) (what.Key key.Exactbandwidth ∷ what.Rate n ∷ []) 2
 unfolding step is_text
 rate_part {settled = settled} {n = n} is = record {
   may = search arith;
@@ -106,7 +114,7 @@ flag_part : {form : Form} {is_default settled : Bool} {s : Settings} (k : Key) (
     → option_of form (word_of_key k) ≡ Some k → slots_of k ≡ Nothing → settles k ≡ false → s ≡ set s false
     → ((scope : Scope) (at : ℕ) (items : List Item) → there ≡ true → (is_default ≡ true → scope.chosen ≡ false)
     → set_option scope s at k items ≡ Ok (set s true))
-    → Part form is_default settled settled s (set s there) (key_where k there) 1
+    → Part form is_default (between settled s) (between settled (set s there)) (key_where k there) 1
 unfolding step
 flag_part k set false found in_slots settles unset sets = none unset
 flag_part {settled = settled} k set true found in_slots settles unset sets = record {
@@ -119,7 +127,7 @@ flag_part {settled = settled} k set true found in_slots settles unset sets = rec
 curve_part : {form : Form} {is_default settled settling : Bool} {s : Settings} (k : Key) {low least : ℕ} (set : Settings → Option Curve → Settings)
     (o : Option Curve) → option_of form (word_of_key k) ≡ Some k → slots_of k ≡ Slopes low least → settles k ≡ settling → s ≡ set s None
     → ((scope : Scope) (at : ℕ) (items : List Item) (c : Curve) → curve_behind k items ≡ Some c → set_option scope s at k items ≡ Ok (set s (Some c)))
-    → IsCurveIfAny low least o → Part form is_default settled (settling && is_some o || settled) s (set s o) (curve_whats k o) 4
+    → IsCurveIfAny low least o → Part form is_default (between settled s) (between (settling && is_some o || settled) (set s o)) (curve_whats k o) 4
 unfolding step
 curve_part {settling = settling} k set None found in_slots settles unset sets is = rw (and-false settling) (none unset)
 curve_part {settled = settled} {settling} k {low} {least} set (Some c) found in_slots settles unset sets is =
@@ -144,7 +152,7 @@ shared Hfsc hfsc cbq = hfsc
 shared Cbq hfsc cbq = cbq
 
 drop_part : (kind : Kind) {is_default settled : Bool} (s : Settings) (drop : DropRule) → s.drop ≡ Tail
-    → Part (class_form kind) is_default settled settled s (record s { drop = drop }) (drop_whats drop) 1
+    → Part (class_form kind) is_default (between settled s) (between settled (record s { drop = drop })) (drop_whats drop) 1
 unfolding is_text
 drop_part kind s Tail tail = none (ap (λ x. record s { drop = x }) tail)
 drop_part kind s Red tail = flag_part key.Red (λ s b. record s { drop = cond b Red s.drop }) true (shared kind refl refl) refl refl refl (λ _ _ _ _ _. refl)
@@ -152,7 +160,7 @@ drop_part kind s Ecn tail = flag_part key.Ecn (λ s b. record s { drop = cond b 
 drop_part kind s Rio tail = flag_part key.Rio (λ s b. record s { drop = cond b Rio s.drop }) true (shared kind refl refl) refl refl refl (λ _ _ _ _ _. refl)
 
 queue_part : (kind : Kind) {is_default settled : Bool} (s : Settings) (c : Class) → IsWithin 1 10000 c.limit → s.drop ≡ Tail → s.clear ≡ false
-    → Part (class_form kind) is_default settled settled s (record s { limit = c.limit; drop = c.drop; clear = c.clear }) (queue_options c) 4
+    → Part (class_form kind) is_default (between settled s) (between settled (record s { limit = c.limit; drop = c.drop; clear = c.clear })) (queue_options c) 4
 unfolding is_text
 queue_part kind s c limit tail unclear =
     number_part key.Qlimit (λ s n. record s { limit = n }) (shared kind refl refl) refl refl (λ _ _ _ found. rw found refl) limit (omega arith)
@@ -170,7 +178,7 @@ settings_of Cbq c =
     record (both_set c) { rate = Some c.rate; priority = c.priority; borrow = c.borrow; control = c.control; maxburst = c.maxburst; packetsize = c.packetsize }
 
 pub hfsc_part : {settled : Bool} (c : Class) → IsHfscClass c → IsWithin 1 10000 c.limit
-    → Part form.ClassHfsc c.is_default settled (is_some c.share || settled) unset (settings_of Hfsc c) (hfsc_options c) 17
+    → Part form.ClassHfsc c.is_default (between settled unset) (between (is_some c.share || settled) (settings_of Hfsc c)) (hfsc_options c) 17
 unfolding is_text
 hfsc_part c is limit =
     curve_part key.Rt (λ s o. record s { real = o; fixed = is_some o }) c.real refl refl refl refl (λ _ _ _ _ found. rw found refl) is.real
@@ -180,7 +188,7 @@ hfsc_part c is limit =
     >> flag_part key.Default (λ s b. record s { is_default = b }) c.is_default refl refl refl refl (λ _ _ _ on chosen. rw (chosen on) refl)
 
 pub cbq_part : {settled : Bool} (c : Class) → IsCbqClass c → IsWithin 1 10000 c.limit
-    → Part form.ClassCbq c.is_default settled true unset (settings_of Cbq c) (cbq_options c) 15
+    → Part form.ClassCbq c.is_default (between settled unset) (between true (settings_of Cbq c)) (cbq_options c) 15
 unfolding is_text
 cbq_part c is limit =
     (number_part key.Priority (λ s n. record s { priority = n }) refl refl refl (λ _ _ _ found. rw found refl) (omega (arith, is.priority)) (omega arith)
@@ -193,13 +201,14 @@ cbq_part c is limit =
     >> flag_part key.Default (λ s b. record s { is_default = b }) c.is_default refl refl refl refl (λ _ _ _ on chosen. rw (chosen on) refl)
 
 -- what options say and set with nothing behind them; a statement that is settled may end there
-pub all_read : {form : Form} {is_default before : Bool} {s t : Settings} {whats : List What} {most : ℕ}
-    → Part form is_default before true s t whats most → (line at : ℕ) → Reads line form before whats at
+pub all_read : {form : Form} {is_default : Bool} {before : Between} {made : Settings} {whats : List What} {most : ℕ}
+    → Part form is_default before (between true made) whats most → (line at : ℕ) → Reads line form before.settled whats at
 unfolding end
 all_read part line at = rw append-nil at (part.read line [] (λ at. refl) at)
 
-all_set : {form : Form} {is_default before after : Bool} {s t : Settings} {whats : List What} {most : ℕ} (scope : Scope) (at : ℕ)
-    → Part form is_default before after s t whats most → (is_default ≡ true → scope.chosen ≡ false) → set_options scope s (numbered at whats) ≡ Ok t
+all_set : {form : Form} {is_default : Bool} {before after : Between} {whats : List What} {most : ℕ} (scope : Scope) (at : ℕ)
+    → Part form is_default before after whats most → (is_default ≡ true → scope.chosen ≡ false)
+    → set_options scope before.made (numbered at whats) ≡ Ok after.made
 all_set scope at part chosen = rw append-nil at (part.set scope chosen at []).1
 
 pub options_read : (scope : Scope) (kind : Kind) (c : Class) (at : ℕ) → IsWithin 1 10000 c.limit → IsOfKind kind c

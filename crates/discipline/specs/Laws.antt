@@ -3,7 +3,7 @@ use Rattle.std.specs.Prelude.{◌≡◌, ◌≤◌, ◌<◌, ◌==◌, ◌+◌, 
 use Rattle.std.specs.declared.option.Option.{Option}
 use Rattle.play_base.specs.declared.packet.Ticket.{Ticket}
 use Rattle.altq_model.specs.declared.Verdict.{Verdict}
-use Rattle.altq_model.specs.History.{Coming, DrawnWords, Event, Offered, Sent, Happened, bare, labels, waiting, with_offer, without_head}
+use Rattle.altq_model.specs.History.{Arrival, DrawnWords, Event, Offered, Sent, Happened, bare, labels, waiting, with_offer, without_head}
 use Rattle.altq_model.specs.Laws.{occurs}
 use Rattle.altq_model.specs.Play.{Policy}
 use Rattle.altq_model.specs.Lawful.{first_at}
@@ -16,8 +16,8 @@ use Rattle.discipline.specs.declared.pick.Sending.{Sending}
 abbrev pub entry : Ticket → (len prec : ℕ) → Entry
 entry ticket len prec = record { ticket = ticket; len = len; prec = prec }
 
-abbrev pub coming : (class len prec now : ℕ) → Coming
-coming class len prec now = record { class = class; len = len; prec = prec; at = now }
+abbrev pub arrival_with : (class len prec now : ℕ) → Arrival
+arrival_with class len prec now = record { class = class; len = len; prec = prec; at = now }
 
 -- an offer that keeps puts the entry at the end of its class's list, one that drops leaves every list
 abbrev pub after_offer : Verdict → (class : ℕ) → Entry → (ℕ → List Entry) → ℕ → List Entry
@@ -42,12 +42,12 @@ abbrev pub AreDistinct : List ℕ → Type 0
 AreDistinct cs = (c : ℕ) → occurs c cs ≤ 1
 
 -- the verdict is the policy's, and exactly the random words that it takes were drawn
-pub record IsAnswer (p : Policy) (h : List Event) (old : DrawnWords) (a : Coming) (v : Verdict) (new : DrawnWords) : Type 0 where
+pub record IsAnswer (p : Policy) (h : List Event) (old : DrawnWords) (a : Arrival) (v : Verdict) (new : DrawnWords) : Type 0 where
   pub verdict : v ≡ (p.answer h old a).verdict
   pub words : Drew old new (p.answer h old a).took
 
 -- the offer of a packet under a ticket, as a history has it
-abbrev pub offer_of : Policy → List Happened → Ticket → DrawnWords → Coming → Happened
+abbrev pub offer_of : Policy → List Happened → Ticket → DrawnWords → Arrival → Happened
 offer_of p h ticket w a = record { label = ticket.0; what = Offered a w (p.answer (bare h) w a) }
 
 -- a sending, as a history has it
@@ -94,7 +94,7 @@ abbrev pub seen : List Entry → List (ℕ × ℕ)
 seen [] = []
 seen (x ∷ xs) = (x.len, x.prec) ∷ seen xs
 
-abbrev pub seen_of : List Coming → List (ℕ × ℕ)
+abbrev pub seen_of : List Arrival → List (ℕ × ℕ)
 seen_of [] = []
 seen_of (a ∷ ws) = (a.len, a.prec) ∷ seen_of ws
 

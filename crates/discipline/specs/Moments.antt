@@ -1,6 +1,6 @@
 -- When a discipline may be asked and told, and which of its histories are in order.
 use Rattle.std.specs.Prelude.{◌≡◌, ◌≤◌, ℕ, List, [], ◌∷◌, Some}
-use Rattle.altq_model.specs.History.{Coming, Event, Offered, Sent, Transmission, head}
+use Rattle.altq_model.specs.History.{Arrival, Event, Offered, Sent, Sending, head}
 use Rattle.altq_model.specs.Link.{link}
 use Rattle.altq_model.specs.Play.{Policy}
 use Rattle.altq_model.specs.Lawful.{latest, first_at}
@@ -23,7 +23,7 @@ pub record IsSized (len : ℕ) : Type 0 where
   pub most : len ≤ longest
 
 -- a packet may be offered: its length is one, no arrival was later than its own, and each start was before it
-pub record IsOffer (a : Coming) (h : List Event) : Type 0 where
+pub record IsOffer (a : Arrival) (h : List Event) : Type 0 where
   pub sized : IsSized a.len
   pub arrived : latest h ≤ a.at
   pub started : StartsBefore a.at h
@@ -36,8 +36,8 @@ pub record IsChoice (now : ℕ) (clock : Clock) (h : List Event) : Type 0 where
 
 -- a sending was the one due: its start was the least moment at which a class might send, its class and rule were the pick's, its
 -- packet was the head of its class, and no event before it was later
-pub record WasDue (p : Policy) (h : List Event) (s : Transmission) : Type 0 where
-  pub packet : Coming
+pub record WasDue (p : Policy) (h : List Event) (s : Sending) : Type 0 where
+  pub packet : Arrival
   pub front : head s.class h ≡ Some packet
   pub len : s.len ≡ packet.len
   pub arrived : latest h ≤ s.start

@@ -24,7 +24,7 @@ pub trait Discipline {
     ghost use Rattle.link_clock.specs.Clock.{Clock};
     ghost use Rattle.std.specs.declared.option.Option.{Option};
     ghost use Rattle.discipline.specs.declared.pick.Pick.{Pick};
-    ghost use Rattle.discipline.specs.Laws.{AreDistinct, HasRate, IsAnswer, IsDue, NamesHead, Waits, after_offer, after_sent, coming, entry, held_in, offer_of, room_of, sent_of, Shows};
+    ghost use Rattle.discipline.specs.Laws.{AreDistinct, HasRate, IsAnswer, IsDue, NamesHead, Waits, after_offer, after_sent, arrival_with, entry, held_in, offer_of, room_of, sent_of, Shows};
 
     /// The entries that wait in each class, the head in front.
     ghost lists: { Self → ℕ → List Entry };
@@ -84,9 +84,9 @@ pub trait Discipline {
         ensures full { (result ≡ Verdict.Drop Reason.Full) ↔ (length (lists self.old class) ≡ limits self.old class) }
 
         // after a history that it stood for: the verdict, the random words drawn, and the history with this offer
-        ensures history { (h : List Happened) → stands self.old h → IsOffer (coming class len prec now) (bare h) → words.old.drawn < 2 ^ 64 - 1
-            → IsAnswer (policy self.old) (bare h) words.old (coming class len prec now) result words.new
-            × stands self.new (offer_of (policy self.old) h ticket words.old (coming class len prec now) ∷ h) }
+        ensures history { (h : List Happened) → stands self.old h → IsOffer (arrival_with class len prec now) (bare h) → words.old.drawn < 2 ^ 64 - 1
+            → IsAnswer (policy self.old) (bare h) words.old (arrival_with class len prec now) result words.new
+            × stands self.new (offer_of (policy self.old) h ticket words.old (arrival_with class len prec now) ∷ h) }
 
         ensures within { held_in (lists self.new) (policy self.new).classes ≤ room_of (limits self.new) (policy self.new).classes }
         ensures policy { policy self.new ≡ policy self.old }

@@ -3,12 +3,12 @@ use Rattle.std.proofs.Common.{◌≡◌, ◌≤◌, ◌<◌, ◌⊎◌, inl, inr
 use Rattle.std.specs.Prelude.{Option, ◌&&◌, MatchOption, if◌then◌else◌}
 use Rattle.std.specs.List.{list_all}
 use Rattle.service_curve.specs.declared.Curve.{Curve}
-use Rattle.altq_model.specs.History.{Event, Offered, Sent as Went, is_kept}
+use Rattle.altq_model.specs.History.{Event, Offered, Sent as HfscSent, is_kept}
 use Rattle.altq_model.specs.Play.{Choice as Named}
 use Rattle.altq_model.specs.Policies.{Answering}
 use Rattle.discipline.specs.Moments.{IsOrderly}
 use Rattle.hfsc_model.specs.declared.HfscClass.{HfscClass}
-use Rattle.hfsc_model.specs.Event.{HfscHistory, Kept}
+use Rattle.hfsc_model.specs.Event.{HfscHistory, Enqueued}
 use Rattle.hfsc_model.specs.Choice.{Choice, choice, first_choice}
 use Rattle.hfsc_model.specs.Leaf.{is_waiting, leaf}
 use Rattle.hfsc_model.specs.Limit.{arrivals_of, is_open, is_within, may_share, share_pick, shares_under, within}
@@ -120,10 +120,10 @@ follow_choices : (cs : List HfscClass) (h : List Event) → IsClassTree cs → F
 follow_choices cs [] k f = tt
 follow_choices cs (Offered a w v ∷ h) k f = go (is_kept v.verdict) (follow_choices cs h k f.2)
   where
-    go : (b : Bool) → AreChoices cs (hfsc_history h) → AreChoices cs (if b then Kept a.class a.at a.len ∷ hfsc_history h else hfsc_history h)
+    go : (b : Bool) → AreChoices cs (hfsc_history h) → AreChoices cs (if b then Enqueued a.class a.at a.len ∷ hfsc_history h else hfsc_history h)
     go true x = x
     go false x = x
-follow_choices cs (Went s ∷ h) k f =
+follow_choices cs (HfscSent s ∷ h) k f =
     let x = f.0 in
     let y = chosen_may cs (hfsc_history h) s.start x.sender k x.may in
     let same : choice_of (Some y.chosen) ≡ record { class = s.class; rule = s.rule } = ap choice_of (sym y.is) ∙ x.pick in

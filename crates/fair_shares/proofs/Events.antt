@@ -7,7 +7,7 @@ use Rattle.service_curve.specs.declared.Curve.{Curve}
 use Rattle.runtime_curve.specs.declared.Opening.{Opening}
 use Rattle.runtime_curve.specs.Opening.{opening}
 use Rattle.hfsc_model.specs.declared.HfscClass.{HfscClass}
-use Rattle.hfsc_model.specs.Event.{HfscHistory, Kept, Sent}
+use Rattle.hfsc_model.specs.Event.{HfscHistory, Enqueued, Sent}
 use Rattle.hfsc_model.specs.Leaf.{Leaf, Waiting, after_sent, is_waiting, leaf}
 use Rattle.hfsc_model.specs.Share.{active, activates, activation_time, activations, has_parent, total, virtual_time, virtual_time_of}
 use Rattle.hfsc_model.specs.Tree.{class_of, is_child, is_leaf, is_under, IsTree}
@@ -40,10 +40,10 @@ sent_active cs h l len real start c e =
     was false f i = i
 
 -- a packet that is kept ends no activity, and makes active exactly what it activates
-pub kept_active : (cs : List HfscClass) (h : HfscHistory) (l at len c : ℕ) → active cs h c ≡ true → active cs (Kept l at len ∷ h) c ≡ true
+pub kept_active : (cs : List HfscClass) (h : HfscHistory) (l at len c : ℕ) → active cs h c ≡ true → active cs (Enqueued l at len ∷ h) c ≡ true
 kept_active cs h l at len c e = active_kept cs h l at len c ∙ ap (λ b. b || (is_leaf cs l && is_under cs c l)) e
 
-pub was_or_woken : (cs : List HfscClass) (h : HfscHistory) (l at len c : ℕ) → active cs (Kept l at len ∷ h) c ≡ true
+pub was_or_woken : (cs : List HfscClass) (h : HfscHistory) (l at len c : ℕ) → active cs (Enqueued l at len ∷ h) c ≡ true
     → (active cs h c ≡ true) ⊎ (activates cs h l c ≡ true)
 was_or_woken cs h l at len c e = go (active cs h c) refl (sym (active_kept cs h l at len c) ∙ e)
   where
@@ -72,7 +72,7 @@ pub child_has : (cs : List HfscClass) (p c : ℕ) → is_child cs p c ≡ true �
 child_has cs p c k = ap (λ (o : Option ℕ). elim o [ None ↦ false | Some q ↦ true ]) (parent_of cs p c k)
 
 -- a packet that is kept changes the virtual time of what it activates alone
-pub time_kept : (cs : List HfscClass) (h : HfscHistory) (l at len c : ℕ) → activates cs h l c ≡ false → virtual_time cs (Kept l at len ∷ h) c ≡ virtual_time cs h c
+pub time_kept : (cs : List HfscClass) (h : HfscHistory) (l at len c : ℕ) → activates cs h l c ≡ false → virtual_time cs (Enqueued l at len ∷ h) c ≡ virtual_time cs h c
 time_kept cs h l at len c e =
     ap (λ (b : Bool). virtual_time_of (class_of cs c).share (if b then opening (activation_time cs h (activations cs h) c) (total cs h c) ∷ activations cs h c else activations cs h c) (total cs h c))
     (none (has_parent cs c) (activates cs h l c) e)
@@ -82,7 +82,7 @@ time_kept cs h l at len c e =
     none false b f = refl
 
 pub time_woken : (cs : List HfscClass) (h : HfscHistory) (l at len p c : ℕ) → is_child cs p c ≡ true → activates cs h l c ≡ true
-    → virtual_time cs (Kept l at len ∷ h) c ≡ activation_time cs h (activations cs h) c
+    → virtual_time cs (Enqueued l at len ∷ h) c ≡ activation_time cs h (activations cs h) c
 time_woken cs h l at len p c k e = activated_time cs h l at len c (child_has cs p c k) e
 
 -- no activation is later than the virtual time
@@ -90,7 +90,7 @@ pub are_by : (cs : List HfscClass) (h : HfscHistory) (c : ℕ) → HaveSlopes cs
 are_by cs [] c some = tt
 are_by cs (Sent l len real start ∷ h) c some =
     by_more (virtual_time cs h c) (virtual_time cs (Sent l len real start ∷ h) c) (activations cs h c) (rises cs (Sent l len real start) h c some) (are_by cs h c some)
-are_by cs (Kept l at len ∷ h) c some = go (has_parent cs c && activates cs h l c) (are_by cs h c some)
+are_by cs (Enqueued l at len ∷ h) c some = go (has_parent cs c && activates cs h l c) (are_by cs h c some)
   where
     acts : Bool → List Opening
     acts b = if b then opening (activation_time cs h (activations cs h) c) (total cs h c) ∷ activations cs h c else activations cs h c
@@ -138,7 +138,7 @@ pub are_chain : (cs : List HfscClass) (h : HfscHistory) (c r : ℕ) (s : Curve) 
 are_chain cs [] c r s has is some = tt
 are_chain cs (Sent l len real start ∷ h) c r s has is some =
     chain_grows r (activations cs h c) (total cs h c) (total cs (Sent l len real start ∷ h) c) (total_grows cs h l len real start c) (are_chain cs h c r s has is some)
-are_chain cs (Kept l at len ∷ h) c r s has is some = go (has_parent cs c && activates cs h l c) (are_chain cs h c r s has is some)
+are_chain cs (Enqueued l at len ∷ h) c r s has is some = go (has_parent cs c && activates cs h l c) (are_chain cs h c r s has is some)
   where
     go : (b : Bool) → IsChain r (activations cs h c) (total cs h c)
         → IsChain r (if b then opening (activation_time cs h (activations cs h) c) (total cs h c) ∷ activations cs h c else activations cs h c) (total cs h c)

@@ -8,7 +8,7 @@ use Rattle.service_curve.specs.Curve.{time_at}
 use Rattle.service_curve.proofs.Firsts.{time_comes, time_reaches}
 use Rattle.altq_model.specs.Play.{IsOneOf}
 use Rattle.hfsc_model.specs.declared.HfscClass.{HfscClass}
-use Rattle.hfsc_model.specs.Event.{HfscEvent, HfscHistory, Kept, Sent}
+use Rattle.hfsc_model.specs.Event.{HfscEvent, HfscHistory, Enqueued, Sent}
 use Rattle.hfsc_model.specs.Share.{active, activates, virtual_time}
 use Rattle.hfsc_model.specs.Timely.{longest}
 use Rattle.hfsc_model.specs.Tree.{class_of, is_child, is_under, numbers}
@@ -50,7 +50,7 @@ steps_rise cs p g h some le =
     omega (arith, one, two))
 
 longest_rises : (e : HfscEvent) (h : HfscHistory) → longest h ≤ longest (e ∷ h)
-longest_rises (Kept l at len) h = omega arith
+longest_rises (Enqueued l at len) h = omega arith
 longest_rises (Sent l len real start) h = omega arith
 
 pub step_rise : (cs : List HfscClass) (p : ℕ) (e : HfscEvent) (h : HfscHistory) → HaveSlopes cs → most_step cs h p ≤ most_step cs (e ∷ h) p
@@ -92,7 +92,7 @@ sent_spread cs h l len real start p alone chosen spread c d x k = go (is_under c
         omega (arith, same, before, step, rose)
 
 -- what becomes active starts among the active, or no lower than all
-kept_spread : (cs : List HfscClass) (h : HfscHistory) (l at len p : ℕ) → ShareAlone cs → IsSpread cs h p → IsSpread cs (Kept l at len ∷ h) p
+kept_spread : (cs : List HfscClass) (h : HfscHistory) (l at len p : ℕ) → ShareAlone cs → IsSpread cs h p → IsSpread cs (Enqueued l at len ∷ h) p
 kept_spread cs h l at len p alone spread c d x k = go (activates cs h l c) refl (activates cs h l d) refl
   where
     step : ℕ
@@ -106,10 +106,10 @@ kept_spread cs h l at len p alone spread c d x k = go (activates cs h l c) refl 
         either (inr f) = absurd cc
 
     go : (a : Bool) → activates cs h l c ≡ a → (b : Bool) → activates cs h l d ≡ b
-        → virtual_time cs (Kept l at len ∷ h) d ≤ virtual_time cs (Kept l at len ∷ h) c + most_step cs h p
+        → virtual_time cs (Enqueued l at len ∷ h) d ≤ virtual_time cs (Enqueued l at len ∷ h) c + most_step cs h p
     go true e true f =
         let same = one_over cs p l c d alone.tree.tree x.child k (woken_under cs h l c e) (woken_under cs h l d f) in
-        let time = ap (virtual_time cs (Kept l at len ∷ h)) same in
+        let time = ap (virtual_time cs (Enqueued l at len ∷ h)) same in
         omega (arith, time)
     go true e false f =
         let new = time_woken cs h l at len p c x.child e in
@@ -131,7 +131,7 @@ kept_spread cs h l at len p alone spread c d x k = go (activates cs h l c) refl 
 
 pub are_spread : (cs : List HfscClass) (h : HfscHistory) (p : ℕ) → ShareAlone cs → AreChoices cs h → IsSpread cs h p
 are_spread cs [] p alone chosen = λ c d x k. omega arith
-are_spread cs (Kept l at len ∷ h) p alone chosen = kept_spread cs h l at len p alone (are_spread cs h p alone chosen)
+are_spread cs (Enqueued l at len ∷ h) p alone chosen = kept_spread cs h l at len p alone (are_spread cs h p alone chosen)
 are_spread cs (Sent l len real start ∷ h) p alone chosen = sent_spread cs h l len real start p alone chosen (are_spread cs h p alone chosen.1)
 
 pub are_close : (cs : List HfscClass) (h : HfscHistory) → ShareAlone cs → AreChoices cs h → AreClose cs h
@@ -152,10 +152,10 @@ sent_least cs h l len real start p v c some least x =
     omega (arith, before, rose)
 
 kept_least : (cs : List HfscClass) (h : HfscHistory) (l at len p v c : ℕ) → IsLeastActive cs h p v
-    → IsActiveChild cs (Kept l at len ∷ h) p c → v ≤ virtual_time cs (Kept l at len ∷ h) c
+    → IsActiveChild cs (Enqueued l at len ∷ h) p c → v ≤ virtual_time cs (Enqueued l at len ∷ h) c
 kept_least cs h l at len p v c least x = go (activates cs h l c) refl (was_or_woken cs h l at len c x.is_active)
   where
-    go : (b : Bool) → activates cs h l c ≡ b → (active cs h c ≡ true) ⊎ (activates cs h l c ≡ true) → v ≤ virtual_time cs (Kept l at len ∷ h) c
+    go : (b : Bool) → activates cs h l c ≡ b → (active cs h c ≡ true) ⊎ (activates cs h l c ≡ true) → v ≤ virtual_time cs (Enqueued l at len ∷ h) c
     go true e y =
         let new = time_woken cs h l at len p c x.child e in
         let at_one = least.time in
@@ -169,7 +169,7 @@ kept_least cs h l at len p v c least x = go (activates cs h l c) refl (was_or_wo
 
 least_up : (cs : List HfscClass) (e : HfscEvent) (h : HfscHistory) (p v c : ℕ) → HaveSlopes cs → IsLeastActive cs h p v → IsActiveChild cs (e ∷ h) p c
     → v ≤ virtual_time cs (e ∷ h) c
-least_up cs (Kept l at len) h p v c some least x = kept_least cs h l at len p v c least x
+least_up cs (Enqueued l at len) h p v c some least x = kept_least cs h l at len p v c least x
 least_up cs (Sent l len real start) h p v c some least x = sent_least cs h l len real start p v c some least x
 
 pub least_never_falls : (cs : List HfscClass) (e : HfscEvent) (h : HfscHistory) → HaveSlopes cs → LeastNeverFalls cs e h

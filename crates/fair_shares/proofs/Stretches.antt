@@ -6,7 +6,7 @@ use Rattle.service_curve.specs.declared.Curve.{Curve}
 use Rattle.runtime_curve.specs.declared.Opening.{Opening}
 use Rattle.runtime_curve.specs.Opening.{opening}
 use Rattle.hfsc_model.specs.declared.HfscClass.{HfscClass}
-use Rattle.hfsc_model.specs.Event.{HfscEvent, HfscHistory, Kept, Sent}
+use Rattle.hfsc_model.specs.Event.{HfscEvent, HfscHistory, Enqueued, Sent}
 use Rattle.hfsc_model.specs.Share.{active, activates, activation_time, activations, has_parent, total, virtual_time, virtual_time_of}
 use Rattle.hfsc_model.specs.Tree.{is_child, is_leaf, is_under}
 use Rattle.hfsc_order.specs.Order.{HaveSlopes}
@@ -20,7 +20,7 @@ use Rattle.fair_shares.proofs.Lines.{IsChain, IsOn, on_line}
 use Rattle.fair_shares.proofs.Spread.{are_spread, step_rise}
 
 -- a class that is active already is not activated
-no_wake : (cs : List HfscClass) (h : HfscHistory) (l at len c : ℕ) → active cs h c ≡ true → activations cs (Kept l at len ∷ h) c ≡ activations cs h c
+no_wake : (cs : List HfscClass) (h : HfscHistory) (l at len c : ℕ) → active cs h c ≡ true → activations cs (Enqueued l at len ∷ h) c ≡ activations cs h c
 no_wake cs h l at len c e =
     ap (λ (b : Bool). if b then opening (activation_time cs h (activations cs h) c) (total cs h c) ∷ activations cs h c else activations cs h c)
     (ap (λ b. has_parent cs c && (is_leaf cs l && (is_under cs c l && not b))) e ∙ nothing (has_parent cs c) (is_leaf cs l) (is_under cs c l))
@@ -53,8 +53,8 @@ one_more cs g w t c l len e = go (is_under cs c l)
     go false = e
 
 began : (cs : List HfscClass) (e : HfscEvent) (es h : HfscHistory) (c d : ℕ) → AreBothActive cs c d (e ∷ es) h → Began cs (e ∷ es) h c d
-began cs (Kept l at len) [] h c d both = record {
-  part = Kept l at len ∷ h;
+began cs (Enqueued l at len) [] h c d both = record {
+  part = Enqueued l at len ∷ h;
   first_active = both.0;
   second_active = both.1;
   first_acts = refl;
@@ -75,7 +75,7 @@ began cs (Sent l len real start) [] h c d both = record {
   chosen = λ x. x.1;
   step = λ p some. step_rise cs p (Sent l len real start) h some;
 }
-began cs (Kept l at len) (f ∷ es) h c d both =
+began cs (Enqueued l at len) (f ∷ es) h c d both =
     let x = began cs f es h c d both.2 in
     record {
       part = x.part;
@@ -114,7 +114,7 @@ acts_there cs [] c p a e =
     let w = (waits_is cs [] c x.one x.waits).waiting in
     absurd cc
 acts_there cs (Sent l len real start ∷ h) c p a e = acts_there cs h c p (sent_active cs h l len real start c a) e
-acts_there cs (Kept l at len ∷ h) c p a e = go (has_parent cs c && activates cs h l c) refl e (was_or_woken cs h l at len c a) (acts_there cs h c p)
+acts_there cs (Enqueued l at len ∷ h) c p a e = go (has_parent cs c && activates cs h l c) refl e (was_or_woken cs h l at len c a) (acts_there cs h c p)
   where
     go : (b : Bool) → (has_parent cs c && activates cs h l c) ≡ b
         → (if b then opening (activation_time cs h (activations cs h) c) (total cs h c) ∷ activations cs h c else activations cs h c) ≡ []
@@ -199,7 +199,7 @@ fair_after cs (e ∷ es) h p c d r q alone chosen x both = fair_over cs e es h p
 -- what came later does not matter
 part_chosen : (cs : List HfscClass) (later h : HfscHistory) → AreChoices cs (later ++ h) → AreChoices cs h
 part_chosen cs [] h x = x
-part_chosen cs (Kept l at len ∷ later) h x = part_chosen cs later h x
+part_chosen cs (Enqueued l at len ∷ later) h x = part_chosen cs later h x
 part_chosen cs (Sent l len real start ∷ later) h x = part_chosen cs later h x.1
 
 part_step : (cs : List HfscClass) (p : ℕ) (later h : HfscHistory) → HaveSlopes cs → most_step cs h p ≤ most_step cs (later ++ h) p

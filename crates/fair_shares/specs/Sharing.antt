@@ -5,7 +5,7 @@ use Rattle.play_base.specs.Units.{units}
 use Rattle.service_curve.specs.declared.Curve.{Curve}
 use Rattle.service_curve.specs.Curve.{amount, time_at}
 use Rattle.hfsc_model.specs.declared.HfscClass.{HfscClass}
-use Rattle.hfsc_model.specs.Event.{HfscHistory, Kept, Sent}
+use Rattle.hfsc_model.specs.Event.{HfscHistory, Enqueued, Sent}
 use Rattle.hfsc_model.specs.Choice.{choice}
 use Rattle.hfsc_model.specs.RealTime.{curve_of}
 use Rattle.hfsc_model.specs.Share.{greatest}
@@ -28,7 +28,7 @@ pub record ShareAlone (cs : List HfscClass) : Type 0 where
 -- each sending has the class and the rule of HFSC's choice at its start
 abbrev pub AreChoices : List HfscClass → HfscHistory → Type 0
 AreChoices cs [] = Unit {0}
-AreChoices cs (Kept c at len ∷ h) = AreChoices cs h
+AreChoices cs (Enqueued c at len ∷ h) = AreChoices cs h
 AreChoices cs (Sent c len real start ∷ h) = (choice cs h start ≡ Some (record { class = c; real = real })) × AreChoices cs h
 
 -- by how much, at most, a packet moves the virtual time of its class: the time that its units take at the second slope, and

@@ -9,9 +9,9 @@ use Rattle.altq_model.specs.declared.Fate.{Fate}
 use Rattle.altq_model.specs.declared.Fate.TheVariants as fate
 use Rattle.altq_model.specs.declared.Verdict.{Verdict}
 use Rattle.altq_model.specs.declared.Verdict.TheVariants.{Keep, Mark, Drop}
-use Rattle.altq_model.specs.Arrivals.{Arrival, arrival, comings}
+use Rattle.altq_model.specs.Arrivals.{Captured, arrival, bare_arrivals}
 use Rattle.altq_model.specs.declared.Rule.{Rule}
-use Rattle.altq_model.specs.History.{Coming, Decision, DrawnWords, Event, Sent, Transmission, Happened, bare, drawn, dropped_by, head, journal, offered, waiting}
+use Rattle.altq_model.specs.History.{Arrival, Decision, DrawnWords, Event, Sent, Sending, Happened, bare, drawn, dropped_by, head, journal, offered, waiting}
 use Rattle.altq_model.specs.Play.{Policy}
 use Rattle.play_laws.specs.Events.{AreOfArrivals, EachFollows, HasLaws, IsOfArrival, IsOffer, IsSending, SendsArrival}
 use Rattle.play_laws.proofs.OrderLemmas.{head_numbered}
@@ -34,18 +34,18 @@ use Rattle.fate_laws.proofs.Departing.{rows_append}
 use Rattle.fate_laws.proofs.Passing.{at_is, class_is, len_is}
 
 -- the rows of a journal, the newest first
-abbrev pub recent : List Arrival → List Happened → List Row
+abbrev pub recent : List Captured → List Happened → List Row
 recent arrived g = newest_first (rows_for arrived (journal g)) []
 
 newest_last : (xs before : List Row) (r : Row) → newest_first (xs ++ r ∷ []) before ≡ r ∷ newest_first xs before
 newest_last [] before r = refl
 newest_last (x ∷ xs) before r = newest_last xs (x ∷ before) r
 
-recent_more : (arrived : List Arrival) (g : List Happened) (d : Decision) → newest_first (rows_for arrived (journal g ++ d ∷ [])) [] ≡ row_for arrived d ∷ recent arrived g
+recent_more : (arrived : List Captured) (g : List Happened) (d : Decision) → newest_first (rows_for arrived (journal g ++ d ∷ [])) [] ≡ row_for arrived d ∷ recent arrived g
 recent_more arrived g d =
     ap (λ (rs : List Row). newest_first rs []) (rows_append arrived (journal g) (d ∷ [])) ∙ newest_last (rows_for arrived (journal g)) [] (row_for arrived d)
 
-recent_same : (arrived : List Arrival) (g : List Happened) → newest_first (rows_for arrived (journal g ++ [])) [] ≡ recent arrived g
+recent_same : (arrived : List Captured) (g : List Happened) → newest_first (rows_for arrived (journal g ++ [])) [] ≡ recent arrived g
 recent_same arrived g = ap (λ (js : List Decision). newest_first (rows_for arrived js) []) (append-nil (journal g))
 
 if_same : {A : Type 0} (b : Bool) (x : A) → (if b then x else x) ≡ x
@@ -53,22 +53,22 @@ if_same true x = refl
 if_same false x = refl
 
 -- a sending's packet
-pub record IsPacketOf (arrived : List Arrival) (n : ℕ) (rate : ℕ) (g : List Happened) (s : Transmission) : Type 0 where
-  pub packet : Coming
-  pub arrival_is : slice_get (comings arrived) (n - 1) ≡ Some packet
+pub record IsPacketOf (arrived : List Captured) (n : ℕ) (rate : ℕ) (g : List Happened) (s : Sending) : Type 0 where
+  pub packet : Arrival
+  pub arrival_is : slice_get (bare_arrivals arrived) (n - 1) ≡ Some packet
   pub front : head s.class (bare g) ≡ Some packet
   pub class : s.class ≡ packet.class
   pub len : s.len ≡ packet.len
   pub end : s.end ≡ free rate (run_after rate (hfsc_history (Sent s ∷ bare g)))
 
-its_at : (arrived : List Arrival) (n : ℕ) (b : Coming) → slice_get (comings arrived) (n - 1) ≡ Some b → (arrival arrived n).at ≡ b.at
-its_at arrived n b e = at_is arrived n ∙ ap (λ (o : Option Coming). option_map_or (λ (x : Coming). x.at) o 0) e
+its_at : (arrived : List Captured) (n : ℕ) (b : Arrival) → slice_get (bare_arrivals arrived) (n - 1) ≡ Some b → (arrival arrived n).at ≡ b.at
+its_at arrived n b e = at_is arrived n ∙ ap (λ (o : Option Arrival). option_map_or (λ (x : Arrival). x.at) o 0) e
 
-its_len : (arrived : List Arrival) (n : ℕ) (b : Coming) → slice_get (comings arrived) (n - 1) ≡ Some b → (arrival arrived n).len ≡ b.len
-its_len arrived n b e = len_is arrived n ∙ ap (λ (o : Option Coming). option_map_or (λ (x : Coming). x.len) o 0) e
+its_len : (arrived : List Captured) (n : ℕ) (b : Arrival) → slice_get (bare_arrivals arrived) (n - 1) ≡ Some b → (arrival arrived n).len ≡ b.len
+its_len arrived n b e = len_is arrived n ∙ ap (λ (o : Option Arrival). option_map_or (λ (x : Arrival). x.len) o 0) e
 
-its_class : (arrived : List Arrival) (n : ℕ) (b : Coming) → slice_get (comings arrived) (n - 1) ≡ Some b → (arrival arrived n).class ≡ b.class
-its_class arrived n b e = class_is arrived n ∙ ap (λ (o : Option Coming). option_map_or (λ (x : Coming). x.class) o 0) e
+its_class : (arrived : List Captured) (n : ℕ) (b : Arrival) → slice_get (bare_arrivals arrived) (n - 1) ≡ Some b → (arrival arrived n).class ≡ b.class
+its_class arrived n b e = class_is arrived n ∙ ap (λ (o : Option Arrival). option_map_or (λ (x : Arrival). x.class) o 0) e
 
 row_eq : (at at' len len' start end end' : ℕ) → at ≡ at' → len ≡ len' → end ≡ end'
     → (let x : SentRow = record { at = at; len = len; start = start; end = end } in x) ≡ record { at = at'; len = len'; start = start; end = end' }
@@ -77,12 +77,12 @@ row_eq at at' len len' start end end' e f h =
     ∙ ap (λ (m : ℕ). let x : SentRow = record { at = at'; len = m; start = start; end = end } in x) f
     ∙ ap (λ (m : ℕ). let x : SentRow = record { at = at'; len = len'; start = start; end = m } in x) h
 
-front_row : (ws : List Coming) (b : Coming) (start end : ℕ) (rs : List SentRow) → slice_get ws 0 ≡ Some b
+front_row : (ws : List Arrival) (b : Arrival) (start end : ℕ) (rs : List SentRow) → slice_get ws 0 ≡ Some b
     → with_row (waits ws) start end rs ≡ record { at = b.at; len = b.len; start = start; end = end } ∷ rs
 front_row [] b start end rs e = absurd cc
 front_row (w ∷ ws) b start end rs e =
     let same : w ≡ b = cc in
-    ap (λ (x : Coming). let y : SentRow = record { at = x.at; len = x.len; start = start; end = end } in y ∷ rs) same
+    ap (λ (x : Arrival). let y : SentRow = record { at = x.at; len = x.len; start = start; end = end } in y ∷ rs) same
 
 -- what a sending adds
 added_if : (x y : Bool) (xs ys rs us : List SentRow) → x ≡ y → (x ≡ true → xs ≡ ys) → rs ≡ us → (if x then xs else rs) ≡ (if y then ys else us)
@@ -91,7 +91,7 @@ added_if true false xs ys rs us e h f = absurd cc
 added_if false true xs ys rs us e h f = absurd cc
 added_if false false xs ys rs us e h f = f
 
-sending_adds : (rate : ℕ) (arrived : List Arrival) (n : ℕ) (s : Transmission) (g : List Happened) (c : ℕ) → IsPacketOf arrived n rate g s
+sending_adds : (rate : ℕ) (arrived : List Captured) (n : ℕ) (s : Sending) (g : List Happened) (c : ℕ) → IsPacketOf arrived n rate g s
     → rows rate (hfsc_history (bare g)) c ≡ sent_rows c (recent arrived g)
     → rows rate (hfsc_history (Sent s ∷ bare g)) c ≡ sent_rows c (row_for arrived (n, fate.Sent s.start s.end s.rule) ∷ recent arrived g)
 sending_adds rate arrived n s g c k same =
@@ -113,7 +113,7 @@ sending_adds rate arrived n s g c k same =
     ∙ ap (λ (xs : List SentRow). one ∷ xs) same ∙ ap (λ (x : SentRow). x ∷ rs) pair)
     same
 
-offer_same : (rate : ℕ) (arrived : List Arrival) (n : ℕ) (a : Coming) (v : Verdict) (g : List Happened) (c : ℕ)
+offer_same : (rate : ℕ) (arrived : List Captured) (n : ℕ) (a : Arrival) (v : Verdict) (g : List Happened) (c : ℕ)
     → rows rate (hfsc_history (bare g)) c ≡ sent_rows c (recent arrived g)
     → rows rate (with_offer v a (hfsc_history (bare g))) c ≡ sent_rows c (newest_first (rows_for arrived (journal g ++ dropped_by v n)) [])
 offer_same rate arrived n a Keep g c same = same ∙ ap (λ (rs : List Row). sent_rows c rs) (sym (recent_same arrived g))
@@ -122,29 +122,29 @@ offer_same rate arrived n a (Drop reason) g c same =
     let r = row_for arrived (n, fate.Dropped reason) in
     same ∙ sym (if_same (r.class == c) (sent_rows c (recent arrived g))) ∙ ap (λ (rs : List Row). sent_rows c rs) (sym (recent_more arrived g (n, fate.Dropped reason)))
 
-packet_of : (p : Policy) (rate seed : ℕ) (arrived : List Arrival) (g : List Happened) (e : Happened) → 0 < rate → EachFollows p rate seed (comings arrived) g
-    → (x : IsSending p rate (comings arrived) g e) → SendsArrival (comings arrived) e.label x.sending → IsPacketOf arrived e.label rate g x.sending
+packet_of : (p : Policy) (rate seed : ℕ) (arrived : List Captured) (g : List Happened) (e : Happened) → 0 < rate → EachFollows p rate seed (bare_arrivals arrived) g
+    → (x : IsSending p rate (bare_arrivals arrived) g e) → SendsArrival (bare_arrivals arrived) e.label x.sending → IsPacketOf arrived e.label rate g x.sending
 packet_of p rate seed arrived g e some f x k =
-    let its = head_numbered p rate seed (comings arrived) g x.sending.class e.label x.packet f x.number x.front in
+    let its = head_numbered p rate seed (bare_arrivals arrived) g x.sending.class e.label x.packet f x.number x.front in
     let both : Some k.packet ≡ Some x.packet = sym k.arrival ∙ its.there in
     let same : k.packet ≡ x.packet = cc in
     record {
       packet = x.packet;
       arrival_is = its.there;
       front = x.front;
-      class = k.class ∙ ap (λ (b : Coming). b.class) same;
+      class = k.class ∙ ap (λ (b : Arrival). b.class) same;
       len = x.len;
       end = x.end ∙ (link_is rate (Sent x.sending ∷ bare g) some).free;
     }
 
 -- the packets that HFSC sent are those of the rows
-rows_same : (p : Policy) (rate seed : ℕ) (arrived : List Arrival) (g : List Happened) (c : ℕ) → 0 < rate → EachFollows p rate seed (comings arrived) g
-    → AreOfArrivals (comings arrived) g → rows rate (hfsc_history (bare g)) c ≡ sent_rows c (recent arrived g)
+rows_same : (p : Policy) (rate seed : ℕ) (arrived : List Captured) (g : List Happened) (c : ℕ) → 0 < rate → EachFollows p rate seed (bare_arrivals arrived) g
+    → AreOfArrivals (bare_arrivals arrived) g → rows rate (hfsc_history (bare g)) c ≡ sent_rows c (recent arrived g)
 rows_same p rate seed arrived [] c some f k = refl
 rows_same p rate seed arrived (e ∷ g) c some f k = step f.0 (rows_same p rate seed arrived g c some f.1 k.1) f.1 k.0
   where
-    step : IsOffer p rate seed (comings arrived) g e ⊎ IsSending p rate (comings arrived) g e → rows rate (hfsc_history (bare g)) c ≡ sent_rows c (recent arrived g)
-        → EachFollows p rate seed (comings arrived) g → IsOfArrival (comings arrived) e.label e.what
+    step : IsOffer p rate seed (bare_arrivals arrived) g e ⊎ IsSending p rate (bare_arrivals arrived) g e → rows rate (hfsc_history (bare g)) c ≡ sent_rows c (recent arrived g)
+        → EachFollows p rate seed (bare_arrivals arrived) g → IsOfArrival (bare_arrivals arrived) e.label e.what
         → rows rate (hfsc_history (bare (e ∷ g))) c ≡ sent_rows c (recent arrived (e ∷ g))
     step (inl x) same f k =
         let P : Happened → Type 0 = λ z. rows rate (hfsc_history (bare (z ∷ g))) c ≡ sent_rows c (recent arrived (z ∷ g)) in
@@ -152,7 +152,7 @@ rows_same p rate seed arrived (e ∷ g) c some f k = step f.0 (rows_same p rate 
         subst P (sym x.offer) (offer_same rate arrived (offered (bare g) + 1) x.packet (p.answer (bare g) w x.packet).verdict g c same)
     step (inr x) same f k =
         let P : Event → Type 0 = λ z. let h : Happened = record { label = e.label; what = z } in rows rate (hfsc_history (bare (h ∷ g))) c ≡ sent_rows c (recent arrived (h ∷ g)) in
-        let Q : Event → Type 0 = λ z. IsOfArrival (comings arrived) e.label z in
+        let Q : Event → Type 0 = λ z. IsOfArrival (bare_arrivals arrived) e.label z in
         let its = packet_of p rate seed arrived g e some f x (subst Q x.event k) in
         subst P (sym x.event)
         (sending_adds rate arrived e.label x.sending g c its same
@@ -178,13 +178,13 @@ its_length [] r start end rule e =
     subst P (sym e) le
 its_length (x ∷ xs) r start end rule e = then_more x.len x.fate (longest_sent (xs ++ r ∷ [])) r.len (its_length xs r start end rule e)
 
-longest_offer : (v : Verdict) (a : Coming) (h : HfscHistory) (n : ℕ) → longest h ≤ n → longest (with_offer v a h) ≤ n
+longest_offer : (v : Verdict) (a : Arrival) (h : HfscHistory) (n : ℕ) → longest h ≤ n → longest (with_offer v a h) ≤ n
 longest_offer Keep a h n le = le
 longest_offer Mark a h n le = le
 longest_offer (Drop reason) a h n le = le
 
-longest_within : (p : Policy) (rate seed : ℕ) (arrived : List Arrival) (g : List Happened) → 0 < rate → EachFollows p rate seed (comings arrived) g
-    → AreOfArrivals (comings arrived) g → longest (hfsc_history (bare g)) ≤ longest_sent (rows_for arrived (journal g))
+longest_within : (p : Policy) (rate seed : ℕ) (arrived : List Captured) (g : List Happened) → 0 < rate → EachFollows p rate seed (bare_arrivals arrived) g
+    → AreOfArrivals (bare_arrivals arrived) g → longest (hfsc_history (bare g)) ≤ longest_sent (rows_for arrived (journal g))
 longest_within p rate seed arrived [] some f k = omega arith
 longest_within p rate seed arrived (e ∷ g) some f k = step f.0 (longest_within p rate seed arrived g some f.1 k.1) f.1 k.0
   where
@@ -195,8 +195,8 @@ longest_within p rate seed arrived (e ∷ g) some f k = step f.0 (longest_within
         let same = ap longest_sent (rows_append arrived (journal g) js) in
         omega (arith, le, grows, same)
 
-    step : IsOffer p rate seed (comings arrived) g e ⊎ IsSending p rate (comings arrived) g e → longest (hfsc_history (bare g)) ≤ longest_sent (rows_for arrived (journal g))
-        → EachFollows p rate seed (comings arrived) g → IsOfArrival (comings arrived) e.label e.what
+    step : IsOffer p rate seed (bare_arrivals arrived) g e ⊎ IsSending p rate (bare_arrivals arrived) g e → longest (hfsc_history (bare g)) ≤ longest_sent (rows_for arrived (journal g))
+        → EachFollows p rate seed (bare_arrivals arrived) g → IsOfArrival (bare_arrivals arrived) e.label e.what
         → longest (hfsc_history (bare (e ∷ g))) ≤ longest_sent (rows_for arrived (journal (e ∷ g)))
     step (inl x) le f k =
         let P : Happened → Type 0 = λ z. longest (hfsc_history (bare (z ∷ g))) ≤ longest_sent (rows_for arrived (journal (z ∷ g))) in
@@ -206,7 +206,7 @@ longest_within p rate seed arrived (e ∷ g) some f k = step f.0 (longest_within
         (more (dropped_by v (offered (bare g) + 1)) le))
     step (inr x) le f k =
         let P : Event → Type 0 = λ z. let h : Happened = record { label = e.label; what = z } in longest (hfsc_history (bare (h ∷ g))) ≤ longest_sent (rows_for arrived (journal (h ∷ g))) in
-        let Q : Event → Type 0 = λ z. IsOfArrival (comings arrived) e.label z in
+        let Q : Event → Type 0 = λ z. IsOfArrival (bare_arrivals arrived) e.label z in
         let its = packet_of p rate seed arrived g e some f x (subst Q x.event k) in
         let d : Decision = (e.label, fate.Sent x.sending.start x.sending.end x.sending.rule) in
         let r = row_for arrived d in
@@ -258,8 +258,8 @@ each_timely curves most before (r ∷ xs) t = (
   each_timely curves most (r ∷ before) xs t,
 )
 
-pub timely_passes : (p : Policy) (rate seed : ℕ) (curves tested : List (Option Curve)) (arrived : List Arrival) (g : List Happened) → 0 < rate
-    → HasLaws p rate seed (comings arrived) g → ((c : ℕ) → curve_at tested c ≡ curve_of curves c) → IsTimely rate curves (hfsc_history (bare g))
+pub timely_passes : (p : Policy) (rate seed : ℕ) (curves tested : List (Option Curve)) (arrived : List Captured) (g : List Happened) → 0 < rate
+    → HasLaws p rate seed (bare_arrivals arrived) g → ((c : ℕ) → curve_at tested c ≡ curve_of curves c) → IsTimely rate curves (hfsc_history (bare g))
     → EachRow (EndsInTime tested (ceil_div (units (longest_sent (rows_for arrived (journal g)))) rate)) [] (rows_for arrived (journal g))
 timely_passes p rate seed curves tested arrived g some h same t =
     let most = ceil_div (units (longest_sent (rows_for arrived (journal g)))) rate in

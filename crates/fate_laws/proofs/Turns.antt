@@ -6,7 +6,7 @@ use Rattle.std.proofs.lemmas.Bool.{cases_order}
 use Rattle.std.proofs.lemmas.Bool.Decides.{nat_tests}
 use Rattle.altq_model.specs.declared.Fate.{Fate}
 use Rattle.altq_model.specs.declared.Fate.TheVariants.{Dropped, Sent}
-use Rattle.altq_model.specs.History.{Coming}
+use Rattle.altq_model.specs.History.{Arrival}
 use Rattle.altq_model.specs.Laws.{at_of}
 use Rattle.journal_laws.specs.Journal.{IfSent, NoneAbove, starts}
 use Rattle.fate_check.specs.declared.reading.Row.{Row}
@@ -21,7 +21,7 @@ use Rattle.fate_judge.specs.Walk.{EachRow}
 use Rattle.fate_timely.specs.Timely.{StartsInTurn}
 use Rattle.fate_laws.specs.Plays.{AreSome}
 
-some_at : (arrived : List Coming) (k : ℕ) → AreSome arrived → k < length arrived → 0 < option_map_or (λ (a : Coming). a.len) (slice_get arrived k) 0
+some_at : (arrived : List Arrival) (k : ℕ) → AreSome arrived → k < length arrived → 0 < option_map_or (λ (a : Arrival). a.len) (slice_get arrived k) 0
 some_at [] k s lt = absurd (omega arith)
 some_at (a ∷ arrived) zero s lt = s.0
 some_at (a ∷ arrived) (suc k) s lt = some_at arrived k s.1 (omega arith)
@@ -31,7 +31,7 @@ turn_of : (f : Fate) (at moment : ℕ) (ns : List ℕ) → at ≡ moment → IfS
 turn_of (Dropped reason) at moment ns e x y = tt
 turn_of (Sent start end rule) at moment ns e x y = (omega (arith, e, x), y)
 
-each_turn : (classes : List Allowed) (arrived : List Coming) (before rows : List Row) → AreSome arrived → EachRow (IsRead classes arrived) before rows
+each_turn : (classes : List Allowed) (arrived : List Arrival) (before rows : List Row) → AreSome arrived → EachRow (IsRead classes arrived) before rows
     → EachRow (IsInOrder arrived) before rows → EachRow (IsInTime arrived) before rows → EachRow StartsInTurn before rows
 each_turn classes arrived before [] some read order time = tt
 each_turn classes arrived before (r ∷ rows) some read order time =
@@ -93,14 +93,14 @@ up_to_few (suc m) rows one none =
     let last = one (m + 1) in
     omega (arith, here, up_to_more m rows, last, up_to_few m rows one none)
 
-none_up_to : (classes : List Allowed) (arrived : List Coming) (before rows : List Row) → EachRow (IsRead classes arrived) before rows → rows_up_to 0 rows ≡ 0
+none_up_to : (classes : List Allowed) (arrived : List Arrival) (before rows : List Row) → EachRow (IsRead classes arrived) before rows → rows_up_to 0 rows ≡ 0
 none_up_to classes arrived before [] read = refl
 none_up_to classes arrived before (r ∷ rows) read =
     let past : nat_le r.number 0 ≡ false = grind (arith, nat_tests, read.0.from_one) in
     let none = ap {B = ℕ} (λ (t : Bool). if t then 1 else 0) past in
     omega (arith, none, none_up_to classes arrived (r ∷ before) rows read.1)
 
-all_up_to : (classes : List Allowed) (arrived : List Coming) (before rows : List Row) → EachRow (IsRead classes arrived) before rows
+all_up_to : (classes : List Allowed) (arrived : List Arrival) (before rows : List Row) → EachRow (IsRead classes arrived) before rows
     → length rows ≡ rows_up_to (length arrived) rows
 all_up_to classes arrived before [] read = refl
 all_up_to classes arrived before (r ∷ rows) read =

@@ -1,8 +1,8 @@
 // Laws of rows and of the files of plays.
 ghost use Rattle.std.specs.Prelude.{◌≡◌, ◌≤◌, ◌<◌, ℕ, List, [], Option, length};
-ghost use Rattle.altq_model.specs.Arrivals.{Arrival, comings};
+ghost use Rattle.altq_model.specs.Arrivals.{Captured, bare_arrivals};
 ghost use Rattle.altq_model.specs.Departures.{Dressing, KeepsLength, departures};
-ghost use Rattle.altq_model.specs.History.{Coming, Decision, Happened, bare, journal};
+ghost use Rattle.altq_model.specs.History.{Arrival, Decision, Happened, bare, journal};
 ghost use Rattle.altq_model.specs.Laws.{IsInTime};
 ghost use Rattle.altq_model.specs.Play.{Policy};
 ghost use Rattle.fate_busy.specs.Busy.{StartsAtOnce};
@@ -36,15 +36,15 @@ pub fn rows_that_pass()
 /// packet ends at most the time of the longest that is sent, rounded up, after each moment that is due for it. The function does
 /// nothing: it states its laws.
 pub fn files_of_plays_pass()
-    ensures rows { (rate : ℕ) (classes : List Allowed) (arrived : List Arrival) (js : List Decision) → IsJournal rate (comings arrived) js
-        → CanOccur classes (comings arrived) js
-        → PassesAll (record { rate = rate; classes = classes; arrived = comings arrived; rows = rows_for arrived js }) }
-    ensures busy { (arrived : List Arrival) (js : List Decision) → IsBusy (comings arrived) js
-        → EachRow (StartsAtOnce (comings arrived) (rows_for arrived js)) [] (rows_for arrived js) }
-    ensures departures { (dress : Dressing) (p : Packets) (arrived : List Arrival) (g : List Happened) → HasFrames p arrived → IsInTime g
+    ensures rows { (rate : ℕ) (classes : List Allowed) (arrived : List Captured) (js : List Decision) → IsJournal rate (bare_arrivals arrived) js
+        → CanOccur classes (bare_arrivals arrived) js
+        → PassesAll (record { rate = rate; classes = classes; arrived = bare_arrivals arrived; rows = rows_for arrived js }) }
+    ensures busy { (arrived : List Captured) (js : List Decision) → IsBusy (bare_arrivals arrived) js
+        → EachRow (StartsAtOnce (bare_arrivals arrived) (rows_for arrived js)) [] (rows_for arrived js) }
+    ensures departures { (dress : Dressing) (p : Packets) (arrived : List Captured) (g : List Happened) → HasFrames p arrived → IsInTime g
         → MarksAreAllowed p arrived g → AreDepartures dress p (rows_for arrived (journal g)) (departures dress arrived g) }
-    ensures timely { (p : Policy) (rate seed : ℕ) (curves tested : List (Option Curve)) (arrived : List Arrival) (g : List Happened) → 0 < rate
-        → HasLaws p rate seed (comings arrived) g → ((class : ℕ) → curve_at tested class ≡ curve_of curves class) → IsTimely rate curves (hfsc_history (bare g))
+    ensures timely { (p : Policy) (rate seed : ℕ) (curves tested : List (Option Curve)) (arrived : List Captured) (g : List Happened) → 0 < rate
+        → HasLaws p rate seed (bare_arrivals arrived) g → ((class : ℕ) → curve_at tested class ≡ curve_of curves class) → IsTimely rate curves (hfsc_history (bare g))
         → EachRow (EndsInTime tested (ceil_div (units (longest_sent (rows_for arrived (journal g)))) rate)) [] (rows_for arrived (journal g)) }
 {}
 
@@ -56,9 +56,9 @@ pub fn files_fail_one_way()
         → DepartOtherwise dress p rows departures row → DepartOtherwise dress p rows departures other → row ≡ other }
     ensures departures_or_not { (dress : Dressing) (p : Packets) (rows : List Row) (departures : List ℕ) (row : ℕ) → KeepsLength dress
         → AreDepartures dress p rows departures → ¬ DepartOtherwise dress p rows departures row }
-    ensures one_idle { (arrived : List Coming) (rows : List Row) (row other : ℕ) → FirstFails (StartsAtOnce arrived rows) rows row
+    ensures one_idle { (arrived : List Arrival) (rows : List Row) (row other : ℕ) → FirstFails (StartsAtOnce arrived rows) rows row
         → FirstFails (StartsAtOnce arrived rows) rows other → row ≡ other }
-    ensures busy_or_not { (arrived : List Coming) (rows : List Row) (row : ℕ) → EachRow (StartsAtOnce arrived rows) [] rows
+    ensures busy_or_not { (arrived : List Arrival) (rows : List Row) (row : ℕ) → EachRow (StartsAtOnce arrived rows) [] rows
         → ¬ FirstFails (StartsAtOnce arrived rows) rows row }
     ensures one_overdue { (curves : List (Option Curve)) (most : ℕ) (rows : List Row) (row other : ℕ) → FirstFails (EndsInTime curves most) rows row
         → FirstFails (EndsInTime curves most) rows other → row ≡ other }

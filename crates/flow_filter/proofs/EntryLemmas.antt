@@ -15,15 +15,13 @@ use Rattle.flow_filter.specs.Numbers.{IsNumberOf, first_ones}
 use Rattle.flow_filter.proofs.NumberLemmas.{short_under, other_within, under_by_number, within_by_number}
 
 -- the tests in the order of the code, and in that of the definition
-in_order : (a b p q t : Bool) → (q && (a && (b && (p && t)))) ≡ ((a && b) && ((p && q) && t))
-in_order false b p true t = refl
-in_order true false p true t = refl
-in_order true true false true t = refl
-in_order true true true true t = refl
-in_order false b p false t = refl
-in_order true false p false t = refl
+in_order : (a b p q t : Bool) → (a && (b && (q && (p && t)))) ≡ ((a && b) && ((p && q) && t))
+in_order false b p q t = refl
+in_order true false p q t = refl
 in_order true true false false t = refl
 in_order true true true false t = refl
+in_order true true false true t = refl
+in_order true true true true t = refl
 
 fails : (a b c : Bool) → (a ≡ false) ⊎ (b ≡ false) → ((a && b) && c) ≡ false
 fails a b c h = and_left (a && b) c (⊎_elim (λ e. and_left a b e) (λ e. and_right a b e) h)

@@ -1,14 +1,15 @@
 -- A search among the entries of one port.
-use Rattle.std.proofs.Common.{◌≡◌, ⊎_elim, ℕ, ◌<◌, ◌≤◌, Bool, true, false, List, length, get_or, Option, Some, None, ltb, leb, option_map, refl, arith, sym, ◌∙◌, ap}
+use Rattle.std.proofs.Common.{◌≡◌, ⊎_elim, inl, inr, ℕ, ◌<◌, ◌≤◌, ◌+◌, eqb, Bool, true, false, List, length, get_or, Option, Some, None, ltb, leb, option_map, refl, arith, sym, ◌∙◌, ap}
 use Rattle.std.specs.Prelude.{Contains, slice_get}
 use Rattle.std.specs.List.Sorted.{IsPartitionPoint}
-use Rattle.std.proofs.lemmas.Bool.{cases_lt}
+use Rattle.std.specs.Option.{option_map_or}
+use Rattle.std.proofs.lemmas.Bool.{cases_lt, eq-eqb, eqb-true}
 use Rattle.std.proofs.lemmas.Bool.Decides.{nat_tests}
 use Rattle.std.proofs.lemmas.List.{get_or_default}
-use Rattle.std.proofs.lemmas.Option.{slice_get-get_or, get_or_from_slice_get}
+use Rattle.std.proofs.lemmas.Option.{slice_get-get_or, slice_get_past, get_or_from_slice_get}
 use Rattle.flow_filter.specs.declared.ports.Filed.{Filed}
 use Rattle.flow_filter.specs.Filed.{IsInOrder}
-use Rattle.flow_filter.specs.Search.{IsFirstFit, IsFirstUnder, IsStretch}
+use Rattle.flow_filter.specs.Search.{BeginsAt, IsFirstFit, IsFirstUnder, IsStretch, is_at}
 
 less : (m n : ℕ) → ltb m n ≡ true → m < n
 less m n h = grind (arith, nat_tests)
@@ -22,22 +23,77 @@ most m n h = grind (arith, nat_tests)
 not_most : (m n : ℕ) → leb m n ≡ false → n < m
 not_most m n h = grind (arith, nat_tests)
 
--- between the points of the lesser ports and of those that are no greater
-pub stretch_of : (filed : List Filed) (port start end : ℕ) → end ≤ length filed
+-- from the point of the lesser ports on
+pub begins_at : (filed : List Filed) (port start : ℕ) → start ≤ length filed
     → IsPartitionPoint (λ e. ltb e.port port ≡ true) (λ e. ltb e.port port ≡ false) filed start
+    → BeginsAt filed port start
+begins_at filed port start within lower = record {
+  within = within;
+  lesser = λ k d low. less (get_or filed k d).port port (lower.0 k d (omega arith) low);
+  others = λ k d from high. not_less (get_or filed k d).port port (lower.1 k d from high);
+}
+
+-- up to the point of those that are no greater
+pub stretch_of : (filed : List Filed) (port start end : ℕ) → end ≤ length filed → BeginsAt filed port start
     → IsPartitionPoint (λ e. leb e.port port ≡ true) (λ e. leb e.port port ≡ false) filed end
     → IsStretch filed port start end
-stretch_of filed port start end within lower upper = record {
+stretch_of filed port start end within begins upper = record {
   within = within;
   its = λ k d low high.
-      let least = not_less (get_or filed k d).port port (lower.1 k d low (omega arith)) in
+      let least = begins.others k d low (omega arith) in
       let greatest = most (get_or filed k d).port port (upper.0 k d (omega arith) high) in
       omega arith;
   all = λ k d there same. (
-    ⊎_elim (λ h. let lesser = less (get_or filed k d).port port (lower.0 k d (omega arith) h) in absurd (omega arith)) (λ h. h) (cases_lt k start),
+    ⊎_elim (λ h. let lesser = begins.lesser k d h in absurd (omega arith)) (λ h. h) (cases_lt k start),
     ⊎_elim (λ h. h) (λ h. let greater = not_most (get_or filed k d).port port (upper.1 k d h there) in absurd (omega arith)) (cases_lt k end),
   );
 }
+
+is_there : (filed : List Filed) (port k : ℕ) (d : Filed) → k < length filed → is_at filed port k ≡ eqb (get_or filed k d).port port
+is_there filed port k d l = ap (λ (o : Option Filed). option_map_or (λ (one : Filed). eqb one.port port) o false) (slice_get-get_or filed k d l)
+
+record IsThere (filed : List Filed) (port k : ℕ) : Type 0 where
+  pub within : k < length filed
+  pub its : (d : Filed) → (get_or filed k d).port ≡ port
+
+at_there : (filed : List Filed) (port k : ℕ) → is_at filed port k ≡ true → IsThere filed port k
+at_there filed port k e = elim (cases_lt k (length filed)) [
+  | inl l ↦ record { within = l; its = λ d. eqb-true (get_or filed k d).port port (sym (is_there filed port k d l) ∙ e) }
+  | inr l ↦
+      let none : is_at filed port k ≡ false = ap (λ (o : Option Filed). option_map_or (λ (one : Filed). eqb one.port port) o false) (slice_get_past filed k l) in
+      absurd (cc)
+]
+
+-- up to a place at which no more of them stands
+ends_at : (filed : List Filed) (port start end : ℕ) → IsInOrder filed → BeginsAt filed port start → start ≤ end → end ≤ length filed
+    → ((k : ℕ) (d : Filed) → start ≤ k → k < end → (get_or filed k d).port ≡ port) → is_at filed port end ≡ false → IsStretch filed port start end
+ends_at filed port start end order begins low within its gone = record {
+  within = within;
+  its = its;
+  all = λ k d there same. (
+    ⊎_elim (λ h. let lesser = begins.lesser k d h in absurd (omega arith)) (λ h. h) (cases_lt k start),
+    ⊎_elim (λ h. h) (λ h.
+        let least = begins.others end d low (omega arith) in
+        let rise = order.ports_rise end k d h there in
+        let here : (get_or filed end d).port ≡ port = omega arith in
+        let one = is_there filed port end d (omega arith) ∙ eq-eqb (get_or filed end d).port port here in
+        absurd (cc)) (cases_lt k end),
+  );
+}
+
+-- no filter of the port, or one
+pub no_stretch : (filed : List Filed) (port start : ℕ) → IsInOrder filed → BeginsAt filed port start → is_at filed port start ≡ false → IsStretch filed port start start
+no_stretch filed port start order begins gone =
+    ends_at filed port start start order begins (omega arith) begins.within (λ k d low high. absurd (omega arith)) gone
+
+pub one_alone : (filed : List Filed) (port start : ℕ) → IsInOrder filed → BeginsAt filed port start → is_at filed port start ≡ true
+    → is_at filed port (start + 1) ≡ false → IsStretch filed port start (start + 1)
+one_alone filed port start order begins found gone =
+    let there = at_there filed port start found in
+    ends_at filed port start (start + 1) order begins (omega arith) (omega (arith, there.within))
+    (λ k d low high.
+    let same : k ≡ start = omega (arith, low, high) in
+    ap (λ (n : ℕ). (get_or filed n d).port) same ∙ there.its d) gone
 
 -- what is found among the entries of a port, each of which fits where the test holds of its number
 module _ (filed : List Filed) (port start end : ℕ) (fits test : ℕ → Bool) (order : IsInOrder filed) (stretch : IsStretch filed port start end)

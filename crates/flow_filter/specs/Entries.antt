@@ -39,15 +39,15 @@ is_under mask own address = bit_and address mask == own
 
 abbrev pub fits_4 : Entry4 → Numbers4 → Bool
 fits_4 entry flow =
-    is_none_or entry.rest.protocol flow.protocol
-    && (is_under entry.target_mask entry.target flow.target
-    && (is_under entry.source_mask entry.source flow.source && rest_fits entry.rest flow.tos flow.ports))
+    is_under entry.target_mask entry.target flow.target
+    && (is_under entry.source_mask entry.source flow.source
+    && (is_none_or entry.rest.protocol flow.protocol && rest_fits entry.rest flow.tos flow.ports))
 
 abbrev pub fits_6 : Entry6 → Numbers6 → Bool
 fits_6 entry flow =
-    is_none_or entry.rest.protocol flow.protocol
-    && (is_under entry.target_mask entry.target flow.target
-    && (is_under entry.source_mask entry.source flow.source && rest_fits entry.rest flow.tos flow.ports))
+    is_under entry.target_mask entry.target flow.target
+    && (is_under entry.source_mask entry.source flow.source
+    && (is_none_or entry.rest.protocol flow.protocol && rest_fits entry.rest flow.tos flow.ports))
 
 -- whether an entry of one version takes a flow of either, which may have no numbers
 abbrev pub takes_4 : Entry4 → Option Numbers → Bool

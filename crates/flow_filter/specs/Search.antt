@@ -1,5 +1,6 @@
 -- What searches among filters that are filed find.
-use Rattle.std.specs.Prelude.{◌≡◌, ℕ, ◌<◌, ◌≤◌, Bool, true, List, length, Contains, Option, IfSome, slice_index_or}
+use Rattle.std.specs.Prelude.{◌≡◌, ℕ, ◌<◌, ◌≤◌, ◌==◌, Bool, true, false, List, length, Contains, Option, IfSome, slice_get, slice_index_or}
+use Rattle.std.specs.Option.{option_map_or}
 use Rattle.flow_filter.specs.declared.ports.Filed.{Filed}
 use Rattle.flow_filter.specs.Filed.{IsAtMost}
 
@@ -7,6 +8,16 @@ use Rattle.flow_filter.specs.Filed.{IsAtMost}
 pub record IsFirstFit (test : ℕ → Bool) (start end : ℕ) (found : Option ℕ) : Type 0 where
   pub there : IfSome found (λ k. (start ≤ k) × (k < end) × (test k ≡ true))
   pub first : (k : ℕ) → start ≤ k → k < end → test k ≡ true → IsAtMost found k
+
+-- a filter of a port stands at a place
+abbrev pub is_at : List Filed → (port k : ℕ) → Bool
+is_at filed port k = option_map_or (λ (one : Filed). one.port == port) (slice_get filed k) false
+
+-- the lesser ports stand before a place, and the others from it on
+pub record BeginsAt (filed : List Filed) (port start : ℕ) : Type 0 where
+  pub within : start ≤ length filed
+  pub lesser : (k : ℕ) (d : Filed) → k < start → (slice_index_or filed k d).port < port
+  pub others : (k : ℕ) (d : Filed) → start ≤ k → k < length filed → port ≤ (slice_index_or filed k d).port
 
 -- the places of a port
 pub record IsStretch (filed : List Filed) (port start end : ℕ) : Type 0 where

@@ -6,14 +6,14 @@ ghost use Rattle.flow_filter.specs.Matches.{is_none_or, tos_agrees};
 use crate::entry::{Entry4, Entry6, Rest};
 use crate::numbers::{Numbers4, Numbers6};
 
-/// Whether an entry fits a flow of IPv4. What tells most flows apart is compared first.
+/// Whether an entry fits a flow of IPv4. Addresses, which tell most flows apart at the least cost, are compared first.
 #[inline]
 pub(crate) fn fits_4(entry: &Entry4, flow: &Numbers4) -> bool
     ensures { result ≡ fits_4 entry.now flow.now }
 {
-    is_none_or(u16::from(entry.rest.protocol), u16::from(flow.protocol))
-        && flow.target & entry.target_mask == entry.target
+    flow.target & entry.target_mask == entry.target
         && flow.source & entry.source_mask == entry.source
+        && is_none_or(u16::from(entry.rest.protocol), u16::from(flow.protocol))
         && rest_fits(&entry.rest, flow.tos, flow.ports)
 }
 
@@ -22,9 +22,9 @@ pub(crate) fn fits_4(entry: &Entry4, flow: &Numbers4) -> bool
 pub(crate) fn fits_6(entry: &Entry6, flow: &Numbers6) -> bool
     ensures { result ≡ fits_6 entry.now flow.now }
 {
-    is_none_or(u16::from(entry.rest.protocol), u16::from(flow.protocol))
-        && flow.target & entry.target_mask == entry.target
+    flow.target & entry.target_mask == entry.target
         && flow.source & entry.source_mask == entry.source
+        && is_none_or(u16::from(entry.rest.protocol), u16::from(flow.protocol))
         && rest_fits(&entry.rest, flow.tos, flow.ports)
 }
 

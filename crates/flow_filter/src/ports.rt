@@ -1,8 +1,8 @@
 //! Filters under the ports that they fix.
-ghost use Rattle.std.specs.Prelude.{◌≡◌, ◌<◌, ◌≤◌, ℕ, IfOk, length, option_and_then};
+ghost use Rattle.std.specs.Prelude.{◌≡◌, ◌<◌, ◌≤◌, ◌+◌, ◌^◌, ℕ, IfOk, length, option_and_then, true};
 ghost use Rattle.flow_filter.specs.Filed.{HoldsAll, IsFiledByRank, IsInOrder, port_in, port_on, version_of};
 ghost use Rattle.flow_filter.specs.Ranked.{filter_at};
-ghost use Rattle.flow_filter.specs.Search.{IsStretch};
+ghost use Rattle.flow_filter.specs.Search.{BeginsAt, IsStretch, is_at};
 
 use crate::ranking::filter_at;
 use conf_tree::{Addresses, Filter};
@@ -111,11 +111,31 @@ pub(crate) fn filed_by_port(
     Ok(entries)
 }
 
+/// Whether a filter of a port stands at a place, which is then not the last number.
+fn is_at(filed: &[Filed], port: u16, place: usize) -> bool
+    ensures value { result ≡ is_at filed.now port place }
+    ensures next { result ≡ true → place + 1 < 2 ^ 64 }
+{
+    place < filed.len() && filed[place].port == port
+}
+
+/// Where those of a port end that begin at a place. Most ports have no filter or one, so these are tried before a search.
+fn end_of(filed: &[Filed], port: u16, start: usize) -> usize
+    ensures { IsInOrder filed.now → BeginsAt filed.now port start → IsStretch filed.now port start result }
+{
+    if !is_at(filed, port, start) {
+        return start;
+    }
+    if !is_at(filed, port, start + 1) {
+        return start + 1;
+    }
+    filed.partition_point(|one| one.port <= port)
+}
+
 /// Where those of a port begin and where they end, among filters in the order of their ports.
 pub(crate) fn stretch(filed: &[Filed], port: u16) -> (usize, usize)
     ensures { IsInOrder filed.now → IsStretch filed.now port result.0 result.1 }
 {
     let start = filed.partition_point(|one| one.port < port);
-    let end = filed.partition_point(|one| one.port <= port);
-    (start, end)
+    (start, end_of(filed, port, start))
 }

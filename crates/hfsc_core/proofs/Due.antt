@@ -5,7 +5,7 @@ use Rattle.altq_model.specs.declared.Rule.{Rule}
 use Rattle.altq_model.specs.declared.Rule.TheVariants.{RealTime, Share}
 use Rattle.leaf_queue.specs.declared.node.Entry.{Entry}
 use Rattle.discipline.specs.declared.pick.Pick.TheVariants.{Empty}
-use Rattle.altq_model.specs.History.{Coming, Happened, bare, waiting}
+use Rattle.altq_model.specs.History.{Arrival, Happened, bare, waiting}
 use Rattle.discipline.specs.Laws.{IsLeast, NamesHead, Sends, Shows, Waits, seen, seen_of}
 use Rattle.hfsc_policy.specs.Events.{hfsc_history}
 use Rattle.hfsc_policy.proofs.Histories.{waits_head}
@@ -140,7 +140,7 @@ module _ (x : Chooser) (lists : ℕ → List Entry) (kept : ℕ) (h : HfscHistor
   empty_is now l = empty_at now (chosen_now x now) (chosen_is x h k.stands now l)
 
 -- a list shows what waits
-seen_some : (xs : List Entry) (ws : List Coming) (b : Coming) → seen xs ≡ seen_of ws → slice_get ws 0 ≡ Some b → (x : Entry) × (slice_get xs 0 ≡ Some x)
+seen_some : (xs : List Entry) (ws : List Arrival) (b : Arrival) → seen xs ≡ seen_of ws → slice_get ws 0 ≡ Some b → (x : Entry) × (slice_get xs 0 ≡ Some x)
 seen_some [] [] b e f = absurd cc
 seen_some [] (w ∷ ws) b e f = absurd cc
 seen_some (x ∷ xs) ws b e f = (x, refl)

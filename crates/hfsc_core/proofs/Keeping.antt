@@ -5,7 +5,7 @@ use Rattle.std.proofs.lemmas.Bool.Decides.{nat_tests}
 use Rattle.ranking.proofs.Ranks.{same_test}
 use Rattle.runtime_curve.specs.declared.Opening.{Opening}
 use Rattle.hfsc_model.specs.declared.HfscClass.{HfscClass}
-use Rattle.hfsc_model.specs.Event.{HfscHistory, Kept, Sent}
+use Rattle.hfsc_model.specs.Event.{HfscHistory, Enqueued, Sent}
 use Rattle.hfsc_model.specs.Leaf.{Waiting, leaf, head_len, is_waiting, opened, after_kept, after_sent}
 use Rattle.hfsc_model.specs.RealTime.{IsOpenBy, AreOpenBy}
 use Rattle.hfsc_model.specs.Timely.{IsHead}
@@ -44,14 +44,14 @@ opened_not : (ws : List Waiting) (at count t : ℕ) (os : List Opening) → IsOp
 opened_not [] at count t os b e = absurd cc
 opened_not (w ∷ ws) at count t os b e = b
 
-open_kept : (h : HfscHistory) (class at len t : ℕ) → AreOpenBy h t → at ≤ t → AreOpenBy (Kept class at len ∷ h) t
+open_kept : (h : HfscHistory) (class at len t : ℕ) → AreOpenBy h t → at ≤ t → AreOpenBy (Enqueued class at len ∷ h) t
 open_kept h class at len t b l c = go (class == c)
   where
     go : (k : Bool) → IsOpenBy (if k then after_kept at len (leaf h c) else leaf h c).openings t
     go true = opened_by (leaf h c).waiting at (leaf h c).count t (leaf h c).openings (b c) l
     go false = b c
 
-open_more : (h : HfscHistory) (class at len t : ℕ) → AreOpenBy h t → is_waiting (leaf h class).waiting ≡ true → AreOpenBy (Kept class at len ∷ h) t
+open_more : (h : HfscHistory) (class at len t : ℕ) → AreOpenBy h t → is_waiting (leaf h class).waiting ≡ true → AreOpenBy (Enqueued class at len ∷ h) t
 open_more h class at len t b w c = go (class == c) refl
   where
     go : (k : Bool) → (class == c) ≡ k → IsOpenBy (if k then after_kept at len (leaf h c) else leaf h c).openings t
@@ -69,7 +69,7 @@ open_sent h class len start t real b c = go (class == c)
 
 -- inner classes hold nothing
 inside_kept : (cs : List HfscClass) (h : HfscHistory) (class at len : ℕ) → is_leaf cs class ≡ true → ((c : ℕ) → is_leaf cs c ≡ false → (leaf h c).waiting ≡ [])
-    → (c : ℕ) → is_leaf cs c ≡ false → (leaf (Kept class at len ∷ h) c).waiting ≡ []
+    → (c : ℕ) → is_leaf cs c ≡ false → (leaf (Enqueued class at len ∷ h) c).waiting ≡ []
 inside_kept cs h class at len l f c n = go (class == c) refl
   where
     go : (k : Bool) → (class == c) ≡ k → (if k then after_kept at len (leaf h c) else leaf h c).waiting ≡ []
@@ -89,24 +89,24 @@ inside_sent cs h class len start real f c n = go (class == c)
 
 -- a packet that is kept
 pub kept_first : (x y : Chooser) (h : HfscHistory) (class at len : ℕ) (empty : Bool) → MayKeep x h class at len empty → classes_of y ≡ classes_of x → woken_at y ≡ at
-    → HoldsReal y.eligible (reals (classes_of x)) (Kept class at len ∷ h) → HoldsShare y.shares (classes_of x) (Kept class at len ∷ h) → Stands y (Kept class at len ∷ h)
+    → HoldsReal y.eligible (reals (classes_of x)) (Enqueued class at len ∷ h) → HoldsShare y.shares (classes_of x) (Enqueued class at len ∷ h) → Stands y (Enqueued class at len ∷ h)
 kept_first x y h class at len empty m same woken r s =
     let t = m.stands in
     let few = m.few in
-    subst (λ (cs : List HfscClass). (IsClassTree cs → HoldsReal y.eligible (reals cs) (Kept class at len ∷ h) → HoldsShare y.shares cs (Kept class at len ∷ h)
-    → ((c : ℕ) → is_leaf cs c ≡ false → (leaf (Kept class at len ∷ h) c).waiting ≡ []) → Stands y (Kept class at len ∷ h))) same
+    subst (λ (cs : List HfscClass). (IsClassTree cs → HoldsReal y.eligible (reals cs) (Enqueued class at len ∷ h) → HoldsShare y.shares cs (Enqueued class at len ∷ h)
+    → ((c : ℕ) → is_leaf cs c ≡ false → (leaf (Enqueued class at len ∷ h) c).waiting ≡ []) → Stands y (Enqueued class at len ∷ h))) same
     (λ tree real share inside. record {
       tree = tree;
       real = real;
       share = share;
-      opened = subst (λ n. AreOpenBy (Kept class at len ∷ h) n) (sym woken) (λ c. open_kept h class at len at (λ d. later_open (leaf h d).openings (woken_at x) at m.later (t.opened d)) (omega arith) c);
+      opened = subst (λ n. AreOpenBy (Enqueued class at len ∷ h) n) (sym woken) (λ c. open_kept h class at len at (λ d. later_open (leaf h d).openings (woken_at x) at m.later (t.opened d)) (omega arith) c);
       packets = (m.sized, t.packets);
       inside = inside;
       few = omega (arith, few);
     }) t.tree r s (inside_kept (classes_of x) h class at len m.of_leaf t.inside)
 
 pub kept_more : (x : Chooser) (h : HfscHistory) (class at len : ℕ) (empty : Bool) → MayKeep x h class at len empty → empty ≡ false
-    → HoldsReal x.eligible (reals (classes_of x)) (Kept class at len ∷ h) → HoldsShare x.shares (classes_of x) (Kept class at len ∷ h) → Stands x (Kept class at len ∷ h)
+    → HoldsReal x.eligible (reals (classes_of x)) (Enqueued class at len ∷ h) → HoldsShare x.shares (classes_of x) (Enqueued class at len ∷ h) → Stands x (Enqueued class at len ∷ h)
 kept_more x h class at len empty m e r s =
     let t = m.stands in
     let few = m.few in
@@ -121,9 +121,9 @@ kept_more x h class at len empty m e r s =
       few = omega (arith, few);
     }
 
-pub kept_small : (x : Chooser) (h : HfscHistory) (class at len : ℕ) (empty : Bool) → MayKeep x h class at len empty → AreSmall (classes_of x) (Kept class at len ∷ h)
+pub kept_small : (x : Chooser) (h : HfscHistory) (class at len : ℕ) (empty : Bool) → MayKeep x h class at len empty → AreSmall (classes_of x) (Enqueued class at len ∷ h)
 kept_small x h class at len empty m =
-    let few = m.few in small (classes_of x) (Kept class at len ∷ h) m.stands.tree (m.sized, m.stands.packets) (omega (arith, few))
+    let few = m.few in small (classes_of x) (Enqueued class at len ∷ h) m.stands.tree (m.sized, m.stands.packets) (omega (arith, few))
 
 pub kept_waits : (x : Chooser) (h : HfscHistory) (class at len : ℕ) (empty : Bool) → MayKeep x h class at len empty → empty ≡ false → is_waiting (leaf h class).waiting ≡ true
 kept_waits x h class at len empty m e = m.waits ∙ ap not e

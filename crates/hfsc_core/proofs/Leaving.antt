@@ -18,7 +18,7 @@ use Rattle.discipline.specs.Moments.{IsChoice, IsOrderly, WasDue}
 use Rattle.class_rows.specs.Rows.{Rowed, SameRow, Told, answering, list_in}
 use Rattle.hfsc_model.specs.declared.HfscClass.{HfscClass}
 use Rattle.hfsc_model.specs.Event.{HfscHistory}
-use Rattle.hfsc_model.specs.Event.{Sent as Went}
+use Rattle.hfsc_model.specs.Event.{Sent as HfscSent}
 use Rattle.hfsc_model.specs.Leaf.{Waiting, leaf, head_len}
 use Rattle.hfsc_model.specs.Timely.{IsHead}
 use Rattle.hfsc_model.specs.Choice.{choice}
@@ -102,7 +102,7 @@ module _ {Q : Type 0} (stands : Q → List QueueEvent → Type 0) (says : Q → 
   pub sent_stands : (d : Held Q) (y : Chooser) (rows : Rowed Q) (h : List Happened) (clock : Clock) (s : Sending) → SameRow most says d.rows rows → HfscStands stands says d h
       → Told stands rows (sent_of s ∷ h) → IsChoice s.start clock (bare h)
       → IsSent (classes_of d.chooser) (hfsc_history (bare h)) (list_in d.rows s.class) s.start s.class s.len s.rule
-      → classes_of y ≡ classes_of d.chooser → woken_at y ≡ woken_at d.chooser → Stands y (Went s.class s.len (is_real s.rule) s.start ∷ hfsc_history (bare h))
+      → classes_of y ≡ classes_of d.chooser → woken_at y ≡ woken_at d.chooser → Stands y (HfscSent s.class s.len (is_real s.rule) s.start ∷ hfsc_history (bare h))
       → HfscStands stands says (record { chooser = y; rows = rows; kept = d.kept }) (sent_of s ∷ h)
   sent_stands d y rows h clock s same k told o x classes woken t =
       let n : Held Q = record { chooser = y; rows = rows; kept = d.kept } in

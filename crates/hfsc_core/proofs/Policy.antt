@@ -3,7 +3,7 @@ use Rattle.std.proofs.Common.{◌≡◌, ◌≤◌, ◌<◌, ◌⊎◌, inl, inr
 use Rattle.std.specs.Prelude.{Option, slice_get, option_map}
 use Rattle.std.proofs.lemmas.Bool.{cases_lt}
 use Rattle.std.proofs.lemmas.Bool.Decides.{nat_tests}
-use Rattle.altq_model.specs.History.{Coming, Event, head}
+use Rattle.altq_model.specs.History.{Arrival, Event, head}
 use Rattle.altq_model.specs.Play.{Policy, IsOneOf, lesser}
 use Rattle.altq_model.specs.Policies.{Answering}
 use Rattle.altq_model.specs.Lawful.{first_at, start_at}
@@ -57,14 +57,14 @@ first_least p t h (x ∷ xs) c m (inr i) e f = go (start_at p t h x) refl (first
 first_none : (p : Policy) (t : ℕ) (h : List Event) (xs : List ℕ) → ((d : ℕ) → IsOneOf d xs → head d h ≡ None) → first_at p t h xs ≡ None
 first_none p t h [] f = refl
 first_none p t h (x ∷ xs) f =
-    ap (λ (o : Option Coming). lesser (option_map (λ (a : Coming). p.start_from h x t) o) (first_at p t h xs)) (f x (inl refl))
+    ap (λ (o : Option Arrival). lesser (option_map (λ (a : Arrival). p.start_from h x t) o) (first_at p t h xs)) (f x (inl refl))
     ∙ first_none p t h xs (λ d i. f d (inr i))
 
 module _ (cs : List HfscClass) (answer : Answering) (h : List Event) (k : IsClassTree cs) where
   start_is : (t c u : ℕ) → start_at (hfsc_policy cs answer) t h c ≡ Some u → IsOneOf c (leaves cs) → (u ≡ not_before t (send_from cs (hfsc_history h) c)) × IsSender cs (hfsc_history h) u c
   start_is t c u e i = go (head c h) refl e
     where
-      go : (o : Option Coming) → head c h ≡ o → option_map (λ (a : Coming). not_before t (send_from cs (hfsc_history h) c)) o ≡ Some u
+      go : (o : Option Arrival) → head c h ≡ o → option_map (λ (a : Arrival). not_before t (send_from cs (hfsc_history h) c)) o ≡ Some u
           → (u ≡ not_before t (send_from cs (hfsc_history h) c)) × IsSender cs (hfsc_history h) u c
       go None f g = absurd cc
       go (Some b) f g =
@@ -83,7 +83,7 @@ module _ (cs : List HfscClass) (answer : Answering) (h : List Event) (k : IsClas
   start_of : (t u c : ℕ) → IsSender cs (hfsc_history h) u c → not_before t (send_from cs (hfsc_history h) c) ≡ u → start_at (hfsc_policy cs answer) t h c ≡ Some u
   start_of t u c s e =
       let y = waits_head c h s.waits in
-      ap (λ (o : Option Coming). option_map (λ (a : Coming). not_before t (send_from cs (hfsc_history h) c)) o) y.front ∙ ap Some e
+      ap (λ (o : Option Arrival). option_map (λ (a : Arrival). not_before t (send_from cs (hfsc_history h) c)) o) y.front ∙ ap Some e
 
   pub now_first : (now c : ℕ) → IsSender cs (hfsc_history h) now c → first_at (hfsc_policy cs answer) now h (leaves cs) ≡ Some now
   now_first now c s =
@@ -134,6 +134,6 @@ module _ (cs : List HfscClass) (answer : Answering) (h : List Event) (k : IsClas
   due_is lists now (Later t) f i = (later_first now t i, i.later)
   due_is lists now Nothing f i = first_none (hfsc_policy cs answer) now h (leaves cs) (λ d j. go d (one_leaf cs d j) (head d h) refl)
     where
-      go : (d : ℕ) → is_leaf cs d ≡ true → (o : Option Coming) → head d h ≡ o → o ≡ None
+      go : (d : ℕ) → is_leaf cs d ≡ true → (o : Option Arrival) → head d h ≡ o → o ≡ None
       go d l None e = refl
       go d l (Some b) e = absurd (i d l (head_waits d h b e))

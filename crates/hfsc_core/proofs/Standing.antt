@@ -2,17 +2,17 @@
 use Rattle.std.proofs.Common.{◌≡◌, ◌≤◌, ◌<◌, ◌+◌, ℕ, Bool, true, false, List, [], ◌∷◌, ◌++◌, length, refl, ap, sym, subst, arith, ◌∙◌, drop}
 use Rattle.std.specs.Prelude.{Option, ◌==◌, ◌&&◌, not, is_some, slice_get, if◌then◌else◌}
 use Rattle.altq_model.specs.declared.Verdict.{Verdict}
-use Rattle.altq_model.specs.History.{Answer, Coming, DrawnWords, Happened, bare, is_kept, waiting}
+use Rattle.altq_model.specs.History.{Answer, Arrival, DrawnWords, Happened, bare, is_kept, waiting}
 use Rattle.altq_model.specs.Play.{IsOneOf, Policy}
 use Rattle.altq_model.specs.Policies.{Answering}
 use Rattle.play_base.specs.declared.packet.Ticket.{Ticket}
 use Rattle.leaf_queue.specs.declared.node.Entry.{Entry}
 use Rattle.leaf_queue.specs.Queue.{QueueEvent, Saying}
-use Rattle.discipline.specs.Laws.{IsAnswer, seen, seen_of, after_offer, after_sent, coming, entry, offer_of}
+use Rattle.discipline.specs.Laws.{IsAnswer, seen, seen_of, after_offer, after_sent, arrival_with, entry, offer_of}
 use Rattle.discipline.specs.Moments.{IsOffer, IsOrderly}
 use Rattle.class_rows.specs.Rows.{Answers, Rowed, SameRow, answering, classes_in, holding, list_in}
 use Rattle.hfsc_model.specs.declared.HfscClass.{HfscClass}
-use Rattle.hfsc_model.specs.Event.{HfscHistory, Kept, Sent}
+use Rattle.hfsc_model.specs.Event.{HfscHistory, Enqueued, Sent}
 use Rattle.hfsc_model.specs.Leaf.{Waiting, leaf, is_waiting, after_kept}
 use Rattle.hfsc_model.specs.Leaf.{after_sent as leaf_sent}
 use Rattle.hfsc_policy.specs.Classes.{leaves}
@@ -53,7 +53,7 @@ lens_of_drop (w ∷ ws) = refl
 
 -- a packet that is kept
 pub known_kept : (x y : Chooser) (lists new : ℕ → List Entry) (kept class at : ℕ) (e : Entry) (v : Verdict) (h : HfscHistory) → Known x lists kept h → is_kept v ≡ true
-    → ((c : ℕ) → new c ≡ after_offer v class e lists c) → Stands y (Kept class at e.len ∷ h) → Known y new (kept + 1) (Kept class at e.len ∷ h)
+    → ((c : ℕ) → new c ≡ after_offer v class e lists c) → Stands y (Enqueued class at e.len ∷ h) → Known y new (kept + 1) (Enqueued class at e.len ∷ h)
 known_kept x y lists new kept class at e v h k b f s = record { stands = s; shown = λ c. ap lens (f c) ∙ go c (class == c); count = let one = k.count in omega (arith, one) }
   where
     go : (c : ℕ) (m : Bool) → lens (if is_kept v && m then lists c ++ e ∷ [] else lists c) ≡ lens_of (if m then after_kept at e.len (leaf h c) else leaf h c).waiting
@@ -117,7 +117,7 @@ may_keep x lists kept class at len o empty h k i f g z few later = record {
 }
 
 -- the lists of a history that a discipline stands for
-pub seen_lens : (xs : List Entry) (ws : List Coming) → seen xs ≡ seen_of ws → lens xs ≡ lens_of (waits ws)
+pub seen_lens : (xs : List Entry) (ws : List Arrival) → seen xs ≡ seen_of ws → lens xs ≡ lens_of (waits ws)
 seen_lens [] [] e = refl
 seen_lens [] (a ∷ ws) e = absurd cc
 seen_lens (x ∷ xs) [] e = absurd cc
@@ -126,10 +126,10 @@ seen_lens (x ∷ xs) (a ∷ ws) e =
     let rest : seen xs ≡ seen_of ws = cc in
     ap (λ n. n ∷ lens xs) (ap (λ (p : ℕ × ℕ). p.0) pair) ∙ ap (λ (ns : List ℕ). a.len ∷ ns) (seen_lens xs ws rest)
 
-drop_is : (v : Verdict) (a : Coming) (h : HfscHistory) → is_kept v ≡ false → seen_offer v a h ≡ h
+drop_is : (v : Verdict) (a : Arrival) (h : HfscHistory) → is_kept v ≡ false → seen_offer v a h ≡ h
 drop_is v a h e = rw e refl
 
-keep_is : (v : Verdict) (a : Coming) (h : HfscHistory) → is_kept v ≡ true → seen_offer v a h ≡ Kept a.class a.at a.len ∷ h
+keep_is : (v : Verdict) (a : Arrival) (h : HfscHistory) → is_kept v ≡ true → seen_offer v a h ≡ Enqueued a.class a.at a.len ∷ h
 keep_is v a h e = rw e refl
 
 module _ {Q : Type 0} (stands : Q → List QueueEvent → Type 0) (says : Q → Saying) (most : Q → ℕ) where
@@ -141,7 +141,7 @@ module _ {Q : Type 0} (stands : Q → List QueueEvent → Type 0) (says : Q → 
   }
 
   -- an offer that is dropped
-  pub offer_dropped : (d : Held Q) (rows : Rowed Q) (h : List Happened) (ticket : Ticket) (c : Coming) (w z : DrawnWords) (v : Verdict) → SameRow most says d.rows rows
+  pub offer_dropped : (d : Held Q) (rows : Rowed Q) (h : List Happened) (ticket : Ticket) (c : Arrival) (w z : DrawnWords) (v : Verdict) → SameRow most says d.rows rows
       → HfscStands stands says d h → IsOffer c (bare h) → Answers stands says d.rows rows h c.class (entry ticket c.len c.prec) c.at w v z → is_kept v ≡ false
       → IsAnswer (policy_of says d) (bare h) w c v z
       × HfscStands stands says (record { chooser = d.chooser; rows = rows; kept = d.kept }) (offer_of (policy_of says d) h ticket w c ∷ h)
@@ -162,9 +162,9 @@ module _ {Q : Type 0} (stands : Q → List QueueEvent → Type 0) (says : Q → 
       )
 
   -- an offer that is kept
-  pub offer_kept : (d : Held Q) (y : Chooser) (rows : Rowed Q) (h : List Happened) (ticket : Ticket) (c : Coming) (w z : DrawnWords) (v : Verdict) → SameRow most says d.rows rows
+  pub offer_kept : (d : Held Q) (y : Chooser) (rows : Rowed Q) (h : List Happened) (ticket : Ticket) (c : Arrival) (w z : DrawnWords) (v : Verdict) → SameRow most says d.rows rows
       → HfscStands stands says d h → IsOffer c (bare h) → Answers stands says d.rows rows h c.class (entry ticket c.len c.prec) c.at w v z → is_kept v ≡ true
-      → classes_of y ≡ classes_of d.chooser → woken_at y ≤ c.at → Stands y (Kept c.class c.at c.len ∷ hfsc_history (bare h))
+      → classes_of y ≡ classes_of d.chooser → woken_at y ≤ c.at → Stands y (Enqueued c.class c.at c.len ∷ hfsc_history (bare h))
       → IsAnswer (policy_of says d) (bare h) w c v z
       × HfscStands stands says (record { chooser = y; rows = rows; kept = d.kept + 1 }) (offer_of (policy_of says d) h ticket w c ∷ h)
   offer_kept d y rows h ticket c w z v same k o a e classes woken s =

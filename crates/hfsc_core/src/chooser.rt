@@ -1,6 +1,6 @@
 //! Both choices together.
 ghost use Rattle.std.specs.Prelude.{◌≡◌, ◌≤◌, ◌<◌, ◌∷◌, [], ℕ, Bool, List, Option, IfOk, length, true};
-ghost use Rattle.hfsc_model.specs.Event.{HfscHistory, Kept, Sent};
+ghost use Rattle.hfsc_model.specs.Event.{HfscHistory, Enqueued, Sent};
 ghost use Rattle.hfsc_model.specs.Leaf.{leaf, is_waiting};
 ghost use Rattle.hfsc_model.specs.Tree.{reals};
 ghost use Rattle.hfsc_policy.specs.Heads.{IsSized, kept_in};
@@ -58,7 +58,7 @@ impl Chooser {
     /// A packet of `len` bytes was kept at the moment `at` in a leaf, in which nothing waited where it was `empty`.
     pub fn kept(&mut self, class: u32, at: u64, len: u32, empty: bool)
         requires { (h : HfscHistory) × MayKeep self.old h class at len empty }
-        ensures stands { (h : HfscHistory) → MayKeep self.old h class at len empty → Stands self.new (Kept class at len ∷ h) }
+        ensures stands { (h : HfscHistory) → MayKeep self.old h class at len empty → Stands self.new (Enqueued class at len ∷ h) }
         ensures classes { classes_of self.new ≡ classes_of self.old }
         ensures woken { woken_at self.new ≤ at }
     {

@@ -10,7 +10,7 @@ use Rattle.ranking.specs.Order.{is_in, key_of, IsOrderOf}
 use Rattle.ranking.specs.Ranking.{IsReplaced, keys_of, order_of}
 use Rattle.ranking.proofs.Orders.{is_order, key_in, outside}
 use Rattle.hfsc_model.specs.Event.{HfscHistory}
-use Rattle.hfsc_model.specs.Event.{Kept}
+use Rattle.hfsc_model.specs.Event.{Enqueued}
 use Rattle.hfsc_model.specs.Leaf.{Leaf, Waiting, leaf, head_len, is_waiting, opened, after_kept}
 use Rattle.hfsc_model.specs.RealTime.{curve_of, has_head}
 use Rattle.hfsc_eligible.specs.declared.slot.Slot.{Slot}
@@ -136,14 +136,14 @@ changed slots curves h g class x stand k y same = record {
         (subst (λ (z : Slot). SlotStands z (curve_of curves c) (leaf h c)) (sym (get_or-set_other slots class c x d back)) (stand.each c d n))
 
 -- a packet that is kept changes its class alone
-pub kept_same : (h : HfscHistory) (class at len c : ℕ) → (class ≡ c → ⊥) → leaf (Kept class at len ∷ h) c ≡ leaf h c
+pub kept_same : (h : HfscHistory) (class at len c : ℕ) → (class ≡ c → ⊥) → leaf (Enqueued class at len ∷ h) c ≡ leaf h c
 kept_same h class at len c n = go (class == c) refl
   where
     go : (b : Bool) → (class == c) ≡ b → (if b then after_kept at len (leaf h c) else leaf h c) ≡ leaf h c
     go true e = absurd (n (grind (arith, nat_tests, e)))
     go false e = refl
 
-pub kept_here : (h : HfscHistory) (class at len : ℕ) → after_kept at len (leaf h class) ≡ leaf (Kept class at len ∷ h) class
+pub kept_here : (h : HfscHistory) (class at len : ℕ) → after_kept at len (leaf h class) ≡ leaf (Enqueued class at len ∷ h) class
 kept_here h class at len = sym (rw (same_test class) refl)
 
 head_of_slot : (slots : List Slot) (c : ℕ) (d : Slot) → c < length slots → head_in (slice_get slots c) ≡ head_of (get_or slots c d)
@@ -153,16 +153,16 @@ head_of_slot slots c d k = ap head_in (slice_get-get_or slots c d k)
 pub opened_stands : (e new : Eligible) (curves : List (Option Curve)) (h : HfscHistory) (class at len : ℕ) (old x : Slot) → StandsFor e curves h
     → class < length e.slots.items → head_at e class ≡ None → old ≡ get_or e.slots.items class old
     → ((o : Option Curve) (l : Leaf) → SlotStands old o l → l.waiting ≡ [] → SlotStands x o (after_kept at len l))
-    → new.slots.items ≡ slice_set e.slots.items class x → StandsFor new curves (Kept class at len ∷ h)
+    → new.slots.items ≡ slice_set e.slots.items class x → StandsFor new curves (Enqueued class at len ∷ h)
 opened_stands e new curves h class at len old x stands k empty is opened set =
     let was = subst (λ (z : Slot). SlotStands z (curve_of curves class) (leaf h class)) (sym is) (stands.each class old k) in
     let none : head_len (leaf h class).waiting ≡ None = sym was.head ∙ ap head_of is ∙ sym (head_of_slot e.slots.items class old k) ∙ empty in
     let y = subst (λ (l : Leaf). SlotStands x (curve_of curves class) l) (kept_here h class at len)
     (opened (curve_of curves class) (leaf h class) was (nothing_waits (leaf h class).waiting none)) in
-    let all = changed e.slots.items curves h (Kept class at len ∷ h) class x (record { classes = stands.classes; each = stands.each }) k y (kept_same h class at len) in
+    let all = changed e.slots.items curves h (Enqueued class at len ∷ h) class x (record { classes = stands.classes; each = stands.each }) k y (kept_same h class at len) in
     record {
       classes = ap (λ (xs : List Slot). length xs) set ∙ all.classes;
-      each = λ c d n. subst (λ (xs : List Slot). SlotStands (get_or xs c d) (curve_of curves c) (leaf (Kept class at len ∷ h) c)) (sym set)
+      each = λ c d n. subst (λ (xs : List Slot). SlotStands (get_or xs c d) (curve_of curves c) (leaf (Enqueued class at len ∷ h) c)) (sym set)
           (all.each c d (subst (λ (xs : List Slot). c < length xs) set n));
     }
 
@@ -183,7 +183,7 @@ more_slot x o l at len w y = record {
 }
 
 pub more_stands : (e : Eligible) (curves : List (Option Curve)) (h : HfscHistory) (class at len : ℕ) → StandsFor e curves h → is_waiting (leaf h class).waiting ≡ true
-    → StandsFor e curves (Kept class at len ∷ h)
+    → StandsFor e curves (Enqueued class at len ∷ h)
 more_stands e curves h class at len stands w = record {
   classes = stands.classes;
   each = λ c d n. go c d (class == c) refl n;

@@ -1,7 +1,7 @@
 //! A law of what a value stands for.
 ghost use Rattle.std.specs.Prelude.{◌≡◌, ◌∷◌, ℕ, List, Option, true};
 ghost use Rattle.service_curve.specs.declared.Curve.{Curve};
-ghost use Rattle.hfsc_model.specs.Event.{HfscHistory, Kept};
+ghost use Rattle.hfsc_model.specs.Event.{HfscHistory, Enqueued};
 ghost use Rattle.hfsc_model.specs.Leaf.{leaf, is_waiting};
 ghost use Rattle.hfsc_eligible.specs.declared.Eligible.{Eligible};
 ghost use Rattle.hfsc_eligible.specs.Eligible.{StandsFor};
@@ -11,5 +11,5 @@ ghost use Rattle.hfsc_eligible.specs.Eligible.{StandsFor};
 #[tactic(auto, using(crate::proofs::Lists::more_stands))]
 pub fn waiting_classes_open_once()
     ensures { (e : Eligible) (curves : List (Option Curve)) (h : HfscHistory) (class at len : ℕ) → StandsFor e curves h
-        → is_waiting (leaf h class).waiting ≡ true → StandsFor e curves (Kept class at len ∷ h) }
+        → is_waiting (leaf h class).waiting ≡ true → StandsFor e curves (Enqueued class at len ∷ h) }
 {}

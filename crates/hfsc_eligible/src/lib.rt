@@ -13,7 +13,7 @@ ghost use Rattle.std.specs.Option.{ForSome};
 ghost use Rattle.service_curve.specs.declared.Curve.{Curve};
 ghost use Rattle.ranking.specs.Order.{IsOrderOf, is_before, key_of};
 ghost use Rattle.ranking.specs.Ranking.{keys_of, order_of};
-ghost use Rattle.hfsc_model.specs.Event.{HfscHistory, Kept, Sent};
+ghost use Rattle.hfsc_model.specs.Event.{HfscHistory, Enqueued, Sent};
 ghost use Rattle.hfsc_model.specs.Leaf.{leaf, head_len};
 ghost use Rattle.hfsc_model.specs.RealTime.{curve_of, has_come, has_head, head_deadline, soonest_of, IsRealPick, NoneIsEligible, AreOpenBy};
 ghost use Rattle.hfsc_eligible.specs.Real.{CanCarry};
@@ -77,7 +77,7 @@ impl Eligible {
         requires len { 1 ≤ len }
         requires later { ForSome (opening_at self.old class) (λ last. last.at ≤ at) }
         ensures stands { (curves : List (Option Curve)) (h : HfscHistory) → StandsFor self.old curves h
-            → StandsFor self.new curves (Kept class at len ∷ h) }
+            → StandsFor self.new curves (Enqueued class at len ∷ h) }
         ensures head { head_at self.new class ≡ Some len }
         ensures opening { ForSome (opening_at self.new class) (λ last. last.at ≡ at) }
         ensures others { IsSameBut class self.old self.new }

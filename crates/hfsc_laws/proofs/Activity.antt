@@ -8,7 +8,7 @@ use Rattle.runtime_curve.specs.declared.Opening.{Opening}
 use Rattle.runtime_curve.specs.Opening.{opening}
 use Rattle.runtime_curve.specs.Deadline.{deadline, later_of, reached_at}
 use Rattle.hfsc_model.specs.declared.HfscClass.{HfscClass}
-use Rattle.hfsc_model.specs.Event.{HfscHistory, Kept}
+use Rattle.hfsc_model.specs.Event.{HfscHistory, Enqueued}
 use Rattle.hfsc_model.specs.Leaf.{Waiting, leaf, is_waiting, after_kept}
 use Rattle.hfsc_model.specs.Tree.{class_of, numbers, is_child, is_leaf, is_parent, is_under, IsTree}
 use Rattle.hfsc_model.specs.Share.{waits_under, active, total, activates, or_zero, reach, virtual_time_of, activation, activation_time, has_parent, activations, virtual_time}
@@ -68,7 +68,7 @@ waits_push [] w = refl
 waits_push (x ∷ xs) w = refl
 
 kept_waits : (cs : List HfscClass) (h : HfscHistory) (l at len c d : ℕ)
-    → waits_under cs (Kept l at len ∷ h) c d ≡ (waits_under cs h c d || ((l == d) && (is_leaf cs l && is_under cs c l)))
+    → waits_under cs (Enqueued l at len ∷ h) c d ≡ (waits_under cs h c d || ((l == d) && (is_leaf cs l && is_under cs c l)))
 kept_waits cs h l at len c d = go (l == d) refl
   where
     table : (a b w : Bool) → (a && (b && true)) ≡ ((a && (b && w)) || (a && b))
@@ -101,15 +101,15 @@ either_true false b (inl e) = absurd cc
 either_true false b (inr e) = e
 
 pub active_kept : (cs : List HfscClass) (h : HfscHistory) (l at len c : ℕ)
-    → active cs (Kept l at len ∷ h) c ≡ (active cs h c || (is_leaf cs l && is_under cs c l))
+    → active cs (Enqueued l at len ∷ h) c ≡ (active cs h c || (is_leaf cs l && is_under cs c l))
 active_kept cs h l at len c =
-    same_truth (active cs (Kept l at len ∷ h) c) (active cs h c || (is_leaf cs l && is_under cs c l)) there back
+    same_truth (active cs (Enqueued l at len ∷ h) c) (active cs h c || (is_leaf cs l && is_under cs c l)) there back
   where
-    there : active cs (Kept l at len ∷ h) c ≡ true → (active cs h c || (is_leaf cs l && is_under cs c l)) ≡ true
+    there : active cs (Enqueued l at len ∷ h) c ≡ true → (active cs h c || (is_leaf cs l && is_under cs c l)) ≡ true
     there e = either_true (active cs h c) (is_leaf cs l && is_under cs c l) (which (or_true (waits_under cs h c x.one) ((l == x.one) && (is_leaf cs l && is_under cs c l)) (sym (kept_waits cs h l at len c x.one) ∙ x.passes)))
       where
-        x : IsAny (waits_under cs (Kept l at len ∷ h) c) 0 (length cs)
-        x = any_is (waits_under cs (Kept l at len ∷ h) c) 0 (length cs) e
+        x : IsAny (waits_under cs (Enqueued l at len ∷ h) c) 0 (length cs)
+        x = any_is (waits_under cs (Enqueued l at len ∷ h) c) 0 (length cs) e
 
         which : (waits_under cs h c x.one ≡ true) ⊎ (((l == x.one) && (is_leaf cs l && is_under cs c l)) ≡ true) → (active cs h c ≡ true) ⊎ ((is_leaf cs l && is_under cs c l) ≡ true)
         which (inl f) = inl (is_any (waits_under cs h c) 0 (length cs) x.one x.from x.to f)
@@ -118,18 +118,18 @@ active_kept cs h l at len c =
     here : (l == l) ≡ true
     here = grind (arith, nat_tests)
 
-    back : (active cs h c || (is_leaf cs l && is_under cs c l)) ≡ true → active cs (Kept l at len ∷ h) c ≡ true
+    back : (active cs h c || (is_leaf cs l && is_under cs c l)) ≡ true → active cs (Enqueued l at len ∷ h) c ≡ true
     back e = which (or_true (active cs h c) (is_leaf cs l && is_under cs c l) e)
       where
-        which : (active cs h c ≡ true) ⊎ ((is_leaf cs l && is_under cs c l) ≡ true) → active cs (Kept l at len ∷ h) c ≡ true
+        which : (active cs h c ≡ true) ⊎ ((is_leaf cs l && is_under cs c l) ≡ true) → active cs (Enqueued l at len ∷ h) c ≡ true
         which (inl f) =
             let x = any_is (waits_under cs h c) 0 (length cs) f in
-            is_any (waits_under cs (Kept l at len ∷ h) c) 0 (length cs) x.one x.from x.to
+            is_any (waits_under cs (Enqueued l at len ∷ h) c) 0 (length cs) x.one x.from x.to
             (kept_waits cs h l at len c x.one ∙ either_true (waits_under cs h c x.one) ((l == x.one) && (is_leaf cs l && is_under cs c l)) (inl x.passes))
         which (inr f) =
             let two = and_true (is_leaf cs l) (is_under cs c l) f in
             let low : l < length cs = grind (arith, nat_tests, (and_true (nat_lt l (length cs)) (not (is_parent cs l)) two.0).0) in
-            is_any (waits_under cs (Kept l at len ∷ h) c) 0 (length cs) l (omega arith) (omega arith)
+            is_any (waits_under cs (Enqueued l at len ∷ h) c) 0 (length cs) l (omega arith) (omega arith)
             (kept_waits cs h l at len c l ∙ either_true (waits_under cs h c l) ((l == l) && (is_leaf cs l && is_under cs c l)) (inr (true_and (l == l) (is_leaf cs l && is_under cs c l) here f)))
 
 -- the virtual time with which a class becomes active is its virtual time then
@@ -161,7 +161,7 @@ begins_at s v u os h =
     omega arith
 
 pub activated_time : (cs : List HfscClass) (h : HfscHistory) (l at len c : ℕ) → has_parent cs c ≡ true → activates cs h l c ≡ true
-    → virtual_time cs (Kept l at len ∷ h) c ≡ activation_time cs h (activations cs h) c
+    → virtual_time cs (Enqueued l at len ∷ h) c ≡ activation_time cs h (activations cs h) c
 activated_time cs h l at len c p a =
     ap (λ (os : List Opening). virtual_time_of (class_of cs c).share os (total cs h c)) (taken (has_parent cs c && activates cs h l c) (true_and (has_parent cs c) (activates cs h l c) p a))
     ∙ begins_at (class_of cs c).share (activation_time cs h (activations cs h) c) (total cs h c) (activations cs h c)

@@ -1,4 +1,3 @@
-pub mod Timed
 pub mod Curves
 pub mod Openings
 pub mod Standing
@@ -6,7 +5,6 @@ pub mod Past
 pub mod Sums
 pub mod Anchor
 pub mod Rows
-pub mod Law
 pub mod Timing
 pub mod Tree
 pub mod Activity

@@ -4,7 +4,7 @@ use Rattle.std.specs.Prelude.{ℕ, Bool, List}
 
 pub data HfscEvent : Type 0 where
   -- a packet of `len` bytes arrived at the moment `at` and was kept in a class
-  Kept : (class at len : ℕ) → HfscEvent
+  Enqueued : (class at len : ℕ) → HfscEvent
   -- the head of a class, of `len` bytes, was sent from `start` on, by real time or else by share
   Sent : (class len : ℕ) (real : Bool) (start : ℕ) → HfscEvent
 

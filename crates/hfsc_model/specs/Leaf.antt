@@ -3,7 +3,7 @@ use Rattle.std.specs.Prelude.{◌==◌, ◌+◌, ℕ, Bool, true, false, List, [
 use Rattle.play_base.specs.Units.{units}
 use Rattle.runtime_curve.specs.declared.Opening.{Opening}
 use Rattle.runtime_curve.specs.Opening.{opening}
-use Rattle.hfsc_model.specs.Event.{HfscHistory, Kept, Sent}
+use Rattle.hfsc_model.specs.Event.{HfscHistory, Enqueued, Sent}
 
 -- a packet that waits
 pub record Waiting : Type 0 where
@@ -41,7 +41,7 @@ after_sent len real l = record {
 
 abbrev pub leaf : HfscHistory → ℕ → Leaf
 leaf [] c = new_leaf
-leaf (Kept d at len ∷ h) c = if d == c then after_kept at len (leaf h c) else leaf h c
+leaf (Enqueued d at len ∷ h) c = if d == c then after_kept at len (leaf h c) else leaf h c
 leaf (Sent d len real start ∷ h) c = if d == c then after_sent len real (leaf h c) else leaf h c
 
 abbrev pub is_waiting : List Waiting → Bool

@@ -6,7 +6,7 @@ use Rattle.runtime_curve.specs.declared.Opening.{Opening}
 use Rattle.runtime_curve.specs.Opening.{opening}
 use Rattle.runtime_curve.specs.Deadline.{reaches}
 use Rattle.hfsc_model.specs.declared.HfscClass.{HfscClass}
-use Rattle.hfsc_model.specs.Event.{HfscHistory, Kept, Sent}
+use Rattle.hfsc_model.specs.Event.{HfscHistory, Enqueued, Sent}
 use Rattle.hfsc_model.specs.Leaf.{leaf, is_waiting}
 use Rattle.hfsc_model.specs.Tree.{class_of, numbers, is_child, is_leaf, path, is_under}
 use Rattle.hfsc_model.specs.Share.{total, activates, virtual_time}
@@ -14,7 +14,7 @@ use Rattle.hfsc_model.specs.Share.{total, activates, virtual_time}
 -- the arrivals that made a class active, each with the total then, the newest first
 abbrev pub arrivals_of : List HfscClass → HfscHistory → ℕ → List Opening
 arrivals_of cs [] c = []
-arrivals_of cs (Kept d at len ∷ h) c =
+arrivals_of cs (Enqueued d at len ∷ h) c =
     if activates cs h d c then opening at (total cs h c) ∷ arrivals_of cs h c else arrivals_of cs h c
 arrivals_of cs (Sent d len real start ∷ h) c = arrivals_of cs h c
 

@@ -2,7 +2,7 @@
 -- before; the fraction of a nanosecond is carried within it.
 use Rattle.std.specs.Prelude.{◌≤◌, ◌==◌, ◌+◌, ℕ, [], ◌∷◌, if◌then◌else◌}
 use Rattle.play_base.specs.Units.{units, ceil_div}
-use Rattle.hfsc_model.specs.Event.{HfscHistory, Kept, Sent}
+use Rattle.hfsc_model.specs.Event.{HfscHistory, Enqueued, Sent}
 
 -- the run of the last sending: its start, and its units so far
 pub record Run : Type 0 where
@@ -22,11 +22,11 @@ with_units r amount = record { start = r.start; sent = r.sent + amount }
 
 abbrev pub run_after : ℕ → HfscHistory → Run
 run_after rate [] = record { start = 0; sent = 0 }
-run_after rate (Kept c at len ∷ h) = run_after rate h
+run_after rate (Enqueued c at len ∷ h) = run_after rate h
 run_after rate (Sent c len real start ∷ h) = with_units (started rate (run_after rate h) start) (units len)
 
 -- no sending starts before the one before it ended
 abbrev pub AreOneByOne : ℕ → HfscHistory → Type 0
 AreOneByOne rate [] = Unit {0}
-AreOneByOne rate (Kept c at len ∷ h) = AreOneByOne rate h
+AreOneByOne rate (Enqueued c at len ∷ h) = AreOneByOne rate h
 AreOneByOne rate (Sent c len real start ∷ h) = (free rate (run_after rate h) ≤ start) × AreOneByOne rate h

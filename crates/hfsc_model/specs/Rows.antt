@@ -3,7 +3,7 @@ use Rattle.std.specs.Prelude.{◌+◌, ◌==◌, ℕ, zero, suc, List, [], ◌�
 use Rattle.service_curve.specs.declared.Curve.{Curve}
 use Rattle.service_curve.specs.Curve.{curve, straight}
 use Rattle.hfsc_model.specs.declared.HfscClass.{HfscClass}
-use Rattle.hfsc_model.specs.Event.{HfscHistory, Kept, Sent}
+use Rattle.hfsc_model.specs.Event.{HfscHistory, Enqueued, Sent}
 use Rattle.hfsc_model.specs.Choice.{Choice, with_chosen}
 use Rattle.hfsc_model.specs.Share.{virtual_time}
 use Rattle.hfsc_model.specs.Timely.{opens, rows, units_of}
@@ -19,7 +19,7 @@ child real share limit = record { parent = Some 0; real = real; share = Some sha
 -- a history with n packets more, kept in class c at the moment `at`
 abbrev pub kept : ℕ → ℕ → ℕ → ℕ → HfscHistory → HfscHistory
 kept zero c at len h = h
-kept (suc n) c at len h = Kept c at len ∷ kept n c at len h
+kept (suc n) c at len h = Enqueued c at len ∷ kept n c at len h
 
 -- n starts, `step` apart
 abbrev pub starts : ℕ → ℕ → ℕ → List ℕ
@@ -29,18 +29,18 @@ starts (suc n) from step = from ∷ starts n (from + step) step
 -- the choices of a history, the oldest first, and its starts
 abbrev pub choices : HfscHistory → List Choice
 choices [] = []
-choices (Kept c at len ∷ h) = choices h
+choices (Enqueued c at len ∷ h) = choices h
 choices (Sent c len real start ∷ h) = choices h ++ record { class = c; real = real } ∷ []
 
 abbrev pub sent_classes : HfscHistory → List ℕ
 sent_classes [] = []
-sent_classes (Kept c at len ∷ h) = sent_classes h
+sent_classes (Enqueued c at len ∷ h) = sent_classes h
 sent_classes (Sent c len real start ∷ h) = sent_classes h ++ c ∷ []
 
 -- the virtual time of a class after each of its sendings, the oldest first
 abbrev pub times_of : List HfscClass → ℕ → HfscHistory → List ℕ
 times_of cs c [] = []
-times_of cs c (Kept d at len ∷ h) = times_of cs c h
+times_of cs c (Enqueued d at len ∷ h) = times_of cs c h
 times_of cs c (Sent d len real start ∷ h) =
     if d == c then times_of cs c h ++ virtual_time cs (Sent d len real start ∷ h) c ∷ [] else times_of cs c h
 

@@ -8,7 +8,7 @@ use Rattle.runtime_curve.specs.declared.Opening.{Opening}
 use Rattle.runtime_curve.specs.Opening.{opening}
 use Rattle.runtime_curve.specs.Deadline.{deadline}
 use Rattle.hfsc_model.specs.declared.HfscClass.{HfscClass}
-use Rattle.hfsc_model.specs.Event.{HfscHistory, Kept, Sent}
+use Rattle.hfsc_model.specs.Event.{HfscHistory, Enqueued, Sent}
 use Rattle.hfsc_model.specs.Leaf.{leaf, is_waiting}
 use Rattle.hfsc_model.specs.Tree.{class_of, numbers, is_child, is_leaf, is_under}
 
@@ -22,7 +22,7 @@ active cs h c = list_any (waits_under cs h c) (numbers cs)
 -- the units that were sent in a class or below it, by either rule
 abbrev pub total : List HfscClass → HfscHistory → ℕ → ℕ
 total cs [] c = 0
-total cs (Kept d at len ∷ h) c = total cs h c
+total cs (Enqueued d at len ∷ h) c = total cs h c
 total cs (Sent d len real start ∷ h) c = if is_under cs c d then total cs h c + units len else total cs h c
 
 -- a packet kept in d makes c active
@@ -75,7 +75,7 @@ has_parent cs c = elim (class_of cs c).parent [ None ↦ false | Some p ↦ true
 
 abbrev pub activations : List HfscClass → HfscHistory → ℕ → List Opening
 activations cs [] c = []
-activations cs (Kept d at len ∷ h) c =
+activations cs (Enqueued d at len ∷ h) c =
     if has_parent cs c && activates cs h d c
     then opening (activation_time cs h (activations cs h) c) (total cs h c) ∷ activations cs h c
     else activations cs h c

@@ -6,7 +6,7 @@ use Rattle.service_curve.specs.declared.Curve.{Curve}
 use Rattle.service_curve.specs.Curve.{amount}
 use Rattle.runtime_curve.specs.declared.Opening.{Opening}
 use Rattle.runtime_curve.specs.Opening.{opening, Reaches}
-use Rattle.hfsc_model.specs.Event.{HfscHistory, Kept, Sent}
+use Rattle.hfsc_model.specs.Event.{HfscHistory, Enqueued, Sent}
 use Rattle.hfsc_model.specs.Leaf.{Waiting, leaf}
 use Rattle.hfsc_model.specs.Link.{free, run_after}
 use Rattle.hfsc_model.specs.RealTime.{curve_of, IsRealPick, NoneIsEligible}
@@ -26,7 +26,7 @@ with_row (w ∷ ws) start end rows = record { at = w.at; len = w.len; start = st
 -- the packets sent of a class, the newest first, each with the end of its run
 abbrev pub rows : ℕ → HfscHistory → ℕ → List Row
 rows rate [] c = []
-rows rate (Kept d at len ∷ h) c = rows rate h c
+rows rate (Enqueued d at len ∷ h) c = rows rate h c
 rows rate (Sent d len real start ∷ h) c =
     if d == c then with_row (leaf h c).waiting start (free rate (run_after rate (Sent d len real start ∷ h))) (rows rate h c) else rows rate h c
 
@@ -53,7 +53,7 @@ AreTimely s most (r ∷ rs) = ((u : ℕ) → IsDue s (r ∷ rs) u → r.end ≤ 
 -- the longest packet sent
 abbrev pub longest : HfscHistory → ℕ
 longest [] = 0
-longest (Kept c at len ∷ h) = longest h
+longest (Enqueued c at len ∷ h) = longest h
 longest (Sent c len real start ∷ h) = max len (longest h)
 
 -- each packet of a class with a real-time curve ends at most the time of the longest packet, rounded up, after each of its due
@@ -72,18 +72,18 @@ FitLink rate curves = (t : ℕ) → sum_by (λ o. amount_of o t) curves ≤ rate
 -- the moment of the last event
 abbrev pub moment : HfscHistory → ℕ
 moment [] = 0
-moment (Kept c at len ∷ h) = at
+moment (Enqueued c at len ∷ h) = at
 moment (Sent c len real start ∷ h) = start
 
 abbrev pub StartBefore : HfscHistory → ℕ → Type 0
 StartBefore [] t = Unit {0}
-StartBefore (Kept c at len ∷ h) t = StartBefore h t
+StartBefore (Enqueued c at len ∷ h) t = StartBefore h t
 StartBefore (Sent c len real start ∷ h) t = (start < t) × StartBefore h t
 
 -- moments never go back, each packet arrives later than every start before it, and no packet sent is empty
 abbrev pub AreInOrder : HfscHistory → Type 0
 AreInOrder [] = Unit {0}
-AreInOrder (Kept c at len ∷ h) = (moment h ≤ at) × StartBefore h at × AreInOrder h
+AreInOrder (Enqueued c at len ∷ h) = (moment h ≤ at) × StartBefore h at × AreInOrder h
 AreInOrder (Sent c len real start ∷ h) = (moment h ≤ start) × (1 ≤ len) × AreInOrder h
 
 -- the packets arrived at t or later
@@ -94,7 +94,7 @@ ArriveFrom t (w ∷ ws) = (t ≤ w.at) × ArriveFrom t ws
 -- no head was eligible just before `start`, and at `start` nothing but packets came since
 pub data IsHeld (curves : List (Option Curve)) (start : ℕ) : HfscHistory → Type 0 where
   Before : (h : HfscHistory) → NoneIsEligible curves h (start - 1) → IsHeld curves start h
-  Came : (c len : ℕ) (h : HfscHistory) → IsHeld curves start h → IsHeld curves start (Kept c start len ∷ h)
+  Came : (c len : ℕ) (h : HfscHistory) → IsHeld curves start h → IsHeld curves start (Enqueued c start len ∷ h)
 
 -- why a sending starts when it does: the one before it ended; or the first waiting packet came; or the link was held till `start`
 pub data IsBusyAt (rate : ℕ) (curves : List (Option Curve)) (h : HfscHistory) (start : ℕ) : Type 0 where
@@ -104,7 +104,7 @@ pub data IsBusyAt (rate : ℕ) (curves : List (Option Curve)) (h : HfscHistory) 
 
 abbrev pub IsBusy : ℕ → List (Option Curve) → HfscHistory → Type 0
 IsBusy rate curves [] = Unit {0}
-IsBusy rate curves (Kept c at len ∷ h) = IsBusy rate curves h
+IsBusy rate curves (Enqueued c at len ∷ h) = IsBusy rate curves h
 IsBusy rate curves (Sent c len real start ∷ h) = IsBusyAt rate curves h start × IsBusy rate curves h
 
 -- the head of a class is sent, with its length
@@ -121,5 +121,5 @@ pub record IsChosen (curves : List (Option Curve)) (h : HfscHistory) (c len : �
 
 abbrev pub AreChosen : List (Option Curve) → HfscHistory → Type 0
 AreChosen curves [] = Unit {0}
-AreChosen curves (Kept c at len ∷ h) = AreChosen curves h
+AreChosen curves (Enqueued c at len ∷ h) = AreChosen curves h
 AreChosen curves (Sent c len real start ∷ h) = IsChosen curves h c len real start × AreChosen curves h

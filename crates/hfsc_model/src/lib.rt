@@ -8,7 +8,7 @@
 
 ghost use Rattle.std.specs.Prelude.{◌≡◌, ◌∷◌, ℕ, [], Option, Some, None, true, false};
 ghost use Rattle.service_curve.specs.declared.Curve.{Curve};
-ghost use Rattle.hfsc_model.specs.Event.{HfscHistory, Kept, Sent};
+ghost use Rattle.hfsc_model.specs.Event.{HfscHistory, Enqueued, Sent};
 ghost use Rattle.hfsc_model.specs.Leaf.{Leaf, leaf};
 ghost use Rattle.hfsc_model.specs.Tree.{reals};
 ghost use Rattle.hfsc_model.specs.RealTime.{curve_of, head_deadline, has_come, is_eligible, soonest_of, IsOpenBy};
@@ -39,20 +39,20 @@ pub fn heads_are_eligible_from_a_moment_on()
 /// Fifty packets of the data leaf wait from 0 on; one of the voice leaf that comes at 10 milliseconds goes at once.
 pub fn voice_overtakes_bulk_data()
     ensures first { choices (with_chosen voice_and_data (kept 50 2 0 1000 []) (0 ∷ 1000000 ∷ [])) ≡ by_real_time 2 ∷ by_share 2 ∷ [] }
-    ensures voice { choice voice_and_data (Kept 1 10000000 200 ∷ with_chosen voice_and_data (kept 50 2 0 1000 []) (starts 10 0 1000000)) 10000000
+    ensures voice { choice voice_and_data (Enqueued 1 10000000 200 ∷ with_chosen voice_and_data (kept 50 2 0 1000 []) (starts 10 0 1000000)) 10000000
         ≡ Some (by_real_time 1) }
     ensures first_deadline { head_deadline (curve_of (reals voice_and_data) 2) (leaf (kept 50 2 0 1000 []) 2) ≡ Some 7000000 }
-    ensures voice_deadline { head_deadline (curve_of (reals voice_and_data) 1) (leaf (Kept 1 10000000 200 ∷ []) 1) ≡ Some 10400000 }
+    ensures voice_deadline { head_deadline (curve_of (reals voice_and_data) 1) (leaf (Enqueued 1 10000000 200 ∷ []) 1) ≡ Some 10400000 }
     ensures data_deadline { head_deadline (curve_of (reals voice_and_data) 2) (leaf (with_chosen voice_and_data (kept 50 2 0 1000 []) (starts 10 0 1000000)) 2)
         ≡ Some 17000000 }
-    ensures due { due_of 8000000 (curve 4000000 5000000 1000000) (Sent 1 200 true 10000000 ∷ Kept 1 10000000 200 ∷ []) 1 ≡ Some 10400000 }
+    ensures due { due_of 8000000 (curve 4000000 5000000 1000000) (Sent 1 200 true 10000000 ∷ Enqueued 1 10000000 200 ∷ []) 1 ≡ Some 10400000 }
 {}
 
 /// Two leaves of one curve, the packet of the second arriving first.
 pub fn equal_deadlines_go_by_file_order()
-    ensures deadline { head_deadline (curve_of (reals twins) 1) (leaf (Kept 1 0 1000 ∷ Kept 2 0 1000 ∷ []) 1) ≡ Some 4000000 }
-    ensures other { head_deadline (curve_of (reals twins) 2) (leaf (Kept 1 0 1000 ∷ Kept 2 0 1000 ∷ []) 2) ≡ Some 4000000 }
-    ensures order { choices (with_chosen twins (Kept 1 0 1000 ∷ Kept 2 0 1000 ∷ []) (0 ∷ 1000000 ∷ [])) ≡ by_real_time 1 ∷ by_real_time 2 ∷ [] }
+    ensures deadline { head_deadline (curve_of (reals twins) 1) (leaf (Enqueued 1 0 1000 ∷ Enqueued 2 0 1000 ∷ []) 1) ≡ Some 4000000 }
+    ensures other { head_deadline (curve_of (reals twins) 2) (leaf (Enqueued 1 0 1000 ∷ Enqueued 2 0 1000 ∷ []) 2) ≡ Some 4000000 }
+    ensures order { choices (with_chosen twins (Enqueued 1 0 1000 ∷ Enqueued 2 0 1000 ∷ []) (0 ∷ 1000000 ∷ [])) ≡ by_real_time 1 ∷ by_real_time 2 ∷ [] }
 {}
 
 /// Leaves that share a link by one and three: which goes when, and the virtual times of the second after its sendings.
@@ -96,10 +96,10 @@ pub fn exact_fit_with_a_returning_burst()
 /// 8·10^12 / 2,000,000 = 4000000 and that of the second by 8·10^12 / 3,000,000 = 2666666.67, rounded up. The middle of these
 /// is 3333333.5, rounded down; the high mark is the greater; and a class keeps its own time where that is the greater.
 pub fn returning_classes_take_the_middle()
-    ensures middle { virtual_time three (Kept 3 2000000 1000 ∷ with_chosen three (kept 2 2 0 1000 (kept 2 1 0 1000 [])) (0 ∷ 1000000 ∷ [])) 3 ≡ 3333333 }
-    ensures high { virtual_time three (Kept 3 2000000 1000 ∷ with_chosen three (kept 1 2 0 1000 (kept 1 1 0 1000 [])) (0 ∷ 1000000 ∷ [])) 3 ≡ 4000000 }
-    ensures own { virtual_time three (Kept 1 2000000 1000 ∷ with_chosen three (kept 2 2 0 1000 (kept 1 1 0 1000 [])) (0 ∷ 1000000 ∷ [])) 1 ≡ 4000000 }
-    ensures lower { virtual_time three (Kept 2 2000000 1000 ∷ with_chosen three (kept 1 2 0 1000 (kept 2 1 0 1000 [])) (0 ∷ 1000000 ∷ [])) 2 ≡ 4000000 }
+    ensures middle { virtual_time three (Enqueued 3 2000000 1000 ∷ with_chosen three (kept 2 2 0 1000 (kept 2 1 0 1000 [])) (0 ∷ 1000000 ∷ [])) 3 ≡ 3333333 }
+    ensures high { virtual_time three (Enqueued 3 2000000 1000 ∷ with_chosen three (kept 1 2 0 1000 (kept 1 1 0 1000 [])) (0 ∷ 1000000 ∷ [])) 3 ≡ 4000000 }
+    ensures own { virtual_time three (Enqueued 1 2000000 1000 ∷ with_chosen three (kept 2 2 0 1000 (kept 1 1 0 1000 [])) (0 ∷ 1000000 ∷ [])) 1 ≡ 4000000 }
+    ensures lower { virtual_time three (Enqueued 2 2000000 1000 ∷ with_chosen three (kept 1 2 0 1000 (kept 2 1 0 1000 [])) (0 ∷ 1000000 ∷ [])) 2 ≡ 4000000 }
 {}
 
 /// What is sent in a leaf counts for the class above it: each packet moves the virtual time of either child of the root by
@@ -124,9 +124,9 @@ pub fn limits_open_at_arrivals()
 
 /// A real-time curve of slopes 0 counts as none; one with a slope of 1 does not, and allows a count of 0 from its opening on.
 pub fn curve_of_zero_counts_as_none()
-    ensures zero { choice (one_leaf (straight 0)) (Kept 1 0 1000 ∷ []) 0 ≡ Some (by_share 1) }
-    ensures one { choice (one_leaf (straight 1)) (Kept 1 0 1000 ∷ []) 0 ≡ Some (by_real_time 1) }
-    ensures later { choice (one_leaf (curve 0 1 1)) (Kept 1 0 1000 ∷ []) 0 ≡ Some (by_real_time 1) }
+    ensures zero { choice (one_leaf (straight 0)) (Enqueued 1 0 1000 ∷ []) 0 ≡ Some (by_share 1) }
+    ensures one { choice (one_leaf (straight 1)) (Enqueued 1 0 1000 ∷ []) 0 ≡ Some (by_real_time 1) }
+    ensures later { choice (one_leaf (curve 0 1 1)) (Enqueued 1 0 1000 ∷ []) 0 ≡ Some (by_real_time 1) }
 {}
 
 /// A packet that arrives at the start of the one before does not open, one that arrives a nanosecond later does, after the

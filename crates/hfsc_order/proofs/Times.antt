@@ -12,7 +12,7 @@ use Rattle.runtime_curve.specs.declared.Opening.{Opening}
 use Rattle.runtime_curve.specs.Opening.{opening}
 use Rattle.runtime_curve.specs.Deadline.{deadline, later_of, reached_at, shifted}
 use Rattle.hfsc_model.specs.declared.HfscClass.{HfscClass}
-use Rattle.hfsc_model.specs.Event.{HfscEvent, HfscHistory, Kept, Sent}
+use Rattle.hfsc_model.specs.Event.{HfscEvent, HfscHistory, Enqueued, Sent}
 use Rattle.hfsc_model.specs.Tree.{class_of, is_under}
 use Rattle.hfsc_model.specs.Share.{active, activates, activation, activation_time, activations, greatest, has_parent, or_zero, siblings, total, virtual_time, virtual_time_of}
 use Rattle.hfsc_order.specs.Order.{AreBehind, HaveSlopes}
@@ -110,7 +110,7 @@ total_rises cs h c d len start real = go (is_under cs c d)
 -- a class without a parent has no activation
 none_above : (cs : List HfscClass) (h : HfscHistory) (c : ℕ) → has_parent cs c ≡ false → activations cs h c ≡ []
 none_above cs [] c e = refl
-none_above cs (Kept d at len ∷ h) c e = rw e (none_above cs h c e)
+none_above cs (Enqueued d at len ∷ h) c e = rw e (none_above cs h c e)
 none_above cs (Sent d len real start ∷ h) c e = none_above cs h c e
 
 sent_rises : (cs : List HfscClass) (h : HfscHistory) (c d len start : ℕ) (real : Bool) → HaveSlopes cs
@@ -132,7 +132,7 @@ own_first own high (v ∷ vs) = omega arith
 opened_rises : (s : Option Curve) (o : Opening) (os : List Opening) (u own : ℕ) → own ≤ o.at → own ≤ virtual_time_of s (o ∷ os) u
 opened_rises s o os u own le = omega (arith, le)
 
-kept_rises : (cs : List HfscClass) (h : HfscHistory) (c d at len : ℕ) → virtual_time cs h c ≤ virtual_time cs (Kept d at len ∷ h) c
+kept_rises : (cs : List HfscClass) (h : HfscHistory) (c d at len : ℕ) → virtual_time cs h c ≤ virtual_time cs (Enqueued d at len ∷ h) c
 kept_rises cs h c d at len = go (has_parent cs c && activates cs h d c)
   where
     at_least : virtual_time cs h c ≤ activation_time cs h (activations cs h) c
@@ -146,7 +146,7 @@ kept_rises cs h c d at len = go (has_parent cs c && activates cs h d c)
     go false = omega arith
 
 pub rises : (cs : List HfscClass) (e : HfscEvent) (h : HfscHistory) (c : ℕ) → HaveSlopes cs → virtual_time cs h c ≤ virtual_time cs (e ∷ h) c
-rises cs (Kept d at len) h c some = kept_rises cs h c d at len
+rises cs (Enqueued d at len) h c some = kept_rises cs h c d at len
 rises cs (Sent d len real start) h c some = sent_rises cs h c d len start real some
 
 behind : (cs : List HfscClass) (h : HfscHistory) (c time : ℕ) → HaveSlopes cs → virtual_time cs h c ≤ time → AreBehind cs c time h

@@ -3,7 +3,7 @@ use Rattle.std.proofs.Common.{◌≡◌, ◌≤◌, ◌+◌, ◌-◌, ℕ, Bool,
 use Rattle.std.specs.Prelude.{◌==◌, if◌then◌else◌}
 use Rattle.std.proofs.lemmas.Bool.Decides.{nat_tests}
 use Rattle.altq_model.specs.Laws.{occurs}
-use Rattle.hfsc_model.specs.Event.{HfscHistory, Kept, Sent}
+use Rattle.hfsc_model.specs.Event.{HfscHistory, Enqueued, Sent}
 use Rattle.hfsc_model.specs.Leaf.{Leaf, Waiting, leaf, after_kept, after_sent}
 use Rattle.hfsc_model.specs.Timely.{IsHead}
 use Rattle.hfsc_policy.specs.Heads.{IsSized, AreHeads, AreWithin, AreFew, kept_in, sent_in}
@@ -15,7 +15,7 @@ without_one c (d ∷ ds) = if d == c then ds else d ∷ without_one c ds
 
 abbrev left : HfscHistory → List ℕ
 left [] = []
-left (Kept c at len ∷ h) = c ∷ left h
+left (Enqueued c at len ∷ h) = c ∷ left h
 left (Sent c len real start ∷ h) = without_one c (left h)
 
 occurs_less : (c d : ℕ) (xs : List ℕ) → occurs c (without_one d xs) ≡ (if d == c then occurs c xs - 1 else occurs c xs)
@@ -61,7 +61,7 @@ long_drop (w ∷ ws) = omega arith
 
 left_is : (c : ℕ) (h : HfscHistory) → occurs c (left h) ≡ length (leaf h c).waiting
 left_is c [] = refl
-left_is c (Kept d at len ∷ h) = go (d == c) refl (left_is c h)
+left_is c (Enqueued d at len ∷ h) = go (d == c) refl (left_is c h)
   where
     go : (m : Bool) → (d == c) ≡ m → occurs c (left h) ≡ length (leaf h c).waiting
         → occurs c (d ∷ left h) ≡ length (if m then after_kept at len (leaf h c) else leaf h c).waiting
@@ -80,7 +80,7 @@ head_long (w ∷ ws) len e = omega arith
 
 balanced : (h : HfscHistory) → AreHeads h → sent_in h + length (left h) ≡ kept_in h
 balanced [] a = refl
-balanced (Kept c at len ∷ h) a = let rest = balanced h a.1 in omega (arith, rest)
+balanced (Enqueued c at len ∷ h) a = let rest = balanced h a.1 in omega (arith, rest)
 balanced (Sent c len real start ∷ h) a =
     let rest = balanced h a.1 in
     let some = head_long (leaf h c).waiting len a.0 in
@@ -103,7 +103,7 @@ sized_drop (w ∷ ws) x = x.1
 
 sized_waiting : (c : ℕ) (h : HfscHistory) → AreHeads h → HaveSizes (leaf h c).waiting
 sized_waiting c [] a = tt
-sized_waiting c (Kept d at len ∷ h) a = go (d == c) (sized_waiting c h a.1)
+sized_waiting c (Enqueued d at len ∷ h) a = go (d == c) (sized_waiting c h a.1)
   where
     go : (k : Bool) → HaveSizes (leaf h c).waiting → HaveSizes (if k then after_kept at len (leaf h c) else leaf h c).waiting
     go true x = sized_push (leaf h c).waiting (record { at = at; len = len }) x a.0
@@ -123,7 +123,7 @@ head_sized c len h a i = go (leaf h c).waiting (sized_waiting c h a) i
 
 within : (h : HfscHistory) → AreHeads h → AreWithin h
 within [] a = tt
-within (Kept c at len ∷ h) a = (a.0.most, within h a.1)
+within (Enqueued c at len ∷ h) a = (a.0.most, within h a.1)
 within (Sent c len real start ∷ h) a = ((head_sized c len h a.1 a.0).most, within h a.1)
 
 pub are_few : (h : HfscHistory) → AreHeads h → kept_in h ≤ 4000000 → AreFew h

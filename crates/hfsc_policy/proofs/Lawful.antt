@@ -1,7 +1,7 @@
 -- The policy is lawful.
 use Rattle.std.proofs.Common.{◌≡◌, ◌≤◌, ℕ, true, List, [], ◌∷◌, None, Some, length, refl, ap, sym, subst, arith, ◌∙◌}
 use Rattle.std.specs.Prelude.{IsTrue, Option}
-use Rattle.altq_model.specs.History.{Coming, Answer, DrawnWords, Event, Offered}
+use Rattle.altq_model.specs.History.{Arrival, Answer, DrawnWords, Event, Offered}
 use Rattle.altq_model.specs.Play.{IsOneOf}
 use Rattle.altq_model.specs.Policies.{Answering}
 use Rattle.altq_model.specs.Lawful.{IsLawful, IsSteady, IsHead, IsCandidate, SendsWhen, NeverWaits}
@@ -35,18 +35,18 @@ leaf_one cs c l = let low = leaf_below cs c l in is_kept (is_leaf cs) (numbers c
 
 module _ (cs : List HfscClass) (answer : Answering) (k : IsClassTree cs) where
   -- the test by the moment
-  may_is : (h : List Event) (c t : ℕ) (b : Coming) → IsHead (hfsc_policy cs answer) h c b → may_send cs (hfsc_history h) t c ≡ has_come (send_from cs (hfsc_history h) c) t
+  may_is : (h : List Event) (c t : ℕ) (b : Arrival) → IsHead (hfsc_policy cs answer) h c b → may_send cs (hfsc_history h) t c ≡ has_come (send_from cs (hfsc_history h) c) t
   may_is h c t b e = send_is cs (hfsc_history h) t c (one_leaf cs c e.held) (head_waits c h b e.front)
 
-  may_from : (h : List Event) (c t : ℕ) (b : Coming) → IsHead (hfsc_policy cs answer) h c b
+  may_from : (h : List Event) (c t : ℕ) (b : Arrival) → IsHead (hfsc_policy cs answer) h c b
       → may_send cs (hfsc_history h) (not_before t (send_from cs (hfsc_history h) c)) c ≡ true
   may_from h c t b e = may_is h c (not_before t (send_from cs (hfsc_history h) c)) b e ∙ from_come (send_from cs (hfsc_history h) c) t (send_there cs (hfsc_history h) c k)
 
-  least_from : (h : List Event) (c t u : ℕ) (b : Coming) → IsHead (hfsc_policy cs answer) h c b → t ≤ u → may_send cs (hfsc_history h) u c ≡ true
+  least_from : (h : List Event) (c t u : ℕ) (b : Arrival) → IsHead (hfsc_policy cs answer) h c b → t ≤ u → may_send cs (hfsc_history h) u c ≡ true
       → not_before t (send_from cs (hfsc_history h) c) ≤ u
   least_from h c t u b e l m = from_least (send_from cs (hfsc_history h) c) t u l (sym (may_is h c u b e) ∙ m)
 
-  keeps_it : (h : List Event) (a : Coming) (w : DrawnWords) (v : Answer) (c t : ℕ) (b : Coming) → IsHead (hfsc_policy cs answer) h c b
+  keeps_it : (h : List Event) (a : Arrival) (w : DrawnWords) (v : Answer) (c t : ℕ) (b : Arrival) → IsHead (hfsc_policy cs answer) h c b
       → may_send cs (hfsc_history (Offered a w v ∷ h)) t c ≡ may_send cs (hfsc_history h) t c
   keeps_it h a w v c t b e =
       let l = one_leaf cs c e.held in

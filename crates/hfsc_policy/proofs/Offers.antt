@@ -8,9 +8,9 @@ use Rattle.runtime_curve.specs.Opening.{opening, eligible_curve}
 use Rattle.runtime_curve.specs.Deadline.{deadline, later_of}
 use Rattle.altq_model.specs.Play.{IsOneOf}
 use Rattle.altq_model.specs.declared.Verdict.{Verdict}
-use Rattle.altq_model.specs.History.{Coming, is_kept}
+use Rattle.altq_model.specs.History.{Arrival, is_kept}
 use Rattle.hfsc_model.specs.declared.HfscClass.{HfscClass}
-use Rattle.hfsc_model.specs.Event.{HfscHistory, Kept}
+use Rattle.hfsc_model.specs.Event.{HfscHistory, Enqueued}
 use Rattle.hfsc_model.specs.Leaf.{Leaf, Waiting, leaf, is_waiting, opened, after_kept}
 use Rattle.hfsc_model.specs.Tree.{class_of, is_leaf, is_parent, is_under, path, reals}
 use Rattle.hfsc_model.specs.RealTime.{curve_of}
@@ -38,7 +38,7 @@ not_both true true false e = absurd cc
 not_both true false c e = refl
 not_both false b c e = refl
 
-same_arrivals : (cs : List HfscClass) (h : HfscHistory) (d at len x : ℕ) → active cs h x ≡ true → arrivals_of cs (Kept d at len ∷ h) x ≡ arrivals_of cs h x
+same_arrivals : (cs : List HfscClass) (h : HfscHistory) (d at len x : ℕ) → active cs h x ≡ true → arrivals_of cs (Enqueued d at len ∷ h) x ≡ arrivals_of cs h x
 same_arrivals cs h d at len x a = go (activates cs h d x) (not_both (is_leaf cs d) (is_under cs x d) (active cs h x) a)
   where
     go : (b : Bool) → b ≡ false → (if b then opening at (total cs h x) ∷ arrivals_of cs h x else arrivals_of cs h x) ≡ arrivals_of cs h x
@@ -46,11 +46,11 @@ same_arrivals cs h d at len x a = go (activates cs h d x) (not_both (is_leaf cs 
     go false e = refl
 
 same_open : (cs : List HfscClass) (h : HfscHistory) (d at len : ℕ) (up : List ℕ) → ((x : ℕ) → IsOneOf x up → active cs h x ≡ true)
-    → open_from cs (Kept d at len ∷ h) up ≡ open_from cs h up
+    → open_from cs (Enqueued d at len ∷ h) up ≡ open_from cs h up
 same_open cs h d at len [] f = refl
 same_open cs h d at len (x ∷ up) f =
     let rest = same_open cs h d at len up (λ y i. f y (inr i)) in
-    ap (λ (os : List Opening). later_of (within_from (class_of cs x).limit os (total cs h x)) (open_from cs (Kept d at len ∷ h) up))
+    ap (λ (os : List Opening). later_of (within_from (class_of cs x).limit os (total cs h x)) (open_from cs (Enqueued d at len ∷ h) up))
     (same_arrivals cs h d at len x (f x (inl refl)))
     ∙ ap (λ (o : Option ℕ). later_of (within_from (class_of cs x).limit (arrivals_of cs h x) (total cs h x)) o) rest
 
@@ -63,7 +63,7 @@ same_eligible None at len l w = refl
 same_eligible (Some s) at len l w = ap (λ (os : List Opening). deadline (eligible_curve s) os l.count) (same_openings l.waiting at l.count l.openings w)
 
 still_eligible : (o : Option Curve) (h : HfscHistory) (d at len c : ℕ) → is_waiting (leaf h c).waiting ≡ true
-    → eligible_from o (leaf (Kept d at len ∷ h) c) ≡ eligible_from o (leaf h c)
+    → eligible_from o (leaf (Enqueued d at len ∷ h) c) ≡ eligible_from o (leaf h c)
 still_eligible o h d at len c w = go (d == c)
   where
     go : (b : Bool) → eligible_from o (if b then after_kept at len (leaf h c) else leaf h c) ≡ eligible_from o (leaf h c)
@@ -71,16 +71,16 @@ still_eligible o h d at len c w = go (d == c)
     go false = refl
 
 kept_same : (cs : List HfscClass) (h : HfscHistory) (d at len c : ℕ) → is_leaf cs c ≡ true → is_waiting (leaf h c).waiting ≡ true
-    → send_from cs (Kept d at len ∷ h) c ≡ send_from cs h c
+    → send_from cs (Enqueued d at len ∷ h) c ≡ send_from cs h c
 kept_same cs h d at len c l w =
-    ap (λ (o : Option ℕ). earlier_of o (open_from cs (Kept d at len ∷ h) (path cs c))) (still_eligible (curve_of (reals cs) c) h d at len c w)
+    ap (λ (o : Option ℕ). earlier_of o (open_from cs (Enqueued d at len ∷ h) (path cs c))) (still_eligible (curve_of (reals cs) c) h d at len c w)
     ∙ ap (λ (o : Option ℕ). earlier_of (eligible_from (curve_of (reals cs) c) (leaf h c)) o)
     (same_open cs h d at len (path cs c) (λ x i. above_active cs h c x l w (one_any (path cs c) x i)))
 
-pub offer_same : (cs : List HfscClass) (h : HfscHistory) (v : Verdict) (a : Coming) (c : ℕ) → is_leaf cs c ≡ true → is_waiting (leaf h c).waiting ≡ true
+pub offer_same : (cs : List HfscClass) (h : HfscHistory) (v : Verdict) (a : Arrival) (c : ℕ) → is_leaf cs c ≡ true → is_waiting (leaf h c).waiting ≡ true
     → send_from cs (with_offer v a h) c ≡ send_from cs h c
 offer_same cs h v a c l w = go (is_kept v)
   where
-    go : (b : Bool) → send_from cs (if b then Kept a.class a.at a.len ∷ h else h) c ≡ send_from cs h c
+    go : (b : Bool) → send_from cs (if b then Enqueued a.class a.at a.len ∷ h else h) c ≡ send_from cs h c
     go true = kept_same cs h a.class a.at a.len c l w
     go false = refl

@@ -2,7 +2,7 @@
 use Rattle.std.proofs.Common.{◌≡◌, ◌≤◌, ◌<◌, ◌⊎◌, inl, inr, ℕ, max, zero, suc, Bool, true, false, List, [], ◌∷◌, Some, ap, sym, subst, arith, ◌∙◌}
 use Rattle.std.specs.Prelude.{slice_get, if◌then◌else◌}
 use Rattle.altq_model.specs.declared.Verdict.{Verdict}
-use Rattle.altq_model.specs.History.{Coming, Answer, DrawnWords, Event, Offered, Sent, Transmission, Happened, bare, offered, drawn, is_kept, waiting}
+use Rattle.altq_model.specs.History.{Arrival, Answer, DrawnWords, Event, Offered, Sent, Sending, Happened, bare, offered, drawn, is_kept, waiting}
 use Rattle.altq_model.specs.Laws.{IsPrompt}
 use Rattle.altq_model.specs.Lawful.{AreRising}
 use Rattle.altq_model.specs.Link.{link, HasLinkEnds}
@@ -17,7 +17,7 @@ use Rattle.play_laws.proofs.LinkLemmas.{end_later}
 use Rattle.play_laws.proofs.Starts.{head_of}
 use Rattle.play_laws.proofs.TimeLemmas.{IsOnTime, follows, on_time}
 use Rattle.hfsc_model.specs.declared.HfscClass.{HfscClass}
-use Rattle.hfsc_model.specs.Event.{HfscHistory, Kept}
+use Rattle.hfsc_model.specs.Event.{HfscHistory, Enqueued}
 use Rattle.hfsc_model.specs.Leaf.{Waiting, leaf}
 use Rattle.hfsc_model.specs.Tree.{reals}
 use Rattle.hfsc_model.specs.RealTime.{has_come}
@@ -44,28 +44,28 @@ starts_free rate (Sent s ∷ h) pos e =
     let k = e.0 in
     (l, starts_later (link rate h).free (link rate (Sent s ∷ h)).free h (omega (arith, l, k)) (starts_free rate h pos e.2))
 
-sized_at : (arrived : List Coming) (i : ℕ) (a : Coming) → AreSized arrived → slice_get arrived i ≡ Some a → IsSized a.len
+sized_at : (arrived : List Arrival) (i : ℕ) (a : Arrival) → AreSized arrived → slice_get arrived i ≡ Some a → IsSized a.len
 sized_at [] i a x e = absurd cc
-sized_at (b ∷ rest) zero a x e = let same : b ≡ a = cc in subst (λ (z : Coming). IsSized z.len) same x.0
+sized_at (b ∷ rest) zero a x e = let same : b ≡ a = cc in subst (λ (z : Arrival). IsSized z.len) same x.0
 sized_at (b ∷ rest) (suc i) a x e = sized_at rest i a x.1 e
 
 -- the choice by its parts
 parts : (x y : Choice) → y.class ≡ x.class → y.rule ≡ x.rule → x ≡ y
 parts x y c r = ap (λ n. record { class = n; rule = x.rule }) (sym c) ∙ ap (λ z. record { class = y.class; rule = z }) (sym r)
 
-pub heads_after : (v : Verdict) (a : Coming) (h : HfscHistory) → IsSized a.len → AreHeads h → AreHeads (with_offer v a h)
+pub heads_after : (v : Verdict) (a : Arrival) (h : HfscHistory) → IsSized a.len → AreHeads h → AreHeads (with_offer v a h)
 heads_after v a h z x = go (is_kept v)
   where
-    go : (b : Bool) → AreHeads (if b then Kept a.class a.at a.len ∷ h else h)
+    go : (b : Bool) → AreHeads (if b then Enqueued a.class a.at a.len ∷ h else h)
     go true = (z, x)
     go false = x
 
 -- what is sent is the head
-pub front_head : (ws : List Coming) (b : Coming) (len : ℕ) → slice_get ws 0 ≡ Some b → len ≡ b.len → IsHead (waits ws) len
+pub front_head : (ws : List Arrival) (b : Arrival) (len : ℕ) → slice_get ws 0 ≡ Some b → len ≡ b.len → IsHead (waits ws) len
 front_head [] b len e f = absurd cc
-front_head (w ∷ ws) b len e f = let same : w ≡ b = cc in ap (λ (z : Coming). z.len) same ∙ sym f
+front_head (w ∷ ws) b len e f = let same : w ≡ b = cc in ap (λ (z : Arrival). z.len) same ∙ sym f
 
-module _ (cs : List HfscClass) (answer : Answering) (rate seed : ℕ) (arrived : List Coming) (pos : 0 < rate) (k : IsClassTree cs) (sized : AreSized arrived) where
+module _ (cs : List HfscClass) (answer : Answering) (rate seed : ℕ) (arrived : List Arrival) (pos : 0 < rate) (k : IsClassTree cs) (sized : AreSized arrived) where
   sent_head : (g : List Happened) (e : Happened) (y : IsSending (hfsc_policy cs answer) rate arrived g e) → IsHead (leaf (hfsc_history (bare g)) y.sending.class).waiting y.sending.len
   sent_head g e y =
       subst (λ (ws : List Waiting). IsHead ws y.sending.len) (sym (leaf_waits y.sending.class (bare g)))
@@ -74,7 +74,7 @@ module _ (cs : List HfscClass) (answer : Answering) (rate seed : ℕ) (arrived :
   sending_follows : (g : List Happened) (e : Happened) (y : IsSending (hfsc_policy cs answer) rate arrived g e) → IsOnTime (hfsc_policy cs answer) rate arrived (bare g)
       → HasLinkEnds rate (bare g) → Follow cs (bare g) → Follow cs (Sent y.sending ∷ bare g)
   sending_follows g e y t ends f =
-      let s : Transmission = y.sending in
+      let s : Sending = y.sending in
       let p : Policy = hfsc_policy cs answer in
       let x = head_of p (link rate (bare g)).free (bare g) s.class s.start y.may.start in
       let l = one_leaf cs s.class y.may.held in

@@ -12,7 +12,7 @@ use Rattle.runtime_curve.specs.declared.Opening.{Opening}
 use Rattle.runtime_curve.specs.Opening.{opening}
 use Rattle.runtime_curve.specs.Deadline.{deadline, later_of, reached_at, shifted}
 use Rattle.hfsc_model.specs.declared.HfscClass.{HfscClass}
-use Rattle.hfsc_model.specs.Event.{HfscHistory, Kept, Sent as Went}
+use Rattle.hfsc_model.specs.Event.{HfscHistory, Enqueued, Sent as HfscSent}
 use Rattle.hfsc_model.specs.Leaf.{leaf, after_kept, after_sent}
 use Rattle.hfsc_model.specs.Tree.{class_of, is_under}
 use Rattle.hfsc_model.specs.Share.{active, total, activates, or_zero, virtual_time_of, greatest, least, activation, siblings, activation_time, has_parent, activations, virtual_time}
@@ -109,14 +109,14 @@ activation_most own high b (v ∷ vs) o h g =
 -- over a history
 total_most : (cs : List HfscClass) (h : HfscHistory) (c : ℕ) → total cs h c ≤ units_in h
 total_most cs [] c = omega arith
-total_most cs (Kept d at len ∷ h) c = total_most cs h c
-total_most cs (Went d len real start ∷ h) c = go (is_under cs c d) (total_most cs h c)
+total_most cs (Enqueued d at len ∷ h) c = total_most cs h c
+total_most cs (HfscSent d len real start ∷ h) c = go (is_under cs c d) (total_most cs h c)
   where
     go : (b : Bool) → total cs h c ≤ units_in h → (if b then total cs h c + units len else total cs h c) ≤ units_in h + units len
     go true l = omega (arith, l)
     go false l = omega (arith, l)
 
-grown : (cs : List HfscClass) (h : HfscHistory) (c d len start : ℕ) (real : Bool) → total cs (Went d len real start ∷ h) c ≤ total cs h c + units len
+grown : (cs : List HfscClass) (h : HfscHistory) (c d len start : ℕ) (real : Bool) → total cs (HfscSent d len real start ∷ h) c ≤ total cs h c + units len
 grown cs h c d len start real = go (is_under cs c d)
   where
     go : (b : Bool) → (if b then total cs h c + units len else total cs h c) ≤ total cs h c + units len
@@ -142,33 +142,33 @@ activation_by cs h c f =
 
 are_by : (cs : List HfscClass) (h : HfscHistory) (c : ℕ) → IsClassTree cs → IsBy cs h c
 are_by cs [] c k = (λ e. tt, λ e. refl)
-are_by cs (Kept d at len ∷ h) c k = go (has_parent cs c) refl (are_by cs h c k) (activation_by cs h c (λ e. time_most_of cs h e k (are_by cs h e k)))
+are_by cs (Enqueued d at len ∷ h) c k = go (has_parent cs c) refl (are_by cs h c k) (activation_by cs h c (λ e. time_most_of cs h e k (are_by cs h e k)))
   where
-    more : AreBy (bound h) (total cs h c) (activations cs h c) → AreBy (bound (Kept d at len ∷ h)) (total cs h c) (activations cs h c)
-    more x = more_by (bound h) (bound (Kept d at len ∷ h)) (total cs h c) (total cs h c) (activations cs h c) (omega arith) (omega arith) x
+    more : AreBy (bound h) (total cs h c) (activations cs h c) → AreBy (bound (Enqueued d at len ∷ h)) (total cs h c) (activations cs h c)
+    more x = more_by (bound h) (bound (Enqueued d at len ∷ h)) (total cs h c) (total cs h c) (activations cs h c) (omega arith) (omega arith) x
 
     new : (b : Bool) → activation_time cs h (activations cs h) c ≤ bound h → AreBy (bound h) (total cs h c) (activations cs h c)
-        → AreBy (bound (Kept d at len ∷ h)) (total cs h c)
+        → AreBy (bound (Enqueued d at len ∷ h)) (total cs h c)
         (if b then opening (activation_time cs h (activations cs h) c) (total cs h c) ∷ activations cs h c else activations cs h c)
     new true l x = (omega (arith, l), omega (arith, l), more x)
     new false l x = more x
 
-    go : (b : Bool) → has_parent cs c ≡ b → IsBy cs h c → activation_time cs h (activations cs h) c ≤ bound h → IsBy cs (Kept d at len ∷ h) c
+    go : (b : Bool) → has_parent cs c ≡ b → IsBy cs h c → activation_time cs h (activations cs h) c ≤ bound h → IsBy cs (Enqueued d at len ∷ h) c
     go true e x l = (λ f. rw e (new (activates cs h d c) l (x.0 e)), λ f. absurd cc)
     go false e x l = (λ f. absurd cc, λ f. rw e (x.1 e))
-are_by cs (Went d len real start ∷ h) c k =
+are_by cs (HfscSent d len real start ∷ h) c k =
     let x = are_by cs h c k in
     let l = grown cs h c d len start real in
-    (λ e. more_by (bound h) (bound (Went d len real start ∷ h)) (total cs h c) (total cs (Went d len real start ∷ h) c) (activations cs h c) (omega arith) (omega (arith, l)) (x.0 e), x.1)
+    (λ e. more_by (bound h) (bound (HfscSent d len real start ∷ h)) (total cs h c) (total cs (HfscSent d len real start ∷ h) c) (activations cs h c) (omega arith) (omega (arith, l)) (x.0 e), x.1)
 
 pub count_most : (h : HfscHistory) (c : ℕ) → (leaf h c).count ≤ units_in h
 count_most [] c = omega arith
-count_most (Kept d at len ∷ h) c = go (d == c) (count_most h c)
+count_most (Enqueued d at len ∷ h) c = go (d == c) (count_most h c)
   where
     go : (b : Bool) → (leaf h c).count ≤ units_in h → (if b then after_kept at len (leaf h c) else leaf h c).count ≤ units_in h
     go true l = l
     go false l = l
-count_most (Went d len real start ∷ h) c = go (d == c) real (count_most h c)
+count_most (HfscSent d len real start ∷ h) c = go (d == c) real (count_most h c)
   where
     go : (b r : Bool) → (leaf h c).count ≤ units_in h → (if b then after_sent len r (leaf h c) else leaf h c).count ≤ units_in h + units len
     go true true l = omega (arith, l)
@@ -178,8 +178,8 @@ count_most (Went d len real start ∷ h) c = go (d == c) real (count_most h c)
 -- how much that is
 units_most : (h : HfscHistory) → AreWithin h → units_in h ≤ sent_in h * units longest
 units_most [] w = omega arith
-units_most (Kept c at len ∷ h) w = units_most h w.1
-units_most (Went c len real start ∷ h) w = let one = units_most h w.1 in omega (arith, one, w.0)
+units_most (Enqueued c at len ∷ h) w = units_most h w.1
+units_most (HfscSent c len real start ∷ h) w = let one = units_most h w.1 in omega (arith, one, w.0)
 
 all_units : (h : HfscHistory) → AreFew h → units_in h ≤ 2 ^ 73
 all_units h f = let one = units_most h f.within in omega (arith, one, f.kept, f.sent)

@@ -4,7 +4,7 @@ use Rattle.std.specs.Prelude.{Option, ◌==◌, ◌&&◌, nat_lt, slice_get, opt
 use Rattle.std.proofs.lemmas.Bool.{cases_eq}
 use Rattle.std.proofs.lemmas.Bool.Decides.{nat_tests}
 use Rattle.play_base.specs.Units.{units, ceil_div}
-use Rattle.altq_model.specs.History.{Coming, Event, Offered, Sent, Transmission, is_kept, head, waiting}
+use Rattle.altq_model.specs.History.{Arrival, Event, Offered, Sent, Sending, is_kept, head, waiting}
 use Rattle.altq_model.specs.Busy.{as_of, SomeMaySend, IsLeastStart, IsBusy as IsBusyLink}
 use Rattle.altq_model.specs.Laws.{StartsBefore}
 use Rattle.altq_model.specs.Lawful.{first_at, start_at, latest}
@@ -14,7 +14,7 @@ use Rattle.altq_model.specs.Policies.{Answering}
 use Rattle.link_clock.proofs.Rounded.{ceil_le}
 use Rattle.discipline.specs.Moments.{StartsBy, IsOrderly}
 use Rattle.hfsc_model.specs.declared.HfscClass.{HfscClass}
-use Rattle.hfsc_model.specs.Event.{HfscHistory, Kept}
+use Rattle.hfsc_model.specs.Event.{HfscHistory, Enqueued}
 use Rattle.hfsc_model.specs.Leaf.{leaf}
 use Rattle.hfsc_model.specs.Link.{Run, free, started, with_units, run_after, AreOneByOne}
 use Rattle.hfsc_model.specs.Tree.{reals}
@@ -35,7 +35,7 @@ use Rattle.hfsc_policy.proofs.Paths.{IsSender, chosen_may, real_sender}
 use Rattle.hfsc_policy.proofs.Lawful.{one_leaf, leaf_one}
 
 -- what is known of a sending: some leaf may send at its start, its class and rule are those of the choice, and it is of the head
-pub record IsSendingOf (cs : List HfscClass) (h : List Event) (s : Transmission) : Type 0 where
+pub record IsSendingOf (cs : List HfscClass) (h : List Event) (s : Sending) : Type 0 where
   pub arrived : latest h ≤ s.start
   pub started : StartsBy s.start h
   pub sender : ℕ
@@ -54,7 +54,7 @@ moment_by : (h : List Event) (t : ℕ) → latest h ≤ t → StartsBy t h → m
 moment_by [] t l b = omega arith
 moment_by (Offered a w v ∷ h) t l b = go (is_kept v.verdict) (moment_by h t (omega (arith, l)) b)
   where
-    go : (k : Bool) → moment (hfsc_history h) ≤ t → moment (if k then Kept a.class a.at a.len ∷ hfsc_history h else hfsc_history h) ≤ t
+    go : (k : Bool) → moment (hfsc_history h) ≤ t → moment (if k then Enqueued a.class a.at a.len ∷ hfsc_history h else hfsc_history h) ≤ t
     go true rest = omega (arith, l)
     go false rest = rest
 moment_by (Sent s ∷ h) t l b = b.0
@@ -68,16 +68,16 @@ before_same : (h : List Event) (t : ℕ) → StartsBefore t h → StartBefore (h
 before_same [] t b = tt
 before_same (Offered a w v ∷ h) t b = go (is_kept v.verdict) (before_same h t b)
   where
-    go : (k : Bool) → StartBefore (hfsc_history h) t → StartBefore (if k then Kept a.class a.at a.len ∷ hfsc_history h else hfsc_history h) t
+    go : (k : Bool) → StartBefore (hfsc_history h) t → StartBefore (if k then Enqueued a.class a.at a.len ∷ hfsc_history h else hfsc_history h) t
     go true rest = rest
     go false rest = rest
 before_same (Sent s ∷ h) t b = (b.0, before_same h t b.1)
 
 -- what a history with an offer has, it had before
-heads_before : (v : Verdict) (a : Coming) (h : HfscHistory) → AreHeads (with_offer v a h) → AreHeads h
+heads_before : (v : Verdict) (a : Arrival) (h : HfscHistory) → AreHeads (with_offer v a h) → AreHeads h
 heads_before v a h x = go (is_kept v) x
   where
-    go : (k : Bool) → AreHeads (if k then Kept a.class a.at a.len ∷ h else h) → AreHeads h
+    go : (k : Bool) → AreHeads (if k then Enqueued a.class a.at a.len ∷ h else h) → AreHeads h
     go true y = y.1
     go false y = y
 
@@ -85,7 +85,7 @@ pub in_order : (cs : List HfscClass) (h : List Event) → Follow cs h → AreHea
 in_order cs [] f a = tt
 in_order cs (Offered b w v ∷ h) f a = go (is_kept v.verdict) (in_order cs h f.2 (heads_before v.verdict b (hfsc_history h) a))
   where
-    go : (k : Bool) → AreInOrder (hfsc_history h) → AreInOrder (if k then Kept b.class b.at b.len ∷ hfsc_history h else hfsc_history h)
+    go : (k : Bool) → AreInOrder (hfsc_history h) → AreInOrder (if k then Enqueued b.class b.at b.len ∷ hfsc_history h else hfsc_history h)
     go true rest = (moment_by h b.at f.0 (before_by h b.at f.1), before_same h b.at f.1, rest)
     go false rest = rest
 in_order cs (Sent s ∷ h) f a =
@@ -120,7 +120,7 @@ link_is rate [] z = record { start = refl; sent = refl; free = no_time rate z }
 link_is rate (Offered a w v ∷ h) z = go (is_kept v.verdict) (link_is rate h z)
   where
     go : (k : Bool) → IsRunOf rate (link rate h) (run_after rate (hfsc_history h))
-        → IsRunOf rate (link rate h) (run_after rate (if k then Kept a.class a.at a.len ∷ hfsc_history h else hfsc_history h))
+        → IsRunOf rate (link rate h) (run_after rate (if k then Enqueued a.class a.at a.len ∷ hfsc_history h else hfsc_history h))
     go true x = x
     go false x = x
 link_is rate (Sent s ∷ h) z = goes_on rate s.start s.len (link rate h) (run_after rate (hfsc_history h)) (link_is rate h z)
@@ -129,7 +129,7 @@ pub one_by_one : (rate : ℕ) (h : List Event) → 0 < rate → HasLinkEnds rate
 one_by_one rate [] z e = tt
 one_by_one rate (Offered a w v ∷ h) z e = go (is_kept v.verdict) (one_by_one rate h z e)
   where
-    go : (k : Bool) → AreOneByOne rate (hfsc_history h) → AreOneByOne rate (if k then Kept a.class a.at a.len ∷ hfsc_history h else hfsc_history h)
+    go : (k : Bool) → AreOneByOne rate (hfsc_history h) → AreOneByOne rate (if k then Enqueued a.class a.at a.len ∷ hfsc_history h else hfsc_history h)
     go true x = x
     go false x = x
 one_by_one rate (Sent s ∷ h) z e = let x = link_is rate h z in let l = e.0 in (omega (arith, l, x.free), one_by_one rate h z e.2)
@@ -143,12 +143,12 @@ real_rule : (b : Bool) → is_real (rule_of b) ≡ b
 real_rule true = refl
 real_rule false = refl
 
-pub record IsOf (cs : List HfscClass) (h : List Event) (s : Transmission) : Type 0 where
+pub record IsOf (cs : List HfscClass) (h : List Event) (s : Sending) : Type 0 where
   pub sender : IsSender cs (hfsc_history h) s.start s.class
   pub by_real_time : is_real s.rule ≡ true → IsRealPick (reals cs) (hfsc_history h) s.start s.class
   pub by_share : is_real s.rule ≡ false → NoneIsEligible (reals cs) (hfsc_history h) s.start
 
-pub is_of : (cs : List HfscClass) (h : List Event) (s : Transmission) → IsClassTree cs → IsSendingOf cs h s → IsOf cs h s
+pub is_of : (cs : List HfscClass) (h : List Event) (s : Sending) → IsClassTree cs → IsSendingOf cs h s → IsOf cs h s
 is_of cs h s k x =
     let y = chosen_may cs (hfsc_history h) s.start x.sender k x.may in
     let same : choice_of (Some y.chosen) ≡ record { class = s.class; rule = s.rule } = ap choice_of (sym y.is) ∙ x.pick in
@@ -165,7 +165,7 @@ pub are_chosen : (cs : List HfscClass) (h : List Event) → IsClassTree cs → F
 are_chosen cs [] k f = tt
 are_chosen cs (Offered a w v ∷ h) k f = go (is_kept v.verdict) (are_chosen cs h k f.2)
   where
-    go : (b : Bool) → AreChosen (reals cs) (hfsc_history h) → AreChosen (reals cs) (if b then Kept a.class a.at a.len ∷ hfsc_history h else hfsc_history h)
+    go : (b : Bool) → AreChosen (reals cs) (hfsc_history h) → AreChosen (reals cs) (if b then Enqueued a.class a.at a.len ∷ hfsc_history h else hfsc_history h)
     go true x = x
     go false x = x
 are_chosen cs (Sent s ∷ h) k f =
@@ -189,8 +189,8 @@ held_till curves start [] l n = Before [] n
 held_till curves start (Sent s ∷ h) l n = Before (hfsc_history (Sent s ∷ h)) n
 held_till curves start (Offered a w v ∷ h) l n = go (nat_lt (start - 1) a.at) refl n (λ m. held_till curves start h (omega (arith, l)) m)
   where
-    came : (k : Bool) → a.at ≡ start → IsHeld curves start (hfsc_history h) → IsHeld curves start (if k then Kept a.class a.at a.len ∷ hfsc_history h else hfsc_history h)
-    came true e x = subst (λ (t : ℕ). IsHeld curves start (Kept a.class t a.len ∷ hfsc_history h)) (sym e) (Came a.class a.len (hfsc_history h) x)
+    came : (k : Bool) → a.at ≡ start → IsHeld curves start (hfsc_history h) → IsHeld curves start (if k then Enqueued a.class a.at a.len ∷ hfsc_history h else hfsc_history h)
+    came true e x = subst (λ (t : ℕ). IsHeld curves start (Enqueued a.class t a.len ∷ hfsc_history h)) (sym e) (Came a.class a.len (hfsc_history h) x)
     came false e x = x
 
     go : (b : Bool) → nat_lt (start - 1) a.at ≡ b → NoneIsEligible curves (hfsc_history (if b then as_of (start - 1) h else Offered a w v ∷ h)) (start - 1)
@@ -227,7 +227,7 @@ pub is_busy : (cs : List HfscClass) (answer : Answering) (rate : ℕ) (h : List 
 is_busy cs answer rate [] z k f b = tt
 is_busy cs answer rate (Offered a w v ∷ h) z k f b = go (is_kept v.verdict) (is_busy cs answer rate h z k f.2 b)
   where
-    go : (d : Bool) → IsBusy rate (reals cs) (hfsc_history h) → IsBusy rate (reals cs) (if d then Kept a.class a.at a.len ∷ hfsc_history h else hfsc_history h)
+    go : (d : Bool) → IsBusy rate (reals cs) (hfsc_history h) → IsBusy rate (reals cs) (if d then Enqueued a.class a.at a.len ∷ hfsc_history h else hfsc_history h)
     go true x = x
     go false x = x
 is_busy cs answer rate (Sent s ∷ h) z k f b = (busy_at cs answer rate s.start h z k f.0.arrived b.0, is_busy cs answer rate h z k f.1 b.1)
@@ -241,7 +241,7 @@ are_timely cs answer rate h z k f a e b fit =
 record StartsOne (p : Policy) (t : ℕ) (h : List Event) (s : ℕ) : Type 0 where
   class : ℕ
   held : IsOneOf class p.classes
-  packet : Coming
+  packet : Arrival
   front : head class h ≡ Some packet
   start : p.start_from h class t ≡ s
 
@@ -257,10 +257,10 @@ lesser_one (Some x) (Some y) s e = go (nat_lt x y) refl
     go true f = inl (ap Some (grind (arith, nat_tests, f, same)))
     go false f = inr (ap Some (grind (arith, nat_tests, f, same)))
 
-start_one : (p : Policy) (t : ℕ) (h : List Event) (c s : ℕ) → start_at p t h c ≡ Some s → (a : Coming) × (head c h ≡ Some a) × (p.start_from h c t ≡ s)
+start_one : (p : Policy) (t : ℕ) (h : List Event) (c s : ℕ) → start_at p t h c ≡ Some s → (a : Arrival) × (head c h ≡ Some a) × (p.start_from h c t ≡ s)
 start_one p t h c s e = go (head c h) refl e
   where
-    go : (o : Option Coming) → head c h ≡ o → option_map (λ (a : Coming). p.start_from h c t) o ≡ Some s → (a : Coming) × (head c h ≡ Some a) × (p.start_from h c t ≡ s)
+    go : (o : Option Arrival) → head c h ≡ o → option_map (λ (a : Arrival). p.start_from h c t) o ≡ Some s → (a : Arrival) × (head c h ≡ Some a) × (p.start_from h c t ≡ s)
     go None f g = absurd cc
     go (Some a) f g = (a, f, cc)
 
@@ -273,7 +273,7 @@ first_one p t h (x ∷ xs) s e = go (lesser_one (start_at p t h x) (first_at p t
     go (inl f) rest = (x, inl refl, f)
     go (inr f) rest = let y = rest f in (y.0, inr y.1, y.2)
 
-pub sends_at : (cs : List HfscClass) (answer : Answering) (h : List Event) (c t : ℕ) (b : Coming) → IsClassTree cs → IsOneOf c (leaves cs) → head c h ≡ Some b
+pub sends_at : (cs : List HfscClass) (answer : Answering) (h : List Event) (c t : ℕ) (b : Arrival) → IsClassTree cs → IsOneOf c (leaves cs) → head c h ≡ Some b
     → (hfsc_policy cs answer).start_from h c t ≡ t → IsSender cs (hfsc_history h) t c
 sends_at cs answer h c t b k i e f =
     let l = one_leaf cs c i in

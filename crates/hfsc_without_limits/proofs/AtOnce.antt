@@ -1,7 +1,7 @@
 -- Where any class may send at any moment, what is due is due now.
 use Rattle.std.proofs.Common.{◌≡◌, ◌≤◌, ◌<◌, ◌⊎◌, inl, inr, ℕ, List, [], ◌∷◌, None, Some, refl, ap, sym, subst, arith, ◌∙◌}
 use Rattle.std.specs.Prelude.{Option, option_map}
-use Rattle.altq_model.specs.History.{Coming, Event, head}
+use Rattle.altq_model.specs.History.{Arrival, Event, head}
 use Rattle.altq_model.specs.Play.{IsOneOf, Policy, lesser}
 use Rattle.altq_model.specs.Lawful.{IsHead, NeverWaits, first_at, start_at}
 use Rattle.discipline.specs.Laws.{IsDue}
@@ -22,7 +22,7 @@ lesser_at t (Some u) (Some v) x y = omega (arith, x, y)
 start_is : (p : Policy) (t : ℕ) (h : List Event) (c : ℕ) → NeverWaits p → IsOneOf c p.classes → IsAt t (start_at p t h c)
 start_is p t h c never held = go (head c h) refl
   where
-    go : (o : Option Coming) → head c h ≡ o → IsAt t (option_map (λ (a : Coming). p.start_from h c t) o)
+    go : (o : Option Arrival) → head c h ≡ o → IsAt t (option_map (λ (a : Arrival). p.start_from h c t) o)
     go None e = tt
     go (Some a) e = never h c t a (record { held = held; front = e })
 

@@ -5,7 +5,7 @@ use Rattle.std.specs.List.{list_any}
 use Rattle.std.proofs.lemmas.List.{drop-drop, take-append-drop}
 use Rattle.capture_model.specs.Capture.{Record, outcome}
 use Rattle.altq_model.specs.declared.Placed.{Placed}
-use Rattle.altq_model.specs.Arrivals.{Arrival, arrivals_from}
+use Rattle.altq_model.specs.Arrivals.{Captured, arrivals_from}
 use Rattle.conf_tree.specs.Conditioners.{meters}
 use Rattle.conf_tree.specs.declared.class.Class.{Class}
 use Rattle.marked_files.specs.Metering.{conditioners_from}
@@ -29,7 +29,7 @@ none_from class (c ∷ classes) h =
     none_first c.meter more class (meters classes) h (none_from (class + 1) classes (or_second (is_some c.meter) more h))
 
 -- the records' own frames in their places
-own_frames : (place : List ℕ → Placed) (rs : List Record) (latest : ℕ) (earlier : List Arrival) (bytes : List ℕ) → Held rs bytes
+own_frames : (place : List ℕ → Placed) (rs : List Record) (latest : ℕ) (earlier : List Captured) (bytes : List ℕ) → Held rs bytes
     → with_frames (marked_frames [] earlier (arrivals_from place latest rs)) bytes ≡ bytes
 own_frames place [] latest earlier bytes h = refl
 own_frames place (r ∷ rs) latest earlier bytes h =

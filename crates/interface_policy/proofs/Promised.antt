@@ -1,7 +1,7 @@
 -- The policy of an interface is lawful, and its plays keep what it promises.
 use Rattle.std.proofs.Common.{◌≡◌, ◌≤◌, ◌<◌, ◌++◌, ℕ, zero, suc, false, List, [], ◌∷◌, Some, refl, ap, subst, arith}
 use Rattle.std.specs.Prelude.{slice_get}
-use Rattle.altq_model.specs.History.{Coming, Event, Happened, Offered, Sent, Transmission, bare}
+use Rattle.altq_model.specs.History.{Arrival, Event, Happened, Offered, Sent, Sending, bare}
 use Rattle.altq_model.specs.Lawful.{AreHeld, AreRising, IsLawful}
 use Rattle.altq_model.specs.Play.{AreDue, Policy}
 use Rattle.altq_model.specs.Policies.{Answering}
@@ -45,7 +45,7 @@ pub policies_are_lawful : (i : Interface) → IsInterface i → IsLawful (policy
 policies_are_lawful i fit = lawful_by i.kind i fit refl
 
 -- a play of an interface, of this kind
-record IsPlayed (k : Kind) (i : Interface) (seed : ℕ) (arrived : List Coming) (g : List Happened) : Type 0 where
+record IsPlayed (k : Kind) (i : Interface) (seed : ℕ) (arrived : List Arrival) (g : List Happened) : Type 0 where
   fit : IsInterface i
   kind : i.kind ≡ k
   rising : AreRising arrived
@@ -53,7 +53,7 @@ record IsPlayed (k : Kind) (i : Interface) (seed : ℕ) (arrived : List Coming) 
   held : AreHeld (policy_by k i) arrived
   due : AreDue (policy_by k i) i.rate seed arrived g
 
-played_as : (k : Kind) (i : Interface) (seed : ℕ) (arrived : List Coming) (g : List Happened) → IsInterface i → i.kind ≡ k → AreRising arrived
+played_as : (k : Kind) (i : Interface) (seed : ℕ) (arrived : List Arrival) (g : List Happened) → IsInterface i → i.kind ≡ k → AreRising arrived
     → AreSized arrived → AreHeld (policy_of i) arrived → AreDue (policy_of i) i.rate seed arrived g → IsPlayed k i seed arrived g
 played_as k i seed arrived g fit e rising sized held due =
     let is : policy_of i ≡ policy_by k i = ap (λ (x : Kind). policy_by x i) e in record {
@@ -65,7 +65,7 @@ played_as k i seed arrived g fit e rising sized held due =
       due = subst (λ (p : Policy). AreDue p i.rate seed arrived g) is due;
     }
 
-keeps_hfsc : (i : Interface) (seed : ℕ) (arrived : List Coming) (g : List Happened) → IsPlayed Hfsc i seed arrived g → KeepsHfsc i arrived g
+keeps_hfsc : (i : Interface) (seed : ℕ) (arrived : List Arrival) (g : List Happened) → IsPlayed Hfsc i seed arrived g → KeepsHfsc i arrived g
 keeps_hfsc i seed arrived g p =
     let cs : List HfscClass = hfsc_classes i.classes in
     let answer : Answering = answering_of i in
@@ -100,8 +100,8 @@ own_rate i c fit e below =
     let is : (class_of (cbq_classes i.classes) c).rate ≡ x.class.rate = ap (λ (k : CbqClass). k.rate) x.is in
     omega (arith, least, is)
 
-capped : (i : Interface) (seed : ℕ) (arrived : List Coming) (g : List Happened) (c : ℕ) (last : Transmission) (between : List Event)
-    (first : Transmission) → IsPlayed Cbq i seed arrived g → IsOwnStretch (cbq_classes i.classes) c (bare g) last between first
+capped : (i : Interface) (seed : ℕ) (arrived : List Arrival) (g : List Happened) (c : ℕ) (last : Sending) (between : List Event)
+    (first : Sending) → IsPlayed Cbq i seed arrived g → IsOwnStretch (cbq_classes i.classes) c (bare g) last between first
     → KeepsItsRate (cbq_classes i.classes) c last between first
 capped i seed arrived g c last between first p s =
     let cs : List CbqClass = cbq_classes i.classes in
@@ -116,7 +116,7 @@ capped i seed arrived g c last between first p s =
       own = s.own;
     })
 
-pub plays_keep_promises : (i : Interface) → IsInterface i → (seed : ℕ) (arrived : List Coming) (g : List Happened) → AreRising arrived
+pub plays_keep_promises : (i : Interface) → IsInterface i → (seed : ℕ) (arrived : List Arrival) (g : List Happened) → AreRising arrived
     → AreSized arrived → AreHeld (policy_of i) arrived → AreDue (policy_of i) i.rate seed arrived g → KeepsPromises i arrived g
 plays_keep_promises i fit seed arrived g rising sized held due = record {
   hfsc = λ e. keeps_hfsc i seed arrived g (played_as Hfsc i seed arrived g fit e rising sized held due);

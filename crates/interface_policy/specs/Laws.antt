@@ -1,6 +1,6 @@
 -- What a play needs of an interface, and what it may promise of it.
 use Rattle.std.specs.Prelude.{◌≡◌, ◌↔◌, ℕ, true, List, Some, slice_get}
-use Rattle.altq_model.specs.History.{Coming, Happened}
+use Rattle.altq_model.specs.History.{Arrival, Happened}
 use Rattle.altq_model.specs.Lawful.{AreHeld, AreRising, IsLawful, IsOneOf}
 use Rattle.altq_model.specs.Play.{AreDue}
 use Rattle.conf_laws.specs.Fit.{IsInterface}
@@ -32,7 +32,7 @@ QueueClassesAreNamed = (i : Interface) (c : ℕ) → is_queue_class i.kind i.cla
 -- the first events of each play of it keep what it promises, however many
 abbrev pub PlaysKeepPromises : Type 0
 PlaysKeepPromises =
-    (i : Interface) → IsInterface i → (seed : ℕ) (arrived : List Coming) (g : List Happened) → AreRising arrived → AreSized arrived
+    (i : Interface) → IsInterface i → (seed : ℕ) (arrived : List Arrival) (g : List Happened) → AreRising arrived → AreSized arrived
     → AreHeld (policy_of i) arrived → AreDue (policy_of i) i.rate seed arrived g → KeepsPromises i arrived g
 
 -- CBQ's walk over 8 levels from a class goes on up to the root, and its walk over those that may lend to the class up to the last one

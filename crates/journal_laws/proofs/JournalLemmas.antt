@@ -7,7 +7,7 @@ use Rattle.altq_model.specs.declared.Fate.TheVariants as fate
 use Rattle.altq_model.specs.declared.Reason.{Reason}
 use Rattle.altq_model.specs.declared.Verdict.{Verdict}
 use Rattle.altq_model.specs.declared.Verdict.TheVariants.{Keep, Mark, Drop}
-use Rattle.altq_model.specs.History.{Coming, Event, Offered, Sent, Transmission, Happened, bare, offered, Decision, dropped_by, decided, journal}
+use Rattle.altq_model.specs.History.{Arrival, Event, Offered, Sent, Sending, Happened, bare, offered, Decision, dropped_by, decided, journal}
 use Rattle.altq_model.specs.Idle.{dropped, sent, IsLeft, FollowsAtOnce, AllAtOnce}
 use Rattle.altq_model.specs.Laws.{occurs, AllBelow, sent_in, FollowsInOrder, IsOrdered, at_of, StartsAfter, IsNotBefore, StartsBefore, IsPrompt}
 use Rattle.altq_model.specs.Lawful.{AreHeld, AreRising, IsLawful, NeverWaits, latest}
@@ -82,7 +82,7 @@ abbrev AreTimely : List Happened → Type 0
 AreTimely [] = Unit {0}
 AreTimely (e ∷ g) = IsTimely e.label e.what g × AreTimely g
 
-timely_step : (p : Policy) (rate seed : ℕ) (arrived : List Coming) (g : List Happened) (e : Happened) → 0 < rate → IsLawful p → AreRising arrived → AreDue p rate seed arrived g
+timely_step : (p : Policy) (rate seed : ℕ) (arrived : List Arrival) (g : List Happened) (e : Happened) → 0 < rate → IsLawful p → AreRising arrived → AreDue p rate seed arrived g
     → IsOffer p rate seed arrived g e ⊎ IsSending p rate arrived g e → IsTimely e.label e.what g
 timely_step p rate seed arrived g e pos law rise d (inl y) =
     let P : Event → Type 0 = λ z. IsTimely e.label z g in subst P (sym (offer_event p rate seed arrived g e y)) y.place
@@ -90,33 +90,33 @@ timely_step p rate seed arrived g e pos law rise d (inr y) =
     let P : Event → Type 0 = λ z. IsTimely e.label z g in
     subst P (sym y.event) ((on_time p rate seed arrived g pos law rise d).starts y.sending.class y.sending.start y.may.held y.may.start)
 
-are_timely : (p : Policy) (rate seed : ℕ) (arrived : List Coming) (g : List Happened) → 0 < rate → IsLawful p → AreRising arrived → AreDue p rate seed arrived g → AreTimely g
+are_timely : (p : Policy) (rate seed : ℕ) (arrived : List Arrival) (g : List Happened) → 0 < rate → IsLawful p → AreRising arrived → AreDue p rate seed arrived g → AreTimely g
 are_timely p rate seed arrived [] pos law rise d = tt
 are_timely p rate seed arrived (e ∷ g) pos law rise d =
     let f = (due_laws p rate seed arrived (e ∷ g) pos law rise d).each in
     (timely_step p rate seed arrived g e pos law rise d.1 f.0, are_timely p rate seed arrived g pos law rise d.1)
 
 -- what an arrival of a number is
-class_is : (arrived : List Coming) (n : ℕ) (a : Coming) → slice_get arrived (n - 1) ≡ Some a → class_of arrived n ≡ a.class
-class_is arrived n a e = ap (λ (o : Option Coming). option_map_or (λ (x : Coming). x.class) o 0) e
+class_is : (arrived : List Arrival) (n : ℕ) (a : Arrival) → slice_get arrived (n - 1) ≡ Some a → class_of arrived n ≡ a.class
+class_is arrived n a e = ap (λ (o : Option Arrival). option_map_or (λ (x : Arrival). x.class) o 0) e
 
-len_is : (arrived : List Coming) (n : ℕ) (a : Coming) → slice_get arrived (n - 1) ≡ Some a → len_of arrived n ≡ a.len
-len_is arrived n a e = ap (λ (o : Option Coming). option_map_or (λ (x : Coming). x.len) o 0) e
+len_is : (arrived : List Arrival) (n : ℕ) (a : Arrival) → slice_get arrived (n - 1) ≡ Some a → len_of arrived n ≡ a.len
+len_is arrived n a e = ap (λ (o : Option Arrival). option_map_or (λ (x : Arrival). x.len) o 0) e
 
-at_is : (arrived : List Coming) (n : ℕ) (a : Coming) → slice_get arrived (n - 1) ≡ Some a → at_of arrived n ≡ a.at
-at_is arrived n a e = ap (λ (o : Option Coming). option_map_or (λ (x : Coming). x.at) o 0) e
+at_is : (arrived : List Arrival) (n : ℕ) (a : Arrival) → slice_get arrived (n - 1) ≡ Some a → at_of arrived n ≡ a.at
+at_is arrived n a e = ap (λ (o : Option Arrival). option_map_or (λ (x : Arrival). x.at) o 0) e
 
 -- the numbers that a class sent
 skip_drop : (b : Bool) (ns : List ℕ) → cond b ns ns ≡ ns
 skip_drop true ns = refl
 skip_drop false ns = refl
 
-in_dropped : (arrived : List Coming) (c n : ℕ) (v : Verdict) (js : List Decision) → numbers_sent_in arrived c (dropped_by v n ++ js) ≡ numbers_sent_in arrived c js
+in_dropped : (arrived : List Arrival) (c n : ℕ) (v : Verdict) (js : List Decision) → numbers_sent_in arrived c (dropped_by v n ++ js) ≡ numbers_sent_in arrived c js
 in_dropped arrived c n Keep js = refl
 in_dropped arrived c n Mark js = refl
 in_dropped arrived c n (Drop r) js = skip_drop (class_of arrived n == c) (numbers_sent_in arrived c js)
 
-in_event : (arrived : List Coming) (c n : ℕ) (e : Event) (g : List Happened) → IsOfArrival arrived n e → numbers_sent_in arrived c (recent g) ≡ sent_in c g
+in_event : (arrived : List Arrival) (c n : ℕ) (e : Event) (g : List Happened) → IsOfArrival arrived n e → numbers_sent_in arrived c (recent g) ≡ sent_in c g
     → (let h : Happened = record { label = n; what = e } in numbers_sent_in arrived c (decided n e ++ recent g) ≡ sent_in c (h ∷ g))
 in_event arrived c n (Offered a w v) g o x = in_dropped arrived c n v.verdict (recent g) ∙ x
 in_event arrived c n (Sent s) g o x =
@@ -124,11 +124,11 @@ in_event arrived c n (Sent s) g o x =
     ap (λ (m : ℕ). cond (m == c) (n ∷ numbers_sent_in arrived c (recent g)) (numbers_sent_in arrived c (recent g))) k
     ∙ ap (λ (ns : List ℕ). cond (s.class == c) (n ∷ ns) ns) x
 
-sent_in_class : (arrived : List Coming) (c : ℕ) (g : List Happened) → AreOfArrivals arrived g → numbers_sent_in arrived c (recent g) ≡ sent_in c g
+sent_in_class : (arrived : List Arrival) (c : ℕ) (g : List Happened) → AreOfArrivals arrived g → numbers_sent_in arrived c (recent g) ≡ sent_in c g
 sent_in_class arrived c [] o = refl
 sent_in_class arrived c (e ∷ g) o = in_event arrived c e.label e.what g o.0 (sent_in_class arrived c g o.1)
 
-order_step : (arrived : List Coming) (n : ℕ) (e : Event) (g : List Happened) → IsOfArrival arrived n e → AreOfArrivals arrived g → FollowsInOrder n e g
+order_step : (arrived : List Arrival) (n : ℕ) (e : Event) (g : List Happened) → IsOfArrival arrived n e → AreOfArrivals arrived g → FollowsInOrder n e g
     → EachAfter (SendsInOrder arrived) (recent g) (decided n e)
 order_step arrived n (Offered a w v) g o os x = of_sendings (SendsInOrder arrived) (recent g) n v.verdict (λ r. tt)
 order_step arrived n (Sent s) g o os x =
@@ -136,7 +136,7 @@ order_step arrived n (Sent s) g o os x =
     let P : List ℕ → Type 0 = λ ns. AllBelow n ns in
     (subst P (sym (ap (λ (c : ℕ). numbers_sent_in arrived c (recent g)) k ∙ sent_in_class arrived s.class g os)) x, tt)
 
-sends_in_order : (arrived : List Coming) (g : List Happened) → AreOfArrivals arrived g → IsOrdered g → EachDecides (SendsInOrder arrived) g
+sends_in_order : (arrived : List Arrival) (g : List Happened) → AreOfArrivals arrived g → IsOrdered g → EachDecides (SendsInOrder arrived) g
 sends_in_order arrived [] o x = tt
 sends_in_order arrived (e ∷ g) o x = (order_step arrived e.label e.what g o.0 o.1 x.0, sends_in_order arrived g o.1 x.1)
 
@@ -185,7 +185,7 @@ starts_before : (t : ℕ) (g : List Happened) → StartsBefore t (bare g) → Al
 starts_before t [] x = tt
 starts_before t (e ∷ g) x = starts_event t e.label e.what g (starts_before t g) x
 
-arrival_step : (arrived : List Coming) (n : ℕ) (e : Event) (g : List Happened) → IsOfArrival arrived n e → IsPrompt (e ∷ bare g)
+arrival_step : (arrived : List Arrival) (n : ℕ) (e : Event) (g : List Happened) → IsOfArrival arrived n e → IsPrompt (e ∷ bare g)
     → EachAfter (DropsAtArrival arrived) (recent g) (decided n e)
 arrival_step arrived n (Offered a w v) g o x =
     let P : ℕ → Type 0 = λ m. AllBelow m (starts (recent g)) in
@@ -196,7 +196,7 @@ prompt_before : (e : Event) (h : List Event) → IsPrompt (e ∷ h) → IsPrompt
 prompt_before (Offered a w v) h x = x.1
 prompt_before (Sent s) h x = x
 
-drops_at_arrival : (arrived : List Coming) (g : List Happened) → AreOfArrivals arrived g → IsPrompt (bare g) → EachDecides (DropsAtArrival arrived) g
+drops_at_arrival : (arrived : List Arrival) (g : List Happened) → AreOfArrivals arrived g → IsPrompt (bare g) → EachDecides (DropsAtArrival arrived) g
 drops_at_arrival arrived [] o x = tt
 drops_at_arrival arrived (e ∷ g) o x =
     (arrival_step arrived e.label e.what g o.0 x, drops_at_arrival arrived g o.1 (prompt_before e.what (bare g) x))
@@ -206,29 +206,29 @@ none_more : (m n : ℕ) (ns : List ℕ) → m ≤ n → NoneAbove m ns → NoneA
 none_more m n [] l x = tt
 none_more m n (k ∷ ns) l x = (omega (arith, x.0), none_more m n ns l x.1)
 
-none_dropped : (arrived : List Coming) (t n : ℕ) (v : Verdict) (js : List Decision) → at_of arrived n ≤ t → NoneAbove t (moments arrived (dropped js))
+none_dropped : (arrived : List Arrival) (t n : ℕ) (v : Verdict) (js : List Decision) → at_of arrived n ≤ t → NoneAbove t (moments arrived (dropped js))
     → NoneAbove t (moments arrived (dropped (dropped_by v n ++ js)))
 none_dropped arrived t n Keep js l x = x
 none_dropped arrived t n Mark js l x = x
 none_dropped arrived t n (Drop r) js l x = (l, x)
 
-came_event : (arrived : List Coming) (n : ℕ) (e : Event) (g : List Happened) → IsOfArrival arrived n e → NoneAbove (latest (bare g)) (moments arrived (dropped (recent g)))
+came_event : (arrived : List Arrival) (n : ℕ) (e : Event) (g : List Happened) → IsOfArrival arrived n e → NoneAbove (latest (bare g)) (moments arrived (dropped (recent g)))
     → NoneAbove (latest (e ∷ bare g)) (moments arrived (dropped (decided n e ++ recent g)))
 came_event arrived n (Offered a w v) g o x =
     none_dropped arrived (max a.at (latest (bare g))) n v.verdict (recent g) (omega (arith, at_is arrived n a o.1))
     (none_more (latest (bare g)) (max a.at (latest (bare g))) (moments arrived (dropped (recent g))) (omega arith) x)
 came_event arrived n (Sent s) g o x = x
 
-drops_came : (arrived : List Coming) (g : List Happened) → AreOfArrivals arrived g → NoneAbove (latest (bare g)) (moments arrived (dropped (recent g)))
+drops_came : (arrived : List Arrival) (g : List Happened) → AreOfArrivals arrived g → NoneAbove (latest (bare g)) (moments arrived (dropped (recent g)))
 drops_came arrived [] o = tt
 drops_came arrived (e ∷ g) o = came_event arrived e.label e.what g o.0 (drops_came arrived g o.1)
 
-after_step : (arrived : List Coming) (n : ℕ) (e : Event) (g : List Happened) → AreOfArrivals arrived g → IsTimely n e g
+after_step : (arrived : List Arrival) (n : ℕ) (e : Event) (g : List Happened) → AreOfArrivals arrived g → IsTimely n e g
     → EachAfter (SendsAfterDrops arrived) (recent g) (decided n e)
 after_step arrived n (Offered a w v) g o t = of_sendings (SendsAfterDrops arrived) (recent g) n v.verdict (λ r. tt)
 after_step arrived n (Sent s) g o t = (none_more (latest (bare g)) s.start (moments arrived (dropped (recent g))) t (drops_came arrived g o), tt)
 
-sends_after_drops : (arrived : List Coming) (g : List Happened) → AreOfArrivals arrived g → AreTimely g → EachDecides (SendsAfterDrops arrived) g
+sends_after_drops : (arrived : List Arrival) (g : List Happened) → AreOfArrivals arrived g → AreTimely g → EachDecides (SendsAfterDrops arrived) g
 sends_after_drops arrived [] o t = tt
 sends_after_drops arrived (e ∷ g) o t = (after_step arrived e.label e.what g o.1 t.0, sends_after_drops arrived g o.1 t.1)
 
@@ -259,34 +259,34 @@ starts_in_order rate (e ∷ g) pos h =
     (rise_step rate e.label e.what g pos h, starts_in_order rate g pos (ends_before rate e.what (bare g) h))
 
 -- no start before the arrival
-not_before_step : (arrived : List Coming) (n : ℕ) (e : Event) (g : List Happened) → StartsAfter arrived n e → EachAfter (StartsAfterArrival arrived) (recent g) (decided n e)
+not_before_step : (arrived : List Arrival) (n : ℕ) (e : Event) (g : List Happened) → StartsAfter arrived n e → EachAfter (StartsAfterArrival arrived) (recent g) (decided n e)
 not_before_step arrived n (Offered a w v) g x = of_sendings (StartsAfterArrival arrived) (recent g) n v.verdict (λ r. tt)
 not_before_step arrived n (Sent s) g x = (x, tt)
 
-after_arrival : (arrived : List Coming) (g : List Happened) → IsNotBefore arrived g → EachDecides (StartsAfterArrival arrived) g
+after_arrival : (arrived : List Arrival) (g : List Happened) → IsNotBefore arrived g → EachDecides (StartsAfterArrival arrived) g
 after_arrival arrived [] x = tt
 after_arrival arrived (e ∷ g) x = (not_before_step arrived e.label e.what g x.0, after_arrival arrived g x.1)
 
 -- the link, and its last end
-link_dropped : (rate : ℕ) (arrived : List Coming) (n : ℕ) (v : Verdict) (js : List Decision) → link_after rate arrived (dropped_by v n ++ js) ≡ link_after rate arrived js
+link_dropped : (rate : ℕ) (arrived : List Arrival) (n : ℕ) (v : Verdict) (js : List Decision) → link_after rate arrived (dropped_by v n ++ js) ≡ link_after rate arrived js
 link_dropped rate arrived n Keep js = refl
 link_dropped rate arrived n Mark js = refl
 link_dropped rate arrived n (Drop r) js = refl
 
-sent_len : (arrived : List Coming) (n : ℕ) (s : Transmission) → SendsArrival arrived n s → len_of arrived n ≡ s.len
+sent_len : (arrived : List Arrival) (n : ℕ) (s : Sending) → SendsArrival arrived n s → len_of arrived n ≡ s.len
 sent_len arrived n s o = len_is arrived n o.packet o.arrival ∙ sym o.len
 
-link_event : (rate : ℕ) (arrived : List Coming) (n : ℕ) (e : Event) (g : List Happened) → IsOfArrival arrived n e → link_after rate arrived (recent g) ≡ link rate (bare g)
+link_event : (rate : ℕ) (arrived : List Arrival) (n : ℕ) (e : Event) (g : List Happened) → IsOfArrival arrived n e → link_after rate arrived (recent g) ≡ link rate (bare g)
     → link_after rate arrived (decided n e ++ recent g) ≡ link rate (e ∷ bare g)
 link_event rate arrived n (Offered a w v) g o x = link_dropped rate arrived n v.verdict (recent g) ∙ x
 link_event rate arrived n (Sent s) g o x =
     ap (λ (l : Link). after_sending rate l s.start (len_of arrived n)) x ∙ ap (after_sending rate (link rate (bare g)) s.start) (sent_len arrived n s o)
 
-link_is : (rate : ℕ) (arrived : List Coming) (g : List Happened) → AreOfArrivals arrived g → link_after rate arrived (recent g) ≡ link rate (bare g)
+link_is : (rate : ℕ) (arrived : List Arrival) (g : List Happened) → AreOfArrivals arrived g → link_after rate arrived (recent g) ≡ link rate (bare g)
 link_is rate arrived [] o = refl
 link_is rate arrived (e ∷ g) o = link_event rate arrived e.label e.what g o.0 (link_is rate arrived g o.1)
 
-ends_step : (rate : ℕ) (arrived : List Coming) (n : ℕ) (e : Event) (g : List Happened) → IsOfArrival arrived n e → AreOfArrivals arrived g → HasLinkEnds rate (e ∷ bare g)
+ends_step : (rate : ℕ) (arrived : List Arrival) (n : ℕ) (e : Event) (g : List Happened) → IsOfArrival arrived n e → AreOfArrivals arrived g → HasLinkEnds rate (e ∷ bare g)
     → EachAfter (EndsAsLink rate arrived) (recent g) (decided n e)
 ends_step rate arrived n (Offered a w v) g o os h = of_sendings (EndsAsLink rate arrived) (recent g) n v.verdict (λ r. tt)
 ends_step rate arrived n (Sent s) g o os h = (
@@ -295,7 +295,7 @@ ends_step rate arrived n (Sent s) g o os h = (
   tt,
 )
 
-ends : (rate : ℕ) (arrived : List Coming) (g : List Happened) → AreOfArrivals arrived g → HasLinkEnds rate (bare g) → EachDecides (EndsAsLink rate arrived) g
+ends : (rate : ℕ) (arrived : List Arrival) (g : List Happened) → AreOfArrivals arrived g → HasLinkEnds rate (bare g) → EachDecides (EndsAsLink rate arrived) g
 ends rate arrived [] o h = tt
 ends rate arrived (e ∷ g) o h = (ends_step rate arrived e.label e.what g o.0 o.1 h, ends rate arrived g o.1 (ends_before rate e.what (bare g) h))
 
@@ -336,7 +336,7 @@ sent_is : (g : List Happened) → numbers_sent (recent g) ≡ sent g
 sent_is [] = refl
 sent_is (e ∷ g) = sent_event e.label e.what g (sent_is g)
 
-to_left : (arrived : List Coming) (js : List Decision) (g : List Happened) (n : ℕ) → IsUnsent arrived js (recent g) n → IsLeft arrived js g n
+to_left : (arrived : List Arrival) (js : List Decision) (g : List Happened) (n : ℕ) → IsUnsent arrived js (recent g) n → IsLeft arrived js g n
 to_left arrived js g n x = record {
   from_one = x.from_one;
   there = x.there;
@@ -344,7 +344,7 @@ to_left arrived js g n x = record {
   unsent = ap (occurs n) (sym (sent_is g)) ∙ x.unsent;
 }
 
-from_left : (arrived : List Coming) (js : List Decision) (g : List Happened) (n : ℕ) → IsLeft arrived js g n → IsUnsent arrived js (recent g) n
+from_left : (arrived : List Arrival) (js : List Decision) (g : List Happened) (n : ℕ) → IsLeft arrived js g n → IsUnsent arrived js (recent g) n
 from_left arrived js g n x = record {
   from_one = x.from_one;
   there = x.there;
@@ -352,7 +352,7 @@ from_left arrived js g n x = record {
   unsent = ap (occurs n) (sent_is g) ∙ x.unsent;
 }
 
-busy_step : (rate : ℕ) (arrived : List Coming) (js : List Decision) (n : ℕ) (e : Event) (g : List Happened) → HasLinkEnds rate (bare g) → FollowsAtOnce rate arrived js e g
+busy_step : (rate : ℕ) (arrived : List Arrival) (js : List Decision) (n : ℕ) (e : Event) (g : List Happened) → HasLinkEnds rate (bare g) → FollowsAtOnce rate arrived js e g
     → EachAfter (StartsAtOnce arrived js) (recent g) (decided n e)
 busy_step rate arrived js n (Offered a w v) g h x = of_sendings (StartsAtOnce arrived js) (recent g) n v.verdict (λ r. tt)
 busy_step rate arrived js n (Sent s) g h x =
@@ -364,14 +364,14 @@ busy_step rate arrived js n (Sent s) g h x =
     } in
     (y, tt)
 
-busy : (rate : ℕ) (arrived : List Coming) (js : List Decision) (g : List Happened) → HasLinkEnds rate (bare g) → AllAtOnce rate arrived js g
+busy : (rate : ℕ) (arrived : List Arrival) (js : List Decision) (g : List Happened) → HasLinkEnds rate (bare g) → AllAtOnce rate arrived js g
     → EachDecides (StartsAtOnce arrived js) g
 busy rate arrived js [] h x = tt
 busy rate arrived js (e ∷ g) h x =
     let k = ends_before rate e.what (bare g) h in
     (busy_step rate arrived js e.label e.what g k x.0, busy rate arrived js g k x.1)
 
-pub are_decisions : (p : Policy) (rate seed : ℕ) (arrived : List Coming) (g : List Happened) → 0 < rate → IsLawful p → AreRising arrived
+pub are_decisions : (p : Policy) (rate seed : ℕ) (arrived : List Arrival) (g : List Happened) → 0 < rate → IsLawful p → AreRising arrived
     → AreDue p rate seed arrived g → AreDecisions rate arrived (journal g)
 are_decisions p rate seed arrived g pos law rise d =
     let x = due_laws p rate seed arrived g pos law rise d in
@@ -387,14 +387,14 @@ are_decisions p rate seed arrived g pos law rise d =
       ends = each_journal (EndsAsLink rate arrived) g (ends rate arrived g x.of_arrivals x.ends);
     }
 
-pub is_journal : (p : Policy) (rate seed : ℕ) (arrived : List Coming) (g : List Happened) → 0 < rate → IsLawful p → AreRising arrived → AreHeld p arrived
+pub is_journal : (p : Policy) (rate seed : ℕ) (arrived : List Arrival) (g : List Happened) → 0 < rate → IsLawful p → AreRising arrived → AreHeld p arrived
     → IsPlay p rate seed arrived g → IsJournal rate arrived (journal g)
 is_journal p rate seed arrived g pos law rise can x = record {
   conserved = (play_laws p rate seed arrived g pos law rise can x).conserved;
   decisions = are_decisions p rate seed arrived g pos law rise x.events;
 }
 
-pub is_busy : (p : Policy) (rate seed : ℕ) (arrived : List Coming) (g : List Happened) → 0 < rate → IsLawful p → NeverWaits p → AreRising arrived → AreHeld p arrived
+pub is_busy : (p : Policy) (rate seed : ℕ) (arrived : List Arrival) (g : List Happened) → 0 < rate → IsLawful p → NeverWaits p → AreRising arrived → AreHeld p arrived
     → AreDue p rate seed arrived g → IsBusy arrived (journal g)
 is_busy p rate seed arrived g pos law nw rise can d =
     each_journal (StartsAtOnce arrived (journal g)) g

@@ -98,138 +98,151 @@ linked_none s n room e l m = record {
   small = m;
 }
 
--- an entry was put into a new place, which the last place of a list now names
-record Joined (s t : Slab Node) (rows : List Row) (c : ℕ) (r : Row) (a : ℕ) (x : Entry) : Type 0 where
-  pub put : IsPut s t rows c r a x
-  pub len : slab_len t ≡ slab_len s + 1
-  pub capacity : t.capacity ≡ s.capacity
+-- the lists of the classes as nodes and rows hold them, their room, and the row of one class
+pub record Chosen : Type 0 where
+  pub nodes : Slab Node
+  pub rows : List Row
+  pub lists : List (List Entry)
+  pub room : ℕ
+  pub class : ℕ
+  pub row : Row
+
+pub record AtRow (l : Chosen) : Type 0 where
+  pub lists_are : map (row_entries l.nodes) l.rows ≡ l.lists
+  pub linked : IsLinked l.nodes l.rows l.room
+  pub row : slice_get l.rows l.class ≡ Some l.row
+
+pub at_row : (s : Slab Node) (rows : List Row) (lists : List (List Entry)) (room c : ℕ) (r : Row) → map (row_entries s) rows ≡ lists → IsLinked s rows room
+    → c < length lists → r ≡ get_or rows c r → AtRow (record { nodes = s; rows = rows; lists = lists; room = room; class = c; row = r })
+at_row s rows lists room c r e i l h = record { lists_are = e; linked = i; row = found s rows lists c r e l h }
+
+-- a node came to a new place of the nodes, which the last place of the list now names
+record Joined (l : Chosen) (t : Slab Node) (a : ℕ) (m : Node) : Type 0 where
+  pub put : IsPut l.nodes t l.rows l.class l.row a m.entry
+  pub len : slab_len t ≡ slab_len l.nodes + 1
+  pub capacity : t.capacity ≡ l.nodes.capacity
 
 last_before : (s u : Slab Node) (a : ℕ) (m : Node) (last : ℕ) → get s a ≡ None → get s last ≡ Some (node_at s last) → Updates s u a (Some m)
     → get u last ≡ Some (node_at s last)
 last_before s u a m last z e p =
     p.others last (λ q. let same : get s a ≡ Some (node_at s last) = sym (ap (get s) q) ∙ e in (cc (z, same))) ∙ e
 
-joined_next : (s u : Slab Node) (rows : List Row) (room c : ℕ) (r : Row) (a : ℕ) (x : Entry) (m : Node) (k : ℕ) → IsLinked s rows room → slice_get rows c ≡ Some r
-    → r.waiting.all ≡ suc k → get s a ≡ None → m.entry ≡ x → Updates s u a (Some m) → slab_len u ≡ slab_len s + 1 → u.capacity ≡ s.capacity
-    → Joined s (with_value u r.last.0 (record (node_at u r.last.0) { next = record { 0 = a } })) rows c r a x
-joined_next s u rows room c r a x m k i e n z q p l v =
-    let last : ℕ = r.last.0 in
+joined_next : (l : Chosen) (u : Slab Node) (a : ℕ) (m : Node) (k : ℕ) → AtRow l → l.row.waiting.all ≡ suc k → get l.nodes a ≡ None
+    → Updates l.nodes u a (Some m) → slab_len u ≡ slab_len l.nodes + 1 → u.capacity ≡ l.nodes.capacity
+    → Joined l (with_value u l.row.last.0 (record (node_at u l.row.last.0) { next = record { 0 = a } })) a m
+joined_next l u a m k o n z p long v =
+    let s : Slab Node = l.nodes in
+    let last : ℕ = l.row.last.0 in
     let y : Node = record (node_at u last) { next = record { 0 = a } } in
-    let was : get s last ≡ Some (node_at s last) = last_held s rows room c r k i e n in
+    let was : get s last ≡ Some (node_at s last) = last_held s l.rows l.room l.class l.row k o.linked o.row n in
     let now : get u last ≡ Some (node_at s last) = last_before s u a m last z was p in
     let node : node_at u last ≡ node_at s last = ap (λ (o : Option Node). unwrap_or o no_node) now in
     let there : ContainsKey u last = ap is_some now in
     let w = Updates-with_value u last y there in
     let other : a ≡ last → ⊥ = λ d. let same : get s a ≡ Some (node_at s last) = ap (get s) d ∙ was in (cc (z, same)) in
     record {
-      put = put_next s (with_value u last y) rows room c r a x m k i e n z q (w.others a other ∙ p.changed)
+      put = put_next s (with_value u last y) l.rows l.room l.class l.row a m.entry m k o.linked o.row n z refl (w.others a other ∙ p.changed)
           (w.changed ∙ ap (λ (b : Node). Some (record b { next = record { 0 = a } })) node)
           (λ j d d'. w.others j d' ∙ p.others j d);
-      len = len-with_value u last (node_at s last) y now (ContainsKey-within u last there) ∙ l;
+      len = len-with_value u last (node_at s last) y now (ContainsKey-within u last there) ∙ long;
       capacity = v;
     }
 
-joined_by : (s u t : Slab Node) (rows : List Row) (room c : ℕ) (r : Row) (a : ℕ) (x : Entry) (m : Node) (n : ℕ) → IsLinked s rows room → slice_get rows c ≡ Some r
-    → r.waiting.all ≡ n → get s a ≡ None → m.entry ≡ x → Updates s u a (Some m) → slab_len u ≡ slab_len s + 1 → u.capacity ≡ s.capacity
-    → t ≡ linked_to u r (record { 0 = a }) → Joined s t rows c r a x
-joined_by s u t rows room c r a x m zero i e n z q p l v h =
-    let y : Slab Node = with_value u r.last.0 (record (node_at u r.last.0) { next = record { 0 = a } }) in
-    let same : t ≡ u = h ∙ ap (λ (b : Bool). cond b u y) (eq-eqb r.waiting.all 0 n) in
-    let P : Slab Node → Type 0 = λ w. Joined s w rows c r a x in
-    subst P (sym same) (record { put = put_first s u rows room c r a x m i e n z q p; len = l; capacity = v })
-joined_by s u t rows room c r a x m (suc k) i e n z q p l v h =
-    let y : Slab Node = with_value u r.last.0 (record (node_at u r.last.0) { next = record { 0 = a } }) in
-    let same : t ≡ y = h ∙ ap (λ (b : Bool). cond b u y) (ne_eqb r.waiting.all 0 (λ w. omega arith)) in
-    let P : Slab Node → Type 0 = λ w. Joined s w rows c r a x in
-    subst P (sym same) (joined_next s u rows room c r a x m k i e n z q p l v)
+joined_by : (l : Chosen) (u t : Slab Node) (a : ℕ) (m : Node) (n : ℕ) → AtRow l → l.row.waiting.all ≡ n → get l.nodes a ≡ None
+    → Updates l.nodes u a (Some m) → slab_len u ≡ slab_len l.nodes + 1 → u.capacity ≡ l.nodes.capacity → t ≡ linked_to u l.row (record { 0 = a })
+    → Joined l t a m
+joined_by l u t a m zero o n z p long v h =
+    let y : Slab Node = with_value u l.row.last.0 (record (node_at u l.row.last.0) { next = record { 0 = a } }) in
+    let same : t ≡ u = h ∙ ap (λ (b : Bool). cond b u y) (eq-eqb l.row.waiting.all 0 n) in
+    let P : Slab Node → Type 0 = λ w. Joined l w a m in
+    subst P (sym same) (record {
+      put = put_first l.nodes u l.rows l.room l.class l.row a m.entry m o.linked o.row n z refl p;
+      len = long;
+      capacity = v;
+    })
+joined_by l u t a m (suc k) o n z p long v h =
+    let y : Slab Node = with_value u l.row.last.0 (record (node_at u l.row.last.0) { next = record { 0 = a } }) in
+    let same : t ≡ y = h ∙ ap (λ (b : Bool). cond b u y) (ne_eqb l.row.waiting.all 0 (λ w. omega arith)) in
+    let P : Slab Node → Type 0 = λ w. Joined l w a m in
+    subst P (sym same) (joined_next l u a m k o n z p long v)
 
--- the lists of the classes, and the row of one of them
-pub record AtRow (s : Slab Node) (rows : List Row) (lists : List (List Entry)) (room c : ℕ) (r : Row) : Type 0 where
-  pub lists_are : map (row_entries s) rows ≡ lists
-  pub linked : IsLinked s rows room
-  pub row : slice_get rows c ≡ Some r
+pub row_head : (l : Chosen) (a : ℕ) → AtRow l → (l.row.waiting.all ≡ 0 → ⊥) → a ≡ l.row.first.0 → get l.nodes a ≡ Some (node_at l.nodes a)
+row_head l a o n e =
+    let P : ℕ → Type 0 = λ j. get l.nodes j ≡ Some (node_at l.nodes j) in
+    subst P (sym e) (first_held l.nodes l.rows l.room l.class l.row (l.row.waiting.all - 1) o.linked o.row (omega arith))
 
-pub at_row : (s : Slab Node) (rows : List Row) (lists : List (List Entry)) (room c : ℕ) (r : Row) → map (row_entries s) rows ≡ lists → IsLinked s rows room
-    → c < length lists → r ≡ get_or rows c r → AtRow s rows lists room c r
-at_row s rows lists room c r e i l h = record { lists_are = e; linked = i; row = found s rows lists c r e l h }
+pub row_last : (l : Chosen) (u : Slab Node) (a : ℕ) (m : Node) → AtRow l → 0 < l.row.waiting.all → get l.nodes a ≡ None
+    → Updates l.nodes u a (Some m) → ContainsKey u l.row.last.0
+row_last l u a m o n z h =
+    let was = last_held l.nodes l.rows l.room l.class l.row (l.row.waiting.all - 1) o.linked o.row (omega arith) in
+    ap is_some (last_before l.nodes u a m l.row.last.0 z was h)
 
-pub row_head : (s : Slab Node) (rows : List Row) (lists : List (List Entry)) (room c : ℕ) (r : Row) (a : ℕ) → AtRow s rows lists room c r
-    → (r.waiting.all ≡ 0 → ⊥) → a ≡ r.first.0 → get s a ≡ Some (node_at s a)
-row_head s rows lists room c r a p n e =
-    let P : ℕ → Type 0 = λ j. get s j ≡ Some (node_at s j) in
-    subst P (sym e) (first_held s rows room c r (r.waiting.all - 1) p.linked p.row (omega arith))
+pub row_room : (l : Chosen) → AtRow l → total_of l.lists < l.room → (slab_len l.nodes + 1 ≤ l.nodes.capacity) × (l.row.waiting.all < l.room)
+row_room l o less =
+    let all : total_of l.lists ≡ total l.rows = sym (ap total_of o.lists_are) ∙ total_is l.nodes l.rows in
+    let count : total l.rows ≡ slab_len l.nodes = o.linked.count in
+    let there : l.room ≤ l.nodes.capacity = o.linked.there in
+    (omega arith, omega (arith, total_row l.rows l.class l.row o.row))
 
-pub row_last : (s u : Slab Node) (rows : List Row) (lists : List (List Entry)) (room c : ℕ) (r : Row) (a : ℕ) (m : Node) → AtRow s rows lists room c r
-    → 0 < r.waiting.all → get s a ≡ None → Updates s u a (Some m) → ContainsKey u r.last.0
-row_last s u rows lists room c r a m p n z h =
-    ap is_some (last_before s u a m r.last.0 z (last_held s rows room c r (r.waiting.all - 1) p.linked p.row (omega arith)) h)
+pub row_counted : (l : Chosen) → AtRow l → IsCounted l.row.waiting
+row_counted l o = is_counted l.nodes l.rows l.room l.class l.row o.linked o.row
 
-pub row_room : (s : Slab Node) (rows : List Row) (lists : List (List Entry)) (room c : ℕ) (r : Row) → AtRow s rows lists room c r → total_of lists < room
-    → (slab_len s + 1 ≤ s.capacity) × (r.waiting.all < room)
-row_room s rows lists room c r p l =
-    let all : total_of lists ≡ total rows = sym (ap total_of p.lists_are) ∙ total_is s rows in
-    let count : total rows ≡ slab_len s = p.linked.count in
-    let there : room ≤ s.capacity = p.linked.there in
-    (omega arith, omega (arith, total_row rows c r p.row))
+pub pushed_linked : (l : Chosen) (u t : Slab Node) (a : ℕ) (m : Node) (y : Row) → AtRow l → get l.nodes a ≡ None → Updates l.nodes u a (Some m)
+    → slab_len u ≡ slab_len l.nodes + 1 → u.capacity ≡ l.nodes.capacity → t ≡ linked_to u l.row (record { 0 = a })
+    → y ≡ row_after l.row (record { 0 = a }) m.entry.prec → IsLinked t (set l.rows l.class y) l.room
+pushed_linked l u t a m y o z p long v h e =
+    let j = joined_by l u t a m l.row.waiting.all o refl z p long v h in
+    let P : Row → Type 0 = λ f. IsLinked t (set l.rows l.class f) l.room in
+    subst P (sym e) (put_linked l.nodes t l.rows l.room l.class l.row a m.entry o.linked o.row j.put j.len j.capacity)
 
-pub row_counted : (s : Slab Node) (rows : List Row) (lists : List (List Entry)) (room c : ℕ) (r : Row) → AtRow s rows lists room c r → IsCounted r.waiting
-row_counted s rows lists room c r p = is_counted s rows room c r p.linked p.row
+pub pushed_lists : (l : Chosen) (u t : Slab Node) (a : ℕ) (m : Node) (y : Row) → AtRow l → get l.nodes a ≡ None → Updates l.nodes u a (Some m)
+    → slab_len u ≡ slab_len l.nodes + 1 → u.capacity ≡ l.nodes.capacity → t ≡ linked_to u l.row (record { 0 = a })
+    → y ≡ row_after l.row (record { 0 = a }) m.entry.prec
+    → map (row_entries t) (set l.rows l.class y) ≡ set l.lists l.class (list_of l.lists l.class ++ m.entry ∷ [])
+pushed_lists l u t a m y o z p long v h e =
+    let s : Slab Node = l.nodes in
+    let j = joined_by l u t a m l.row.waiting.all o refl z p long v h in
+    ap (λ (f : Row). map (row_entries t) (set l.rows l.class f)) e
+    ∙ put_lists s t l.rows l.class l.row a m.entry j.put
+    ∙ ap (λ (ls : List (List Entry)). set ls l.class (row_entries s l.row ++ m.entry ∷ [])) o.lists_are
+    ∙ ap (λ (xs : List Entry). set l.lists l.class (xs ++ m.entry ∷ [])) (sym (list_is s l.rows l.lists l.class l.row o.lists_are o.row))
 
-pub pushed_linked : (s u t : Slab Node) (rows : List Row) (lists : List (List Entry)) (room c : ℕ) (r y : Row) (a b : ℕ) (x : Entry) (m : Node)
-    → AtRow s rows lists room c r → get s a ≡ None → m.entry ≡ x → Updates s u a (Some m) → slab_len u ≡ slab_len s + 1 → u.capacity ≡ s.capacity
-    → b ≡ a → t ≡ linked_to u r (record { 0 = b }) → y ≡ row_after r (record { 0 = b }) x.prec → IsLinked t (set rows c y) room
-pushed_linked s u t rows lists room c r y a b x m o z q p l v w h k =
-    let n : t ≡ linked_to u r (record { 0 = a }) = h ∙ ap (λ (d : ℕ). linked_to u r (record { 0 = d })) w in
-    let j = joined_by s u t rows room c r a x m r.waiting.all o.linked o.row refl z q p l v n in
-    let e : y ≡ row_after r (record { 0 = a }) x.prec = k ∙ ap (λ (d : ℕ). row_after r (record { 0 = d }) x.prec) w in
-    let P : Row → Type 0 = λ f. IsLinked t (set rows c f) room in
-    subst P (sym e) (put_linked s t rows room c r a x o.linked o.row j.put j.len j.capacity)
-
-pub pushed_lists : (s u t : Slab Node) (rows : List Row) (lists : List (List Entry)) (room c : ℕ) (r y : Row) (a b : ℕ) (x : Entry) (m : Node)
-    → AtRow s rows lists room c r → get s a ≡ None → m.entry ≡ x → Updates s u a (Some m) → slab_len u ≡ slab_len s + 1 → u.capacity ≡ s.capacity
-    → b ≡ a → t ≡ linked_to u r (record { 0 = b }) → y ≡ row_after r (record { 0 = b }) x.prec
-    → map (row_entries t) (set rows c y) ≡ set lists c (list_of lists c ++ x ∷ [])
-pushed_lists s u t rows lists room c r y a b x m o z q p l v w h k =
-    let n : t ≡ linked_to u r (record { 0 = a }) = h ∙ ap (λ (d : ℕ). linked_to u r (record { 0 = d })) w in
-    let j = joined_by s u t rows room c r a x m r.waiting.all o.linked o.row refl z q p l v n in
-    let e : y ≡ row_after r (record { 0 = a }) x.prec = k ∙ ap (λ (d : ℕ). row_after r (record { 0 = d }) x.prec) w in
-    ap (λ (f : Row). map (row_entries t) (set rows c f)) e
-    ∙ put_lists s t rows c r a x j.put
-    ∙ ap (λ (ls : List (List Entry)). set ls c (row_entries s r ++ x ∷ [])) o.lists_are
-    ∙ ap (λ (xs : List Entry). set lists c (xs ++ x ∷ [])) (sym (list_is s rows lists c r o.lists_are o.row))
-
-pub popped_linked : (s t : Slab Node) (rows : List Row) (lists : List (List Entry)) (room c : ℕ) (r y : Row) (x : Node) (a : ℕ) → AtRow s rows lists room c r
-    → (r.waiting.all ≡ 0 → ⊥) → a ≡ r.first.0 → get s a ≡ Some x → Updates s t a None → slab_len t + 1 ≡ slab_len s → t.capacity ≡ s.capacity
-    → y ≡ row_before r x → IsLinked t (set rows c y) room
-popped_linked s t rows lists room c r y x a p n e h u l v k =
+pub popped_linked : (l : Chosen) (t : Slab Node) (y : Row) (x : Node) (a : ℕ) → AtRow l → (l.row.waiting.all ≡ 0 → ⊥) → a ≡ l.row.first.0
+    → get l.nodes a ≡ Some x → Updates l.nodes t a None → slab_len t + 1 ≡ slab_len l.nodes → t.capacity ≡ l.nodes.capacity → y ≡ row_before l.row x
+    → IsLinked t (set l.rows l.class y) l.room
+popped_linked l t y x a o n e h u long v k =
+    let s : Slab Node = l.nodes in
     let P : ℕ → Type 0 = λ j. Updates s t j None in
-    let Q : Row → Type 0 = λ f. IsLinked t (set rows c f) room in
-    subst Q (sym k) (taken_linked s t rows room c r x (r.waiting.all - 1) p.linked p.row (omega arith) (sym (ap (get s) e) ∙ h) (subst P e u) l v)
+    let Q : Row → Type 0 = λ f. IsLinked t (set l.rows l.class f) l.room in
+    let taken = taken_linked s t l.rows l.room l.class l.row x (l.row.waiting.all - 1) o.linked o.row (omega arith) (sym (ap (get s) e) ∙ h) (subst P e u) long v in
+    subst Q (sym k) taken
 
-pub popped_lists : (s t : Slab Node) (rows : List Row) (lists : List (List Entry)) (room c : ℕ) (r y : Row) (x : Node) (a : ℕ) → AtRow s rows lists room c r
-    → (r.waiting.all ≡ 0 → ⊥) → a ≡ r.first.0 → get s a ≡ Some x → Updates s t a None → y ≡ row_before r x
-    → map (row_entries t) (set rows c y) ≡ set lists c (drop 1 (list_of lists c))
-popped_lists s t rows lists room c r y x a p n e h u k =
+pub popped_lists : (l : Chosen) (t : Slab Node) (y : Row) (x : Node) (a : ℕ) → AtRow l → (l.row.waiting.all ≡ 0 → ⊥) → a ≡ l.row.first.0
+    → get l.nodes a ≡ Some x → Updates l.nodes t a None → y ≡ row_before l.row x
+    → map (row_entries t) (set l.rows l.class y) ≡ set l.lists l.class (drop 1 (list_of l.lists l.class))
+popped_lists l t y x a o n e h u k =
+    let s : Slab Node = l.nodes in
     let P : ℕ → Type 0 = λ j. Updates s t j None in
-    ap (λ (f : Row). map (row_entries t) (set rows c f)) k
-    ∙ taken_lists s t rows room c r x (r.waiting.all - 1) p.linked p.row (omega arith) (sym (ap (get s) e) ∙ h) (subst P e u)
-    ∙ ap (λ (ls : List (List Entry)). set ls c (drop 1 (row_entries s r))) p.lists_are
-    ∙ ap (λ (xs : List Entry). set lists c (drop 1 xs)) (sym (list_is s rows lists c r p.lists_are p.row))
+    ap (λ (f : Row). map (row_entries t) (set l.rows l.class f)) k
+    ∙ taken_lists s t l.rows l.room l.class l.row x (l.row.waiting.all - 1) o.linked o.row (omega arith) (sym (ap (get s) e) ∙ h) (subst P e u)
+    ∙ ap (λ (ls : List (List Entry)). set ls l.class (drop 1 (row_entries s l.row))) o.lists_are
+    ∙ ap (λ (xs : List Entry). set l.lists l.class (drop 1 xs)) (sym (list_is s l.rows l.lists l.class l.row o.lists_are o.row))
 
-pub popped_head : (s : Slab Node) (rows : List Row) (lists : List (List Entry)) (room c : ℕ) (r : Row) (x : Node) (a : ℕ) → AtRow s rows lists room c r
-    → (r.waiting.all ≡ 0 → ⊥) → a ≡ r.first.0 → get s a ≡ Some x → Some x.entry ≡ slice_get (list_of lists c) 0
-popped_head s rows lists room c r x a p n e h =
-    sym (ap (option_map (λ (y : Node). y.entry)) (sym (ap (get s) e) ∙ h))
-    ∙ head_is s rows lists room c r (r.waiting.all - 1) p.lists_are p.linked p.row (omega arith)
+pub popped_head : (l : Chosen) (x : Node) (a : ℕ) → AtRow l → (l.row.waiting.all ≡ 0 → ⊥) → a ≡ l.row.first.0 → get l.nodes a ≡ Some x
+    → Some x.entry ≡ slice_get (list_of l.lists l.class) 0
+popped_head l x a o n e h =
+    sym (ap (option_map (λ (y : Node). y.entry)) (sym (ap (get l.nodes) e) ∙ h))
+    ∙ head_is l.nodes l.rows l.lists l.room l.class l.row (l.row.waiting.all - 1) o.lists_are o.linked o.row (omega arith)
 
 -- the counts of a list speak of its head too
-pub popped_counted : (s : Slab Node) (rows : List Row) (lists : List (List Entry)) (room c : ℕ) (r : Row) (x : Node) (a : ℕ) → AtRow s rows lists room c r
-    → (r.waiting.all ≡ 0 → ⊥) → a ≡ r.first.0 → get s a ≡ Some x
-    → (x.entry.prec ≡ 0 → 0 < r.waiting.best) × (x.entry.prec ≤ 1 → 0 < r.waiting.middle)
-popped_counted s rows lists room c r x a o n e h =
+pub popped_counted : (l : Chosen) (x : Node) (a : ℕ) → AtRow l → (l.row.waiting.all ≡ 0 → ⊥) → a ≡ l.row.first.0 → get l.nodes a ≡ Some x
+    → (x.entry.prec ≡ 0 → 0 < l.row.waiting.best) × (x.entry.prec ≤ 1 → 0 < l.row.waiting.middle)
+popped_counted l x a o n e h =
+    let s : Slab Node = l.nodes in
+    let r : Row = l.row in
     let k : ℕ = r.waiting.all - 1 in
     let at : node_at s r.first.0 ≡ x = ap (λ (q : Option Node). unwrap_or q no_node) (sym (ap (get s) e) ∙ h) in
-    let counts = (o.linked.row c r o.row).counts ∙ ap (λ (xs : List Entry). waiting_of (precs_in xs)) (list_begins s r k (omega arith)) in
+    let counts = (o.linked.row l.class r o.row).counts ∙ ap (λ (xs : List Entry). waiting_of (precs_in xs)) (list_begins s r k (omega arith)) in
     let p : ℕ = (node_at s r.first.0).entry.prec in
     let ps : List ℕ = precs_in (entries_at s (chain s (node_at s r.first.0).next.0 k)) in
     let best : r.waiting.best ≡ at_most 0 (p ∷ ps) = ap (λ (w : Waiting). w.best) counts in

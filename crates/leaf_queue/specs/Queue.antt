@@ -2,15 +2,15 @@
 use Rattle.std.specs.Prelude.{◌==◌, ◌+◌, ◌-◌, ℕ, nat_le, Bool, List, [], ◌∷◌, length, if◌then◌else◌, slice_get, unwrap_or}
 use Rattle.altq_model.specs.declared.Reason.TheVariants.{Full}
 use Rattle.altq_model.specs.declared.Verdict.TheVariants.{Keep, Drop}
-use Rattle.altq_model.specs.History.{Coming, Answer, DrawnWords, Event, Offered, Sent, waiting}
+use Rattle.altq_model.specs.History.{Arrival, Answer, DrawnWords, Event, Offered, Sent, waiting}
 use Rattle.altq_model.specs.Policies.{Answering}
 use Rattle.leaf_queue.specs.declared.rule.Waiting.{Waiting}
 
 -- it was asked of a packet at a moment, with what waited and the random words as they were, and answered; or it was told that a
 -- packet left, and what waits after it
 pub data QueueEvent : Type 0 where
-  Asked : (now : ℕ) → Waiting → (prec : ℕ) → DrawnWords → Answer → QueueEvent
-  Gone : (now prec : ℕ) → Waiting → QueueEvent
+  Enqueued : (now : ℕ) → Waiting → (prec : ℕ) → DrawnWords → Answer → QueueEvent
+  Dequeued : (now prec : ℕ) → Waiting → QueueEvent
 
 -- how a queue answers an offer: by what it was asked and told, the newest first, the moment, what waits, the precedence and the
 -- random words
@@ -30,19 +30,19 @@ at_most p (x ∷ xs) = (if nat_le x p then 1 else 0) + at_most p xs
 abbrev pub waiting_of : List ℕ → Waiting
 waiting_of precs = record { best = at_most 0 precs; middle = at_most 1 precs; all = length precs }
 
-abbrev pub precs_of : List Coming → List ℕ
+abbrev pub precs_of : List Arrival → List ℕ
 precs_of [] = []
 precs_of (a ∷ ws) = a.prec ∷ precs_of ws
 
-abbrev pub after_asked : (mine : Bool) → Coming → DrawnWords → Answer → List Coming → List QueueEvent → List QueueEvent
-after_asked mine a w v ws q = if mine then Asked a.at (waiting_of (precs_of ws)) a.prec w v ∷ q else q
+abbrev pub after_asked : (mine : Bool) → Arrival → DrawnWords → Answer → List Arrival → List QueueEvent → List QueueEvent
+after_asked mine a w v ws q = if mine then Enqueued a.at (waiting_of (precs_of ws)) a.prec w v ∷ q else q
 
 -- the head of these leaves
-abbrev pub head_gone : (now : ℕ) → List Coming → List QueueEvent → List QueueEvent
+abbrev pub head_gone : (now : ℕ) → List Arrival → List QueueEvent → List QueueEvent
 head_gone now [] q = q
-head_gone now (a ∷ ws) q = Gone now a.prec (waiting_of (precs_of ws)) ∷ q
+head_gone now (a ∷ ws) q = Dequeued now a.prec (waiting_of (precs_of ws)) ∷ q
 
-abbrev pub after_gone : (mine : Bool) → (now : ℕ) → List Coming → List QueueEvent → List QueueEvent
+abbrev pub after_gone : (mine : Bool) → (now : ℕ) → List Arrival → List QueueEvent → List QueueEvent
 after_gone mine now ws q = if mine then head_gone now ws q else q
 
 -- what the queue of a class is asked and told in a history

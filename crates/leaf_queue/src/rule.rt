@@ -14,20 +14,20 @@ pub struct Waiting {
 }
 
 /// The rule of one queue. Its laws are clauses of its methods: it drops as `Full` exactly where its waiting packets equal its
-/// limit, the limit never changes, and each verdict is what it says after all that it was asked and told, by the seed's random
+/// limit, the limit never changes, and each verdict is the rule's after all offers and departures so far, by the seed's random
 /// words. None of the calls takes memory.
 pub trait QueueRule {
     ghost use Rattle.altq_model.specs.History.{DrawnWords};
     ghost use Rattle.leaf_queue.specs.declared.rule.Waiting.{Waiting};
-    ghost use Rattle.leaf_queue.specs.Queue.{QueueEvent, Asked, Gone, Saying};
+    ghost use Rattle.leaf_queue.specs.Queue.{QueueEvent, Enqueued, Dequeued, Saying};
 
     /// The most packets that may wait.
     ghost most: { Self → ℕ };
 
-    /// What it may have been asked and told, the newest first.
+    /// The offers and departures that it may have seen, the newest first.
     ghost stands: { Self → List QueueEvent → Type 0 };
 
-    /// What it says of a packet after that.
+    /// Its verdict of a packet after this history.
     ghost says: { Self → Saying };
 
     /// The most packets that may wait, 1 to 10,000.
@@ -45,14 +45,14 @@ pub trait QueueRule {
         ensures words { (q : List QueueEvent) → stands self.old q → words.old.drawn < 2 ^ 64 - 1
             → Drew words.old words.new (says self.old q now waiting prec words.old).took }
         ensures history { (q : List QueueEvent) → stands self.old q → words.old.drawn < 2 ^ 64 - 1
-            → stands self.new (Asked now waiting prec words.old (says self.old q now waiting prec words.old) ∷ q) }
+            → stands self.new (Enqueued now waiting prec words.old (says self.old q now waiting prec words.old) ∷ q) }
         ensures limit { most self.new ≡ most self.old }
         ensures kind { says self.new ≡ says self.old };
 
     /// Tells it that a packet of precedence `prec` left at `now`, in nanoseconds, and how many wait after it.
     fn left(&mut self, now: u64, prec: u8, waiting: Waiting)
         requires prec { prec ≤ 2 }
-        ensures history { (q : List QueueEvent) → stands self.old q → stands self.new (Gone now prec waiting ∷ q) }
+        ensures history { (q : List QueueEvent) → stands self.old q → stands self.new (Dequeued now prec waiting ∷ q) }
         ensures limit { most self.new ≡ most self.old }
         ensures kind { says self.new ≡ says self.old };
 }

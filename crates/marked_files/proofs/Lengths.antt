@@ -6,7 +6,7 @@ use Rattle.altq_model.specs.declared.Placed.{Placed}
 use Rattle.capture_model.specs.Capture.{Form, Header, Formed, Unformed, header, most_records}
 use Rattle.pcap_files.specs.Forms.{form}
 use Rattle.traffic_marks.proofs.Lengths.{length-retagged}
-use Rattle.traffic_meter.specs.History.{Arrival, Metered}
+use Rattle.traffic_meter.specs.History.{Metered, Metering}
 use Rattle.marked_files.specs.Courses.{Course, behind_head, frame_in, made, marked_record, packet_of, passed, records_from, records_on}
 use Rattle.marked_files.specs.Heads.{headed, whole}
 use Rattle.marked_files.specs.Markings.{Marking, given}
@@ -16,7 +16,7 @@ use Rattle.marked_files.specs.declared.record_head.RecordHead.{RecordHead}
 use Rattle.marked_files.specs.declared.stage.Stage.{Stage}
 use Rattle.marked_files.specs.declared.stage.Stage.TheVariants.{Start, Records, Rest}
 
-length-frame_by : (m : Option Metered) (a : Arrival) (frame : List ℕ) → length (frame_by m a frame) ≡ length frame
+length-frame_by : (m : Option Metering) (a : Metered) (frame : List ℕ) → length (frame_by m a frame) ≡ length frame
 length-frame_by None a frame = refl
 length-frame_by (Some m) a frame = length-retagged frame _
 

@@ -4,7 +4,7 @@ use Rattle.std.specs.Prelude.{◌==◌, ◌||◌, ◌&&◌, max, nat_lt, if◌th
 use Rattle.std.proofs.lemmas.Bool.{ltb-false}
 use Rattle.std.proofs.lemmas.List.{drop-drop, take-append-drop}
 use Rattle.altq_model.specs.declared.Placed.{Placed}
-use Rattle.altq_model.specs.Arrivals.{Arrival, arrivals_from}
+use Rattle.altq_model.specs.Arrivals.{Captured, arrivals_from}
 use Rattle.capture_model.specs.declared.damage.DamageKind.TheVariants.{ShortRecord, EmptyRecord, LongRecord}
 use Rattle.capture_model.specs.Capture.{Form, Header, Formed, Unformed, Outcome, Record, Step, IsLast, ReadsFrom, Stand, header, longest, most_bytes, most_records, outcome, outcome_from, place_after, stamp, step, word}
 use Rattle.capture_model.specs.Capture as capture
@@ -24,7 +24,7 @@ use Rattle.marked_files.specs.declared.record_head.RecordHead.{RecordHead}
 use Rattle.marked_files.proofs.Meters.{frame_at, meters_at, new_at, one_more}
 use Rattle.marked_files.proofs.Steps.{no_record, one_record}
 
-abbrev arrival_of : (place : List ℕ → Placed) (latest : ℕ) → Record → Arrival
+abbrev arrival_of : (place : List ℕ → Placed) (latest : ℕ) → Record → Captured
 arrival_of place latest r = record {
   at = max latest r.stamp;
   len = max r.original (length r.captured);
@@ -35,7 +35,7 @@ arrival_of place latest r = record {
 }
 
 -- the course after packets that came
-abbrev course_at : (rules : List (Option MeterRule)) (count at latest : ℕ) (earlier : List Arrival) → Course
+abbrev course_at : (rules : List (Option MeterRule)) (count at latest : ℕ) (earlier : List Captured) → Course
 course_at rules count at latest earlier = record { count = count; at = at; latest = latest; meters = meters_at 0 rules earlier }
 
 -- the header of a record that was read
@@ -172,7 +172,7 @@ none_last capture.Limit count xs found last h = h
 
 -- from a place on, where records stand
 records_marked : (place : List ℕ → Placed) (rules : List (Option MeterRule)) (form : Form) (bytes : List ℕ) (rs : List Record) (last : Step)
-    (count at latest : ℕ) (earlier : List Arrival) → at ≤ length bytes → count ≤ most_records → Stand form bytes count at rs
+    (count at latest : ℕ) (earlier : List Captured) → at ≤ length bytes → count ≤ most_records → Stand form bytes count at rs
     → step form bytes (count + length rs) (place_after at rs) ≡ last → IsLast last
     → records_from place form (course_at rules count at latest earlier) (drop at bytes)
     ≡ with_frames (marked_frames (conditioners_from 0 rules) earlier (arrivals_from place latest rs)) (drop at bytes)

@@ -5,7 +5,7 @@ use Rattle.capture_model.specs.Capture.{Form, Header, Formed, Unformed, header, 
 use Rattle.altq_model.specs.declared.Placed.{Placed}
 use Rattle.pcap_files.specs.Forms.{form}
 use Rattle.traffic_meter.specs.declared.rule.MeterRule.{MeterRule}
-use Rattle.traffic_meter.specs.History.{Arrival, Metered}
+use Rattle.traffic_meter.specs.History.{Metered, Metering}
 use Rattle.traffic_marks.specs.Marked.{Conditioning, marked}
 use Rattle.marked_files.specs.Heads.{headed, whole}
 use Rattle.marked_files.specs.Metering.{conditioners_from, frame_by, meter_of, meters_after, new_meters}
@@ -18,7 +18,7 @@ pub record Course : Type 0 where
   pub count : ℕ
   pub at : ℕ
   pub latest : ℕ
-  pub meters : List (Option Metered)
+  pub meters : List (Option Metering)
 
 -- before the first record
 abbrev pub begun : List (Option MeterRule) → Course
@@ -29,7 +29,7 @@ abbrev pub frame_in : RecordHead → List ℕ → List ℕ
 frame_in head bytes = take head.captured (drop 16 bytes)
 
 -- its packet as a meter sees it: it arrives at the greatest stamp up to its own
-abbrev pub packet_of : Course → RecordHead → Arrival
+abbrev pub packet_of : Course → RecordHead → Metered
 packet_of c head = record { moment = max c.latest head.stamp; len = max head.original head.captured }
 
 -- the record with its frame marked

@@ -1,5 +1,5 @@
 -- A record that stands whole in some bytes stands so in longer ones, and in a prefix that holds it.
-use Rattle.std.proofs.Common.{◌≡◌, ◌≤◌, ◌<◌, ◌∙◌, ◌+◌, ◌⊎◌, ℕ, List, [], ◌∷◌, ◌++◌, length, take, drop, refl, sym, ap, subst, arith, inl, inr, append-nil, append_assoc, length-append, length-drop}
+use Rattle.std.proofs.Common.{◌≡◌, ◌≤◌, ◌<◌, ◌∙◌, ◌+◌, ℕ, List, [], ◌∷◌, ◌++◌, length, take, drop, refl, sym, ap, subst, arith, inl, append-nil, append_assoc, length-append, length-drop}
 use Rattle.std.specs.Prelude.{Bool, true, false, nat_lt, None, Some, Err, IsErrOf, if◌then◌else◌}
 use Rattle.std.proofs.lemmas.Bool.{ltb-false}
 use Rattle.std.proofs.lemmas.List.{drop-append-le, length-take, take-append-drop}
@@ -9,7 +9,7 @@ use Rattle.capture_model.specs.declared.damage.DamageKind.TheVariants.{ShortHead
 use Rattle.capture_model.specs.Capture.{Form, Step, End, Next, Fault, Limit, IsLast, Stand, Formed, Unformed, Header, Reads, ReadsFrom, header, damage, step, place_after}
 use Rattle.capture_model.specs.Capture as capture
 use Rattle.capture_model.proofs.OutcomeLemmas.{next_place}
-use Rattle.pcap_files.specs.Ahead.{Pending, TookInto}
+use Rattle.pcap_files.specs.Ahead.{TookInto}
 use Rattle.pcap_files.specs.Faults.{fault_of}
 use Rattle.pcap_files.specs.Forms.{form}
 use Rattle.pcap_files.specs.Reading.{AreAllTaken, StandsFor}
@@ -22,8 +22,8 @@ use Rattle.pcap_files.specs.declared.fault.CaptureFault.TheVariants as fault
 use Rattle.pcap_files.specs.declared.reader.Reader.{Reader}
 use Rattle.play_base.specs.declared.trouble.Trouble.{Trouble}
 use Rattle.play_base.specs.declared.trouble.Trouble.TheVariants as trouble
-use Rattle.pcap_files.proofs.PlaceLemmas.{length_here, seen, step_here}
-use Rattle.pcap_files.proofs.ReaderLemmas.{head_seen, is_less, pending_same, pending_start, pending_took, reads_formed}
+use Rattle.pcap_files.proofs.PlaceLemmas.{seen, step_here}
+use Rattle.pcap_files.proofs.ReaderLemmas.{Head, StandsHead, head_seen, is_less, pending_start, pending_took, reads_formed}
 
 is_whole : (b : Bool) (d : Damage) (x r : capture.Record) (m n : ℕ) → (if b then Fault d else Next x m) ≡ Next r n → b ≡ false
 is_whole true d x r m n h = absurd (cc)
@@ -167,13 +167,11 @@ part_taken v w r ahead bytes records s sound t fewer =
     let place = (next_place (form r.head) bytes (length records) (place_after 24 records) x n h).0 in
     omega (arith, place, fewer))
 
-pub headed_taken : (v w : View) (r : Reader) (ahead bytes : List ℕ) (records : List capture.Record) (stamp captured original : ℕ) → StandsFor v r bytes records
-    → r.fault ≡ None → TookInto v w r.file r.ahead ahead
-    → step (form r.head) bytes (length records) (place_after 24 records) ≡ step_of (Headed stamp captured original) r.progress.place (drop r.progress.place bytes)
-    → length ahead < 16 + captured → AreAllTaken w r.file bytes records
-headed_taken v w r ahead bytes records stamp captured original s sound t here fewer =
-    all_taken v w r ahead bytes records s sound t (λ x n h.
-    let place = headed_ends stamp captured original r.progress.place n (drop r.progress.place bytes) x (sym here ∙ h) in
+pub headed_taken : (v w : View) (r : Reader) (ahead bytes : List ℕ) (records : List capture.Record) (h : Head) → StandsFor v r bytes records → r.fault ≡ None
+    → TookInto v w r.file r.ahead ahead → StandsHead r bytes records h → length ahead < 16 + h.captured → AreAllTaken w r.file bytes records
+headed_taken v w r ahead bytes records h s sound t here fewer =
+    all_taken v w r ahead bytes records s sound t (λ x n e.
+    let place = headed_ends h.stamp h.captured h.original r.progress.place n (drop r.progress.place bytes) x (sym here ∙ e) in
     omega (arith, place, s.place, fewer))
 
 -- only a failed call is a fault of reading

@@ -184,54 +184,65 @@ cause_reads v r bytes records fault.NoMemory s e = tt
 abbrev pub holding : Reader → List ℕ → Reader
 holding r ahead = record { alloc = r.alloc; file = r.file; head = r.head; progress = r.progress; ahead = ahead; fault = r.fault }
 
+-- the head of a record: its stamp, how many bytes were captured, and how many the packet had
+pub record Head : Type 0 where
+  pub stamp : ℕ
+  pub captured : ℕ
+  pub original : ℕ
+
+-- this head stands where a reader is, behind the records that were answered
+abbrev pub StandsHead : Reader → (bytes : List ℕ) → (records : List capture.Record) → Head → Type 0
+StandsHead r bytes records h =
+    step (form r.head) bytes (length records) (place_after 24 records)
+    ≡ step_of (Headed h.stamp h.captured h.original) r.progress.place (drop r.progress.place bytes)
+
 -- a record whose head was taken is not whole
-pub cut_reads : (v w : View) (r : Reader) (ahead bytes : List ℕ) (records : List capture.Record) (stamp captured original : ℕ) (f : CaptureFault)
-    → StandsFor v r bytes records → r.fault ≡ None → TookInto v w r.file r.ahead ahead
-    → step (form r.head) bytes (length records) (place_after 24 records) ≡ step_of (Headed stamp captured original) r.progress.place (drop r.progress.place bytes)
-    → (16 + captured ≤ length ahead) ⊎ IsAtEnd w r.file → IsCut f r.progress.place ahead captured → ReadsTo f bytes records
-cut_reads v w r ahead bytes records stamp captured original (fault.Damage found) s sound t here enough cut =
+pub cut_reads : (v w : View) (r : Reader) (ahead bytes : List ℕ) (records : List capture.Record) (h : Head) (f : CaptureFault)
+    → StandsFor v r bytes records → r.fault ≡ None → TookInto v w r.file r.ahead ahead → StandsHead r bytes records h
+    → (16 + h.captured ≤ length ahead) ⊎ IsAtEnd w r.file → IsCut f r.progress.place ahead h.captured → ReadsTo f bytes records
+cut_reads v w r ahead bytes records h (fault.Damage found) s sound t here enough cut =
     let p = pending_took v w r.file r.progress.place r.ahead ahead bytes (s.pending sound) t in
     let e = p.rest.2 in
-    let short : length (drop r.progress.place bytes) < 16 + captured = elim (none_left w r.file r.progress.place (16 + captured) ahead bytes p enough) [
+    let short : length (drop r.progress.place bytes) < 16 + h.captured = elim (none_left w r.file r.progress.place (16 + h.captured) ahead bytes p enough) [
       | inl more ↦ absurd (omega (arith, more, cut.0))
       | inr none ↦ omega (arith, ap length e, length-append ahead p.rest.0, none, cut.0)
     ] in
-    let test : nat_lt (length (drop r.progress.place bytes)) (16 + captured) ≡ true = is_less (length (drop r.progress.place bytes)) (16 + captured) short in
-    let stands : step_of (Headed stamp captured original) r.progress.place (drop r.progress.place bytes) ≡ Fault (damage r.progress.place ShortRecord) = rw test refl in
+    let test : nat_lt (length (drop r.progress.place bytes)) (16 + h.captured) ≡ true = is_less (length (drop r.progress.place bytes)) (16 + h.captured) short in
+    let stands : step_of (Headed h.stamp h.captured h.original) r.progress.place (drop r.progress.place bytes) ≡ Fault (damage r.progress.place ShortRecord) = rw test refl in
     stands_reads v r bytes records (Fault found) s (here ∙ stands ∙ ap Fault (sym cut.1))
-cut_reads v w r ahead bytes records stamp captured original fault.Limit s sound t here enough cut = absurd cut
-cut_reads v w r ahead bytes records stamp captured original fault.Read s sound t here enough cut = absurd cut
-cut_reads v w r ahead bytes records stamp captured original fault.NoMemory s sound t here enough cut = tt
+cut_reads v w r ahead bytes records h fault.Limit s sound t here enough cut = absurd cut
+cut_reads v w r ahead bytes records h fault.Read s sound t here enough cut = absurd cut
+cut_reads v w r ahead bytes records h fault.NoMemory s sound t here enough cut = tt
 
 -- a whole record is answered
-pub answered : (v w : View) (r n : Reader) (answer : Record) (ahead bytes : List ℕ) (records : List capture.Record) (stamp captured original : ℕ)
-    → StandsFor v r bytes records → r.fault ≡ None → TookInto v w r.file r.ahead ahead
-    → step (form r.head) bytes (length records) (place_after 24 records) ≡ step_of (Headed stamp captured original) r.progress.place (drop r.progress.place bytes)
-    → length ahead ≤ 65535 + (16 + captured) → IsTaken (holding r ahead) n answer stamp captured original
+pub answered : (v w : View) (r n : Reader) (answer : Record) (ahead bytes : List ℕ) (records : List capture.Record) (h : Head)
+    → StandsFor v r bytes records → r.fault ≡ None → TookInto v w r.file r.ahead ahead → StandsHead r bytes records h
+    → length ahead ≤ 65535 + (16 + h.captured) → IsTaken (holding r ahead) n answer h.stamp h.captured h.original
     → (x : capture.Record) × Shows answer (length records) x × StandsFor w n bytes (records ++ x ∷ [])
-answered v w r n answer ahead bytes records stamp captured original s sound t here bound k =
+answered v w r n answer ahead bytes records h s sound t here bound k =
+    let captured : ℕ = h.captured in
     let p = pending_took v w r.file r.progress.place r.ahead ahead bytes (s.pending sound) t in
     let e = p.rest.2 in
-    let x : capture.Record = record { stamp = stamp; captured = take captured (drop 16 ahead); original = original } in
+    let x : capture.Record = record { stamp = h.stamp; captured = take captured (drop 16 ahead); original = h.original } in
     let long : length (take captured (drop 16 ahead)) ≡ captured = omega (arith, length-take captured (drop 16 ahead), length-drop 16 ahead, k.enough) in
     let whole : nat_lt (length (drop r.progress.place bytes)) (16 + captured) ≡ false = grind (arith, ap length e, length-append ahead p.rest.0, k.enough) in
     let same : take captured (drop 16 (drop r.progress.place bytes)) ≡ take captured (drop 16 ahead) =
     ap (λ (xs : List ℕ). take captured (drop 16 xs)) e ∙ seen captured 16 ahead p.rest.0 k.enough in
-    let next : step_of (Headed stamp captured original) r.progress.place (drop r.progress.place bytes) ≡ Next x (r.progress.place + 16 + captured) = rw (whole, same) refl in
+    let next : step_of (Headed h.stamp captured h.original) r.progress.place (drop r.progress.place bytes) ≡ Next x (r.progress.place + 16 + captured) = rw (whole, same) refl in
     let place : r.progress.place + 16 + captured ≡ place_after 24 records + 16 + length (take captured (drop 16 ahead)) = omega (arith, s.place, long) in
     let stands : step (form r.head) bytes (length records) (place_after 24 records) ≡ Next x (place_after 24 records + 16 + length x.captured) =
     here ∙ next ∙ ap (Next x) place in (
       x,
-      record { number = omega (arith, k.number, s.count); stamp = k.stamp; len = k.len ∙ ap (max original) (sym long); bytes = k.bytes },
+      record { number = omega (arith, k.number, s.count); stamp = k.stamp; len = k.len ∙ ap (max h.original) (sym long); bytes = k.bytes },
       record {
-        formed = s.formed ∙ ap (λ h. Formed (form h)) (sym k.head);
-        stand = subst (λ h. Stand (form h) bytes 0 24 (records ++ x ∷ [])) (sym k.head)
+        formed = s.formed ∙ ap (λ head. Formed (form head)) (sym k.head);
+        stand = subst (λ head. Stand (form head) bytes 0 24 (records ++ x ∷ [])) (sym k.head)
             (stand_more (form r.head) bytes 0 24 records x s.stand (ap (λ (n : ℕ). step (form r.head) bytes n (place_after 24 records)) (omega arith) ∙ stands));
         count = omega (arith, k.count, s.count, length-append records (x ∷ []));
         place = k.place ∙ place ∙ sym (place_after_more 24 records x);
-        pending = λ h. pending_same w r.file n.file (r.progress.place + (16 + captured)) n.progress.place (drop (16 + captured) ahead) n.ahead bytes
+        pending = λ _. pending_same w r.file n.file (r.progress.place + (16 + captured)) n.progress.place (drop (16 + captured) ahead) n.ahead bytes
             k.file (omega (arith, k.place)) k.ahead (pending_passed w r.file r.progress.place (16 + captured) ahead bytes p k.enough);
-        ahead = λ h. omega (arith, ap length k.ahead, length-drop (16 + captured) ahead, bound);
+        ahead = λ _. omega (arith, ap length k.ahead, length-drop (16 + captured) ahead, bound);
         cause = subst (λ q. IsCause q (step (form n.head) bytes (length (records ++ x ∷ [])) (place_after 24 (records ++ x ∷ [])))) (sym (k.fault ∙ sound)) tt;
       },
     )

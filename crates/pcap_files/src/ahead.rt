@@ -62,8 +62,9 @@ impl Ahead {
         self.from += count;
     }
 
-    // Takes bytes from the file until `need` are there, or the file is at its end; where they are there, it asks the file nothing. Bytes that were passed are dropped
-    // before the first read; so the others are moved at most once in a call, and only in one that has to read.
+    // Takes bytes from the file until `need` are there, or the file is at its end; where they are there, it asks the file nothing. Bytes
+    // that were passed are dropped before the first read; so the others are moved at most once in a call, and only in one that has to
+    // read.
     #[inline]
     pub fn fill<F: Files>(&mut self, files: &mut F, file: u32, need: usize) -> Result<(), Trouble>
         requires there { IsSome ((F.view files.old).part file) }

@@ -5,10 +5,10 @@ ghost use Rattle.pcapng_model.specs.Block.{Whole, Broken, framed, order_at};
 use crate::numbers::four;
 use pcapng_model::NgKind;
 
-// The type of a section header, alike in both orders.
+// The type of a section header. Its four bytes read the same in both byte orders.
 pub const SECTION: u32 = 0x0a0d_0d0a;
 
-// A block that stands whole: the order of its bytes, its type, its body, and the place behind it.
+// A whole block: its byte order, its type, its body, and the place behind it.
 #[derive(Clone, Copy)]
 pub struct Block<'a> {
     pub big: bool,
@@ -17,7 +17,7 @@ pub struct Block<'a> {
     pub after: usize,
 }
 
-// The order of the block at a place: a section header begins an order of its own.
+// The byte order of the block at a place: a section header tells that of its own section.
 fn order_at(big: bool, bytes: &[u8], at: usize) -> Option<bool>
     requires { at + 12 ≤ length bytes.now }
     ensures { result ≡ order_at big bytes.now at }
@@ -32,7 +32,7 @@ fn order_at(big: bool, bytes: &[u8], at: usize) -> Option<bool>
     }
 }
 
-// The block at a place, or the first test of its lengths and of its order that it fails.
+// The block at a place, or the first test of its lengths and its byte order that it fails.
 pub fn block_at(big: bool, bytes: &[u8], at: usize) -> Result<Block<'_>, NgKind>
     requires here { at ≤ length bytes.now }
     requires small { length bytes.now ≤ 2 ^ 30 }

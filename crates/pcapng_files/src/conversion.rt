@@ -32,10 +32,10 @@ pub const CAPTURE_HEAD: usize = 24;
 // The bytes of a block before its body.
 const BLOCK_HEAD: usize = 8;
 
-// How far a file was converted: the order of bytes and the interfaces of its section, the count of its packets, where what is written
-// of the classic capture ends, and the place of the next block. The records stand from byte 24 on, and the head is written last, for
-// it would take the place of a file's first block. A record is at least 16 bytes shorter than its block, so no byte is written over
-// that was not read.
+// How far a file was converted: the byte order and the interfaces of its section, the count of its packets, the end of the part of the
+// classic capture that was written, and the place of the next block. The records stand from byte 24 on. The capture's head is written
+// last, because it overwrites the file's first block. A record is at least 16 bytes shorter than its block, so no byte is overwritten
+// before it was read.
 #[derive(Drop)]
 pub struct Conversion {
     pub big: bool,
@@ -100,7 +100,7 @@ impl Conversion {
         Ok(())
     }
 
-    // Counts the packet of a body, and says what it is.
+    // Counts the packet that a body holds, and gives it.
     fn add_packet(&mut self, big: bool, body: &[u8]) -> Result<Packet, Refusal>
         requires few { self.old.packets ≤ 4000000 }
         ensures took { IfOk result (λ p. Took self.old self.new
@@ -123,7 +123,7 @@ impl Conversion {
         Ok(found)
     }
 
-    // Takes what a whole block holds, and says which packet that is, if it is one.
+    // Takes in a whole block, and gives its packet, if it is the block of one.
     fn take(&mut self, block: &Block) -> Result<Option<Packet>, Refusal>
         requires few { self.old.packets ≤ 4000000 }
         ensures took { IfOk result (λ p. Took self.old self.new
@@ -157,7 +157,7 @@ impl Conversion {
         }
     }
 
-    // Takes the next block of a file, and writes the record of its packet. Its cost is linear in the block.
+    // Takes in the next block of a file, and writes the record of its packet, if it has one. Its cost is linear in the block.
     pub fn next(&mut self, bytes: &mut [u8]) -> Result<(), NgFault>
         requires here { self.old.place < length bytes.old }
         requires few { self.old.packets ≤ 4000000 }

@@ -28,7 +28,7 @@ fn put_head(bytes: &mut [u8])
     bytes[..CAPTURE_HEAD].copy_from_slice(&head_bytes());
 }
 
-// Puts the head of a capture before the records, which end at a place, and cuts what stands behind them.
+// Puts the head of a capture before the records, and cuts the bytes behind the end of the records.
 fn finished(bytes: Vec<u8>, end: usize) -> Result<Vec<u8>, NoMemory>
     requires { 24 ≤ end }
     ensures { IfOk result (λ capture. capture.items ≡ capture_header ++ drop 24 (take end bytes.items)) }

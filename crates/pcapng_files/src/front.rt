@@ -21,7 +21,7 @@ impl<'b> Front<'b> {
     }
 }
 
-// Moves a front of the bytes to the front of `into`, and says how many.
+// Copies the first bytes into `into`, as many as it takes, and gives their count.
 fn copy_front(bytes: &[u8], into: &mut [u8]) -> usize
     ensures count { result ≡ min (length bytes.now) (length into.old) }
     ensures length { length into.new ≡ length into.old }

@@ -6,7 +6,7 @@ use crate::options::options;
 use crate::units::{NANOS, Offset, fraction, offset_of, units_of};
 use pcapng_model::NgKind;
 
-// An interface of a section: its link type, the units that its counts have in a second, and its offset.
+// An interface of a section: its link type, how many units of its time stamps make a second, and what is added to each.
 #[derive(Clone, Copy)]
 pub struct Interface {
     pub link: u16,
@@ -42,7 +42,7 @@ impl Interface {
         })
     }
 
-    // The stamp of a packet with this count, in nanoseconds; None before the epoch, or 2^32 seconds or more behind it.
+    // The stamp of a packet, in nanoseconds, by its count of units; None before the epoch, or 2^32 seconds or more behind it.
     pub fn stamp(&self, count: u64) -> Option<u64>
         ensures value { result ≡ stamp (interface self.now) count }
         ensures early { IfSome result (λ stamp. stamp < 2 ^ 32 * 10 ^ 9) }

@@ -17,7 +17,7 @@ pub struct Settings {
     pub offset: u64,
 }
 
-// What an option of this code and length sets, whose value these bytes begin with; None where its code forbids the length.
+// The settings after an option of this code and length, the value first in `value`; None where its code forbids the length.
 fn set_by(big: bool, code: u16, len: u16, value: &[u8], old: Settings) -> Option<Settings>
     requires { len ≤ length value.now }
     ensures { option_map settings result ≡ set_by big code len value.now (settings old) }
@@ -43,7 +43,7 @@ fn set_by(big: bool, code: u16, len: u16, value: &[u8], old: Settings) -> Option
     Some(old)
 }
 
-// The bytes behind the first ones.
+// The bytes behind the first `count`.
 #[inline(always)]
 fn behind(bytes: &[u8], count: usize) -> &[u8]
     requires { count ≤ length bytes.now }
@@ -52,8 +52,8 @@ fn behind(bytes: &[u8], count: usize) -> &[u8]
     &bytes[count..]
 }
 
-// What options set, microseconds and no offset at first: the last one of a code holds. None where one ends past the bytes, or
-// its code forbids its length. The cost is linear in the bytes.
+// The settings after all options; with none of them microseconds and no offset. Of two options of one code the later holds. None where
+// one ends past the bytes, or its code forbids its length. The cost is linear in the bytes.
 pub fn options(big: bool, bytes: &[u8]) -> Option<Settings>
     ensures { option_map settings result ≡ options big bytes.now }
 {
@@ -81,7 +81,7 @@ pub fn options(big: bool, bytes: &[u8]) -> Option<Settings>
     Some(set)
 }
 
-// So many bytes and their padding to a multiple of 4.
+// A length with its padding to a multiple of 4.
 #[inline(always)]
 pub fn padded(len: usize) -> usize
     requires { len < 2 ^ 33 }

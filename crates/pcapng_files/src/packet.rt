@@ -22,7 +22,7 @@ const ETHERNET: u16 = 1;
 // The bytes of a body before the captured ones.
 pub const HEAD: usize = 20;
 
-// A packet of a body: its stamp in nanoseconds, the count of its captured bytes, and the length that it had.
+// The packet of a body: its stamp in nanoseconds, the count of its captured bytes, and the length that it had on the wire.
 #[derive(Clone, Copy)]
 pub struct Packet {
     pub stamp: u64,
@@ -30,7 +30,7 @@ pub struct Packet {
     pub original: u32,
 }
 
-// The two halves of a count, the high one first.
+// The count of units of a packet's time stamp: two words, the high one first.
 fn count_in(big: bool, body: &[u8]) -> u64
     requires { 20 ≤ length body.now }
     ensures { result ≡ count_in big body.now }
@@ -38,7 +38,7 @@ fn count_in(big: bool, body: &[u8]) -> u64
     u64::from(four(big, body, 4)) * (1 << 32) + u64::from(four(big, body, 8))
 }
 
-// The packet of a body whose captured bytes stand, on this interface; or the first of the further tests that it fails.
+// The packet of a body that holds all its captured bytes, on this interface; or the first of the other tests that it fails.
 fn packet_on(from: &Interface, big: bool, body: &[u8]) -> Result<Packet, NgKind>
     requires { 20 + padded (number big 4 body.now 12) ≤ length body.now }
     ensures ok { IfOk result (λ p. packet_on (Some (interface from.now)) big body.now ≡ Tells (PacketFound (packet body.now p))) }

@@ -7,7 +7,7 @@ ghost use Rattle.pcapng_files.specs.Views.{packet, records_of, size_of};
 use crate::packet::{HEAD, Packet};
 use pcap_files::record_head;
 
-// Moves so many bytes down to a part that ends before them.
+// Moves `count` bytes from `from` down to `to`; the two parts do not overlap.
 fn move_apart(bytes: &mut [u8], from: usize, count: usize, to: usize)
     requires within { from + count ≤ length bytes.old }
     requires apart { to + count ≤ from }
@@ -17,7 +17,7 @@ fn move_apart(bytes: &mut [u8], from: usize, count: usize, to: usize)
     front[to..to + count].copy_from_slice(&back[..count]);
 }
 
-// Moves so many bytes, at once but for the first packets of a file, of which the two parts overlap.
+// Moves `count` bytes from `from` down to `to`: in one copy, but for a file's first packets, where the parts overlap.
 fn move_bytes(bytes: &mut [u8], from: usize, count: usize, to: usize)
     requires within { from + count ≤ length bytes.old }
     requires room { to + count ≤ length bytes.old }
@@ -30,8 +30,8 @@ fn move_bytes(bytes: &mut [u8], from: usize, count: usize, to: usize)
     bytes.copy_within(from..from + count, to);
 }
 
-// Puts the record of a packet at `at`, of the packet whose body stands at `body`: its captured bytes are moved before the record's
-// head is put in front of them, for the head may take the place of some of them.
+// Puts the record of a packet at `at`; the packet's body stands at `body`. The captured bytes are moved first, because the record's
+// head may overwrite some of them.
 fn put_record(bytes: &mut [u8], at: usize, body: usize, found: &Packet)
     requires within { IsWithin (packet (drop body bytes.old) found.now) }
     requires here { body + 20 + found.now.captured ≤ length bytes.old }
@@ -45,7 +45,7 @@ fn put_record(bytes: &mut [u8], at: usize, body: usize, found: &Packet)
     bytes[at..at + 16].copy_from_slice(&head);
 }
 
-// Puts the record of a packet, if there is one, and says where what is written ends then.
+// Puts the record of a packet at `at`, if there is a packet, and gives the end of what is written then.
 pub fn put_found(bytes: &mut [u8], at: usize, body: usize, found: &Option<Packet>) -> usize
     requires within { IfSome found.now (λ p. IsWithin (packet (drop body bytes.old) p)) }
     requires here { IfSome found.now (λ p. body + 20 + p.captured ≤ length bytes.old) }

@@ -14,7 +14,7 @@ pub enum Offset {
 }
 
 impl Offset {
-    // The seconds that an offset makes of these; None before the epoch, or from 2^32 on.
+    // These seconds with the offset added; None before the epoch, or from 2^32 on.
     pub fn moved(self, seconds: u64) -> Option<u64>
         ensures value { result ≡ seconds_by (offset self) seconds }
         ensures early { IfSome result (λ moved. moved < 2 ^ 32) }
@@ -30,7 +30,7 @@ impl Offset {
     }
 }
 
-// The nanoseconds of a part of a second, rounded down.
+// The nanoseconds of `part` units, of which `units` make a second, rounded down.
 pub fn fraction(part: u64, units: u64) -> u64
     requires { part < units }
     ensures value { result ≡ part * 10 ^ 9 / units }
@@ -42,7 +42,7 @@ pub fn fraction(part: u64, units: u64) -> u64
     }
 }
 
-// The offset of 64 bits, a signed number.
+// The offset that 64 bits hold as a signed number.
 pub fn offset_of(bits: u64) -> Offset
     ensures { offset result ≡ offset_of bits }
 {
@@ -53,7 +53,7 @@ pub fn offset_of(bits: u64) -> Offset
     }
 }
 
-// The units of a second that a resolution gives.
+// How many units make a second at a resolution; None past the finest, 10^18 or 2^63 of them.
 pub fn units_of(resolution: u8) -> Option<u64>
     ensures value { result ≡ units_of resolution }
     ensures some { IfSome result (λ units. 1 ≤ units) }

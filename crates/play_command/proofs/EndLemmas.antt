@@ -1,7 +1,7 @@
 -- Which ends of a play exclude one another.
 use Rattle.std.proofs.Common.{◌≡◌, ◌<◌, ◌⊎◌, ℕ, List, sym, subst, inl, inr, arith}
 use Rattle.altq_model.specs.History.{Happened}
-use Rattle.altq_model.specs.Arrivals.{comings}
+use Rattle.altq_model.specs.Arrivals.{bare_arrivals}
 use Rattle.capture_model.specs.declared.damage.Damage.{Damage}
 use Rattle.capture_model.specs.Capture.{Record, Step, End, Fault, Limit, Reads, IsLast}
 use Rattle.conf_tree.specs.declared.interface.Interface.{Interface}
@@ -67,7 +67,7 @@ late_not_played u v n seed x p =
     let same = one_reads u n x.accepted p.accepted x.records p.played.records x.last End x.is_last tt x.reads p.played.capture in
     let c = one_cut u n seed x.accepted p.accepted x.records p.played.records x.last End x.history same.0 same.1 x.early in
     let s : Setup = setup_of p.accepted.interface seed in
-    not_cut s.policy s.rate seed (comings (arrivals_in s p.played.records)) p.played.history x.history
+    not_cut s.policy s.rate seed (bare_arrivals (arrivals_in s p.played.records)) p.played.history x.history
     (record { events = p.played.play.play.events; in_time = p.played.play.in_time }) p.played.play.play.done c.cut
 
 -- nor is all of it offered and then a damage or a limit met

@@ -2,8 +2,8 @@
 use Rattle.std.proofs.Common.{◌≡◌, ◌≤◌, ◌<◌, ◌-◌, ◌+◌, ◌∙◌, ◌⊎◌, ℕ, zero, suc, max, length, drop, List, [], ◌∷◌, None, Some, ap, sym, subst, refl, inl, inr, arith}
 use Rattle.std.specs.Prelude.{slice_get}
 use Rattle.altq_model.specs.declared.Placed.{Placed}
-use Rattle.altq_model.specs.Arrivals.{arrivals_from, arrivals_of, comings}
-use Rattle.altq_model.specs.History.{Coming, DrawnWords, Event, Offered, Sent, Happened, bare, drawn, offered}
+use Rattle.altq_model.specs.Arrivals.{arrivals_from, arrivals_of, bare_arrivals}
+use Rattle.altq_model.specs.History.{Arrival, DrawnWords, Event, Offered, Sent, Happened, bare, drawn, offered}
 use Rattle.altq_model.specs.Laws.{IsInTime, EndsInTime}
 use Rattle.altq_model.specs.Laws.{IsLate as EndsTooLate}
 use Rattle.altq_model.specs.Lawful.{AreRising, IsLawful, greatest, latest}
@@ -31,7 +31,7 @@ late_event (Sent s) l h = omega (arith, l, h)
 none_some : (e : Happened) → None ≡ Some e → ⊥
 none_some e h = cc
 
-due_drop_next : (p : Policy) (rate seed : ℕ) (arrived : List Coming) (k : List Happened) (m : ℕ) → AreDue p rate seed arrived k → m < length k
+due_drop_next : (p : Policy) (rate seed : ℕ) (arrived : List Arrival) (k : List Happened) (m : ℕ) → AreDue p rate seed arrived k → m < length k
     → (e : Happened) × (due p rate seed arrived (drop (suc m) k) ≡ Some e)
 due_drop_next p rate seed arrived [] m d l = absurd (omega (arith, l))
 due_drop_next p rate seed arrived (e ∷ k) zero d l = (e, d.0)
@@ -41,7 +41,7 @@ suc_pred : (n : ℕ) → 0 < n → suc (n - 1) ≡ n
 suc_pred n l = omega (arith, l)
 
 -- events in time hold no sending that would end too late
-not_within : (p : Policy) (rate seed : ℕ) (arrived : List Coming) (g k : List Happened) → IsBegun p rate seed arrived g → (c : IsCutOff p rate seed arrived k)
+not_within : (p : Policy) (rate seed : ℕ) (arrived : List Arrival) (g k : List Happened) → IsBegun p rate seed arrived g → (c : IsCutOff p rate seed arrived k)
     → length (c.next ∷ k) ≤ length g → ⊥
 not_within p rate seed arrived g k x c l =
     let late : List Happened = c.next ∷ k in
@@ -51,7 +51,7 @@ not_within p rate seed arrived g k x c l =
     late_event c.next.what c.late h.0
 
 -- no play that ended in time is cut off
-by_lengths : (p : Policy) (rate seed : ℕ) (arrived : List Coming) (g k : List Happened) → IsBegun p rate seed arrived g → due p rate seed arrived g ≡ None
+by_lengths : (p : Policy) (rate seed : ℕ) (arrived : List Arrival) (g k : List Happened) → IsBegun p rate seed arrived g → due p rate seed arrived g ≡ None
     → (c : IsCutOff p rate seed arrived k) → (length g < length (c.next ∷ k)) ⊎ (length (c.next ∷ k) ≤ length g) → ⊥
 by_lengths p rate seed arrived g k x done c (inl l) =
     let late : List Happened = c.next ∷ k in
@@ -62,12 +62,12 @@ by_lengths p rate seed arrived g k x done c (inl l) =
     none_some y.0 (sym done ∙ ap (due p rate seed arrived) (sym same) ∙ y.1)
 by_lengths p rate seed arrived g k x done c (inr l) = not_within p rate seed arrived g k x c l
 
-pub not_cut : (p : Policy) (rate seed : ℕ) (arrived : List Coming) (g k : List Happened) → IsBegun p rate seed arrived g → due p rate seed arrived g ≡ None
+pub not_cut : (p : Policy) (rate seed : ℕ) (arrived : List Arrival) (g k : List Happened) → IsBegun p rate seed arrived g → due p rate seed arrived g ≡ None
     → IsCutOff p rate seed arrived k → ⊥
 not_cut p rate seed arrived g k x done c = by_lengths p rate seed arrived g k x done c (short_or_long _ _)
 
 -- what was offered arrived by the latest of it
-offers_step : (p : Policy) (rate seed : ℕ) (arrived : List Coming) (g : List Happened) (e : Happened) (j : ℕ) (a : Coming)
+offers_step : (p : Policy) (rate seed : ℕ) (arrived : List Arrival) (g : List Happened) (e : Happened) (j : ℕ) (a : Arrival)
     → IsOffer p rate seed arrived g e ⊎ IsSending p rate arrived g e → slice_get arrived j ≡ Some a
     → (j < offered (bare g) → a.at ≤ latest (bare g)) → j < offered (bare (e ∷ g)) → a.at ≤ latest (bare (e ∷ g))
 offers_step p rate seed arrived g e j a (inl x) at before =
@@ -81,30 +81,30 @@ offers_step p rate seed arrived g e j a (inl x) at before =
         let same : j ≡ offered (bare g) = omega (arith, m, l) in
         let one : Some a ≡ Some x.packet = sym at ∙ ap (slice_get arrived) same ∙ x.next in
         let packet : a ≡ x.packet = cc in
-        let moment : a.at ≡ x.packet.at = ap (λ (b : Coming). b.at) packet in
+        let moment : a.at ≡ x.packet.at = ap (λ (b : Arrival). b.at) packet in
         omega (arith, moment)
 offers_step p rate seed arrived g e j a (inr x) at before =
     let P : Event → Type 0 = λ y. j < offered (y ∷ bare g) → a.at ≤ latest (y ∷ bare g) in
     subst P (sym x.event) (λ l. before l)
 
-by_offers : (p : Policy) (rate seed : ℕ) (arrived : List Coming) (g : List Happened) (j : ℕ) (a : Coming) → EachFollows p rate seed arrived g
+by_offers : (p : Policy) (rate seed : ℕ) (arrived : List Arrival) (g : List Happened) (j : ℕ) (a : Arrival) → EachFollows p rate seed arrived g
     → slice_get arrived j ≡ Some a → j < offered (bare g) → a.at ≤ latest (bare g)
 by_offers p rate seed arrived [] j a x at l = absurd (omega (arith, l))
 by_offers p rate seed arrived (e ∷ g) j a x at l =
     offers_step p rate seed arrived g e j a x.0 at (λ m. by_offers p rate seed arrived g j a x.1 at m) l
 
 all_within : (place : List ℕ → Placed) (t m : ℕ) (records : List Record) → t ≤ m
-    → ((j : ℕ) (a : Coming) → slice_get (comings (arrivals_from place t records)) j ≡ Some a → a.at ≤ m) → greatest t records ≤ m
+    → ((j : ℕ) (a : Arrival) → slice_get (bare_arrivals (arrivals_from place t records)) j ≡ Some a → a.at ≤ m) → greatest t records ≤ m
 all_within place t m [] l h = l
 all_within place t m (r ∷ records) l h = all_within place (max t r.stamp) m records (h 0 _ refl) (λ j a e. h (suc j) a e)
 
-within_list : (xs : List Coming) (j : ℕ) (a : Coming) → slice_get xs j ≡ Some a → j < length xs
+within_list : (xs : List Arrival) (j : ℕ) (a : Arrival) → slice_get xs j ≡ Some a → j < length xs
 within_list [] j a e = absurd (cc)
 within_list (x ∷ xs) zero a e = omega arith
 within_list (x ∷ xs) (suc j) a e = let l = within_list xs j a e in omega (arith, l)
 
 -- where all were offered, a sending that is due starts no earlier than the last of them arrived
-starts_after : (p : Policy) (rate seed : ℕ) (arrived : List Coming) (k : List Happened) (e : Happened) → IsOnTime p rate arrived (bare k)
+starts_after : (p : Policy) (rate seed : ℕ) (arrived : List Arrival) (k : List Happened) (e : Happened) → IsOnTime p rate arrived (bare k)
     → EndsTooLate e.what → IsOffer p rate seed arrived k e ⊎ IsSending p rate arrived k e → latest (bare k) ≤ start_of e.what
 starts_after p rate seed arrived k e t late (inl x) =
     absurd (subst EndsTooLate (offer_event p rate seed arrived k e x) late)
@@ -114,9 +114,9 @@ starts_after p rate seed arrived k e t late (inr x) =
     omega (arith, l, same)
 
 pub late_starts_after : (p : Policy) (rate seed : ℕ) (place : List ℕ → Placed) (records : List Record) (k : List Happened) → 0 < rate → IsLawful p
-    → (c : IsCutOff p rate seed (comings (arrivals_of place records)) k) → length records ≤ offered (bare k) → greatest 0 records ≤ start_of c.next.what
+    → (c : IsCutOff p rate seed (bare_arrivals (arrivals_of place records)) k) → length records ≤ offered (bare k) → greatest 0 records ≤ start_of c.next.what
 late_starts_after p rate seed place records k pos law c all =
-    let arrived : List Coming = comings (arrivals_of place records) in
+    let arrived : List Arrival = bare_arrivals (arrivals_of place records) in
     let rise : AreRising arrived = arrivals_rise place records in
     let t = on_time p rate seed arrived k pos law rise c.begun.events in
     let each = each_follows p rate seed arrived k pos law rise c.begun.events in
@@ -138,20 +138,20 @@ offered_drop (suc m) (e ∷ k) = let x = offered_drop m k in let y = one_fewer e
 
 -- so where all were offered in time, no sending that starts before the last of them arrives would end too late
 by_order : (p : Policy) (rate seed : ℕ) (place : List ℕ → Placed) (records : List Record) (g k : List Happened) → 0 < rate → IsLawful p
-    → IsBegun p rate seed (comings (arrivals_of place records)) g → length records ≤ offered (bare g)
-    → (c : IsCutOff p rate seed (comings (arrivals_of place records)) k) → start_of c.next.what < greatest 0 records
+    → IsBegun p rate seed (bare_arrivals (arrivals_of place records)) g → length records ≤ offered (bare g)
+    → (c : IsCutOff p rate seed (bare_arrivals (arrivals_of place records)) k) → start_of c.next.what < greatest 0 records
     → (length g < length (c.next ∷ k)) ⊎ (length (c.next ∷ k) ≤ length g) → ⊥
 by_order p rate seed place records g k pos law x all c early (inl l) =
-    let same : drop (length k - length g) k ≡ g = one_play p rate seed (comings (arrivals_of place records)) g k x.events c.begun.events (omega (arith, l)) in
+    let same : drop (length k - length g) k ≡ g = one_play p rate seed (bare_arrivals (arrivals_of place records)) g k x.events c.begun.events (omega (arith, l)) in
     let fewer = offered_drop (length k - length g) k in
     let here : offered (bare (drop (length k - length g) k)) ≡ offered (bare g) = ap (λ (h : List Happened). offered (bare h)) same in
     let after = late_starts_after p rate seed place records k pos law c (omega (arith, all, fewer, here)) in
     omega (arith, after, early)
 by_order p rate seed place records g k pos law x all c early (inr l) =
-    not_within p rate seed (comings (arrivals_of place records)) g k x c l
+    not_within p rate seed (bare_arrivals (arrivals_of place records)) g k x c l
 
 pub offered_not_early : (p : Policy) (rate seed : ℕ) (place : List ℕ → Placed) (records : List Record) (g k : List Happened) → 0 < rate → IsLawful p
-    → IsBegun p rate seed (comings (arrivals_of place records)) g → length records ≤ offered (bare g)
-    → (c : IsCutOff p rate seed (comings (arrivals_of place records)) k) → start_of c.next.what < greatest 0 records → ⊥
+    → IsBegun p rate seed (bare_arrivals (arrivals_of place records)) g → length records ≤ offered (bare g)
+    → (c : IsCutOff p rate seed (bare_arrivals (arrivals_of place records)) k) → start_of c.next.what < greatest 0 records → ⊥
 offered_not_early p rate seed place records g k pos law x all c early =
     by_order p rate seed place records g k pos law x all c early (short_or_long _ _)

@@ -1,7 +1,7 @@
 -- The laws that a run cites, of configurations, of frames and of interfaces.
 use Rattle.std.proofs.Common.{◌≡◌, ℕ, max, length, List, [], ◌∷◌, true, arith}
 use Rattle.altq_model.specs.declared.Placed.{Placed}
-use Rattle.altq_model.specs.Arrivals.{arrivals_from, arrivals_of, comings}
+use Rattle.altq_model.specs.Arrivals.{arrivals_from, arrivals_of, bare_arrivals}
 use Rattle.altq_model.specs.History.{Happened}
 use Rattle.altq_model.specs.Lawful.{IsLawful, IsOneOf}
 use Rattle.altq_model.specs.Play.{AreDue}
@@ -52,15 +52,15 @@ sized_one r h =
     let original = h.original in
     record { least = omega (arith, some); most = omega (arith, captured, original) }
 
-sized_from : (place : List ℕ → Placed) (latest : ℕ) (records : List Record) → HaveSizes records → AreSized (comings (arrivals_from place latest records))
+sized_from : (place : List ℕ → Placed) (latest : ℕ) (records : List Record) → HaveSizes records → AreSized (bare_arrivals (arrivals_from place latest records))
 sized_from place latest [] h = tt
 sized_from place latest (r ∷ rs) h = (sized_one r h.0, sized_from place (max latest r.stamp) rs h.1)
 
 -- so the first events of a play of a capture keep what the interface promises
 pub promises_kept : HaveLaws → (i : Interface) → IsConfigured i → (seed : ℕ) (bytes : List ℕ) (records : List Record) (last : Step) → Reads bytes records last
-    → (g : List Happened) → AreDue (policy_of i) i.rate seed (comings (arrivals_of (place_in i) records)) g
-    → KeepsPromises i (comings (arrivals_of (place_in i) records)) g
+    → (g : List Happened) → AreDue (policy_of i) i.rate seed (bare_arrivals (arrivals_of (place_in i) records)) g
+    → KeepsPromises i (bare_arrivals (arrivals_of (place_in i) records)) g
 promises_kept laws i x seed bytes records last r g due =
-    laws.promises i (is_interface laws i x) seed (comings (arrivals_of (place_in i) records)) g (arrivals_rise (place_in i) records)
+    laws.promises i (is_interface laws i x) seed (bare_arrivals (arrivals_of (place_in i) records)) g (arrivals_rise (place_in i) records)
     (sized_from (place_in i) 0 records (reads_sized bytes records last r).each)
     (arrivals_held (policy_of i) (place_in i) records (is_held laws i x)) due

@@ -14,7 +14,7 @@ use Rattle.marked_files.proofs.BackLaws.{keeps_back as marks_back}
 use Rattle.marked_files.proofs.Lengths.{length-given}
 use Rattle.marked_files.proofs.ViewLaws.{left_self as marks_self}
 use Rattle.pcapng_files.specs.Fronts.{front_view, with_front}
-use Rattle.pcapng_files.proofs.BackLaws.{keeps_back}
+use Rattle.pcapng_files.proofs.BackLaws.{Fronted, fronted, keeps_back}
 use Rattle.pcapng_files.proofs.FrontLaws.{left_self}
 use Rattle.play_base.specs.View.{View, SameCounts}
 use Rattle.play_base.proofs.ViewLaws.{keeps_refl}
@@ -56,17 +56,6 @@ same_counts : (u w v z : View) (r : Result Totals PlayFault) → (SameCounts u w
 same_counts u w v z (Ok totals) k x = k x
 same_counts u w v z (Err fault) k x = tt
 
--- files of which one has its bytes in memory
-pub record Fronted : Type 0 where
-  pub view : View
-  pub reference : ℕ
-  pub file : ℕ
-  pub rest : Bool
-  pub front : List ℕ
-
-abbrev pub fronted : Fronted → View
-fronted s = front_view s.view s.reference s.file s.rest s.front
-
 -- the files behind a front of which all is in memory
 module _ (P : View → View → Type 0) (v : View) (reference : ℕ) (capture : List ℕ) (t : Fronted) (o : Opened) (r : Result Totals PlayFault) where
   abbrev Fore : View
@@ -74,7 +63,7 @@ module _ (P : View → View → Type 0) (v : View) (reference : ℕ) (capture : 
 
   front_stays : Stays o r Fore (fronted t) → Stays o r v t.view
   front_stays x = record {
-    keeps = keeps_back _ _ v t.view reference t.reference o.arrivals t.file false t.rest capture t.front (λ f h. h.0) x.keeps;
+    keeps = keeps_back _ _ (record { view = v; reference = reference; file = o.arrivals; rest = false; front = capture }) t (λ f h. h.0) x.keeps;
     none = x.none;
     said = x.said;
     no_fault = same_counts Fore (fronted t) v t.view r (λ y. record { read = y.read; write = y.write }) x.no_fault;

@@ -1,6 +1,6 @@
 -- What a play leaves, and when each of its ends comes.
 use Rattle.std.specs.Prelude.{◌≡◌, ◌≤◌, ◌<◌, ◌+◌, ◌⊎◌, ℕ, List, [], ◌∷◌, ◌++◌, length, None, Some, IsTrue, Bool, true, false, if◌then◌else◌}
-use Rattle.altq_model.specs.Arrivals.{comings}
+use Rattle.altq_model.specs.Arrivals.{bare_arrivals}
 use Rattle.altq_model.specs.Departures.{departed}
 use Rattle.altq_model.specs.History.{Happened, bare, offered}
 use Rattle.altq_model.specs.Lawful.{greatest}
@@ -79,7 +79,7 @@ pub record WasPlayed (v : View) (n : Names) (x : Setup) (bytes : List ℕ) : Typ
 pub record HasPlayed (old new : View) (n : Names) (seed : ℕ) : Type 0 where
   pub accepted : Accepted old n
   pub played : WasPlayed new n (setup_of accepted.interface seed) accepted.bytes
-  pub promises : KeepsPromises accepted.interface (comings (arrivals_in (setup_of accepted.interface seed) played.records)) played.history
+  pub promises : KeepsPromises accepted.interface (bare_arrivals (arrivals_in (setup_of accepted.interface seed) played.records)) played.history
 
 -- the name was not created and holds what it held before the run, or it holds a front of this text
 abbrev pub IsFrontAt : View → View → (part : ℕ) → (name text : List ℕ) → Type 0
@@ -92,13 +92,13 @@ IsFrontAt old new part name text =
 abbrev pub HasStatsFront : View → View → Names → Setup → List Record → Type 0
 HasStatsFront old new n x records =
     IsFrontAt old new parts.statistics n.stats []
-    ⊎ ((g : List Happened) × IsPlay x.policy x.rate x.seed (comings (arrivals_in x records)) g × HoldTexts new n x records g
+    ⊎ ((g : List Happened) × IsPlay x.policy x.rate x.seed (bare_arrivals (arrivals_in x records)) g × HoldTexts new n x records g
     × IsFrontAt old new parts.statistics n.stats (statistics_of x (arrivals_in x records) g))
 
 -- departures and fates hold fronts of the texts of the first events of the play of these records
 pub record HasFronts (old new : View) (n : Names) (x : Setup) (records : List Record) : Type 0 where
   pub history : List Happened
-  pub begun : IsBegun x.policy x.rate x.seed (comings (arrivals_in x records)) history
+  pub begun : IsBegun x.policy x.rate x.seed (bare_arrivals (arrivals_in x records)) history
   pub departures : IsFrontAt old new parts.departures n.departures (departures_of x (arrivals_in x records) history)
   pub fates : IsFrontAt old new parts.fates n.fates (fates_of x (arrivals_in x records) history)
   pub stats : HasStatsFront old new n x records
@@ -113,7 +113,7 @@ Fronts old new n seed = IsTrue old.tells → (a : Accepted old n) (records : Lis
 -- the last of them arrives
 pub record HasOffered (v : View) (n : Names) (x : Setup) (records : List Record) : Type 0 where
   pub history : List Happened
-  pub begun : IsBegun x.policy x.rate x.seed (comings (arrivals_in x records)) history
+  pub begun : IsBegun x.policy x.rate x.seed (bare_arrivals (arrivals_in x records)) history
   pub all : offered (bare history) ≡ length records
   pub last : EndsWithOffer history
   pub texts : HoldTexts v n x records history
@@ -141,12 +141,12 @@ pub record HasWholeTexts (old new : View) (n : Names) (seed : ℕ) : Type 0 wher
   pub history : List Happened
   pub capture : IsCapture accepted.bytes records
   pub play : IsPlay (setup_of accepted.interface seed).policy accepted.interface.rate seed
-      (comings (arrivals_in (setup_of accepted.interface seed) records)) history
+      (bare_arrivals (arrivals_in (setup_of accepted.interface seed) records)) history
   pub texts : HoldTexts new n (setup_of accepted.interface seed) records history
 
 -- a sending that is due next would end too late. It starts before the last of these records arrives, or these are a whole capture
 pub record IsCutEarly (x : Setup) (records : List Record) (last : Step) (g : List Happened) : Type 0 where
-  pub cut : IsCutOff x.policy x.rate x.seed (comings (arrivals_in x records)) g
+  pub cut : IsCutOff x.policy x.rate x.seed (bare_arrivals (arrivals_in x records)) g
   pub before : (last ≡ End) ⊎ (start_of cut.next.what < greatest 0 records)
 
 -- how many bytes of a classic capture are taken at most past the record that a play needs: those of one read and, where an interface

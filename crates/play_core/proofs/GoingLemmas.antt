@@ -4,12 +4,12 @@ use Rattle.std.specs.Prelude.{slice_get, IsSome, is_some}
 use Rattle.std.specs.declared.option.Option.{Option}
 use Rattle.altq_model.specs.declared.Fate.{Fate}
 use Rattle.altq_model.specs.declared.Fate.TheVariants
-use Rattle.altq_model.specs.Arrivals.{Arrival, arrival, comings}
+use Rattle.altq_model.specs.Arrivals.{Captured, arrival, bare_arrivals}
 use Rattle.altq_model.specs.History.{Event, DrawnWords, Happened, bare, offered, labels, Decision, journal}
 use Rattle.altq_model.specs.Lawful.{IsLawful, IsSteady, latest}
 use Rattle.altq_model.specs.Link.{Link}
 use Rattle.altq_model.specs.Play.{Policy}
-use Rattle.play_laws.proofs.ArrivalLemmas.{comings_length}
+use Rattle.play_laws.proofs.ArrivalLemmas.{bare_arrivals_length}
 use Rattle.play_base.specs.declared.packet.Packet.{Packet}
 use Rattle.leaf_queue.specs.declared.node.Entry.{Entry}
 use Rattle.leaf_queue.specs.Pool.{packet_of}
@@ -50,19 +50,19 @@ pub record State : Type 1 where
 abbrev pub state : {S : Type 0} → Ghosts S → S → DrawnWords → Progress → State
 state D d w x = record { policy = D.policy d; stood = D.stands d; lists = D.lists d; limits = D.limits d; rate = D.link_rate d; words = w; progress = x }
 
-abbrev pub Going : State → List Arrival → List Happened → Type 0
+abbrev pub Going : State → List Captured → List Happened → Type 0
 Going s arrived g = IsGoing s.policy s.stood s.lists s.limits s.rate arrived s.words s.progress g
 
 -- under the names that an earlier state has for what never changes
-abbrev pub GoingAs : State → State → List Arrival → List Happened → Type 0
+abbrev pub GoingAs : State → State → List Captured → List Happened → Type 0
 GoingAs s t arrived g = IsGoing s.policy t.stood t.lists s.limits s.rate arrived t.words t.progress g
 
 -- a play goes on, of a discipline that keeps its promises
-pub record Goes (s : State) (arrived : List Arrival) (g : List Happened) : Type 0 where
+pub record Goes (s : State) (arrived : List Captured) (g : List Happened) : Type 0 where
   pub promised : IsPromised s.policy s.progress.clock.rate
   pub going : Going s arrived g
 
-abbrev pub goes_by : {S : Type 0} (D : Ghosts S) (d : S) {arrived : List Arrival} {w : DrawnWords} {x : Progress} {g : List Happened}
+abbrev pub goes_by : {S : Type 0} (D : Ghosts S) (d : S) {arrived : List Captured} {w : DrawnWords} {x : Progress} {g : List Happened}
     → ((d : S) (h : List Happened) → D.stands d h → IsLawful (D.policy d)) → ((d : S) (h : List Happened) → D.stands d h → IsSteady (D.policy d))
     → ((d : S) (h : List Happened) → D.stands d h → AreDistinct (D.policy d).classes) → Going (state D d w x) arrived g → Goes (state D d w x) arrived g
 goes_by D d {x = x} lawful steady distinct y = record {
@@ -77,12 +77,12 @@ pub record SameKind (s t : State) : Type 0 where
   pub rate : t.rate ≡ s.rate
 
 -- what is told of a play that goes on
-pub come_of : {s : State} {arrived : List Arrival} {g : List Happened} → Goes s arrived g
-    → HasCome s.policy s.progress.clock.rate s.words.seed (comings arrived) g
+pub come_of : {s : State} {arrived : List Captured} {g : List Happened} → Goes s arrived g
+    → HasCome s.policy s.progress.clock.rate s.words.seed (bare_arrivals arrived) g
 come_of u = record { positive = u.promised.positive; lawful = u.promised.lawful; steady = u.promised.steady; rising = u.going.rising; begun = u.going.begun }
 
 -- what the code knows of the history is so of the play's
-now_is : (s : State) (arrived : List Arrival) (g : List Happened) (t : ℕ) → (y : Going s arrived g) → t ≡ max s.progress.clock.link.free s.progress.latest
+now_is : (s : State) (arrived : List Captured) (g : List Happened) (t : ℕ) → (y : Going s arrived g) → t ≡ max s.progress.clock.link.free s.progress.latest
     → ◌≡◌ {A = Clock × ℕ × List Event} (s.progress.clock, t, bare y.told)
     (clock_after s.progress.clock.rate (bare g), moment_after s.progress.clock.rate (bare g), bare g)
 now_is s arrived g t y e =
@@ -91,27 +91,27 @@ now_is s arrived g t y e =
     let moment : t ≡ moment_after s.progress.clock.rate (bare g) = omega (arith, e, y.latest_is, ap (λ (l : Link). l.free) y.link_is) in
     cc (clock, moment, y.same)
 
-pub ready : (s : State) (arrived : List Arrival) (g : List Happened) (t : ℕ) → (u : Goes s arrived g) → t ≡ max s.progress.clock.link.free s.progress.latest
+pub ready : (s : State) (arrived : List Captured) (g : List Happened) (t : ℕ) → (u : Goes s arrived g) → t ≡ max s.progress.clock.link.free s.progress.latest
     → IsChoice t s.progress.clock (bare u.going.told)
 ready s arrived g t u e =
     let C : Clock × ℕ × List Event → Type 0 = λ q. IsChoice q.1 q.0 q.2 in
     subst C (sym (now_is s arrived g t u.going e)) (choice _ _ _ _ _ (come_of u))
 
 -- what comes next by the discipline comes next in the play
-pub step_on : {s : State} {arrived : List Arrival} {g : List Happened} {t : ℕ} {next : Option ℕ} (step : Step) → (u : Goes s arrived g)
+pub step_on : {s : State} {arrived : List Captured} {g : List Happened} {t : ℕ} {next : Option ℕ} (step : Step) → (u : Goes s arrived g)
     → ((h : List Happened) → s.stood h → IsChoice t s.progress.clock (bare h) → IsStep s.policy s.progress.clock t (bare h) next step)
-    → t ≡ max s.progress.clock.link.free s.progress.latest → next ≡ arrives arrived g → ComesNow s.policy s.progress.clock.rate (comings arrived) g step
+    → t ≡ max s.progress.clock.link.free s.progress.latest → next ≡ arrives arrived g → ComesNow s.policy s.progress.clock.rate (bare_arrivals arrived) g step
 step_on {s = s} {arrived = arrived} {g = g} {t = t} {next = next} step u f e a =
     let S : Clock × ℕ × List Event → Type 0 = λ q. IsStep s.policy q.0 q.1 q.2 next step in
     let A : Option ℕ → Type 0 = λ o. IsStep s.policy (clock_after s.progress.clock.rate (bare g)) (moment_after s.progress.clock.rate (bare g)) (bare g) o step in
     subst A a (subst S (now_is s arrived g t u.going e) (f u.going.told u.going.stands (ready s arrived g t u e)))
 
-pub moment_by : {s : State} {arrived : List Arrival} {g : List Happened} {moment : ℕ} → (u : Goes s arrived g)
+pub moment_by : {s : State} {arrived : List Captured} {g : List Happened} {moment : ℕ} → (u : Goes s arrived g)
     → ((t : ℕ) → latest (bare u.going.told) ≤ t → StartsBy t (bare u.going.told) → moment ≤ t) → moment ≤ max s.progress.clock.link.free s.progress.latest
 moment_by {s = s} {arrived = arrived} {g = g} u f = let c = ready s arrived g (max s.progress.clock.link.free s.progress.latest) u refl in f _ c.arrived c.started
 
 -- a discipline that was asked stands for the same
-abbrev pub still_going : {s : State} (stood : List Happened → Type 0) (lists : ℕ → List Entry) {arrived : List Arrival} {g : List Happened}
+abbrev pub still_going : {s : State} (stood : List Happened → Type 0) (lists : ℕ → List Entry) {arrived : List Captured} {g : List Happened}
     → ((h : List Happened) → s.stood h → stood h) → ((c : ℕ) → lists c ≡ s.lists c) → Goes s arrived g
     → Goes (record s { stood = stood; lists = lists }) arrived g
 still_going {s = s} stood lists keep same u =
@@ -139,13 +139,13 @@ still_going {s = s} stood lists keep same u =
     }
 
 -- under other names of the same policy, limits and rate
-pub renamed : {s t : State} {arrived : List Arrival} {g : List Happened} → SameKind s t → GoingAs s t arrived g → Going t arrived g
+pub renamed : {s t : State} {arrived : List Captured} {g : List Happened} → SameKind s t → GoingAs s t arrived g → Going t arrived g
 renamed {s = s} {t = t} {arrived = arrived} {g = g} k y =
     let P : Policy × (ℕ → ℕ) × Option ℕ → Type 0 = λ q. IsGoing q.0 t.stood t.lists q.1 q.2 arrived t.words t.progress g in
     subst P (cc (k.policy, k.limits, k.rate)) y
 
 -- a discipline that was asked goes on as it was
-pub asked_on : {s : State} {arrived : List Arrival} {g : List Happened} (t : State) → Goes s arrived g → SameKind s t → ((h : List Happened) → s.stood h → t.stood h)
+pub asked_on : {s : State} {arrived : List Captured} {g : List Happened} (t : State) → Goes s arrived g → SameKind s t → ((h : List Happened) → s.stood h → t.stood h)
     → ((c : ℕ) → t.lists c ≡ s.lists c) → IsGoing t.policy t.stood t.lists t.limits t.rate arrived s.words s.progress g
 asked_on {s = s} {arrived = arrived} {g = g} t u k keep same =
     let P : Policy × (ℕ → ℕ) × Option ℕ → Type 0 = λ q. IsGoing q.0 t.stood t.lists q.1 q.2 arrived s.words s.progress g in
@@ -159,11 +159,11 @@ within_old {s = s} {t = t} k l =
     subst P e l
 
 -- the number of the ticket at the front of a class
-pub front_of : {s : State} {arrived : List Arrival} {g : List Happened} {ticket : ℕ} (class : ℕ) → (y : Going s arrived g) → slice_get (labels class y.told) 0 ≡ Some ticket
+pub front_of : {s : State} {arrived : List Captured} {g : List Happened} {ticket : ℕ} (class : ℕ) → (y : Going s arrived g) → slice_get (labels class y.told) 0 ≡ Some ticket
     → FrontHeld arrived g s.progress.pool (labels class g) ticket
 front_of class y e = front_held _ _ _ (labels class y.told) _ _ (y.holds class) e
 
-pub front_there : {s : State} {arrived : List Arrival} {g : List Happened} {ticket : ℕ} (class : ℕ) → (y : Going s arrived g) → slice_get (labels class y.told) 0 ≡ Some ticket
+pub front_there : {s : State} {arrived : List Captured} {g : List Happened} {ticket : ℕ} (class : ℕ) → (y : Going s arrived g) → slice_get (labels class y.told) 0 ≡ Some ticket
     → IsSome (packet_of s.progress.pool ticket)
 front_there class y e = ap (λ (o : Option Packet). is_some o) (front_of class y e).holds.packet
 
@@ -171,7 +171,7 @@ pub same_packet : (a b : Packet) → Some a ≡ Some b → a ≡ b
 same_packet a b h = cc
 
 -- the number of what is sent was offered
-pub number_within : {s : State} {arrived : List Arrival} {g : List Happened} {ticket : ℕ} {packet : Packet} (class : ℕ) → (u : Goes s arrived g)
+pub number_within : {s : State} {arrived : List Captured} {g : List Happened} {ticket : ℕ} {packet : Packet} (class : ℕ) → (u : Goes s arrived g)
     → slice_get (labels class u.going.told) 0 ≡ Some ticket → packet_of s.progress.pool ticket ≡ Some packet
     → (1 ≤ packet.number) × (packet.number ≤ s.progress.totals.arrived)
 number_within {arrived = arrived} {g = g} {packet = packet} class u e q =
@@ -212,10 +212,10 @@ pub record AreFew (t : Totals) : Type 0 where
   pub sent : t.sent ≤ 4000000
   pub dropped : t.dropped ≤ 4000000
 
-pub few_counts : {s : State} {arrived : List Arrival} {g : List Happened} → Goes s arrived g → AreFew s.progress.totals
+pub few_counts : {s : State} {arrived : List Captured} {g : List Happened} → Goes s arrived g → AreFew s.progress.totals
 few_counts {arrived = arrived} {g = g} u =
     let laws = laws_of (come_of u) in
-    let l = comings_length arrived in
+    let l = bare_arrivals_length arrived in
     let t = u.going.totals in
     record {
       arrived = omega (arith, t.arrived, laws.came, l, u.going.few);

@@ -7,12 +7,12 @@ use Rattle.std.proofs.lemmas.Option.{slice_get_within}
 use Rattle.altq_model.specs.declared.Placed.{Placed}
 use Rattle.altq_model.specs.declared.Verdict.{Verdict}
 use Rattle.altq_model.specs.declared.Verdict.TheVariants.{Keep, Mark, Drop}
-use Rattle.altq_model.specs.Arrivals.{Arrival, arrival, coming_of, comings, no_arrival}
-use Rattle.altq_model.specs.History.{Coming, Event, Offered, Sent, DrawnWords, Happened, bare, offered, drawn, labels, is_kept, is_mark, was_marked, with_offer, journal}
+use Rattle.altq_model.specs.Arrivals.{Captured, arrival, bare_arrival, bare_arrivals, no_arrival}
+use Rattle.altq_model.specs.History.{Arrival, Event, Offered, Sent, DrawnWords, Happened, bare, offered, drawn, labels, is_kept, is_mark, was_marked, with_offer, journal}
 use Rattle.altq_model.specs.Lawful.{IsOneOf, latest}
 use Rattle.altq_model.specs.Link.{link}
 use Rattle.altq_model.specs.Play.{Policy, AreDue, offer_of}
-use Rattle.play_laws.proofs.ArrivalLemmas.{comings_at}
+use Rattle.play_laws.proofs.ArrivalLemmas.{bare_arrivals_at}
 use Rattle.play_laws.proofs.BusyLemmas.{started_before}
 use Rattle.play_laws.proofs.TimeLemmas.{next_later}
 use Rattle.play_base.specs.declared.packet.Packet.{Packet}
@@ -34,13 +34,13 @@ use Rattle.play_core.proofs.PoolLemmas.{each_moves, each_if, within_count}
 use Rattle.play_core.proofs.TotalLemmas.{one_lost, sent_offer, dropped_offer}
 
 -- what a discipline tells of the offer of `b`, with what it then stands for, and the random words then drawn
-pub record IsAnswered (s : State) (stood : List Happened → Type 0) (w : DrawnWords) (b : Coming) (ticket : Ticket) (v : Verdict) : Type 0 where
+pub record IsAnswered (s : State) (stood : List Happened → Type 0) (w : DrawnWords) (b : Arrival) (ticket : Ticket) (v : Verdict) : Type 0 where
   pub history : (h : List Happened) → s.stood h → IsOffer b (bare h) → s.words.drawn < 2 ^ 64 - 1
       → IsAnswer s.policy (bare h) s.words b v w × stood (discipline.offer_of s.policy h ticket s.words b ∷ h)
   pub sized : IsSized b.len
 
 -- what the offer of `packet` as `b` leaves
-pub record IsTaken (s t : State) (b : Coming) (packet : Packet) (ticket : Ticket) (v : Verdict) : Type 0 where
+pub record IsTaken (s t : State) (b : Arrival) (packet : Packet) (ticket : Ticket) (v : Verdict) : Type 0 where
   pub kind : SameKind s t
   pub entry : Entry
   pub answers : IsAnswered s t.stood t.words b ticket v
@@ -62,18 +62,18 @@ pub record IsTaken (s t : State) (b : Coming) (packet : Packet) (ticket : Ticket
   pub room : t.progress.pool.room ≡ s.progress.pool.room
 
 -- what is said of the arrival that is offered
-pub record IsComing (arrived : List Arrival) (g : List Happened) (a : Arrival) : Type 0 where
-  pub seen : slice_get (comings arrived) (offered (bare g)) ≡ Some (coming_of a)
+pub record IsBareArrival (arrived : List Captured) (g : List Happened) (a : Captured) : Type 0 where
+  pub seen : slice_get (bare_arrivals arrived) (offered (bare g)) ≡ Some (bare_arrival a)
   pub inside : offered (bare g) < length arrived
   pub numbered_is : arrival arrived (offered (bare g) + 1) ≡ a
 
-pub is_coming : (arrived : List Arrival) (g : List Happened) (a : Arrival) → slice_get arrived (offered (bare g)) ≡ Some a → IsComing arrived g a
-is_coming arrived g a e =
+pub is_bare_arrival : (arrived : List Captured) (g : List Happened) (a : Captured) → slice_get arrived (offered (bare g)) ≡ Some a → IsBareArrival arrived g a
+is_bare_arrival arrived g a e =
     let one : offered (bare g) + 1 - 1 ≡ offered (bare g) = omega arith in
     record {
-      seen = comings_at arrived (offered (bare g)) ∙ ap (λ (o : Option Arrival). option_map coming_of o) e;
+      seen = bare_arrivals_at arrived (offered (bare g)) ∙ ap (λ (o : Option Captured). option_map bare_arrival o) e;
       inside = slice_get_within arrived (offered (bare g)) a e;
-      numbered_is = ap (λ (k : ℕ). unwrap_or (slice_get arrived k) no_arrival) one ∙ ap (λ (o : Option Arrival). unwrap_or o no_arrival) e;
+      numbered_is = ap (λ (k : ℕ). unwrap_or (slice_get arrived k) no_arrival) one ∙ ap (λ (o : Option Captured). unwrap_or o no_arrival) e;
     }
 
 before_by : (t : ℕ) (h : List Event) → StartsBefore t h → StartsBy t h
@@ -82,33 +82,33 @@ before_by t (Offered a w v ∷ h) s = before_by t h s
 before_by t (Sent x ∷ h) s = (omega (arith, s.0), before_by t h s.1)
 
 -- no event is later than the next arrival, and each start is before it
-pub record IsLater (a : Arrival) (h : List Event) : Type 0 where
+pub record IsLater (a : Captured) (h : List Event) : Type 0 where
   pub arrived : latest h ≤ a.at
   pub started : StartsBefore a.at h
   pub by : StartsBy a.at h
 
-pub is_later : {s : State} {arrived : List Arrival} {g : List Happened} {a : Arrival} → (u : Goes s arrived g) → slice_get arrived (offered (bare g)) ≡ Some a
+pub is_later : {s : State} {arrived : List Captured} {g : List Happened} {a : Captured} → (u : Goes s arrived g) → slice_get arrived (offered (bare g)) ≡ Some a
     → IsLater a (bare u.going.told)
 is_later {arrived = arrived} {g = g} {a = a} u e =
     let x = come_of u in
-    let c = is_coming arrived g a e in
-    let started = started_before _ _ _ (comings arrived) g (offered (bare g)) (coming_of a) x.rising (laws_of x).each (omega arith) c.seen in
+    let c = is_bare_arrival arrived g a e in
+    let started = started_before _ _ _ (bare_arrivals arrived) g (offered (bare g)) (bare_arrival a) x.rising (laws_of x).each (omega arith) c.seen in
     let P : List Event → Type 0 = λ h. IsLater a h in
     subst P (sym u.going.same) (record {
-      arrived = next_later _ _ _ (comings arrived) g x.positive x.lawful x.rising x.begun.events (coming_of a) c.seen;
+      arrived = next_later _ _ _ (bare_arrivals arrived) g x.positive x.lawful x.rising x.begun.events (bare_arrival a) c.seen;
       started = started;
       by = before_by a.at (bare g) started;
     })
 
-answered_by : {s : State} {stood : List Happened → Type 0} {w : DrawnWords} {arrived : List Arrival} {g : List Happened} {a : Arrival} {ticket : Ticket} {v : Verdict} → (u : Goes s arrived g)
-    → slice_get arrived (offered (bare g)) ≡ Some a → IsAnswered s stood w (coming_of a) ticket v
-    → IsAnswer s.policy (bare g) s.words (coming_of a) v w × stood (discipline.offer_of s.policy u.going.told ticket s.words (coming_of a) ∷ u.going.told)
+answered_by : {s : State} {stood : List Happened → Type 0} {w : DrawnWords} {arrived : List Captured} {g : List Happened} {a : Captured} {ticket : Ticket} {v : Verdict} → (u : Goes s arrived g)
+    → slice_get arrived (offered (bare g)) ≡ Some a → IsAnswered s stood w (bare_arrival a) ticket v
+    → IsAnswer s.policy (bare g) s.words (bare_arrival a) v w × stood (discipline.offer_of s.policy u.going.told ticket s.words (bare_arrival a) ∷ u.going.told)
 answered_by {s = s} {w = w} {arrived = arrived} {g = g} {a = a} {v = v} u e z =
     let y = u.going in
     let l = is_later u e in
     let r = z.history y.told y.stands (record { sized = z.sized; arrived = l.arrived; started = l.started })
-    (omega (arith, y.one_each, y.few, (is_coming arrived g a e).inside)) in
-    let A : List Event → Type 0 = λ h. IsAnswer s.policy h s.words (coming_of a) v w in
+    (omega (arith, y.one_each, y.few, (is_bare_arrival arrived g a e).inside)) in
+    let A : List Event → Type 0 = λ h. IsAnswer s.policy h s.words (bare_arrival a) v w in
     (subst A y.same r.0, r.1)
 
 not_free : (pool : Held) (t u : ℕ) (packet : Packet) → packet_of pool t ≡ Some packet → packet_of pool u ≡ None → t ≡ u → ⊥
@@ -119,8 +119,8 @@ both_true true b e = refl
 both_true false b e = absurd (cc)
 
 -- what waits after an offer is held
-holds_offered : {s t : State} {arrived : List Arrival} {g : List Happened} (a : Arrival) (ticket : Ticket) (v : Verdict) → (u : Goes s arrived g)
-    → IsTaken s t (coming_of a) (numbered (offered (bare g) + 1) (arrival arrived (offered (bare g) + 1))) ticket v
+holds_offered : {s t : State} {arrived : List Captured} {g : List Happened} (a : Captured) (ticket : Ticket) (v : Verdict) → (u : Goes s arrived g)
+    → IsTaken s t (bare_arrival a) (numbered (offered (bare g) + 1) (arrival arrived (offered (bare g) + 1))) ticket v
     → (e : Happened) → ((m : ℕ) → was_marked m (e ∷ g) ≡ cond ((offered (bare g) + 1) == m) (is_mark v) (was_marked m g)) → (c : ℕ)
     → HoldEach arrived (e ∷ g) t.progress.pool (with_offer (a.class == c) v ticket.0 (labels c u.going.told)) (with_offer (a.class == c) v (offered (bare g) + 1) (labels c g))
 holds_offered {s = s} {t = t} {arrived = arrived} {g = g} a ticket v u z e w c =
@@ -139,13 +139,13 @@ holds_offered {s = s} {t = t} {arrived = arrived} {g = g} a ticket v u z e w c =
     record { packet = z.kept i; mark = z.mark i ∙ sym (w n ∙ ap (λ (b : Bool). cond b (is_mark v) (was_marked n g)) on) })
 
 -- the play goes on after an offer
-taken_on : {s t : State} {arrived : List Arrival} {g : List Happened} (a : Arrival) (ticket : Ticket) (v : Verdict) → (u : Goes s arrived g)
-    → slice_get arrived (offered (bare g)) ≡ Some a → AreDue s.policy s.progress.clock.rate s.words.seed (comings arrived) (offer_of s.policy s.words.seed g (coming_of a) ∷ g)
-    → IsTaken s t (coming_of a) (numbered (offered (bare g) + 1) (arrival arrived (offered (bare g) + 1))) ticket v → Going t arrived (offer_of s.policy s.words.seed g (coming_of a) ∷ g)
+taken_on : {s t : State} {arrived : List Captured} {g : List Happened} (a : Captured) (ticket : Ticket) (v : Verdict) → (u : Goes s arrived g)
+    → slice_get arrived (offered (bare g)) ≡ Some a → AreDue s.policy s.progress.clock.rate s.words.seed (bare_arrivals arrived) (offer_of s.policy s.words.seed g (bare_arrival a) ∷ g)
+    → IsTaken s t (bare_arrival a) (numbered (offered (bare g) + 1) (arrival arrived (offered (bare g) + 1))) ticket v → Going t arrived (offer_of s.policy s.words.seed g (bare_arrival a) ∷ g)
 taken_on {s = s} {t = t} {arrived = arrived} {g = g} a ticket v u there due z =
     let y = u.going in
     let p : Policy = s.policy in
-    let b : Coming = coming_of a in
+    let b : Arrival = bare_arrival a in
     let n : ℕ = offered (bare g) + 1 in
     let r = answered_by u there z.answers in
     let first : DrawnWords = record { seed = s.words.seed; drawn = drawn (bare g) } in
@@ -185,27 +185,27 @@ taken_on {s = s} {t = t} {arrived = arrived} {g = g} a ticket v u there due z =
       room = z.room ∙ y.room;
     })
 
-pub same_coming : (n : ℕ) (a : Arrival) (packet : Packet) (placed : Placed) → packet ≡ numbered n a → placed ≡ record { class = a.class; prec = a.prec }
-    → discipline.coming placed.class packet.len placed.prec packet.at ≡ coming_of a
-same_coming n a packet placed e f =
-    ap (λ (k : Packet). discipline.coming placed.class k.len placed.prec k.at) e ∙ ap (λ (k : Placed). discipline.coming k.class a.len k.prec a.at) f
+pub same_bare_arrival : (n : ℕ) (a : Captured) (packet : Packet) (placed : Placed) → packet ≡ numbered n a → placed ≡ record { class = a.class; prec = a.prec }
+    → discipline.arrival_with placed.class packet.len placed.prec packet.at ≡ bare_arrival a
+same_bare_arrival n a packet placed e f =
+    ap (λ (k : Packet). discipline.arrival_with placed.class k.len placed.prec k.at) e ∙ ap (λ (k : Placed). discipline.arrival_with k.class a.len k.prec a.at) f
 
-pub answered : {s : State} {stood : List Happened → Type 0} {w : DrawnWords} {arrived : List Arrival} {g : List Happened} {a : Arrival} {packet : Packet} {placed : Placed} {ticket : Ticket}
+pub answered : {s : State} {stood : List Happened → Type 0} {w : DrawnWords} {arrived : List Captured} {g : List Happened} {a : Captured} {packet : Packet} {placed : Placed} {ticket : Ticket}
     {v : Verdict} → Goes s arrived g → Offers s.policy s.progress.clock.rate s.words.seed arrived g a packet placed
-    → IsAnswered s stood w (discipline.coming placed.class packet.len placed.prec packet.at) ticket v → IsAnswer s.policy (bare g) s.words (coming_of a) v w
+    → IsAnswered s stood w (discipline.arrival_with placed.class packet.len placed.prec packet.at) ticket v → IsAnswer s.policy (bare g) s.words (bare_arrival a) v w
 answered {s = s} {stood = stood} {w = w} {g = g} {a = a} {packet = packet} {placed = placed} {ticket = ticket} {v = v} u o z =
-    let P : Coming → Type 0 = λ b. IsAnswered s stood w b ticket v in
-    (answered_by u o.next.there (subst P (same_coming (offered (bare g) + 1) a packet placed o.packet_is o.placed_is) z)).0
+    let P : Arrival → Type 0 = λ b. IsAnswered s stood w b ticket v in
+    (answered_by u o.next.there (subst P (same_bare_arrival (offered (bare g) + 1) a packet placed o.packet_is o.placed_is) z)).0
 
-pub going_offered : {s t : State} {arrived : List Arrival} {g : List Happened} {a : Arrival} {packet : Packet} {placed : Placed} {ticket : Ticket} {v : Verdict} → Goes s arrived g
+pub going_offered : {s t : State} {arrived : List Captured} {g : List Happened} {a : Captured} {packet : Packet} {placed : Placed} {ticket : Ticket} {v : Verdict} → Goes s arrived g
     → Offers s.policy s.progress.clock.rate s.words.seed arrived g a packet placed
-    → IsTaken s t (discipline.coming placed.class packet.len placed.prec packet.at) packet ticket v → Going t arrived (offer_of s.policy s.words.seed g (coming_of a) ∷ g)
+    → IsTaken s t (discipline.arrival_with placed.class packet.len placed.prec packet.at) packet ticket v → Going t arrived (offer_of s.policy s.words.seed g (bare_arrival a) ∷ g)
 going_offered {s = s} {t = t} {arrived = arrived} {g = g} {a = a} {packet = packet} {placed = placed} {ticket = ticket} {v = v} u o z =
     let n : ℕ = offered (bare g) + 1 in
-    let P : Coming × Packet → Type 0 = λ q. IsTaken s t q.0 q.1 ticket v in
-    let coming = same_coming n a packet placed o.packet_is o.placed_is in
-    let held : packet ≡ numbered n (arrival arrived n) = o.packet_is ∙ ap (numbered n) (sym (is_coming arrived g a o.next.there).numbered_is) in
-    taken_on a ticket v u o.next.there (o.next.is_due, u.going.begun.events) (subst P (cc (coming, held)) z)
+    let P : Arrival × Packet → Type 0 = λ q. IsTaken s t q.0 q.1 ticket v in
+    let arrival_with = same_bare_arrival n a packet placed o.packet_is o.placed_is in
+    let held : packet ≡ numbered n (arrival arrived n) = o.packet_is ∙ ap (numbered n) (sym (is_bare_arrival arrived g a o.next.there).numbered_is) in
+    taken_on a ticket v u o.next.there (o.next.is_due, u.going.begun.events) (subst P (cc (arrival_with, held)) z)
 
 pub most_lost : (r : Option Dropped) → cond (is_some r) 1 0 ≤ 1
 most_lost None = omega arith

@@ -2,20 +2,20 @@
 use Rattle.std.proofs.Common.{◌≡◌, ◌≢◌, ◌≤◌, ◌<◌, ◌+◌, ◌∙◌, ◌⊎◌, inl, inr, ℕ, max, List, [], ◌∷◌, length, Some, refl, ap, sym, subst, arith}
 use Rattle.std.specs.Prelude.{slice_get, ◌==◌}
 use Rattle.altq_model.specs.declared.Fate.TheVariants
-use Rattle.altq_model.specs.Arrivals.{Arrival, arrival, comings}
-use Rattle.altq_model.specs.History.{Coming, Event, Sent, Transmission, Happened, bare, offered, labels, was_marked, Decision, journal}
+use Rattle.altq_model.specs.Arrivals.{Captured, arrival, bare_arrivals}
+use Rattle.altq_model.specs.History.{Arrival, Event, Sent, Sending, Happened, bare, offered, labels, was_marked, Decision, journal}
 use Rattle.altq_model.specs.Laws.{occurs, numbers, clock_end}
 use Rattle.altq_model.specs.Lawful.{IsOneOf}
 use Rattle.altq_model.specs.Link.{Link, link, after_sending, end_of}
 use Rattle.altq_model.specs.Play.{Policy, due}
 use Rattle.play_laws.specs.Events.{IsOffer, IsSending, WaitsOnce}
 use Rattle.play_laws.proofs.AllLaws.{due_laws}
-use Rattle.play_laws.proofs.ArrivalLemmas.{coming_of_number}
+use Rattle.play_laws.proofs.ArrivalLemmas.{bare_arrival_of_number}
 use Rattle.play_laws.proofs.CountLemmas.{journal_occurs}
 use Rattle.play_base.specs.declared.packet.Packet.{Packet}
 use Rattle.leaf_queue.specs.declared.node.Entry.{Entry}
 use Rattle.leaf_queue.specs.Pool.{packet_of, is_marked, count_of}
-use Rattle.discipline.specs.declared.pick.Sending.{Sending}
+use Rattle.discipline.specs.declared.pick.Sending.{Sending as Ticketed}
 use Rattle.discipline.specs.Laws.{Shows, after_sent, held_in, room_of, sent_of, tickets}
 use Rattle.discipline.specs.Moments.{IsChoice}
 use Rattle.play_core.specs.declared.step.Step.TheVariants.{Send}
@@ -23,7 +23,7 @@ use Rattle.play_core.specs.declared.turn.Departure.{Departure}
 use Rattle.play_core.specs.Going.{numbered, Holds, HoldEach}
 use Rattle.play_core.specs.Totals.{AreTotals}
 use Rattle.play_core.specs.Turns.{Departs, departs}
-use Rattle.play_core.proofs.Come.{ComesNow, due_sending, sent_as, transmission}
+use Rattle.play_core.proofs.Come.{ComesNow, due_sending, sent_as, bare_sending}
 use Rattle.play_core.proofs.GoingLemmas.{Going, GoingAs, Goes, SameKind, State, come_of, front_of, ready, renamed, same_packet, within_old}
 use Rattle.play_core.proofs.HeldLemmas.{held_sent}
 use Rattle.play_core.proofs.PoolLemmas.{each_moves, each_rest, first_occurs, other_ticket, count_most}
@@ -31,15 +31,15 @@ use Rattle.play_core.proofs.StepLemmas.{choice_later}
 use Rattle.play_core.proofs.TotalLemmas.{sent_push, dropped_push}
 
 -- what a step tells of a sending
-pub record IsSent (s : State) (arrived : List Arrival) (g told : List Happened) (m : Sending) : Type 0 where
-  pub first : ComesNow s.policy s.progress.clock.rate (comings arrived) g (Send m)
+pub record IsSent (s : State) (arrived : List Captured) (g told : List Happened) (m : Ticketed) : Type 0 where
+  pub first : ComesNow s.policy s.progress.clock.rate (bare_arrivals arrived) g (Send m)
   pub ticket : slice_get (labels m.class told) 0 ≡ Some m.ticket.0
   pub late : max s.progress.clock.link.free s.progress.latest ≤ m.start
   pub end : m.end ≡ end_of s.progress.clock.rate s.progress.clock.link m.start m.len
   pub early : m.end < clock_end
 
 -- what a sending leaves
-pub record IsMade (s t : State) (m : Sending) (d : Departure) : Type 0 where
+pub record IsMade (s t : State) (m : Ticketed) (d : Departure) : Type 0 where
   pub kind : SameKind s t
   pub words : t.words ≡ s.words
   pub history : (h : List Happened) → s.stood h → IsChoice m.start s.progress.clock (bare h) → t.stood (sent_of m ∷ h)
@@ -63,16 +63,16 @@ pub record IsMade (s t : State) (m : Sending) (d : Departure) : Type 0 where
   pub start : d.start ≡ m.start
   pub end : d.end ≡ m.end
 
-is_sending : (p : Policy) (rate seed : ℕ) (arrived : List Coming) (g : List Happened) (e : Happened) (s : Transmission) → e.what ≡ Sent s
+is_sending : (p : Policy) (rate seed : ℕ) (arrived : List Arrival) (g : List Happened) (e : Happened) (s : Sending) → e.what ≡ Sent s
     → IsOffer p rate seed arrived g e ⊎ IsSending p rate arrived g e → IsOneOf s.class p.classes
 is_sending p rate seed arrived g e s q (inl x) = let o = ap (λ (y : Happened). y.what) x.offer in absurd (cc)
 is_sending p rate seed arrived g e s q (inr y) =
     let o : Sent s ≡ Sent y.sending = sym q ∙ y.event in
     let same : s ≡ y.sending = cc in
-    let P : Transmission → Type 0 = λ t. IsOneOf t.class p.classes in
+    let P : Sending → Type 0 = λ t. IsOneOf t.class p.classes in
     subst P (sym same) y.may.held
 
-sent_counts : (n : ℕ) (g : List Happened) (s : Sending) → 0 < occurs n (numbers (journal (sent_as n s ∷ g)))
+sent_counts : (n : ℕ) (g : List Happened) (s : Ticketed) → 0 < occurs n (numbers (journal (sent_as n s ∷ g)))
 sent_counts n g s =
     let j = journal_occurs n (journal g) ((n, TheVariants.Sent s.start s.end s.rule) ∷ []) in
     omega (arith, j, first_occurs n [])
@@ -81,28 +81,28 @@ some_list : (xs : List Entry) (t : ℕ) → slice_get (tickets xs) 0 ≡ Some t 
 some_list [] t e = absurd (cc)
 some_list (x ∷ xs) t e = omega arith
 
-same_departure : (n : ℕ) (m : Sending) (d : Departure) → d.packet.number ≡ n → d.packet.len ≡ m.len → d.class ≡ m.class → d.rule ≡ m.rule → d.start ≡ m.start → d.end ≡ m.end
+same_departure : (n : ℕ) (m : Ticketed) (d : Departure) → d.packet.number ≡ n → d.packet.len ≡ m.len → d.class ≡ m.class → d.rule ≡ m.rule → d.start ≡ m.start → d.end ≡ m.end
     → sent_as n m ≡ departs d
 same_departure n m d a b c e f h = cc
 
 -- the sending that was made was due, under the number of its packet
-pub record HasSent (s : State) (arrived : List Arrival) (g : List Happened) (m : Sending) (d : Departure) : Type 0 where
+pub record HasSent (s : State) (arrived : List Captured) (g : List Happened) (m : Ticketed) (d : Departure) : Type 0 where
   pub number : ℕ
   pub holds : Holds arrived g s.progress.pool m.ticket.0 number
   pub packet : d.packet ≡ numbered number (arrival arrived number)
   pub event : sent_as number m ≡ departs d
-  pub is_due : due s.policy s.progress.clock.rate s.words.seed (comings arrived) g ≡ Some (sent_as number m)
+  pub is_due : due s.policy s.progress.clock.rate s.words.seed (bare_arrivals arrived) g ≡ Some (sent_as number m)
 
-has_sent : {s t : State} {arrived : List Arrival} {g : List Happened} {m : Sending} {d : Departure} → (u : Goes s arrived g) → IsSent s arrived g u.going.told m → IsMade s t m d
+has_sent : {s t : State} {arrived : List Captured} {g : List Happened} {m : Ticketed} {d : Departure} → (u : Goes s arrived g) → IsSent s arrived g u.going.told m → IsMade s t m d
     → HasSent s arrived g m d
 has_sent {s = s} {arrived = arrived} {g = g} {m = m} {d = d} u i z =
     let f = front_of m.class u.going i.ticket in
     let x = come_of u in
     let packet = same_packet d.packet (numbered f.number (arrival arrived f.number)) (sym z.taken ∙ f.holds.packet) in
     let end = i.end ∙ ap (λ (l : Link). end_of s.progress.clock.rate l m.start m.len) u.going.link_is in
-    let q = due_sending s.policy s.progress.clock.rate s.words.seed (comings arrived) g f.number m x i.first f.first end in
-    let one = (due_laws s.policy s.progress.clock.rate s.words.seed (comings arrived) (sent_as f.number m ∷ g) x.positive x.lawful x.rising (q, x.begun.events)).of_arrivals.0 in
-    let len : (arrival arrived f.number).len ≡ m.len = ap (λ (a : Coming). a.len) (coming_of_number arrived f.number one.packet one.arrival) ∙ sym one.len in
+    let q = due_sending s.policy s.progress.clock.rate s.words.seed (bare_arrivals arrived) g f.number m x i.first f.first end in
+    let one = (due_laws s.policy s.progress.clock.rate s.words.seed (bare_arrivals arrived) (sent_as f.number m ∷ g) x.positive x.lawful x.rising (q, x.begun.events)).of_arrivals.0 in
+    let len : (arrival arrived f.number).len ≡ m.len = ap (λ (a : Arrival). a.len) (bare_arrival_of_number arrived f.number one.packet one.arrival) ∙ sym one.len in
     record {
       number = f.number;
       holds = f.holds;
@@ -111,7 +111,7 @@ has_sent {s = s} {arrived = arrived} {g = g} {m = m} {d = d} u i z =
       is_due = q;
     }
 
-departs_of : {s : State} {arrived : List Arrival} {g : List Happened} {m : Sending} {d : Departure} → HasSent s arrived g m d → d.marked ≡ is_marked s.progress.pool m.ticket.0
+departs_of : {s : State} {arrived : List Captured} {g : List Happened} {m : Ticketed} {d : Departure} → HasSent s arrived g m d → d.marked ≡ is_marked s.progress.pool m.ticket.0
     → Departs s.policy s.progress.clock.rate s.words.seed arrived g d
 departs_of {arrived = arrived} {g = g} {d = d} n m =
     let label = ap (λ (e : Happened). e.label) n.event in
@@ -123,7 +123,7 @@ departs_of {arrived = arrived} {g = g} {d = d} n m =
     }
 
 -- what waits after a sending is held as before
-holds_sent : {s t : State} {arrived : List Arrival} {g : List Happened} {m : Sending} {d : Departure} → (y : Going s arrived g) → IsMade s t m d → (h : HasSent s arrived g m d)
+holds_sent : {s t : State} {arrived : List Captured} {g : List Happened} {m : Ticketed} {d : Departure} → (y : Going s arrived g) → IsMade s t m d → (h : HasSent s arrived g m d)
     → WaitsOnce (sent_as h.number m ∷ g) → (c : ℕ)
     → HoldEach arrived (sent_as h.number m ∷ g) t.progress.pool (labels c (sent_of m ∷ y.told)) (labels c (sent_as h.number m ∷ g))
 holds_sent {s = s} {t = t} {arrived = arrived} {g = g} {m = m} y z h once c =
@@ -138,19 +138,19 @@ holds_sent {s = s} {t = t} {arrived = arrived} {g = g} {m = m} y z h once c =
     (each_rest arrived g s.progress.pool (m.class == c) (labels c y.told) (labels c g) (y.holds c))
 
 -- the play goes on
-after_sent_on : {s t : State} {arrived : List Arrival} {g : List Happened} {m : Sending} {d : Departure} → (u : Goes s arrived g) → IsSent s arrived g u.going.told m
+after_sent_on : {s t : State} {arrived : List Captured} {g : List Happened} {m : Ticketed} {d : Departure} → (u : Goes s arrived g) → IsSent s arrived g u.going.told m
     → Shows m.class (s.lists m.class) u.going.told → IsMade s t m d → (h : HasSent s arrived g m d) → GoingAs s t arrived (sent_as h.number m ∷ g)
 after_sent_on {s = s} {t = t} {arrived = arrived} {g = g} {m = m} u i shown z h =
     let y = u.going in
     let r : ℕ = s.progress.clock.rate in
     let k : List Happened = sent_as h.number m ∷ g in
     let x = come_of u in
-    let laws = due_laws s.policy r s.words.seed (comings arrived) k x.positive x.lawful x.rising (h.is_due, x.begun.events) in
+    let laws = due_laws s.policy r s.words.seed (bare_arrivals arrived) k x.positive x.lawful x.rising (h.is_due, x.begun.events) in
     let T : ℕ → Type 0 = λ q. AreTotals q k t.progress.totals in
     let d : Decision = (h.number, TheVariants.Sent m.start m.end m.rule) in
     let end = i.end ∙ ap (λ (l : Link). end_of r l m.start m.len) y.link_is in
     let some = some_list (s.lists m.class) m.ticket.0 (ap (λ (ns : List ℕ). slice_get ns 0) shown.labels ∙ i.ticket) in
-    let one_of = is_sending s.policy r s.words.seed (comings arrived) g (sent_as h.number m) (transmission m) refl laws.each.0 in
+    let one_of = is_sending s.policy r s.words.seed (bare_arrivals arrived) g (sent_as h.number m) (bare_sending m) refl laws.each.0 in
     record {
       begun = rw (z.words, z.rate_is) (record { events = (h.is_due, y.begun.events); in_time = (i.early, y.begun.in_time) });
       rising = y.rising;
@@ -168,14 +168,14 @@ after_sent_on {s = s} {t = t} {arrived = arrived} {g = g} {m = m} u i shown z h 
       rate_is = rw z.rate_is y.rate_is;
       told = sent_of m ∷ y.told;
       stands = z.history y.told y.stands (choice_later (max s.progress.clock.link.free s.progress.latest) m.start s.progress.clock (bare y.told) i.late (ready s arrived g _ u refl));
-      same = ap (λ (b : List Event). Sent (transmission m) ∷ b) y.same;
+      same = ap (λ (b : List Event). Sent (bare_sending m) ∷ b) y.same;
       holds = holds_sent y z h laws.waits_once;
       count = omega (arith, z.count, y.count, held_sent m.class s.lists t.lists s.policy.classes one_of u.promised.distinct some z.lists_are);
       within = within_old z.kind z.within;
       room = z.room ∙ y.room;
     }
 
-pub going_sent : {s t : State} {arrived : List Arrival} {g : List Happened} {m : Sending} {d : Departure} → (u : Goes s arrived g) → IsSent s arrived g u.going.told m
+pub going_sent : {s t : State} {arrived : List Captured} {g : List Happened} {m : Ticketed} {d : Departure} → (u : Goes s arrived g) → IsSent s arrived g u.going.told m
     → Shows m.class (s.lists m.class) u.going.told → IsMade s t m d
     → Departs s.policy s.progress.clock.rate s.words.seed arrived g d × Going t arrived (departs d ∷ g)
 going_sent {s = s} {t = t} {arrived = arrived} {g = g} u i shown z =

@@ -3,7 +3,7 @@ use Rattle.std.proofs.Common.{◌≡◌, ◌≤◌, ◌<◌, ◌∙◌, ℕ, min
 use Rattle.std.specs.Prelude.{slice_get, nat_le, option_map}
 use Rattle.std.specs.declared.option.Option.{Option}
 use Rattle.altq_model.specs.declared.Rule.{Rule}
-use Rattle.altq_model.specs.History.{Coming, Event, Offered, Sent, Happened, bare, head, labels, waiting}
+use Rattle.altq_model.specs.History.{Arrival, Event, Offered, Sent, Happened, bare, head, labels, waiting}
 use Rattle.altq_model.specs.Laws.{clock_end}
 use Rattle.altq_model.specs.Link.{Link, link, end_of}
 use Rattle.altq_model.specs.Play.{Policy, Choice, IsOneOf, lesser}
@@ -22,11 +22,11 @@ use Rattle.play_core.specs.Steps.{IsSentAt, IsStep, OffersFirst, SendsFirst, com
 -- the head of a list is the head of what waits
 pub record HasFront (c : ℕ) (g : List Happened) (ticket : Ticket) (len : ℕ) : Type 0 where
   pub number : slice_get (labels c g) 0 ≡ Some ticket.0
-  pub packet : Coming
+  pub packet : Arrival
   pub front : head c (bare g) ≡ Some packet
   pub len_is : packet.len ≡ len
 
-front_of : (xs : List Entry) (ws : List Coming) (x : Entry) → seen (x ∷ xs) ≡ seen_of ws → (packet : Coming) × (slice_get ws 0 ≡ Some packet) × (packet.len ≡ x.len)
+front_of : (xs : List Entry) (ws : List Arrival) (x : Entry) → seen (x ∷ xs) ≡ seen_of ws → (packet : Arrival) × (slice_get ws 0 ≡ Some packet) × (packet.len ≡ x.len)
 front_of xs [] x h = absurd (cc)
 front_of xs (a ∷ ws) x h = (a, refl, let e : (x.len, x.prec) ≡ (a.len, a.prec) = cc in sym (ap (λ (q : ℕ × ℕ). q.0) e))
 
@@ -43,7 +43,7 @@ shown_head c (x ∷ xs) g ticket len prec s h =
       len_is = f.2 ∙ ap (λ (y : Entry). y.len) e;
     }
 
-same_packet : (a b : Coming) → Some a ≡ Some b → a ≡ b
+same_packet : (a b : Arrival) → Some a ≡ Some b → a ≡ b
 same_packet a b h = cc
 
 -- the head of the class that is due is sent, or would end too late
@@ -61,7 +61,7 @@ sends_then p clock g xs ticket class len prec rule start s h k = go (nat_le cloc
         let there : head class (bare g) ≡ Some packet = ap (λ (c : Choice). head c.class (bare g)) (sym k) ∙ f in
         let same : packet ≡ x.packet = same_packet packet x.packet (sym there ∙ x.front) in
         let P : ℕ → Type 0 = λ n. clock_end ≤ end_of clock.rate clock.link start n in
-        subst P (sym (ap (λ (a : Coming). a.len) same ∙ x.len_is)) (let l : clock_end ≤ end_of clock.rate clock.link start len = grind (arith, e) in l)
+        subst P (sym (ap (λ (a : Arrival). a.len) same ∙ x.len_is)) (let l : clock_end ≤ end_of clock.rate clock.link start len = grind (arith, e) in l)
     go false e = (refl, record { pick = k; packet = x.packet; front = x.front; len = x.len_is })
 
 pub step_is : (p : Policy) (clock : Clock) (t : ℕ) (h : List Event) (arrival : Option ℕ) (step : Step) → SendsFirst p clock t h arrival step
@@ -103,8 +103,8 @@ ticket_then g xs ticket class len prec rule start end s w h e =
     subst P (ticket_case (nat_le clock_end end) r s e) x.number
 
 -- no class may send before the moment from which it is asked
-start_later : (p : Policy) (t : ℕ) (h : List Event) (c s : ℕ) (o : Option Coming) → IsLawful p → IsOneOf c p.classes → head c h ≡ o
-    → option_map (λ (a : Coming). p.start_from h c t) o ≡ Some s → t ≤ s
+start_later : (p : Policy) (t : ℕ) (h : List Event) (c s : ℕ) (o : Option Arrival) → IsLawful p → IsOneOf c p.classes → head c h ≡ o
+    → option_map (λ (a : Arrival). p.start_from h c t) o ≡ Some s → t ≤ s
 start_later p t h c s None law held e f = absurd (cc)
 start_later p t h c s (Some b) law held e f =
     let l = law.later h c t b (record { held = held; front = e }) in

@@ -3,7 +3,7 @@ use Rattle.std.specs.Prelude.{◌≡◌, ◌≤◌, ◌+◌, ℕ, List, [], ◌�
 use Rattle.std.specs.declared.option.Option.{Option}
 use Rattle.capture_model.specs.Capture.{most_records}
 use Rattle.altq_model.specs.declared.Verdict.{Verdict}
-use Rattle.altq_model.specs.Arrivals.{Arrival, arrival, comings}
+use Rattle.altq_model.specs.Arrivals.{Captured, arrival, bare_arrivals}
 use Rattle.altq_model.specs.History.{DrawnWords, Happened, bare, offered, drawn, labels, is_kept, was_marked}
 use Rattle.altq_model.specs.Lawful.{AreRising, latest}
 use Rattle.altq_model.specs.Link.{link}
@@ -17,16 +17,16 @@ use Rattle.play_core.specs.Ended.{IsBegun}
 use Rattle.play_core.specs.Totals.{AreTotals}
 
 -- the packet of an arrival, under its number
-abbrev pub numbered : (n : ℕ) → Arrival → Packet
+abbrev pub numbered : (n : ℕ) → Captured → Packet
 numbered n a = record { number = n; at = a.at; len = a.len; bytes = a.bytes }
 
 -- under `ticket` the pool holds the packet of arrival n, marked as its queue marked it
-pub record Holds (arrived : List Arrival) (g : List Happened) (pool : Held) (ticket n : ℕ) : Type 0 where
+pub record Holds (arrived : List Captured) (g : List Happened) (pool : Held) (ticket n : ℕ) : Type 0 where
   pub packet : packet_of pool ticket ≡ Some (numbered n (arrival arrived n))
   pub mark : is_marked pool ticket ≡ was_marked n g
 
 -- so it does under each of `tickets`, for the number at the same place of `numbers`
-abbrev pub HoldEach : List Arrival → List Happened → Held → (tickets numbers : List ℕ) → Type 0
+abbrev pub HoldEach : List Captured → List Happened → Held → (tickets numbers : List ℕ) → Type 0
 HoldEach arrived g pool [] [] = Unit {0}
 HoldEach arrived g pool [] (n ∷ ns) = ⊥
 HoldEach arrived g pool (t ∷ ts) [] = ⊥
@@ -39,9 +39,9 @@ one_kept v = if is_kept v then 1 else 0
 -- the first events of the play of what arrived so far, by the policy, the histories, the lists, the limits and the rate of a discipline,
 -- and by the random words of a seed
 pub record IsGoing (p : Policy) (stood : List Happened → Type 0) (lists : ℕ → List Entry) (limits : ℕ → ℕ) (rate : Option ℕ)
-    (arrived : List Arrival) (w : DrawnWords) (x : Progress) (g : List Happened) : Type 0 where
-  pub begun : IsBegun p x.clock.rate w.seed (comings arrived) g
-  pub rising : AreRising (comings arrived)
+    (arrived : List Captured) (w : DrawnWords) (x : Progress) (g : List Happened) : Type 0 where
+  pub begun : IsBegun p x.clock.rate w.seed (bare_arrivals arrived) g
+  pub rising : AreRising (bare_arrivals arrived)
   pub few : length arrived ≤ most_records
   pub words : w.drawn ≡ drawn (bare g)
   pub one_each : w.drawn ≤ offered (bare g)

@@ -2,7 +2,7 @@
 use Rattle.std.specs.Prelude.{◌≡◌, ◌≤◌, ℕ, Bool, false, nat_le, List, None, Some, if◌then◌else◌}
 use Rattle.std.specs.declared.option.Option.{Option}
 use Rattle.altq_model.specs.declared.Rule.{Rule}
-use Rattle.altq_model.specs.History.{Coming, Event, head}
+use Rattle.altq_model.specs.History.{Arrival, Event, head}
 use Rattle.altq_model.specs.Laws.{clock_end}
 use Rattle.altq_model.specs.Link.{end_of}
 use Rattle.altq_model.specs.Play.{Policy}
@@ -33,13 +33,13 @@ pub record OffersFirst (p : Policy) (t : ℕ) (h : List Event) (arrival : Option
 -- this is the sending of the pick's head at a moment
 pub record SendsHead (p : Policy) (h : List Event) (s : Sending) : Type 0 where
   pub pick : p.pick h s.start ≡ record { class = s.class; rule = s.rule }
-  pub packet : Coming
+  pub packet : Arrival
   pub front : head s.class h ≡ Some packet
   pub len : packet.len ≡ s.len
 
 -- the pick's head would end too late
 abbrev pub WouldEndLate : Policy → Clock → (start : ℕ) → List Event → Type 0
-WouldEndLate p clock start h = (packet : Coming) → head (p.pick h start).class h ≡ Some packet
+WouldEndLate p clock start h = (packet : Arrival) → head (p.pick h start).class h ≡ Some packet
     → clock_end ≤ end_of clock.rate clock.link start packet.len
 
 -- what is sent at this moment

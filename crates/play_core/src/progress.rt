@@ -1,6 +1,6 @@
 // The next event of a play.
 ghost use Rattle.std.specs.Prelude.{◌≡◌, ◌≢◌, ◌≤◌, ◌<◌, ◌*◌, ◌+◌, ◌^◌, ◌∷◌, [], ℕ, true, false, List, IfOk, IsSome, Some, is_some, length, if◌then◌else◌};
-ghost use Rattle.altq_model.specs.Arrivals.{Arrival, coming_of, comings};
+ghost use Rattle.altq_model.specs.Arrivals.{Captured, bare_arrival, bare_arrivals};
 ghost use Rattle.altq_model.specs.History.{DrawnWords, Happened, bare, is_kept, is_mark};
 ghost use Rattle.altq_model.specs.Lawful.{AreRising, IsOneOf};
 ghost use Rattle.altq_model.specs.Play.{offer_of};
@@ -33,7 +33,7 @@ impl Progress {
         requires rate { HasRate (D.link_rate discipline.now) rate }
         requires new { D.stands discipline.now [] }
         ensures rate { IfOk result (λ x. x.clock.rate ≡ rate) }
-        ensures going { IfOk result (λ x. (arrived : List Arrival) (w : DrawnWords) → w.drawn ≡ 0 → AreRising (comings arrived) → length arrived ≤ 4000000 →
+        ensures going { IfOk result (λ x. (arrived : List Captured) (w : DrawnWords) → w.drawn ≡ 0 → AreRising (bare_arrivals arrived) → length arrived ≤ 4000000 →
             IsGoing (D.policy discipline.now) (D.stands discipline.now) (D.lists discipline.now) (D.limits discipline.now) (D.link_rate discipline.now) arrived w x []) }
     {
         let pool = Pool::reserve(alloc, discipline.room() + 1)?;
@@ -71,18 +71,18 @@ impl Progress {
         requires some { 1 ≤ packet.len }
         requires short { packet.len ≤ 262144 }
         requires early { packet.at < 2 ^ 62 }
-        requires next { (arrived : List Arrival) × (g : List Happened) × (a : Arrival)
+        requires next { (arrived : List Captured) × (g : List Happened) × (a : Captured)
             × IsGoing (D.policy discipline.old) (D.stands discipline.old) (D.lists discipline.old) (D.limits discipline.old) (D.link_rate discipline.old) arrived words.old self.old g
             × Offers (D.policy discipline.old) self.old.clock.rate words.old.seed arrived g a packet placed }
-        ensures offered { (arrived : List Arrival) (g : List Happened) (a : Arrival)
+        ensures offered { (arrived : List Captured) (g : List Happened) (a : Captured)
             → IsGoing (D.policy discipline.old) (D.stands discipline.old) (D.lists discipline.old) (D.limits discipline.old) (D.link_rate discipline.old) arrived words.old self.old g
             → Offers (D.policy discipline.old) self.old.clock.rate words.old.seed arrived g a packet placed
             → IsGoing (D.policy discipline.new) (D.stands discipline.new) (D.lists discipline.new) (D.limits discipline.new) (D.link_rate discipline.new) arrived words.new self.new
-            (offer_of (D.policy discipline.old) words.old.seed g (coming_of a) ∷ g) }
-        ensures told { (arrived : List Arrival) (g : List Happened) (a : Arrival)
+            (offer_of (D.policy discipline.old) words.old.seed g (bare_arrival a) ∷ g) }
+        ensures told { (arrived : List Captured) (g : List Happened) (a : Captured)
             → IsGoing (D.policy discipline.old) (D.stands discipline.old) (D.lists discipline.old) (D.limits discipline.old) (D.link_rate discipline.old) arrived words.old self.old g
             → Offers (D.policy discipline.old) self.old.clock.rate words.old.seed arrived g a packet placed
-            → result ≡ handed_back ((D.policy discipline.old).answer (bare g) words.old (coming_of a)).verdict packet }
+            → result ≡ handed_back ((D.policy discipline.old).answer (bare g) words.old (bare_arrival a)).verdict packet }
         ensures rate { self.new.clock.rate ≡ self.old.clock.rate }
         ensures seed { words.new.seed ≡ words.old.seed }
         ensures policy { D.policy discipline.new ≡ D.policy discipline.old }
@@ -104,8 +104,8 @@ impl Progress {
     /// the least moment at which a class may send, else the sending at that moment, which is made if it ends before the clock does.
     /// Takes no memory, and one division.
     pub fn turn<D: Discipline>(&mut self, discipline: &mut D, arrival: Option<u64>) -> Turn
-        requires going { (arrived : List Arrival) × (w : DrawnWords) × (g : List Happened) × IsGoing (D.policy discipline.old) (D.stands discipline.old) (D.lists discipline.old) (D.limits discipline.old) (D.link_rate discipline.old) arrived w self.old g }
-        ensures turned { (arrived : List Arrival) (w : DrawnWords) (g : List Happened)
+        requires going { (arrived : List Captured) × (w : DrawnWords) × (g : List Happened) × IsGoing (D.policy discipline.old) (D.stands discipline.old) (D.lists discipline.old) (D.limits discipline.old) (D.link_rate discipline.old) arrived w self.old g }
+        ensures turned { (arrived : List Captured) (w : DrawnWords) (g : List Happened)
             → IsGoing (D.policy discipline.old) (D.stands discipline.old) (D.lists discipline.old) (D.limits discipline.old) (D.link_rate discipline.old) arrived w self.old g → arrival ≡ arrives arrived g
             → ComesNext (D.policy discipline.old) self.old.clock.rate w.seed arrived g result
             × IsGoing (D.policy discipline.new) (D.stands discipline.new) (D.lists discipline.new) (D.limits discipline.new) (D.link_rate discipline.new) arrived w self.new (turned result g) }

@@ -2,7 +2,7 @@
 use Rattle.std.proofs.Common.{◌≡◌, ◌≤◌, ◌<◌, ◌⊎◌, inl, inr, ℕ, max, Bool, true, false, cond, List, [], ◌∷◌, ◌++◌, Some, refl, ap, sym, subst, arith}
 use Rattle.std.specs.Prelude.{slice_get, nat_lt, ◌==◌, ◌&&◌, ◌↔◌}
 use Rattle.std.proofs.lemmas.Bool.{ltb-true, ltb-false}
-use Rattle.altq_model.specs.History.{Coming, Answer, DrawnWords, Event, Offered, Sent, Happened, bare, drawn, offered, head, waiting, is_kept}
+use Rattle.altq_model.specs.History.{Arrival, Answer, DrawnWords, Event, Offered, Sent, Happened, bare, drawn, offered, head, waiting, is_kept}
 use Rattle.altq_model.specs.Busy.{as_of, SomeMaySend, IsLeastStart}
 use Rattle.play_laws.specs.Heads.{StartsWithHead, ComeInOrder}
 use Rattle.altq_model.specs.Lawful.{AreRising, IsHead, IsLawful, NeverWaits, latest}
@@ -14,37 +14,37 @@ use Rattle.play_laws.proofs.LinkLemmas.{end_later}
 use Rattle.play_laws.proofs.TimeLemmas.{IsOnTime, follows, head_latest, head_stays, on_time}
 
 -- what was the head is the head still
-head_later_case : (c u : ℕ) (a : Coming) (w : DrawnWords) (v : Answer) (h : List Event) (b : Bool) (x : Coming) → (head c (as_of u h) ≡ Some x → head c h ≡ Some x)
+head_later_case : (c u : ℕ) (a : Arrival) (w : DrawnWords) (v : Answer) (h : List Event) (b : Bool) (x : Arrival) → (head c (as_of u h) ≡ Some x → head c h ≡ Some x)
     → head c (cond b (as_of u h) (Offered a w v ∷ h)) ≡ Some x → head c (Offered a w v ∷ h) ≡ Some x
 head_later_case c u a w v h true x f e = head_stays c h a w v x (f e)
 head_later_case c u a w v h false x f e = e
 
-head_later : (c u : ℕ) (h : List Event) (x : Coming) → head c (as_of u h) ≡ Some x → head c h ≡ Some x
+head_later : (c u : ℕ) (h : List Event) (x : Arrival) → head c (as_of u h) ≡ Some x → head c h ≡ Some x
 head_later c u [] x e = e
 head_later c u (Offered a w v ∷ h) x e = head_later_case c u a w v h (nat_lt u a.at) x (head_later c u h x) e
 head_later c u (Sent s ∷ h) x e = e
 
 -- a head that came by a moment was the head as of it
-first_kept : (k : Bool) (a x : Coming) (xs : List Coming) → slice_get (cond k (xs ++ a ∷ []) xs) 0 ≡ Some x → (slice_get xs 0 ≡ Some x) ⊎ (a ≡ x)
+first_kept : (k : Bool) (a x : Arrival) (xs : List Arrival) → slice_get (cond k (xs ++ a ∷ []) xs) 0 ≡ Some x → (slice_get xs 0 ≡ Some x) ⊎ (a ≡ x)
 first_kept true a x [] e = inr (cc)
 first_kept true a x (y ∷ xs) e = inl e
 first_kept false a x xs e = inl e
 
-head_then_case : (c u : ℕ) (a : Coming) (w : DrawnWords) (v : Answer) (h : List Event) (b : Bool) (x : Coming) → nat_lt u a.at ≡ b → x.at ≤ u
+head_then_case : (c u : ℕ) (a : Arrival) (w : DrawnWords) (v : Answer) (h : List Event) (b : Bool) (x : Arrival) → nat_lt u a.at ≡ b → x.at ≤ u
     → (head c h ≡ Some x → head c (as_of u h) ≡ Some x) → head c (Offered a w v ∷ h) ≡ Some x → (head c h ≡ Some x) ⊎ (a ≡ x)
     → head c (cond b (as_of u h) (Offered a w v ∷ h)) ≡ Some x
 head_then_case c u a w v h true x t l f e (inl i) = f i
-head_then_case c u a w v h true x t l f e (inr i) = let q = ltb-true u a.at t in absurd (omega (arith, q, l, ap (λ (k : Coming). k.at) i))
+head_then_case c u a w v h true x t l f e (inr i) = let q = ltb-true u a.at t in absurd (omega (arith, q, l, ap (λ (k : Arrival). k.at) i))
 head_then_case c u a w v h false x t l f e i = e
 
-head_then : (c u : ℕ) (h : List Event) (x : Coming) → x.at ≤ u → head c h ≡ Some x → head c (as_of u h) ≡ Some x
+head_then : (c u : ℕ) (h : List Event) (x : Arrival) → x.at ≤ u → head c h ≡ Some x → head c (as_of u h) ≡ Some x
 head_then c u [] x l e = e
 head_then c u (Offered a w v ∷ h) x l e =
     head_then_case c u a w v h (nat_lt u a.at) x refl l (head_then c u h x l) e (first_kept (is_kept v.verdict && (a.class == c)) a x (waiting c h) e)
 head_then c u (Sent s ∷ h) x l e = e
 
 -- a class with a head may send at any moment
-may_then : (p : Policy) (h : List Event) (u c : ℕ) (b : Coming) → NeverWaits p → IsHead p h c b → b.at ≤ u → SomeMaySend p (as_of u h) u
+may_then : (p : Policy) (h : List Event) (u c : ℕ) (b : Arrival) → NeverWaits p → IsHead p h c b → b.at ≤ u → SomeMaySend p (as_of u h) u
 may_then p h u c b nw i l =
     let f = head_then c u h b l i.front in
     record { class = c; held = i.held; packet = b; front = f; may = nw (as_of u h) c u b (record { held = i.held; front = f }) }
@@ -77,12 +77,12 @@ pub same_sentence : (p : Policy) (free : ℕ) (h : List Event) (s : ℕ) → Nev
 same_sentence p free h s nw order = (with_head p free h s nw order, least_start p free h s nw order)
 
 -- in a play what is offered comes in order
-order_case : (free u : ℕ) (a : Coming) (w : DrawnWords) (v : Answer) (h : List Event) (b : Bool) → nat_lt u a.at ≡ b → latest h ≤ a.at → latest (as_of u h) ≤ u
+order_case : (free u : ℕ) (a : Arrival) (w : DrawnWords) (v : Answer) (h : List Event) (b : Bool) → nat_lt u a.at ≡ b → latest h ≤ a.at → latest (as_of u h) ≤ u
     → latest (cond b (as_of u h) (Offered a w v ∷ h)) ≤ u
 order_case free u a w v h true t l o = o
 order_case free u a w v h false t l o = omega (arith, ltb-false u a.at t, l)
 
-order_step : (p : Policy) (rate seed : ℕ) (arrived : List Coming) (g : List Happened) (e : Happened) → 0 < rate → IsOnTime p rate arrived (bare g)
+order_step : (p : Policy) (rate seed : ℕ) (arrived : List Arrival) (g : List Happened) (e : Happened) → 0 < rate → IsOnTime p rate arrived (bare g)
     → IsOffer p rate seed arrived g e ⊎ IsSending p rate arrived g e → ComeInOrder (link rate (bare g)).free (bare g)
     → ComeInOrder (link rate (bare (e ∷ g))).free (bare (e ∷ g))
 order_step p rate seed arrived g e pos t (inl x) o =
@@ -97,7 +97,7 @@ order_step p rate seed arrived g e pos t (inr y) o =
     subst P (sym y.event) (λ u l.
     omega (arith, l, end_later rate (bare g) s.start s.len pos, t.starts s.class s.start y.may.held y.may.start))
 
-pub in_order : (p : Policy) (rate seed : ℕ) (arrived : List Coming) (g : List Happened) → 0 < rate → IsLawful p → AreRising arrived → AreDue p rate seed arrived g
+pub in_order : (p : Policy) (rate seed : ℕ) (arrived : List Arrival) (g : List Happened) → 0 < rate → IsLawful p → AreRising arrived → AreDue p rate seed arrived g
     → ComeInOrder (link rate (bare g)).free (bare g)
 in_order p rate seed arrived [] pos law rise d = λ u l. omega arith
 in_order p rate seed arrived (e ∷ g) pos law rise d =

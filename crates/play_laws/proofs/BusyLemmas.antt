@@ -3,7 +3,7 @@ use Rattle.std.proofs.Common.{◌≡◌, ◌≤◌, ◌<◌, ◌∙◌, ◌⊎�
 use Rattle.std.specs.Prelude.{slice_get, nat_lt}
 use Rattle.std.proofs.lemmas.Bool.{ltb-true, ltb-false}
 use Rattle.std.proofs.lemmas.Option.{slice_get_within}
-use Rattle.altq_model.specs.History.{Coming, Answer, DrawnWords, Event, Offered, Sent, Transmission, Happened, bare, offered, drawn}
+use Rattle.altq_model.specs.History.{Arrival, Answer, DrawnWords, Event, Offered, Sent, Sending, Happened, bare, offered, drawn}
 use Rattle.altq_model.specs.Link.{link}
 use Rattle.altq_model.specs.Laws.{StartsBefore, IsPrompt}
 use Rattle.altq_model.specs.Busy.{as_of, SomeMaySend, IsLeastStart, IsBusy}
@@ -17,7 +17,7 @@ use Rattle.play_laws.proofs.TimeLemmas.{IsOnTime, on_time, follows, head_latest,
 use Rattle.play_laws.proofs.OrderLemmas.{starts_late}
 
 -- what is offered from a place on arrived after the start of each sending before
-pub started_before : (p : Policy) (rate seed : ℕ) (arrived : List Coming) (g : List Happened) (k : ℕ) (a : Coming) → AreRising arrived → EachFollows p rate seed arrived g
+pub started_before : (p : Policy) (rate seed : ℕ) (arrived : List Arrival) (g : List Happened) (k : ℕ) (a : Arrival) → AreRising arrived → EachFollows p rate seed arrived g
     → offered (bare g) ≤ k → slice_get arrived k ≡ Some a → StartsBefore a.at (bare g)
 started_before p rate seed arrived [] k a rise f l e = tt
 started_before p rate seed arrived (o ∷ g) k a rise (inl x, f) l e =
@@ -30,7 +30,7 @@ started_before p rate seed arrived (o ∷ g) k a rise (inr y, f) l e =
     let r = rising_at 0 arrived (offered (bare g)) k b.0 a rise b.1 e m in
     (omega (arith, y.passed b.0 b.1, r), started_before p rate seed arrived g k a rise f m e)) l
 
-pub prompt : (p : Policy) (rate seed : ℕ) (arrived : List Coming) (g : List Happened) → AreRising arrived → EachFollows p rate seed arrived g → IsPrompt (bare g)
+pub prompt : (p : Policy) (rate seed : ℕ) (arrived : List Arrival) (g : List Happened) → AreRising arrived → EachFollows p rate seed arrived g → IsPrompt (bare g)
 prompt p rate seed arrived [] rise f = tt
 prompt p rate seed arrived (o ∷ g) rise (inl x, f) =
     let P : Event → Type 0 = λ z. IsPrompt (z ∷ bare g) in
@@ -52,7 +52,7 @@ waits_on p free h u steady came after first m =
     omega (arith, same, m.may, f, l.least)
 
 -- no class may send before the first start, whatever was offered up to then
-offer_none : (p : Policy) (free : ℕ) (h : List Event) (a : Coming) (w : DrawnWords) (v : Answer) (u : ℕ) (b : Bool) → nat_lt u a.at ≡ b → IsSteady p → latest h ≤ a.at → free ≤ u
+offer_none : (p : Policy) (free : ℕ) (h : List Event) (a : Arrival) (w : DrawnWords) (v : Answer) (u : ℕ) (b : Bool) → nat_lt u a.at ≡ b → IsSteady p → latest h ≤ a.at → free ≤ u
     → ((s : ℕ) → first_start p free (Offered a w v ∷ h) p.classes ≡ Some s → u < s) → (u < a.at → SomeMaySend p (as_of u h) u → ⊥)
     → SomeMaySend p (cond b (as_of u h) (Offered a w v ∷ h)) u → ⊥
 offer_none p free h a w v u true t steady l after first rest m = rest (ltb-true u a.at t) m
@@ -60,7 +60,7 @@ offer_none p free h a w v u false t steady l after first rest m =
     let came = ltb-false u a.at t in
     waits_on p free (Offered a w v ∷ h) u steady (omega (arith, came, l)) after first m
 
-none_offer : (p : Policy) (rate : ℕ) (arrived : List Coming) (h : List Event) (a : Coming) (w : DrawnWords) (v : Answer) (u : ℕ) → IsSteady p → IsOnTime p rate arrived h
+none_offer : (p : Policy) (rate : ℕ) (arrived : List Arrival) (h : List Event) (a : Arrival) (w : DrawnWords) (v : Answer) (u : ℕ) → IsSteady p → IsOnTime p rate arrived h
     → slice_get arrived (offered h) ≡ Some a → ((s : ℕ) → first_start p (link rate h).free h p.classes ≡ Some s → a.at ≤ s) → (link rate h).free ≤ u
     → ((s : ℕ) → first_start p (link rate h).free (Offered a w v ∷ h) p.classes ≡ Some s → u < s)
     → (((s : ℕ) → first_start p (link rate h).free h p.classes ≡ Some s → u < s) → SomeMaySend p (as_of u h) u → ⊥)
@@ -69,7 +69,7 @@ none_offer p rate arrived h a w v u steady t next before after first rest m =
     offer_none p (link rate h).free h a w v u (nat_lt u a.at) refl steady (t.comes (offered h) a (omega arith) next) after first
     (λ l. rest (λ s f. omega (arith, l, before s f))) m
 
-none_sent : (p : Policy) (rate : ℕ) (h : List Event) (s : Transmission) (u : ℕ) → 0 < rate → IsSteady p → latest h ≤ s.start → (link rate (Sent s ∷ h)).free ≤ u
+none_sent : (p : Policy) (rate : ℕ) (h : List Event) (s : Sending) (u : ℕ) → 0 < rate → IsSteady p → latest h ≤ s.start → (link rate (Sent s ∷ h)).free ≤ u
     → ((t : ℕ) → first_start p (link rate (Sent s ∷ h)).free (Sent s ∷ h) p.classes ≡ Some t → u < t) → SomeMaySend p (Sent s ∷ h) u → ⊥
 none_sent p rate h s u pos steady l after first m =
     waits_on p (link rate (Sent s ∷ h)).free (Sent s ∷ h) u steady (omega (arith, l, end_later rate h s.start s.len pos, after)) after first m
@@ -78,7 +78,7 @@ none_sent p rate h s u pos steady l after first m =
 abbrev NoneMay : Policy → (rate : ℕ) → List Event → (u : ℕ) → Type 0
 NoneMay p rate h u = (link rate h).free ≤ u → ((s : ℕ) → first_start p (link rate h).free h p.classes ≡ Some s → u < s) → SomeMaySend p (as_of u h) u → ⊥
 
-none_step : (p : Policy) (rate seed : ℕ) (arrived : List Coming) (g : List Happened) (e : Happened) (u : ℕ) → 0 < rate → IsSteady p → IsOnTime p rate arrived (bare g)
+none_step : (p : Policy) (rate seed : ℕ) (arrived : List Arrival) (g : List Happened) (e : Happened) (u : ℕ) → 0 < rate → IsSteady p → IsOnTime p rate arrived (bare g)
     → IsOffer p rate seed arrived g e ⊎ IsSending p rate arrived g e → NoneMay p rate (bare g) u → NoneMay p rate (bare (e ∷ g)) u
 none_step p rate seed arrived g e u pos steady t (inl x) rest =
     let P : Event → Type 0 = λ z. NoneMay p rate (z ∷ bare g) u in
@@ -90,7 +90,7 @@ none_step p rate seed arrived g e u pos steady t (inr y) rest =
     subst P (sym y.event) (λ l f m.
     none_sent p rate (bare g) y.sending u pos steady (t.starts y.sending.class y.sending.start y.may.held y.may.start) l f m)
 
-none_may : (p : Policy) (rate seed : ℕ) (arrived : List Coming) (g : List Happened) (u : ℕ) → 0 < rate → IsLawful p → IsSteady p → AreRising arrived
+none_may : (p : Policy) (rate seed : ℕ) (arrived : List Arrival) (g : List Happened) (u : ℕ) → 0 < rate → IsLawful p → IsSteady p → AreRising arrived
     → AreDue p rate seed arrived g → NoneMay p rate (bare g) u
 none_may p rate seed arrived [] u pos law steady rise d = λ l f m. let e = m.front in cc
 none_may p rate seed arrived (e ∷ g) u pos law steady rise d =
@@ -98,7 +98,7 @@ none_may p rate seed arrived (e ∷ g) u pos law steady rise d =
     none_step p rate seed arrived g e u pos steady t (follows p rate seed arrived g e law t d.0) (none_may p rate seed arrived g u pos law steady rise d.1)
 
 -- all that was offered came up to a moment that is not before the latest of it
-as_case : (u : ℕ) (a : Coming) (w : DrawnWords) (v : Answer) (h : List Event) (b : Bool) → nat_lt u a.at ≡ b → a.at ≤ u
+as_case : (u : ℕ) (a : Arrival) (w : DrawnWords) (v : Answer) (h : List Event) (b : Bool) → nat_lt u a.at ≡ b → a.at ≤ u
     → cond b (as_of u h) (Offered a w v ∷ h) ≡ Offered a w v ∷ h
 as_case u a w v h true t l = let q = ltb-true u a.at t in absurd (omega arith)
 as_case u a w v h false t l = refl
@@ -108,7 +108,7 @@ as_of_all u [] l = refl
 as_of_all u (Offered a w v ∷ h) l = as_case u a w v h (nat_lt u a.at) refl (omega (arith, l))
 as_of_all u (Sent s ∷ h) l = refl
 
-may_start : (p : Policy) (free : ℕ) (h : List Event) (c s : ℕ) (a : Coming) → IsLawful p → IsSteady p → IsHead p h c a → class_start p free h c ≡ Some s → latest h ≤ s
+may_start : (p : Policy) (free : ℕ) (h : List Event) (c s : ℕ) (a : Arrival) → IsLawful p → IsSteady p → IsHead p h c a → class_start p free h c ≡ Some s → latest h ≤ s
     → SomeMaySend p (as_of s h) s
 may_start p free h c s a law steady i e l =
     let P : List Event → Type 0 = λ k. SomeMaySend p k s in
@@ -132,7 +132,7 @@ least_case p rate h s u e none after m (inl l) = l
 least_case p rate h s u e none after m (inr l) =
     absurd (none after (λ t q. let o : Some s ≡ Some t = sym e ∙ q in let same : s ≡ t = cc in omega (arith, l, same)) m)
 
-starts_least : (p : Policy) (rate seed : ℕ) (arrived : List Coming) (g : List Happened) (e : Happened) (y : IsSending p rate arrived g e) → 0 < rate → IsLawful p
+starts_least : (p : Policy) (rate seed : ℕ) (arrived : List Arrival) (g : List Happened) (e : Happened) (y : IsSending p rate arrived g e) → 0 < rate → IsLawful p
     → IsSteady p → AreRising arrived → AreDue p rate seed arrived g → IsLeastStart p (link rate (bare g)).free (bare g) y.sending.start
 starts_least p rate seed arrived g e y pos law steady rise d =
     let free : ℕ = (link rate (bare g)).free in
@@ -145,7 +145,7 @@ starts_least p rate seed arrived g e y pos law steady rise d =
       least = λ u l m. least_case p rate (bare g) s u y.least (none_may p rate seed arrived g u pos law steady rise d) l m (decide s u);
     }
 
-busy_step : (p : Policy) (rate seed : ℕ) (arrived : List Coming) (g : List Happened) (e : Happened) → 0 < rate → IsLawful p → IsSteady p → AreRising arrived
+busy_step : (p : Policy) (rate seed : ℕ) (arrived : List Arrival) (g : List Happened) (e : Happened) → 0 < rate → IsLawful p → IsSteady p → AreRising arrived
     → AreDue p rate seed arrived g → IsOffer p rate seed arrived g e ⊎ IsSending p rate arrived g e → IsBusy p rate (bare g) → IsBusy p rate (bare (e ∷ g))
 busy_step p rate seed arrived g e pos law steady rise d (inl x) b =
     let P : Event → Type 0 = λ z. IsBusy p rate (z ∷ bare g) in subst P (sym (offer_event p rate seed arrived g e x)) b
@@ -153,7 +153,7 @@ busy_step p rate seed arrived g e pos law steady rise d (inr y) b =
     let P : Event → Type 0 = λ z. IsBusy p rate (z ∷ bare g) in
     subst P (sym y.event) (starts_least p rate seed arrived g e y pos law steady rise d, b)
 
-pub is_busy : (p : Policy) (rate seed : ℕ) (arrived : List Coming) (g : List Happened) → 0 < rate → IsLawful p → IsSteady p → AreRising arrived
+pub is_busy : (p : Policy) (rate seed : ℕ) (arrived : List Arrival) (g : List Happened) → 0 < rate → IsLawful p → IsSteady p → AreRising arrived
     → AreDue p rate seed arrived g → IsBusy p rate (bare g)
 is_busy p rate seed arrived [] pos law steady rise d = tt
 is_busy p rate seed arrived (e ∷ g) pos law steady rise d =

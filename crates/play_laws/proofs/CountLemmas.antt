@@ -5,7 +5,7 @@ use Rattle.std.proofs.lemmas.Bool.{eqb-true, eq-eqb}
 use Rattle.std.proofs.lemmas.Grind.{common_steps}
 use Rattle.altq_model.specs.declared.Verdict.{Verdict}
 use Rattle.altq_model.specs.declared.Verdict.TheVariants.{Keep, Mark, Drop}
-use Rattle.altq_model.specs.History.{Coming, DrawnWords, Event, Offered, Sent, Happened, bare, offered, drawn, labels, labels_after, is_kept, with_offer, without_head, Decision, dropped_by, decided, journal}
+use Rattle.altq_model.specs.History.{Arrival, DrawnWords, Event, Offered, Sent, Happened, bare, offered, drawn, labels, labels_after, is_kept, with_offer, without_head, Decision, dropped_by, decided, journal}
 use Rattle.altq_model.specs.Laws.{occurs, numbers}
 use Rattle.altq_model.specs.Play.{Policy}
 use Rattle.play_laws.specs.Events.{IsOffer, IsSending, EachFollows, WaitsOnce}
@@ -146,7 +146,7 @@ verdict_occurs n m k xs Keep = let q = places_occurs n xs (k, m) in omega (arith
 verdict_occurs n m k xs Mark = let q = places_occurs n xs (k, m) in omega (arith, q)
 verdict_occurs n m k xs (Drop r) = omega arith
 
-balanced_step : (p : Policy) (rate seed : ℕ) (arrived : List Coming) (g : List Happened) (e : Happened) (n : ℕ) → IsBalanced n g
+balanced_step : (p : Policy) (rate seed : ℕ) (arrived : List Arrival) (g : List Happened) (e : Happened) (n : ℕ) → IsBalanced n g
     → IsOffer p rate seed arrived g e ⊎ IsSending p rate arrived g e → IsBalanced n (e ∷ g)
 balanced_step p rate seed arrived g e n x (inl y) =
     let P : Happened → Type 0 = λ z. IsBalanced n (z ∷ g) in
@@ -162,7 +162,7 @@ balanced_step p rate seed arrived g e n x (inr y) =
     let c = taken_out n y.sending.class e.label (places g) (ap (λ (l : List ℕ). slice_get l 0) (of_class_labels y.sending.class g) ∙ y.number) in
     subst P (sym y.event) (record { once = omega (arith, x.once, j, c) })
 
-pub balanced : (p : Policy) (rate seed : ℕ) (arrived : List Coming) (g : List Happened) (n : ℕ) → EachFollows p rate seed arrived g → IsBalanced n g
+pub balanced : (p : Policy) (rate seed : ℕ) (arrived : List Arrival) (g : List Happened) (n : ℕ) → EachFollows p rate seed arrived g → IsBalanced n g
 balanced p rate seed arrived [] n f = record { once = start n }
 balanced p rate seed arrived (e ∷ g) n f = balanced_step p rate seed arrived g e n (balanced p rate seed arrived g n f.1) f.0
 
@@ -176,6 +176,6 @@ class_occurs n c [] = omega arith
 class_occurs n c (x ∷ xs) = class_case n c x xs (x.0 == c) (class_occurs n c xs)
 
 -- what waits has no fate yet
-pub waits_once : (p : Policy) (rate seed : ℕ) (arrived : List Coming) (g : List Happened) → EachFollows p rate seed arrived g → WaitsOnce g
+pub waits_once : (p : Policy) (rate seed : ℕ) (arrived : List Arrival) (g : List Happened) → EachFollows p rate seed arrived g → WaitsOnce g
 waits_once p rate seed arrived g f = λ n c.
     omega (arith, (balanced p rate seed arrived g n f).once, class_occurs n c (places g), ap (occurs n) (of_class_labels c g))

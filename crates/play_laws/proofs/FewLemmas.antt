@@ -3,7 +3,7 @@ use Rattle.std.proofs.Common.{◌≡◌, ◌≤◌, ◌+◌, ◌∙◌, inl, inr
 use Rattle.std.specs.Prelude.{slice_get, ◌==◌}
 use Rattle.altq_model.specs.declared.Verdict.{Verdict}
 use Rattle.altq_model.specs.declared.Verdict.TheVariants.{Keep, Mark, Drop}
-use Rattle.altq_model.specs.History.{Coming, DrawnWords, Event, Sent, Happened, bare, offered, drawn, dropped_by, decided, journal}
+use Rattle.altq_model.specs.History.{Arrival, DrawnWords, Event, Sent, Happened, bare, offered, drawn, dropped_by, decided, journal}
 use Rattle.altq_model.specs.Play.{Policy}
 use Rattle.play_laws.specs.Events.{EachFollows}
 use Rattle.play_laws.proofs.CountLemmas.{Place, places, with_place, without_first, of_class, of_class_labels}
@@ -26,7 +26,7 @@ placed_offer Keep n c g m h = omega (arith, h, length-append (journal g) (droppe
 placed_offer Mark n c g m h = omega (arith, h, length-append (journal g) (dropped_by Mark n), length-append (places g) ((c, n) ∷ []))
 placed_offer (Drop r) n c g m h = omega (arith, h, length-append (journal g) (dropped_by (Drop r) n))
 
-placed : (p : Policy) (rate seed : ℕ) (arrived : List Coming) (g : List Happened) → EachFollows p rate seed arrived g
+placed : (p : Policy) (rate seed : ℕ) (arrived : List Arrival) (g : List Happened) → EachFollows p rate seed arrived g
     → length (journal g) + length (places g) ≡ offered (bare g)
 placed p rate seed arrived [] f = omega arith
 placed p rate seed arrived (e ∷ g) (inl y, f) =
@@ -38,6 +38,6 @@ placed p rate seed arrived (e ∷ g) (inr y, f) =
     let l = one_less y.sending.class e.label (places g) (ap (λ (ns : List ℕ). slice_get ns 0) (of_class_labels y.sending.class g) ∙ y.number) in
     subst P (sym y.event) (omega (arith, l, placed p rate seed arrived g f, length-append (journal g) (decided e.label (Sent y.sending))))
 
-pub few_decided : (p : Policy) (rate seed : ℕ) (arrived : List Coming) (g : List Happened) → EachFollows p rate seed arrived g
+pub few_decided : (p : Policy) (rate seed : ℕ) (arrived : List Arrival) (g : List Happened) → EachFollows p rate seed arrived g
     → length (journal g) ≤ offered (bare g)
 few_decided p rate seed arrived g f = omega (arith, placed p rate seed arrived g f)

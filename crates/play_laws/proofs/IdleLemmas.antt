@@ -8,7 +8,7 @@ use Rattle.altq_model.specs.declared.Fate.{Fate}
 use Rattle.altq_model.specs.declared.Fate.TheVariants as fate
 use Rattle.altq_model.specs.declared.Verdict.{Verdict}
 use Rattle.altq_model.specs.declared.Verdict.TheVariants.{Keep, Mark, Drop}
-use Rattle.altq_model.specs.History.{Coming, Answer, DrawnWords, Event, Offered, Sent, Transmission, Happened, bare, offered, drawn, head, waiting, labels, is_kept, Decision, dropped_by, decided, journal}
+use Rattle.altq_model.specs.History.{Arrival, Answer, DrawnWords, Event, Offered, Sent, Sending, Happened, bare, offered, drawn, head, waiting, labels, is_kept, Decision, dropped_by, decided, journal}
 use Rattle.altq_model.specs.Link.{link}
 use Rattle.altq_model.specs.Laws.{occurs, numbers}
 use Rattle.altq_model.specs.Idle.{dropped, dropped_of, sent, sent_of, IsLeft, StartsAtOnce, FollowsAtOnce, AllAtOnce, NeverIdles}
@@ -59,19 +59,19 @@ new_drop n m Keep l = refl
 new_drop n m Mark l = refl
 new_drop n m (Drop r) l = omega (arith, not_next n m l)
 
-keeps_offer : (js : List Decision) (g : List Happened) (a : Coming) (w : DrawnWords) (v : Answer)
+keeps_offer : (js : List Decision) (g : List Happened) (a : Arrival) (w : DrawnWords) (v : Answer)
     → let e : Happened = record { label = offered (bare g) + 1; what = Offered a w v } in KeepsDrops js (e ∷ g) → KeepsDrops js g
 unfolding KeepsDrops
 keeps_offer js g a w v k = λ n l.
     let d : List Decision = dropped_by v.verdict (offered (bare g) + 1) in
     omega (arith, k n (omega arith), dropped_occurs n (journal g) d, new_drop n (offered (bare g) + 1) v.verdict (omega arith))
 
-keeps_sent : (js : List Decision) (g : List Happened) (m : ℕ) (s : Transmission)
+keeps_sent : (js : List Decision) (g : List Happened) (m : ℕ) (s : Sending)
     → let e : Happened = record { label = m; what = Sent s } in KeepsDrops js (e ∷ g) → KeepsDrops js g
 unfolding KeepsDrops
 keeps_sent js g m s k = λ n l. omega (arith, k n l, dropped_occurs n (journal g) (decided m (Sent s)))
 
-keeps_step : (p : Policy) (rate seed : ℕ) (arrived : List Coming) (js : List Decision) (g : List Happened) (e : Happened) → KeepsDrops js (e ∷ g)
+keeps_step : (p : Policy) (rate seed : ℕ) (arrived : List Arrival) (js : List Decision) (g : List Happened) (e : Happened) → KeepsDrops js (e ∷ g)
     → IsOffer p rate seed arrived g e ⊎ IsSending p rate arrived g e → KeepsDrops js g
 keeps_step p rate seed arrived js g e k (inl y) =
     let P : Happened → Type 0 = λ z. KeepsDrops js (z ∷ g) in
@@ -104,7 +104,7 @@ rises_if high q false xs r = rises_weaken 0 high (high + 1) (all_labels xs) (ome
 rises_place : (high k : ℕ) (v : Verdict) (xs : List Place) → RisesTo 0 high (all_labels xs) → RisesTo 0 (high + 1) (all_labels (with_place v (k, high + 1) xs))
 rises_place high k v xs r = rises_if high k (is_kept v) xs r
 
-places_step : (p : Policy) (rate seed : ℕ) (arrived : List Coming) (g : List Happened) (e : Happened) → RisesTo 0 (offered (bare g)) (all_labels (places g))
+places_step : (p : Policy) (rate seed : ℕ) (arrived : List Arrival) (g : List Happened) (e : Happened) → RisesTo 0 (offered (bare g)) (all_labels (places g))
     → IsOffer p rate seed arrived g e ⊎ IsSending p rate arrived g e → RisesTo 0 (offered (bare (e ∷ g))) (all_labels (places (e ∷ g)))
 places_step p rate seed arrived g e r (inl y) =
     let P : Happened → Type 0 = λ z. RisesTo 0 (offered (bare (z ∷ g))) (all_labels (places (z ∷ g))) in
@@ -114,7 +114,7 @@ places_step p rate seed arrived g e r (inr y) =
     let P : Event → Type 0 = λ z. let f : Happened = record { label = e.label; what = z } in RisesTo 0 (offered (bare (f ∷ g))) (all_labels (places (f ∷ g))) in
     subst P (sym y.event) (rises_take 0 (offered (bare g)) y.sending.class (places g) r)
 
-places_rise : (p : Policy) (rate seed : ℕ) (arrived : List Coming) (g : List Happened) → EachFollows p rate seed arrived g
+places_rise : (p : Policy) (rate seed : ℕ) (arrived : List Arrival) (g : List Happened) → EachFollows p rate seed arrived g
     → RisesTo 0 (offered (bare g)) (all_labels (places g))
 places_rise p rate seed arrived [] f = omega arith
 places_rise p rate seed arrived (e ∷ g) f = places_step p rate seed arrived g e (places_rise p rate seed arrived g f.1) f.0
@@ -148,12 +148,12 @@ should_most : (n count : ℕ) → should n count ≤ 1
 should_most n count = grind (arith, common_steps)
 
 -- the first packet that waits
-record IsFirst (arrived : List Coming) (g : List Happened) (c n : ℕ) : Type 0 where
-  packet : Coming
+record IsFirst (arrived : List Arrival) (g : List Happened) (c n : ℕ) : Type 0 where
+  packet : Arrival
   front : head c (bare g) ≡ Some packet
   numbered : IsNumbered arrived n packet
 
-has_packet : (arrived : List Coming) (ns : List ℕ) (ws : List Coming) (n : ℕ) → AreOf arrived ns ws → slice_get ns 0 ≡ Some n → (a : Coming) × (slice_get ws 0 ≡ Some a)
+has_packet : (arrived : List Arrival) (ns : List ℕ) (ws : List Arrival) (n : ℕ) → AreOf arrived ns ws → slice_get ns 0 ≡ Some n → (a : Arrival) × (slice_get ws 0 ≡ Some a)
 has_packet arrived [] ws n x e = absurd (cc)
 has_packet arrived (m ∷ ns) [] n x e = absurd x
 has_packet arrived (m ∷ ns) (a ∷ ws) n x e = (a, refl)
@@ -164,7 +164,7 @@ first_label g x xs e =
     let q : of_class x.0 (x ∷ xs) ≡ x.1 ∷ of_class x.0 xs = rw t refl in
     ap (λ (l : List ℕ). slice_get l 0) (sym (of_class_labels x.0 g) ∙ ap (of_class x.0) e ∙ q)
 
-is_first : (p : Policy) (rate seed : ℕ) (arrived : List Coming) (g : List Happened) (x : Place) (xs : List Place) → EachFollows p rate seed arrived g → places g ≡ x ∷ xs
+is_first : (p : Policy) (rate seed : ℕ) (arrived : List Arrival) (g : List Happened) (x : Place) (xs : List Place) → EachFollows p rate seed arrived g → places g ≡ x ∷ xs
     → IsFirst arrived g x.0 x.1
 is_first p rate seed arrived g x xs f e =
     let l = first_label g x xs e in
@@ -175,7 +175,7 @@ decide : (n m : ℕ) → (n ≤ m) ⊎ (m < n)
 decide n m = grind arith
 
 -- what is left is not before the first that waits
-left_case : (p : Policy) (rate seed : ℕ) (arrived : List Coming) (js : List Decision) (g : List Happened) (x : Place) (xs : List Place) (n : ℕ)
+left_case : (p : Policy) (rate seed : ℕ) (arrived : List Arrival) (js : List Decision) (g : List Happened) (x : Place) (xs : List Place) (n : ℕ)
     → EachFollows p rate seed arrived g → KeepsDrops js g → places g ≡ x ∷ xs → IsLeft arrived js g n
     → (n ≤ offered (bare g)) ⊎ (offered (bare g) < n) → x.1 ≤ n
 unfolding KeepsDrops
@@ -191,7 +191,7 @@ left_case p rate seed arrived js g x xs n f k e l (inr high) =
     (let P : List Place → Type 0 = λ ys. RisesTo 0 (offered (bare g)) (all_labels ys) in subst P e (places_rise p rate seed arrived g f)) in
     omega (arith, bounded x.1 (offered (bare g)) (all_labels xs) r.1)
 
-first_left : (p : Policy) (rate seed : ℕ) (arrived : List Coming) (js : List Decision) (g : List Happened) (x : Place) (xs : List Place)
+first_left : (p : Policy) (rate seed : ℕ) (arrived : List Arrival) (js : List Decision) (g : List Happened) (x : Place) (xs : List Place)
     → EachFollows p rate seed arrived g → KeepsDrops js g → places g ≡ x ∷ xs → IsLeft arrived js g x.1
 unfolding KeepsDrops
 first_left p rate seed arrived js g x xs f k e =
@@ -211,7 +211,7 @@ first_left p rate seed arrived js g x xs f k e =
       unsent = omega (arith, b, q, o, m, split x.1 g);
     }
 
-never_waits_start : (p : Policy) (free : ℕ) (g : List Happened) (c s : ℕ) (a : Coming) → NeverWaits p → IsOneOf c p.classes → head c (bare g) ≡ Some a → class_start p free (bare g) c ≡ Some s
+never_waits_start : (p : Policy) (free : ℕ) (g : List Happened) (c s : ℕ) (a : Arrival) → NeverWaits p → IsOneOf c p.classes → head c (bare g) ≡ Some a → class_start p free (bare g) c ≡ Some s
     → s ≡ max free a.at
 never_waits_start p free g c s a nw i e f =
     let x = start_of p free (bare g) c a e in
@@ -219,7 +219,7 @@ never_waits_start p free g c s a nw i e f =
     let r : p.start_from (bare g) c (max free a.at) ≡ s = cc in
     sym r ∙ nw (bare g) c (max free a.at) a (record { held = i; front = e })
 
-at_once : (p : Policy) (rate seed : ℕ) (arrived : List Coming) (js : List Decision) (g : List Happened) (e : Happened) (y : IsSending p rate arrived g e) (xs : List Place)
+at_once : (p : Policy) (rate seed : ℕ) (arrived : List Arrival) (js : List Decision) (g : List Happened) (e : Happened) (y : IsSending p rate arrived g e) (xs : List Place)
     → NeverWaits p → AreRising arrived → AreHeld p arrived → EachFollows p rate seed arrived g → KeepsDrops js g → places g ≡ xs
     → StartsAtOnce rate arrived js g y.sending
 at_once p rate seed arrived js g e y [] nw rise can f k q =
@@ -230,7 +230,7 @@ at_once p rate seed arrived js g e y [] nw rise can f k q =
 at_once p rate seed arrived js g e y (x ∷ xs) nw rise can f k q =
     let free : ℕ = (link rate (bare g)).free in
     let i = is_first p rate seed arrived g x xs f q in
-    let b : Coming = i.packet in
+    let b : Arrival = i.packet in
     let one_of : IsOneOf x.0 p.classes = (let P : List Place → Type 0 = λ ys. AllOneOf p.classes ys in subst P q (held p rate seed arrived g can f)).0 in
     let first_start_is = start_of p free (bare g) x.0 b i.front in
     let low = least_is p free (bare g) p.classes x.0 y.sending.start (p.start_from (bare g) x.0 (max free b.at)) y.least one_of first_start_is in
@@ -254,7 +254,7 @@ at_once p rate seed arrived js g e y (x ∷ xs) nw rise can f k q =
       start = omega (arith, low, wait, own, order, at);
     }
 
-at_once_step : (p : Policy) (rate seed : ℕ) (arrived : List Coming) (js : List Decision) (g : List Happened) (e : Happened)
+at_once_step : (p : Policy) (rate seed : ℕ) (arrived : List Arrival) (js : List Decision) (g : List Happened) (e : Happened)
     → NeverWaits p → AreRising arrived → AreHeld p arrived → EachFollows p rate seed arrived g → KeepsDrops js g
     → IsOffer p rate seed arrived g e ⊎ IsSending p rate arrived g e → FollowsAtOnce rate arrived js e.what g
 at_once_step p rate seed arrived js g e nw rise can f k (inl y) =
@@ -263,7 +263,7 @@ at_once_step p rate seed arrived js g e nw rise can f k (inr y) =
     let P : Event → Type 0 = λ z. FollowsAtOnce rate arrived js z g in
     subst P (sym y.event) (at_once p rate seed arrived js g e y (places g) nw rise can f k refl)
 
-all_at_once : (p : Policy) (rate seed : ℕ) (arrived : List Coming) (js : List Decision) (g : List Happened) → NeverWaits p → AreRising arrived → AreHeld p arrived
+all_at_once : (p : Policy) (rate seed : ℕ) (arrived : List Arrival) (js : List Decision) (g : List Happened) → NeverWaits p → AreRising arrived → AreHeld p arrived
     → EachFollows p rate seed arrived g → KeepsDrops js g → AllAtOnce rate arrived js g
 all_at_once p rate seed arrived js [] nw rise can f k = tt
 all_at_once p rate seed arrived js (e ∷ g) nw rise can f k =
@@ -274,7 +274,7 @@ all_kept : (g : List Happened) → KeepsDrops (journal g) g
 unfolding KeepsDrops
 all_kept g = λ n l. refl
 
-pub never_idles : (p : Policy) (rate seed : ℕ) (arrived : List Coming) (g : List Happened) → 0 < rate → IsLawful p → NeverWaits p → AreRising arrived → AreHeld p arrived
+pub never_idles : (p : Policy) (rate seed : ℕ) (arrived : List Arrival) (g : List Happened) → 0 < rate → IsLawful p → NeverWaits p → AreRising arrived → AreHeld p arrived
     → AreDue p rate seed arrived g → NeverIdles rate arrived g
 never_idles p rate seed arrived g pos law nw rise can d =
     all_at_once p rate seed arrived (journal g) g nw rise can (each_follows p rate seed arrived g pos law rise d) (all_kept g)

@@ -1,6 +1,6 @@
 -- A policy by when a class may send is lawful and steady.
 use Rattle.std.proofs.Common.{◌≡◌, ◌≤◌, ◌∙◌, ℕ, max, List, ◌∷◌, Some, ap, subst, arith}
-use Rattle.altq_model.specs.History.{Coming, Answer, DrawnWords, Event, Offered}
+use Rattle.altq_model.specs.History.{Arrival, Answer, DrawnWords, Event, Offered}
 use Rattle.altq_model.specs.Play.{Policy, first_start}
 use Rattle.altq_model.specs.Lawful.{IsHead, IsLawful, IsSteady, HaveArrived, MaySend, SendsWhen}
 use Rattle.play_laws.proofs.TimeLemmas.{head_stays}
@@ -9,7 +9,7 @@ use Rattle.play_laws.proofs.Starts.{first_of, least_is, head_of, start_of}
 same_by : (n m : ℕ) → n ≤ m → m ≤ n → n ≡ m
 same_by n m a b = omega arith
 
-when_offers : (allowed : List Event → (c t : ℕ) → Type 0) (p : Policy) → SendsWhen allowed p → (h : List Event) (a : Coming) (w : DrawnWords) (v : Answer) (c t : ℕ) (b : Coming)
+when_offers : (allowed : List Event → (c t : ℕ) → Type 0) (p : Policy) → SendsWhen allowed p → (h : List Event) (a : Arrival) (w : DrawnWords) (v : Answer) (c t : ℕ) (b : Arrival)
     → IsHead p h c b → p.start_from (Offered a w v ∷ h) c t ≡ p.start_from h c t
 when_offers allowed p x h a w v c t b e =
     let k : List Event = Offered a w v ∷ h in

@@ -2,13 +2,13 @@
 use Rattle.std.proofs.Common.{◌≡◌, ◌+◌, ◌∙◌, ℕ, Bool, true, false, cond, List, [], ◌∷◌, refl, ap, sym, subst, arith}
 use Rattle.std.specs.Prelude.{◌==◌}
 use Rattle.std.proofs.lemmas.Bool.{eqb-true}
-use Rattle.altq_model.specs.History.{Event, Offered, Sent, Transmission}
+use Rattle.altq_model.specs.History.{Event, Offered, Sent, Sending}
 use Rattle.play_base.specs.Units.{units, ceil_div, time_of}
 use Rattle.altq_model.specs.Link.{Link, link, run_on, after_sending, HasLinkEnds}
 use Rattle.play_laws.specs.Runs.{sendings, last_end, run_start, run_bytes, AreRunEnds}
 
 -- the link after some sendings
-abbrev LinkIs : (rate : ℕ) → Link → List Transmission → Type 0
+abbrev LinkIs : (rate : ℕ) → Link → List Sending → Type 0
 LinkIs rate l [] = (l.free ≡ 0) × (l.run ≡ 0) × (l.sent ≡ 0)
 LinkIs rate l (s ∷ before) = (l.free ≡ s.end) × (l.run ≡ run_start s before) × (l.sent ≡ units (run_bytes s before))
 
@@ -31,7 +31,7 @@ begins rate start len =
     let s : 0 + units len ≡ units len = omega arith in
     record { run = refl; sent = s; free = ap (λ (n : ℕ). start + ceil_div n rate) s }
 
-first_test : (rate : ℕ) (l : Link) (s : Transmission) (b : Bool) → (s.start == l.free) ≡ b → LinkIs rate l []
+first_test : (rate : ℕ) (l : Link) (s : Sending) (b : Bool) → (s.start == l.free) ≡ b → LinkIs rate l []
     → Comes rate (cond b (run_on rate l.run l.sent (units s.len)) (run_on rate s.start 0 (units s.len))) s.start s.len
 first_test rate l s true t i =
     let e : s.start ≡ l.free = eqb-true s.start l.free t in
@@ -41,13 +41,13 @@ first_test rate l s true t i =
     subst P z x
 first_test rate l s false t i = begins rate s.start s.len
 
-next_test : (rate : ℕ) (l : Link) (s b : Transmission) (before : List Transmission) (k : Bool) → (s.start == l.free) ≡ k → LinkIs rate l (b ∷ before)
+next_test : (rate : ℕ) (l : Link) (s b : Sending) (before : List Sending) (k : Bool) → (s.start == l.free) ≡ k → LinkIs rate l (b ∷ before)
     → Comes rate (cond k (run_on rate l.run l.sent (units s.len)) (run_on rate s.start 0 (units s.len)))
     (cond k (run_start b before) s.start) (cond k (run_bytes b before + s.len) s.len)
 next_test rate l s b before true t i = comes rate l (run_start b before) (run_bytes b before) s.len i.1 i.2
 next_test rate l s b before false t i = begins rate s.start s.len
 
-link_comes : (rate : ℕ) (l : Link) (s : Transmission) (before : List Transmission) → LinkIs rate l before
+link_comes : (rate : ℕ) (l : Link) (s : Sending) (before : List Sending) → LinkIs rate l before
     → Comes rate (after_sending rate l s.start s.len) (run_start s before) (run_bytes s before)
 link_comes rate l s [] i = first_test rate l s (s.start == l.free) refl i
 link_comes rate l s (b ∷ before) i =
@@ -55,7 +55,7 @@ link_comes rate l s (b ∷ before) i =
     (cond (s.start == n) (run_bytes b before + s.len) s.len) in
     subst P i.0 (next_test rate l s b before (s.start == l.free) refl i)
 
-free_last : (rate : ℕ) (l : Link) (before : List Transmission) → LinkIs rate l before → l.free ≡ last_end before
+free_last : (rate : ℕ) (l : Link) (before : List Sending) → LinkIs rate l before → l.free ≡ last_end before
 free_last rate l [] i = i.0
 free_last rate l (s ∷ before) i = i.0
 

@@ -1,37 +1,24 @@
 -- The departures of a play are of the sizes that a capture may have.
 use Rattle.std.proofs.Common.{◌≡◌, ◌≤◌, ◌<◌, ◌+◌, ◌-◌, ◌∙◌, ℕ, zero, suc, max, Bool, true, false, cond, List, [], ◌∷◌, ◌++◌, length, length-append, Some, refl, ap, sym, subst, arith}
 use Rattle.std.specs.declared.option.Option.{Option}
-use Rattle.std.specs.Prelude.{get_or, ◌==◌, ◌&&◌, ◌||◌, nat_lt, nat_le, if◌then◌else◌, slice_get, unwrap_or, All, take, drop}
+use Rattle.std.specs.Prelude.{get_or, ◌==◌, ◌&&◌, ◌||◌, nat_lt, nat_le, if◌then◌else◌, slice_get, unwrap_or, All}
 use Rattle.std.proofs.lemmas.Bool.{eqb-true, eq-eqb, eqb-false, ltb-false}
 use Rattle.std.proofs.lemmas.Grind.{common_steps}
-use Rattle.capture_model.specs.declared.damage.Damage.{Damage}
-use Rattle.capture_model.specs.declared.damage.DamageKind.TheVariants.{ShortRecord, EmptyRecord, LongRecord}
-use Rattle.capture_model.specs.Capture.{Form, Record, Step, End, Next, Fault, Limit, Header, Formed, Unformed, Stand, Reads, ReadsFrom, damage, header, step, word, stamp, longest, most_records, most_bytes}
+use Rattle.capture_model.specs.Capture.{Form, Record, Step, Next, Header, Formed, Unformed, Stand, Reads, ReadsFrom, header, step, word, longest, most_records, most_bytes}
+use Rattle.capture_model.proofs.OutcomeLemmas.{is_next, told_at}
 use Rattle.capture_model.specs.Header.{capture_header, record_header}
 use Rattle.capture_model.specs.Written.{record_text, record_texts, written, IsWithin, AreWithin}
 use Rattle.altq_model.specs.declared.Placed.{Placed}
-use Rattle.altq_model.specs.Arrivals.{Arrival, arrival, arrivals_from, arrivals_of, comings, no_arrival}
+use Rattle.altq_model.specs.Arrivals.{Captured, arrival, arrivals_from, arrivals_of, bare_arrivals, no_arrival}
 use Rattle.altq_model.specs.Departures.{Dressing, KeepsLength, departed_by, departed}
-use Rattle.altq_model.specs.History.{Coming, Event, Offered, Sent, Happened, bare, offered, was_marked, decided, journal}
+use Rattle.altq_model.specs.History.{Arrival, Event, Offered, Sent, Happened, bare, offered, was_marked, decided, journal}
 use Rattle.altq_model.specs.Idle.{sent, sent_of}
 use Rattle.altq_model.specs.Laws.{occurs, IsInTime, EndsInTime}
 use Rattle.altq_model.specs.Play.{Policy}
 use Rattle.play_laws.specs.Events.{HasLaws, IsOfArrival, AreOfArrivals}
 use Rattle.play_laws.specs.Sizes.{HasSizes, HaveSizes, AreSized}
-use Rattle.play_laws.proofs.ArrivalLemmas.{comings_length}
+use Rattle.play_laws.proofs.ArrivalLemmas.{bare_arrivals_length}
 use Rattle.play_laws.proofs.IdleLemmas.{split}
-
-next_tests : (a b c d e f g : Bool) (p q r s : Damage) (x y : Record) (m n : ℕ)
-    → (if a then End else if b then Limit else if c then Fault p else if d then Fault q else if e then Fault r else if f then Limit else if g then Fault s else Next y m) ≡ Next x n
-    → (y ≡ x) × (m ≡ n) × (b ≡ false) × (d ≡ false) × (e ≡ false) × (f ≡ false)
-next_tests true b c d e f g p q r s x y m n h = absurd (cc)
-next_tests false true c d e f g p q r s x y m n h = absurd (cc)
-next_tests false false true d e f g p q r s x y m n h = absurd (cc)
-next_tests false false false true e f g p q r s x y m n h = absurd (cc)
-next_tests false false false false true f g p q r s x y m n h = absurd (cc)
-next_tests false false false false false true g p q r s x y m n h = absurd (cc)
-next_tests false false false false false false true p q r s x y m n h = absurd (cc)
-next_tests false false false false false false false p q r s x y m n h = (cc, cc, refl, refl, refl, refl)
 
 -- a record that stands has its sizes, its end is within the limit, and it is not one too many
 record IsSized (r : Record) (count at : ℕ) : Type 0 where
@@ -55,21 +42,20 @@ step_sized : (form : Form) (bytes : List ℕ) (count at : ℕ) (x : Record) → 
 step_sized form bytes count at x h =
     let captured : ℕ = word form.big bytes (at + 8) in
     let original : ℕ = word form.big bytes (at + 12) in
-    let r : Record = record { stamp = stamp form bytes at; captured = take captured (drop (at + 16) bytes); original = original } in
-    let t = next_tests (nat_le (length bytes) at) (count == most_records) (nat_lt (length bytes) (at + 16)) (nat_lt longest captured || nat_lt longest original)
-    ((captured == 0) && (original == 0)) (nat_lt most_bytes (at + 16 + captured)) (nat_lt (length bytes) (at + 16 + captured))
-    (damage at ShortRecord) (damage at LongRecord) (damage at EmptyRecord) (damage at ShortRecord) x r (at + 16 + captured) (at + 16 + length x.captured) h in
-    let known : original ≡ x.original = ap (λ (k : Record). k.original) t.0 in
-    let size : length x.captured ≡ captured = omega (arith, t.1) in
-    let long = or_false (nat_lt longest captured) (nat_lt longest original) t.3 in
+    let is = is_next form bytes count at x (at + 16 + length x.captured) h in
+    let told : told_at form bytes at ≡ Next x (at + 16 + length x.captured) = is.told in
+    let place : at + 16 + captured ≡ at + 16 + length x.captured = cc in
+    let known : original ≡ x.original = cc in
+    let size : length x.captured ≡ captured = omega (arith, place) in
+    let long = or_false (nat_lt longest captured) (nat_lt longest original) is.within in
     record {
       sizes = record {
         captured = omega (arith, size, ltb-false longest captured long.0);
         original = omega (arith, known, ltb-false longest original long.1);
-        some = omega (arith, size, known, not_both_none captured original t.4);
+        some = omega (arith, size, known, not_both_none captured original is.some);
       };
-      room = omega (arith, size, ltb-false most_bytes (at + 16 + captured) t.5);
-      few = eqb-false count most_records t.2;
+      room = omega (arith, size, ltb-false most_bytes (at + 16 + captured) is.room);
+      few = eqb-false count most_records is.few;
     }
 
 stand_sized : (form : Form) (bytes : List ℕ) (count at : ℕ) (records : List Record) → Stand form bytes count at records → HaveSizes records
@@ -117,12 +103,12 @@ pub reads_sized : (bytes : List ℕ) (records : List Record) (last : Step) → R
 reads_sized bytes records last x = reads_case (header bytes) bytes records last x
 
 -- the arrivals of records
-record IsFit (a : Arrival) : Type 0 where
+record IsFit (a : Captured) : Type 0 where
   captured : length a.bytes ≤ longest
   original : a.len ≤ longest
   some : 0 < a.len
 
-abbrev AreFit : List Arrival → Type 0
+abbrev AreFit : List Captured → Type 0
 AreFit [] = Unit {0}
 AreFit (a ∷ rest) = IsFit a × AreFit rest
 
@@ -131,7 +117,7 @@ fit_from mark t [] h = tt
 fit_from mark t (r ∷ rs) h =
     (record { captured = h.0.captured; original = omega (arith, h.0.captured, h.0.original); some = omega (arith, h.0.some) }, fit_from mark (max t r.stamp) rs h.1)
 
-abbrev load : List Arrival → ℕ
+abbrev load : List Captured → ℕ
 load [] = 0
 load (a ∷ rest) = 16 + length a.bytes + load rest
 
@@ -143,7 +129,7 @@ count_from : (mark : List ℕ → Placed) (t : ℕ) (records : List Record) → 
 count_from mark t [] = refl
 count_from mark t (r ∷ rs) = omega (arith, count_from mark (max t r.stamp) rs)
 
-fit_place : (xs : List Arrival) (k : ℕ) (c : Coming) → AreFit xs → slice_get (comings xs) k ≡ Some c → IsFit (unwrap_or (slice_get xs k) no_arrival)
+fit_place : (xs : List Captured) (k : ℕ) (c : Arrival) → AreFit xs → slice_get (bare_arrivals xs) k ≡ Some c → IsFit (unwrap_or (slice_get xs k) no_arrival)
 fit_place [] k c h e = absurd (cc)
 fit_place (x ∷ xs) zero c h e = h.0
 fit_place (x ∷ xs) (suc k) c h e = fit_place xs k c h.1 e
@@ -166,16 +152,16 @@ each_at (r ∷ rs) x = λ k d l. at_place r rs x k d l
     at_place r [] x (suc k) d l = absurd (omega arith)
     at_place r (s ∷ rs) x (suc k) d l = at_place s rs x.1 k d (omega (arith, l))
 
-departure_within : (dress : Dressing) (arrived : List Arrival) (n : ℕ) (e : Event) (g : List Happened) → KeepsLength dress → AreFit arrived → IsOfArrival (comings arrived) n e
+departure_within : (dress : Dressing) (arrived : List Captured) (n : ℕ) (e : Event) (g : List Happened) → KeepsLength dress → AreFit arrived → IsOfArrival (bare_arrivals arrived) n e
     → EndsInTime e → EachWithin (departed_by dress arrived n e g)
 departure_within dress arrived n (Offered a w v) g k f x t = tt
 departure_within dress arrived n (Sent s) g k f x t =
-    let a : Arrival = arrival arrived n in
+    let a : Captured = arrival arrived n in
     let y = fit_place arrived (n - 1) x.packet f x.arrival in
     let same = k a.class (was_marked n g) a.bytes in
     (record { stamp = t; captured = omega (arith, same, y.captured); original = y.original; some = omega (arith, y.some) }, tt)
 
-each_within : (dress : Dressing) (arrived : List Arrival) (g : List Happened) → KeepsLength dress → AreFit arrived → AreOfArrivals (comings arrived) g → IsInTime g
+each_within : (dress : Dressing) (arrived : List Captured) (g : List Happened) → KeepsLength dress → AreFit arrived → AreOfArrivals (bare_arrivals arrived) g → IsInTime g
     → EachWithin (departed dress arrived g)
 each_within dress arrived [] k f x t = tt
 each_within dress arrived (e ∷ g) k f x t =
@@ -262,7 +248,7 @@ distinct w k (suc m) ns f =
     let here = once w k ns (omega (arith, f k, within_most k (suc m) k)) in
     omega (arith, rest, here)
 
-upto_load : (w : ℕ → ℕ) (k : ℕ) (xs : List Arrival) → ((i : ℕ) (a : Arrival) → slice_get xs i ≡ Some a → w (k + i) ≡ 16 + length a.bytes) → upto w k (length xs) ≡ load xs
+upto_load : (w : ℕ → ℕ) (k : ℕ) (xs : List Captured) → ((i : ℕ) (a : Captured) → slice_get xs i ≡ Some a → w (k + i) ≡ 16 + length a.bytes) → upto w k (length xs) ≡ load xs
 upto_load w k [] f = refl
 upto_load w k (x ∷ xs) f =
     let z : k + 0 ≡ k = omega arith in
@@ -270,34 +256,34 @@ upto_load w k (x ∷ xs) f =
     let rest = upto_load w (suc k) xs (λ i a e. (let s : suc k + i ≡ k + suc i = omega arith in ap w s ∙ f (suc i) a e)) in
     omega (arith, here, rest)
 
-abbrev burden : List Arrival → ℕ → ℕ
+abbrev burden : List Captured → ℕ → ℕ
 burden arrived n = 16 + length (arrival arrived n).bytes
 
-burden_at : (arrived : List Arrival) (i : ℕ) (a : Arrival) → slice_get arrived i ≡ Some a → burden arrived (1 + i) ≡ 16 + length a.bytes
+burden_at : (arrived : List Captured) (i : ℕ) (a : Captured) → slice_get arrived i ≡ Some a → burden arrived (1 + i) ≡ 16 + length a.bytes
 burden_at arrived i a e =
     let s : 1 + i - 1 ≡ i = omega arith in
-    ap (λ (k : ℕ). 16 + length (unwrap_or (slice_get arrived k) no_arrival).bytes) s ∙ ap (λ (o : Option Arrival). 16 + length (unwrap_or o no_arrival).bytes) e
+    ap (λ (k : ℕ). 16 + length (unwrap_or (slice_get arrived k) no_arrival).bytes) s ∙ ap (λ (o : Option Captured). 16 + length (unwrap_or o no_arrival).bytes) e
 
 weight_push : (rs ds : List Record) → weight (rs ++ ds) ≡ weight rs + weight ds
 weight_push [] ds = omega arith
 weight_push (r ∷ rs) ds = omega (arith, weight_push rs ds)
 
-event_weight : (dress : Dressing) (arrived : List Arrival) (n : ℕ) (e : Event) (g : List Happened) (ns : List ℕ) → KeepsLength dress
+event_weight : (dress : Dressing) (arrived : List Captured) (n : ℕ) (e : Event) (g : List Happened) (ns : List ℕ) → KeepsLength dress
     → weight (departed_by dress arrived n e g) + weigh (burden arrived) ns ≡ weigh (burden arrived) (sent_of n e ns)
 event_weight dress arrived n (Offered a w v) g ns k = omega arith
 event_weight dress arrived n (Sent s) g ns k = omega (arith, k (arrival arrived n).class (was_marked n g) (arrival arrived n).bytes)
 
-departed_weight : (dress : Dressing) (arrived : List Arrival) (g : List Happened) → KeepsLength dress → weight (departed dress arrived g) ≡ weigh (burden arrived) (sent g)
+departed_weight : (dress : Dressing) (arrived : List Captured) (g : List Happened) → KeepsLength dress → weight (departed dress arrived g) ≡ weigh (burden arrived) (sent g)
 departed_weight dress arrived [] k = refl
 departed_weight dress arrived (e ∷ g) k =
     let d : List Record = departed_by dress arrived e.label e.what g in
     omega (arith, weight_push (departed dress arrived g) d, departed_weight dress arrived g k, event_weight dress arrived e.label e.what g (sent g) k)
 
-event_count : (dress : Dressing) (arrived : List Arrival) (n : ℕ) (e : Event) (g : List Happened) → length (departed_by dress arrived n e g) ≤ length (decided n e)
+event_count : (dress : Dressing) (arrived : List Captured) (n : ℕ) (e : Event) (g : List Happened) → length (departed_by dress arrived n e g) ≤ length (decided n e)
 event_count dress arrived n (Offered a w v) g = omega arith
 event_count dress arrived n (Sent s) g = omega arith
 
-departed_count : (dress : Dressing) (arrived : List Arrival) (g : List Happened) → length (departed dress arrived g) ≤ length (journal g)
+departed_count : (dress : Dressing) (arrived : List Captured) (g : List Happened) → length (departed dress arrived g) ≤ length (journal g)
 departed_count dress arrived [] = omega arith
 departed_count dress arrived (e ∷ g) =
     let d : List Record = departed_by dress arrived e.label e.what g in
@@ -308,10 +294,10 @@ in_range n m count l = grind (arith, common_steps, l)
 
 -- the departures are within the limits of a capture
 pub departed_within : (dress : Dressing) (mark : List ℕ → Placed) (records : List Record) (p : Policy) (rate seed : ℕ) (g : List Happened) → KeepsLength dress → AreSized records
-    → HasLaws p rate seed (comings (arrivals_of mark records)) g → IsInTime g → AreWithin (departed dress (arrivals_of mark records) g)
+    → HasLaws p rate seed (bare_arrivals (arrivals_of mark records)) g → IsInTime g → AreWithin (departed dress (arrivals_of mark records) g)
 departed_within dress mark records p rate seed g k s x t =
-    let arrived : List Arrival = arrivals_of mark records in
-    let long = comings_length arrived in
+    let arrived : List Captured = arrivals_of mark records in
+    let long = bare_arrivals_length arrived in
     let many = count_from mark 0 records in
     let all = distinct (burden arrived) 1 (length arrived) (sent g) (λ n.
     omega (arith, split n g, x.once n, in_range n (offered (bare g)) (length arrived) (omega (arith, x.came, long)))) in

@@ -1,7 +1,7 @@
 -- The least moment at which a class may send.
 use Rattle.std.proofs.Common.{◌≡◌, ◌≤◌, ◌∙◌, ◌⊎◌, inl, inr, ℕ, min, max, List, [], ◌∷◌, None, Some, refl, ap, sym, arith}
 use Rattle.std.specs.declared.option.Option.{Option}
-use Rattle.altq_model.specs.History.{Coming, Event, head}
+use Rattle.altq_model.specs.History.{Arrival, Event, head}
 use Rattle.altq_model.specs.Play.{Policy, class_start, first_start, lesser}
 use Rattle.altq_model.specs.Lawful.{IsOneOf}
 
@@ -80,11 +80,11 @@ least_is p free h cs c s t e i f = let x = least_of p free h cs c t i f in let s
 
 -- the start of a class is its head's
 pub record Head (p : Policy) (free : ℕ) (h : List Event) (c s : ℕ) : Type 0 where
-  pub packet : Coming
+  pub packet : Arrival
   pub front : head c h ≡ Some packet
   pub start : p.start_from h c (max free packet.at) ≡ s
 
-head_case : (p : Policy) (free : ℕ) (h : List Event) (c s : ℕ) (o : Option Coming) → head c h ≡ o → class_start p free h c ≡ Some s → Head p free h c s
+head_case : (p : Policy) (free : ℕ) (h : List Event) (c s : ℕ) (o : Option Arrival) → head c h ≡ o → class_start p free h c ≡ Some s → Head p free h c s
 head_case p free h c s None e f = let q : class_start p free h c ≡ None = rw e refl in absurd (cc)
 head_case p free h c s (Some a) e f =
     let q : class_start p free h c ≡ Some (p.start_from h c (max free a.at)) = rw e refl in
@@ -93,10 +93,10 @@ head_case p free h c s (Some a) e f =
 pub head_of : (p : Policy) (free : ℕ) (h : List Event) (c s : ℕ) → class_start p free h c ≡ Some s → Head p free h c s
 head_of p free h c s e = head_case p free h c s (head c h) refl e
 
-pub start_of : (p : Policy) (free : ℕ) (h : List Event) (c : ℕ) (a : Coming) → head c h ≡ Some a → class_start p free h c ≡ Some (p.start_from h c (max free a.at))
+pub start_of : (p : Policy) (free : ℕ) (h : List Event) (c : ℕ) (a : Arrival) → head c h ≡ Some a → class_start p free h c ≡ Some (p.start_from h c (max free a.at))
 start_of p free h c a e = rw e refl
 
-none_case : (p : Policy) (free : ℕ) (h : List Event) (c : ℕ) (o : Option Coming) → head c h ≡ o → class_start p free h c ≡ None → head c h ≡ None
+none_case : (p : Policy) (free : ℕ) (h : List Event) (c : ℕ) (o : Option Arrival) → head c h ≡ o → class_start p free h c ≡ None → head c h ≡ None
 none_case p free h c None e f = e
 none_case p free h c (Some a) e f = let q = start_of p free h c a e in absurd (cc)
 

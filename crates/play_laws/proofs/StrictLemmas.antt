@@ -4,8 +4,8 @@ use Rattle.std.specs.Prelude.{slice_get, option_map}
 use Rattle.altq_model.specs.declared.Rule.{Rule}
 use Rattle.altq_model.specs.declared.Placed.{Placed}
 use Rattle.capture_model.specs.Capture.{Record}
-use Rattle.altq_model.specs.Arrivals.{arrivals_of, comings}
-use Rattle.altq_model.specs.History.{Coming, Event, head, waiting}
+use Rattle.altq_model.specs.Arrivals.{arrivals_of, bare_arrivals}
+use Rattle.altq_model.specs.History.{Arrival, Event, head, waiting}
 use Rattle.altq_model.specs.Play.{Policy, class_start, first_start, lesser}
 use Rattle.altq_model.specs.Policies.{Answering, strict, one_queue, first_waiting}
 use Rattle.altq_model.specs.Lawful.{IsOneOf, IsLawful, HaveArrived, MaySend, NeverWaits, IsSteady, AreHeld}
@@ -14,14 +14,14 @@ use Rattle.play_laws.proofs.ArrivalLemmas.{arrivals_held}
 
 record HasFirst (h : List Event) (cs : List ℕ) (c : ℕ) : Type 0 where
   one : IsOneOf c cs
-  packet : Coming
+  packet : Arrival
   front : head c h ≡ Some packet
 
-waits_case : (p : Policy) (free : ℕ) (h : List Event) (c : ℕ) (cs : List ℕ) (s : ℕ) (ws : List Coming) → waiting c h ≡ ws
-    → lesser (option_map (λ (a : Coming). p.start_from h c (max free a.at)) (slice_get ws 0)) (first_start p free h cs) ≡ Some s
+waits_case : (p : Policy) (free : ℕ) (h : List Event) (c : ℕ) (cs : List ℕ) (s : ℕ) (ws : List Arrival) → waiting c h ≡ ws
+    → lesser (option_map (λ (a : Arrival). p.start_from h c (max free a.at)) (slice_get ws 0)) (first_start p free h cs) ≡ Some s
     → (first_start p free h cs ≡ Some s → HasFirst h cs (first_waiting cs h)) → HasFirst h (c ∷ cs) (elim ws [ [] ↦ first_waiting cs h | a ∷ as' ↦ c ])
 waits_case p free h c cs s [] w e f = let x = f e in record { one = inr x.one; packet = x.packet; front = x.front }
-waits_case p free h c cs s (a ∷ ws) w e f = record { one = inl refl; packet = a; front = ap (λ (l : List Coming). slice_get l 0) w }
+waits_case p free h c cs s (a ∷ ws) w e f = record { one = inl refl; packet = a; front = ap (λ (l : List Arrival). slice_get l 0) w }
 
 first_waits : (p : Policy) (free : ℕ) (h : List Event) (cs : List ℕ) (s : ℕ) → first_start p free h cs ≡ Some s → HasFirst h cs (first_waiting cs h)
 first_waits p free h [] s e = absurd (cc)
@@ -56,5 +56,5 @@ pub steady : (p : Policy) → NeverWaits p → IsSteady p
 steady p nw = λ h c t u b e l m. nw h c u b e ∙ (let q : u ≡ t = omega (arith, l, m, nw h c t b e) in q) ∙ sym (nw h c t b e)
 
 pub one_queue_holds : (limit : ℕ) (mark : List ℕ → Placed) (records : List Record) → ((bytes : List ℕ) → (mark bytes).class ≡ 1)
-    → AreHeld (one_queue limit) (comings (arrivals_of mark records))
+    → AreHeld (one_queue limit) (bare_arrivals (arrivals_of mark records))
 one_queue_holds limit mark records one = arrivals_held (one_queue limit) mark records (λ bytes. inl (sym (one bytes)))

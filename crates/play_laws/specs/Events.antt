@@ -1,6 +1,6 @@
 -- What the events of a play are: an offer of the next arrival, or a sending at the least moment at which one may be.
 use Rattle.std.specs.Prelude.{◌≡◌, ◌≤◌, ◌<◌, ◌⊎◌, ◌+◌, ◌-◌, ℕ, List, [], ◌∷◌, length, Some, slice_get, if◌then◌else◌, nat_lt, nat_le, ◌&&◌}
-use Rattle.altq_model.specs.History.{Coming, Transmission, Event, Offered, Sent, Happened, bare, offered, head, waiting, labels, journal}
+use Rattle.altq_model.specs.History.{Arrival, Sending, Event, Offered, Sent, Happened, bare, offered, head, waiting, labels, journal}
 use Rattle.altq_model.specs.Laws.{occurs, numbers, IsOrdered, IsNotBefore, IsPrompt}
 use Rattle.altq_model.specs.Link.{link, end_of, HasLinkEnds}
 use Rattle.altq_model.specs.Play.{Policy, first_start, offer_of}
@@ -8,8 +8,8 @@ use Rattle.altq_model.specs.Lawful.{MaySend}
 
 -- after a history this event is the offer of the next arrival, whose number is its place among the arrivals; no class may send
 -- before that arrival
-pub record IsOffer (p : Policy) (rate seed : ℕ) (arrived : List Coming) (g : List Happened) (e : Happened) : Type 0 where
-  pub packet : Coming
+pub record IsOffer (p : Policy) (rate seed : ℕ) (arrived : List Arrival) (g : List Happened) (e : Happened) : Type 0 where
+  pub packet : Arrival
   pub next : slice_get arrived (offered (bare g)) ≡ Some packet
   pub offer : e ≡ offer_of p seed g packet
   pub place : e.label ≡ offered (bare g) + 1
@@ -17,9 +17,9 @@ pub record IsOffer (p : Policy) (rate seed : ℕ) (arrived : List Coming) (g : L
 
 -- after a history this event is a sending of a class's head, with the link's end; it starts at the least moment at which a class
 -- may send, its class and rule are the pick's, and every arrival up to its start was offered before
-pub record IsSending (p : Policy) (rate : ℕ) (arrived : List Coming) (g : List Happened) (e : Happened) : Type 0 where
-  pub sending : Transmission
-  pub packet : Coming
+pub record IsSending (p : Policy) (rate : ℕ) (arrived : List Arrival) (g : List Happened) (e : Happened) : Type 0 where
+  pub sending : Sending
+  pub packet : Arrival
   pub event : e.what ≡ Sent sending
   pub number : slice_get (labels sending.class g) 0 ≡ Some e.label
   pub front : head sending.class (bare g) ≡ Some packet
@@ -29,28 +29,28 @@ pub record IsSending (p : Policy) (rate : ℕ) (arrived : List Coming) (g : List
   pub class : sending.class ≡ (p.pick (bare g) sending.start).class
   pub rule : sending.rule ≡ (p.pick (bare g) sending.start).rule
   pub may : MaySend p (link rate (bare g)).free (bare g) sending.class sending.start
-  pub passed : (a : Coming) → slice_get arrived (offered (bare g)) ≡ Some a → sending.start < a.at
+  pub passed : (a : Arrival) → slice_get arrived (offered (bare g)) ≡ Some a → sending.start < a.at
 
 -- each event of a history is one of the two
-abbrev pub EachFollows : Policy → (rate seed : ℕ) → List Coming → List Happened → Type 0
+abbrev pub EachFollows : Policy → (rate seed : ℕ) → List Arrival → List Happened → Type 0
 EachFollows p rate seed arrived [] = Unit {0}
 EachFollows p rate seed arrived (e ∷ g) =
     (IsOffer p rate seed arrived g e ⊎ IsSending p rate arrived g e) × EachFollows p rate seed arrived g
 
 -- a sending is of the arrival of its number, and has its class and its length
-pub record SendsArrival (arrived : List Coming) (n : ℕ) (s : Transmission) : Type 0 where
-  pub packet : Coming
+pub record SendsArrival (arrived : List Arrival) (n : ℕ) (s : Sending) : Type 0 where
+  pub packet : Arrival
   pub from_one : 0 < n
   pub arrival : slice_get arrived (n - 1) ≡ Some packet
   pub class : s.class ≡ packet.class
   pub len : s.len ≡ packet.len
 
 -- an event is of the arrival of its number
-abbrev pub IsOfArrival : List Coming → (n : ℕ) → Event → Type 0
+abbrev pub IsOfArrival : List Arrival → (n : ℕ) → Event → Type 0
 IsOfArrival arrived n (Offered a w v) = (0 < n) × (slice_get arrived (n - 1) ≡ Some a)
 IsOfArrival arrived n (Sent s) = SendsArrival arrived n s
 
-abbrev pub AreOfArrivals : List Coming → List Happened → Type 0
+abbrev pub AreOfArrivals : List Arrival → List Happened → Type 0
 AreOfArrivals arrived [] = Unit {0}
 AreOfArrivals arrived (e ∷ g) = IsOfArrival arrived e.label e.what × AreOfArrivals arrived g
 
@@ -63,7 +63,7 @@ abbrev pub WaitsOnce : List Happened → Type 0
 WaitsOnce g = (n c : ℕ) → occurs n (labels c g) + occurs n (numbers (journal g)) ≤ (if nat_lt 0 n && nat_le n (offered (bare g)) then 1 else 0)
 
 -- what holds of the first events of a play
-pub record HasLaws (p : Policy) (rate seed : ℕ) (arrived : List Coming) (g : List Happened) : Type 0 where
+pub record HasLaws (p : Policy) (rate seed : ℕ) (arrived : List Arrival) (g : List Happened) : Type 0 where
   pub each : EachFollows p rate seed arrived g
   pub of_arrivals : AreOfArrivals arrived g
   -- no more packets were offered than arrive, and no more have a fate than were offered
@@ -77,6 +77,6 @@ pub record HasLaws (p : Policy) (rate seed : ℕ) (arrived : List Coming) (g : L
   pub ends : HasLinkEnds rate (bare g)
 
 -- every arrival was offered, and nothing waits in any class
-pub record IsWhole (arrived : List Coming) (g : List Happened) : Type 0 where
+pub record IsWhole (arrived : List Arrival) (g : List Happened) : Type 0 where
   pub offers : offered (bare g) ≡ length arrived
   pub empty : (c : ℕ) → waiting c (bare g) ≡ []

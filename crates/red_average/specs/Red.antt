@@ -3,7 +3,7 @@
 use Rattle.std.specs.Prelude.{◌≡◌, ℕ, ◌*◌, ◌^◌, ◌==◌, List, [], ◌∷◌, if◌then◌else◌, ℤ, negsuc}
 use Rattle.altq_model.specs.History.{Answer, DrawnWords}
 use Rattle.leaf_queue.specs.declared.rule.Waiting.{Waiting}
-use Rattle.leaf_queue.specs.Queue.{QueueEvent, Asked, Gone, Saying}
+use Rattle.leaf_queue.specs.Queue.{QueueEvent, Enqueued, Dequeued, Saying}
 use Rattle.leaf_queue.specs.Words.{word}
 use Rattle.red_average.specs.declared.ruling.Thresholds.{Thresholds}
 use Rattle.red_average.specs.Average.{moved}
@@ -16,13 +16,13 @@ thresholds = record { low = 5 * 2 ^ 21; high = 15 * 2 ^ 21 }
 -- the start of the packet that last left the queue empty, 0 if there is none
 abbrev pub idle_of : List QueueEvent → ℕ
 idle_of [] = 0
-idle_of (Asked now waiting prec w v ∷ q) = idle_of q
-idle_of (Gone now prec waiting ∷ q) = if waiting.all == 0 then now else idle_of q
+idle_of (Enqueued now waiting prec w v ∷ q) = idle_of q
+idle_of (Dequeued now prec waiting ∷ q) = if waiting.all == 0 then now else idle_of q
 
 abbrev pub average_of : (step : ℕ) → List QueueEvent → ℕ
 average_of step [] = 0
-average_of step (Asked now waiting prec w v ∷ q) = moved step (idle_of q) now waiting.all (average_of step q)
-average_of step (Gone now prec waiting ∷ q) = average_of step q
+average_of step (Enqueued now waiting prec w v ∷ q) = moved step (idle_of q) now waiting.all (average_of step q)
+average_of step (Dequeued now prec waiting ∷ q) = average_of step q
 
 -- what follows for a packet, by what waits, the average and the count before it, and the next random word
 abbrev pub ruling_at : (step limit idle average : ℕ) → (count : ℤ) → (now : ℕ) → Waiting → DrawnWords → Ruled
@@ -32,9 +32,9 @@ ruling_at step limit idle a c now waiting w =
 -- the count after the last packet that was offered, -1 at first
 abbrev pub count_of : (step limit : ℕ) → List QueueEvent → ℤ
 count_of step limit [] = negsuc 0
-count_of step limit (Asked now waiting prec w v ∷ q) =
+count_of step limit (Enqueued now waiting prec w v ∷ q) =
     (ruling_at step limit (idle_of q) (average_of step q) (count_of step limit q) now waiting w).ruling.count
-count_of step limit (Gone now prec waiting ∷ q) = count_of step limit q
+count_of step limit (Dequeued now prec waiting ∷ q) = count_of step limit q
 
 abbrev pub answer_of : Ruled → Answer
 answer_of r = record { verdict = r.ruling.verdict; took = r.took }

@@ -8,7 +8,7 @@ use Rattle.altq_model.specs.History.{DrawnWords, Answer}
 use Rattle.altq_model.specs.declared.Verdict.{Verdict}
 use Rattle.play_base.specs.Units.{ceil_div}
 use Rattle.leaf_queue.specs.declared.rule.Waiting.{Waiting}
-use Rattle.leaf_queue.specs.Queue.{QueueEvent, Asked, Gone, Saying}
+use Rattle.leaf_queue.specs.Queue.{QueueEvent, Enqueued, Dequeued, Saying}
 use Rattle.red_average.specs.declared.ruling.Thresholds.{Thresholds}
 use Rattle.red_average.specs.Ruling.{spacing}
 use Rattle.red_laws.specs.Sequence.{verdicts, AreAtLeast, OneIsTold, enough}
@@ -18,12 +18,12 @@ use Rattle.red_laws.proofs.Rulings.{Counts}
 pub record Rule (looks : ℕ → Bool) (t : Thresholds) (average : List QueueEvent → ℕ) (count : List QueueEvent → ℤ) (says : Saying)
     (test : Verdict → Bool) : Type 0 where
   pub least : (q : List QueueEvent) → negsuc 0 ≤ℤ count q
-  pub gone : (now prec : ℕ) (waiting : Waiting) (q : List QueueEvent) → count (Gone now prec waiting ∷ q) ≡ count q
+  pub gone : (now prec : ℕ) (waiting : Waiting) (q : List QueueEvent) → count (Dequeued now prec waiting ∷ q) ≡ count q
   pub other : (now : ℕ) (waiting : Waiting) (prec : ℕ) (w : DrawnWords) (v : Answer) (q : List QueueEvent) → looks prec ≡ false
-      → count (Asked now waiting prec w v ∷ q) ≡ count q
+      → count (Enqueued now waiting prec w v ∷ q) ≡ count q
   pub kept : (x now : ℕ) (waiting : Waiting) (prec : ℕ) (w : DrawnWords) (v : Answer) (q : List QueueEvent) → looks prec ≡ true → 1 ≤ x
-      → t.low + x ≤ average (Asked now waiting prec w v ∷ q) → test (says q now waiting prec w).verdict ≡ false
-      → Counts t (count q) (count (Asked now waiting prec w v ∷ q)) x
+      → t.low + x ≤ average (Enqueued now waiting prec w v ∷ q) → test (says q now waiting prec w).verdict ≡ false
+      → Counts t (count q) (count (Enqueued now waiting prec w v ∷ q)) x
 
 -- n packets were kept
 record AreKept (t : Thresholds) (x n : ℕ) (c : ℤ) : Type 0 where
@@ -75,13 +75,13 @@ walk looks t average count says test r x [] old some all = inr (record {
   counted = least_kept (count old) (r.least old);
   below = λ one. absurd (omega (arith, one));
 })
-walk looks t average count says test r x (Asked now waiting prec w v ∷ new) old some all =
+walk looks t average count says test r x (Enqueued now waiting prec w v ∷ new) old some all =
     let q = new ++ old in
-    end_if test t x (says q now waiting prec w).verdict (verdicts looks says new old) (count q) (count (Asked now waiting prec w v ∷ q)) (looks prec)
+    end_if test t x (says q now waiting prec w).verdict (verdicts looks says new old) (count q) (count (Enqueued now waiting prec w v ∷ q)) (looks prec)
     (walk looks t average count says test r x new old some all.1)
     (λ seen kept. r.kept x now waiting prec w v q seen some (all.0 seen) kept)
     (λ unseen. r.other now waiting prec w v q unseen)
-walk looks t average count says test r x (Gone now prec waiting ∷ new) old some all =
+walk looks t average count says test r x (Dequeued now prec waiting ∷ new) old some all =
     subst (λ y. End test t x (verdicts looks says new old) y) (sym (r.gone now prec waiting (new ++ old)))
     (walk looks t average count says test r x new old some all)
 

@@ -2,7 +2,7 @@
 use Rattle.std.proofs.Common.{◌≡◌, ◌+◌, ◌*◌, ◌^◌, ◌==◌, ℕ, zero, suc, Bool, true, false, List, [], ◌∷◌, ap, subst, ◌∙◌, arith}
 use Rattle.std.proofs.Math.Nat.{pow-succ'}
 use Rattle.std.specs.Prelude.{if◌then◌else◌, nat_le}
-use Rattle.leaf_queue.specs.Queue.{QueueEvent, Asked, Gone}
+use Rattle.leaf_queue.specs.Queue.{QueueEvent, Enqueued, Dequeued}
 use Rattle.red_average.specs.Average.{stepped, idled, idle_steps, moved}
 use Rattle.red_average.specs.Exact.{IsNear}
 use Rattle.red_average.specs.Red as red
@@ -40,20 +40,20 @@ over_moved step idle now q e a h =
 
 over_red : (step : ℕ) (q : List QueueEvent) → Over (exact_of step q) (red.average_of step q)
 over_red step [] = record { near = record { least = omega arith; most = omega arith } }
-over_red step (Asked now waiting prec w v ∷ q) =
+over_red step (Enqueued now waiting prec w v ∷ q) =
     over_moved step (red.idle_of q) now waiting.all (exact_of step q) (red.average_of step q) (over_red step q)
-over_red step (Gone now prec waiting ∷ q) = over_red step q
+over_red step (Dequeued now prec waiting ∷ q) = over_red step q
 
 over_rio : (step j : ℕ) (q : List QueueEvent) → Over (exact_of_precedence step j q) (rio.average_of step j q)
 over_rio step j [] = record { near = record { least = omega arith; most = omega arith } }
-over_rio step j (Asked now waiting prec w v ∷ q) =
+over_rio step j (Enqueued now waiting prec w v ∷ q) =
     let e = exact_of_precedence step j q in
     let a = rio.average_of step j q in
     let idle = rio.idle_of j q in
     let here = over_rio step j q in
     over_if (nat_le prec j) (exact_moved step idle now (seen j waiting) e) e (moved step idle now (seen j waiting) a) a
     (over_moved step idle now (seen j waiting) e a here) here
-over_rio step j (Gone now prec waiting ∷ q) = over_rio step j q
+over_rio step j (Dequeued now prec waiting ∷ q) = over_rio step j q
 
 pub near_red : (step : ℕ) (q : List QueueEvent) → IsNear (exact_of step q).steps (exact_of step q).top (red.average_of step q)
 near_red step q = (over_red step q).near

@@ -8,7 +8,7 @@ use Rattle.altq_model.specs.declared.Verdict.{Verdict}
 use Rattle.altq_model.specs.declared.Verdict.TheVariants.{Keep, Mark, Drop}
 use Rattle.altq_model.specs.History.{is_kept, DrawnWords, Answer}
 use Rattle.leaf_queue.specs.declared.rule.Waiting.{Waiting}
-use Rattle.leaf_queue.specs.Queue.{QueueEvent, Asked, Gone}
+use Rattle.leaf_queue.specs.Queue.{QueueEvent, Enqueued, Dequeued}
 use Rattle.leaf_queue.specs.Words.{word}
 use Rattle.red_average.specs.Average.{moved}
 use Rattle.red_average.specs.Red.{red_says, thresholds}
@@ -36,14 +36,14 @@ untold_if false (Drop r) e = absurd (cc)
 
 red_least : (step limit : ℕ) (q : List QueueEvent) → negsuc 0 ≤ℤ red.count_of step limit q
 red_least step limit [] = omega (arith, ints)
-red_least step limit (Asked now waiting prec w v ∷ q) =
+red_least step limit (Enqueued now waiting prec w v ∷ q) =
     least_count thresholds (waiting.all == limit) (moved step (red.idle_of q) now waiting.all (red.average_of step q))
     (red.count_of step limit q) (word w.seed w.drawn)
-red_least step limit (Gone now prec waiting ∷ q) = red_least step limit q
+red_least step limit (Dequeued now prec waiting ∷ q) = red_least step limit q
 
 red_kept : (step limit x now : ℕ) (waiting : Waiting) (prec : ℕ) (w : DrawnWords) (v : Answer) (q : List QueueEvent) → 1 ≤ x
-    → thresholds.low + x ≤ red.average_of step (Asked now waiting prec w v ∷ q) → is_kept (red_says step limit q now waiting prec w).verdict ≡ true
-    → Counts thresholds (red.count_of step limit q) (red.count_of step limit (Asked now waiting prec w v ∷ q)) x
+    → thresholds.low + x ≤ red.average_of step (Enqueued now waiting prec w v ∷ q) → is_kept (red_says step limit q now waiting prec w).verdict ≡ true
+    → Counts thresholds (red.count_of step limit q) (red.count_of step limit (Enqueued now waiting prec w v ∷ q)) x
 red_kept step limit x now waiting prec w v q some over keeps =
     counts thresholds (waiting.all == limit) (moved step (red.idle_of q) now waiting.all (red.average_of step q))
     (red.count_of step limit q) (word w.seed w.drawn) x some over (omega arith) (red_least step limit q) keeps
@@ -81,11 +81,11 @@ if_count false x y h k = k
 
 rio_least : (step limit j : ℕ) (q : List QueueEvent) → negsuc 0 ≤ℤ rio.count_of step limit j q
 rio_least step limit j [] = omega (arith, ints)
-rio_least step limit j (Asked now waiting prec w v ∷ q) =
+rio_least step limit j (Enqueued now waiting prec w v ∷ q) =
     if_count (j == prec) (rio_count step limit prec now waiting w q) (rio.count_of step limit j q)
     (least_count (thresholds_of prec) (waiting.all == limit) (rio_average step prec now waiting q) (rio.count_of step limit prec q) (word w.seed w.drawn))
     (rio_least step limit j q)
-rio_least step limit j (Gone now prec waiting ∷ q) = rio_least step limit j q
+rio_least step limit j (Dequeued now prec waiting ∷ q) = rio_least step limit j q
 
 then_of : (b : Bool) (x y : ℤ) → b ≡ true → (if b then x else y) ≡ x
 then_of true x y e = refl
@@ -108,8 +108,8 @@ same_precedence : (j prec : ℕ) → (j == prec) ≡ true → prec ≡ j
 same_precedence j prec e = grind (arith, nat_tests)
 
 rio_kept_here : (step limit j x now : ℕ) (waiting : Waiting) (w : DrawnWords) (v : Answer) (q : List QueueEvent) → (j == j) ≡ true → 1 ≤ x
-    → (thresholds_of j).low + x ≤ rio.average_of step j (Asked now waiting j w v ∷ q) → is_kept (rio_says step limit q now waiting j w).verdict ≡ true
-    → Counts (thresholds_of j) (rio.count_of step limit j q) (rio.count_of step limit j (Asked now waiting j w v ∷ q)) x
+    → (thresholds_of j).low + x ≤ rio.average_of step j (Enqueued now waiting j w v ∷ q) → is_kept (rio_says step limit q now waiting j w).verdict ≡ true
+    → Counts (thresholds_of j) (rio.count_of step limit j q) (rio.count_of step limit j (Enqueued now waiting j w v ∷ q)) x
 rio_kept_here step limit j x now waiting w v q here some over keeps =
     let moved_count = then_of (j == j) (rio_count step limit j now waiting w q) (rio.count_of step limit j q) here in
     subst (λ z. Counts (thresholds_of j) (rio.count_of step limit j q) z x) (sym moved_count)
@@ -117,13 +117,13 @@ rio_kept_here step limit j x now waiting w v q here some over keeps =
     (narrow j) (rio_least step limit j q) keeps)
 
 rio_kept : (step limit j x now : ℕ) (waiting : Waiting) (prec : ℕ) (w : DrawnWords) (v : Answer) (q : List QueueEvent) → prec ≡ j
-    → (j == prec) ≡ true → 1 ≤ x → (thresholds_of j).low + x ≤ rio.average_of step j (Asked now waiting prec w v ∷ q)
+    → (j == prec) ≡ true → 1 ≤ x → (thresholds_of j).low + x ≤ rio.average_of step j (Enqueued now waiting prec w v ∷ q)
     → is_kept (rio_says step limit q now waiting prec w).verdict ≡ true
-    → Counts (thresholds_of j) (rio.count_of step limit j q) (rio.count_of step limit j (Asked now waiting prec w v ∷ q)) x
+    → Counts (thresholds_of j) (rio.count_of step limit j q) (rio.count_of step limit j (Enqueued now waiting prec w v ∷ q)) x
 rio_kept step limit j x now waiting prec w v q e =
-    let P : ℕ → Type 0 = λ p. (j == p) ≡ true → 1 ≤ x → (thresholds_of j).low + x ≤ rio.average_of step j (Asked now waiting p w v ∷ q)
+    let P : ℕ → Type 0 = λ p. (j == p) ≡ true → 1 ≤ x → (thresholds_of j).low + x ≤ rio.average_of step j (Enqueued now waiting p w v ∷ q)
     → is_kept (rio_says step limit q now waiting p w).verdict ≡ true
-    → Counts (thresholds_of j) (rio.count_of step limit j q) (rio.count_of step limit j (Asked now waiting p w v ∷ q)) x in
+    → Counts (thresholds_of j) (rio.count_of step limit j q) (rio.count_of step limit j (Enqueued now waiting p w v ∷ q)) x in
     subst P (sym e) (rio_kept_here step limit j x now waiting w v q)
 
 pub rio_drops : (step limit j : ℕ) → OneIsTold (only j) (thresholds_of j) (rio.average_of step j) (rio_says step limit) is_dropped

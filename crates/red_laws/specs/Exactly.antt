@@ -2,7 +2,7 @@
 -- waiting packets. After n steps it is a fraction of 512^n, in packets times 2^21.
 use Rattle.std.specs.Prelude.{ℕ, zero, suc, ◌+◌, ◌*◌, ◌^◌, ◌==◌, nat_le, List, [], ◌∷◌, if◌then◌else◌}
 use Rattle.leaf_queue.specs.declared.rule.Waiting.{Waiting}
-use Rattle.leaf_queue.specs.Queue.{QueueEvent, Asked, Gone}
+use Rattle.leaf_queue.specs.Queue.{QueueEvent, Enqueued, Dequeued}
 use Rattle.red_average.specs.Average.{idle_steps}
 use Rattle.red_average.specs.Red as red
 use Rattle.rio_precedence.specs.Precedence.{seen}
@@ -32,8 +32,8 @@ exact_moved step idle now q e = if q == 0 then exact_idled (idle_steps step idle
 -- RED's, which moves with every packet
 abbrev pub exact_of : (step : ℕ) → List QueueEvent → Exact
 exact_of step [] = exact_zero
-exact_of step (Asked now waiting prec w v ∷ q) = exact_moved step (red.idle_of q) now waiting.all (exact_of step q)
-exact_of step (Gone now prec waiting ∷ q) = exact_of step q
+exact_of step (Enqueued now waiting prec w v ∷ q) = exact_moved step (red.idle_of q) now waiting.all (exact_of step q)
+exact_of step (Dequeued now prec waiting ∷ q) = exact_of step q
 
 -- RIO's of precedence j, which moves with the packets of precedence at most j
 abbrev pub exact_after : (step j prec now : ℕ) → Waiting → (idle : ℕ) → Exact → Exact
@@ -41,6 +41,6 @@ exact_after step j prec now waiting idle e = if nat_le prec j then exact_moved s
 
 abbrev pub exact_of_precedence : (step j : ℕ) → List QueueEvent → Exact
 exact_of_precedence step j [] = exact_zero
-exact_of_precedence step j (Asked now waiting prec w v ∷ q) =
+exact_of_precedence step j (Enqueued now waiting prec w v ∷ q) =
     exact_after step j prec now waiting (rio.idle_of j q) (exact_of_precedence step j q)
-exact_of_precedence step j (Gone now prec waiting ∷ q) = exact_of_precedence step j q
+exact_of_precedence step j (Dequeued now prec waiting ∷ q) = exact_of_precedence step j q

@@ -4,7 +4,7 @@ use Rattle.std.specs.List.{list_any}
 use Rattle.altq_model.specs.declared.Verdict.{Verdict}
 use Rattle.altq_model.specs.History.{is_kept, is_mark}
 use Rattle.play_base.specs.Units.{ceil_div}
-use Rattle.leaf_queue.specs.Queue.{QueueEvent, Asked, Gone, Saying}
+use Rattle.leaf_queue.specs.Queue.{QueueEvent, Enqueued, Dequeued, Saying}
 use Rattle.red_average.specs.declared.ruling.Thresholds.{Thresholds}
 use Rattle.red_average.specs.Ruling.{spacing}
 
@@ -25,9 +25,9 @@ is_told v = is_mark v || not (is_kept v)
 -- the verdicts that a rule says of the packets of the precedences that are looked at
 abbrev pub verdicts : (looks : ℕ → Bool) → Saying → (new old : List QueueEvent) → List Verdict
 verdicts looks says [] old = []
-verdicts looks says (Asked now waiting prec w v ∷ new) old =
+verdicts looks says (Enqueued now waiting prec w v ∷ new) old =
     if looks prec then (says (new ++ old) now waiting prec w).verdict ∷ verdicts looks says new old else verdicts looks says new old
-verdicts looks says (Gone now prec waiting ∷ new) old = verdicts looks says new old
+verdicts looks says (Dequeued now prec waiting ∷ new) old = verdicts looks says new old
 
 -- each of these packets leaves an average of at least `least`
 abbrev pub IsAtLeast : (looks : Bool) → (least average : ℕ) → Type 0
@@ -35,9 +35,9 @@ IsAtLeast looks least average = looks ≡ true → least ≤ average
 
 abbrev pub AreAtLeast : (looks : ℕ → Bool) → (average : List QueueEvent → ℕ) → (least : ℕ) → (new old : List QueueEvent) → Type 0
 AreAtLeast looks average least [] old = Unit {0}
-AreAtLeast looks average least (Asked now waiting prec w v ∷ new) old =
-    IsAtLeast (looks prec) least (average (Asked now waiting prec w v ∷ (new ++ old))) × AreAtLeast looks average least new old
-AreAtLeast looks average least (Gone now prec waiting ∷ new) old = AreAtLeast looks average least new old
+AreAtLeast looks average least (Enqueued now waiting prec w v ∷ new) old =
+    IsAtLeast (looks prec) least (average (Enqueued now waiting prec w v ∷ (new ++ old))) × AreAtLeast looks average least new old
+AreAtLeast looks average least (Dequeued now prec waiting ∷ new) old = AreAtLeast looks average least new old
 
 -- how many packets are enough where each leaves an average of x or more over the lower threshold
 abbrev pub enough : Thresholds → (x : ℕ) → ℕ

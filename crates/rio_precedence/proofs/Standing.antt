@@ -7,7 +7,8 @@ use Rattle.std.proofs.lemmas.List.{length-set}
 use Rattle.std.specs.Prelude.{if◌then◌else◌}
 use Rattle.altq_model.specs.History.{Answer, DrawnWords}
 use Rattle.leaf_queue.specs.declared.rule.Waiting.{Waiting}
-use Rattle.leaf_queue.specs.Queue.{QueueEvent, Asked}
+use Rattle.leaf_queue.specs.Queue.{QueueEvent, Enqueued}
+use Rattle.rio_precedence.specs.declared.rio.Rio.{Rio}
 use Rattle.rio_precedence.specs.Rio.{StandsFor, average_after, average_of, count_of, idle_of, ruling_at}
 
 -- a fact of each number of a list, after one of them was replaced
@@ -33,39 +34,46 @@ count_by xs p j z old false e there was =
     let other : j ≢ p = grind (arith, nat_tests) in
     get_or-set_other xs p j z (pos 0) other ∙ was
 
-pub offered : (step limit : ℕ) (a : List ℕ) (c : List ℤ) (i b : List ℕ) (q : List QueueEvent) (now : ℕ) (waiting : Waiting) (prec : ℕ) (w : DrawnWords)
-    (v : Answer) → StandsFor step limit a c i q → prec ≤ 2 → length c ≡ 3
-    → ((j : ℕ) → j ≤ 2 → slice_index b j ≡ average_after step j prec now waiting (slice_index i j) (slice_index a j))
-    → StandsFor step limit b (slice_set c prec (ruling_at limit prec (slice_index b prec) (slice_index_or c prec (pos 0)) waiting w).ruling.count) i
-    (Asked now waiting prec w v ∷ q)
-offered step limit a c i b q now waiting prec w v s small three moves =
-    let average : (j : ℕ) → j ≤ 2 → slice_index b j ≡ average_after step j prec now waiting (idle_of j q) (average_of step j q) =
-    λ j h. moves j h ∙ ap (λ x. average_after step j prec now waiting x (slice_index a j)) (s.idle j h)
+-- RIO's numbers after an offer: its averages moved, and the count of the packet's precedence as the ruling leaves it
+offered : (r : Rio) (moved : List ℕ) (q : List QueueEvent) (now : ℕ) (waiting : Waiting) (prec : ℕ) (w : DrawnWords) (v : Answer)
+    → StandsFor r.step r.limit r.average r.count r.idle q → prec ≤ 2 → length r.count ≡ 3
+    → ((j : ℕ) → j ≤ 2 → slice_index moved j ≡ average_after r.step j prec now waiting (slice_index r.idle j) (slice_index r.average j))
+    → StandsFor r.step r.limit moved
+    (slice_set r.count prec (ruling_at r.limit prec (slice_index moved prec) (slice_index_or r.count prec (pos 0)) waiting w).ruling.count) r.idle
+    (Enqueued now waiting prec w v ∷ q)
+offered r moved q now waiting prec w v s small three moves =
+    let step : ℕ = r.step in
+    let limit : ℕ = r.limit in
+    let average : (j : ℕ) → j ≤ 2 → slice_index moved j ≡ average_after step j prec now waiting (idle_of j q) (average_of step j q) =
+    λ j h. moves j h ∙ ap (λ x. average_after step j prec now waiting x (slice_index r.average j)) (s.idle j h)
     ∙ ap (λ y. average_after step j prec now waiting (idle_of j q) y) (s.average j h) in
-    let ruling : (ruling_at limit prec (slice_index b prec) (slice_index_or c prec (pos 0)) waiting w).ruling.count
+    let ruling : (ruling_at limit prec (slice_index moved prec) (slice_index_or r.count prec (pos 0)) waiting w).ruling.count
     ≡ (ruling_at limit prec (average_after step prec prec now waiting (idle_of prec q) (average_of step prec q)) (count_of step limit prec q) waiting w).ruling.count =
-    ap (λ x. (ruling_at limit prec x (slice_index_or c prec (pos 0)) waiting w).ruling.count) (average prec small)
+    ap (λ x. (ruling_at limit prec x (slice_index_or r.count prec (pos 0)) waiting w).ruling.count) (average prec small)
     ∙ ap (λ y. (ruling_at limit prec (average_after step prec prec now waiting (idle_of prec q) (average_of step prec q)) y waiting w).ruling.count) (s.count prec small) in
     record {
       average = average;
-      count = λ j h. ap (λ z. slice_index_or (slice_set c prec z) j (pos 0)) ruling
-          ∙ count_by c prec j (ruling_at limit prec (average_after step prec prec now waiting (idle_of prec q) (average_of step prec q)) (count_of step limit prec q) waiting w).ruling.count
+      count = λ j h. ap (λ z. slice_index_or (slice_set r.count prec z) j (pos 0)) ruling
+          ∙ count_by r.count prec j (ruling_at limit prec (average_after step prec prec now waiting (idle_of prec q) (average_of step prec q)) (count_of step limit prec q) waiting w).ruling.count
           (count_of step limit j q) (j == prec) refl (omega arith) (s.count j h);
       idle = s.idle;
     }
 
--- the same of what code holds afterwards
-pub stands_after : (step limit step' limit' : ℕ) (a : List ℕ) (c : List ℤ) (i a' : List ℕ) (c' : List ℤ) (i' : List ℕ) (q : List QueueEvent) (now : ℕ)
-    (waiting : Waiting) (prec : ℕ) (w : DrawnWords) (v : Answer) → StandsFor step limit a c i q → prec ≤ 2 → length c ≡ 3 → step' ≡ step → limit' ≡ limit
-    → ((j : ℕ) → j ≤ 2 → slice_index a' j ≡ average_after step j prec now waiting (slice_index i j) (slice_index a j))
-    → c' ≡ slice_set c prec (ruling_at limit prec (slice_index a' prec) (slice_index_or c prec (pos 0)) waiting w).ruling.count → i' ≡ i
-    → StandsFor step' limit' a' c' i' (Asked now waiting prec w v ∷ q)
-stands_after step limit step' limit' a c i a' c' i' q now waiting prec w v s small three st li moves counts idles =
-    let P : ℕ → Type 0 = λ x. StandsFor x limit' a' c' i' (Asked now waiting prec w v ∷ q) in
-    let Q : ℕ → Type 0 = λ x. StandsFor step x a' c' i' (Asked now waiting prec w v ∷ q) in
-    let R : List ℤ → Type 0 = λ x. StandsFor step limit a' x i' (Asked now waiting prec w v ∷ q) in
-    let S : List ℕ → Type 0 = λ x. StandsFor step limit a' (slice_set c prec (ruling_at limit prec (slice_index a' prec) (slice_index_or c prec (pos 0)) waiting w).ruling.count) x (Asked now waiting prec w v ∷ q) in
-    subst P (sym st) (subst Q (sym li) (subst R (sym counts) (subst S (sym idles) (offered step limit a c i a' q now waiting prec w v s small three moves))))
+-- RIO after an offer stands for the history with that offer
+pub stands_after : (old new : Rio) (q : List QueueEvent) (now : ℕ) (waiting : Waiting) (prec : ℕ) (w : DrawnWords) (v : Answer)
+    → StandsFor old.step old.limit old.average old.count old.idle q → prec ≤ 2 → length old.count ≡ 3 → new.step ≡ old.step → new.limit ≡ old.limit
+    → ((j : ℕ) → j ≤ 2 → slice_index new.average j ≡ average_after old.step j prec now waiting (slice_index old.idle j) (slice_index old.average j))
+    → new.count ≡ slice_set old.count prec (ruling_at old.limit prec (slice_index new.average prec) (slice_index_or old.count prec (pos 0)) waiting w).ruling.count
+    → new.idle ≡ old.idle → StandsFor new.step new.limit new.average new.count new.idle (Enqueued now waiting prec w v ∷ q)
+stands_after old new q now waiting prec w v s small three same_step same_limit moves counts idles =
+    let q2 : List QueueEvent = Enqueued now waiting prec w v ∷ q in
+    let ruled : List ℤ = slice_set old.count prec (ruling_at old.limit prec (slice_index new.average prec) (slice_index_or old.count prec (pos 0)) waiting w).ruling.count in
+    let P : ℕ → Type 0 = λ x. StandsFor x new.limit new.average new.count new.idle q2 in
+    let Q : ℕ → Type 0 = λ x. StandsFor old.step x new.average new.count new.idle q2 in
+    let R : List ℤ → Type 0 = λ x. StandsFor old.step old.limit new.average x new.idle q2 in
+    let S : List ℕ → Type 0 = λ x. StandsFor old.step old.limit new.average ruled x q2 in
+    subst P (sym same_step) (subst Q (sym same_limit) (subst R (sym counts) (subst S (sym idles)
+    (offered old new.average q now waiting prec w v s small three moves))))
 
 -- what a test of two numbers says
 equal_as : (a b : ℕ) → IsTrue (a == b) → a ≡ b

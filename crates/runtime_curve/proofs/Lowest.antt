@@ -1,5 +1,5 @@
 -- The lower of two lines, and the openings that stand for all after one more.
-use Rattle.std.proofs.Common.{◌≡◌, ◌≤◌, inl, inr, ℕ, List, [], ◌∷◌, Some, refl, sym, subst, arith}
+use Rattle.std.proofs.Common.{◌≡◌, ◌≤◌, ◌<◌, ◌+◌, ◌-◌, ◌*◌, inl, inr, ℕ, List, [], ◌∷◌, Some, refl, ap, sym, subst, arith}
 use Rattle.service_curve.specs.declared.Curve.{Curve}
 use Rattle.runtime_curve.specs.declared.Opening.{Opening}
 use Rattle.runtime_curve.specs.declared.held.Held.{Held}
@@ -31,12 +31,26 @@ up_to_more a b (o ∷ os) h x =
 abbrev pub held_one : Opening → Held
 held_one o = record { steep = o; flat = o; last = o }
 
-up_to_itself : (o : Opening) → IsUpTo o o
+pub up_to_itself : (o : Opening) → IsUpTo o o
 up_to_itself o = record { at = omega arith; count = omega arith }
 
 pub first_stands : (s : Curve) (o : Opening) (os : List Opening) → os ≡ [] → StandFor s (held_one o) (o ∷ os)
 first_stands s o os e = subst (λ (l : List Opening). StandFor s (held_one o) (o ∷ l)) (sym e)
     (record { steep_in = inl refl; flat_in = inl refl; steep_low = (omega arith, tt); flat_low = (omega arith, tt); last = refl; up_to = (up_to_itself o, tt) })
+
+-- a line that has risen by less than the slope gives in the time between two openings is lower from the second on
+pub gained : (m : ℕ) (old new : Opening) → IsUpTo new old → m * (new.at - old.at) + m * old.at ≡ m * new.at
+gained m old new h =
+    let one : old.at ≤ new.at = h.at in
+    let two : (new.at - old.at) + old.at ≡ new.at = omega arith in
+    let three = ap (λ n. m * n) two in
+    omega arith
+
+pub new_lower : (m : ℕ) (old new : Opening) → IsUpTo new old → new.count - old.count < m * (new.at - old.at) → Lower m new old
+new_lower m old new h less = let rise = gained m old new h in let more : old.count ≤ new.count = h.count in omega arith
+
+pub old_lower : (m : ℕ) (old new : Opening) → IsUpTo new old → m * (new.at - old.at) ≤ new.count - old.count → Lower m old new
+old_lower m old new h less = let rise = gained m old new h in let more : old.count ≤ new.count = h.count in omega arith
 
 -- what the choice of the lower of an old opening and a new one keeps
 pub record IsLower (m : ℕ) (old new r : Opening) : Type 0 where

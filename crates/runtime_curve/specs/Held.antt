@@ -53,6 +53,10 @@ both (Some h) = h.steep ∷ h.flat ∷ []
 abbrev pub AreWithin : Option Held → Type 0
 AreWithin o = (h : Held) → o ≡ Some h → IsWithin h.steep × IsWithin h.flat
 
+-- none that is held is later than the last or of greater count
+abbrev pub AreOrdered : Option Held → Type 0
+AreOrdered o = (h : Held) → o ≡ Some h → IsUpTo h.last h.steep × IsUpTo h.last h.flat
+
 -- an opening may follow those that are held
 abbrev pub MayFollow : Option Held → Opening → Type 0
 MayFollow o new = (h : Held) → o ≡ Some h → IsUpTo new h.last

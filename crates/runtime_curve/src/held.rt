@@ -3,7 +3,7 @@ ghost use Rattle.std.specs.Prelude.{◌≡◌, ◌≤◌, ◌<◌, ◌^◌, ◌�
 ghost use Rattle.service_curve.specs.Curve.{IsInRange};
 ghost use Rattle.runtime_curve.specs.declared.Opening.{Opening};
 ghost use Rattle.runtime_curve.specs.Opening.{IsWithin};
-ghost use Rattle.runtime_curve.specs.Held.{AreWithin, MayFollow, LowerThanAll, IsOneOf, Stand, StandFor};
+ghost use Rattle.runtime_curve.specs.Held.{AreOrdered, AreWithin, IsUpTo, MayFollow, LowerThanAll, IsOneOf, Stand, StandFor};
 
 use crate::Opening;
 use service_curve::Curve;
@@ -17,18 +17,18 @@ pub struct Held {
     pub last: Opening,
 }
 
-/// Of two openings the one whose line of this slope is lower.
-#[tactic(auto, using(crate::proofs::Lowest::lower_low, crate::proofs::Lowest::lower_in))]
+/// Of two openings, the old one not after the new, the one whose line of this slope is lower.
 fn lower_of(slope: u64, old: Opening, new: Opening) -> Opening
     requires slope { slope ≤ 10 ^ 12 }
     requires old { IsWithin old }
     requires new { IsWithin new }
+    requires order { IsUpTo new old }
     ensures within { IsWithin result }
+    ensures order { IsUpTo new result }
     ensures low { (os : List Opening) → LowerThanAll slope old os → LowerThanAll slope result (new ∷ os) }
     ensures one { (os : List Opening) → IsOneOf old os → IsOneOf result (new ∷ os) }
 {
-    let slope = slope as u128;
-    if new.count + slope * old.at < old.count + slope * new.at {
+    if new.count - old.count < slope as u128 * (new.at - old.at) {
         new
     } else {
         old
@@ -41,9 +41,12 @@ pub fn with_opening(curve: &Curve, held: Option<Held>, new: Opening) -> Held
     requires in_range { IsInRange curve.now }
     requires new { IsWithin new }
     requires within { AreWithin held }
+    requires ordered { AreOrdered held }
     requires last { MayFollow held new }
     ensures steep { IsWithin result.steep }
     ensures flat { IsWithin result.flat }
+    ensures steep_order { IsUpTo result.last result.steep }
+    ensures flat_order { IsUpTo result.last result.flat }
     ensures last { result.last ≡ new }
     ensures opened { (os : List Opening) → Stand curve.now held os → StandFor curve.now result (new ∷ os) }
 {

@@ -17,7 +17,7 @@ ghost use Rattle.service_curve.specs.Moment.{IsFirst, HasCome};
 ghost use Rattle.runtime_curve.specs.declared.Opening.{Opening};
 ghost use Rattle.runtime_curve.specs.Opening.{opening, RisesFromZero, least_over, IsAtLeast, Reaches, eligible_curve, IsFrom};
 ghost use Rattle.runtime_curve.specs.Deadline.{deadline, reaches, soonest};
-ghost use Rattle.runtime_curve.specs.Held.{AreWithin, MayFollow};
+ghost use Rattle.runtime_curve.specs.Held.{AreOrdered, AreWithin, MayFollow};
 
 use service_curve::Curve;
 
@@ -45,6 +45,7 @@ pub struct Running {
     ghost in_range: { IsInRange curve },
     ghost slopes: { RisesFromZero curve },
     ghost within: { AreWithin held },
+    ghost ordered: { AreOrdered held },
 }
 
 impl Running {

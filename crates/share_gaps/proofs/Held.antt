@@ -4,13 +4,13 @@ use Rattle.std.specs.Prelude.{◌&&◌, ◌==◌, nat_lt, not, if◌then◌else�
 use Rattle.std.proofs.lemmas.Bool.{cases_lt}
 use Rattle.std.proofs.lemmas.Bool.Decides.{nat_tests}
 use Rattle.hfsc_model.specs.declared.HfscClass.{HfscClass}
-use Rattle.hfsc_model.specs.Event.{HfscHistory, Kept, Sent}
+use Rattle.hfsc_model.specs.Event.{HfscHistory, Enqueued, Sent}
 use Rattle.hfsc_model.specs.Leaf.{Waiting, after_kept, after_sent, is_waiting, leaf}
 use Rattle.hfsc_model.specs.Share.{active}
 use Rattle.hfsc_model.specs.Timely.{IsHead}
 use Rattle.hfsc_model.specs.Tree.{is_leaf, is_parent, is_under}
 use Rattle.hfsc_laws.proofs.Sums.{sum_one, sum_same}
-use Rattle.hfsc_laws.proofs.Timed.{sum_below}
+use Rattle.hfsc_laws.proofs.Sums.{sum_below}
 use Rattle.hfsc_laws.proofs.Tree.{and_true, same_truth, true_and}
 use Rattle.hfsc_policy.specs.Heads.{AreHeads}
 use Rattle.hfsc_share.proofs.Opening.{active_is, is_active, is_waits, waits_is}
@@ -27,7 +27,7 @@ leaf_low : (cs : List HfscClass) (l : ℕ) → is_leaf cs l ≡ true → l < len
 leaf_low cs l e = grind (arith, nat_tests, (and_true (nat_lt l (length cs)) (not (is_parent cs l)) e).0)
 
 -- an event changes what waits in its leaf alone
-others_kept : (h : HfscHistory) (l at len d : ℕ) → (d ≡ l → ⊥) → (leaf (Kept l at len ∷ h) d).waiting ≡ (leaf h d).waiting
+others_kept : (h : HfscHistory) (l at len d : ℕ) → (d ≡ l → ⊥) → (leaf (Enqueued l at len ∷ h) d).waiting ≡ (leaf h d).waiting
 others_kept h l at len d n = go (l == d) refl
   where
     go : (b : Bool) → (l == d) ≡ b → (if b then after_kept at len (leaf h d) else leaf h d).waiting ≡ (leaf h d).waiting
@@ -45,7 +45,7 @@ one_more : (ws : List Waiting) (w : Waiting) → length (ws ++ w ∷ []) ≡ len
 one_more [] w = omega arith
 one_more (x ∷ xs) w = let rest = one_more xs w in omega (arith, rest)
 
-own_kept : (h : HfscHistory) (l at len : ℕ) → length (leaf (Kept l at len ∷ h) l).waiting ≡ length (leaf h l).waiting + 1
+own_kept : (h : HfscHistory) (l at len : ℕ) → length (leaf (Enqueued l at len ∷ h) l).waiting ≡ length (leaf h l).waiting + 1
 own_kept h l at len = go (l == l) refl
   where
     go : (b : Bool) → (l == l) ≡ b → length (if b then after_kept at len (leaf h l) else leaf h l).waiting ≡ length (leaf h l).waiting + 1
@@ -104,12 +104,12 @@ held_is cs c [] heads = sym (nothing (length cs))
     nothing : (n : ℕ) → sum_below (here cs [] c) n ≡ 0
     nothing zero = refl
     nothing (suc n) = let rest = nothing n in let one = zero_is (is_leaf cs n && is_under cs c n) in omega (arith, rest, one)
-held_is cs c (Kept l at len ∷ h) heads = go (is_leaf cs l && is_under cs c l) refl (held_is cs c h heads.1)
+held_is cs c (Enqueued l at len ∷ h) heads = go (is_leaf cs l && is_under cs c l) refl (held_is cs c h heads.1)
   where
     go : (b : Bool) → (is_leaf cs l && is_under cs c l) ≡ b → held cs c h ≡ sum_held cs h c
-        → (if b then held cs c h + 1 else held cs c h) ≡ sum_held cs (Kept l at len ∷ h) c
-    go true e rest = let one = sum_on cs (Kept l at len ∷ h) h c l e (own_kept h l at len) (others_kept h l at len) in omega (arith, one, rest)
-    go false e rest = let one = sum_off cs (Kept l at len ∷ h) h c l e (others_kept h l at len) in omega (arith, one, rest)
+        → (if b then held cs c h + 1 else held cs c h) ≡ sum_held cs (Enqueued l at len ∷ h) c
+    go true e rest = let one = sum_on cs (Enqueued l at len ∷ h) h c l e (own_kept h l at len) (others_kept h l at len) in omega (arith, one, rest)
+    go false e rest = let one = sum_off cs (Enqueued l at len ∷ h) h c l e (others_kept h l at len) in omega (arith, one, rest)
 held_is cs c (Sent l len real start ∷ h) heads = go (is_leaf cs l && is_under cs c l) refl (held_is cs c h heads.1)
   where
     go : (b : Bool) → (is_leaf cs l && is_under cs c l) ≡ b → held cs c h ≡ sum_held cs h c

@@ -3,7 +3,7 @@ use Rattle.std.proofs.Common.{◌≡◌, ◌≤◌, ◌<◌, ◌+◌, ◌-◌, �
 use Rattle.std.specs.Prelude.{◌&&◌, if◌then◌else◌}
 use Rattle.play_base.specs.Units.{units}
 use Rattle.hfsc_model.specs.declared.HfscClass.{HfscClass}
-use Rattle.hfsc_model.specs.Event.{HfscEvent, HfscHistory, Kept, Sent}
+use Rattle.hfsc_model.specs.Event.{HfscEvent, HfscHistory, Enqueued, Sent}
 use Rattle.hfsc_model.specs.Share.{active, total}
 use Rattle.hfsc_model.specs.Tree.{is_under}
 use Rattle.fair_shares.specs.Fairness.{AreBothActive, DifferBy, work}
@@ -23,7 +23,7 @@ gained cs l len c rate w = go (is_under cs c l)
 pub lead_most : (cs : List HfscClass) (c d rate other : ℕ) (es h : HfscHistory) → AreBothActive cs c d es h
     → work cs es c * other ≤ work cs es d * rate + lead cs c d rate other (es ++ h)
 lead_most cs c d rate other [] h both = omega arith
-lead_most cs c d rate other (Kept l at len ∷ es) h both = lead_most cs c d rate other es h both.2
+lead_most cs c d rate other (Enqueued l at len ∷ es) h both = lead_most cs c d rate other es h both.2
 lead_most cs c d rate other (Sent l len real start ∷ es) h both =
     go (active cs (Sent l len real start ∷ es ++ h) c) both.0 (active cs (Sent l len real start ∷ es ++ h) d) both.1 (lead_most cs c d rate other es h both.2)
   where
@@ -52,7 +52,7 @@ no_stretch cs c d rate other g x e = record { stretch = []; before = g; parts = 
 pub lead_active : (cs : List HfscClass) (c d rate other : ℕ) (h : HfscHistory) → 0 < lead cs c d rate other h
     → (active cs h c ≡ true) × (active cs h d ≡ true)
 lead_active cs c d rate other [] some = absurd (omega (arith, some))
-lead_active cs c d rate other (Kept l at len ∷ h) some =
+lead_active cs c d rate other (Enqueued l at len ∷ h) some =
     let was = lead_active cs c d rate other h some in
     (kept_active cs h l at len c was.0, kept_active cs h l at len d was.1)
 lead_active cs c d rate other (Sent l len real start ∷ h) some =
@@ -76,18 +76,18 @@ joined cs c d e g es h parts one two both =
 
 pub lead_there : (cs : List HfscClass) (c d rate other : ℕ) (h : HfscHistory) → Leads cs c d rate other h (lead cs c d rate other h)
 lead_there cs c d rate other [] = no_stretch cs c d rate other [] 0 refl
-lead_there cs c d rate other (Kept l at len ∷ h) = go (none_or (lead cs c d rate other h)) (lead_there cs c d rate other h)
+lead_there cs c d rate other (Enqueued l at len ∷ h) = go (none_or (lead cs c d rate other h)) (lead_there cs c d rate other h)
   where
     go : (lead cs c d rate other h ≡ 0) ⊎ (0 < lead cs c d rate other h) → Leads cs c d rate other h (lead cs c d rate other h)
-        → Leads cs c d rate other (Kept l at len ∷ h) (lead cs c d rate other h)
-    go (inl e) x = no_stretch cs c d rate other (Kept l at len ∷ h) (lead cs c d rate other h) e
+        → Leads cs c d rate other (Enqueued l at len ∷ h) (lead cs c d rate other h)
+    go (inl e) x = no_stretch cs c d rate other (Enqueued l at len ∷ h) (lead cs c d rate other h) e
     go (inr some) x =
         let was = lead_active cs c d rate other h some in
         record {
-          stretch = Kept l at len ∷ x.stretch;
+          stretch = Enqueued l at len ∷ x.stretch;
           before = x.before;
-          parts = ap (λ (k : HfscHistory). Kept l at len ∷ k) x.parts;
-          both = joined cs c d (Kept l at len) h x.stretch x.before x.parts (kept_active cs h l at len c was.0) (kept_active cs h l at len d was.1) x.both;
+          parts = ap (λ (k : HfscHistory). Enqueued l at len ∷ k) x.parts;
+          both = joined cs c d (Enqueued l at len) h x.stretch x.before x.parts (kept_active cs h l at len c was.0) (kept_active cs h l at len d was.1) x.both;
           ahead = x.ahead;
         }
 lead_there cs c d rate other (Sent l len real start ∷ h) =
@@ -213,7 +213,7 @@ is_greatest cs c d rate other g = record {
 -- a lead is no more than the work of all the history by the other rate
 pub lead_within : (cs : List HfscClass) (c d rate other : ℕ) (h : HfscHistory) → lead cs c d rate other h ≤ total cs h c * other
 lead_within cs c d rate other [] = omega arith
-lead_within cs c d rate other (Kept l at len ∷ h) = lead_within cs c d rate other h
+lead_within cs c d rate other (Enqueued l at len ∷ h) = lead_within cs c d rate other h
 lead_within cs c d rate other (Sent l len real start ∷ h) = go (active cs (Sent l len real start ∷ h) c && active cs (Sent l len real start ∷ h) d) (lead_within cs c d rate other h)
   where
     go : (b : Bool) → lead cs c d rate other h ≤ total cs h c * other → (if b then lead cs c d rate other h + gain cs l len c other - gain cs l len d rate else 0) ≤ total cs (Sent l len real start ∷ h) c * other

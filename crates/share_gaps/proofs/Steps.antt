@@ -9,7 +9,7 @@ use Rattle.service_curve.specs.declared.Curve.{Curve}
 use Rattle.service_curve.proofs.Amounts.{mul_mono}
 use Rattle.play_base.specs.Units.{units}
 use Rattle.hfsc_model.specs.declared.HfscClass.{HfscClass}
-use Rattle.hfsc_model.specs.Event.{HfscHistory, Kept, Sent}
+use Rattle.hfsc_model.specs.Event.{HfscHistory, Enqueued, Sent}
 use Rattle.hfsc_model.specs.Leaf.{leaf}
 use Rattle.hfsc_model.specs.Share.{active, or_zero, total}
 use Rattle.hfsc_model.specs.Timely.{IsHead}
@@ -38,7 +38,7 @@ use Rattle.share_gaps.proofs.Updates.{updated}
 -- no more packets are held than were kept
 held_few : (cs : List HfscClass) (c : ℕ) (h : HfscHistory) → held cs c h ≤ kept_in h
 held_few cs c [] = omega arith
-held_few cs c (Kept l at len ∷ h) = go (is_leaf cs l && is_under cs c l) (held_few cs c h)
+held_few cs c (Enqueued l at len ∷ h) = go (is_leaf cs l && is_under cs c l) (held_few cs c h)
   where
     go : (b : Bool) → held cs c h ≤ kept_in h → (if b then held cs c h + 1 else held cs c h) ≤ kept_in h + 1
     go true rest = omega (arith, rest)
@@ -69,7 +69,7 @@ counted_down cs ws l c n true t e = updated one_less (path cs l) ws c (path_apar
 counted_down cs ws l c n false t e = e
 
 -- a packet that is kept changes no lead
-leads_kept : (cs : List HfscClass) (s : Siblings) (l at len : ℕ) (h : HfscHistory) → lead_of cs s (Kept l at len ∷ h) ≡ lead_of cs s h
+leads_kept : (cs : List HfscClass) (s : Siblings) (l at len : ℕ) (h : HfscHistory) → lead_of cs s (Enqueued l at len ∷ h) ≡ lead_of cs s h
 leads_kept cs s l at len h =
     ap (λ (m : ℕ). made (lead cs s.first s.second (rate_in cs s.first) (rate_in cs s.second) h) (lead cs s.second s.first (rate_in cs s.second) (rate_in cs s.first) h) m)
     (let one = leads_in cs s.first s.second (rate_in cs s.first) (rate_in cs s.second) h in
@@ -83,7 +83,7 @@ leads_kept cs s l at len h =
 
 pub kept_stands : (cs : List HfscClass) (ss : List Siblings) (x : Place) (ws : List ℕ) (ls : List Lead) (n l at len : ℕ) (h : HfscHistory) → IsPlace cs ss l x
     → Stand cs ss ws ls n h → kept_in h < 4000000 → IsSized len
-    → Stand cs ss (if x.leaf then update_all one_more x.path.items ws else ws) ls n (Kept l at len ∷ h)
+    → Stand cs ss (if x.leaf then update_all one_more x.path.items ws else ws) ls n (Enqueued l at len ∷ h)
 kept_stands cs ss x ws ls n l at len h place s few sized = record {
   tree = s.tree;
   heads = (sized, s.heads);
@@ -106,7 +106,7 @@ no_leaf cs l beyond = go (nat_lt l (length cs)) refl
     go false e = refl
 
 pub kept_beyond : (cs : List HfscClass) (ss : List Siblings) (ws : List ℕ) (ls : List Lead) (n l at len : ℕ) (h : HfscHistory) → length cs ≤ l
-    → Stand cs ss ws ls n h → kept_in h < 4000000 → IsSized len → Stand cs ss ws ls n (Kept l at len ∷ h)
+    → Stand cs ss ws ls n h → kept_in h < 4000000 → IsSized len → Stand cs ss ws ls n (Enqueued l at len ∷ h)
 kept_beyond cs ss ws ls n l at len h beyond s few sized = record {
   tree = s.tree;
   heads = (sized, s.heads);

@@ -1,7 +1,7 @@
 //! A watch over the siblings of a tree of classes.
 ghost use Rattle.std.specs.Prelude.{◌≡◌, ◌≤◌, ◌<◌, ◌↔◌, ◌∷◌, [], ℕ, Bool, IfOk, IsNone, None, is_some, length, map, option_map, replicate, slice_get, ◌&&◌, if◌then◌else◌};
 ghost use Rattle.play_base.specs.Units.{units};
-ghost use Rattle.hfsc_model.specs.Event.{HfscHistory, Kept, Sent};
+ghost use Rattle.hfsc_model.specs.Event.{HfscHistory, Enqueued, Sent};
 ghost use Rattle.hfsc_model.specs.Leaf.{leaf};
 ghost use Rattle.hfsc_model.specs.Timely.{IsHead};
 ghost use Rattle.hfsc_model.specs.Tree.{class_of, IsTree};
@@ -155,7 +155,7 @@ impl Watch {
 
     /// A packet was kept in a class.
     pub fn kept(&mut self, class: u32)
-        ensures stands { (h : HfscHistory) (at len : ℕ) → StandsFor self.old h → kept_in h < 4000000 → IsSized len → StandsFor self.new (Kept class at len ∷ h) }
+        ensures stands { (h : HfscHistory) (at len : ℕ) → StandsFor self.old h → kept_in h < 4000000 → IsSized len → StandsFor self.new (Enqueued class at len ∷ h) }
         ensures classes { classes_of self.new ≡ classes_of self.old }
     {
         if class as usize >= self.places.len() {

@@ -1,10 +1,10 @@
 -- What a watched discipline stands for after an offer that was kept, and after a sending.
 use Rattle.std.proofs.Common.{◌≡◌, ◌<◌, ◌+◌, ◌∷◌, ◌∙◌, ℕ, Bool, true, List, ap, arith, subst, sym}
 use Rattle.std.specs.Prelude.{if◌then◌else◌}
-use Rattle.altq_model.specs.History.{Answer, Coming, DrawnWords, Happened, Offered, Sent, Transmission, bare, is_kept, waiting}
+use Rattle.altq_model.specs.History.{Answer, Arrival, DrawnWords, Happened, Offered, Sent, Sending, bare, is_kept, waiting}
 use Rattle.altq_model.specs.Play.{Policy}
 use Rattle.discipline.specs.Moments.{IsOffer, IsOrderly}
-use Rattle.hfsc_model.specs.Event.{HfscHistory, Kept, Sent as Went}
+use Rattle.hfsc_model.specs.Event.{HfscHistory, Enqueued, Sent as HfscSent}
 use Rattle.hfsc_model.specs.Leaf.{Waiting, leaf}
 use Rattle.hfsc_model.specs.Timely.{IsHead}
 use Rattle.hfsc_policy.specs.Events.{hfsc_history, is_real}
@@ -23,21 +23,21 @@ still_hfsc p q cs ds e f x = record { answer = x.answer; is = e ∙ x.is ∙ ap 
 
 -- the discipline and what watches it, before and after; neither the policy nor the classes change
 module _ (old new : List Happened → Type 0) (p q : Policy) (w v : Watch) (same : q ≡ p) (classes : classes_of v ≡ classes_of w) where
-  pub after_offer : (kept label : ℕ) (a : Coming) (d : DrawnWords) (answer : Answer) (h : List Happened)
+  pub after_offer : (kept label : ℕ) (a : Arrival) (d : DrawnWords) (answer : Answer) (h : List Happened)
       → BothStand old p w kept h → is_kept answer.verdict ≡ true → IsOffer a (bare h) → kept < 4000000
-      → ((g : HfscHistory) (at len : ℕ) → StandsFor w g → kept_in g < 4000000 → IsSized len → StandsFor v (Kept a.class at len ∷ g))
+      → ((g : HfscHistory) (at len : ℕ) → StandsFor w g → kept_in g < 4000000 → IsSized len → StandsFor v (Enqueued a.class at len ∷ g))
       → new (record { label = label; what = Offered a d answer } ∷ h) → BothStand new q v (kept + 1) (record { label = label; what = Offered a d answer } ∷ h)
   after_offer kept label a d answer h s k offer few stands is = record {
     stands = is;
     shares = still_hfsc p q (classes_of w) (classes_of v) same classes s.shares;
-    watches = subst (λ (b : Bool). StandsFor v (if b then Kept a.class a.at a.len ∷ hfsc_history (bare h) else hfsc_history (bare h))) (sym k)
+    watches = subst (λ (b : Bool). StandsFor v (if b then Enqueued a.class a.at a.len ∷ hfsc_history (bare h) else hfsc_history (bare h))) (sym k)
         (stands (hfsc_history (bare h)) a.at a.len s.watches (let count = s.kept_is in omega (arith, count, few)) offer.sized);
-    kept_is = ap (λ (b : Bool). kept_in (if b then Kept a.class a.at a.len ∷ hfsc_history (bare h) else hfsc_history (bare h))) k ∙ ap (λ (n : ℕ). n + 1) s.kept_is;
+    kept_is = ap (λ (b : Bool). kept_in (if b then Enqueued a.class a.at a.len ∷ hfsc_history (bare h) else hfsc_history (bare h))) k ∙ ap (λ (n : ℕ). n + 1) s.kept_is;
     counted = let more = s.counted in omega (arith, more);
   }
 
-  pub after_sending : (kept label : ℕ) (x : Transmission) (h : List Happened) → BothStand old p w kept h → ((g : List Happened) → new g → IsOrderly q (bare g))
-      → ((g : HfscHistory) (real : Bool) (start : ℕ) → StandsFor w g → IsHead (leaf g x.class).waiting x.len → StandsFor v (Went x.class x.len real start ∷ g))
+  pub after_sending : (kept label : ℕ) (x : Sending) (h : List Happened) → BothStand old p w kept h → ((g : List Happened) → new g → IsOrderly q (bare g))
+      → ((g : HfscHistory) (real : Bool) (start : ℕ) → StandsFor w g → IsHead (leaf g x.class).waiting x.len → StandsFor v (HfscSent x.class x.len real start ∷ g))
       → new (record { label = label; what = Sent x } ∷ h) → BothStand new q v kept (record { label = label; what = Sent x } ∷ h)
   after_sending kept label x h s orderly stands is =
       let due = (orderly (record { label = label; what = Sent x } ∷ h) is).0 in

@@ -5,7 +5,7 @@ use Rattle.std.proofs.lemmas.List.{drop-drop}
 use Rattle.capture_model.specs.Capture.{Record, Form, Step, Next, Header, Formed, Unformed, Stand, ReadsFrom, header, outcome, step}
 use Rattle.capture_model.proofs.OutcomeLemmas.{reads_outcome, next_place}
 use Rattle.altq_model.specs.declared.Placed.{Placed}
-use Rattle.altq_model.specs.Arrivals.{Arrival, arrivals_from}
+use Rattle.altq_model.specs.Arrivals.{Captured, arrivals_from}
 use Rattle.packet_heads.specs.Flow.{Flow, V4, V6, Other, flow, packet_place, two_at}
 use Rattle.packet_heads.specs.Retagged.{checksum_after, first_word_4, first_word_6, retagged, retagged_as, retagged_4, retagged_6, with_two}
 use Rattle.packet_heads.proofs.Words.{length-with_two}
@@ -35,7 +35,7 @@ by_flow Other frame tos = refl
 pub length-retagged : (frame : List ℕ) (tos : ℕ) → length (retagged frame tos) ≡ length frame
 length-retagged frame tos = by_flow (flow frame) frame tos
 
-pub length-marked_frame : (rule : Option MeterRule) (earlier : List Arrival) (a : Arrival) → length (marked_frame rule earlier a) ≡ length a.bytes
+pub length-marked_frame : (rule : Option MeterRule) (earlier : List Captured) (a : Captured) → length (marked_frame rule earlier a) ≡ length a.bytes
 length-marked_frame None earlier a = refl
 length-marked_frame (Some rule) earlier a = length-retagged a.bytes _
 
@@ -46,7 +46,7 @@ SameLengths [] (f ∷ fs) = ⊥
 SameLengths (r ∷ rs) [] = ⊥
 SameLengths (r ∷ rs) (f ∷ fs) = (length f ≡ length r.captured) × SameLengths rs fs
 
-pub same_lengths : (place : List ℕ → Placed) (cs : List Conditioner) (rs : List Record) (latest : ℕ) (earlier : List Arrival)
+pub same_lengths : (place : List ℕ → Placed) (cs : List Conditioner) (rs : List Record) (latest : ℕ) (earlier : List Captured)
     → SameLengths rs (marked_frames cs earlier (arrivals_from place latest rs))
 same_lengths place cs [] latest earlier = tt
 same_lengths place cs (r ∷ rs) latest earlier = (length-marked_frame _ earlier _, same_lengths place cs rs _ _)

@@ -6,7 +6,7 @@ use Rattle.std.proofs.lemmas.List.{get_or-append_right, get_or_append_left, get_
 use Rattle.std.proofs.lemmas.List.Elements.{All-head, All-tail}
 use Rattle.capture_model.specs.Capture.{Header, Formed, Unformed, Record, header, outcome_from}
 use Rattle.altq_model.specs.declared.Placed.{Placed}
-use Rattle.altq_model.specs.Arrivals.{Arrival, arrivals_from}
+use Rattle.altq_model.specs.Arrivals.{Captured, arrivals_from}
 use Rattle.packet_heads.specs.Flow.{flow}
 use Rattle.packet_heads.specs.Departing.{tos_of}
 use Rattle.packet_heads.proofs.Retagging.{are_bytes, retagged_differs}
@@ -57,7 +57,7 @@ is_not true h = absurd (cc)
 is_not false h = refl
 
 -- a byte of a frame that is no mark
-frame_stays : (rule : Option MeterRule) (earlier : List Arrival) (a : Arrival) (k : ℕ) → AreBytes a.bytes → IsAssured rule
+frame_stays : (rule : Option MeterRule) (earlier : List Captured) (a : Captured) (k : ℕ) → AreBytes a.bytes → IsAssured rule
     → (is_some rule && is_mark a.bytes k) ≡ false → get_or (marked_frame rule earlier a) k 0 ≡ get_or a.bytes k 0
 frame_stays None earlier a k bytes h none = refl
 frame_stays (Some rule) earlier a k bytes h none =
@@ -99,7 +99,7 @@ from_drop : (n k : ℕ) (x : List ℕ) → n ≤ k → get_or (drop n x) (k - n)
 from_drop n k x h = get_or-drop n x (k - n) 0 ∙ ap (λ (m : ℕ). get_or x m 0) (omega arith)
 
 -- the arrival of a record
-abbrev arrival_of : (place : List ℕ → Placed) (latest : ℕ) → Record → Arrival
+abbrev arrival_of : (place : List ℕ → Placed) (latest : ℕ) → Record → Captured
 arrival_of place latest r = record {
   at = max latest r.stamp;
   len = max r.original (length r.captured);
@@ -109,7 +109,7 @@ arrival_of place latest r = record {
   raised = nat_lt r.stamp latest;
 }
 
-records_stay : (c : Conditioning) (rs : List Record) (latest : ℕ) (earlier : List Arrival) (x : List ℕ) (k : ℕ)
+records_stay : (c : Conditioning) (rs : List Record) (latest : ℕ) (earlier : List Captured) (x : List ℕ) (k : ℕ)
     → AreAssured c → AreBytes x → Held rs x → may_change c rs k ≡ false
     → get_or (with_frames (marked_frames c.conditioners earlier (arrivals_from c.place latest rs)) x) k 0 ≡ get_or x k 0
 records_stay c [] latest earlier x k af bytes h none = refl

@@ -3,14 +3,14 @@
 use Rattle.std.specs.Prelude.{ℕ, ◌+◌, ◌==◌, if◌then◌else◌, Option, Some, None, List, [], ◌∷◌, ◌++◌, length, take, drop}
 use Rattle.capture_model.specs.Capture.{Record, outcome}
 use Rattle.altq_model.specs.declared.Placed.{Placed}
-use Rattle.altq_model.specs.Arrivals.{Arrival, arrivals_of}
+use Rattle.altq_model.specs.Arrivals.{Captured, arrivals_of}
 use Rattle.packet_heads.specs.Flow.{flow}
 use Rattle.packet_heads.specs.Departing.{tos_of}
 use Rattle.packet_heads.specs.Retagged.{retagged}
 use Rattle.traffic_meter.specs.declared.rule.Colour.{Colour}
 use Rattle.traffic_meter.specs.declared.rule.MeterRule.{MeterRule}
 use Rattle.traffic_meter.specs.declared.rule.MeterRule.TheVariants.{Single, Two}
-use Rattle.traffic_meter.specs.History as meter
+use Rattle.traffic_meter.specs.History.{Metered, colour_after}
 use Rattle.traffic_meter.specs.Mark.{marked_tos}
 
 -- a class, and the rule of its meter
@@ -34,11 +34,11 @@ assured_class (Single cir cbs ebs af) = af
 assured_class (Two pir pbs cir cbs af) = af
 
 -- a packet as a meter sees it: when it arrives, and its whole length, whatever its frame holds
-abbrev pub metered : Arrival → meter.Arrival
+abbrev pub metered : Captured → Metered
 metered a = record { moment = a.at; len = a.len }
 
 -- the packets of a class, the newest first
-abbrev pub history : (class : ℕ) → List Arrival → List meter.Arrival
+abbrev pub history : (class : ℕ) → List Captured → List Metered
 history class [] = []
 history class (a ∷ earlier) = if a.class == class then metered a ∷ history class earlier else history class earlier
 
@@ -47,12 +47,12 @@ abbrev pub coloured_frame : MeterRule → Colour → List ℕ → List ℕ
 coloured_frame rule colour frame = retagged frame (marked_tos (assured_class rule) colour (tos_of (flow frame)))
 
 -- the frame of a packet that comes after earlier ones, the newest of them first
-abbrev pub marked_frame : Option MeterRule → (earlier : List Arrival) → Arrival → List ℕ
+abbrev pub marked_frame : Option MeterRule → (earlier : List Captured) → Captured → List ℕ
 marked_frame None earlier a = a.bytes
 marked_frame (Some rule) earlier a =
-    coloured_frame rule (meter.colour_after rule (history a.class earlier) (metered a)) a.bytes
+    coloured_frame rule (colour_after rule (history a.class earlier) (metered a)) a.bytes
 
-abbrev pub marked_frames : List Conditioner → (earlier arrived : List Arrival) → List (List ℕ)
+abbrev pub marked_frames : List Conditioner → (earlier arrived : List Captured) → List (List ℕ)
 marked_frames cs earlier [] = []
 marked_frames cs earlier (a ∷ rest) = marked_frame (rule_of cs a.class) earlier a ∷ marked_frames cs (a ∷ earlier) rest
 

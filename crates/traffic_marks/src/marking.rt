@@ -1,6 +1,6 @@
 // The mark of one frame.
 ghost use Rattle.std.specs.Prelude.{◌≡◌, ◌≤◌, ◌∷◌, List, length};
-ghost use Rattle.traffic_meter.specs.History.{Arrival, StandsFor, after, colour_after, colour_of};
+ghost use Rattle.traffic_meter.specs.History.{Metered, StandsFor, after, colour_after, colour_of};
 ghost use Rattle.traffic_marks.specs.Marked.{assured_class, coloured_frame};
 
 use crate::metering::metered_tos;
@@ -18,13 +18,13 @@ pub fn mark(meter: &mut Meter, af: u8, moment: u64, len: u32, frame: &mut [u8])
     requires assured { af ≤ 4 }
     ensures frame { frame.new ≡ coloured_frame meter.old.rule
         (colour_of meter.old.rule meter.old.buckets (record { moment = moment; len = len })) frame.old }
-    ensures history_frame { (h : List Arrival) → StandsFor meter.old h
+    ensures history_frame { (h : List Metered) → StandsFor meter.old h
         → frame.new ≡ coloured_frame meter.old.rule (colour_after meter.old.rule h (record { moment = moment; len = len })) frame.old }
     ensures long { length frame.new ≡ length frame.old }
     ensures rule { meter.new.rule ≡ meter.old.rule }
     ensures buckets { meter.new.buckets ≡ after meter.old.rule meter.old.buckets (record { moment = moment; len = len }) }
     ensures moment { meter.new.buckets.moment ≡ moment }
-    ensures history { (h : List Arrival) → StandsFor meter.old h
+    ensures history { (h : List Metered) → StandsFor meter.old h
         → StandsFor meter.new (record { moment = moment; len = len } ∷ h) }
 {
     let tos = metered_tos(meter, af, moment, len, tos(frame));

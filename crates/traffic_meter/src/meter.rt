@@ -2,7 +2,7 @@
 ghost use Rattle.std.specs.Prelude.{◌≡◌, ◌≤◌, ◌-◌, ◌*◌, ◌^◌, ◌∷◌, [], List};
 ghost use Rattle.play_base.specs.Units.{units};
 ghost use Rattle.traffic_meter.specs.Buckets.{filled, full, judged, paid};
-ghost use Rattle.traffic_meter.specs.History.{Arrival, StandsFor, after, colour_after, colour_of};
+ghost use Rattle.traffic_meter.specs.History.{Metered, StandsFor, after, colour_after, colour_of};
 
 use crate::rule::{Colour, MeterRule};
 use play_base::units;
@@ -22,9 +22,9 @@ impl Model for Meter {
     ghost use Rattle.std.specs.Prelude.{◌≤◌};
     ghost use Rattle.play_base.specs.Units.{units};
     ghost use Rattle.traffic_meter.specs.Buckets.{committed_burst, other_burst};
-    ghost use Rattle.traffic_meter.specs.History.{Metered};
+    ghost use Rattle.traffic_meter.specs.History.{Metering};
 
-    ghost Value = { Metered };
+    ghost Value = { Metering };
 
     ghost view = { λ m. record {
       rule = m.rule;
@@ -138,9 +138,9 @@ impl Meter {
         ensures colour { result ≡ colour_of self.old.rule self.old.buckets (record { moment = moment; len = len }) }
         ensures buckets { self.new.buckets ≡ after self.old.rule self.old.buckets (record { moment = moment; len = len }) }
         ensures moment { self.new.buckets.moment ≡ moment }
-        ensures history_colour { (h : List Arrival) → StandsFor self.old h
+        ensures history_colour { (h : List Metered) → StandsFor self.old h
             → result ≡ colour_after self.old.rule h (record { moment = moment; len = len }) }
-        ensures history { (h : List Arrival) → StandsFor self.old h
+        ensures history { (h : List Metered) → StandsFor self.old h
             → StandsFor self.new (record { moment = moment; len = len } ∷ h) }
     {
         self.fill(moment);

@@ -7,7 +7,7 @@ use Rattle.std.proofs.lemmas.Bool.{and_parts}
 use Rattle.std.proofs.lemmas.Bool.Decides.{nat_tests}
 use Rattle.std.proofs.lemmas.List.{length-map}
 use Rattle.altq_model.specs.declared.Fate.{Fate}
-use Rattle.altq_model.specs.History.{Coming}
+use Rattle.altq_model.specs.History.{Arrival}
 use Rattle.altq_model.specs.Lawful.{AreHeld}
 use Rattle.altq_model.specs.Play.{IsOneOf, Policy}
 use Rattle.cbq_model.proofs.Places.{is_below}
@@ -39,30 +39,30 @@ below Cbq i c m =
     omega (arith, is_below c (cbq_classes i.classes) m, long)
 
 -- the class of a packet
-pub record HasClass (i : Interface) (a : Coming) : Type 0 where
+pub record HasClass (i : Interface) (a : Arrival) : Type 0 where
   pub class : Class
   pub at : slice_get i.classes a.class ≡ Some class
 
-one_of_at : (p : Policy) (arrived : List Coming) (k : ℕ) (a : Coming) → AreHeld p arrived → slice_get arrived k ≡ Some a → IsOneOf a.class p.classes
+one_of_at : (p : Policy) (arrived : List Arrival) (k : ℕ) (a : Arrival) → AreHeld p arrived → slice_get arrived k ≡ Some a → IsOneOf a.class p.classes
 one_of_at p [] k a held at = absurd cc
 one_of_at p (x ∷ rest) zero a held at =
     let same : x ≡ a = cc in
-    let P : Coming → Type 0 = λ y. IsOneOf y.class p.classes in
+    let P : Arrival → Type 0 = λ y. IsOneOf y.class p.classes in
     subst P same held.0
 one_of_at p (x ∷ rest) (suc k) a held at = one_of_at p rest k a held.1 at
 
-pub has_class : (i : Interface) (arrived : List Coming) (n : ℕ) (a : Coming) → AreHeld (policy_of i) arrived → slice_get arrived (n - 1) ≡ Some a
+pub has_class : (i : Interface) (arrived : List Arrival) (n : ℕ) (a : Arrival) → AreHeld (policy_of i) arrived → slice_get arrived (n - 1) ≡ Some a
     → HasClass i a
 has_class i arrived n a held at =
     let its = element i.classes a.class (below i.kind i a.class (one_of_at (policy_of i) arrived (n - 1) a held at)) in
     record { class = its.0; at = its.1 }
 
 -- the class of a number is that of its packet
-pub class_at : (arrived : List Coming) (n : ℕ) (a : Coming) → slice_get arrived (n - 1) ≡ Some a → class_of arrived n ≡ a.class
-class_at arrived n a at = ap (λ (o : Option Coming). option_map_or (λ (x : Coming). x.class) o 0) at
+pub class_at : (arrived : List Arrival) (n : ℕ) (a : Arrival) → slice_get arrived (n - 1) ≡ Some a → class_of arrived n ≡ a.class
+class_at arrived n a at = ap (λ (o : Option Arrival). option_map_or (λ (x : Arrival). x.class) o 0) at
 
 -- what can occur in that class, can occur of that number
-pub occurs_there : (i : Interface) (arrived : List Coming) (n : ℕ) (a : Coming) (k : Class) (f : Fate) → slice_get arrived (n - 1) ≡ Some a
+pub occurs_there : (i : Interface) (arrived : List Arrival) (n : ℕ) (a : Arrival) (k : Class) (f : Fate) → slice_get arrived (n - 1) ≡ Some a
     → slice_get i.classes a.class ≡ Some k → can_occur (allowed_in i.kind k) f ≡ true → can_occur_in (allowed_of i) (class_of arrived n) f ≡ true
 occurs_there i arrived n a k f at there may =
     let its : slice_get (allowed_of i) a.class ≡ Some (allowed_in i.kind k) = map_on (allowed_in i.kind) i.classes a.class k there in

@@ -5,7 +5,7 @@ use Rattle.std.specs.List.{list_any}
 use Rattle.std.specs.declared.option.Option.{Option}
 use Rattle.std.proofs.lemmas.List.{length-append, length-map}
 use Rattle.altq_model.specs.declared.Placed.{Placed}
-use Rattle.altq_model.specs.Arrivals.{Arrival, arrivals_from, arrivals_of, comings}
+use Rattle.altq_model.specs.Arrivals.{Captured, arrivals_from, arrivals_of, bare_arrivals}
 use Rattle.altq_model.specs.Departures.{KeepsLength, departures}
 use Rattle.altq_model.specs.History.{Decision, Happened, bare, journal}
 use Rattle.altq_model.specs.Lawful.{AreHeld, AreRising, IsLawful, NeverWaits}
@@ -66,9 +66,9 @@ pub record IsWholePlay (i : Interface) (seed : ℕ) (records : List Record) (g :
   pub named : (frame : List ℕ) → HasClass (queue_names i) (place_in i frame).class
   pub early : AreEarly records
   pub sized : AreSized records
-  pub play : IsPlay (policy_of i) i.rate seed (comings (arrivals_of (place_in i) records)) g
+  pub play : IsPlay (policy_of i) i.rate seed (bare_arrivals (arrivals_of (place_in i) records)) g
   pub in_time : IsInTime g
-  pub promises : KeepsPromises i (comings (arrivals_of (place_in i) records)) g
+  pub promises : KeepsPromises i (bare_arrivals (arrivals_of (place_in i) records)) g
 
 -- its texts, to be held to the interface
 abbrev pub texts_given : Interface → List Record → List Happened → Given
@@ -128,19 +128,19 @@ none_timely rate h c s e = absurd cc
 record Keeps (i : Interface) (seed : ℕ) (records : List Record) (g : List Happened) : Type 0 where
   some : 0 < i.rate
   lawful : IsLawful (policy_of i)
-  rising : AreRising (comings (arrivals_of (place_in i) records))
-  held : AreHeld (policy_of i) (comings (arrivals_of (place_in i) records))
-  laws : HasLaws (policy_of i) i.rate seed (comings (arrivals_of (place_in i) records)) g
+  rising : AreRising (bare_arrivals (arrivals_of (place_in i) records))
+  held : AreHeld (policy_of i) (bare_arrivals (arrivals_of (place_in i) records))
+  laws : HasLaws (policy_of i) i.rate seed (bare_arrivals (arrivals_of (place_in i) records)) g
   small : AreSmall (queue_names i) (rows_for (arrivals_of (place_in i) records) (journal g))
 
 keeps : (i : Interface) (seed : ℕ) (records : List Record) (g : List Happened) → IsWholePlay i seed records g → Keeps i seed records g
 keeps i seed records g x =
-    let arrived : List Arrival = arrivals_of (place_in i) records in
+    let arrived : List Captured = arrivals_of (place_in i) records in
     let least = x.fit.rate.0 in
     let some : 0 < i.rate = omega (arith, least) in
     let lawful = policies_are_lawful i x.fit in
     let rising = arrivals_rise (place_in i) records in
-    let laws = due_laws (policy_of i) i.rate seed (comings arrived) g some lawful rising x.play.events in
+    let laws = due_laws (policy_of i) i.rate seed (bare_arrivals arrived) g some lawful rising x.play.events in
     let long = arrivals_length (place_in i) records in
     let few = x.sized.count in
     let told = arrivals_told (queue_names i) (place_in i) records x.named x.early x.sized.each (omega (arith, long, few)) in
@@ -160,29 +160,29 @@ frames_from place latest (r ∷ rs) = ap (λ (fs : List (List ℕ)). r.captured 
 timely_by : (kind : Kind) (i : Interface) (seed : ℕ) (records : List Record) (g : List Happened) → i.kind ≡ kind → IsWholePlay i seed records g
     → Keeps i seed records g → AreTimely i (rows_for (arrivals_of (place_in i) records) (journal g))
 timely_by Hfsc i seed records g e x k = λ fits.
-    let arrived : List Arrival = arrivals_of (place_in i) records in
+    let arrived : List Captured = arrivals_of (place_in i) records in
     timely_passes (policy_of i) i.rate seed (reals (hfsc_classes i.classes)) (curves_in i) arrived g k.some k.laws (same_curves i.classes)
     ((x.promises.hfsc e).timely fits)
 timely_by Cbq i seed records g e x k = λ fits.
-    let arrived : List Arrival = arrivals_of (place_in i) records in
+    let arrived : List Captured = arrivals_of (place_in i) records in
     timely_passes (policy_of i) i.rate seed [] (curves_in i) arrived g k.some k.laws
     (no_curves i.classes (λ n c at. no_real i.kind c e (x.fit.tree.class n c at).own)) (none_timely i.rate (hfsc_history (bare g)))
 
 pub play_passes : (i : Interface) (seed : ℕ) (records : List Record) (g : List Happened) → IsWholePlay i seed records g
     → AreVerified (texts_given i records g) (lates (curves_in i) (rows_for (arrivals_of (place_in i) records) (journal g)))
 play_passes i seed records g x =
-    let arrived : List Arrival = arrivals_of (place_in i) records in
+    let arrived : List Captured = arrivals_of (place_in i) records in
     let js : List Decision = journal g in
     let k = keeps i seed records g x in
-    let whole : IsJournal i.rate (comings arrived) js =
-    is_journal (policy_of i) i.rate seed (comings arrived) g k.some k.lawful k.rising k.held x.play in
+    let whole : IsJournal i.rate (bare_arrivals arrived) js =
+    is_journal (policy_of i) i.rate seed (bare_arrivals arrived) g k.some k.lawful k.rising k.held x.play in
     record {
       rows = rows_for arrived js;
       passed = record {
         read = fates_read (queue_names i) arrived js (small_are_rows (queue_names i) (rows_for arrived js) k.small);
-        order = passes_all i.rate (allowed_of i) arrived js whole (play_can_occur i seed (comings arrived) g x.fit k.rising k.held x.play.events);
+        order = passes_all i.rate (allowed_of i) arrived js whole (play_can_occur i seed (bare_arrivals arrived) g x.fit k.rising k.held x.play.events);
         busy = λ free. busy_passes arrived js
-            (is_busy (policy_of i) i.rate seed (comings arrived) g k.some k.lawful (policy_never_waits i.kind i free) k.rising k.held x.play.events);
+            (is_busy (policy_of i) i.rate seed (bare_arrivals arrived) g k.some k.lawful (policy_never_waits i.kind i free) k.rising k.held x.play.events);
         departures = departures_pass (dress_in i) (packets_in (texts_given i records g)) arrived g (frames_from (place_in i) 0 records) x.in_time
             (play_marks i seed arrived (packets_in (texts_given i records g)) g x.fit k.rising k.held x.play.events refl refl);
         timely = timely_by i.kind i seed records g refl x k;
@@ -201,7 +201,7 @@ departures_short i seed records g x =
 pub fates_short : (i : Interface) (seed : ℕ) (records : List Record) (g : List Happened) → IsWholePlay i seed records g
     → length (texts_given i records g).fates ≤ 2 ^ 30
 fates_short i seed records g x =
-    let arrived : List Arrival = arrivals_of (place_in i) records in
+    let arrived : List Captured = arrivals_of (place_in i) records in
     let names = queue_names i in
     let rows : List Row = rows_for arrived (journal g) in
     let k = keeps i seed records g x in

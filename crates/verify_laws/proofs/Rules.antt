@@ -6,7 +6,7 @@ use Rattle.std.specs.List.{list_any}
 use Rattle.std.specs.declared.option.Option.{Option}
 use Rattle.std.proofs.lemmas.Option.{get_or_from_slice_get}
 use Rattle.altq_model.specs.declared.Rule.TheVariants.{Own, Borrow}
-use Rattle.altq_model.specs.History.{Coming, Event, head}
+use Rattle.altq_model.specs.History.{Arrival, Event, head}
 use Rattle.altq_model.specs.Lawful.{MaySend}
 use Rattle.altq_model.specs.Play.{IsOneOf, Policy}
 use Rattle.cbq_model.specs.declared.CbqClass.{CbqClass}
@@ -84,8 +84,8 @@ cbq_sends classes rate s c t k (Some len) at e =
     own_or_borrow k (allows_in cs rate s c t len) (list_any test (lenders cs c)) (lent cs test c (cbq_class k) is) e
 
 -- a class whose head may start at a moment may send at it
-cbq_may : (i : Interface) (h : List Event) (c free s : ℕ) (o : Option Coming) → 0 < i.rate → head c h ≡ o → IsOneOf c (policy_by Cbq i).classes
-    → option_map (λ (a : Coming). (policy_by Cbq i).start_from h c (max free a.at)) o ≡ Some s
+cbq_may : (i : Interface) (h : List Event) (c free s : ℕ) (o : Option Arrival) → 0 < i.rate → head c h ≡ o → IsOneOf c (policy_by Cbq i).classes
+    → option_map (λ (a : Arrival). (policy_by Cbq i).start_from h c (max free a.at)) o ≡ Some s
     → may (cbq_classes i.classes) i.rate (situation (cbq_classes i.classes) i.rate h) c s ≡ true
 cbq_may i h c free s None some e held start = absurd cc
 cbq_may i h c free s (Some a) some e held start =

@@ -6,7 +6,7 @@ use Rattle.altq_model.specs.declared.Reason.{Reason}
 use Rattle.altq_model.specs.declared.Reason.TheVariants.{Full, Early, Forced}
 use Rattle.altq_model.specs.declared.Verdict.{Verdict}
 use Rattle.altq_model.specs.declared.Verdict.TheVariants.{Keep, Mark, Drop}
-use Rattle.altq_model.specs.History.{Coming, DrawnWords, Event, is_mark, waiting}
+use Rattle.altq_model.specs.History.{Arrival, DrawnWords, Event, is_mark, waiting}
 use Rattle.conf_laws.proofs.ListPlaces.{map_on}
 use Rattle.conf_tree.specs.declared.class.Class.{Class}
 use Rattle.conf_tree.specs.declared.class.DropRule.{DropRule}
@@ -130,7 +130,7 @@ says_at : (says : List Saying) (k : ℕ) (s : Saying) → slice_get says k ≡ S
 says_at [] k s e = absurd cc
 says_at (x ∷ says) k s e = ap (λ (o : Option Saying). unwrap_or o x) e
 
-pub answer_can : (i : Interface) (h : List Event) (w : DrawnWords) (a : Coming) (k : Class) → slice_get i.classes a.class ≡ Some k
+pub answer_can : (i : Interface) (h : List Event) (w : DrawnWords) (a : Arrival) (k : Class) → slice_get i.classes a.class ≡ Some k
     → CanAnswer k.drop a.prec (answering_of i h w a).verdict
 answer_can i h w a k at =
     let all : List Saying = map (queue_says i.rate) i.classes in

@@ -5,7 +5,7 @@ use Rattle.altq_model.specs.declared.Fate.TheVariants as fate
 use Rattle.altq_model.specs.declared.Rule.{Rule}
 use Rattle.altq_model.specs.declared.Rule.TheVariants.{Share}
 use Rattle.altq_model.specs.declared.Verdict.TheVariants.{Mark}
-use Rattle.altq_model.specs.Arrivals.{Arrival, coming_of, comings}
+use Rattle.altq_model.specs.Arrivals.{Captured, bare_arrival, bare_arrivals}
 use Rattle.altq_model.specs.History.{Happened, Offered, Sent}
 use Rattle.conf_tree.specs.declared.class.Class.{Class}
 use Rattle.conf_tree.specs.declared.class.DropRule.{DropRule}
@@ -30,12 +30,12 @@ abbrev pub of_cbq : (borrow : Bool) → Class
 of_cbq borrow = record (implied_cbq (codes "default") (Some 0) 8000000) { borrow = borrow }
 
 -- a packet of 1,000 bytes that comes to it
-abbrev pub comes : (prec : ℕ) → Arrival
+abbrev pub comes : (prec : ℕ) → Captured
 comes prec = record { at = 0; len = 1000; class = 0; prec = prec; bytes = []; raised = false }
 
 -- this may become of it
 abbrev pub IsPossible : Kind → Class → Fate → Type 0
-IsPossible kind c f = CanOccur (allowed_in kind c ∷ []) (coming_of (comes 0) ∷ []) ((1, f) ∷ [])
+IsPossible kind c f = CanOccur (allowed_in kind c ∷ []) (bare_arrival (comes 0) ∷ []) ((1, f) ∷ [])
 
 abbrev pub sent_by : Rule → Fate
 sent_by rule = fate.Sent 0 1000000 rule
@@ -44,8 +44,8 @@ sent_by rule = fate.Sent 0 1000000 rule
 abbrev pub marked_and_sent : (prec : ℕ) → List Happened
 marked_and_sent prec =
     record { label = 1; what = Sent (record { class = 0; len = 1000; rule = Share; start = 0; end = 1000000 }) }
-    ∷ record { label = 1; what = Offered (coming_of (comes prec)) (record { seed = 42; drawn = 0 }) (record { verdict = Mark; took = 1 }) } ∷ []
+    ∷ record { label = 1; what = Offered (bare_arrival (comes prec)) (record { seed = 42; drawn = 0 }) (record { verdict = Mark; took = 1 }) } ∷ []
 
 abbrev pub IsMarkable : DropRule → (prec : ℕ) → Type 0
 IsMarkable rule prec =
-    MarksAreAllowed (record { arrived = comings (comes prec ∷ []); frames = [] ∷ []; marks = marks_by (with_rule rule) ∷ [] }) (comes prec ∷ []) (marked_and_sent prec)
+    MarksAreAllowed (record { arrived = bare_arrivals (comes prec ∷ []); frames = [] ∷ []; marks = marks_by (with_rule rule) ∷ [] }) (comes prec ∷ []) (marked_and_sent prec)

@@ -11,13 +11,13 @@ pub returns-clause-at : goal.returns-clause-at
 returns-clause-at c = lemma.arrival_at
 
 pub returns-clause-seen : goal.returns-clause-seen
-returns-clause-seen c = lemma.coming_of_number
+returns-clause-seen c = lemma.bare_arrival_of_number
 
 pub returns-clause-extend : goal.returns-clause-extend
 returns-clause-extend c = lemma.arrivals_append
 
-pub returns-clause-comings_extend : goal.returns-clause-comings_extend
-returns-clause-comings_extend c = lemma.comings_append
+pub returns-clause-bare_arrivals_extend : goal.returns-clause-bare_arrivals_extend
+returns-clause-bare_arrivals_extend c = lemma.bare_arrivals_append
 
 pub returns-clause-held : goal.returns-clause-held
 returns-clause-held c = lemma.arrivals_held

@@ -12,7 +12,9 @@ returns-in-Ok-clause-marks g c =
     let s = c.mark_file.new.files in
     let w = g.F.Files.view s.files.now in
     let y = c.in-Ok.ensures in
-    let same = same_reference _ _ v w _ s.files.ghost_name c.args.from s.file false s.front.rest c.args.capture.now s.front.bytes.now y.keeps in
+    let same =
+    same_reference _ _ (record { view = v; reference = _; file = c.args.from; rest = false; front = c.args.capture.now })
+    (record { view = w; reference = s.files.ghost_name; file = s.file; rest = s.front.rest; front = s.front.bytes.now }) y.keeps in
     let back = marks_behind v w _ _ c.args.from c.args.to c.args.capture.now c.args.marker.now (Ok tt) y.marks refl in
     let Q : View → Type 0 = λ u. Marks v u c.args.from c.args.to false c.args.capture.now c.args.marker.now (Ok tt) in
     subst Q (search rules) back
@@ -23,7 +25,9 @@ returns-in-Err-clause-marks g c =
     let s = c.mark_file.new.files in
     let w = g.F.Files.view s.files.now in
     let y = c.in-Err.ensures in
-    let same = same_reference _ _ v w _ s.files.ghost_name c.args.from s.file false s.front.rest c.args.capture.now s.front.bytes.now y.keeps in
+    let same =
+    same_reference _ _ (record { view = v; reference = _; file = c.args.from; rest = false; front = c.args.capture.now })
+    (record { view = w; reference = s.files.ghost_name; file = s.file; rest = s.front.rest; front = s.front.bytes.now }) y.keeps in
     let back = marks_behind v w _ _ c.args.from c.args.to c.args.capture.now c.args.marker.now (Err c.in-Err.why) y.marks refl in
     let Q : View → Type 0 = λ u. Marks v u c.args.from c.args.to false c.args.capture.now c.args.marker.now (Err c.in-Err.why) in
     subst Q (search rules) back

@@ -47,8 +47,17 @@ all : (g : Over) (c : goal.After-self-1 g)
 all g c =
     let P : Rowed g.row.Q.Denot → Type 0 = λ d. IsOneOf c.args.class (classes_in d) in
     let place = queue_place g.Q.QueueRule.most c.self.inside.room _ c.self.invariant c.args.class (subst P (sym c.self.view_is) c.requires.class) in
-    offers g.Q.QueueRule.stands g.Q.QueueRule.says g.Q.QueueRule.most c.self.inside.room _ c.args.class c.index_mut-queue.result.now c.offer_to.new.queue
-    c.offer_to.new.lists c.args.entry c.args.now c.args.words.now c.offer_to.new.words c.offer_to.result c.self.invariant place.0 place.1
+    offers g.Q.QueueRule.stands g.Q.QueueRule.says g.Q.QueueRule.most c.self.inside.room _ c.index_mut-queue.result.now c.offer_to.new.queue
+    c.offer_to.new.lists
+    (record {
+      class = c.args.class;
+      entry = c.args.entry;
+      now = c.args.now;
+      words = c.args.words.now;
+      after = c.offer_to.new.words;
+      verdict = c.offer_to.result;
+    })
+    c.self.invariant place.0 place.1
     (queue_is _ c.args.class _ place.0 c.index_mut-queue.ensures.value) c.requires.prec c.offer_to.ensures.lists c.offer_to.ensures.room c.offer_to.ensures.kind
     c.offer_to.ensures.limit c.offer_to.ensures.full
     (λ t k few. (c.offer_to.ensures.verdict t k few, c.offer_to.ensures.words t k few, c.offer_to.ensures.history t k few))

@@ -1,7 +1,7 @@
 use Rattle.std.proofs.Common.{◌≤◌, ◌<◌, ◌+◌, ◌-◌, ◌^◌, ◌∙◌, ◌∷◌, sym, subst, List}
 use Rattle.altq_model.specs.History.{Happened, bare}
 use Rattle.altq_model.specs.Play.{IsOneOf}
-use Rattle.discipline.specs.Laws.{IsAnswer, coming, offer_of}
+use Rattle.discipline.specs.Laws.{IsAnswer, arrival_with, offer_of}
 use Rattle.discipline.specs.Moments.{IsOffer}
 use Rattle.class_rows.specs.Rows.{list_in}
 use Rattle.hfsc_policy.specs.Classes.{leaves}
@@ -20,13 +20,13 @@ head-requires-clause-high g c =
 pub returns-then-not-is_kept-clause-history : goal.returns-then-not-is_kept-clause-history
 returns-then-not-is_kept-clause-history g c =
     let i = c.self.inside in
-    let P : Held g.row.Q.Denot → Type 0 = λ d. (h : List Happened) → HfscStands g.Q.QueueRule.stands g.Q.QueueRule.says d h → IsOffer (coming c.args.class c.args.len c.args.prec c.args.now) (bare h)
+    let P : Held g.row.Q.Denot → Type 0 = λ d. (h : List Happened) → HfscStands g.Q.QueueRule.stands g.Q.QueueRule.says d h → IsOffer (arrival_with c.args.class c.args.len c.args.prec c.args.now) (bare h)
     → c.args.words.now.drawn < 2 ^ 64 - 1
-    → IsAnswer (policy_of g.Q.QueueRule.says d) (bare h) c.args.words.now (coming c.args.class c.args.len c.args.prec c.args.now) c.offer-verdict.result c.offer-verdict.new.words
+    → IsAnswer (policy_of g.Q.QueueRule.says d) (bare h) c.args.words.now (arrival_with c.args.class c.args.len c.args.prec c.args.now) c.offer-verdict.result c.offer-verdict.new.words
     × HfscStands g.Q.QueueRule.stands g.Q.QueueRule.says (record { chooser = i.chooser; rows = c.offer-verdict.new.self; kept = i.kept })
-    (offer_of (policy_of g.Q.QueueRule.says d) h c.args.ticket c.args.words.now (coming c.args.class c.args.len c.args.prec c.args.now) ∷ h) in
+    (offer_of (policy_of g.Q.QueueRule.says d) h c.args.ticket c.args.words.now (arrival_with c.args.class c.args.len c.args.prec c.args.now) ∷ h) in
     subst P c.self.view_is (λ h s o few. offer_dropped g.Q.QueueRule.stands g.Q.QueueRule.says g.Q.QueueRule.most
-    (record { chooser = i.chooser; rows = i.rows; kept = i.kept }) c.offer-verdict.new.self h c.args.ticket (coming c.args.class c.args.len c.args.prec c.args.now)
+    (record { chooser = i.chooser; rows = i.rows; kept = i.kept }) c.offer-verdict.new.self h c.args.ticket (arrival_with c.args.class c.args.len c.args.prec c.args.now)
     c.args.words.now c.offer-verdict.new.words c.offer-verdict.result c.offer-verdict.ensures.same s o (c.offer-verdict.ensures.told h s.told few)
     (sym c.is_kept.ensures ∙ c.if-not-is_kept.true))
 
@@ -64,16 +64,16 @@ returns-clause-history g c =
     let of = subst (λ (v : Held g.row.Q.Denot). IsOneOf c.args.class (leaves (classes_of v.chooser))) (sym c.self.view_is) c.requires.class in
     let later = subst (λ (v : Held g.row.Q.Denot). woken_at v.chooser ≤ c.args.now) (sym c.self.view_is) c.requires.later in
     let fewer = subst (λ (v : Held g.row.Q.Denot). v.kept < 4000000) (sym c.self.view_is) c.requires.few in
-    let P : Held g.row.Q.Denot → Type 0 = λ d. (h : List Happened) → HfscStands g.Q.QueueRule.stands g.Q.QueueRule.says d h → IsOffer (coming c.args.class c.args.len c.args.prec c.args.now) (bare h)
+    let P : Held g.row.Q.Denot → Type 0 = λ d. (h : List Happened) → HfscStands g.Q.QueueRule.stands g.Q.QueueRule.says d h → IsOffer (arrival_with c.args.class c.args.len c.args.prec c.args.now) (bare h)
     → c.args.words.now.drawn < 2 ^ 64 - 1
-    → IsAnswer (policy_of g.Q.QueueRule.says d) (bare h) c.args.words.now (coming c.args.class c.args.len c.args.prec c.args.now) c.offer-verdict.result c.offer-verdict.new.words
+    → IsAnswer (policy_of g.Q.QueueRule.says d) (bare h) c.args.words.now (arrival_with c.args.class c.args.len c.args.prec c.args.now) c.offer-verdict.result c.offer-verdict.new.words
     × HfscStands g.Q.QueueRule.stands g.Q.QueueRule.says (record { chooser = c.kept.new.self; rows = c.offer-verdict.new.self; kept = i.kept + 1 })
-    (offer_of (policy_of g.Q.QueueRule.says d) h c.args.ticket c.args.words.now (coming c.args.class c.args.len c.args.prec c.args.now) ∷ h) in
+    (offer_of (policy_of g.Q.QueueRule.says d) h c.args.ticket c.args.words.now (arrival_with c.args.class c.args.len c.args.prec c.args.now) ∷ h) in
     subst P c.self.view_is (λ h s o few.
     let k = known_of g.Q.QueueRule.stands g.Q.QueueRule.says g.Q.QueueRule.most (record { chooser = i.chooser; rows = i.rows; kept = i.kept }) h s in
     let may = may_keep i.chooser (list_in i.rows) i.kept c.args.class c.args.now c.args.len c.head.result c.is_none-empty.result (hfsc_history (bare h)) k of c.head.ensures
     c.is_none-empty.ensures (record { least = c.requires.least; most = c.requires.most }) fewer later in
     offer_kept g.Q.QueueRule.stands g.Q.QueueRule.says g.Q.QueueRule.most
-    (record { chooser = i.chooser; rows = i.rows; kept = i.kept }) c.kept.new.self c.offer-verdict.new.self h c.args.ticket (coming c.args.class c.args.len c.args.prec c.args.now)
+    (record { chooser = i.chooser; rows = i.rows; kept = i.kept }) c.kept.new.self c.offer-verdict.new.self h c.args.ticket (arrival_with c.args.class c.args.len c.args.prec c.args.now)
     c.args.words.now c.offer-verdict.new.words c.offer-verdict.result c.offer-verdict.ensures.same s o (c.offer-verdict.ensures.told h s.told few)
     (sym c.is_kept.ensures ∙ c.if-not-is_kept.false) c.kept.ensures.classes c.kept.ensures.woken (c.kept.ensures.stands (hfsc_history (bare h)) may))

@@ -5,7 +5,7 @@ use Rattle.discipline.specs.Moments.{IsChoice}
 use Rattle.class_rows.specs.Rows.{list_in}
 use Rattle.hfsc_policy.specs.Events.{hfsc_history}
 use Rattle.hfsc_policy.proofs.Lawful.{leaf_one}
-use Rattle.hfsc_model.specs.Event.{Sent as Went}
+use Rattle.hfsc_model.specs.Event.{Sent as HfscSent}
 use Rattle.hfsc_core.specs.Chooser.{Stands, chosen_now, classes_of, woken_at}
 use Rattle.hfsc_core.specs.Hfsc.{Held, HfscStands, due_of}
 use Rattle.hfsc_core.proofs.Choosing.{chosen_is}
@@ -64,4 +64,4 @@ returns-clause-history g c =
     (c.take.ensures.lists s.class) c.head_len-head.ensures in
     sent_stands g.Q.QueueRule.stands g.Q.QueueRule.says g.Q.QueueRule.most d c.sent.new.self c.take.new.self h c.args._clock.now s c.take.ensures.same k
     (c.take.ensures.told h k.told _ _ refl refl) o x c.sent.ensures.classes c.sent.ensures.woken
-    (subst (λ (b : Bool). Stands c.sent.new.self (Went s.class s.len b s.start ∷ hfsc_history (bare h))) c.is_real-real.ensures (c.sent.ensures.stands (hfsc_history (bare h)) s.start may)))
+    (subst (λ (b : Bool). Stands c.sent.new.self (HfscSent s.class s.len b s.start ∷ hfsc_history (bare h))) c.is_real-real.ensures (c.sent.ensures.stands (hfsc_history (bare h)) s.start may)))

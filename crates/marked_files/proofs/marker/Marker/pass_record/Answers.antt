@@ -1,7 +1,7 @@
 use Rattle.std.proofs.Common.{◌≡◌, ◌+◌, ◌-◌, ◌++◌, ◌≤◌, ◌∙◌, ap, ℕ, List, length, take, drop, true, false, refl, sym, arith, length-take, length-drop}
 use Rattle.altq_model.specs.declared.Placed.{Placed}
 use Rattle.pcap_files.specs.Forms.{form}
-use Rattle.traffic_meter.specs.History.{Arrival}
+use Rattle.traffic_meter.specs.History.{Metered}
 use Rattle.marked_files.specs.Courses.{Course}
 use Rattle.marked_files.specs.Heads.{headed}
 use Rattle.marked_files.specs.Markings.{Marking}
@@ -104,7 +104,7 @@ invariant_of-self-2 g c =
     let n = c.in-Some.record.captured in
     let xs = i.window.pending in
     let fits : 16 + n ≤ length xs = omega (arith, ap length c.pending-pending.ensures) in
-    let a : Arrival = record { moment = c.max-self-inside.result; len = c.max-len.result } in
+    let a : Metered = record { moment = c.max-self-inside.result; len = c.max-len.result } in
     let meter = meter_of i.meters.items c.class-class.result.class in
     let frame = take n (drop 16 xs) in
     let long : length (frame_by meter a frame) ≡ n =

@@ -43,8 +43,8 @@ returns-in-Damaged-clause-fault g c = λ bytes records s.
 pub returns-in-Ok-clause-record : goal.returns-in-Ok-clause-record
 returns-in-Ok-clause-record g c = λ bytes records s.
     let self = c.args.self.now in
-    answered _ _ self c.take_record.new.self c.in-Ok.record c.fill-in-Headed.new.self bytes records c.in-Headed.stamp c.in-Headed.captured c.in-Headed.original
-    s c.requires.sound
+    answered _ _ self c.take_record.new.self c.in-Ok.record c.fill-in-Headed.new.self bytes records
+    (record { stamp = c.in-Headed.stamp; captured = c.in-Headed.captured; original = c.in-Headed.original }) s c.requires.sound
     (took_twice _ _ _ _ _ _ _ c.in_default.ensures.took c.in_default-fill.ensures.took)
     (stands_at _ _ self c.fill.new.self _ bytes records _ s c.requires.sound c.in_default.ensures.took c.in_default.ensures.enough c.as_slice.ensures c.in-Headed.ensures.value)
     (omega (arith, s.ahead c.requires.sound, c.in_default.ensures.bounded, c.in_default-fill.ensures.bounded))
@@ -56,8 +56,8 @@ returns-in-Ok-clause-some g c = took_into _ _ _ _ _ (took_twice _ _ _ _ _ _ _ c.
 pub returns-in-Err-take_record-clause-fault : goal.returns-in-Err-take_record-clause-fault
 returns-in-Err-take_record-clause-fault g c = λ bytes records s.
     let self = c.args.self.now in
-    cut_reads _ _ self c.fill-in-Headed.new.self bytes records c.in-Headed.stamp c.in-Headed.captured c.in-Headed.original c.in-Err-take_record.fault
-    s c.requires.sound
+    cut_reads _ _ self c.fill-in-Headed.new.self bytes records
+    (record { stamp = c.in-Headed.stamp; captured = c.in-Headed.captured; original = c.in-Headed.original }) c.in-Err-take_record.fault s c.requires.sound
     (took_twice _ _ _ _ _ _ _ c.in_default.ensures.took c.in_default-fill.ensures.took)
     (stands_at _ _ self c.fill.new.self _ bytes records _ s c.requires.sound c.in_default.ensures.took c.in_default.ensures.enough c.as_slice.ensures c.in-Headed.ensures.value)
     c.in_default-fill.ensures.enough
@@ -79,7 +79,8 @@ pub returns-in-Err-fill-clause-cut : goal.returns-in-Err-fill-clause-cut
 returns-in-Err-fill-clause-cut g c = λ failed bytes records s.
     let self = c.args.self.now in
     let t = c.in-Err-fill.ensures.stopped (failed_of c.in-Err-fill.trouble c.fault_of-in-Err-fill.result c.fault_of-in-Err-fill.ensures failed) in
-    headed_taken _ _ self c.fill-in-Headed.new.self bytes records c.in-Headed.stamp c.in-Headed.captured c.in-Headed.original s c.requires.sound
+    headed_taken _ _ self c.fill-in-Headed.new.self bytes records
+    (record { stamp = c.in-Headed.stamp; captured = c.in-Headed.captured; original = c.in-Headed.original }) s c.requires.sound
     (took_twice _ _ _ _ _ _ _ c.in_default.ensures.took t.took)
     (stands_at _ _ self c.fill.new.self _ bytes records _ s c.requires.sound c.in_default.ensures.took c.in_default.ensures.enough c.as_slice.ensures c.in-Headed.ensures.value)
     t.fewer

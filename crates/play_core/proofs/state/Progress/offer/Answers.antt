@@ -1,17 +1,17 @@
 use Rattle.std.proofs.Common.{◌≡◌, ◌+◌, ◌∙◌, ℕ, List, refl, ap, arith}
 use Rattle.altq_model.specs.declared.Verdict.{Verdict}
-use Rattle.altq_model.specs.Arrivals.{Arrival, coming_of}
+use Rattle.altq_model.specs.Arrivals.{Captured, bare_arrival}
 use Rattle.altq_model.specs.History.{DrawnWords, Event, Happened, bare, offered}
 use Rattle.play_base.specs.declared.packet.Packet.{Packet}
 use Rattle.discipline.specs.Laws.{IsAnswer, entry}
 use Rattle.play_core.specs.declared.state.Progress.{Progress}
 use Rattle.play_core.specs.Turns.{Offers, handed_back}
 use Rattle.play_core.proofs.GoingLemmas.{Going, Goes, goes_by, few_counts, state}
-use Rattle.play_core.proofs.OfferLemmas.{answered, going_offered, is_coming, is_later, lost, most_lost}
+use Rattle.play_core.proofs.OfferLemmas.{answered, going_offered, is_bare_arrival, is_later, lost, most_lost}
 use Rattle.play_core.proofs.state.Progress.offer.Given.{Over}
 use Rattle.play_core.proofs.state.Progress.offer.Goals as goal
 
-abbrev goes : (g : Over) (d : g.row.D.Denot) {arrived : List Arrival} {w : DrawnWords} {x : Progress} {h : List Happened} → Going (state g.D.Discipline d w x) arrived h
+abbrev goes : (g : Over) (d : g.row.D.Denot) {arrived : List Captured} {w : DrawnWords} {x : Progress} {h : List Happened} → Going (state g.D.Discipline d w x) arrived h
     → Goes (state g.D.Discipline d w x) arrived h
 goes g d y = goes_by g.D.Discipline d g.met.D.Discipline.lawful g.met.D.Discipline.steady g.met.D.Discipline.distinct y
 
@@ -20,7 +20,7 @@ offer-verdict-requires-clause-few g c =
     let y = c.requires.next.3 in
     let l = g.met.D.Discipline.counts c.args.discipline.now y.told y.stands in
     let e = ap (λ (h : List Event). offered h) y.same in
-    omega (arith, l, e, y.few, (is_coming c.requires.next.0 c.requires.next.1 c.requires.next.2 c.requires.next.4.next.there).inside)
+    omega (arith, l, e, y.few, (is_bare_arrival c.requires.next.0 c.requires.next.1 c.requires.next.2 c.requires.next.4.next.there).inside)
 
 pub offer-verdict-requires-clause-later : goal.offer-verdict-requires-clause-later
 offer-verdict-requires-clause-later g c =
@@ -35,10 +35,10 @@ overflow_add-self-2 g c =
     grind (arith, f.dropped, most_lost c.settle-dropped.result, c.lost.ensures)
 
 -- the answer was the policy's
-answer : (g : Over) (c : goal.After-self-3-1 g) (arrived : List Arrival) (h : List Happened) (a : Arrival)
+answer : (g : Over) (c : goal.After-self-3-1 g) (arrived : List Captured) (h : List Happened) (a : Captured)
     → Going (state g.D.Discipline c.args.discipline.now c.args.words.now c.args.self.now) arrived h
     → Offers (g.D.Discipline.policy c.args.discipline.now) c.args.self.now.clock.rate c.args.words.now.seed arrived h a c.args.packet c.args.placed
-    → IsAnswer (g.D.Discipline.policy c.args.discipline.now) (bare h) c.args.words.now (coming_of a) c.offer-verdict.result c.offer-verdict.new.words
+    → IsAnswer (g.D.Discipline.policy c.args.discipline.now) (bare h) c.args.words.now (bare_arrival a) c.offer-verdict.result c.offer-verdict.new.words
 answer g c arrived h a y o =
     answered {stood = g.D.Discipline.stands c.offer-verdict.new.self} (goes g c.args.discipline.now y) o
     (record { history = c.offer-verdict.ensures.history; sized = record { least = c.requires.some; most = c.requires.short } })

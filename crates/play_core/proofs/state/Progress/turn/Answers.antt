@@ -1,16 +1,16 @@
 use Rattle.std.proofs.Common.{◌≡◌, ◌∙◌, List, max, refl, arith}
-use Rattle.altq_model.specs.Arrivals.{Arrival, coming_of}
+use Rattle.altq_model.specs.Arrivals.{Captured, bare_arrival}
 use Rattle.altq_model.specs.History.{DrawnWords, Happened}
 use Rattle.play_core.specs.declared.state.Progress.{Progress}
 use Rattle.play_core.specs.declared.step.Step.TheVariants.{End, Offer, Send, Late}
 use Rattle.play_core.proofs.Come.{come_cut, come_end, due_offer}
 use Rattle.play_core.proofs.GoingLemmas.{Going, Goes, goes_by, asked_on, come_of, few_counts, front_there, moment_by, number_within, state, step_on, still_going, turn_number}
-use Rattle.play_core.proofs.OfferLemmas.{is_coming}
+use Rattle.play_core.proofs.OfferLemmas.{is_bare_arrival}
 use Rattle.play_core.proofs.SendLemmas.{going_sent}
 use Rattle.play_core.proofs.state.Progress.turn.Given.{Over}
 use Rattle.play_core.proofs.state.Progress.turn.Goals as goal
 
-abbrev goes : (g : Over) (d : g.row.D.Denot) {arrived : List Arrival} {w : DrawnWords} {x : Progress} {h : List Happened} → Going (state g.D.Discipline d w x) arrived h
+abbrev goes : (g : Over) (d : g.row.D.Denot) {arrived : List Captured} {w : DrawnWords} {x : Progress} {h : List Happened} → Going (state g.D.Discipline d w x) arrived h
     → Goes (state g.D.Discipline d w x) arrived h
 goes g d y = goes_by g.D.Discipline d g.met.D.Discipline.lawful g.met.D.Discipline.steady g.met.D.Discipline.distinct y
 
@@ -35,7 +35,7 @@ returns-in-Offer-clause-turned g c = λ arrived w h y e.
     let n = c.in-Offer.ensures in (
       λ a there. record {
         there = there;
-        is_due = due_offer _ _ _ _ _ (coming_of a) (come_of u) (step_on Offer u n.step (cc) e) (is_coming arrived h a there).seen;
+        is_due = due_offer _ _ _ _ _ (bare_arrival a) (come_of u) (step_on Offer u n.step (cc) e) (is_bare_arrival arrived h a there).seen;
       },
       asked_on (state g.D.Discipline c.next_step.new.discipline w c.args.self.now) u (record { policy = n.policy; limits = n.limits; rate = n.rate }) n.histories n.lists,
     )

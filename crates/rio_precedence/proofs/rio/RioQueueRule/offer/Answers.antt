@@ -7,5 +7,5 @@ pub returns-clause-history : goal.returns-clause-history
 returns-clause-history c = λ q s d.
     let r = c.args.self.now in
     let three : length r.count ≡ 3 = search rules in
-    stands_after r.step r.limit c.arrive.new.self.step c.arrive.new.self.limit r.average r.count r.idle c.arrive.new.self.average c.arrive.new.self.count c.arrive.new.self.idle
-    q c.args.now c.args.waiting c.args.prec c.args.words.now _ s c.requires.prec three c.arrive.ensures.step c.arrive.ensures.limit c.arrive.ensures.average (c.arrive.ensures.count d) c.arrive.ensures.idle
+    stands_after r c.arrive.new.self q c.args.now c.args.waiting c.args.prec c.args.words.now _ s c.requires.prec three
+    c.arrive.ensures.step c.arrive.ensures.limit c.arrive.ensures.average (c.arrive.ensures.count d) c.arrive.ensures.idle

@@ -1,6 +1,6 @@
 use Rattle.std.proofs.Common.{◌≡◌, ◌∷◌, ◌∙◌, ℕ, List, length, ap, arith, subst, sym}
 use Rattle.std.specs.Prelude.{if◌then◌else◌}
-use Rattle.hfsc_model.specs.Event.{Kept}
+use Rattle.hfsc_model.specs.Event.{Enqueued}
 use Rattle.hfsc_share.proofs.Places.{get_read}
 use Rattle.share_gaps.specs.Serve.{one_more, update_all}
 use Rattle.share_gaps.specs.Watching.{Stand}
@@ -34,5 +34,5 @@ returns-clause-stands c = λ h at len s few sized.
     let is : c.keep.new.waiting ≡ (if x.leaf then update_all one_more x.path.items w.waiting.items else w.waiting.items) =
     c.keep.ensures ∙ ap (λ (ws : List ℕ). if x.leaf then update_all one_more x.path.items ws else ws) c.deref_mut.ensures.value in
     let count = ap length c.keep.ensures ∙ length_if one_more x.leaf x.path.items c.deref_mut.result.now ∙ c.deref_mut.ensures.len in
-    subst (λ (ws : List ℕ). Stand w.classes.items w.siblings.items ws w.leads.items w.longest (Kept c.args.class at len ∷ h)) (sym (taken w.waiting.len c.keep.new.waiting _ count ∙ is))
+    subst (λ (ws : List ℕ). Stand w.classes.items w.siblings.items ws w.leads.items w.longest (Enqueued c.args.class at len ∷ h)) (sym (taken w.waiting.len c.keep.new.waiting _ count ∙ is))
     (kept_stands w.classes.items w.siblings.items x w.waiting.items w.leads.items w.longest c.args.class at len h place s few sized)
