@@ -10,7 +10,8 @@ stands for any lines. The commands of a page are given to one bash, one after th
 holds example/, docs/ and workbench/ of this repository, the built program and its data. So they change nothing here.
 
 The program must be built: crates/altqplay/out/altqplay, which example/run and `rt ci` build. Where that, bash, a tool
-of TOOLS or what a subcommand of the workbench needs is missing, what needs it is left out, and named. The exit status
+of TOOLS or what a subcommand of the workbench needs is missing, what needs it is left out, and named, and so is each
+later command of the page that names a file which only such a command makes. The exit status
 is 0 where what was run came out as shown, else 1, and 2 for other arguments.
 """
 
@@ -79,6 +80,27 @@ def missing_tool(command):
     return next((tool for tool in TOOLS if words[:1] == [tool] and shutil.which(tool) is None), None)
 
 
+def makes(command):
+    """The files and folders of example/out that a command names, and the functions of the shell that it defines."""
+    text = "\n".join(command.text)
+    return set(re.findall(r"example/out/[\w./-]*\w", text)), set(re.findall(r"^(\w+)\(\)", text, re.MULTILINE))
+
+
+def left_out(found):
+    """The commands of a page that cannot be run here: those that lack a tool, and those behind them that name what only one of them makes."""
+    out, made, named, defined = [], set(), set(), set()
+    for command in found:
+        files, functions = makes(command)
+        is_behind = any(file == one or file.startswith(one + "/") for file in files for one in made)
+        if missing_tool(command) or is_behind or defined & set("\n".join(command.text).split()):
+            out.append(command)
+            made |= files - named
+            defined |= functions
+        else:
+            named |= files
+    return out
+
+
 def is_same(line, shown):
     """Whether a line that was printed is the one shown, or says that the tool for it is missing."""
     absent = re.search(r"(\w+) was not found on this machine", line)
@@ -139,15 +161,16 @@ def faults(todo):
 def judge(page, quiet):
     """Runs a page's commands, says what came out, and returns whether all is as shown."""
     found = commands(page)
-    todo = [one for one in found if missing_tool(one) is None]
+    passed_over = left_out(found)
+    todo = [one for one in found if one not in passed_over]
     wrong = faults(todo) if todo else []
     name = os.path.relpath(page, ROOT)
     for one in wrong:
         print(f"{name}, {one}")
     absent = sorted({missing_tool(one) for one in found} - {None})
-    left_out = f"; left out {len(found) - len(todo)}, since {', '.join(absent)} was not found" if absent else ""
+    why = f"; left out {len(passed_over)}, since {', '.join(absent)} was not found" if absent else ""
     if found and (absent or not quiet):
-        print(f"{name}: {len(todo) - len(wrong)} of {len(todo)} commands print what is shown{left_out}")
+        print(f"{name}: {len(todo) - len(wrong)} of {len(todo)} commands print what is shown{why}")
     return not wrong
 
 
