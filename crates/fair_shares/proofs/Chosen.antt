@@ -25,8 +25,8 @@ use Rattle.hfsc_policy.specs.Policy.{choice_of, hfsc_policy}
 use Rattle.hfsc_policy.proofs.Orderly.{orderly_heads}
 use Rattle.hfsc_policy.proofs.Paths.{chosen_may}
 use Rattle.hfsc_policy.proofs.Timely.{Follow, orderly_follows}
-use Rattle.hfsc_share.proofs.Opening.{active_is, waits_is}
-use Rattle.hfsc_share.proofs.Under.{same_or_up, IsUp}
+use Rattle.hfsc_groups.proofs.Opening.{active_is, waits_is}
+use Rattle.hfsc_groups.proofs.Under.{same_or_up, IsUp}
 use Rattle.fair_shares.specs.Sharing.{AreChoices, HaveNoRealTime, ShareAlone}
 use Rattle.fair_shares.specs.Fairness.{IsActiveChild}
 

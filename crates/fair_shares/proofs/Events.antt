@@ -15,8 +15,8 @@ use Rattle.hfsc_laws.proofs.Activity.{activated_time, active_kept}
 use Rattle.hfsc_laws.proofs.Tree.{and_true, parent_of, true_and}
 use Rattle.hfsc_order.specs.Order.{HaveSlopes}
 use Rattle.hfsc_order.proofs.Times.{rises}
-use Rattle.hfsc_share.proofs.Opening.{active_is, is_active, is_waits, waits_is}
-use Rattle.hfsc_share.proofs.Under.{in_line}
+use Rattle.hfsc_groups.proofs.Opening.{active_is, is_active, is_waits, waits_is}
+use Rattle.hfsc_groups.proofs.Under.{in_line}
 use Rattle.hfsc_share.proofs.Walking.{sibling_not_over}
 use Rattle.fair_shares.specs.Sharing.{IsLine, step_of}
 use Rattle.fair_shares.proofs.Lines.{IsChain, chain_grows, chain_opens}

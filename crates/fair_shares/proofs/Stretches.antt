@@ -13,7 +13,7 @@ use Rattle.hfsc_order.specs.Order.{HaveSlopes}
 use Rattle.fair_shares.specs.Sharing.{AreChoices, HasRate, ShareAlone, most_step}
 use Rattle.fair_shares.specs.Fairness.{AreBothActive, AreLinear, DifferBy, IsActiveChild, IsFair, work}
 use Rattle.hfsc_laws.proofs.Tree.{true_and}
-use Rattle.hfsc_share.proofs.Opening.{active_is, waits_is}
+use Rattle.hfsc_groups.proofs.Opening.{active_is, waits_is}
 use Rattle.service_curve.proofs.Amounts.{mul_mono}
 use Rattle.fair_shares.proofs.Events.{are_chain, child_has, sent_active, was_or_woken}
 use Rattle.fair_shares.proofs.Lines.{IsChain, IsOn, on_line}

@@ -18,7 +18,7 @@ use Rattle.hfsc_policy.proofs.Offers.{above_active, leaf_below}
 use Rattle.hfsc_policy.proofs.Paths.{IsSender, open_sender, real_sender, root_under, shares_of, share_picked}
 use Rattle.hfsc_eligible.specs.Eligible.{IsLeastOf, pick_now as real_pick_now, soonest_now as real_soonest_now}
 use Rattle.hfsc_eligible.proofs.Picks.{pick_is_real, soonest_is_least}
-use Rattle.hfsc_share.specs.Classes.{IsSoonest}
+use Rattle.hfsc_groups.specs.Classes.{IsSoonest}
 use Rattle.hfsc_share.specs.Shares.{pick_now as share_pick_now, soonest_now as share_soonest_now}
 use Rattle.hfsc_share.proofs.Picks.{pick_is, soonest_is}
 use Rattle.hfsc_core.specs.declared.chooser.Chooser.{Chooser}

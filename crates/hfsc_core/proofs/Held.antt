@@ -24,9 +24,9 @@ use Rattle.hfsc_eligible.specs.Real.{last_in, RealStands}
 use Rattle.hfsc_eligible.specs.Slot.{SlotStands}
 use Rattle.hfsc_eligible.specs.Eligible.{StandsFor as HoldsReal, head_at, head_in, opening_at, opening_in}
 use Rattle.hfsc_eligible.proofs.Lists.{no_slot}
+use Rattle.hfsc_groups.specs.declared.node.Node.{Node}
+use Rattle.hfsc_groups.specs.Node.{parent_in, active_in}
 use Rattle.hfsc_share.specs.declared.Shares.{Shares}
-use Rattle.hfsc_share.specs.declared.node.Node.{Node}
-use Rattle.hfsc_share.specs.Node.{parent_in, active_in}
 use Rattle.hfsc_share.specs.Shares.{StandsFor as HoldsShare, parent_at, is_active_at}
 
 -- no class has a leaf as its parent

@@ -15,7 +15,7 @@ use Rattle.hfsc_policy.specs.Heads.{AreHeads, kept_in}
 use Rattle.hfsc_policy.proofs.Few.{are_few, head_sized}
 use Rattle.hfsc_policy.proofs.Small.{counts_small, totals_small, times_small}
 use Rattle.hfsc_eligible.specs.Eligible.{StandsFor as HoldsReal}
-use Rattle.hfsc_share.specs.Classes.{AreSmall}
+use Rattle.hfsc_groups.specs.Classes.{AreSmall}
 use Rattle.hfsc_share.specs.Shares.{StandsFor as HoldsShare}
 use Rattle.hfsc_core.specs.declared.chooser.Chooser.{Chooser}
 use Rattle.hfsc_core.specs.Chooser.{MayKeep, MayLeave, Stands, classes_of, woken_at}

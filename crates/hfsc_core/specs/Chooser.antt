@@ -11,7 +11,7 @@ use Rattle.hfsc_policy.specs.Heads.{AreHeads, IsSized, kept_in}
 use Rattle.hfsc_policy.specs.Policy.{earlier_of}
 use Rattle.hfsc_eligible.specs.Real.{CanCarry}
 use Rattle.hfsc_eligible.specs.Eligible.{StandsFor as RealStands, pick_now as real_pick_now, soonest_now as real_soonest_now}
-use Rattle.hfsc_share.specs.Classes.{AreClasses}
+use Rattle.hfsc_groups.specs.Classes.{AreClasses}
 use Rattle.hfsc_share.specs.Shares.{StandsFor as ShareStands, last_wake, pick_now as share_pick_now, soonest_now as share_soonest_now}
 use Rattle.hfsc_core.specs.declared.chooser.Chooser.{Chooser}
 use Rattle.hfsc_core.specs.declared.chooser.Chosen.{Chosen}

@@ -10,7 +10,7 @@ use Rattle.hfsc_model.specs.Tree.{class_of, is_child, is_leaf, is_under, numbers
 use Rattle.hfsc_model.specs.Share.{virtual_time}
 use Rattle.hfsc_model.specs.Limit.{is_open, least_by, may_share, path_down, share_pick, shares_under}
 use Rattle.hfsc_laws.proofs.Tree.{and_true, true_and, any_is, is_any, below_is, parent_of}
-use Rattle.hfsc_share.proofs.Opening.{leaf_alone, not_leaf}
+use Rattle.hfsc_groups.proofs.Opening.{leaf_alone, not_leaf}
 use Rattle.hfsc_share.proofs.Starting.{child_in, in_filter}
 use Rattle.hfsc_share.proofs.Picks.{filter_rises, least_is, least_none, number_is, range_rises}
 

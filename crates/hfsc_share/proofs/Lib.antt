@@ -1,17 +1,9 @@
-pub mod Places
-pub mod Lists
-pub mod Held
-pub mod Under
-pub mod Opening
-pub mod Moments
-pub mod Children
 pub mod Starting
 pub mod Off
 pub mod Waking
 pub mod Serving
 pub mod Walking
 pub mod Steps
-pub mod Staying
 pub mod Stopping
 pub mod Picks
 pub mod Ends

@@ -12,12 +12,12 @@ use Rattle.hfsc_model.specs.Tree.{class_of, is_leaf, is_under, IsTree}
 use Rattle.hfsc_model.specs.Share.{active, activates, activation_time, activations, has_parent, total, virtual_time, virtual_time_of}
 use Rattle.hfsc_model.specs.Limit.{arrivals_of, is_within, within}
 use Rattle.hfsc_laws.proofs.Tree.{same_truth, under_self}
-use Rattle.hfsc_share.specs.declared.node.Node.{Node}
-use Rattle.hfsc_share.specs.Curves.{RunningStands, share_of}
-use Rattle.hfsc_share.specs.Classes.{opens_under}
-use Rattle.hfsc_share.specs.Node.{NodeStands}
-use Rattle.hfsc_share.proofs.Under.{under_trans}
-use Rattle.hfsc_share.proofs.Opening.{opens_is, is_opens, waits_is, is_waits, active_is, is_active}
+use Rattle.hfsc_groups.specs.declared.node.Node.{Node}
+use Rattle.hfsc_groups.specs.Curves.{RunningStands, share_of}
+use Rattle.hfsc_groups.specs.Classes.{opens_under}
+use Rattle.hfsc_groups.specs.Node.{NodeStands}
+use Rattle.hfsc_groups.proofs.Under.{under_trans}
+use Rattle.hfsc_groups.proofs.Opening.{opens_is, is_opens, waits_is, is_waits, active_is, is_active}
 
 -- after g a class has what it has after h
 pub record Off (cs : List HfscClass) (h g : HfscHistory) (c : ℕ) : Type 0 where

@@ -15,19 +15,19 @@ use Rattle.hfsc_model.specs.Tree.{class_of, numbers, is_child, is_leaf, is_under
 use Rattle.hfsc_model.specs.Share.{active, virtual_time}
 use Rattle.hfsc_model.specs.Limit.{is_open, is_within, least_by, may_share, path_down, share_pick, shares_under}
 use Rattle.hfsc_laws.proofs.Tree.{same_truth, and_true, true_and, any_is, is_any, under_self, parent_of}
-use Rattle.hfsc_share.specs.declared.node.Node.{Node}
-use Rattle.hfsc_share.specs.declared.group.Group.{Group}
+use Rattle.hfsc_groups.specs.declared.node.Node.{Node}
+use Rattle.hfsc_groups.specs.declared.group.Group.{Group}
+use Rattle.hfsc_groups.specs.Classes.{opens_under, IsSoonest}
+use Rattle.hfsc_groups.specs.Node.{active_in, opens_in, is_child_in, parent_in, time_in, OpensAt}
+use Rattle.hfsc_groups.specs.Group.{first_open, time_key, GroupHolds}
+use Rattle.hfsc_groups.proofs.Under.{under_low, in_line, same_or_up, IsUp}
+use Rattle.hfsc_groups.proofs.Opening.{all_over, over_all, Opens, opens_is, is_opens, waits_is, is_waits, is_active}
+use Rattle.hfsc_groups.proofs.Children.{Stand, child_node, in_list, key_opens}
+use Rattle.hfsc_groups.proofs.Lists.{ranked_low}
+use Rattle.hfsc_groups.proofs.Found.{outside_parent}
 use Rattle.hfsc_share.specs.declared.Shares.{Shares}
-use Rattle.hfsc_share.specs.Classes.{opens_under, IsSoonest}
-use Rattle.hfsc_share.specs.Node.{active_in, opens_in, is_child_in, parent_in, time_in, OpensAt}
-use Rattle.hfsc_share.specs.Group.{first_open, time_key, GroupHolds}
 use Rattle.hfsc_share.specs.Shares.{StandsFor, child_of, down, is_active_at, last_wake, not_before, pick_now, soonest_now}
-use Rattle.hfsc_share.proofs.Under.{under_low, in_line, same_or_up, IsUp}
-use Rattle.hfsc_share.proofs.Opening.{all_over, over_all, Opens, opens_is, is_opens, waits_is, is_waits, is_active}
-use Rattle.hfsc_share.proofs.Children.{Stand, child_node, in_list, key_opens}
 use Rattle.hfsc_share.proofs.Starting.{child_in, in_filter, time_before}
-use Rattle.hfsc_share.proofs.Lists.{ranked_low}
-use Rattle.hfsc_share.proofs.Walking.{outside_parent}
 
 -- where all classes above a class are within their limits, a leaf below it may be served exactly where the class opens
 shares_opens : (cs : List HfscClass) (h : HfscHistory) (now c : ℕ) → IsTree cs → ((x : ℕ) → is_under cs x c ≡ true → (x ≡ c → ⊥) → is_within cs h now x ≡ true)

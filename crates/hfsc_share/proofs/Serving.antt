@@ -21,16 +21,16 @@ use Rattle.hfsc_model.specs.Tree.{class_of, is_child, is_leaf, is_under, IsTree}
 use Rattle.hfsc_model.specs.Share.{active, activates, activation_time, activations, or_zero, total, virtual_time, virtual_time_of}
 use Rattle.hfsc_model.specs.Limit.{arrivals_of}
 use Rattle.hfsc_laws.proofs.Tree.{same_truth, and_true, true_and, under_is}
-use Rattle.hfsc_share.specs.declared.node.Node.{Node}
-use Rattle.hfsc_share.specs.declared.group.Group.{Group}
-use Rattle.hfsc_share.specs.Curves.{RunningStands, share_of}
-use Rattle.hfsc_share.specs.Classes.{AreSmall, IsClass, IsShare, waits_in}
-use Rattle.hfsc_share.specs.Node.{IsServed}
-use Rattle.hfsc_share.specs.Group.{Ranks, ranked_in, time_key}
+use Rattle.hfsc_groups.specs.declared.node.Node.{Node}
+use Rattle.hfsc_groups.specs.declared.group.Group.{Group}
+use Rattle.hfsc_groups.specs.Curves.{RunningStands, share_of}
+use Rattle.hfsc_groups.specs.Classes.{AreSmall, IsClass, IsShare, waits_in}
+use Rattle.hfsc_groups.specs.Node.{IsServed}
+use Rattle.hfsc_groups.specs.Group.{Ranks, ranked_in, time_key}
+use Rattle.hfsc_groups.proofs.Moments.{deadline_some}
+use Rattle.hfsc_groups.proofs.Opening.{active_is, is_active, is_waits, waits_is, active_child, leaf_alone}
+use Rattle.hfsc_groups.proofs.Children.{Stand, in_list}
 use Rattle.hfsc_share.specs.Walk.{has_some}
-use Rattle.hfsc_share.proofs.Moments.{deadline_some}
-use Rattle.hfsc_share.proofs.Opening.{active_is, is_active, is_waits, waits_is, active_child, leaf_alone}
-use Rattle.hfsc_share.proofs.Children.{Stand, in_list}
 use Rattle.hfsc_share.proofs.Waking.{NodeHas, shared, unshared}
 
 -- virtual times never fall

@@ -1,6 +1,6 @@
 -- The virtual time that a class takes: the middle of the first and the last of its active siblings, or the high mark.
 use Rattle.std.proofs.Common.{◌≡◌, ◌≤◌, ◌<◌, ◌+◌, ◌⊎◌, inl, inr, ℕ, zero, suc, Bool, true, false, List, [], ◌∷◌, Some, length, map, refl, ap, sym, subst, arith, ◌∙◌}
-use Rattle.std.specs.Prelude.{Option, ◌==◌, ◌&&◌, ◌/◌, nat_lt, min, max, cond, slice_get, if◌then◌else◌}
+use Rattle.std.specs.Prelude.{Option, ◌==◌, ◌&&◌, ◌-◌, ◌/◌, nat_lt, min, max, cond, slice_get, if◌then◌else◌}
 use Rattle.std.specs.List.{filter, range_with_len}
 use Rattle.std.proofs.lemmas.Bool.Decides.{nat_tests}
 use Rattle.ranking.specs.Order.{is_in, key_of, is_before}
@@ -13,13 +13,13 @@ use Rattle.hfsc_model.specs.RealTime.{goes_first}
 use Rattle.hfsc_model.specs.Tree.{numbers, is_child}
 use Rattle.hfsc_model.specs.Share.{active, activation, greatest, least, virtual_time}
 use Rattle.hfsc_laws.proofs.Tree.{and_true, child_within}
-use Rattle.hfsc_share.specs.declared.node.Node.{Node}
-use Rattle.hfsc_share.specs.declared.group.Group.{Group}
-use Rattle.hfsc_share.specs.Node.{time_in}
-use Rattle.hfsc_share.specs.Group.{Ranks, IsHigh, time_key, ranked_in}
+use Rattle.hfsc_groups.specs.declared.node.Node.{Node}
+use Rattle.hfsc_groups.specs.declared.group.Group.{Group}
+use Rattle.hfsc_groups.specs.Node.{time_in}
+use Rattle.hfsc_groups.specs.Group.{Ranks, IsHigh, time_key, ranked_in}
+use Rattle.hfsc_groups.proofs.Moments.{first_before}
+use Rattle.hfsc_groups.proofs.Children.{Stand, child_is, child_node, in_list}
 use Rattle.hfsc_share.specs.Walk.{last_of, start_among}
-use Rattle.hfsc_share.proofs.Moments.{first_before}
-use Rattle.hfsc_share.proofs.Children.{Stand, child_is, child_node, in_list}
 
 -- what is in a filtered list, and in the list of numbers
 pub in_filter : (p : ℕ → Bool) (c : ℕ) (xs : List ℕ) → is_in c (filter p xs) ≡ (p c && is_in c xs)
@@ -115,6 +115,24 @@ time_before a b c d g = go (nat_lt a b) (nat_lt b a) refl refl g
 pub last_in_list : (c : ℕ) (cs : List ℕ) → is_in (last_of c cs) (c ∷ cs) ≡ true
 last_in_list c [] = rw (same_test c) refl
 last_in_list c (d ∷ ds) = in_more c (last_of d ds) (d ∷ ds) (last_in_list d ds)
+
+-- the last place of a list
+last_got : (c : ℕ) (cs : List ℕ) → slice_get (c ∷ cs) (length cs) ≡ Some (last_of c cs)
+last_got c [] = refl
+last_got c (d ∷ ds) = last_got d ds
+
+pub start_got : (nodes : List Node) (g : Group) (xs : List ℕ) (a b : ℕ) → slice_get xs 0 ≡ Some a → slice_get xs (length xs - 1) ≡ Some b
+    → (time_in (slice_get nodes a) + time_in (slice_get nodes b)) / 2 ≡ start_among nodes g xs
+start_got nodes g [] a b e f = absurd cc
+start_got nodes g (c ∷ cs) a b e f =
+    let one : c ≡ a = cc in
+    let place : length (c ∷ cs) - 1 ≡ length cs = omega arith in
+    let two : b ≡ last_of c cs = number b (last_of c cs) (sym f ∙ ap (λ n. slice_get (c ∷ cs) n) place ∙ last_got c cs) in
+    ap (λ n. (time_in (slice_get nodes n) + time_in (slice_get nodes b)) / 2) (sym one)
+    ∙ ap (λ n. (time_in (slice_get nodes c) + time_in (slice_get nodes n)) / 2) two
+  where
+    number : (m n : ℕ) → Some m ≡ Some n → m ≡ n
+    number m n e = cc
 
 time_of_before : (keys : List (Option ℕ)) (f : ℕ → ℕ) (c d : ℕ) → key_of keys c ≡ Some (f c) → key_of keys d ≡ Some (f d) → is_before keys c d ≡ true → f c ≤ f d
 time_of_before keys f c d e g b =

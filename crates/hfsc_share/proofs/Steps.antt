@@ -1,11 +1,9 @@
 -- Each class of a walk, its beginning and its end.
-use Rattle.std.proofs.Common.{◌≡◌, ◌≤◌, ◌<◌, ◌⊎◌, inl, inr, ℕ, zero, suc, Bool, true, false, List, [], ◌∷◌, None, Some, length, ◌++◌, refl, ap, sym, subst, arith, ◌∙◌, get_or}
-use Rattle.std.specs.Prelude.{Option, ◌==◌, ◌&&◌, ◌||◌, All, IfSome, nat_lt, not, slice_get, slice_set, if◌then◌else◌}
-use Rattle.std.proofs.lemmas.Bool.{cases_lt}
+use Rattle.std.proofs.Common.{◌≡◌, ◌≤◌, ◌<◌, ℕ, Bool, true, false, List, [], ◌∷◌, None, Some, length, ◌++◌, refl, ap, sym, subst, arith, ◌∙◌}
+use Rattle.std.specs.Prelude.{Option, ◌==◌, ◌&&◌, ◌||◌, nat_lt, not, slice_get, slice_set, if◌then◌else◌}
 use Rattle.std.proofs.lemmas.Bool.Decides.{nat_tests}
 use Rattle.std.proofs.lemmas.List.{length-set}
 use Rattle.play_base.specs.Units.{units}
-use Rattle.service_curve.specs.declared.Curve.{Curve}
 use Rattle.runtime_curve.specs.declared.Opening.{Opening}
 use Rattle.runtime_curve.specs.Opening.{opening}
 use Rattle.runtime_curve.specs.Deadline.{later_of}
@@ -16,67 +14,29 @@ use Rattle.hfsc_model.specs.declared.HfscClass.{HfscClass}
 use Rattle.hfsc_model.specs.Event.{HfscHistory, Enqueued, Sent}
 use Rattle.hfsc_model.specs.Leaf.{Waiting, leaf, is_waiting, after_kept}
 use Rattle.hfsc_model.specs.RealTime.{IsOpenBy}
-use Rattle.hfsc_model.specs.Tree.{class_of, no_class, is_child, is_leaf, is_number, is_parent, is_under}
+use Rattle.hfsc_model.specs.Tree.{class_of, is_child, is_leaf, is_number, is_parent, is_under}
 use Rattle.hfsc_model.specs.Share.{active, activates, activation_time, activations, has_parent, total}
 use Rattle.hfsc_model.specs.Limit.{arrivals_of}
 use Rattle.hfsc_laws.proofs.Tree.{and_true, true_and, any_is, under_self, parent_of}
-use Rattle.hfsc_share.specs.declared.node.Node.{Node}
-use Rattle.hfsc_share.specs.declared.group.Group.{Group}
+use Rattle.hfsc_groups.specs.declared.node.Node.{Node}
+use Rattle.hfsc_groups.specs.declared.group.Group.{Group}
+use Rattle.hfsc_groups.specs.Curves.{limit_opens}
+use Rattle.hfsc_groups.specs.Classes.{AreClasses, AreSmall, waits_in}
+use Rattle.hfsc_groups.specs.Node.{active_in, is_child_in, parent_in, AreParentsFirst, IsActivated, IsAwake, IsReopened, IsServed, NodeStands, OpensAt}
+use Rattle.hfsc_groups.specs.Group.{GroupsHold, ranked_in}
+use Rattle.hfsc_groups.proofs.Places.{get_here, get_other}
+use Rattle.hfsc_groups.proofs.Held.{split}
+use Rattle.hfsc_groups.proofs.Moments.{open_later}
+use Rattle.hfsc_groups.proofs.Opening.{active_is, is_active, is_waits, leaf_alone, waits_is}
+use Rattle.hfsc_groups.proofs.Found.{IsGroup, class_is, group_of, limit_is, missing}
+use Rattle.hfsc_groups.proofs.Children.{opens_at}
 use Rattle.hfsc_share.specs.declared.Shares.{Shares}
-use Rattle.hfsc_share.specs.Curves.{limit_opens}
-use Rattle.hfsc_share.specs.Classes.{AreClasses, AreSmall, IsClass, IsLimit, waits_in}
-use Rattle.hfsc_share.specs.Node.{active_in, is_child_in, parent_in, AreParentsFirst, IsActivated, IsAwake, IsReopened, IsServed, NodeStands, OpensAt}
-use Rattle.hfsc_share.specs.Group.{GroupsHold, ranked_in}
 use Rattle.hfsc_share.specs.Walk.{has_ranked, has_some, moment_of, start_below, start_of, IsLeafThat, IsOnWay, IsStep, Walks}
 use Rattle.hfsc_share.specs.Shares.{StandsFor, IsLeafAt, IsSameBut, classes_of, is_active_at, last_wake}
-use Rattle.hfsc_share.proofs.Places.{get_here, get_other}
-use Rattle.hfsc_share.proofs.Held.{split}
-use Rattle.hfsc_share.proofs.Moments.{open_later}
-use Rattle.hfsc_share.proofs.Opening.{active_is, is_active, is_waits, leaf_alone, waits_is}
-use Rattle.hfsc_share.proofs.Children.{missing, opens_at}
 use Rattle.hfsc_share.proofs.Off.{AllOff, Off, below_stands, kept_off, off_stands, sent_off}
 use Rattle.hfsc_share.proofs.Waking.{NodeHas, reopened_stands, stands_has, start_taken, woken_active, woken_child, woken_root}
 use Rattle.hfsc_share.proofs.Serving.{served_active, served_has}
 use Rattle.hfsc_share.proofs.Walking.{walked, walks_children, walks_siblings}
-
--- what holds of all classes holds of a class by its number
-class_in : (ks : List HfscClass) (c : ℕ) → All IsClass ks → IsClass (get_or ks c no_class)
-class_in ks c all = go (cases_lt c (length ks))
-  where
-    past : (xs : List HfscClass) (k : ℕ) → length xs ≤ k → get_or xs k no_class ≡ no_class
-    past [] k h = refl
-    past (x ∷ xs) zero h = absurd (omega arith)
-    past (x ∷ xs) (suc k) h = past xs k (omega arith)
-
-    nothing : IsClass no_class
-    nothing = record { share = λ e. absurd cc; limit = tt }
-
-    go : (c < length ks) ⊎ (length ks ≤ c) → IsClass (get_or ks c no_class)
-    go (inl h) = all c no_class h
-    go (inr h) = subst (λ (k : HfscClass). IsClass k) (sym (past ks c h)) nothing
-
-pub class_is : (cs : List HfscClass) (c : ℕ) → AreClasses cs → IsClass (class_of cs c)
-class_is cs c a = class_in cs c a.each
-
-pub limit_is : (cs : List HfscClass) (c : ℕ) → AreClasses cs → (s : Curve) → (class_of cs c).limit ≡ Some s → IsLimit s
-limit_is cs c a s e = subst (λ (o : Option Curve). IfSome o IsLimit) e (class_is cs c a).limit
-
--- a group is where its class is
-pub record IsGroup (groups : List Group) (c : ℕ) : Type 0 where
-  pub group : Group
-  pub at : slice_get groups c ≡ Some group
-
-pub group_of : (groups : List Group) (c : ℕ) → c < length groups → IsGroup groups c
-group_of groups c h = go (slice_get groups c) refl
-  where
-    absent : (xs : List Group) (i : ℕ) → i < length xs → slice_get xs i ≡ None → ⊥
-    absent [] i k e = absurd (omega arith)
-    absent (x ∷ xs) zero k e = absurd cc
-    absent (x ∷ xs) (suc i) k e = absent xs i (omega arith) e
-
-    go : (o : Option Group) → slice_get groups c ≡ o → IsGroup groups c
-    go None e = absurd (absent groups c h e)
-    go (Some g) e = record { group = g; at = e }
 
 -- a class of a walk: the classes and groups as they are before it, its number, and its node before the event, after it,
 -- and opened anew

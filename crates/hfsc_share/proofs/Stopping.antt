@@ -12,13 +12,13 @@ use Rattle.hfsc_model.specs.Tree.{class_of, is_leaf, is_under}
 use Rattle.hfsc_model.specs.Share.{active, activates, total}
 use Rattle.hfsc_model.specs.Limit.{arrivals_of, is_within, within}
 use Rattle.hfsc_laws.proofs.Tree.{same_truth, under_self}
-use Rattle.hfsc_share.specs.declared.node.Node.{Node}
-use Rattle.hfsc_share.specs.Classes.{AreClasses, opens_under}
-use Rattle.hfsc_share.specs.Node.{NodeStands}
+use Rattle.hfsc_groups.specs.declared.node.Node.{Node}
+use Rattle.hfsc_groups.specs.Classes.{AreClasses, opens_under}
+use Rattle.hfsc_groups.specs.Node.{NodeStands}
+use Rattle.hfsc_groups.proofs.Under.{under_low, under_trans, in_line, parent_over}
+use Rattle.hfsc_groups.proofs.Opening.{Opens, IsOpened, opens_is, is_opens, Waits, waits_is, is_waits, active_is, is_active}
+use Rattle.hfsc_groups.proofs.Places.{get_here}
 use Rattle.hfsc_share.specs.Walk.{Walks, is_over, IsLeafThat}
-use Rattle.hfsc_share.proofs.Under.{under_low, under_trans, in_line, parent_over}
-use Rattle.hfsc_share.proofs.Opening.{Opens, IsOpened, opens_is, is_opens, Waits, waits_is, is_waits, active_is, is_active}
-use Rattle.hfsc_share.proofs.Places.{get_here}
 use Rattle.hfsc_share.proofs.Waking.{NodeHas, stands_has, woken_active}
 use Rattle.hfsc_share.proofs.Steps.{Taking, IsTaking}
 

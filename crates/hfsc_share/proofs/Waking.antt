@@ -15,14 +15,14 @@ use Rattle.hfsc_model.specs.Share.{active, activates, activation, activation_tim
 use Rattle.hfsc_model.specs.Limit.{arrivals_of}
 use Rattle.hfsc_laws.proofs.Activity.{active_kept, activated_time}
 use Rattle.hfsc_laws.proofs.Tree.{true_and}
-use Rattle.hfsc_share.specs.declared.node.Node.{Node}
-use Rattle.hfsc_share.specs.declared.group.Group.{Group}
-use Rattle.hfsc_share.specs.Curves.{RunningStands, share_of, limit_opens, since}
-use Rattle.hfsc_share.specs.Classes.{AreSmall}
-use Rattle.hfsc_share.specs.Node.{NodeStands, OpensAt, IsActivated, IsReopened}
-use Rattle.hfsc_share.specs.Group.{Ranks, IsHigh, ranked_in, time_key}
+use Rattle.hfsc_groups.specs.declared.node.Node.{Node}
+use Rattle.hfsc_groups.specs.declared.group.Group.{Group}
+use Rattle.hfsc_groups.specs.Curves.{RunningStands, share_of, limit_opens, since}
+use Rattle.hfsc_groups.specs.Classes.{AreSmall}
+use Rattle.hfsc_groups.specs.Node.{NodeStands, OpensAt, IsActivated, IsReopened}
+use Rattle.hfsc_groups.specs.Group.{Ranks, IsHigh, ranked_in, time_key}
+use Rattle.hfsc_groups.proofs.Children.{Stand}
 use Rattle.hfsc_share.specs.Walk.{start_among}
-use Rattle.hfsc_share.proofs.Children.{Stand}
 use Rattle.hfsc_share.proofs.Starting.{start_is}
 
 -- all that a node stands for but the moment from which it opens

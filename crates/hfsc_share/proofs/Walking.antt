@@ -1,34 +1,21 @@
 -- A walk up to the root, one class after another.
-use Rattle.std.proofs.Common.{◌≡◌, ◌≤◌, ◌<◌, ◌⊎◌, inl, inr, ℕ, zero, suc, Bool, true, false, List, [], ◌∷◌, None, Some, length, refl, ap, sym, subst, arith, ◌∙◌}
+use Rattle.std.proofs.Common.{◌≡◌, ◌<◌, ◌⊎◌, inl, inr, ℕ, Bool, true, false, List, None, Some, length, refl, ap, sym, subst, arith, ◌∙◌}
 use Rattle.std.specs.Prelude.{Option, slice_get, slice_set}
-use Rattle.std.proofs.lemmas.Bool.{cases_lt}
 use Rattle.std.proofs.lemmas.List.{length-set}
 use Rattle.ranking.proofs.Ranks.{same_test}
 use Rattle.hfsc_model.specs.declared.HfscClass.{HfscClass}
 use Rattle.hfsc_model.specs.Event.{HfscHistory}
 use Rattle.hfsc_model.specs.Tree.{class_of, is_child, is_number, is_under, IsTree}
 use Rattle.hfsc_laws.proofs.Tree.{under_self, parent_of}
-use Rattle.hfsc_share.specs.declared.node.Node.{Node}
-use Rattle.hfsc_share.specs.Node.{parent_in, NodeStands}
+use Rattle.hfsc_groups.specs.declared.node.Node.{Node}
+use Rattle.hfsc_groups.specs.Node.{parent_in, NodeStands}
+use Rattle.hfsc_groups.proofs.Places.{get_here, get_other}
+use Rattle.hfsc_groups.proofs.Held.{split}
+use Rattle.hfsc_groups.proofs.Under.{under_low, under_trans, in_line, parent_over, same_or_up, IsUp}
+use Rattle.hfsc_groups.proofs.Found.{outside_parent}
+use Rattle.hfsc_groups.proofs.Children.{Stand}
 use Rattle.hfsc_share.specs.Walk.{Walks, is_over}
-use Rattle.hfsc_share.proofs.Places.{get_here, get_other}
-use Rattle.hfsc_share.proofs.Held.{split}
-use Rattle.hfsc_share.proofs.Under.{under_low, under_trans, in_line, parent_over, same_or_up, IsUp}
 use Rattle.hfsc_share.proofs.Off.{AllOff, off_back, off_stands}
-use Rattle.hfsc_share.proofs.Children.{Stand, missing}
-
-beyond : (cs : List HfscClass) (c : ℕ) → length cs ≤ c → (class_of cs c).parent ≡ None
-beyond [] c h = refl
-beyond (k ∷ ks) zero h = absurd (omega arith)
-beyond (k ∷ ks) (suc c) h = beyond ks c (omega arith)
-
--- beyond the nodes there is no class
-pub outside_parent : (nodes : List Node) (cs : List HfscClass) (c : ℕ) → length nodes ≡ length cs → slice_get nodes c ≡ None → None ≡ (class_of cs c).parent
-outside_parent nodes cs c count e = go (cases_lt c (length nodes))
-  where
-    go : (c < length nodes) ⊎ (length nodes ≤ c) → None ≡ (class_of cs c).parent
-    go (inl k) = absurd (missing nodes c k e)
-    go (inr k) = sym (beyond cs c (omega arith))
 
 -- the nodes have the tree
 pub walks_parents : (cs : List HfscClass) (h g : HfscHistory) (last leaf : ℕ) (next : Option ℕ) (nodes : List Node) → Walks cs h g last leaf next nodes

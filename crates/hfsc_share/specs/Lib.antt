@@ -1,7 +1,2 @@
-pub mod Curves
-pub mod Classes
-pub mod Lists
-pub mod Node
-pub mod Group
 pub mod Walk
 pub mod Shares

@@ -5,12 +5,12 @@ use Rattle.hfsc_model.specs.Event.{HfscHistory}
 use Rattle.hfsc_model.specs.RealTime.{has_come, IsOpenBy}
 use Rattle.hfsc_model.specs.Tree.{class_of}
 use Rattle.hfsc_model.specs.Limit.{arrivals_of}
+use Rattle.hfsc_groups.specs.declared.group.Group.{Group}
+use Rattle.hfsc_groups.specs.declared.node.Node.{Node}
+use Rattle.hfsc_groups.specs.Node.{parent_in, active_in, opens_in, NodeStands}
+use Rattle.hfsc_groups.specs.Group.{first_open, ranked_in}
+use Rattle.hfsc_groups.specs.Classes.{AreClasses}
 use Rattle.hfsc_share.specs.declared.Shares.{Shares}
-use Rattle.hfsc_share.specs.declared.group.Group.{Group}
-use Rattle.hfsc_share.specs.declared.node.Node.{Node}
-use Rattle.hfsc_share.specs.Node.{parent_in, active_in, opens_in, NodeStands}
-use Rattle.hfsc_share.specs.Group.{first_open, ranked_in}
-use Rattle.hfsc_share.specs.Classes.{AreClasses}
 
 abbrev pub classes_of : Shares → ℕ
 classes_of s = length s.nodes.items

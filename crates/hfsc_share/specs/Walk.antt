@@ -6,11 +6,11 @@ use Rattle.hfsc_model.specs.Tree.{is_leaf, is_under}
 use Rattle.hfsc_model.specs.RealTime.{IsOpenBy}
 use Rattle.hfsc_model.specs.Share.{active}
 use Rattle.hfsc_model.specs.Limit.{arrivals_of}
-use Rattle.hfsc_share.specs.declared.node.Node.{Node}
-use Rattle.hfsc_share.specs.declared.group.Group.{Group}
-use Rattle.hfsc_share.specs.Classes.{AreClasses, AreSmall}
-use Rattle.hfsc_share.specs.Node.{NodeStands, parent_in, active_in, time_in}
-use Rattle.hfsc_share.specs.Group.{first_moment, ranked_in}
+use Rattle.hfsc_groups.specs.declared.node.Node.{Node}
+use Rattle.hfsc_groups.specs.declared.group.Group.{Group}
+use Rattle.hfsc_groups.specs.Classes.{AreClasses, AreSmall}
+use Rattle.hfsc_groups.specs.Node.{NodeStands, parent_in, active_in, time_in}
+use Rattle.hfsc_groups.specs.Group.{first_moment, ranked_in}
 
 -- c is the next class of the walk or stands above it
 abbrev pub is_over : List HfscClass → Option ℕ → ℕ → Bool

@@ -4,7 +4,7 @@ ghost use Rattle.hfsc_model.specs.declared.HfscClass.{HfscClass};
 ghost use Rattle.hfsc_model.specs.Event.{HfscHistory, Enqueued};
 ghost use Rattle.hfsc_model.specs.Tree.{IsTree};
 ghost use Rattle.hfsc_model.specs.Limit.{may_share, share_pick};
-ghost use Rattle.hfsc_share.specs.Classes.{waits_in};
+ghost use Rattle.hfsc_groups.specs.Classes.{waits_in};
 ghost use Rattle.hfsc_share.specs.declared.Shares.{Shares};
 ghost use Rattle.hfsc_share.specs.Shares.{StandsFor};
 

@@ -8,30 +8,27 @@
 //! Algorithm for Link-Sharing, Real-Time and Priority Services", SIGCOMM 1997; upper limits are those of altq.conf(5).
 #![tactic(auto)]
 
-ghost use Rattle.std.specs.Prelude.{◌≡◌, ◌==◌, ◌<◌, ◌≤◌, ◌^◌, ◌&&◌, ◌||◌, ◌∷◌, [], ℕ, not, List, Option, None, Some, All, Bool, true, false, length, slice_get, IfOk, if◌then◌else◌};
+ghost use Rattle.std.specs.Prelude.{◌≡◌, ◌==◌, ◌<◌, ◌≤◌, ◌^◌, ◌&&◌, ◌||◌, ◌∷◌, [], ℕ, not, List, Option, None, Some, Bool, true, false, length, slice_get, IfOk, if◌then◌else◌};
 ghost use Rattle.play_base.specs.Units.{units};
 ghost use Rattle.ranking.specs.Order.{IsOrderOf, is_in};
 ghost use Rattle.hfsc_model.specs.declared.HfscClass.{HfscClass};
 ghost use Rattle.hfsc_model.specs.Event.{HfscHistory, Enqueued, Sent};
-ghost use Rattle.hfsc_model.specs.Tree.{is_child, is_leaf};
+ghost use Rattle.hfsc_model.specs.Tree.{is_child};
 ghost use Rattle.hfsc_model.specs.Share.{active, virtual_time};
 ghost use Rattle.hfsc_model.specs.Limit.{share_pick};
-ghost use Rattle.hfsc_share.specs.Classes.{AreClasses, AreSmall, IsClass, IsSoonest, waits_in};
-ghost use Rattle.hfsc_share.specs.Node.{AreNew, AreParentsFirst, AreLimitsBy, time_in};
-ghost use Rattle.hfsc_share.specs.Group.{AreEmpty, AreRanked, GroupsHold, MayRank, ranked_in};
+ghost use Rattle.hfsc_groups.specs.Classes.{AreClasses, AreSmall, IsSoonest, waits_in};
+ghost use Rattle.hfsc_groups.specs.Node.{AreParentsFirst, AreLimitsBy, time_in};
+ghost use Rattle.hfsc_groups.specs.Group.{AreRanked, GroupsHold, MayRank, ranked_in};
 ghost use Rattle.hfsc_share.specs.Walk.{IsLeafThat, IsStep, Walks, has_ranked, moment_of, start_among, start_below};
 
+use hfsc_groups::{Group, Node, groups_of, has_come, nodes_of, rank};
 use hfsc_model::HfscClass;
 use play_base::{NoMemory, units};
 use std::alloc::Global;
 
-mod group;
 mod laws;
-mod node;
 
-use group::{Group, has_come};
 pub use laws::{picked_leaves_may_share, waiting_leaves_wake_once};
-use node::Node;
 
 /// The most levels of a tree.
 const LEVELS: u32 = 8;
@@ -288,17 +285,7 @@ impl Shares {
     }
 }
 
-/// Puts a class anew into the lists of its parent; `was` says whether it was active.
-fn rank(groups: &mut Vec<Group>, class: u32, was: bool, node: &Node)
-    requires { MayRank class was node.now groups.old.items }
-    ensures { AreRanked class node.now groups.old.items groups.new.items }
-{
-    if let Some(parent) = node.parent() {
-        groups[parent as usize].replace(class, was, node.is_active(), node.time(), node.opens());
-    }
-}
-
-/// The same, unless the class is the `same` to its parent as before: then its lists stay.
+/// Puts a class anew into the lists of its parent, unless it is the `same` to it as before: then they stay.
 fn rank_unless(same: bool, groups: &mut Vec<Group>, class: u32, was: bool, node: &Node)
     requires change { MayRank class was node.now groups.old.items }
     requires same { same ≡ true → AreRanked class node.now groups.old.items groups.old.items }
@@ -314,42 +301,4 @@ fn parent_unless(same: bool, node: &Node) -> Option<u32>
     ensures { result ≡ (if same then None else node.now.parent) }
 {
     if same { None } else { node.parent() }
-}
-
-/// What is held of classes without a packet.
-fn nodes_of(alloc: Global, classes: &[HfscClass]) -> Result<Vec<Node>, NoMemory>
-    requires { All IsClass classes.now }
-    ensures { IfOk result (λ nodes. AreNew classes.now nodes.items) }
-{
-    let mut nodes = Vec::with_capacity(alloc, classes.len())?;
-    for class in classes {
-        nodes.push(Node::new(class))?;
-    }
-    Ok(nodes)
-}
-
-/// A group for each of at most 256 classes, without an active child; in that of a leaf no child has a place.
-fn groups_of(alloc: Global, classes: &[HfscClass]) -> Result<Vec<Group>, NoMemory>
-    requires { length classes.now ≤ 256 }
-    ensures { IfOk result (λ groups. AreEmpty classes.now groups.items) }
-{
-    let mut groups = Vec::with_capacity(alloc, classes.len())?;
-    for class in 0..classes.len() {
-        groups.push(Group::reserve(alloc, places_below(classes, class as u32))?)?;
-    }
-    Ok(groups)
-}
-
-/// How many classes have a place among the children of a class: those up to its last child, or where it has no child none.
-fn places_below(classes: &[HfscClass], class: u32) -> u32
-    requires { length classes.now ≤ 256 }
-    ensures { (c : ℕ) → is_child classes.now class c ≡ true → c < result }
-{
-    let mut places = 0;
-    for index in 0..classes.len() as u32 {
-        if classes[index as usize].parent == Some(class) {
-            places = index + 1;
-        }
-    }
-    places
 }

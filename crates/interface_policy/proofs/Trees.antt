@@ -19,8 +19,8 @@ use Rattle.hfsc_model.specs.Tree.{class_of, no_class, is_child, is_parent, numbe
 use Rattle.hfsc_laws.proofs.Tree.{any_is, parent_of}
 use Rattle.hfsc_policy.specs.Classes.{IsClassTree, IsLimit}
 use Rattle.hfsc_eligible.specs.Real.{CanCarry, IsCurve as IsRealCurve}
-use Rattle.hfsc_share.specs.Classes.{AreClasses, IsClass as IsShareClass, IsLimit as IsShareLimit, IsShare}
-use Rattle.hfsc_share.specs.Curves.{IsCurve as IsShareCurve}
+use Rattle.hfsc_groups.specs.Classes.{AreClasses, IsClass as IsShareClass, IsLimit as IsShareLimit, IsShare}
+use Rattle.hfsc_groups.specs.Curves.{IsCurve as IsShareCurve}
 use Rattle.hfsc_core.specs.Chooser.{MayBuild}
 use Rattle.interface_policy.specs.Classes.{hfsc_class, hfsc_classes}
 use Rattle.interface_policy.proofs.Places.{all_of, by_place}

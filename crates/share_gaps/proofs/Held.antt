@@ -13,7 +13,7 @@ use Rattle.hfsc_laws.proofs.Sums.{sum_one, sum_same}
 use Rattle.hfsc_laws.proofs.Sums.{sum_below}
 use Rattle.hfsc_laws.proofs.Tree.{and_true, same_truth, true_and}
 use Rattle.hfsc_policy.specs.Heads.{AreHeads}
-use Rattle.hfsc_share.proofs.Opening.{active_is, is_active, is_waits, waits_is}
+use Rattle.hfsc_groups.proofs.Opening.{active_is, is_active, is_waits, waits_is}
 use Rattle.share_gaps.specs.Leads.{held}
 
 -- the packets that wait in the leaf d, if it is c or stands below it

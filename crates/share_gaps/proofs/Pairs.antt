@@ -6,7 +6,7 @@ use Rattle.std.proofs.lemmas.Bool.Decides.{nat_tests}
 use Rattle.hfsc_model.specs.declared.HfscClass.{HfscClass}
 use Rattle.hfsc_model.specs.Tree.{class_of, is_child, numbers, path, path_up, IsTree}
 use Rattle.hfsc_laws.proofs.Tree.{and_true, child_within}
-use Rattle.hfsc_share.proofs.Under.{under_low}
+use Rattle.hfsc_groups.proofs.Under.{under_low}
 use Rattle.share_gaps.specs.declared.siblings.Siblings.{Siblings}
 use Rattle.share_gaps.specs.Rows.{are_siblings, first_in, firsts_in, is_in, pair, rows, rows_from, rows_of, second_in, seconds_in, share_parent}
 use Rattle.share_gaps.specs.Within.{AreWithin}

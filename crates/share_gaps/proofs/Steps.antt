@@ -19,7 +19,7 @@ use Rattle.hfsc_policy.specs.Classes.{IsClassTree}
 use Rattle.hfsc_policy.specs.Heads.{AreHeads, IsSized, kept_in}
 use Rattle.hfsc_policy.proofs.Few.{are_few, head_sized}
 use Rattle.hfsc_policy.proofs.Small.{totals_small}
-use Rattle.hfsc_share.proofs.Under.{IsUp, same_or_up}
+use Rattle.hfsc_groups.proofs.Under.{IsUp, same_or_up}
 use Rattle.fair_shares.proofs.Events.{child_has, one_over}
 use Rattle.share_gaps.specs.declared.lead.Lead.{Lead}
 use Rattle.share_gaps.specs.declared.place.Place.{Place}

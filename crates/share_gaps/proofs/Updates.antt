@@ -5,7 +5,7 @@ use Rattle.std.proofs.lemmas.Bool.Decides.{nat_tests}
 use Rattle.std.proofs.lemmas.List.{length-set}
 use Rattle.std.proofs.lemmas.Option.{slice_get-get_or, slice_get_within}
 use Rattle.std.proofs.Math.Seq.{drop-cons}
-use Rattle.hfsc_share.proofs.Places.{get_here, get_other}
+use Rattle.hfsc_groups.proofs.Places.{get_here, get_other}
 use Rattle.share_gaps.specs.Rows.{is_in}
 use Rattle.share_gaps.specs.Serve.{update_all, update_at}
 

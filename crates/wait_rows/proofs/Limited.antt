@@ -7,8 +7,8 @@ use Rattle.hfsc_model.specs.declared.HfscClass.{HfscClass}
 use Rattle.hfsc_model.specs.Tree.{IsTree, class_of, is_parent, path, path_up, reals}
 use Rattle.hfsc_model.specs.Share.{has_parent}
 use Rattle.hfsc_policy.specs.Classes.{IsClassTree, IsLimit}
-use Rattle.hfsc_share.specs.Classes.{AreClasses, IsClass}
-use Rattle.hfsc_share.specs.Curves.{IsCurve}
+use Rattle.hfsc_groups.specs.Classes.{AreClasses, IsClass}
+use Rattle.hfsc_groups.specs.Curves.{IsCurve}
 use Rattle.hfsc_eligible.specs.Real.{CanCarry}
 use Rattle.hfsc_core.specs.Chooser.{MayBuild}
 

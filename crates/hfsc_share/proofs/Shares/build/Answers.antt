@@ -1,5 +1,6 @@
 use Rattle.std.proofs.Common.{refl}
-use Rattle.hfsc_share.proofs.New.{new_holds, new_limits, new_parents, new_stands, new_is}
+use Rattle.hfsc_groups.proofs.New.{new_holds, new_limits, new_parents}
+use Rattle.hfsc_share.proofs.New.{new_stands, new_is}
 use Rattle.hfsc_share.proofs.Shares.build.Goals as goal
 
 pub invariant_of-result : goal.invariant_of-result

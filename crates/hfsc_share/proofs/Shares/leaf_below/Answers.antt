@@ -1,6 +1,6 @@
 use Rattle.std.proofs.Common.{◌<◌, ◌+◌, sym, arith, ◌∙◌}
 use Rattle.std.specs.Prelude.{◌-◌}
-use Rattle.hfsc_share.proofs.Places.{get_read}
+use Rattle.hfsc_groups.proofs.Places.{get_read}
 use Rattle.hfsc_share.proofs.Picks.{has_keys, first_low, down_more, down_none}
 use Rattle.hfsc_share.proofs.Shares.leaf_below.Goals as goal
 

@@ -4,9 +4,9 @@ use Rattle.std.specs.Prelude.{Option, ◌&&◌}
 use Rattle.ranking.specs.Order.{IsOrderOf}
 use Rattle.hfsc_model.specs.Tree.{is_child}
 use Rattle.hfsc_model.specs.Share.{active, virtual_time}
-use Rattle.hfsc_share.specs.declared.group.Group.{Group}
-use Rattle.hfsc_share.specs.Group.{ranked_in}
-use Rattle.hfsc_share.proofs.Places.{get_read}
+use Rattle.hfsc_groups.specs.declared.group.Group.{Group}
+use Rattle.hfsc_groups.specs.Group.{ranked_in}
+use Rattle.hfsc_groups.proofs.Places.{get_read}
 use Rattle.hfsc_share.proofs.Shares.ranked.Goals as goal
 
 pub returns-clause-order : goal.returns-clause-order

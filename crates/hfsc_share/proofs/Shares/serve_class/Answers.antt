@@ -1,12 +1,12 @@
 use Rattle.std.proofs.Common.{◌≡◌, Bool, true, false, refl, ap, sym, subst, ◌∙◌}
 use Rattle.std.specs.Prelude.{Option, ◌||◌, ◌&&◌, slice_set}
 use Rattle.runtime_curve.specs.declared.Running.{Running}
-use Rattle.hfsc_share.specs.declared.node.Node.{Node}
-use Rattle.hfsc_share.specs.Curves.{IsBy}
+use Rattle.hfsc_groups.specs.declared.node.Node.{Node}
+use Rattle.hfsc_groups.specs.Curves.{IsBy}
 use Rattle.play_base.specs.Units.{units}
-use Rattle.hfsc_share.specs.Node.{active_in}
-use Rattle.hfsc_share.proofs.Places.{get_read}
-use Rattle.hfsc_share.proofs.Held.{held_ranked, is_put, limits_put, may_change, parent_within, parents_put}
+use Rattle.hfsc_groups.specs.Node.{active_in}
+use Rattle.hfsc_groups.proofs.Places.{get_read}
+use Rattle.hfsc_groups.proofs.Held.{held_ranked, is_put, limits_put, may_change, parent_within, parents_put}
 use Rattle.hfsc_share.proofs.Steps.{stepped, set_active, serve_step, reopened_by, served_by, none_ranked}
 use Rattle.hfsc_share.proofs.Shares.serve_class.Goals as goal
 

@@ -3,7 +3,7 @@ use Rattle.std.specs.Prelude.{Option, ◌&&◌, not}
 use Rattle.play_base.specs.Units.{units}
 use Rattle.ranking.proofs.Ranks.{same_test}
 use Rattle.hfsc_model.specs.Event.{Sent}
-use Rattle.hfsc_share.specs.Classes.{waits_in}
+use Rattle.hfsc_groups.specs.Classes.{waits_in}
 use Rattle.hfsc_share.specs.Walk.{IsOnWay, Walks}
 use Rattle.hfsc_share.proofs.Steps.{leaf_that, not_here, on_first, on_next, service_begins, walk_ends}
 use Rattle.hfsc_share.proofs.Shares.served.Goals as goal

@@ -2,7 +2,7 @@ use Rattle.std.proofs.Common.{◌≡◌, ◌∷◌, ℕ, Bool, List}
 use Rattle.std.specs.Prelude.{not}
 use Rattle.hfsc_model.specs.declared.HfscClass.{HfscClass}
 use Rattle.hfsc_model.specs.Event.{HfscHistory, Sent}
-use Rattle.hfsc_share.specs.Classes.{AreSmall, waits_in}
+use Rattle.hfsc_groups.specs.Classes.{AreSmall, waits_in}
 use Rattle.hfsc_share.specs.Walk.{IsOnWay, Walks, steps_left}
 use Rattle.hfsc_share.specs.Shares.{StandsFor}
 use Rattle.hfsc_share.proofs.Shares.served.Given as goal

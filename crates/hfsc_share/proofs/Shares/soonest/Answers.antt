@@ -1,6 +1,6 @@
 use Rattle.std.proofs.Common.{sym, subst, ℕ}
 use Rattle.std.specs.Prelude.{Option}
-use Rattle.hfsc_share.specs.Classes.{IsSoonest}
+use Rattle.hfsc_groups.specs.Classes.{IsSoonest}
 use Rattle.hfsc_share.specs.Shares.{last_wake}
 use Rattle.hfsc_share.proofs.Picks.{soonest_is}
 use Rattle.hfsc_share.proofs.Shares.soonest.Goals as goal

@@ -1,10 +1,10 @@
 use Rattle.std.proofs.Common.{ℕ, ap, sym, ◌∙◌, arith}
 use Rattle.std.specs.Prelude.{Option}
-use Rattle.hfsc_share.specs.declared.group.Group.{Group}
-use Rattle.hfsc_share.specs.Group.{time_key}
+use Rattle.hfsc_groups.specs.declared.group.Group.{Group}
+use Rattle.hfsc_groups.specs.Group.{time_key}
+use Rattle.hfsc_groups.proofs.Places.{get_read}
+use Rattle.hfsc_groups.proofs.Lists.{ranked_low}
 use Rattle.hfsc_share.specs.Walk.{start_below, start_of}
-use Rattle.hfsc_share.proofs.Places.{get_read}
-use Rattle.hfsc_share.proofs.Lists.{ranked_low}
 use Rattle.hfsc_share.proofs.Shares.start_below.Goals as goal
 
 pub start_in-requires : goal.start_in-requires

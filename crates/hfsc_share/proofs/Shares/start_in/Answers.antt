@@ -1,10 +1,11 @@
 use Rattle.std.proofs.Common.{◌≡◌, ◌+◌, ℕ, List, Some, length, ap, sym, ◌∙◌}
 use Rattle.std.specs.Prelude.{◌-◌, ◌/◌, slice_get}
 use Rattle.std.specs.Option.{option_copied}
-use Rattle.hfsc_share.specs.Node.{time_in}
+use Rattle.hfsc_groups.specs.Node.{time_in}
 use Rattle.hfsc_share.specs.Walk.{start_among}
 use Rattle.ranking.specs.Order.{is_in}
-use Rattle.hfsc_share.proofs.Lists.{got_in, start_got}
+use Rattle.hfsc_groups.proofs.Lists.{got_in}
+use Rattle.hfsc_share.proofs.Starting.{start_got}
 use Rattle.hfsc_share.proofs.Shares.start_in.Goals as goal
 
 pub time_of-requires : goal.time_of-requires

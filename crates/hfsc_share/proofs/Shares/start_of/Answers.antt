@@ -1,7 +1,7 @@
 use Rattle.std.proofs.Common.{ap, sym, arith, ◌∙◌}
-use Rattle.hfsc_share.specs.Node.{parent_in}
+use Rattle.hfsc_groups.specs.Node.{parent_in}
+use Rattle.hfsc_groups.proofs.Places.{get_read}
 use Rattle.hfsc_share.specs.Walk.{start_below}
-use Rattle.hfsc_share.proofs.Places.{get_read}
 use Rattle.hfsc_share.proofs.Shares.start_of.Goals as goal
 
 pub start_below-requires : goal.start_below-requires

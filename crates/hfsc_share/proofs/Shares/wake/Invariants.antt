@@ -1,7 +1,7 @@
 use Rattle.std.proofs.Common.{◌≡◌, ◌∷◌, ℕ, List, true}
 use Rattle.hfsc_model.specs.declared.HfscClass.{HfscClass}
 use Rattle.hfsc_model.specs.Event.{HfscHistory, Enqueued}
-use Rattle.hfsc_share.specs.Classes.{AreSmall}
+use Rattle.hfsc_groups.specs.Classes.{AreSmall}
 use Rattle.hfsc_share.specs.Walk.{IsOnWay, Walks, steps_left}
 use Rattle.hfsc_share.specs.Shares.{StandsFor}
 use Rattle.hfsc_share.proofs.Shares.wake.Given as goal

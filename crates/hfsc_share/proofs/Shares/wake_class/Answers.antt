@@ -3,15 +3,15 @@ use Rattle.std.proofs.lemmas.Bool.Decides.{nat_tests}
 use Rattle.std.specs.Option.{option_eq}
 use Rattle.std.specs.Prelude.{Option, slice_get, slice_set, if◌then◌else◌}
 use Rattle.runtime_curve.specs.declared.Running.{Running}
-use Rattle.hfsc_share.specs.Curves.{IsBy}
-use Rattle.hfsc_share.specs.Node.{active_in, parent_in}
+use Rattle.hfsc_groups.specs.Curves.{IsBy}
+use Rattle.hfsc_groups.specs.Node.{active_in, parent_in}
 use Rattle.hfsc_model.specs.declared.HfscClass.{HfscClass}
 use Rattle.hfsc_model.specs.Event.{HfscHistory, Enqueued}
+use Rattle.hfsc_groups.proofs.Places.{get_read}
+use Rattle.hfsc_groups.proofs.Held.{held_ranked, is_put, limits_put, may_change, parent_within, parents_put}
+use Rattle.hfsc_groups.specs.declared.node.Node.{Node}
+use Rattle.hfsc_groups.proofs.Staying.{same_ranked}
 use Rattle.hfsc_share.specs.Walk.{start_below, IsLeafThat, Walks}
-use Rattle.hfsc_share.proofs.Places.{get_read}
-use Rattle.hfsc_share.proofs.Held.{held_ranked, is_put, limits_put, may_change, parent_within, parents_put}
-use Rattle.hfsc_share.specs.declared.node.Node.{Node}
-use Rattle.hfsc_share.proofs.Staying.{same_ranked}
 use Rattle.hfsc_share.proofs.Steps.{Taking, IsTaking, awake_by, stepped, set_active, wake_step, reopened_by}
 use Rattle.hfsc_share.proofs.Stopping.{stops}
 use Rattle.hfsc_share.proofs.Shares.wake_class.Goals as goal

@@ -1,5 +1,5 @@
 use Rattle.std.proofs.Common.{arith}
-use Rattle.hfsc_share.proofs.Places.{get_read}
+use Rattle.hfsc_groups.proofs.Places.{get_read}
 use Rattle.share_gaps.proofs.New.{gap_is}
 use Rattle.share_gaps.proofs.watch.Watch.gap.Goals as goal
 

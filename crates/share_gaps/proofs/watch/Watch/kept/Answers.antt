@@ -1,7 +1,7 @@
 use Rattle.std.proofs.Common.{◌≡◌, ◌∷◌, ◌∙◌, ℕ, List, length, ap, arith, subst, sym}
 use Rattle.std.specs.Prelude.{if◌then◌else◌}
 use Rattle.hfsc_model.specs.Event.{Enqueued}
-use Rattle.hfsc_share.proofs.Places.{get_read}
+use Rattle.hfsc_groups.proofs.Places.{get_read}
 use Rattle.share_gaps.specs.Serve.{one_more, update_all}
 use Rattle.share_gaps.specs.Watching.{Stand}
 use Rattle.share_gaps.proofs.Steps.{kept_beyond, kept_stands, way_below}

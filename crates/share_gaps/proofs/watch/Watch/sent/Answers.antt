@@ -2,7 +2,7 @@ use Rattle.std.proofs.Common.{◌≡◌, ◌<◌, ◌∷◌, ◌∙◌, ℕ, Lis
 use Rattle.std.specs.List.{slice_index}
 use Rattle.play_base.specs.Units.{units}
 use Rattle.hfsc_model.specs.Event.{Sent}
-use Rattle.hfsc_share.proofs.Places.{get_read}
+use Rattle.hfsc_groups.proofs.Places.{get_read}
 use Rattle.share_gaps.specs.Serve.{first_served, one_less, update_all}
 use Rattle.share_gaps.specs.Watching.{Stand}
 use Rattle.share_gaps.proofs.Serving.{same_firsts, same_seconds, stand_same}

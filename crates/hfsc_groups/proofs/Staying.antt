@@ -8,11 +8,11 @@ use Rattle.ranking.specs.Order.{is_in, key_of}
 use Rattle.ranking.specs.Ranking.{keys_of, order_of}
 use Rattle.ranking.proofs.Ranks.{same_test}
 use Rattle.hfsc_model.specs.Tree.{is_number}
-use Rattle.hfsc_share.specs.declared.node.Node.{Node}
-use Rattle.hfsc_share.specs.declared.group.Group.{Group}
-use Rattle.hfsc_share.specs.Node.{active_in, parent_in, time_in, opens_in, is_child_in, is_active_child}
-use Rattle.hfsc_share.specs.Group.{AreRanked, AreRankedIn, GroupHolds, GroupsHold, IsChanged, is_late}
-use Rattle.hfsc_share.proofs.Steps.{group_of}
+use Rattle.hfsc_groups.specs.declared.node.Node.{Node}
+use Rattle.hfsc_groups.specs.declared.group.Group.{Group}
+use Rattle.hfsc_groups.specs.Node.{active_in, parent_in, time_in, opens_in, is_child_in, is_active_child}
+use Rattle.hfsc_groups.specs.Group.{AreRanked, AreRankedIn, GroupHolds, GroupsHold, IsChanged, is_late}
+use Rattle.hfsc_groups.proofs.Found.{group_of}
 
 -- of a class its parent sees no more than this
 pub record IsSame (x y : Node) : Type 0 where

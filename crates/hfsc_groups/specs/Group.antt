@@ -8,10 +8,10 @@ use Rattle.ranking.specs.declared.Ranking.{Ranking}
 use Rattle.hfsc_model.specs.declared.HfscClass.{HfscClass}
 use Rattle.hfsc_model.specs.RealTime.{has_come}
 use Rattle.hfsc_model.specs.Tree.{is_child}
-use Rattle.hfsc_share.specs.declared.node.Node.{Node}
-use Rattle.hfsc_share.specs.declared.group.Group.{Group}
-use Rattle.hfsc_share.specs.Lists.{MayReplace}
-use Rattle.hfsc_share.specs.Node.{is_child_in, is_active_child, time_in, opens_in}
+use Rattle.hfsc_groups.specs.declared.node.Node.{Node}
+use Rattle.hfsc_groups.specs.declared.group.Group.{Group}
+use Rattle.hfsc_groups.specs.Lists.{MayReplace}
+use Rattle.hfsc_groups.specs.Node.{is_child_in, is_active_child, time_in, opens_in}
 
 -- exactly the active children of p stand in a list, each with its key
 pub record Ranks (nodes : List Node) (p : ℕ) (key : Option Node → Option ℕ) (ranking : Ranking) : Type 0 where

@@ -2,8 +2,8 @@
 //! of the moments from which they open, and the high mark of all.
 ghost use Rattle.std.specs.Prelude.{◌≡◌, ℕ, Option, [], max, true, IfOk};
 ghost use Rattle.hfsc_model.specs.RealTime.{has_come};
-ghost use Rattle.hfsc_share.specs.Lists.{HasKeys};
-ghost use Rattle.hfsc_share.specs.Group.{IsDelayed, MayDelay, is_late};
+ghost use Rattle.hfsc_groups.specs.Lists.{HasKeys};
+ghost use Rattle.hfsc_groups.specs.Group.{IsDelayed, MayDelay, is_late};
 
 use play_base::NoMemory;
 use ranking::Ranking;
@@ -19,9 +19,9 @@ pub struct Group {
 }
 
 impl Group {
-    ghost use Rattle.hfsc_share.specs.Group.{IsNewGroup, MayChange, IsChanged, first_moment, first_open, ranked_in};
+    ghost use Rattle.hfsc_groups.specs.Group.{IsNewGroup, MayChange, IsChanged, first_moment, first_open, ranked_in};
 
-    /// No active child, with room for children among `classes` classes.
+    /// No active child, with room for children among `classes` classes: a key in each list for every class.
     pub fn reserve(alloc: Global, classes: u32) -> Result<Group, NoMemory>
         ensures { IfOk result (IsNewGroup classes) }
     {
@@ -34,14 +34,14 @@ impl Group {
         })
     }
 
-    /// The active children in the order of their virtual times.
+    /// The active children in the order of their virtual times. Constant time.
     pub fn ranked(&self) -> &[u32]
         ensures { result.now ≡ ranked_in self.now }
     {
         self.times.as_slice()
     }
 
-    /// The greatest virtual time of all children.
+    /// The greatest virtual time of all children. Constant time.
     pub fn high(&self) -> u128
         ensures { result ≡ self.now.high }
     {
@@ -49,7 +49,7 @@ impl Group {
     }
 
     /// The first moment from which a child opens, 0 where no child is active. One that opens at once stands in the first list
-    /// alone, so the second is shorter then.
+    /// alone, so the second is shorter then. Constant time.
     pub fn first_moment(&self) -> Option<u128>
         ensures { result ≡ first_moment self.now }
     {
@@ -60,7 +60,7 @@ impl Group {
         }
     }
 
-    /// The first child in the order of virtual times that is open at a moment.
+    /// The first child in the order of virtual times that is open at a moment. It looks at the children up to that one.
     pub fn first_open(&self, now: u128) -> Option<u32>
         requires { HasKeys self.now.times self.now.moments }
         ensures { result ≡ first_open now self.now }
@@ -74,7 +74,7 @@ impl Group {
     }
 
     /// Puts a child anew into its lists, with its virtual time, not less than before, and the moment from which it opens.
-    /// `was` and `is` say whether it was active, and is now.
+    /// `was` and `is` say whether it was active, and is now. It takes the logarithm of the active children, which it moves.
     pub fn replace(&mut self, class: u32, was: bool, is: bool, time: u128, opens: Option<u128>)
         requires { MayChange class was self.old }
         ensures { IsChanged class is time opens self.old self.new }
@@ -85,7 +85,7 @@ impl Group {
     }
 }
 
-/// A moment is there and not later than `now`.
+/// A moment is there and not later than `now`: it has come.
 pub fn has_come(moment: Option<u128>, now: u128) -> bool
     ensures { result ≡ has_come moment now }
 {

@@ -6,8 +6,8 @@ ghost use Rattle.runtime_curve.specs.declared.Opening.{Opening};
 ghost use Rattle.runtime_curve.specs.Opening.{opening};
 ghost use Rattle.runtime_curve.specs.Deadline.{deadline, later_of};
 ghost use Rattle.hfsc_model.specs.Share.{or_zero};
-ghost use Rattle.hfsc_share.specs.Curves.{CanCarry, RunningStands, IsBy, IsUpTo, IsOpen, last_in, limit_opens, share_of, since};
-ghost use Rattle.hfsc_share.specs.Classes.{IsClass};
+ghost use Rattle.hfsc_groups.specs.Curves.{CanCarry, RunningStands, IsBy, IsUpTo, IsOpen, last_in, limit_opens, share_of, since};
+ghost use Rattle.hfsc_groups.specs.Classes.{IsClass};
 
 use hfsc_model::HfscClass;
 use runtime_curve::Running;
@@ -41,7 +41,7 @@ pub struct Node {
 }
 
 impl Node {
-    ghost use Rattle.hfsc_share.specs.Node.{IsNewNode, IsActivated, IsAwake, IsServed, IsReopened};
+    ghost use Rattle.hfsc_groups.specs.Node.{IsNewNode, IsActivated, IsAwake, IsServed, IsReopened};
 
     /// A class without a packet.
     pub fn new(class: &HfscClass) -> Node

@@ -1,9 +1,9 @@
 use Rattle.std.proofs.Common.{◌≡◌, ◌<◌, length, ℕ}
 use Rattle.std.specs.Prelude.{slice_index_or}
 use Rattle.hfsc_model.specs.Tree.{class_of}
-use Rattle.hfsc_share.specs.declared.node.Node.{Node}
-use Rattle.hfsc_share.specs.Node.{IsNewNode}
-use Rattle.hfsc_share.proofs.nodes_of.Given as goal
+use Rattle.hfsc_groups.specs.declared.node.Node.{Node}
+use Rattle.hfsc_groups.specs.Node.{IsNewNode}
+use Rattle.hfsc_groups.proofs.tree.nodes_of.Given as goal
 
 abbrev pub invariant-loop-class : goal.invariant-loop-class
 invariant-loop-class l = record {

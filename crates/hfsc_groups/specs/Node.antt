@@ -10,9 +10,9 @@ use Rattle.hfsc_model.specs.RealTime.{has_come}
 use Rattle.hfsc_model.specs.Tree.{class_of, is_number}
 use Rattle.hfsc_model.specs.Share.{active, activations, or_zero, total, virtual_time}
 use Rattle.hfsc_model.specs.Limit.{arrivals_of}
-use Rattle.hfsc_share.specs.declared.node.Node.{Node}
-use Rattle.hfsc_share.specs.Curves.{IsBy, RunningStands, last_in, limit_opens, share_of, since}
-use Rattle.hfsc_share.specs.Classes.{opens_under}
+use Rattle.hfsc_groups.specs.declared.node.Node.{Node}
+use Rattle.hfsc_groups.specs.Curves.{IsBy, RunningStands, last_in, limit_opens, share_of, since}
+use Rattle.hfsc_groups.specs.Classes.{opens_under}
 
 -- the fields of a node, where there is one
 abbrev pub parent_in : Option Node → Option ℕ

@@ -1,17 +1,15 @@
 -- Lists of classes.
-use Rattle.std.proofs.Common.{◌≡◌, ◌<◌, inl, inr, ℕ, zero, suc, ◌+◌, true, false, List, [], ◌∷◌, None, Some, length, get_or, refl, sym, ap, arith, ◌∙◌}
-use Rattle.std.specs.Prelude.{Option, ◌&&◌, ◌-◌, ◌/◌, slice_get}
+use Rattle.std.proofs.Common.{◌≡◌, ◌<◌, inl, inr, ℕ, zero, suc, true, false, List, [], ◌∷◌, None, Some, length, get_or, refl, sym, ap, arith, ◌∙◌}
+use Rattle.std.specs.Prelude.{Option, ◌&&◌, slice_get}
 use Rattle.std.proofs.lemmas.Bool.{cases_lt}
 use Rattle.std.proofs.lemmas.Option.{slice_get_past}
 use Rattle.ranking.specs.Order.{is_in}
 use Rattle.ranking.specs.declared.Ranking.{Ranking}
 use Rattle.ranking.specs.Ranking.{order_of}
 use Rattle.hfsc_model.specs.Tree.{is_number}
-use Rattle.hfsc_share.specs.declared.node.Node.{Node}
-use Rattle.hfsc_share.specs.declared.group.Group.{Group}
-use Rattle.hfsc_share.specs.Node.{active_in, parent_in, time_in, is_active_child}
-use Rattle.hfsc_share.specs.Group.{Ranks}
-use Rattle.hfsc_share.specs.Walk.{last_of, start_among}
+use Rattle.hfsc_groups.specs.declared.node.Node.{Node}
+use Rattle.hfsc_groups.specs.Node.{active_in, parent_in, is_active_child}
+use Rattle.hfsc_groups.specs.Group.{Ranks}
 use Rattle.ranking.proofs.Ranks.{same_test, in_more}
 
 pub item_in : (xs : List ℕ) (k : ℕ) → k < length xs → is_in (get_or xs k 0) xs ≡ true
@@ -23,24 +21,6 @@ pub got_in : (xs : List ℕ) (k c : ℕ) → slice_get xs k ≡ Some c → is_in
 got_in [] k c e = absurd cc
 got_in (x ∷ xs) zero c e = let same : x ≡ c = cc in rw same (rw (same_test c) refl)
 got_in (x ∷ xs) (suc k) c e = in_more x c xs (got_in xs k c e)
-
--- the last place of a list
-last_got : (c : ℕ) (cs : List ℕ) → slice_get (c ∷ cs) (length cs) ≡ Some (last_of c cs)
-last_got c [] = refl
-last_got c (d ∷ ds) = last_got d ds
-
-pub start_got : (nodes : List Node) (g : Group) (xs : List ℕ) (a b : ℕ) → slice_get xs 0 ≡ Some a → slice_get xs (length xs - 1) ≡ Some b
-    → (time_in (slice_get nodes a) + time_in (slice_get nodes b)) / 2 ≡ start_among nodes g xs
-start_got nodes g [] a b e f = absurd cc
-start_got nodes g (c ∷ cs) a b e f =
-    let one : c ≡ a = cc in
-    let place : length (c ∷ cs) - 1 ≡ length cs = omega arith in
-    let two : b ≡ last_of c cs = number b (last_of c cs) (sym f ∙ ap (λ n. slice_get (c ∷ cs) n) place ∙ last_got c cs) in
-    ap (λ n. (time_in (slice_get nodes n) + time_in (slice_get nodes b)) / 2) (sym one)
-    ∙ ap (λ n. (time_in (slice_get nodes c) + time_in (slice_get nodes n)) / 2) two
-  where
-    number : (m n : ℕ) → Some m ≡ Some n → m ≡ n
-    number m n e = cc
 
 -- what stands in the list of a group is a class
 pub ranked_low : (nodes : List Node) (p c : ℕ) (key : Option Node → Option ℕ) (r : Ranking) → Ranks nodes p key r → is_in c (order_of r) ≡ true → c < length nodes

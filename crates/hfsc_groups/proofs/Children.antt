@@ -1,8 +1,7 @@
 -- The children of a class whose nodes stand for a history.
-use Rattle.std.proofs.Common.{◌≡◌, ◌≤◌, ◌<◌, ℕ, Bool, true, false, List, [], ◌∷◌, None, Some, length, refl, ap, sym, arith, ◌∙◌}
+use Rattle.std.proofs.Common.{◌≡◌, ◌≤◌, ℕ, Bool, true, false, List, [], ◌∷◌, None, Some, length, refl, ap, sym, arith, ◌∙◌}
 use Rattle.std.specs.Prelude.{Option, ◌&&◌, ◌==◌, if◌then◌else◌, is_some, slice_get}
 use Rattle.std.proofs.lemmas.Bool.Decides.{nat_tests}
-use Rattle.std.proofs.lemmas.Option.{slice_get-get_or}
 use Rattle.ranking.specs.declared.Ranking.{Ranking}
 use Rattle.ranking.specs.Order.{is_in, key_of}
 use Rattle.ranking.specs.Ranking.{keys_of, order_of}
@@ -18,14 +17,15 @@ use Rattle.hfsc_model.specs.Share.{active, total}
 use Rattle.hfsc_model.specs.Limit.{arrivals_of, is_within}
 use Rattle.hfsc_model.specs.RealTime.{has_come, IsOpenBy}
 use Rattle.hfsc_laws.proofs.Tree.{same_truth, and_true, true_and, child_within}
-use Rattle.hfsc_share.specs.declared.node.Node.{Node}
-use Rattle.hfsc_share.specs.declared.group.Group.{Group}
-use Rattle.hfsc_share.specs.Curves.{limit_opens}
-use Rattle.hfsc_share.specs.Classes.{IsLimit, opens_under}
-use Rattle.hfsc_share.specs.Node.{parent_in, active_in, opens_in, is_child_in, is_active_child, NodeStands, OpensAt}
-use Rattle.hfsc_share.specs.Group.{Delays, GroupHolds, Ranks, first_key, first_moment, is_late, time_key}
-use Rattle.hfsc_share.proofs.Opening.{leaf_opens, child_opens, opens_child, leaf_childless, active_child}
-use Rattle.hfsc_share.proofs.Moments.{within_from, later_come, later_some, limit_some, first_come_of, open_later}
+use Rattle.hfsc_groups.specs.declared.node.Node.{Node}
+use Rattle.hfsc_groups.specs.declared.group.Group.{Group}
+use Rattle.hfsc_groups.specs.Curves.{limit_opens}
+use Rattle.hfsc_groups.specs.Classes.{IsLimit, opens_under}
+use Rattle.hfsc_groups.specs.Node.{parent_in, active_in, opens_in, is_child_in, is_active_child, NodeStands, OpensAt}
+use Rattle.hfsc_groups.specs.Group.{Delays, GroupHolds, Ranks, first_key, first_moment, is_late, time_key}
+use Rattle.hfsc_groups.proofs.Found.{IsNode, node_of}
+use Rattle.hfsc_groups.proofs.Opening.{leaf_opens, child_opens, opens_child, leaf_childless, active_child}
+use Rattle.hfsc_groups.proofs.Moments.{within_from, later_come, later_some, limit_some, first_come_of, open_later}
 
 -- the nodes have the tree, and those of the children of p stand for the history
 pub record Stand (cs : List HfscClass) (h : HfscHistory) (last p : ℕ) (nodes : List Node) : Type 0 where
@@ -35,22 +35,6 @@ pub record Stand (cs : List HfscClass) (h : HfscHistory) (last p : ℕ) (nodes :
 
 pub child_is : (cs : List HfscClass) (h : HfscHistory) (last p : ℕ) (nodes : List Node) (c : ℕ) → Stand cs h last p nodes → is_child_in nodes p c ≡ is_child cs p c
 child_is cs h last p nodes c s = ap (is_number p) (s.parents c)
-
--- a child has a node
-pub record IsNode (nodes : List Node) (c : ℕ) : Type 0 where
-  pub node : Node
-  pub at : slice_get nodes c ≡ Some node
-
-pub missing : (xs : List Node) (i : ℕ) → i < length xs → slice_get xs i ≡ None → ⊥
-missing [] i h e = absurd (omega arith)
-missing (x ∷ xs) i h e = let one = slice_get-get_or (x ∷ xs) i x h in absurd cc
-
-pub node_of : (nodes : List Node) (c : ℕ) → c < length nodes → IsNode nodes c
-node_of nodes c h = go (slice_get nodes c) refl
-  where
-    go : (o : Option Node) → slice_get nodes c ≡ o → IsNode nodes c
-    go (Some x) e = record { node = x; at = e }
-    go None e = absurd (missing nodes c h e)
 
 pub child_node : (cs : List HfscClass) (h : HfscHistory) (last p : ℕ) (nodes : List Node) (c : ℕ) → Stand cs h last p nodes → is_child cs p c ≡ true → IsNode nodes c
 child_node cs h last p nodes c s k =

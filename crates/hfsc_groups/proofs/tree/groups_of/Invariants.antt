@@ -1,8 +1,8 @@
 use Rattle.std.proofs.Common.{◌≡◌, ◌<◌, length, ℕ}
 use Rattle.std.specs.Prelude.{slice_index_or}
-use Rattle.hfsc_share.specs.declared.group.Group.{Group}
-use Rattle.hfsc_share.specs.Group.{IsEmpty}
-use Rattle.hfsc_share.proofs.groups_of.Given as goal
+use Rattle.hfsc_groups.specs.declared.group.Group.{Group}
+use Rattle.hfsc_groups.specs.Group.{IsEmpty}
+use Rattle.hfsc_groups.proofs.tree.groups_of.Given as goal
 
 abbrev pub invariant-loop-class : goal.invariant-loop-class
 invariant-loop-class l = record {

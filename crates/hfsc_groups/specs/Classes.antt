@@ -9,7 +9,7 @@ use Rattle.hfsc_model.specs.Tree.{numbers, path, is_under, IsTree}
 use Rattle.hfsc_model.specs.Share.{waits_under, total, virtual_time, active}
 use Rattle.hfsc_model.specs.Limit.{is_within, shares_under}
 use Rattle.hfsc_model.specs.RealTime.{has_come}
-use Rattle.hfsc_share.specs.Curves.{IsCurve}
+use Rattle.hfsc_groups.specs.Curves.{IsCurve}
 
 -- the second slope of a link-sharing curve is at least 1, so that it reaches every amount
 pub record IsShare (s : Curve) : Type 0 where

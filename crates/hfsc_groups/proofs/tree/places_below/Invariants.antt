@@ -1,6 +1,6 @@
 use Rattle.std.proofs.Common.{◌≡◌, ◌<◌, ℕ, true}
 use Rattle.hfsc_model.specs.Tree.{is_child}
-use Rattle.hfsc_share.proofs.places_below.Given as goal
+use Rattle.hfsc_groups.proofs.tree.places_below.Given as goal
 
 abbrev pub invariant-loop-index : goal.invariant-loop-index
 invariant-loop-index l = (c : ℕ) → c < l.index → is_child l.classes l.class c ≡ true → c < l.places

@@ -1,9 +1,9 @@
 use Rattle.std.proofs.Common.{◌≡◌, ℕ, Some, None, refl, sym, subst, ◌∙◌}
 use Rattle.std.specs.Prelude.{slice_set}
-use Rattle.hfsc_share.specs.Group.{AreRankedIn}
-use Rattle.hfsc_share.proofs.Places.{get_read}
-use Rattle.hfsc_share.proofs.Held.{is_changed}
-use Rattle.hfsc_share.proofs.rank.Goals as goal
+use Rattle.hfsc_groups.specs.Group.{AreRankedIn}
+use Rattle.hfsc_groups.proofs.Places.{get_read}
+use Rattle.hfsc_groups.proofs.Held.{is_changed}
+use Rattle.hfsc_groups.proofs.tree.rank.Goals as goal
 
 pub returns-in-Some : goal.returns-in-Some
 returns-in-Some c = record {

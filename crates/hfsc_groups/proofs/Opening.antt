@@ -11,8 +11,8 @@ use Rattle.hfsc_model.specs.Tree.{is_child, is_leaf, is_parent, is_under, path, 
 use Rattle.hfsc_model.specs.Share.{waits_under, active}
 use Rattle.hfsc_model.specs.Limit.{is_within}
 use Rattle.hfsc_laws.proofs.Tree.{same_truth, and_true, true_and, any_is, is_any, child_within, below_is, under_is, under_self, parent_of}
-use Rattle.hfsc_share.specs.Classes.{is_open_to, opens_under}
-use Rattle.hfsc_share.proofs.Under.{under_low, in_line, same_or_up, IsUp}
+use Rattle.hfsc_groups.specs.Classes.{is_open_to, opens_under}
+use Rattle.hfsc_groups.proofs.Under.{under_low, in_line, same_or_up, IsUp}
 
 -- each class of a path passes exactly where each that stands over its end does
 pub all_over : (f : ℕ → Bool) (xs : List ℕ) → list_all f xs ≡ true → (x : ℕ) → list_any (λ y. y == x) xs ≡ true → f x ≡ true

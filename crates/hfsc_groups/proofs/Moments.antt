@@ -12,9 +12,9 @@ use Rattle.ranking.specs.Search.{IsBeforeAll, IsRanked}
 use Rattle.hfsc_model.specs.RealTime.{has_come, goes_first, IsOpenBy}
 use Rattle.hfsc_model.specs.Limit.{within}
 use Rattle.hfsc_model.proofs.Soonest.{eligible_from_soonest}
-use Rattle.hfsc_share.specs.Curves.{limit_opens}
-use Rattle.hfsc_share.specs.Classes.{IsLimit}
-use Rattle.hfsc_share.specs.Group.{first_key}
+use Rattle.hfsc_groups.specs.Curves.{limit_opens}
+use Rattle.hfsc_groups.specs.Classes.{IsLimit}
+use Rattle.hfsc_groups.specs.Group.{first_key}
 
 -- a limit's curve makes eligible by itself
 own_curve : (s : Curve) → IsLimit s → eligible_curve s ≡ s

@@ -10,12 +10,12 @@ use Rattle.ranking.proofs.Orders.{key_in}
 use Rattle.ranking.proofs.Ranks.{same_test}
 use Rattle.hfsc_model.specs.Tree.{is_number}
 use Rattle.hfsc_laws.proofs.Tree.{and_true}
-use Rattle.hfsc_share.specs.declared.node.Node.{Node}
-use Rattle.hfsc_share.specs.declared.group.Group.{Group}
-use Rattle.hfsc_share.specs.Curves.{IsBy}
-use Rattle.hfsc_share.specs.Node.{parent_in, active_in, time_in, opens_in, is_child_in, is_active_child, AreParentsFirst, AreLimitsBy}
-use Rattle.hfsc_share.specs.Group.{Delays, IsDelayed, is_late, Ranks, IsHigh, GroupHolds, GroupsHold, IsChanged, MayChange, AreRanked, time_key}
-use Rattle.hfsc_share.proofs.Places.{get_here, get_other}
+use Rattle.hfsc_groups.specs.declared.node.Node.{Node}
+use Rattle.hfsc_groups.specs.declared.group.Group.{Group}
+use Rattle.hfsc_groups.specs.Curves.{IsBy}
+use Rattle.hfsc_groups.specs.Node.{parent_in, active_in, time_in, opens_in, is_child_in, is_active_child, AreParentsFirst, AreLimitsBy}
+use Rattle.hfsc_groups.specs.Group.{Delays, IsDelayed, is_late, Ranks, IsHigh, GroupHolds, GroupsHold, IsChanged, MayChange, AreRanked, time_key}
+use Rattle.hfsc_groups.proofs.Places.{get_here, get_other}
 
 -- one class is put into its place: its parent stays, and its virtual time does not fall
 pub record IsPut (nodes : List Node) (class : ℕ) (x : Node) : Type 0 where

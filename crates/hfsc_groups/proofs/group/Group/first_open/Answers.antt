@@ -4,8 +4,8 @@ use Rattle.ranking.specs.Order.{key_of}
 use Rattle.ranking.specs.Ranking.{keys_of, order_of}
 use Rattle.ranking.proofs.Orders.{find_more, find_hit}
 use Rattle.hfsc_model.specs.RealTime.{has_come}
-use Rattle.hfsc_share.proofs.Lists.{item_in}
-use Rattle.hfsc_share.proofs.group.Group.first_open.Goals as goal
+use Rattle.hfsc_groups.proofs.Lists.{item_in}
+use Rattle.hfsc_groups.proofs.group.Group.first_open.Goals as goal
 
 pub key-requires : goal.key-requires
 key-requires c =

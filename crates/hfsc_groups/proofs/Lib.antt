@@ -1,0 +1,10 @@
+pub mod Places
+pub mod Lists
+pub mod Found
+pub mod Held
+pub mod Staying
+pub mod Under
+pub mod Opening
+pub mod Moments
+pub mod Children
+pub mod New

@@ -1,0 +1,5 @@
+pub mod Curves
+pub mod Classes
+pub mod Lists
+pub mod Node
+pub mod Group
