@@ -1,8 +1,6 @@
 -- What both choices hold of a leaf.
-use Rattle.std.proofs.Common.{◌≡◌, ◌≤◌, ◌<◌, ◌+◌, ◌⊎◌, inl, inr, ℕ, zero, suc, Bool, true, false, List, [], ◌∷◌, None, Some, length, refl, ap, sym, subst, arith, ◌∙◌, get_or, eqb}
+use Rattle.std.proofs.Common.{◌≡◌, ◌≤◌, ◌<◌, ◌⊎◌, inl, inr, ℕ, zero, suc, Bool, true, false, List, [], ◌∷◌, None, Some, length, refl, ap, sym, subst, arith, ◌∙◌, get_or}
 use Rattle.std.specs.Prelude.{Option, ◌&&◌, not, nat_lt, slice_get}
-use Rattle.std.specs.Option.{option_eq}
-use Rattle.std.specs.List.{list_any, range_with_len}
 use Rattle.std.proofs.lemmas.Bool.{cases_eq}
 use Rattle.std.proofs.lemmas.Option.{slice_get-get_or}
 use Rattle.service_curve.specs.declared.Curve.{Curve}
@@ -126,12 +124,3 @@ opening_by e curves h c t o y low b f =
 pub none_waits : (ws : List Waiting) → is_waiting ws ≡ false → head_len ws ≡ None
 none_waits [] e = refl
 none_waits (w ∷ ws) e = absurd cc
-
--- no class of a range passes
-pub no_any : (f : ℕ → Bool) (a n : ℕ) → ((d : ℕ) → a ≤ d → d < a + n → f d ≡ false) → list_any f (range_with_len a n) ≡ false
-no_any f a zero g = refl
-no_any f a (suc n) g = rw (g a (omega arith) (omega arith)) (no_any f (a + 1) n (λ d l m. g d (omega (arith, l)) (omega (arith, m))))
-
-pub same_number : (o : Option ℕ) (c : ℕ) → option_eq eqb o (Some c) ≡ true → is_number c o ≡ true
-same_number None c e = absurd cc
-same_number (Some p) c e = e

@@ -1,22 +1,11 @@
 //! Which classes are leaves.
 ghost use Rattle.std.specs.Prelude.{◌≡◌, ◌≤◌, ◌<◌, ℕ, IfOk, length, Some, slice_get};
-ghost use Rattle.hfsc_model.specs.Tree.{is_leaf, is_parent};
+ghost use Rattle.hfsc_model.specs.Tree.{is_leaf};
 
+use hfsc_groups::is_parent;
 use hfsc_model::HfscClass;
 use play_base::NoMemory;
 use std::alloc::Global;
-
-/// A class has a child.
-fn is_parent(classes: &[HfscClass], class: u32) -> bool
-    ensures { result ≡ is_parent classes.now class }
-{
-    for child in classes {
-        if child.parent == Some(class) {
-            return true;
-        }
-    }
-    false
-}
 
 /// For each class whether it is a leaf, and so may hold packets.
 pub fn leaves_of(alloc: Global, classes: &[HfscClass]) -> Result<Vec<bool>, NoMemory>

@@ -8,3 +8,4 @@ pub mod Opening
 pub mod Moments
 pub mod Children
 pub mod New
+pub mod Parents

@@ -13,4 +13,4 @@ mod tree;
 
 pub use group::{Group, has_come};
 pub use node::Node;
-pub use tree::{groups_of, nodes_of, rank};
+pub use tree::{groups_of, is_parent, nodes_of, rank};

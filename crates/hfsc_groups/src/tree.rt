@@ -1,6 +1,6 @@
 //! The nodes and the groups of all classes of a tree.
 ghost use Rattle.std.specs.Prelude.{◌≡◌, ◌<◌, ◌≤◌, ℕ, All, length, true, IfOk};
-ghost use Rattle.hfsc_model.specs.Tree.{is_child};
+ghost use Rattle.hfsc_model.specs.Tree.{is_child, is_parent};
 ghost use Rattle.hfsc_groups.specs.Classes.{IsClass};
 ghost use Rattle.hfsc_groups.specs.Node.{AreNew};
 ghost use Rattle.hfsc_groups.specs.Group.{AreEmpty, AreRanked, MayRank};
@@ -20,6 +20,18 @@ pub fn rank(groups: &mut Vec<Group>, class: u32, was: bool, node: &Node)
     if let Some(parent) = node.parent() {
         groups[parent as usize].replace(class, was, node.is_active(), node.time(), node.opens());
     }
+}
+
+/// Whether a class has a child; a class without one is a leaf. It looks at each class once.
+pub fn is_parent(classes: &[HfscClass], class: u32) -> bool
+    ensures { result ≡ is_parent classes.now class }
+{
+    for child in classes {
+        if child.parent == Some(class) {
+            return true;
+        }
+    }
+    false
 }
 
 /// What is held of classes without a packet, one after another.

@@ -1,11 +1,10 @@
 -- What passes among the first numbers.
-use Rattle.std.proofs.Common.{◌≡◌, ◌≤◌, ◌<◌, ◌+◌, ◌-◌, ℕ, zero, suc, Bool, true, false, cond, eqb, List, [], ◌∷◌, ◌++◌, None, Some, map, refl, ap, sym, arith, ◌∙◌}
-use Rattle.std.specs.Prelude.{Option, ◌||◌}
-use Rattle.std.specs.Option.{option_eq}
-use Rattle.std.specs.List.{filter, list_any, range_with_len}
+use Rattle.std.proofs.Common.{◌≡◌, ◌<◌, ◌+◌, ◌-◌, ℕ, zero, suc, Bool, true, false, cond, List, [], ◌∷◌, ◌++◌, None, Some, map, refl, ap, sym, arith, ◌∙◌}
+use Rattle.std.specs.Prelude.{Option}
+use Rattle.std.specs.List.{filter, range_with_len}
 use Rattle.std.proofs.lemmas.List.FromFn.{filter_of_map_range_with_len_more}
 use Rattle.hfsc_model.specs.declared.HfscClass.{HfscClass}
-use Rattle.hfsc_model.specs.Tree.{class_of, is_number, path_up}
+use Rattle.hfsc_model.specs.Tree.{class_of, path_up}
 use Rattle.share_gaps.specs.declared.siblings.Siblings.{Siblings}
 use Rattle.share_gaps.specs.Rows.{are_siblings, pair, rows_from, rows_of}
 
@@ -79,16 +78,6 @@ row_stays cs c n old e =
     none : (xs : List Siblings) → xs ++ [] ≡ xs
     none [] = refl
     none (x ∷ xs) = ap (λ (ys : List Siblings). x ∷ ys) (none xs)
-
-pub no_any : (f : ℕ → Bool) (a n : ℕ) → ((d : ℕ) → a ≤ d → d < a + n → f d ≡ false) → list_any f (range_with_len a n) ≡ false
-no_any f a zero none = refl
-no_any f a (suc n) none =
-    ap (λ (b : Bool). b || list_any f (range_with_len (a + 1) n)) (none a (omega arith) (omega arith))
-    ∙ no_any f (a + 1) n (λ d low high. none d (omega (arith, low)) (omega (arith, high)))
-
-pub same_number : (o : Option ℕ) (c : ℕ) → option_eq eqb o (Some c) ≡ true → is_number c o ≡ true
-same_number None c e = absurd cc
-same_number (Some p) c e = e
 
 -- the rows of one class more
 rows_next : (cs : List HfscClass) (a n : ℕ) → rows_from cs (range_with_len a (suc n)) ≡ rows_from cs (range_with_len a n) ++ rows_of cs (a + n)

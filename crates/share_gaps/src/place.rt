@@ -1,10 +1,11 @@
 //! What stands above a class.
 ghost use Rattle.std.specs.Prelude.{◌≡◌, ◌<◌, ◌≤◌, ◌^◌, ℕ, IfOk, length, slice_get};
-ghost use Rattle.hfsc_model.specs.Tree.{is_parent, path, IsTree};
+ghost use Rattle.hfsc_model.specs.Tree.{path, IsTree};
 ghost use Rattle.share_gaps.specs.Rows.{first_in, firsts_in, is_in, IsPlace, second_in, seconds_in};
 ghost use Rattle.share_gaps.specs.Within.{ArePlaces};
 
 use crate::siblings::Siblings;
+use hfsc_groups::is_parent;
 use hfsc_model::HfscClass;
 use play_base::NoMemory;
 use std::alloc::Global;
@@ -38,18 +39,6 @@ fn path_of(alloc: Global, classes: &[HfscClass], class: u32) -> Result<Vec<u32>,
         next = classes[class as usize].parent;
     }
     Ok(up)
-}
-
-/// Whether a class of this number has a child.
-fn is_parent(classes: &[HfscClass], class: u32) -> bool
-    ensures { result ≡ is_parent classes.now class }
-{
-    for child in classes {
-        if child.parent == Some(class) {
-            return true;
-        }
-    }
-    false
 }
 
 /// A class stands on a path.

@@ -1,8 +1,8 @@
 use Rattle.std.proofs.Common.{◌∙◌, arith, sym}
 use Rattle.hfsc_model.specs.Tree.{is_child}
 use Rattle.hfsc_laws.proofs.Tree.{is_any}
-use Rattle.share_gaps.proofs.Ranges.{no_any, same_number}
-use Rattle.share_gaps.proofs.place.is_parent.Goals as goal
+use Rattle.hfsc_groups.proofs.Parents.{no_any, same_number}
+use Rattle.hfsc_groups.proofs.tree.is_parent.Goals as goal
 
 pub returns-then-eq : goal.returns-then-eq
 returns-then-eq c =
