@@ -21,9 +21,9 @@ use Rattle.cbq_model.proofs.Least.{IsLeastSend, one_least}
 use Rattle.cbq_model.proofs.Members.{kept, was_kept}
 use Rattle.cbq_model.proofs.Places.{is_below}
 use Rattle.cbq_rounds.specs.Due.{due_in, due_with, first_in, send_head, start_in}
-use Rattle.cbq_rounds.specs.Shared.{Shared, head_len, own_now, situation_in, start_now_in}
+use Rattle.cbq_sharing.specs.Shared.{Shared, head_len, own_now, situation_in, start_now_in}
 use Rattle.cbq_rounds.proofs.Firsts.{all_none, first_none, first_same, no_later, of_one}
-use Rattle.cbq_rounds.proofs.Moments.{head_seen, may_not, may_where, own_where, start_is}
+use Rattle.cbq_sharing.proofs.Moments.{head_seen, may_not, may_where, own_where, start_is}
 
 -- the head of a list, and its length
 pub record HasHead (xs : List Entry) : Type 0 where

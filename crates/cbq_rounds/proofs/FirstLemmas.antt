@@ -8,7 +8,7 @@ use Rattle.leaf_queue.specs.declared.node.Entry.{Entry}
 use Rattle.link_clock.specs.Clock.{Clock}
 use Rattle.cbq_rounds.specs.Due.{first_in, start_in}
 use Rattle.cbq_rounds.specs.Looked.{HasFirst, IsNoLater, IsOfOne}
-use Rattle.cbq_rounds.specs.Shared.{Shared, head_len, start_now_in}
+use Rattle.cbq_sharing.specs.Shared.{Shared, head_len, start_now_in}
 use Rattle.cbq_rounds.proofs.Firsts.{no_later, of_one}
 
 -- the first moment of those so far and of one class more

@@ -15,10 +15,10 @@ use Rattle.leaf_queue.specs.declared.node.Entry.{Entry}
 use Rattle.link_clock.specs.Clock.{Clock}
 use Rattle.cbq_rounds.specs.Due.{first_in, start_in}
 use Rattle.cbq_rounds.specs.Looked.{HasAsked, IsLed}
-use Rattle.cbq_rounds.specs.Shared.{Shared, head_len, situation_in, start_now_in}
+use Rattle.cbq_sharing.specs.Shared.{Shared, head_len, situation_in, start_now_in}
 use Rattle.cbq_rounds.proofs.DueLemmas.{from_now, member_from}
 use Rattle.cbq_rounds.proofs.Firsts.{no_later}
-use Rattle.cbq_rounds.proofs.Moments.{may_not, may_where}
+use Rattle.cbq_sharing.proofs.Moments.{may_not, may_where}
 
 -- of two classes of which none goes before the other each is the other
 pub same_class : (a b : Rank) → goes_before a b ≡ false → goes_before b a ≡ false → a.class ≡ b.class

@@ -1,5 +1,5 @@
 -- The gains of the candidates of a sending, one class after the other.
-use Rattle.std.proofs.Common.{◌≡◌, ◌≤◌, ◌<◌, ◌+◌, ◌*◌, ◌∙◌, inl, inr, ℕ, suc, Bool, true, false, List, [], ◌∷◌, Some, length, get_or, refl, ap, sym, subst, arith, eqb, get_or-set_same, get_or-set_other, length-set}
+use Rattle.std.proofs.Common.{◌≡◌, ◌≤◌, ◌<◌, ◌+◌, ◌-◌, ◌*◌, ◌∙◌, inl, inr, ℕ, zero, suc, Bool, true, false, List, [], ◌∷◌, Some, length, get_or, refl, ap, sym, subst, arith, eqb, get_or-set_same, get_or-set_other, length-set}
 use Rattle.std.specs.declared.option.Option.{Option}
 use Rattle.std.specs.Prelude.{slice_set, if◌then◌else◌, unwrap_or}
 use Rattle.std.specs.List.{list_any}
@@ -21,13 +21,13 @@ use Rattle.cbq_model.proofs.Members.{kept, passes_some, some_passes, was_kept}
 use Rattle.cbq_model.proofs.Places.{at_place}
 use Rattle.cbq_rounds.specs.Due.{due_in}
 use Rattle.cbq_rounds.specs.Gained.{HasGained, gained_by, bare_sending, with_credits, with_gains}
-use Rattle.cbq_rounds.specs.declared.lent.Lent.{Lent}
-use Rattle.cbq_rounds.specs.Lent.{IsLent}
-use Rattle.cbq_rounds.specs.Sent.{with_credit}
-use Rattle.cbq_rounds.specs.Shared.{Shared, head_len, may_end, situation_in}
+use Rattle.cbq_sharing.specs.declared.lent.Lent.{Lent}
+use Rattle.cbq_sharing.specs.Lent.{IsLent}
+use Rattle.cbq_sharing.specs.Sent.{with_credit}
+use Rattle.cbq_sharing.specs.Shared.{Shared, head_len, may_end, situation_in}
 use Rattle.cbq_rounds.proofs.DueLemmas.{SendsPicked, front_len, member_from, sends_picked}
 use Rattle.cbq_rounds.proofs.LookLemmas.{waiting_may}
-use Rattle.cbq_rounds.proofs.Moments.{head_seen}
+use Rattle.cbq_sharing.proofs.Moments.{head_seen}
 
 -- lists of one length that have the same at each place are the same
 pub same_lists : (xs ys : List ℕ) → length xs ≡ length ys → ((i : ℕ) → i < length xs → get_or xs i 0 ≡ get_or ys i 0) → xs ≡ ys
@@ -232,37 +232,37 @@ module _ (d : Shared) (lists : ℕ → List Entry) (clock : Clock) (x : Sending)
   lent_by i now l g e = let P : Shared → Type 0 = λ k. IsLent k.tree k.estimates clock x.start l in subst P g.same e
 
   -- a class that waits, as it is found
-  pub record IsLookedAt (i len end : ℕ) (now : Shared) : Type 0 where
+  pub record IsLookedAt (i len : ℕ) (now : Shared) : Type 0 where
     pub gone : HasGained d lists clock x i now
     pub free : clock.link.free ≤ x.start
     pub rate : clock.rate ≡ d.rate
     pub due : due_in d lists clock x.start ≡ Send x.ticket x.class x.len x.rule
     pub place : i < length d.tree
     pub head : head_len (lists i) ≡ Some len
-    pub end_is : end ≡ end_of clock.rate clock.link x.start len
 
   -- whether it may be sent, by what stands
-  may_by : (i len end : ℕ) (now : Shared) → IsLookedAt i len end now → may d.tree d.rate s i x.start ≡ may_end now.tree now.estimates end len i
-  may_by i len end now q =
-      waiting_may d lists clock x.start i len end (record { place = q.place; rate = q.rate; head = q.head; end_is = q.end_is })
-      ∙ ap (λ (k : Shared). may_end k.tree k.estimates end len i) (sym q.gone.same)
+  may_by : (i len : ℕ) (now : Shared) → IsLookedAt i len now
+      → may d.tree d.rate s i x.start ≡ may_end now.tree now.estimates (end_of clock.rate clock.link x.start len) len i
+  may_by i len now q =
+      waiting_may d lists clock x.start i len (record { place = q.place; rate = q.rate; head = q.head })
+      ∙ ap (λ (k : Shared). may_end k.tree k.estimates (end_of clock.rate clock.link x.start len) len i) (sym q.gone.same)
 
-  pub due_now : (i len end : ℕ) (now : Shared) (b : Bool) → IsLookedAt i len end now → b ≡ may_end now.tree now.estimates end len i → b ≡ true
+  pub due_now : (i len : ℕ) (now : Shared) → IsLookedAt i len now → may_end now.tree now.estimates (end_of clock.rate clock.link x.start len) len i ≡ true
       → priority i ≡ priority x.class → IsDueNow i len
-  due_now i len end now b q is passes alike = record {
+  due_now i len now q passes alike = record {
     free = q.free;
     rate = q.rate;
     due = q.due;
     place = q.place;
     head = q.head;
-    able = may_by i len end now q ∙ sym is ∙ passes;
+    able = may_by i len now q ∙ passes;
     alike = alike;
   }
 
   -- it may not be sent now
-  pub held_gains_nothing : (i len end : ℕ) (now : Shared) (b : Bool) → IsLookedAt i len end now → b ≡ may_end now.tree now.estimates end len i → b ≡ false
-      → gained_by d lists clock x i ≡ get_or d.credits i 0
-  held_gains_nothing i len end now b q is held = gains_nothing i (not_able i (may_by i len end now q ∙ sym is ∙ held))
+  pub held_gains_nothing : (i len : ℕ) (now : Shared) → IsLookedAt i len now
+      → may_end now.tree now.estimates (end_of clock.rate clock.link x.start len) len i ≡ false → gained_by d lists clock x i ≡ get_or d.credits i 0
+  held_gains_nothing i len now q held = gains_nothing i (not_able i (may_by i len now q ∙ held))
 
   pub gained_on : (i len r : ℕ) (now after : Shared) → HasGained d lists clock x i now → IsDueNow i len → length d.credits ≡ length d.tree
       → r ≡ rounds_for (get_or d.credits x.class 0) (quantum_of d.rate (class_of d.tree x.class)) x.len
@@ -288,3 +288,35 @@ module _ (d : Shared) (lists : ℕ → List Entry) (clock : Clock) (x : Sending)
         done = λ c l h. no_rounds (list_any (λ k. eqb k c) ready) c needed;
         rest = λ c l. refl;
       }) (omega arith) all
+
+-- gains pass by the classes that gain nothing
+gain_over : (d : Shared) (lists : ℕ → List Entry) (clock : Clock) (x : Sending) (from more : ℕ) (now : Shared) → HasGained d lists clock x from now
+    → from + more ≤ length d.tree → ((c : ℕ) → from ≤ c → c < from + more → gained_by d lists clock x c ≡ get_or d.credits c 0)
+    → HasGained d lists clock x (from + more) now
+gain_over d lists clock x from zero now g l none =
+    let P : ℕ → Type 0 = λ n. HasGained d lists clock x n now in
+    let same : from ≡ from + 0 = omega arith in
+    subst P same g
+gain_over d lists clock x from (suc more) now g l none =
+    let before = gain_over d lists clock x from more now g (omega (arith, l)) (λ c a b. none c a (omega (arith, b))) in
+    let P : ℕ → Type 0 = λ n. HasGained d lists clock x n now in
+    let same : from + more + 1 ≡ from + suc more = omega arith in
+    subst P same (gain_kept d lists clock x (from + more) now before (none (from + more) (omega arith) (omega arith)))
+
+pub gain_to : (d : Shared) (lists : ℕ → List Entry) (clock : Clock) (x : Sending) (from class : ℕ) (now : Shared) → HasGained d lists clock x from now
+    → from ≤ class → class ≤ length d.tree → ((c : ℕ) → from ≤ c → c < class → gained_by d lists clock x c ≡ get_or d.credits c 0)
+    → HasGained d lists clock x class now
+gain_to d lists clock x from class now g low high none =
+    let same : from + (class - from) ≡ class = omega (arith, low) in
+    let P : ℕ → Type 0 = λ n. HasGained d lists clock x n now in
+    subst P same (gain_over d lists clock x from (class - from) now g (omega (arith, low, high)) (λ c a b. none c a (omega (arith, b, low))))
+
+pub gain_rest : (d : Shared) (lists : ℕ → List Entry) (clock : Clock) (x : Sending) (from : ℕ) (now : Shared) → HasGained d lists clock x from now
+    → ((c : ℕ) → from ≤ c → c < length d.tree → gained_by d lists clock x c ≡ get_or d.credits c 0) → length d.credits ≡ length d.tree
+    → now ≡ with_gains d lists clock x
+gain_rest d lists clock x from now g none all = elim (cases_lt from (length d.tree)) [
+  | inl m ↦
+      gain_all_is d lists clock x (length d.tree) now (gain_to d lists clock x from (length d.tree) now g (omega (arith, m)) (omega arith) none)
+      (omega arith) all
+  | inr m ↦ gain_all_is d lists clock x from now g m all
+]

@@ -4,16 +4,8 @@ pub mod FirstLemmas
 pub mod Firsts
 pub mod FoundLemmas
 pub mod GainLemmas
-pub mod HeldLemmas
 pub mod Keeping
-pub mod LentLemmas
 pub mod LookLemmas
-pub mod Moments
-pub mod Places
 pub mod PolicyLemmas
-pub mod RingBuild
 pub mod RingLemmas
-pub mod RootLemmas
-pub mod SentLemmas
 pub mod StandsLemmas
-pub mod WaitLemmas

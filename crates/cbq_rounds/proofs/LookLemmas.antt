@@ -1,7 +1,7 @@
 -- One class more that was asked.
-use Rattle.std.proofs.Common.{◌≡◌, ◌≤◌, ◌<◌, ◌+◌, ◌∙◌, ◌⊎◌, inl, inr, ℕ, Bool, true, false, List, [], ◌∷◌, None, Some, length, get_or, refl, ap, sym, subst, arith}
+use Rattle.std.proofs.Common.{◌≡◌, ◌≤◌, ◌<◌, ◌+◌, ◌∙◌, ◌⊎◌, inl, inr, ℕ, Bool, true, false, List, None, Some, length, get_or, refl, ap, sym, subst, arith}
 use Rattle.std.specs.declared.option.Option.{Option}
-use Rattle.std.specs.Prelude.{nat_lt, slice_get, option_map, unwrap_or, if◌then◌else◌}
+use Rattle.std.specs.Prelude.{nat_lt, unwrap_or, if◌then◌else◌}
 use Rattle.std.proofs.lemmas.Bool.{cases_eq, cases_lt}
 use Rattle.altq_model.specs.Link.{Link, end_of}
 use Rattle.cbq_model.specs.declared.Rank.{Rank}
@@ -10,31 +10,21 @@ use Rattle.cbq_model.specs.Tree.{class_of, quantum_of}
 use Rattle.cbq_model.proofs.Best.{before_trans, not_before_itself}
 use Rattle.leaf_queue.specs.declared.node.Entry.{Entry}
 use Rattle.link_clock.specs.Clock.{Clock}
-use Rattle.cbq_rounds.specs.Looked.{AreSized, HasAsked, IsAble, IsLed, IsSeen}
-use Rattle.cbq_rounds.specs.Shared.{Shared, head_len, may_end, situation_in}
-use Rattle.cbq_rounds.proofs.Moments.{head_seen, may_at}
+use Rattle.cbq_rounds.specs.Looked.{HasAsked, IsAble, IsLed, IsSeen}
+use Rattle.cbq_sharing.specs.Shared.{Shared, head_len, may_end, situation_in}
+use Rattle.cbq_sharing.proofs.Moments.{head_seen, may_at}
 
-pub head_of : (xs : List Entry) (o : Option Entry) → o ≡ slice_get xs 0 → head_len xs ≡ option_map (λ (x : Entry). x.len) o
-head_of xs o e = ap (λ (p : Option Entry). option_map (λ (x : Entry). x.len) p) (sym e)
-
--- a packet waits in it, and would end then
-pub record Waiting (d : Shared) (lists : ℕ → List Entry) (clock : Clock) (now i len end : ℕ) : Type 0 where
+-- a packet waits in it
+pub record Waiting (d : Shared) (lists : ℕ → List Entry) (clock : Clock) (i len : ℕ) : Type 0 where
   pub place : i < length d.tree
   pub rate : clock.rate ≡ d.rate
   pub head : head_len (lists i) ≡ Some len
-  pub end_is : end ≡ end_of clock.rate clock.link now len
 
-pub waiting_may : (d : Shared) (lists : ℕ → List Entry) (clock : Clock) (now i len end : ℕ) → Waiting d lists clock now i len end
-    → may d.tree d.rate (situation_in d lists clock.link) i now ≡ may_end d.tree d.estimates end len i
-waiting_may d lists clock now i len end w =
-    may_at d lists clock.link i now len w.place w.head
-    ∙ ap (λ (r : ℕ). may_end d.tree d.estimates (end_of r clock.link now len) len i) (sym w.rate)
-    ∙ ap (λ (n : ℕ). may_end d.tree d.estimates n len i) (sym w.end_is)
-
--- the head of a list that is sized
-pub first_sized : (xs : List Entry) (x : Entry) → AreSized xs → slice_get xs 0 ≡ Some x → (1 ≤ x.len) × (x.len ≤ 262144)
-first_sized [] x a e = absurd (cc)
-first_sized (y ∷ ys) x a e = let P : Entry → Type 0 = λ z. (1 ≤ z.len) × (z.len ≤ 262144) in let same : y ≡ x = cc in subst P same (a.0, a.1)
+-- it may be sent now exactly where its end is allowed
+pub waiting_may : (d : Shared) (lists : ℕ → List Entry) (clock : Clock) (now i len : ℕ) → Waiting d lists clock i len
+    → may d.tree d.rate (situation_in d lists clock.link) i now ≡ may_end d.tree d.estimates (end_of clock.rate clock.link now len) len i
+waiting_may d lists clock now i len w =
+    may_at d lists clock.link i now len w.place w.head ∙ ap (λ (r : ℕ). may_end d.tree d.estimates (end_of r clock.link now len) len i) (sym w.rate)
 
 abbrev ranked : (priority rounds : ℕ) (wraps : Bool) (class : ℕ) → Rank
 ranked priority rounds wraps class = record { priority = priority; rounds = rounds; wraps = wraps; class = class }
@@ -118,20 +108,20 @@ module _ (d : Shared) (lists : ℕ → List Entry) (clock : Clock) (now : ℕ) w
   }
 
   -- a class of the priority that is asked, after those before it
-  pub record IsNext (p from i len end : ℕ) (found : Option Rank) : Type 0 where
+  pub record IsNext (p from i len : ℕ) (found : Option Rank) : Type 0 where
     pub asked : HasAsked d lists clock now p from found
     pub low : from ≤ i
     pub of_priority : (class_of d.tree i).priority ≡ p
     pub none : (c : ℕ) → from ≤ c → c < i → c < length d.tree → (class_of d.tree c).priority ≡ p → is_able c ≡ false
-    pub waits : Waiting d lists clock now i len end
+    pub waits : Waiting d lists clock i len
 
   before_i : (p from i c : ℕ) → IsSeen d.tree p (i + 1) c → (c ≡ i → ⊥) → ((class_of d.tree c).priority ≡ p → c < i)
   before_i p from i c x other e = let l : c < i + 1 = x.before e in omega (arith, l, other)
 
-  seen_before : (p from i len end c : ℕ) (found : Option Rank) → IsNext p from i len end found → IsSeen d.tree p (i + 1) c
+  seen_before : (p from i len c : ℕ) (found : Option Rank) → IsNext p from i len found → IsSeen d.tree p (i + 1) c
       → c < length d.tree
       → (c ≡ i → ⊥) → IsSeen d.tree p from c ⊎ (is_able c ≡ false)
-  seen_before p from i len end c found x s l other = elim (cases_eq (class_of d.tree c).priority p) [
+  seen_before p from i len c found x s l other = elim (cases_eq (class_of d.tree c).priority p) [
     | inl e ↦ elim (cases_lt c from) [
       | inl m ↦ inl (record { low = s.low; before = λ k. m })
       | inr m ↦ inr (x.none c m (before_i p from i c s other e) l e)
@@ -156,31 +146,34 @@ module _ (d : Shared) (lists : ℕ → List Entry) (clock : Clock) (now : ℕ) w
   ]
   able_either p i false found r x l e a m = x r m
 
-  asked_next : (p from i len end : ℕ) (found : Option Rank) (b : Bool) → IsNext p from i len end found → is_able i ≡ b
+  asked_next : (p from i len : ℕ) (found : Option Rank) (b : Bool) → IsNext p from i len found → is_able i ≡ b
       → HasAsked d lists clock now p (i + 1) (if b then better found (rank i) else found)
-  asked_next p from i len end found b x a = record {
+  asked_next p from i len found b x a = record {
     of_able = λ r e. able_either p i b found r x.asked.of_able x.waits.place x.of_priority a e;
     led = λ c l s e. elim (cases_eq c i) [
       | inl same ↦
           let P : ℕ → Type 0 = λ k. IsLed (if b then better found (rank i) else found) (rank k) in
           let able : b ≡ true = sym a ∙ ap is_able (sym same) ∙ e in
           subst P (sym same) (led_now b found (rank i) able)
-      | inr other ↦ led_either b found (rank i) (rank c) (led_by p from c found x.asked l e (seen_before p from i len end c found x s l other))
+      | inr other ↦ led_either b found (rank i) (rank c) (led_by p from c found x.asked l e (seen_before p from i len c found x s l other))
     ];
   }
 
   -- it may be sent now, or not yet
-  pub asked_able : (p from i len end : ℕ) (found after : Option Rank) (r : Rank) (b : Bool) → IsNext p from i len end found
-      → b ≡ may_end d.tree d.estimates end len i → b ≡ true → HasRank d i len r → after ≡ better found r → HasAsked d lists clock now p (i + 1) after
-  asked_able p from i len end found after r b x is passes k f =
+  pub asked_able : (p from i len : ℕ) (found : Option Rank) (r : Rank) → IsNext p from i len found
+      → may_end d.tree d.estimates (end_of clock.rate clock.link now len) len i ≡ true → HasRank d i len r
+      → HasAsked d lists clock now p (i + 1) (better found r)
+  asked_able p from i len found r x passes k =
       let w = x.waits in
-      let able : is_able i ≡ true = waiting_may d lists clock now i len end w ∙ sym is ∙ passes in
-      let R : Option Rank → Type 0 = λ o. HasAsked d lists clock now p (i + 1) o in
-      let best : after ≡ better found (rank i) = f ∙ ap (better found) (rank_is d lists clock.link i len r w.place w.head k) in
-      subst R (sym best) (asked_next p from i len end found true x able)
+      let able : is_able i ≡ true = waiting_may d lists clock now i len w ∙ passes in
+      let R : Rank → Type 0 = λ q. HasAsked d lists clock now p (i + 1) (better found q) in
+      subst R (sym (rank_is d lists clock.link i len r w.place w.head k)) (asked_next p from i len found true x able)
 
-  pub asked_held : (p from i len end : ℕ) (found : Option Rank) (b : Bool) → IsNext p from i len end found
-      → b ≡ may_end d.tree d.estimates end len i → b ≡ false → HasAsked d lists clock now p (i + 1) found
-  asked_held p from i len end found b x is held =
-      let able : is_able i ≡ false = waiting_may d lists clock now i len end x.waits ∙ sym is ∙ held in
-      asked_next p from i len end found false x able
+  pub asked_held : (p from i len : ℕ) (found : Option Rank) → IsNext p from i len found
+      → may_end d.tree d.estimates (end_of clock.rate clock.link now len) len i ≡ false → HasAsked d lists clock now p (i + 1) found
+  asked_held p from i len found x held =
+      let able : is_able i ≡ false = waiting_may d lists clock now i len x.waits ∙ held in
+      asked_next p from i len found false x able
+
+  pub asked_same : (p from : ℕ) (found after : Option Rank) → HasAsked d lists clock now p from found → found ≡ after → HasAsked d lists clock now p from after
+  asked_same p from found after x e = let R : Option Rank → Type 0 = λ o. HasAsked d lists clock now p from o in subst R e x

@@ -1,10 +1,8 @@
 -- The classes of a priority that are awake.
-use Rattle.std.proofs.Common.{◌≡◌, ◌≤◌, ◌<◌, ◌-◌, ◌/◌, ◌%◌, ◌∙◌, inl, inr, ℕ, Bool, true, false, List, [], None, Some, length, get_or, min, refl, ap, sym, arith, eqb}
+use Rattle.std.proofs.Common.{◌≡◌, ◌≤◌, ◌<◌, ◌-◌, ◌∙◌, inl, inr, ℕ, Bool, true, false, List, [], None, Some, length, get_or, min, refl, ap, sym, arith, eqb}
 use Rattle.std.specs.declared.option.Option.{Option}
 use Rattle.std.specs.Prelude.{if◌then◌else◌}
 use Rattle.std.proofs.lemmas.Bool.{cases_eq, cases_lt, eq-eqb, eqb-true}
-use Rattle.std.proofs.lemmas.Nat.Bits.{bit_at-lt}
-use Rattle.altq_model.specs.Link.{end_of}
 use Rattle.leaf_queue.specs.declared.node.Entry.{Entry}
 use Rattle.link_clock.specs.Clock.{Clock}
 use Rattle.discipline.specs.declared.pick.Pick.TheVariants.{Send}
@@ -15,21 +13,19 @@ use Rattle.cbq_model.specs.Tree.{class_of}
 use Rattle.class_sets.specs.Marked.{IsFirst, marked}
 use Rattle.cbq_rounds.specs.Due.{due_in}
 use Rattle.cbq_rounds.specs.Gained.{HasGained, gained_by, with_gains}
-use Rattle.cbq_rounds.specs.Looked.{AreAwake, HasAsked}
-use Rattle.cbq_rounds.specs.Rings.{AreRings, IsRing, IsTop}
-use Rattle.cbq_rounds.specs.Shared.{Shared, head_len, situation_in}
-use Rattle.cbq_rounds.specs.Waiting.{waits}
+use Rattle.cbq_rounds.specs.Looked.{HasAsked}
+use Rattle.cbq_sharing.specs.Held.{AreAwake}
+use Rattle.cbq_sharing.specs.Rings.{AreRings, IsRing, IsTop}
+use Rattle.cbq_sharing.specs.Shared.{Shared, head_len, situation_in}
+use Rattle.cbq_sharing.specs.Waiting.{waits}
 use Rattle.cbq_rounds.proofs.DueLemmas.{len_none, sends_picked}
-use Rattle.cbq_rounds.proofs.GainLemmas.{gains_nothing, not_able, other_priority}
+use Rattle.cbq_rounds.proofs.GainLemmas.{gain_rest, gain_to, gains_nothing, not_able, other_priority}
 use Rattle.cbq_rounds.proofs.LookLemmas.{IsNext, asked_as}
-use Rattle.cbq_rounds.proofs.WaitLemmas.{gain_rest, gain_to}
+use Rattle.cbq_sharing.proofs.WaitLemmas.{few_marked}
 
 in_ring_by : (b : Bool) (n : ℕ) → n ≡ (if b then 1 else 0) → 1 ≤ n → b ≡ true
 in_ring_by true n e l = refl
 in_ring_by false n e l = absurd (omega (arith, e, l))
-
-pub few_marked : (words : List ℕ) (c : ℕ) → marked words c ≤ 1
-few_marked words c = let few = bit_at-lt (get_or words (c / 64) 0) (c % 64) in omega (arith, few)
 
 -- a walk over the classes of a priority that are awake: `both` are those that are awake and in its ring
 pub record IsWalk (d : Shared) (lists : ℕ → List Entry) (clock : Clock) (now p : ℕ) (both : List ℕ) : Type 0 where
@@ -71,24 +67,23 @@ module _ (d : Shared) (lists : ℕ → List Entry) (clock : Clock) (now p : ℕ)
       let mine : marked w.ring c ≡ 1 = w.ring_is c l ∙ ap (λ (b : Bool). if b then 1 else 0) (eq-eqb (class_of d.tree c).priority p same) in
       w.awake.others c l (omega (arith, w.within c, e, mine, few_marked w.words c))
 
--- the class at which a walk stands, and the length and the end of its head
-pub record IsStep (d : Shared) (lists : ℕ → List Entry) (clock : Clock) (now p from i len end : ℕ) : Type 0 where
+-- the class at which a walk stands, and the length of its head
+pub record IsStep (d : Shared) (lists : ℕ → List Entry) (clock : Clock) (now p from i len : ℕ) : Type 0 where
   pub both : List ℕ
   pub walk : IsWalk d lists clock now p both
   pub first : IsFirst both from i
   pub rate : clock.rate ≡ d.rate
   pub head : head_len (lists i) ≡ Some len
-  pub end_is : end ≡ end_of clock.rate clock.link now len
 
 -- the next class of the walk is asked
-pub next_of_walk : (d : Shared) (lists : ℕ → List Entry) (clock : Clock) (now p from i len end : ℕ) (found : Option Rank)
-    → IsStep d lists clock now p from i len end → HasAsked d lists clock now p from found → IsNext d lists clock now p from i len end found
-next_of_walk d lists clock now p from i len end found s x = record {
+pub next_of_walk : (d : Shared) (lists : ℕ → List Entry) (clock : Clock) (now p from i len : ℕ) (found : Option Rank)
+    → IsStep d lists clock now p from i len → HasAsked d lists clock now p from found → IsNext d lists clock now p from i len found
+next_of_walk d lists clock now p from i len found s x = record {
   asked = x;
   low = s.first.low;
   of_priority = of_ring d lists clock now p s.both s.walk i s.first.is;
   none = λ k a b l e. asleep d lists clock now p s.both s.walk k (s.first.before k a b) l e;
-  waits = record { place = inside d lists clock now p s.both s.walk i s.first.is; rate = s.rate; head = s.head; end_is = s.end_is };
+  waits = record { place = inside d lists clock now p s.both s.walk i s.first.is; rate = s.rate; head = s.head };
 }
 
 -- a walk over the classes of the priority of a sending

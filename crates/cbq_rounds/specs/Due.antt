@@ -7,7 +7,7 @@ use Rattle.leaf_queue.specs.declared.node.Entry.{Entry}
 use Rattle.link_clock.specs.Clock.{Clock}
 use Rattle.discipline.specs.declared.pick.Pick.{Pick}
 use Rattle.discipline.specs.declared.pick.Pick.TheVariants.{Send, Wait, Empty}
-use Rattle.cbq_rounds.specs.Shared.{Shared, head_len, situation_in, start_now_in}
+use Rattle.cbq_sharing.specs.Shared.{Shared, head_len, situation_in, start_now_in}
 
 -- the first of some moments
 abbrev pub first_of : List (Option ℕ) → Option ℕ

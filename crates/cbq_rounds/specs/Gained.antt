@@ -7,7 +7,7 @@ use Rattle.discipline.specs.declared.pick.Sending.{Sending as Ticketed}
 use Rattle.cbq_model.specs.Choice.{candidates}
 use Rattle.cbq_model.specs.Rounds.{gained, rounds_needed}
 use Rattle.cbq_model.specs.Tree.{each}
-use Rattle.cbq_rounds.specs.Shared.{Shared, situation_in}
+use Rattle.cbq_sharing.specs.Shared.{Shared, situation_in}
 
 abbrev pub bare_sending : Ticketed → Sending
 bare_sending x = record { class = x.class; len = x.len; rule = x.rule; start = x.start; end = x.end }

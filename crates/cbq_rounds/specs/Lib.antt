@@ -1,12 +1,5 @@
 pub mod Due
-pub mod Fresh
 pub mod Gained
-pub mod Held
 pub mod Kept
-pub mod Lent
 pub mod Looked
-pub mod Rings
-pub mod Sent
-pub mod Shared
 pub mod Stands
-pub mod Waiting

@@ -1,25 +1,13 @@
 -- What a look at some classes has found.
-use Rattle.std.specs.Prelude.{◌≡◌, ◌≤◌, ◌<◌, ◌+◌, ℕ, true, false, List, [], ◌∷◌, length, Option, Some}
+use Rattle.std.specs.Prelude.{◌≡◌, ◌≤◌, ◌<◌, ◌+◌, ℕ, true, false, List, length, Option, Some}
 use Rattle.cbq_model.specs.declared.CbqClass.{CbqClass}
 use Rattle.cbq_model.specs.declared.Rank.{Rank}
 use Rattle.cbq_model.specs.Choice.{goes_before, may, rank_in}
 use Rattle.cbq_model.specs.Tree.{class_of}
 use Rattle.leaf_queue.specs.declared.node.Entry.{Entry}
 use Rattle.link_clock.specs.Clock.{Clock}
-use Rattle.class_sets.specs.Marked.{marked}
 use Rattle.cbq_rounds.specs.Due.{start_in}
-use Rattle.cbq_rounds.specs.Shared.{Shared, situation_in}
-use Rattle.cbq_rounds.specs.Waiting.{waits}
-
--- every waiting packet is 1 to 262,144 bytes long
-abbrev pub AreSized : List Entry → Type 0
-AreSized [] = Unit {0}
-AreSized (x ∷ xs) = (1 ≤ x.len) × (x.len ≤ 262144) × AreSized xs
-
--- the classes that are asked at a moment: a packet waits in each of them, and none of the others may send then
-pub record AreAwake (d : Shared) (lists : ℕ → List Entry) (clock : Clock) (now : ℕ) (words : List ℕ) : Type 0 where
-  pub wait : (c : ℕ) → marked words c ≡ 1 → waits (lists c) ≡ 1
-  pub others : (c : ℕ) → c < length d.tree → marked words c ≡ 0 → may d.tree d.rate (situation_in d lists clock.link) c now ≡ false
+use Rattle.cbq_sharing.specs.Shared.{Shared, situation_in}
 
 -- it is that of one of the classes from b on, b + n excluded
 pub record IsOfOne (f : ℕ → Option ℕ) (b n u : ℕ) : Type 0 where

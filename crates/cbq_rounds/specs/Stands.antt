@@ -12,11 +12,10 @@ use Rattle.cbq_model.specs.Capped.{AreSendings}
 use Rattle.cbq_model.specs.Rounds.{cbq, credits, cursors, estimates}
 use Rattle.cbq_model.specs.Tree.{numbers}
 use Rattle.class_sets.specs.Held.{HeldBack}
-use Rattle.cbq_rounds.specs.Held.{AreHeld}
-use Rattle.cbq_rounds.specs.Looked.{AreSized}
-use Rattle.cbq_rounds.specs.Rings.{AreRings}
-use Rattle.cbq_rounds.specs.Shared.{Shared}
-use Rattle.cbq_rounds.specs.Waiting.{AreWaiting}
+use Rattle.cbq_sharing.specs.Held.{AreHeld}
+use Rattle.cbq_sharing.specs.Rings.{AreRings}
+use Rattle.cbq_sharing.specs.Shared.{Shared}
+use Rattle.cbq_sharing.specs.Waiting.{AreSized, AreWaiting}
 
 -- what contracts see of it
 pub record Ruling (Q : Type 0) : Type 0 where

@@ -2,14 +2,14 @@
 ghost use Rattle.std.specs.Prelude.{◌≡◌, ◌≤◌, ◌<◌, ◌^◌, ℕ, [], length, get_or, None, Some, if◌then◌else◌};
 ghost use Rattle.class_rows.specs.Rows.{list_in};
 ghost use Rattle.cbq_model.specs.Choice.{able, best, better};
-ghost use Rattle.cbq_rounds.specs.Looked.{AreAwake, AreSized, HasAsked};
-ghost use Rattle.cbq_rounds.specs.Rings.{AreRings};
-ghost use Rattle.cbq_rounds.specs.Shared.{situation_in};
+ghost use Rattle.cbq_rounds.specs.Looked.{HasAsked};
+ghost use Rattle.cbq_sharing.specs.Held.{AreAwake};
+ghost use Rattle.cbq_sharing.specs.Rings.{AreRings};
+ghost use Rattle.cbq_sharing.specs.Shared.{situation_in};
+ghost use Rattle.cbq_sharing.specs.Waiting.{AreSized};
 
-use crate::lent::Lent;
-use crate::rings::Rings;
-use crate::sharing::Shares;
 use cbq_model::Rank;
+use cbq_sharing::{Lent, Rings, Shares};
 use class_rows::Rows;
 use class_sets::ClassSet;
 use leaf_queue::QueueRule;

@@ -7,18 +7,16 @@ ghost use Rattle.cbq_laws.specs.Ways.{IsEightDeep};
 ghost use Rattle.cbq_model.specs.Choice.{able, best};
 ghost use Rattle.cbq_model.specs.Rounds.{cbq};
 ghost use Rattle.cbq_rounds.specs.Due.{due_in, first_in};
-ghost use Rattle.cbq_rounds.specs.Fresh.{IsClass};
-ghost use Rattle.cbq_rounds.specs.Looked.{AreSized};
-ghost use Rattle.cbq_rounds.specs.Shared.{situation_in};
+ghost use Rattle.cbq_sharing.specs.Fresh.{IsClass};
+ghost use Rattle.cbq_sharing.specs.Shared.{situation_in};
+ghost use Rattle.cbq_sharing.specs.Waiting.{AreSized};
 ghost use Rattle.cbq_rounds.specs.Stands.{IsRuling, Ruling};
 
 use crate::gains::gain_awake;
-use crate::held::{hold_refused, wake};
 use crate::look::{Found, look};
-use crate::rings::Rings;
-use crate::sharing::Shares;
 use altq_model::{Rule, Verdict};
 use cbq_model::CbqClass;
+use cbq_sharing::{Rings, Shares, hold_refused, wake};
 use class_rows::Rows;
 use class_sets::{ClassSet, Held};
 use discipline::{Discipline, Pick, Sending};
@@ -205,7 +203,7 @@ impl<Q: QueueRule + Drop> Discipline for Cbq<Q> {
     fn sent(&mut self, sending: Sending, clock: &LinkClock) {
         let end = clock
             .end_of(sending.start, sending.len)
-            .max(self.shares.ended);
+            .max(self.shares.last_end());
         gain_awake(
             &mut self.shares,
             &mut self.held,

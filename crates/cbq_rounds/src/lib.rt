@@ -5,17 +5,10 @@
 #![tactic(auto)]
 
 mod able;
-mod build;
 mod cbq;
-mod fixed;
 mod gains;
-mod held;
 mod laws;
-mod lent;
 mod look;
-mod rings;
-mod sent;
-mod sharing;
 
 pub use cbq::Cbq;
 pub use cbq_model::CbqClass;

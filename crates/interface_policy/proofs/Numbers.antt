@@ -7,7 +7,7 @@ use Rattle.conf_tree.specs.declared.interface.Kind.{Kind}
 use Rattle.conf_tree.specs.declared.interface.Kind.TheVariants.{Cbq}
 use Rattle.conf_laws.specs.Fit.{HasParent, IsCbqClass, IsInterface, IsTree}
 use Rattle.cbq_model.specs.Tree.{no_class}
-use Rattle.cbq_rounds.specs.Fresh.{HasEarlierParents, IsClass}
+use Rattle.cbq_sharing.specs.Fresh.{HasEarlierParents, IsClass}
 use Rattle.interface_policy.specs.Classes.{cbq_class, cbq_classes}
 use Rattle.interface_policy.proofs.Places.{all_at, all_of, by_place}
 

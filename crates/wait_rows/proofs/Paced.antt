@@ -4,7 +4,7 @@ use Rattle.std.specs.Prelude.{All}
 use Rattle.cbq_model.specs.declared.CbqClass.{CbqClass}
 use Rattle.cbq_model.specs.Tree.{class_of}
 use Rattle.cbq_laws.specs.Ways.{IsEightDeep, IsWay}
-use Rattle.cbq_rounds.specs.Fresh.{IsClass}
+use Rattle.cbq_sharing.specs.Fresh.{IsClass}
 
 abbrev pub two : (rate size : ℕ) → List CbqClass
 two rate size =

@@ -1,10 +1,11 @@
-use Rattle.std.proofs.Common.{◌∙◌, ℕ, Bool, List, [], Some, ap, arith, get_or, refl, sym}
+use Rattle.std.proofs.Common.{◌+◌, ◌∙◌, ℕ, Bool, List, [], Some, ap, arith, get_or, sym}
 use Rattle.std.specs.declared.option.Option.{Option}
 use Rattle.std.specs.Prelude.{option_map, if◌then◌else◌}
-use Rattle.altq_model.specs.Link.{end_of}
 use Rattle.leaf_queue.specs.declared.node.Entry.{Entry}
 use Rattle.class_rows.specs.Rows.{list_in}
-use Rattle.cbq_rounds.proofs.LookLemmas.{IsNext, asked_able, asked_held, first_sized, head_of}
+use Rattle.cbq_sharing.proofs.WaitLemmas.{first_sized, head_of}
+use Rattle.cbq_model.specs.Choice.{better}
+use Rattle.cbq_rounds.proofs.LookLemmas.{IsNext, asked_able, asked_held, asked_same}
 use Rattle.cbq_rounds.proofs.RingLemmas.{IsWalk, asked_ring, inside, never_none, next_of_walk}
 use Rattle.cbq_rounds.proofs.able.able_at.Given as given
 use Rattle.cbq_rounds.proofs.able.able_at.Goals as goal
@@ -23,20 +24,16 @@ walk g c = record {
 
 -- the class at which it stands is the next to be asked
 next : (g : given.Over) (c : After-may_send g) → IsWalk c.args.shares.now (list_in c.args.rows.now) c.args.clock.now c.args.now c.args.priority c.among-some.result
-    → IsNext c.args.shares.now (list_in c.args.rows.now) c.args.clock.now c.args.now c.args.priority c.classes.from c.in-Some.class c.in-Some-head.head.len
-    (end_of c.args.clock.now.rate c.args.clock.now.link c.args.now c.in-Some-head.head.len) c.classes.best
+    → IsNext c.args.shares.now (list_in c.args.rows.now) c.args.clock.now c.args.now c.args.priority c.classes.from c.in-Some.class c.in-Some-head.head.len c.classes.best
 next g c w =
     let lists : ℕ → List Entry = list_in c.args.rows.now in
-    let len : ℕ = c.in-Some-head.head.len in
-    let end : ℕ = end_of c.args.clock.now.rate c.args.clock.now.link c.args.now len in
-    next_of_walk c.args.shares.now lists c.args.clock.now c.args.now c.args.priority c.classes.from c.in-Some.class len end c.classes.best
+    next_of_walk c.args.shares.now lists c.args.clock.now c.args.now c.args.priority c.classes.from c.in-Some.class c.in-Some-head.head.len c.classes.best
     (record {
       both = c.among-some.result;
       walk = w;
       first = c.in-Some.ensures.some;
       rate = c.requires.rate;
       head = head_of (lists c.in-Some.class) c.head.result c.head.ensures ∙ ap (λ (o : Option Entry). option_map (λ (y : Entry). y.len) o) c.in-Some-head.is;
-      end_is = refl;
     })
     c.classes.invariant.0
 
@@ -73,37 +70,37 @@ may_send-requires-clause-some_bytes g c =
 
 pub classes-preserved-then-leads : goal.classes-preserved-then-leads
 classes-preserved-then-leads g c = (
-  asked_able c.args.shares.now (list_in c.args.rows.now) c.args.clock.now c.args.now c.args.priority c.classes.from c.in-Some.class c.in-Some-head.head.len
-      (end_of c.args.clock.now.rate c.args.clock.now.link c.args.now c.in-Some-head.head.len) c.classes.best (Some c.rank-rank.result) c.rank-rank.result c.may_send.result
-      (next g (goal.at.classes-preserved-then-leads g c).After-may_send (walk g (goal.at.classes-preserved-then-leads g c).At-classes)) c.may_send.ensures.may c.if-may_send.true
-      (record { of_priority = c.rank-rank.ensures.priority; of_rounds = c.rank-rank.ensures.rounds; of_wraps = c.rank-rank.ensures.wraps; of_class = c.rank-rank.ensures.class })
-      (sym (c.leads.ensures ∙ ap (λ (b : Bool). if b then Some c.rank-rank.result else c.classes.best) c.if-leads.true)),
+  asked_same c.args.shares.now (list_in c.args.rows.now) c.args.clock.now c.args.now c.args.priority (c.in-Some.class + 1) (better c.classes.best c.rank-rank.result) (Some c.rank-rank.result)
+      (asked_able c.args.shares.now (list_in c.args.rows.now) c.args.clock.now c.args.now c.args.priority c.classes.from c.in-Some.class c.in-Some-head.head.len c.classes.best
+      c.rank-rank.result (next g (goal.at.classes-preserved-then-leads g c).After-may_send (walk g (goal.at.classes-preserved-then-leads g c).At-classes))
+      (sym c.may_send.ensures.may ∙ c.if-may_send.true)
+      (record { of_priority = c.rank-rank.ensures.priority; of_rounds = c.rank-rank.ensures.rounds; of_wraps = c.rank-rank.ensures.wraps; of_class = c.rank-rank.ensures.class }))
+      (c.leads.ensures ∙ ap (λ (b : Bool). if b then Some c.rank-rank.result else c.classes.best) c.if-leads.true),
   c.may_send.ensures.lent,
 )
 
 pub classes-preserved-else-leads : goal.classes-preserved-else-leads
 classes-preserved-else-leads g c = (
-  asked_able c.args.shares.now (list_in c.args.rows.now) c.args.clock.now c.args.now c.args.priority c.classes.from c.in-Some.class c.in-Some-head.head.len
-      (end_of c.args.clock.now.rate c.args.clock.now.link c.args.now c.in-Some-head.head.len) c.classes.best c.classes.best c.rank-rank.result c.may_send.result
-      (next g (goal.at.classes-preserved-else-leads g c).After-may_send (walk g (goal.at.classes-preserved-else-leads g c).At-classes)) c.may_send.ensures.may c.if-may_send.true
-      (record { of_priority = c.rank-rank.ensures.priority; of_rounds = c.rank-rank.ensures.rounds; of_wraps = c.rank-rank.ensures.wraps; of_class = c.rank-rank.ensures.class })
-      (sym (c.leads.ensures ∙ ap (λ (b : Bool). if b then Some c.rank-rank.result else c.classes.best) c.if-leads.false)),
+  asked_same c.args.shares.now (list_in c.args.rows.now) c.args.clock.now c.args.now c.args.priority (c.in-Some.class + 1) (better c.classes.best c.rank-rank.result) c.classes.best
+      (asked_able c.args.shares.now (list_in c.args.rows.now) c.args.clock.now c.args.now c.args.priority c.classes.from c.in-Some.class c.in-Some-head.head.len c.classes.best
+      c.rank-rank.result (next g (goal.at.classes-preserved-else-leads g c).After-may_send (walk g (goal.at.classes-preserved-else-leads g c).At-classes))
+      (sym c.may_send.ensures.may ∙ c.if-may_send.true)
+      (record { of_priority = c.rank-rank.ensures.priority; of_rounds = c.rank-rank.ensures.rounds; of_wraps = c.rank-rank.ensures.wraps; of_class = c.rank-rank.ensures.class }))
+      (c.leads.ensures ∙ ap (λ (b : Bool). if b then Some c.rank-rank.result else c.classes.best) c.if-leads.false),
   c.may_send.ensures.lent,
 )
 
 pub classes-preserved-then-is_none : goal.classes-preserved-then-is_none
 classes-preserved-then-is_none g c = (
-  asked_held c.args.shares.now (list_in c.args.rows.now) c.args.clock.now c.args.now c.args.priority c.classes.from c.in-Some.class c.in-Some-head.head.len
-      (end_of c.args.clock.now.rate c.args.clock.now.link c.args.now c.in-Some-head.head.len) c.classes.best c.may_send.result
-      (next g (goal.at.classes-preserved-then-is_none g c).After-may_send (walk g (goal.at.classes-preserved-then-is_none g c).At-classes)) c.may_send.ensures.may c.if-may_send.false,
+  asked_held c.args.shares.now (list_in c.args.rows.now) c.args.clock.now c.args.now c.args.priority c.classes.from c.in-Some.class c.in-Some-head.head.len c.classes.best
+      (next g (goal.at.classes-preserved-then-is_none g c).After-may_send (walk g (goal.at.classes-preserved-then-is_none g c).At-classes)) (sym c.may_send.ensures.may ∙ c.if-may_send.false),
   c.may_send.ensures.lent,
 )
 
 pub classes-preserved : goal.classes-preserved
 classes-preserved g c = (
-  asked_held c.args.shares.now (list_in c.args.rows.now) c.args.clock.now c.args.now c.args.priority c.classes.from c.in-Some.class c.in-Some-head.head.len
-      (end_of c.args.clock.now.rate c.args.clock.now.link c.args.now c.in-Some-head.head.len) c.classes.best c.may_send.result
-      (next g (goal.at.classes-preserved g c).After-may_send (walk g (goal.at.classes-preserved g c).At-classes)) c.may_send.ensures.may c.if-may_send.false,
+  asked_held c.args.shares.now (list_in c.args.rows.now) c.args.clock.now c.args.now c.args.priority c.classes.from c.in-Some.class c.in-Some-head.head.len c.classes.best
+      (next g (goal.at.classes-preserved g c).After-may_send (walk g (goal.at.classes-preserved g c).At-classes)) (sym c.may_send.ensures.may ∙ c.if-may_send.false),
   c.may_send.ensures.lent,
 )
 

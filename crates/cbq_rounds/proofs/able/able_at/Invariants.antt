@@ -1,7 +1,7 @@
 use Rattle.std.proofs.Common.{◌-◌}
 use Rattle.class_rows.specs.Rows.{list_in}
 use Rattle.cbq_rounds.specs.Looked.{HasAsked}
-use Rattle.cbq_rounds.specs.Lent.{IsLent}
+use Rattle.cbq_sharing.specs.Lent.{IsLent}
 use Rattle.cbq_rounds.proofs.able.able_at.Given as goal
 
 abbrev pub invariant-classes : goal.invariant-classes

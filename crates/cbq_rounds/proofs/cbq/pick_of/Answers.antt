@@ -2,7 +2,7 @@ use Rattle.std.proofs.Common.{◌∙◌, ap, arith, sym}
 use Rattle.discipline.specs.declared.pick.Pick.TheVariants.{Send}
 use Rattle.class_rows.specs.Rows.{list_in}
 use Rattle.cbq_rounds.proofs.DueLemmas.{found_head, found_is, found_sent, same_rank}
-use Rattle.cbq_rounds.proofs.LookLemmas.{first_sized}
+use Rattle.cbq_sharing.proofs.WaitLemmas.{first_sized}
 use Rattle.cbq_rounds.proofs.cbq.pick_of.Goals as goal
 
 pub returns-in_default-best : goal.returns-in_default-best

@@ -1,12 +1,11 @@
 use Rattle.std.proofs.Common.{◌<◌, ◌∙◌, ℕ, List, ap, arith, length, refl, sym}
 use Rattle.std.specs.declared.option.Option.{Option}
 use Rattle.std.specs.Prelude.{option_map}
-use Rattle.altq_model.specs.Link.{end_of}
 use Rattle.leaf_queue.specs.declared.node.Entry.{Entry}
 use Rattle.class_rows.specs.Rows.{list_in}
-use Rattle.cbq_rounds.specs.Shared.{Shared}
+use Rattle.cbq_sharing.specs.Shared.{Shared}
 use Rattle.cbq_rounds.proofs.GainLemmas.{IsDueNow, IsLookedAt, due_now, few_now, gained_on, gain_kept, held_gains_nothing, lent_by, lent_now, no_gains}
-use Rattle.cbq_rounds.proofs.LookLemmas.{first_sized, head_of}
+use Rattle.cbq_sharing.proofs.WaitLemmas.{first_sized, head_of}
 use Rattle.cbq_rounds.proofs.RingLemmas.{IsGainWalk, alike_in, gain_walk, gained_all, gained_to, never_none, place_in}
 use Rattle.cbq_rounds.proofs.gains.gain_all.Given as given
 use Rattle.cbq_rounds.proofs.gains.gain_all.Goals as goal
@@ -25,8 +24,7 @@ place g c w = place_in c.args.shares.now (list_in c.args.rows.now) c.args.clock.
 
 -- and is asked
 asked : (g : given.Over) (c : After-may_send g) → IsGainWalk c.args.shares.now (list_in c.args.rows.now) c.args.clock.now c.args.sending.now c.among-some.result
-    → IsLookedAt c.args.shares.now (list_in c.args.rows.now) c.args.clock.now c.args.sending.now c.in-Some.class c.in-Some-head.head.len
-    (end_of c.args.clock.now.rate c.args.clock.now.link c.args.sending.now.start c.in-Some-head.head.len) c.classes.shares
+    → IsLookedAt c.args.shares.now (list_in c.args.rows.now) c.args.clock.now c.args.sending.now c.in-Some.class c.in-Some-head.head.len c.classes.shares
 asked g c w =
     let lists : ℕ → List Entry = list_in c.args.rows.now in
     record {
@@ -37,18 +35,15 @@ asked g c w =
       due = c.requires.due;
       place = place_in c.args.shares.now (list_in c.args.rows.now) c.args.clock.now c.args.sending.now c.among-some.result w c.in-Some.class c.in-Some.ensures.some.is;
       head = head_of (lists c.in-Some.class) c.head.result c.head.ensures ∙ ap (λ (o : Option Entry). option_map (λ (y : Entry). y.len) o) c.in-Some-head.is;
-      end_is = refl;
     }
 
 -- it may be sent
 able : (g : given.Over) (c : Then-may_send g) → IsGainWalk c.args.shares.now (list_in c.args.rows.now) c.args.clock.now c.args.sending.now c.among-some.result
-    → IsLookedAt c.args.shares.now (list_in c.args.rows.now) c.args.clock.now c.args.sending.now c.in-Some.class c.in-Some-head.head.len
-    (end_of c.args.clock.now.rate c.args.clock.now.link c.args.sending.now.start c.in-Some-head.head.len) c.classes.shares
+    → IsLookedAt c.args.shares.now (list_in c.args.rows.now) c.args.clock.now c.args.sending.now c.in-Some.class c.in-Some-head.head.len c.classes.shares
     → IsDueNow c.args.shares.now (list_in c.args.rows.now) c.args.clock.now c.args.sending.now c.in-Some.class c.in-Some-head.head.len
 able g c w q =
-    due_now c.args.shares.now (list_in c.args.rows.now) c.args.clock.now c.args.sending.now c.in-Some.class c.in-Some-head.head.len
-    (end_of c.args.clock.now.rate c.args.clock.now.link c.args.sending.now.start c.in-Some-head.head.len) c.classes.shares c.may_send.result q c.may_send.ensures.may
-    c.if-may_send.true (alike_in c.args.shares.now (list_in c.args.rows.now) c.args.clock.now c.args.sending.now c.among-some.result w c.in-Some.class c.in-Some.ensures.some.is)
+    due_now c.args.shares.now (list_in c.args.rows.now) c.args.clock.now c.args.sending.now c.in-Some.class c.in-Some-head.head.len c.classes.shares q
+    (sym c.may_send.ensures.may ∙ c.if-may_send.true) (alike_in c.args.shares.now (list_in c.args.rows.now) c.args.clock.now c.args.sending.now c.among-some.result w c.in-Some.class c.in-Some.ensures.some.is)
 
 pub head-requires-clause-high : goal.head-requires-clause-high
 head-requires-clause-high g c =
@@ -105,9 +100,8 @@ classes-preserved-else-may_send g c =
     let w = walk g (goal.at.classes-preserved-else-may_send g c).At-classes in
     let q = asked g (goal.at.classes-preserved-else-may_send g c).After-may_send w in (
       gain_kept c.args.shares.now (list_in c.args.rows.now) c.args.clock.now c.args.sending.now c.in-Some.class c.classes.shares q.gone
-          (held_gains_nothing c.args.shares.now (list_in c.args.rows.now) c.args.clock.now c.args.sending.now c.in-Some.class c.in-Some-head.head.len
-          (end_of c.args.clock.now.rate c.args.clock.now.link c.args.sending.now.start c.in-Some-head.head.len) c.classes.shares c.may_send.result q c.may_send.ensures.may
-          c.if-may_send.false),
+          (held_gains_nothing c.args.shares.now (list_in c.args.rows.now) c.args.clock.now c.args.sending.now c.in-Some.class c.in-Some-head.head.len c.classes.shares q
+          (sym c.may_send.ensures.may ∙ c.if-may_send.false)),
       lent_by c.args.shares.now (list_in c.args.rows.now) c.args.clock.now c.args.sending.now c.in-Some.class c.classes.shares c.may_send.new.last q.gone c.may_send.ensures.lent,
     )
 

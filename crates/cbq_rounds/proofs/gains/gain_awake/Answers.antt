@@ -1,7 +1,7 @@
 use Rattle.std.proofs.Common.{ℕ, List}
 use Rattle.leaf_queue.specs.declared.node.Entry.{Entry}
 use Rattle.class_rows.specs.Rows.{list_in}
-use Rattle.cbq_rounds.proofs.HeldLemmas.{are_awake, held_fewer}
+use Rattle.cbq_sharing.proofs.HeldLemmas.{are_awake, held_fewer}
 use Rattle.cbq_rounds.proofs.gains.gain_awake.Goals as goal
 
 pub gain_all-requires-clause-awake : goal.gain_all-requires-clause-awake

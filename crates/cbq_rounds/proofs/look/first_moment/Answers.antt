@@ -3,10 +3,9 @@ use Rattle.std.specs.declared.option.Option.{Option}
 use Rattle.std.specs.Prelude.{option_map}
 use Rattle.leaf_queue.specs.declared.node.Entry.{Entry}
 use Rattle.class_rows.specs.Rows.{list_in}
-use Rattle.cbq_rounds.specs.Shared.{Shared}
+use Rattle.cbq_sharing.specs.Shared.{Shared}
 use Rattle.cbq_rounds.proofs.FirstLemmas.{IsAfter, first_done, first_next}
-use Rattle.cbq_rounds.proofs.LookLemmas.{head_of}
-use Rattle.cbq_rounds.proofs.WaitLemmas.{marked_inside, not_marked}
+use Rattle.cbq_sharing.proofs.WaitLemmas.{head_of, marked_inside, not_marked}
 use Rattle.cbq_rounds.proofs.look.first_moment.Goals as goal
 
 pub classes-preserved : goal.classes-preserved

@@ -3,7 +3,7 @@ use Rattle.std.specs.Prelude.{All}
 use Rattle.conf_tree.specs.declared.class.Class.{Class}
 use Rattle.cbq_model.specs.declared.CbqClass.{CbqClass}
 use Rattle.cbq_laws.specs.Ways.{IsEightDeep}
-use Rattle.cbq_rounds.specs.Fresh.{IsClass}
+use Rattle.cbq_sharing.specs.Fresh.{IsClass}
 use Rattle.interface_policy.specs.Classes.{cbq_classes}
 use Rattle.interface_policy.proofs.EightDeep.{eight_deep}
 use Rattle.interface_policy.proofs.Numbers.{are_cbq_classes, limits_allowed}

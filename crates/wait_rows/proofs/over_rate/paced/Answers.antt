@@ -1,7 +1,7 @@
 use Rattle.std.proofs.Common.{sym, subst}
 use Rattle.std.specs.Prelude.{All}
 use Rattle.cbq_laws.specs.Ways.{IsEightDeep}
-use Rattle.cbq_rounds.specs.Fresh.{IsClass}
+use Rattle.cbq_sharing.specs.Fresh.{IsClass}
 use Rattle.wait_rows.proofs.Paced.{tree, classes}
 use Rattle.wait_rows.proofs.over_rate.paced.Goals as goal
 

@@ -9,7 +9,7 @@ use Rattle.class_rows.specs.Rows.{list_in}
 use Rattle.cbq_rounds.specs.Due.{due_in}
 use Rattle.cbq_rounds.specs.Stands.{Ruling, cbq_of}
 use Rattle.cbq_rounds.proofs.DueLemmas.{due_empty, due_names, due_waits}
-use Rattle.cbq_rounds.proofs.HeldLemmas.{are_awake, held_fewer}
+use Rattle.cbq_sharing.proofs.HeldLemmas.{are_awake, held_fewer}
 use Rattle.cbq_rounds.proofs.PolicyLemmas.{due_policy}
 use Rattle.cbq_rounds.proofs.cbq.CbqDiscipline.next.Given as given
 use Rattle.cbq_rounds.proofs.cbq.CbqDiscipline.next.Goals as goal
@@ -57,8 +57,8 @@ returns-clause-policy g c = λ h s o.
     let d : Ruling g.row.Q.Denot = c.args.self.now in
     let P : Pick → Type 0 = λ p. IsDue (cbq_of g.Q.QueueRule.says d) (bare h) c.args.now p in
     subst P (sym (picked g (goal.at.returns-clause-policy g c).After-pick_of))
-    (due_policy g.Q.QueueRule.stands g.Q.QueueRule.says d h s c.args.clock.now c.requires.rate (sym o.link ∙ ap (λ (r : ℕ). link r (bare h)) c.requires.rate)
-    c.args.now c.requires.free)
+    (due_policy g.Q.QueueRule.stands g.Q.QueueRule.says (record { ruling = d; history = h; stood = s }) c.args.clock.now
+    (record { same_rate = c.requires.rate; same_link = sym o.link ∙ ap (λ (r : ℕ). link r (bare h)) c.requires.rate }) c.args.now c.requires.free)
 
 pub invariant_of-self : goal.invariant_of-self
 invariant_of-self g c = record {

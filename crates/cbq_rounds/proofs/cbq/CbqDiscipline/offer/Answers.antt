@@ -5,11 +5,11 @@ use Rattle.class_rows.specs.Rows.{list_in}
 use Rattle.discipline.specs.Laws.{IsAnswer, arrival_with, entry, offer_of}
 use Rattle.discipline.specs.Moments.{IsOffer}
 use Rattle.cbq_model.proofs.Places.{is_below}
-use Rattle.cbq_rounds.specs.Looked.{AreSized}
+use Rattle.cbq_sharing.specs.Waiting.{AreSized}
 use Rattle.cbq_rounds.specs.Stands.{Ruling, Stands, cbq_of}
-use Rattle.cbq_rounds.proofs.HeldLemmas.{offer_held}
+use Rattle.cbq_sharing.proofs.HeldLemmas.{offer_held}
 use Rattle.cbq_rounds.proofs.StandsLemmas.{offer_others, offer_sized, offer_stands, same_in}
-use Rattle.cbq_rounds.proofs.WaitLemmas.{offer_waiting}
+use Rattle.cbq_sharing.proofs.WaitLemmas.{offer_waiting}
 use Rattle.cbq_rounds.proofs.cbq.CbqDiscipline.offer.Goals as goal
 
 pub invariant_of-self : goal.invariant_of-self

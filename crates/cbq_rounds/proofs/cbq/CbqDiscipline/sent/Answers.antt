@@ -8,14 +8,12 @@ use Rattle.class_rows.specs.Rows.{list_in}
 use Rattle.discipline.specs.Laws.{sent_of}
 use Rattle.discipline.specs.Moments.{IsChoice}
 use Rattle.cbq_rounds.specs.Due.{due_in}
-use Rattle.cbq_rounds.specs.declared.cbq.Cbq.TheInside.{Inside}
 use Rattle.cbq_estimator.specs.Estimate.{Estimate}
-use Rattle.cbq_rounds.specs.Shared.{IsTree, Shared, no_estimate}
-use Rattle.cbq_rounds.proofs.LookLemmas.{first_sized}
+use Rattle.cbq_sharing.specs.Shared.{Shared, no_estimate}
 use Rattle.cbq_rounds.specs.Stands.{Ruling, Stands}
 use Rattle.cbq_rounds.proofs.DueLemmas.{SendsPicked, sends_picked}
-use Rattle.cbq_rounds.proofs.StandsLemmas.{after_steps, kept_end, none_of, ruling_after, sent_stands}
-use Rattle.cbq_rounds.proofs.WaitLemmas.{sent_waiting}
+use Rattle.cbq_rounds.proofs.StandsLemmas.{IsDueSending, after_steps, kept_end, none_of, ruling_after, sent_stands}
+use Rattle.cbq_sharing.proofs.WaitLemmas.{first_sized, sent_waiting}
 use Rattle.cbq_rounds.proofs.cbq.CbqDiscipline.sent.Given as given
 use Rattle.cbq_rounds.proofs.cbq.CbqDiscipline.sent.Goals as goal
 use Rattle.cbq_rounds.proofs.cbq.CbqDiscipline.sent.Goals.{After-gain_awake}
@@ -68,9 +66,9 @@ pub invariant_of-self : goal.invariant_of-self
 invariant_of-self g c =
     let d : Ruling g.row.Q.Denot = record { shares = c.self.inside.shares; rows = c.self.inside.rows } in
     let sends = picked g (goal.at.invariant_of-self g c).After-gain_awake in
-    let steps = after_steps g.Q.QueueRule.stands g.Q.QueueRule.says d c.args.clock.now c.args.sending c.max-end.result c.is_none-emptied.result c.gain_awake.new.shares c.pay.new.self
+    let steps = after_steps d.shares (list_in d.rows) c.args.clock.now c.args.sending c.is_none-emptied.result c.max-end.result c.gain_awake.new.shares c.pay.new.self
     c.set_last.new.self c.tell.new.self sends.place c.gain_awake.ensures.gains c.pay.ensures c.set_last.ensures c.tell.ensures.told in
-    ruling_after g.Q.QueueRule.stands g.Q.QueueRule.says d c.take.new.self c.args.sending c.tell.new.self
+    ruling_after g.Q.QueueRule.says d c.take.new.self c.args.sending c.tell.new.self
     (record { waiting = c.self.inside.waiting; held = c.self.inside.held; sets = c.self.inside.rings.sets.items; tops = c.self.inside.rings.tops.items })
     c.take-2.new.self c.tell.new.held c.self.invariant
     (record {
@@ -100,19 +98,27 @@ returns-clause-history g c =
     let due = ap (λ (v : Ruling g.row.Q.Denot). due_in v.shares (list_in v.rows) c.args.clock.now c.args.sending.start) c.self.view_is ∙ c.requires.due in
     let sends = sends_picked d.shares (list_in d.rows) c.args.clock.now c.args.sending.start c.args.sending.class c.args.sending.len c.args.sending.ticket c.args.sending.rule
     c.requires.free rate due in
-    let T : Inside g.row.Q.Denot → Type 0 = λ v. IsTree v.shares.tree in
-    let tree : IsTree d.shares.tree = subst T c.self-inside.view_is c.self-inside.invariant.tree in
-    let last = ap (λ (v : Inside g.row.Q.Denot). v.shares.ended) c.self-inside.view_is in
-    let steps = after_steps g.Q.QueueRule.stands g.Q.QueueRule.says d c.args.clock.now c.args.sending c.max-end.result c.is_none-emptied.result c.gain_awake.new.shares c.pay.new.self
+    let steps = after_steps d.shares (list_in d.rows) c.args.clock.now c.args.sending c.is_none-emptied.result c.max-end.result c.gain_awake.new.shares c.pay.new.self
     c.set_last.new.self c.tell.new.self sends.place c.gain_awake.ensures.gains c.pay.ensures c.set_last.ensures c.tell.ensures.told in
     let P : Ruling g.row.Q.Denot → Type 0 = λ v. (h : List Happened) → Stands g.Q.QueueRule.stands g.Q.QueueRule.says v h
     → IsChoice c.args.sending.start c.args.clock.now (bare h)
     → Stands g.Q.QueueRule.stands g.Q.QueueRule.says (record { shares = c.tell.new.self; rows = c.take.new.self }) (sent_of c.args.sending ∷ h) in
     subst P c.self.view_is (λ h s o.
-    sent_stands g.Q.QueueRule.stands g.Q.QueueRule.says d h s tree c.args.clock.now c.args.sending o c.requires.free rate c.requires.end due
-    g.Q.QueueRule.most c.take.new.self c.tell.new.self c.max-end.result c.is_none-emptied.result c.take.ensures.same
+    let w : IsDueSending g.Q.QueueRule.stands g.Q.QueueRule.says = record {
+      from = record { ruling = d; history = h; stood = s };
+      clock = c.args.clock.now;
+      sending = c.args.sending;
+      tree = c.last_end.ensures.tree;
+      choice = o;
+      free = c.requires.free;
+      same_rate = rate;
+      ends = c.requires.end;
+      due = due;
+    } in
+    sent_stands g.Q.QueueRule.stands g.Q.QueueRule.says w g.Q.QueueRule.most c.take.new.self c.tell.new.self c.max-end.result c.is_none-emptied.result c.take.ensures.same
     (c.take.ensures.told h s.told _ _ refl refl)
     (none_of c.head.result c.is_none-emptied.result c.is_none-emptied.ensures ∙ ap (λ (e : Option Entry). is_none e) c.head.ensures)
-    (c.max-end.ensures ∙ ap (λ (n : ℕ). max n c.self-inside.inside.0.0.ended) c.end_of.ensures.end ∙ ap (λ (n : ℕ). max (end_of c.args.clock.now.rate c.args.clock.now.link c.args.sending.start c.args.sending.len) n) last
-    ∙ kept_end g.Q.QueueRule.stands g.Q.QueueRule.says d h s tree c.args.clock.now c.args.sending o c.requires.free rate c.requires.end due)
+    (c.max-end.ensures ∙ ap (λ (n : ℕ). max n c.last_end.result) c.end_of.ensures.end
+    ∙ ap (λ (n : ℕ). max (end_of c.args.clock.now.rate c.args.clock.now.link c.args.sending.start c.args.sending.len) n) c.last_end.ensures.end
+    ∙ kept_end g.Q.QueueRule.stands g.Q.QueueRule.says w)
     steps)

@@ -1,4 +1,0 @@
-use Rattle.cbq_rounds.proofs.fixed.+has_root.Given as goal
-
-abbrev pub decreases-has_root : goal.decreases-has_root
-decreases-has_root l = l.levels

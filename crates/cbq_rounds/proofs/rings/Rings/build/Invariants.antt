@@ -1,5 +1,0 @@
-use Rattle.cbq_rounds.proofs.RingBuild.{IsBuilt}
-use Rattle.cbq_rounds.proofs.rings.Rings.build.Given as goal
-
-abbrev pub invariant-loop-priority : goal.invariant-loop-priority
-invariant-loop-priority l = IsBuilt l.classes l.priority l.sets.items l.tops.items l.top

@@ -1,4 +1,0 @@
-use Rattle.cbq_rounds.proofs.sharing.Shares.+least_start.Given as goal
-
-abbrev pub decreases-least_start : goal.decreases-least_start
-decreases-least_start l = l.levels

@@ -1,4 +1,0 @@
-use Rattle.cbq_rounds.proofs.sharing.Shares.+lends.Given as goal
-
-abbrev pub decreases-lends : goal.decreases-lends
-decreases-lends l = l.levels

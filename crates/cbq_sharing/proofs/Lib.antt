@@ -1,0 +1,9 @@
+pub mod BuildLemmas
+pub mod HeldLemmas
+pub mod LentLemmas
+pub mod Moments
+pub mod Places
+pub mod RingBuild
+pub mod RootLemmas
+pub mod SentLemmas
+pub mod WaitLemmas
