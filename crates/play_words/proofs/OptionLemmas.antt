@@ -1,9 +1,10 @@
 -- The options as they are built, and what is read of them.
-use Rattle.std.proofs.Common.{◌≡◌, ◌∙◌, ◌⊎◌, ◌&&◌, List, [], ◌∷◌, Option, Some, None, Bool, true, false, Result, Ok, Err, IfErr, IfOk, IsErrAnd, ◌≢◌, refl, sym, ap, ap₂, inl, inr, cond, arith, subst, ℕ}
+use Rattle.std.proofs.Common.{◌≡◌, ◌∙◌, ◌⊎◌, ◌&&◌, ◌++◌, ◌+◌, ◌<◌, List, [], ◌∷◌, length, take, get_or, Option, Some, None, Bool, true, false, Result, Ok, Err, IfErr, IfOk, IsErrAnd, ◌≢◌, refl, sym, ap, ap₂, inl, inr, cond, arith, subst, ℕ}
 use Rattle.std.proofs.lemmas.Bool.{ne_eqb}
+use Rattle.std.proofs.lemmas.List.{map-append, take_more}
 use Rattle.clap.specs.Simple.{is_simple}
 use Rattle.clap.specs.Faults.{is_free_app}
-use Rattle.std.specs.Prelude.{codes, is_none, option_map, unwrap_or}
+use Rattle.std.specs.Prelude.{codes, map, is_none, option_map, unwrap_or}
 use Rattle.std.specs.Borrow.{Bor}
 use Rattle.clap.specs.Kinds.{FailsBy, IsAmong, Kinds}
 use Rattle.clap.specs.Walk.{is_empty}
@@ -19,7 +20,9 @@ use Rattle.play_words.specs.declared.words.Unread.{Unread}
 use Rattle.play_words.specs.declared.words.Unread.TheVariants.{Refused, NoMemory}
 use Rattle.play_words.specs.declared.words.WordsFault.TheVariants.{Options}
 use Rattle.play_words.specs.Causes.{Explains, cause_of, is_memory}
-use Rattle.play_words.specs.Options.{chain_app, check_app, make_app, play_app, takes_options, required_option, verify_app, with_options, options_of, value_of, condition_app}
+use Rattle.play_words.specs.declared.options.OptionsOf.{OptionsOf}
+use Rattle.play_words.specs.declared.options.OptionsOf.TheVariants.{Play, Check, Make, Verify, Chain, Condition}
+use Rattle.play_words.specs.Options.{app_by, chain_app, check_app, make_app, play_app, takes_options, required_option, verify_app, with_options, options_of, value_of, condition_app}
 use Rattle.line_text.specs.Numbers.{number}
 use Rattle.play_words.specs.Words.{IsMake, IsPlay, Named, Words, count_in, count_of, make_refusal, options_by, play_refusal, rows_read, rows_refusal}
 
@@ -27,6 +30,19 @@ use Rattle.play_words.specs.Words.{IsMake, IsPlay, Named, Words, count_in, count
 pub added : (old new : Command) (a : Arg) (app : App) (name : Text) → AddsArg old a new → a.global ≡ false → app_of old ≡ app
     → rule_of a ≡ required_option name → app_of new ≡ with_rule app (required_option name)
 added old new a app name adds local is rule = adds.shape local ∙ ap₂ with_rule is rule
+
+-- one more option at the end
+with_last : (app : App) (names : List Text) (name : Text) → with_options app (names ++ name ∷ []) ≡ with_rule (with_options app names) (required_option name)
+with_last app [] name = refl
+with_last app (x ∷ xs) name = with_last (with_rule app (required_option x)) xs name
+
+pub one_more : (app : App) (options : List (Bor Text)) (i : ℕ) (d : Bor Text) → i < length options
+    → with_options app (map (λ option. option.now) (take (i + 1) options))
+    ≡ with_rule (with_options app (map (λ option. option.now) (take i options))) (required_option (get_or options i d).now)
+one_more app options i d inside =
+    ap (λ (os : List (Bor Text)). with_options app (map (λ option. option.now) os)) (take_more options i d inside)
+    ∙ ap (with_options app) (map-append (λ option. option.now) (take i options) (get_or options i d ∷ []))
+    ∙ with_last app (map (λ option. option.now) (take i options)) (get_or options i d).now
 
 pub check_built : with_options (new_app (codes "check")) (codes "config" ∷ codes "interface" ∷ []) ≡ check_app
 unfolding check_app
@@ -160,3 +176,12 @@ pub count_read : (words : Words) (rows : List Row) (text : Text) (o : Option ℕ
 count_read words rows text o make is at read =
     let P : List Row → Type 0 = λ r. text ≡ value_of (codes "count") r in
     read ∙ ap (λ (t : Text). count_in (number 10 t)) (subst P (make_rows words rows make is) at)
+
+-- each command's options are simple
+pub simple_by : (options : OptionsOf) → is_simple_and_free (app_by options) ≡ true
+simple_by Play = play_is_simple
+simple_by Check = check_is_simple
+simple_by Make = make_is_simple
+simple_by Verify = verify_is_simple
+simple_by Chain = chain_is_simple
+simple_by Condition = condition_is_simple

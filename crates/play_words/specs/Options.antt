@@ -5,6 +5,8 @@ use Rattle.std.specs.declared.alloc.Global.{Global}
 use Rattle.clap.specs.Walk.{is_empty}
 use Rattle.clap.specs.Words.{App, Row, Rule, Text, fault_of, first_of, matches_of, new_app, new_rule, with_rule}
 use Rattle.clap.specs.declared.builder.action.ArgAction.TheVariants.{Set}
+use Rattle.play_words.specs.declared.options.OptionsOf.{OptionsOf}
+use Rattle.play_words.specs.declared.options.OptionsOf.TheVariants.{Play, Check, Make, Verify, Chain, Condition}
 
 abbrev pub Words : Type 0
 Words = List (String Global)
@@ -40,6 +42,15 @@ chain_app = with_options (new_app (codes "chain"))
 
 unfoldable pub condition_app : App
 condition_app = with_options (new_app (codes "condition")) (codes "config" ∷ codes "interface" ∷ codes "arrivals" ∷ codes "marked" ∷ [])
+
+-- the command of clap that reads these options
+abbrev pub app_by : OptionsOf → App
+app_by Play = play_app
+app_by Check = check_app
+app_by Make = make_app
+app_by Verify = verify_app
+app_by Chain = chain_app
+app_by Condition = condition_app
 
 -- the words as texts; clap takes the first as the program's name, and reads those behind it
 abbrev pub texts_of : Words → List Text

@@ -1,10 +1,10 @@
 // The options of each command, read by clap.
-ghost use Rattle.std.specs.Prelude.{◌≡◌, ◌≢◌, ◌⊎◌, IfOk, IfErr, IfSome, None, OnOk, Some, false, true};
+ghost use Rattle.std.specs.Prelude.{◌≡◌, ◌≢◌, ◌⊎◌, map, IfOk, IfErr, IfSome, None, OnOk, Some, false, true};
 ghost use Rattle.clap.specs.Values.{kind_of};
-ghost use Rattle.clap.specs.Words.{app_of, found_of, is_simple_and_free, rows_of, rule_of};
+ghost use Rattle.clap.specs.Words.{app_of, found_of, is_simple_and_free, new_app, rows_of, rule_of};
 ghost use Rattle.clap.specs.declared.error.kind.ErrorKind.TheVariants.{OutOfMemory};
 ghost use Rattle.play_words.specs.Causes.{Explains};
-ghost use Rattle.play_words.specs.Options.{chain_app, check_app, make_app, options_of, options_refusal, play_app, required_option, takes_options, value_of, verify_app, condition_app};
+ghost use Rattle.play_words.specs.Options.{app_by, options_of, options_refusal, required_option, takes_options, value_of, with_options};
 ghost use Rattle.play_words.specs.Words.{IsChain, IsCheck, IsMake, IsPlay, IsShares, IsVerify, refusal, rows_read, IsCondition};
 
 use crate::Unread;
@@ -23,84 +23,90 @@ fn required<'a>(alloc: Global, name: &'a str) -> Arg<'a>
         .action(ArgAction::Set)
 }
 
-// The options of `play`.
-fn play_options<'a>(alloc: Global) -> Result<Command<'a>, AllocError>
-    ensures { IfOk result (λ command. app_of command ≡ play_app) }
+// A command of this name, with these options.
+fn command<'a>(alloc: Global, name: &'a str, options: &[&'a str]) -> Result<Command<'a>, AllocError>
+    ensures { IfOk result (λ command. app_of command ≡ with_options (new_app name.entry.now) (map (λ option. option.now) options.entry.now)) }
 {
-    Command::new(alloc, "play")
-        .arg(required(alloc, "config"))?
-        .arg(required(alloc, "interface"))?
-        .arg(required(alloc, "arrivals"))?
-        .arg(required(alloc, "departures"))?
-        .arg(required(alloc, "fates"))?
-        .arg(required(alloc, "stats"))?
-        .arg(required(alloc, "seed"))
+    let mut command = Command::new(alloc, name);
+    for option in options {
+        command = command.arg(required(alloc, option))?;
+    }
+    Ok(command)
 }
 
-// The options of `make`.
-fn make_options<'a>(alloc: Global) -> Result<Command<'a>, AllocError>
-    ensures { IfOk result (λ command. app_of command ≡ make_app) }
-{
-    Command::new(alloc, "make")
-        .arg(required(alloc, "count"))?
-        .arg(required(alloc, "config"))?
-        .arg(required(alloc, "interface"))?
-        .arg(required(alloc, "arrivals"))?
-        .arg(required(alloc, "departures"))?
-        .arg(required(alloc, "fates"))?
-        .arg(required(alloc, "stats"))?
-        .arg(required(alloc, "seed"))
+/// Whose options are read.
+#[derive(Clone, Copy)]
+pub(crate) enum OptionsOf {
+    Play,
+    Check,
+    Make,
+    Verify,
+    Chain,
+    Condition,
 }
 
-// The options of `check`.
-fn check_options<'a>(alloc: Global) -> Result<Command<'a>, AllocError>
-    ensures { IfOk result (λ command. app_of command ≡ check_app) }
+// The command of clap that reads them.
+fn command_of<'a>(alloc: Global, options: OptionsOf) -> Result<Command<'a>, AllocError>
+    ensures { IfOk result (λ command. app_of command ≡ app_by options) }
 {
-    Command::new(alloc, "check")
-        .arg(required(alloc, "config"))?
-        .arg(required(alloc, "interface"))
-}
-
-// The options of `verify`.
-fn verify_options<'a>(alloc: Global) -> Result<Command<'a>, AllocError>
-    ensures { IfOk result (λ command. app_of command ≡ verify_app) }
-{
-    Command::new(alloc, "verify")
-        .arg(required(alloc, "config"))?
-        .arg(required(alloc, "interface"))?
-        .arg(required(alloc, "arrivals"))?
-        .arg(required(alloc, "departures"))?
-        .arg(required(alloc, "fates"))
-}
-
-// The options of `chain`: those of `play`, and those of the second link.
-fn chain_options<'a>(alloc: Global) -> Result<Command<'a>, AllocError>
-    ensures { IfOk result (λ command. app_of command ≡ chain_app) }
-{
-    Command::new(alloc, "chain")
-        .arg(required(alloc, "config"))?
-        .arg(required(alloc, "interface"))?
-        .arg(required(alloc, "arrivals"))?
-        .arg(required(alloc, "departures"))?
-        .arg(required(alloc, "fates"))?
-        .arg(required(alloc, "stats"))?
-        .arg(required(alloc, "seed"))?
-        .arg(required(alloc, "next"))?
-        .arg(required(alloc, "departures2"))?
-        .arg(required(alloc, "fates2"))?
-        .arg(required(alloc, "stats2"))?
-        .arg(required(alloc, "path"))
-}
-
-// The options of `condition`.
-fn condition_options<'a>(alloc: Global) -> Result<Command<'a>, AllocError>
-    ensures { IfOk result (λ command. app_of command ≡ condition_app) }
-{
-    Command::new(alloc, "condition")
-        .arg(required(alloc, "config"))?
-        .arg(required(alloc, "interface"))?
-        .arg(required(alloc, "arrivals"))?
-        .arg(required(alloc, "marked"))
+    match options {
+        OptionsOf::Play => command(
+            alloc,
+            "play",
+            &[
+                "config",
+                "interface",
+                "arrivals",
+                "departures",
+                "fates",
+                "stats",
+                "seed",
+            ],
+        ),
+        OptionsOf::Check => command(alloc, "check", &["config", "interface"]),
+        OptionsOf::Make => command(
+            alloc,
+            "make",
+            &[
+                "count",
+                "config",
+                "interface",
+                "arrivals",
+                "departures",
+                "fates",
+                "stats",
+                "seed",
+            ],
+        ),
+        OptionsOf::Verify => command(
+            alloc,
+            "verify",
+            &["config", "interface", "arrivals", "departures", "fates"],
+        ),
+        OptionsOf::Chain => command(
+            alloc,
+            "chain",
+            &[
+                "config",
+                "interface",
+                "arrivals",
+                "departures",
+                "fates",
+                "stats",
+                "seed",
+                "next",
+                "departures2",
+                "fates2",
+                "stats2",
+                "path",
+            ],
+        ),
+        OptionsOf::Condition => command(
+            alloc,
+            "condition",
+            &["config", "interface", "arrivals", "marked"],
+        ),
+    }
 }
 
 // What clap reads of the words by this command.
@@ -122,121 +128,29 @@ fn told<'a>(command: Command<'a>, words: &'a [String]) -> Result<ArgMatches<'a>,
     command.try_get_matches_from(words)
 }
 
-/// What clap reads of the options of `play`, with its own error.
-pub(crate) fn play_told<'a>(alloc: Global, words: &'a [String]) -> Result<ArgMatches<'a>, Error>
-    ensures read { IfOk result (λ m. rows_of (found_of m) ≡ options_of play_app words.now) }
-    ensures refused { IfErr result (λ e. kind_of e ≢ OutOfMemory → takes_options play_app words.now ≡ false) }
-{
-    told(play_options(alloc)?, words)
-}
-
-/// What clap reads of the options of `make`, with its own error.
-pub(crate) fn make_told<'a>(alloc: Global, words: &'a [String]) -> Result<ArgMatches<'a>, Error>
-    ensures read { IfOk result (λ m. rows_of (found_of m) ≡ options_of make_app words.now) }
-    ensures refused { IfErr result (λ e. kind_of e ≢ OutOfMemory → takes_options make_app words.now ≡ false) }
-{
-    told(make_options(alloc)?, words)
-}
-
-/// What clap reads of the options of `check`, with its own error.
-pub(crate) fn check_told<'a>(alloc: Global, words: &'a [String]) -> Result<ArgMatches<'a>, Error>
-    ensures read { IfOk result (λ m. rows_of (found_of m) ≡ options_of check_app words.now) }
-    ensures refused { IfErr result (λ e. kind_of e ≢ OutOfMemory → takes_options check_app words.now ≡ false) }
-{
-    told(check_options(alloc)?, words)
-}
-
-/// What clap reads of the options of `verify`, with its own error.
-pub(crate) fn verify_told<'a>(alloc: Global, words: &'a [String]) -> Result<ArgMatches<'a>, Error>
-    ensures read { IfOk result (λ m. rows_of (found_of m) ≡ options_of verify_app words.now) }
-    ensures refused { IfErr result (λ e. kind_of e ≢ OutOfMemory → takes_options verify_app words.now ≡ false) }
-{
-    told(verify_options(alloc)?, words)
-}
-
-/// What clap reads of the options of `chain`, with its own error.
-pub(crate) fn chain_told<'a>(alloc: Global, words: &'a [String]) -> Result<ArgMatches<'a>, Error>
-    ensures read { IfOk result (λ m. rows_of (found_of m) ≡ options_of chain_app words.now) }
-    ensures refused { IfErr result (λ e. kind_of e ≢ OutOfMemory → takes_options chain_app words.now ≡ false) }
-{
-    told(chain_options(alloc)?, words)
-}
-
-/// What clap reads of the options of `condition`, with its own error.
-pub(crate) fn condition_told<'a>(
+/// What clap reads of the words by these options, with its own error.
+pub(crate) fn options_told<'a>(
     alloc: Global,
+    options: OptionsOf,
     words: &'a [String],
 ) -> Result<ArgMatches<'a>, Error>
-    ensures read { IfOk result (λ m. rows_of (found_of m) ≡ options_of condition_app words.now) }
-    ensures refused { IfErr result (λ e. kind_of e ≢ OutOfMemory → takes_options condition_app words.now ≡ false) }
+    ensures read { IfOk result (λ m. rows_of (found_of m) ≡ options_of (app_by options) words.now) }
+    ensures refused { IfErr result (λ e. kind_of e ≢ OutOfMemory → takes_options (app_by options) words.now ≡ false) }
 {
-    told(condition_options(alloc)?, words)
+    told(command_of(alloc, options)?, words)
 }
 
-/// What clap reads of the options of `play`.
-pub(crate) fn play_matches<'a>(alloc: Global, words: &'a [String]) -> Result<ArgMatches<'a>, Unread>
-    ensures taken { OnOk result (takes_options play_app words.now ≡ true) }
-    ensures read { IfOk result (λ m. rows_of (found_of m) ≡ options_of play_app words.now) }
-    ensures refused { IfErr result (Explains (options_refusal play_app words.now)) }
-{
-    read(play_options(alloc)?, words)
-}
-
-/// What clap reads of the options of `make`.
-pub(crate) fn make_matches<'a>(alloc: Global, words: &'a [String]) -> Result<ArgMatches<'a>, Unread>
-    ensures taken { OnOk result (takes_options make_app words.now ≡ true) }
-    ensures read { IfOk result (λ m. rows_of (found_of m) ≡ options_of make_app words.now) }
-    ensures refused { IfErr result (Explains (options_refusal make_app words.now)) }
-{
-    read(make_options(alloc)?, words)
-}
-
-/// What clap reads of the options of `check`.
-pub(crate) fn check_matches<'a>(
+/// What clap reads of the words by these options.
+pub(crate) fn options_matched<'a>(
     alloc: Global,
+    options: OptionsOf,
     words: &'a [String],
 ) -> Result<ArgMatches<'a>, Unread>
-    ensures taken { OnOk result (takes_options check_app words.now ≡ true) }
-    ensures read { IfOk result (λ m. rows_of (found_of m) ≡ options_of check_app words.now) }
-    ensures refused { IfErr result (Explains (options_refusal check_app words.now)) }
+    ensures taken { OnOk result (takes_options (app_by options) words.now ≡ true) }
+    ensures read { IfOk result (λ m. rows_of (found_of m) ≡ options_of (app_by options) words.now) }
+    ensures refused { IfErr result (Explains (options_refusal (app_by options) words.now)) }
 {
-    read(check_options(alloc)?, words)
-}
-
-/// What clap reads of the options of `verify`.
-pub(crate) fn verify_matches<'a>(
-    alloc: Global,
-    words: &'a [String],
-) -> Result<ArgMatches<'a>, Unread>
-    ensures taken { OnOk result (takes_options verify_app words.now ≡ true) }
-    ensures read { IfOk result (λ m. rows_of (found_of m) ≡ options_of verify_app words.now) }
-    ensures refused { IfErr result (Explains (options_refusal verify_app words.now)) }
-{
-    read(verify_options(alloc)?, words)
-}
-
-/// What clap reads of the options of `chain`.
-pub(crate) fn chain_matches<'a>(
-    alloc: Global,
-    words: &'a [String],
-) -> Result<ArgMatches<'a>, Unread>
-    ensures taken { OnOk result (takes_options chain_app words.now ≡ true) }
-    ensures read { IfOk result (λ m. rows_of (found_of m) ≡ options_of chain_app words.now) }
-    ensures refused { IfErr result (Explains (options_refusal chain_app words.now)) }
-{
-    read(chain_options(alloc)?, words)
-}
-
-/// What clap reads of the options of `condition`.
-pub(crate) fn condition_matches<'a>(
-    alloc: Global,
-    words: &'a [String],
-) -> Result<ArgMatches<'a>, Unread>
-    ensures taken { OnOk result (takes_options condition_app words.now ≡ true) }
-    ensures read { IfOk result (λ m. rows_of (found_of m) ≡ options_of condition_app words.now) }
-    ensures refused { IfErr result (Explains (options_refusal condition_app words.now)) }
-{
-    read(condition_options(alloc)?, words)
+    read(command_of(alloc, options)?, words)
 }
 
 /// The value of an option that was read, or no text.
@@ -257,25 +171,25 @@ pub fn options_read<'a>(alloc: Global, words: &'a [String]) -> Option<Result<Arg
     ensures refused { IfSome result (λ told. IfErr told (λ e. kind_of e ≢ OutOfMemory → refusal words.now ≡ Some 2)) }
 {
     if is(words, 0, "play") {
-        return Some(play_told(alloc, words));
+        return Some(options_told(alloc, OptionsOf::Play, words));
     }
     if is(words, 0, "check") {
-        return Some(check_told(alloc, words));
+        return Some(options_told(alloc, OptionsOf::Check, words));
     }
     if is(words, 0, "make") {
-        return Some(make_told(alloc, words));
+        return Some(options_told(alloc, OptionsOf::Make, words));
     }
     if is(words, 0, "verify") {
-        return Some(verify_told(alloc, words));
+        return Some(options_told(alloc, OptionsOf::Verify, words));
     }
     if is(words, 0, "shares") {
-        return Some(play_told(alloc, words));
+        return Some(options_told(alloc, OptionsOf::Play, words));
     }
     if is(words, 0, "chain") {
-        return Some(chain_told(alloc, words));
+        return Some(options_told(alloc, OptionsOf::Chain, words));
     }
     if is(words, 0, "condition") {
-        return Some(condition_told(alloc, words));
+        return Some(options_told(alloc, OptionsOf::Condition, words));
     }
     None
 }

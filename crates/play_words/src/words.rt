@@ -9,10 +9,7 @@ ghost use Rattle.play_words.specs.Read.{Reads, ReadsChain, ReadsInputs, ReadsLin
 ghost use Rattle.play_words.specs.Kinds.{words_kind};
 ghost use Rattle.play_words.specs.declared.words.Unread.TheVariants.{NoMemory};
 
-use crate::options::{
-    chain_matches, check_matches, condition_matches, make_matches, play_matches, value,
-    verify_matches,
-};
+use crate::options::{OptionsOf, options_matched, value};
 use clap::ArgMatches;
 use clap::error::ErrorKind;
 use line_text::{Word, whole};
@@ -319,7 +316,7 @@ fn play_words<'a>(alloc: Global, words: &'a [String]) -> Result<PlayWords<'a>, U
     ensures refused { IfErr result (Explains (play_refusal words.now)) }
     ensures read { IfOk result (λ w. ReadsRows (rows_read words.now) w) }
 {
-    let matches = play_matches(alloc, words)?;
+    let matches = options_matched(alloc, OptionsOf::Play, words)?;
     match names_read(&matches) {
         Ok(read) => Ok(read),
         Err(fault) => Err(Unread::Refused(fault)),
@@ -333,7 +330,7 @@ fn make_words<'a>(alloc: Global, words: &'a [String]) -> Result<MakeWords<'a>, U
     ensures refused { IfErr result (Explains (make_refusal words.now)) }
     ensures read { IfOk result (λ w. ReadsMake words.now w) }
 {
-    let matches = make_matches(alloc, words)?;
+    let matches = options_matched(alloc, OptionsOf::Make, words)?;
     let Some(count) = count(value(&matches, "count")) else {
         return Err(Unread::Refused(WordsFault::BadNumber));
     };
@@ -350,7 +347,7 @@ fn chain_words<'a>(alloc: Global, words: &'a [String]) -> Result<ChainWords<'a>,
     ensures refused { IfErr result (Explains (chain_refusal words.now)) }
     ensures read { IfOk result (λ w. ReadsChain words.now w) }
 {
-    let matches = chain_matches(alloc, words)?;
+    let matches = options_matched(alloc, OptionsOf::Chain, words)?;
     match links_read(&matches) {
         Ok(read) => Ok(read),
         Err(fault) => Err(Unread::Refused(fault)),
@@ -364,7 +361,7 @@ fn check_words<'a>(alloc: Global, words: &'a [String]) -> Result<CheckWords<'a>,
     ensures refused { IfErr result (Explains (check_refusal words.now)) }
     ensures read { IfOk result (λ w. ReadsCheck words.now w) }
 {
-    let matches = check_matches(alloc, words)?;
+    let matches = options_matched(alloc, OptionsOf::Check, words)?;
     let (config, interface) = (value(&matches, "config"), value(&matches, "interface"));
     Ok(CheckWords { config, interface })
 }
@@ -395,7 +392,7 @@ fn verify_words<'a>(alloc: Global, words: &'a [String]) -> Result<VerifyWords<'a
     ensures refused { IfErr result (Explains (verify_refusal words.now)) }
     ensures read { IfOk result (λ w. ReadsVerify words.now w) }
 {
-    let matches = verify_matches(alloc, words)?;
+    let matches = options_matched(alloc, OptionsOf::Verify, words)?;
     match inputs_read(&matches) {
         Ok(read) => Ok(read),
         Err(fault) => Err(Unread::Refused(fault)),
@@ -427,7 +424,7 @@ fn condition_words<'a>(alloc: Global, words: &'a [String]) -> Result<ConditionWo
     ensures refused { IfErr result (Explains (condition_refusal words.now)) }
     ensures read { IfOk result (λ w. ReadsCondition words.now w) }
 {
-    let matches = condition_matches(alloc, words)?;
+    let matches = options_matched(alloc, OptionsOf::Condition, words)?;
     match marking_read(&matches) {
         Ok(read) => Ok(read),
         Err(fault) => Err(Unread::Refused(fault)),

@@ -1,7 +1,0 @@
-use Rattle.std.proofs.Common.{◌∙◌, ap}
-use Rattle.clap.specs.Words.{is_simple_and_free}
-use Rattle.play_words.proofs.OptionLemmas.{play_is_simple}
-use Rattle.play_words.proofs.options.play_matches.Goals as goal
-
-pub read-requires : goal.read-requires
-read-requires c = ap is_simple_and_free c.in_ok-play_options.ensures ∙ play_is_simple
