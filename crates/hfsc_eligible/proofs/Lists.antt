@@ -1,5 +1,5 @@
 -- The lists of the heads after one class changed, and what they say of the classes.
-use Rattle.std.proofs.Common.{◌≡◌, ◌≤◌, ◌<◌, ◌⊎◌, inl, inr, ℕ, zero, suc, Bool, true, false, List, [], ◌∷◌, ◌++◌, None, length, refl, sym, ap, subst, arith, ◌∙◌, get_or}
+use Rattle.std.proofs.Common.{◌≡◌, ◌≤◌, ◌<◌, ◌⊎◌, inl, inr, ℕ, zero, suc, Bool, true, false, List, [], ◌∷◌, ◌++◌, None, Some, drop, length, refl, sym, ap, subst, arith, ◌∙◌, get_or}
 use Rattle.std.specs.Prelude.{Option, ◌==◌, slice_get, slice_set, if◌then◌else◌}
 use Rattle.std.proofs.lemmas.Bool.{cases_lt}
 use Rattle.std.proofs.lemmas.Bool.Decides.{nat_tests}
@@ -10,8 +10,8 @@ use Rattle.ranking.specs.Order.{is_in, key_of, IsOrderOf}
 use Rattle.ranking.specs.Ranking.{IsReplaced, keys_of, order_of}
 use Rattle.ranking.proofs.Orders.{is_order, key_in, outside}
 use Rattle.hfsc_model.specs.Event.{HfscHistory}
-use Rattle.hfsc_model.specs.Event.{Enqueued}
-use Rattle.hfsc_model.specs.Leaf.{Leaf, Waiting, leaf, head_len, is_waiting, opened, after_kept}
+use Rattle.hfsc_model.specs.Event.{Enqueued, Sent}
+use Rattle.hfsc_model.specs.Leaf.{Leaf, Waiting, leaf, head_len, is_waiting, opened, after_kept, after_sent}
 use Rattle.hfsc_model.specs.RealTime.{curve_of, has_head}
 use Rattle.hfsc_eligible.specs.declared.slot.Slot.{Slot}
 use Rattle.hfsc_eligible.specs.declared.Eligible.{Eligible}
@@ -194,4 +194,30 @@ more_stands e curves h class at len stands w = record {
     go c d true f n =
         let equal : class ≡ c = grind (arith, nat_tests, f) in
         more_slot (get_or e.slots.items c d) (curve_of curves c) (leaf h c) at len (subst (λ m. is_waiting (leaf h m).waiting ≡ true) equal w) (stands.each c d n)
+    go c d false f n = stands.each c d n
+
+-- a head that is sent by share leaves what is held where the next one is as long
+shared_slot : (x : Slot) (o : Option Curve) (l : Leaf) (len : ℕ) (head : Option ℕ) → SlotStands x o l → head_of x ≡ Some len → head ≡ Some len
+    → head_len (drop 1 l.waiting) ≡ head → SlotStands x o (after_sent len false l)
+shared_slot x o l len head y was next h = record { real = y.real; count = y.count; head = was ∙ sym next ∙ sym h }
+
+pub shared_stands : (e : Eligible) (curves : List (Option Curve)) (h : HfscHistory) (class len start : ℕ) (counted : Bool) (head : Option ℕ) → StandsFor e curves h
+    → class < length e.slots.items → head_at e class ≡ Some len → counted ≡ false → head ≡ Some len
+    → head_len (leaf (Sent class len counted start ∷ h) class).waiting ≡ head → StandsFor e curves (Sent class len counted start ∷ h)
+shared_stands e curves h class len start counted head stands k waits share next left = record {
+  classes = stands.classes;
+  each = λ c d n. go c d (class == c) refl n;
+}
+  where
+    here : head_len (drop 1 (leaf h class).waiting) ≡ head
+    here = ap (λ b. head_len (if b then after_sent len counted (leaf h class) else leaf h class).waiting) (sym (same_test class)) ∙ left
+
+    go : (c : ℕ) (d : Slot) (b : Bool) → (class == c) ≡ b → c < length e.slots.items
+        → SlotStands (get_or e.slots.items c d) (curve_of curves c) (if b then after_sent len counted (leaf h c) else leaf h c)
+    go c d true f n =
+        let equal : class ≡ c = grind (arith, nat_tests, f) in
+        let was : head_of (get_or e.slots.items c d) ≡ Some len = sym (head_of_slot e.slots.items c d n) ∙ ap (λ m. head_at e m) (sym equal) ∙ waits in
+        let after : head_len (drop 1 (leaf h c).waiting) ≡ head = ap (λ m. head_len (drop 1 (leaf h m).waiting)) (sym equal) ∙ here in
+        subst (λ b. SlotStands (get_or e.slots.items c d) (curve_of curves c) (after_sent len b (leaf h c))) (sym share)
+        (shared_slot (get_or e.slots.items c d) (curve_of curves c) (leaf h c) len head (stands.each c d n) was next after)
     go c d false f n = stands.each c d n

@@ -90,7 +90,7 @@ impl Eligible {
 
     /// The head of a class, of `len` bytes, was sent, by real time where `counted`. `head` is the length of the next one,
     /// at least 1, `None` where nothing waits now. What is claimed of histories is claimed while a class was sent at most
-    /// 2^99 units by real time.
+    /// 2^99 units by real time. Where a head was sent by share and the next one is as long, nothing changes: constant time.
     pub fn sent(&mut self, class: u32, len: u32, counted: bool, head: Option<u32>)
         requires class { class < classes_of self.old }
         requires waits { head_at self.old class ≡ Some len }
@@ -103,10 +103,10 @@ impl Eligible {
         ensures opening { opening_at self.new class ≡ opening_at self.old class }
         ensures others { IsSameBut class self.old self.new }
     {
-        let slot = &mut self.slots[class as usize];
-        let was = slot.has_head();
-        slot.send(len, counted, head);
-        rank(&mut self.deadlines, &mut self.moments, class, was, slot);
+        if !counted && head == Some(len) {
+            return;
+        }
+        self.advance(class, len, counted, head);
     }
 
     /// The class whose head is eligible at `now` and has the least deadline, a head without one coming after all others and
@@ -145,6 +145,25 @@ impl Eligible {
             → IsOrderOf (λ c. soonest_of (curve_of curves c) (leaf h c)) (λ c. has_head (curve_of curves c) (leaf h c)) result.now }
     {
         self.moments.as_slice()
+    }
+
+    /// The head of a class was sent, and the next one takes its place in the lists.
+    fn advance(&mut self, class: u32, len: u32, counted: bool, head: Option<u32>)
+        requires class { class < classes_of self.old }
+        requires waits { head_at self.old class ≡ Some len }
+        requires head { ForSome head (λ n. 1 ≤ n) }
+        ensures stands { (curves : List (Option Curve)) (h : HfscHistory) (start : ℕ) → StandsFor self.old curves h
+            → head_len (leaf (Sent class len counted start ∷ h) class).waiting ≡ head
+            → (leaf (Sent class len counted start ∷ h) class).count ≤ 2 ^ 99
+            → StandsFor self.new curves (Sent class len counted start ∷ h) }
+        ensures next { head_at self.new class ≡ head }
+        ensures opening { opening_at self.new class ≡ opening_at self.old class }
+        ensures others { IsSameBut class self.old self.new }
+    {
+        let slot = &mut self.slots[class as usize];
+        let was = slot.has_head();
+        slot.send(len, counted, head);
+        rank(&mut self.deadlines, &mut self.moments, class, was, slot);
     }
 
     /// The moment of the first class in the order of the moments.

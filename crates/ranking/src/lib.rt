@@ -73,7 +73,7 @@ impl Ranking {
         ensures order { order_of self.new ≡ with_class (keys_of self.new) (order_of self.old) class }
     {
         self.keys[class as usize] = key;
-        let place = place_of(&self.order, &self.keys, class);
+        let place = place_of(&self.order, &self.keys, class, key);
         put_at(&mut self.order, place, class);
     }
 

@@ -47,12 +47,12 @@ pub fn goes_before(keys: &[Option<u128>], class: u32, other: u32) -> bool
     goes_first(key_of(keys, class), class, key_of(keys, other), other)
 }
 
-/// How many classes of the list go before a class.
-pub fn place_of(order: &[u32], keys: &[Option<u128>], class: u32) -> usize
-    requires { is_ranked keys.now order.now ≡ true }
+/// How many classes of the list go before a class with its key.
+pub fn place_of(order: &[u32], keys: &[Option<u128>], class: u32, key: Option<u128>) -> usize
+    requires ranked { is_ranked keys.now order.now ≡ true }
+    requires key { key ≡ key_of keys.now class }
     ensures { IsFound keys.now order.now class result result }
 {
-    let key = key_of(keys, class);
     let mut low = 0;
     let mut high = order.len();
     while low < high {
@@ -82,7 +82,7 @@ pub fn place_in(order: &[u32], keys: &[Option<u128>], class: u32) -> usize
             return order.len() - 1;
         }
     }
-    place_of(order, keys, class)
+    place_of(order, keys, class, key_of(keys, class))
 }
 
 /// Whether a class with a key goes behind the class before a place, where there is one.

@@ -77,6 +77,10 @@ eligible_now_true r s os now count stands past =
 pub may_follow : (o : Option Held) (new : Opening) → ForSome (last_held o) (λ last. (last.at ≤ new.at) × (last.count ≤ new.count)) → MayFollow o new
 may_follow o new later = λ h e. let last = later h.last (ap last_held e) in record { at = last.0; count = last.1 }
 
+-- what is held stands for the openings by the curve that is kept
+pub held_stands : (r : Running) (s : Curve) (os : List Opening) (h : Held) → r.held ≡ Some h → StandsFor r s os → StandFor r.curve h os
+held_stands r s os h e stands = subst (λ (c : Curve). Stand c (Some h) os) (sym stands.curve) (subst (λ (o : Option Held). Stand s o os) e stands.held)
+
 pub begun_stands : (old new : Running) (s : Curve) (os : List Opening) (o : Opening) (h : Held) → StandsFor old s os
     → new.curve ≡ old.curve → new.held ≡ Some h → h.last ≡ o → StandFor s h (o ∷ os) → StandsFor new s (o ∷ os)
 unfolding last_of

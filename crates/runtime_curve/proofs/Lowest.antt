@@ -19,14 +19,18 @@ lower_low m old new r os x y z = (y, lower_all m r old os x z)
 pub lower_in : (old new : Opening) (os : List Opening) → IsOneOf old os → IsOneOf old (new ∷ os)
 lower_in old new os x = inr x
 
+-- up to one that is up to another
+pub up_to_next : (o a b : Opening) → IsUpTo a o → IsUpTo b a → IsUpTo b o
+up_to_next o a b x y =
+    let one : o.at ≤ a.at = x.at in
+    let two : o.count ≤ a.count = x.count in
+    let three : a.at ≤ b.at = y.at in
+    let four : a.count ≤ b.count = y.count in
+    record { at = omega arith; count = omega arith }
+
 up_to_more : (a b : Opening) (os : List Opening) → IsUpTo b a → AreUpTo a os → AreUpTo b os
 up_to_more a b [] h x = tt
-up_to_more a b (o ∷ os) h x =
-    let one : o.at ≤ a.at = x.0.at in
-    let two : o.count ≤ a.count = x.0.count in
-    let three : a.at ≤ b.at = h.at in
-    let four : a.count ≤ b.count = h.count in
-    (record { at = omega arith; count = omega arith }, up_to_more a b os h x.1)
+up_to_more a b (o ∷ os) h x = (up_to_next o a b x.0 h, up_to_more a b os h x.1)
 
 abbrev pub held_one : Opening → Held
 held_one o = record { steep = o; flat = o; last = o }

@@ -1,9 +1,9 @@
 //! The openings that stand for all: the lowest by each slope, and the last.
-ghost use Rattle.std.specs.Prelude.{◌≡◌, ◌≤◌, ◌<◌, ◌^◌, ◌∷◌, List};
+ghost use Rattle.std.specs.Prelude.{◌≡◌, ◌≤◌, ◌^◌, ◌∷◌, [], List, Some};
 ghost use Rattle.service_curve.specs.Curve.{IsInRange};
 ghost use Rattle.runtime_curve.specs.declared.Opening.{Opening};
 ghost use Rattle.runtime_curve.specs.Opening.{IsWithin};
-ghost use Rattle.runtime_curve.specs.Held.{AreOrdered, AreWithin, IsUpTo, MayFollow, LowerThanAll, IsOneOf, Stand, StandFor};
+ghost use Rattle.runtime_curve.specs.Held.{IsUpTo, LowerThanAll, IsOneOf, StandFor};
 
 use crate::Opening;
 use service_curve::Curve;
@@ -17,49 +17,55 @@ pub struct Held {
     pub last: Opening,
 }
 
-/// Of two openings, the old one not after the new, the one whose line of this slope is lower.
-fn lower_of(slope: u64, old: Opening, new: Opening) -> Opening
+/// Of an opening and a new one, not before it, keeps the one whose line of this slope is lower.
+fn keep_lower(slope: u64, kept: &mut Opening, new: Opening)
     requires slope { slope ≤ 10 ^ 12 }
-    requires old { IsWithin old }
+    requires kept { IsWithin kept.old }
     requires new { IsWithin new }
-    requires order { IsUpTo new old }
-    ensures within { IsWithin result }
-    ensures order { IsUpTo new result }
-    ensures low { (os : List Opening) → LowerThanAll slope old os → LowerThanAll slope result (new ∷ os) }
-    ensures one { (os : List Opening) → IsOneOf old os → IsOneOf result (new ∷ os) }
+    requires order { IsUpTo new kept.old }
+    ensures within { IsWithin kept.new }
+    ensures order { IsUpTo new kept.new }
+    ensures low { (os : List Opening) → LowerThanAll slope kept.old os → LowerThanAll slope kept.new (new ∷ os) }
+    ensures one { (os : List Opening) → IsOneOf kept.old os → IsOneOf kept.new (new ∷ os) }
 {
-    if new.count - old.count < slope as u128 * (new.at - old.at) {
-        new
-    } else {
-        old
+    if new.count - kept.count < slope as u128 * (new.at - kept.at) {
+        *kept = new;
     }
 }
 
-/// The openings that stand for all, with one more, which may follow the last.
-#[tactic(auto, using(crate::proofs::Lowest::first_stands, crate::proofs::Lowest::more_stand))]
-pub fn with_opening(curve: &Curve, held: Option<Held>, new: Opening) -> Held
+/// One opening more, which may follow the last. What is held changes in its place.
+pub fn add_opening(curve: &Curve, held: &mut Held, new: Opening)
     requires in_range { IsInRange curve.now }
     requires new { IsWithin new }
-    requires within { AreWithin held }
-    requires ordered { AreOrdered held }
-    requires last { MayFollow held new }
-    ensures steep { IsWithin result.steep }
-    ensures flat { IsWithin result.flat }
-    ensures steep_order { IsUpTo result.last result.steep }
-    ensures flat_order { IsUpTo result.last result.flat }
-    ensures last { result.last ≡ new }
-    ensures opened { (os : List Opening) → Stand curve.now held os → StandFor curve.now result (new ∷ os) }
+    requires steep { IsWithin held.old.steep }
+    requires flat { IsWithin held.old.flat }
+    requires steep_order { IsUpTo held.old.last held.old.steep }
+    requires flat_order { IsUpTo held.old.last held.old.flat }
+    requires last { IsUpTo new held.old.last }
+    ensures steep { IsWithin held.new.steep }
+    ensures flat { IsWithin held.new.flat }
+    ensures steep_order { IsUpTo held.new.last held.new.steep }
+    ensures flat_order { IsUpTo held.new.last held.new.flat }
+    ensures last { held.new.last ≡ new }
+    ensures opened { (os : List Opening) → StandFor curve.now held.old os → StandFor curve.now held.new (new ∷ os) }
 {
-    match held {
-        None => Held {
-            steep: new,
-            flat: new,
-            last: new,
-        },
-        Some(held) => Held {
-            steep: lower_of(curve.m1, held.steep, new),
-            flat: lower_of(curve.m2, held.flat, new),
-            last: new,
-        },
+    keep_lower(curve.m1, &mut held.steep, new);
+    keep_lower(curve.m2, &mut held.flat, new);
+    held.last = new;
+}
+
+/// The openings that stand for all, where there is one.
+#[tactic(auto, using(crate::proofs::Lowest::first_stands))]
+pub fn first_opening(new: Opening) -> Held
+    requires new { IsWithin new }
+    ensures steep { result.steep ≡ new }
+    ensures flat { result.flat ≡ new }
+    ensures last { result.last ≡ new }
+    ensures opened { (s : Curve) (os : List Opening) → os ≡ [] → StandFor s result (new ∷ os) }
+{
+    Held {
+        steep: new,
+        flat: new,
+        last: new,
     }
 }

@@ -24,7 +24,7 @@ use service_curve::Curve;
 mod held;
 mod lines;
 
-use held::{Held, with_opening};
+use held::{Held, add_opening, first_opening};
 use lines::{both_allow, both_counted, eligible_curve, later_of, latest_of};
 
 /// A moment at which a class opened, in nanoseconds, and the units that it had been sent by real time before it.
@@ -71,7 +71,13 @@ impl Running {
             → StandsFor self.new s (opening at count ∷ os) }
         ensures last { last_of self.new ≡ Some (opening at count) }
     {
-        self.held = Some(with_opening(&self.curve, self.held, Opening { at, count }));
+        let curve = self.curve;
+        let new = Opening { at, count };
+        if let Some(held) = &mut self.held {
+            add_opening(&curve, held, new);
+            return;
+        }
+        self.held = Some(first_opening(new));
     }
 
     /// The deadline: the first moment, in nanoseconds, at which the deadline curve, the least over all openings, reaches
@@ -85,9 +91,9 @@ impl Running {
         ensures is { (s : Curve) (os : List Opening) → StandsFor self.now s os → result ≡ deadline s os count }
         ensures now { result ≡ deadline_now self.now count }
     {
-        match self.held {
+        match &self.held {
             None => Some(0),
-            Some(held) => latest_of(&self.curve, held.steep, held.flat, count),
+            Some(held) => latest_of(&self.curve, &held.steep, &held.flat, count),
         }
     }
 
@@ -124,14 +130,14 @@ impl Running {
         ensures is { (s : Curve) (os : List Opening) → StandsFor self.now s os → result ≡ soonest s os count }
         ensures now { result ≡ soonest_now self.now count }
     {
-        match self.held {
+        match &self.held {
             None => Some(0),
             Some(held) => {
-                if both_counted(held.steep, held.flat, count) {
+                if both_counted(&held.steep, &held.flat, count) {
                     return Some(held.last.at);
                 }
                 let curve = eligible_curve(&self.curve);
-                let reached = latest_of(&curve, held.steep, held.flat, count);
+                let reached = latest_of(&curve, &held.steep, &held.flat, count);
                 later_of(reached, Some(held.last.at))
             }
         }

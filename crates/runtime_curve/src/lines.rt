@@ -19,11 +19,11 @@ pub fn later_of(a: Option<u128>, b: Option<u128>) -> Option<u128>
 }
 
 /// The first moment up to which an opening allows a count.
-fn reached_at(curve: &Curve, opening: Opening, count: u128) -> Option<u128>
+fn reached_at(curve: &Curve, opening: &Opening, count: u128) -> Option<u128>
     requires in_range { IsInRange curve.now }
-    requires within { IsWithin opening }
+    requires within { IsWithin opening.now }
     requires amount { count < 2 ^ 100 }
-    ensures { result ≡ reached_at curve.now opening count }
+    ensures { result ≡ reached_at curve.now opening.now count }
 {
     if count <= opening.count {
         return Some(0);
@@ -35,24 +35,24 @@ fn reached_at(curve: &Curve, opening: Opening, count: u128) -> Option<u128>
 }
 
 /// The first moment up to which two openings allow a count. They often are one, whose moment is found once.
-pub fn latest_of(curve: &Curve, one: Opening, other: Opening, count: u128) -> Option<u128>
+pub fn latest_of(curve: &Curve, one: &Opening, other: &Opening, count: u128) -> Option<u128>
     requires in_range { IsInRange curve.now }
-    requires one { IsWithin one }
-    requires other { IsWithin other }
+    requires one { IsWithin one.now }
+    requires other { IsWithin other.now }
     requires amount { count < 2 ^ 100 }
-    ensures { result ≡ deadline curve.now (one ∷ other ∷ []) count }
+    ensures { result ≡ deadline curve.now (one.now ∷ other.now ∷ []) count }
 {
-    let reached = reached_at(curve, one, count);
-    if one == other {
-        return reached;
+    if *one == *other {
+        return reached_at(curve, one, count);
     }
+    let reached = reached_at(curve, one, count);
     later_of(reached, later_of(reached_at(curve, other, count), Some(0)))
 }
 
 /// Whether two openings had a count already, and so allow it at every moment. Those of a class that just opened mostly do.
 #[tactic(auto, using(crate::proofs::Reaching::counted))]
-pub fn both_counted(one: Opening, other: Opening, count: u128) -> bool
-    ensures { result ≡ true → (s : Curve) → deadline s (one ∷ other ∷ []) count ≡ Some 0 }
+pub fn both_counted(one: &Opening, other: &Opening, count: u128) -> bool
+    ensures { result ≡ true → (s : Curve) → deadline s (one.now ∷ other.now ∷ []) count ≡ Some 0 }
 {
     count <= one.count && count <= other.count
 }

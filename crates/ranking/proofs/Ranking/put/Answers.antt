@@ -1,16 +1,21 @@
-use Rattle.std.proofs.Common.{◌≡◌, ◌∙◌, List, ℕ, ap, arith}
+use Rattle.std.proofs.Common.{◌≡◌, ◌∙◌, List, None, ℕ, ap, sym, arith}
 use Rattle.std.specs.Prelude.{slice_set, Option}
-use Rattle.std.proofs.lemmas.List.{length-set}
-use Rattle.ranking.specs.Order.{is_ranked, with_class}
+use Rattle.std.proofs.lemmas.List.{length-set, get_or-set_same}
+use Rattle.ranking.specs.Order.{is_ranked, key_of, with_class}
 use Rattle.ranking.proofs.Kept.{put_before, put_in, put_ranked, put_below, put_room}
 use Rattle.ranking.proofs.Ranking.put.Goals as goal
 
-pub place_of-place-requires : goal.place_of-place-requires
-place_of-place-requires c =
+pub place_of-place-requires-clause-ranked : goal.place_of-place-requires-clause-ranked
+place_of-place-requires-clause-ranked c =
     let e = put_before c.args.self.now.keys.items c.args.self.now.order.items c.args.class c.args.key c.requires.absent c.args.self.now.ranked in
     ap (λ (ks : List (Option ℕ)). is_ranked ks c.deref.result.now) c.deref-2.ensures.value
     ∙ ap (λ (xs : List ℕ). is_ranked (slice_set c.args.self.now.keys.items c.args.class c.args.key) xs) c.deref.ensures.value
     ∙ e
+
+pub place_of-place-requires-clause-key : goal.place_of-place-requires-clause-key
+place_of-place-requires-clause-key c =
+    sym (ap (λ (ks : List (Option ℕ)). key_of ks c.args.class) c.deref-2.ensures.value
+    ∙ get_or-set_same c.args.self.now.keys.items c.args.class c.args.key None c.requires.class)
 
 pub put_at-requires-clause-room : goal.put_at-requires-clause-room
 put_at-requires-clause-room c =

@@ -5,12 +5,12 @@ use Rattle.ranking.proofs.search.place_of.Goals as goal
 
 pub loop-low-preserved-then-goes_first : goal.loop-low-preserved-then-goes_first
 loop-low-preserved-then-goes_first c =
-    found_above c.args.keys.now c.args.order.now c.args.class c.loop-low.low _ c.loop-low.high (ranked_true _ _ c.requires) c.loop-low.invariant (omega arith)
+    found_above c.args.keys.now c.args.order.now c.args.class c.loop-low.low _ c.loop-low.high (ranked_true _ _ c.requires.ranked) c.loop-low.invariant (omega arith)
     (search rules)
 
 pub loop-low-preserved : goal.loop-low-preserved
 loop-low-preserved c =
-    found_below c.args.keys.now c.args.order.now c.args.class c.loop-low.low _ c.loop-low.high (ranked_true _ _ c.requires) c.loop-low.invariant (omega arith) (omega arith)
+    found_below c.args.keys.now c.args.order.now c.args.class c.loop-low.low _ c.loop-low.high (ranked_true _ _ c.requires.ranked) c.loop-low.invariant (omega arith) (omega arith)
     (search rules)
 
 pub loop-low-init : goal.loop-low-init
