@@ -43,6 +43,20 @@ pub record Offering : Type 0 where
 abbrev pub bare_arrival : Offering → Arrival
 bare_arrival x = arrival_with x.class x.entry.len x.entry.prec x.now
 
+-- an event of a class and those before it, and the queue and the list that the class has then
+record Turn (Q : Type 0) : Type 0 where
+  pub class : ℕ
+  pub event : Event
+  pub before : List Event
+  pub queue : Q
+  pub list : List Entry
+
+-- it is of that class alone, the list is what waits then, and the queue was told it
+record IsTurn {Q : Type 0} (stands : Q → List QueueEvent → Type 0) (x : Turn Q) : Type 0 where
+  pub others : Others x.class x.event x.before
+  pub waits : seen x.list ≡ seen_of (waiting x.class (x.event ∷ x.before))
+  pub told : stands x.queue (told_of x.class (x.event ∷ x.before))
+
 module _ {Q : Type 0} (stands : Q → List QueueEvent → Type 0) where
   rows_at : (c : ℕ) (queues : List Q) (lists : List (List Entry)) (b : List Event) (k class : ℕ) (q : Q) → RowsStand stands c queues lists b
       → slice_get queues k ≡ Some q → c + k ≡ class → (seen (list_of lists k) ≡ seen_of (waiting class b)) × stands q (told_of class b)
@@ -73,20 +87,20 @@ module _ {Q : Type 0} (stands : Q → List QueueEvent → Type 0) where
       (here.0, here.1, rows_kept (c + 1) class queues lists e b o (omega arith) s.2)
 
   -- one more event of the class at this place
-  rows_set : (c : ℕ) (queues : List Q) (lists : List (List Entry)) (e : Event) (b : List Event) (k class : ℕ) (q : Q) (ys : List Entry)
-      → Others class e b → c + k ≡ class → RowsStand stands c queues lists b
-      → seen ys ≡ seen_of (waiting class (e ∷ b)) → stands q (told_of class (e ∷ b)) → RowsStand stands c (set queues k q) (set lists k ys) (e ∷ b)
-  rows_set c [] [] e b k class q ys o n s w t = tt
-  rows_set c [] (xs ∷ lists) e b k class q ys o n s w t = absurd s
-  rows_set c (p ∷ queues) [] e b k class q ys o n s w t = absurd s
-  rows_set c (p ∷ queues) (xs ∷ lists) e b zero class q ys o n s w t =
-      let m : class ≡ c = omega arith in
-      let P : ℕ → Type 0 = λ d. seen ys ≡ seen_of (waiting d (e ∷ b)) in
-      let R : ℕ → Type 0 = λ d. stands q (told_of d (e ∷ b)) in
-      (subst P m w, subst R m t, rows_kept (c + 1) class queues lists e b o (omega arith) s.2)
-  rows_set c (p ∷ queues) (xs ∷ lists) e b (suc k) class q ys o n s w t =
-      let here = row_kept c class p xs e b o (λ d. omega arith) s.0 s.1 in
-      (here.0, here.1, rows_set (c + 1) queues lists e b k class q ys o (omega arith) s.2 w t)
+  rows_set : (c : ℕ) (queues : List Q) (lists : List (List Entry)) (k : ℕ) (x : Turn Q) → c + k ≡ x.class → IsTurn stands x
+      → RowsStand stands c queues lists x.before → RowsStand stands c (set queues k x.queue) (set lists k x.list) (x.event ∷ x.before)
+  rows_set c [] [] k x n t s = tt
+  rows_set c [] (xs ∷ lists) k x n t s = absurd s
+  rows_set c (p ∷ queues) [] k x n t s = absurd s
+  rows_set c (p ∷ queues) (xs ∷ lists) zero x n t s =
+      let h : List Event = x.event ∷ x.before in
+      let m : x.class ≡ c = omega arith in
+      let P : ℕ → Type 0 = λ d. seen x.list ≡ seen_of (waiting d h) in
+      let R : ℕ → Type 0 = λ d. stands x.queue (told_of d h) in
+      (subst P m t.waits, subst R m t.told, rows_kept (c + 1) x.class queues lists x.event x.before t.others (omega arith) s.2)
+  rows_set c (p ∷ queues) (xs ∷ lists) (suc k) x n t s =
+      let here = row_kept c x.class p xs x.event x.before t.others (λ d. omega arith) s.0 s.1 in
+      (here.0, here.1, rows_set (c + 1) queues lists k x (omega arith) t s.2)
 
 offer_stays : (v : Verdict) (x : Arrival) (xs : List Arrival) (m : Bool) → m ≡ false → with_offer m v x xs ≡ xs
 offer_stays Keep x xs m e = ap (λ (b : Bool). cond b (xs ++ x ∷ []) xs) e
@@ -223,75 +237,104 @@ precs_drop : (xs : List Entry) → HasPrecs xs → HasPrecs (drop 1 xs)
 precs_drop [] h = tt
 precs_drop (x ∷ xs) h = h.1
 
+-- the queue that a place had and the one that it has, and the lists then
+pub record Swap (Q : Type 0) : Type 0 where
+  pub was : Q
+  pub is : Q
+  pub listed : Listed
+
 -- a row with another queue and other lists
 abbrev pub with_row : {Q : Type 0} → Rowed Q → (k : ℕ) → Q → Listed → Rowed Q
 with_row d k q l = record { first = d.first; queues = set d.queues k q; holds = d.holds; listed = l }
 
+abbrev pub swapped : {Q : Type 0} → Rowed Q → (class : ℕ) → Swap Q → Rowed Q
+swapped d class o = with_row d (class - d.first) o.is o.listed
+
+-- the queues answer alike and have the same limit, and the lists have the same room
+pub record IsSwap {Q : Type 0} (says : Q → Saying) (most : Q → ℕ) (d : Rowed Q) (k : ℕ) (o : Swap Q) : Type 0 where
+  pub there : slice_get d.queues k ≡ Some o.was
+  pub same : says o.is ≡ says o.was
+  pub limit : most o.is ≡ most o.was
+  pub room : o.listed.room ≡ d.listed.room
+
+-- so it is the same row
+same_row : {Q : Type 0} (says : Q → Saying) (most : Q → ℕ) (d : Rowed Q) (k : ℕ) (o : Swap Q) → IsSwap says most d k o
+    → SameRow most says d (with_row d k o.is o.listed)
+same_row says most d k o i = record {
+  first = refl;
+  holds = refl;
+  count = length-set d.queues k o.is;
+  limits = ap (limit_at d.first) (limits_kept most d.queues d.holds k o.was o.is i.there i.limit);
+  answers = ap (by_queues d.first) (map_kept says d.queues k o.was o.is i.there i.same);
+}
+
+-- and a sound one, where one list alone is another one that may be
+row_set : {Q : Type 0} (says : Q → Saying) (most : Q → ℕ) (room : ℕ) (d : Rowed Q) (k : ℕ) (o : Swap Q) (ys : List Entry) → IsRowed most room d
+    → IsSwap says most d k o → o.listed.lists ≡ set d.listed.lists k ys
+    → (length ys ≤ length (list_of d.listed.lists k)) ⊎ ((slice_get d.holds k ≡ Some true) × (length ys ≤ most o.was)) → HasPrecs ys
+    → IsRowed most room (with_row d k o.is o.listed)
+row_set says most room d k o ys i n lists long precs =
+    let P : List (List Entry) → Type 0 = λ ls. Fit most (set d.queues k o.is) d.holds ls in
+    record {
+      fit = subst P (sym lists) (fit_set most d.queues d.holds d.listed.lists k o.was o.is ys i.fit n.there n.limit long precs);
+      sum = i.sum ∙ sym (ap limits_sum (limits_kept most d.queues d.holds k o.was o.is n.there n.limit));
+      there = omega (arith, i.there, n.room);
+      bound = i.bound;
+      count_bound = omega (arith, length-set d.queues k o.is, i.count_bound);
+    }
+
+-- what a queue answered of an offer to a class with this list, and what it stands for after it
+abbrev pub Asks : {Q : Type 0} → (Q → List QueueEvent → Type 0) → (Q → Saying) → (was is : Q) → (list : List Entry) → Offering → Type 0
+Asks stands says p q xs o = (t : List QueueEvent) → stands p t → o.words.drawn < 2 ^ 64 - 1
+    → (o.verdict ≡ (says p t o.now (waiting_of (precs_in xs)) o.entry.prec o.words).verdict)
+    × Drew o.words o.after (says p t o.now (waiting_of (precs_in xs)) o.entry.prec o.words).took
+    × stands q (Enqueued o.now (waiting_of (precs_in xs)) o.entry.prec o.words (says p t o.now (waiting_of (precs_in xs)) o.entry.prec o.words) ∷ t)
+
 module _ {Q : Type 0} (stands : Q → List QueueEvent → Type 0) (says : Q → Saying) (most : Q → ℕ) where
-  same_row : (d : Rowed Q) (k : ℕ) (p q : Q) (l : Listed) → slice_get d.queues k ≡ Some p → says q ≡ says p → most q ≡ most p → SameRow most says d (with_row d k q l)
-  same_row d k p q l e s m = record {
-    first = refl;
-    holds = refl;
-    count = length-set d.queues k q;
-    limits = ap (limit_at d.first) (limits_kept most d.queues d.holds k p q e m);
-    answers = ap (by_queues d.first) (map_kept says d.queues k p q e s);
-  }
-
-  row_set : (room : ℕ) (d : Rowed Q) (k : ℕ) (p q : Q) (ys : List Entry) (l : Listed) → IsRowed most room d → slice_get d.queues k ≡ Some p → most q ≡ most p
-      → l.lists ≡ set d.listed.lists k ys → l.room ≡ d.listed.room
-      → (length ys ≤ length (list_of d.listed.lists k)) ⊎ ((slice_get d.holds k ≡ Some true) × (length ys ≤ most p)) → HasPrecs ys
-      → IsRowed most room (with_row d k q l)
-  row_set room d k p q ys l i e m lists same long precs =
-      let P : List (List Entry) → Type 0 = λ ls. Fit most (set d.queues k q) d.holds ls in
-      record {
-        fit = subst P (sym lists) (fit_set most d.queues d.holds d.listed.lists k p q ys i.fit e m long precs);
-        sum = i.sum ∙ sym (ap limits_sum (limits_kept most d.queues d.holds k p q e m));
-        there = omega (arith, i.there, same);
-        bound = i.bound;
-        count_bound = omega (arith, length-set d.queues k q, i.count_bound);
-      }
-
-  -- what a queue answered of an offer, and what it stands for after it
-  abbrev pub Asks : (p q : Q) → (xs : List Entry) → (x : Entry) → (now : ℕ) → (w z : DrawnWords) → Verdict → Type 0
-  Asks p q xs x now w z v = (t : List QueueEvent) → stands p t → w.drawn < 2 ^ 64 - 1
-      → (v ≡ (says p t now (waiting_of (precs_in xs)) x.prec w).verdict)
-      × Drew w z (says p t now (waiting_of (precs_in xs)) x.prec w).took
-      × stands q (Enqueued now (waiting_of (precs_in xs)) x.prec w (says p t now (waiting_of (precs_in xs)) x.prec w) ∷ t)
-
   -- all that an offer does
-  pub record Offers (room : ℕ) (d e : Rowed Q) (class : ℕ) (x : Entry) (now : ℕ) (w : DrawnWords) (v : Verdict) (z : DrawnWords) : Type 0 where
+  pub record Offers (room : ℕ) (d e : Rowed Q) (o : Offering) : Type 0 where
     pub row : IsRowed most room e
-    pub lists : (c : ℕ) → list_in e c ≡ after_offer v class x (list_in d) c
-    pub full : (v ≡ Drop Full) ↔ (length (list_in d class) ≡ limit_in most d class)
-    pub told : (h : List Happened) → Told stands d h → w.drawn < 2 ^ 64 - 1 → Answers stands says d e h class x now w v z
+    pub lists : (c : ℕ) → list_in e c ≡ after_offer o.verdict o.class o.entry (list_in d) c
+    pub full : (o.verdict ≡ Drop Full) ↔ (length (list_in d o.class) ≡ limit_in most d o.class)
+    pub told : (h : List Happened) → Told stands d h → o.words.drawn < 2 ^ 64 - 1
+        → Answers stands says d e h o.class o.entry o.now o.words o.verdict o.after
     pub same : SameRow most says d e
 
-  pub offers : (room : ℕ) (d : Rowed Q) (p q : Q) (l : Listed) (o : Offering) → IsRowed most room d → IsPlace d o.class
-      → slice_get d.holds (o.class - d.first) ≡ Some true → slice_get d.queues (o.class - d.first) ≡ Some p → o.entry.prec ≤ 2
-      → l.lists ≡ after_verdict o.verdict (o.class - d.first) o.entry d.listed.lists → l.room ≡ d.listed.room → says q ≡ says p → most q ≡ most p
-      → ((o.verdict ≡ Drop Full) ↔ (length (list_of d.listed.lists (o.class - d.first)) ≡ most p))
-      → Asks p q (list_of d.listed.lists (o.class - d.first)) o.entry o.now o.words o.after o.verdict
-      → Offers room d (with_row d (o.class - d.first) q l) o.class o.entry o.now o.words o.verdict o.after
-  offers room d p q l o i place held there small lists same_room same limit full asks =
+  -- an offer to a queue class, which its queue answered
+  pub record IsOffered (d : Rowed Q) (n : Swap Q) (o : Offering) : Type 0 where
+    pub place : IsPlace d o.class
+    pub held : slice_get d.holds (o.class - d.first) ≡ Some true
+    pub swap : IsSwap says most d (o.class - d.first) n
+    pub small : o.entry.prec ≤ 2
+    pub lists : n.listed.lists ≡ after_verdict o.verdict (o.class - d.first) o.entry d.listed.lists
+    pub full : (o.verdict ≡ Drop Full) ↔ (length (list_of d.listed.lists (o.class - d.first)) ≡ most n.was)
+    pub asks : Asks stands says n.was n.is (list_of d.listed.lists (o.class - d.first)) o
+
+  pub offers : (room : ℕ) (d : Rowed Q) (n : Swap Q) (o : Offering) → IsRowed most room d → IsOffered d n o → Offers room d (swapped d o.class n) o
+  offers room d n o i f =
+      let p : Q = n.was in
+      let q : Q = n.is in
       let class : ℕ = o.class in
       let x : Entry = o.entry in
       let now : ℕ = o.now in
       let w : DrawnWords = o.words in
       let z : DrawnWords = o.after in
       let v : Verdict = o.verdict in
+      let place = f.place in
+      let there = f.swap.there in
       let k : ℕ = class - d.first in
       let xs : List Entry = list_of d.listed.lists k in
       let ys : List Entry = with_offer true v x xs in
-      let is : l.lists ≡ set d.listed.lists k ys = lists ∙ after_is v k x d.listed.lists in
+      let is : n.listed.lists ≡ set d.listed.lists k ys = f.lists ∙ after_is v k x d.listed.lists in
       let at = fit_at most d.queues d.holds d.listed.lists k p i.fit there in
       let here : list_in d class ≡ xs = list_at-here d.first d.listed.lists k class place.listed place.is in
-      let most_is : limit_in most d class ≡ most p = limit_here most d.first d.queues d.holds k class p there held place.is in
-      let each : (c : ℕ) → list_in (with_row d k q l) c ≡ after_offer v class x (list_in d) c =
+      let most_is : limit_in most d class ≡ most p = limit_here most d.first d.queues d.holds k class p there f.held place.is in
+      let each : (c : ℕ) → list_in (swapped d class n) c ≡ after_offer v class x (list_in d) c =
       λ c. ap (λ (ls : List (List Entry)). list_at d.first ls c) is ∙ lists_offered d.first d.listed.lists k class v x c place.listed place.is in
       record {
-        row = row_set room d k p q ys l i there limit is same_room (inr (held, bounded_after v x xs (most p) at.0 full)) (precs_after v xs x at.1 small);
+        row = row_set says most room d k n ys i f.swap is (inr (f.held, bounded_after v x xs (most p) at.0 f.full)) (precs_after v xs x at.1 f.small);
         lists = each;
-        full = (λ e. ap length here ∙ full.0 e ∙ sym most_is, λ e. full.1 (sym (ap length here) ∙ e ∙ most_is));
+        full = (λ e. ap length here ∙ f.full.0 e ∙ sym most_is, λ e. f.full.1 (sym (ap length here) ∙ e ∙ most_is));
         told = λ h s few.
             let b : List Event = bare h in
             let a : Arrival = arrival_with class x.len x.prec now in
@@ -303,22 +346,25 @@ module _ {Q : Type 0} (stands : Q → List QueueEvent → Type 0) (says : Q → 
             let F : List ℕ → Type 0 = λ ps.
             (v ≡ (says p t now (waiting_of ps) x.prec w).verdict) × Drew w z (says p t now (waiting_of ps) x.prec w).took
             × stands q (Enqueued now (waiting_of ps) x.prec w (says p t now (waiting_of ps) x.prec w) ∷ t) in
-            let r0 = subst F (seen_precs xs (waiting class b) row.0) (asks t row.1 few) in
+            let r0 = subst F (seen_precs xs (waiting class b) row.0) (f.asks t row.1 few) in
             let S : Saying → Type 0 = λ y. R (by_queue y b w a) in
             let r = subst S (sym queue) r0 in
             let T : List QueueEvent → Type 0 = λ u. stands q u in
             let L : List (List Entry) → Type 0 = λ ls. RowsStand stands d.first (set d.queues k q) ls (Offered a w answer ∷ b) in
+            let turn : Turn Q = record { class = class; event = Offered a w answer; before = b; queue = q; list = ys } in
             record {
               verdict = r.0;
               words = r.1;
               told = record {
-                shown = shows_offered (list_in d) (list_in (with_row d k q l)) h x a w answer v s.shown r.0 refl refl each;
-                rows = subst L (sym is) (rows_set stands d.first d.queues d.listed.lists (Offered a w answer) b k class q ys (others_offered a w answer b) place.is s.rows
-                    (mine_offered v x xs a class b w answer r.0 refl refl refl row.0)
-                    (subst T (sym (told_here class b a w answer refl)) r.2));
+                shown = shows_offered (list_in d) (list_in (swapped d class n)) h x a w answer v s.shown r.0 refl refl each;
+                rows = subst L (sym is) (rows_set stands d.first d.queues d.listed.lists k turn place.is (record {
+                  others = others_offered a w answer b;
+                  waits = mine_offered v x xs a class b w answer r.0 refl refl refl row.0;
+                  told = subst T (sym (told_here class b a w answer refl)) r.2;
+                }) s.rows);
               };
             };
-        same = same_row d k p q l there same limit;
+        same = same_row says most d k n f.swap;
       }
 
   -- all that the leaving of a head does
@@ -329,34 +375,42 @@ module _ {Q : Type 0} (stands : Q → List QueueEvent → Type 0) (says : Q → 
         → Told stands e (record { label = n; what = Sent s } ∷ h)
     pub same : SameRow most says d e
 
-  pub leaves : (room : ℕ) (d : Rowed Q) (class : ℕ) (p q : Q) (l : Listed) (now : ℕ) → IsRowed most room d → IsPlace d class
-      → slice_get d.queues (class - d.first) ≡ Some p
-      → l.lists ≡ set d.listed.lists (class - d.first) (drop 1 (list_of d.listed.lists (class - d.first))) → l.room ≡ d.listed.room
-      → says q ≡ says p → most q ≡ most p
-      → ((t : List QueueEvent) → stands p t → stands q (gone now (list_of d.listed.lists (class - d.first)) t))
-      → Leaves room d (with_row d (class - d.first) q l) class now
-  leaves room d class p q l now i place there lists same_room same limit goes =
+  -- the head of a class left, and its queue was told
+  pub record IsLeft (d : Rowed Q) (class now : ℕ) (n : Swap Q) : Type 0 where
+    pub place : IsPlace d class
+    pub swap : IsSwap says most d (class - d.first) n
+    pub lists : n.listed.lists ≡ set d.listed.lists (class - d.first) (drop 1 (list_of d.listed.lists (class - d.first)))
+    pub goes : (t : List QueueEvent) → stands n.was t → stands n.is (gone now (list_of d.listed.lists (class - d.first)) t)
+
+  pub leaves : (room : ℕ) (d : Rowed Q) (class now : ℕ) (n : Swap Q) → IsRowed most room d → IsLeft d class now n → Leaves room d (swapped d class n) class now
+  leaves room d class now n i f =
+      let q : Q = n.is in
+      let place = f.place in
+      let there = f.swap.there in
       let k : ℕ = class - d.first in
       let xs : List Entry = list_of d.listed.lists k in
-      let at = fit_at most d.queues d.holds d.listed.lists k p i.fit there in
-      let each : (c : ℕ) → list_in (with_row d k q l) c ≡ after_sent class (list_in d) c =
-      λ c. ap (λ (ls : List (List Entry)). list_at d.first ls c) lists ∙ lists_sent d.first d.listed.lists k class c place.listed place.is in
+      let at = fit_at most d.queues d.holds d.listed.lists k n.was i.fit there in
+      let each : (c : ℕ) → list_in (swapped d class n) c ≡ after_sent class (list_in d) c =
+      λ c. ap (λ (ls : List (List Entry)). list_at d.first ls c) f.lists ∙ lists_sent d.first d.listed.lists k class c place.listed place.is in
       record {
-        row = row_set room d k p q (drop 1 xs) l i there limit lists same_room (inl (length_drop xs)) (precs_drop xs at.1);
+        row = row_set says most room d k n (drop 1 xs) i f.swap f.lists (inl (length_drop xs)) (precs_drop xs at.1);
         lists = each;
-        told = λ h y n s m start.
+        told = λ h y m s is start.
             let b : List Event = bare h in
-            let row = rows_at stands d.first d.queues d.listed.lists b k class p y.rows there place.is in
+            let row = rows_at stands d.first d.queues d.listed.lists b k class n.was y.rows there place.is in
             let T : List QueueEvent → Type 0 = λ t. stands q t in
             let N : ℕ → Type 0 = λ u. stands q (gone u xs (told_of class b)) in
             let L : List (List Entry) → Type 0 = λ ls. RowsStand stands d.first (set d.queues k q) ls (Sent s ∷ b) in
             let C : ℕ → Type 0 = λ c. Others c (Sent s) b in
+            let turn : Turn Q = record { class = class; event = Sent s; before = b; queue = q; list = drop 1 xs } in
             record {
-              shown = shows_sent (list_in d) (list_in (with_row d k q l)) h n s y.shown
-                  (λ c. each c ∙ ap (λ (u : ℕ). after_sent u (list_in d) c) (sym m));
-              rows = subst L (sym lists) (rows_set stands d.first d.queues d.listed.lists (Sent s) b k class q (drop 1 xs) (subst C m (others_sent s b)) place.is y.rows
-                  (mine_sent xs s class b m row.0)
-                  (subst T (sym (gone_here class b s xs m row.0)) (subst N (sym start) (goes (told_of class b) row.1))));
+              shown = shows_sent (list_in d) (list_in (swapped d class n)) h m s y.shown
+                  (λ c. each c ∙ ap (λ (u : ℕ). after_sent u (list_in d) c) (sym is));
+              rows = subst L (sym f.lists) (rows_set stands d.first d.queues d.listed.lists k turn place.is (record {
+                others = subst C is (others_sent s b);
+                waits = mine_sent xs s class b is row.0;
+                told = subst T (sym (gone_here class b s xs is row.0)) (subst N (sym start) (f.goes (told_of class b) row.1));
+              }) y.rows);
             };
-        same = same_row d k p q l there same limit;
+        same = same_row says most d k n f.swap;
       }

@@ -37,6 +37,17 @@ bending least m1 p = after p (at_slope least (Ok m1) p)
 abbrev ending : ℕ → ℕ → ℕ → Place → Place
 ending least m1 d p = after p (at_bend least (Ok d) p m1)
 
+-- the first two words of a curve and what they say: a slope, and the bend behind it
+record Two : Type 0 where
+  pub slope : List ℕ
+  pub m1 : ℕ
+  pub bend : List ℕ
+  pub d : ℕ
+
+record AreTwo (low : ℕ) (x : Two) : Type 0 where
+  pub first : IsRate low (10 ^ 12) x.slope x.m1
+  pub second : IsWhole 0 1000000 x.bend x.d
+
 module _ (low least : ℕ) (q : Place) where
   abbrev begun : Place
   begun = wanting (slots.Curve low least) q
@@ -56,40 +67,44 @@ module _ (low least : ℕ) (q : Place) where
         ) refl;
   }
 
+  -- behind both
+  abbrev last_place : Two → Place
+  last_place x = ending least x.m1 x.d (bending least x.m1 begun)
+
+  module _ (line : ℕ) (x : Two) (i : AreTwo low x) where
+    third : (w : List ℕ) (more : List (List ℕ)) (at : ℕ) (r : Result ℕ ConfKind) → rate_in least (10 ^ 12) w ≡ r
+        → (past line more (last_place x) at (at_last_slope x.m1 x.d r (last_place x))).fault ≡ None
+        → Found (Curve low least) (resumed q) line (x.slope ∷ x.bend ∷ w ∷ more)
+    third w more at (Err kind) e h = absurd cc
+    third w more at (Ok m2) e h = go (is_convex x.m1 x.d m2) refl h
+      where
+        go : (b : Bool) → is_convex x.m1 x.d m2 ≡ b
+            → (past line more (last_place x) at (cond b (Err ConvexFirst) (says (what.Rate m2) (last_place x) (behind_option slots.Nothing)))).fault ≡ None
+            → Found (Curve low least) (resumed q) line (x.slope ∷ x.bend ∷ w ∷ more)
+        go true f h = absurd cc
+        go false f h = record {
+          front = x.slope ∷ x.bend ∷ w ∷ [];
+          says = what.Rate x.m1 ∷ what.Whole x.d ∷ what.Rate m2 ∷ [];
+          rest = more;
+          at = at + 1;
+          split = refl;
+          is = curve i.first i.second (rate_back least (10 ^ 12) w m2 e) (falls_from x.m1 x.d m2 f);
+          on = h;
+        }
+
+    from_last : (words : List (List ℕ)) (at : ℕ) → NoFault line words (last_place x) at → Found (Curve low least) (resumed q) line (x.slope ∷ x.bend ∷ words)
+    unfolding step end
+    from_last [] at h = absurd cc
+    from_last (w ∷ more) at h = third w more at (rate_in least (10 ^ 12) w) refl h
+
   module _ (line : ℕ) (u : List ℕ) (m1 : ℕ) (is_first : IsRate low (10 ^ 12) u m1) where
-    module _ (v : List ℕ) (d : ℕ) (is_bend : IsWhole 0 1000000 v d) where
-      abbrev last_place : Place
-      last_place = ending least m1 d (bending least m1 begun)
-
-      third : (w : List ℕ) (more : List (List ℕ)) (at : ℕ) (r : Result ℕ ConfKind) → rate_in least (10 ^ 12) w ≡ r
-          → (past line more last_place at (at_last_slope m1 d r last_place)).fault ≡ None → Found (Curve low least) (resumed q) line (u ∷ v ∷ w ∷ more)
-      third w more at (Err kind) e h = absurd cc
-      third w more at (Ok m2) e h = go (is_convex m1 d m2) refl h
-        where
-          go : (b : Bool) → is_convex m1 d m2 ≡ b
-              → (past line more last_place at (cond b (Err ConvexFirst) (says (what.Rate m2) last_place (behind_option slots.Nothing)))).fault ≡ None
-              → Found (Curve low least) (resumed q) line (u ∷ v ∷ w ∷ more)
-          go true f h = absurd cc
-          go false f h = record {
-            front = u ∷ v ∷ w ∷ [];
-            says = what.Rate m1 ∷ what.Whole d ∷ what.Rate m2 ∷ [];
-            rest = more;
-            at = at + 1;
-            split = refl;
-            is = curve is_first is_bend (rate_back least (10 ^ 12) w m2 e) (falls_from m1 d m2 f);
-            on = h;
-          }
-
-      from_last : (words : List (List ℕ)) (at : ℕ) → NoFault line words last_place at → Found (Curve low least) (resumed q) line (u ∷ v ∷ words)
-      unfolding step end
-      from_last [] at h = absurd cc
-      from_last (w ∷ more) at h = third w more at (rate_in least (10 ^ 12) w) refl h
-
     second : (v : List ℕ) (more : List (List ℕ)) (at : ℕ) (r : Result ℕ ConfKind) → whole_in 0 1000000 v ≡ r
         → (past line more (bending least m1 begun) at (at_bend least r (bending least m1 begun) m1)).fault ≡ None
         → Found (Curve low least) (resumed q) line (u ∷ v ∷ more)
     second v more at (Err kind) e h = absurd cc
-    second v more at (Ok d) e h = from_last v d (whole_back 0 1000000 v d e) more (at + 1) h
+    second v more at (Ok d) e h =
+        let x : Two = record { slope = u; m1 = m1; bend = v; d = d } in
+        from_last line x (record { first = is_first; second = whole_back 0 1000000 v d e }) more (at + 1) h
 
     from_bend : (words : List (List ℕ)) (at : ℕ) → NoFault line words (bending least m1 begun) at → Found (Curve low least) (resumed q) line (u ∷ words)
     unfolding step end

@@ -20,7 +20,7 @@ use Rattle.play_base.specs.declared.trouble.Trouble.{Trouble}
 use Rattle.traffic_marks.specs.Marked.{Conditioning, marked}
 use Rattle.marked_files.specs.Courses.{Course, made}
 use Rattle.marked_files.specs.Heads.{headed, whole}
-use Rattle.marked_files.specs.Markings.{Marking, given}
+use Rattle.marked_files.specs.Markings.{Marking}
 use Rattle.marked_files.specs.Standing.{AreWhole, IsBehind, IsNone, IsPart, IsRefused, Stands, StandsAt, Tells, Waits, has_header, has_header_at, head_tells, stand_tells, told_at, told_last, told_of, whole_end}
 use Rattle.marked_files.specs.declared.behind.Behind.{Behind}
 use Rattle.marked_files.specs.declared.behind.Behind.TheVariants as behind
@@ -32,16 +32,41 @@ use Rattle.marked_files.proofs.StandingLemmas.{records_longer}
 use Rattle.marked_files.proofs.Steps.{none_whole}
 use Rattle.marked_files.proofs.Whole.{cut_is_short, none_is_last}
 
--- what stands at a stage, by the parts of what a marker stands for
-pub record Place (s : Stage) (k : Course) (xs : List ℕ) (c : Conditioning) (taken given : List ℕ) (become : List ℕ → List ℕ) : Type 0 where
-  pub many : length taken ≡ length given + length xs
-  pub pending : xs ≡ drop (length given) taken
-  pub by : StandsAt s k taken (length given)
-  pub same : (left : List ℕ) → given ++ become (xs ++ left) ≡ marked c (taken ++ left)
+-- how far a marker is in a capture, which bytes are pending there, how frames find their classes and conditioners, and which bytes
+-- of the capture were taken and which given of what becomes of them
+pub record Spot : Type 0 where
+  pub course : Course
+  pub pending : List ℕ
+  pub place : List ℕ → Placed
+  pub conditioning : Conditioning
+  pub taken : List ℕ
+  pub given : List ℕ
 
-pub place_of : {C : Type 0} (placed : C → List ℕ → Placed) (c : Conditioning) (taken bytes : List ℕ) (m : Marking C) → Stands placed c taken bytes m
-    → Place m.stage m.course m.held.pending c taken (bytes ++ m.held.ready) (made m.stage (placed m.classes) m.course)
-place_of placed c taken bytes m s =
+-- so a marker stands there at a stage
+pub record IsSpot (s : Stage) (x : Spot) : Type 0 where
+  pub many : length x.taken ≡ length x.given + length x.pending
+  pub pending : x.pending ≡ drop (length x.given) x.taken
+  pub by : StandsAt s x.course x.taken (length x.given)
+  pub same : (left : List ℕ) → x.given ++ made s x.place x.course (x.pending ++ left) ≡ marked x.conditioning (x.taken ++ left)
+
+-- the capture, of which these bytes were not taken, is at its end for what is pending: it has a header there, or no more is left
+abbrev pub IsSeen : (enough : ℕ) → Spot → (left : List ℕ) → Type 0
+IsSeen enough x left = (enough ≤ length x.pending) ⊎ (length left ≡ 0)
+
+-- the spot of a marking
+abbrev pub spot_of : {C : Type 0} → (C → List ℕ → Placed) → Conditioning → (taken bytes : List ℕ) → Marking C → Spot
+spot_of placed c taken bytes m = record {
+  course = m.course;
+  pending = m.held.pending;
+  place = placed m.classes;
+  conditioning = c;
+  taken = taken;
+  given = bytes ++ m.held.ready;
+}
+
+pub is_spot : {C : Type 0} (placed : C → List ℕ → Placed) (c : Conditioning) (taken bytes : List ℕ) (m : Marking C) → Stands placed c taken bytes m
+    → IsSpot m.stage (spot_of placed c taken bytes m)
+is_spot placed c taken bytes m s =
     let far : length bytes + length m.held.ready ≡ length (bytes ++ m.held.ready) = omega (arith, length-append bytes m.held.ready) in
     record {
       many = omega (arith, s.many, length-append bytes m.held.ready);
@@ -51,49 +76,62 @@ place_of placed c taken bytes m s =
     }
 
 -- the head fails a test
-head_whole : (k : Course) (xs : List ℕ) (c : Conditioning) (taken given left : List ℕ) (become : List ℕ → List ℕ) (d : Damage)
-    → Place Start k xs c taken given become → header xs ≡ Unformed d → (24 ≤ length xs) ⊎ (length left ≡ 0) → AreWhole c (taken ++ left) (capture.Fault d) given
-head_whole k xs c taken given left become d p unformed enough =
-    let here : xs ≡ taken = p.pending ∙ ap (λ (n : ℕ). drop n taken) p.by.0 in
-    let seen : header (xs ++ left) ≡ Unformed d = head_seen xs left enough ∙ unformed in
+head_whole : (x : Spot) (left : List ℕ) (d : Damage) → IsSpot Start x → header x.pending ≡ Unformed d → IsSeen 24 x left
+    → AreWhole x.conditioning (x.taken ++ left) (capture.Fault d) x.given
+head_whole x left d p unformed enough =
+    let c = x.conditioning in
+    let taken = x.taken in
+    let here : x.pending ≡ taken = p.pending ∙ ap (λ (n : ℕ). drop n taken) p.by.0 in
+    let seen : header (x.pending ++ left) ≡ Unformed d = head_seen x.pending left enough ∙ unformed in
     let head : header (taken ++ left) ≡ Unformed d = subst (λ (l : List ℕ). header (l ++ left) ≡ Unformed d) here seen in
     record {
       records = [];
       reads = subst (λ (h : Header). ReadsFrom h (taken ++ left) [] (capture.Fault d)) (sym head) (refl, refl);
-      are = nil_from_length given p.by.0 ∙ ap (λ (h : Header). take (whole_end h []) (marked c (taken ++ left))) (sym head);
+      are = nil_from_length x.given p.by.0 ∙ ap (λ (h : Header). take (whole_end h []) (marked c (taken ++ left))) (sym head);
     }
 
 -- behind the records the capture reads so
-records_whole : (head : Head) (k : Course) (xs : List ℕ) (c : Conditioning) (taken given left : List ℕ) (become : List ℕ → List ℕ) (last : Step)
-    → Place (Records head) k xs c taken given become → step (form head) (taken ++ left) k.count k.at ≡ last → AreWhole c (taken ++ left) last given
-records_whole head k xs c taken given left become last p ended =
+records_whole : (head : Head) (x : Spot) (left : List ℕ) (last : Step) → IsSpot (Records head) x
+    → step (form head) (x.taken ++ left) x.course.count x.course.at ≡ last → AreWhole x.conditioning (x.taken ++ left) last x.given
+records_whole head x left last p ended =
     let f = form head in
-    let h = records_longer f k taken left (length given) p.by in
+    let k = x.course in
+    let given = x.given in
+    let bytes = x.taken ++ left in
+    let rest = made (Records head) x.place k (x.pending ++ left) in
+    let h = records_longer f k x.taken left (length given) p.by in
     let place : k.at ≡ place_after 24 h.records = h.at ∙ h.place in
-    let seam : take (length given) (given ++ become (xs ++ left)) ≡ given = take-append_seam given (become (xs ++ left)) in
+    let seam : take (length given) (given ++ rest) ≡ given = take-append_seam given rest in
     record {
       records = h.records;
-      reads = reads_formed f (taken ++ left) h.records last h.formed (record {
+      reads = reads_formed f bytes h.records last h.formed (record {
         stand = h.stand;
-        ended = ap (λ (n : ℕ). step f (taken ++ left) n (place_after 24 h.records)) (sym h.count)
-            ∙ ap (λ (n : ℕ). step f (taken ++ left) k.count n) (sym place) ∙ ended;
+        ended = ap (λ (n : ℕ). step f bytes n (place_after 24 h.records)) (sym h.count) ∙ ap (λ (n : ℕ). step f bytes k.count n) (sym place) ∙ ended;
       });
       are = sym seam ∙ ap (λ (l : List ℕ). take (length given) l) (p.same left)
-          ∙ ap (λ (n : ℕ). take n (marked c (taken ++ left))) h.place
-          ∙ ap (λ (t : Header). take (whole_end t h.records) (marked c (taken ++ left))) (sym h.formed);
+          ∙ ap (λ (n : ℕ). take n (marked x.conditioning bytes)) h.place
+          ∙ ap (λ (t : Header). take (whole_end t h.records) (marked x.conditioning bytes)) (sym h.formed);
     }
 
 -- what stands at the place of the next record
-record_step : (head : Head) (k : Course) (xs : List ℕ) (c : Conditioning) (taken given left : List ℕ) (become : List ℕ → List ℕ)
-    → Place (Records head) k xs c taken given become → (16 ≤ length xs) ⊎ (length left ≡ 0)
-    → step (form head) (taken ++ left) k.count k.at ≡ step_of (stand_at (form head) k.count k.at xs) k.at (xs ++ left)
-record_step head k xs c taken given left become p enough =
-    let within : k.at ≤ length taken = omega (arith, p.by.at, p.many) in
-    let split : drop k.at (taken ++ left) ≡ xs ++ left =
-    drop-append-le k.at taken left within
-    ∙ ap (λ (n : ℕ). drop n taken ++ left) p.by.at ∙ ap (λ (l : List ℕ). l ++ left) (sym p.pending) in
-    step_here (form head) (taken ++ left) xs left k.count k.at (omega (arith, within, length-append taken left)) split enough
-    ∙ ap (λ (l : List ℕ). step_of (stand_at (form head) k.count k.at xs) k.at l) split
+abbrev stand_here : Head → Spot → Standing
+stand_here head x = stand_at (form head) x.course.count x.course.at x.pending
+
+record_step : (head : Head) (x : Spot) (left : List ℕ) → IsSpot (Records head) x → IsSeen 16 x left
+    → step (form head) (x.taken ++ left) x.course.count x.course.at ≡ step_of (stand_here head x) x.course.at (x.pending ++ left)
+record_step head x left p enough =
+    let k = x.course in
+    let within : k.at ≤ length x.taken = omega (arith, p.by.at, p.many) in
+    let split : drop k.at (x.taken ++ left) ≡ x.pending ++ left =
+    drop-append-le k.at x.taken left within
+    ∙ ap (λ (n : ℕ). drop n x.taken ++ left) p.by.at ∙ ap (λ (l : List ℕ). l ++ left) (sym p.pending) in
+    step_here (form head) (x.taken ++ left) x.pending left k.count k.at (omega (arith, within, length-append x.taken left)) split enough
+    ∙ ap (λ (l : List ℕ). step_of (stand_here head x) k.at l) split
+
+-- so the capture reads, where it is known
+step_is : (head : Head) (x : Spot) (left : List ℕ) (t : Standing) → IsSpot (Records head) x → IsSeen 16 x left → stand_here head x ≡ t
+    → step (form head) (x.taken ++ left) x.course.count x.course.at ≡ step_of t x.course.at (x.pending ++ left)
+step_is head x left t p enough e = record_step head x left p enough ∙ ap (λ (u : Standing). step_of u x.course.at (x.pending ++ left)) e
 
 abbrev stand_tests : (a b c d e f : Bool) → RecordHead → Standing
 stand_tests a b c d e f r =
@@ -117,50 +155,45 @@ end_is_none f count at xs h =
     grind (arith, zero)
 
 -- nothing stands behind them: all was given
-all_given : (s : Stage) (place : List ℕ → Placed) (k : Course) (xs : List ℕ) (c : Conditioning) (taken given left : List ℕ)
-    → Place s k xs c taken given (made s place k) → length xs ≡ 0 → length left ≡ 0 → given ≡ marked c (taken ++ left)
-all_given s place k xs c taken given left p none ended =
-    let nothing : made s place k (xs ++ left) ≡ [] = nil_from_length (made s place k (xs ++ left)) (omega (arith, length-made s place k (xs ++ left), length-append xs left, none, ended)) in
-    sym (append-nil given) ∙ ap (λ (l : List ℕ). given ++ l) (sym nothing) ∙ p.same left
+all_given : (s : Stage) (x : Spot) (left : List ℕ) → IsSpot s x → length x.pending ≡ 0 → length left ≡ 0 → x.given ≡ marked x.conditioning (x.taken ++ left)
+all_given s x left p none ended =
+    let rest = made s x.place x.course (x.pending ++ left) in
+    let nothing : rest ≡ [] = nil_from_length rest (omega (arith, length-made s x.place x.course (x.pending ++ left), length-append x.pending left, none, ended)) in
+    sym (append-nil x.given) ∙ ap (λ (l : List ℕ). x.given ++ l) (sym nothing) ∙ p.same left
+
+-- what stands behind what was given of a capture
+abbrev IsBehindSpot : Spot → (left : List ℕ) → Behind → Type 0
+IsBehindSpot x left told = IsBehind x.conditioning (x.taken ++ left) x.given told
 
 -- what a record's place tells
-stand_behind : (head : Head) (place : List ℕ → Placed) (k : Course) (xs : List ℕ) (c : Conditioning) (taken given left : List ℕ) (t : Standing)
-    → stand_at (form head) k.count k.at xs ≡ t → Place (Records head) k xs c taken given (made (Records head) place k)
-    → (16 ≤ length xs) ⊎ (length left ≡ 0) → IsBehind c (taken ++ left) given (stand_tells t k.at)
-stand_behind head place k xs c taken given left stand.End e p (inl enough) = absurd (omega (arith, enough, end_is_none (form head) k.count k.at xs e))
-stand_behind head place k xs c taken given left stand.End e p (inr none) =
-    let here = record_step head k xs c taken given left (made (Records head) place k) p (inr none) in (
-      records_whole head k xs c taken given left (made (Records head) place k) capture.End p (here ∙ ap (λ (t : Standing). step_of t k.at (xs ++ left)) e),
-      all_given (Records head) place k xs c taken given left p (end_is_none (form head) k.count k.at xs e) none,
-    )
-stand_behind head place k xs c taken given left stand.Limit e p enough =
-    let here = record_step head k xs c taken given left (made (Records head) place k) p enough in
-    records_whole head k xs c taken given left (made (Records head) place k) capture.Limit p (here ∙ ap (λ (t : Standing). step_of t k.at (xs ++ left)) e)
-stand_behind head place k xs c taken given left (stand.Damaged kind) e p enough =
-    let here = record_step head k xs c taken given left (made (Records head) place k) p enough in
-    records_whole head k xs c taken given left (made (Records head) place k) (capture.Fault (damage k.at kind)) p (here ∙ ap (λ (t : Standing). step_of t k.at (xs ++ left)) e)
-stand_behind head place k xs c taken given left (stand.Headed stamp captured original) e p enough = tt
+stand_behind : (head : Head) (x : Spot) (left : List ℕ) (t : Standing) → stand_here head x ≡ t → IsSpot (Records head) x → IsSeen 16 x left
+    → IsBehindSpot x left (stand_tells t x.course.at)
+stand_behind head x left stand.End e p (inl enough) = absurd (omega (arith, enough, end_is_none (form head) x.course.count x.course.at x.pending e))
+stand_behind head x left stand.End e p (inr none) = (
+  records_whole head x left capture.End p (step_is head x left stand.End p (inr none) e),
+  all_given (Records head) x left p (end_is_none (form head) x.course.count x.course.at x.pending e) none,
+)
+stand_behind head x left stand.Limit e p enough = records_whole head x left capture.Limit p (step_is head x left stand.Limit p enough e)
+stand_behind head x left (stand.Damaged kind) e p enough =
+    records_whole head x left (capture.Fault (damage x.course.at kind)) p (step_is head x left (stand.Damaged kind) p enough e)
+stand_behind head x left (stand.Headed stamp captured original) e p enough = tt
 
-head_behind : (h : Header) (k : Course) (xs : List ℕ) (c : Conditioning) (taken given left : List ℕ) (become : List ℕ → List ℕ) → header xs ≡ h
-    → Place Start k xs c taken given become → (24 ≤ length xs) ⊎ (length left ≡ 0) → IsBehind c (taken ++ left) given (head_tells h)
-head_behind (Formed f) k xs c taken given left become e p enough = tt
-head_behind (Unformed d) k xs c taken given left become e p enough = head_whole k xs c taken given left become d p e enough
+head_behind : (h : Header) (x : Spot) (left : List ℕ) → header x.pending ≡ h → IsSpot Start x → IsSeen 24 x left → IsBehindSpot x left (head_tells h)
+head_behind (Formed f) x left e p enough = tt
+head_behind (Unformed d) x left e p enough = head_whole x left d p e enough
 
 -- where a header stands, or the file is at its end
-place_behind : (s : Stage) (place : List ℕ → Placed) (k : Course) (xs : List ℕ) (c : Conditioning) (taken given left : List ℕ)
-    → Place s k xs c taken given (made s place k) → (has_header_at s xs ≡ true) ⊎ (length left ≡ 0) → IsBehind c (taken ++ left) given (told_at s k xs)
-place_behind Start place k xs c taken given left p (inl enough) =
-    head_behind (header xs) k xs c taken given left (made Start place k) refl p (inl (leb-true 24 (length xs) enough))
-place_behind Start place k xs c taken given left p (inr none) = head_behind (header xs) k xs c taken given left (made Start place k) refl p (inr none)
-place_behind (Records head) place k xs c taken given left p (inl enough) =
-    stand_behind head place k xs c taken given left (stand_at (form head) k.count k.at xs) refl p (inl (leb-true 16 (length xs) enough))
-place_behind (Records head) place k xs c taken given left p (inr none) =
-    stand_behind head place k xs c taken given left (stand_at (form head) k.count k.at xs) refl p (inr none)
-place_behind Rest place k xs c taken given left p enough = absurd p.by
+place_behind : (s : Stage) (x : Spot) (left : List ℕ) → IsSpot s x → (has_header_at s x.pending ≡ true) ⊎ (length left ≡ 0)
+    → IsBehindSpot x left (told_at s x.course x.pending)
+place_behind Start x left p (inl enough) = head_behind (header x.pending) x left refl p (inl (leb-true 24 (length x.pending) enough))
+place_behind Start x left p (inr none) = head_behind (header x.pending) x left refl p (inr none)
+place_behind (Records head) x left p (inl enough) = stand_behind head x left (stand_here head x) refl p (inl (leb-true 16 (length x.pending) enough))
+place_behind (Records head) x left p (inr none) = stand_behind head x left (stand_here head x) refl p (inr none)
+place_behind Rest x left p enough = absurd p.by
 
 pub tells_there : {C : Type 0} (placed : C → List ℕ → Placed) (m : Marking C) (left : List ℕ) → has_header m ≡ true → Tells placed m left (told_of m)
 tells_there placed m left enough c taken bytes s =
-    place_behind m.stage (placed m.classes) m.course m.held.pending c taken (bytes ++ m.held.ready) left (place_of placed c taken bytes m s) (inl enough)
+    place_behind m.stage (spot_of placed c taken bytes m) left (is_spot placed c taken bytes m s) (inl enough)
 
 -- AT THE FILE'S END
 short_head : (xs : List ℕ) → length xs < 24 → header xs ≡ Unformed (damage (length xs) ShortHead)
@@ -179,41 +212,37 @@ part_none f count at xs (inr x) =
     let cut : nat_lt (length xs) (16 + r.captured) ≡ true = is_less (length xs) (16 + r.captured) x.2 in
     ap (λ (o : Option RecordHead). whole o xs) x.1 ∙ ap (λ (b : Bool). if b then None else Some r) cut
 
-cut_whole_by : (head : Head) (place : List ℕ → Placed) (k : Course) (xs : List ℕ) (c : Conditioning) (taken given left : List ℕ) (t : Standing)
-    → stand_at (form head) k.count k.at xs ≡ t → Place (Records head) k xs c taken given (made (Records head) place k) → length left ≡ 0
-    → whole (headed (form head) k.count k.at xs) xs ≡ None → IsBehind c (taken ++ left) given (stand_tells t k.at)
-    → IsBehind c (taken ++ left) given (told_last (stand_tells t k.at) k.at)
-cut_whole_by head place k xs c taken given left (stand.Headed stamp captured original) e p ended none h =
+cut_whole_by : (head : Head) (x : Spot) (left : List ℕ) (t : Standing) → stand_here head x ≡ t → IsSpot (Records head) x → length left ≡ 0
+    → whole (headed (form head) x.course.count x.course.at x.pending) x.pending ≡ None → IsBehindSpot x left (stand_tells t x.course.at)
+    → IsBehindSpot x left (told_last (stand_tells t x.course.at) x.course.at)
+cut_whole_by head x left (stand.Headed stamp captured original) e p ended none h =
+    let k = x.course in
     let nothing : left ≡ [] = nil_from_length left ended in
-    let here = record_step head k xs c taken given left (made (Records head) place k) p (inr ended) in
-    let cut : step_of (stand.Headed stamp captured original) k.at xs ≡ capture.Fault (damage k.at ShortRecord) =
-    cut_is_short (form head) k.count k.at xs stamp captured original e none in
-    records_whole head k xs c taken given left (made (Records head) place k) (capture.Fault (damage k.at ShortRecord)) p
-    (here ∙ ap (λ (t : Standing). step_of t k.at (xs ++ left)) e
-    ∙ ap (λ (l : List ℕ). step_of (stand.Headed stamp captured original) k.at (xs ++ l)) nothing
-    ∙ ap (λ (l : List ℕ). step_of (stand.Headed stamp captured original) k.at l) (append-nil xs) ∙ cut)
-cut_whole_by head place k xs c taken given left stand.End e p ended none h = h
-cut_whole_by head place k xs c taken given left stand.Limit e p ended none h = h
-cut_whole_by head place k xs c taken given left (stand.Damaged kind) e p ended none h = h
+    let cut : step_of (stand.Headed stamp captured original) k.at x.pending ≡ capture.Fault (damage k.at ShortRecord) =
+    cut_is_short (form head) k.count k.at x.pending stamp captured original e none in
+    records_whole head x left (capture.Fault (damage k.at ShortRecord)) p
+    (step_is head x left (stand.Headed stamp captured original) p (inr ended) e
+    ∙ ap (λ (l : List ℕ). step_of (stand.Headed stamp captured original) k.at (x.pending ++ l)) nothing
+    ∙ ap (λ (l : List ℕ). step_of (stand.Headed stamp captured original) k.at l) (append-nil x.pending) ∙ cut)
+cut_whole_by head x left stand.End e p ended none h = h
+cut_whole_by head x left stand.Limit e p ended none h = h
+cut_whole_by head x left (stand.Damaged kind) e p ended none h = h
 
-last_behind : (s : Stage) (place : List ℕ → Placed) (k : Course) (xs : List ℕ) (c : Conditioning) (taken given left : List ℕ)
-    → Place s k xs c taken given (made s place k) → IsPart s k xs → length left ≡ 0
-    → IsBehind c (taken ++ left) given (told_at s k xs) → IsBehind c (taken ++ left) given (told_last (told_at s k xs) k.at)
-last_behind Start place k xs c taken given left p part ended h =
-    let e : head_tells (header xs) ≡ behind.Damaged (damage (length xs) ShortHead) = ap head_tells (short_head xs part) in
-    let P : Behind → Type 0 = λ b. IsBehind c (taken ++ left) given b in
-    subst (λ (b : Behind). P (told_last b k.at)) (sym e) (subst P e h)
-last_behind (Records head) place k xs c taken given left p part ended h =
-    cut_whole_by head place k xs c taken given left (stand_at (form head) k.count k.at xs) refl p ended (part_none (form head) k.count k.at xs part) h
-last_behind Rest place k xs c taken given left p part ended h = absurd part
+last_behind : (s : Stage) (x : Spot) (left : List ℕ) → IsSpot s x → IsPart s x.course x.pending → length left ≡ 0
+    → IsBehindSpot x left (told_at s x.course x.pending) → IsBehindSpot x left (told_last (told_at s x.course x.pending) x.course.at)
+last_behind Start x left p part ended h =
+    let e : head_tells (header x.pending) ≡ behind.Damaged (damage (length x.pending) ShortHead) = ap head_tells (short_head x.pending part) in
+    subst (λ (b : Behind). IsBehindSpot x left (told_last b x.course.at)) (sym e) (subst (IsBehindSpot x left) e h)
+last_behind (Records head) x left p part ended h =
+    cut_whole_by head x left (stand_here head x) refl p ended (part_none (form head) x.course.count x.course.at x.pending part) h
+last_behind Rest x left p part ended h = absurd part
 
 pub tells_last : {C : Type 0} (placed : C → List ℕ → Placed) (m : Marking C) (left : List ℕ) → Waits m → length left ≡ 0
     → Tells placed m left (told_last (told_of m) m.course.at)
 tells_last placed m left w ended c taken bytes s =
-    let p = place_of placed c taken bytes m s in
-    let given = bytes ++ m.held.ready in
-    last_behind m.stage (placed m.classes) m.course m.held.pending c taken given left p w.part ended
-    (place_behind m.stage (placed m.classes) m.course m.held.pending c taken given left p (inr ended))
+    let x = spot_of placed c taken bytes m in
+    let p = is_spot placed c taken bytes m s in
+    last_behind m.stage x left p w.part ended (place_behind m.stage x left p (inr ended))
 
 -- MORE IS NEEDED
 abbrev head_tests : (b c d e f : Bool) → RecordHead → Option RecordHead
@@ -268,32 +297,33 @@ pub last_not_more : (b : Behind) (at : ℕ) {A : Type 0} → told_last b at ≡ 
 last_not_more b at h = absurd (not_last_more b at h)
 
 -- A READ FAILED: what was given is whole by what was taken
-cut_at : (s : Stage) (place : List ℕ → Placed) (k : Course) (xs : List ℕ) (c : Conditioning) (taken given : List ℕ)
-    → Place s k xs c taken given (made s place k) → IsPart s k xs → (last : Step) × IsLast last × AreWhole c taken last given
-cut_at Start place k xs c taken given p part =
-    let d = damage (length xs) ShortHead in (
+cut_at : (s : Stage) (x : Spot) → IsSpot s x → IsPart s x.course x.pending → (last : Step) × IsLast last × AreWhole x.conditioning x.taken last x.given
+cut_at Start x p part =
+    let d = damage (length x.pending) ShortHead in (
       capture.Fault d,
       tt,
-      subst (λ (l : List ℕ). AreWhole c l (capture.Fault d) given) (append-nil taken)
-          (head_whole k xs c taken given [] (made Start place k) d p (short_head xs part) (inr refl)),
+      subst (λ (l : List ℕ). AreWhole x.conditioning l (capture.Fault d) x.given) (append-nil x.taken)
+          (head_whole x [] d p (short_head x.pending part) (inr refl)),
     )
-cut_at (Records head) place k xs c taken given p part =
+cut_at (Records head) x p part =
     let f = form head in
+    let k = x.course in
+    let taken = x.taken in
     let last = step f taken k.count k.at in
-    let here : xs ≡ drop k.at taken = p.pending ∙ ap (λ (n : ℕ). drop n taken) (sym p.by.at) in
+    let here : x.pending ≡ drop k.at taken = p.pending ∙ ap (λ (n : ℕ). drop n taken) (sym p.by.at) in
     let none : whole (headed f k.count k.at (drop k.at taken)) (drop k.at taken) ≡ None =
-    subst (λ (l : List ℕ). whole (headed f k.count k.at l) l ≡ None) here (part_none f k.count k.at xs part) in (
+    subst (λ (l : List ℕ). whole (headed f k.count k.at l) l ≡ None) here (part_none f k.count k.at x.pending part) in (
       last,
       none_is_last f taken k.count k.at (omega (arith, p.by.at, p.many)) none,
-      subst (λ (l : List ℕ). AreWhole c l last given) (append-nil taken)
-          (records_whole head k xs c taken given [] (made (Records head) place k) last p (ap (λ (l : List ℕ). step f l k.count k.at) (append-nil taken))),
+      subst (λ (l : List ℕ). AreWhole x.conditioning l last x.given) (append-nil taken)
+          (records_whole head x [] last p (ap (λ (l : List ℕ). step f l k.count k.at) (append-nil taken))),
     )
-cut_at Rest place k xs c taken given p part = absurd part
+cut_at Rest x p part = absurd part
 
 pub cut_whole : {C : Type 0} (placed : C → List ℕ → Placed) (c : Conditioning) (taken bytes : List ℕ) (m : Marking C) → Stands placed c taken bytes m → Waits m
     → length m.held.ready ≡ 0 → (last : Step) × IsLast last × AreWhole c taken last bytes
 cut_whole placed c taken bytes m s w none =
-    let x = cut_at m.stage (placed m.classes) m.course m.held.pending c taken (bytes ++ m.held.ready) (place_of placed c taken bytes m s) w.part in
+    let x = cut_at m.stage (spot_of placed c taken bytes m) (is_spot placed c taken bytes m s) w.part in
     let given : bytes ++ m.held.ready ≡ bytes = ap (λ (l : List ℕ). bytes ++ l) (nil_from_length m.held.ready none) ∙ append-nil bytes in
     (x.0, x.1, subst (λ (l : List ℕ). AreWhole c taken x.0 l) given x.2)
 

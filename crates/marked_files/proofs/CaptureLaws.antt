@@ -1,6 +1,6 @@
 -- What a marked file has left is the marked capture, and so is what is read of it.
 use Rattle.std.proofs.Common.{◌≡◌, ◌∙◌, ap, ℕ, List, [], ◌++◌, sym, append-nil}
-use Rattle.std.specs.Prelude.{IsTrue, Option, Some}
+use Rattle.std.specs.Prelude.{Option, Some}
 use Rattle.std.proofs.lemmas.List.{nil_from_length}
 use Rattle.altq_model.specs.declared.Placed.{Placed}
 use Rattle.play_base.specs.View.{View, IsAtEnd, Took}
@@ -24,14 +24,6 @@ given_marked placed m rules first bytes n =
     ∙ ap (λ (s : Stage). made s place m.course (first ++ bytes)) n.stage
     ∙ ap (λ (c : Course). made Start place c (first ++ bytes)) n.course
     ∙ makes_marked place rules (first ++ bytes)
-
--- what the marked file has left while the marker is unused
-pub left_marked : {C : Type 0} (placed : C → List ℕ → Placed) (v : View) (g file k : ℕ) (m : Marking C) (rules : List (Option MeterRule)) (bytes : List ℕ) → IsUnused m.classes rules [] m
-    → IsTrue v.tells → v.left file ≡ Some bytes
-    → (marked_view v g file k (given placed m)).left file ≡ Some (marked (conditioning (placed m.classes) rules) bytes)
-left_marked placed v g file k m rules bytes n tells left =
-    left_self file v.tells (given placed m) (v.left file) ∙ told_is v.tells (given placed m) (v.left file) bytes tells left
-    ∙ ap Some (given_marked placed m rules [] bytes n)
 
 some_is : (a b : List ℕ) → Some a ≡ Some b → a ≡ b
 some_is a b h = cc

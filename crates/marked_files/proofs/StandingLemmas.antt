@@ -1,15 +1,14 @@
 -- A marker that stands somewhere in a capture stands further on once it has passed a head or a record, or taken more bytes.
-use Rattle.std.proofs.Common.{◌≡◌, ◌≤◌, ◌<◌, ◌+◌, ◌∙◌, ap, ℕ, List, [], ◌∷◌, ◌++◌, length, take, drop, refl, arith, sym, subst, inl, inr, append_assoc, append-nil, length-append, length-take, length-drop}
-use Rattle.std.specs.Prelude.{true, false, IsSome, Some, None}
+use Rattle.std.proofs.Common.{◌≡◌, ◌≤◌, ◌+◌, ◌∙◌, ap, ℕ, List, [], ◌∷◌, ◌++◌, length, take, drop, refl, arith, sym, subst, inl, inr, append_assoc, append-nil, length-append, length-take, length-drop}
+use Rattle.std.specs.Prelude.{Bool, true, false, IsSome, Some}
 use Rattle.std.proofs.lemmas.Bool.{ltb-false}
 use Rattle.std.proofs.lemmas.List.{drop-drop, drop-append-le, nil_from_length}
 use Rattle.altq_model.specs.declared.Placed.{Placed}
 use Rattle.capture_model.specs.declared.damage.Damage.{Damage}
-use Rattle.capture_model.specs.Capture.{Form, Record, Formed, Unformed, Next, Stand, header, most_records, place_after, step}
+use Rattle.capture_model.specs.Capture.{Form, Record, Formed, Next, Stand, header, place_after, step}
 use Rattle.pcap_files.proofs.PrefixLemmas.{next_longer}
 use Rattle.pcap_files.proofs.ReaderLemmas.{head_seen, place_after_more, stand_more, took_unchanged}
-use Rattle.pcap_files.specs.Ahead.{TookInto}
-use Rattle.play_base.specs.View.{View, Unchanged}
+use Rattle.play_base.specs.View.{View, Took, Unchanged}
 use Rattle.play_base.proofs.ViewLaws.{took_nothing}
 use Rattle.pcap_files.specs.Forms.{form}
 use Rattle.pcap_files.specs.declared.form.Head.{Head}
@@ -19,12 +18,12 @@ use Rattle.marked_files.specs.Courses.{Course, made, marked_record, passed}
 use Rattle.marked_files.specs.Heads.{headed, whole}
 use Rattle.marked_files.specs.Held.{Held}
 use Rattle.marked_files.specs.Markings.{Marking, given}
-use Rattle.marked_files.specs.Standing.{HasRecords, HasTakenOn, IsHalted, IsNone, IsPart, IsSameButStage, KeepsStanding, Stands, StandsAt, Waits, reach, reach_at}
-use Rattle.marked_files.specs.Taking.{KeepsGiven}
+use Rattle.marked_files.specs.Standing.{HasRecords, HasTakenOn, IsHalted, IsNone, IsPart, IsSameButStage, KeepsStanding, Stands, StandsAt, reach, reach_at}
+use Rattle.marked_files.specs.Taking.{HasPassed, KeepsGiven}
 use Rattle.marked_files.specs.declared.record_head.RecordHead.{RecordHead}
 use Rattle.marked_files.specs.declared.stage.Stage.{Stage}
 use Rattle.marked_files.specs.declared.stage.Stage.TheVariants.{Start, Records, Rest}
-use Rattle.marked_files.proofs.Advancing.{Comes, given_is, head_passes, record_passes}
+use Rattle.marked_files.proofs.Advancing.{IsSame, NextIsFault, NextIsHead, NextIsNone, NextIsPart, NextIsRecord, at_rest, head_fails, head_passes, length-marked_record, past_head, past_record, record_fails, record_passes, record_waits, said_by, same_marking, with_more}
 use Rattle.marked_files.proofs.Steps.{some_whole}
 use Rattle.marked_files.proofs.Whole.{found_next}
 
@@ -46,16 +45,12 @@ stands_on placed m n k keeps pending ready moves c taken bytes s =
       same = λ left. ap (λ (l : List ℕ). bytes ++ l) (keeps.same left) ∙ s.same left;
     }
 
-stage_to : (s t : Stage) (c d : Course) (taken : List ℕ) (j : ℕ) → t ≡ s → d ≡ c → StandsAt s c taken j → StandsAt t d taken j
-stage_to s t c d taken j e f h =
-    subst (λ (u : Stage). StandsAt u d taken j) (sym e) (subst (λ (x : Course). StandsAt s x taken j) (sym f) h)
+-- where a marking stands, and how far it reaches, by its stage
+stands_in : (s t : Stage) (c : Course) (taken : List ℕ) (j : ℕ) → s ≡ t → StandsAt s c taken j → StandsAt t c taken j
+stands_in s t c taken j e h = subst (λ (u : Stage). StandsAt u c taken j) e h
 
-reach_is : {C : Type 0} (m : Marking C) (s : Stage) (c : Course) (xs : List ℕ) → m.stage ≡ s → m.course ≡ c → m.held.pending ≡ xs
-    → reach m ≡ reach_at s c + length xs
-reach_is m s c xs e f g =
-    ap (λ (u : Stage). reach_at u m.course + length m.held.pending) e
-    ∙ ap (λ (x : Course). reach_at s x + length m.held.pending) f
-    ∙ ap (λ (l : List ℕ). reach_at s c + length l) g
+reach_in : {C : Type 0} (m : Marking C) (s : Stage) → m.stage ≡ s → reach m ≡ reach_at s m.course + length m.held.pending
+reach_in m s e = ap (λ (u : Stage). reach_at u m.course + length m.held.pending) e
 
 -- the head
 head_moves : (head : Head) (c : Course) (xs : List ℕ) → header xs ≡ Formed (form head) → MovesOn Start (Records head) c c xs 24
@@ -70,19 +65,12 @@ head_moves head c xs formed taken j at pending many =
       place = omega (arith, at.0);
     }
 
-pub head_stands : {C : Type 0} (placed : C → List ℕ → Placed) (m n : Marking C) (head : Head) → m.stage ≡ Start → 24 ≤ length m.held.pending
-    → header m.held.pending ≡ Formed (form head) → Comes m n (Records head) m.course (m.held.ready ++ take 24 m.held.pending) (drop 24 m.held.pending)
-    → KeepsStanding placed m n
-head_stands placed m n head start long formed j = record {
-  stands = stands_on placed m n 24 (head_passes placed m n head start long formed j).keeps j.pending
-      (omega (arith, long, ap length j.ready, length-append m.held.ready (take 24 m.held.pending), length-take 24 m.held.pending))
-      (λ taken i at pending many.
-      stage_to (Records head) n.stage m.course n.course taken (i + 24) j.stage j.course
-      (head_moves head m.course m.held.pending formed taken i (stage_to m.stage Start m.course m.course taken i (sym start) refl at) pending many));
-  reach =
-      reach_is n (Records head) m.course (drop 24 m.held.pending) j.stage j.course j.pending
-      ∙ omega (arith, long, length-drop 24 m.held.pending)
-      ∙ sym (reach_is m Start m.course m.held.pending start refl refl);
+pub head_stands : {C : Type 0} (placed : C → List ℕ → Placed) (m : Marking C) (head : Head) → NextIsHead m head → KeepsStanding placed m (past_head m head)
+head_stands placed m head h = record {
+  stands = stands_on placed m (past_head m head) 24 (head_passes placed m head h).keeps refl
+      (omega (arith, h.long, length-append m.held.ready (take 24 m.held.pending), length-take 24 m.held.pending))
+      (λ taken i at pending many. head_moves head m.course m.held.pending h.formed taken i (stands_in m.stage Start m.course taken i h.start at) pending many);
+  reach = omega (arith, h.long, length-drop 24 m.held.pending) ∙ sym (reach_in m Start h.start);
 }
 
 -- a record
@@ -110,25 +98,22 @@ record_moves place head c xs r found long taken j at pending many =
       place = omega (arith, at.place, place_after_more 24 at.records x, next.2);
     }
 
-pub record_stands : {C : Type 0} (placed : C → List ℕ → Placed) (m n : Marking C) (head : Head) (r : RecordHead) → m.stage ≡ Records head
-    → m.course.count < most_records → headed (form head) m.course.count m.course.at m.held.pending ≡ Some r → 16 + r.captured ≤ length m.held.pending
-    → length (marked_record (placed m.classes) m.course r m.held.pending) ≡ 16 + r.captured
-    → Comes m n (Records head) (passed (placed m.classes) m.course r m.held.pending)
-    (m.held.ready ++ marked_record (placed m.classes) m.course r m.held.pending) (drop (16 + r.captured) m.held.pending)
-    → KeepsStanding placed m n
-record_stands placed m n head r records less found long same j =
+pub record_stands : {C : Type 0} (placed : C → List ℕ → Placed) (m : Marking C) (head : Head) (r : RecordHead) → NextIsRecord m head r
+    → KeepsStanding placed m (past_record placed m r)
+record_stands placed m head r h =
     let place = placed m.classes in
     let xs = m.held.pending in
+    let d = passed place m.course r xs in
     record {
-      stands = stands_on placed m n (16 + r.captured) (record_passes placed m n head r records less found long same j).keeps j.pending
-          (omega (arith, same, ap length j.ready, length-append m.held.ready (marked_record place m.course r xs)))
+      stands = stands_on placed m (past_record placed m r) (16 + r.captured) (record_passes placed m head r h).keeps refl
+          (omega (arith, length-marked_record place m.course r xs h.long, length-append m.held.ready (marked_record place m.course r xs)))
           (λ taken i at pending many.
-          stage_to (Records head) n.stage (passed place m.course r xs) n.course taken (i + (16 + r.captured)) j.stage j.course
-          (record_moves place head m.course xs r found long taken i (stage_to m.stage (Records head) m.course m.course taken i (sym records) refl at) pending many));
+          stands_in (Records head) m.stage d taken (i + (16 + r.captured)) (sym h.records)
+          (record_moves place head m.course xs r h.found h.long taken i (stands_in m.stage (Records head) m.course taken i h.records at) pending many));
       reach =
-          reach_is n (Records head) (passed place m.course r xs) (drop (16 + r.captured) xs) j.stage j.course j.pending
-          ∙ omega (arith, long, length-drop (16 + r.captured) xs)
-          ∙ sym (reach_is m (Records head) m.course xs records refl refl);
+          reach_in (past_record placed m r) (Records head) h.records
+          ∙ omega (arith, h.long, length-drop (16 + r.captured) xs)
+          ∙ sym (reach_in m (Records head) h.records);
     }
 
 -- one after the other, and nothing
@@ -141,75 +126,71 @@ standing_trans placed a b c x y = record {
 pub standing_refl : {C : Type 0} (placed : C → List ℕ → Placed) (m : Marking C) → KeepsStanding placed m m
 standing_refl placed m = record { stands = λ c taken bytes s. s; reach = refl }
 
-pub not_false : true ≡ false → ⊥
+-- nothing changes, since more bytes are needed, or what stands next does not go on
+refuses : {C : Type 0} (m : Marking C) (s : Stage) → m.stage ≡ s → IsNone s m.course m.held.pending → IsHalted m (at_rest m)
+refuses m s at none = record {
+  same = record { course = refl; held = refl; classes = refl };
+  why = inr (subst (λ (t : Stage). IsNone t m.course m.held.pending) (sym at) none);
+}
+
+record_halts : {C : Type 0} (m : Marking C) (head : Head) (r : RecordHead) → NextIsPart m head r → IsHalted m m
+record_halts m head r h = record {
+  same = record { course = refl; held = refl; classes = refl };
+  why = inl (record {
+    part = subst (λ (s : Stage). IsPart s m.course m.held.pending) (sym h.records) (inr (r, h.found, h.cut));
+    room = omega (arith, h.cut, h.short);
+  });
+}
+
+-- ALL THAT IS SAID OF A TURN: it made bytes ready or did not
+pub record HasTurned {C : Type 0} (placed : C → List ℕ → Placed) (passed : Bool) (old new : Marking C) : Type 0 where
+  pub next : HasPassed placed passed old new
+  pub stands : passed ≡ true → KeepsStanding placed old new
+  pub halts : passed ≡ false → IsHalted old new
+
+not_false : true ≡ false → ⊥
 not_false e = cc
 
-pub not_true : false ≡ true → ⊥
+not_true : false ≡ true → ⊥
 not_true e = cc
 
--- a turn of a marker that is what another one is
-pub standing_by : {C : Type 0} (placed : C → List ℕ → Placed) (w m n : Marking C) → w ≡ m → KeepsStanding placed w n → KeepsStanding placed m n
-standing_by placed w m n is h = subst (λ x. KeepsStanding placed x n) is h
+turns : {C : Type 0} (placed : C → List ℕ → Placed) (m n : Marking C) → HasPassed placed true m n → KeepsStanding placed m n → HasTurned placed true m n
+turns placed m n next stands = record { next = next; stands = λ e. stands; halts = λ e. absurd (not_false e) }
 
-pub halted_by : {C : Type 0} (w m n : Marking C) → w ≡ m → IsHalted w n → IsHalted m n
-halted_by w m n is h = subst (λ x. IsHalted x n) is h
+stops : {C : Type 0} (placed : C → List ℕ → Placed) (m n : Marking C) → HasPassed placed false m n → IsHalted m n → HasTurned placed false m n
+stops placed m n next halts = record { next = next; stands = λ e. absurd (not_true e); halts = λ e. halts }
 
-pub halted_same : {C : Type 0} (w m : Marking C) → w ≡ m → IsHalted w w → IsHalted m m
-halted_same w m is h = subst (λ x. IsHalted x x) is h
+pub head_turns : {C : Type 0} (placed : C → List ℕ → Placed) (m : Marking C) (head : Head) → NextIsHead m head → HasTurned placed true m (past_head m head)
+head_turns placed m head h = turns placed m (past_head m head) (head_passes placed m head h) (head_stands placed m head h)
 
--- nothing changes, since more bytes are needed, or what stands next does not go on
-pub head_halts : {C : Type 0} (m : Marking C) → m.stage ≡ Start → length m.held.pending < 24 → IsHalted m m
-head_halts m start few = record {
-  same = record { course = refl; held = refl; classes = refl };
-  why = inl (record { part = subst (λ (s : Stage). IsPart s m.course m.held.pending) (sym start) few; room = omega (arith, few) });
-}
+pub head_stops : {C : Type 0} (placed : C → List ℕ → Placed) (m : Marking C) (d : Damage) → NextIsFault m d → HasTurned placed false m (at_rest m)
+head_stops placed m d h = stops placed m (at_rest m) (head_fails placed m d h) (refuses m Start h.start (h.long, (d, h.unformed)))
 
-pub head_refuses : {C : Type 0} (m n : Marking C) (d : Damage) → m.stage ≡ Start → 24 ≤ length m.held.pending → header m.held.pending ≡ Unformed d
-    → IsSameButStage m n → IsHalted m n
-head_refuses m n d start long h same = record {
-  same = same;
-  why = inr (subst (λ (s : Stage). IsNone s m.course m.held.pending) (sym start) (long, (d, h)));
-}
+pub record_turns : {C : Type 0} (placed : C → List ℕ → Placed) (m : Marking C) (head : Head) (r : RecordHead) → NextIsRecord m head r
+    → HasTurned placed true m (past_record placed m r)
+record_turns placed m head r h = turns placed m (past_record placed m r) (record_passes placed m head r h) (record_stands placed m head r h)
 
-pub record_halts : {C : Type 0} (m : Marking C) (head : Head) → m.stage ≡ Records head → length m.held.pending < 16 → IsHalted m m
-record_halts m head records few = record {
-  same = record { course = refl; held = refl; classes = refl };
-  why = inl (record { part = subst (λ (s : Stage). IsPart s m.course m.held.pending) (sym records) (inl few); room = omega (arith, few) });
-}
+pub record_stops : {C : Type 0} (placed : C → List ℕ → Placed) (m : Marking C) (head : Head) → NextIsNone m head → HasTurned placed false m (at_rest m)
+record_stops placed m head h = stops placed m (at_rest m) (record_fails placed m head h) (refuses m (Records head) h.records (h.long, h.none))
 
-pub record_refuses : {C : Type 0} (m n : Marking C) (head : Head) → m.stage ≡ Records head → 16 ≤ length m.held.pending
-    → headed (form head) m.course.count m.course.at m.held.pending ≡ None → IsSameButStage m n → IsHalted m n
-record_refuses m n head records long h same = record {
-  same = same;
-  why = inr (subst (λ (s : Stage). IsNone s m.course m.held.pending) (sym records) (long, h));
-}
+pub part_stops : {C : Type 0} (placed : C → List ℕ → Placed) (m : Marking C) (head : Head) (r : RecordHead) → NextIsPart m head r → HasTurned placed false m m
+part_stops placed m head r h = stops placed m m (record_waits placed m head r h) (record_halts m head r h)
 
-pub record_halts_whole : {C : Type 0} (m : Marking C) (head : Head) (r : RecordHead) → m.stage ≡ Records head
-    → headed (form head) m.course.count m.course.at m.held.pending ≡ Some r → length m.held.pending < 16 + r.captured → r.captured ≤ 262144 → IsHalted m m
-record_halts_whole m head r records h few short = record {
-  same = record { course = refl; held = refl; classes = refl };
-  why = inl (record { part = subst (λ (s : Stage). IsPart s m.course m.held.pending) (sym records) (inr (r, h, few)); room = omega (arith, few, short) });
-}
-
-pub rest_halts : {C : Type 0} (m : Marking C) → m.stage ≡ Rest → IsHalted m m
-rest_halts m rest = record {
-  same = record { course = refl; held = refl; classes = refl };
-  why = inr (subst (λ (s : Stage). IsNone s m.course m.held.pending) (sym rest) tt);
-}
+-- a turn that changed nothing, of a marking that another one is
+pub stays_by : {C : Type 0} (R : Marking C → Marking C → Type 0) (w m : Marking C) → w ≡ m → R w w → R m m
+stays_by R w m is h = subst (λ x. R x x) is h
 
 -- what stands next is put back
-same_marking : {C : Type 0} (m n : Marking C) → n.stage ≡ m.stage → IsSameButStage m n → n ≡ m
-same_marking {C = C} m n stage s =
-    ap {B = Marking C} (λ (t : Stage). record { classes = n.classes; stage = t; course = n.course; held = n.held }) stage
-    ∙ ap {B = Marking C} (λ (k : Course). record { classes = n.classes; stage = m.stage; course = k; held = n.held }) s.course
-    ∙ ap {B = Marking C} (λ (h : Held). record { classes = n.classes; stage = m.stage; course = m.course; held = h }) s.held
-    ∙ ap {B = Marking C} (λ (x : C). record { classes = x; stage = m.stage; course = m.course; held = m.held }) s.classes
-
 pub standing_back : {C : Type 0} (placed : C → List ℕ → Placed) (m n : Marking C) → n.stage ≡ m.stage → IsSameButStage m n → KeepsStanding placed m n
-standing_back placed m n stage s = subst (KeepsStanding placed m) (sym (same_marking m n stage s)) (standing_refl placed m)
-
-pub back : {C : Type 0} (P : Marking C → Type 0) (m n : Marking C) → n.stage ≡ m.stage → IsSameButStage m n → P m → P n
-back P m n stage s h = subst P (sym (same_marking m n stage s)) h
+standing_back placed m n stage s =
+    let same : IsSame n m = record {
+      stage = stage;
+      course = s.course;
+      ready = ap (λ (h : Held). h.ready) s.held;
+      pending = ap (λ (h : Held). h.pending) s.held;
+      classes = s.classes;
+    } in
+    subst (KeepsStanding placed m) (sym (same_marking n m same)) (standing_refl placed m)
 
 -- MORE BYTES
 stand_longer : (f : Form) (xs ys : List ℕ) (count at : ℕ) (rs : List Record) → Stand f xs count at rs → Stand f (xs ++ ys) count at rs
@@ -234,44 +215,23 @@ stands_longer Start c taken more n h = h
 stands_longer (Records head) c taken more n h = records_longer (form head) c taken more n h
 stands_longer Rest c taken more n h = h
 
-pub filled_stands : {C : Type 0} (placed : C → List ℕ → Placed) (m n : Marking C) (more : List ℕ) → length m.held.ready ≡ 0
-    → Comes m n m.stage m.course [] (m.held.pending ++ more)
-    → (c : Conditioning) (taken bytes : List ℕ) → Stands placed c taken bytes m → Stands placed c (taken ++ more) bytes n
-filled_stands placed m n more none j c taken bytes s =
+pub more_stands : {C : Type 0} (placed : C → List ℕ → Placed) (m : Marking C) (more : List ℕ) → length m.held.ready ≡ 0
+    → (c : Conditioning) (taken bytes : List ℕ) → Stands placed c taken bytes m → Stands placed c (taken ++ more) bytes (with_more m more)
+more_stands placed m more none c taken bytes s =
     let i = length bytes + length m.held.ready in
     let ready : m.held.ready ≡ [] = nil_from_length m.held.ready none in
-    let same : i ≡ length bytes + length n.held.ready = omega (arith, none, ap length j.ready) in
+    let same : i ≡ length bytes + 0 = omega (arith, none) in
     let within : i ≤ length taken = omega (arith, s.many) in
     record {
-      many = omega (arith, s.many, none, ap length j.ready, ap length j.pending, length-append m.held.pending more, length-append taken more);
-      pending = j.pending ∙ ap (λ (l : List ℕ). l ++ more) s.pending ∙ sym (drop-append-le i taken more within)
-          ∙ ap (λ (k : ℕ). drop k (taken ++ more)) same;
-      by = subst (λ (k : ℕ). StandsAt n.stage n.course (taken ++ more) k) same
-          (stage_to m.stage n.stage m.course n.course (taken ++ more) i j.stage j.course (stands_longer m.stage m.course taken more i s.by));
+      many = omega (arith, s.many, none, length-append m.held.pending more, length-append taken more);
+      pending = ap (λ (l : List ℕ). l ++ more) s.pending ∙ sym (drop-append-le i taken more within) ∙ ap (λ (k : ℕ). drop k (taken ++ more)) same;
+      by = subst (λ (k : ℕ). StandsAt m.stage m.course (taken ++ more) k) same (stands_longer m.stage m.course taken more i s.by);
       same = λ left.
           ap (λ (l : List ℕ). bytes ++ l)
-          (given_is placed m n m.stage m.course [] (m.held.pending ++ more) left j
-          ∙ ap (λ (l : List ℕ). made m.stage (placed m.classes) m.course l) (append_assoc m.held.pending more left)
+          (ap (λ (l : List ℕ). made m.stage (placed m.classes) m.course l) (append_assoc m.held.pending more left)
           ∙ ap (λ (l : List ℕ). l ++ made m.stage (placed m.classes) m.course (m.held.pending ++ (more ++ left))) (sym ready))
           ∙ s.same (more ++ left)
           ∙ ap (marked c) (sym (append_assoc taken more left));
-    }
-
--- what was ready is given
-pub given_stands : {C : Type 0} (placed : C → List ℕ → Placed) (m n : Marking C) → Comes m n m.stage m.course [] m.held.pending
-    → (c : Conditioning) (taken bytes : List ℕ) → Stands placed c taken bytes m → Stands placed c taken (bytes ++ m.held.ready) n
-given_stands placed m n j c taken bytes s =
-    let xs = bytes ++ m.held.ready in
-    let same : length bytes + length m.held.ready ≡ length xs + length n.held.ready = omega (arith, ap length j.ready, length-append bytes m.held.ready) in
-    record {
-      many = omega (arith, s.many, ap length j.ready, ap length j.pending, length-append bytes m.held.ready);
-      pending = j.pending ∙ s.pending ∙ ap (λ (k : ℕ). drop k taken) same;
-      by = subst (λ (k : ℕ). StandsAt n.stage n.course taken k) same
-          (stage_to m.stage n.stage m.course n.course taken (length bytes + length m.held.ready) j.stage j.course s.by);
-      same = λ left.
-          ap (λ (l : List ℕ). xs ++ l) (given_is placed m n m.stage m.course [] m.held.pending left j)
-          ∙ append_assoc bytes m.held.ready (made m.stage (placed m.classes) m.course (m.held.pending ++ left))
-          ∙ s.same left;
     }
 
 -- before a byte was passed
@@ -284,14 +244,14 @@ begun_stands placed c first m start count at ready pending same =
     record {
       many = omega (arith, none, ap length pending);
       pending = pending ∙ ap (λ (k : ℕ). drop k first) far;
-      by = subst (λ (k : ℕ). StandsAt m.stage m.course first k) far (stage_to Start m.stage m.course m.course first 0 start refl (refl, count, at));
+      by = subst (λ (k : ℕ). StandsAt m.stage m.course first k) far (stands_in Start m.stage m.course first 0 (sym start) (refl, count, at));
       same = same;
     }
 
 -- bytes were taken behind those that are pending
-pub filled_on : {C : Type 0} (placed : C → List ℕ → Placed) (v w : View) (file : ℕ) (m n : Marking C) (t : TookInto v w file m.held.pending n.held.pending)
-    → length m.held.ready ≡ 0 → Comes m n m.stage m.course [] (m.held.pending ++ t.0) → HasTakenOn placed v w file m n
-filled_on placed v w file m n t none j = record { more = t.0; took = t.1; stands = filled_stands placed m n t.0 none j }
+pub more_taken : {C : Type 0} (placed : C → List ℕ → Placed) (v w : View) (file : ℕ) (m : Marking C) (more : List ℕ) → Took v w file more
+    → length m.held.ready ≡ 0 → HasTakenOn placed v w file m (with_more m more)
+more_taken placed v w file m more took none = record { more = more; took = took; stands = more_stands placed m more none }
 
 pub passed_on : {C : Type 0} (placed : C → List ℕ → Placed) (v w : View) (file : ℕ) (m n o : Marking C) → HasTakenOn placed v w file m n → KeepsStanding placed n o
     → HasTakenOn placed v w file m o
@@ -301,46 +261,24 @@ passed_on placed v w file m n o x y = record {
   stands = λ c taken bytes s. y.stands c (taken ++ x.more) bytes (x.stands c taken bytes s);
 }
 
-pub taken_by : {C : Type 0} (placed : C → List ℕ → Placed) (v w : View) (file : ℕ) (a m n : Marking C) → a ≡ m → HasTakenOn placed v w file a n → HasTakenOn placed v w file m n
-taken_by placed v w file a m n is h = subst (λ x. HasTakenOn placed v w file x n) is h
-
 -- nothing was taken
-pub none_on : {C : Type 0} (placed : C → List ℕ → Placed) (v w : View) (file : ℕ) (m n : Marking C) → IsSome (v.part file) → Unchanged v w
-    → length m.held.ready ≡ 0 → Comes m n m.stage m.course [] m.held.pending → HasTakenOn placed v w file m n
-none_on placed v w file m n there u none j = record {
+pub none_taken : {C : Type 0} (placed : C → List ℕ → Placed) (v w : View) (file : ℕ) (m : Marking C) → IsSome (v.part file) → Unchanged v w → HasTakenOn placed v w file m m
+none_taken placed v w file m there u = record {
   more = [];
   took = took_unchanged v v w file [] there (took_nothing v file) u;
-  stands = filled_stands placed m n [] none
-      (record { stage = j.stage; course = j.course; ready = j.ready; pending = j.pending ∙ sym (append-nil m.held.pending); classes = j.classes });
+  stands = λ c taken bytes s. subst (λ (l : List ℕ). Stands placed c l bytes m) (sym (append-nil taken)) s;
 }
 
-pub waits_same : {C : Type 0} (m n : Marking C) (xs : List ℕ) → Waits m → Comes m n m.stage m.course xs m.held.pending → Waits n
-waits_same m n xs w j = record {
-  part = subst (λ (s : Stage). IsPart s n.course n.held.pending) (sym j.stage)
-      (subst (λ (c : Course). IsPart m.stage c n.held.pending) (sym j.course)
-      (subst (λ (l : List ℕ). IsPart m.stage m.course l) (sym j.pending) w.part));
-  room = omega (arith, w.room, ap length j.pending);
+pub reach_by : {C : Type 0} (w m n : Marking C) (more : List ℕ) (k : ℕ) → w ≡ m → IsSame n (with_more w more) → length more ≡ k → reach n ≡ reach m + k
+reach_by w m n more k is same many =
+    said_by (λ a b. reach b ≡ reach a + k) w m n (λ x. with_more x more) is same (omega (arith, many, length-append w.held.pending more))
+
+-- the same marking where nothing was ready and nothing came
+pub same_still : {C : Type 0} (m n : Marking C) (more : List ℕ) → IsSame n (with_more m more) → length m.held.ready ≡ 0 → length more ≡ 0 → IsSame n m
+same_still m n more same none ended = record {
+  stage = same.stage;
+  course = same.course;
+  ready = same.ready ∙ sym (nil_from_length m.held.ready none);
+  pending = same.pending ∙ ap (λ (l : List ℕ). m.held.pending ++ l) (nil_from_length more ended) ∙ append-nil m.held.pending;
+  classes = same.classes;
 }
-
-pub reach_filled : {C : Type 0} (m n : Marking C) (more : List ℕ) → Comes m n m.stage m.course [] (m.held.pending ++ more) → reach n ≡ reach m + length more
-reach_filled m n more j =
-    reach_is n m.stage m.course (m.held.pending ++ more) j.stage j.course j.pending ∙ omega (arith, length-append m.held.pending more)
-
--- the same of a marking that another one is
-pub reach_by : {C : Type 0} (a m n : Marking C) (more : List ℕ) (k : ℕ) → a ≡ m → Comes a n a.stage a.course [] (a.held.pending ++ more) → length more ≡ k
-    → reach n ≡ reach m + k
-reach_by a m n more k is j many = subst (λ x. reach n ≡ reach x + k) is (reach_filled a n more j ∙ ap (λ (i : ℕ). reach a + i) many)
-
-pub waits_on : {C : Type 0} (a m n : Marking C) → a ≡ m → Waits m → Comes a n a.stage a.course [] a.held.pending → Waits n
-waits_on a m n is w j = waits_same a n [] (subst Waits (sym is) w) j
-
-pub waits_by : {C : Type 0} (a m n : Marking C) (more : List ℕ) → a ≡ m → Waits m → Comes a n a.stage a.course [] (a.held.pending ++ more) → length more ≡ 0 → Waits n
-waits_by a m n more is w j none =
-    let nothing : more ≡ [] = nil_from_length more none in
-    waits_on a m n is w (record {
-      stage = j.stage;
-      course = j.course;
-      ready = j.ready;
-      pending = j.pending ∙ ap (λ (l : List ℕ). a.held.pending ++ l) nothing ∙ append-nil a.held.pending;
-      classes = j.classes;
-    })

@@ -1,5 +1,5 @@
 -- What a marker holds once it has taken bytes from a file.
-use Rattle.std.proofs.Common.{◌≡◌, ◌≤◌, ◌<◌, ◌+◌, ◌∙◌, ap, ℕ, List, [], ◌++◌, length, arith, sym, subst, inl, inr, append_assoc, append-nil, length-append}
+use Rattle.std.proofs.Common.{◌≡◌, ◌≤◌, ◌<◌, ◌+◌, ◌∙◌, ap, ℕ, List, [], ◌++◌, length, refl, arith, sym, subst, inl, inr, append_assoc, append-nil, length-append}
 use Rattle.std.specs.Prelude.{IsSome, min}
 use Rattle.std.proofs.lemmas.List.{nil_from_length}
 use Rattle.altq_model.specs.declared.Placed.{Placed}
@@ -8,10 +8,10 @@ use Rattle.pcap_files.proofs.ReaderLemmas.{took_unchanged}
 use Rattle.play_base.proofs.ViewLaws.{took_more, took_nothing}
 use Rattle.marked_files.specs.Courses.{made}
 use Rattle.marked_files.specs.Markings.{Marking, given}
-use Rattle.marked_files.specs.Taking.{HasAdvanced, HasGivenAll, HasRead, HasReady, HasTaken, HoldsNone, IsStuck, KeepsGiven, holds}
-use Rattle.marked_files.specs.declared.stage.Stage.TheVariants.{Rest}
-use Rattle.marked_files.proofs.Advancing.{Comes, given_is, stuck}
+use Rattle.marked_files.specs.Taking.{HasAdvanced, HasGivenAll, HasRead, HasReady, HasTaken, IsStuck, KeepsGiven, holds}
+use Rattle.marked_files.proofs.Advancing.{IsSame, all_ready, same_marking, with_more, with_ready}
 use Rattle.marked_files.proofs.Passing.{none_stays}
+use Rattle.marked_files.proofs.StandingLemmas.{same_still}
 
 -- no byte was taken
 pub keeps_taken : {C : Type 0} (placed : C → List ℕ → Placed) (v : View) (file : ℕ) (m n : Marking C) → KeepsGiven placed m n → HasTaken placed v v file m n
@@ -38,14 +38,19 @@ taken_more placed u v w file m n o x y = record {
 }
 
 -- Bytes were taken behind those that are not ready, where none is ready.
-pub record Filled {C : Type 0} (v w : View) (file : ℕ) (m n : Marking C) (more : List ℕ) : Type 0 where
+pub record Filled {C : Type 0} (v w : View) (file : ℕ) (m n : Marking C) : Type 0 where
+  pub more : List ℕ
   pub took : Took v w file more
   pub none : length m.held.ready ≡ 0
-  pub came : Comes m n m.stage m.course [] (m.held.pending ++ more)
+  pub came : IsSame n (with_more m more)
 
-pub filled_taken : {C : Type 0} (placed : C → List ℕ → Placed) (v w : View) (file : ℕ) (m n : Marking C) (more : List ℕ) → Filled v w file m n more
-    → HasTaken placed v w file m n
-filled_taken placed v w file m n more f =
+-- what is given of a marking by its parts
+given_by : {C : Type 0} (placed : C → List ℕ → Placed) (n o : Marking C) (left : List ℕ) → IsSame n o → given placed n left ≡ given placed o left
+given_by {C = C} placed n o left s = ap (λ (x : Marking C). given placed x left) (same_marking n o s)
+
+pub filled_taken : {C : Type 0} (placed : C → List ℕ → Placed) (v w : View) (file : ℕ) (m n : Marking C) → Filled v w file m n → HasTaken placed v w file m n
+filled_taken placed v w file m n f =
+    let more = f.more in
     let none : m.held.ready ≡ [] = nil_from_length m.held.ready f.none in
     record {
       bytes = more;
@@ -55,7 +60,7 @@ filled_taken placed v w file m n more f =
           let t = f.took.left left at in (
             t.0,
             t.2,
-            given_is placed m n m.stage m.course [] (m.held.pending ++ more) t.0 f.came
+            given_by placed n (with_more m more) t.0 f.came
                 ∙ ap (λ (l : List ℕ). made m.stage (placed m.classes) m.course l) (append_assoc m.held.pending more t.0 ∙ ap (λ (l : List ℕ). m.held.pending ++ l) (sym t.1))
                 ∙ ap (λ (l : List ℕ). l ++ made m.stage (placed m.classes) m.course (m.held.pending ++ left)) (sym none),
           );
@@ -64,7 +69,7 @@ filled_taken placed v w file m n more f =
 
 -- where the file is at its end, the bytes that are held are given as they are
 pub ended_taken : {C : Type 0} (placed : C → List ℕ → Placed) (w : View) (file : ℕ) (m n : Marking C) → IsStuck m → IsAtEnd w file
-    → Comes m n Rest m.course (m.held.ready ++ m.held.pending) [] → HasTaken placed w w file m n
+    → IsSame n (all_ready m) → HasTaken placed w w file m n
 ended_taken placed w file m n stuck ended j = record {
   bytes = [];
   took = took_nothing w file;
@@ -73,7 +78,7 @@ ended_taken placed w file m n stuck ended j = record {
       let none : left ≡ [] = nil_from_length left (ended left at) in (
         left,
         at,
-        given_is placed m n Rest m.course (m.held.ready ++ m.held.pending) [] left j
+        given_by placed n (all_ready m) left j
             ∙ append_assoc m.held.ready m.held.pending left
             ∙ ap (λ (l : List ℕ). m.held.ready ++ l)
             (ap (λ (l : List ℕ). m.held.pending ++ l) none ∙ append-nil m.held.pending ∙ sym (none_stays m.stage (placed m.classes) m.course m.held.pending stuck.none)
@@ -83,49 +88,60 @@ ended_taken placed w file m n stuck ended j = record {
   classes = j.classes;
 }
 
-filled_stuck : {C : Type 0} (v w : View) (file : ℕ) (m n : Marking C) → IsStuck m → Filled v w file m n [] → IsStuck n
-filled_stuck v w file m n s f =
-    stuck m n m.stage m.course [] (m.held.pending ++ []) f.came (subst (HoldsNone m.stage m.course) (sym (append-nil m.held.pending)) s.none)
-    (omega (arith, s.room, length-append m.held.pending []))
+filled_stuck : {C : Type 0} (v w : View) (file : ℕ) (m n : Marking C) → IsStuck m → (f : Filled v w file m n) → f.more ≡ [] → IsStuck n
+filled_stuck v w file m n s f none =
+    let same = same_still m n f.more f.came f.none (ap length none) in
+    subst IsStuck (sym (same_marking n m same)) s
 
 -- a turn of a marker: it advances, and bytes are taken
-pub record Turn {C : Type 0} (placed : C → List ℕ → Placed) (v w : View) (file : ℕ) (m b n : Marking C) (more : List ℕ) : Type 0 where
+pub record Turn {C : Type 0} (placed : C → List ℕ → Placed) (v w : View) (file : ℕ) (m b n : Marking C) : Type 0 where
   pub advanced : HasAdvanced placed m b
-  pub filled : Filled v w file b n more
+  pub filled : Filled v w file b n
 
 -- to a marking that the code has by its parts
 pub advanced_by : {C : Type 0} (placed : C → List ℕ → Placed) (m a b : Marking C) → b ≡ a → HasAdvanced placed m a → HasAdvanced placed m b
 advanced_by placed m a b is h = subst (HasAdvanced placed m) (sym is) h
 
-pub turn_taken : {C : Type 0} (placed : C → List ℕ → Placed) (v w : View) (file : ℕ) (m b n : Marking C) (more : List ℕ) → Turn placed v w file m b n more
-    → HasTaken placed v w file m n
-turn_taken placed v w file m b n more t =
-    taken_more placed v v w file m b n (keeps_taken placed v file m b t.advanced.keeps) (filled_taken placed v w file b n more t.filled)
+pub turn_taken : {C : Type 0} (placed : C → List ℕ → Placed) (v w : View) (file : ℕ) (m b n : Marking C) → Turn placed v w file m b n → HasTaken placed v w file m n
+turn_taken placed v w file m b n t =
+    taken_more placed v v w file m b n (keeps_taken placed v file m b t.advanced.keeps) (filled_taken placed v w file b n t.filled)
 
--- where the read failed, none was taken
-pub filled_nothing : {C : Type 0} (v w : View) (file : ℕ) (b n : Marking C) → IsSome (v.part file) → Unchanged v w → length b.held.ready ≡ 0
-    → Comes b n b.stage b.course [] b.held.pending → Filled v w file b n []
-filled_nothing v w file b n there same none j = record {
-  took = took_unchanged v v w file [] there (took_nothing v file) same;
-  none = none;
-  came = record { stage = j.stage; course = j.course; ready = j.ready; pending = j.pending ∙ sym (append-nil b.held.pending); classes = j.classes };
-}
+-- one whose read failed: nothing was taken
+pub record Failed {C : Type 0} (placed : C → List ℕ → Placed) (v w : View) (file : ℕ) (m b n : Marking C) : Type 0 where
+  pub advanced : HasAdvanced placed m b
+  pub there : IsSome (v.part file)
+  pub unchanged : Unchanged v w
+  pub none : length b.held.ready ≡ 0
+  pub still : IsSame n (with_ready b [])
 
--- one in which no byte was taken
-pub turn_waits : {C : Type 0} (placed : C → List ℕ → Placed) (v w : View) (file : ℕ) (m b n : Marking C) → Turn placed v w file m b n [] → HasGivenAll n
-turn_waits placed v w file m b n t = record { ready = t.filled.came.ready; none = (filled_stuck v w file b n t.advanced.stuck t.filled).none }
+pub failed_taken : {C : Type 0} (placed : C → List ℕ → Placed) (v w : View) (file : ℕ) (m b n : Marking C) → Failed placed v w file m b n → HasTaken placed v w file m n
+failed_taken placed v w file m b n f =
+    let j = f.still in
+    turn_taken placed v w file m b n (record {
+      advanced = f.advanced;
+      filled = record {
+        more = [];
+        took = took_unchanged v v w file [] f.there (took_nothing v file) f.unchanged;
+        none = f.none;
+        came = record { stage = j.stage; course = j.course; ready = j.ready; pending = j.pending ∙ sym (append-nil b.held.pending); classes = j.classes };
+      };
+    })
+
+pub failed_waits : {C : Type 0} (placed : C → List ℕ → Placed) (v w : View) (file : ℕ) (m b n : Marking C) → Failed placed v w file m b n → HasGivenAll n
+failed_waits placed v w file m b n f =
+    subst HasGivenAll (sym (same_marking n (with_ready b []) f.still)) (record { ready = refl; none = f.advanced.stuck.none })
 
 -- the last one, at the file's end
-pub turn_ended : {C : Type 0} (placed : C → List ℕ → Placed) (v w : View) (file : ℕ) (m b n e : Marking C) (more : List ℕ) → Turn placed v w file m b n more → more ≡ []
-    → IsAtEnd w file → Comes n e Rest n.course (n.held.ready ++ n.held.pending) [] → HasTaken placed v w file m e
-turn_ended placed v w file m b n e more t none ended j =
-    let still = filled_stuck v w file b n t.advanced.stuck (subst (Filled v w file b n) none t.filled) in
-    taken_more placed v w w file m n e (turn_taken placed v w file m b n more t) (ended_taken placed w file n e still ended j)
+pub turn_ended : {C : Type 0} (placed : C → List ℕ → Placed) (v w : View) (file : ℕ) (m b n e : Marking C) → (t : Turn placed v w file m b n) → t.filled.more ≡ []
+    → IsAtEnd w file → IsSame e (all_ready n) → HasTaken placed v w file m e
+turn_ended placed v w file m b n e t none ended j =
+    let still = filled_stuck v w file b n t.advanced.stuck t.filled none in
+    taken_more placed v w w file m n e (turn_taken placed v w file m b n t) (ended_taken placed w file n e still ended j)
 
 -- a marking of which these bytes were given
 pub record Gave {C : Type 0} (m n : Marking C) (bytes : List ℕ) : Type 0 where
   pub ready : m.held.ready ≡ bytes ++ n.held.ready
-  pub came : Comes m n m.stage m.course n.held.ready m.held.pending
+  pub came : IsSame n (with_ready m n.held.ready)
 
 pub gave_by : {C : Type 0} (w m n : Marking C) (bytes : List ℕ) → w ≡ m → Gave w n bytes → Gave m n bytes
 gave_by w m n bytes is g = subst (λ x. Gave x n bytes) is g
@@ -134,7 +150,7 @@ gave_rest : {C : Type 0} (placed : C → List ℕ → Placed) (m n : Marking C) 
 gave_rest placed m n bytes left g =
     let rest = made m.stage (placed m.classes) m.course (m.held.pending ++ left) in
     ap (λ (l : List ℕ). l ++ rest) g.ready ∙ append_assoc bytes n.held.ready rest
-    ∙ ap (λ (l : List ℕ). bytes ++ l) (sym (given_is placed m n m.stage m.course n.held.ready m.held.pending left g.came))
+    ∙ ap (λ (l : List ℕ). bytes ++ l) (sym (given_by placed n (with_ready m n.held.ready) left g.came))
 
 -- what was taken, and what was given then
 pub taken_read : {C : Type 0} (placed : C → List ℕ → Placed) (v w : View) (file : ℕ) (m n o : Marking C) (bytes : List ℕ) → HasTaken placed v w file m n → holds n ≤ 262160

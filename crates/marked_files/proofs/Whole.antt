@@ -34,9 +34,26 @@ arrival_of place latest r = record {
   raised = nat_lt r.stamp latest;
 }
 
--- the course after packets that came
-abbrev course_at : (rules : List (Option MeterRule)) (count at latest : ℕ) (earlier : List Captured) → Course
-course_at rules count at latest earlier = record { count = count; at = at; latest = latest; meters = meters_at 0 rules earlier }
+-- how far a capture was read: the records that were, the place of the next, the greatest stamp so far, and the packets that came, the
+-- newest first
+record Past : Type 0 where
+  pub count : ℕ
+  pub at : ℕ
+  pub latest : ℕ
+  pub earlier : List Captured
+
+-- the course after them
+abbrev course_after : (rules : List (Option MeterRule)) → Past → Course
+course_after rules k = record { count = k.count; at = k.at; latest = k.latest; meters = meters_at 0 rules k.earlier }
+
+-- and one record further on
+abbrev further : (place : List ℕ → Placed) → Past → Record → Past
+further place k r = record {
+  count = k.count + 1;
+  at = k.at + 16 + length r.captured;
+  latest = max k.latest r.stamp;
+  earlier = arrival_of place k.latest r ∷ k.earlier;
+}
 
 -- the header of a record that was read
 abbrev head_of : Record → RecordHead
@@ -171,50 +188,49 @@ none_last (capture.Fault d) count xs found last h = h
 none_last capture.Limit count xs found last h = h
 
 -- from a place on, where records stand
-records_marked : (place : List ℕ → Placed) (rules : List (Option MeterRule)) (form : Form) (bytes : List ℕ) (rs : List Record) (last : Step)
-    (count at latest : ℕ) (earlier : List Captured) → at ≤ length bytes → count ≤ most_records → Stand form bytes count at rs
-    → step form bytes (count + length rs) (place_after at rs) ≡ last → IsLast last
-    → records_from place form (course_at rules count at latest earlier) (drop at bytes)
-    ≡ with_frames (marked_frames (conditioners_from 0 rules) earlier (arrivals_from place latest rs)) (drop at bytes)
-records_marked place rules form bytes [] last count at latest earlier within few stand ended is_last =
-    let here : step form bytes count at ≡ last = ap (λ (n : ℕ). step form bytes n at) (omega arith) ∙ ended in
-    no_record place form (course_at rules count at latest earlier) (drop at bytes)
-    (none_last last count (drop at bytes) _ is_last (agrees_at form bytes count at last within here))
-records_marked place rules form bytes (r ∷ rs) last count at latest earlier within few stand ended is_last =
-    let xs = drop at bytes in
-    let c = course_at rules count at latest earlier in
-    let a = arrival_of place latest r in
+records_marked : (place : List ℕ → Placed) (rules : List (Option MeterRule)) (form : Form) (bytes : List ℕ) (rs : List Record) (last : Step) (k : Past)
+    → k.at ≤ length bytes → k.count ≤ most_records → Stand form bytes k.count k.at rs
+    → step form bytes (k.count + length rs) (place_after k.at rs) ≡ last → IsLast last
+    → records_from place form (course_after rules k) (drop k.at bytes)
+    ≡ with_frames (marked_frames (conditioners_from 0 rules) k.earlier (arrivals_from place k.latest rs)) (drop k.at bytes)
+records_marked place rules form bytes [] last k within few stand ended is_last =
+    let here : step form bytes k.count k.at ≡ last = ap (λ (n : ℕ). step form bytes n k.at) (omega arith) ∙ ended in
+    no_record place form (course_after rules k) (drop k.at bytes)
+    (none_last last k.count (drop k.at bytes) _ is_last (agrees_at form bytes k.count k.at last within here))
+records_marked place rules form bytes (r ∷ rs) last k within few stand ended is_last =
+    let xs = drop k.at bytes in
+    let c = course_after rules k in
+    let a = arrival_of place k.latest r in
     let head = head_of r in
-    let found : Found count xs r (whole (headed form count at xs) xs) = agrees_at form bytes count at _ within stand.0 in
-    let less : count < most_records = grind (arith, few, found.more) in
-    let after = next_place form bytes count at r (at + 16 + length r.captured) stand.0 in
+    let next = further place k r in
+    let found : Found k.count xs r (whole (headed form k.count k.at xs) xs) = agrees_at form bytes k.count k.at _ within stand.0 in
+    let less : k.count < most_records = grind (arith, few, found.more) in
+    let after = next_place form bytes k.count k.at r next.at stand.0 in
     let frame : frame_in head xs ≡ r.captured = sym found.frame in
-    let f = marked_frame (rule_of (conditioners_from 0 rules) a.class) earlier a in
-    let fs = marked_frames (conditioners_from 0 rules) (a ∷ earlier) (arrivals_from place (max latest r.stamp) rs) in
-    let long : length f ≡ length r.captured = length-marked_frame (rule_of (conditioners_from 0 rules) a.class) earlier a in
+    let f = marked_frame (rule_of (conditioners_from 0 rules) a.class) k.earlier a in
+    let fs = marked_frames (conditioners_from 0 rules) next.earlier (arrivals_from place next.latest rs) in
+    let long : length f ≡ length r.captured = length-marked_frame (rule_of (conditioners_from 0 rules) a.class) k.earlier a in
     let first : marked_record place c head xs ≡ take 16 xs ++ f =
-    ap (λ (g : List ℕ). take 16 xs ++ frame_by (meter_of (meters_at 0 rules earlier) (place g).class) (metered a) g) frame
-    ∙ ap (λ (g : List ℕ). take 16 xs ++ g) (frame_at 0 a.class rules a earlier (omega arith)) in
-    let course : passed place c head xs ≡ course_at rules (count + 1) (at + 16 + length r.captured) (max latest r.stamp) (a ∷ earlier) =
+    ap (λ (g : List ℕ). take 16 xs ++ frame_by (meter_of (meters_at 0 rules k.earlier) (place g).class) (metered a) g) frame
+    ∙ ap (λ (g : List ℕ). take 16 xs ++ g) (frame_at 0 a.class rules a k.earlier (omega arith)) in
+    let course : passed place c head xs ≡ course_after rules next =
     ap (λ (g : List ℕ). record {
-      count = count + 1;
-      at = at + 16 + length r.captured;
-      latest = max latest r.stamp;
-      meters = meters_after (meters_at 0 rules earlier) (place g).class (metered a);
+      count = next.count;
+      at = next.at;
+      latest = next.latest;
+      meters = meters_after (meters_at 0 rules k.earlier) (place g).class (metered a);
     }) frame
-    ∙ ap (λ (ms : List _). record { count = count + 1; at = at + 16 + length r.captured; latest = max latest r.stamp; meters = ms })
-    (one_more 0 a.class rules a earlier (omega arith)) in
-    let behind : drop (16 + length r.captured) xs ≡ drop (at + 16 + length r.captured) bytes =
-    drop-drop (16 + length r.captured) at bytes ∙ ap (λ (n : ℕ). drop n bytes) (omega arith) in
-    let rest = records_marked place rules form bytes rs last (count + 1) (at + 16 + length r.captured) (max latest r.stamp) (a ∷ earlier)
-    after.1 (omega (arith, less)) stand.1
-    (ap (λ (n : ℕ). step form bytes n (place_after (at + 16 + length r.captured) rs)) (omega arith) ∙ ended) is_last in
+    ∙ ap (λ (ms : List _). record { count = next.count; at = next.at; latest = next.latest; meters = ms }) (one_more 0 a.class rules a k.earlier (omega arith)) in
+    let behind : drop (16 + length r.captured) xs ≡ drop next.at bytes =
+    drop-drop (16 + length r.captured) k.at bytes ∙ ap (λ (n : ℕ). drop n bytes) (omega arith) in
+    let rest = records_marked place rules form bytes rs last next after.1 (omega (arith, less)) stand.1
+    (ap (λ (n : ℕ). step form bytes n (place_after next.at rs)) (omega arith) ∙ ended) is_last in
     one_record place form c xs head less found.head
     ∙ ap (λ (m : List ℕ). m ++ records_from place form (passed place c head xs) (drop (16 + length r.captured) xs)) first
     ∙ ap (λ (d : Course). (take 16 xs ++ f) ++ records_from place form d (drop (16 + length r.captured) xs)) course
-    ∙ ap (λ (l : List ℕ). (take 16 xs ++ f) ++ records_from place form (course_at rules (count + 1) (at + 16 + length r.captured) (max latest r.stamp) (a ∷ earlier)) l) behind
+    ∙ ap (λ (l : List ℕ). (take 16 xs ++ f) ++ records_from place form (course_after rules next) l) behind
     ∙ ap (λ (l : List ℕ). (take 16 xs ++ f) ++ l) rest
-    ∙ append_assoc (take 16 xs) f (with_frames fs (drop (at + 16 + length r.captured) bytes))
+    ∙ append_assoc (take 16 xs) f (with_frames fs (drop next.at bytes))
     ∙ ap (λ (l : List ℕ). take 16 xs ++ (f ++ with_frames fs l)) (sym behind)
     ∙ ap (λ (n : ℕ). take 16 xs ++ (f ++ with_frames fs (drop (16 + n) xs))) (sym long)
 
@@ -228,7 +244,7 @@ by_header (Formed form) place rules bytes e reads last =
     let long : 24 ≤ length bytes = ltb-false (length bytes) 24 (formed_whole bytes form e) in
     ap (λ (ms : List _). take 24 bytes ++ records_from place form (record { count = 0; at = 24; latest = 0; meters = ms }) (drop 24 bytes)) (new_at 0 rules)
     ∙ ap (λ (l : List ℕ). take 24 bytes ++ l)
-    (records_marked place rules form bytes rs (outcome_from (Formed form) bytes).last 0 24 0 [] long (omega arith) reads.stand
+    (records_marked place rules form bytes rs (outcome_from (Formed form) bytes).last (record { count = 0; at = 24; latest = 0; earlier = [] }) long (omega arith) reads.stand
     (ap (λ (n : ℕ). step form bytes n (place_after 24 rs)) (omega arith) ∙ reads.ended) last)
 
 pub makes_marked : (place : List ℕ → Placed) (rules : List (Option MeterRule)) (bytes : List ℕ) → MakesMarked place rules bytes

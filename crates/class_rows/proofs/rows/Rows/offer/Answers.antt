@@ -1,8 +1,8 @@
-use Rattle.std.proofs.Common.{◌-◌, subst, sym, arith}
+use Rattle.std.proofs.Common.{subst, sym, arith}
 use Rattle.altq_model.specs.Lawful.{IsOneOf}
 use Rattle.class_rows.specs.Rows.{Rowed, classes_in}
 use Rattle.class_rows.proofs.RowLemmas.{fit_at, fit_less}
-use Rattle.class_rows.proofs.RowHistory.{Offers, bounded_row, offers, queue_is, queue_place, with_row}
+use Rattle.class_rows.proofs.RowHistory.{Offering, Offers, Swap, bounded_row, offers, queue_is, queue_place, swapped}
 use Rattle.class_rows.proofs.rows.Rows.offer.Given.{Over}
 use Rattle.class_rows.proofs.rows.Rows.offer.Goals as goal
 
@@ -38,40 +38,48 @@ offer_to-requires-clause-room g c = λ less.
       c.self.invariant.there,
     )
 
+-- the row before the offer, the offer as it was answered, and the class's queue and the lists before and after it
+abbrev old : (g : Over) → goal.After-self-1 g → Rowed g.row.Q.Denot
+old g c = record { first = c.self.inside.first; queues = c.self.inside.queues.items; holds = c.self.inside.holds.items; listed = c.self.inside.lists }
+
+abbrev offering : (g : Over) → goal.After-self-1 g → Offering
+offering g c = record {
+  class = c.args.class;
+  entry = c.args.entry;
+  now = c.args.now;
+  words = c.args.words.now;
+  after = c.offer_to.new.words;
+  verdict = c.offer_to.result;
+}
+
+abbrev swap : (g : Over) → goal.After-self-1 g → Swap g.row.Q.Denot
+swap g c = record { was = c.index_mut-queue.result.now; is = c.offer_to.new.queue; listed = c.offer_to.new.lists }
+
 all : (g : Over) (c : goal.After-self-1 g)
-    → Offers g.Q.QueueRule.stands g.Q.QueueRule.says g.Q.QueueRule.most c.self.inside.room
-    (record { first = c.self.inside.first; queues = c.self.inside.queues.items; holds = c.self.inside.holds.items; listed = c.self.inside.lists })
-    (with_row (record { first = c.self.inside.first; queues = c.self.inside.queues.items; holds = c.self.inside.holds.items; listed = c.self.inside.lists })
-    (c.args.class - c.self.inside.first) c.offer_to.new.queue c.offer_to.new.lists)
-    c.args.class c.args.entry c.args.now c.args.words.now c.offer_to.result c.offer_to.new.words
+    → Offers g.Q.QueueRule.stands g.Q.QueueRule.says g.Q.QueueRule.most c.self.inside.room (old g c) (swapped (old g c) c.args.class (swap g c)) (offering g c)
 all g c =
     let P : Rowed g.row.Q.Denot → Type 0 = λ d. IsOneOf c.args.class (classes_in d) in
     let place = queue_place g.Q.QueueRule.most c.self.inside.room _ c.self.invariant c.args.class (subst P (sym c.self.view_is) c.requires.class) in
-    offers g.Q.QueueRule.stands g.Q.QueueRule.says g.Q.QueueRule.most c.self.inside.room _ c.index_mut-queue.result.now c.offer_to.new.queue
-    c.offer_to.new.lists
-    (record {
-      class = c.args.class;
-      entry = c.args.entry;
-      now = c.args.now;
-      words = c.args.words.now;
-      after = c.offer_to.new.words;
-      verdict = c.offer_to.result;
+    offers g.Q.QueueRule.stands g.Q.QueueRule.says g.Q.QueueRule.most c.self.inside.room (old g c) (swap g c) (offering g c) c.self.invariant (record {
+      place = place.0;
+      held = place.1;
+      swap = record {
+        there = queue_is _ c.args.class _ place.0 c.index_mut-queue.ensures.value;
+        same = c.offer_to.ensures.kind;
+        limit = c.offer_to.ensures.limit;
+        room = c.offer_to.ensures.room;
+      };
+      small = c.requires.prec;
+      lists = c.offer_to.ensures.lists;
+      full = c.offer_to.ensures.full;
+      asks = λ t k few. (c.offer_to.ensures.verdict t k few, c.offer_to.ensures.words t k few, c.offer_to.ensures.history t k few);
     })
-    c.self.invariant place.0 place.1
-    (queue_is _ c.args.class _ place.0 c.index_mut-queue.ensures.value) c.requires.prec c.offer_to.ensures.lists c.offer_to.ensures.room c.offer_to.ensures.kind
-    c.offer_to.ensures.limit c.offer_to.ensures.full
-    (λ t k few. (c.offer_to.ensures.verdict t k few, c.offer_to.ensures.words t k few, c.offer_to.ensures.history t k few))
 
 done : (g : Over) (c : goal.After-self-1 g)
-    → Offers g.Q.QueueRule.stands g.Q.QueueRule.says g.Q.QueueRule.most c.self.inside.room c.args.self.now
-    (with_row (record { first = c.self.inside.first; queues = c.self.inside.queues.items; holds = c.self.inside.holds.items; listed = c.self.inside.lists })
-    (c.args.class - c.self.inside.first) c.offer_to.new.queue c.offer_to.new.lists)
-    c.args.class c.args.entry c.args.now c.args.words.now c.offer_to.result c.offer_to.new.words
+    → Offers g.Q.QueueRule.stands g.Q.QueueRule.says g.Q.QueueRule.most c.self.inside.room c.args.self.now (swapped (old g c) c.args.class (swap g c)) (offering g c)
 done g c =
     let R : Rowed g.row.Q.Denot → Type 0 = λ d. Offers g.Q.QueueRule.stands g.Q.QueueRule.says g.Q.QueueRule.most c.self.inside.room d
-    (with_row (record { first = c.self.inside.first; queues = c.self.inside.queues.items; holds = c.self.inside.holds.items; listed = c.self.inside.lists })
-    (c.args.class - c.self.inside.first) c.offer_to.new.queue c.offer_to.new.lists)
-    c.args.class c.args.entry c.args.now c.args.words.now c.offer_to.result c.offer_to.new.words in
+    (swapped (old g c) c.args.class (swap g c)) (offering g c) in
     subst R c.self.view_is (all g c)
 
 pub invariant_of-self : goal.invariant_of-self

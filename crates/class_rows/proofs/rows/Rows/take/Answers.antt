@@ -1,7 +1,7 @@
 use Rattle.std.proofs.Common.{◌-◌, ◌<◌, length, subst, sym, arith, ap}
 use Rattle.class_rows.specs.Rows.{Rowed, list_in}
 use Rattle.class_rows.proofs.RowLemmas.{fit_at, list_at-here}
-use Rattle.class_rows.proofs.RowHistory.{Leaves, bounded_row, leaves, queue_is, waiting_place, with_row}
+use Rattle.class_rows.proofs.RowHistory.{Leaves, Swap, bounded_row, leaves, queue_is, waiting_place, swapped}
 use Rattle.class_rows.proofs.rows.Rows.take.Given.{Over}
 use Rattle.class_rows.proofs.rows.Rows.take.Goals as goal
 
@@ -33,29 +33,35 @@ take_from-requires-clause-precs g c =
     let place = waiting_place g.Q.QueueRule.most c.self.inside.room _ c.self.invariant c.args.class (subst P (sym c.self.view_is) c.requires.some) in
     (fit_at g.Q.QueueRule.most _ _ _ _ _ c.self.invariant.fit (queue_is _ c.args.class _ place c.index_mut-queue.ensures.value)).1
 
+-- the row before the head leaves, and the class's queue and the lists before and after that
+abbrev old : (g : Over) → goal.After-self-1 g → Rowed g.row.Q.Denot
+old g c = record { first = c.self.inside.first; queues = c.self.inside.queues.items; holds = c.self.inside.holds.items; listed = c.self.inside.lists }
+
+abbrev swap : (g : Over) → goal.After-self-1 g → Swap g.row.Q.Denot
+swap g c = record { was = c.index_mut-queue.result.now; is = c.take_from.new.queue; listed = c.take_from.new.lists }
+
 all : (g : Over) (c : goal.After-self-1 g)
-    → Leaves g.Q.QueueRule.stands g.Q.QueueRule.says g.Q.QueueRule.most c.self.inside.room
-    (record { first = c.self.inside.first; queues = c.self.inside.queues.items; holds = c.self.inside.holds.items; listed = c.self.inside.lists })
-    (with_row (record { first = c.self.inside.first; queues = c.self.inside.queues.items; holds = c.self.inside.holds.items; listed = c.self.inside.lists })
-    (c.args.class - c.self.inside.first) c.take_from.new.queue c.take_from.new.lists)
-    c.args.class c.args.now
+    → Leaves g.Q.QueueRule.stands g.Q.QueueRule.says g.Q.QueueRule.most c.self.inside.room (old g c) (swapped (old g c) c.args.class (swap g c)) c.args.class c.args.now
 all g c =
     let P : Rowed g.row.Q.Denot → Type 0 = λ d. 0 < length (list_in d c.args.class) in
     let place = waiting_place g.Q.QueueRule.most c.self.inside.room _ c.self.invariant c.args.class (subst P (sym c.self.view_is) c.requires.some) in
-    leaves g.Q.QueueRule.stands g.Q.QueueRule.says g.Q.QueueRule.most c.self.inside.room _ c.args.class c.index_mut-queue.result.now c.take_from.new.queue
-    c.take_from.new.lists c.args.now c.self.invariant place (queue_is _ c.args.class _ place c.index_mut-queue.ensures.value) c.take_from.ensures.lists
-    c.take_from.ensures.room c.take_from.ensures.kind c.take_from.ensures.limit c.take_from.ensures.history
+    leaves g.Q.QueueRule.stands g.Q.QueueRule.says g.Q.QueueRule.most c.self.inside.room (old g c) c.args.class c.args.now (swap g c) c.self.invariant (record {
+      place = place;
+      swap = record {
+        there = queue_is _ c.args.class _ place c.index_mut-queue.ensures.value;
+        same = c.take_from.ensures.kind;
+        limit = c.take_from.ensures.limit;
+        room = c.take_from.ensures.room;
+      };
+      lists = c.take_from.ensures.lists;
+      goes = c.take_from.ensures.history;
+    })
 
 done : (g : Over) (c : goal.After-self-1 g)
-    → Leaves g.Q.QueueRule.stands g.Q.QueueRule.says g.Q.QueueRule.most c.self.inside.room c.args.self.now
-    (with_row (record { first = c.self.inside.first; queues = c.self.inside.queues.items; holds = c.self.inside.holds.items; listed = c.self.inside.lists })
-    (c.args.class - c.self.inside.first) c.take_from.new.queue c.take_from.new.lists)
-    c.args.class c.args.now
+    → Leaves g.Q.QueueRule.stands g.Q.QueueRule.says g.Q.QueueRule.most c.self.inside.room c.args.self.now (swapped (old g c) c.args.class (swap g c)) c.args.class c.args.now
 done g c =
     let R : Rowed g.row.Q.Denot → Type 0 = λ d. Leaves g.Q.QueueRule.stands g.Q.QueueRule.says g.Q.QueueRule.most c.self.inside.room d
-    (with_row (record { first = c.self.inside.first; queues = c.self.inside.queues.items; holds = c.self.inside.holds.items; listed = c.self.inside.lists })
-    (c.args.class - c.self.inside.first) c.take_from.new.queue c.take_from.new.lists)
-    c.args.class c.args.now in
+    (swapped (old g c) c.args.class (swap g c)) c.args.class c.args.now in
     subst R c.self.view_is (all g c)
 
 pub invariant_of-self : goal.invariant_of-self
