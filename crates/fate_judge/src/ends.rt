@@ -23,7 +23,7 @@ pub(crate) struct Run {
     pub(crate) sent: u128,
 }
 
-// Whether a link takes this time for so many units, rounded up: at its end they are sent, and a nanosecond before they were not.
+// Whether `sent` units take a link of `rate` units a nanosecond this time, rounded up to a nanosecond.
 fn takes(rate: u64, sent: u128, time: u64) -> bool
     requires some { 0 < rate }
     requires most { rate ≤ 10 ^ 12 }
