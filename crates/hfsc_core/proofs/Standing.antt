@@ -2,15 +2,15 @@
 use Rattle.std.proofs.Common.{◌≡◌, ◌≤◌, ◌<◌, ◌+◌, ℕ, Bool, true, false, List, [], ◌∷◌, ◌++◌, length, refl, ap, sym, subst, arith, ◌∙◌, drop}
 use Rattle.std.specs.Prelude.{Option, ◌==◌, ◌&&◌, not, is_some, slice_get, if◌then◌else◌}
 use Rattle.altq_model.specs.declared.Verdict.{Verdict}
-use Rattle.altq_model.specs.History.{Answer, Arrival, DrawnWords, Happened, bare, is_kept, waiting}
+use Rattle.altq_model.specs.History.{Answer, Arrival, Happened, bare, is_kept, waiting}
 use Rattle.altq_model.specs.Play.{IsOneOf, Policy}
 use Rattle.altq_model.specs.Policies.{Answering}
-use Rattle.play_base.specs.declared.packet.Ticket.{Ticket}
 use Rattle.leaf_queue.specs.declared.node.Entry.{Entry}
 use Rattle.leaf_queue.specs.Queue.{QueueEvent, Saying}
-use Rattle.discipline.specs.Laws.{IsAnswer, seen, seen_of, after_offer, after_sent, arrival_with, entry, offer_of}
+use Rattle.discipline.specs.Laws.{IsAnswer, seen, seen_of, after_offer, after_sent, offer_of}
 use Rattle.discipline.specs.Moments.{IsOffer, IsOrderly}
 use Rattle.class_rows.specs.Rows.{Answers, Rowed, SameRow, answering, classes_in, holding, list_in}
+use Rattle.class_rows.proofs.RowHistory.{Offering, bare_arrival}
 use Rattle.hfsc_model.specs.declared.HfscClass.{HfscClass}
 use Rattle.hfsc_model.specs.Event.{HfscHistory, Enqueued, Sent}
 use Rattle.hfsc_model.specs.Leaf.{Waiting, leaf, is_waiting, after_kept}
@@ -141,13 +141,14 @@ module _ {Q : Type 0} (stands : Q → List QueueEvent → Type 0) (says : Q → 
   }
 
   -- an offer that is dropped
-  pub offer_dropped : (d : Held Q) (rows : Rowed Q) (h : List Happened) (ticket : Ticket) (c : Arrival) (w z : DrawnWords) (v : Verdict) → SameRow most says d.rows rows
-      → HfscStands stands says d h → IsOffer c (bare h) → Answers stands says d.rows rows h c.class (entry ticket c.len c.prec) c.at w v z → is_kept v ≡ false
-      → IsAnswer (policy_of says d) (bare h) w c v z
-      × HfscStands stands says (record { chooser = d.chooser; rows = rows; kept = d.kept }) (offer_of (policy_of says d) h ticket w c ∷ h)
-  offer_dropped d rows h ticket c w z v same k o a e =
+  pub offer_dropped : (d : Held Q) (rows : Rowed Q) (h : List Happened) (o : Offering) → SameRow most says d.rows rows → HfscStands stands says d h
+      → IsOffer (bare_arrival o) (bare h) → Answers stands says d.rows rows h o.class o.entry o.now o.words o.verdict o.after → is_kept o.verdict ≡ false
+      → IsAnswer (policy_of says d) (bare h) o.words (bare_arrival o) o.verdict o.after
+      × HfscStands stands says (record { chooser = d.chooser; rows = rows; kept = d.kept }) (offer_of (policy_of says d) h o.entry.ticket o.words (bare_arrival o) ∷ h)
+  offer_dropped d rows h o same k offer a e =
       let n : Held Q = record { chooser = d.chooser; rows = rows; kept = d.kept } in
-      let x : Answer = answering says d.rows (bare h) w c in
+      let c : Arrival = bare_arrival o in
+      let x : Answer = answering says d.rows (bare h) o.words c in
       let history = drop_is x.verdict c (hfsc_history (bare h)) (sym (ap is_kept a.verdict) ∙ e) in
       let counted = k.counted in (
         record { verdict = a.verdict; words = a.words },
@@ -157,19 +158,20 @@ module _ {Q : Type 0} (stands : Q → List QueueEvent → Type 0) (says : Q → 
           kept = ap kept_in history ∙ k.kept;
           counted = omega (arith, counted);
           woken = λ t l. k.woken t (omega (arith, l));
-          orderly = subst (λ (p : Policy). IsOrderly p (bare (offer_of (policy_of says d) h ticket w c ∷ h))) (sym (same_policy most says d n same refl)) (o, refl, k.orderly);
+          orderly = subst (λ (p : Policy). IsOrderly p (bare (offer_of (policy_of says d) h o.entry.ticket o.words c ∷ h))) (sym (same_policy most says d n same refl)) (offer, refl, k.orderly);
         },
       )
 
   -- an offer that is kept
-  pub offer_kept : (d : Held Q) (y : Chooser) (rows : Rowed Q) (h : List Happened) (ticket : Ticket) (c : Arrival) (w z : DrawnWords) (v : Verdict) → SameRow most says d.rows rows
-      → HfscStands stands says d h → IsOffer c (bare h) → Answers stands says d.rows rows h c.class (entry ticket c.len c.prec) c.at w v z → is_kept v ≡ true
-      → classes_of y ≡ classes_of d.chooser → woken_at y ≤ c.at → Stands y (Enqueued c.class c.at c.len ∷ hfsc_history (bare h))
-      → IsAnswer (policy_of says d) (bare h) w c v z
-      × HfscStands stands says (record { chooser = y; rows = rows; kept = d.kept + 1 }) (offer_of (policy_of says d) h ticket w c ∷ h)
-  offer_kept d y rows h ticket c w z v same k o a e classes woken s =
+  pub offer_kept : (d : Held Q) (y : Chooser) (rows : Rowed Q) (h : List Happened) (o : Offering) → SameRow most says d.rows rows → HfscStands stands says d h
+      → IsOffer (bare_arrival o) (bare h) → Answers stands says d.rows rows h o.class o.entry o.now o.words o.verdict o.after → is_kept o.verdict ≡ true
+      → classes_of y ≡ classes_of d.chooser → woken_at y ≤ o.now → Stands y (Enqueued o.class o.now o.entry.len ∷ hfsc_history (bare h))
+      → IsAnswer (policy_of says d) (bare h) o.words (bare_arrival o) o.verdict o.after
+      × HfscStands stands says (record { chooser = y; rows = rows; kept = d.kept + 1 }) (offer_of (policy_of says d) h o.entry.ticket o.words (bare_arrival o) ∷ h)
+  offer_kept d y rows h o same k offer a e classes woken s =
       let n : Held Q = record { chooser = y; rows = rows; kept = d.kept + 1 } in
-      let x : Answer = answering says d.rows (bare h) w c in
+      let c : Arrival = bare_arrival o in
+      let x : Answer = answering says d.rows (bare h) o.words c in
       let history = keep_is x.verdict c (hfsc_history (bare h)) (sym (ap is_kept a.verdict) ∙ e) in
       let counted = k.counted in
       let kept = k.kept in
@@ -181,6 +183,6 @@ module _ {Q : Type 0} (stands : Q → List QueueEvent → Type 0) (says : Q → 
           kept = omega (arith, count, kept);
           counted = omega (arith, counted);
           woken = λ t l. omega (arith, l, woken);
-          orderly = subst (λ (p : Policy). IsOrderly p (bare (offer_of (policy_of says d) h ticket w c ∷ h))) (sym (same_policy most says d n same classes)) (o, refl, k.orderly);
+          orderly = subst (λ (p : Policy). IsOrderly p (bare (offer_of (policy_of says d) h o.entry.ticket o.words c ∷ h))) (sym (same_policy most says d n same classes)) (offer, refl, k.orderly);
         },
       )

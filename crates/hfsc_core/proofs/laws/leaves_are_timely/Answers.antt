@@ -1,4 +1,4 @@
-use Rattle.std.proofs.Common.{◌≡◌, subst}
+use Rattle.std.proofs.Common.{subst}
 use Rattle.altq_model.specs.History.{bare}
 use Rattle.altq_model.specs.Play.{Policy}
 use Rattle.discipline.specs.Moments.{IsOrderly}
