@@ -21,20 +21,32 @@ use Rattle.share_report.specs.Watched.{BothStand, IsHfscOver}
 pub still_hfsc : (p q : Policy) (cs ds : List HfscClass) → q ≡ p → ds ≡ cs → IsHfscOver cs p → IsHfscOver ds q
 still_hfsc p q cs ds e f x = record { answer = x.answer; is = e ∙ x.is ∙ ap (λ (ks : List HfscClass). hfsc_policy ks x.answer) (sym f) }
 
+-- an offer: the number of its packet, the packet, the random words before it, and the answer
+pub record Offer : Type 0 where
+  pub label : ℕ
+  pub arrival : Arrival
+  pub words : DrawnWords
+  pub answer : Answer
+
+abbrev pub happened : Offer → Happened
+happened x = record { label = x.label; what = Offered x.arrival x.words x.answer }
+
 -- the discipline and what watches it, before and after; neither the policy nor the classes change
 module _ (old new : List Happened → Type 0) (p q : Policy) (w v : Watch) (same : q ≡ p) (classes : classes_of v ≡ classes_of w) where
-  pub after_offer : (kept label : ℕ) (a : Arrival) (d : DrawnWords) (answer : Answer) (h : List Happened)
-      → BothStand old p w kept h → is_kept answer.verdict ≡ true → IsOffer a (bare h) → kept < 4000000
-      → ((g : HfscHistory) (at len : ℕ) → StandsFor w g → kept_in g < 4000000 → IsSized len → StandsFor v (Enqueued a.class at len ∷ g))
-      → new (record { label = label; what = Offered a d answer } ∷ h) → BothStand new q v (kept + 1) (record { label = label; what = Offered a d answer } ∷ h)
-  after_offer kept label a d answer h s k offer few stands is = record {
-    stands = is;
-    shares = still_hfsc p q (classes_of w) (classes_of v) same classes s.shares;
-    watches = subst (λ (b : Bool). StandsFor v (if b then Enqueued a.class a.at a.len ∷ hfsc_history (bare h) else hfsc_history (bare h))) (sym k)
-        (stands (hfsc_history (bare h)) a.at a.len s.watches (let count = s.kept_is in omega (arith, count, few)) offer.sized);
-    kept_is = ap (λ (b : Bool). kept_in (if b then Enqueued a.class a.at a.len ∷ hfsc_history (bare h) else hfsc_history (bare h))) k ∙ ap (λ (n : ℕ). n + 1) s.kept_is;
-    counted = let more = s.counted in omega (arith, more);
-  }
+  pub after_offer : (kept : ℕ) (x : Offer) (h : List Happened) → BothStand old p w kept h → is_kept x.answer.verdict ≡ true → IsOffer x.arrival (bare h)
+      → kept < 4000000
+      → ((g : HfscHistory) (at len : ℕ) → StandsFor w g → kept_in g < 4000000 → IsSized len → StandsFor v (Enqueued x.arrival.class at len ∷ g))
+      → new (happened x ∷ h) → BothStand new q v (kept + 1) (happened x ∷ h)
+  after_offer kept x h s k offer few stands is =
+      let a : Arrival = x.arrival in
+      record {
+        stands = is;
+        shares = still_hfsc p q (classes_of w) (classes_of v) same classes s.shares;
+        watches = subst (λ (b : Bool). StandsFor v (if b then Enqueued a.class a.at a.len ∷ hfsc_history (bare h) else hfsc_history (bare h))) (sym k)
+            (stands (hfsc_history (bare h)) a.at a.len s.watches (let count = s.kept_is in omega (arith, count, few)) offer.sized);
+        kept_is = ap (λ (b : Bool). kept_in (if b then Enqueued a.class a.at a.len ∷ hfsc_history (bare h) else hfsc_history (bare h))) k ∙ ap (λ (n : ℕ). n + 1) s.kept_is;
+        counted = let more = s.counted in omega (arith, more);
+      }
 
   pub after_sending : (kept label : ℕ) (x : Sending) (h : List Happened) → BothStand old p w kept h → ((g : List Happened) → new g → IsOrderly q (bare g))
       → ((g : HfscHistory) (real : Bool) (start : ℕ) → StandsFor w g → IsHead (leaf g x.class).waiting x.len → StandsFor v (HfscSent x.class x.len real start ∷ g))
