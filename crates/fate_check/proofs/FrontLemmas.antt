@@ -11,8 +11,8 @@ use Rattle.altq_model.specs.declared.Fate.TheVariants.{Sent}
 use Rattle.altq_model.specs.declared.Rule.{Rule}
 use Rattle.play_text.specs.Names.{NameList, class_named}
 use Rattle.fate_check.specs.declared.reading.Row.{Row}
-use Rattle.fate_check.specs.Front.{StandsBefore, StandsBehind}
-use Rattle.fate_check.specs.Parse.{fate_by, fate_of, fields_of, len_of, number_of, row_in, row_of, rule_of, sent_of}
+use Rattle.fate_check.specs.Front.{FateStands, RuleStands, StandsBefore}
+use Rattle.fate_check.specs.Parse.{fate_by, fate_of, fields_of, len_of, number_of, row_in, row_of, sent_of}
 use Rattle.fate_check.proofs.CutLemmas.{Lacks, cut-front}
 use Rattle.fate_check.proofs.FieldLemmas.{digit_is_not}
 use Rattle.fate_check.proofs.NumberLemmas.{are_all}
@@ -69,17 +69,20 @@ pub stands_before : (mark : ℕ) (text : List ℕ) (count n : ℕ) → DigitsEnd
 stands_before mark text count n h =
     record { field = take count text; parts = parts_are mark text count n h; number = number_is mark text count n h }
 
--- the numbers of a sending
-pub sent_behind : (word text middle rest : List ℕ) (rule : Rule) (s e : ℕ) → rule_of word ≡ Some rule → StandsBefore 44 text s middle → StandsBefore 10 middle e rest
-    → StandsBehind word text (Sent s e rule) rest
+-- the rule and the numbers of a sending
+pub sent_stands : (text behind middle rest : List ℕ) (rule : Rule) (s e : ℕ) → RuleStands text rule behind → StandsBefore 44 behind s middle
+    → StandsBefore 10 middle e rest → FateStands text (Sent s e rule) rest
 unfolding fate_of fate_by sent_of
-sent_behind word text middle rest rule s e is first last = record {
+sent_stands text behind middle rest rule s e named first last = record {
+  word = named.word;
+  behind = behind;
   start = first.field;
   middle = middle;
   end = last.field;
+  named = named.parts;
   first = first.parts;
   last = last.parts;
-  is = rw (is, first.number, last.number) refl;
+  is = rw (named.is, first.number, last.number) refl;
 }
 
 -- what stands one behind the other at the front of a text
@@ -88,15 +91,12 @@ pub record RowStands (names : NameList) (text : List ℕ) (r : Row) (rest : List
   pub len : List ℕ
   pub class : List ℕ
   pub word : List ℕ
-  pub start : List ℕ
   pub name : List ℕ
-  pub by : List ℕ
   pub number_stands : StandsBefore 44 text r.number at
   pub at_stands : StandsBefore 44 at r.at len
   pub len_stands : StandsBefore 44 len r.len class
   pub class_stands : cut 44 class ≡ Some (name, word)
-  pub word_stands : cut 44 word ≡ Some (by, start)
-  pub fate_stands : StandsBehind by start r.fate rest
+  pub fate_stands : FateStands word r.fate rest
   pub small : nat_lt r.len (2 ^ 32) ≡ true
   pub named : class_named names name ≡ Some r.class
 
@@ -107,7 +107,7 @@ row_is names text r rest h = rw (
   h.at_stands.parts,
   h.len_stands.parts,
   h.class_stands,
-  h.word_stands,
+  h.fate_stands.named,
   h.fate_stands.first,
   h.fate_stands.last,
   h.number_stands.number,

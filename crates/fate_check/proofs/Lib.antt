@@ -5,3 +5,4 @@ pub mod NameLemmas
 pub mod NumberLemmas
 pub mod OneLemmas
 pub mod RowLemmas
+pub mod WordLemmas

@@ -52,7 +52,7 @@ texts names r = record {
 plain_decimal : (n : ℕ) → n < 2 ^ 64 → IsPlain (decimal n)
 plain_decimal n small = plain_digits (decimal n) (decimal_is_IsNumeral n small).0.1
 
-plain_rule : (rule : Rule) → IsPlain (rule_word rule)
+pub plain_rule : (rule : Rule) → IsPlain (rule_word rule)
 plain_rule RealTime = refl
 plain_rule Share = refl
 plain_rule Own = refl
@@ -101,7 +101,7 @@ text_joined names r rest good is =
     ∙ row_joined (texts names r) rest (plain_row names r good is)
 
 -- the rule and the reason of a word
-rule_read : (rule : Rule) → rule_of (rule_word rule) ≡ Some rule
+pub rule_read : (rule : Rule) → rule_of (rule_word rule) ≡ Some rule
 unfolding rule_of
 rule_read RealTime = refl
 rule_read Share = refl

@@ -1,8 +1,9 @@
--- A number at the front of a text.
+-- What stands at the front of a text.
 use Rattle.std.specs.Prelude.{◌≡◌, ℕ, List, Some}
 use Rattle.altq_model.specs.declared.Fate.{Fate}
+use Rattle.altq_model.specs.declared.Rule.{Rule}
 use Rattle.line_text.specs.Numbers.{cut}
-use Rattle.fate_check.specs.Parse.{fate_of, number_of}
+use Rattle.fate_check.specs.Parse.{fate_of, number_of, rule_of}
 
 -- the field at the front, up to a mark, writes a number; and what stands behind the mark
 pub record StandsBefore (mark : ℕ) (text : List ℕ) (n : ℕ) (rest : List ℕ) : Type 0 where
@@ -10,11 +11,20 @@ pub record StandsBefore (mark : ℕ) (text : List ℕ) (n : ℕ) (rest : List �
   pub parts : cut mark text ≡ Some (field, rest)
   pub number : number_of field ≡ Some n
 
--- behind a word, the two fields at the front are those of a fate; and what stands behind them
-pub record StandsBehind (word text : List ℕ) (fate : Fate) (rest : List ℕ) : Type 0 where
+-- the field at the front is the word of a rule; and what stands behind its comma
+pub record RuleStands (text : List ℕ) (rule : Rule) (rest : List ℕ) : Type 0 where
+  pub word : List ℕ
+  pub parts : cut 44 text ≡ Some (word, rest)
+  pub is : rule_of word ≡ Some rule
+
+-- the three fields at the front are those of a fate; and what stands behind them
+pub record FateStands (text : List ℕ) (fate : Fate) (rest : List ℕ) : Type 0 where
+  pub word : List ℕ
+  pub behind : List ℕ
   pub start : List ℕ
   pub middle : List ℕ
   pub end : List ℕ
-  pub first : cut 44 text ≡ Some (start, middle)
+  pub named : cut 44 text ≡ Some (word, behind)
+  pub first : cut 44 behind ≡ Some (start, middle)
   pub last : cut 10 middle ≡ Some (end, rest)
   pub is : fate_of word start end ≡ Some fate

@@ -1,6 +1,7 @@
 // A row of fates at the front of a text.
 ghost use Rattle.std.specs.Prelude.{◌≡◌, IfSome, Some, option_map};
-ghost use Rattle.fate_check.specs.Front.{StandsBehind};
+ghost use Rattle.fate_check.specs.Front.{FateStands, RuleStands};
+ghost use Rattle.line_text.specs.Numbers.{cut};
 ghost use Rattle.fate_check.specs.Parse.{dropped_of, fate_of, fields_of, len_of, number_of, reason_of, row_in, row_of, rule_of, sent_of};
 ghost use Rattle.fate_check.specs.RowFields.{texts_in};
 
@@ -152,12 +153,33 @@ fn row_by(fields: RowFields<'_>, names: &Names) -> Option<Row>
     })
 }
 
-// The fate of a word, by the two fields at the front of a text, and what stands behind them. Where none is found there may still be
-// one.
-fn fate_before<'a>(word: &[u8], text: &'a [u8]) -> Option<(Fate, &'a [u8])>
-    ensures { IfSome result (λ p. StandsBehind word.now text.now p.0 p.1.now) }
+// The rule whose word is the field at the front of a text, and what stands behind its comma. One look at each word is cheaper than to
+// search for the comma first.
+fn rule_before(text: &[u8]) -> Option<(Rule, &[u8])>
+    ensures { IfSome result (λ p. RuleStands text.now p.0 p.1.now) }
 {
-    let Some(rule) = rule_named(word) else {
+    if let Some(rest) = text.strip_prefix(b"realtime,".as_slice()) {
+        return Some((Rule::RealTime, rest));
+    }
+    if let Some(rest) = text.strip_prefix(b"share,".as_slice()) {
+        return Some((Rule::Share, rest));
+    }
+    if let Some(rest) = text.strip_prefix(b"own,".as_slice()) {
+        return Some((Rule::Own, rest));
+    }
+    if let Some(rest) = text.strip_prefix(b"borrow,".as_slice()) {
+        return Some((Rule::Borrow, rest));
+    }
+    None
+}
+
+// The fate that the three fields at the front of a text write, and what stands behind them. Where none is found there may still be
+// one.
+fn fate_before(text: &[u8]) -> Option<(Fate, &[u8])>
+    ensures { IfSome result (λ p. FateStands text.now p.0 p.1.now) }
+{
+    let Some((rule, text)) = rule_before(text) else {
+        let (word, text) = cut(b',', text)?;
         let (start, text) = cut(b',', text)?;
         let (end, rest) = cut(b'\n', text)?;
         return Some((fate_in(word, start, end)?, rest));
@@ -165,6 +187,14 @@ fn fate_before<'a>(word: &[u8], text: &'a [u8]) -> Option<(Fate, &'a [u8])>
     let (start, text) = number_before(b',', text)?;
     let (end, text) = number_before(b'\n', text)?;
     Some((Fate::Sent { start, end, rule }, text))
+}
+
+// The same as `cut`, in a loop of its own: between the numbers it has too much to hold.
+#[inline(never)]
+fn field_before(mark: u8, text: &[u8]) -> Option<(&[u8], &[u8])>
+    ensures { option_map (λ p. (p.0.now, p.1.now)) result ≡ cut mark text.now }
+{
+    cut(mark, text)
 }
 
 // The row at the front of a text, and what stands behind it, where its numbers are found in one look. Where none is found there may
@@ -175,9 +205,8 @@ fn row_before<'a>(text: &'a [u8], names: &Names) -> Option<(Row, &'a [u8])>
     let (number, text) = number_before(b',', text)?;
     let (at, text) = number_before(b',', text)?;
     let (len, text) = number_before(b',', text)?;
-    let (class, text) = cut(b',', text)?;
-    let (word, text) = cut(b',', text)?;
-    let (fate, text) = fate_before(word, text)?;
+    let (class, text) = field_before(b',', text)?;
+    let (fate, text) = fate_before(text)?;
     let Ok(len) = u32::try_from(len) else {
         return None;
     };

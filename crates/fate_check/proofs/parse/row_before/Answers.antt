@@ -12,14 +12,11 @@ returns c =
       len = c.in_ok-at.text.now;
       class = c.in_ok-len.text.now;
       word = c.in_ok-class.text.now;
-      start = c.in_ok-word.text.now;
       name = c.in_ok-class.class.now;
-      by = c.in_ok-word.word.now;
       number_stands = c.in_ok-number.ensures;
       at_stands = c.in_ok-at.ensures;
       len_stands = let P : ℕ → Type 0 = λ n. StandsBefore 44 c.in_ok-at.text.now n c.in_ok-len.text.now in subst P (sym c.in-Ok.ensures.1) c.in_ok-len.ensures;
-      class_stands = sym c.in_ok-class.ensures.value;
-      word_stands = sym c.in_ok-word.ensures.value;
+      class_stands = sym c.in_ok-class.ensures;
       fate_stands = c.in_ok-fate.ensures;
       small = lt-ltb c.in-Ok.len (2 ^ 32) (omega (arith, c.in-Ok.ensures.0, c.in-Ok.ensures.1));
       named = sym c.in_ok-class-2.ensures;
