@@ -1,10 +1,9 @@
-// Writing in pieces: short texts are gathered, up to 65,536 bytes, and then written at once.
+// Bytes in pieces.
 ghost use Rattle.std.specs.Prelude.{◌≡◌, ◌≤◌, [], List, ℕ, IsSome, OnOk, OnErr, IsErrOf, max, vec_len};
 ghost use Rattle.play_base.specs.View.{SameCounts, Wrote, WroteFront, WriteFault};
 ghost use Rattle.gathered_writes.specs.Gathered.{Grew, Stopped};
 
 use play_base::{Files, Trouble, write_all};
-use play_text::Rows;
 
 /// How many bytes are gathered at most.
 const BOUND: usize = 65_536;
@@ -60,28 +59,6 @@ pub fn flush<F: Files>(files: &mut F, file: u32, pending: &mut Vec<u8>) -> Resul
     match write_all(files, file, pending) {
         Ok(()) => {
             pending.clear();
-            Ok(())
-        }
-        Err(trouble) => Err(trouble),
-    }
-}
-
-/// Writes the rows that are gathered for a file, and takes them away. After an error a front of them was written.
-#[tactic(auto, using(play_base::proofs::ViewLaws::same_trans, play_base::proofs::ViewLaws::same_refl))]
-pub fn flush_rows<F: Files>(files: &mut F, file: u32, rows: &mut Rows) -> Result<(), Trouble>
-    requires { IsSome ((F.view files.old).part file) }
-    ensures wrote { OnOk result (Wrote (F.view files.old) (F.view files.new) file rows.old) }
-    ensures empty { OnOk result (rows.new ≡ []) }
-    ensures no_fault { OnOk result (SameCounts (F.view files.old) (F.view files.new)) }
-    ensures front { OnErr result (WroteFront (F.view files.old) (F.view files.new) file rows.old) }
-    ensures failed { IsErrOf result Trouble.Failed → WriteFault (F.view files.old) (F.view files.new) file }
-{
-    let Ok(text) = rows.take_text() else {
-        return Err(Trouble::NoMemory);
-    };
-    match write_all(files, file, &text) {
-        Ok(()) => {
-            rows.reuse(text);
             Ok(())
         }
         Err(trouble) => Err(trouble),

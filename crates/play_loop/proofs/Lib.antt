@@ -1,5 +1,4 @@
 pub mod CloseLemmas
-pub mod HeadLemmas
 pub mod KeptLemmas
 pub mod OutputLemmas
 pub mod PacketLemmas
@@ -7,7 +6,5 @@ pub mod PlayLemmas
 pub mod RecordLemmas
 pub mod StatsLemmas
 pub mod TextLemmas
-pub mod ToldLemmas
 pub mod TurnLemmas
-pub mod WeightLemmas
 pub mod WrittenLemmas

@@ -1,77 +1,101 @@
--- What a write to one of the two output files leaves of both texts.
-use Rattle.std.proofs.Common.{◌≡◌, ◌++◌, ◌∙◌, ℕ, List, [], sym, refl, subst}
+-- What writes to the two output files leave of both texts.
+use Rattle.std.proofs.Common.{◌≡◌, ◌++◌, ◌∙◌, ℕ, List, [], refl}
 use Rattle.std.proofs.lemmas.List.{append-nil}
 use Rattle.std.specs.Prelude.{IsSome}
 use Rattle.std.specs.declared.option.Option.{Option}
-use Rattle.play_base.specs.View.{View, Wrote, WroteFront}
+use Rattle.capture_model.specs.Header.{capture_header}
+use Rattle.play_base.specs.View.{View, Any, Keeps, Wrote, WroteFront}
 use Rattle.play_base.proofs.HoldsLaws.{apart_kept, apart_sym}
+use Rattle.play_text.specs.Texts.{fates_header}
 use Rattle.gathered_writes.specs.Gathered.{Grew, Stopped}
-use Rattle.gathered_writes.proofs.GatheredLaws.{text_grew, text_stopped, text_beside, text_front, text_same, front_longer, front_same}
+use Rattle.gathered_writes.proofs.GatheredLaws.{text_grew, text_stopped, text_beside, text_front, text_kept, text_of_held, text_same, front_longer, front_same}
+use Rattle.gathered_writes.proofs.GatherLemmas.{grew_whole, stopped_at_front, stopped_whole}
 use Rattle.play_loop.specs.declared.outputs.Outputs.{Outputs}
 use Rattle.play_loop.specs.Outputs.{TextsAre, FrontsAre, SameFiles}
-use Rattle.gathered_writes.proofs.GatherLemmas.{stopped_at_front}
+use Rattle.play_loop.specs.Played.{AreEmpty}
 
-pub texts_departed : (u v : View) (dep fat : ℕ) (recs recs' rows ds ts d : List ℕ) → TextsAre u dep fat recs rows ds ts → Grew u v dep recs recs' d
-    → TextsAre v dep fat recs' rows (ds ++ d) ts
-texts_departed u v dep fat recs recs' rows ds ts d h x = record {
-  departures = text_grew u v dep recs recs' d ds h.departures x;
-  fates = text_beside u v fat dep rows ts x.written h.fates (apart_sym u dep fat h.apart) x.wrote;
-  apart = apart_kept _ _ u v dep fat h.departures.holds.there h.fates.holds.there h.apart x.wrote.keeps;
-}
+module _ {u : View} {dep fat : ℕ} {recs rows ds ts : List ℕ} (h : TextsAre u dep fat recs rows ds ts) where
+  -- where one of them was given more
+  pub texts_departed : {v : View} {recs' d : List ℕ} → Grew u v dep recs recs' d → TextsAre v dep fat recs' rows (ds ++ d) ts
+  texts_departed x = record {
+    departures = text_grew _ _ _ _ _ _ _ h.departures x;
+    fates = text_beside _ _ fat dep _ _ _ h.fates (apart_sym u dep fat h.apart) x.wrote;
+    apart = apart_kept _ _ _ _ _ _ h.departures.holds.there h.fates.holds.there h.apart x.wrote.keeps;
+  }
 
-pub texts_rowed : (u v : View) (dep fat : ℕ) (recs rows rows' ds ts t : List ℕ) → TextsAre u dep fat recs rows ds ts → Grew u v fat rows rows' t
-    → TextsAre v dep fat recs rows' ds (ts ++ t)
-texts_rowed u v dep fat recs rows rows' ds ts t h x = record {
-  departures = text_beside u v dep fat recs ds x.written h.departures h.apart x.wrote;
-  fates = text_grew u v fat rows rows' t ts h.fates x;
-  apart = apart_kept _ _ u v dep fat h.departures.holds.there h.fates.holds.there h.apart x.wrote.keeps;
-}
+  pub texts_rowed : {v : View} {rows' t : List ℕ} → Grew u v fat rows rows' t → TextsAre v dep fat recs rows' ds (ts ++ t)
+  texts_rowed x = record {
+    departures = text_beside _ _ dep fat _ _ _ h.departures h.apart x.wrote;
+    fates = text_grew _ _ _ _ _ _ _ h.fates x;
+    apart = apart_kept _ _ _ _ _ _ h.departures.holds.there h.fates.holds.there h.apart x.wrote.keeps;
+  }
 
-pub fronts_departed : (u v : View) (dep fat : ℕ) (recs rows ds ts d t : List ℕ) → TextsAre u dep fat recs rows ds ts → Stopped u v dep recs d
-    → FrontsAre v dep fat (ds ++ d) (ts ++ t)
-fronts_departed u v dep fat recs rows ds ts d t h x = record {
-  departures = text_stopped u v dep recs d ds h.departures x;
-  fates = front_longer v fat ts t (text_front v fat rows ts (text_beside u v fat dep rows ts x.written h.fates (apart_sym u dep fat h.apart) x.wrote));
-}
+  -- where that was not written whole
+  pub fronts_departed : {v : View} {d : List ℕ} (t : List ℕ) → Stopped u v dep recs d → FrontsAre v dep fat (ds ++ d) (ts ++ t)
+  fronts_departed {v} t x = record {
+    departures = text_stopped _ _ _ _ _ _ h.departures x;
+    fates = front_longer v fat ts t (text_front _ _ _ _ (text_beside _ _ fat dep _ _ _ h.fates (apart_sym u dep fat h.apart) x.wrote));
+  }
 
-pub fronts_rowed : (u v : View) (dep fat : ℕ) (recs rows ds ts t : List ℕ) → TextsAre u dep fat recs rows ds ts → Stopped u v fat rows t
-    → FrontsAre v dep fat ds (ts ++ t)
-fronts_rowed u v dep fat recs rows ds ts t h x = record {
-  departures = text_front v dep recs ds (text_beside u v dep fat recs ds x.written h.departures h.apart x.wrote);
-  fates = text_stopped u v fat rows t ts h.fates x;
-}
+  pub fronts_rowed : {v : View} {t : List ℕ} → Stopped u v fat rows t → FrontsAre v dep fat ds (ts ++ t)
+  fronts_rowed x = record {
+    departures = text_front _ _ _ _ (text_beside _ _ dep fat _ _ _ h.departures h.apart x.wrote);
+    fates = text_stopped _ _ _ _ _ _ h.fates x;
+  }
 
-pub fronts_of_texts : (v : View) (dep fat : ℕ) (recs rows ds ts : List ℕ) → TextsAre v dep fat recs rows ds ts → FrontsAre v dep fat ds ts
-fronts_of_texts v dep fat recs rows ds ts h = record { departures = text_front v dep recs ds h.departures; fates = text_front v fat rows ts h.fates }
+  pub fronts_of_texts : FrontsAre u dep fat ds ts
+  fronts_of_texts = record { departures = text_front _ _ _ _ h.departures; fates = text_front _ _ _ _ h.fates }
 
-pub texts_same : (v : View) (dep fat : ℕ) (recs rows ds ds' ts ts' : List ℕ) → ds ≡ ds' → ts ≡ ts' → TextsAre v dep fat recs rows ds ts → TextsAre v dep fat recs rows ds' ts'
-texts_same v dep fat recs rows ds ds' ts ts' d t h =
-    record { departures = text_same v dep recs ds ds' d h.departures; fates = text_same v fat rows ts ts' t h.fates; apart = h.apart }
+  pub texts_same : {ds' ts' : List ℕ} → ds ≡ ds' → ts ≡ ts' → TextsAre u dep fat recs rows ds' ts'
+  texts_same d t = record { departures = text_same _ _ _ _ _ d h.departures; fates = text_same _ _ _ _ _ t h.fates; apart = h.apart }
 
-pub fronts_same : (v : View) (dep fat : ℕ) (ds ds' ts ts' : List ℕ) → ds ≡ ds' → ts ≡ ts' → FrontsAre v dep fat ds ts → FrontsAre v dep fat ds' ts'
-fronts_same v dep fat ds ds' ts ts' d t h = record { departures = front_same v dep ds ds' d h.departures; fates = front_same v fat ts ts' t h.fates }
+  -- what was read leaves what was written
+  pub texts_kept : {F : ℕ → Type 0} {v : View} → Keeps Any F u v → TextsAre v dep fat recs rows ds ts
+  texts_kept k = record {
+    departures = text_kept _ _ _ _ _ _ h.departures k;
+    fates = text_kept _ _ _ _ _ _ h.fates k;
+    apart = apart_kept _ _ _ _ _ _ h.departures.holds.there h.fates.holds.there h.apart k;
+  }
+
+pub fronts_same : {v : View} {dep fat : ℕ} {ds ds' ts ts' : List ℕ} → ds ≡ ds' → ts ≡ ts' → FrontsAre v dep fat ds ts → FrontsAre v dep fat ds' ts'
+fronts_same d t h = record { departures = front_same _ _ _ _ d h.departures; fates = front_same _ _ _ _ t h.fates }
 
 -- where what was gathered could not be written whole
-pub flushed_first : (u v : View) (dep fat : ℕ) (recs rows ds ts : List ℕ) → TextsAre u dep fat recs rows ds ts → WroteFront u v dep recs → FrontsAre v dep fat ds ts
-flushed_first u v dep fat recs rows ds ts h x =
-    fronts_same v dep fat (ds ++ []) ds (ts ++ []) ts (append-nil ds) (append-nil ts)
-    (fronts_departed u v dep fat recs rows ds ts [] [] h (stopped_at_front u v dep recs [] x))
+pub flushed_first : {u v : View} {dep fat : ℕ} {recs rows ds ts : List ℕ} → TextsAre u dep fat recs rows ds ts → WroteFront u v dep recs → FrontsAre v dep fat ds ts
+flushed_first {ds = ds} {ts = ts} h x = fronts_same (append-nil ds) (append-nil ts) (fronts_departed h [] (stopped_at_front _ _ _ _ [] x))
 
-pub flushed_second : (u v w : View) (dep fat : ℕ) (recs rows ds ts : List ℕ) → TextsAre u dep fat recs rows ds ts → Wrote u v dep recs → WroteFront v w fat rows
+pub flushed_second : {u v w : View} {dep fat : ℕ} {recs rows ds ts : List ℕ} → TextsAre u dep fat recs rows ds ts → Wrote u v dep recs → WroteFront v w fat rows
     → FrontsAre w dep fat ds ts
-flushed_second u v w dep fat recs rows ds ts h x y =
+flushed_second {u} {v} {w} {dep} {fat} {recs} {rows} {ds} {ts} h x y =
     let grew : Grew u v dep recs [] [] = record { written = recs; wrote = x; split = refl } in
-    fronts_same w dep fat (ds ++ []) ds (ts ++ []) ts (append-nil ds) (append-nil ts)
-    (fronts_rowed v w dep fat [] rows (ds ++ []) ts [] (texts_departed u v dep fat recs [] rows ds ts [] h grew) (stopped_at_front v w fat rows [] y))
+    fronts_same (append-nil ds) (append-nil ts) (fronts_rowed (texts_departed h grew) (stopped_at_front _ _ _ _ [] y))
 
-pub same_trans : (a b c : Outputs) → SameFiles a b → SameFiles b c → SameFiles a c
-same_trans a b c x y = record { departures = y.departures ∙ x.departures; fates = y.fates ∙ x.fates }
+pub same_trans : {a b c : Outputs} → SameFiles a b → SameFiles b c → SameFiles a c
+same_trans x y = record { departures = y.departures ∙ x.departures; fates = y.fates ∙ x.fates }
 
-pub fronts_files : (v : View) (dep fat dep' fat' : ℕ) (ds ts : List ℕ) → dep ≡ dep' → fat ≡ fat' → FrontsAre v dep fat ds ts → FrontsAre v dep' fat' ds ts
-fronts_files v dep fat dep' fat' ds ts d f h =
-    let P : ℕ → Type 0 = λ n. FrontsAre v n fat ds ts in
-    let Q : ℕ → Type 0 = λ n. FrontsAre v dep' n ds ts in
-    subst Q f (subst P d h)
+pub fronts_files : {v : View} {dep fat dep' fat' : ℕ} {ds ts : List ℕ} → dep ≡ dep' → fat ≡ fat' → FrontsAre v dep fat ds ts → FrontsAre v dep' fat' ds ts
+fronts_files d f h = rw (← d, ← f) h
 
 pub there_same : (o : ℕ → Option ℕ) (a b : ℕ) → b ≡ a → IsSome (o a) → IsSome (o b)
-there_same o a b e h = let P : ℕ → Type 0 = λ n. IsSome (o n) in subst P (sym e) h
+there_same o a b e h = rw e h
+
+-- the heads of both
+texts_empty : {v : View} {dep fat : ℕ} → AreEmpty v dep fat → TextsAre v dep fat [] [] [] []
+texts_empty h = record { departures = text_of_held _ _ [] h.departures; fates = text_of_held _ _ [] h.fates; apart = h.apart }
+
+head_written : {u v : View} {dep fat : ℕ} {bytes : List ℕ} → bytes ≡ capture_header → AreEmpty u dep fat → Wrote u v dep bytes → TextsAre v dep fat [] [] capture_header []
+head_written {u} {v} {dep} e h x = let y : Wrote u v dep capture_header = rw (← e) x in texts_departed (texts_empty h) (grew_whole _ _ _ capture_header y)
+
+pub heads_first : {u v : View} {dep fat : ℕ} {bytes : List ℕ} → bytes ≡ capture_header → AreEmpty u dep fat → WroteFront u v dep bytes
+    → FrontsAre v dep fat capture_header fates_header
+heads_first {u} {v} {dep} e h x =
+    let y : WroteFront u v dep capture_header = rw (← e) x in fronts_departed (texts_empty h) fates_header (stopped_whole _ _ _ capture_header y)
+
+pub heads_second : {u v w : View} {dep fat : ℕ} {bytes row : List ℕ} → bytes ≡ capture_header → row ≡ fates_header → AreEmpty u dep fat
+    → Wrote u v dep bytes → WroteFront v w fat row → FrontsAre w dep fat capture_header fates_header
+heads_second {v = v} {w} {fat = fat} e f h x y =
+    let z : WroteFront v w fat fates_header = rw (← f) y in fronts_rowed (head_written e h x) (stopped_whole _ _ _ fates_header z)
+
+pub heads_whole : {u v w : View} {dep fat : ℕ} {bytes row : List ℕ} → bytes ≡ capture_header → row ≡ fates_header → AreEmpty u dep fat
+    → Wrote u v dep bytes → Wrote v w fat row → TextsAre w dep fat [] [] capture_header fates_header
+heads_whole {v = v} {w} {fat = fat} e f h x y = let z : Wrote v w fat fates_header = rw (← f) y in texts_rowed (head_written e h x) (grew_whole _ _ _ fates_header z)

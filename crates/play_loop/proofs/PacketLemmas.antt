@@ -1,12 +1,12 @@
 -- A packet that was read and is the next to be offered.
-use Rattle.std.proofs.Common.{◌≡◌, ◌≤◌, ◌∙◌, ◌+◌, ℕ, List, ◌∷◌, Some, ap, sym, subst, arith}
+use Rattle.std.proofs.Common.{◌≡◌, ◌≤◌, ◌∙◌, ◌+◌, ℕ, List, ◌∷◌, Some, ap, sym, arith}
 use Rattle.std.specs.Prelude.{slice_get, option_map}
 use Rattle.std.specs.declared.option.Option.{Option}
 use Rattle.altq_model.specs.declared.Placed.{Placed}
 use Rattle.altq_model.specs.Arrivals.{Captured, bare_arrival, bare_arrivals}
 use Rattle.altq_model.specs.History.{Arrival, DrawnWords, Happened, bare, offered}
 use Rattle.altq_model.specs.Lawful.{IsOneOf, latest}
-use Rattle.altq_model.specs.Play.{Policy, AreDue}
+use Rattle.altq_model.specs.Play.{AreDue}
 use Rattle.play_laws.proofs.ArrivalLemmas.{bare_arrivals_length}
 use Rattle.play_laws.proofs.TimeLemmas.{next_later}
 use Rattle.play_core.specs.Finished.{EndsWithOffer}
@@ -17,54 +17,47 @@ use Rattle.play_loop.specs.declared.arriving.Arriving.{Arriving}
 use Rattle.play_loop.specs.Reading.{arrival_of}
 use Rattle.play_loop.specs.Setup.{Setup}
 use Rattle.play_loop.specs.Underway.{AreMade, IsHeld, IsUnderway, Moment, StayDue}
-use Rattle.play_loop.proofs.TurnLemmas.{begun_of, from_setup, offered_stays, open_stays}
+use Rattle.play_loop.proofs.TurnLemmas.{begun_of, from_setup, offered_stays, on, open_stays}
 
-pub held_arrives : (place : List ℕ → Placed) (arrived : List Captured) (g : List Happened) (p : Arriving) → IsHeld place arrived g p
-    → Some p.packet.at ≡ arrives arrived g
-held_arrives place arrived g p h =
-    sym (ap (λ (o : Option Arrival). option_map (λ (a : Arrival). a.at) o) (is_bare_arrival arrived g (arrival_of place p) h.there).seen)
+module _ {place : List ℕ → Placed} {arrived : List Captured} {g : List Happened} {p : Arriving} (h : IsHeld place arrived g p) where
+  pub held_arrives : Some p.packet.at ≡ arrives arrived g
+  held_arrives = sym (ap (λ (o : Option Arrival). option_map (λ (a : Arrival). a.at) o) (is_bare_arrival arrived g (arrival_of place p) h.there).seen)
 
--- it stays the next while others are sent
-pub held_same : (place : List ℕ → Placed) (arrived : List Captured) (g k : List Happened) (p : Arriving) → offered (bare k) ≡ offered (bare g) → IsHeld place arrived g p
-    → IsHeld place arrived k p
-held_same place arrived g k p e h = record {
-  there = ap (λ (n : ℕ). slice_get arrived n) e ∙ h.there;
-  packet_is = h.packet_is ∙ ap (λ (n : ℕ). numbered (n + 1) (arrival_of place p)) (sym e);
-  placed_is = h.placed_is;
-}
+  -- it stays the next while others are sent
+  pub held_same : {k : List Happened} → offered (bare k) ≡ offered (bare g) → IsHeld place arrived k p
+  held_same e = record {
+    there = ap (λ (n : ℕ). slice_get arrived n) e ∙ h.there;
+    packet_is = h.packet_is ∙ ap (λ (n : ℕ). numbered (n + 1) (arrival_of place p)) (sym e);
+    placed_is = h.placed_is;
+  }
 
--- it may be offered: it is placed in a class of the policy
-pub held_class : (x : Setup) (m : Moment) (arrived : List Captured) (w : DrawnWords) (g k : List Happened) (p : Arriving) → IsUnderway x m arrived w g → IsHeld x.place arrived k p
-    → IsOneOf p.placed.class m.shown.policy.classes
-held_class x m arrived w g k p u h =
-    let P : Policy → Type 0 = λ q. IsOneOf p.placed.class q.classes in
-    let Q : Placed → Type 0 = λ q. IsOneOf q.class x.policy.classes in
-    subst P (sym u.setup.policy) (subst Q (sym h.placed_is) (u.setup.sound.held p.packet.bytes))
+module _ {x : Setup} {m : Moment} {arrived : List Captured} {w : DrawnWords} {g : List Happened} {p : Arriving} (u : IsUnderway x m arrived w g) where
+  -- it may be offered: it is placed in a class of the policy
+  pub held_class : {k : List Happened} → IsHeld x.place arrived k p → IsOneOf p.placed.class m.shown.policy.classes
+  held_class h = rw (u.setup.policy, h.placed_is) (u.setup.sound.held p.packet.bytes)
 
--- its offer is due once every sending before it was made
-pub offers_it : (x : Setup) (m : Moment) (arrived : List Captured) (w : DrawnWords) (g : List Happened) (p : Arriving) (arrival : Option ℕ) → IsUnderway x m arrived w g
-    → IsHeld x.place arrived g p → AreMade x arrived g arrival
-    → Offers m.shown.policy m.progress.clock.rate w.seed arrived g (arrival_of x.place p) p.packet p.placed
-offers_it x m arrived w g p arrival u h made = record {
-  next = from_setup (λ q rate seed. IsNext q rate seed arrived g (arrival_of x.place p)) x m w.seed u.setup (made.next (arrival_of x.place p) h.there);
-  packet_is = h.packet_is;
-  placed_is = h.placed_is;
-}
+  -- its offer is due once every sending before it was made
+  pub offers_it : {arrival : Option ℕ} → IsHeld x.place arrived g p → AreMade x arrived g arrival
+      → Offers m.shown.policy m.progress.clock.rate w.seed arrived g (arrival_of x.place p) p.packet p.placed
+  offers_it h made = record {
+    next = from_setup u.setup (λ q rate seed. IsNext q rate seed arrived g (arrival_of x.place p)) (made.next (arrival_of x.place p) h.there);
+    packet_is = h.packet_is;
+    placed_is = h.placed_is;
+  }
 
--- nothing that was offered arrived later
-pub not_earlier : (x : Setup) (m : Moment) (arrived : List Captured) (w : DrawnWords) (g : List Happened) (p : Arriving) → IsUnderway x m arrived w g → IsHeld x.place arrived g p
-    → latest (bare g) ≤ p.packet.at
-not_earlier x m arrived w g p u h =
-    next_later x.policy x.rate x.seed (bare_arrivals arrived) g u.setup.sound.positive u.setup.sound.lawful u.going.rising (begun_of x m arrived w g u.setup u.going).events
-    (bare_arrival (arrival_of x.place p)) (is_bare_arrival arrived g (arrival_of x.place p) h.there).seen
+  -- nothing that was offered arrived later
+  pub not_earlier : IsHeld x.place arrived g p → latest (bare g) ≤ p.packet.at
+  not_earlier h =
+      next_later x.policy x.rate x.seed (bare_arrivals arrived) g u.setup.sound.positive u.setup.sound.lawful u.going.rising (begun_of (on u)).events
+      (bare_arrival (arrival_of x.place p)) (is_bare_arrival arrived g (arrival_of x.place p) h.there).seen
 
 -- what was decided before and with its offer stays so, whatever arrives later
-pub before_stays : (x : Setup) (arrived : List Captured) (g k : List Happened) (p : Arriving) → IsHeld x.place arrived g p → offered (bare k) ≡ offered (bare g)
-    → AreDue x.policy x.rate x.seed (bare_arrivals arrived) k → StayDue x arrived k
-before_stays x arrived g k p h e d =
-    open_stays x arrived k (offered (bare g)) (omega (arith, (is_bare_arrival arrived g (arrival_of x.place p) h.there).inside, bare_arrivals_length arrived)) (omega (arith, e)) d
+module _ (x : Setup) {arrived : List Captured} {g : List Happened} {p : Arriving} (h : IsHeld x.place arrived g p) where
+  pub before_stays : (k : List Happened) → offered (bare k) ≡ offered (bare g) → AreDue x.policy x.rate x.seed (bare_arrivals arrived) k → StayDue x arrived k
+  before_stays k e d =
+      open_stays x arrived k (offered (bare g)) (omega (arith, (is_bare_arrival arrived g (arrival_of x.place p) h.there).inside, bare_arrivals_length arrived)) (omega (arith, e)) d
 
-pub with_stays : (x : Setup) (arrived : List Captured) (g : List Happened) (e : Happened) (p : Arriving) → IsHeld x.place arrived g p → offered (bare (e ∷ g)) ≡ offered (bare g) + 1
-    → EndsWithOffer (e ∷ g) → AreDue x.policy x.rate x.seed (bare_arrivals arrived) (e ∷ g) → StayDue x arrived (e ∷ g)
-with_stays x arrived g e p h more o d =
-    offered_stays x arrived (e ∷ g) (omega (arith, more, (is_bare_arrival arrived g (arrival_of x.place p) h.there).inside, bare_arrivals_length arrived)) o d
+  pub with_stays : (e : Happened) → offered (bare (e ∷ g)) ≡ offered (bare g) + 1 → EndsWithOffer (e ∷ g) → AreDue x.policy x.rate x.seed (bare_arrivals arrived) (e ∷ g)
+      → StayDue x arrived (e ∷ g)
+  with_stays e more o d =
+      offered_stays x arrived (e ∷ g) (omega (arith, more, (is_bare_arrival arrived g (arrival_of x.place p) h.there).inside, bare_arrivals_length arrived)) o d

@@ -3,11 +3,11 @@ use Rattle.std.proofs.Common.{◌≡◌, ◌≤◌, ◌<◌, ◌++◌, ◌∙◌
 use Rattle.std.specs.Prelude.{IsSome, IsTrue}
 use Rattle.altq_model.specs.declared.Placed.{Placed}
 use Rattle.altq_model.specs.Arrivals.{Captured, bare_arrivals}
-use Rattle.altq_model.specs.Departures.{Dressing, departures}
+use Rattle.altq_model.specs.Departures.{departures}
 use Rattle.altq_model.specs.History.{Arrival, Happened, bare, offered, journal}
 use Rattle.altq_model.specs.Lawful.{AreRising, RiseFrom, greatest}
 use Rattle.altq_model.specs.Play.{AreDue}
-use Rattle.play_text.specs.Texts.{Naming, fates, fates_header}
+use Rattle.play_text.specs.Texts.{fates, fates_header}
 use Rattle.capture_model.specs.Capture.{Record, Step, End, Fault, Header, Reads, ReadsFrom, IsLast, place_after}
 use Rattle.capture_model.specs.Header.{capture_header}
 use Rattle.capture_model.specs.Written.{written}
@@ -19,6 +19,7 @@ use Rattle.pcap_files.proofs.ReadingLaws.{answered_front, one_reading, taken}
 use Rattle.play_base.specs.View.{View, ReadFault}
 use Rattle.play_base.specs.Holds.{Apart, HoldsAt}
 use Rattle.play_base.proofs.ViewLaws.{part_of_there, rose_before}
+use Rattle.play_laws.specs.Events.{HasLaws}
 use Rattle.play_laws.proofs.AllLaws.{due_laws}
 use Rattle.play_laws.proofs.ArrivalLemmas.{arrivals_length, arrivals_rise, bare_arrivals_append, bare_arrivals_length}
 use Rattle.play_laws.proofs.BusyLemmas.{is_busy}
@@ -30,41 +31,27 @@ use Rattle.play_core.specs.Finished.{EndsWithOffer, IsStopped}
 use Rattle.play_core.specs.Totals.{AreTotals}
 use Rattle.play_text.specs.Names.{name_of}
 use Rattle.play_loop.specs.declared.fault.Opened.{Opened}
-use Rattle.play_loop.specs.declared.fault.PlayFault.{PlayFault}
-use Rattle.play_loop.specs.Ending.{IsAhead, IsCut, IsPast, capture_fault}
+use Rattle.play_loop.specs.Ending.{AreFirst, IsAhead, IsCut, IsPast, capture_fault}
 use Rattle.play_loop.specs.Kept.{OnlyWrote}
-use Rattle.play_loop.specs.declared.fault.Output.TheVariants as output
-use Rattle.play_loop.specs.declared.fault.PlayFault.TheVariants as play
 use Rattle.gathered_writes.specs.Gathered.{HoldsFront}
 use Rattle.play_loop.specs.declared.outputs.Outputs.{Outputs}
-use Rattle.play_loop.specs.Outputs.{AreOpened, FrontsAre, IsWriteCause, TextsAre}
-use Rattle.play_loop.specs.Played.{AreReady, Explains, HasOffered, HasStopped, HoldTexts, IsStanding, OfArrivals, Streams}
+use Rattle.play_loop.specs.Outputs.{AreOpened, FrontsAre, TextsAre}
+use Rattle.play_loop.specs.Played.{AreReady, Explains, Fronts, HasOffered, HasStopped, HoldFronts, HoldTexts, IsStanding, OfArrivals, Streams}
 use Rattle.play_loop.specs.Setup.{IsSound, Setup, arrivals_in, departures_of, fates_of}
 use Rattle.play_loop.specs.Underway.{HasGiven}
 use Rattle.gathered_writes.proofs.GatheredLaws.{front_same, text_whole}
 use Rattle.play_loop.proofs.OutputLemmas.{texts_same}
 
 -- before any event only fronts of the heads stand
-pub stopped_heads : (x : Setup) (v : View) (o : Opened) (records : List Record) → FrontsAre v o.departures o.fates capture_header fates_header → HasStopped x v o records
-stopped_heads x v o records h = record {
+pub stopped_heads : {x : Setup} {v : View} {o : Opened} {records : List Record} → FrontsAre v o.departures o.fates capture_header fates_header → HasStopped x v o records
+stopped_heads h = record {
   history = [];
   begun = record { events = tt; in_time = tt };
   texts = record {
-    departures = front_same v o.departures capture_header (capture_header ++ []) (sym (append-nil capture_header)) h.departures;
-    fates = front_same v o.fates fates_header (fates_header ++ []) (sym (append-nil fates_header)) h.fates;
+    departures = front_same _ _ _ _ (sym (append-nil capture_header)) h.departures;
+    fates = front_same _ _ _ _ (sym (append-nil fates_header)) h.fates;
   };
 }
-
-rise_front : (t : ℕ) (xs ys : List Arrival) → RiseFrom t (xs ++ ys) → RiseFrom t xs
-rise_front t [] ys r = tt
-rise_front t (x ∷ xs) ys r = (r.0, rise_front x.at xs ys r.1)
-
--- the first arrivals of a capture rise
-first_rise : (x : Setup) (records : List Record) (arrived more : List Captured) → arrivals_in x records ≡ arrived ++ more → AreRising (bare_arrivals arrived)
-first_rise x records arrived more e =
-    let P : List Arrival → Type 0 = λ cs. AreRising cs in
-    rise_front 0 (bare_arrivals arrived) (bare_arrivals more)
-    (subst P (ap (λ (l : List Captured). bare_arrivals l) e ∙ bare_arrivals_append arrived more) (arrivals_rise x.place records))
 
 -- before anything is written
 pub stopped_empty : (x : Setup) (v : View) (o : Opened) (records : List Record) → AreReady v o → HasStopped x v o records
@@ -77,60 +64,56 @@ stopped_empty x v o records h = record {
   };
 }
 
--- the texts of the first arrivals are those of all
-pub record SameTexts (x : Setup) (records : List Record) (arrived : List Captured) (g : List Happened) : Type 0 where
-  pub departures_are : departures x.dress arrived g ≡ departures_of x (arrivals_in x records) g
-  pub fates_are : fates (name_of x.names) arrived (journal g) ≡ fates_of x (arrivals_in x records) g
+rise_front : (t : ℕ) (xs ys : List Arrival) → RiseFrom t (xs ++ ys) → RiseFrom t xs
+rise_front t [] ys r = tt
+rise_front t (x ∷ xs) ys r = (r.0, rise_front x.at xs ys r.1)
 
-same_texts : (x : Setup) (records : List Record) (arrived more : List Captured) (g : List Happened) → IsSound x → arrivals_in x records ≡ arrived ++ more
-    → AreDue x.policy x.rate x.seed (bare_arrivals arrived) g → SameTexts x records arrived g
-same_texts x records arrived more g m e d =
-    let laws = due_laws x.policy x.rate x.seed (bare_arrivals arrived) g m.positive m.lawful (first_rise x records arrived more e) d in
-    record {
-      departures_are = ap written (sym (records_stay x.dress arrived more g laws.of_arrivals)) ∙ ap (λ (l : List Captured). departures x.dress l g) (sym e);
-      fates_are = ap (λ (t : List ℕ). fates_header ++ t) (sym (rows_stay (name_of x.names) arrived more g laws.of_arrivals)) ∙ ap (λ (l : List Captured). fates (name_of x.names) l (journal g)) (sym e);
-    }
+-- the first arrivals of a capture: they rise, and their texts are those of all
+module _ (x : Setup) (records : List Record) (arrived more : List Captured) (g : List Happened) (m : IsSound x) (e : arrivals_in x records ≡ arrived ++ more)
+    (d : AreDue x.policy x.rate x.seed (bare_arrivals arrived) g) where
+  first_laws : HasLaws x.policy x.rate x.seed (bare_arrivals arrived) g
+  first_laws =
+      let P : List Arrival → Type 0 = λ cs. AreRising cs in
+      due_laws x.policy x.rate x.seed (bare_arrivals arrived) g m.positive m.lawful
+      (rise_front 0 (bare_arrivals arrived) (bare_arrivals more)
+      (subst P (ap (λ (l : List Captured). bare_arrivals l) e ∙ bare_arrivals_append arrived more) (arrivals_rise x.place records))) d
 
--- events of the first arrivals that are due of all
-pub stopped : (x : Setup) (v : View) (o : Opened) (records : List Record) (arrived more : List Captured) (g : List Happened) → IsSound x → arrivals_in x records ≡ arrived ++ more
-    → AreDue x.policy x.rate x.seed (bare_arrivals (arrived ++ more)) g → IsBegun x.policy x.rate x.seed (bare_arrivals arrived) g
-    → FrontsAre v o.departures o.fates (departures x.dress arrived g) (fates (name_of x.names) arrived (journal g)) → HasStopped x v o records
-stopped x v o records arrived more g m e d b h =
-    let same = same_texts x records arrived more g m e b.events in
+  same_departures : departures_of x arrived g ≡ departures_of x (arrivals_in x records) g
+  same_departures = ap written (sym (records_stay x.dress arrived more g first_laws.of_arrivals)) ∙ ap (λ (l : List Captured). departures x.dress l g) (sym e)
+
+  same_fates : fates_of x arrived g ≡ fates_of x (arrivals_in x records) g
+  same_fates = ap (λ (t : List ℕ). fates_header ++ t) (sym (rows_stay (name_of x.names) arrived more g first_laws.of_arrivals))
+      ∙ ap (λ (l : List Captured). fates (name_of x.names) l (journal g)) (sym e)
+
+  pub hold_all : {v : View} {o : Opened} → HoldTexts v o x arrived g → HoldTexts v o x (arrivals_in x records) g
+  hold_all {v} {o} h =
+      let P : ℕ → List ℕ → Type 0 = λ f t. HoldsAt v f t in
+      record { departures = subst (P o.departures) same_departures h.departures; fates = subst (P o.fates) same_fates h.fates }
+
+  front_all : {v : View} {o : Opened} → FrontsAre v o.departures o.fates (departures_of x arrived g) (fates_of x arrived g) → HoldFronts v o x (arrivals_in x records) g
+  front_all h = record { departures = front_same _ _ _ _ same_departures h.departures; fates = front_same _ _ _ _ same_fates h.fates }
+
+-- fronts of the texts of events that are the first of all
+pub fronts_first : (x : Setup) (told : List ℕ → Type 0) (u v : View) (o : Opened) (arrived : List Captured) (g : List Happened) → IsSound x → OfArrivals u o told → AreFirst x told arrived g
+    → IsBegun x.policy x.rate x.seed (bare_arrivals arrived) g → FrontsAre v o.departures o.fates (departures_of x arrived g) (fates_of x arrived g) → Fronts x u v o
+fronts_first x told u v o arrived g m tells first b h = λ t rest l records last reads is_last.
+    let f = first (o.first.now ++ rest) (tells t rest l) records last reads is_last in
     let P : List Captured → Type 0 = λ l. AreDue x.policy x.rate x.seed (bare_arrivals l) g in
-    record {
-      history = g;
-      begun = record { events = subst P (sym e) d; in_time = b.in_time };
-      texts = record {
-        departures = front_same v o.departures _ _ same.departures_are h.departures;
-        fates = front_same v o.fates _ _ same.fates_are h.fates;
-      };
-    }
-
--- whole texts of the first arrivals are those of all
-pub hold_all : (x : Setup) (v : View) (o : Opened) (records : List Record) (arrived more : List Captured) (g : List Happened) → IsSound x → arrivals_in x records ≡ arrived ++ more
-    → AreDue x.policy x.rate x.seed (bare_arrivals arrived) g → HoldsAt v o.departures (departures x.dress arrived g) → HoldsAt v o.fates (fates (name_of x.names) arrived (journal g))
-    → HoldTexts v o x (arrivals_in x records) g
-hold_all x v o records arrived more g m e d y z =
-    let same = same_texts x records arrived more g m e d in
-    let P : List ℕ → Type 0 = λ t. HoldsAt v o.departures t in
-    let Q : List ℕ → Type 0 = λ t. HoldsAt v o.fates t in
-    record { departures = subst P same.departures_are y; fates = subst Q same.fates_are z }
+    record { history = g; begun = record { events = subst P (sym f.1) f.2; in_time = b.in_time }; texts = front_all x records arrived f.0 g m f.1 b.events h }
 
 -- the events up to the offer of the last complete record
-pub offered_all : (x : Setup) (stood : List Happened → Type 0) (v : View) (o : Opened) (records : List Record) (arrived : List Captured) (g : List Happened) → arrived ≡ arrivals_in x records
-    → IsBegun x.policy x.rate x.seed (bare_arrivals arrived) g → offered (bare g) ≡ length arrived → EndsWithOffer g
-    → HoldsAt v o.departures (departures x.dress arrived g) → HoldsAt v o.fates (fates (name_of x.names) arrived (journal g)) → IsStanding stood g → HasOffered x stood v o records
-offered_all x stood v o records arrived g e b n l y z s =
+pub offered_all : {x : Setup} {stood : List Happened → Type 0} {v : View} {o : Opened} {records : List Record} (arrived : List Captured) (g : List Happened) → arrived ≡ arrivals_in x records
+    → IsBegun x.policy x.rate x.seed (bare_arrivals arrived) g → offered (bare g) ≡ length arrived → EndsWithOffer g → HoldTexts v o x arrived g → IsStanding stood g
+    → HasOffered x stood v o records
+offered_all {x = x} {v = v} {o = o} {records = records} arrived g e b n l h s =
     let B : List Captured → Type 0 = λ a. IsBegun x.policy x.rate x.seed (bare_arrivals a) g in
-    let P : List Captured → Type 0 = λ a. HoldsAt v o.departures (departures x.dress a g) in
-    let Q : List Captured → Type 0 = λ a. HoldsAt v o.fates (fates (name_of x.names) a (journal g)) in
+    let P : List Captured → Type 0 = λ a. HoldTexts v o x a g in
     record {
       history = g;
       begun = subst B e b;
       all = n ∙ ap (λ (a : List Captured). length a) e ∙ sym (bare_arrivals_length (arrivals_in x records)) ∙ arrivals_length x.place records;
       last = l;
-      texts = record { departures = subst P e y; fates = subst Q e z };
+      texts = subst P e h;
       stands = s;
     }
 
@@ -184,15 +167,18 @@ cut_later capture.NoMemory v w file arr bytes rs left same x = tt
 pub left_kept : (u v : View) (arr dep fat : ℕ) → IsSome (u.part arr) → Apart u arr dep → Apart u arr fat → IsTrue u.tells → OnlyWrote dep fat u v → v.left arr ≡ u.left arr
 left_kept u v arr dep fat there d f t k = let p = part_of_there (u.part arr) there in k.keeps.left arr p.0 p.1 (d t, f t)
 
-pub read_before : (dep fat file : ℕ) (u v w : View) → OnlyWrote dep fat v w → ReadFault u v file → ReadFault u w file
-read_before dep fat file u v w k x = λ p at. rose_before _ _ _ (x p at) (k.keeps.later.read p)
+pub ready_left : {u v : View} {o : Opened} → AreReady u o → IsTrue u.tells → OnlyWrote o.departures o.fates u v → v.left o.arrivals ≡ u.left o.arrivals
+ready_left {u} {v} {o} r t k = left_kept u v o.arrivals o.departures o.fates r.arrivals r.from_departures r.from_fates t k
+
+pub read_before : {dep fat : ℕ} (file : ℕ) (u : View) {v w : View} → OnlyWrote dep fat v w → ReadFault u v file → ReadFault u w file
+read_before file u k x = λ p at. rose_before _ _ _ (x p at) (k.keeps.later.read p)
 
 -- greatest stamps
 grows : (t : ℕ) (rs : List Record) → t ≤ greatest t rs
 grows t [] = omega arith
 grows t (r ∷ rs) = omega (arith, grows (max t r.stamp) rs)
 
-greatest_append : (t : ℕ) (xs ys : List Record) → greatest t (xs ++ ys) ≡ greatest (greatest t xs) ys
+pub greatest_append : (t : ℕ) (xs ys : List Record) → greatest t (xs ++ ys) ≡ greatest (greatest t xs) ys
 greatest_append t [] ys = refl
 greatest_append t (x ∷ xs) ys = greatest_append (max t x.stamp) xs ys
 
@@ -278,39 +264,21 @@ found place v w r file bytes records last arrived start h l left (inr y) =
     }
 
 -- whole texts are fronts
-pub whole_front : (v : View) (file : ℕ) (text : List ℕ) → HoldsAt v file text → HoldsFront v file text
-whole_front v file text h = record { written = text; rest = []; holds = h; split = append-nil text }
+pub whole_front : {v : View} {file : ℕ} {text : List ℕ} → HoldsAt v file text → HoldsFront v file text
+whole_front {text = text} h = record { written = text; rest = []; holds = h; split = append-nil text }
 
-pub whole_fronts : (v : View) (dep fat : ℕ) (ds ts : List ℕ) → HoldsAt v dep ds → HoldsAt v fat ts → FrontsAre v dep fat ds ts
-whole_fronts v dep fat ds ts y z = record { departures = whole_front v dep ds y; fates = whole_front v fat ts z }
-
-pub held_by : (v : View) (file other : ℕ) (text : List ℕ) → other ≡ file → HoldsAt v other text → HoldsAt v file text
-held_by v file other text e h = let P : ℕ → Type 0 = λ n. HoldsAt v n text in subst P e h
+pub held_by : {v : View} {file other : ℕ} {text : List ℕ} → other ≡ file → HoldsAt v other text → HoldsAt v file text
+held_by e h = rw (← e) h
 
 -- the heads are the texts of no event
-pub head_records : (dress : Dressing) (v : View) (dep fat : ℕ) → TextsAre v dep fat [] [] capture_header fates_header → HoldsAt v dep (departures dress [] [])
-head_records dress v dep fat h =
-    let P : List ℕ → Type 0 = λ t. HoldsAt v dep t in subst P (sym (append-nil capture_header)) (text_whole v dep capture_header h.departures)
+pub head_holds : {x : Setup} {v : View} {o : Opened} → TextsAre v o.departures o.fates [] [] capture_header fates_header → HoldTexts v o x [] []
+head_holds {v = v} {o = o} h =
+    let P : ℕ → List ℕ → Type 0 = λ f t. HoldsAt v f t in
+    record {
+      departures = subst (P o.departures) (sym (append-nil capture_header)) (text_whole v o.departures capture_header h.departures);
+      fates = subst (P o.fates) (sym (append-nil fates_header)) (text_whole v o.fates fates_header h.fates);
+    }
 
-pub head_rows : (names : Naming) (v : View) (dep fat : ℕ) → TextsAre v dep fat [] [] capture_header fates_header → HoldsAt v fat (fates names [] [])
-head_rows names v dep fat h =
-    let P : List ℕ → Type 0 = λ t. HoldsAt v fat t in subst P (sym (append-nil fates_header)) (text_whole v fat fates_header h.fates)
-
-pub head_texts : (x : Setup) (v : View) (o : Opened) (p : Outputs) → AreOpened p o → p.records.items ≡ [] → p.rows ≡ []
+pub head_texts : (x : Setup) {v : View} {o : Opened} {p : Outputs} → AreOpened p o → p.records.items ≡ [] → p.rows ≡ []
     → TextsAre v o.departures o.fates [] [] capture_header fates_header → HasGiven x v p [] []
-head_texts x v o p a r s h =
-    let D : ℕ → Type 0 = λ n. TextsAre v n o.fates [] [] (departures_of x [] []) (fates_of x [] []) in
-    let F : ℕ → Type 0 = λ n. TextsAre v p.departures n [] [] (departures_of x [] []) (fates_of x [] []) in
-    let P : List ℕ → Type 0 = λ xs. TextsAre v p.departures p.fates xs [] (departures_of x [] []) (fates_of x [] []) in
-    let Q : List ℕ → Type 0 = λ xs. TextsAre v p.departures p.fates p.records.items xs (departures_of x [] []) (fates_of x [] []) in
-    subst Q (sym s) (subst P (sym r) (subst F (sym a.fates) (subst D (sym a.departures)
-    (texts_same v o.departures o.fates [] [] _ _ _ _ (sym (append-nil capture_header)) (sym (append-nil fates_header)) h))))
-
-pub explains_write : (x : Setup) (stood : List Happened → Type 0) (u v : View) (o : Opened) (f : PlayFault) → IsWriteCause o.departures o.fates u v f → Explains x stood u v o f
-explains_write x stood u v o (play.Write output.Departures) h = h
-explains_write x stood u v o (play.Write output.Fates) h = h
-explains_write x stood u v o (play.Write output.Statistics) h = absurd h
-explains_write x stood u v o play.NoMemory h = tt
-explains_write x stood u v o (play.Capture damage) h = absurd h
-explains_write x stood u v o play.Read h = absurd h
-explains_write x stood u v o (play.Limit limit) h = absurd h
+head_texts x a r s h = rw (r, s, a.departures, a.fates) (texts_same h (sym (append-nil capture_header)) (sym (append-nil fates_header)))

@@ -1,6 +1,6 @@
 -- The records of a capture, one by one, and the play of those that were read.
 use Rattle.std.proofs.Common.{◌≡◌, ◌≤◌, ◌<◌, ◌++◌, ◌∙◌, ◌+◌, ◌⊎◌, inl, inr, ℕ, zero, suc, max, arith, List, [], ◌∷◌, length, None, Some, refl, ap, sym, subst, append-nil, length-append}
-use Rattle.std.specs.Prelude.{slice_get, option_map, nat_lt, IfNone, IfSome, IsSome, IsTrue}
+use Rattle.std.specs.Prelude.{slice_get, option_map, nat_lt, IfNone, IfSome, IsTrue}
 use Rattle.std.specs.declared.option.Option.{Option}
 use Rattle.altq_model.specs.declared.Placed.{Placed}
 use Rattle.altq_model.specs.Arrivals.{Captured, arrivals_from, arrivals_of, bare_arrival, bare_arrivals}
@@ -16,11 +16,11 @@ use Rattle.pcap_files.specs.declared.fault.CaptureFault.{CaptureFault}
 use Rattle.pcap_files.specs.declared.fault.CaptureFault.TheVariants as fault
 use Rattle.pcap_files.specs.declared.reader.Reader.{Reader}
 use Rattle.pcap_files.specs.declared.record.Record.{Record as Read}
-use Rattle.pcap_files.specs.Reading.{IsWhole, StandsFor, Shows, answered}
+use Rattle.pcap_files.specs.Reading.{Answers, Counts as NextCounts, IsWhole, StandsFor, Shows, answered}
 use Rattle.pcap_files.proofs.ReadingLaws.{answered_front, one_reading, stands_kept}
 use Rattle.play_base.specs.View.{View, Keeps, Any, ReadFault}
 use Rattle.play_base.proofs.ViewLaws.{rose_later, still_there}
-use Rattle.play_base.proofs.HoldsLaws.{holds_kept, apart_kept}
+use Rattle.play_base.proofs.HoldsLaws.{apart_kept}
 use Rattle.play_laws.specs.Events.{IsOffer, IsSending}
 use Rattle.play_laws.proofs.AllLaws.{due_laws}
 use Rattle.play_laws.proofs.ArrivalLemmas.{arrivals_append, bare_arrivals_append, bare_arrivals_length}
@@ -39,25 +39,17 @@ use Rattle.play_loop.specs.declared.outputs.Outputs.{Outputs}
 use Rattle.class_counts.specs.Counting.{HasCounted, count_at}
 use Rattle.play_loop.specs.Ending.{AreFirst, IsAhead, IsAll}
 use Rattle.play_loop.specs.Kept.{IsOther, OnlyWrote, OnlyPlayed}
-use Rattle.play_loop.specs.Outputs.{SameFiles, TextsAre}
+use Rattle.play_loop.specs.Outputs.{HasTexts, SameFiles}
 use Rattle.play_loop.specs.Played.{start_of}
 use Rattle.class_counts.specs.Fit.{AreFit, IsFit}
 use Rattle.play_loop.specs.Reading.{CanRead, HasRead, IsRead, IsWithin, arrival_of}
 use Rattle.play_loop.specs.Setup.{IsSound, Setup}
 use Rattle.play_loop.specs.Underway.{HasGiven, IsHeld, IsUnderway, Moment, StayDue}
 use Rattle.class_counts.proofs.CountingLemmas.{counted_read}
-use Rattle.play_loop.proofs.OutputLemmas.{texts_same, there_same}
-use Rattle.play_loop.proofs.ToldLemmas.{told_stays}
-use Rattle.play_loop.proofs.TurnLemmas.{going_laws, moved_on, promised}
-
--- what was read leaves what was written
-pub texts_kept : (F : ℕ → Type 0) (v w : View) (dep fat : ℕ) (recs rows ds ts : List ℕ) → TextsAre v dep fat recs rows ds ts → Keeps Any F v w
-    → TextsAre w dep fat recs rows ds ts
-texts_kept F v w dep fat recs rows ds ts h k = record {
-  departures = record { written = h.departures.written; holds = holds_kept F v w dep h.departures.written h.departures.holds k; split = h.departures.split };
-  fates = record { written = h.fates.written; holds = holds_kept F v w fat h.fates.written h.fates.holds k; split = h.fates.split };
-  apart = apart_kept Any F v w dep fat h.departures.holds.there h.fates.holds.there h.apart k;
-}
+use Rattle.play_loop.proofs.OutputLemmas.{texts_kept, texts_same, there_same}
+use Rattle.play_loop.proofs.PlayLemmas.{greatest_append}
+use Rattle.play_loop.proofs.TextLemmas.{told_stays}
+use Rattle.play_loop.proofs.TurnLemmas.{going_laws, moved_on, on, promised}
 
 -- the last arrival of a list, or this moment
 abbrev pub last_at : (t : ℕ) → List Arrival → ℕ
@@ -90,63 +82,62 @@ pub record IsReading (x : Setup) (m : Moment) (w : DrawnWords) (told : List ℕ 
   pub counted : length arrived ≤ answered r
   pub read : (bytes : List ℕ) → told bytes → HasRead x.place m.files r bytes arrived top
 
-pub under_kept : (F : ℕ → Type 0) (x : Setup) (m : Moment) (v : View) (arrived : List Captured) (w : DrawnWords) (g : List Happened) → IsUnderway x m arrived w g
-    → Keeps Any F m.files v → IsUnderway x (record m { files = v }) arrived w g
-under_kept F x m v arrived w g u k = record {
-  setup = moved_on x m (record m { files = v }) w.seed w.seed u.setup refl refl refl;
+-- `arrived` are the arrivals of the records that a reader returned, the last of them at `now`, and those before it by `top`
+pub record HasReadOne (place : List ℕ → Placed) (v : View) (r : Reader) (bytes : List ℕ) (arrived : List Captured) (top now : ℕ) : Type 0 where
+  pub before : List Record
+  pub last : Record
+  pub stands : StandsFor v r bytes (before ++ last ∷ [])
+  pub arrivals : arrived ≡ arrivals_of place (before ++ last ∷ [])
+  pub top_is : greatest 0 before ≡ top
+  pub now_is : greatest 0 (before ++ last ∷ []) ≡ now
+
+pub has_read : {place : List ℕ → Placed} {v : View} {r : Reader} {bytes : List ℕ} {arrived : List Captured} {top now : ℕ} → HasReadOne place v r bytes arrived top now
+    → HasRead place v r bytes arrived now
+has_read h = record { records = h.before ++ h.last ∷ []; stands = h.stands; arrivals = h.arrivals; latest_is = h.now_is }
+
+-- one more packet was read, and is the next to be offered
+pub record IsComing (x : Setup) (m : Moment) (w : DrawnWords) (told : List ℕ → Type 0) (r : Reader) (a : Arriving) (arrived : List Captured) (g : List Happened) : Type 0 where
+  pub under : IsUnderway x m arrived w g
+  pub held : IsHeld x.place arrived g a
+  pub offers : offered (bare g) + 1 ≡ length arrived
+  pub last_is : last_at 0 (bare_arrivals arrived) ≡ a.packet.at
+  pub counted : length arrived ≤ answered r
+  pub read : (bytes : List ℕ) → told bytes → HasReadOne x.place m.files r bytes arrived (latest (bare g)) a.packet.at
+
+pub under_kept : {F : ℕ → Type 0} {x : Setup} {m : Moment} {v : View} {arrived : List Captured} {w : DrawnWords} {g : List Happened} → IsUnderway x m arrived w g → Keeps Any F m.files v
+    → IsUnderway x (record m { files = v }) arrived w g
+under_kept u k = record {
+  setup = moved_on u.setup refl refl refl;
   going = u.going;
-  written = record {
-    given = texts_kept F m.files v _ _ _ _ _ _ u.written.given k;
-    counted = u.written.counted;
-    was_told = u.written.was_told;
-    fit = u.written.fit;
-  };
+  written = record { given = texts_kept u.written.given k; counted = u.written.counted; was_told = u.written.was_told; fit = u.written.fit };
 }
 
 -- one more packet was read and counted
-pub under_read : (x : Setup) (m : Moment) (o : Outputs) (arrived : List Captured) (w : DrawnWords) (g : List Happened) (top : ℕ) (a : Arriving) → IsUnderway x m arrived w g
-    → EndsWithOffer g → last_at 0 (bare_arrivals arrived) ≡ top → top ≤ a.packet.at → length arrived < most_records → IsWithin a → o ≡ record m.outputs { counts = o.counts }
+under_read : {x : Setup} {m : Moment} {o : Outputs} {arrived : List Captured} {w : DrawnWords} {g : List Happened} (a : Arriving) → IsUnderway x m arrived w g → EndsWithOffer g
+    → last_at 0 (bare_arrivals arrived) ≤ a.packet.at → length arrived < most_records → IsWithin a → o ≡ record m.outputs { counts = o.counts }
     → o.counts.items ≡ count_at x.names (x.place a.packet.bytes).class (Arrived a.packet.len a.raised) m.outputs.counts.items
     → IsUnderway x (record m { outputs = o }) (arrived ++ arrival_of x.place a ∷ []) w g
-under_read x m o arrived w g top a u last last_is l few i same more_is =
+under_read {x} {m} {o} {arrived} {w} {g} a u last l few i same more_is =
     let b : Captured = arrival_of x.place a in
     let more : List Captured = b ∷ [] in
-    let y = u.going in
-    let laws = going_laws x m arrived w g u.setup y in
+    let laws = going_laws (on u) in
     let R : List Arrival → Type 0 = λ cs. AreRising cs in
     let T : Outputs → Type 0 = λ z. HasGiven x m.files z (arrived ++ more) g in
     let C : List Counts → Type 0 = λ ks. HasCounted x.names (arrived ++ more) (journal g) ks in
     record {
-      setup = moved_on x m (record m { outputs = o }) w.seed w.seed u.setup refl refl refl;
+      setup = moved_on u.setup refl refl refl;
       going = read_more more last
-          (subst R (sym (bare_arrivals_append arrived more)) (rises_on 0 (bare_arrivals arrived) (bare_arrival b) y.rising (omega (arith, last_is, l))))
-          (omega (arith, length-append arrived more, few)) (record { promised = promised x m w.seed u.setup; going = y });
+          (subst R (sym (bare_arrivals_append arrived more)) (rises_on 0 (bare_arrivals arrived) (bare_arrival b) u.going.rising l))
+          (omega (arith, length-append arrived more, few)) (record { promised = promised u.setup; going = u.going });
       written = record {
-        given = subst T (sym same) (texts_same m.files _ _ _ _ _ _ _ _
+        given = subst T (sym same) (texts_same u.written.given
             (ap written (sym (records_stay x.dress arrived more g laws.of_arrivals)))
-            (ap (λ (t : List ℕ). fates_header ++ t) (sym (rows_stay (name_of x.names) arrived more g laws.of_arrivals)))
-            u.written.given);
+            (ap (λ (t : List ℕ). fates_header ++ t) (sym (rows_stay (name_of x.names) arrived more g laws.of_arrivals))));
         counted = subst C (sym more_is) (counted_read x.names arrived b g m.outputs.counts.items u.written.counted laws.of_arrivals);
         was_told = subst m.told (sym (told_stays arrived more g laws.of_arrivals)) u.written.was_told;
         fit = fit_push x.place arrived b u.written.fit (record { class = refl; some = i.some; short = i.short; fits = i.fits });
       };
     }
-
-pub held_more : (place : List ℕ → Placed) (arrived : List Captured) (g : List Happened) (a : Arriving) → offered (bare g) ≡ length arrived → a.packet.number ≡ offered (bare g) + 1
-    → a.placed ≡ place a.packet.bytes → IsHeld place (arrived ++ arrival_of place a ∷ []) g a
-held_more place arrived g a o n q = record {
-  there = ap (λ (k : ℕ). slice_get (arrived ++ arrival_of place a ∷ []) k) o ∙ there_push arrived (arrival_of place a);
-  packet_is = ap (λ (k : ℕ). numbered k (arrival_of place a)) n;
-  placed_is = q;
-}
-
-pub last_more : (place : List ℕ → Placed) (arrived : List Captured) (a : Arriving) → last_at 0 (bare_arrivals (arrived ++ arrival_of place a ∷ [])) ≡ a.packet.at
-last_more place arrived a =
-    ap (λ (cs : List Arrival). last_at 0 cs) (bare_arrivals_append arrived (arrival_of place a ∷ [])) ∙ last_push 0 (bare_arrivals arrived) (bare_arrival (arrival_of place a))
-
-pub greatest-push : (t : ℕ) (rs : List Record) (r : Record) → greatest t (rs ++ r ∷ []) ≡ max (greatest t rs) r.stamp
-greatest-push t [] r = refl
-greatest-push t (s ∷ rs) r = greatest-push (max t s.stamp) rs r
 
 pub of_some : {A : Type 0} (P : A → Type 0) (o : Option A) (a : A) → o ≡ Some a → IfSome o P → P a
 of_some {A} P o a e h = let Q : Option A → Type 0 = λ k. IfSome k P in subst Q e h
@@ -154,7 +145,7 @@ of_some {A} P o a e h = let Q : Option A → Type 0 = λ k. IfSome k P in subst 
 pub of_none : {A : Type 0} (P : Type 0) (o : Option A) → o ≡ None → IfNone o P → P
 of_none {A} P o e h = let Q : Option A → Type 0 = λ k. IfNone k P in subst Q e h
 
-pub arrival_made : (place : List ℕ → Placed) (answer : Read) (top now count : ℕ) (a : Arriving) (s : Record) → IsRead answer top a → now ≡ top → Shows answer count s
+arrival_made : (place : List ℕ → Placed) (answer : Read) (top now count : ℕ) (a : Arriving) (s : Record) → IsRead answer top a → now ≡ top → Shows answer count s
     → arrival_of place a ≡ record {
       at = max now s.stamp;
       len = max s.original (length s.captured);
@@ -165,42 +156,70 @@ pub arrival_made : (place : List ℕ → Placed) (answer : Read) (top now count 
     }
 arrival_made place answer top now count a s i e y = cc (i.at, i.len, i.bytes, i.raised, e, y.stamp, y.len, y.bytes)
 
-abbrev pub read_record : (place : List ℕ → Placed) (v v' : View) (r r' : Reader) (bytes : List ℕ) (arrived : List Captured) (top : ℕ) (answer : Read) (a : Arriving) → IsRead answer top a
+read_record : {place : List ℕ → Placed} {v v' : View} {r r' : Reader} {bytes : List ℕ} {arrived : List Captured} {top : ℕ} {answer : Read} (a : Arriving) → IsRead answer top a
     → (h : HasRead place v r bytes arrived top)
     → (s : Record) × Shows answer (length h.records) s × StandsFor v' r' bytes (h.records ++ s ∷ [])
-    → HasRead place v' r' bytes (arrived ++ arrival_of place a ∷ []) a.packet.at
-read_record place v v' r r' bytes arrived top answer a i h y =
+    → HasReadOne place v' r' bytes (arrived ++ arrival_of place a ∷ []) top a.packet.at
+read_record {place} {top = top} {answer} a i h y =
     let s : Record = y.0 in
     let made = arrival_made place answer top (greatest 0 h.records) (length h.records) a s i h.latest_is y.1 in
     record {
-      records = h.records ++ s ∷ [];
+      before = h.records;
+      last = s;
       stands = y.2;
       arrivals = ap (λ (l : List Captured). l ++ arrival_of place a ∷ []) h.arrivals ∙ ap (λ (x : Captured). arrivals_of place h.records ++ x ∷ []) made
           ∙ sym (arrivals_append place h.records (s ∷ []));
-      latest_is = greatest-push 0 h.records s ∙ ap (λ (n : ℕ). max n s.stamp) h.latest_is ∙ ap (λ (n : ℕ). max top n) (sym y.1.stamp) ∙ sym i.at;
+      top_is = h.latest_is;
+      now_is = greatest_append 0 h.records (s ∷ []) ∙ ap (λ (n : ℕ). max n s.stamp) h.latest_is ∙ ap (λ (n : ℕ). max top n) (sym y.1.stamp) ∙ sym i.at;
+    }
+
+-- what a reader's answer and its arrival show: the packet is the next by number, placed and counted
+pub record HasArrived (x : Setup) (m : Moment) (answer : Read) (top : ℕ) (a : Arriving) (ks : List Counts) : Type 0 where
+  pub read : IsRead answer top a
+  pub number : a.packet.number ≡ m.progress.totals.arrived + 1
+  pub placed : a.placed ≡ x.place a.packet.bytes
+  pub within : IsWithin a
+  pub counted : ks ≡ count_at x.names (x.place a.packet.bytes).class (Arrived a.packet.len a.raised) m.outputs.counts.items
+
+pub coming : {F : ℕ → Type 0} {x : Setup} {m : Moment} {v : View} {o : Outputs} {w : DrawnWords} {told : List ℕ → Type 0} {r r' : Reader} {top : ℕ} {arrived : List Captured} {g : List Happened}
+    (answer : Read) (a : Arriving) → IsReading x m w told r top arrived g → Keeps Any F m.files v → Answers m.files v r r' answer → NextCounts r r' answer
+    → HasArrived x m answer top a o.counts.items → o ≡ record m.outputs { counts = o.counts }
+    → IsComing x (record m { files = v; outputs = o }) w told r' a (arrived ++ arrival_of x.place a ∷ []) g
+coming {x = x} {w = w} {top = top} {arrived = arrived} {g = g} answer a z k answers counts c same =
+    let b : Captured = arrival_of x.place a in
+    let size = length-append arrived (b ∷ []) in
+    let number : a.packet.number ≡ offered (bare g) + 1 = omega (arith, c.number, z.under.going.totals.arrived) in
+    record {
+      under = under_read a (under_kept z.under k) z.last (omega (arith, z.last_is, c.read.at)) (omega (arith, z.counted, counts.number, answer.counted)) c.within same c.counted;
+      held = record {
+        there = ap (λ (n : ℕ). slice_get (arrived ++ b ∷ []) n) z.offers ∙ there_push arrived b;
+        packet_is = ap (λ (n : ℕ). numbered n b) number;
+        placed_is = c.placed;
+      };
+      offers = omega (arith, size, z.offers);
+      last_is = ap (λ (cs : List Arrival). last_at 0 cs) (bare_arrivals_append arrived (b ∷ [])) ∙ last_push 0 (bare_arrivals arrived) (bare_arrival b);
+      counted = omega (arith, size, z.counted, counts.count);
+      read = λ bytes t. (let h = z.read bytes t in rw z.newest (read_record a c.read h (answers bytes h.records h.stands)));
     }
 
 -- writes to files of other names leave what a reader stands for
-abbrev pub read_kept : (place : List ℕ → Placed) (v w : View) (r : Reader) (dep fat : ℕ) (bytes : List ℕ) (arrived : List Captured) (top : ℕ) → HasRead place v r bytes arrived top
-    → IsSome (v.part r.file) → IsOther v dep fat (v.name r.file) → OnlyWrote dep fat v w → HasRead place w r bytes arrived top
-read_kept place v w r dep fat bytes arrived top h there other k = record {
-  records = h.records;
-  stands = stands_kept _ (λ f. IsOther v dep fat (v.name f)) v w r bytes h.records h.stands there other k.keeps;
-  arrivals = h.arrivals;
-  latest_is = h.latest_is;
-}
-
--- reads of one file and writes to others leave it there, and their names apart
-pub there_played : (u v : View) (o : Outputs) (r s : Reader) → CanRead u r o → OnlyPlayed r.file o.departures o.fates u v → s.file ≡ r.file → IsSome (v.part s.file)
-there_played u v o r s c k e = there_same v.part r.file s.file e (still_there _ _ u v r.file k.keeps c.there)
-
-pub apart_played : (u v : View) (o p : Outputs) (r s : Reader) → CanRead u r o → IsSome (u.part o.departures) → IsSome (u.part o.fates)
-    → OnlyPlayed r.file o.departures o.fates u v → SameFiles o p → s.file ≡ r.file → IsTrue u.tells → IsOther v p.departures p.fates (v.name s.file)
-apart_played u v o p r s c is_dep is_fat k same e t =
+pub read_kept : {u v w : View} {o p : Outputs} {r s : Reader} {ds ts : List ℕ} {place : List ℕ → Placed} {bytes : List ℕ} {arrived : List Captured} {top now : ℕ} → CanRead u r o
+    → HasTexts u o ds ts → OnlyPlayed r.file o.departures o.fates u v → SameFiles o p → s.file ≡ r.file → IsTrue u.tells → OnlyWrote p.departures p.fates v w
+    → HasReadOne place v s bytes arrived top now → HasReadOne place w s bytes arrived top now
+read_kept {u} {v} {w} {o} {p} {r} {s} c h k same e t x y =
     let told : IsTrue v.tells = k.keeps.tells ∙ t in
-    let d = apart_kept _ _ u v r.file o.departures c.there is_dep c.from_departures k.keeps told in
-    let f = apart_kept _ _ u v r.file o.fates c.there is_fat c.from_fates k.keeps told in
-    ((λ q. d (ap v.name (sym e) ∙ q ∙ ap v.name same.departures)), (λ q. f (ap v.name (sym e) ∙ q ∙ ap v.name same.fates)))
+    let d = apart_kept _ _ u v r.file o.departures c.there h.departures.holds.there c.from_departures k.keeps told in
+    let f = apart_kept _ _ u v r.file o.fates c.there h.fates.holds.there c.from_fates k.keeps told in
+    let there = there_same v.part r.file s.file e (still_there _ _ u v r.file k.keeps c.there) in
+    let other : IsOther v p.departures p.fates (v.name s.file) = ((λ q. d (ap v.name (sym e) ∙ q ∙ ap v.name same.departures)), (λ q. f (ap v.name (sym e) ∙ q ∙ ap v.name same.fates))) in
+    record {
+      before = y.before;
+      last = y.last;
+      stands = stands_kept _ (λ f. IsOther v p.departures p.fates (v.name f)) v w s _ _ y.stands there other x.keeps;
+      arrivals = y.arrivals;
+      top_is = y.top_is;
+      now_is = y.now_is;
+    }
 
 -- nothing more arrives
 none_there : (xs : List Arrival) (k : ℕ) → k ≡ length xs → slice_get xs k ≡ None
@@ -261,27 +280,23 @@ cut_starts x arrived g s rise c =
     (due_laws x.policy x.rate x.seed arrived (c.next ∷ g) s.positive s.lawful rise (c.is_due, c.begun.events)).each.0
 
 -- that of the last record is the only arrival after it
-pub ahead_of : (place : List ℕ → Placed) (v : View) (r : Reader) (bytes : List ℕ) (arrived : List Captured) (top start : ℕ) (before : List Record) (last : Record)
-    → (h : HasRead place v r bytes arrived top) → h.records ≡ before ++ last ∷ [] → r.fault ≡ None → greatest 0 before ≤ start → start < top → IsAhead place v r bytes arrived start
-ahead_of place v r bytes arrived top start before last h e sound low high =
-    let S : List Record → Type 0 = λ rs. StandsFor v r bytes rs in
-    record {
-      before = before;
-      last = last;
-      arrivals = h.arrivals ∙ ap (λ (rs : List Record). arrivals_of place rs) e;
-      stands = subst S e h.stands;
-      sound = sound;
-      passed = low;
-      later = omega (arith, h.latest_is, ap (λ (rs : List Record). greatest 0 rs) e, high);
-    }
+pub ahead_of : {place : List ℕ → Placed} {v : View} {r : Reader} {bytes : List ℕ} {arrived : List Captured} {top now start : ℕ} → HasReadOne place v r bytes arrived top now → r.fault ≡ None
+    → top ≤ start → start < now → IsAhead place v r bytes arrived start
+ahead_of h sound low high = record {
+  before = h.before;
+  last = h.last;
+  arrivals = h.arrivals;
+  stands = h.stands;
+  sound = sound;
+  passed = omega (arith, h.top_is, low);
+  later = omega (arith, h.now_is, high);
+}
 
 some_not_none : (f : CaptureFault) → None ≡ Some f → ⊥
 some_not_none f h = cc
 
 -- a failed read is one of this call
-pub read_since : (arr dep fat file : ℕ) (u v w : View) (had : Option CaptureFault) → OnlyPlayed arr dep fat u v → file ≡ arr → had ≡ None → ReadFault v w file ⊎ (had ≡ Some fault.Read)
-    → ReadFault u w arr
-read_since arr dep fat file u v w had k e none (inl x) = λ p at.
-    let Q : ℕ → Type 0 = λ n. ReadFault v w n in
-    rose_later _ _ _ (k.keeps.later.read p) (subst Q e x p (k.keeps.part arr p at))
-read_since arr dep fat file u v w had k e none (inr y) = let q : None ≡ Some fault.Read = sym none ∙ y in absurd (some_not_none fault.Read q)
+pub read_since : {arr dep fat file : ℕ} {u v : View} {had : Option CaptureFault} (w : View) → OnlyPlayed arr dep fat u v → file ≡ arr → had ≡ None
+    → ReadFault v w file ⊎ (had ≡ Some fault.Read) → ReadFault u w arr
+read_since {arr = arr} {v = v} w k e none (inl x) = λ p at. rose_later _ _ _ (k.keeps.later.read p) (x p (ap v.part e ∙ k.keeps.part arr p at))
+read_since w k e none (inr y) = let q : None ≡ Some fault.Read = sym none ∙ y in absurd (some_not_none fault.Read q)

@@ -30,131 +30,118 @@ use Rattle.play_loop.specs.Underway.{AreMade, AreWritten, Goes, IsPlayedAt, IsUn
 use Rattle.class_counts.proofs.CountingLemmas.{counted_countable}
 use Rattle.play_loop.proofs.TextLemmas.{Leaves, leaves}
 
--- what holds under the policy, the rate and the seed of a moment holds under those of the setup, and back
-as_played : (P : Policy → ℕ → ℕ → Type 0) (p q : Policy) (r s a b : ℕ) → p ≡ q → r ≡ s → a ≡ b → P p r a → P q s b
-as_played P p q r s a b e f h x =
-    let Q : Policy → Type 0 = λ k. P k r a in
-    let R : ℕ → Type 0 = λ k. P q k a in
-    let S : ℕ → Type 0 = λ k. P q s k in
-    subst S h (subst R f (subst Q e x))
+module _ {x : Setup} {m : Moment} {seed : ℕ} (i : IsPlayedAt x m seed) where
+  -- what holds under the policy, the rate and the seed of a moment holds under those of the setup, and back
+  pub to_setup : (P : Policy → ℕ → ℕ → Type 0) → P m.shown.policy m.progress.clock.rate seed → P x.policy x.rate x.seed
+  to_setup P h = rw (← i.policy, ← i.rate, ← i.seed_is) h
 
-pub to_setup : (P : Policy → ℕ → ℕ → Type 0) (x : Setup) (m : Moment) (seed : ℕ) → IsPlayedAt x m seed → P m.shown.policy m.progress.clock.rate seed → P x.policy x.rate x.seed
-to_setup P x m seed i h = as_played P _ _ _ _ _ _ i.policy i.rate i.seed_is h
+  pub from_setup : (P : Policy → ℕ → ℕ → Type 0) → P x.policy x.rate x.seed → P m.shown.policy m.progress.clock.rate seed
+  from_setup P h = rw (i.policy, i.rate, i.seed_is) h
 
-pub from_setup : (P : Policy → ℕ → ℕ → Type 0) (x : Setup) (m : Moment) (seed : ℕ) → IsPlayedAt x m seed → P x.policy x.rate x.seed → P m.shown.policy m.progress.clock.rate seed
-from_setup P x m seed i h = as_played P _ _ _ _ _ _ (sym i.policy) (sym i.rate) (sym i.seed_is) h
+  pub promised : IsPromised m.shown.policy m.progress.clock.rate
+  promised = from_setup (λ p rate s. IsPromised p rate) (record { positive = i.sound.positive; lawful = i.sound.lawful; steady = i.sound.steady; distinct = i.sound.distinct })
 
-pub promised : (x : Setup) (m : Moment) (seed : ℕ) → IsPlayedAt x m seed → IsPromised m.shown.policy m.progress.clock.rate
-promised x m seed i =
-    from_setup (λ p rate s. IsPromised p rate) x m seed i
-    (record { positive = i.sound.positive; lawful = i.sound.lawful; steady = i.sound.steady; distinct = i.sound.distinct })
+  -- the same setup is played once the discipline and the clock have moved on
+  pub moved_on : {n : Moment} {later : ℕ} → n.shown.policy ≡ m.shown.policy → n.progress.clock.rate ≡ m.progress.clock.rate → later ≡ seed → IsPlayedAt x n later
+  moved_on p r s = record { sound = i.sound; policy = p ∙ i.policy; rate = r ∙ i.rate; seed_is = s ∙ i.seed_is }
 
--- the same setup is played once the discipline and the clock have moved on
-pub moved_on : (x : Setup) (m n : Moment) (seed later : ℕ) → IsPlayedAt x m seed → n.shown.policy ≡ m.shown.policy → n.progress.clock.rate ≡ m.progress.clock.rate → later ≡ seed
-    → IsPlayedAt x n later
-moved_on x m n seed later i p r s = record { sound = i.sound; policy = p ∙ i.policy; rate = r ∙ i.rate; seed_is = s ∙ i.seed_is }
+-- a play of this setup goes on
+pub record IsOn (x : Setup) (m : Moment) (arrived : List Captured) (w : DrawnWords) (g : List Happened) : Type 0 where
+  pub setup : IsPlayedAt x m w.seed
+  pub going : Goes m arrived w g
 
-pub begun_of : (x : Setup) (m : Moment) (arrived : List Captured) (w : DrawnWords) (g : List Happened) → IsPlayedAt x m w.seed → Goes m arrived w g
-    → IsBegun x.policy x.rate x.seed (bare_arrivals arrived) g
-begun_of x m arrived w g i y = to_setup (λ p rate seed. IsBegun p rate seed (bare_arrivals arrived) g) x m w.seed i y.begun
+module _ {x : Setup} {m : Moment} {arrived : List Captured} {w : DrawnWords} {g : List Happened} where
+  pub on : IsUnderway x m arrived w g → IsOn x m arrived w g
+  on u = record { setup = u.setup; going = u.going }
 
--- the laws of a play that goes on
-pub going_laws : (x : Setup) (m : Moment) (arrived : List Captured) (w : DrawnWords) (g : List Happened) → IsPlayedAt x m w.seed → Goes m arrived w g
-    → HasLaws x.policy x.rate x.seed (bare_arrivals arrived) g
-going_laws x m arrived w g i y =
-    due_laws x.policy x.rate x.seed (bare_arrivals arrived) g i.sound.positive i.sound.lawful y.rising (begun_of x m arrived w g i y).events
+  pub begun_of : IsOn x m arrived w g → IsBegun x.policy x.rate x.seed (bare_arrivals arrived) g
+  begun_of o = to_setup o.setup (λ p rate seed. IsBegun p rate seed (bare_arrivals arrived) g) o.going.begun
 
--- its counts are small
-pub under_countable : (x : Setup) (m : Moment) (arrived : List Captured) (w : DrawnWords) (g : List Happened) → IsUnderway x m arrived w g → AreCountable x.names m.outputs.counts.items
-under_countable x m arrived w g u =
-    let laws = going_laws x m arrived w g u.setup u.going in
-    counted_countable x.place x.names arrived (journal g) m.outputs.counts.items u.written.counted u.written.fit u.going.few
-    (omega (arith, laws.few, laws.came, bare_arrivals_length arrived, u.going.few))
+  -- its laws
+  pub going_laws : IsOn x m arrived w g → HasLaws x.policy x.rate x.seed (bare_arrivals arrived) g
+  going_laws o =
+      due_laws x.policy x.rate x.seed (bare_arrivals arrived) g o.setup.sound.positive o.setup.sound.lawful o.going.rising (begun_of o).events
 
-pub can_add : (x : Setup) (m : Moment) (arrived : List Captured) (w : DrawnWords) (g : List Happened) (class : ℕ) → IsUnderway x m arrived w g → HasClass x.names class
-    → CanAdd x.names m.files m.outputs class
-can_add x m arrived w g class u named = record {
-  named = named;
-  countable = under_countable x m arrived w g u;
-  departures = u.written.given.departures.holds.there;
-  fates = u.written.given.fates.holds.there;
-}
+  -- its counts are small
+  pub under_countable : IsUnderway x m arrived w g → AreCountable x.names m.outputs.counts.items
+  under_countable u =
+      let laws = going_laws (on u) in
+      counted_countable x.place x.names arrived (journal g) m.outputs.counts.items u.written.counted u.written.fit u.going.few
+      (omega (arith, laws.few, laws.came, bare_arrivals_length arrived, u.going.few))
+
+  pub can_add : {class : ℕ} → IsUnderway x m arrived w g → HasClass x.names class → CanAdd x.names m.files m.outputs class
+  can_add u named = record {
+    named = named;
+    countable = under_countable u;
+    departures = u.written.given.departures.holds.there;
+    fates = u.written.given.fates.holds.there;
+  }
 
 -- a sending that was made, before it is written: what leaves is an arrival
 pub record IsSent (x : Setup) (n : Moment) (arrived : List Captured) (w : DrawnWords) (g : List Happened) (d : Departure) : Type 0 where
-  pub setup : IsPlayedAt x n w.seed
-  pub going : Goes n arrived w (departs d ∷ g)
+  pub on : IsOn x n arrived w (departs d ∷ g)
   pub leaves : Leaves x.place arrived d
   pub mark_is : d.marked ≡ was_marked d.packet.number g
-
-pub is_sent : (x : Setup) (m n : Moment) (arrived : List Captured) (w : DrawnWords) (g : List Happened) (d : Departure) → IsUnderway x m arrived w g
-    → n.shown.policy ≡ m.shown.policy → n.progress.clock.rate ≡ m.progress.clock.rate
-    → Departs m.shown.policy m.progress.clock.rate w.seed arrived g d → Goes n arrived w (departs d ∷ g) → IsSent x n arrived w g d
-is_sent x m n arrived w g d u p r e y =
-    let i = moved_on x m n w.seed w.seed u.setup p r refl in
-    record {
-      setup = i;
-      going = y;
-      leaves = leaves x.place arrived g d u.written.fit e.packet_is (going_laws x n arrived w (departs d ∷ g) i y).of_arrivals;
-      mark_is = e.mark_is;
-    }
-
--- its class has a name, and its bytes fit
-pub sent_class : (x : Setup) (n : Moment) (arrived : List Captured) (w : DrawnWords) (g : List Happened) (d : Departure) → IsSent x n arrived w g d → HasClass x.names d.class
-sent_class x n arrived w g d s =
-    let P : ℕ → Type 0 = λ c. HasClass x.names c in
-    subst P (sym (s.leaves.class ∙ s.leaves.fit.class)) (s.setup.sound.named (arrival arrived d.packet.number).bytes)
-
-pub sent_fits : (x : Setup) (n : Moment) (arrived : List Captured) (w : DrawnWords) (g : List Happened) (d : Departure) → IsSent x n arrived w g d
-    → length d.packet.bytes ≤ d.packet.len
-sent_fits x n arrived w g d s = omega (arith, s.leaves.fit.fits, s.leaves.len, ap (length {A = ℕ}) s.leaves.bytes)
 
 -- a sending raises the count of those sent by one, to at most 4,000,000
 pub record CountsUp (t u : Totals) : Type 0 where
   pub sent : u.sent ≡ t.sent + 1
   pub within : u.sent ≤ 4000000
 
-pub counts_up : (x : Setup) (m n : Moment) (arrived : List Captured) (w : DrawnWords) (g : List Happened) (d : Departure) → IsUnderway x m arrived w g → IsSent x n arrived w g d
-    → CountsUp m.progress.totals n.progress.totals
-counts_up x m n arrived w g d u s = record {
-  sent = omega (arith, u.going.totals.sent, s.going.totals.sent, sent_push (journal g) (d.packet.number, fate.Sent d.start d.end d.rule));
-  within = (few_counts (record { promised = promised x n w.seed s.setup; going = s.going })).sent;
-}
+module _ {x : Setup} {m n : Moment} {arrived : List Captured} {w : DrawnWords} {g : List Happened} {d : Departure} where
+  pub is_sent : IsUnderway x m arrived w g → n.shown.policy ≡ m.shown.policy → n.progress.clock.rate ≡ m.progress.clock.rate
+      → Departs m.shown.policy m.progress.clock.rate w.seed arrived g d → Goes n arrived w (departs d ∷ g) → IsSent x n arrived w g d
+  is_sent u p r e y =
+      let o : IsOn x n arrived w (departs d ∷ g) = record { setup = moved_on u.setup p r refl; going = y } in
+      record { on = o; leaves = leaves x.place arrived g d u.written.fit e.packet_is (going_laws o).of_arrivals; mark_is = e.mark_is }
 
--- nothing is due, so nothing is to come
-pub end_made : (x : Setup) (m : Moment) (arrived : List Captured) (w : DrawnWords) (g : List Happened) (arrival : Option ℕ) → IsUnderway x m arrived w g
-    → due x.policy x.rate x.seed (bare_arrivals arrived) g ≡ None → AreMade x arrived g arrival
-end_made x m arrived w g arrival u d = record {
-  all = λ _. d;
-  next = λ a there. absurd (not_both (slice_get (bare_arrivals arrived) (offered (bare g))) (bare_arrival a)
-      (is_over x.policy x.rate x.seed (bare_arrivals arrived) g u.setup.sound.positive u.setup.sound.lawful u.going.rising (begun_of x m arrived w g u.setup u.going).events d).all_came
-      (is_bare_arrival arrived g a there).seen);
-}
+  pub counts_up : IsUnderway x m arrived w g → IsSent x n arrived w g d → CountsUp m.progress.totals n.progress.totals
+  counts_up u s = record {
+    sent = omega (arith, u.going.totals.sent, s.on.going.totals.sent, sent_push (journal g) (d.packet.number, fate.Sent d.start d.end d.rule));
+    within = (few_counts (record { promised = promised s.on.setup; going = s.on.going })).sent;
+  }
+
+-- its class has a name, and its bytes fit
+pub sent_class : {x : Setup} {n : Moment} {arrived : List Captured} {w : DrawnWords} {g : List Happened} {d : Departure} → IsSent x n arrived w g d → HasClass x.names d.class
+sent_class {arrived = arrived} {d = d} s = rw (s.leaves.class ∙ s.leaves.fit.class) (s.on.setup.sound.named (arrival arrived d.packet.number).bytes)
+
+pub sent_fits : {x : Setup} {n : Moment} {arrived : List Captured} {w : DrawnWords} {g : List Happened} {d : Departure} → IsSent x n arrived w g d
+    → length d.packet.bytes ≤ d.packet.len
+sent_fits s = omega (arith, s.leaves.fit.fits, s.leaves.len, ap (length {A = ℕ}) s.leaves.bytes)
 
 no_arrival : (o : Option ℕ) → o ≡ None → IsSome o → ⊥
 no_arrival None e s = cc
 no_arrival (Some n) e s = cc
 
--- a turn after which nothing was sent
-pub made_of : (x : Setup) (m : Moment) (arrived : List Captured) (w : DrawnWords) (g : List Happened) (arrival : Option ℕ) (t : Turn) → IsUnderway x m arrived w g
-    → (t ≡ turn.Offer) ⊎ (t ≡ turn.End) → (t ≡ turn.Offer → IsSome arrival) → ComesNext m.shown.policy m.progress.clock.rate w.seed arrived g t → AreMade x arrived g arrival
-made_of x m arrived w g arrival t u (inl e) s n =
-    let P : Turn → Type 0 = λ k. ComesNext x.policy x.rate x.seed arrived g k in
-    record { all = λ q. absurd (no_arrival arrival q (s e)); next = subst P e (to_setup (λ p rate seed. ComesNext p rate seed arrived g t) x m w.seed u.setup n) }
-made_of x m arrived w g arrival t u (inr e) s n =
-    let P : Turn → Type 0 = λ k. ComesNext x.policy x.rate x.seed arrived g k in
-    end_made x m arrived w g arrival u (subst P e (to_setup (λ p rate seed. ComesNext p rate seed arrived g t) x m w.seed u.setup n))
-
 still_of : (g : List Happened) (t : Turn) → (t ≡ turn.Offer) ⊎ (t ≡ turn.End) → turned t g ≡ g
 still_of g t (inl e) = ap (λ (k : Turn). turned k g) e
 still_of g t (inr e) = ap (λ (k : Turn). turned k g) e
 
-pub still_under : (x : Setup) (m n : Moment) (arrived : List Captured) (w : DrawnWords) (g : List Happened) (t : Turn) → IsUnderway x m arrived w g
-    → n.shown.policy ≡ m.shown.policy → n.progress.clock.rate ≡ m.progress.clock.rate → (t ≡ turn.Offer) ⊎ (t ≡ turn.End) → Goes n arrived w (turned t g)
-    → AreWritten x n.files n.outputs n.told arrived g → IsUnderway x n arrived w g
-still_under x m n arrived w g t u p r e y written =
-    let P : List Happened → Type 0 = λ h. Goes n arrived w h in
-    record { setup = moved_on x m n w.seed w.seed u.setup p r refl; going = subst P (still_of g t e) y; written = written }
+module _ {x : Setup} {m : Moment} {arrived : List Captured} {w : DrawnWords} {g : List Happened} (u : IsUnderway x m arrived w g) where
+  -- nothing is due, so nothing is to come
+  end_made : (arrival : Option ℕ) → due x.policy x.rate x.seed (bare_arrivals arrived) g ≡ None → AreMade x arrived g arrival
+  end_made arrival d = record {
+    all = λ _. d;
+    next = λ a there. absurd (not_both (slice_get (bare_arrivals arrived) (offered (bare g))) (bare_arrival a)
+        (is_over x.policy x.rate x.seed (bare_arrivals arrived) g u.setup.sound.positive u.setup.sound.lawful u.going.rising (begun_of (on u)).events d).all_came
+        (is_bare_arrival arrived g a there).seen);
+  }
+
+  -- a turn after which nothing was sent
+  pub made_of : (arrival : Option ℕ) (t : Turn) → (t ≡ turn.Offer) ⊎ (t ≡ turn.End) → (t ≡ turn.Offer → IsSome arrival)
+      → ComesNext m.shown.policy m.progress.clock.rate w.seed arrived g t → AreMade x arrived g arrival
+  made_of arrival t (inl e) s n =
+      let P : Turn → Type 0 = λ k. ComesNext x.policy x.rate x.seed arrived g k in
+      record { all = λ q. absurd (no_arrival arrival q (s e)); next = subst P e (to_setup u.setup (λ p rate seed. ComesNext p rate seed arrived g t) n) }
+  made_of arrival t (inr e) s n =
+      let P : Turn → Type 0 = λ k. ComesNext x.policy x.rate x.seed arrived g k in
+      end_made arrival (subst P e (to_setup u.setup (λ p rate seed. ComesNext p rate seed arrived g t) n))
+
+  pub still_under : {n : Moment} (t : Turn) → n.shown.policy ≡ m.shown.policy → n.progress.clock.rate ≡ m.progress.clock.rate → (t ≡ turn.Offer) ⊎ (t ≡ turn.End)
+      → Goes n arrived w (turned t g) → AreWritten x n.files n.outputs n.told arrived g → IsUnderway x n arrived w g
+  still_under {n} t p r e y written =
+      let P : List Happened → Type 0 = λ h. Goes n arrived w h in
+      record { setup = moved_on u.setup p r refl; going = subst P (still_of g t e) y; written = written }
 
 -- the next arrival stays so after sendings
 pub arrives_same : (arrived : List Captured) (g k : List Happened) → offered (bare k) ≡ offered (bare g) → arrives arrived g ≡ arrives arrived k

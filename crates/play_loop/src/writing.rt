@@ -1,120 +1,22 @@
 // Writing what was decided: a record for each sending, and a row for each fate.
-ghost use Rattle.std.specs.Prelude.{◌≡◌, ◌≤◌, ◌<◌, ◌*◌, ◌^◌, ℕ, List, [], length, IsSome, IfErr, OnOk, OnErr, IsErrOf};
-ghost use Rattle.play_text.specs.Texts.{fate_text};
-ghost use Rattle.capture_model.specs.Written.{record_text};
-ghost use Rattle.play_base.specs.View.{SameCounts, WriteFault, Wrote, WroteFront};
+ghost use Rattle.std.specs.Prelude.{◌≡◌, ◌≤◌, ◌<◌, ◌*◌, ◌^◌, ℕ, List, length, IsSome, Some, IfErr, OnOk, OnErr};
+ghost use Rattle.play_base.specs.View.{SameCounts, Wrote, WroteFront};
 ghost use Rattle.play_base.specs.Holds.{HoldsAt};
-ghost use Rattle.play_text.specs.Names.{HasClass, name_of};
 ghost use Rattle.play_text.specs.Statistics.{stats_of};
 ghost use Rattle.class_counts.specs.Counting.{AreCountable};
-ghost use Rattle.gathered_writes.specs.Gathered.{Grew, Stopped};
 ghost use Rattle.play_loop.specs.Kept.{OnlyWrote};
-ghost use Rattle.play_loop.specs.Outputs.{AddsDropped, AddsOnly, AddsSent, CanAdd, HasFronts, HasTexts, IsStatsCause, IsWriteCause, StopsDropped, StopsSent, dressed, leaving};
+ghost use Rattle.play_loop.specs.Outputs.{AddsDropped, AddsOnly, AddsSent, CanAdd, HasFronts, HasTexts, IsStatsCause, IsWriteCause, StopsDropped, StopsSent, dressed};
 
 use crate::outputs::{Outputs, output_fault};
 use crate::{Output, PlayFault};
 use altq_model::{Counts, Fate};
 use class_counts::{Counted, count};
 use discipline::Classify;
-use gathered_writes::{flush, flush_rows, gather};
-use pcap_files::record_head;
-use play_base::{Files, Packet, Trouble, write_all};
+use gathered_writes::{flush, flush_rows, gather_record, gather_row};
+use play_base::{Files, write_all};
 use play_core::{Departure, Dropped};
-use play_text::{Names, Rows, stats_text};
+use play_text::{Names, stats_text};
 use std::alloc::Global;
-
-/// Rows are written once they have more bytes than this. A row has fewer than 256, so no more than 65,536 are gathered.
-const ROWS_BOUND: usize = 65_536 - 256;
-
-// Adds the record of a packet that was sent: its header, and then the bytes with which it leaves.
-#[tactic(auto, using(play_base::proofs::ViewLaws::same_trans, play_base::proofs::ViewLaws::same_refl))]
-fn add_record<F: Files>(
-    files: &mut F,
-    file: u32,
-    pending: &mut Vec<u8>,
-    departure: &Departure,
-) -> Result<(), Trouble>
-    requires there { IsSome ((F.view files.old).part file) }
-    requires early { departure.now.end < 2 ^ 32 * 10 ^ 9 }
-    requires within { length departure.now.packet.bytes ≤ departure.now.packet.len }
-    ensures grew { OnOk result (Grew (F.view files.old) (F.view files.new) file pending.old.items pending.new.items (record_text (leaving departure.now))) }
-    ensures no_fault { OnOk result (SameCounts (F.view files.old) (F.view files.new)) }
-    ensures stopped { OnErr result (Stopped (F.view files.old) (F.view files.new) file pending.old.items (record_text (leaving departure.now))) }
-    ensures failed { IsErrOf result Trouble.Failed → WriteFault (F.view files.old) (F.view files.new) file }
-{
-    let packet = &departure.packet;
-    let len = packet.len;
-    let bytes = packet.bytes.as_slice();
-    let head = record_head(departure.end, bytes.len() as u32, len);
-    match gather(files, file, pending, &head) {
-        Ok(()) => {}
-        Err(trouble) => return Err(trouble),
-    }
-    match gather(files, file, pending, bytes) {
-        Ok(()) => Ok(()),
-        Err(trouble) => Err(trouble),
-    }
-}
-
-// Adds the row of a packet's fate, and writes the rows once they are too many.
-#[tactic(auto, using(play_base::proofs::ViewLaws::same_trans, play_base::proofs::ViewLaws::same_refl))]
-fn add_row<F: Files>(
-    files: &mut F,
-    file: u32,
-    rows: &mut Rows,
-    names: &Names,
-    class: u32,
-    packet: &Packet,
-    fate: &Fate,
-) -> Result<(), Trouble>
-    requires there { IsSome ((F.view files.old).part file) }
-    requires named { HasClass names.now class }
-    ensures grew { OnOk result (Grew (F.view files.old) (F.view files.new) file rows.old rows.new
-        (fate_text packet.now.number packet.now.at packet.now.len (name_of names.now class) fate.now)) }
-    ensures bounded { OnOk result (length rows.new ≤ 65280) }
-    ensures no_fault { OnOk result (SameCounts (F.view files.old) (F.view files.new)) }
-    ensures stopped { OnErr result (Stopped (F.view files.old) (F.view files.new) file rows.old
-        (fate_text packet.now.number packet.now.at packet.now.len (name_of names.now class) fate.now)) }
-    ensures failed { IsErrOf result Trouble.Failed → WriteFault (F.view files.old) (F.view files.new) file }
-{
-    let Packet {
-        number,
-        at,
-        len,
-        ..
-    } = *packet;
-    let Ok(()) = rows.add(names, number, at, len, class, fate) else {
-        return Err(Trouble::NoMemory);
-    };
-    if rows.most() <= ROWS_BOUND {
-        return Ok(());
-    }
-    bound_rows(files, file, rows)
-}
-
-// Writes the rows if they are too many, which their bound alone does not tell.
-#[cold]
-#[inline(never)]
-#[tactic(auto, using(play_base::proofs::ViewLaws::same_trans, play_base::proofs::ViewLaws::same_refl))]
-fn bound_rows<F: Files>(files: &mut F, file: u32, rows: &mut Rows) -> Result<(), Trouble>
-    requires there { IsSome ((F.view files.old).part file) }
-    ensures grew { OnOk result (Grew (F.view files.old) (F.view files.new) file rows.old rows.new []) }
-    ensures bounded { OnOk result (length rows.new ≤ 65280) }
-    ensures no_fault { OnOk result (SameCounts (F.view files.old) (F.view files.new)) }
-    ensures stopped { OnErr result (Stopped (F.view files.old) (F.view files.new) file rows.old []) }
-    ensures failed { IsErrOf result Trouble.Failed → WriteFault (F.view files.old) (F.view files.new) file }
-{
-    let Ok(()) = rows.settle() else {
-        return Err(Trouble::NoMemory);
-    };
-    if rows.most() <= ROWS_BOUND {
-        return Ok(());
-    }
-    match flush_rows(files, file, rows) {
-        Ok(()) => Ok(()),
-        Err(trouble) => Err(trouble),
-    }
-}
 
 // Rewrites the bytes of a sent packet as they leave: marked, or with the code point cleared, as `classify` has it.
 fn dress_packet<C: Classify>(classify: &C, departure: &mut Departure)
@@ -144,10 +46,12 @@ pub fn write_sent<C: Classify, F: Files>(
 {
     let class = departure.class;
     let len = departure.packet.len;
+    let end = departure.end;
     count(&mut outputs.counts, names, class, Counted::Sent { len });
     dress_packet(classify, &mut departure);
+    let bytes = departure.packet.bytes.as_slice();
     let file = outputs.departures;
-    match add_record(files, file, &mut outputs.records, &departure) {
+    match gather_record(files, file, &mut outputs.records, end, bytes, len) {
         Ok(()) => {}
         Err(trouble) => return Err(output_fault(Output::Departures, trouble)),
     }
@@ -158,7 +62,7 @@ pub fn write_sent<C: Classify, F: Files>(
         rule: departure.rule,
     };
     let file = outputs.fates;
-    match add_row(files, file, &mut outputs.rows, names, class, packet, &fate) {
+    match gather_row(files, file, &mut outputs.rows, names, class, packet, &fate) {
         Ok(()) => Ok(()),
         Err(trouble) => Err(output_fault(Output::Fates, trouble)),
     }
@@ -182,7 +86,7 @@ pub fn write_dropped<F: Files>(
     count(&mut outputs.counts, names, class, Counted::Dropped(reason));
     let fate = Fate::Dropped(reason);
     let file = outputs.fates;
-    match add_row(files, file, &mut outputs.rows, names, class, &packet, &fate) {
+    match gather_row(files, file, &mut outputs.rows, names, class, &packet, &fate) {
         Ok(()) => Ok(()),
         Err(trouble) => Err(output_fault(Output::Fates, trouble)),
     }

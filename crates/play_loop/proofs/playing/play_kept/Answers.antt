@@ -4,7 +4,7 @@ use Rattle.play_loop.specs.declared.kept.KeptFate.{KeptFate}
 use Rattle.play_loop.specs.KeptFates.{fates_in}
 use Rattle.play_loop.specs.Setup.{setup_of}
 use Rattle.play_loop.proofs.StatsLemmas.{tells_as}
-use Rattle.play_loop.proofs.ToldLemmas.{kept_before}
+use Rattle.play_loop.proofs.TextLemmas.{kept_before}
 use Rattle.play_loop.proofs.playing.play_kept.Goals as goal
 
 pub returns-clause-kept : goal.returns-clause-kept

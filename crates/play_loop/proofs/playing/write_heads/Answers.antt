@@ -1,18 +1,15 @@
-use Rattle.play_loop.proofs.HeadLemmas.{heads_first, heads_second, heads_whole}
 use Rattle.play_loop.proofs.KeptLemmas.{wrote_both}
+use Rattle.play_loop.proofs.OutputLemmas.{heads_first, heads_second, heads_whole}
 use Rattle.play_loop.proofs.playing.write_heads.Goals as goal
 
 pub returns-in-Err-clause-stopped : goal.returns-in-Err-clause-stopped
-returns-in-Err-clause-stopped g c = λ h. heads_first _ _ _ _ _ c.head_bytes.ensures h c.in-Err.ensures.front
+returns-in-Err-clause-stopped g c = λ h. heads_first c.head_bytes.ensures h c.in-Err.ensures.front
 
 pub returns-in-Ok-write_all-clause-wrote : goal.returns-in-Ok-write_all-clause-wrote
-returns-in-Ok-write_all-clause-wrote g c = λ h.
-    heads_whole _ _ _ _ _ _ _ c.head_bytes.ensures c.fates_header.ensures h c.in-Ok.ensures.wrote c.in-Ok-write_all.ensures.wrote
+returns-in-Ok-write_all-clause-wrote g c = λ h. heads_whole c.head_bytes.ensures c.fates_header.ensures h c.in-Ok.ensures.wrote c.in-Ok-write_all.ensures.wrote
 
 pub returns-in-Err-write_all-clause-stopped : goal.returns-in-Err-write_all-clause-stopped
-returns-in-Err-write_all-clause-stopped g c = λ h.
-    heads_second _ _ _ _ _ _ _ c.head_bytes.ensures c.fates_header.ensures h c.in-Ok.ensures.wrote c.in-Err-write_all.ensures.front
+returns-in-Err-write_all-clause-stopped g c = λ h. heads_second c.head_bytes.ensures c.fates_header.ensures h c.in-Ok.ensures.wrote c.in-Err-write_all.ensures.front
 
 pub returns-in-Err-write_all-clause-others : goal.returns-in-Err-write_all-clause-others
-returns-in-Err-write_all-clause-others g c =
-    wrote_both _ _ _ _ _ _ _ c.requires.departures c.requires.fates c.in-Ok.ensures.wrote c.in-Err-write_all.ensures.front.1
+returns-in-Err-write_all-clause-others g c = wrote_both c.requires.departures c.requires.fates c.in-Ok.ensures.wrote c.in-Err-write_all.ensures.front.1

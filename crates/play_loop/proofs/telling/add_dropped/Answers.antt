@@ -20,4 +20,4 @@ returns-in-Err-keep-clause-stopped g c =
     let P : Option Dropped → Type 0 = λ o. StopsDropped c.args.names.now (g.F.Files.view c.args.files.now) (g.F.Files.view c.write_dropped.new.files) c.args.outputs.now c.args.class o in
     let same = c.in-Ok.ensures.only.same in
     subst P (sym c.in-Some.is)
-    (λ ds ts h. fronts_files _ _ _ _ _ _ _ same.departures same.fates (fronts_of_texts _ _ _ _ _ _ _ (c.in-Ok.ensures.added.wrote ds ts h)))
+    (λ ds ts h. fronts_files same.departures same.fates (fronts_of_texts (c.in-Ok.ensures.added.wrote ds ts h)))

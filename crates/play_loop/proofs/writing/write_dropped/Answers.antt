@@ -2,7 +2,7 @@ use Rattle.play_loop.proofs.OutputLemmas.{texts_rowed, fronts_rowed}
 use Rattle.play_loop.proofs.writing.write_dropped.Goals as goal
 
 pub returns-in-Ok-clause-added : goal.returns-in-Ok-clause-added
-returns-in-Ok-clause-added g c = record { wrote = λ ds ts h. texts_rowed _ _ _ _ _ _ _ ds ts _ h c.in-Ok.ensures.grew; counted = c.count.ensures }
+returns-in-Ok-clause-added g c = record { wrote = λ ds ts h. texts_rowed h c.in-Ok.ensures.grew; counted = c.count.ensures }
 
 pub returns-clause-stopped : goal.returns-clause-stopped
-returns-clause-stopped g c = λ ds ts h. fronts_rowed _ _ _ _ _ _ ds ts _ h c.in-Err.ensures.stopped
+returns-clause-stopped g c = λ ds ts h. fronts_rowed h c.in-Err.ensures.stopped

@@ -1,0 +1,41 @@
+// Records of a capture, in pieces.
+ghost use Rattle.std.specs.Prelude.{◌≤◌, ◌<◌, ◌*◌, ◌^◌, length, IsSome, OnOk, OnErr, IsErrOf};
+ghost use Rattle.capture_model.specs.Written.{record_text};
+ghost use Rattle.play_base.specs.View.{SameCounts, WriteFault};
+ghost use Rattle.gathered_writes.specs.Gathered.{Grew, Stopped};
+
+use crate::gather;
+use pcap_files::record_head;
+use play_base::{Files, Trouble};
+
+/// Adds a record to the bytes that are gathered for a file: its header, with its stamp in nanoseconds, how many bytes it has and the
+/// length on the link, and then these bytes. After an error a front of all of it was written.
+#[tactic(auto, using(play_base::proofs::ViewLaws::same_trans, play_base::proofs::ViewLaws::same_refl))]
+pub fn gather_record<F: Files>(
+    files: &mut F,
+    file: u32,
+    pending: &mut Vec<u8>,
+    stamp: u64,
+    bytes: &[u8],
+    len: u32,
+) -> Result<(), Trouble>
+    requires there { IsSome ((F.view files.old).part file) }
+    requires early { stamp < 2 ^ 32 * 10 ^ 9 }
+    requires within { length bytes.now ≤ len }
+    ensures grew { OnOk result (Grew (F.view files.old) (F.view files.new) file pending.old.items pending.new.items
+        (record_text (record { stamp = stamp; captured = bytes.now; original = len }))) }
+    ensures no_fault { OnOk result (SameCounts (F.view files.old) (F.view files.new)) }
+    ensures stopped { OnErr result (Stopped (F.view files.old) (F.view files.new) file pending.old.items
+        (record_text (record { stamp = stamp; captured = bytes.now; original = len }))) }
+    ensures failed { IsErrOf result Trouble.Failed → WriteFault (F.view files.old) (F.view files.new) file }
+{
+    let head = record_head(stamp, bytes.len() as u32, len);
+    match gather(files, file, pending, &head) {
+        Ok(()) => {}
+        Err(trouble) => return Err(trouble),
+    }
+    match gather(files, file, pending, bytes) {
+        Ok(()) => Ok(()),
+        Err(trouble) => Err(trouble),
+    }
+}
