@@ -41,60 +41,75 @@ use Rattle.chain_command.specs.Playing.{AddsFile, IsBehindConfig, PlaysTold, Sec
 use Rattle.chain_command.proofs.EndLemmas.{HasPassed, HasWritten, done_ends, path_ends, second_ends}
 use Rattle.chain_command.proofs.FirstLemmas.{first_ends}
 use Rattle.chain_command.proofs.LeavingLemmas.{apart, names_in}
+use Rattle.chain_command.proofs.Runs.{Run, seen, seen_behind}
 use Rattle.chain_command.proofs.SecondLemmas.{played_so, sent_classic}
 
+-- the files before a chain and once its configuration was read, its links, and the interfaces that both have there
+pub record Start : Type 0 where
+  pub before : View
+  pub read : View
+  pub links : Links
+  pub found : Interface
+  pub next : Interface
+
 -- the configuration was read, and has both interfaces
-pub record HasRead (u a : View) (n : Links) (found next : Interface) : Type 0 where
-  pub distinct : AreAllDistinct (names_in n)
-  pub read : EndsAtConfig u a n.first.config
-  pub silent : a.said ≡ u.said
-  pub counts : SameCounts u a
-  pub has_found : Accepts u n.first.config n.first.interface found
-  pub has_next : Accepts u n.first.config n.next next
+pub record HasRead (s : Start) : Type 0 where
+  pub distinct : AreAllDistinct (names_in s.links)
+  pub read : EndsAtConfig s.before s.read s.links.first.config
+  pub silent : s.read.said ≡ s.before.said
+  pub counts : SameCounts s.before s.read
+  pub has_found : Accepts s.before s.links.first.config s.links.first.interface s.found
+  pub has_next : Accepts s.before s.links.first.config s.links.next s.next
 
 -- what was read gives both
-pub has_read : (u a : View) (n : Links) (interfaces : List Interface) (found next : Interface) → AreAllDistinct (names_in n) → EndsAtConfig u a n.first.config
-    → a.said ≡ u.said → SameCounts u a → IsRead u n.first.config (Ok interfaces) → interface_of n.first.interface interfaces ≡ Some found
-    → interface_of n.next interfaces ≡ Some next → HasRead u a n found next
-has_read u a n interfaces found next distinct ends silent counts read first second = record {
+pub has_read : (s : Start) (interfaces : List Interface) → AreAllDistinct (names_in s.links) → EndsAtConfig s.before s.read s.links.first.config
+    → s.read.said ≡ s.before.said → SameCounts s.before s.read → IsRead s.before s.links.first.config (Ok interfaces)
+    → interface_of s.links.first.interface interfaces ≡ Some s.found → interface_of s.links.next interfaces ≡ Some s.next → HasRead s
+has_read s interfaces distinct ends silent counts read first second = record {
   distinct = distinct;
   read = ends;
   silent = silent;
   counts = counts;
-  has_found = accepts_of u n.first.config n.first.interface interfaces found read first;
-  has_next = accepts_of u n.first.config n.next interfaces next read second;
+  has_found = accepts_of s.before s.links.first.config s.links.first.interface interfaces s.found read first;
+  has_next = accepts_of s.before s.links.first.config s.links.next interfaces s.next read second;
 }
 
-module _ (u a : View) (n : Links) (found next : Interface) (r : HasRead u a n found next) where
-  pub found_then : Accepts a n.first.config n.first.interface found
-  found_then = accepts_since u a n.first.config n.first.interface found r.read.keeps r.has_found
+-- what holds of the names and the seed with which the second play is called holds of those of the chain
+pub called : (P : Names → ℕ → Type 0) (n : Links) (seed : ℕ) (m : Names) (k : ℕ) → m ≡ second_names n → k ≡ seed → P m k → P (second_names n) seed
+called P n seed m k names same h = subst (λ (z : ℕ). P (second_names n) z) same (subst (λ (z : Names). P z k) names h)
 
-  both : IsAccepting u n
-  both = (found, next, r.has_found, r.has_next)
+module _ (s : Start) (r : HasRead s) where
+  pub found_then : Accepts s.read s.links.first.config s.links.first.interface s.found
+  found_then = accepts_since s.before s.read s.links.first.config s.links.first.interface s.found r.read.keeps r.has_found
 
-  behind : (w : View) (seed : ℕ) (o : Outcome) → PlayEnds a w n.first seed o → IsBehindConfig a w → Reading u a w n.first
-  behind w seed o x high = reading_of u a w n.first seed r.read.keeps r.read.only r.silent (apart n r.distinct).first x high
+  both : IsAccepting s.before s.links
+  both = (s.found, s.next, r.has_found, r.has_next)
+
+  behind : (w : View) (seed : ℕ) (o : Outcome) → PlayEnds s.read w s.links.first seed o → IsBehindConfig s.read w → Reading s.before s.read w s.links.first
+  behind w seed o x high = reading_of s.before s.read w s.links.first seed r.read.keeps r.read.only r.silent (apart s.links r.distinct).first x high
 
   -- the first play fails
-  pub unplayed_ends : (w : View) (seed : ℕ) (f : Unplayed) → PlayEnds a w n.first seed (Err (unplayed_failure f)) → IsBehindConfig a w
-      → ChainEnds u w n seed (Err (unplayed_first f))
+  pub unplayed_ends : (w : View) (seed : ℕ) (f : Unplayed) → PlayEnds s.read w s.links.first seed (Err (unplayed_failure f)) → IsBehindConfig s.read w
+      → ChainEnds s.before w s.links seed (Err (unplayed_first f))
   unplayed_ends w seed f x high =
-      first_ends u w n seed f both (fault_behind u a w n.first seed f (behind w seed (Err (unplayed_failure f)) x high) x)
+      first_ends s.before w s.links seed f both
+      (fault_behind s.before s.read w s.links.first seed f (behind w seed (Err (unplayed_failure f)) x high) x)
 
   -- the first is done
-  module _ (w : View) (seed : ℕ) (x : PlayEnds a w n.first seed (Ok done.Played)) (high : IsBehindConfig a w) where
+  module _ (w : View) (seed : ℕ) (x : PlayEnds s.read w s.links.first seed (Ok done.Played)) (high : IsBehindConfig s.read w) where
     -- what the second play starts from
-    pub next_then : Accepts w n.first.config n.next next
+    pub next_then : Accepts w s.links.first.config s.links.next s.next
     next_then = λ t.
-        let told : IsTrue a.tells = sym x.leaves.files.others.tells ∙ t in
-        let d = (apart n r.distinct).first in
-        configures_by a w n.first.config n.next next
-        (x.leaves.files.others.bytes n.first.config (told, d.config_departures, d.config_fates, d.config_stats))
-        (accepts_since u a n.first.config n.next next r.read.keeps r.has_next told)
+        let config = s.links.first.config in
+        let told : IsTrue s.read.tells = sym x.leaves.files.others.tells ∙ t in
+        let d = (apart s.links r.distinct).first in
+        configures_by s.read w config s.links.next s.next
+        (x.leaves.files.others.bytes config (told, d.config_departures, d.config_fates, d.config_stats))
+        (accepts_since s.before s.read config s.links.next s.next r.read.keeps r.has_next told)
 
-    pub classic_then : IsTrue w.tells → (given : List ℕ) → w.bytes n.first.departures ≡ Some given → is_pcapng given ≡ false
+    pub classic_then : IsTrue w.tells → (given : List ℕ) → w.bytes s.links.first.departures ≡ Some given → is_pcapng given ≡ false
     classic_then t given at =
-        let told : IsTrue a.tells = sym x.leaves.files.others.tells ∙ t in
+        let told : IsTrue s.read.tells = sym x.leaves.files.others.tells ∙ t in
         let h = x.comes.played told in
         let same : sent_by h ≡ given = some_bytes (sent_by h) given (sym h.played.texts.departures ∙ at) in
         ap is_pcapng (sym same) ∙ sent_classic h
@@ -102,24 +117,24 @@ module _ (u a : View) (n : Links) (found next : Interface) (r : HasRead u a n fo
         some_bytes : (xs ys : List ℕ) → Some xs ≡ Some ys → xs ≡ ys
         some_bytes xs ys e = cc
 
-    passed : (c : View) (m : Names) (k : ℕ) (o : Outcome) (g : ℕ) → m ≡ second_names n → k ≡ seed → PlayEnds (second_view w g) (second_view c g) m k o
-        → IsBehindConfig (second_view w g) (second_view c g) → HasPassed u w c g n seed o
-    passed c m k o g names same y behind_config =
-        let P : Names → Type 0 = λ z. PlayEnds (second_view w g) (second_view c g) z k o in
-        let Q : ℕ → Type 0 = λ z. PlayEnds (second_view w g) (second_view c g) (second_names n) z o in
-        record {
-          apart = apart n r.distinct;
-          accepting = both;
-          first = done_behind u a w n.first seed (behind w seed (Ok done.Played) x high) r.counts x;
-          ends = subst Q same (subst P names y);
-          high = behind_config;
-        }
+    -- the run, whose second play was lent the files by a reference
+    abbrev pub run_of : (c : View) (g : ℕ) → Run
+    run_of c g = record { before = s.before; between = w; behind = c; reference = g; links = s.links; seed = seed }
+
+    passed : (c : View) (g : ℕ) (o : Outcome) → PlayEnds (second_view w g) (second_view c g) (second_names s.links) seed o
+        → IsBehindConfig (second_view w g) (second_view c g) → HasPassed (run_of c g) o
+    passed c g o y behind_config = record {
+      apart = apart s.links r.distinct;
+      accepting = both;
+      first = done_behind s.before s.read w s.links.first seed (behind w seed (Ok done.Played) x high) r.counts x;
+      ends = y;
+      high = behind_config;
+    }
 
     -- the second fails
-    pub unplayed_second : (c : View) (m : Names) (k : ℕ) (f : PlayFault) → m ≡ second_names n → k ≡ seed → SecondEnds w c m k (Err (play_failure f))
-        → ChainEnds u c n seed (Err (second_failure f))
-    unplayed_second c m k f names same y =
-        second_ends u w c y.reference n seed f (passed c m k (Err (play_failure f)) y.reference names same y.ends y.high)
+    pub unplayed_second : (c : View) (f : PlayFault) → SecondEnds w c (second_names s.links) seed (Err (play_failure f))
+        → ChainEnds s.before c s.links seed (Err (second_failure f))
+    unplayed_second c f y = second_ends (run_of c y.reference) f (passed c y.reference (Err (play_failure f)) y.ends y.high)
 
 -- each number has one fate at most
 once_played : (old new : View) (n : Names) (seed : ℕ) (h : HasPlayed old new n seed) → AreOnce (kept_fates (arrivals_of h) (journal_of h))
@@ -127,47 +142,51 @@ once_played old new n seed h =
     let C : ℕ → Type 0 = λ count. IsConserved count (journal_of h) in
     once_kept (arrivals_of h) (journal_of h) (subst C (bare_arrivals_length (arrivals_of h)) h.played.play.laws.conserved)
 
--- both are done, and then the paths were written
-module _ (u a w c e : View) (n : Links) (found next : Interface) (r : HasRead u a n found next) (seed k : ℕ) (m : Names) (names : m ≡ second_names n)
-    (same : k ≡ seed) (firsts : Firsts) (seconds : Seconds) (x : PlaysTold (HoldsFirsts firsts) a w n.first seed) (high : IsBehindConfig a w)
-    (y : SecondPlays (HoldsSeconds seconds) w c m k) (fit : ConfigurationsFit) (adds : AddsFile c e 10 n.path (text_in firsts seconds)) where
-  told_first : IsTrue u.tells → IsTrue a.tells
-  told_first t = r.read.keeps.tells ∙ t
+-- both plays are done: what they got, behind the first and behind the second, and what their tables hold; and then the paths were written
+pub record GotBoth (s : Start) (w c e : View) (seed : ℕ) (firsts : Firsts) (seconds : Seconds) : Type 0 where
+  pub read : HasRead s
+  pub first : PlaysTold (HoldsFirsts firsts) s.read w s.links.first seed
+  pub high : IsBehindConfig s.read w
+  pub second : SecondPlays (HoldsSeconds seconds) w c (second_names s.links) seed
+  pub fit : ConfigurationsFit
+  pub adds : AddsFile c e 10 s.links.path (text_in firsts seconds)
 
-  told_second : IsTrue u.tells → IsTrue w.tells
-  told_second t = x.ends.leaves.files.others.tells ∙ told_first t
+module _ (s : Start) (w c e : View) (seed : ℕ) (firsts : Firsts) (seconds : Seconds) (h : GotBoth s w c e seed firsts seconds) where
+  told_first : IsTrue s.before.tells → IsTrue s.read.tells
+  told_first t = h.read.read.keeps.tells ∙ t
 
-  plays : PlaysTold (HoldsSeconds seconds) (second_view w y.reference) (second_view c y.reference) (second_names n) seed
-  plays =
-      let P : Names → Type 0 = λ z. PlaysTold (HoldsSeconds seconds) (second_view w y.reference) (second_view c y.reference) z k in
-      let Q : ℕ → Type 0 = λ z. PlaysTold (HoldsSeconds seconds) (second_view w y.reference) (second_view c y.reference) (second_names n) z in
-      subst Q same (subst P names y.plays)
+  told_second : IsTrue s.before.tells → IsTrue w.tells
+  told_second t = h.first.ends.leaves.files.others.tells ∙ told_first t
 
-  abbrev first_played : IsTrue u.tells → HasPlayed u w n.first seed
+  abbrev run : Run
+  run = run_of s h.read w seed h.first.ends h.high c h.second.reference
+
+  abbrev first_played : IsTrue s.before.tells → HasPlayed s.before w s.links.first seed
   first_played t =
-      played_so a w u w n.first seed (sym (r.read.keeps.bytes n.first.config tt)) (sym (r.read.keeps.bytes n.first.arrivals tt)) refl refl refl
-      (x.told (told_first t)).0
+      let keeps = h.read.read.keeps in
+      played_so s.read w s.before w s.links.first seed (sym (keeps.bytes s.links.first.config tt)) (sym (keeps.bytes s.links.first.arrivals tt)) refl refl refl
+      (h.first.told (told_first t)).0
 
-  abbrev second_played : IsTrue u.tells → HasPlayed (second_view w y.reference) (second_view c y.reference) (second_names n) seed
-  second_played t = (plays.told (told_second t)).0
+  abbrev second_played : IsTrue s.before.tells → HasPlayed (seen run) (seen_behind run) (second_names s.links) seed
+  second_played t = (h.second.plays.told (told_second t)).0
 
-  pub written : HasWritten u w c e y.reference n seed (text_in firsts seconds)
+  pub written : HasWritten run e (text_in firsts seconds)
   written = record {
-    passed = passed u a n found next r w seed x.ends high c (second_names n) seed (Ok done.Played) y.reference refl refl plays.ends y.high;
-    fit = fit;
+    passed = passed s h.read w seed h.first.ends h.high c h.second.reference (Ok done.Played) h.second.plays.ends h.second.high;
+    fit = h.fit;
     x = first_played;
     y = second_played;
     text_is = λ t.
-        let one = x.told (told_first t) in
-        let two = plays.told (told_second t) in
+        let one = h.first.told (told_first t) in
+        let two = h.second.plays.told (told_second t) in
         text_held firsts seconds (kept_fates (arrivals_of one.0) (journal_of one.0)) (kept_fates (arrivals_of two.0) (journal_of two.0))
         (once_played _ _ _ _ one.0) (once_played _ _ _ _ two.0) one.1 two.1
         ∙ ap (λ (js : List Decision). path_text (kept_fates (arrivals_of one.0) (journal_of one.0)) js) (decisions_kept (arrivals_of two.0) (journal_of two.0));
-    adds = adds;
+    adds = h.adds;
   }
 
-  pub chained_ends : (IsTrue c.tells → e.bytes n.path ≡ Some (text_in firsts seconds)) → SameCounts c e → ChainEnds u e n seed (Ok done.Chained)
-  chained_ends whole counts = done_ends u w c e y.reference n seed (text_in firsts seconds) written whole counts
+  pub chained_ends : (IsTrue c.tells → e.bytes s.links.path ≡ Some (text_in firsts seconds)) → SameCounts c e → ChainEnds s.before e s.links seed (Ok done.Chained)
+  chained_ends whole counts = done_ends run e (text_in firsts seconds) written whole counts
 
-  pub unwritten_ends : (t : Trouble) → (t ≡ trouble.Failed → Rose (c.write_faults 10) (e.write_faults 10)) → ChainEnds u e n seed (Err (path_failure t))
-  unwritten_ends t rose = path_ends u w c e y.reference n seed (text_in firsts seconds) written t rose
+  pub unwritten_ends : (t : Trouble) → (t ≡ trouble.Failed → Rose (c.write_faults 10) (e.write_faults 10)) → ChainEnds s.before e s.links seed (Err (path_failure t))
+  unwritten_ends t rose = path_ends run e (text_in firsts seconds) written t rose

@@ -42,17 +42,18 @@ use Rattle.chain_command.specs.Failing.{path_failure, second_failure}
 use Rattle.chain_command.specs.Leaving.{ChainLeaves, FilesEnd, IsAccepting, LeavesSecond}
 use Rattle.chain_command.specs.Links.{Links, second_names}
 use Rattle.chain_command.specs.Playing.{AddsFile, IsBehindConfig}
-use Rattle.chain_command.proofs.LeavingLemmas.{AreApart, at_most_nine, both_files, path_files}
+use Rattle.chain_command.proofs.LeavingLemmas.{AreApart, LeaveBoth, at_most_nine, both_files, path_files}
 use Rattle.chain_command.proofs.PartLemmas.{LeavesOwn, leaves_own, quiet_own}
+use Rattle.chain_command.proofs.Runs.{Run, seen, seen_behind, seen_of}
 use Rattle.chain_command.proofs.SecondLemmas.{after, kept_first, kept_second, one_sent, played_so, sent_classic, starts, unraised}
 
 -- the first play is done, and the second ended
-pub record HasPassed (u w c : View) (g : ℕ) (n : Links) (seed : ℕ) (o : Outcome) : Type 0 where
-  pub apart : AreApart n
-  pub accepting : IsAccepting u n
-  pub first : PlayEnds u w n.first seed (Ok done.Played)
-  pub ends : PlayEnds (second_view w g) (second_view c g) (second_names n) seed o
-  pub high : IsBehindConfig (second_view w g) (second_view c g)
+pub record HasPassed (run : Run) (o : Outcome) : Type 0 where
+  pub apart : AreApart run.links
+  pub accepting : IsAccepting run.before run.links
+  pub first : PlayEnds run.before run.between run.links.first run.seed (Ok done.Played)
+  pub ends : PlayEnds (seen run) (seen_behind run) (second_names run.links) run.seed o
+  pub high : IsBehindConfig (seen run) (seen_behind run)
 
 same_failure : (f h : Failure) → ◌≡◌ {A = Outcome} (Err f) (Err h) → f ≡ h
 same_failure f h e = cc
@@ -64,114 +65,107 @@ not_failed : (f : Failure) → IsOrMemory (Ok done.Played) (Err f) → ⊥
 not_failed f (inl e) = cc
 not_failed f (inr e) = cc
 
-module _ (u w c : View) (g : ℕ) (n : Links) (seed : ℕ) (o : Outcome) (h : HasPassed u w c g n seed o) where
-  abbrev W : View
-  W = second_view w g
+module _ (run : Run) (o : Outcome) (h : HasPassed run o) where
+  pub own : LeavesOwn run.between run.behind run.links
+  own = leaves_own run.between run.behind run.reference run.reference run.links h.ends.leaves.files h.high
 
-  abbrev C : View
-  C = second_view c g
+  pub both : LeaveBoth run
+  both = record { apart = h.apart; files = h.first.leaves.files; own = own }
 
-  -- as if the first departures had stood there
-  abbrev G : (sent : List ℕ) → View
-  G sent = second_view (passed_on u n sent) g
+  pub low : NoneAbove 9 run.before run.behind
+  low = at_most_nine run both
 
-  pub own : LeavesOwn w c n
-  own = leaves_own w c g g n h.ends.leaves.files h.high
+  pub files : FilesEnd run.before run.behind run.links
+  files = both_files run both
 
-  pub low : NoneAbove 9 u c
-  low = at_most_nine u w c n h.apart h.first.leaves.files own
-
-  pub files : FilesEnd u c n
-  files = both_files u w c n h.apart h.first.leaves.files own
-
-  told_on : IsTrue u.tells → IsTrue w.tells
+  told_on : IsTrue run.before.tells → IsTrue run.between.tells
   told_on t = h.first.leaves.files.others.tells ∙ t
 
   -- the quiet run was quiet in both plays
-  quiet_first : IsQuiet u c → IsQuiet u w
+  quiet_first : IsQuiet run.before run.behind → IsQuiet run.before run.between
   quiet_first q = λ part few. (
     (λ r. (q part few).0 (rose_before _ _ _ r (own.others.later.read part))),
     (λ l r. (q part few).1 l (rose_before _ _ _ r (own.others.later.write part))),
   )
 
-  quiet_second : IsQuiet u c → IsQuiet W C
-  quiet_second q = quiet_own w c g g u h.first.leaves.files.others.later.read h.first.leaves.files.others.later.write q
+  quiet_second : IsQuiet run.before run.behind → IsQuiet (seen run) (seen_behind run)
+  quiet_second q = quiet_own run.between run.behind run.reference run.reference run.before h.first.leaves.files.others.later.read h.first.leaves.files.others.later.write q
 
   -- the second play, of what the first sent
-  module _ (x : IsTrue u.tells → HasPlayed u w n.first seed) where
-    pub leaves : Fronts W C (second_names n) seed → LeavesSecond u c n seed
+  module _ (x : IsTrue run.before.tells → HasPlayed run.before run.between run.links.first run.seed) where
+    pub leaves : Fronts (seen run) (seen_behind run) (second_names run.links) run.seed → LeavesSecond run.before run.behind run.links run.seed
     leaves front = record {
       accepting = h.accepting;
-      first = λ t. kept_first u w c n seed h.apart h.first.leaves.files own t (x t);
+      first = λ t. kept_first run both t (x t);
       front = λ t. (
-        g,
-        fronts_from W (G (sent_by (x t))) C (second_names n) seed
-            (starts u w c n seed h.apart h.first.leaves.files own g (sent_by (x t)) (λ told. (x t).played.texts.departures)) front,
+        run.reference,
+        fronts_from (seen run) (seen_of run (sent_by (x t))) (seen_behind run) (second_names run.links) run.seed
+            (starts run both (sent_by (x t)) (λ told. (x t).played.texts.departures)) front,
       );
       path = λ t. inl (λ f fresh e. let most = low f 10 fresh e in omega (arith, most));
       files = files;
     }
 
     -- what must come
-    passed_input : (t : IsTrue u.tells) (p : PassesOn u n seed) → SameInput (passed_by p) (G (sent_by (x t))) (second_names n)
+    passed_input : (t : IsTrue run.before.tells) (p : PassesOn run.before run.links run.seed) → SameInput (passed_by p) (seen_of run (sent_by (x t))) (second_names run.links)
     passed_input t p =
-        let same = one_sent u w n seed p (x t) in record {
-          config = ap (λ (sent : List ℕ). (passed_on u n sent).bytes n.first.config) (sym same);
-          arrivals = ap (λ (sent : List ℕ). (passed_on u n sent).bytes n.first.departures) (sym same);
+        let same = one_sent run.before run.between run.links run.seed p (x t) in record {
+          config = ap (λ (sent : List ℕ). (passed_on run.before run.links sent).bytes run.links.first.config) (sym same);
+          arrivals = ap (λ (sent : List ℕ). (passed_on run.before run.links sent).bytes run.links.first.departures) (sym same);
         }
 
-    pub must : (p : Outcome) → IsTrue u.tells → IsQuiet u c → (IsOrMemory o (Ok done.Played) → IsOrMemory p (Ok done.Chained))
-        → (IsOrMemory o (Err (failure.Limit limit.Clock)) → IsOrMemory p (Err (failure.OfLink link.Second fault.Clock))) → ChainIsTold u n seed p
+    pub must : (p : Outcome) → IsTrue run.before.tells → IsQuiet run.before run.behind → (IsOrMemory o (Ok done.Played) → IsOrMemory p (Ok done.Chained))
+        → (IsOrMemory o (Err (failure.Limit limit.Clock)) → IsOrMemory p (Err (failure.OfLink link.Second fault.Clock))) → ChainIsTold run.before run.links run.seed p
     must p t q whole late =
         let a = h.accepting in
         let told = h.first.told t (quiet_first q) in
-        let again : PlayIsTold (G (sent_by (x t))) (second_names n) seed o =
-        told_from W (G (sent_by (x t))) C (second_names n) seed o
-        (starts u w c n seed h.apart h.first.leaves.files own g (sent_by (x t)) (λ told. (x t).played.texts.departures)) t
+        let again : PlayIsTold (seen_of run (sent_by (x t))) (second_names run.links) run.seed o =
+        told_from (seen run) (seen_of run (sent_by (x t))) (seen_behind run) (second_names run.links) run.seed o
+        (starts run both (sent_by (x t)) (λ told. (x t).played.texts.departures)) t
         (h.ends.told (told_on t) (quiet_second q)) in
         record {
-          complete = λ y. whole (again.complete (ends_with_by (passed_by y.0) (G (sent_by (x t))) (second_names n) seed End (passed_input t y.0) y.1));
+          complete = λ y. whole (again.complete (ends_with_by (passed_by y.0) (seen_of run (sent_by (x t))) (second_names run.links) run.seed End (passed_input t y.0) y.1));
           refused = λ place y. refused t place y;
-          long = λ y. absurd (long_not u n.first.config n.first.interface a.0 (a.2 t) y);
+          long = λ y. absurd (long_not run.before run.links.first.config run.links.first.interface a.0 (a.2 t) y);
           damaged = λ next damage y z. absurd (not_failed _ (told.damaged damage z));
           limited = λ next y z. absurd (not_failed _ (told.limited z));
           no_pcapng = λ next block y z. absurd (not_failed _ (told.no_pcapng block z));
           too_long = λ next y z. absurd (not_failed _ (told.too_long z));
           late = λ next y z. absurd (not_failed _ (told.late z));
-          late_again = λ y. late (again.late (ends_late_by (passed_by y.0) (G (sent_by (x t))) (second_names n) seed (passed_input t y.0) y.1));
+          late_again = λ y. late (again.late (ends_late_by (passed_by y.0) (seen_of run (sent_by (x t))) (second_names run.links) run.seed (passed_input t y.0) y.1));
         }
       where
-        refused : IsTrue u.tells → (place : ConfPlace) → RefusesAt u n place → IsOrMemory p (Err (failure.Configuration place))
-        refused t place (inl y) = absurd (refused_not u n.first.config n.first.interface h.accepting.0 place (h.accepting.2 t) y)
-        refused t place (inr y) = absurd (refused_not u n.first.config n.next h.accepting.1 place (h.accepting.3 t) y.2)
+        refused : IsTrue run.before.tells → (place : ConfPlace) → RefusesAt run.before run.links place → IsOrMemory p (Err (failure.Configuration place))
+        refused t place (inl y) = absurd (refused_not run.before run.links.first.config run.links.first.interface h.accepting.0 place (h.accepting.2 t) y)
+        refused t place (inr y) = absurd (refused_not run.before run.links.first.config run.links.next h.accepting.1 place (h.accepting.3 t) y.2)
 
 -- the second play fails
-module _ (u w c : View) (g : ℕ) (n : Links) (seed : ℕ) (f : PlayFault) (h : HasPassed u w c g n seed (Err (play_failure f))) where
-  abbrev whole : IsTrue u.tells → HasPlayed u w n.first seed
+module _ (run : Run) (f : PlayFault) (h : HasPassed run (Err (play_failure f))) where
+  abbrev whole : IsTrue run.before.tells → HasPlayed run.before run.between run.links.first run.seed
   whole = h.first.comes.played
 
   -- as if what the first sent had stood there
-  fails_so : (t : IsTrue u.tells) → PlayFails (second_view (passed_on u n (sent_by (whole t))) g) (second_view c g) (second_names n) seed (play_failure f)
+  fails_so : (t : IsTrue run.before.tells) → PlayFails (seen_of run (sent_by (whole t))) (seen_behind run) (second_names run.links) run.seed (play_failure f)
   fails_so t =
-      unplayed_from (second_view w g) (second_view (passed_on u n (sent_by (whole t))) g) (second_view c g) (second_names n) seed (Play f)
-      (starts u w c n seed h.apart h.first.leaves.files (own u w c g n seed _ h) g (sent_by (whole t)) (λ told. (whole t).played.texts.departures)) h.ends.comes
+      unplayed_from (seen run) (seen_of run (sent_by (whole t))) (seen_behind run) (second_names run.links) run.seed (Play f)
+      (starts run (both run _ h) (sent_by (whole t)) (λ told. (whole t).played.texts.departures)) h.ends.comes
 
-  pub fails_second : FailsSecond u c n seed (play_failure f)
+  pub fails_second : FailsSecond run.before run.behind run.links run.seed (play_failure f)
   fails_second = (
     h.accepting,
-    low u w c g n seed _ h,
-    λ t. (kept_first u w c n seed h.apart h.first.leaves.files (own u w c g n seed _ h) t (whole t), (g, fails_so t)),
+    low run _ h,
+    λ t. (kept_first run (both run _ h) t (whole t), (run.reference, fails_so t)),
   )
 
 no_absent : (u w : View) (n : Links) (seed : ℕ) → (IsTrue u.tells → HasPlayed u w n.first seed) → w.tells ≡ u.tells → IsAbsent w n.first.departures → ⊥
 no_absent u w n seed x same a =
     let t : IsTrue u.tells = sym same ∙ a.0 in no_bytes _ (sym a.1 ∙ (x t).played.texts.departures)
 
-unread_rose : (u w c : View) (g : ℕ) (n : Links) (seed : ℕ) → (IsTrue u.tells → HasPlayed u w n.first seed) → w.tells ≡ u.tells
-    → u.read_faults 3 ≤ w.read_faults 3 → IsUnread (second_view w g) (second_view c g) (second_names n) seed → Rose (u.read_faults 3) (c.read_faults 3)
-unread_rose u w c g n seed x same l (inl (y, inl r)) = rose_later _ _ _ l r
-unread_rose u w c g n seed x same l (inl (y, inr a)) = absurd (no_absent u w n seed x same a)
-unread_rose u w c g n seed x same l (inr y) = rose_later _ _ _ l y.0
+unread_rose : (run : Run) → (IsTrue run.before.tells → HasPlayed run.before run.between run.links.first run.seed) → run.between.tells ≡ run.before.tells
+    → run.before.read_faults 3 ≤ run.between.read_faults 3 → IsUnread (seen run) (seen_behind run) (second_names run.links) run.seed → Rose (run.before.read_faults 3) (run.behind.read_faults 3)
+unread_rose run x same l (inl (y, inl r)) = rose_later _ _ _ l r
+unread_rose run x same l (inl (y, inr a)) = absurd (no_absent run.before run.between run.links run.seed x same a)
+unread_rose run x same l (inr y) = rose_later _ _ _ l y.0
 
 -- its capture is whole
 not_limited : (u c : View) (g : ℕ) (n : Links) (seed : ℕ) (v : View) (x : HasPlayed u v n.first seed) → IsTrue u.tells
@@ -185,33 +179,33 @@ not_limited u c g n seed v x t (inr y) =
     capture_not_pcapng (second_view (passed_on u n (sent_by x)) g) (second_names n) ng.Limit (sent_by x) (sent_classic x)
     (own_bytes u n.first.departures (sent_by x)) (y.1 t)
 
-comes_second : (u w c : View) (g : ℕ) (n : Links) (seed : ℕ) (f : PlayFault) → HasPassed u w c g n seed (Err (play_failure f))
-    → ChainFails u c n seed (second_failure f)
-comes_second u w c g n seed (fail.Capture damage) h = (
+comes_second : (run : Run) (f : PlayFault) → HasPassed run (Err (play_failure f))
+    → ChainFails run.before run.behind run.links run.seed (second_failure f)
+comes_second run (fail.Capture damage) h = (
   h.accepting,
-  low u w c g n seed _ h,
+  low run _ h,
   λ t.
       let x = h.first.comes.played t in
-      capture_not_damaged (second_view (passed_on u n (sent_by x)) g) (second_view c g) (second_names n) seed damage (sent_by x) _ (sent_classic x)
-      (own_bytes u n.first.departures (sent_by x)) x.played.reads ((fails_so u w c g n seed (fail.Capture damage) h t).1 t),
+      capture_not_damaged (seen_of run (sent_by x)) (seen_behind run) (second_names run.links) run.seed damage (sent_by x) _ (sent_classic x)
+      (own_bytes run.before run.links.first.departures (sent_by x)) x.played.reads ((fails_so run (fail.Capture damage) h t).1 t),
 )
-comes_second u w c g n seed fail.Read h = (
-  unread_rose u w c g n seed h.first.comes.played h.first.leaves.files.others.tells (h.first.leaves.files.others.later.read 3) h.ends.comes.1,
-  fails_second u w c g n seed fail.Read h,
+comes_second run fail.Read h = (
+  unread_rose run h.first.comes.played h.first.leaves.files.others.tells (h.first.leaves.files.others.later.read 3) h.ends.comes.1,
+  fails_second run fail.Read h,
 )
-comes_second u w c g n seed (fail.Write output.Departures) h =
-    (rose_later _ _ _ (h.first.leaves.files.others.later.write 7) h.ends.comes.1, fails_second u w c g n seed (fail.Write output.Departures) h)
-comes_second u w c g n seed (fail.Write output.Fates) h =
-    (rose_later _ _ _ (h.first.leaves.files.others.later.write 8) h.ends.comes.1, fails_second u w c g n seed (fail.Write output.Fates) h)
-comes_second u w c g n seed (fail.Write output.Statistics) h =
-    (rose_later _ _ _ (h.first.leaves.files.others.later.write 9) h.ends.comes.1, fails_second u w c g n seed (fail.Write output.Statistics) h)
-comes_second u w c g n seed (fail.Limit loop.Capture) h = (
+comes_second run (fail.Write output.Departures) h =
+    (rose_later _ _ _ (h.first.leaves.files.others.later.write 7) h.ends.comes.1, fails_second run (fail.Write output.Departures) h)
+comes_second run (fail.Write output.Fates) h =
+    (rose_later _ _ _ (h.first.leaves.files.others.later.write 8) h.ends.comes.1, fails_second run (fail.Write output.Fates) h)
+comes_second run (fail.Write output.Statistics) h =
+    (rose_later _ _ _ (h.first.leaves.files.others.later.write 9) h.ends.comes.1, fails_second run (fail.Write output.Statistics) h)
+comes_second run (fail.Limit loop.Capture) h = (
   h.accepting,
-  low u w c g n seed _ h,
-  λ t. not_limited u c g n seed w (h.first.comes.played t) t (fails_so u w c g n seed (fail.Limit loop.Capture) h t).1,
+  low run _ h,
+  λ t. not_limited run.before run.behind run.reference run.links run.seed run.between (h.first.comes.played t) t (fails_so run (fail.Limit loop.Capture) h t).1,
 )
-comes_second u w c g n seed (fail.Limit loop.Clock) h = fails_second u w c g n seed (fail.Limit loop.Clock) h
-comes_second u w c g n seed fail.NoMemory h = tt
+comes_second run (fail.Limit loop.Clock) h = fails_second run (fail.Limit loop.Clock) h
+comes_second run fail.NoMemory h = tt
 
 -- a failure of the second play, as the chain tells it
 abbrev on_second : Failure → Failure
@@ -260,120 +254,121 @@ memory_told u n seed = record {
   late_again = λ p. inr refl;
 }
 
-pub second_ends : (u w c : View) (g : ℕ) (n : Links) (seed : ℕ) (f : PlayFault) → HasPassed u w c g n seed (Err (play_failure f))
-    → ChainEnds u c n seed (Err (second_failure f))
-second_ends u w c g n seed f h = record {
-  comes = comes_second u w c g n seed f h;
-  told = λ t q. must u w c g n seed _ h h.first.comes.played (Err (second_failure f)) t q (starved f) (told_so f (failure.Limit limit.Clock));
-  leaves = left_second u c n seed (leaves u w c g n seed _ h h.first.comes.played h.ends.leaves.front);
+pub second_ends : (run : Run) (f : PlayFault) → HasPassed run (Err (play_failure f))
+    → ChainEnds run.before run.behind run.links run.seed (Err (second_failure f))
+second_ends run f h = record {
+  comes = comes_second run f h;
+  told = λ t q. must run _ h h.first.comes.played (Err (second_failure f)) t q (starved f) (told_so f (failure.Limit limit.Clock));
+  leaves = left_second run.before run.behind run.links run.seed (leaves run _ h h.first.comes.played h.ends.leaves.front);
 }
 
 -- both plays are done, and then the paths were written, as far as this went
-pub record HasWritten (u w c e : View) (g : ℕ) (n : Links) (seed : ℕ) (text : List ℕ) : Type 0 where
-  pub passed : HasPassed u w c g n seed (Ok done.Played)
+pub record HasWritten (run : Run) (e : View) (text : List ℕ) : Type 0 where
+  pub passed : HasPassed run (Ok done.Played)
   pub fit : ConfigurationsFit
-  pub x : IsTrue u.tells → HasPlayed u w n.first seed
-  pub y : IsTrue u.tells → HasPlayed (second_view w g) (second_view c g) (second_names n) seed
-  pub text_is : (t : IsTrue u.tells) → text ≡ path_text (kept_fates (arrivals_of (x t)) (journal_of (x t))) (journal_of (y t))
-  pub adds : AddsFile c e 10 n.path text
+  pub x : IsTrue run.before.tells → HasPlayed run.before run.between run.links.first run.seed
+  pub y : IsTrue run.before.tells → HasPlayed (seen run) (seen_behind run) (second_names run.links) run.seed
+  pub text_is : (t : IsTrue run.before.tells) → text ≡ path_text (kept_fates (arrivals_of (x t)) (journal_of (x t))) (journal_of (y t))
+  pub adds : AddsFile run.behind e 10 run.links.path text
 
-module _ (u w c e : View) (g : ℕ) (n : Links) (seed : ℕ) (text : List ℕ) (h : HasWritten u w c e g n seed text) where
-  abbrev P : HasPassed u w c g n seed (Ok done.Played)
+module _ (run : Run) (e : View) (text : List ℕ) (h : HasWritten run e text) where
+  abbrev P : HasPassed run (Ok done.Played)
   P = h.passed
 
-  told_then : IsTrue u.tells → IsTrue c.tells
-  told_then t = (own u w c g n seed (Ok done.Played) P).others.tells ∙ P.first.leaves.files.others.tells ∙ t
+  told_then : IsTrue run.before.tells → IsTrue run.behind.tells
+  told_then t = (own run (Ok done.Played) P).others.tells ∙ P.first.leaves.files.others.tells ∙ t
 
-  abbrev first_in : IsTrue u.tells → HasPlayed u e n.first seed
+  abbrev first_in : IsTrue run.before.tells → HasPlayed run.before e run.links.first run.seed
   first_in t =
       let d = P.apart in
       let told = told_then t in
-      played_so u c u e n.first seed refl refl
-      (h.adds.keeps.bytes n.first.departures (told, d.departures_path))
-      (h.adds.keeps.bytes n.first.fates (told, d.fates_path))
-      (h.adds.keeps.bytes n.first.stats (told, d.stats_path))
-      (kept_first u w c n seed d P.first.leaves.files (own u w c g n seed (Ok done.Played) P) t (h.x t))
+      played_so run.before run.behind run.before e run.links.first run.seed refl refl
+      (h.adds.keeps.bytes run.links.first.departures (told, d.departures_path))
+      (h.adds.keeps.bytes run.links.first.fates (told, d.fates_path))
+      (h.adds.keeps.bytes run.links.first.stats (told, d.stats_path))
+      (kept_first run (both run (Ok done.Played) P) t (h.x t))
 
-  abbrev second_in : (t : IsTrue u.tells) → HasPlayed (passed_on u n (sent_by (h.x t))) e (second_names n) seed
+  abbrev second_in : (t : IsTrue run.before.tells) → HasPlayed (passed_on run.before run.links (sent_by (h.x t))) e (second_names run.links) run.seed
   second_in t =
       let d = P.apart in
       let told = told_then t in
-      played_so (passed_on u n (sent_by (h.x t))) c (passed_on u n (sent_by (h.x t))) e (second_names n) seed refl refl
-      (h.adds.keeps.bytes n.departures (told, d.second_departures_path))
-      (h.adds.keeps.bytes n.fates (told, d.second_fates_path))
-      (h.adds.keeps.bytes n.stats (told, d.second_stats_path))
-      (kept_second u w c n seed d P.first.leaves.files (own u w c g n seed (Ok done.Played) P) g g t (h.x t) (h.y t))
+      played_so (passed_on run.before run.links (sent_by (h.x t))) run.behind (passed_on run.before run.links (sent_by (h.x t))) e (second_names run.links) run.seed refl refl
+      (h.adds.keeps.bytes run.links.departures (told, d.second_departures_path))
+      (h.adds.keeps.bytes run.links.fates (told, d.second_fates_path))
+      (h.adds.keeps.bytes run.links.stats (told, d.second_stats_path))
+      (kept_second run (both run (Ok done.Played) P) t (h.x t) (h.y t))
 
-  abbrev both_in : (t : IsTrue u.tells) → ArePlayed u e n seed
+  abbrev both_in : (t : IsTrue run.before.tells) → ArePlayed run.before e run.links run.seed
   both_in t = record { first = first_in t; second = second_in t }
 
-  untouched_then : Untouched c e 10 → Untouched u e 10
-  untouched_then none = λ f fresh there. by f fresh there (there_or_not (c.part f))
+  untouched_then : Untouched run.behind e 10 → Untouched run.before e 10
+  untouched_then none = λ f fresh there. by f fresh there (there_or_not (run.behind.part f))
     where
-      by : (f : ℕ) → u.part f ≡ None → e.part f ≡ Some 10 → (c.part f ≡ None) ⊎ ((p : ℕ) × (c.part f ≡ Some p)) → ⊥
+      by : (f : ℕ) → run.before.part f ≡ None → e.part f ≡ Some 10 → (run.behind.part f ≡ None) ⊎ ((p : ℕ) × (run.behind.part f ≡ Some p)) → ⊥
       by f fresh there (inl m) = none f m there
       by f fresh there (inr m) =
           let ten : 10 ≡ m.0 = same_part 10 m.0 (sym there ∙ h.adds.keeps.part f m.0 m.1) in
-          let most = low u w c g n seed (Ok done.Played) P f m.0 fresh m.1 in omega (arith, ten, most)
+          let most = low run (Ok done.Played) P f m.0 fresh m.1 in omega (arith, ten, most)
 
-  front_then : IsTrue u.tells → IsFrontAt c e 10 n.path text → IsFrontAt u e 10 n.path text
+  front_then : IsTrue run.before.tells → IsFrontAt run.behind e 10 run.links.path text → IsFrontAt run.before e 10 run.links.path text
   front_then t (inl z) =
-      inl (untouched_then z.0, z.1 ∙ ((files u w c g n seed (Ok done.Played) P).uncreated t).path (λ f fresh there. z.0 f (none_then f fresh there) (h.adds.keeps.part f 10 there)))
+      inl (untouched_then z.0, z.1 ∙ ((files run (Ok done.Played) P).uncreated t).path (λ f fresh there. z.0 f (none_then f fresh there) (h.adds.keeps.part f 10 there)))
     where
-      none_then : (f : ℕ) → u.part f ≡ None → c.part f ≡ Some 10 → c.part f ≡ None
-      none_then f fresh there = let most = low u w c g n seed (Ok done.Played) P f 10 fresh there in absurd (omega (arith, most))
+      none_then : (f : ℕ) → run.before.part f ≡ None → run.behind.part f ≡ Some 10 → run.behind.part f ≡ None
+      none_then f fresh there = let most = low run (Ok done.Played) P f 10 fresh there in absurd (omega (arith, most))
   front_then t (inr z) = inr z
 
-  written_leaves : LeavesSecond u e n seed
+  written_leaves : LeavesSecond run.before e run.links run.seed
   written_leaves = record {
     accepting = P.accepting;
     first = first_in;
     front = λ t. (
-      g,
-      fronts_whole (second_view (passed_on u n (sent_by (h.x t))) g) (second_view e g) (second_names n) seed
-          (λ told. played_so (passed_on u n (sent_by (h.x t))) e (second_view (passed_on u n (sent_by (h.x t))) g) (second_view e g) (second_names n) seed
+      run.reference,
+      fronts_whole (seen_of run (sent_by (h.x t))) (second_view e run.reference) (second_names run.links) run.seed
+          (λ told. played_so (passed_on run.before run.links (sent_by (h.x t))) e (seen_of run (sent_by (h.x t))) (second_view e run.reference) (second_names run.links) run.seed
           refl refl refl refl refl (second_in t)),
     );
-    path = λ t. inr (both_in t, subst (λ (z : List ℕ). IsFrontAt u e 10 n.path z) (h.text_is t) (front_then t (h.adds.front (told_then t))));
-    files = path_files u c e n P.apart text (files u w c g n seed (Ok done.Played) P) (low u w c g n seed (Ok done.Played) P) h.adds;
+    path = λ t. inr (both_in t, subst (λ (z : List ℕ). IsFrontAt run.before e 10 run.links.path z) (h.text_is t) (front_then t (h.adds.front (told_then t))));
+    files = path_files run.before run.behind e run.links text
+        (record { apart = P.apart; files = files run (Ok done.Played) P; low = low run (Ok done.Played) P; adds = h.adds });
   }
 
-  quiet_then : IsQuiet u e → IsQuiet u c
+  quiet_then : IsQuiet run.before e → IsQuiet run.before run.behind
   quiet_then q = λ part few. (
     (λ r. (q part few).0 (rose_before _ _ _ r (h.adds.keeps.later.read part))),
     (λ l r. (q part few).1 l (rose_before _ _ _ r (h.adds.keeps.later.write part))),
   )
 
   -- and all is done
-  pub done_ends : (IsTrue c.tells → e.bytes n.path ≡ Some text) → SameCounts c e → ChainEnds u e n seed (Ok done.Chained)
+  pub done_ends : (IsTrue run.behind.tells → e.bytes run.links.path ≡ Some text) → SameCounts run.behind e → ChainEnds run.before e run.links run.seed (Ok done.Chained)
   done_ends whole same = record {
     comes = record {
       chained = λ t. record {
         played = both_in t;
-        unraised = unraised u e e n seed h.fit (first_in t) (second_in t);
-        after = after u e e n seed h.fit (first_in t) (second_in t);
+        unraised = unraised run.before e e run.links run.seed h.fit (first_in t) (second_in t);
+        after = after run.before e e run.links run.seed h.fit (first_in t) (second_in t);
         path = whole (told_then t) ∙ ap (λ (z : List ℕ). Some z) (h.text_is t);
       };
       silent = h.adds.said ∙ P.ends.comes.silent ∙ P.first.comes.silent;
-      no_fault = same_trans u w e P.first.comes.no_fault (same_trans w c e (counts_back w c g g P.ends.comes.no_fault) same);
+      no_fault = same_trans run.before run.between e P.first.comes.no_fault (same_trans run.between run.behind e (counts_back run.between run.behind run.reference run.reference P.ends.comes.no_fault) same);
     };
-    told = λ t q. must u w c g n seed (Ok done.Played) P h.x (Ok done.Chained) t (quiet_then q) (λ z. inl refl) (λ z. absurd (not_failed _ z));
-    leaves = left_second u e n seed written_leaves;
+    told = λ t q. must run (Ok done.Played) P h.x (Ok done.Chained) t (quiet_then q) (λ z. inl refl) (λ z. absurd (not_failed _ z));
+    leaves = left_second run.before e run.links run.seed written_leaves;
   }
 
   -- or not
-  pub path_ends : (t : Trouble) → (t ≡ trouble.Failed → Rose (c.write_faults 10) (e.write_faults 10)) → ChainEnds u e n seed (Err (path_failure t))
+  pub path_ends : (t : Trouble) → (t ≡ trouble.Failed → Rose (run.behind.write_faults 10) (e.write_faults 10)) → ChainEnds run.before e run.links run.seed (Err (path_failure t))
   path_ends trouble.NoMemory r = record {
     comes = tt;
-    told = λ t q. memory_told u n seed;
-    leaves = left_second u e n seed written_leaves;
+    told = λ t q. memory_told run.before run.links run.seed;
+    leaves = left_second run.before e run.links run.seed written_leaves;
   }
   path_ends trouble.Failed r =
       let first = P.first.leaves.files.others.later.write 10 in
-      let second = (own u w c g n seed (Ok done.Played) P).others.later.write 10 in
+      let second = (own run (Ok done.Played) P).others.later.write 10 in
       let rose = rose_later _ _ _ first (rose_later _ _ _ second (r refl)) in
       record {
         comes = (rose, P.accepting, both_in);
         told = λ t q. absurd ((q 10 (omega arith)).1 (omega arith) rose);
-        leaves = left_second u e n seed written_leaves;
+        leaves = left_second run.before e run.links run.seed written_leaves;
       }

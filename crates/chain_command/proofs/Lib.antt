@@ -6,6 +6,7 @@ pub mod LeavingLemmas
 pub mod LentLemmas
 pub mod PartLemmas
 pub mod PieceLemmas
+pub mod Runs
 pub mod SecondLemmas
 pub mod TellLemmas
 pub mod WrittenLemmas

@@ -23,14 +23,15 @@ use Rattle.play_command.specs.Played.{HasPlayed}
 use Rattle.play_command.proofs.EndLemmas.{one_reads}
 use Rattle.play_command.proofs.InputLemmas.{Starts, configures_by, one_accepted}
 use Rattle.play_command.proofs.WholeLemmas.{accepted_itself, other_bytes, own_bytes}
-use Rattle.second_files.specs.Parts.{own_part, second_view}
+use Rattle.second_files.specs.Parts.{own_part}
 use Rattle.second_files.proofs.PartLaws.{part_behind, part_seen}
 use Rattle.chain_command.specs.Chained.{NoneRaised, StartsAfterFirst, arrivals_of, journal_of, passed_on, sent_by}
 use Rattle.chain_command.specs.Chaining.{PassesOn}
 use Rattle.chain_command.specs.Links.{Links, second_names}
 use Rattle.chain_command.proofs.LawLemmas.{Rising, at_stamp, ends_are, marked_stamps, none_raised, rise_so, stamps, starts_after}
-use Rattle.chain_command.proofs.LeavingLemmas.{AreApart, on_second}
-use Rattle.chain_command.proofs.PartLemmas.{LeavesOwn, untouched_own, untouched_seen}
+use Rattle.chain_command.proofs.LeavingLemmas.{LeaveBoth, on_second}
+use Rattle.chain_command.proofs.PartLemmas.{untouched_own, untouched_seen}
+use Rattle.chain_command.proofs.Runs.{Run, seen, seen_behind, seen_of}
 
 -- what was played was so from files with the same inputs, and in files with the same outputs
 abbrev pub played_so : (u v p q : View) (n : Names) (seed : ℕ) → p.bytes n.config ≡ u.bytes n.config → p.bytes n.arrivals ≡ u.bytes n.arrivals
@@ -120,52 +121,52 @@ own_high (suc (suc (suc (suc (suc zero))))) l m = omega arith
 own_high (suc (suc (suc (suc (suc (suc part)))))) l m = absurd (omega (arith, m))
 
 -- both plays: the files before and behind each
-module _ (u w c : View) (n : Links) (seed : ℕ) (d : AreApart n) (files : play.FilesEnd u w n.first) (own : LeavesOwn w c n) where
-  abbrev pub kept_first : IsTrue u.tells → HasPlayed u w n.first seed → HasPlayed u c n.first seed
+module _ (run : Run) (both : LeaveBoth run) where
+  abbrev pub kept_first : IsTrue run.before.tells → HasPlayed run.before run.between run.links.first run.seed → HasPlayed run.before run.behind run.links.first run.seed
   kept_first t x =
-      let told = files.others.tells ∙ t in
-      played_so u w u c n.first seed refl refl
-      (own.others.bytes n.first.departures (told, d.second.arrivals_departures, d.second.arrivals_fates, d.second.arrivals_stats))
-      (own.others.bytes n.first.fates (told, d.fates_departures, d.fates_fates, d.fates_stats))
-      (own.others.bytes n.first.stats (told, d.stats_departures, d.stats_fates, d.stats_stats)) x
+      let told = both.files.others.tells ∙ t in
+      played_so run.before run.between run.before run.behind run.links.first run.seed refl refl
+      (both.own.others.bytes run.links.first.departures (told, both.apart.second.arrivals_departures, both.apart.second.arrivals_fates, both.apart.second.arrivals_stats))
+      (both.own.others.bytes run.links.first.fates (told, both.apart.fates_departures, both.apart.fates_fates, both.apart.fates_stats))
+      (both.own.others.bytes run.links.first.stats (told, both.apart.stats_departures, both.apart.stats_fates, both.apart.stats_stats)) x
 
   -- the names that the second play reads
-  pub config_same : (sent : List ℕ) → IsTrue u.tells → (passed_on u n sent).bytes n.first.config ≡ w.bytes n.first.config
+  pub config_same : (sent : List ℕ) → IsTrue run.before.tells → (passed_on run.before run.links sent).bytes run.links.first.config ≡ run.between.bytes run.links.first.config
   config_same sent t =
-      other_bytes u n.first.departures sent n.first.config d.first.config_departures
-      ∙ sym (files.others.bytes n.first.config (t, d.first.config_departures, d.first.config_fates, d.first.config_stats))
+      other_bytes run.before run.links.first.departures sent run.links.first.config both.apart.first.config_departures
+      ∙ sym (both.files.others.bytes run.links.first.config (t, both.apart.first.config_departures, both.apart.first.config_fates, both.apart.first.config_stats))
 
-  pub arrivals_same : (x : HasPlayed u w n.first seed) → (passed_on u n (sent_by x)).bytes n.first.departures ≡ w.bytes n.first.departures
-  arrivals_same x = own_bytes u n.first.departures (sent_by x) ∙ sym x.played.texts.departures
+  pub arrivals_same : (x : HasPlayed run.before run.between run.links.first run.seed) → (passed_on run.before run.links (sent_by x)).bytes run.links.first.departures ≡ run.between.bytes run.links.first.departures
+  arrivals_same x = own_bytes run.before run.links.first.departures (sent_by x) ∙ sym x.played.texts.departures
 
-  abbrev pub kept_second : (g h : ℕ) → IsTrue u.tells → (x : HasPlayed u w n.first seed) → HasPlayed (second_view w g) (second_view c h) (second_names n) seed
-      → HasPlayed (passed_on u n (sent_by x)) c (second_names n) seed
-  kept_second g h t x y =
-      played_so (second_view w g) (second_view c h) (passed_on u n (sent_by x)) c (second_names n) seed (config_same (sent_by x) t) (arrivals_same x) refl refl refl y
+  abbrev pub kept_second : IsTrue run.before.tells → (x : HasPlayed run.before run.between run.links.first run.seed) → HasPlayed (seen run) (seen_behind run) (second_names run.links) run.seed
+      → HasPlayed (passed_on run.before run.links (sent_by x)) run.behind (second_names run.links) run.seed
+  kept_second t x y =
+      played_so (seen run) (seen_behind run) (passed_on run.before run.links (sent_by x)) run.behind (second_names run.links) run.seed (config_same (sent_by x) t) (arrivals_same x) refl refl refl y
 
   -- the second play starts as if what the first sent had stood there
-  pub starts : (g : ℕ) (sent : List ℕ) → (IsTrue u.tells → w.bytes n.first.departures ≡ Some sent)
-      → Starts (second_view w g) (second_view (passed_on u n sent) g) (second_view c g) (second_names n)
-  starts g sent held = record {
-    tells = files.others.tells;
-    input = λ t. record { config = config_same sent t; arrivals = own_bytes u n.first.departures sent ∙ sym (held t) };
+  pub starts : (sent : List ℕ) → (IsTrue run.before.tells → run.between.bytes run.links.first.departures ≡ Some sent)
+      → Starts (seen run) (seen_of run sent) (seen_behind run) (second_names run.links)
+  starts sent held = record {
+    tells = both.files.others.tells;
+    input = λ t. record { config = config_same sent t; arrivals = own_bytes run.before run.links.first.departures sent ∙ sym (held t) };
     outputs = λ t. record {
       untouched = λ part l m x. back part l m x;
-      departures = kept t n.departures (λ e. d.second.arrivals_departures (sym e)) (λ e. d.fates_departures (sym e)) (λ e. d.stats_departures (sym e));
-      fates = kept t n.fates (λ e. d.second.arrivals_fates (sym e)) (λ e. d.fates_fates (sym e)) (λ e. d.stats_fates (sym e));
-      stats = kept t n.stats (λ e. d.second.arrivals_stats (sym e)) (λ e. d.fates_stats (sym e)) (λ e. d.stats_stats (sym e));
+      departures = kept t run.links.departures (λ e. both.apart.second.arrivals_departures (sym e)) (λ e. both.apart.fates_departures (sym e)) (λ e. both.apart.stats_departures (sym e));
+      fates = kept t run.links.fates (λ e. both.apart.second.arrivals_fates (sym e)) (λ e. both.apart.fates_fates (sym e)) (λ e. both.apart.stats_fates (sym e));
+      stats = kept t run.links.stats (λ e. both.apart.second.arrivals_stats (sym e)) (λ e. both.apart.fates_stats (sym e)) (λ e. both.apart.stats_stats (sym e));
     };
     untouched = λ part l m x. back part l m x;
-    part = λ f p e. part_seen (w.part f) p (files.others.part f (own_part p) (part_behind (u.part f) p e));
-    read = λ p. files.others.later.read (own_part p);
-    write = λ p. files.others.later.write (own_part p);
+    part = λ f p e. part_seen (run.between.part f) p (both.files.others.part f (own_part p) (part_behind (run.before.part f) p e));
+    read = λ p. both.files.others.later.read (own_part p);
+    write = λ p. both.files.others.later.write (own_part p);
   }
     where
-      kept : IsTrue u.tells → (m : List ℕ) → m ≢ n.first.departures → m ≢ n.first.fates → m ≢ n.first.stats → w.bytes m ≡ (passed_on u n sent).bytes m
-      kept t m x y z = files.others.bytes m (t, x, y, z) ∙ sym (other_bytes u n.first.departures sent m x)
+      kept : IsTrue run.before.tells → (m : List ℕ) → m ≢ run.links.first.departures → m ≢ run.links.first.fates → m ≢ run.links.first.stats → run.between.bytes m ≡ (passed_on run.before run.links sent).bytes m
+      kept t m x y z = both.files.others.bytes m (t, x, y, z) ∙ sym (other_bytes run.before run.links.first.departures sent m x)
 
-      back : (part : ℕ) → 3 ≤ part → part ≤ 5 → Untouched (second_view w g) (second_view c g) part
-          → Untouched (second_view (passed_on u n sent) g) (second_view c g) part
+      back : (part : ℕ) → 3 ≤ part → part ≤ 5 → Untouched (seen run) (seen_behind run) part
+          → Untouched (seen_of run sent) (seen_behind run) part
       back part l m x =
-          untouched_seen (passed_on u n sent) c g g part
-          (on_second u w c n d files own (own_part part) (own_high part l m) (untouched_own w c g g part x))
+          untouched_seen (passed_on run.before run.links sent) run.behind run.reference run.reference part
+          (on_second run both (own_part part) (own_high part l m) (untouched_own run.between run.behind run.reference run.reference part x))

@@ -3,51 +3,47 @@ use Rattle.std.proofs.Common.{◌≡◌, ◌∙◌, ◌∷◌, ℕ, List, sym}
 use Rattle.std.specs.Prelude.{◌≢◌}
 use Rattle.play_base.specs.View.{View, Keeps, Later, SameCounts}
 use Rattle.marked_files.specs.Through.{marked_view}
-use Rattle.marked_files.proofs.ViewLaws.{left_other}
+use Rattle.marked_files.proofs.ViewLaws.{Wrapper, left_other}
 
--- what is fixed of marked files: the reference to those behind them, the file, and the reference to the marker
-pub record AreFixed (g h file now k l : ℕ) (old new : List ℕ) : Type 0 where
-  pub reference : h ≡ g
-  pub file_is : now ≡ file
-  pub marker : l ≡ k
+-- what is fixed of marked files: the references to those behind them and to the marker, and the file
+pub record AreFixed (x y : Wrapper) (old new : List ℕ) : Type 0 where
+  pub reference : y.files ≡ x.files
+  pub file_is : y.file ≡ x.file
+  pub marker : y.marker ≡ x.marker
   pub behind : new ≡ old
 
-pub fixed_are : (g h file now k l : ℕ) (old new : List ℕ) → h ∷ now ∷ l ∷ new ≡ g ∷ file ∷ k ∷ old → AreFixed g h file now k l old new
-fixed_are g h file now k l old new e = record { reference = cc; file_is = cc; marker = cc; behind = cc }
+pub fixed_are : (x y : Wrapper) (old new : List ℕ) → y.files ∷ y.file ∷ y.marker ∷ new ≡ x.files ∷ x.file ∷ x.marker ∷ old → AreFixed x y old new
+fixed_are x y old new e = record { reference = cc; file_is = cc; marker = cc; behind = cc }
 
-module _ (v w : View) (g h file now k l : ℕ) (become later : List ℕ → List ℕ) where
+-- the files behind a wrapper, before a call and after it
+module _ (v w : View) (x y : Wrapper) (become later : List ℕ → List ℕ) where
   abbrev Old : View
-  Old = marked_view v g file k become
+  Old = marked_view v x.files x.file x.marker become
 
   abbrev New : View
-  New = marked_view w h now l later
+  New = marked_view w y.files y.file y.marker later
 
-  -- the wrapper still holds the same reference, file and marker
-  pub same_reference : (N : List ℕ → Type 0) (F : ℕ → Type 0) → Keeps N F Old New → h ≡ g
-  same_reference N F x = (fixed_are g h file now k l v.fixed w.fixed x.later.fixed).reference
-
-  pub same_file : (N : List ℕ → Type 0) (F : ℕ → Type 0) → Keeps N F Old New → now ≡ file
-  same_file N F x = (fixed_are g h file now k l v.fixed w.fixed x.later.fixed).file_is
-
-  pub same_marker : (N : List ℕ → Type 0) (F : ℕ → Type 0) → Keeps N F Old New → l ≡ k
-  same_marker N F x = (fixed_are g h file now k l v.fixed w.fixed x.later.fixed).marker
+  -- the wrapper still holds the same references and the same file
+  pub still_fixed : (N : List ℕ → Type 0) (F : ℕ → Type 0) → Keeps N F Old New → AreFixed x y v.fixed w.fixed
+  still_fixed N F k = fixed_are x y v.fixed w.fixed k.later.fixed
 
   pub counts_back : SameCounts Old New → SameCounts v w
-  counts_back x = record { read = x.read; write = x.write }
+  counts_back k = record { read = k.read; write = k.write }
 
   pub later_back : Later Old New → Later v w
-  later_back x = record { read = x.read; write = x.write; fixed = (fixed_are g h file now k l v.fixed w.fixed x.fixed).behind }
+  later_back k = record { read = k.read; write = k.write; fixed = (fixed_are x y v.fixed w.fixed k.fixed).behind }
 
   -- what is kept of the wrapper's files is kept of those behind it, but for what the marked file has left
-  pub keeps_back : (N : List ℕ → Type 0) (F : ℕ → Type 0) → ((f : ℕ) → F f → f ≢ file) → Keeps N F Old New → Keeps N F v w
-  keeps_back N F other x =
-      let same = same_file N F x in
+  pub keeps_back : (N : List ℕ → Type 0) (F : ℕ → Type 0) → ((f : ℕ) → F f → f ≢ x.file) → Keeps N F Old New → Keeps N F v w
+  keeps_back N F other k =
+      let same = (still_fixed N F k).file_is in
       record {
-        tells = x.tells;
-        bytes = x.bytes;
+        tells = k.tells;
+        bytes = k.bytes;
         left = λ f p at kept.
-            sym (left_other f now w.tells later (w.left f) (λ e. other f kept (e ∙ same))) ∙ x.left f p at kept ∙ left_other f file v.tells become (v.left f) (other f kept);
-        part = x.part;
-        name = x.name;
-        later = later_back x.later;
+            sym (left_other f y.file w.tells later (w.left f) (λ e. other f kept (e ∙ same))) ∙ k.left f p at kept
+            ∙ left_other f x.file v.tells become (v.left f) (other f kept);
+        part = k.part;
+        name = k.name;
+        later = later_back k.later;
       }

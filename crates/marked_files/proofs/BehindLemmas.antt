@@ -49,7 +49,7 @@ pub record IsSpot (s : Stage) (x : Spot) : Type 0 where
   pub by : StandsAt s x.course x.taken (length x.given)
   pub same : (left : List ℕ) → x.given ++ made s x.place x.course (x.pending ++ left) ≡ marked x.conditioning (x.taken ++ left)
 
--- the capture, of which these bytes were not taken, is at its end for what is pending: it has a header there, or no more is left
+-- enough bytes are pending to tell what stands there, or the file has no more left
 abbrev pub IsSeen : (enough : ℕ) → Spot → (left : List ℕ) → Type 0
 IsSeen enough x left = (enough ≤ length x.pending) ⊎ (length left ≡ 0)
 

@@ -9,10 +9,10 @@ use Rattle.frame_classes.specs.Frames.{Classes, placed_by}
 use Rattle.interface_marks.specs.Conditioners.{Marks, is_conditioned, marked_in}
 use Rattle.marked_files.specs.Markings.{Marking, given}
 use Rattle.marked_files.specs.Taking.{holds}
-use Rattle.marked_files.specs.Through.{marked_view, with_marks}
+use Rattle.marked_files.specs.Through.{with_marks}
 use Rattle.marked_files.proofs.BackLaws.{keeps_back as marks_back}
 use Rattle.marked_files.proofs.Lengths.{length-given}
-use Rattle.marked_files.proofs.ViewLaws.{left_self as marks_self}
+use Rattle.marked_files.proofs.ViewLaws.{Wrapper, left_self as marks_self, seen_by}
 use Rattle.pcapng_files.specs.Fronts.{front_view, with_front}
 use Rattle.pcapng_files.proofs.BackLaws.{Fronted, fronted, keeps_back}
 use Rattle.pcapng_files.proofs.FrontLaws.{left_self}
@@ -99,20 +99,18 @@ module _ (P : View → View → Type 0) (v : View) (reference : ℕ) (capture : 
     stays = front_stays x.stays;
   }
 
--- files of which one is marked
+-- files of which one is marked: those behind them, the wrapper, and what its marker holds
 pub record Marked : Type 0 where
   pub view : View
-  pub reference : ℕ
-  pub file : ℕ
-  pub marker : ℕ
+  pub by : Wrapper
   pub marking : Marking Classes
 
 abbrev pub marked : Marked → View
-marked s = marked_view s.view s.reference s.file s.marker (given placed_by s.marking)
+marked s = seen_by placed_by s.by s.view s.marking
 
 -- the files behind marked ones
-pub marked_back : (P : View → View → Type 0) (s t : Marked) (o : Opened) (r : Result Totals PlayFault) (i : Interface) (first : List ℕ) → o.arrivals ≡ s.file
-    → t.file ≡ s.file → holds t.marking ≤ 262160 → Marks i first s.marking → Stays o r (marked s) (marked t) → P (marked s) (marked t)
+pub marked_back : (P : View → View → Type 0) (s t : Marked) (o : Opened) (r : Result Totals PlayFault) (i : Interface) (first : List ℕ) → o.arrivals ≡ s.by.file
+    → t.by.file ≡ s.by.file → holds t.marking ≤ 262160 → Marks i first s.marking → Stays o r (marked s) (marked t) → P (marked s) (marked t)
     → ComesThrough P o r s.view t.view (marked_of i first s.view o.arrivals) true
 marked_back P s t o r i first is same few marks stays x = record {
   came = subst (λ (f : ℕ). Through P s.view t.view f (marked_of i first s.view f) true) (sym is) (record {
@@ -122,14 +120,14 @@ marked_back P s t o r i first is same few marks stays x = record {
     fixed_after = (marked t).fixed;
     holds = x;
     plays = λ told.
-        marks_self s.file s.view.tells (given placed_by s.marking) (s.view.left s.file) ∙ become s.view.tells (s.view.left s.file) told;
+        marks_self s.by.file s.view.tells (given placed_by s.marking) (s.view.left s.by.file) ∙ become s.view.tells (s.view.left s.by.file) told;
     past = λ e rest has.
-        past_of t.view.tells (t.view.left s.file) rest
-        (sym (marks_self s.file t.view.tells (given placed_by t.marking) (t.view.left s.file))
-        ∙ ap (λ (f : ℕ). with_marks (eqb s.file f) t.view.tells (given placed_by t.marking) (t.view.left s.file)) (sym same) ∙ has);
+        past_of t.view.tells (t.view.left s.by.file) rest
+        (sym (marks_self s.by.file t.view.tells (given placed_by t.marking) (t.view.left s.by.file))
+        ∙ ap (λ (f : ℕ). with_marks (eqb s.by.file f) t.view.tells (given placed_by t.marking) (t.view.left s.by.file)) (sym same) ∙ has);
   });
   stays = record {
-    keeps = marks_back s.view t.view s.reference t.reference s.file t.file s.marker t.marker (given placed_by s.marking) (given placed_by t.marking) _ _
+    keeps = marks_back s.view t.view s.by t.by (given placed_by s.marking) (given placed_by t.marking) _ _
         (λ f h e. h.0 (e ∙ sym is)) stays.keeps;
     none = stays.none;
     said = stays.said;

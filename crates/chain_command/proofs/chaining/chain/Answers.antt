@@ -14,7 +14,10 @@ use Rattle.command_base.proofs.ReadingLemmas.{accepts_of, configured_of, input_c
 use Rattle.chain_command.specs.Chaining.{ChainEnds}
 use Rattle.chain_command.specs.Links.{links_read}
 use Rattle.play_command.proofs.BehindLemmas.{accepts_since}
-use Rattle.chain_command.proofs.ChainLemmas.{HasRead, chained_ends, classic_then, has_read, next_then, unplayed_ends, unplayed_second, unwritten_ends}
+use Rattle.play_files.specs.Failing.{play_failure}
+use Rattle.play_chain.specs.Tables.{HoldsSeconds}
+use Rattle.chain_command.specs.Playing.{SecondEnds, SecondPlays}
+use Rattle.chain_command.proofs.ChainLemmas.{GotBoth, HasRead, Start, called, chained_ends, classic_then, has_read, next_then, unplayed_ends, unplayed_second, unwritten_ends}
 use Rattle.chain_command.proofs.FirstLemmas.{config_ends, next_ends}
 use Rattle.chain_command.proofs.LeavingLemmas.{apart}
 use Rattle.chain_command.proofs.chaining.chain.Given.{Over}
@@ -68,24 +71,29 @@ play_first-requires-clause-accepted g c =
 pub play_first-requires-clause-distinct : goal.play_first-requires-clause-distinct
 play_first-requires-clause-distinct g c = (apart (links_read c.args.words.now) c.requires).first
 
--- both interfaces are in the configuration that was read
-both : (g : Over) (c : In-Some-interface g)
-    → HasRead (g.F.Files.view c.args.files.now) (g.F.Files.view c.read_conf.new.files) (links_read c.args.words.now) c.in-Some.found.now c.in-Some-interface.next.now
+-- what the chain starts from, where both interfaces are in the configuration that was read
+abbrev start : (g : Over) → In-Some-interface g → Start
+start g c = record {
+  before = g.F.Files.view c.args.files.now;
+  read = g.F.Files.view c.read_conf.new.files;
+  links = links_read c.args.words.now;
+  found = c.in-Some.found.now;
+  next = c.in-Some-interface.next.now;
+}
+
+both : (g : Over) (c : In-Some-interface g) → HasRead (start g c)
 both g c =
-    has_read _ _ _ c.in-Ok.conf _ _ c.requires (record { keeps = c.in-Ok.ensures.keeps; only = c.in-Ok.ensures.only }) c.in-Ok.ensures.said
+    has_read (start g c) c.in-Ok.conf c.requires (record { keeps = c.in-Ok.ensures.keeps; only = c.in-Ok.ensures.only }) c.in-Ok.ensures.said
     c.in-Ok.ensures.no_fault c.in-Ok.ensures.read (sym c.in-Some.ensures) (sym c.in-Some-interface.ensures)
 
 pub returns-in-Err-play_first-clause-ends : goal.returns-in-Err-play_first-clause-ends
 returns-in-Err-play_first-clause-ends g c =
-    let n = links_read c.args.words.now in
-    let u = g.F.Files.view c.args.files.now in
-    let a = g.F.Files.view c.read_conf.new.files in
     let w = g.F.Files.view c.play_first.new.files in
     let x = c.in-Err-play_first.ensures in
-    let P : Failure → Type 0 = λ f. ChainEnds u w n c.args.words.now.play.seed (Err f) in
-    let r = both g (goal.at.returns-in-Err-play_first-clause-ends g c).In-Some-interface in
-    subst P (sym c.unplayed_first.ensures)
-    (unplayed_ends u a n c.in-Some.found.now c.in-Some-interface.next.now r w c.args.words.now.play.seed c.in-Err-play_first.fault x.ends x.high)
+    let begun = (goal.at.returns-in-Err-play_first-clause-ends g c).In-Some-interface in
+    let s = start g begun in
+    let P : Failure → Type 0 = λ f. ChainEnds s.before w s.links c.args.words.now.play.seed (Err f) in
+    subst P (sym c.unplayed_first.ensures) (unplayed_ends s (both g begun) w c.args.words.now.play.seed c.in-Err-play_first.fault x.ends x.high)
 
 pub play_second-requires-clause-configured : goal.play_second-requires-clause-configured
 play_second-requires-clause-configured g c = configured_of c.args.words.now.next.now c.in-Ok.ensures.read.text c.in-Ok.conf c.in-Some-interface.next.now
@@ -93,31 +101,19 @@ play_second-requires-clause-configured g c = configured_of c.args.words.now.next
 
 pub play_second-requires-clause-accepted : goal.play_second-requires-clause-accepted
 play_second-requires-clause-accepted g c =
-    let n = links_read c.args.words.now in
-    let u = g.F.Files.view c.args.files.now in
-    let a = g.F.Files.view c.read_conf.new.files in
     let w = g.F.Files.view c.play_first.new.files in
-    let found = c.in-Some.found.now in
-    let next = c.in-Some-interface.next.now in
-    let seed = c.args.words.now.play.seed in
     let x = c.in-Ok-play_first.ensures in
-    let r = both g (goal.at.play_second-requires-clause-accepted g c).In-Some-interface in
-    let P : Names → Type 0 = λ z. Accepts w z.config z.interface next in
-    subst P (sym c.second_words.ensures.names) (next_then u a n found next r w seed x.done.ends x.high)
+    let begun = (goal.at.play_second-requires-clause-accepted g c).In-Some-interface in
+    let P : Names → Type 0 = λ z. Accepts w z.config z.interface c.in-Some-interface.next.now in
+    subst P (sym c.second_words.ensures.names) (next_then (start g begun) (both g begun) w c.args.words.now.play.seed x.done.ends x.high)
 
 pub play_second-requires-clause-classic : goal.play_second-requires-clause-classic
 play_second-requires-clause-classic g c =
-    let n = links_read c.args.words.now in
-    let u = g.F.Files.view c.args.files.now in
-    let a = g.F.Files.view c.read_conf.new.files in
     let w = g.F.Files.view c.play_first.new.files in
-    let found = c.in-Some.found.now in
-    let next = c.in-Some-interface.next.now in
-    let seed = c.args.words.now.play.seed in
     let x = c.in-Ok-play_first.ensures in
-    let r = both g (goal.at.play_second-requires-clause-classic g c).In-Some-interface in
+    let begun = (goal.at.play_second-requires-clause-classic g c).In-Some-interface in
     let P : Names → Type 0 = λ z. IsTrue w.tells → (given : List ℕ) → w.bytes z.arrivals ≡ Some given → is_pcapng given ≡ false in
-    subst P (sym c.second_words.ensures.names) (classic_then u a n found next r w seed x.done.ends x.high)
+    subst P (sym c.second_words.ensures.names) (classic_then (start g begun) (both g begun) w c.args.words.now.play.seed x.done.ends x.high)
 
 pub play_second-requires-clause-distinct : goal.play_second-requires-clause-distinct
 play_second-requires-clause-distinct g c =
@@ -126,53 +122,56 @@ play_second-requires-clause-distinct g c =
 
 pub returns-in-Err-play_second-clause-ends : goal.returns-in-Err-play_second-clause-ends
 returns-in-Err-play_second-clause-ends g c =
-    let n = links_read c.args.words.now in
-    let u = g.F.Files.view c.args.files.now in
-    let a = g.F.Files.view c.read_conf.new.files in
     let w = g.F.Files.view c.play_first.new.files in
-    let found = c.in-Some.found.now in
-    let next = c.in-Some-interface.next.now in
+    let z = g.F.Files.view c.play_second.new.files in
     let seed = c.args.words.now.play.seed in
     let x = c.in-Ok-play_first.ensures in
-    let r = both g (goal.at.returns-in-Err-play_second-clause-ends g c).In-Some-interface in
-    let P : Failure → Type 0 = λ f. ChainEnds u (g.F.Files.view c.play_second.new.files) n seed (Err f) in
+    let begun = (goal.at.returns-in-Err-play_second-clause-ends g c).In-Some-interface in
+    let s = start g begun in
+    let P : Failure → Type 0 = λ f. ChainEnds s.before z s.links seed (Err f) in
     subst P (sym c.second_failure.ensures)
-    (unplayed_second u a n found next r w seed x.done.ends x.high (g.F.Files.view c.play_second.new.files) _ _ c.in-Err-play_second.fault
-    c.second_words.ensures.names c.second_words.ensures.seed c.in-Err-play_second.ensures.ends)
+    (unplayed_second s (both g begun) w seed x.done.ends x.high z c.in-Err-play_second.fault
+    (called (λ (m : Names) (k : ℕ). SecondEnds w z m k (Err (play_failure c.in-Err-play_second.fault))) s.links seed _ _
+    c.second_words.ensures.names c.second_words.ensures.seed c.in-Err-play_second.ensures.ends))
 
 pub returns-in-Ok-write_paths-clause-ends : goal.returns-in-Ok-write_paths-clause-ends
 returns-in-Ok-write_paths-clause-ends g c =
-    let n = links_read c.args.words.now in
-    let u = g.F.Files.view c.args.files.now in
-    let a = g.F.Files.view c.read_conf.new.files in
     let w = g.F.Files.view c.play_first.new.files in
-    let found = c.in-Some.found.now in
-    let next = c.in-Some-interface.next.now in
+    let v = g.F.Files.view c.play_second.new.files in
+    let e = g.F.Files.view c.write_paths.new.files in
     let seed = c.args.words.now.play.seed in
-    let x = c.in-Ok-play_first.ensures in
-    let r = both g (goal.at.returns-in-Ok-write_paths-clause-ends g c).In-Some-interface in
-    let y = c.in-Ok-play_second.ensures in
+    let begun = (goal.at.returns-in-Ok-write_paths-clause-ends g c).In-Some-interface in
+    let s = start g begun in
     let z = c.in-Ok-write_paths.ensures in
-    chained_ends u a w (g.F.Files.view c.play_second.new.files) (g.F.Files.view c.write_paths.new.files) n found next r seed _ _ c.second_words.ensures.names
-    c.second_words.ensures.seed c.in-Ok-play_first.firsts c.in-Ok-play_second.seconds
-    x.done x.high y.done c.configurations_fit.ensures z.adds z.whole z.no_fault
+    let got : GotBoth s w v e seed c.in-Ok-play_first.firsts c.in-Ok-play_second.seconds = record {
+      read = both g begun;
+      first = c.in-Ok-play_first.ensures.done;
+      high = c.in-Ok-play_first.ensures.high;
+      second = called (SecondPlays (HoldsSeconds c.in-Ok-play_second.seconds) w v) s.links seed _ _ c.second_words.ensures.names c.second_words.ensures.seed
+          c.in-Ok-play_second.ensures.done;
+      fit = c.configurations_fit.ensures;
+      adds = z.adds;
+    } in
+    chained_ends s w v e seed _ _ got z.whole z.no_fault
 
 pub returns-clause-ends : goal.returns-clause-ends
 returns-clause-ends g c =
-    let n = links_read c.args.words.now in
-    let u = g.F.Files.view c.args.files.now in
-    let a = g.F.Files.view c.read_conf.new.files in
     let w = g.F.Files.view c.play_first.new.files in
-    let found = c.in-Some.found.now in
-    let next = c.in-Some-interface.next.now in
+    let v = g.F.Files.view c.play_second.new.files in
+    let e = g.F.Files.view c.write_paths.new.files in
     let seed = c.args.words.now.play.seed in
-    let x = c.in-Ok-play_first.ensures in
-    let r = both g (goal.at.returns-clause-ends g c).In-Some-interface in
-    let y = c.in-Ok-play_second.ensures in
+    let begun = (goal.at.returns-clause-ends g c).In-Some-interface in
+    let s = start g begun in
     let z = c.in-Err-write_paths.ensures in
-    let P : Failure → Type 0 = λ f. ChainEnds u (g.F.Files.view c.write_paths.new.files) n seed (Err f) in
+    let got : GotBoth s w v e seed c.in-Ok-play_first.firsts c.in-Ok-play_second.seconds = record {
+      read = both g begun;
+      first = c.in-Ok-play_first.ensures.done;
+      high = c.in-Ok-play_first.ensures.high;
+      second = called (SecondPlays (HoldsSeconds c.in-Ok-play_second.seconds) w v) s.links seed _ _ c.second_words.ensures.names c.second_words.ensures.seed
+          c.in-Ok-play_second.ensures.done;
+      fit = c.configurations_fit.ensures;
+      adds = z.adds;
+    } in
+    let P : Failure → Type 0 = λ f. ChainEnds s.before e s.links seed (Err f) in
     subst P (sym c.path_failure.ensures)
-    (unwritten_ends u a w (g.F.Files.view c.play_second.new.files) (g.F.Files.view c.write_paths.new.files) n found next r seed _ _ c.second_words.ensures.names
-    c.second_words.ensures.seed c.in-Ok-play_first.firsts c.in-Ok-play_second.seconds
-    x.done x.high y.done c.configurations_fit.ensures z.adds c.in-Err-write_paths.trouble
-    (λ e. z.failed (ap {B = Result (Unit {0}) Trouble} (λ (t : Trouble). Err t) e)))
+    (unwritten_ends s w v e seed _ _ got c.in-Err-write_paths.trouble (λ r. z.failed (ap {B = Result (Unit {0}) Trouble} (λ (t : Trouble). Err t) r)))

@@ -3,7 +3,8 @@ use Rattle.std.proofs.Common.{true, refl, rules, subst}
 use Rattle.command_base.proofs.ReadingLemmas.{fits}
 use Rattle.frame_classes.specs.Frames.{placed_by}
 use Rattle.marked_files.specs.Markings.{given}
-use Rattle.marked_files.proofs.BackLaws.{same_file, same_reference}
+use Rattle.marked_files.proofs.BackLaws.{still_fixed}
+use Rattle.marked_files.proofs.ViewLaws.{Wrapper}
 use Rattle.play_base.specs.View.{View}
 use Rattle.play_command.specs.Converting.{ComesThrough, marked_of}
 use Rattle.play_command.specs.Discipline.{CameOf}
@@ -27,10 +28,12 @@ returns-clause-come g c =
     let y = c.play_by.ensures in
     let become = given placed_by c.in-Ok.marker in
     let later = given placed_by f.marker.now in
-    let one = same_reference v w _ f.files.ghost_name o.arrivals f.file _ f.marker.ghost_name become later _ _ y.stays.keeps in
-    let file = same_file v w _ f.files.ghost_name o.arrivals f.file _ f.marker.ghost_name become later _ _ y.stays.keeps in
+    let x : Wrapper = record { files = f.files.ghost_name; file = f.file; marker = f.marker.ghost_name } in
+    let fixed = still_fixed v w (record { files = _; file = o.arrivals; marker = _ }) x become later _ _ y.stays.keeps in
+    let one = fixed.reference in
+    let file = fixed.file_is in
     let P : View → View → Type 0 = CameOf (setup_of c.args.interface.now c.args.seed) (g.D.Discipline.stands c.play_by.new.discipline) (g.K.Keeper.told c.play_by.new.keeper) o c.play_by.result in
-    let t : Marked = record { view = w; reference = f.files.ghost_name; file = f.file; marker = f.marker.ghost_name; marking = f.marker.now } in
-    let back = marked_back P (record { view = v; reference = _; file = o.arrivals; marker = _; marking = c.in-Ok.marker }) t o c.play_by.result i c.args.first.now
+    let t : Marked = record { view = w; by = x; marking = f.marker.now } in
+    let back = marked_back P (record { view = v; by = record { files = _; file = o.arrivals; marker = _ }; marking = c.in-Ok.marker }) t o c.play_by.result i c.args.first.now
     refl file f.few c.in-Ok.ensures.marks y.stays y.came in
     subst (λ (u : View). ComesThrough P o c.play_by.result v u (marked_of i c.args.first.now v o.arrivals) true) (search rules) back
