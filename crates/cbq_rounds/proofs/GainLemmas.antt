@@ -7,6 +7,7 @@ use Rattle.std.proofs.lemmas.Bool.{cases_lt, eq-eqb, eqb-true}
 use Rattle.std.proofs.lemmas.Bool.Decides.{nat_tests}
 use Rattle.altq_model.specs.Link.{end_of}
 use Rattle.altq_model.specs.Play.{IsOneOf}
+use Rattle.play_laws.proofs.LinkLemmas.{ceil_grows}
 use Rattle.leaf_queue.specs.declared.node.Entry.{Entry}
 use Rattle.link_clock.specs.Clock.{Clock}
 use Rattle.discipline.specs.declared.pick.Pick.TheVariants.{Send}
@@ -221,6 +222,17 @@ module _ (d : Shared) (lists : ℕ → List Entry) (clock : Clock) (x : Sending)
       ap (λ (k : Shared). rounds_for (get_or now.credits i 0) (quantum_of k.rate (class_of k.tree i)) len) g.same
       ∙ ap (λ (c : ℕ). rounds_for c (quantum_of d.rate (class_of d.tree i)) len) (g.rest i (omega arith)) in
       omega (arith, few_rounds i len q, same, e)
+
+  -- so do a longer packet's
+  pub few_longer : (i len most r : ℕ) (now : Shared) → HasGained d lists clock x i now → IsDueNow i len
+      → r ≡ rounds_for (get_or d.credits x.class 0) (quantum_of d.rate (class_of d.tree x.class)) x.len → len ≤ most
+      → r ≤ rounds_for (get_or now.credits i 0) (quantum_of now.rate (class_of now.tree i)) most
+  few_longer i len most r now g q e l =
+      let quantum : ℕ = quantum_of now.rate (class_of now.tree i) in
+      let credit : ℕ = get_or now.credits i 0 in
+      let some : 0 < quantum = omega arith in
+      let more = ceil_grows (len - credit) (most - credit) quantum some (omega (arith, l)) in
+      omega (arith, few_now i len r now g q e, more)
 
   -- gains change no answer of a lender
   pub lent_now : (i : ℕ) (now : Shared) (l : Lent) → HasGained d lists clock x i now → IsLent d.tree d.estimates clock x.start l

@@ -1,5 +1,5 @@
 -- The classes of a priority that are awake.
-use Rattle.std.proofs.Common.{◌≡◌, ◌≤◌, ◌<◌, ◌-◌, ◌∙◌, inl, inr, ℕ, Bool, true, false, List, [], None, Some, length, get_or, min, refl, ap, sym, arith, eqb}
+use Rattle.std.proofs.Common.{◌≡◌, ◌≤◌, ◌<◌, ◌-◌, ◌∙◌, inl, inr, ℕ, Bool, true, false, List, [], ◌∷◌, None, Some, length, get_or, min, refl, ap, sym, arith, eqb}
 use Rattle.std.specs.declared.option.Option.{Option}
 use Rattle.std.specs.Prelude.{if◌then◌else◌}
 use Rattle.std.proofs.lemmas.Bool.{cases_eq, cases_lt, eq-eqb, eqb-true}
@@ -17,7 +17,7 @@ use Rattle.cbq_rounds.specs.Looked.{HasAsked}
 use Rattle.cbq_sharing.specs.Held.{AreAwake}
 use Rattle.cbq_sharing.specs.Rings.{AreRings, IsRing, IsTop}
 use Rattle.cbq_sharing.specs.Shared.{Shared, head_len, situation_in}
-use Rattle.cbq_sharing.specs.Waiting.{waits}
+use Rattle.cbq_sharing.specs.Waiting.{AreSized, waits}
 use Rattle.cbq_rounds.proofs.DueLemmas.{len_none, sends_picked}
 use Rattle.cbq_rounds.proofs.GainLemmas.{gain_rest, gain_to, gains_nothing, not_able, other_priority}
 use Rattle.cbq_rounds.proofs.LookLemmas.{IsNext, asked_as}
@@ -26,6 +26,16 @@ use Rattle.cbq_sharing.proofs.WaitLemmas.{few_marked}
 in_ring_by : (b : Bool) (n : ℕ) → n ≡ (if b then 1 else 0) → 1 ≤ n → b ≡ true
 in_ring_by true n e l = refl
 in_ring_by false n e l = absurd (omega (arith, e, l))
+
+-- the length of the packet that stands first
+pub record HasHead (xs : List Entry) : Type 0 where
+  pub len : ℕ
+  pub is : head_len xs ≡ Some len
+  pub most : AreSized xs → len ≤ 262144
+
+some_head : (xs : List Entry) → waits xs ≡ 1 → HasHead xs
+some_head [] e = absurd (omega (arith, e))
+some_head (x ∷ xs) e = record { len = x.len; is = refl; most = λ s. s.1 }
 
 -- a walk over the classes of a priority that are awake: `both` are those that are awake and in its ring
 pub record IsWalk (d : Shared) (lists : ℕ → List Entry) (clock : Clock) (now p : ℕ) (both : List ℕ) : Type 0 where
@@ -40,6 +50,9 @@ module _ (d : Shared) (lists : ℕ → List Entry) (clock : Clock) (now p : ℕ)
   -- a packet waits in each of them
   some_wait : (c : ℕ) → marked both c ≡ 1 → waits (lists c) ≡ 1
   some_wait c e = w.awake.wait c (omega (arith, w.within c, e, few_marked w.words c))
+
+  pub head_there : (c : ℕ) → marked both c ≡ 1 → HasHead (lists c)
+  head_there c e = some_head (lists c) (some_wait c e)
 
   pub never_none : (c : ℕ) → marked both c ≡ 1 → head_len (lists c) ≡ None → ⊥
   never_none c e h =
@@ -130,6 +143,9 @@ module _ (d : Shared) (lists : ℕ → List Entry) (clock : Clock) (x : Sending)
 
   pub place_in : (i : ℕ) → marked both i ≡ 1 → i < length d.tree
   place_in i e = inside d lists clock x.start w.priority both w.walk i e
+
+  pub head_in : (i : ℕ) → marked both i ≡ 1 → HasHead (lists i)
+  head_in i e = head_there d lists clock x.start w.priority both w.walk i e
 
   pub alike_in : (i : ℕ) → marked both i ≡ 1 → (class_of d.tree i).priority ≡ (class_of d.tree x.class).priority
   alike_in i e = of_ring d lists clock x.start w.priority both w.walk i e ∙ w.of_class

@@ -52,6 +52,9 @@ fn able_at<Q: QueueRule + Drop>(
     ensures { HasAsked shares.now (list_in rows.now) clock.now now (get_or rings.now.tops.items priority 0) 256 result }
 {
     let some = rings.among(awake, priority);
+    if some.is_empty() {
+        return None;
+    }
     let mut last = Lent::none();
     let mut best = None;
     let mut from = 0;

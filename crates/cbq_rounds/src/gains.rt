@@ -1,12 +1,15 @@
 // What the candidates of a sending gain.
-ghost use Rattle.std.specs.Prelude.{◌≡◌, ◌≤◌, ◌<◌, ◌^◌, ℕ, [], length};
+ghost use Rattle.std.specs.Prelude.{◌≡◌, ◌≤◌, ◌<◌, ◌^◌, ℕ, [], length, Some};
+ghost use Rattle.altq_model.specs.Link.{end_of};
 ghost use Rattle.class_rows.specs.Rows.{list_in};
 ghost use Rattle.discipline.specs.declared.pick.Pick.{Pick};
 ghost use Rattle.cbq_rounds.specs.Due.{due_in};
 ghost use Rattle.class_sets.specs.Marked.{marked};
 ghost use Rattle.cbq_sharing.specs.Held.{AreAwake, AreHeld};
 ghost use Rattle.cbq_rounds.specs.Gained.{with_gains};
+ghost use Rattle.cbq_sharing.specs.Lent.{IsLent};
 ghost use Rattle.cbq_sharing.specs.Rings.{AreRings};
+ghost use Rattle.cbq_sharing.specs.Shared.{head_len, may_end};
 ghost use Rattle.cbq_sharing.specs.Waiting.{AreSized, AreWaiting};
 
 use cbq_sharing::{Lent, Rings, Shares, wake};
@@ -15,6 +18,35 @@ use class_sets::{ClassSet, Held};
 use discipline::Sending;
 use leaf_queue::QueueRule;
 use link_clock::LinkClock;
+
+// Whether a class in which a packet waits may send it at `now`. Its head is looked at only where it has to be asked.
+fn may_gain<Q: QueueRule + Drop>(
+    shares: &Shares,
+    rows: &Rows<Q>,
+    class: u32,
+    now: u64,
+    clock: &LinkClock,
+    last: &mut Lent,
+) -> bool
+    requires class { class < length shares.now.tree }
+    requires first { rows.now.first ≡ 0 }
+    requires count { length rows.now.queues ≡ length shares.now.tree }
+    requires sized { (c : ℕ) → AreSized (list_in rows.now c) }
+    requires free { clock.now.link.free ≤ now }
+    requires early { now < 2 ^ 63 }
+    requires lent { IsLent shares.now.tree shares.now.estimates clock.now now last.old }
+    ensures may { (len : ℕ) → head_len (list_in rows.now class) ≡ Some len
+        → result ≡ may_end shares.now.tree shares.now.estimates (end_of clock.now.rate clock.now.link now len) len class }
+    ensures lent { IsLent shares.now.tree shares.now.estimates clock.now now last.new }
+{
+    if shares.is_rooted(class) {
+        return true;
+    }
+    let Some(head) = rows.head(class) else {
+        return false;
+    };
+    shares.asks(class, head.len, now, clock, last)
+}
 
 // Gives each candidate of a sending, which is the one due at its start, its quantum in each of the rounds that the class sent needed.
 // If it needed any, it asks each class of its priority that is awake once, and the lenders of each once for those of one parent in turn.
@@ -51,10 +83,8 @@ fn gain_all<Q: QueueRule + Drop>(
     let mut from = 0;
     'classes: while let Some(class) = some.first_from(from) {
         from = class + 1;
-        if let Some(head) = rows.head(class) {
-            if shares.may_send(class, head.len, sending.start, clock, &mut last) {
-                shares.gain(class, rounds, head.len);
-            }
+        if may_gain(shares, rows, class, sending.start, clock, &mut last) {
+            shares.gain(class, rounds);
         }
     }
 }

@@ -1,4 +1,5 @@
 pub mod BuildLemmas
+pub mod FreedLemmas
 pub mod HeldLemmas
 pub mod LentLemmas
 pub mod Moments

@@ -6,8 +6,7 @@ use Rattle.cbq_estimator.specs.Estimate.{Estimate}
 use Rattle.cbq_estimator.specs.Now.{allows_now}
 use Rattle.cbq_model.specs.declared.CbqClass.{CbqClass}
 use Rattle.cbq_model.specs.Tree.{class_of, is_root, lenders}
-use Rattle.cbq_sharing.specs.Shared.{allows_end, borrows_from_root, fixed_of, may_end, no_estimate}
-use Rattle.cbq_sharing.specs.declared.fixed.Fixed.{Fixed}
+use Rattle.cbq_sharing.specs.Shared.{allows_end, borrows_from_root, may_end, no_estimate}
 
 or_true : (b : Bool) → (b || true) ≡ true
 or_true true = refl
@@ -26,8 +25,6 @@ any_allows : (cs : List CbqClass) (es : List Estimate) (end len : ℕ) (ps : Lis
 any_allows cs es end len [] e = absurd (cc)
 any_allows cs es end len (p ∷ ps) e = any_more cs es end len p ps (is_root cs p) refl (any_allows cs es end len ps) e
 
-pub rooted_may : (cs : List CbqClass) (es : List Estimate) (rate end len c : ℕ) (v : Fixed) → v ≡ fixed_of rate cs (class_of cs c) → v.rooted ≡ true
-    → true ≡ may_end cs es end len c
-rooted_may cs es rate end len c v is e =
-    let root : borrows_from_root cs (class_of cs c) ≡ true = sym (ap (λ (x : Fixed). x.rooted) is) ∙ e in
+pub rooted_may : (cs : List CbqClass) (es : List Estimate) (end len c : ℕ) → borrows_from_root cs (class_of cs c) ≡ true → true ≡ may_end cs es end len c
+rooted_may cs es end len c root =
     sym (ap (λ (b : Bool). allows_end cs es end len c || b) (any_allows cs es end len (lenders cs c) root) ∙ or_true (allows_end cs es end len c))

@@ -7,7 +7,7 @@ ghost use Rattle.cbq_model.specs.Choice.{rounds_for};
 ghost use Rattle.cbq_model.specs.Tree.{class_of, lender_of, lenders_up, quantum_of};
 ghost use Rattle.cbq_sharing.specs.Held.{IsHeld};
 ghost use Rattle.cbq_sharing.specs.Lent.{IsLent};
-ghost use Rattle.cbq_sharing.specs.Shared.{IsShared, IsTree, Shared, allows_end, is_free, least_with, may_end, own_now, start_now_in};
+ghost use Rattle.cbq_sharing.specs.Shared.{IsShared, IsTree, Shared, allows_end, borrows_from_root, is_free, least_with, may_end, own_now, start_now_in};
 
 use crate::fixed::Fixed;
 use crate::lent::Lent;
@@ -123,10 +123,19 @@ impl Shares {
             || self.estimators[class as usize].average() > 0
     }
 
-    // The same of a class that may have to wait. It asks the class first, and the lenders above it only where they are not those that were
-    // asked last of this length. One division where the class holds packets back and the length is another; none else.
+    /// Whether the root is one of those that may lend to a class, which may then always send.
+    pub fn is_rooted(&self, class: u32) -> bool
+        requires class { class < length self.now.tree }
+        ensures { result ≡ borrows_from_root self.now.tree (class_of self.now.tree class) }
+    {
+        self.fixed[class as usize].rooted
+    }
+
+    /// Whether a class may send a packet of `len` bytes at `now`, of itself or by a loan. It asks the class first, and the lenders above it
+    /// only where they are not those that were asked last of this length. One division where the class holds packets back and the length
+    /// is another; none else.
     #[inline(never)]
-    fn asks(&self, class: u32, len: u32, now: u64, clock: &LinkClock, last: &mut Lent) -> bool
+    pub fn asks(&self, class: u32, len: u32, now: u64, clock: &LinkClock, last: &mut Lent) -> bool
         requires class { class < length self.now.tree }
         requires free { clock.now.link.free ≤ now }
         requires early { now < 2 ^ 63 }
@@ -146,7 +155,7 @@ impl Shares {
         last.lends
     }
 
-    /// Whether a class may send a packet of `len` bytes at `now`, of itself or by a loan. Nobody is asked where the root may lend to it.
+    /// The same, but nobody is asked where the root may lend to the class.
     #[inline]
     pub fn may_send(
         &self,
@@ -164,7 +173,7 @@ impl Shares {
         ensures may { result ≡ may_end self.now.tree self.now.estimates (end_of clock.now.rate clock.now.link now len) len class }
         ensures lent { IsLent self.now.tree self.now.estimates clock.now now last.new }
     {
-        self.fixed[class as usize].rooted || self.asks(class, len, now, clock, last)
+        self.is_rooted(class) || self.asks(class, len, now, clock, last)
     }
 
     /// The moment till which a class that has no lender is held back with a packet of `len` bytes, where that is later than the next

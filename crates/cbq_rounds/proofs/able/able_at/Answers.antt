@@ -1,4 +1,4 @@
-use Rattle.std.proofs.Common.{◌+◌, ◌∙◌, ℕ, Bool, List, [], Some, ap, arith, get_or, sym}
+use Rattle.std.proofs.Common.{◌+◌, ◌∙◌, ℕ, Bool, List, [], None, Some, ap, arith, get_or, sym}
 use Rattle.std.specs.declared.option.Option.{Option}
 use Rattle.std.specs.Prelude.{option_map, if◌then◌else◌}
 use Rattle.leaf_queue.specs.declared.node.Entry.{Entry}
@@ -9,10 +9,10 @@ use Rattle.cbq_rounds.proofs.LookLemmas.{IsNext, asked_able, asked_held, asked_s
 use Rattle.cbq_rounds.proofs.RingLemmas.{IsWalk, asked_ring, inside, never_none, next_of_walk}
 use Rattle.cbq_rounds.proofs.able.able_at.Given as given
 use Rattle.cbq_rounds.proofs.able.able_at.Goals as goal
-use Rattle.cbq_rounds.proofs.able.able_at.Goals.{After-may_send, At-classes}
+use Rattle.cbq_rounds.proofs.able.able_at.Goals.{After-among-some, After-may_send}
 
 -- the walk over the classes of the priority that are awake
-walk : (g : given.Over) (c : At-classes g) → IsWalk c.args.shares.now (list_in c.args.rows.now) c.args.clock.now c.args.now c.args.priority c.among-some.result
+walk : (g : given.Over) (c : After-among-some g) → IsWalk c.args.shares.now (list_in c.args.rows.now) c.args.clock.now c.args.now c.args.priority c.among-some.result
 walk g c = record {
   words = c.args.awake.now;
   ring = get_or c.args.rings.now.sets.items c.args.priority [];
@@ -37,30 +37,36 @@ next g c w =
     })
     c.classes.invariant.0
 
+pub returns-then-is_empty : goal.returns-then-is_empty
+returns-then-is_empty g c =
+    asked_ring c.args.shares.now (list_in c.args.rows.now) c.args.clock.now c.args.now c.args.priority 0 (get_or c.args.rings.now.tops.items c.args.priority 0) None
+    c.among-some.result (walk g (goal.at.returns-then-is_empty g c).After-among-some) c.requires.asked
+    (c.requires.rings.top_of c.args.priority (omega (arith, c.requires.priority))) (λ k l. c.is_empty.ensures.none c.if-is_empty.true k)
+
 pub classes-init : goal.classes-init
 classes-init g c = (c.requires.asked, c.none-last.ensures c.args.shares.now.tree c.args.shares.now.estimates c.args.clock.now c.args.now)
 
 pub classes-preserved-in_default-head : goal.classes-preserved-in_default-head
 classes-preserved-in_default-head g c =
     absurd (never_none c.args.shares.now (list_in c.args.rows.now) c.args.clock.now c.args.now c.args.priority c.among-some.result
-    (walk g (goal.at.classes-preserved-in_default-head g c).At-classes) c.in-Some.class c.in-Some.ensures.some.is
+    (walk g (goal.at.classes-preserved-in_default-head g c).After-among-some) c.in-Some.class c.in-Some.ensures.some.is
     (head_of (list_in c.args.rows.now c.in-Some.class) c.head.result c.head.ensures
     ∙ ap (λ (o : Option Entry). option_map (λ (y : Entry). y.len) o) c.in_default-head.is))
 
 pub head-requires-clause-high : goal.head-requires-clause-high
 head-requires-clause-high g c =
-    let place = inside c.args.shares.now (list_in c.args.rows.now) c.args.clock.now c.args.now c.args.priority c.among-some.result (walk g (goal.at.head-requires-clause-high g c).At-classes)
+    let place = inside c.args.shares.now (list_in c.args.rows.now) c.args.clock.now c.args.now c.args.priority c.among-some.result (walk g (goal.at.head-requires-clause-high g c).After-among-some)
     c.in-Some.class c.in-Some.ensures.some.is in
     omega (arith, place, c.requires.count, c.requires.first)
 
 pub may_send-requires-clause-class : goal.may_send-requires-clause-class
 may_send-requires-clause-class g c =
-    inside c.args.shares.now (list_in c.args.rows.now) c.args.clock.now c.args.now c.args.priority c.among-some.result (walk g (goal.at.may_send-requires-clause-class g c).At-classes)
+    inside c.args.shares.now (list_in c.args.rows.now) c.args.clock.now c.args.now c.args.priority c.among-some.result (walk g (goal.at.may_send-requires-clause-class g c).After-among-some)
     c.in-Some.class c.in-Some.ensures.some.is
 
 pub rank-rank-requires : goal.rank-rank-requires
 rank-rank-requires g c = record {
-  class = inside c.args.shares.now (list_in c.args.rows.now) c.args.clock.now c.args.now c.args.priority c.among-some.result (walk g (goal.at.rank-rank-requires g c).At-classes)
+  class = inside c.args.shares.now (list_in c.args.rows.now) c.args.clock.now c.args.now c.args.priority c.among-some.result (walk g (goal.at.rank-rank-requires g c).After-among-some)
       c.in-Some.class c.in-Some.ensures.some.is;
 }
 
@@ -72,7 +78,7 @@ pub classes-preserved-then-leads : goal.classes-preserved-then-leads
 classes-preserved-then-leads g c = (
   asked_same c.args.shares.now (list_in c.args.rows.now) c.args.clock.now c.args.now c.args.priority (c.in-Some.class + 1) (better c.classes.best c.rank-rank.result) (Some c.rank-rank.result)
       (asked_able c.args.shares.now (list_in c.args.rows.now) c.args.clock.now c.args.now c.args.priority c.classes.from c.in-Some.class c.in-Some-head.head.len c.classes.best
-      c.rank-rank.result (next g (goal.at.classes-preserved-then-leads g c).After-may_send (walk g (goal.at.classes-preserved-then-leads g c).At-classes))
+      c.rank-rank.result (next g (goal.at.classes-preserved-then-leads g c).After-may_send (walk g (goal.at.classes-preserved-then-leads g c).After-among-some))
       (sym c.may_send.ensures.may ∙ c.if-may_send.true)
       (record { of_priority = c.rank-rank.ensures.priority; of_rounds = c.rank-rank.ensures.rounds; of_wraps = c.rank-rank.ensures.wraps; of_class = c.rank-rank.ensures.class }))
       (c.leads.ensures ∙ ap (λ (b : Bool). if b then Some c.rank-rank.result else c.classes.best) c.if-leads.true),
@@ -83,7 +89,7 @@ pub classes-preserved-else-leads : goal.classes-preserved-else-leads
 classes-preserved-else-leads g c = (
   asked_same c.args.shares.now (list_in c.args.rows.now) c.args.clock.now c.args.now c.args.priority (c.in-Some.class + 1) (better c.classes.best c.rank-rank.result) c.classes.best
       (asked_able c.args.shares.now (list_in c.args.rows.now) c.args.clock.now c.args.now c.args.priority c.classes.from c.in-Some.class c.in-Some-head.head.len c.classes.best
-      c.rank-rank.result (next g (goal.at.classes-preserved-else-leads g c).After-may_send (walk g (goal.at.classes-preserved-else-leads g c).At-classes))
+      c.rank-rank.result (next g (goal.at.classes-preserved-else-leads g c).After-may_send (walk g (goal.at.classes-preserved-else-leads g c).After-among-some))
       (sym c.may_send.ensures.may ∙ c.if-may_send.true)
       (record { of_priority = c.rank-rank.ensures.priority; of_rounds = c.rank-rank.ensures.rounds; of_wraps = c.rank-rank.ensures.wraps; of_class = c.rank-rank.ensures.class }))
       (c.leads.ensures ∙ ap (λ (b : Bool). if b then Some c.rank-rank.result else c.classes.best) c.if-leads.false),
@@ -93,19 +99,19 @@ classes-preserved-else-leads g c = (
 pub classes-preserved-then-is_none : goal.classes-preserved-then-is_none
 classes-preserved-then-is_none g c = (
   asked_held c.args.shares.now (list_in c.args.rows.now) c.args.clock.now c.args.now c.args.priority c.classes.from c.in-Some.class c.in-Some-head.head.len c.classes.best
-      (next g (goal.at.classes-preserved-then-is_none g c).After-may_send (walk g (goal.at.classes-preserved-then-is_none g c).At-classes)) (sym c.may_send.ensures.may ∙ c.if-may_send.false),
+      (next g (goal.at.classes-preserved-then-is_none g c).After-may_send (walk g (goal.at.classes-preserved-then-is_none g c).After-among-some)) (sym c.may_send.ensures.may ∙ c.if-may_send.false),
   c.may_send.ensures.lent,
 )
 
 pub classes-preserved : goal.classes-preserved
 classes-preserved g c = (
   asked_held c.args.shares.now (list_in c.args.rows.now) c.args.clock.now c.args.now c.args.priority c.classes.from c.in-Some.class c.in-Some-head.head.len c.classes.best
-      (next g (goal.at.classes-preserved g c).After-may_send (walk g (goal.at.classes-preserved g c).At-classes)) (sym c.may_send.ensures.may ∙ c.if-may_send.false),
+      (next g (goal.at.classes-preserved g c).After-may_send (walk g (goal.at.classes-preserved g c).After-among-some)) (sym c.may_send.ensures.may ∙ c.if-may_send.false),
   c.may_send.ensures.lent,
 )
 
 pub returns : goal.returns
 returns g c =
     asked_ring c.args.shares.now (list_in c.args.rows.now) c.args.clock.now c.args.now c.args.priority c.classes.from (get_or c.args.rings.now.tops.items c.args.priority 0) c.classes.best
-    c.among-some.result (walk g (goal.at.returns g c).At-classes) c.classes.invariant.0
+    c.among-some.result (walk g (goal.at.returns g c).After-among-some) c.classes.invariant.0
     (c.requires.rings.top_of c.args.priority (omega (arith, c.requires.priority))) c.in_default.ensures.none
