@@ -201,9 +201,9 @@ impl<Q: QueueRule + Drop> Discipline for Cbq<Q> {
     }
 
     fn sent(&mut self, sending: Sending, clock: &LinkClock) {
-        let end = clock
-            .end_of(sending.start, sending.len)
-            .max(self.shares.last_end());
+        // The clock's own ends are bounded.
+        prove!(sending.end == clock.end_of(sending.start, sending.len));
+        let end = sending.end.max(self.shares.last_end());
         gain_awake(
             &mut self.shares,
             &mut self.held,

@@ -1,11 +1,13 @@
 -- Bits of words, as a set of classes keeps them.
-use Rattle.std.proofs.Common.{◌≡◌, ◌≢◌, ◌≤◌, ◌<◌, ◌-◌, ◌*◌, ◌/◌, ◌%◌, ◌^◌, ◌∙◌, inl, inr, ℕ, zero, suc, List, [], ◌∷◌, length, get_or, refl, ap, sym, arith, min, bit_and, bit_or, w64, get_or-set_same, get_or-set_other}
+use Rattle.std.proofs.Common.{◌≡◌, ◌≢◌, ◌≤◌, ◌<◌, ◌+◌, ◌-◌, ◌*◌, ◌/◌, ◌%◌, ◌^◌, ◌∙◌, inl, inr, ℕ, zero, suc, List, [], ◌∷◌, length, get_or, refl, ap, sym, arith, min, bit_and, bit_or, w64, get_or-set_same, get_or-set_other}
 use Rattle.std.specs.Prelude.{slice_set}
 use Rattle.std.specs.Int.{bit_at, bit_not, trailing_zeros}
 use Rattle.std.specs.Int.Bits.{bit_xor}
 use Rattle.std.proofs.lemmas.Bool.{cases_eq, cases_lt}
 use Rattle.std.proofs.lemmas.List.{get_or_past}
-use Rattle.std.proofs.lemmas.Nat.Bits.{bit_at-trailing_zeros, bit_at-zero, bit_at_and, bit_at_xor, bit_at_clear_other, bit_at_clear_same, bit_at_mask_below, bit_at_mask_inside, bit_at-lt, bit_at_set_other, bit_at_set_same, ones_shl}
+use Rattle.std.proofs.lemmas.Nat.Bits.{bit_at-trailing_zeros, bit_at-zero, bit_at_and, bit_at_xor, bit_at_clear_other, bit_at_clear_same, bit_at_above, bit_at-lt, bit_at_set_other, bit_at_set_same}
+use Rattle.std.proofs.lemmas.Nat.{shr-shr}
+use Rattle.std.proofs.Math.Nat.{div-le_self}
 use Rattle.class_sets.specs.Marked.{IsLowest, marked}
 
 abbrev with_bit : ℕ → ℕ → ℕ
@@ -52,45 +54,27 @@ take_other words k c l h other =
     (λ i m d. bit_at_clear_other w64 (get_or words (k / 64) 0) (k % 64) (omega arith) i m d)
 
 -- the bits of a word from a place on
-abbrev rest : ℕ → ℕ → ℕ
-rest n p = bit_and n ((2 ^ 64 - 1) * 2 ^ p % 2 ^ 64)
+rest_is : (n p i : ℕ) → p ≤ i → bit_at (n / 2 ^ p) (i - p) ≡ bit_at n i
+rest_is n p i low =
+    let same : p + (i - p) ≡ i = omega (arith, low) in
+    ap (λ (m : ℕ). m % 2) (shr-shr n p (i - p)) ∙ ap (bit_at n) same
 
-rest_is : (n p i : ℕ) → p < 64 → bit_at (rest n p) i ≡ min (bit_at n i) (bit_at (2 ^ 64 - 2 ^ p) i)
-rest_is n p i h = ap (λ (m : ℕ). bit_at (bit_and n m) i) (ones_shl 64 p (omega (arith, h))) ∙ bit_at_and n (2 ^ 64 - 2 ^ p) i
+pub none_left : (n p : ℕ) → n / 2 ^ p ≡ 0 → (i : ℕ) → p ≤ i → i < 64 → bit_at n i ≡ 0
+none_left n p e i low high = sym (rest_is n p i low) ∙ ap (λ (m : ℕ). bit_at m (i - p)) e ∙ bit_at-zero (i - p)
 
-rest_from : (n p i : ℕ) → p < 64 → p ≤ i → i < 64 → bit_at (rest n p) i ≡ bit_at n i
-rest_from n p i h low high =
-    let one = bit_at_mask_inside p 64 i low high in
-    let most = bit_at-lt n i in
-    let small : min (bit_at n i) 1 ≡ bit_at n i = omega (arith, most) in
-    rest_is n p i h ∙ ap (λ (m : ℕ). min (bit_at n i) m) one ∙ small
-
-rest_below : (n p i : ℕ) → p < 64 → i < p → bit_at (rest n p) i ≡ 0
-rest_below n p i h low =
-    let none = bit_at_mask_below p 64 i low in
-    let small : min (bit_at n i) 0 ≡ 0 = omega arith in
-    rest_is n p i h ∙ ap (λ (m : ℕ). min (bit_at n i) m) none ∙ small
-
-pub none_left : (n p : ℕ) → p < 64 → rest n p ≡ 0 → (i : ℕ) → p ≤ i → i < 64 → bit_at n i ≡ 0
-none_left n p h e i low high = sym (rest_from n p i h low high) ∙ ap (λ (m : ℕ). bit_at m i) e ∙ bit_at-zero i
-
-pub lowest_left : (n p : ℕ) → p < 64 → (rest n p ≡ 0 → ⊥) → rest n p < 2 ^ 64 → IsLowest n p (trailing_zeros w64 (rest n p))
-lowest_left n p h some fits =
-    let x = bit_at-trailing_zeros w64 (rest n p) (omega (arith, some)) fits in
-    let i : ℕ = trailing_zeros w64 (rest n p) in
-    let low : p ≤ i = elim (cases_lt i p) [
-      | inl m ↦
-          let e : bit_at (rest n p) i ≡ 0 = rest_below n p i h m in
-          let f : bit_at (rest n p) i ≡ 1 = x.1 in
-          absurd (omega (arith, e, f))
-      | inr m ↦ m
+pub lowest_left : (n p : ℕ) → (n / 2 ^ p ≡ 0 → ⊥) → n < 2 ^ 64 → IsLowest n p (p + trailing_zeros w64 (n / 2 ^ p))
+lowest_left n p some fits =
+    let x = bit_at-trailing_zeros w64 (n / 2 ^ p) (omega (arith, some)) (omega (arith, div-le_self n (2 ^ p), fits)) in
+    let i : ℕ = trailing_zeros w64 (n / 2 ^ p) in
+    let far : p + i - p ≡ i = omega arith in
+    let one : bit_at n (p + i) ≡ 1 = sym (rest_is n p (p + i) (omega arith)) ∙ ap (bit_at (n / 2 ^ p)) far ∙ x.1 in
+    let inside : p + i < 64 = elim (cases_lt (p + i) 64) [
+      | inl m ↦ m
+      | inr m ↦
+          let none : bit_at n (p + i) ≡ 0 = bit_at_above n 64 (p + i) fits m in
+          absurd (omega (arith, none, one))
     ] in
-    record {
-      from = low;
-      inside = x.0;
-      is = sym (rest_from n p i h low x.0) ∙ x.1;
-      below = λ j a b. let m : j < 64 = omega (arith, b, x.0) in sym (rest_from n p j h a m) ∙ x.2 j b;
-    }
+    record { from = omega arith; inside = inside; is = one; below = λ j a b. sym (rest_is n p j a) ∙ x.2 (j - p) (omega (arith, a, b)) }
 
 -- no class from 256 on is marked
 pub marked_past : (words : List ℕ) (c : ℕ) → length words ≡ 4 → 256 ≤ c → marked words c ≡ 0

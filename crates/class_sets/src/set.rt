@@ -1,5 +1,5 @@
 // A set of classes.
-ghost use Rattle.std.specs.Prelude.{◌≡◌, ◌≢◌, ◌≤◌, ◌<◌, ◌-◌, ℕ, IfNone, IfSome, false, min, true, if◌then◌else◌};
+ghost use Rattle.std.specs.Prelude.{◌≡◌, ◌≢◌, ◌≤◌, ◌<◌, ◌+◌, ◌-◌, ℕ, IfNone, IfSome, false, min, true, if◌then◌else◌};
 ghost use Rattle.std.specs.Int.{bit_at};
 ghost use Rattle.class_sets.specs.Marked.{IsFirst, IsLowest, marked};
 
@@ -21,13 +21,13 @@ impl Model for ClassSet {
     ghost invariant = { λ w. length w.words ≡ 4 };
 }
 
-// The lowest bit of a word that is 1, from a place on.
+// How far from a place on the lowest bit of a word stands that is 1.
 fn lowest_from(word: u64, place: u32) -> Option<u32>
     requires { place < 64 }
-    ensures some { IfSome result (λ i. IsLowest word place i) }
+    ensures some { IfSome result (λ i. IsLowest word place (place + i)) }
     ensures none { IfNone result ((i : ℕ) → place ≤ i → i < 64 → bit_at word i ≡ 0) }
 {
-    let rest = word & (u64::MAX << place);
+    let rest = word >> place;
     if rest == 0 {
         None
     } else {
@@ -111,7 +111,7 @@ impl ClassSet {
             return None;
         }
         if let Some(bit) = lowest_from(words[first as usize], from % 64) {
-            return Some(64 * first + bit);
+            return Some(from + bit);
         }
         for at in first + 1..4 {
             if let Some(bit) = lowest_from(words[at as usize], 0) {

@@ -1,12 +1,8 @@
-use Rattle.std.proofs.Common.{◌-◌, ◌*◌, ◌%◌, ◌^◌, arith}
-use Rattle.std.proofs.lemmas.Nat.{and_le_l}
 use Rattle.class_sets.proofs.Marks.{lowest_left, none_left}
 use Rattle.class_sets.proofs.set.lowest_from.Goals as goal
 
 pub returns-then-rest-eq0-clause-none : goal.returns-then-rest-eq0-clause-none
-returns-then-rest-eq0-clause-none c = none_left c.args.word c.args.place c.requires c.if-rest-eq0.true
+returns-then-rest-eq0-clause-none c = none_left c.args.word c.args.place c.if-rest-eq0.true
 
 pub returns-else-rest-eq0-clause-some : goal.returns-else-rest-eq0-clause-some
-returns-else-rest-eq0-clause-some c =
-    let low = and_le_l c.args.word ((2 ^ 64 - 1) * 2 ^ c.args.place % 2 ^ 64) in
-    lowest_left c.args.word c.args.place c.requires c.if-rest-eq0.false (omega (arith, low, c.ranges.word.fits))
+returns-else-rest-eq0-clause-some c = lowest_left c.args.word c.args.place c.if-rest-eq0.false c.ranges.word.fits

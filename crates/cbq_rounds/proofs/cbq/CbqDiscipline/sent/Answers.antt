@@ -118,7 +118,7 @@ returns-clause-history g c =
     sent_stands g.Q.QueueRule.stands g.Q.QueueRule.says w g.Q.QueueRule.most c.take.new.self c.tell.new.self c.max-end.result c.is_none-emptied.result c.take.ensures.same
     (c.take.ensures.told h s.told _ _ refl refl)
     (none_of c.head.result c.is_none-emptied.result c.is_none-emptied.ensures ∙ ap (λ (e : Option Entry). is_none e) c.head.ensures)
-    (c.max-end.ensures ∙ ap (λ (n : ℕ). max n c.last_end.result) c.end_of.ensures.end
+    (c.max-end.ensures ∙ ap (λ (n : ℕ). max n c.last_end.result) c.requires.end
     ∙ ap (λ (n : ℕ). max (end_of c.args.clock.now.rate c.args.clock.now.link c.args.sending.start c.args.sending.len) n) c.last_end.ensures.end
     ∙ kept_end g.Q.QueueRule.stands g.Q.QueueRule.says w)
     steps)
