@@ -5,4 +5,4 @@ pub mod Ranks
 pub mod Kept
 pub mod Orders
 pub mod Subsets
-pub mod Rekeyed
+pub mod Moved

@@ -1,7 +1,6 @@
 -- The same order as facts, and what a binary search knows on its way.
-use Rattle.std.specs.Prelude.{◌≡◌, ◌<◌, ◌≤◌, ◌-◌, ℕ, true, false, List, [], ◌∷◌, length, slice_index, Option}
-use Rattle.hfsc_model.specs.RealTime.{goes_first}
-use Rattle.ranking.specs.Order.{is_before, key_of}
+use Rattle.std.specs.Prelude.{◌≡◌, ◌<◌, ◌≤◌, ℕ, true, false, List, [], ◌∷◌, length, slice_index, Option}
+use Rattle.ranking.specs.Order.{is_before}
 
 -- a class goes before each of these
 abbrev pub IsBeforeAll : List (Option ℕ) → ℕ → List ℕ → Type 0
@@ -22,11 +21,3 @@ pub record IsFound (keys : List (Option ℕ)) (order : List ℕ) (class low high
   pub within : high ≤ length order
   pub before : (k : ℕ) → k < low → is_before keys (slice_index order k) class ≡ true
   pub from : (k : ℕ) → high ≤ k → k < length order → is_before keys (slice_index order k) class ≡ false
-
--- a class with this key goes behind the class before a place, where there is one
-abbrev pub IsBehind : List (Option ℕ) → List ℕ → (place class : ℕ) → Option ℕ → Type 0
-IsBehind keys order place class key = 0 < place → goes_first (key_of keys (slice_index order (place - 1))) (slice_index order (place - 1)) key class ≡ true
-
--- and before the class at a place, where there is one
-abbrev pub IsAhead : List (Option ℕ) → List ℕ → (place class : ℕ) → Option ℕ → Type 0
-IsAhead keys order place class key = place < length order → goes_first key class (key_of keys (slice_index order place)) (slice_index order place) ≡ true

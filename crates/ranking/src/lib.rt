@@ -4,18 +4,19 @@
 //! earlier in the file goes first. Places are found by binary search, and `reserve` takes all memory.
 #![tactic(auto)]
 
-ghost use Rattle.std.specs.Prelude.{◌≡◌, ◌==◌, ◌<◌, ◌≤◌, ◌^◌, ℕ, [], length, true, false, slice_set, None, IfOk, if◌then◌else◌};
-ghost use Rattle.std.specs.Vec.{vec_len, vec_capacity};
-ghost use Rattle.std.specs.List.{insert, remove};
+ghost use Rattle.std.specs.Prelude.{◌≡◌, ◌==◌, ◌≤◌, ◌<◌, ℕ, [], length, true, false, slice_set, IfOk, if◌then◌else◌};
+ghost use Rattle.std.specs.Vec.{vec_capacity};
 ghost use Rattle.ranking.specs.Search.{IsFound};
 ghost use Rattle.ranking.specs.Order.{is_before, is_ranked, are_below, is_in, key_of, with_class, without};
 
 use play_base::NoMemory;
 use std::alloc::Global;
 
+mod moves;
 mod search;
 
-use search::{goes_before, is_ahead, is_behind, place_in, place_of};
+use moves::{move_to, put_at, take_at};
+use search::{goes_before, place_beside, place_in, place_of};
 
 /// Some of the classes from 0 on, in the order of their keys.
 ///
@@ -89,17 +90,22 @@ impl Ranking {
     }
 
     /// Takes a class out where it `was` there, and puts it in with a key where it `is` to be there. It takes the time of
-    /// `take` and `put`, and constant time where the class stays with the key that it has. A class that keeps its place moves
-    /// no other.
+    /// `take` and `put`; a class that stays there moves only those between its places.
     pub fn replace(&mut self, class: u32, was: bool, is: bool, key: Option<u128>)
         requires class { class < length (keys_of self.old) }
         requires was { is_in class (order_of self.old) ≡ was }
         ensures { IsReplaced class is key self.old self.new }
     {
-        if self.leave(class, was, is, key) {
+        if !was {
+            self.put_if(class, is, key);
             return;
         }
-        self.put_if(class, is, key);
+        let from = place_in(&self.order, &self.keys, class);
+        if is {
+            self.shift(class, from, key);
+        } else {
+            self.take_found(class, from);
+        }
     }
 
     /// Gives a class that is not there a key. Constant time.
@@ -124,50 +130,17 @@ impl Ranking {
         take_at(&mut self.order, place);
     }
 
-    /// Whether a class that was found at a place keeps it with another key: it still goes between its neighbours.
-    fn stays(&self, class: u32, place: usize, key: Option<u128>) -> bool
-        requires class { class < length (keys_of self.now) }
-        requires there { is_in class (order_of self.now) ≡ true }
-        requires found { IsFound (keys_of self.now) (order_of self.now) class place place }
-        ensures { result ≡ true → is_ranked (slice_set (keys_of self.now) class key) (order_of self.now) ≡ true }
-    {
-        is_behind(&self.order, &self.keys, place, class, key)
-            && is_ahead(&self.order, &self.keys, place + 1, class, key)
-    }
-
-    /// Gives a class another key with which it keeps its place.
-    fn rekey(&mut self, class: u32, key: Option<u128>)
+    /// Gives a class that is there another key, and moves it past those that stand between its places.
+    fn shift(&mut self, class: u32, from: usize, key: Option<u128>)
         requires class { class < length (keys_of self.old) }
-        requires stays { is_ranked (slice_set (keys_of self.old) class key) (order_of self.old) ≡ true }
-        ensures keys { keys_of self.new ≡ slice_set (keys_of self.old) class key }
-        ensures order { order_of self.new ≡ order_of self.old }
+        requires there { is_in class (order_of self.old) ≡ true }
+        requires found { IsFound (keys_of self.old) (order_of self.old) class from from }
+        ensures { IsReplaced class true key self.old self.new }
     {
         let index = class as usize;
         self.keys[index] = key;
-    }
-
-    /// Takes a class out where it `was` there, and answers no; but one that keeps its place with the key with which it `is` to be
-    /// there gets that key, and the answer is yes.
-    fn leave(&mut self, class: u32, was: bool, is: bool, key: Option<u128>) -> bool
-        requires class { class < length (keys_of self.old) }
-        requires was { is_in class (order_of self.old) ≡ was }
-        ensures stays { result ≡ true → IsReplaced class is key self.old self.new }
-        ensures keys { result ≡ false → keys_of self.new ≡ keys_of self.old }
-        ensures classes { result ≡ false → (c : ℕ) → is_in c (order_of self.new) ≡ (if class == c then false else is_in c (order_of self.old)) }
-    {
-        if !was {
-            return false;
-        }
-        if is && self.key(class) == key {
-            return true;
-        }
-        let place = place_in(&self.order, &self.keys, class);
-        if is && self.stays(class, place, key) {
-            self.rekey(class, key);
-            return true;
-        }
-        self.take_found(class, place);
-        false
+        let to = place_beside(&self.order, &self.keys, from, class, key);
+        move_to(&mut self.order, from, to, class);
     }
 
     /// Puts a class in with a key, where it is to be there.
@@ -182,32 +155,5 @@ impl Ranking {
         if is {
             self.put(class, key);
         }
-    }
-}
-
-/// Puts a class in at a place. At the end nothing moves.
-fn put_at(order: &mut Vec<u32>, place: usize, class: u32)
-    requires place { place ≤ length order.old.items }
-    requires room { vec_len order.old < vec_capacity order.old }
-    ensures items { order.new.items ≡ insert order.old.items place class }
-    ensures capacity { vec_capacity order.old ≤ vec_capacity order.new }
-{
-    if place == order.len() {
-        let _ = order.push(class);
-    } else {
-        let _ = order.insert(place, class);
-    }
-}
-
-/// Takes out what stands at a place. At the end nothing moves.
-fn take_at(order: &mut Vec<u32>, place: usize)
-    requires { place < length order.old.items }
-    ensures items { order.new.items ≡ remove order.old.items place }
-    ensures capacity { vec_capacity order.new ≡ vec_capacity order.old }
-{
-    if place + 1 == order.len() {
-        let _ = order.pop();
-    } else {
-        let _ = order.remove(place);
     }
 }

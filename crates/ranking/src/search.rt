@@ -1,8 +1,9 @@
 //! The place of a class in a list in the order of the keys.
-ghost use Rattle.std.specs.Prelude.{◌≡◌, ◌≤◌, length, true};
+ghost use Rattle.std.specs.Prelude.{◌≡◌, ◌+◌, ◌-◌, ◌<◌, length, slice_index, true};
+ghost use Rattle.std.specs.List.{remove};
 ghost use Rattle.hfsc_model.specs.RealTime.{goes_first, is_earlier};
 ghost use Rattle.ranking.specs.Order.{is_before, is_ranked, key_of};
-ghost use Rattle.ranking.specs.Search.{IsAhead, IsBehind, IsFound};
+ghost use Rattle.ranking.specs.Search.{IsFound};
 
 /// Whether the first moment is before the second, where `None` means never.
 fn is_earlier(a: Option<u128>, b: Option<u128>) -> bool
@@ -85,37 +86,68 @@ pub fn place_in(order: &[u32], keys: &[Option<u128>], class: u32) -> usize
     place_of(order, keys, class, key_of(keys, class))
 }
 
-/// Whether a class with a key goes behind the class before a place, where there is one.
-pub fn is_behind(
-    order: &[u32],
-    keys: &[Option<u128>],
-    place: usize,
-    class: u32,
-    key: Option<u128>,
-) -> bool
-    requires { place ≤ length order.now }
-    ensures { result ≡ true → IsBehind keys.now order.now place class key }
+/// The class at a place of a list without the one at `from`.
+fn other_at(order: &[u32], from: usize, place: usize) -> u32
+    requires from { from < length order.now }
+    requires place { place + 1 < length order.now }
+    ensures { result ≡ slice_index (remove order.now from) place }
 {
-    if place == 0 {
-        return true;
+    if place < from {
+        order[place]
+    } else {
+        order[place + 1]
     }
-    let other = order[place - 1];
-    goes_first(key_of(keys, other), other, key, class)
 }
 
-/// Whether a class with a key goes before the class at a place, where there is one.
-pub fn is_ahead(
+/// How many of the other classes go before a class that stands at `from`, with its new key. Where it goes behind the one before it,
+/// the one behind it is tried next: most keys grow a little.
+pub fn place_beside(
     order: &[u32],
     keys: &[Option<u128>],
-    place: usize,
+    from: usize,
     class: u32,
     key: Option<u128>,
-) -> bool
-    ensures { result ≡ true → IsAhead keys.now order.now place class key }
+) -> usize
+    requires from { from < length order.now }
+    requires ranked { is_ranked keys.now (remove order.now from) ≡ true }
+    requires key { key ≡ key_of keys.now class }
+    ensures { IsFound keys.now (remove order.now from) class result result }
 {
-    if place >= order.len() {
-        return true;
+    let mut least = lowest_beside(order, keys, from, class, key);
+    let mut most = order.len() - 1;
+    let mut middle = least;
+    while least < most {
+        let other = other_at(order, from, middle);
+        if goes_first(key_of(keys, other), other, key, class) {
+            least = middle + 1;
+        } else {
+            most = middle;
+        }
+        middle = least + (most - least) / 2;
     }
-    let other = order[place];
-    goes_first(key, class, key_of(keys, other), other)
+    least
+}
+
+/// How many of the other classes go before it at least: those before it, where it goes behind the one before it.
+fn lowest_beside(
+    order: &[u32],
+    keys: &[Option<u128>],
+    from: usize,
+    class: u32,
+    key: Option<u128>,
+) -> usize
+    requires from { from < length order.now }
+    requires ranked { is_ranked keys.now (remove order.now from) ≡ true }
+    requires key { key ≡ key_of keys.now class }
+    ensures { IsFound keys.now (remove order.now from) class result (length order.now - 1) }
+{
+    if from == 0 {
+        return 0;
+    }
+    let other = order[from - 1];
+    if goes_first(key_of(keys, other), other, key, class) {
+        from
+    } else {
+        0
+    }
 }
