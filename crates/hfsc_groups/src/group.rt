@@ -75,6 +75,7 @@ impl Group {
 
     /// Puts a child anew into its lists, with its virtual time, not less than before, and the moment from which it opens.
     /// `was` and `is` say whether it was active, and is now. It takes the logarithm of the active children, which it moves.
+    #[inline(always)]
     pub fn replace(&mut self, class: u32, was: bool, is: bool, time: u128, opens: Option<u128>)
         requires { MayChange class was self.old }
         ensures { IsChanged class is time opens self.old self.new }
@@ -107,6 +108,7 @@ fn is_late(moment: Option<u128>) -> bool
 
 /// Puts a child anew into the list by the moments from which children open, where those that open at once do not stand;
 /// `was` and `is` say whether it was active, and is now.
+#[inline(always)]
 fn delay(moments: &mut Ranking, class: u32, was: bool, is: bool, opens: Option<u128>)
     requires { MayDelay class was moments.old }
     ensures { IsDelayed class is opens moments.old moments.new }

@@ -13,6 +13,7 @@ use std::alloc::Global;
 
 /// Puts a class anew into the lists of its parent, with its virtual time and the moment from which it opens; `was` says
 /// whether it was active before. A root stands in no list. It takes the logarithm of its active siblings, which it moves.
+#[inline(always)]
 pub fn rank(groups: &mut Vec<Group>, class: u32, was: bool, node: &Node)
     requires { MayRank class was node.now groups.old.items }
     ensures { AreRanked class node.now groups.old.items groups.new.items }

@@ -14,11 +14,11 @@ use Rattle.hfsc_model.specs.Limit.{arrivals_of, is_within, within}
 use Rattle.hfsc_laws.proofs.Tree.{same_truth, under_self}
 use Rattle.hfsc_groups.specs.declared.node.Node.{Node}
 use Rattle.hfsc_groups.specs.Classes.{AreClasses, opens_under}
-use Rattle.hfsc_groups.specs.Node.{NodeStands}
+use Rattle.hfsc_groups.specs.Node.{NodeStands, active_in, opens_in}
 use Rattle.hfsc_groups.proofs.Under.{under_low, under_trans, in_line, parent_over}
 use Rattle.hfsc_groups.proofs.Opening.{Opens, IsOpened, opens_is, is_opens, Waits, waits_is, is_waits, active_is, is_active}
 use Rattle.hfsc_groups.proofs.Places.{get_here}
-use Rattle.hfsc_share.specs.Walk.{Walks, is_over, IsLeafThat}
+use Rattle.hfsc_share.specs.Walk.{Walks, is_over, IsLeafThat, IsOpenIn}
 use Rattle.hfsc_share.proofs.Waking.{NodeHas, stands_has, woken_active}
 use Rattle.hfsc_share.proofs.Steps.{Taking, IsTaking}
 
@@ -115,22 +115,26 @@ from_leaf w now c d s u o =
     each y k l (inr m) =
         sym (within_same w now y (active_over w y x.one v.leaf_is k v.waiting)) ∙ o.within y (under_trans w.classes y c w.leaf s.classes.tree m s.on_path) l
 
+-- what was open stays so
+open_stays : (w : Way) (now d : ℕ) → IsLeafThat w.classes w.history w.leaf false → opens_under w.classes w.history now d ≡ true → opens_under w.classes (longer w) now d ≡ true
+open_stays w now d leaf_is e =
+    let x = opens_is w.classes w.history now d e in
+    let v = waits_is w.classes w.history d x.one x.opens.waits in
+    from_before w now d x.one (λ same. idle x.one v.leaf_is v.waiting same) x.opens
+  where
+    idle : (one : ℕ) → is_leaf w.classes one ≡ true → is_waiting (leaf w.history one).waiting ≡ true → one ≡ w.leaf → ⊥
+    idle one l k same =
+        let a : active w.classes w.history one ≡ true = active_over w one one l (under_self w.classes one) k in
+        let b : active w.classes w.history w.leaf ≡ true = subst (λ m. active w.classes w.history m ≡ true) same a in
+        let no = leaf_is.waits_is in
+        cc
+
 -- so what stands over the class opens as before
 opens_same : (w : Way) (now c d : ℕ) → IsSteady w now c → is_under w.classes d c ≡ true → opens_under w.classes (longer w) now d ≡ opens_under w.classes w.history now d
 opens_same w now c d s u = same_truth (opens_under w.classes (longer w) now d) (opens_under w.classes w.history now d) back there
   where
     there : opens_under w.classes w.history now d ≡ true → opens_under w.classes (longer w) now d ≡ true
-    there e =
-        let x = opens_is w.classes w.history now d e in
-        let v = waits_is w.classes w.history d x.one x.opens.waits in
-        from_before w now d x.one (λ same. idle x.one v.leaf_is v.waiting same) x.opens
-      where
-        idle : (one : ℕ) → is_leaf w.classes one ≡ true → is_waiting (leaf w.history one).waiting ≡ true → one ≡ w.leaf → ⊥
-        idle one l k same =
-            let a : active w.classes w.history one ≡ true = active_over w one one l (under_self w.classes one) k in
-            let b : active w.classes w.history w.leaf ≡ true = subst (λ m. active w.classes w.history m ≡ true) same a in
-            let no = s.leaf_is.waits_is in
-            cc
+    there e = open_stays w now d s.leaf_is e
 
     back : opens_under w.classes (longer w) now d ≡ true → opens_under w.classes w.history now d ≡ true
     back e = go (x.one == w.leaf) refl
@@ -244,3 +248,65 @@ stops w last t l s old new =
             let high = old.classes.tree.earlier t.class p e in
             absurd (omega arith)
         go false u = refl
+
+-- a class that was active and open already stands for the longer history as it is
+open_settled : (w : Way) (last c : ℕ) (x : Node) → IsLeafThat w.classes w.history w.leaf false → is_under w.classes c w.leaf ≡ true
+    → NodeStands w.classes w.history last c x → x.active ≡ true → x.opens ≡ Some 0 → IsSettled w last c x x
+open_settled w last c x l u h a o = record {
+  before = h;
+  after = record {
+    parent = has.parent;
+    share = has.share;
+    limit = has.limit;
+    total = has.total;
+    active = has.active;
+    time = has.time;
+    opens = λ b. record {
+      some = (h.opens a).some;
+      from = λ now later. open_stays w now c l (was now later) ∙ sym (come now);
+    };
+  };
+  was = a;
+  is = a;
+  opens = refl;
+}
+  where
+    has : NodeHas w.classes (longer w) c x
+    has = woken_active w.classes w.history w.leaf w.at w.len c x l.leaf_is u (stands_has w.classes w.history last c x h) a
+
+    come : (now : ℕ) → has_come x.opens now ≡ true
+    come now = ap (λ (t : Option ℕ). has_come t now) o ∙ zero_come now
+      where
+        zero_come : (n : ℕ) → has_come (Some 0) n ≡ true
+        zero_come n = grind (arith, nat_tests)
+
+    was : (now : ℕ) → last ≤ now → opens_under w.classes w.history now c ≡ true
+    was now later = (h.opens a).from now later ∙ come now
+
+-- so the walk ends at such a class
+pub open_ends : (w : Way) (last c : ℕ) (nodes : List Node) → IsOpenIn nodes c → IsLeafThat w.classes w.history w.leaf false
+    → Walks w.classes w.history (longer w) last w.leaf (Some c) nodes → Walks w.classes w.history (longer w) last w.leaf None nodes
+open_ends w last c nodes is_open l k = go (slice_get nodes c) refl
+  where
+    go : (o : Option Node) → slice_get nodes c ≡ o → Walks w.classes w.history (longer w) last w.leaf None nodes
+    go None e = absurd (let no = sym (ap active_in e) ∙ is_open.active in cc)
+    go (Some x) e = record {
+      classes = k.classes;
+      count = k.count;
+      small = k.small;
+      arrivals = k.arrivals;
+      on_path = λ p f. absurd cc;
+      before = λ d z at o. absurd cc;
+      after = λ d z at o. each d z at (is_under w.classes d c) refl;
+    }
+      where
+        u : is_under w.classes c w.leaf ≡ true
+        u = k.on_path c refl
+
+        settled : IsSettled w last c x x
+        settled =
+            open_settled w last c x l u (k.before c x e (under_self w.classes c)) (sym (ap active_in e) ∙ is_open.active) (sym (ap opens_in e) ∙ is_open.opens)
+
+        each : (d : ℕ) (z : Node) → slice_get nodes d ≡ Some z → (b : Bool) → is_under w.classes d c ≡ b → NodeStands w.classes (longer w) last d z
+        each d z at true v = over_stands w last c d x x z k.classes l u settled v (k.before d z at v)
+        each d z at false v = k.after d z at v

@@ -9,7 +9,7 @@ use Rattle.hfsc_model.specs.Limit.{arrivals_of}
 use Rattle.hfsc_groups.specs.declared.node.Node.{Node}
 use Rattle.hfsc_groups.specs.declared.group.Group.{Group}
 use Rattle.hfsc_groups.specs.Classes.{AreClasses, AreSmall}
-use Rattle.hfsc_groups.specs.Node.{NodeStands, parent_in, active_in, time_in}
+use Rattle.hfsc_groups.specs.Node.{NodeStands, parent_in, active_in, opens_in, time_in}
 use Rattle.hfsc_groups.specs.Group.{first_moment, ranked_in}
 
 -- c is the next class of the walk or stands above it
@@ -38,6 +38,11 @@ pub record IsStep (class : ℕ) (old new : List Node) : Type 0 where
   pub count : length new ≡ length old
   pub parents : (c : ℕ) → parent_in (slice_get new c) ≡ parent_in (slice_get old c)
   pub others : (c : ℕ) → (c ≡ class → ⊥) → active_in (slice_get new c) ≡ active_in (slice_get old c)
+
+-- a class that is active and opens at once
+pub record IsOpenIn (nodes : List Node) (c : ℕ) : Type 0 where
+  pub active : active_in (slice_get nodes c) ≡ true
+  pub opens : opens_in (slice_get nodes c) ≡ Some 0
 
 -- the last of a list that begins with c
 abbrev pub last_of : ℕ → List ℕ → ℕ

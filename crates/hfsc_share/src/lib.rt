@@ -19,7 +19,7 @@ ghost use Rattle.hfsc_model.specs.Limit.{share_pick};
 ghost use Rattle.hfsc_groups.specs.Classes.{AreClasses, AreSmall, IsSoonest, waits_in};
 ghost use Rattle.hfsc_groups.specs.Node.{AreParentsFirst, AreLimitsBy, time_in};
 ghost use Rattle.hfsc_groups.specs.Group.{AreRanked, GroupsHold, MayRank, ranked_in};
-ghost use Rattle.hfsc_share.specs.Walk.{IsLeafThat, IsStep, Walks, has_ranked, moment_of, start_among, start_below};
+ghost use Rattle.hfsc_share.specs.Walk.{IsLeafThat, IsOpenIn, IsStep, Walks, has_ranked, moment_of, start_among, start_below};
 
 use hfsc_groups::{Group, Node, groups_of, has_come, nodes_of, rank};
 use hfsc_model::HfscClass;
@@ -138,8 +138,35 @@ impl Shares {
     }
 
     /// A packet was kept below a class: the class becomes active if it was not, and opens anew. Answers its parent, or nothing
-    /// where the class was active and opens as before: then all above it is as it was.
+    /// where the class was active and open already, or opens as before: then all above it is as it was.
+    #[inline(always)]
     fn wake_class(&mut self, class: u32) -> Option<u32>
+        requires { class < classes_of self.old }
+        ensures walks { (cs : List HfscClass) (h : HfscHistory) (leaf len : ℕ) → IsLeafThat cs h leaf false
+            → Walks cs h (Enqueued leaf (last_wake self.old) len ∷ h) (last_wake self.old) leaf (Some class) self.old.nodes.items
+            → Walks cs h (Enqueued leaf (last_wake self.old) len ∷ h) (last_wake self.old) leaf result self.new.nodes.items }
+        ensures step { IsStep class self.old.nodes.items self.new.nodes.items }
+        ensures active { is_active_at self.new class ≡ true }
+        ensures woken { last_wake self.new ≡ last_wake self.old }
+        ensures parent { (p : ℕ) → result ≡ Some p → parent_at self.old class ≡ Some p }
+    {
+        if self.is_open(class) {
+            return None;
+        }
+        self.take_in(class)
+    }
+
+    /// Whether a class is active, and was open at the last event.
+    fn is_open(&self, class: u32) -> bool
+        requires { class < classes_of self.now }
+        ensures { result ≡ true → IsOpenIn self.now.nodes.items class }
+    {
+        let node = &self.nodes[class as usize];
+        node.is_active() && node.opens() == Some(0)
+    }
+
+    /// What `wake_class` does of a class that is not open already.
+    fn take_in(&mut self, class: u32) -> Option<u32>
         requires { class < classes_of self.old }
         ensures walks { (cs : List HfscClass) (h : HfscHistory) (leaf len : ℕ) → IsLeafThat cs h leaf false
             → Walks cs h (Enqueued leaf (last_wake self.old) len ∷ h) (last_wake self.old) leaf (Some class) self.old.nodes.items
@@ -175,6 +202,7 @@ impl Shares {
     }
 
     /// Units were sent below a class: `waits` says that a packet waits in itself. Answers its parent.
+    #[inline(always)]
     fn serve_class(&mut self, class: u32, amount: u128, waits: bool) -> Option<u32>
         requires class { class < classes_of self.old }
         requires amount { amount < 2 ^ 100 }
