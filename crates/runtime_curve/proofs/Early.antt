@@ -71,7 +71,7 @@ both_for_all s h os t x y k = go (nat_le s.m2 s.m1) refl
     qt = let one : h.flat.at ≤ h.last.at = (up_to_last h.flat h.last os y.flat_in y.up_to).at in omega arith
 
     go : (b : Bool) → nat_le s.m2 s.m1 ≡ b → Reaches (if b then s else straight s.m2) (h.steep ∷ h.flat ∷ []) t x → Reaches (if b then s else straight s.m2) os t x
-    go true e r = falling_all s h.steep h.flat t x os (grind (arith, e)) pt qt come y.steep_low y.flat_low r.0 r.1.0
+    go true e r = falling_all s h.steep h.flat t x os (grind (arith, e)) pt qt come (y.steep_low (grind (arith, e))) y.flat_low r.0 r.1.0
     go false e r = straight_all s.m2 h.flat t x os qt come y.flat_low r.1.0
 
 all_for_both : (s e : Curve) (h : Held) (os : List Opening) (t x : ℕ) → StandFor s h os → Reaches e os t x → Reaches e (h.steep ∷ h.flat ∷ []) t x

@@ -40,7 +40,7 @@ up_to_itself o = record { at = omega arith; count = omega arith }
 
 pub first_stands : (s : Curve) (o : Opening) (os : List Opening) → os ≡ [] → StandFor s (held_one o) (o ∷ os)
 first_stands s o os e = subst (λ (l : List Opening). StandFor s (held_one o) (o ∷ l)) (sym e)
-    (record { steep_in = inl refl; flat_in = inl refl; steep_low = (omega arith, tt); flat_low = (omega arith, tt); last = refl; up_to = (up_to_itself o, tt) })
+    (record { steep_in = inl refl; flat_in = inl refl; steep_low = λ e. (omega arith, tt); flat_low = (omega arith, tt); last = refl; up_to = (up_to_itself o, tt) })
 
 -- a line that has risen by less than the slope gives in the time between two openings is lower from the second on
 pub gained : (m : ℕ) (old new : Opening) → IsUpTo new old → m * (new.at - old.at) + m * old.at ≡ m * new.at
@@ -61,13 +61,36 @@ pub record IsLower (m : ℕ) (old new r : Opening) : Type 0 where
   pub low : (os : List Opening) → LowerThanAll m old os → LowerThanAll m r (new ∷ os)
   pub one : (os : List Opening) → IsOneOf old os → IsOneOf r (new ∷ os)
 
+-- the openings that are held stand for one opening more, by the lower of two by each slope
+more_up_to : (h r : Held) (new : Opening) (os : List Opening) → IsUpTo new h.last → r.last ≡ new → AreUpTo h.last os → AreUpTo r.last (new ∷ os)
+more_up_to h r new os k e x = subst (λ (y : Opening). AreUpTo y (new ∷ os)) (sym e) (up_to_itself new, up_to_more h.last new os k x)
+
+new_last : (r : Held) (new : Opening) → r.last ≡ new → Some new ≡ Some r.last
+new_last r new e = subst (λ (y : Opening). Some new ≡ Some y) (sym e) refl
+
 pub more_stand : (s : Curve) (h r : Held) (new : Opening) (os : List Opening) → StandFor s h os → IsUpTo new h.last → r.last ≡ new
     → IsLower s.m1 h.steep new r.steep → IsLower s.m2 h.flat new r.flat → StandFor s r (new ∷ os)
 more_stand s h r new os x k e f g = record {
   steep_in = f.one os x.steep_in;
   flat_in = g.one os x.flat_in;
-  steep_low = f.low os x.steep_low;
+  steep_low = λ falls. f.low os (x.steep_low falls);
   flat_low = g.low os x.flat_low;
-  last = subst (λ (y : Opening). Some new ≡ Some y) (sym e) refl;
-  up_to = subst (λ (y : Opening). AreUpTo y (new ∷ os)) (sym e) (up_to_itself new, up_to_more h.last new os k x.up_to);
+  last = new_last r new e;
+  up_to = more_up_to h r new os k e x.up_to;
 }
+
+-- where the slope does not fall, by that of the second slope alone
+pub one_stands : (s : Curve) (h r : Held) (new : Opening) (os : List Opening) → StandFor s h os → IsUpTo new h.last → r.last ≡ new
+    → s.m1 ≤ s.m2 → r.steep ≡ r.flat → IsLower s.m2 h.flat new r.flat → StandFor s r (new ∷ os)
+one_stands s h r new os x k e rises same g = record {
+  steep_in = subst (λ (y : Opening). IsOneOf y (new ∷ os)) (sym same) (g.one os x.flat_in);
+  flat_in = g.one os x.flat_in;
+  steep_low = λ falls. subst (λ (y : Opening). LowerThanAll s.m1 y (new ∷ os)) (sym same)
+      (subst (λ m. LowerThanAll m r.flat (new ∷ os)) (equal falls) (g.low os x.flat_low));
+  flat_low = g.low os x.flat_low;
+  last = new_last r new e;
+  up_to = more_up_to h r new os k e x.up_to;
+}
+  where
+    equal : s.m2 ≤ s.m1 → s.m2 ≡ s.m1
+    equal falls = omega arith

@@ -1,15 +1,17 @@
 -- The least over all openings is the least over two of them: the lowest by the first slope and the lowest by the second.
-use Rattle.std.proofs.Common.{◌≡◌, ◌≤◌, ◌<◌, ◌+◌, ◌-◌, ◌*◌, ◌⊎◌, inl, inr, ℕ, min, List, [], ◌∷◌, None, Some, refl, ap, sym, subst, arith}
+use Rattle.std.proofs.Common.{◌≡◌, ◌≤◌, ◌<◌, ◌+◌, ◌-◌, ◌*◌, ◌⊎◌, inl, inr, ℕ, min, max, true, List, [], ◌∷◌, None, Some, refl, ap, sym, subst, arith}
 use Rattle.std.specs.declared.option.Option.{Option}
 use Rattle.std.proofs.lemmas.Bool.{cases_lt}
+use Rattle.std.proofs.lemmas.Bool.Decides.{nat_tests}
 use Rattle.std.proofs.lemmas.Nat.{mul-le}
+use Rattle.std.specs.Prelude.{nat_le}
 use Rattle.service_curve.specs.declared.Curve.{Curve}
 use Rattle.service_curve.specs.Curve.{amount}
 use Rattle.service_curve.specs.Moment.{HasCome}
 use Rattle.service_curve.proofs.Amounts.{mul_mono, time_passed}
 use Rattle.runtime_curve.specs.declared.Opening.{Opening}
-use Rattle.runtime_curve.specs.Opening.{line, Reaches, RisesFromZero}
-use Rattle.runtime_curve.specs.Deadline.{deadline}
+use Rattle.runtime_curve.specs.Opening.{line, Reaches, RisesFromZero, eligible_curve}
+use Rattle.runtime_curve.specs.Deadline.{deadline, later_of, reached_at}
 use Rattle.runtime_curve.specs.declared.held.Held.{Held}
 use Rattle.runtime_curve.specs.Held.{Lower, LowerThanAll, IsOneOf, IsUpTo, AreUpTo, StandFor}
 use Rattle.runtime_curve.proofs.Deadlines.{deadline_comes, deadline_came}
@@ -135,17 +137,19 @@ slopes s f = go (cases_lt s.m1 s.m2)
     go (inl a) = inr (f a)
     go (inr a) = inl a
 
-one_reach : (s : Curve) (p q o : Opening) (t x : ℕ) → (s.m2 ≤ s.m1) ⊎ (s.m1 ≡ 0) → p.count < x → q.count < x → o.count < x
-    → Lower s.m1 p o → Lower s.m2 q o → x ≤ line s t p → x ≤ line s t q → x ≤ line s t o
-one_reach s p q o t x (inl h) a b c low lower f g = falling_reach s p q o t x h a b c low lower f g
-one_reach s p q o t x (inr h) a b c low lower f g = rising_reach s q o t x h b c lower g
-
-all_reach : (s : Curve) (h : Held) (t x : ℕ) (os : List Opening) → (s.m2 ≤ s.m1) ⊎ (s.m1 ≡ 0) → h.steep.count < x → h.flat.count < x → h.last.count < x
+fall_reach : (s : Curve) (h : Held) (t x : ℕ) (os : List Opening) → s.m2 ≤ s.m1 → h.steep.count < x → h.flat.count < x → h.last.count < x
     → AreUpTo h.last os → LowerThanAll s.m1 h.steep os → LowerThanAll s.m2 h.flat os → x ≤ line s t h.steep → x ≤ line s t h.flat → Reaches s os t x
-all_reach s h t x [] k a b c n low lower f g = tt
-all_reach s h t x (o ∷ os) k a b c n low lower f g =
+fall_reach s h t x [] k a b c n low lower f g = tt
+fall_reach s h t x (o ∷ os) k a b c n low lower f g =
     let below : o.count ≤ h.last.count = n.0.count in
-    (one_reach s h.steep h.flat o t x k a b (omega arith) low.0 lower.0 f g, all_reach s h t x os k a b c n.1 low.1 lower.1 f g)
+    (falling_reach s h.steep h.flat o t x k a b (omega arith) low.0 lower.0 f g, fall_reach s h t x os k a b c n.1 low.1 lower.1 f g)
+
+rise_reach : (s : Curve) (h : Held) (t x : ℕ) (os : List Opening) → s.m1 ≡ 0 → h.flat.count < x → h.last.count < x
+    → AreUpTo h.last os → LowerThanAll s.m2 h.flat os → x ≤ line s t h.flat → Reaches s os t x
+rise_reach s h t x [] e b c n lower g = tt
+rise_reach s h t x (o ∷ os) e b c n lower g =
+    let below : o.count ≤ h.last.count = n.0.count in
+    (rising_reach s h.flat o t x e b (omega arith) lower.0 g, rise_reach s h t x os e b c n.1 lower.1 g)
 
 pub one_of : (s : Curve) (p : Opening) (t x : ℕ) (os : List Opening) → IsOneOf p os → Reaches s os t x → x ≤ line s t p
 one_of s p t x [] i r = absurd i
@@ -169,7 +173,7 @@ pub two_deadline : (s : Curve) (h : Held) (os : List Opening) (x : ℕ) → Rise
 two_deadline s h os x k y n =
     same_moment (deadline s (h.steep ∷ h.flat ∷ []) x) (deadline s os x)
     (λ t c. let r = deadline_came s (h.steep ∷ h.flat ∷ []) t x c in
-    deadline_comes s os t x (all_reach s h t x os (slopes s k) (omega (arith, pc)) (omega (arith, qc)) n y.up_to y.steep_low y.flat_low r.0 r.1.0))
+    deadline_comes s os t x (all_reach (slopes s k) t r.0 r.1.0))
     (λ t c. let r = deadline_came s os t x c in
     deadline_comes s (h.steep ∷ h.flat ∷ []) t x (one_of s h.steep t x os y.steep_in r, (one_of s h.flat t x os y.flat_in r, tt)))
   where
@@ -178,3 +182,19 @@ two_deadline s h os x k y n =
 
     qc : h.flat.count ≤ h.last.count
     qc = (up_to_last h.flat h.last os y.flat_in y.up_to).count
+
+    all_reach : (s.m2 ≤ s.m1) ⊎ (s.m1 ≡ 0) → (t : ℕ) → x ≤ line s t h.steep → x ≤ line s t h.flat → Reaches s os t x
+    all_reach (inl f) t p q = fall_reach s h t x os f (omega (arith, pc)) (omega (arith, qc)) n y.up_to (y.steep_low f) y.flat_low p q
+    all_reach (inr e) t p q = rise_reach s h t x os e (omega (arith, qc)) n y.up_to y.flat_low q
+
+-- two openings that are one
+later_itself : (o : Option ℕ) → o ≡ later_of o (later_of o (Some 0))
+later_itself None = refl
+later_itself (Some t) = ap (λ n. Some n) (let e : t ≡ max t (max t 0) = omega arith in e)
+
+pub one_line : (s : Curve) (p q : Opening) (x : ℕ) → p ≡ q → reached_at s q x ≡ deadline s (p ∷ q ∷ []) x
+one_line s p q x e = subst (λ (o : Opening). reached_at s q x ≡ deadline s (o ∷ q ∷ []) x) (sym e) (later_itself (reached_at s q x))
+
+-- a slope that falls makes eligible by itself
+pub falls : (s : Curve) → (s.m1 ≤ s.m2 → ⊥) → eligible_curve s ≡ s
+falls s h = let e : nat_le s.m2 s.m1 ≡ true = grind (arith, nat_tests, h) in rw e refl

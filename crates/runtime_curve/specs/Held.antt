@@ -27,11 +27,16 @@ abbrev pub AreUpTo : Opening → List Opening → Type 0
 AreUpTo last [] = Unit {0}
 AreUpTo last (o ∷ os) = IsUpTo last o × AreUpTo last os
 
--- the lowest by each slope stand for all; the last is the newest, and no other is later or of greater count
+-- where the slope does not fall both lines are that of the second slope
+abbrev pub AreOne : Curve → Held → Type 0
+AreOne s h = s.m1 ≤ s.m2 → h.steep ≡ h.flat
+
+-- the lowest by each slope stand for all, the one by the first slope where the slope does not rise; the last is the newest,
+-- and no other is later or of greater count
 pub record StandFor (s : Curve) (h : Held) (os : List Opening) : Type 0 where
   pub steep_in : IsOneOf h.steep os
   pub flat_in : IsOneOf h.flat os
-  pub steep_low : LowerThanAll s.m1 h.steep os
+  pub steep_low : s.m2 ≤ s.m1 → LowerThanAll s.m1 h.steep os
   pub flat_low : LowerThanAll s.m2 h.flat os
   pub last : newest os ≡ Some h.last
   pub up_to : AreUpTo h.last os
@@ -56,6 +61,10 @@ AreWithin o = (h : Held) → o ≡ Some h → IsWithin h.steep × IsWithin h.fla
 -- none that is held is later than the last or of greater count
 abbrev pub AreOrdered : Option Held → Type 0
 AreOrdered o = (h : Held) → o ≡ Some h → IsUpTo h.last h.steep × IsUpTo h.last h.flat
+
+-- where there is an opening
+abbrev pub IsOneLine : Curve → Option Held → Type 0
+IsOneLine s o = (h : Held) → o ≡ Some h → AreOne s h
 
 -- an opening may follow those that are held
 abbrev pub MayFollow : Option Held → Opening → Type 0

@@ -3,7 +3,7 @@ ghost use Rattle.std.specs.Prelude.{◌≡◌, ◌≤◌, ◌^◌, ◌∷◌, []
 ghost use Rattle.service_curve.specs.Curve.{IsInRange};
 ghost use Rattle.runtime_curve.specs.declared.Opening.{Opening};
 ghost use Rattle.runtime_curve.specs.Opening.{IsWithin};
-ghost use Rattle.runtime_curve.specs.Held.{IsUpTo, LowerThanAll, IsOneOf, StandFor};
+ghost use Rattle.runtime_curve.specs.Held.{AreOne, IsUpTo, LowerThanAll, IsOneOf, StandFor};
 
 use crate::Opening;
 use service_curve::Curve;
@@ -33,7 +33,8 @@ fn keep_lower(slope: u64, kept: &mut Opening, new: Opening)
     }
 }
 
-/// One opening more, which may follow the last. What is held changes in its place.
+/// One opening more, which may follow the last. What is held changes in its place. Where the slope does not fall the line of the
+/// second slope alone counts, and both openings are the one whose line it is.
 pub fn add_opening(curve: &Curve, held: &mut Held, new: Opening)
     requires in_range { IsInRange curve.now }
     requires new { IsWithin new }
@@ -47,11 +48,16 @@ pub fn add_opening(curve: &Curve, held: &mut Held, new: Opening)
     ensures steep_order { IsUpTo held.new.last held.new.steep }
     ensures flat_order { IsUpTo held.new.last held.new.flat }
     ensures last { held.new.last ≡ new }
+    ensures one { AreOne curve.now held.new }
     ensures opened { (os : List Opening) → StandFor curve.now held.old os → StandFor curve.now held.new (new ∷ os) }
 {
-    keep_lower(curve.m1, &mut held.steep, new);
     keep_lower(curve.m2, &mut held.flat, new);
     held.last = new;
+    if curve.m1 <= curve.m2 {
+        held.steep = held.flat;
+        return;
+    }
+    keep_lower(curve.m1, &mut held.steep, new);
 }
 
 /// The openings that stand for all, where there is one.
@@ -61,6 +67,7 @@ pub fn first_opening(new: Opening) -> Held
     ensures steep { result.steep ≡ new }
     ensures flat { result.flat ≡ new }
     ensures last { result.last ≡ new }
+    ensures one { (s : Curve) → AreOne s result }
     ensures opened { (s : Curve) (os : List Opening) → os ≡ [] → StandFor s result (new ∷ os) }
 {
     Held {

@@ -17,7 +17,7 @@ ghost use Rattle.service_curve.specs.Moment.{IsFirst, HasCome};
 ghost use Rattle.runtime_curve.specs.declared.Opening.{Opening};
 ghost use Rattle.runtime_curve.specs.Opening.{opening, RisesFromZero, least_over, IsAtLeast, Reaches, eligible_curve, IsFrom};
 ghost use Rattle.runtime_curve.specs.Deadline.{deadline, reaches, soonest};
-ghost use Rattle.runtime_curve.specs.Held.{AreOrdered, AreWithin, MayFollow};
+ghost use Rattle.runtime_curve.specs.Held.{AreOrdered, AreWithin, IsOneLine, MayFollow};
 
 use service_curve::Curve;
 
@@ -25,7 +25,7 @@ mod held;
 mod lines;
 
 use held::{Held, add_opening, first_opening};
-use lines::{both_allow, both_counted, eligible_curve, later_of, latest_of};
+use lines::{both_allow, both_counted, deadline_of, early_of, eligible_curve, later_of};
 
 /// A moment at which a class opened, in nanoseconds, and the units that it had been sent by real time before it.
 #[derive(Clone, Copy, Debug, PartialEq, Eq)]
@@ -46,6 +46,7 @@ pub struct Running {
     ghost slopes: { RisesFromZero curve },
     ghost within: { AreWithin held },
     ghost ordered: { AreOrdered held },
+    ghost one: { IsOneLine curve held },
 }
 
 impl Running {
@@ -93,7 +94,7 @@ impl Running {
     {
         match &self.held {
             None => Some(0),
-            Some(held) => latest_of(&self.curve, &held.steep, &held.flat, count),
+            Some(held) => deadline_of(&self.curve, held, count),
         }
     }
 
@@ -136,9 +137,7 @@ impl Running {
                 if both_counted(&held.steep, &held.flat, count) {
                     return Some(held.last.at);
                 }
-                let curve = eligible_curve(&self.curve);
-                let reached = latest_of(&curve, &held.steep, &held.flat, count);
-                later_of(reached, Some(held.last.at))
+                later_of(early_of(&self.curve, held, count), Some(held.last.at))
             }
         }
     }

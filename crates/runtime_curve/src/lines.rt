@@ -4,8 +4,10 @@ ghost use Rattle.service_curve.specs.declared.Curve.{Curve};
 ghost use Rattle.service_curve.specs.Curve.{IsInRange};
 ghost use Rattle.runtime_curve.specs.Opening.{IsWithin, line, eligible_curve};
 ghost use Rattle.runtime_curve.specs.Deadline.{later_of, reached_at, deadline, reaches};
+ghost use Rattle.runtime_curve.specs.Held.{AreOne};
 
 use crate::Opening;
+use crate::held::Held;
 use service_curve::Curve;
 
 /// The later of two moments, where `None` means never.
@@ -35,7 +37,7 @@ fn reached_at(curve: &Curve, opening: &Opening, count: u128) -> Option<u128>
 }
 
 /// The first moment up to which two openings allow a count. They often are one, whose moment is found once.
-pub fn latest_of(curve: &Curve, one: &Opening, other: &Opening, count: u128) -> Option<u128>
+fn latest_of(curve: &Curve, one: &Opening, other: &Opening, count: u128) -> Option<u128>
     requires in_range { IsInRange curve.now }
     requires one { IsWithin one.now }
     requires other { IsWithin other.now }
@@ -47,6 +49,38 @@ pub fn latest_of(curve: &Curve, one: &Opening, other: &Opening, count: u128) -> 
     }
     let reached = reached_at(curve, one, count);
     later_of(reached, later_of(reached_at(curve, other, count), Some(0)))
+}
+
+/// The first moment up to which the openings that stand for all allow a count. Where the slope does not fall they are one.
+#[tactic(auto, using(crate::proofs::TwoLines::one_line))]
+pub fn deadline_of(curve: &Curve, held: &Held, count: u128) -> Option<u128>
+    requires in_range { IsInRange curve.now }
+    requires steep { IsWithin held.now.steep }
+    requires flat { IsWithin held.now.flat }
+    requires one { AreOne curve.now held.now }
+    requires amount { count < 2 ^ 100 }
+    ensures { result ≡ deadline curve.now (held.now.steep ∷ held.now.flat ∷ []) count }
+{
+    if curve.m1 <= curve.m2 {
+        return reached_at(curve, &held.flat, count);
+    }
+    latest_of(curve, &held.steep, &held.flat, count)
+}
+
+/// The same by the curve that makes a class eligible.
+#[tactic(auto, using(crate::proofs::TwoLines::one_line, crate::proofs::TwoLines::falls))]
+pub fn early_of(curve: &Curve, held: &Held, count: u128) -> Option<u128>
+    requires in_range { IsInRange curve.now }
+    requires steep { IsWithin held.now.steep }
+    requires flat { IsWithin held.now.flat }
+    requires one { AreOne curve.now held.now }
+    requires amount { count < 2 ^ 100 }
+    ensures { result ≡ deadline (eligible_curve curve.now) (held.now.steep ∷ held.now.flat ∷ []) count }
+{
+    if curve.m1 <= curve.m2 {
+        return reached_at(&eligible_curve(curve), &held.flat, count);
+    }
+    latest_of(curve, &held.steep, &held.flat, count)
 }
 
 /// Whether two openings had a count already, and so allow it at every moment. Those of a class that just opened mostly do.

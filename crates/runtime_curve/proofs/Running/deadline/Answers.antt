@@ -14,7 +14,7 @@ returns-in-None-clause-now c = subst (λ (o : Option Held). Some 0 ≡ deadline 
 
 pub returns-in-Some-clause-now : goal.returns-in-Some-clause-now
 unfolding deadline_now
-returns-in-Some-clause-now c = subst (λ (o : Option Held). c.latest_of.result ≡ deadline c.args.self.now.curve (both o) c.args.count) (sym c.in-Some.is) c.latest_of.ensures
+returns-in-Some-clause-now c = subst (λ (o : Option Held). c.deadline_of.result ≡ deadline c.args.self.now.curve (both o) c.args.count) (sym c.in-Some.is) c.deadline_of.ensures
 
 pub returns-in-Some-clause-is : goal.returns-in-Some-clause-is
 returns-in-Some-clause-is c = λ s os stands. returns-in-Some-clause-now c ∙ deadline_stands c.args.self.now s os c.args.count stands c.requires.opened

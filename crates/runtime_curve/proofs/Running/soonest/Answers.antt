@@ -1,7 +1,6 @@
 use Rattle.std.proofs.Common.{refl, ap, sym, subst, arith, ◌≡◌, ◌∙◌}
 use Rattle.std.specs.Prelude.{ℕ, Some, max}
 use Rattle.std.specs.declared.option.Option.{Option}
-use Rattle.service_curve.specs.declared.Curve.{Curve}
 use Rattle.runtime_curve.specs.declared.held.Held.{Held}
 use Rattle.runtime_curve.specs.Opening.{eligible_curve}
 use Rattle.runtime_curve.specs.Deadline.{deadline, from_last, later_of}
@@ -19,9 +18,7 @@ pub returns-else-both_counted-clause-now : goal.returns-else-both_counted-clause
 unfolding soonest_now last_of
 returns-else-both_counted-clause-now c =
     subst (λ (o : Option Held). c.later_of.result ≡ from_last (last_held o) (deadline (eligible_curve c.args.self.now.curve) (both o) c.args.count)) (sym c.in-Some.is)
-    (subst (λ (x : Curve). c.later_of.result ≡ later_of (deadline x (both (Some c.in-Some.held)) c.args.count) (Some c.in-Some.held.last.at))
-    c.eligible_curve-curve.ensures.is
-    (c.later_of.ensures ∙ ap (λ (o : Option ℕ). later_of o (Some c.in-Some.held.last.at)) c.latest_of-reached.ensures))
+    (c.later_of.ensures ∙ ap (λ (o : Option ℕ). later_of o (Some c.in-Some.held.last.at)) c.early_of.ensures)
 
 pub returns-else-both_counted-clause-is : goal.returns-else-both_counted-clause-is
 returns-else-both_counted-clause-is c = λ s os stands. returns-else-both_counted-clause-now c ∙ soonest_stands c.args.self.now s os c.args.count stands c.requires.opened
