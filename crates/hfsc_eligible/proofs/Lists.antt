@@ -15,9 +15,10 @@ use Rattle.hfsc_model.specs.Leaf.{Leaf, Waiting, leaf, head_len, is_waiting, ope
 use Rattle.hfsc_model.specs.RealTime.{curve_of, has_head}
 use Rattle.hfsc_eligible.specs.declared.slot.Slot.{Slot}
 use Rattle.hfsc_eligible.specs.declared.Eligible.{Eligible}
-use Rattle.hfsc_eligible.specs.Real.{RealStands}
+use Rattle.hfsc_eligible.specs.Real.{RealStands, holds_head}
 use Rattle.hfsc_eligible.specs.Eligible.{StandsFor, head_at, head_in}
 use Rattle.runtime_curve.specs.declared.Opening.{Opening}
+use Rattle.runtime_curve.specs.declared.Running.{Running}
 use Rattle.ranking.proofs.Ranks.{same_test}
 use Rattle.std.proofs.lemmas.Option.{slice_get-get_or}
 use Rattle.hfsc_eligible.specs.Slot.{head_of, SlotStands, slot_has_head}
@@ -221,3 +222,14 @@ shared_stands e curves h class len start counted head stands k waits share next 
         subst (λ b. SlotStands (get_or e.slots.items c d) (curve_of curves c) (after_sent len b (leaf h c))) (sym share)
         (shared_slot (get_or e.slots.items c d) (curve_of curves c) (leaf h c) len head (stands.each c d n) was next after)
     go c d false f n = stands.each c d n
+
+-- a class without a head
+no_head : (real : Option Running) (head : Option ℕ) → head ≡ None → holds_head real head ≡ false
+no_head None head e = refl
+no_head (Some r) None e = refl
+no_head (Some r) (Some n) e = absurd cc
+
+pub is_absent : (f : Slot → Option ℕ) (e : Eligible) (class : ℕ) (x : Slot) (r : Ranking) → Holds f e.slots.items r → class < length e.slots.items
+    → head_at e class ≡ None → is_in class (order_of r) ≡ false
+is_absent f e class x r holds h none =
+    holds.heads class x h ∙ no_head (get_or e.slots.items class x).real (get_or e.slots.items class x).head (sym (head_of_slot e.slots.items class x h) ∙ none)

@@ -18,8 +18,8 @@ pub fn has_come(moment: Option<u128>, now: u128) -> bool
     }
 }
 
-/// Puts a class anew into the lists by deadline and by moment; `was` says whether it was there. A class without a curve is
-/// in neither, and costs nothing.
+/// Puts a class anew into the lists by deadline and by moment, or takes it out of them; `was` says whether it was there. A class
+/// without a curve is in neither, and costs nothing.
 pub fn rank(deadlines: &mut Ranking, moments: &mut Ranking, class: u32, was: bool, slot: &Slot)
     requires deadline_place { class < length (keys_of deadlines.old) }
     requires moment_place { class < length (keys_of moments.old) }
@@ -28,10 +28,13 @@ pub fn rank(deadlines: &mut Ranking, moments: &mut Ranking, class: u32, was: boo
     ensures deadlines { IsReplaced class (slot_has_head slot.now) (slot_deadline slot.now) deadlines.old deadlines.new }
     ensures moments { IsReplaced class (slot_has_head slot.now) (slot_soonest slot.now) moments.old moments.new }
 {
-    let is = slot.has_head();
-    if !was && !is {
+    if slot.has_head() {
+        deadlines.replace(class, was, true, slot.deadline());
+        moments.replace(class, was, true, slot.soonest());
         return;
     }
-    deadlines.replace(class, was, is, slot.deadline());
-    moments.replace(class, was, is, slot.soonest());
+    if was {
+        deadlines.replace(class, true, false, None);
+        moments.replace(class, true, false, None);
+    }
 }

@@ -83,9 +83,8 @@ impl Eligible {
         ensures others { IsSameBut class self.old self.new }
     {
         let slot = &mut self.slots[class as usize];
-        let was = slot.has_head();
         slot.keep(at, len);
-        rank(&mut self.deadlines, &mut self.moments, class, was, slot);
+        rank(&mut self.deadlines, &mut self.moments, class, false, slot);
     }
 
     /// The head of a class, of `len` bytes, was sent, by real time where `counted`. `head` is the length of the next one,

@@ -1,6 +1,6 @@
 use Rattle.std.proofs.Common.{◌∙◌, refl}
 use Rattle.hfsc_eligible.specs.Slot.{slot_deadline, slot_soonest}
-use Rattle.hfsc_eligible.proofs.Lists.{has_place, holds_changed, opened_stands, was_there}
+use Rattle.hfsc_eligible.proofs.Lists.{has_place, holds_changed, is_absent, opened_stands}
 use Rattle.hfsc_eligible.proofs.Same.{head_here, opened_here, same_but}
 use Rattle.hfsc_eligible.proofs.Eligible.open.Goals as goal
 
@@ -8,10 +8,10 @@ pub rank-requires : goal.rank-requires
 rank-requires c = record {
   deadline_place = has_place slot_deadline c.args.self.now.slots.items c.args.class c.args.self.now.deadlines c.args.self.now.by_deadline c.requires.class;
   moment_place = has_place slot_soonest c.args.self.now.slots.items c.args.class c.args.self.now.moments c.args.self.now.by_moment c.requires.class;
-  deadline_was = was_there slot_deadline c.args.self.now.slots.items c.args.class c.index_mut-slot.result.now c.has_head-was.result c.args.self.now.deadlines
-      c.args.self.now.by_deadline c.requires.class c.index_mut-slot.ensures.value c.has_head-was.ensures;
-  moment_was = was_there slot_soonest c.args.self.now.slots.items c.args.class c.index_mut-slot.result.now c.has_head-was.result c.args.self.now.moments
-      c.args.self.now.by_moment c.requires.class c.index_mut-slot.ensures.value c.has_head-was.ensures;
+  deadline_was = is_absent slot_deadline c.args.self.now c.args.class c.index_mut-slot.result.now c.args.self.now.deadlines c.args.self.now.by_deadline
+      c.requires.class c.requires.empty;
+  moment_was = is_absent slot_soonest c.args.self.now c.args.class c.index_mut-slot.result.now c.args.self.now.moments c.args.self.now.by_moment
+      c.requires.class c.requires.empty;
 }
 
 pub invariant_of-self : goal.invariant_of-self
