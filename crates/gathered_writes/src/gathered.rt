@@ -10,6 +10,7 @@ const BOUND: usize = 65_536;
 
 /// Adds bytes to those that are gathered for a file; where they would be too many, those before them are written first. A
 /// text longer than the bound is written by itself. After an error a front of all of it was written.
+#[inline(always)]
 #[tactic(auto, using(play_base::proofs::ViewLaws::same_trans, play_base::proofs::ViewLaws::same_refl))]
 pub fn gather<F: Files>(
     files: &mut F,
@@ -30,6 +31,26 @@ pub fn gather<F: Files>(
             Err(_) => Err(Trouble::NoMemory),
         };
     }
+    gather_anew(files, file, pending, bytes)
+}
+
+// Writes what is gathered, and gathers these bytes alone, or writes them too where they are longer than the bound.
+#[cold]
+#[inline(never)]
+#[tactic(auto, using(play_base::proofs::ViewLaws::same_trans, play_base::proofs::ViewLaws::same_refl))]
+fn gather_anew<F: Files>(
+    files: &mut F,
+    file: u32,
+    pending: &mut Vec<u8>,
+    bytes: &[u8],
+) -> Result<(), Trouble>
+    requires { IsSome ((F.view files.old).part file) }
+    ensures grew { OnOk result (Grew (F.view files.old) (F.view files.new) file pending.old.items pending.new.items bytes.now) }
+    ensures bounded { OnOk result (vec_len pending.new ≤ max (vec_len pending.old) 65536) }
+    ensures no_fault { OnOk result (SameCounts (F.view files.old) (F.view files.new)) }
+    ensures stopped { OnErr result (Stopped (F.view files.old) (F.view files.new) file pending.old.items bytes.now) }
+    ensures failed { IsErrOf result Trouble.Failed → WriteFault (F.view files.old) (F.view files.new) file }
+{
     match flush(files, file, pending) {
         Ok(()) => {}
         Err(trouble) => return Err(trouble),

@@ -85,6 +85,7 @@ impl Reader {
     /// the bytes that were taken. After any fault the reader answers that fault again and takes nothing. When a record is
     /// answered, at most 65,535 bytes past it were taken, and none where it stood in those taken before. Between this
     /// reader's calls nothing else may read from the file. Takes time in proportion to the bytes taken and the record's.
+    #[inline(always)]
     pub fn next<F: Files>(&mut self, files: &mut F) -> Result<Option<Record>, CaptureFault>
         requires there { IsSome ((F.view files.old).part self.old.file) }
         ensures record { IfOk result (λ answer. IfSome answer (λ r.

@@ -59,6 +59,7 @@ impl Progress {
 
     /// Offers the next arrival, which is due, to the class in which it was placed; its number is one more than that of the last one.
     /// The packet is kept, or handed back with the reason of its drop. Takes no memory.
+    #[inline(always)]
     pub fn offer<D: Discipline>(
         &mut self,
         discipline: &mut D,
@@ -103,6 +104,7 @@ impl Progress {
     /// The next event of the play, given the moment of the next arrival, if there is one: the offer of that arrival if it comes up to
     /// the least moment at which a class may send, else the sending at that moment, which is made if it ends before the clock does.
     /// Takes no memory, and one division.
+    #[inline(always)]
     pub fn turn<D: Discipline>(&mut self, discipline: &mut D, arrival: Option<u64>) -> Turn
         requires going { (arrived : List Captured) × (w : DrawnWords) × (g : List Happened) × IsGoing (D.policy discipline.old) (D.stands discipline.old) (D.lists discipline.old) (D.limits discipline.old) (D.link_rate discipline.old) arrived w self.old g }
         ensures turned { (arrived : List Captured) (w : DrawnWords) (g : List Happened)

@@ -59,6 +59,7 @@ fn send_at(clock: &LinkClock, start: u64, ticket: Ticket, class: u32, len: u32, 
 }
 
 // The sending that is due at a moment at which one is.
+#[inline(never)]
 fn what_is_sent<D: Discipline>(discipline: &mut D, clock: &LinkClock, till: u64) -> Step
     requires free { clock.now.link.free ≤ till }
     requires positive { 0 < clock.now.rate }

@@ -23,6 +23,7 @@ use play_text::Names;
 /// Makes every sending that is due before an arrival, or all where none is to come, adds their texts and tells of each; stops before one that
 /// would end too late. After an error each file holds a front of its text.
 #[tactic(auto, using(play_base::proofs::ViewLaws::same_trans, play_base::proofs::ViewLaws::same_refl))]
+#[inline(always)]
 pub fn send_due<D: Discipline, C: Classify, F: Files, K: Keeper>(
     progress: &mut Progress,
     discipline: &mut D,

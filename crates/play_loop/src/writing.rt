@@ -30,6 +30,7 @@ fn dress_packet<C: Classify>(classify: &C, departure: &mut Departure)
 /// Counts a packet that was sent, and adds its record, with the bytes with which it leaves, and then its row. After an error each file
 /// holds a front of its text.
 #[tactic(auto, using(play_base::proofs::ViewLaws::same_trans, play_base::proofs::ViewLaws::same_refl))]
+#[inline(always)]
 pub fn write_sent<C: Classify, F: Files>(
     files: &mut F,
     outputs: &mut Outputs,
@@ -70,6 +71,7 @@ pub fn write_sent<C: Classify, F: Files>(
 
 /// Counts a packet that was offered to a class and dropped, and adds its row. After an error each file holds a front of its text.
 #[tactic(auto, using(play_base::proofs::ViewLaws::same_trans, play_base::proofs::ViewLaws::same_refl))]
+#[inline(always)]
 pub fn write_dropped<F: Files>(
     files: &mut F,
     outputs: &mut Outputs,
