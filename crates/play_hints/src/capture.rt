@@ -1,26 +1,62 @@
 // What is wrong with a capture.
 
 use crate::block::{block_line, is_pcapng};
-use crate::printable::{one_line, shown};
+use printable_text::{one_line, shown};
 use std::alloc::{AllocError, Global};
 
 // What a file is that begins otherwise than a capture of the classic format: what unpacks or converts it.
-#[derive(Clone, Copy, Debug, PartialEq, Eq)]
+#[derive(Clone, Copy)]
 enum Format {
     Packed(&'static str, &'static str),
     Modified,
     Other,
 }
 
-// The format of a file by its first bytes: gzip (RFC 1952), zstd (RFC 8878), xz, bzip2, lz4, and the capture format of some
-// old systems, which libpcap reads too.
+// A format of packed files: what they begin with, its name, and what unpacks them.
+#[derive(Clone, Copy)]
+struct Packed {
+    magic: &'static [u8],
+    name: &'static str,
+    tool: &'static str,
+}
+
+// gzip is RFC 1952, zstd RFC 8878.
+const PACKED: [Packed; 5] = [
+    Packed {
+        magic: &[0x1f, 0x8b],
+        name: "gzip",
+        tool: "gzip -dk",
+    },
+    Packed {
+        magic: &[0x28, 0xb5, 0x2f, 0xfd],
+        name: "zstd",
+        tool: "zstd -dk",
+    },
+    Packed {
+        magic: &[0xfd, b'7', b'z', b'X'],
+        name: "xz",
+        tool: "xz -dk",
+    },
+    Packed {
+        magic: b"BZh",
+        name: "bzip2",
+        tool: "bzip2 -dk",
+    },
+    Packed {
+        magic: &[0x04, 0x22, 0x4d, 0x18],
+        name: "lz4",
+        tool: "lz4 -dk",
+    },
+];
+
+// The format of a file by its first bytes: a packed one, or the capture format of some old systems, which libpcap reads too.
 fn format_of(head: &[u8]) -> Format {
+    for packed in PACKED {
+        if head.starts_with(packed.magic) {
+            return Format::Packed(packed.name, packed.tool);
+        }
+    }
     match head {
-        [0x1f, 0x8b, ..] => Format::Packed("gzip", "gzip -dk"),
-        [0x28, 0xb5, 0x2f, 0xfd, ..] => Format::Packed("zstd", "zstd -dk"),
-        [0xfd, b'7', b'z', b'X', ..] => Format::Packed("xz", "xz -dk"),
-        [b'B', b'Z', b'h', ..] => Format::Packed("bzip2", "bzip2 -dk"),
-        [0x04, 0x22, 0x4d, 0x18, ..] => Format::Packed("lz4", "lz4 -dk"),
         [0x34, 0xcd, 0xb2, 0xa1, ..] | [0xa1, 0xb2, 0xcd, 0x34, ..] => Format::Modified,
         _ => Format::Other,
     }

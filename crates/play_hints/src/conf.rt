@@ -2,9 +2,9 @@
 
 use crate::fault::{fault_text, word_at};
 use crate::line::{end_of, logical_line, physical, words_of};
-use crate::printable::{add_line, one_line, shown, shown_byte};
 use conf_lines::ConfKind;
 use line_text::{Word, next_line};
+use printable_text::{add_line, one_line, shown, shown_byte};
 use std::alloc::{AllocError, Global};
 
 /// Where a configuration is refused, and by which kind, as status 3 says it.
@@ -102,14 +102,32 @@ fn absent_hint(
     one_line(alloc, line.as_str())
 }
 
+// The words that begin a line of pf.conf, and one of tc.
+const OF_PF: [&str; 8] = [
+    "altq", "queue", "pass", "block", "match", "set", "scrub", "table",
+];
+
+const OF_TC: [&str; 2] = ["tc", "qdisc"];
+
+// Whether a word is one of these.
+fn is_one_of(word: &[u8], names: &[&str]) -> bool {
+    for name in names {
+        if name.as_bytes() == word {
+            return true;
+        }
+    }
+    false
+}
+
 // Of which other program a line is, by its first word.
 fn foreign(words: &[Word]) -> &'static str {
-    match word_at(words, 0) {
-        b"altq" | b"queue" | b"pass" | b"block" | b"match" | b"set" | b"scrub" | b"table" => {
-            " this is pf.conf: see docs/PF-TC.md"
-        }
-        b"tc" | b"qdisc" => " this is of tc: see docs/PF-TC.md",
-        _ => "",
+    let first = word_at(words, 0);
+    if is_one_of(first, &OF_PF) {
+        " this is pf.conf: see docs/PF-TC.md"
+    } else if is_one_of(first, &OF_TC) {
+        " this is of tc: see docs/PF-TC.md"
+    } else {
+        ""
     }
 }
 

@@ -13,28 +13,63 @@ pub(crate) fn word_at<'a>(words: &[Word<'a>], at: usize) -> &'a [u8] {
     }
 }
 
+// A statement: its first word, its second where that tells it from others, and how it is written.
+#[derive(Clone, Copy)]
+struct Statement {
+    first: &'static str,
+    second: &'static str,
+    written: &'static str,
+}
+
+const FORMS: [Statement; 7] = [
+    Statement {
+        first: "interface",
+        second: "",
+        written: "interface NAME [bandwidth RATE] hfsc, or cbq",
+    },
+    Statement {
+        first: "class",
+        second: "cbq",
+        written: "class cbq INTERFACE NAME PARENT [priority N] pbandwidth PERCENT [borrow] [qlimit N] [red | ecn | rio] [default]",
+    },
+    Statement {
+        first: "class",
+        second: "hfsc",
+        written: "class hfsc INTERFACE NAME PARENT [sc | rt | ls | ul M1 D M2] [pshare PERCENT] [qlimit N] [red | ecn | rio] [default]",
+    },
+    Statement {
+        first: "class",
+        second: "",
+        written: "class hfsc, or class cbq",
+    },
+    Statement {
+        first: "filter6",
+        second: "",
+        written: "filter6 INTERFACE CLASS [ruleno N] DST[/BITS] DPORT SRC[/BITS] SPORT PROTO",
+    },
+    Statement {
+        first: "filter",
+        second: "",
+        written: "filter INTERFACE CLASS [ruleno N] DST [netmask M] DPORT SRC [netmask M] SPORT PROTO",
+    },
+    Statement {
+        first: "conditioner",
+        second: "",
+        written: "conditioner INTERFACE CLASS srtcm CIR CBS EBS AF, or trtcm PIR PBS CIR CBS AF",
+    },
+];
+
 // The form of the statement that a line begins.
 fn form(words: &[Word]) -> &'static str {
-    match (word_at(words, 0), word_at(words, 1)) {
-        (b"interface", _) => "interface NAME [bandwidth RATE] hfsc, or cbq",
-        (b"class", b"cbq") => {
-            "class cbq INTERFACE NAME PARENT [priority N] pbandwidth PERCENT [borrow] [qlimit N] [red | ecn | rio] [default]"
+    let first = word_at(words, 0);
+    let second = word_at(words, 1);
+    for statement in FORMS {
+        let is_second = statement.second.is_empty() || statement.second.as_bytes() == second;
+        if is_second && statement.first.as_bytes() == first {
+            return statement.written;
         }
-        (b"class", b"hfsc") => {
-            "class hfsc INTERFACE NAME PARENT [sc | rt | ls | ul M1 D M2] [pshare PERCENT] [qlimit N] [red | ecn | rio] [default]"
-        }
-        (b"class", _) => "class hfsc, or class cbq",
-        (b"filter6", _) => {
-            "filter6 INTERFACE CLASS [ruleno N] DST[/BITS] DPORT SRC[/BITS] SPORT PROTO"
-        }
-        (b"filter", _) => {
-            "filter INTERFACE CLASS [ruleno N] DST [netmask M] DPORT SRC [netmask M] SPORT PROTO"
-        }
-        (b"conditioner", _) => {
-            "conditioner INTERFACE CLASS srtcm CIR CBS EBS AF, or trtcm PIR PBS CIR CBS AF"
-        }
-        _ => "interface, class, filter, filter6 or conditioner",
     }
+    "interface, class, filter, filter6 or conditioner"
 }
 
 // What is wrong with a word that stands where none of its kind may.

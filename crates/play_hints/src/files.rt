@@ -1,7 +1,7 @@
 // What is wrong with the files of a run.
 
 use crate::block::is_pcapng;
-use crate::printable::one_line;
+use printable_text::one_line;
 use std::alloc::{AllocError, Global};
 
 /// What is said where memory ran out; it takes none.

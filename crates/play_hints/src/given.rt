@@ -1,6 +1,6 @@
 // What is wrong with given fates and departures.
 
-use crate::printable::one_line;
+use printable_text::one_line;
 use std::alloc::{AllocError, Global};
 
 /// The names of the files that a check was given.

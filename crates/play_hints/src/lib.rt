@@ -10,7 +10,6 @@ mod files;
 mod given;
 mod line;
 mod options;
-mod printable;
 mod words;
 
 pub use calling::{VERSION, usage};
@@ -21,5 +20,4 @@ pub use files::{
     play_line,
 };
 pub use given::{Given, long_given_hint, refuted_hint};
-pub use printable::shown;
 pub use words::words_hint;

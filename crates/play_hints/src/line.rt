@@ -1,6 +1,6 @@
 // The logical line at fault, and where a word stands in it.
 
-use line_text::{Line, LineFault, Word, next_line, words};
+use line_text::{Line, Word, next_line, words};
 use std::alloc::Global;
 
 // The bytes of the logical line that begins with a physical line, counted from 1.
@@ -24,7 +24,7 @@ fn line_feeds(text: &[u8]) -> u64 {
     text.iter().filter(|byte| **byte == b'\n').count() as u64
 }
 
-// The words of a logical line; none where it is too long.
+// The words of a logical line; none where it is too long, or memory is short.
 pub(crate) fn words_of(alloc: Global, bytes: &[u8]) -> Vec<Word<'_>> {
     let line = Line {
         number: 1,
@@ -33,8 +33,7 @@ pub(crate) fn words_of(alloc: Global, bytes: &[u8]) -> Vec<Word<'_>> {
     };
     match words(alloc, bytes, &line) {
         Ok(found) => found,
-        Err(LineFault::TooLong) => Vec::new(alloc),
-        Err(LineFault::NoMemory) => Vec::new(alloc),
+        Err(_) => Vec::new(alloc),
     }
 }
 

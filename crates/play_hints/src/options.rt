@@ -31,7 +31,7 @@ const KEYS: [Key; 23] = [
 ];
 
 // What is wanted at a word.
-#[derive(Clone, Copy, Debug, PartialEq, Eq)]
+#[derive(Clone, Copy)]
 pub(crate) enum Wanted {
     Rate(u64, u64),
     Whole(u64, u64),

@@ -1,11 +1,11 @@
 // What is wrong with the words of the command line.
 
 use crate::calling::usage;
-use crate::printable::one_line;
 use clap::error::ErrorKind;
 use clap::{ArgMatches, Error};
 use line_text::decimal;
 use play_words::{count, options_read};
+use printable_text::one_line;
 use std::alloc::{AllocError, Global};
 
 // The options that name files.

@@ -1,10 +1,12 @@
-// Texts of which each byte is printable.
+//! Texts of which each byte is printable.
+#![tactic(auto)]
+
 ghost use Rattle.std.specs.Prelude.{◌≡◌, ◌≤◌};
 
 use std::alloc::{AllocError, Global};
 
-// A byte as it is shown: itself where it is 32 to 126, else `?`.
-pub(crate) fn shown_byte(byte: u8) -> u8
+/// A byte as it is shown: itself where it is 32 to 126, else `?`.
+pub fn shown_byte(byte: u8) -> u8
     ensures low { 32 ≤ result }
     ensures high { result ≤ 126 }
     ensures same { 32 ≤ byte → byte ≤ 126 → result ≡ byte }
@@ -21,14 +23,14 @@ pub fn shown(alloc: Global, bytes: &[u8]) -> Result<String, AllocError> {
     Ok(text)
 }
 
-// Adds a line, its bytes as they are shown.
-pub(crate) fn add_line(alloc: Global, text: &mut String, line: &str) -> Result<(), AllocError> {
+/// Adds a line, its bytes as they are shown. `Err` comes only where there is no memory.
+pub fn add_line(alloc: Global, text: &mut String, line: &str) -> Result<(), AllocError> {
     text.push_str(shown(alloc, line.as_bytes())?.as_str())?;
     text.push('\n')
 }
 
-// One line, its bytes as they are shown.
-pub(crate) fn one_line(alloc: Global, line: &str) -> Result<String, AllocError> {
+/// One line, its bytes as they are shown. `Err` comes only where there is no memory.
+pub fn one_line(alloc: Global, line: &str) -> Result<String, AllocError> {
     let mut text = String::new(alloc);
     add_line(alloc, &mut text, line)?;
     Ok(text)
