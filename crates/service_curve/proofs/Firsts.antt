@@ -1,6 +1,5 @@
 -- The computed moments are the first ones.
-use Rattle.std.proofs.Common.{◌≡◌, ◌≤◌, ◌<◌, ◌+◌, ◌-◌, ◌*◌, ◌/◌, ◌⊎◌, inl, inr, ℕ, Bool, true, false, refl, ap, sym, subst, arith, ◌∙◌}
-use Rattle.std.proofs.lemmas.Bool.Decides.{nat_tests}
+use Rattle.std.proofs.Common.{◌≡◌, ◌≤◌, ◌<◌, ◌+◌, ◌-◌, ◌*◌, ◌⊎◌, inl, inr, ℕ, Bool, true, false, refl, ap, sym, subst, arith, ◌∙◌}
 use Rattle.std.specs.Prelude.{nat_le, ◌==◌, if◌then◌else◌, Option, None, Some}
 use Rattle.std.proofs.lemmas.Bool.{cases_lt}
 use Rattle.std.proofs.lemmas.Nat.{div_below}
@@ -111,15 +110,8 @@ first_is_one P (Some x) (Some y) f g =
 pub first_is_first : (s : Curve) (x : ℕ) → IsFirst (λ t. x ≤ amount s t) (first s x)
 first_is_first s x = first_of (λ t. x ≤ amount s t) (first s x) (first_comes s x) (first_reaches s x)
 
--- the first time past the bend, by its quotient
-pub past_bend : (s : Curve) (x q : ℕ) → s.m1 * s.d < x → 0 < s.m2 → q ≡ (x - s.m1 * s.d + (s.m2 - 1)) / s.m2 → IsFirst (λ t. x ≤ amount s t) (Some (s.d + q))
-past_bend s x q h k e = subst (λ (o : Option ℕ). IsFirst (λ t. x ≤ amount s t) o) is (first_is_first s x)
-  where
-    over : nat_le x (s.m1 * s.d) ≡ false
-    over = grind (arith, nat_tests, h)
-
-    some : (s.m2 == 0) ≡ false
-    some = grind (arith, nat_tests, k)
-
-    is : first s x ≡ Some (s.d + q)
-    is = rw over (rw some (ap (λ n. Some (s.d + n)) (sym e)))
+-- the first time by the piece in which the curve gives the amount
+pub first_in_piece : (s : Curve) (x slope before rest y : ℕ) → first s x ≡ Some (before + time_at slope rest) → y ≡ before + time_at slope rest
+    → IsFirst (λ t. x ≤ amount s t) (Some y)
+first_in_piece s x slope before rest y e f =
+    subst (λ (o : Option ℕ). IsFirst (λ t. x ≤ amount s t) o) (e ∙ ap (λ n. Some n) (sym f)) (first_is_first s x)

@@ -8,7 +8,7 @@
 #![tactic(auto)]
 
 ghost use Rattle.std.specs.Prelude.{◌≡◌, ◌≢◌, ◌<◌, ◌≤◌, ◌+◌, ◌-◌, ◌*◌, ◌/◌, ◌^◌, ◌↔◌, ℕ, IfSome, Some, None};
-ghost use Rattle.service_curve.specs.Curve.{IsInRange, amount, curve, first, straight};
+ghost use Rattle.service_curve.specs.Curve.{IsInRange, amount, curve, first, straight, time_at};
 ghost use Rattle.service_curve.specs.Moment.{IsFirst};
 
 /// A service curve of two pieces: the slope `m1` for a time of `d`, and from there on the slope `m2`.
@@ -20,6 +20,14 @@ pub struct Curve {
     pub m1: u64,
     pub d: u64,
     pub m2: u64,
+}
+
+/// One slope, the time before it begins, and the amount that it is to give from there.
+#[derive(Clone, Copy)]
+struct Piece {
+    slope: u64,
+    before: u64,
+    rest: u128,
 }
 
 impl Curve {
@@ -67,19 +75,41 @@ impl Curve {
         ensures is { result ≡ first self.now wanted }
         ensures bounded { IfSome result (λ t. t ≤ self.now.d + wanted) }
     {
-        let m1 = self.m1 as u128;
-        let m2 = self.m2 as u128;
-        let bend = m1 * self.d as u128;
+        let piece = self.piece(wanted);
+        if piece.slope == 0 {
+            return if piece.rest == 0 { Some(0) } else { None };
+        }
+        Some(
+            u128::from(piece.before)
+                + quotient(piece.rest + u128::from(piece.slope - 1), piece.slope),
+        )
+    }
+
+    /// The piece in which the curve comes to give an amount.
+    fn piece(&self, wanted: u128) -> Piece
+        requires in_range { IsInRange self.now }
+        requires wanted { wanted < 2 ^ 100 }
+        ensures least { result.rest ≤ wanted }
+        ensures slope { result.slope ≤ 10 ^ 12 }
+        ensures before { result.before ≤ self.now.d }
+        ensures some { result.slope ≢ 0 → first self.now wanted ≡ Some (result.before + time_at result.slope result.rest) }
+        ensures nothing { result.slope ≡ 0 → result.rest ≡ 0 → first self.now wanted ≡ Some 0 }
+        ensures never { result.slope ≡ 0 → result.rest ≢ 0 → first self.now wanted ≡ None }
+    {
+        let bend = self.m1 as u128 * self.d as u128;
         if wanted <= bend {
-            if m1 == 0 {
-                return Some(0);
+            Piece {
+                slope: self.m1,
+                before: 0,
+                rest: wanted,
             }
-            return Some(quotient(wanted + (m1 - 1), self.m1));
+        } else {
+            Piece {
+                slope: self.m2,
+                before: self.d,
+                rest: wanted - bend,
+            }
         }
-        if m2 == 0 {
-            return None;
-        }
-        Some(self.d as u128 + quotient(wanted - bend + (m2 - 1), self.m2))
     }
 }
 
