@@ -8,8 +8,8 @@ ghost use Rattle.runtime_curve.specs.Held.{AreOne, IsUpTo, LowerThanAll, IsOneOf
 use crate::Opening;
 use service_curve::Curve;
 
-/// Of all openings the one whose line of the first slope is lowest, the one whose line of the second slope is lowest, and
-/// the last.
+/// Of all openings the one whose line of the first slope is lowest, where the slope falls, the one whose line of the second
+/// slope is lowest, and the last.
 #[derive(Clone, Copy, Debug, PartialEq, Eq)]
 pub struct Held {
     pub steep: Opening,
