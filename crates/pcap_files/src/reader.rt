@@ -120,6 +120,7 @@ impl Reader {
     }
 
     // The next record of a reader that has answered no fault.
+    #[inline(always)]
     fn take_next<F: Files>(&mut self, files: &mut F) -> Result<Option<Record>, CaptureFault>
         requires there { IsSome ((F.view files.old).part self.old.file) }
         requires sound { self.old.fault ≡ None }

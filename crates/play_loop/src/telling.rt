@@ -43,6 +43,7 @@ fn dropped_fate(dropped: &Dropped) -> KeptFate
 
 /// Counts a packet that was sent, adds its texts, and tells of it. After an error each file holds a front of its text.
 #[tactic(auto, using(play_base::proofs::ViewLaws::same_trans, play_base::proofs::ViewLaws::same_refl))]
+#[inline(always)]
 pub fn add_sent<C: Classify, F: Files, K: Keeper>(
     files: &mut F,
     outputs: &mut Outputs,
@@ -74,6 +75,7 @@ pub fn add_sent<C: Classify, F: Files, K: Keeper>(
 /// Counts a packet that was offered to a class, adds its row and tells of it, if it was dropped. After an error each file holds a front
 /// of its text.
 #[tactic(auto, using(play_base::proofs::ViewLaws::same_trans, play_base::proofs::ViewLaws::same_refl))]
+#[inline(always)]
 pub fn add_dropped<F: Files, K: Keeper>(
     files: &mut F,
     outputs: &mut Outputs,
