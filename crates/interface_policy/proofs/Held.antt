@@ -1,6 +1,6 @@
 -- The classes that hold packets are those of the policy.
-use Rattle.std.proofs.Common.{◌≡◌, ◌≤◌, ◌<◌, ◌+◌, ◌&&◌, ◌⊎◌, inl, inr, ◌∙◌, ℕ, suc, Bool, true, false, not, List, [], ◌∷◌, Option, None, Some, length, nat_lt, refl, ap, sym, subst, arith}
-use Rattle.std.specs.Prelude.{slice_get, ◌==◌}
+use Rattle.std.proofs.Common.{◌≡◌, ◌≤◌, ◌<◌, ◌+◌, ◌⊎◌, inl, inr, ◌∙◌, ℕ, Bool, true, false, not, List, [], ◌∷◌, Option, None, Some, length, nat_lt, refl, ap, sym, subst, arith}
+use Rattle.std.specs.Prelude.{slice_get}
 use Rattle.std.specs.List.{list_any}
 use Rattle.std.proofs.lemmas.Bool.{and_parts, cases_lt}
 use Rattle.std.proofs.lemmas.Bool.Decides.{nat_tests}
@@ -13,7 +13,7 @@ use Rattle.conf_tree.specs.declared.interface.Interface.{Interface}
 use Rattle.conf_tree.specs.declared.interface.Kind.{Kind}
 use Rattle.conf_tree.specs.declared.interface.Kind.TheVariants.{Hfsc, Cbq}
 use Rattle.conf_tree.specs.Family.{is_child, is_leaf, is_queue_class, names_parent}
-use Rattle.hfsc_model.specs.Tree.{class_of, is_child as is_hfsc_child, is_leaf as is_hfsc_leaf, is_parent}
+use Rattle.hfsc_model.specs.Tree.{is_child as is_hfsc_child, is_leaf as is_hfsc_leaf, is_parent}
 use Rattle.hfsc_laws.proofs.Tree.{any_is, parent_of, true_and}
 use Rattle.hfsc_policy.proofs.Lawful.{leaf_one}
 use Rattle.cbq_model.specs.declared.CbqClass.{CbqClass}
@@ -33,7 +33,7 @@ child_at classes p k c at e =
     list_any_at (λ x. is_child p x) classes k c (slice_get_within classes k c at)
     (subst (λ (x : Class). is_child p x ≡ true) (sym (get_or_from_slice_get classes k c c at)) (named_by p c.parent e))
 
-parent_there : (classes : List Class) (p : ℕ) → is_parent (hfsc_classes classes) p ≡ true → list_any (λ x. is_child p x) classes ≡ true
+pub parent_there : (classes : List Class) (p : ℕ) → is_parent (hfsc_classes classes) p ≡ true → list_any (λ x. is_child p x) classes ≡ true
 parent_there classes p e =
     let cs = hfsc_classes classes in
     let child = any_is (is_hfsc_child cs p) 0 (length cs) e in

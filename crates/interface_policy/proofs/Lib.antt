@@ -1,5 +1,6 @@
 pub mod EightDeep
 pub mod Held
+pub mod Leaves
 pub mod Named
 pub mod Numbers
 pub mod Places

@@ -10,7 +10,9 @@ mod disciplines;
 mod laws;
 mod names;
 mod queues;
+mod sole;
 
-pub use disciplines::{cbq_of, hfsc_of};
+pub use disciplines::{cbq_of, hfsc_of, one_queue_of};
 pub use laws::{interfaces_keep_their_promises, walks_are_whole, zeros_give_nothing};
 pub use names::names_of;
+pub use sole::sole_class;

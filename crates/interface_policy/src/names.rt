@@ -11,7 +11,7 @@ use play_text::Names;
 use std::alloc::Global;
 
 // Whether a class of this number has no child.
-fn is_leaf(classes: &[Class], number: u32) -> bool
+pub(crate) fn is_leaf(classes: &[Class], number: u32) -> bool
     ensures { result ≡ is_leaf classes.now number }
 {
     for class in classes {
