@@ -11,7 +11,7 @@ ghost use Rattle.play_command.specs.Found.{PlaysTo, TellsOf};
 use crate::cited_laws::laws_hold;
 use crate::found::{play_classic_by, play_found_by};
 use conf_tree::{Interface, Kind};
-use interface_policy::{cbq_of, hfsc_of};
+use interface_policy::{cbq_of, hfsc_of, one_queue_of, sole_class};
 use play_base::{Files, NoMemory};
 use play_files::Unplayed;
 use play_loop::{Keeper, KeepsNothing, PlayFault, Totals};
@@ -41,9 +41,15 @@ pub fn play_found_told<K: Keeper, F: Files>(
 {
     laws_hold();
     match found.kind {
-        Kind::Hfsc => match hfsc_of(alloc, found) {
-            Ok(mut hfsc) => play_found_by(alloc, files, found, words, &mut hfsc, keeper),
-            Err(NoMemory) => Err(Unplayed::Play(PlayFault::NoMemory)),
+        Kind::Hfsc => match sole_class(found) {
+            Some(class) => match one_queue_of(alloc, found, class) {
+                Ok(mut queue) => play_found_by(alloc, files, found, words, &mut queue, keeper),
+                Err(NoMemory) => Err(Unplayed::Play(PlayFault::NoMemory)),
+            },
+            None => match hfsc_of(alloc, found) {
+                Ok(mut hfsc) => play_found_by(alloc, files, found, words, &mut hfsc, keeper),
+                Err(NoMemory) => Err(Unplayed::Play(PlayFault::NoMemory)),
+            },
         },
         Kind::Cbq => match cbq_of(alloc, found) {
             Ok(mut cbq) => play_found_by(alloc, files, found, words, &mut cbq, keeper),
@@ -97,9 +103,15 @@ pub fn play_classic_told<K: Keeper, F: Files>(
 {
     laws_hold();
     match found.kind {
-        Kind::Hfsc => match hfsc_of(alloc, found) {
-            Ok(mut hfsc) => play_classic_by(alloc, files, found, words, &mut hfsc, keeper),
-            Err(NoMemory) => Err(PlayFault::NoMemory),
+        Kind::Hfsc => match sole_class(found) {
+            Some(class) => match one_queue_of(alloc, found, class) {
+                Ok(mut queue) => play_classic_by(alloc, files, found, words, &mut queue, keeper),
+                Err(NoMemory) => Err(PlayFault::NoMemory),
+            },
+            None => match hfsc_of(alloc, found) {
+                Ok(mut hfsc) => play_classic_by(alloc, files, found, words, &mut hfsc, keeper),
+                Err(NoMemory) => Err(PlayFault::NoMemory),
+            },
         },
         Kind::Cbq => match cbq_of(alloc, found) {
             Ok(mut cbq) => play_classic_by(alloc, files, found, words, &mut cbq, keeper),

@@ -15,3 +15,12 @@ returns-in-Err-clause-ends g c = found_unbuilt _ (names_read c.args.words.now) c
 
 pub returns-in-Err-cbq_of-clause-ends : goal.returns-in-Err-cbq_of-clause-ends
 returns-in-Err-cbq_of-clause-ends g c = found_unbuilt _ (names_read c.args.words.now) c.args.found.now c.args.words.now.seed c.laws_hold.ensures c.requires.accepted c.requires.distinct
+
+pub sole_class-requires : goal.sole_class-requires
+sole_class-requires g c = fits c.args.found.now c.laws_hold.ensures.fit c.requires.configured
+
+pub one_queue_of-requires-clause-fit : goal.one_queue_of-requires-clause-fit
+one_queue_of-requires-clause-fit g c = fits c.args.found.now c.laws_hold.ensures.fit c.requires.configured
+
+pub returns-in-Err-hfsc_of-clause-ends : goal.returns-in-Err-hfsc_of-clause-ends
+returns-in-Err-hfsc_of-clause-ends g c = found_unbuilt _ (names_read c.args.words.now) c.args.found.now c.args.words.now.seed c.laws_hold.ensures c.requires.accepted c.requires.distinct
