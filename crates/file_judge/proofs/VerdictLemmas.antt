@@ -5,7 +5,6 @@ use Rattle.altq_model.specs.History.{Arrival}
 use Rattle.capture_model.specs.Capture.{Record}
 use Rattle.fate_busy.specs.Busy.{StartsAtOnce}
 use Rattle.fate_check.specs.declared.reading.Row.{Row}
-use Rattle.fate_check.specs.Text.{FailsAt, Reads}
 use Rattle.fate_departures.specs.Departures.{AreDepartures, DepartOtherwise}
 use Rattle.fate_departures.specs.Frames.{Packets, bytes_of}
 use Rattle.fate_judge.specs.declared.given.Allowed.{Allowed}
@@ -21,8 +20,6 @@ use Rattle.file_tests.specs.declared.Test.{Test}
 use Rattle.file_tests.specs.declared.Test.TheVariants as test
 use Rattle.given_play.specs.Rights.{allowed_of, marks_of}
 use Rattle.input_files.specs.Records.{Shown, shown_of}
-use Rattle.interface_policy.specs.Policy.{queue_names}
-use Rattle.play_text.specs.Names.{NameList}
 use Rattle.file_judge.specs.Given.{Given, arrived_in, captured_of, case_of, dress_of, is_unlimited, packets_in}
 use Rattle.file_judge.specs.Verdict.{AreBusy, AreRows, AreTheirDepartures, EndsByDue, FitTheLink, IfRows, IfTest, IsRefuted, IsUnverified, test_of}
 use Rattle.file_judge.specs.declared.verdict.Unverified.{Unverified}
@@ -112,13 +109,6 @@ due_unverified g rows NoMemory read order busy departures x = tt
 due_unverified g rows (At row t) read order busy departures x =
     let Q : Test → Type 0 = λ u. IsRefuted g row u in
     subst Q (sym x.0) (record { rows = rows; read = read; order = order; busy = busy; departures = departures; fit = x.1.0; fails = x.1.1 })
-
--- the names of an interface
-pub rows_read : (g : Given) (names : NameList) (rows : List Row) → names ≡ queue_names g.interface → Reads names g.fates rows → AreRows g rows
-rows_read g names rows is x = let P : NameList → Type 0 = λ ns. Reads ns g.fates rows in subst P is x
-
-pub no_rows : (g : Given) (names : NameList) (row : ℕ) → names ≡ queue_names g.interface → FailsAt names g.fates row → IsUnverified g (At row test.Text)
-no_rows g names row is x = let P : NameList → Type 0 = λ ns. FailsAt ns g.fates row in subst P is x
 
 -- no packet is empty
 pub are_some : (arrived : List Arrival) → All (λ (a : Arrival). 0 < a.len) arrived → AreSome arrived

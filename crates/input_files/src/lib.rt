@@ -4,7 +4,9 @@
 mod bytes;
 mod held;
 mod records;
+mod taken;
 
 pub use bytes::read_front;
 pub use held::{Records, Seen};
 pub use records::read_records;
+pub use taken::Taken;

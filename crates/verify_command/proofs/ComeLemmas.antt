@@ -8,7 +8,10 @@ use Rattle.file_judge.specs.Given.{Given}
 use Rattle.file_judge.specs.Verdict.{AreVerified, IsUnverified}
 use Rattle.file_judge.specs.declared.verdict.Unverified.{Unverified}
 use Rattle.file_judge.specs.declared.verdict.Unverified.TheVariants as unverified
+use Rattle.given_fates.specs.Fates.{HasFates}
+use Rattle.given_fates.specs.declared.fates.Fates.{Fates}
 use Rattle.input_files.specs.Records.{Shown, shown_of}
+use Rattle.interface_policy.specs.Policy.{queue_names}
 use Rattle.pcapng_files.specs.declared.fault.NgFault.{NgFault}
 use Rattle.pcapng_files.specs.declared.fault.NgFault.TheVariants as ng
 use Rattle.play_base.specs.View.{View, Any, Keeps, Rose, SameCounts}
@@ -28,7 +31,7 @@ use Rattle.command_base.specs.declared.parts.WrittenPart.TheVariants as written
 use Rattle.verify_command.specs.declared.input.InputFault.{InputFault}
 use Rattle.verify_command.specs.declared.input.InputFault.TheVariants as input
 use Rattle.early_stops.specs.Arriving.{IsNoPcapng}
-use Rattle.verify_command.specs.Input.{ArrivalCauses, HasRecords, HoldsCapture, InputCauses, IsLong, StopsAt, departures_failure, fates_failure, refutation}
+use Rattle.verify_command.specs.Input.{ArrivalCauses, HasRecords, HoldsCapture, HoldsFates, InputCauses, IsLong, StopsAt, departures_failure, fates_failure, refutation}
 use Rattle.verify_command.specs.Lines.{verdict_text}
 use Rattle.verify_command.specs.Saying.{SaysBy}
 use Rattle.verify_command.specs.Verifying.{AreBroken, AreGiven, Arrive, EndsWith, ExceedLimits, HasDepartures, Holds, Inputs, IsVerified, VerifyFails, VerifyComes}
@@ -148,38 +151,49 @@ fates_fail u v w n found answers departures input.NoMemory k r d x = tt
 abbrev pub given_by : (found : Interface) (records : List Record) (departures fates : List ℕ) → Given
 given_by found records departures fates = record { interface = found; records = records; departures = departures; fates = fates }
 
-pub record AreHad (u : View) (n : Inputs) (found : Interface) (answers : List Shown) (departures fates : List ℕ) : Type 0 where
+pub record AreHad (u : View) (n : Inputs) (found : Interface) (answers : List Shown) (departures : List ℕ) (fates : Fates) : Type 0 where
   pub arrivals : HasRead u n found answers
   pub departures_had : Holds u n.departures departures
-  pub fates_had : Holds u n.fates fates
+  pub fates_had : HoldsFates u found n.fates fates
 
-are_given : (u : View) (n : Inputs) (found : Interface) (answers : List Shown) (departures fates : List ℕ) (h : AreHad u n found answers departures fates)
-    → AreGiven u n (given_by found h.arrivals.records departures fates)
-are_given u n found answers departures fates h = record { arrive = h.arrivals.arrive; departures = h.departures_had; fates = h.fates_had }
+are_given : (u : View) (n : Inputs) (found : Interface) (answers : List Shown) (departures : List ℕ) (fates : Fates) (h : AreHad u n found answers departures fates)
+    → AreGiven u n (given_by found h.arrivals.records departures h.fates_had.text)
+are_given u n found answers departures fates h = record {
+  arrive = h.arrivals.arrive;
+  departures = h.departures_had;
+  fates = record { at = h.fates_had.at; short = h.fates_had.short };
+}
 
--- what a judgement says, whichever records these show
-abbrev pub AreJudged : (found : Interface) (answers : List Shown) (departures fates : List ℕ) → (Given → Type 0) → Type 0
-AreJudged found answers departures fates P = (capture : List Record) → answers ≡ map shown_of capture → P (given_by found capture departures fates)
+pub had_fates : (u v : View) (found : Interface) (name : List ℕ) (fates : Fates) → Keeps Any Any u v → (IsTrue v.tells → HoldsFates v found name fates)
+    → IsTrue u.tells → HoldsFates u found name fates
+had_fates u v found name fates k x t =
+    let y = x (tells_since u v k t) in
+    record { text = y.text; at = sym (k.bytes name tt) ∙ y.at; short = y.short; has = y.has }
 
-pub refuted_fails : (u v : View) (n : Inputs) (found : Interface) (answers : List Shown) (departures fates : List ℕ) (why : Unverified)
+-- what a judgement says, whichever records these show, and whichever text holds the fates
+abbrev pub AreJudged : (found : Interface) (answers : List Shown) (departures : List ℕ) (fates : Fates) → (Given → Type 0) → Type 0
+AreJudged found answers departures fates P =
+    (capture : List Record) (text : List ℕ) → answers ≡ map shown_of capture → HasFates (queue_names found) text fates → P (given_by found capture departures text)
+
+pub refuted_fails : (u v : View) (n : Inputs) (found : Interface) (answers : List Shown) (departures : List ℕ) (fates : Fates) (why : Unverified)
     → (IsTrue u.tells → AreHad u n found answers departures fates) → AreJudged found answers departures fates (λ g. IsUnverified g why)
     → VerifyFails u v n (refutation why)
 refuted_fails u v n found answers departures fates (unverified.At row least) h x = λ t.
     let y = h t in
     record {
-      given = given_by found y.arrivals.records departures fates;
+      given = given_by found y.arrivals.records departures y.fates_had.text;
       are = are_given u n found answers departures fates y;
-      refuted = x y.arrivals.records y.arrivals.shown;
+      refuted = x y.arrivals.records y.fates_had.text y.arrivals.shown y.fates_had.has;
     }
 refuted_fails u v n found answers departures fates unverified.NoMemory h x = tt
 
-is_verified : (u : View) (n : Inputs) (found : Interface) (answers : List Shown) (departures fates : List ℕ) (late : List Late)
+is_verified : (u : View) (n : Inputs) (found : Interface) (answers : List Shown) (departures : List ℕ) (fates : Fates) (late : List Late)
     → AreHad u n found answers departures fates → AreJudged found answers departures fates (λ g. AreVerified g late) → IsVerified u n
 is_verified u n found answers departures fates late h x = record {
-  given = given_by found h.arrivals.records departures fates;
+  given = given_by found h.arrivals.records departures h.fates_had.text;
   are = are_given u n found answers departures fates h;
   late = late;
-  verified = x h.arrivals.records h.arrivals.shown;
+  verified = x h.arrivals.records h.fates_had.text h.arrivals.shown h.fates_had.has;
 }
 
 -- the answer is printed, or not
@@ -190,7 +204,7 @@ unsaid_comes u v w n f k verified (inr e) =
     let P : Failure → Type 0 = λ x. VerifyFails u w n x in
     subst P (sym e.0) (rose_later _ _ _ (k.later.write 0) e.1, verified)
 
-pub says_comes : (u v w : View) (n : Inputs) (found : Interface) (answers : List Shown) (departures fates : List ℕ) (late : List Late) (o : Outcome)
+pub says_comes : (u v w : View) (n : Inputs) (found : Interface) (answers : List Shown) (departures : List ℕ) (fates : Fates) (late : List Late) (o : Outcome)
     → Keeps Any Any u v → v.said ≡ u.said → SameCounts u v → (IsTrue u.tells → AreHad u n found answers departures fates)
     → AreJudged found answers departures fates (λ g. AreVerified g late) → SaysBy v w (verdict_text found late) o → VerifyComes u w n o
 says_comes u v w n found answers departures fates late (Ok d) k silent counts h x s =
@@ -199,10 +213,10 @@ says_comes u v w n found answers departures fates late (Ok d) k silent counts h 
       verified = λ t.
           let y = h t in
           record {
-            given = given_by found y.arrivals.records departures fates;
+            given = given_by found y.arrivals.records departures y.fates_had.text;
             are = are_given u n found answers departures fates y;
             late = late;
-            verified = x y.arrivals.records y.arrivals.shown;
+            verified = x y.arrivals.records y.fates_had.text y.arrivals.shown y.fates_had.has;
             said = s.1.grown (tells_since u v k t) ∙ ap (λ (before : List ℕ). before ++ verdict_text found late) silent;
           };
       no_fault = same_trans u v w counts s.1.no_fault;
@@ -214,7 +228,7 @@ says_comes u v w n found answers departures fates late (Err f) k silent counts h
 pub same_holds : (u : View) (name bytes bytes' : List ℕ) → bytes' ≡ bytes → (IsTrue u.tells → Holds u name bytes) → IsTrue u.tells → Holds u name bytes'
 same_holds u name bytes bytes' same x = let P : List ℕ → Type 0 = λ xs. IsTrue u.tells → Holds u name xs in subst P (sym same) x
 
-pub same_judged : (found : Interface) (answers : List Shown) (departures fates : List ℕ) (late late' : List Late) → late' ≡ late
+pub same_judged : (found : Interface) (answers : List Shown) (departures : List ℕ) (fates : Fates) (late late' : List Late) → late' ≡ late
     → AreJudged found answers departures fates (λ g. AreVerified g late) → AreJudged found answers departures fates (λ g. AreVerified g late')
 same_judged found answers departures fates late late' same x =
     let P : List Late → Type 0 = λ l. AreJudged found answers departures fates (λ g. AreVerified g l) in

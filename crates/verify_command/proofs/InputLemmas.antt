@@ -1,5 +1,5 @@
 -- A file that was opened, and read to its end or not.
-use Rattle.std.proofs.Common.{◌≡◌, ◌<◌, ◌^◌, ◌++◌, ◌∙◌, ◌⊎◌, inl, inr, ℕ, List, [], length, length-append, None, Some, ap, refl, sym, arith, append-nil}
+use Rattle.std.proofs.Common.{◌≡◌, ◌≤◌, ◌<◌, ◌^◌, ◌++◌, ◌∙◌, ◌⊎◌, inl, inr, ℕ, List, [], length, length-append, None, Some, ap, refl, sym, arith, append-nil}
 use Rattle.std.specs.Prelude.{IsSome, IsTrue}
 use Rattle.std.specs.declared.option.Option.{Option}
 use Rattle.std.proofs.lemmas.List.{nil_from_length}
@@ -7,8 +7,12 @@ use Rattle.play_base.specs.View.{View, IsAtEnd, IsMissed, Opened, ReadFault, Ros
 use Rattle.play_base.proofs.ViewLaws.{rose_later}
 use Rattle.command_base.specs.Faults.{CannotRead}
 use Rattle.command_base.proofs.PartLemmas.{none_some}
+use Rattle.conf_tree.specs.declared.interface.Interface.{Interface}
 use Rattle.early_stops.specs.Arriving.{OnlyOpens}
-use Rattle.verify_command.specs.Input.{IsLong}
+use Rattle.given_fates.specs.Fates.{HasFates}
+use Rattle.given_fates.specs.declared.fates.Fates.{Fates}
+use Rattle.interface_policy.specs.Policy.{queue_names}
+use Rattle.verify_command.specs.Input.{HoldsFates, IsLong}
 
 there_is : (o : Option (List ℕ)) → IsSome o → (bytes : List ℕ) × (o ≡ Some bytes)
 there_is None h = cc
@@ -40,6 +44,20 @@ long_of a b c part name file all x took long t =
     let s = was_left a b part name file x t in
     let y = took.left s.bytes s.left in
     record { bytes = s.bytes; at = s.at; long = omega (arith, long, ap length y.1, length-append all y.0) }
+
+-- and what holds of all that was left holds of the bytes under the name
+pub held_fates : (a b : View) (i : Interface) (part : ℕ) (name : List ℕ) (file : ℕ) (fates : Fates) → Opened a b part name file
+    → ((text : List ℕ) → b.left file ≡ Some text → HasFates (queue_names i) text fates) → ((text : List ℕ) → b.left file ≡ Some text → length text ≤ 2 ^ 30)
+    → IsTrue a.tells → HoldsFates a i name fates
+held_fates a b i part name file fates x has short t =
+    let s = was_left a b part name file x t in
+    record { text = s.bytes; at = s.at; short = short s.bytes s.left; has = has s.bytes s.left }
+
+pub long_left : (a b : View) (part : ℕ) (name : List ℕ) (file : ℕ) → Opened a b part name file
+    → ((text : List ℕ) → b.left file ≡ Some text → 2 ^ 30 < length text) → IsTrue a.tells → IsLong a name
+long_left a b part name file x long t =
+    let s = was_left a b part name file x t in
+    record { bytes = s.bytes; at = s.at; long = long s.bytes s.left }
 
 pub unread_of : (a b c : View) (part : ℕ) (name : List ℕ) (file : ℕ) → Opened a b part name file → ReadFault b c file → CannotRead a c part name
 unread_of a b c part name file x r = inl (rose_later _ _ _ (x.keeps.later.read part) (r part x.is_new.part))

@@ -1,12 +1,15 @@
 -- What is read of the files that are verified, and why they are not.
-use Rattle.std.specs.Prelude.{◌≡◌, ◌⊎◌, ◌<◌, ◌^◌, ℕ, List, length, map, Some, IsTrue}
+use Rattle.std.specs.Prelude.{◌≡◌, ◌⊎◌, ◌<◌, ◌≤◌, ◌^◌, ℕ, List, length, map, Some, IsTrue}
 use Rattle.arrivals_front.specs.Given.{ReadAs}
 use Rattle.capture_model.specs.Capture.{End, Fault, Limit, Reads, Record, Step}
 use Rattle.conf_tree.specs.declared.interface.Interface.{Interface}
 use Rattle.file_judge.specs.declared.verdict.Unverified.{Unverified}
 use Rattle.file_judge.specs.declared.verdict.Unverified.TheVariants as unverified
+use Rattle.given_fates.specs.Fates.{HasFates}
+use Rattle.given_fates.specs.declared.fates.Fates.{Fates}
 use Rattle.input_files.specs.Records.{Shown, shown_of}
 use Rattle.interface_marks.specs.Conditioners.{marked_in}
+use Rattle.interface_policy.specs.Policy.{queue_names}
 use Rattle.pcap_files.specs.declared.fault.CaptureFault.{CaptureFault}
 use Rattle.pcap_files.specs.declared.fault.CaptureFault.TheVariants as fault
 use Rattle.pcapng_files.specs.declared.fault.NgFault.TheVariants as ng
@@ -26,6 +29,13 @@ pub record IsLong (v : View) (name : List ℕ) : Type 0 where
   pub bytes : List ℕ
   pub at : v.bytes name ≡ Some bytes
   pub long : 2 ^ 30 < length bytes
+
+-- the bytes under a name, at most 2^30, hold these fates of an interface
+pub record HoldsFates (v : View) (i : Interface) (name : List ℕ) (fates : Fates) : Type 0 where
+  pub text : List ℕ
+  pub at : v.bytes name ≡ Some text
+  pub short : length text ≤ 2 ^ 30
+  pub has : HasFates (queue_names i) text fates
 
 -- why a file is not had whole
 abbrev pub InputCauses : View → View → (part : ℕ) → (name : List ℕ) → InputFault → Type 0

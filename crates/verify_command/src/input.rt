@@ -8,7 +8,7 @@ use input_files::read_front;
 use play_base::{Files, Trouble};
 use std::alloc::Global;
 
-/// The most bytes of departures and of fates.
+/// The most bytes of departures.
 const MOST: usize = 1 << 30;
 
 /// Why a file cannot be had whole.

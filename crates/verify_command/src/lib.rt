@@ -2,6 +2,7 @@
 #![tactic(auto)]
 
 mod arrivals;
+mod fates;
 mod input;
 mod lines;
 mod verifying;

@@ -7,6 +7,7 @@ ghost use Rattle.verify_command.specs.Input.{departures_failure, fates_failure, 
 ghost use Rattle.verify_command.specs.Verifying.{VerifyEnds, inputs_of};
 
 use crate::arrivals::read_arrivals;
+use crate::fates::read_fates;
 use crate::input::{InputFault, read_file};
 use crate::lines::verdict_text;
 use command_base::{Done, Failure, ReadPart, RunLimit, absent, read_conf, say_failure};
@@ -104,7 +105,7 @@ pub fn verify<F: Files>(
         Ok(departures) => departures,
         Err(fault) => return Err(departures_failure(fault)),
     };
-    let fates = match read_file(alloc, files, 4, words.fates) {
+    let fates = match read_fates(alloc, files, found, words.fates) {
         Ok(fates) => fates,
         Err(fault) => return Err(fates_failure(fault)),
     };

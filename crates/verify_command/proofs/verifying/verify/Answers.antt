@@ -8,11 +8,11 @@ use Rattle.command_base.specs.declared.failure.Failure.TheVariants as failure
 use Rattle.command_base.specs.declared.fault.ConfigFault.TheVariants as conf
 use Rattle.command_base.proofs.ReadingLemmas.{accepts_of, configured_of, fits, input_config, read_absent}
 use Rattle.verify_command.specs.Verifying.{VerifyEnds, inputs_of}
-use Rattle.verify_command.proofs.ComeLemmas.{AreHad, arrivals_fail, config_fails, departures_fail, fates_fail, has_read, holds, refuted_fails, same_holds, same_judged, says_comes}
+use Rattle.verify_command.proofs.ComeLemmas.{AreHad, arrivals_fail, config_fails, departures_fail, fates_fail, had_fates, has_read, holds, refuted_fails, same_holds, same_judged, says_comes}
 use Rattle.verify_command.proofs.LeaveLemmas.{IsPassed, fails_at, fails_more, leaves_conf, leaves_said, reached_conf, reached_more}
 use Rattle.verify_command.proofs.TellLemmas.{told}
 use Rattle.verify_command.proofs.verifying.verify.Given.{Over}
-use Rattle.verify_command.proofs.verifying.verify.Goals.{After-deref-2, In-Some}
+use Rattle.verify_command.proofs.verifying.verify.Goals.{After-deref, In-Some}
 use Rattle.verify_command.proofs.verifying.verify.Goals as goal
 
 pub returns-in-Err-clause-ends : goal.returns-in-Err-clause-ends
@@ -37,6 +37,12 @@ returns-in_default-clause-ends g c =
 
 pub read_arrivals-requires : goal.read_arrivals-requires
 read_arrivals-requires g c = record {
+  fits = fits c.in-Some.found.now c.configurations_fit.ensures
+      (configured_of c.args.words.now.interface.now c.in-Ok.ensures.read.text c.in-Ok.conf c.in-Some.found.now c.in-Ok.ensures.read.reads (sym c.in-Some.ensures));
+}
+
+pub read_fates-requires : goal.read_fates-requires
+read_fates-requires g c = record {
   fits = fits c.in-Some.found.now c.configurations_fit.ensures
       (configured_of c.args.words.now.interface.now c.in-Ok.ensures.read.text c.in-Ok.conf c.in-Some.found.now c.in-Ok.ensures.read.reads (sym c.in-Some.ensures));
 }
@@ -78,18 +84,18 @@ returns-in-Err-read_file-clause-ends g c =
     (fails_more c.configurations_fit.ensures u b d n 3 _ (omega arith) (omega arith) next x.keeps x.opens
     (departures_fail u b d n c.in-Some.found.now c.in-Ok-read_arrivals.records c.in-Err-read_file.fault next.leaves.keeps read x.why))
 
-pub returns-in-Err-read_file-2-clause-ends : goal.returns-in-Err-read_file-2-clause-ends
-returns-in-Err-read_file-2-clause-ends g c =
+pub returns-in-Err-read_fates-clause-ends : goal.returns-in-Err-read_fates-clause-ends
+returns-in-Err-read_fates-clause-ends g c =
     let u = g.F.Files.view c.args.files.now in
     let a = g.F.Files.view c.read_conf.new.files in
     let b = g.F.Files.view c.read_arrivals.new.files in
     let d = g.F.Files.view c.read_file.new.files in
-    let e = g.F.Files.view c.read_file-2.new.files in
+    let e = g.F.Files.view c.read_fates.new.files in
     let n = inputs_of c.args.words.now in
     let y = c.in-Ok-read_arrivals.ensures in
     let z = c.in-Ok-read_file.ensures in
-    let x = c.in-Err-read_file-2.ensures in
-    let first = (goal.at.returns-in-Err-read_file-2-clause-ends g c).In-Some in
+    let x = c.in-Err-read_fates.ensures in
+    let first = (goal.at.returns-in-Err-read_fates-clause-ends g c).In-Some in
     let next = reached_more u a b n 2 (omega arith) (omega arith) (begun g first) y.keeps y.opens y.said y.no_fault in
     let then = reached_more u b d n 3 (omega arith) (omega arith) next z.keeps z.opens z.said z.no_fault in
     let read = has_read u a n c.in-Some.found.now c.in-Ok-read_arrivals.records (begun g first).leaves.keeps (accepted g first) y.whole in
@@ -97,7 +103,7 @@ returns-in-Err-read_file-2-clause-ends g c =
     let P : Failure → Type 0 = λ f. VerifyEnds u e n (Err f) in
     subst P (sym c.fates_failure.ensures)
     (fails_more c.configurations_fit.ensures u d e n 4 _ (omega arith) (omega arith) then x.keeps x.opens
-    (fates_fail u d e n c.in-Some.found.now c.in-Ok-read_arrivals.records c.in-Ok-read_file.departures.items c.in-Err-read_file-2.fault then.leaves.keeps read had x.why))
+    (fates_fail u d e n c.in-Some.found.now c.in-Ok-read_arrivals.records c.in-Ok-read_file.departures.items c.in-Err-read_fates.fault then.leaves.keeps read had x.why))
 
 pub judge-requires-clause-interface : goal.judge-requires-clause-interface
 judge-requires-clause-interface g c =
@@ -105,55 +111,57 @@ judge-requires-clause-interface g c =
     (configured_of c.args.words.now.interface.now c.in-Ok.ensures.read.text c.in-Ok.conf c.in-Some.found.now c.in-Ok.ensures.read.reads (sym c.in-Some.ensures))
 
 -- once all four files are read
-all : (g : Over) (c : After-deref-2 g)
-    → IsPassed (g.F.Files.view c.args.files.now) (g.F.Files.view c.read_file-2.new.files) (inputs_of c.args.words.now)
+all : (g : Over) (c : After-deref g)
+    → IsPassed (g.F.Files.view c.args.files.now) (g.F.Files.view c.read_conf.new.files) (inputs_of c.args.words.now)
+    → Accepts (g.F.Files.view c.args.files.now) (inputs_of c.args.words.now).config (inputs_of c.args.words.now).interface c.in-Some.found.now
+    → IsPassed (g.F.Files.view c.args.files.now) (g.F.Files.view c.read_fates.new.files) (inputs_of c.args.words.now)
     × (IsTrue (g.F.Files.view c.args.files.now).tells
-    → AreHad (g.F.Files.view c.args.files.now) (inputs_of c.args.words.now) c.in-Some.found.now c.in-Ok-read_arrivals.records c.deref.result.now c.deref-2.result.now)
-all g c =
+    → AreHad (g.F.Files.view c.args.files.now) (inputs_of c.args.words.now) c.in-Some.found.now c.in-Ok-read_arrivals.records c.deref.result.now c.in-Ok-read_fates.fates)
+all g c begun accepted =
     let u = g.F.Files.view c.args.files.now in
     let a = g.F.Files.view c.read_conf.new.files in
     let b = g.F.Files.view c.read_arrivals.new.files in
     let d = g.F.Files.view c.read_file.new.files in
-    let e = g.F.Files.view c.read_file-2.new.files in
+    let e = g.F.Files.view c.read_fates.new.files in
     let n = inputs_of c.args.words.now in
     let y = c.in-Ok-read_arrivals.ensures in
     let z = c.in-Ok-read_file.ensures in
-    let f = c.in-Ok-read_file-2.ensures in
-    let first = (goal.at.judge-requires-clause-interface g c).In-Some in
-    let next = reached_more u a b n 2 (omega arith) (omega arith) (begun g first) y.keeps y.opens y.said y.no_fault in
+    let f = c.in-Ok-read_fates.ensures in
+    let next = reached_more u a b n 2 (omega arith) (omega arith) begun y.keeps y.opens y.said y.no_fault in
     let then = reached_more u b d n 3 (omega arith) (omega arith) next z.keeps z.opens z.said z.no_fault in (
       reached_more u d e n 4 (omega arith) (omega arith) then f.keeps f.opens f.said f.no_fault,
       λ t. record {
-        arrivals = has_read u a n c.in-Some.found.now c.in-Ok-read_arrivals.records (begun g first).leaves.keeps (accepted g first) y.whole t;
+        arrivals = has_read u a n c.in-Some.found.now c.in-Ok-read_arrivals.records begun.leaves.keeps accepted y.whole t;
         departures_had = same_holds u n.departures c.in-Ok-read_file.departures.items c.deref.result.now c.deref.ensures.value
             (holds u b n.departures c.in-Ok-read_file.departures.items next.leaves.keeps z.whole z.short) t;
-        fates_had = same_holds u n.fates c.in-Ok-read_file-2.fates.items c.deref-2.result.now c.deref-2.ensures.value
-            (holds u d n.fates c.in-Ok-read_file-2.fates.items then.leaves.keeps f.whole f.short) t;
+        fates_had = had_fates u d c.in-Some.found.now n.fates c.in-Ok-read_fates.fates then.leaves.keeps f.whole t;
       },
     )
 
 pub returns-in-Err-judge-clause-ends : goal.returns-in-Err-judge-clause-ends
 returns-in-Err-judge-clause-ends g c =
     let u = g.F.Files.view c.args.files.now in
-    let e = g.F.Files.view c.read_file-2.new.files in
+    let e = g.F.Files.view c.read_fates.new.files in
     let n = inputs_of c.args.words.now in
-    let x = all g (goal.at.returns-in-Err-judge-clause-ends g c).After-deref-2 in
+    let first = (goal.at.returns-in-Err-judge-clause-ends g c).In-Some in
+    let x = all g (goal.at.returns-in-Err-judge-clause-ends g c).After-deref (begun g first) (accepted g first) in
     let P : Failure → Type 0 = λ f. VerifyEnds u e n (Err f) in
     subst P (sym c.refutation.ensures)
     (fails_at c.configurations_fit.ensures u e n _ x.0.leaves
-    (refuted_fails u e n c.in-Some.found.now c.in-Ok-read_arrivals.records c.deref.result.now c.deref-2.result.now c.in-Err-judge.why x.1 c.in-Err-judge.ensures.refuted))
+    (refuted_fails u e n c.in-Some.found.now c.in-Ok-read_arrivals.records c.deref.result.now c.in-Ok-read_fates.fates c.in-Err-judge.why x.1 c.in-Err-judge.ensures.refuted))
 
 pub returns-in-Ok-say_verdict-clause-ends : goal.returns-in-Ok-say_verdict-clause-ends
 returns-in-Ok-say_verdict-clause-ends g c =
     let u = g.F.Files.view c.args.files.now in
-    let e = g.F.Files.view c.read_file-2.new.files in
+    let e = g.F.Files.view c.read_fates.new.files in
     let w = g.F.Files.view c.say_verdict.new.files in
     let n = inputs_of c.args.words.now in
     let found = c.in-Some.found.now in
     let answers = c.in-Ok-read_arrivals.records in
-    let x = all g (goal.at.returns-in-Ok-say_verdict-clause-ends g c).After-deref-2 in
-    let judged = same_judged found answers c.deref.result.now c.deref-2.result.now c.in-Ok-judge.late.items c.deref-3.result.now c.deref-3.ensures.value c.in-Ok-judge.ensures.verified in
-    let comes = says_comes u e w n found answers c.deref.result.now c.deref-2.result.now c.deref-3.result.now (Ok c.in-Ok-say_verdict.done)
+    let first = (goal.at.returns-in-Ok-say_verdict-clause-ends g c).In-Some in
+    let x = all g (goal.at.returns-in-Ok-say_verdict-clause-ends g c).After-deref (begun g first) (accepted g first) in
+    let judged = same_judged found answers c.deref.result.now c.in-Ok-read_fates.fates c.in-Ok-judge.late.items c.deref-2.result.now c.deref-2.ensures.value c.in-Ok-judge.ensures.verified in
+    let comes = says_comes u e w n found answers c.deref.result.now c.in-Ok-read_fates.fates c.deref-2.result.now (Ok c.in-Ok-say_verdict.done)
     x.0.leaves.keeps x.0.silent x.0.counts x.1 judged c.in-Ok-say_verdict.ensures.said.says in
     record {
       comes = comes;
@@ -164,14 +172,15 @@ returns-in-Ok-say_verdict-clause-ends g c =
 pub returns-clause-ends : goal.returns-clause-ends
 returns-clause-ends g c =
     let u = g.F.Files.view c.args.files.now in
-    let e = g.F.Files.view c.read_file-2.new.files in
+    let e = g.F.Files.view c.read_fates.new.files in
     let w = g.F.Files.view c.say_verdict.new.files in
     let n = inputs_of c.args.words.now in
     let found = c.in-Some.found.now in
     let answers = c.in-Ok-read_arrivals.records in
-    let x = all g (goal.at.returns-clause-ends g c).After-deref-2 in
-    let judged = same_judged found answers c.deref.result.now c.deref-2.result.now c.in-Ok-judge.late.items c.deref-3.result.now c.deref-3.ensures.value c.in-Ok-judge.ensures.verified in
-    let comes = says_comes u e w n found answers c.deref.result.now c.deref-2.result.now c.deref-3.result.now (Err c.in-Err-say_verdict.failure)
+    let first = (goal.at.returns-clause-ends g c).In-Some in
+    let x = all g (goal.at.returns-clause-ends g c).After-deref (begun g first) (accepted g first) in
+    let judged = same_judged found answers c.deref.result.now c.in-Ok-read_fates.fates c.in-Ok-judge.late.items c.deref-2.result.now c.deref-2.ensures.value c.in-Ok-judge.ensures.verified in
+    let comes = says_comes u e w n found answers c.deref.result.now c.in-Ok-read_fates.fates c.deref-2.result.now (Err c.in-Err-say_verdict.failure)
     x.0.leaves.keeps x.0.silent x.0.counts x.1 judged c.in-Err-say_verdict.ensures.said.says in
     record {
       comes = comes;
