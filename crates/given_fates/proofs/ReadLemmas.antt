@@ -1,10 +1,10 @@
 -- A text that is read on.
-use Rattle.std.proofs.Common.{◌≡◌, ◌≤◌, ◌<◌, ◌+◌, ◌^◌, ◌++◌, ◌∙◌, ◌⊎◌, inl, inr, ℕ, List, [], ◌∷◌, length, take, drop, refl, sym, ap, subst, arith, append_assoc, append-nil}
+use Rattle.std.proofs.Common.{◌≡◌, ◌≤◌, ◌+◌, ◌++◌, ◌∙◌, ◌⊎◌, inl, inr, ℕ, List, [], ◌∷◌, length, take, drop, refl, sym, ap, subst, arith, append_assoc, append-nil}
 use Rattle.std.specs.Prelude.{Some}
 use Rattle.std.proofs.lemmas.List.{append_cancel_left, length-append, length-take-le, nil_from_length, take-append-drop}
 use Rattle.std.proofs.Math.Seq.{take-append_seam}
 use Rattle.fate_check.specs.declared.reading.Row.{Row}
-use Rattle.fate_check.specs.Text.{AreRows, FailsAt, HasNoHead, Reads, StopsAt, text_of, texts_of}
+use Rattle.fate_check.specs.Text.{AreRows, FailsAt, Reads, StopsAt, text_of, texts_of}
 use Rattle.fate_check.proofs.RowLemmas.{row_shorter}
 use Rattle.given_fates.specs.Fates.{ArePassed, IsReadTo}
 use Rattle.play_base.specs.View.{View, IsAtEnd, Took}

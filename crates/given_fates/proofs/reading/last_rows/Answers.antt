@@ -1,4 +1,4 @@
-use Rattle.std.proofs.Common.{arith, ◌≡◌, ◌++◌, ◌+◌, ◌^◌, List, length, sym, subst}
+use Rattle.std.proofs.Common.{arith, ◌≡◌, ◌+◌, List, length, sym, subst}
 use Rattle.std.specs.Prelude.{ℕ}
 use Rattle.fate_check.specs.declared.reading.Row.{Row}
 use Rattle.fate_check.specs.declared.reading.RowFault.{RowFault}
