@@ -1,7 +1,7 @@
 -- How a run ends, by how its command ended or why its words were not read.
 use Rattle.std.proofs.Common.{◌≡◌, ◌∙◌, ◌⊎◌, ℕ, List, Option, None, Some, Ok, Err, ap, sym, subst, refl, inl, inr, arith}
-use Rattle.play_base.specs.declared.steady.SteadyFiles.{SteadyFiles}
-use Rattle.play_base.specs.Steady.{steady_view}
+use Rattle.memory_files.specs.declared.steady.SteadyFiles.{SteadyFiles}
+use Rattle.memory_files.specs.Steady.{steady_view}
 use Rattle.play_base.specs.View.{View, SameCounts}
 use Rattle.play_words.specs.Causes.{Explains}
 use Rattle.play_words.specs.Kinds.{words_kind}

@@ -1,6 +1,6 @@
 // The one public call: from the words of the command line to a status.
 ghost use Rattle.std.specs.Prelude.{◌≡◌, ◌≢◌, ℕ, None, Some};
-ghost use Rattle.play_base.specs.Steady.{steady_view};
+ghost use Rattle.memory_files.specs.Steady.{steady_view};
 ghost use Rattle.play_base.specs.View.{SameCounts, View};
 ghost use Rattle.play_words.specs.Words.{IsChain, IsCheck, IsMake, IsPlay, IsShares, IsVerify, count_of, refusal, seed_of};
 ghost use Rattle.command_base.specs.Names.{names_of};
@@ -20,7 +20,8 @@ use crate::commands::{
     run_chain, run_check, run_condition, run_make, run_play, run_shares, run_verify,
 };
 use command_base::{Failure, Status, told};
-use play_base::{Files, SteadyFiles};
+use memory_files::SteadyFiles;
+use play_base::Files;
 use play_words::{Command, Unread, read_words};
 use std::alloc::Global;
 

@@ -2,7 +2,7 @@
 
 use crate::arrivals::packets;
 use crate::runs::{IMPLIED, ended, play_over};
-use play_base::MemoryFiles;
+use memory_files::MemoryFiles;
 use std::test::Fail;
 
 // The header has 24 bytes, and each of two records 76.

@@ -2,7 +2,7 @@
 
 use crate::arrivals::{arrive, no_arrivals};
 use crate::runs::{IMPLIED, ended, play_over};
-use play_base::MemoryFiles;
+use memory_files::MemoryFiles;
 use std::test::Fail;
 
 // 4,000,001 packets of 100 bytes at 0, of which none is captured.

@@ -2,7 +2,7 @@
 
 use crate::arrivals::packets;
 use crate::runs::{IMPLIED, play_over, played};
-use play_base::MemoryFiles;
+use memory_files::MemoryFiles;
 use std::test::Fail;
 
 // The words of `IMPLIED`: behind a backslash, a carriage return and a line feed a line goes on.

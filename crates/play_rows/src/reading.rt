@@ -1,6 +1,6 @@
 // How far a capture is read by the loop itself, over two classes in strict order.
 ghost use Rattle.std.specs.Prelude.{◌≡◌, ◌≤◌, ◌^◌, ◌∷◌, [], codes, length, IfOk};
-ghost use Rattle.play_base.specs.Memory.{memory_view};
+ghost use Rattle.memory_files.specs.Memory.{memory_view};
 ghost use Rattle.play_loop.specs.Played.{AreReady};
 
 use crate::arrivals::{arrive, packets};
@@ -8,8 +8,9 @@ use crate::frames::PLAIN;
 use crate::runs::play_words;
 use altq_model::{Placed, Rule};
 use leaf_queue::{Tail, Words};
+use memory_files::{Call, MemoryFiles};
 use plain_disciplines::{Classify, Discipline, Strict};
-use play_base::{Call, Files, MemoryFiles, NoMemory};
+use play_base::{Files, NoMemory};
 use play_files::create_outputs;
 use play_loop::{Limit, Opened, PlayFault, Totals, play};
 use play_text::Names;

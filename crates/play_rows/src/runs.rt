@@ -2,7 +2,8 @@
 
 use crate::arrivals::{arrive, no_arrivals};
 use crate::frames::{PLAIN, datagram};
-use play_base::{MemoryFiles, NoMemory};
+use memory_files::MemoryFiles;
+use play_base::NoMemory;
 use play_cli::{Status, run};
 use std::alloc::Global;
 use std::test::Fail;

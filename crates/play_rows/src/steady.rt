@@ -2,7 +2,7 @@
 
 use crate::arrivals::packets;
 use crate::runs::{IMPLIED, ended, play_words};
-use play_base::{Call, SteadyFiles};
+use memory_files::{Call, SteadyFiles};
 use play_cli::run_steady;
 use std::test::Fail;
 

@@ -1,7 +1,8 @@
 // Each call of a play that fails in turn.
 
 use crate::runs::{VOICE_AND_DATA, ended, play_over, played, voice_and_data};
-use play_base::{Call, MemoryFiles, NoMemory};
+use memory_files::{Call, MemoryFiles};
+use play_base::NoMemory;
 use play_cli::Status;
 use std::alloc::Global;
 use std::process::Abort;

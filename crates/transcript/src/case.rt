@@ -8,7 +8,8 @@ use crate::moments::next_at;
 use crate::openings::deadline;
 use crate::packet::number;
 use crate::quoted::{lines, quoted, records};
-use play_base::{Call, MemoryFiles, NoMemory};
+use memory_files::{Call, MemoryFiles};
+use play_base::NoMemory;
 use play_cli::run;
 use std::alloc::Global;
 

@@ -14,8 +14,9 @@ use frame_classes::{Classifier, frames_have_classes};
 use input_files::{Records, read_records};
 use interface_policy::{cbq_of, hfsc_of, interfaces_keep_their_promises};
 use link_clock::LinkClock;
+use memory_files::MemoryFiles;
 use pcap_files::CaptureFault;
-use play_base::{Files, MemoryFiles, NoMemory, Trouble};
+use play_base::{Files, NoMemory, Trouble};
 use std::alloc::Global;
 
 // The word of a rule.

@@ -1,9 +1,9 @@
 // What files in memory tell are bytes.
 ghost use Rattle.std.specs.Prelude.{◌<◌, All};
-ghost use Rattle.play_base.specs.Memory.{memory_view};
+ghost use Rattle.memory_files.specs.Memory.{memory_view};
 ghost use Rattle.verify_laws.specs.Left.{HoldsBytes};
 
-use play_base::MemoryFiles;
+use memory_files::MemoryFiles;
 
 // Bytes are below 256.
 fn are_bytes(bytes: &[u8])

@@ -1,6 +1,6 @@
 use Rattle.std.proofs.Common.{arith}
 use Rattle.std.proofs.lemmas.Map.Text.{text_keys}
-use Rattle.play_base.proofs.names.set_bytes.Goals as goal
+use Rattle.memory_files.proofs.names.set_bytes.Goals as goal
 
 pub returns-clause-others : goal.returns-clause-others
 returns-clause-others c = grind (arith, text_keys)

@@ -7,8 +7,8 @@ use Rattle.std.specs.declared.alloc.Global.{Global}
 use Rattle.std.specs.BTreeMap.{BTreeMap, get_by_text}
 use Rattle.std.specs.Prelude.{Vec, String}
 use Rattle.play_base.specs.View.{View}
-use Rattle.play_base.specs.declared.memory.MemoryFiles.{MemoryFiles}
-use Rattle.play_base.specs.declared.opened.OpenedFile.{OpenedFile}
+use Rattle.memory_files.specs.declared.memory.MemoryFiles.{MemoryFiles}
+use Rattle.memory_files.specs.declared.opened.OpenedFile.{OpenedFile}
 
 -- the bytes under a name
 abbrev pub bytes_under : BTreeMap (String Global) (Vec ℕ Global) → List ℕ → Option (List ℕ)

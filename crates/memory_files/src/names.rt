@@ -1,6 +1,6 @@
 // The bytes under each name.
 ghost use Rattle.std.specs.Prelude.{◌≡◌, ◌≢◌, ◌++◌, ℕ, List, [], Some, OnOk, OnErr, option_map, unwrap_or};
-ghost use Rattle.play_base.specs.Memory.{bytes_under};
+ghost use Rattle.memory_files.specs.Memory.{bytes_under};
 
 use std::alloc::{AllocError, Global};
 use std::collections::BTreeMap;

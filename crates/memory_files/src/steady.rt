@@ -1,15 +1,16 @@
 // Files in memory that never fail.
 ghost use Rattle.std.specs.Prelude.{◌≡◌, ◌≢◌, ◌≤◌, ◌<◌, ◌-◌, ◌^◌, ◌⊎◌, ℕ, List, [], min, length, take, IsSome, Some, None, IfOk, OnOk, OnErr, IsErrOf, option_map, unwrap_or};
 ghost use Rattle.play_base.specs.View.{Unchanged, SameCounts, Keeps, Any, IsFresh, Opened, Created, Took, Wrote, Said, WriteFault, IsAtEnd};
-ghost use Rattle.play_base.specs.Memory.{bytes_under};
-ghost use Rattle.play_base.specs.Steady.{HasSameBounds, IsCounted, steady_made, steady_view};
-ghost use Rattle.play_base.specs.declared.planned.Call.{Call};
+ghost use Rattle.memory_files.specs.Memory.{bytes_under};
+ghost use Rattle.memory_files.specs.Steady.{HasSameBounds, IsCounted, steady_made, steady_view};
+ghost use Rattle.memory_files.specs.declared.planned.Call.{Call};
 
+use crate::Call;
 use crate::names::{append_bytes, bytes_of, set_bytes};
 use crate::numbered::{add_created, add_file, copy_next, name_of};
 use crate::opened::{Chunk, OpenedFile};
 use crate::planned::{count_call, count_of};
-use crate::{Call, Files, NoMemory, Trouble};
+use play_base::{Files, NoMemory, Trouble};
 use std::alloc::Global;
 use std::collections::BTreeMap;
 
@@ -130,7 +131,7 @@ impl SteadyFiles {
 }
 
 impl Files for SteadyFiles {
-    ghost use Rattle.play_base.specs.Telling.{told_at};
+    ghost use Rattle.memory_files.specs.Telling.{told_at};
 
     ghost view = { steady_view };
 

@@ -3,8 +3,8 @@ use Rattle.std.proofs.Common.{◌≡◌, ◌∙◌, ◌-◌, ℕ, zero, suc, Lis
 use Rattle.std.specs.Prelude.{◌≢◌, IsSome, slice_get, string_bytes, option_map}
 use Rattle.std.specs.Option.{option_map_or}
 use Rattle.std.proofs.lemmas.Option.{slice_get_past}
-use Rattle.play_base.specs.declared.opened.OpenedFile.{OpenedFile}
-use Rattle.play_base.specs.Memory.{Added, part_at, name_at, left_at}
+use Rattle.memory_files.specs.declared.opened.OpenedFile.{OpenedFile}
+use Rattle.memory_files.specs.Memory.{Added, part_at, name_at, left_at}
 
 pub slice_get-push : {X : Type 0} (xs : List X) (x : X) → slice_get (xs ++ x ∷ []) (length xs) ≡ Some x
 slice_get-push [] x = refl

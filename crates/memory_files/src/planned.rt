@@ -1,7 +1,7 @@
 // Failures that a test plans, and the counts that they raise.
 ghost use Rattle.std.specs.Prelude.{◌≡◌, ◌≢◌, ◌≤◌, ◌<◌, ◌+◌, ◌-◌, ◌^◌, ℕ, min, slice_index};
 ghost use Rattle.play_base.specs.View.{Rose};
-ghost use Rattle.play_base.specs.Planned.{is_planned, place_of};
+ghost use Rattle.memory_files.specs.Planned.{is_planned, place_of};
 
 /// The kinds of calls on files.
 #[derive(Clone, Copy, Debug, PartialEq, Eq)]

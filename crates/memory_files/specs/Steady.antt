@@ -2,10 +2,10 @@
 -- are counted for them.
 use Rattle.std.specs.Prelude.{◌≡◌, ◌≢◌, ◌+◌, ◌-◌, ◌^◌, ℕ, [], true, Some, min, slice_index, unwrap_or}
 use Rattle.play_base.specs.View.{View}
-use Rattle.play_base.specs.Memory.{bytes_under, part_at, name_at, left_at}
-use Rattle.play_base.specs.Planned.{place_of}
-use Rattle.play_base.specs.declared.planned.Call.{Call}
-use Rattle.play_base.specs.declared.steady.SteadyFiles.{SteadyFiles}
+use Rattle.memory_files.specs.Memory.{bytes_under, part_at, name_at, left_at}
+use Rattle.memory_files.specs.Planned.{place_of}
+use Rattle.memory_files.specs.declared.planned.Call.{Call}
+use Rattle.memory_files.specs.declared.steady.SteadyFiles.{SteadyFiles}
 
 abbrev pub steady_view : SteadyFiles → View
 steady_view m = record {

@@ -1,14 +1,15 @@
 // Files in memory, which tell everything.
 ghost use Rattle.std.specs.Prelude.{◌≡◌, ◌≢◌, ◌≤◌, ◌<◌, ◌-◌, ◌^◌, ◌⊎◌, ◌++◌, ◌∷◌, [], ℕ, List, min, length, take, IsTrue, IsSome, Some, None, Err, IfOk, OnOk, OnErr, IsErrOf, option_map, slice_index};
 ghost use Rattle.play_base.specs.View.{Unchanged, SameCounts, SameButReads, SameButWrites, Keeps, Any, IsFresh, Rose, Opened, Created, Took, Wrote, Said, ReadFault, WriteFault, IsMissed, IsAtEnd};
-ghost use Rattle.play_base.specs.Memory.{memory_view};
-ghost use Rattle.play_base.specs.Planned.{Counted, IsSamePlan, is_due, made};
+ghost use Rattle.memory_files.specs.Memory.{memory_view};
+ghost use Rattle.memory_files.specs.Planned.{Counted, IsSamePlan, is_due, made};
 
+use crate::Call;
 use crate::names::{append_bytes, bytes_of, set_bytes};
 use crate::numbered::{add_created, add_file, copy_next, name_of, part_of};
 use crate::opened::{Chunk, OpenedFile};
 use crate::planned::{Failing, count_fault, count_of, fails_now};
-use crate::{Call, Files, NoMemory, Trouble};
+use play_base::{Files, NoMemory, Trouble};
 use std::alloc::Global;
 use std::collections::BTreeMap;
 
@@ -154,7 +155,7 @@ impl MemoryFiles {
 }
 
 impl Files for MemoryFiles {
-    ghost use Rattle.play_base.specs.Telling.{told_at};
+    ghost use Rattle.memory_files.specs.Telling.{told_at};
 
     ghost view = { memory_view };
 

@@ -2,8 +2,8 @@
 use Rattle.std.proofs.Common.{◌≡◌, ℕ, List, refl}
 use Rattle.std.specs.Prelude.{IsSome, Some, None, option_map, slice_get, drop}
 use Rattle.std.specs.declared.option.Option.{Option}
-use Rattle.play_base.specs.Memory.{left_at, part_at}
-use Rattle.play_base.specs.declared.opened.OpenedFile.{OpenedFile}
+use Rattle.memory_files.specs.Memory.{left_at, part_at}
+use Rattle.memory_files.specs.declared.opened.OpenedFile.{OpenedFile}
 
 by_slot : (o : Option OpenedFile) (part : ℕ) → option_map (λ (x : OpenedFile). x.part) o ≡ Some part
     → IsSome (option_map (λ (x : OpenedFile). drop x.place x.bytes.items) o)

@@ -1,10 +1,10 @@
 // The list of the files opened so far: a file's number is its place there.
 ghost use Rattle.std.specs.Prelude.{◌≡◌, ◌≢◌, ◌≤◌, ◌<◌, ℕ, List, [], min, length, take, drop, IsSome, Some, IfOk, OnOk, OnErr, IsErrOf};
-ghost use Rattle.play_base.specs.Memory.{Added, Advanced, bytes_under, part_at, name_at};
+ghost use Rattle.memory_files.specs.Memory.{Added, Advanced, bytes_under, part_at, name_at};
 
-use crate::Trouble;
 use crate::names::set_bytes;
 use crate::opened::{Chunk, OpenedFile};
+use play_base::Trouble;
 use std::alloc::Global;
 use std::collections::BTreeMap;
 

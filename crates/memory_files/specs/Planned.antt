@@ -1,10 +1,10 @@
 -- Failures that are planned for files in memory, the calls that are counted for them, and the bounds on a read and a write.
 use Rattle.std.specs.Prelude.{◌≡◌, ◌≢◌, ◌+◌, ◌-◌, ◌^◌, ◌==◌, ◌&&◌, ℕ, Bool, min, List, slice_index}
 use Rattle.std.specs.List.{list_any}
-use Rattle.play_base.specs.declared.planned.Call.{Call}
-use Rattle.play_base.specs.declared.planned.Call.TheVariants.{Open, Create, Read, Write, Say}
-use Rattle.play_base.specs.declared.planned.Failing.{Failing}
-use Rattle.play_base.specs.declared.memory.MemoryFiles.{MemoryFiles}
+use Rattle.memory_files.specs.declared.planned.Call.{Call}
+use Rattle.memory_files.specs.declared.planned.Call.TheVariants.{Open, Create, Read, Write, Say}
+use Rattle.memory_files.specs.declared.planned.Failing.{Failing}
+use Rattle.memory_files.specs.declared.memory.MemoryFiles.{MemoryFiles}
 
 -- the place at which calls of a kind are counted
 abbrev pub place_of : Call → ℕ

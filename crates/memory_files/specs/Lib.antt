@@ -1,0 +1,4 @@
+pub mod Memory
+pub mod Planned
+pub mod Steady
+pub mod Telling
