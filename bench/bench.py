@@ -1,7 +1,7 @@
 #!/usr/bin/env python3
 """Measures the built program on one capture of each kind of scheduler, and on some that are made to be slow. No part of any test.
 
-    bench.py [PACKETS] [--runs N] [--only LINE,LINE] [--slow] [--program PROGRAM] [--reference PROGRAM]
+    bench.py [PACKETS] [--runs N] [--only LINE,LINE] [--slow] [--others] [--program PROGRAM] [--reference PROGRAM]
 
 PACKETS (200,000) are in each capture; bench/inputs.py says what each line plays. The program must be built: example/run builds
 crates/altqplay/out/altqplay. It works in a new folder, in memory where the machine has /dev/shm, and removes it at the end.
@@ -11,16 +11,19 @@ For each line it prints
   - how many packets were sent and dropped,
   - nanoseconds a packet of processor time, and by the clock: of the whole run, which reads, decides and writes, the least of N (5) runs,
   - its peak memory,
-  - how many times longer it takes by the clock than `cat ARRIVALS DEPARTURES FATES >COPY`, which reads and writes the bytes of all three,
+  - how many times longer it takes by the clock than `cat` of its capture and of the captures and fates that it writes or verifies,
   - with --reference, the nanoseconds of processor time of that program, run by turns with the other, how many times as fast as it the
-    program is, and `differ` where the files that both leave are not the same.
+    program is, and `differ` where the files that both leave, or what they say, are not the same.
 
-Without --only it plays the usual lines, with --slow those that are made to be slow. The status is 1 where a run failed or files differ.
+Without --only it plays the usual lines, with --slow those that are made to be slow, and with --others one of each other command: verify
+of what a play left, a play with a conditioner, condition, a play of a pcapng capture, chain and shares. The status is 1 where a run failed
+or files differ.
 """
 
 import argparse
 import os
 import shutil
+import struct
 import sys
 import tempfile
 import time
@@ -31,10 +34,41 @@ ROOT = os.path.dirname(HERE)
 sys.path[:0] = [os.path.join(ROOT, "example"), HERE]
 
 from generate import capture_head, record  # noqa: E402
-from inputs import LINES, SLOW  # noqa: E402
+from inputs import LINES, OTHERS, SLOW  # noqa: E402
 
 PROGRAM = os.path.join(ROOT, "crates", "altqplay", "out", "altqplay")
-OUTPUTS = ("departures.pcap", "fates.csv", "stats.csv")
+ALL = {**{label: (*line, "play") for label, line in {**LINES, **SLOW}.items()}, **OTHERS}
+
+# The options of each command that name a file, and what it is called; outputs end with a mark.
+PLAYED = {"config": "altq.conf", "arrivals": "arrivals.pcap", "departures": "departures.pcap*", "fates": "fates.csv*", "stats": "stats.csv*"}
+SECOND = {"departures2": "departures2.pcap*", "fates2": "fates2.csv*", "stats2": "stats2.csv*", "path": "path.csv*"}
+FILES = {
+    "play": PLAYED,
+    "pcapng": PLAYED,
+    "shares": PLAYED,
+    "chain": {**PLAYED, **SECOND},
+    "verify": {name: value.rstrip("*") for name, value in PLAYED.items() if name != "stats"},
+    "condition": {"config": "altq.conf", "arrivals": "arrivals.pcap", "marked": "marked.pcap*"},
+}
+# Their other words.
+WORDS = {"play": "--seed 1", "pcapng": "--seed 1", "shares": "--seed 1", "chain": "--seed 1 --next if1", "verify": "", "condition": ""}
+
+
+def block(kind, body):
+    """A block of a pcapng capture."""
+    body += bytes(-len(body) % 4)
+    return struct.pack("<II", kind, 12 + len(body)) + body + struct.pack("<I", 12 + len(body))
+
+
+def pcapng_head():
+    """A section and an interface of Ethernet whose stamps are in nanoseconds."""
+    interface = struct.pack("<HHI", 1, 0, 0) + struct.pack("<HHBxxx", 9, 1, 9) + struct.pack("<HH", 0, 0)
+    return block(0x0A0D0D0A, struct.pack("<IHHq", 0x1A2B3C4D, 1, 0, -1)) + block(1, interface)
+
+
+def pcapng_record(stamp, frame, length):
+    """A packet of that interface."""
+    return block(6, struct.pack("<IIIII", 0, stamp >> 32, stamp & 0xFFFFFFFF, len(frame), length) + frame)
 
 
 def peak_of(child):
@@ -57,9 +91,9 @@ def taken(words, target=None):
     return os.waitstatus_to_exitcode(status), time.monotonic() - begun, used.ru_utime + used.ru_stime
 
 
-def timed(words):
+def timed(words, target):
     """Runs a command: its status, its seconds by the clock, and its peak memory in KiB by the last of the looks that are taken every 5 ms."""
-    begun, child = time.monotonic(), started(words)
+    begun, child = time.monotonic(), started(words, target)
     peak = ended = 0
     while not ended:
         peak = peak_of(child) or peak
@@ -68,55 +102,63 @@ def timed(words):
     return os.waitstatus_to_exitcode(status), time.monotonic() - begun, peak
 
 
-def write(lines, packets, count, folder):
+def write(lines, packets, command, count, folder):
     """Writes a line's configuration and capture."""
+    head, one = (pcapng_head, pcapng_record) if command == "pcapng" else (capture_head, record)
     with open(os.path.join(folder, "altq.conf"), "w", encoding="ascii") as file:
         file.write("".join(line + "\n" for line in lines()))
     with open(os.path.join(folder, "arrivals.pcap"), "wb") as file:
-        file.write(capture_head())
+        file.write(head())
         for stamp, length, frame in packets(count):
-            file.write(record(stamp, frame, length))
+            file.write(one(stamp, frame, length))
 
 
-def words_of(program, folder):
-    """The words of a play in a folder."""
-    names = {"config": "altq.conf", "arrivals": "arrivals.pcap", "departures": OUTPUTS[0], "fates": OUTPUTS[1], "stats": OUTPUTS[2]}
-    words = [word for name, value in names.items() for word in (f"--{name}", os.path.join(folder, value))]
-    return [program, "play", "--interface", "if0", "--seed", "1", *words]
+def words_of(program, command, folder):
+    """The words of a command in a folder."""
+    names = FILES[command].items()
+    words = [word for name, value in names for word in (f"--{name}", os.path.join(folder, value.rstrip("*")))]
+    return [program, "play" if command == "pcapng" else command, "--interface", "if0", *WORDS[command].split(), *words]
 
 
-def left(folder):
-    """What a play left."""
-    found = []
-    for name in OUTPUTS:
+def left(command, folder):
+    """What a command left and said."""
+    found = {}
+    for name in [*(value.rstrip("*") for value in FILES[command].values() if value.endswith("*")), "said"]:
         with open(os.path.join(folder, name), "rb") as file:
-            found.append(file.read())
+            found[name] = file.read()
     return found
 
 
-def dropped(fates):
-    """How many rows say that their packet was dropped."""
-    return fates.count(b",,\n")
+def columns(command, found, packets):
+    """How many packets were sent and dropped, where the command writes fates."""
+    if "fates.csv" not in found:
+        return f"{'':>18}"
+    lost = found["fates.csv"].count(b",,\n")
+    return f"{packets - lost:>9}{lost:>9}"
 
 
 def measure(label, options, folder):
-    """Plays a line, and prints what it took; whether all went well."""
-    write(*{**LINES, **SLOW}[label], options.packets, folder)
+    """Runs a line, and prints what it took; whether all went well."""
+    lines, packets, command = ALL[label]
+    write(lines, packets, command, options.packets, folder)
     programs = [it for it in (options.program, options.reference) if it]
-    runs, files = {it: [] for it in programs}, {}
+    runs, files, said = {it: [] for it in programs}, {}, os.path.join(folder, "said")
+    if command == "verify" and taken(words_of(options.program, "play", folder), said)[0] != 0:
+        print(f"{label}: the play that is verified failed")
+        return False
     for _ in range(options.runs):
         for program in programs:
-            runs[program].append(taken(words_of(program, folder)))
+            runs[program].append(taken(words_of(program, command, folder), said))
             if runs[program][-1][0] != 0:
                 print(f"{label}: {program} ended with status {runs[program][-1][0]}")
                 return False
-            files.setdefault(program, left(folder))
+            files.setdefault(program, left(command, folder))
     mine = files[options.program]
-    inputs = [os.path.join(folder, name) for name in ("arrivals.pcap", *OUTPUTS[:2])]
+    inputs = [os.path.join(folder, name) for name in map(lambda it: it.rstrip("*"), FILES[command].values()) if name.endswith(("pcap", "csv")) and "stats" not in name]
     cat = min(taken(["cat", *inputs], os.path.join(folder, "copy"))[1] for _ in range(options.runs))
     clock, busy = (min(run[place] for run in runs[options.program]) * 1e9 / options.packets for place in (1, 2))
-    lost, memory = dropped(mine[1]), timed(words_of(options.program, folder))[2]
-    line = f"{label:<14}{options.packets - lost:>9}{lost:>9}{busy:>10.0f}{clock:>10.0f}{memory / 1024:>10.1f}{clock * options.packets / 1e9 / cat:>9.1f}"
+    memory = timed(words_of(options.program, command, folder), said)[2]
+    line = f"{label:<14}{columns(command, mine, options.packets)}{busy:>10.0f}{clock:>10.0f}{memory / 1024:>10.1f}{clock * options.packets / 1e9 / cat:>9.1f}"
     same = all(found == mine for found in files.values())
     if options.reference:
         other = min(run[2] for run in runs[options.reference]) * 1e9 / options.packets
@@ -131,11 +173,13 @@ def parsed(words):
     parser.add_argument("--runs", type=int, default=5)
     parser.add_argument("--only", help="the lines, with commas between them")
     parser.add_argument("--slow", action="store_true", help="the lines that are made to be slow")
+    parser.add_argument("--others", action="store_true", help="a line of each other command")
     parser.add_argument("--program", type=os.path.abspath, default=PROGRAM)
     parser.add_argument("--reference", type=os.path.abspath)
     options = parser.parse_args(words)
-    options.labels = options.only.split(",") if options.only else [*(SLOW if options.slow else LINES)]
-    unknown = [label for label in options.labels if label not in {**LINES, **SLOW}]
+    kind = SLOW if options.slow else OTHERS if options.others else LINES
+    options.labels = options.only.split(",") if options.only else [*kind]
+    unknown = [label for label in options.labels if label not in ALL]
     if unknown or options.packets < 1000:
         parser.error(f"no such line: {', '.join(unknown)}" if unknown else "a capture has 1,000 packets at least")
     return options

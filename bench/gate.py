@@ -1,5 +1,5 @@
 #!/usr/bin/env python3
-"""Runs the gate and says what processor time it took for each crate: its proof, the proof of its tests, and its edits.
+"""Runs the gate and says what processor time it took for each crate: its proof, the proof of its tests, its second proof, and its edits.
 
 Takes no argument, and then runs `rt ci` at the top of the repository; or the words of another command, as
 `rt must-fail link_clock`. What that prints goes to bench/out/gate.log. `--beside` runs nothing: it looks on until it is
@@ -7,8 +7,9 @@ ended by SIGTERM, and then says the three dearest crates and the sum in one line
 check up to 2 seconds are missed, about one in the mean; of an edit that takes 8 that is one in eight. What builds and
 runs programs is not counted, and edits that another run tries meanwhile are. It needs Linux, and is no part of any test.
 
-The table has minutes of processor time, the dearest crate first; in brackets stands how many checks there were. The
-check of a crate on which an edit is tried counts among its edits. The exit status is the command's.
+The table has minutes of processor time, the dearest crate first; in brackets stands how many checks there were. A crate with
+several edits is checked once more from nothing, with the first of them in it: that is `again`, and the others, which begin with
+what that check kept, are `edits`. The exit status is the command's.
 """
 
 import os
@@ -21,10 +22,20 @@ from collections import defaultdict
 ROOT = os.path.dirname(os.path.dirname(os.path.abspath(__file__)))
 LOG = os.path.join(ROOT, "bench", "out", "gate.log")
 TICKS = os.sysconf("SC_CLK_TCK")
-KINDS = ["proof", "tests", "edits"]
+KINDS = ["proof", "tests", "again", "edits"]
 
 
-def checks():
+def kind_of(words, folder, key, firsts):
+    """What a check is for, if it is one of the gate: `firsts` has of each folder of kept work the check that began it."""
+    if "rt-edit" in folder:
+        kept = words[words.index("--incremental") + 1] if "--incremental" in words else None
+        return "again" if kept and firsts.setdefault(kept, key) == key else "edits"
+    if not folder.startswith(ROOT + os.sep):
+        return None
+    return "tests" if "--test" in words else "proof"
+
+
+def checks(firsts):
     """The checks that run now: of each process a key that comes once, what it checks and the seconds that it took."""
     for name in filter(str.isdigit, os.listdir("/proc")):
         try:
@@ -37,18 +48,17 @@ def checks():
             continue  # it has ended
         if os.path.basename(words[0]) != "rattle" or "--crate-name" not in words:
             continue
-        is_edit = "rt-edit" in folder
-        if is_edit or folder.startswith(ROOT + os.sep):
-            kind = "edits" if is_edit else "tests" if "--test" in words else "proof"
-            what = words[words.index("--crate-name") + 1], kind
-            yield (name, numbers[19]), what, sum(map(int, numbers[11:15])) / TICKS
+        key = name, numbers[19]
+        kind = kind_of(words, folder, key, firsts)
+        if kind:
+            yield key, (words[words.index("--crate-name") + 1], kind), sum(map(int, numbers[11:15])) / TICKS
 
 
 def watched(process):
     """The seconds of each check until a process ends."""
-    found = {}
+    found, firsts = {}, {}
     while process.poll() is None:
-        found.update((key, (what, seconds)) for key, what, seconds in checks())
+        found.update((key, (what, seconds)) for key, what, seconds in checks(firsts))
         time.sleep(2)
     return found.values()
 
@@ -65,15 +75,16 @@ def summed(found):
 
 def beside():
     """Looks on beside a command that another runs, until SIGTERM; then says the dearest crates."""
-    found, ended = {}, []
+    found, firsts, ended = {}, {}, []
     signal.signal(signal.SIGTERM, lambda *_: ended.append(True))
     while not ended:
-        found.update((key, (what, seconds)) for key, what, seconds in checks())
+        found.update((key, (what, seconds)) for key, what, seconds in checks(firsts))
         time.sleep(2)
     took, _, crates = summed(found.values())
     if crates:
         dearest = ", ".join(f"{crate} {sum(took[crate, kind] for kind in KINDS):.1f}" for crate in crates[:3])
-        print(f"processor-minutes of checks: {sum(took.values()):.1f}; the dearest: {dearest}")
+        kinds = ", ".join(f"{kind} {sum(took[crate, kind] for crate in crates):.1f}" for kind in KINDS)
+        print(f"processor-minutes of checks: {sum(took.values()):.1f} ({kinds}); the dearest: {dearest}")
 
 
 def main(words):

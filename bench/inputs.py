@@ -1,7 +1,9 @@
-"""The configurations and captures that bench.py plays: of each kind of scheduler one that is usual, and some that are made to be slow.
+"""The configurations and captures that bench.py plays: of each kind of scheduler one that is usual, some that are made to be slow, and
+some for the other commands.
 
-Nothing here is part of any test. `LINES` are the usual ones, `SLOW` the others: of each name a function that gives the lines of the
-configuration, and one that gives the packets, each (stamp in nanoseconds, length, frame). The same call gives the same packets.
+Nothing here is part of any test. `LINES` are the usual ones, `SLOW` the slow ones: of each name a function that gives the lines of the
+configuration, and one that gives the packets, each (stamp in nanoseconds, length, frame). `OTHERS` have a third part, the command that
+bench.py runs. The same call gives the same packets.
 """
 
 import random
@@ -49,6 +51,22 @@ def leaves(rate, real):
         f"class hfsc if0 data root [sc 0 5 {real}M] default",
         f"filter if0 voice 0 {VOICE} 0 0 {UDP}",
     ]
+
+
+def conditioned():
+    """The same, with a meter and marks on the data."""
+    return [*leaves(100, 40)(), "conditioner if0 data srtcm 20M 15000 30000 1"]
+
+
+def links():
+    """Two links, each one queue."""
+    return [*queue(100)(), "interface if1 bandwidth 60M hfsc"]
+
+
+def siblings():
+    """Two leaves that share the link one to three."""
+    lines = ["interface if0 bandwidth 60M hfsc", "class hfsc if0 root NULL pshare 100"]
+    return [*lines, "class hfsc if0 a root pshare 25", "class hfsc if0 b root pshare 75 default", *filters("aa")]
 
 
 def tree(limit):
@@ -212,6 +230,22 @@ def idle_rio():
     return lambda: lines, lambda count: ((FIRST + 40_000 * (i // 3) + i % 3, 1500, frame) for i in range(count))
 
 
+def all_at_once():
+    """`cbq-deep` with as many filters over IPv6 beside as an interface may have, which every second packet misses."""
+    lines, packets = held_back(6)
+    frames = [over_ipv6(random.Random(i)) for i in range(300)]
+
+    def configured():
+        found = lines()
+        room = 1024 - sum(line.startswith("filter") for line in found)
+        return found + [line.replace(" a ", " free ") for line in FILTERS[over_ipv6][:room]]
+
+    def mixed(count):
+        return ((stamp, length, frames[i % 300] if i % 2 else frame) for i, (stamp, length, frame) in enumerate(packets(count)))
+
+    return configured, mixed
+
+
 SLOW = {
     "filters-ipv6": slow_filters(over_ipv6),
     "filters-ipv4": slow_filters(over_ipv4),
@@ -221,4 +255,15 @@ SLOW = {
     "cbq-flat": held_back(0),
     "cbq-deep": held_back(6),
     "idle-rio": idle_rio(),
+    "all-at-once": all_at_once(),
+}
+
+OTHERS = {
+    "verify-leaves": (*LINES["leaves-fast"], "verify"),
+    "verify-tree": (*LINES["tree"], "verify"),
+    "conditioner": (conditioned, spread(8, 126_000), "play"),
+    "condition": (conditioned, spread(8, 126_000), "condition"),
+    "pcapng": (*LINES["queue-fast"], "pcapng"),
+    "chain": (links, spread(8, 126_000), "chain"),
+    "shares": (siblings, spread(8, 100_000), "shares"),
 }
