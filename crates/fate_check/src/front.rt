@@ -60,6 +60,7 @@ fn eight_digits(text: &[u8]) -> Option<u64>
 
 // The number that the field at the front of a text writes, which ends at a mark, and what stands behind the mark, where some digits
 // were read of it. Most numbers are found so, in one look at each digit; where none is, there may still be one.
+#[inline(always)]
 fn number_on(mark: u8, text: &[u8], value: u64, digits: usize) -> Option<(u64, &[u8])>
     requires low { mark < 48 }
     requires few { digits ≤ 8 }
@@ -92,12 +93,14 @@ pub(crate) fn number_before(mark: u8, text: &[u8]) -> Option<(u64, &[u8])>
 }
 
 // The same, for a number that mostly has eight digits or more.
+#[inline(always)]
 pub(crate) fn long_number_before(mark: u8, text: &[u8]) -> Option<(u64, &[u8])>
     requires { mark < 48 }
     ensures { IfSome result (λ p. StandsBefore mark text.now p.0 p.1.now) }
 {
-    match eight_digits(text) {
-        Some(value) => number_on(mark, text, value, 8),
-        None => number_on(mark, text, 0, 0),
-    }
+    let (value, digits) = match eight_digits(text) {
+        Some(value) => (value, 8),
+        None => (0, 0),
+    };
+    number_on(mark, text, value, digits)
 }

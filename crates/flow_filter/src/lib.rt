@@ -12,6 +12,7 @@ mod entry;
 mod filters;
 mod index;
 mod laws;
+mod likely;
 mod matching;
 mod numbers;
 mod ports;
