@@ -42,6 +42,7 @@ fn behind_head<'a>(rest: &'a [u8], head: &[u8; 16]) -> Option<&'a [u8]>
 }
 
 // What stands behind a head and bytes, if they stand at the front.
+#[inline(always)]
 fn behind_both<'a>(rest: &'a [u8], head: &[u8; 16], bytes: &[u8]) -> Option<&'a [u8]>
     ensures { MatchOption result ((more : List ℕ) → rest.now ≡ (head.now ++ bytes.now) ++ more → ⊥) (λ more. rest.now ≡ (head.now ++ bytes.now) ++ more.now) }
 {
