@@ -1,17 +1,20 @@
 -- Numbers that stand at the front of a text.
-use Rattle.std.proofs.Common.{◌≡◌, ◌∙◌, ◌+◌, ◌*◌, ◌<◌, ◌≤◌, ◌^◌, ◌++◌, ◌&&◌, ℕ, zero, suc, true, false, List, [], ◌∷◌, Some, length, take, drop, get_or, nat_lt, eqb, add-one, refl, sym, ap, arith, length-take}
+use Rattle.std.proofs.Common.{◌≡◌, ◌∙◌, ◌+◌, ◌-◌, ◌*◌, ◌<◌, ◌≤◌, ◌^◌, ◌++◌, ◌&&◌, ℕ, zero, suc, Bool, true, false, List, [], ◌∷◌, Some, length, take, drop, get_or, nat_lt, eqb, add-one, refl, sym, ap, arith, length-take}
 use Rattle.std.proofs.Math.Nat.{pow-le-pow_right, pow-succ'}
 use Rattle.std.proofs.Math.Seq.{drop-cons}
 use Rattle.std.proofs.lemmas.List.{take-append-drop, take_all}
-use Rattle.std.proofs.lemmas.Str.Parse.{tells_digits}
+use Rattle.std.proofs.lemmas.Str.{digit_value_digit}
+use Rattle.std.proofs.lemmas.Str.Parse.{digit_from_value, tells_digits}
+use Rattle.std.specs.Bool.{OnTrue}
+use Rattle.std.specs.Char.{digit_value}
 use Rattle.std.specs.Str.Parse.{AllDigits, digits_value}
 use Rattle.line_text.specs.Numbers.{are_digits, cut, number}
-use Rattle.line_text.proofs.Digits.{number_whole}
+use Rattle.line_text.proofs.Digits.{digits_more, number_whole}
 use Rattle.altq_model.specs.declared.Fate.TheVariants.{Sent}
 use Rattle.altq_model.specs.declared.Rule.{Rule}
 use Rattle.play_text.specs.Names.{NameList, class_named}
 use Rattle.fate_check.specs.declared.reading.Row.{Row}
-use Rattle.fate_check.specs.Front.{FateStands, RuleStands, StandsBefore}
+use Rattle.fate_check.specs.Front.{FateStands, RuleStands, StandsBefore, WritesFirst}
 use Rattle.fate_check.specs.Parse.{fate_by, fate_of, fields_of, len_of, number_of, row_in, row_of, sent_of}
 use Rattle.fate_check.proofs.CutLemmas.{Lacks, cut-front}
 use Rattle.fate_check.proofs.FieldLemmas.{digit_is_not}
@@ -117,3 +120,54 @@ row_is names text r rest h = rw (
   h.named,
   h.fate_stands.is,
 ) refl
+
+-- the number of eight digits at the front, each of which counts as its byte
+abbrev pub eight : (text : List ℕ) → ℕ
+eight text =
+    let b : ℕ → ℕ = λ i. get_or text i 0 in
+    ((b 0 * 10 + b 1) * 100 + (b 2 * 10 + b 3)) * 10000 + ((b 4 * 10 + b 5) * 100 + (b 6 * 10 + b 7))
+
+abbrev pub DigitAt : (text : List ℕ) (i : ℕ) → Type 0
+DigitAt text i = digit_value (get_or text i 0) < 10
+
+pub record AreDigits (text : List ℕ) : Type 0 where
+  pub d0 : DigitAt text 0
+  pub d1 : DigitAt text 1
+  pub d2 : DigitAt text 2
+  pub d3 : DigitAt text 3
+  pub d4 : DigitAt text 4
+  pub d5 : DigitAt text 5
+  pub d6 : DigitAt text 6
+  pub d7 : DigitAt text 7
+
+pub on_true : (b : Bool) (P : Type 0) → OnTrue b P → b ≡ true → P
+on_true true P h e = h
+on_true false P h e = absurd (cc)
+
+is_own : (text : List ℕ) (i : ℕ) → DigitAt text i → digit_value (get_or text i 0) + 48 ≡ get_or text i 0
+is_own text i h = digit_value_digit (get_or text i 0) (digit_from_value (get_or text i 0) h)
+
+pub eight_stand : (text : List ℕ) → 8 ≤ length text → AreDigits text → WritesFirst text 8 (eight text - 533333328)
+eight_stand text long h =
+    let m1 = digits_more 10 text 0 0 (omega (arith, long)) refl refl h.d0 in
+    let m2 = digits_more 10 text 1 (0 * 10 + digit_value (get_or text 0 0)) (omega (arith, long)) m1.0 m1.1 h.d1 in
+    let m3 = digits_more 10 text 2 _ (omega (arith, long)) m2.0 m2.1 h.d2 in
+    let m4 = digits_more 10 text 3 _ (omega (arith, long)) m3.0 m3.1 h.d3 in
+    let m5 = digits_more 10 text 4 _ (omega (arith, long)) m4.0 m4.1 h.d4 in
+    let m6 = digits_more 10 text 5 _ (omega (arith, long)) m5.0 m5.1 h.d5 in
+    let m7 = digits_more 10 text 6 _ (omega (arith, long)) m6.0 m6.1 h.d6 in
+    let m8 = digits_more 10 text 7 _ (omega (arith, long)) m7.0 m7.1 h.d7 in
+    let e0 = is_own text 0 h.d0 in
+    let e1 = is_own text 1 h.d1 in
+    let e2 = is_own text 2 h.d2 in
+    let e3 = is_own text 3 h.d3 in
+    let e4 = is_own text 4 h.d4 in
+    let e5 = is_own text 5 h.d5 in
+    let e6 = is_own text 6 h.d6 in
+    let e7 = is_own text 7 h.d7 in
+    record {
+      inside = long;
+      digits = m8.0;
+      value = omega (arith, m8.1, e0, e1, e2, e3, e4, e5, e6, e7);
+      small = omega (arith, e0, e1, e2, e3, e4, e5, e6, e7);
+    }

@@ -1,9 +1,17 @@
 -- What stands at the front of a text.
-use Rattle.std.specs.Prelude.{◌≡◌, ℕ, List, Some}
+use Rattle.std.specs.Prelude.{◌≡◌, ◌≤◌, ◌<◌, ◌^◌, ℕ, true, List, length, take, Some}
+use Rattle.std.specs.Str.Parse.{digits_value}
 use Rattle.altq_model.specs.declared.Fate.{Fate}
 use Rattle.altq_model.specs.declared.Rule.{Rule}
-use Rattle.line_text.specs.Numbers.{cut}
+use Rattle.line_text.specs.Numbers.{are_digits, cut}
 use Rattle.fate_check.specs.Parse.{fate_of, number_of, rule_of}
+
+-- so many bytes at the front are digits, and write a number
+pub record WritesFirst (text : List ℕ) (count n : ℕ) : Type 0 where
+  pub inside : count ≤ length text
+  pub digits : are_digits 10 (take count text) ≡ true
+  pub value : n ≡ digits_value 10 (take count text)
+  pub small : n < 10 ^ count
 
 -- the field at the front, up to a mark, writes a number; and what stands behind the mark
 pub record StandsBefore (mark : ℕ) (text : List ℕ) (n : ℕ) (rest : List ℕ) : Type 0 where

@@ -1,5 +1,5 @@
--- The rows of given decisions.
-use Rattle.std.specs.Prelude.{List, map}
+-- The rows of given decisions, and rows behind others.
+use Rattle.std.specs.Prelude.{◌≡◌, ◌++◌, List, map}
 use Rattle.altq_model.specs.Arrivals.{Captured, arrival}
 use Rattle.altq_model.specs.History.{Decision}
 use Rattle.fate_check.specs.declared.reading.Row.{Row}
@@ -11,3 +11,9 @@ row_for arrived d =
 
 abbrev pub rows_for : List Captured → List Decision → List Row
 rows_for arrived js = map (row_for arrived) js
+
+-- behind some rows stand others, of which this holds
+pub record Adds (P : List Row → Type 0) (rows all : List Row) : Type 0 where
+  pub more : List Row
+  pub all_are : all ≡ rows ++ more
+  pub added : P more

@@ -8,5 +8,5 @@ mod reading;
 mod worked;
 
 pub use laws::texts_are_read_one_way;
-pub use reading::{Row, RowFault, rows};
+pub use reading::{Row, RowFault, add_rows};
 pub use worked::worked_rows;

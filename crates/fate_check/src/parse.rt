@@ -5,7 +5,7 @@ ghost use Rattle.line_text.specs.Numbers.{cut};
 ghost use Rattle.fate_check.specs.Parse.{dropped_of, fate_of, fields_of, len_of, number_of, reason_of, row_in, row_of, rule_of, sent_of};
 ghost use Rattle.fate_check.specs.RowFields.{texts_in};
 
-use crate::front::number_before;
+use crate::front::{long_number_before, number_before};
 use crate::reading::Row;
 use altq_model::{Fate, Reason, Rule};
 use line_text::{cut, decimal};
@@ -154,11 +154,13 @@ fn row_by(fields: RowFields<'_>, names: &Names) -> Option<Row>
 }
 
 // The rule whose word is the field at the front of a text, and what stands behind its comma. One look at each word is cheaper than to
-// search for the comma first.
+// search for the comma first, and the longest word is looked at only where its first letter stands.
 fn rule_before(text: &[u8]) -> Option<(Rule, &[u8])>
     ensures { IfSome result (λ p. RuleStands text.now p.0 p.1.now) }
 {
-    if let Some(rest) = text.strip_prefix(b"realtime,".as_slice()) {
+    if text.first() == Some(&b'r') {
+        let behind = text.strip_prefix(b"realtime".as_slice())?;
+        let rest = behind.strip_prefix(b",".as_slice())?;
         return Some((Rule::RealTime, rest));
     }
     if let Some(rest) = text.strip_prefix(b"share,".as_slice()) {
@@ -184,8 +186,8 @@ fn fate_before(text: &[u8]) -> Option<(Fate, &[u8])>
         let (end, rest) = cut(b'\n', text)?;
         return Some((fate_in(word, start, end)?, rest));
     };
-    let (start, text) = number_before(b',', text)?;
-    let (end, text) = number_before(b'\n', text)?;
+    let (start, text) = long_number_before(b',', text)?;
+    let (end, text) = long_number_before(b'\n', text)?;
     Some((Fate::Sent { start, end, rule }, text))
 }
 
@@ -203,7 +205,7 @@ fn row_before<'a>(text: &'a [u8], names: &Names) -> Option<(Row, &'a [u8])>
     ensures { IfSome result (λ p. row_of names.now text.now ≡ Some (p.0, p.1.now)) }
 {
     let (number, text) = number_before(b',', text)?;
-    let (at, text) = number_before(b',', text)?;
+    let (at, text) = long_number_before(b',', text)?;
     let (len, text) = number_before(b',', text)?;
     let (class, text) = field_before(b',', text)?;
     let (fate, text) = fate_before(text)?;

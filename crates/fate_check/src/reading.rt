@@ -1,14 +1,14 @@
 // The rows of given fates.
-ghost use Rattle.std.specs.Prelude.{◌≡◌, ℕ, IfErr, IfOk};
+ghost use Rattle.std.specs.Prelude.{◌≡◌, IfErr, OnErr, OnOk};
 ghost use Rattle.play_text.specs.Names.{AreNames};
 ghost use Rattle.fate_check.specs.Fault.{IfAt};
-ghost use Rattle.fate_check.specs.Text.{FailsAt, Reads};
+ghost use Rattle.fate_check.specs.Given.{Adds};
+ghost use Rattle.fate_check.specs.Text.{AreRows, FailsAt, Reads};
 
 use crate::parse::row_at;
 use altq_model::Fate;
-use play_base::NoMemory;
 use play_text::{Names, fates_header};
-use std::alloc::{AllocFailed, Global};
+use std::alloc::AllocFailed;
 
 /// A row of fates: the packet's number, its arrival in nanoseconds, its length in bytes, its class, and what became of it. Nothing
 /// is known of a row but that it stands in a text: each number may be any of its type.
@@ -46,24 +46,42 @@ fn check_names(names: &Names)
     names.len();
 }
 
-/// The rows of a text of fates: the head row, and then rows as a play writes them, each with its line feed, whose classes are named.
-/// `At` comes exactly where the text is none, with the first row that is none. Costs the length of the text, and in each row a
-/// search for the name of its class.
-pub fn rows(alloc: Global, text: &[u8], names: &Names) -> Result<Vec<Row>, RowFault>
-    ensures read { IfOk result (λ rs. Reads names.now text.now rs.items) }
+// Puts the rows of a text of fates at the end of a list: those before the first that is none.
+fn push_rows(text: &[u8], names: &Names, rows: &mut Vec<Row>) -> Result<(), RowFault>
+    ensures read { OnOk result (Adds (Reads names.now text.now) rows.old.items rows.new.items) }
     ensures fault { IfErr result (IfAt (FailsAt names.now text.now)) }
+    ensures kept { Adds (AreRows names.now) rows.old.items rows.new.items }
 {
     let Some(mut rest) = text.strip_prefix(fates_header()) else {
         return Err(RowFault::At(0));
     };
     check_names(names);
-    let mut rows = Vec::new(alloc);
+    let mut row_number = 1u64;
     while !rest.is_empty() {
         let Some((row, more)) = row_at(rest, names) else {
-            return Err(RowFault::At(rows.len() as u64 + 1));
+            return Err(RowFault::At(row_number));
         };
         rows.push(row)?;
+        row_number += 1;
         rest = more;
     }
-    Ok(rows)
+    Ok(())
+}
+
+/// Puts the rows of a text of fates at the end of a list: the head row, and then rows as a play writes them, each with its line feed,
+/// whose classes are named. `At` comes exactly where the text is none, with the first row that is none. After an error the list is
+/// as it was. Costs the length of the text, and in each row a search for the name of its class.
+pub fn add_rows(text: &[u8], names: &Names, rows: &mut Vec<Row>) -> Result<(), RowFault>
+    ensures read { OnOk result (Adds (Reads names.now text.now) rows.old.items rows.new.items) }
+    ensures fault { IfErr result (IfAt (FailsAt names.now text.now)) }
+    ensures stays { OnErr result (rows.new.items ≡ rows.old.items) }
+{
+    let before = rows.len();
+    match push_rows(text, names, rows) {
+        Ok(()) => Ok(()),
+        Err(fault) => {
+            rows.truncate(before);
+            Err(fault)
+        }
+    }
 }

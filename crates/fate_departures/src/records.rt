@@ -31,17 +31,29 @@ fn dress<C: Classify>(
     Ok(())
 }
 
+// What stands behind a head, if it stands at the front. A test of so many bytes costs no call.
+fn behind_head<'a>(rest: &'a [u8], head: &[u8; 16]) -> Option<&'a [u8]>
+    ensures { MatchOption result ((more : List ℕ) → rest.now ≡ head.now ++ more → ⊥) (λ more. rest.now ≡ head.now ++ more.now) }
+{
+    let Some((front, more)) = rest.split_first_chunk::<16>() else {
+        return None;
+    };
+    if front == head { Some(more) } else { None }
+}
+
 // What stands behind a head and bytes, if they stand at the front.
-fn behind_both<'a>(rest: &'a [u8], head: &[u8], bytes: &[u8]) -> Option<&'a [u8]>
+#[inline(always)]
+fn behind_both<'a>(rest: &'a [u8], head: &[u8; 16], bytes: &[u8]) -> Option<&'a [u8]>
     ensures { MatchOption result ((more : List ℕ) → rest.now ≡ (head.now ++ bytes.now) ++ more → ⊥) (λ more. rest.now ≡ (head.now ++ bytes.now) ++ more.now) }
 {
-    match rest.strip_prefix(head) {
+    match behind_head(rest, head) {
         Some(more) => more.strip_prefix(bytes),
         None => None,
     }
 }
 
 // What stands behind the record of a sending, marked or not, if it stands at the front. The room is for its bytes.
+#[inline(always)]
 fn behind_one<'a, C: Classify>(
     room: &mut Vec<u8>,
     classify: &C,

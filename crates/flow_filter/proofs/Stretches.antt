@@ -1,5 +1,5 @@
 -- A search among the entries of one port.
-use Rattle.std.proofs.Common.{◌≡◌, ⊎_elim, inl, inr, ℕ, ◌<◌, ◌≤◌, ◌+◌, eqb, Bool, true, false, List, length, get_or, Option, Some, None, ltb, leb, option_map, refl, arith, sym, ◌∙◌, ap}
+use Rattle.std.proofs.Common.{◌≡◌, ⊎_elim, inl, inr, ℕ, ◌<◌, ◌≤◌, ◌+◌, ◌-◌, eqb, Bool, true, false, List, length, get_or, Option, Some, None, ltb, leb, option_map, refl, arith, sym, ◌∙◌, ap}
 use Rattle.std.specs.Prelude.{Contains, slice_get}
 use Rattle.std.specs.List.Sorted.{IsPartitionPoint}
 use Rattle.std.specs.Option.{option_map_or}
@@ -63,6 +63,23 @@ at_there filed port k e = elim (cases_lt k (length filed)) [
       let none : is_at filed port k ≡ false = ap (λ (o : Option Filed). option_map_or (λ (one : Filed). eqb one.port port) o false) (slice_get_past filed k l) in
       absurd (cc)
 ]
+
+-- at a place of the port, if it is the first or a lesser port stands before it
+pub begins_here : (filed : List Filed) (port start : ℕ) → is_at filed port start ≡ true
+    → (0 < start → ltb (get_or filed (start - 1) (record { port = 0; rank = 0 })).port port ≡ true) → IsInOrder filed → BeginsAt filed port start
+begins_here filed port start found before order =
+    let there = at_there filed port start found in
+    let none : Filed = record { port = 0; rank = 0 } in
+    record {
+      within = omega (arith, there.within);
+      lesser = λ k d low.
+          let rise = order.ports_rise k (start - 1) d (omega (arith, low)) (omega (arith, low, there.within)) in
+          let same = ap (λ (e : Filed). e.port) (get_or_default filed (start - 1) d none (omega (arith, low, there.within))) in
+          omega (arith, rise, same, less _ _ (before (omega (arith, low))));
+      others = λ k d from high.
+          let rise = order.ports_rise start k d from high in
+          omega (arith, rise, there.its d);
+    }
 
 -- up to a place at which no more of them stands
 ends_at : (filed : List Filed) (port start end : ℕ) → IsInOrder filed → BeginsAt filed port start → start ≤ end → end ≤ length filed

@@ -62,7 +62,7 @@ impl Filters {
     /// none does, as for every `Other`. Addresses are of four or sixteen bytes in the flow of a frame. An IPv4 address of
     /// fewer bytes, or an IPv6 address of another length, matches no filter; of a longer IPv4 address only the first four
     /// bytes are compared. Takes no memory. Only filters of the flow's version are asked, and of those that fix a port only
-    /// those of the flow's ports; they are found by bisection, and asked up to the first that matches, at a few loads and
+    /// those of the flow's ports; they are found at one look or by bisection, and asked up to the first that matches, at a few loads and
     /// compares of numbers each. Those that fix none are asked likewise. See altq.conf(5).
     pub fn class(&self, heads: &FlowHeads) -> u32
         ensures { result ≡ class_of self.now (flow_of heads.now) }

@@ -3,7 +3,7 @@
 //! A filter matches a flow where its addresses under their masks, its ports, its protocol and its type of service agree
 //! with the flow's. Of those that match the one with the greatest rule number wins, and of those with that number the first;
 //! where none matches, the packet goes to the default class. The filters are sorted once, those of a version of IP and a port
-//! are found by bisection, and each is compared in numbers that are made once.
+//! are found at one look or by bisection, and each is compared in numbers that are made once.
 #![tactic(auto)]
 
 mod control;
@@ -12,6 +12,7 @@ mod entry;
 mod filters;
 mod index;
 mod laws;
+mod likely;
 mod matching;
 mod numbers;
 mod ports;

@@ -4,6 +4,7 @@ ghost use Rattle.flow_filter.specs.Filed.{HoldsAll, IsFiledByRank, IsInOrder, po
 ghost use Rattle.flow_filter.specs.Ranked.{filter_at};
 ghost use Rattle.flow_filter.specs.Search.{BeginsAt, IsStretch, is_at};
 
+use crate::likely::likely_place;
 use crate::ranking::filter_at;
 use conf_tree::{Addresses, Filter};
 use play_base::NoMemory;
@@ -132,10 +133,34 @@ fn end_of(filed: &[Filed], port: u16, start: usize) -> usize
     filed.partition_point(|one| one.port <= port)
 }
 
+/// Whether those of a port begin at a place.
+fn is_start(filed: &[Filed], port: u16, place: usize) -> bool
+    ensures { result ≡ true → IsInOrder filed.now → BeginsAt filed.now port place }
+{
+    if !is_at(filed, port, place) {
+        return false;
+    }
+    if place == 0 {
+        return true;
+    }
+    filed[place - 1].port < port
+}
+
+/// Where those of a port begin: mostly at the likely place, else by a search.
+fn start_of(filed: &[Filed], likely: &[u32], port: u16) -> usize
+    ensures { IsInOrder filed.now → BeginsAt filed.now port result }
+{
+    let place = likely_place(likely, port);
+    if is_start(filed, port, place) {
+        return place;
+    }
+    filed.partition_point(|one| one.port < port)
+}
+
 /// Where those of a port begin and where they end, among filters in the order of their ports.
-pub(crate) fn stretch(filed: &[Filed], port: u16) -> (usize, usize)
+pub(crate) fn stretch(filed: &[Filed], likely: &[u32], port: u16) -> (usize, usize)
     ensures { IsInOrder filed.now → IsStretch filed.now port result.0 result.1 }
 {
-    let start = filed.partition_point(|one| one.port < port);
+    let start = start_of(filed, likely, port);
     (start, end_of(filed, port, start))
 }

@@ -10,17 +10,19 @@ ghost use Rattle.flow_filter.specs.Tables.{IsTable};
 ghost use Rattle.flow_filter.specs.declared.ports.Group.{Group};
 
 use crate::entries::Entries;
+use crate::likely::likely_places;
 use crate::numbers::Numbers;
 use crate::ports::{Filed, Group, filed_by_port, stretch};
 use conf_tree::Filter;
 use play_base::NoMemory;
 use std::alloc::Global;
 
-/// The filters of a group in the order of their ports, and their entries in the same order.
+/// The filters of a group in the order of their ports, their entries in the same order, and where those of a port likely begin.
 #[derive(Debug, Drop)]
 pub struct Table {
     pub filed: Vec<Filed>,
     pub entries: Entries,
+    likely: Vec<u32>,
 }
 
 impl Table {
@@ -35,7 +37,12 @@ impl Table {
     {
         let filed = filed_by_port(alloc, group, filters, places)?;
         let entries = Entries::build(alloc, group.version, filters, places, filed.as_slice())?;
-        Ok(Table { filed, entries })
+        let likely = likely_places(alloc, filed.as_slice())?;
+        Ok(Table {
+            filed,
+            entries,
+            likely,
+        })
     }
 
     /// The first of those filed under a port whose filter matches a flow. It is the mere test where none is filed.
@@ -59,7 +66,7 @@ impl Table {
             → IsFirstUnder self.now.filed.items port (matches_at filters places (of_version group.version heads)) result }
     {
         let filed = self.filed.as_slice();
-        let (start, end) = stretch(filed, port);
+        let (start, end) = stretch(filed, self.likely.as_slice(), port);
         match self.entries.first_fit(flow, start, end) {
             Some(k) => rank_at(filed, k),
             None => None,

@@ -6,7 +6,7 @@ ghost use Rattle.play_base.specs.View.{ReadFault, SameCounts};
 ghost use Rattle.play_text.specs.Names.{AreNames};
 
 use crate::fates::{Fates, FatesFault};
-use fate_check::{Row, RowFault, rows};
+use fate_check::{Row, RowFault, add_rows};
 use input_files::Taken;
 use play_base::{Files, NoMemory, Trouble};
 use play_text::{Names, fates_header};
@@ -53,19 +53,13 @@ fn end_of_lines(text: &[u8]) -> usize
 
 // Reads the rows that stand whole in what was taken, and passes their text. Where a line is none, nothing is passed: whether it is a
 // fault is told at the end of the file.
-fn take_rows(
-    alloc: Global,
-    names: &Names,
-    taken: &mut Taken,
-    found: &mut Vec<Row>,
-) -> Result<(), NoMemory>
+fn take_rows(names: &Names, taken: &mut Taken, found: &mut Vec<Row>) -> Result<(), NoMemory>
     ensures read { OnOk result ((text : List ℕ) → IsReadTo names.now found.old.items taken.old text → IsReadTo names.now found.new.items taken.new text) }
     ensures fewer { OnOk result (length taken.new ≤ length taken.old) }
 {
     let end = end_of_lines(taken.as_slice());
-    match rows(alloc, &taken.as_slice()[..end], names) {
-        Ok(mut more) => {
-            found.append(&mut more)?;
+    match add_rows(&taken.as_slice()[..end], names, found) {
+        Ok(()) => {
             taken.leave_out(fates_header().len(), end);
             Ok(())
         }
@@ -75,16 +69,13 @@ fn take_rows(
 }
 
 // What a text holds of which this is left.
-fn last_rows(alloc: Global, names: &Names, left: &[u8], found: Vec<Row>) -> Result<Fates, NoMemory>
+fn last_rows(names: &Names, left: &[u8], found: Vec<Row>) -> Result<Fates, NoMemory>
     ensures { IfOk result (λ fates. (text : List ℕ) → IsReadTo names.now found.items left.now text → HasFates names.now text fates) }
 {
     let mut found = found;
     check_names(names);
-    match rows(alloc, left, names) {
-        Ok(mut more) => {
-            found.append(&mut more)?;
-            Ok(Fates::Rows(found))
-        }
+    match add_rows(left, names, &mut found) {
+        Ok(()) => Ok(Fates::Rows(found)),
         Err(RowFault::At(row)) => Ok(Fates::FailsAt(found.len() as u64 + row)),
         Err(RowFault::NoMemory) => Err(NoMemory),
     }
@@ -127,12 +118,12 @@ pub fn read_fates<F: Files>(
             return Err(FatesFault::TooLong);
         }
         if count < most {
-            let Ok(fates) = last_rows(alloc, names, taken.as_slice(), found) else {
+            let Ok(fates) = last_rows(names, taken.as_slice(), found) else {
                 return Err(FatesFault::NoMemory);
             };
             return Ok(fates);
         }
-        let Ok(()) = take_rows(alloc, names, &mut taken, &mut found) else {
+        let Ok(()) = take_rows(names, &mut taken, &mut found) else {
             return Err(FatesFault::NoMemory);
         };
         passed += count - taken.len();

@@ -1,4 +1,3 @@
-use Rattle.std.proofs.Common.{Some, None}
 use Rattle.std.proofs.lemmas.Bool.Decides.{Decides-eqb}
 use Rattle.std.proofs.lemmas.Slice.Eq.{strip_prefix_is}
 use Rattle.fate_departures.proofs.Fronts.{both_at, not_first}
@@ -6,10 +5,8 @@ use Rattle.fate_departures.proofs.records.behind_both.Goals as goal
 
 pub returns-in-Some : goal.returns-in-Some
 returns-in-Some c =
-    both_at c.args.rest.now c.args.head.now c.args.bytes.now c.in-Some.more.now c.strip_prefix-in-Some.result
-    (strip_prefix_is Decides-eqb c.args.rest.now c.args.head.now (Some c.in-Some.more) c.in-Some.ensures.cases)
-    (strip_prefix_is Decides-eqb c.in-Some.more.now c.args.bytes.now c.strip_prefix-in-Some.result c.strip_prefix-in-Some.ensures.cases)
+    both_at c.args.rest.now c.args.head.now c.args.bytes.now c.in-Some.more.now c.strip_prefix.result c.in-Some.ensures
+    (strip_prefix_is Decides-eqb c.in-Some.more.now c.args.bytes.now c.strip_prefix.result c.strip_prefix.ensures.cases)
 
 pub returns-in-None : goal.returns-in-None
-returns-in-None c =
-    not_first c.args.rest.now c.args.head.now c.args.bytes.now (strip_prefix_is Decides-eqb c.args.rest.now c.args.head.now None c.in-None.ensures.cases)
+returns-in-None c = not_first c.args.rest.now c.args.head.now c.args.bytes.now c.in-None.ensures

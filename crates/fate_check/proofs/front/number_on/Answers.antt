@@ -2,7 +2,7 @@ use Rattle.std.proofs.Common.{◌∙◌, ◌+◌, ◌*◌, ◌<◌, ℕ, ap, sub
 use Rattle.std.specs.Char.{digit_value}
 use Rattle.line_text.proofs.Digits.{digits_more}
 use Rattle.fate_check.proofs.FrontLemmas.{fits_more, small_more}
-use Rattle.fate_check.proofs.front.number_before.Goals as goal
+use Rattle.fate_check.proofs.front.number_on.Goals as goal
 
 pub overflow_mul-value : goal.overflow_mul-value
 overflow_mul-value c =

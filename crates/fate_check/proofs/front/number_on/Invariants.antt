@@ -1,7 +1,7 @@
 use Rattle.std.proofs.Common.{◌≡◌, ◌<◌, ◌≤◌, ◌-◌, ◌^◌, true, length, take}
 use Rattle.std.specs.Str.Parse.{digits_value}
 use Rattle.line_text.specs.Numbers.{are_digits}
-use Rattle.fate_check.proofs.front.number_before.Given as goal
+use Rattle.fate_check.proofs.front.number_on.Given as goal
 
 -- the digits so far write the value
 abbrev pub invariant-loop-digits : goal.invariant-loop-digits
