@@ -72,17 +72,17 @@ deadline_is_first s os count =
     (λ t r. deadline_comes s os t count (least_reached s os t count r))
     (λ t h. least_reaches s os t count (deadline_came s os t count h))
 
--- of two openings, where the second allows a count by the moment of the first, that moment is the deadline
-pub first_is_later : (s : Curve) (one other : Opening) (count : ℕ) → allows_by s other (reached_at s one count) count ≡ true
-    → reached_at s one count ≡ deadline s (one ∷ other ∷ []) count
-first_is_later s one other count = go (reached_at s one count)
+-- of two openings, where the first allows a count by the moment of the second, that moment is the deadline
+pub second_is_later : (s : Curve) (one other : Opening) (count : ℕ) → allows_by s one (reached_at s other count) count ≡ true
+    → reached_at s other count ≡ deadline s (one ∷ other ∷ []) count
+second_is_later s one other count = go (reached_at s other count)
   where
-    of_second : (t : ℕ) (o : Option ℕ) → HasCome o t → Some t ≡ later_of (Some t) (later_of o (Some 0))
-    of_second t None x = absurd x
-    of_second t (Some u) x = ap (λ n. Some n) (let e : t ≡ max t (max u 0) = omega arith in e)
+    of_first : (t : ℕ) (o : Option ℕ) → HasCome o t → Some t ≡ later_of o (Some (max t 0))
+    of_first t None x = absurd x
+    of_first t (Some u) x = ap (λ n. Some n) (let e : t ≡ max u (max t 0) = omega arith in e)
 
-    go : (o : Option ℕ) → allows_by s other o count ≡ true → o ≡ later_of o (later_of (reached_at s other count) (Some 0))
+    go : (o : Option ℕ) → allows_by s one o count ≡ true → o ≡ later_of (reached_at s one count) (later_of o (Some 0))
     go None e = absurd cc
     go (Some t) e =
-        let given : count ≤ line s t other = grind (arith, nat_tests, e) in
-        of_second t (reached_at s other count) (line_comes s other t count given)
+        let given : count ≤ line s t one = grind (arith, nat_tests, e) in
+        of_first t (reached_at s one count) (line_comes s one t count given)

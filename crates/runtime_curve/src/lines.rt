@@ -40,8 +40,8 @@ fn reached_at(curve: &Curve, inverses: &Inverses, opening: &Opening, count: u128
     }
 }
 
-/// The first moment up to which two openings allow a count. The second is divided for only where it allows less than the first.
-#[tactic(auto, using(crate::proofs::Deadlines::first_is_later))]
+/// The first moment up to which two openings allow a count: mostly that of the second, by which the first mostly allows it too.
+#[tactic(auto, using(crate::proofs::Deadlines::second_is_later))]
 fn latest_of(
     curve: &Curve,
     inverses: &Inverses,
@@ -55,13 +55,13 @@ fn latest_of(
     requires amount { count < 2 ^ 100 }
     ensures { result ≡ deadline curve.now (one.now ∷ other.now ∷ []) count }
 {
-    let reached = reached_at(curve, inverses, one, count);
-    if allows_by(curve, other, reached, count) {
+    let reached = reached_at(curve, inverses, other, count);
+    if allows_by(curve, one, reached, count) {
         return reached;
     }
     later_of(
-        reached,
-        later_of(reached_at(curve, inverses, other, count), Some(0)),
+        reached_at(curve, inverses, one, count),
+        later_of(reached, Some(0)),
     )
 }
 
