@@ -3,3 +3,4 @@ pub mod Slots
 pub mod Lists
 pub mod Picks
 pub mod Same
+pub mod News

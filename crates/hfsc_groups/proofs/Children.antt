@@ -22,8 +22,11 @@ use Rattle.hfsc_groups.specs.declared.group.Group.{Group}
 use Rattle.hfsc_groups.specs.Curves.{limit_opens}
 use Rattle.hfsc_groups.specs.Classes.{IsLimit, opens_under}
 use Rattle.hfsc_groups.specs.Node.{parent_in, active_in, opens_in, is_child_in, is_active_child, NodeStands, OpensAt}
-use Rattle.hfsc_groups.specs.Group.{Delays, GroupHolds, Ranks, first_key, first_moment, is_late, time_key}
+use Rattle.hfsc_groups.specs.declared.late.Late.{Late}
+use Rattle.hfsc_groups.specs.Late.{first_key, is_late, late_keys, late_order}
+use Rattle.hfsc_groups.specs.Group.{Delays, GroupHolds, Ranks, first_moment, time_key}
 use Rattle.hfsc_groups.proofs.Found.{IsNode, node_of}
+use Rattle.hfsc_groups.proofs.Numbered.{late_ranked}
 use Rattle.hfsc_groups.proofs.Opening.{leaf_opens, child_opens, opens_child, leaf_childless, active_child}
 use Rattle.hfsc_groups.proofs.Moments.{within_from, later_come, later_some, limit_some, first_come_of, open_later}
 
@@ -54,8 +57,8 @@ active_is_in cs h last p nodes c s = go (is_child cs p c) refl
     go false e = ap (λ b. b && active_in (slice_get nodes c)) (child_is cs h last p nodes c s ∙ e)
 
 -- its first moment tells whether a child is open
-pub key_opens : (cs : List HfscClass) (h : HfscHistory) (last p now : ℕ) (nodes : List Node) (r : Ranking) (c : ℕ) → Stand cs h last p nodes → Delays nodes p r → last ≤ now
-    → is_child cs p c ≡ true → active cs h c ≡ true → has_come (key_of (keys_of r) c) now ≡ opens_under cs h now c
+pub key_opens : (cs : List HfscClass) (h : HfscHistory) (last p now : ℕ) (nodes : List Node) (r : Late) (c : ℕ) → Stand cs h last p nodes → Delays nodes p r → last ≤ now
+    → is_child cs p c ≡ true → active cs h c ≡ true → has_come (key_of (late_keys r) c) now ≡ opens_under cs h now c
 key_opens cs h last p now nodes r c s ranks later k a =
     let n = child_node cs h last p nodes c s k in
     let y = s.each c n.node n.at k in
@@ -67,67 +70,67 @@ pub in_list : (cs : List HfscClass) (h : HfscHistory) (last p : ℕ) (nodes : Li
 in_list cs h last p nodes key r c s ranks = ranks.exactly c ∙ active_is_in cs h last p nodes c s
 
 -- where each active child stands in the list by moments, its first tells whether a class is open
-listed_opens : (cs : List HfscClass) (h : HfscHistory) (last p now : ℕ) (nodes : List Node) (r : Ranking) → IsTree cs → Stand cs h last p nodes → Delays nodes p r
-    → ((c : ℕ) → is_in c (order_of r) ≡ (is_child cs p c && active cs h c)) → last ≤ now → active cs h p ≡ true
-    → opens_under cs h now p ≡ (is_within cs h now p && has_come (first_key (keys_of r) (order_of r)) now)
+listed_opens : (cs : List HfscClass) (h : HfscHistory) (last p now : ℕ) (nodes : List Node) (r : Late) → IsTree cs → Stand cs h last p nodes → Delays nodes p r
+    → ((c : ℕ) → is_in c (late_order r) ≡ (is_child cs p c && active cs h c)) → last ≤ now → active cs h p ≡ true
+    → opens_under cs h now p ≡ (is_within cs h now p && has_come (first_key (late_keys r) (late_order r)) now)
 listed_opens cs h last p now nodes r t s ranks listed later a = go (is_leaf cs p) refl
   where
-    only : (xs : List ℕ) → order_of r ≡ xs → ((c : ℕ) → is_in c xs ≡ true → ⊥) → has_come (first_key (keys_of r) xs) now ≡ true
+    only : (xs : List ℕ) → late_order r ≡ xs → ((c : ℕ) → is_in c xs ≡ true → ⊥) → has_come (first_key (late_keys r) xs) now ≡ true
     only [] e n = grind (arith, nat_tests)
     only (c ∷ xs) e n = absurd (n c (rw (same_test c) refl))
 
-    leaf_case : is_leaf cs p ≡ true → opens_under cs h now p ≡ (is_within cs h now p && has_come (first_key (keys_of r) (order_of r)) now)
+    leaf_case : is_leaf cs p ≡ true → opens_under cs h now p ≡ (is_within cs h now p && has_come (first_key (late_keys r) (late_order r)) now)
     leaf_case l =
-        let none : (c : ℕ) → is_in c (order_of r) ≡ true → ⊥
+        let none : (c : ℕ) → is_in c (late_order r) ≡ true → ⊥
         = λ c i. leaf_childless cs p c l (and_true (is_child cs p c) (active cs h c) (sym (listed c) ∙ i)).0 in
         leaf_opens cs h now p t l a
-        ∙ with_true (is_within cs h now p) (has_come (first_key (keys_of r) (order_of r)) now) (only (order_of r) refl none)
+        ∙ with_true (is_within cs h now p) (has_come (first_key (late_keys r) (late_order r)) now) (only (late_order r) refl none)
       where
         with_true : (b d : Bool) → d ≡ true → b ≡ (b && d)
         with_true true d e = sym e
         with_true false d e = refl
 
-    there : is_leaf cs p ≡ false → opens_under cs h now p ≡ true → (is_within cs h now p && has_come (first_key (keys_of r) (order_of r)) now) ≡ true
+    there : is_leaf cs p ≡ false → opens_under cs h now p ≡ true → (is_within cs h now p && has_come (first_key (late_keys r) (late_order r)) now) ≡ true
     there l e =
         let x = child_opens cs h now p t l e in
         let o = x.1 in
-        let i : is_in o.child (order_of r) ≡ true = listed o.child ∙ true_and (is_child cs p o.child) (active cs h o.child) o.of o.active in
+        let i : is_in o.child (late_order r) ≡ true = listed o.child ∙ true_and (is_child cs p o.child) (active cs h o.child) o.of o.active in
         let come = key_opens cs h last p now nodes r o.child s ranks later o.of o.active ∙ o.opens in
-        true_and (is_within cs h now p) (has_come (first_key (keys_of r) (order_of r)) now) x.0
-        (first_come_of (keys_of r) (order_of r) o.child now (ranked_true (keys_of r) (order_of r) r.ranked) i come)
+        true_and (is_within cs h now p) (has_come (first_key (late_keys r) (late_order r)) now) x.0
+        (first_come_of (late_keys r) (late_order r) o.child now (late_ranked r) i come)
 
-    inner : (xs : List ℕ) → order_of r ≡ xs → has_come (first_key (keys_of r) xs) now ≡ true → is_leaf cs p ≡ false → is_within cs h now p ≡ true → opens_under cs h now p ≡ true
+    inner : (xs : List ℕ) → late_order r ≡ xs → has_come (first_key (late_keys r) xs) now ≡ true → is_leaf cs p ≡ false → is_within cs h now p ≡ true → opens_under cs h now p ≡ true
     inner [] e f l w =
         let x = active_child cs h p t l a in
-        let i : is_in x.child (order_of r) ≡ true = listed x.child ∙ true_and (is_child cs p x.child) (active cs h x.child) x.of x.active in
-        let no : is_in x.child (order_of r) ≡ false = ap (λ (ys : List ℕ). is_in x.child ys) e in
+        let i : is_in x.child (late_order r) ≡ true = listed x.child ∙ true_and (is_child cs p x.child) (active cs h x.child) x.of x.active in
+        let no : is_in x.child (late_order r) ≡ false = ap (λ (ys : List ℕ). is_in x.child ys) e in
         absurd cc
     inner (c ∷ xs) e f l w =
-        let i : is_in c (order_of r) ≡ true = ap (λ (ys : List ℕ). is_in c ys) e ∙ (let one : is_in c (c ∷ xs) ≡ true = rw (same_test c) refl in one) in
+        let i : is_in c (late_order r) ≡ true = ap (λ (ys : List ℕ). is_in c ys) e ∙ (let one : is_in c (c ∷ xs) ≡ true = rw (same_test c) refl in one) in
         let both = and_true (is_child cs p c) (active cs h c) (sym (listed c) ∙ i) in
         opens_child cs h now p t w (record { child = c; of = both.0; opens = sym (key_opens cs h last p now nodes r c s ranks later both.0 both.1) ∙ f; active = both.1 })
 
-    back : is_leaf cs p ≡ false → (is_within cs h now p && has_come (first_key (keys_of r) (order_of r)) now) ≡ true → opens_under cs h now p ≡ true
+    back : is_leaf cs p ≡ false → (is_within cs h now p && has_come (first_key (late_keys r) (late_order r)) now) ≡ true → opens_under cs h now p ≡ true
     back l e =
-        let both = and_true (is_within cs h now p) (has_come (first_key (keys_of r) (order_of r)) now) e in
-        inner (order_of r) refl both.1 l both.0
+        let both = and_true (is_within cs h now p) (has_come (first_key (late_keys r) (late_order r)) now) e in
+        inner (late_order r) refl both.1 l both.0
 
-    go : (b : Bool) → is_leaf cs p ≡ b → opens_under cs h now p ≡ (is_within cs h now p && has_come (first_key (keys_of r) (order_of r)) now)
+    go : (b : Bool) → is_leaf cs p ≡ b → opens_under cs h now p ≡ (is_within cs h now p && has_come (first_key (late_keys r) (late_order r)) now)
     go true l = leaf_case l
-    go false l = same_truth (opens_under cs h now p) (is_within cs h now p && has_come (first_key (keys_of r) (order_of r)) now) (there l) (back l)
+    go false l = same_truth (opens_under cs h now p) (is_within cs h now p && has_come (first_key (late_keys r) (late_order r)) now) (there l) (back l)
 
 -- what opens at once has come
 at_once : (k : Option ℕ) (now : ℕ) → is_late k ≡ false → has_come k now ≡ true
 at_once None now e = absurd cc
 at_once (Some t) now e = grind (arith, nat_tests, e)
 
-within : (cs : List HfscClass) (h : HfscHistory) (last p : ℕ) (nodes : List Node) (g : Group) → GroupHolds nodes p g → IsWithin (order_of g.moments) (order_of g.times)
+within : (cs : List HfscClass) (h : HfscHistory) (last p : ℕ) (nodes : List Node) (g : Group) → GroupHolds nodes p g → IsWithin (late_order g.moments) (order_of g.times)
 within cs h last p nodes g holds d i =
     holds.times.exactly d ∙ (and_true (is_active_child nodes p d) (is_late (opens_in (slice_get nodes d))) (sym (holds.moments.exactly d) ∙ i)).0
 
 -- where one does not, it opens at once
 other_opens : (cs : List HfscClass) (h : HfscHistory) (last p now : ℕ) (nodes : List Node) (g : Group) → IsTree cs → Stand cs h last p nodes → GroupHolds nodes p g
-    → IsMore (order_of g.moments) (order_of g.times) → last ≤ now → opens_under cs h now p ≡ (is_within cs h now p && true)
+    → IsMore (late_order g.moments) (order_of g.times) → last ≤ now → opens_under cs h now p ≡ (is_within cs h now p && true)
 other_opens cs h last p now nodes g t s holds more later = go (is_leaf cs p) refl
   where
     here : is_active_child nodes p more.class ≡ true
@@ -156,47 +159,47 @@ other_opens cs h last p now nodes g t s holds more later = go (is_leaf cs p) ref
 
 first_opens : (cs : List HfscClass) (h : HfscHistory) (last p now : ℕ) (nodes : List Node) (g : Group) → IsTree cs → Stand cs h last p nodes → GroupHolds nodes p g
     → last ≤ now → active cs h p ≡ true → opens_under cs h now p ≡ (is_within cs h now p && has_come (first_moment g) now)
-first_opens cs h last p now nodes g t s holds later a = go (length (order_of g.moments) == length (order_of g.times)) refl
+first_opens cs h last p now nodes g t s holds later a = go (length (late_order g.moments) == length (order_of g.times)) refl
   where
-    by_moments : IsRanked (keys_of g.moments) (order_of g.moments)
-    by_moments = ranked_true (keys_of g.moments) (order_of g.moments) g.moments.ranked
+    by_moments : IsRanked (late_keys g.moments) (late_order g.moments)
+    by_moments = late_ranked g.moments
 
     by_times : IsRanked (keys_of g.times) (order_of g.times)
     by_times = ranked_true (keys_of g.times) (order_of g.times) g.times.ranked
 
-    inside : IsWithin (order_of g.moments) (order_of g.times)
+    inside : IsWithin (late_order g.moments) (order_of g.times)
     inside = within cs h last p nodes g holds
 
-    listed : length (order_of g.moments) ≡ length (order_of g.times) → (c : ℕ) → is_in c (order_of g.moments) ≡ (is_child cs p c && active cs h c)
+    listed : length (late_order g.moments) ≡ length (order_of g.times) → (c : ℕ) → is_in c (late_order g.moments) ≡ (is_child cs p c && active cs h c)
     listed e c =
-        same_truth (is_in c (order_of g.moments)) (is_in c (order_of g.times)) (inside c)
-        (all_within (keys_of g.moments) (keys_of g.times) (order_of g.moments) (order_of g.times) by_moments by_times inside e c)
+        same_truth (is_in c (late_order g.moments)) (is_in c (order_of g.times)) (inside c)
+        (all_within (late_keys g.moments) (keys_of g.times) (late_order g.moments) (order_of g.times) by_moments by_times inside e c)
         ∙ in_list cs h last p nodes time_key g.times c s holds.times
 
-    go : (b : Bool) → (length (order_of g.moments) == length (order_of g.times)) ≡ b
-        → opens_under cs h now p ≡ (is_within cs h now p && has_come (if b then first_key (keys_of g.moments) (order_of g.moments) else Some 0) now)
+    go : (b : Bool) → (length (late_order g.moments) == length (order_of g.times)) ≡ b
+        → opens_under cs h now p ≡ (is_within cs h now p && has_come (if b then first_key (late_keys g.moments) (late_order g.moments) else Some 0) now)
     go true e = listed_opens cs h last p now nodes g.moments t s holds.moments (listed (grind (arith, nat_tests, e))) later a
     go false e =
         other_opens cs h last p now nodes g t s holds
-        (one_more (keys_of g.moments) (keys_of g.times) (order_of g.moments) (order_of g.times) by_moments by_times inside (λ f. grind (arith, nat_tests, e, f))) later
+        (one_more (late_keys g.moments) (keys_of g.times) (late_order g.moments) (order_of g.times) by_moments by_times inside (λ f. grind (arith, nat_tests, e, f))) later
         ∙ ap (λ b. is_within cs h now p && b) (sym (at_once (Some 0) now refl))
 
 -- so a class opens with the later of its limit's moment and the first below it
 first_some : (cs : List HfscClass) (h : HfscHistory) (last p : ℕ) (nodes : List Node) (g : Group) → Stand cs h last p nodes → GroupHolds nodes p g → is_some (first_moment g) ≡ true
-first_some cs h last p nodes g s holds = go (length (order_of g.moments) == length (order_of g.times))
+first_some cs h last p nodes g s holds = go (length (late_order g.moments) == length (order_of g.times))
   where
-    listed : (xs : List ℕ) → order_of g.moments ≡ xs → is_some (first_key (keys_of g.moments) xs) ≡ true
+    listed : (xs : List ℕ) → late_order g.moments ≡ xs → is_some (first_key (late_keys g.moments) xs) ≡ true
     listed [] e = refl
     listed (c ∷ xs) e =
-        let i : is_in c (order_of g.moments) ≡ true = ap (λ (ys : List ℕ). is_in c ys) e ∙ (let one : is_in c (c ∷ xs) ≡ true = rw (same_test c) refl in one) in
+        let i : is_in c (late_order g.moments) ≡ true = ap (λ (ys : List ℕ). is_in c ys) e ∙ (let one : is_in c (c ∷ xs) ≡ true = rw (same_test c) refl in one) in
         let here : is_active_child nodes p c ≡ true = (and_true (is_active_child nodes p c) (is_late (opens_in (slice_get nodes c))) (sym (holds.moments.exactly c) ∙ i)).0 in
         let both = and_true (is_child cs p c) (active cs h c) (sym (active_is_in cs h last p nodes c s) ∙ here) in
         let n = child_node cs h last p nodes c s both.0 in
         let y = s.each c n.node n.at both.0 in
         ap is_some (holds.moments.keys c here ∙ ap opens_in n.at) ∙ (y.opens (sym y.active ∙ both.1)).some
 
-    go : (b : Bool) → is_some (if b then first_key (keys_of g.moments) (order_of g.moments) else Some 0) ≡ true
-    go true = listed (order_of g.moments) refl
+    go : (b : Bool) → is_some (if b then first_key (late_keys g.moments) (late_order g.moments) else Some 0) ≡ true
+    go true = listed (late_order g.moments) refl
     go false = refl
 
 pub opens_at : (cs : List HfscClass) (h : HfscHistory) (last p : ℕ) (nodes : List Node) (g : Group) → IsTree cs → ((s : Curve) → (class_of cs p).limit ≡ Some s → IsLimit s)

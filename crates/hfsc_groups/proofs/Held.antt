@@ -14,7 +14,9 @@ use Rattle.hfsc_groups.specs.declared.node.Node.{Node}
 use Rattle.hfsc_groups.specs.declared.group.Group.{Group}
 use Rattle.hfsc_groups.specs.Curves.{IsBy}
 use Rattle.hfsc_groups.specs.Node.{parent_in, active_in, time_in, opens_in, is_child_in, is_active_child, AreParentsFirst, AreLimitsBy}
-use Rattle.hfsc_groups.specs.Group.{Delays, IsDelayed, is_late, Ranks, IsHigh, GroupHolds, GroupsHold, IsChanged, MayChange, AreRanked, time_key}
+use Rattle.hfsc_groups.specs.declared.late.Late.{Late}
+use Rattle.hfsc_groups.specs.Late.{IsDelayed, is_late, late_keys, late_order}
+use Rattle.hfsc_groups.specs.Group.{Delays, Ranks, IsHigh, GroupHolds, GroupsHold, IsChanged, MayChange, AreRanked, time_key}
 use Rattle.hfsc_groups.proofs.Places.{get_here, get_other}
 
 -- one class is put into its place: its parent stays, and its virtual time does not fall
@@ -82,10 +84,10 @@ ranks_changed key nodes class x p old new put of ranks r = record {
         r.others c n ∙ ranks.keys c (sym (ap (λ (o : Option Node). is_number p (parent_in o) && active_in o) there) ∙ a) ∙ sym (ap key there))
 
 -- the same of the list by moments
-delays_changed : (nodes : List Node) (class : ℕ) (x : Node) (p : ℕ) (old new : Ranking) → IsPut nodes class x → x.parent ≡ Some p
+delays_changed : (nodes : List Node) (class : ℕ) (x : Node) (p : ℕ) (old new : Late) → IsPut nodes class x → x.parent ≡ Some p
     → Delays nodes p old → IsDelayed class x.active x.opens old new → Delays (slice_set nodes class x) p new
 delays_changed nodes class x p old new put of delays r = record {
-  room = λ c k. let n = r.count in let m = delays.room c (sym (child_kept nodes class x p c put) ∙ k) in omega arith;
+  places = λ c k. r.places c (delays.places c (sym (child_kept nodes class x p c put) ∙ k));
   exactly = λ c. r.classes c ∙ exactly c (class == c) refl;
   keys = keys;
 }
@@ -96,7 +98,7 @@ delays_changed nodes class x p old new put of delays r = record {
     is_of : is_number p x.parent ≡ true
     is_of = ap (is_number p) of ∙ same_test p
 
-    exactly : (c : ℕ) (b : Bool) → (class == c) ≡ b → (if b then x.active && is_late x.opens else is_in c (order_of old))
+    exactly : (c : ℕ) (b : Bool) → (class == c) ≡ b → (if b then x.active && is_late x.opens else is_in c (late_order old))
         ≡ (is_active_child (slice_set nodes class x) p c && is_late (opens_in (slice_get (slice_set nodes class x) c)))
     exactly c true e =
         let same : class ≡ c = grind (arith, nat_tests, e) in
@@ -106,8 +108,8 @@ delays_changed nodes class x p old new put of delays r = record {
         let there = get_other nodes class c x (λ s. grind (arith, nat_tests, e, s)) in
         delays.exactly c ∙ sym (ap (λ (o : Option Node). (is_number p (parent_in o) && active_in o) && is_late (opens_in o)) there)
 
-    keys : (c : ℕ) → is_active_child (slice_set nodes class x) p c ≡ true → key_of (keys_of new) c ≡ opens_in (slice_get (slice_set nodes class x) c)
-    keys c = split (λ d. is_active_child (slice_set nodes class x) p d ≡ true → key_of (keys_of new) d ≡ opens_in (slice_get (slice_set nodes class x) d)) class c
+    keys : (c : ℕ) → is_active_child (slice_set nodes class x) p c ≡ true → key_of (late_keys new) c ≡ opens_in (slice_get (slice_set nodes class x) c)
+    keys c = split (λ d. is_active_child (slice_set nodes class x) p d ≡ true → key_of (late_keys new) d ≡ opens_in (slice_get (slice_set nodes class x) d)) class c
         (λ a. r.keyed ∙ sym (ap opens_in put_in))
         (λ n a. let there = get_other nodes class c x n in
         r.others c n ∙ delays.keys c (sym (ap (λ (o : Option Node). is_number p (parent_in o) && active_in o) there) ∙ a) ∙ sym (ap opens_in there))
@@ -176,10 +178,10 @@ ranks_kept key nodes class x p r put other ranks = record {
     child_of : (c : ℕ) → c ≡ class → is_active_child nodes p c ≡ true → is_child_in nodes p class ≡ true
     child_of c s a = ap (λ n. is_child_in nodes p n) (sym s) ∙ front (is_child_in nodes p c) (active_in (slice_get nodes c)) a
 
-delays_kept : (nodes : List Node) (class : ℕ) (x : Node) (p : ℕ) (r : Ranking) → IsPut nodes class x → (x.parent ≡ Some p → ⊥)
+delays_kept : (nodes : List Node) (class : ℕ) (x : Node) (p : ℕ) (r : Late) → IsPut nodes class x → (x.parent ≡ Some p → ⊥)
     → Delays nodes p r → Delays (slice_set nodes class x) p r
 delays_kept nodes class x p r put other delays = record {
-  room = λ c k. delays.room c (sym (child_kept nodes class x p c put) ∙ k);
+  places = λ c k. delays.places c (sym (child_kept nodes class x p c put) ∙ k);
   exactly = λ c. delays.exactly c ∙ same c (is_active_child nodes p c) refl;
   keys = λ c a.
       let was = sym (active_kept nodes class x p c put other) ∙ a in
@@ -228,8 +230,8 @@ pub may_change : (nodes : List Node) (class p : ℕ) (g : Group) (was : Bool) �
 may_change nodes class p g was of is holds = record {
   times = record { room = holds.times.room class child; there = holds.times.exactly class ∙ active };
   moments = record {
-    room = holds.moments.room class child;
-    there = holds.moments.exactly class ∙ keyed (is_active_child nodes p class) refl ∙ ap (λ b. b && is_late (key_of (keys_of g.moments) class)) active;
+    place = holds.moments.places class child;
+    there = holds.moments.exactly class ∙ keyed (is_active_child nodes p class) refl ∙ ap (λ b. b && is_late (key_of (late_keys g.moments) class)) active;
   };
 }
   where
@@ -240,10 +242,10 @@ may_change nodes class p g was of is holds = record {
     active = ap (λ b. b && active_in (slice_get nodes class)) child ∙ is
 
     keyed : (b : Bool) → is_active_child nodes p class ≡ b → (is_active_child nodes p class && is_late (opens_in (slice_get nodes class)))
-        ≡ (is_active_child nodes p class && is_late (key_of (keys_of g.moments) class))
+        ≡ (is_active_child nodes p class && is_late (key_of (late_keys g.moments) class))
     keyed true e = ap (λ (k : Option ℕ). is_active_child nodes p class && is_late k) (sym (holds.moments.keys class e))
     keyed false e =
-        ap (λ b. b && is_late (opens_in (slice_get nodes class))) e ∙ sym (ap (λ b. b && is_late (key_of (keys_of g.moments) class)) e)
+        ap (λ b. b && is_late (opens_in (slice_get nodes class))) e ∙ sym (ap (λ b. b && is_late (key_of (late_keys g.moments) class)) e)
 
 -- the parents stand first, and no limit knows of a later arrival
 pub parents_put : (nodes : List Node) (class : ℕ) (x : Node) → IsPut nodes class x → AreParentsFirst nodes → AreParentsFirst (slice_set nodes class x)

@@ -1,5 +1,6 @@
 pub mod Places
 pub mod Lists
+pub mod Numbered
 pub mod Found
 pub mod Held
 pub mod Staying

@@ -14,7 +14,7 @@ use Rattle.hfsc_model.specs.Limit.{within}
 use Rattle.hfsc_model.proofs.Soonest.{eligible_from_soonest}
 use Rattle.hfsc_groups.specs.Curves.{limit_opens}
 use Rattle.hfsc_groups.specs.Classes.{IsLimit}
-use Rattle.hfsc_groups.specs.Group.{first_key}
+use Rattle.hfsc_groups.specs.Late.{first_key}
 
 -- a limit's curve makes eligible by itself
 own_curve : (s : Curve) → IsLimit s → eligible_curve s ≡ s

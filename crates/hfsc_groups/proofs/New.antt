@@ -11,7 +11,9 @@ use Rattle.hfsc_groups.specs.declared.node.Node.{Node}
 use Rattle.hfsc_groups.specs.declared.group.Group.{Group}
 use Rattle.hfsc_groups.specs.Classes.{AreClasses}
 use Rattle.hfsc_groups.specs.Node.{active_in, parent_in, time_in, opens_in, is_child_in, is_active_child, AreNew, AreParentsFirst, AreLimitsBy, IsNewNode}
-use Rattle.hfsc_groups.specs.Group.{AreEmpty, Delays, GroupsHold, IsEmpty, Ranks, is_late, time_key}
+use Rattle.hfsc_groups.specs.declared.late.Late.{Late}
+use Rattle.hfsc_groups.specs.Late.{HasPlace, is_late, late_order}
+use Rattle.hfsc_groups.specs.Group.{AreEmpty, Delays, GroupsHold, IsEmpty, Ranks, time_key}
 use Rattle.hfsc_groups.proofs.Found.{outside_parent}
 
 -- each of them
@@ -57,10 +59,10 @@ empty_ranks cs nodes p key r new empty room = record {
   keys = λ c a. let no = no_active cs nodes p c new in absurd cc;
 }
 
-empty_delays : (cs : List HfscClass) (nodes : List Node) (p : ℕ) (r : Ranking) → AreNew cs nodes → order_of r ≡ []
-    → ((c : ℕ) → is_child cs p c ≡ true → c < length (keys_of r)) → Delays nodes p r
+empty_delays : (cs : List HfscClass) (nodes : List Node) (p : ℕ) (r : Late) → AreNew cs nodes → late_order r ≡ []
+    → ((c : ℕ) → is_child cs p c ≡ true → HasPlace r c) → Delays nodes p r
 empty_delays cs nodes p r new empty room = record {
-  room = λ c k. room c (sym (ap (is_number p) (parent_is cs nodes c new)) ∙ k);
+  places = λ c k. room c (sym (ap (is_number p) (parent_is cs nodes c new)) ∙ k);
   exactly = λ c. ap (λ (xs : List ℕ). is_in c xs) empty ∙ sym (ap (λ b. b && is_late (opens_in (slice_get nodes c))) (no_active cs nodes p c new));
   keys = λ c a. let no = no_active cs nodes p c new in absurd cc;
 }

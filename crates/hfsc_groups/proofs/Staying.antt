@@ -11,7 +11,8 @@ use Rattle.hfsc_model.specs.Tree.{is_number}
 use Rattle.hfsc_groups.specs.declared.node.Node.{Node}
 use Rattle.hfsc_groups.specs.declared.group.Group.{Group}
 use Rattle.hfsc_groups.specs.Node.{active_in, parent_in, time_in, opens_in, is_child_in, is_active_child}
-use Rattle.hfsc_groups.specs.Group.{AreRanked, AreRankedIn, GroupHolds, GroupsHold, IsChanged, is_late}
+use Rattle.hfsc_groups.specs.Late.{is_late, late_order}
+use Rattle.hfsc_groups.specs.Group.{AreRanked, AreRankedIn, GroupHolds, GroupsHold, IsChanged}
 use Rattle.hfsc_groups.proofs.Found.{group_of}
 
 -- of a class its parent sees no more than this
@@ -43,8 +44,8 @@ group_same nodes class p g x y at holds of a s = record {
     others = λ c n. refl;
   };
   moments = record {
-    count = refl;
-    classes = stays class (order_of g.moments) (y.active && is_late y.opens)
+    places = λ c place. place;
+    classes = stays class (late_order g.moments) (y.active && is_late y.opens)
         (holds.moments.exactly class ∙ ap (λ b. b && is_late (opens_in (slice_get nodes class))) (here ∙ sym awake)
         ∙ ap (λ (o : Option ℕ). y.active && is_late o) opens);
     keyed = holds.moments.keys class here ∙ opens;

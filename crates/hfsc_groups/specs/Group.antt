@@ -1,6 +1,6 @@
 -- The children of a class in the order of their virtual times, and those that open late in that of the moments from which
 -- they open.
-use Rattle.std.specs.Prelude.{◌≡◌, ◌≤◌, ◌<◌, ◌&&◌, ◌==◌, ℕ, max, nat_lt, Bool, true, List, [], ◌∷◌, length, Option, None, Some, slice_get, slice_set, slice_index_or, if◌then◌else◌}
+use Rattle.std.specs.Prelude.{◌≡◌, ◌≤◌, ◌<◌, ◌-◌, ◌&&◌, ◌==◌, ℕ, max, Bool, true, List, [], length, Option, None, Some, slice_get, slice_set, slice_index_or, if◌then◌else◌}
 use Rattle.std.specs.List.{find}
 use Rattle.ranking.specs.Order.{is_in, key_of}
 use Rattle.ranking.specs.Ranking.{IsReplaced, keys_of, order_of}
@@ -10,7 +10,9 @@ use Rattle.hfsc_model.specs.RealTime.{has_come}
 use Rattle.hfsc_model.specs.Tree.{is_child}
 use Rattle.hfsc_groups.specs.declared.node.Node.{Node}
 use Rattle.hfsc_groups.specs.declared.group.Group.{Group}
+use Rattle.hfsc_groups.specs.declared.late.Late.{Late}
 use Rattle.hfsc_groups.specs.Lists.{MayReplace}
+use Rattle.hfsc_groups.specs.Late.{HasPlace, IsDelayed, IsNewLate, MayDelay, first_key, is_late, late_keys, late_order}
 use Rattle.hfsc_groups.specs.Node.{is_child_in, is_active_child, time_in, opens_in}
 
 -- exactly the active children of p stand in a list, each with its key
@@ -19,16 +21,11 @@ pub record Ranks (nodes : List Node) (p : ℕ) (key : Option Node → Option ℕ
   pub exactly : (c : ℕ) → is_in c (order_of ranking) ≡ is_active_child nodes p c
   pub keys : (c : ℕ) → is_active_child nodes p c ≡ true → key_of (keys_of ranking) c ≡ key (slice_get nodes c)
 
--- a moment is after 0 or never comes
-abbrev pub is_late : Option ℕ → Bool
-is_late None = true
-is_late (Some t) = nat_lt 0 t
-
 -- exactly the active children of p that open late stand in a list; each that is active has its key
-pub record Delays (nodes : List Node) (p : ℕ) (ranking : Ranking) : Type 0 where
-  pub room : (c : ℕ) → is_child_in nodes p c ≡ true → c < length (keys_of ranking)
-  pub exactly : (c : ℕ) → is_in c (order_of ranking) ≡ (is_active_child nodes p c && is_late (opens_in (slice_get nodes c)))
-  pub keys : (c : ℕ) → is_active_child nodes p c ≡ true → key_of (keys_of ranking) c ≡ opens_in (slice_get nodes c)
+pub record Delays (nodes : List Node) (p : ℕ) (late : Late) : Type 0 where
+  pub places : (c : ℕ) → is_child_in nodes p c ≡ true → HasPlace late c
+  pub exactly : (c : ℕ) → is_in c (late_order late) ≡ (is_active_child nodes p c && is_late (opens_in (slice_get nodes c)))
+  pub keys : (c : ℕ) → is_active_child nodes p c ≡ true → key_of (late_keys late) c ≡ opens_in (slice_get nodes c)
 
 -- no child of p has a greater virtual time
 abbrev pub IsHighest : List Node → ℕ → ℕ → Type 0
@@ -52,36 +49,24 @@ pub record GroupsHold (nodes : List Node) (groups : List Group) : Type 0 where
   pub count : length groups ≡ length nodes
   pub each : (p : ℕ) (g : Group) → slice_get groups p ≡ Some g → GroupHolds nodes p g
 
--- no child is active, and none was; there is a place for each of `places` classes
-pub record IsNewGroup (places : ℕ) (g : Group) : Type 0 where
+-- no child is active, and none was; there is a place for each of `places` classes, and for a late one from `first` on
+pub record IsNewGroup (first places : ℕ) (g : Group) : Type 0 where
   pub times : order_of g.times ≡ []
-  pub moments : order_of g.moments ≡ []
+  pub moments : IsNewLate first (places - first) g.moments
   pub time_keys : length (keys_of g.times) ≡ places
-  pub moment_keys : length (keys_of g.moments) ≡ places
   pub high : g.high ≡ 0
 
 -- the group of p, in which each of its children has a place
 pub record IsEmpty (cs : List HfscClass) (p : ℕ) (g : Group) : Type 0 where
   pub times : order_of g.times ≡ []
-  pub moments : order_of g.moments ≡ []
+  pub moments : late_order g.moments ≡ []
   pub time_keys : (c : ℕ) → is_child cs p c ≡ true → c < length (keys_of g.times)
-  pub moment_keys : (c : ℕ) → is_child cs p c ≡ true → c < length (keys_of g.moments)
+  pub moment_keys : (c : ℕ) → is_child cs p c ≡ true → HasPlace g.moments c
   pub high : g.high ≡ 0
 
 pub record AreEmpty (cs : List HfscClass) (groups : List Group) : Type 0 where
   pub count : length groups ≡ length cs
   pub each : (p : ℕ) (d : Group) → p < length groups → IsEmpty cs p (slice_index_or groups p d)
-
--- what holds before a child is placed anew in the list by moments, and after
-pub record MayDelay (class : ℕ) (was : Bool) (old : Ranking) : Type 0 where
-  pub room : class < length (keys_of old)
-  pub there : is_in class (order_of old) ≡ (was && is_late (key_of (keys_of old) class))
-
-pub record IsDelayed (class : ℕ) (is : Bool) (opens : Option ℕ) (old new : Ranking) : Type 0 where
-  pub count : length (keys_of new) ≡ length (keys_of old)
-  pub classes : (c : ℕ) → is_in c (order_of new) ≡ (if class == c then is && is_late opens else is_in c (order_of old))
-  pub keyed : key_of (keys_of new) class ≡ opens
-  pub others : (c : ℕ) → (c ≡ class → ⊥) → key_of (keys_of new) c ≡ key_of (keys_of old) c
 
 -- what holds before a child is placed anew in both lists, and after
 pub record MayChange (class : ℕ) (was : Bool) (g : Group) : Type 0 where
@@ -97,17 +82,13 @@ pub record IsChanged (class : ℕ) (is : Bool) (time : ℕ) (opens : Option ℕ)
 abbrev pub ranked_in : Group → List ℕ
 ranked_in g = order_of g.times
 
-abbrev pub first_key : List (Option ℕ) → List ℕ → Option ℕ
-first_key keys [] = Some 0
-first_key keys (c ∷ cs) = key_of keys c
-
 -- the first moment from which a child opens; 0 where one opens at once, or none is active
 abbrev pub first_moment : Group → Option ℕ
-first_moment g = if length (order_of g.moments) == length (order_of g.times) then first_key (keys_of g.moments) (order_of g.moments) else Some 0
+first_moment g = if length (late_order g.moments) == length (order_of g.times) then first_key (late_keys g.moments) (late_order g.moments) else Some 0
 
 -- the first child in the order of virtual times that is open at a moment
 abbrev pub first_open : ℕ → Group → Option ℕ
-first_open now g = find (λ c. has_come (key_of (keys_of g.moments) c) now) (order_of g.times)
+first_open now g = find (λ c. has_come (key_of (late_keys g.moments) c) now) (order_of g.times)
 
 -- what holds before a class is placed anew in the lists of its parent, and after
 pub record MayRank (class : ℕ) (was : Bool) (x : Node) (groups : List Group) : Type 0 where

@@ -1,5 +1,6 @@
 pub mod Curves
 pub mod Classes
 pub mod Lists
+pub mod Late
 pub mod Node
 pub mod Group

@@ -3,8 +3,8 @@
 ghost use Rattle.std.specs.Prelude.{◌≡◌, ℕ, Option, [], max, true, IfOk};
 ghost use Rattle.hfsc_model.specs.RealTime.{has_come};
 ghost use Rattle.hfsc_groups.specs.Lists.{HasKeys};
-ghost use Rattle.hfsc_groups.specs.Group.{IsDelayed, MayDelay, is_late};
 
+use crate::late::Late;
 use play_base::NoMemory;
 use ranking::Ranking;
 use std::alloc::Global;
@@ -14,19 +14,20 @@ use std::alloc::Global;
 #[derive(Debug, Drop)]
 pub struct Group {
     times: Ranking,
-    moments: Ranking,
+    moments: Late,
     high: u128,
 }
 
 impl Group {
     ghost use Rattle.hfsc_groups.specs.Group.{IsNewGroup, MayChange, IsChanged, first_moment, first_open, ranked_in};
 
-    /// No active child, with room for children among `classes` classes: a key in each list for every class.
-    pub fn reserve(alloc: Global, classes: u32) -> Result<Group, NoMemory>
-        ensures { IfOk result (IsNewGroup classes) }
+    /// No active child, with room for children among the classes from `first` to `classes`: a key for every class up to them in the
+    /// first list, and for those from `first` on in the second.
+    pub fn reserve(alloc: Global, first: u32, classes: u32) -> Result<Group, NoMemory>
+        ensures { IfOk result (IsNewGroup first classes) }
     {
         let times = Ranking::reserve(alloc, classes)?;
-        let moments = Ranking::reserve(alloc, classes)?;
+        let moments = Late::reserve(alloc, first, classes.saturating_sub(first))?;
         Ok(Group {
             times,
             moments,
@@ -53,10 +54,10 @@ impl Group {
     pub fn first_moment(&self) -> Option<u128>
         ensures { result ≡ first_moment self.now }
     {
-        let late = self.moments.as_slice();
-        match late.first() {
-            Some(class) if late.len() == self.times.as_slice().len() => self.moments.key(*class),
-            _ => Some(0),
+        if self.moments.len() == self.times.as_slice().len() {
+            self.moments.first_key()
+        } else {
+            Some(0)
         }
     }
 
@@ -81,7 +82,7 @@ impl Group {
         ensures { IsChanged class is time opens self.old self.new }
     {
         self.times.replace(class, was, is, Some(time));
-        delay(&mut self.moments, class, was, is, opens);
+        self.moments.delay(class, was, is, opens);
         self.high = self.high.max(time);
     }
 }
@@ -93,32 +94,5 @@ pub fn has_come(moment: Option<u128>, now: u128) -> bool
     match moment {
         None => false,
         Some(moment) => moment <= now,
-    }
-}
-
-/// A moment is after 0 or never comes.
-fn is_late(moment: Option<u128>) -> bool
-    ensures { result ≡ is_late moment }
-{
-    match moment {
-        None => true,
-        Some(moment) => moment > 0,
-    }
-}
-
-/// Puts a child anew into the list by the moments from which children open, where those that open at once do not stand;
-/// `was` and `is` say whether it was active, and is now.
-#[inline(always)]
-fn delay(moments: &mut Ranking, class: u32, was: bool, is: bool, opens: Option<u128>)
-    requires { MayDelay class was moments.old }
-    ensures { IsDelayed class is opens moments.old moments.new }
-{
-    let was_late = was && is_late(moments.key(class));
-    let late = is && is_late(opens);
-    if was_late || late {
-        moments.replace(class, was_late, late, opens);
-    }
-    if !late {
-        moments.note(class, opens);
     }
 }

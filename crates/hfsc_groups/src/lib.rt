@@ -8,6 +8,7 @@
 #![tactic(auto)]
 
 mod group;
+mod late;
 mod node;
 mod tree;
 

@@ -55,9 +55,26 @@ pub fn groups_of(alloc: Global, classes: &[HfscClass]) -> Result<Vec<Group>, NoM
 {
     let mut groups = Vec::with_capacity(alloc, classes.len())?;
     for class in 0..classes.len() {
-        groups.push(Group::reserve(alloc, places_below(classes, class as u32))?)?;
+        let first = first_below(classes, class as u32);
+        let places = places_below(classes, class as u32);
+        groups.push(Group::reserve(alloc, first, places)?)?;
     }
     Ok(groups)
+}
+
+/// The first child of a class; where it has none, a number that no class has.
+fn first_below(classes: &[HfscClass], class: u32) -> u32
+    requires { length classes.now ≤ 256 }
+    ensures least { (c : ℕ) → is_child classes.now class c ≡ true → result ≤ c }
+    ensures child { result < length classes.now → is_child classes.now class result ≡ true }
+{
+    let count = classes.len() as u32;
+    for index in 0..count {
+        if classes[index as usize].parent == Some(class) {
+            return index;
+        }
+    }
+    count
 }
 
 /// How many classes have a place among the children of a class: those up to its last child, or where it has no child none.

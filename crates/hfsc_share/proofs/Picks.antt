@@ -19,6 +19,7 @@ use Rattle.hfsc_groups.specs.declared.node.Node.{Node}
 use Rattle.hfsc_groups.specs.declared.group.Group.{Group}
 use Rattle.hfsc_groups.specs.Classes.{opens_under, IsSoonest}
 use Rattle.hfsc_groups.specs.Node.{active_in, opens_in, is_child_in, parent_in, time_in, OpensAt}
+use Rattle.hfsc_groups.specs.Late.{HasPlace, late_keys}
 use Rattle.hfsc_groups.specs.Group.{first_open, time_key, GroupHolds}
 use Rattle.hfsc_groups.proofs.Under.{under_low, in_line, same_or_up, IsUp}
 use Rattle.hfsc_groups.proofs.Opening.{all_over, over_all, Opens, opens_is, is_opens, waits_is, is_waits, is_active}
@@ -261,7 +262,7 @@ pub child_picked : (cs : List HfscClass) (h : HfscHistory) (last now c : ℕ) (n
     → first_open now g ≡ least_by (virtual_time cs h) (filter (shares_under cs h now) (filter (is_child cs c) (numbers cs)))
 child_picked cs h last now c nodes g t later s holds led o =
     found_is_least (virtual_time cs h) (order_of g.times) (filter (shares_under cs h now) (filter (is_child cs c) (numbers cs)))
-    (λ e. has_come (key_of (keys_of g.moments) e) now) (order_is cs h last c nodes g s holds).in_order
+    (λ e. has_come (key_of (late_keys g.moments) e) now) (order_is cs h last c nodes g s holds).in_order
     (filter_rises (shares_under cs h now) (filter (is_child cs c) (numbers cs)) (filter_rises (is_child cs c) (numbers cs) (range_rises 0 (length cs)))) same
   where
     shares_is : (e : ℕ) → is_child cs c e ≡ true → shares_under cs h now e ≡ opens_under cs h now e
@@ -270,7 +271,7 @@ child_picked cs h last now c nodes g t later s holds led o =
     opens_active : (e : ℕ) → opens_under cs h now e ≡ true → active cs h e ≡ true
     opens_active e k = let x = opens_is cs h now e k in is_active cs h e x.one x.opens.waits
 
-    each : (e : ℕ) (a b : Bool) → is_child cs c e ≡ a → active cs h e ≡ b → (shares_under cs h now e && a) ≡ ((a && b) && has_come (key_of (keys_of g.moments) e) now)
+    each : (e : ℕ) (a b : Bool) → is_child cs c e ≡ a → active cs h e ≡ b → (shares_under cs h now e && a) ≡ ((a && b) && has_come (key_of (late_keys g.moments) e) now)
     each e false b k a = nothing (shares_under cs h now e)
       where
         nothing : (v : Bool) → (v && false) ≡ false
@@ -287,11 +288,11 @@ child_picked cs h last now c nodes g t later s holds led o =
         go true f = let yes = opens_active e (sym (shares_is e k) ∙ f) in absurd cc
         go false f = refl
 
-    same : (e : ℕ) → is_in e (filter (shares_under cs h now) (filter (is_child cs c) (numbers cs))) ≡ (is_in e (order_of g.times) && has_come (key_of (keys_of g.moments) e) now)
+    same : (e : ℕ) → is_in e (filter (shares_under cs h now) (filter (is_child cs c) (numbers cs))) ≡ (is_in e (order_of g.times) && has_come (key_of (late_keys g.moments) e) now)
     same e =
         in_filter (shares_under cs h now) e (filter (is_child cs c) (numbers cs)) ∙ ap (λ b. shares_under cs h now e && b) (child_in cs c e)
         ∙ each e (is_child cs c e) (active cs h e) refl refl
-        ∙ ap (λ b. b && has_come (key_of (keys_of g.moments) e) now) (sym (in_list cs h last c nodes time_key g.times e s holds.times))
+        ∙ ap (λ b. b && has_come (key_of (late_keys g.moments) e) now) (sym (in_list cs h last c nodes time_key g.times e s holds.times))
 
 -- what a value that stands for a history says of its nodes and groups
 pub stands_stand : (s : Shares) (cs : List HfscClass) (h : HfscHistory) (p : ℕ) → StandsFor s cs h → Stand cs h s.woken p s.nodes.items
@@ -439,12 +440,12 @@ soonest_is s cs h stands = go (is_active_at s 0) refl
     go false a = none_soonest s cs h stands a
 
 -- what stands in the list by virtual time has a place for its moment
-pub has_keys : (nodes : List Node) (p : ℕ) (g : Group) → GroupHolds nodes p g → (c : ℕ) → is_in c (order_of g.times) ≡ true → c < length (keys_of g.moments)
-has_keys nodes p g holds c i = holds.moments.room c (and_true (is_child_in nodes p c) (active_in (slice_get nodes c)) (sym (holds.times.exactly c) ∙ i)).0
+pub has_keys : (nodes : List Node) (p : ℕ) (g : Group) → GroupHolds nodes p g → (c : ℕ) → is_in c (order_of g.times) ≡ true → HasPlace g.moments c
+has_keys nodes p g holds c i = holds.moments.places c (and_true (is_child_in nodes p c) (active_in (slice_get nodes c)) (sym (holds.times.exactly c) ∙ i)).0
 
 -- the first child that is open is a class
 pub first_low : (nodes : List Node) (p now c : ℕ) (g : Group) → GroupHolds nodes p g → first_open now g ≡ Some c → c < length nodes
-first_low nodes p now c g holds e = ranked_low nodes p c time_key g.times holds.times (found_in (λ d. has_come (key_of (keys_of g.moments) d) now) (order_of g.times) c e)
+first_low nodes p now c g holds e = ranked_low nodes p c time_key g.times holds.times (found_in (λ d. has_come (key_of (late_keys g.moments) d) now) (order_of g.times) c e)
   where
     found_in : (test : ℕ → Bool) (xs : List ℕ) (d : ℕ) → find test xs ≡ Some d → is_in d xs ≡ true
     found_in test [] d f = absurd cc

@@ -195,3 +195,11 @@ pub shifted : (r : Ranking) (c from to : ℕ) (key : Option ℕ) (seen_keys : Li
 shifted r c from to key seen_keys seen new s e f found i =
     i ∙ ap (λ (xs : List ℕ). insert xs to c) (shift_taken r c from key s).rest
     ∙ put_found (slice_set (keys_of r) c key) (without (order_of r) c) c to (shift_found r c from to key seen_keys seen s e f found)
+
+-- a class that comes last moves no other
+pub put_last : (xs zs : List ℕ) (p c n : ℕ) → zs ≡ xs ++ c ∷ [] → n ≡ length xs → p ≤ length xs → n ≤ p → slice_set zs p c ≡ insert xs p c
+put_last xs zs p c n e m low past = put_from xs zs zs p c n e m low refl (λ k d a. refl) (λ k d a b. absurd (omega (arith, a, b, past)))
+
+-- nor does one that stays at its place
+pub moved_nowhere : (xs : List ℕ) (from to c : ℕ) → to ≤ from → from ≤ to → from < length xs → slice_set xs to c ≡ insert (remove xs from) to c
+moved_nowhere xs from to c h k f = moved_down xs xs from to c h f refl (λ i d a. refl) (λ i d a b. absurd (omega (arith, a, b, h, k))) (λ i d a. refl)

@@ -12,7 +12,9 @@ pub fn put_at(order: &mut Vec<u32>, place: usize, class: u32)
 {
     let len = order.len();
     let _ = order.push(class);
-    order.copy_within(place..len, place + 1);
+    if place < len {
+        order.copy_within(place..len, place + 1);
+    }
     order[place] = class;
 }
 
@@ -22,7 +24,9 @@ pub fn take_at(order: &mut Vec<u32>, place: usize)
     ensures items { order.new.items ≡ remove order.old.items place }
     ensures capacity { vec_capacity order.new ≡ vec_capacity order.old }
 {
-    order.copy_within(place + 1..order.len(), place);
+    if place + 1 < order.len() {
+        order.copy_within(place + 1..order.len(), place);
+    }
     let _ = order.pop();
 }
 
@@ -35,7 +39,7 @@ pub fn move_to(order: &mut Vec<u32>, from: usize, to: usize, class: u32)
 {
     if from < to {
         order.copy_within(from + 1..to + 1, from);
-    } else {
+    } else if to < from {
         order.copy_within(to..from, to + 1);
     }
     order[to] = class;

@@ -1,5 +1,6 @@
 -- The computed deadline is the first moment up to which the least over all openings reaches the count.
-use Rattle.std.proofs.Common.{◌≡◌, ◌≤◌, ◌<◌, ◌-◌, ℕ, Bool, true, false, List, [], ◌∷◌, refl, arith}
+use Rattle.std.proofs.Common.{◌≡◌, ◌≤◌, ◌<◌, ◌-◌, ℕ, max, Bool, true, false, List, [], ◌∷◌, refl, ap, arith}
+use Rattle.std.proofs.lemmas.Bool.Decides.{nat_tests}
 use Rattle.std.specs.Prelude.{nat_le, if◌then◌else◌, ◌↔◌, Option, None, Some}
 use Rattle.service_curve.specs.declared.Curve.{Curve}
 use Rattle.service_curve.specs.Curve.{amount, first}
@@ -9,6 +10,7 @@ use Rattle.service_curve.proofs.Firsts.{first_comes, first_reaches, first_of}
 use Rattle.runtime_curve.specs.declared.Opening.{Opening}
 use Rattle.runtime_curve.specs.Opening.{line, least_over, IsAtLeast, Reaches}
 use Rattle.runtime_curve.specs.Deadline.{later_of, shifted, reached_at, deadline}
+use Rattle.runtime_curve.specs.Lines.{allows_by}
 use Rattle.runtime_curve.proofs.Reaching.{least_reaches, least_reached}
 
 pub later_comes : (a b : Option ℕ) (t : ℕ) → HasCome a t → HasCome b t → HasCome (later_of a b) t
@@ -69,3 +71,18 @@ deadline_is_first s os count =
     first_of (λ t. IsAtLeast (least_over s os t) count) (deadline s os count)
     (λ t r. deadline_comes s os t count (least_reached s os t count r))
     (λ t h. least_reaches s os t count (deadline_came s os t count h))
+
+-- of two openings, where the first allows a count by the moment of the second, that moment is the deadline
+pub second_is_later : (s : Curve) (one other : Opening) (count : ℕ) → allows_by s one (reached_at s other count) count ≡ true
+    → reached_at s other count ≡ deadline s (one ∷ other ∷ []) count
+second_is_later s one other count = go (reached_at s other count)
+  where
+    of_first : (t : ℕ) (o : Option ℕ) → HasCome o t → Some t ≡ later_of o (Some (max t 0))
+    of_first t None x = absurd x
+    of_first t (Some u) x = ap (λ n. Some n) (let e : t ≡ max u (max t 0) = omega arith in e)
+
+    go : (o : Option ℕ) → allows_by s one o count ≡ true → o ≡ later_of (reached_at s one count) (later_of o (Some 0))
+    go None e = absurd cc
+    go (Some t) e =
+        let given : count ≤ line s t one = grind (arith, nat_tests, e) in
+        of_first t (reached_at s one count) (line_comes s one t count given)

@@ -1,4 +1,5 @@
 pub mod Opening
 pub mod Deadline
 pub mod Held
+pub mod Lines
 pub mod Running

@@ -19,7 +19,7 @@ ghost use Rattle.runtime_curve.specs.Opening.{opening, RisesFromZero, least_over
 ghost use Rattle.runtime_curve.specs.Deadline.{deadline, reaches, soonest};
 ghost use Rattle.runtime_curve.specs.Held.{AreOrdered, AreWithin, IsOneLine, MayFollow};
 
-use service_curve::Curve;
+use service_curve::{Curve, Inverses};
 
 mod held;
 mod lines;
@@ -41,6 +41,7 @@ pub struct Opening {
 #[derive(Clone, Copy, Debug, PartialEq, Eq)]
 pub struct Running {
     curve: Curve,
+    inverses: Inverses,
     held: Option<Held>,
     ghost in_range: { IsInRange curve },
     ghost slopes: { RisesFromZero curve },
@@ -59,7 +60,11 @@ impl Running {
         ensures none { StandsFor result curve [] }
         ensures empty { last_of result ≡ None }
     {
-        Running { curve, held: None }
+        Running {
+            curve,
+            inverses: curve.inverses(),
+            held: None,
+        }
     }
 
     /// Adds an opening at a moment before 2^80 with a count below 2^100, neither of which is less than in the opening
@@ -94,7 +99,7 @@ impl Running {
     {
         match &self.held {
             None => Some(0),
-            Some(held) => deadline_of(&self.curve, held, count),
+            Some(held) => deadline_of(&self.curve, &self.inverses, held, count),
         }
     }
 
@@ -137,7 +142,10 @@ impl Running {
                 if both_counted(&held.steep, &held.flat, count) {
                     return Some(held.last.at);
                 }
-                later_of(early_of(&self.curve, held, count), Some(held.last.at))
+                later_of(
+                    early_of(&self.curve, &self.inverses, held, count),
+                    Some(held.last.at),
+                )
             }
         }
     }

@@ -5,10 +5,14 @@ ghost use Rattle.service_curve.specs.Curve.{IsInRange};
 ghost use Rattle.runtime_curve.specs.Opening.{IsWithin, line, eligible_curve};
 ghost use Rattle.runtime_curve.specs.Deadline.{later_of, reached_at, deadline, reaches};
 ghost use Rattle.runtime_curve.specs.Held.{AreOne};
+ghost use Rattle.runtime_curve.specs.Lines.{allows_by};
 
 use crate::Opening;
 use crate::held::Held;
-use service_curve::Curve;
+use service_curve::{Curve, Inverses};
+
+/// Up to moments before this one, in nanoseconds, amounts of curves fit in 128 bits.
+const EARLY: u128 = 1 << 80;
 
 /// The later of two moments, where `None` means never.
 pub fn later_of(a: Option<u128>, b: Option<u128>) -> Option<u128>
@@ -21,7 +25,7 @@ pub fn later_of(a: Option<u128>, b: Option<u128>) -> Option<u128>
 }
 
 /// The first moment up to which an opening allows a count.
-fn reached_at(curve: &Curve, opening: &Opening, count: u128) -> Option<u128>
+fn reached_at(curve: &Curve, inverses: &Inverses, opening: &Opening, count: u128) -> Option<u128>
     requires in_range { IsInRange curve.now }
     requires within { IsWithin opening.now }
     requires amount { count < 2 ^ 100 }
@@ -30,30 +34,52 @@ fn reached_at(curve: &Curve, opening: &Opening, count: u128) -> Option<u128>
     if count <= opening.count {
         return Some(0);
     }
-    match curve.first(count - opening.count) {
+    match curve.first_by(inverses, count - opening.count) {
         None => None,
         Some(t) => Some(opening.at + t),
     }
 }
 
-/// The first moment up to which two openings allow a count. They often are one, whose moment is found once.
-fn latest_of(curve: &Curve, one: &Opening, other: &Opening, count: u128) -> Option<u128>
+/// The first moment up to which two openings allow a count: mostly that of the second, by which the first mostly allows it too.
+#[tactic(auto, using(crate::proofs::Deadlines::second_is_later))]
+fn latest_of(
+    curve: &Curve,
+    inverses: &Inverses,
+    one: &Opening,
+    other: &Opening,
+    count: u128,
+) -> Option<u128>
     requires in_range { IsInRange curve.now }
     requires one { IsWithin one.now }
     requires other { IsWithin other.now }
     requires amount { count < 2 ^ 100 }
     ensures { result ≡ deadline curve.now (one.now ∷ other.now ∷ []) count }
 {
-    if *one == *other {
-        return reached_at(curve, one, count);
+    let reached = reached_at(curve, inverses, other, count);
+    if allows_by(curve, one, reached, count) {
+        return reached;
     }
-    let reached = reached_at(curve, one, count);
-    later_of(reached, later_of(reached_at(curve, other, count), Some(0)))
+    later_of(
+        reached_at(curve, inverses, one, count),
+        later_of(reached, Some(0)),
+    )
+}
+
+/// Whether an opening allows a count up to a moment that is there, and is early enough for the amounts of a curve.
+fn allows_by(curve: &Curve, opening: &Opening, moment: Option<u128>, count: u128) -> bool
+    requires in_range { IsInRange curve.now }
+    requires within { IsWithin opening.now }
+    ensures { result ≡ allows_by curve.now opening.now moment count }
+{
+    match moment {
+        Some(moment) if moment < EARLY => allows(curve, *opening, moment, count),
+        _ => false,
+    }
 }
 
 /// The first moment up to which the openings that stand for all allow a count. Where the slope does not fall they are one.
 #[tactic(auto, using(crate::proofs::TwoLines::one_line))]
-pub fn deadline_of(curve: &Curve, held: &Held, count: u128) -> Option<u128>
+pub fn deadline_of(curve: &Curve, inverses: &Inverses, held: &Held, count: u128) -> Option<u128>
     requires in_range { IsInRange curve.now }
     requires steep { IsWithin held.now.steep }
     requires flat { IsWithin held.now.flat }
@@ -62,14 +88,14 @@ pub fn deadline_of(curve: &Curve, held: &Held, count: u128) -> Option<u128>
     ensures { result ≡ deadline curve.now (held.now.steep ∷ held.now.flat ∷ []) count }
 {
     if curve.m1 <= curve.m2 {
-        return reached_at(curve, &held.flat, count);
+        return reached_at(curve, inverses, &held.flat, count);
     }
-    latest_of(curve, &held.steep, &held.flat, count)
+    latest_of(curve, inverses, &held.steep, &held.flat, count)
 }
 
 /// The same by the curve that makes a class eligible.
 #[tactic(auto, using(crate::proofs::TwoLines::one_line, crate::proofs::TwoLines::falls))]
-pub fn early_of(curve: &Curve, held: &Held, count: u128) -> Option<u128>
+pub fn early_of(curve: &Curve, inverses: &Inverses, held: &Held, count: u128) -> Option<u128>
     requires in_range { IsInRange curve.now }
     requires steep { IsWithin held.now.steep }
     requires flat { IsWithin held.now.flat }
@@ -78,9 +104,14 @@ pub fn early_of(curve: &Curve, held: &Held, count: u128) -> Option<u128>
     ensures { result ≡ deadline (eligible_curve curve.now) (held.now.steep ∷ held.now.flat ∷ []) count }
 {
     if curve.m1 <= curve.m2 {
-        return reached_at(&eligible_curve(curve), &held.flat, count);
+        return reached_at(
+            &eligible_curve(curve),
+            &of_second(inverses),
+            &held.flat,
+            count,
+        );
     }
-    latest_of(curve, &held.steep, &held.flat, count)
+    latest_of(curve, inverses, &held.steep, &held.flat, count)
 }
 
 /// Whether two openings had a count already, and so allow it at every moment. Those of a class that just opened mostly do.
@@ -89,6 +120,17 @@ pub fn both_counted(one: &Opening, other: &Opening, count: u128) -> bool
     ensures { result ≡ true → (s : Curve) → deadline s (one.now ∷ other.now ∷ []) count ≡ Some 0 }
 {
     count <= one.count && count <= other.count
+}
+
+/// The numbers of the line of the second slope.
+fn of_second(inverses: &Inverses) -> Inverses
+    ensures first { result.first ≡ inverses.now.second }
+    ensures second { result.second ≡ inverses.now.second }
+{
+    Inverses {
+        first: inverses.second,
+        second: inverses.second,
+    }
 }
 
 /// The curve that makes a class eligible.

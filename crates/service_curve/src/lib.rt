@@ -7,9 +7,15 @@
 //! Curve Algorithm for Link-Sharing, Real-Time and Priority Services", SIGCOMM 1997.
 #![tactic(auto)]
 
-ghost use Rattle.std.specs.Prelude.{◌≡◌, ◌≢◌, ◌<◌, ◌≤◌, ◌+◌, ◌-◌, ◌*◌, ◌/◌, ◌^◌, ◌↔◌, ℕ, IfSome, Some, None};
+ghost use Rattle.std.specs.Prelude.{◌≡◌, ◌≢◌, ◌<◌, ◌≤◌, ◌+◌, ◌-◌, ◌*◌, ◌/◌, ◌^◌, ◌↔◌, ℕ, nat_le, IfSome, Some, None, if◌then◌else◌};
 ghost use Rattle.service_curve.specs.Curve.{IsInRange, amount, curve, first, straight, time_at};
+ghost use Rattle.service_curve.specs.Inverse.{inverses};
 ghost use Rattle.service_curve.specs.Moment.{IsFirst};
+
+mod inverses;
+
+pub use inverses::Inverses;
+use inverses::{inverse, quotient};
 
 /// A service curve of two pieces: the slope `m1` for a time of `d`, and from there on the slope `m2`.
 ///
@@ -22,10 +28,11 @@ pub struct Curve {
     pub m2: u64,
 }
 
-/// One slope, the time before it begins, and the amount that it is to give from there.
+/// One slope with its number, the time before it begins, and the amount that it is to give from there.
 #[derive(Clone, Copy)]
 struct Piece {
     slope: u64,
+    inverse: u64,
     before: u64,
     rest: u128,
 }
@@ -75,22 +82,53 @@ impl Curve {
         ensures is { result ≡ first self.now wanted }
         ensures bounded { IfSome result (λ t. t ≤ self.now.d + wanted) }
     {
-        let piece = self.piece(wanted);
+        let none = Inverses {
+            first: 0,
+            second: 0,
+        };
+        self.first_by(&none, wanted)
+    }
+
+    /// The numbers by which `first_by` guesses quotients.
+    pub fn inverses(&self) -> Inverses
+        ensures { result ≡ inverses self.now }
+    {
+        Inverses {
+            first: inverse(self.m1),
+            second: inverse(self.m2),
+        }
+    }
+
+    /// What `first` answers, and at less cost where the numbers are those of the curve: then amounts below 2^64 are not
+    /// divided. With others it answers the same. Constant time.
+    pub fn first_by(&self, inverses: &Inverses, wanted: u128) -> Option<u128>
+        requires in_range { IsInRange self.now }
+        requires wanted { wanted < 2 ^ 100 }
+        ensures least { IsFirst (λ t. wanted ≤ amount self.now t) result }
+        ensures is { result ≡ first self.now wanted }
+        ensures bounded { IfSome result (λ t. t ≤ self.now.d + wanted) }
+    {
+        let piece = self.piece(inverses, wanted);
         if piece.slope == 0 {
             return if piece.rest == 0 { Some(0) } else { None };
         }
         Some(
             u128::from(piece.before)
-                + quotient(piece.rest + u128::from(piece.slope - 1), piece.slope),
+                + quotient(
+                    piece.rest + u128::from(piece.slope - 1),
+                    piece.slope,
+                    piece.inverse,
+                ),
         )
     }
 
     /// The piece in which the curve comes to give an amount.
-    fn piece(&self, wanted: u128) -> Piece
+    fn piece(&self, inverses: &Inverses, wanted: u128) -> Piece
         requires in_range { IsInRange self.now }
         requires wanted { wanted < 2 ^ 100 }
         ensures least { result.rest ≤ wanted }
         ensures slope { result.slope ≤ 10 ^ 12 }
+        ensures number { result.inverse ≡ (if nat_le wanted (self.now.m1 * self.now.d) then inverses.now.first else inverses.now.second) }
         ensures before { result.before ≤ self.now.d }
         ensures some { result.slope ≢ 0 → first self.now wanted ≡ Some (result.before + time_at result.slope result.rest) }
         ensures nothing { result.slope ≡ 0 → result.rest ≡ 0 → first self.now wanted ≡ Some 0 }
@@ -100,28 +138,18 @@ impl Curve {
         if wanted <= bend {
             Piece {
                 slope: self.m1,
+                inverse: inverses.first,
                 before: 0,
                 rest: wanted,
             }
         } else {
             Piece {
                 slope: self.m2,
+                inverse: inverses.second,
                 before: self.d,
                 rest: wanted - bend,
             }
         }
-    }
-}
-
-/// The whole times that a slope goes into an amount. Most amounts are short enough for a division of 64 bits, which is cheaper.
-fn quotient(amount: u128, slope: u64) -> u128
-    requires { 0 < slope }
-    ensures { result ≡ amount / slope }
-{
-    if amount <= u128::from(u64::MAX) {
-        u128::from(amount as u64 / slope)
-    } else {
-        amount / u128::from(slope)
     }
 }
 

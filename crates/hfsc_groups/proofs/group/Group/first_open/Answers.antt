@@ -1,9 +1,10 @@
-use Rattle.std.proofs.Common.{◌≡◌, ◌∙◌, List, ℕ, Some, true, false, length, get_or, ap, sym, arith}
+use Rattle.std.proofs.Common.{◌≡◌, ◌∙◌, List, ℕ, Some, true, false, length, get_or, ap, sym, subst, arith}
 use Rattle.std.specs.Prelude.{Option}
 use Rattle.ranking.specs.Order.{key_of}
-use Rattle.ranking.specs.Ranking.{keys_of, order_of}
+use Rattle.ranking.specs.Ranking.{order_of}
 use Rattle.ranking.proofs.Orders.{find_more, find_hit}
 use Rattle.hfsc_model.specs.RealTime.{has_come}
+use Rattle.hfsc_groups.specs.Late.{HasPlace, late_keys}
 use Rattle.hfsc_groups.proofs.Lists.{item_in}
 use Rattle.hfsc_groups.proofs.group.Group.first_open.Goals as goal
 
@@ -11,24 +12,23 @@ pub key-requires : goal.key-requires
 key-requires c =
     let len = ap (λ (xs : List ℕ). length xs) c.as_slice-class-items.ensures in
     let item = ap (λ (xs : List ℕ). get_or xs c.loop-class.class-index 0) c.as_slice-class-items.ensures in
-    let low = c.requires _ (item_in (order_of c.args.self.now.times) c.loop-class.class-index (omega arith)) in
-    omega arith
+    subst (λ n. HasPlace c.args.self.now.moments n) (sym item) (c.requires _ (item_in (order_of c.args.self.now.times) c.loop-class.class-index (omega arith)))
 
 pub returns-then-has_come : goal.returns-then-has_come
 returns-then-has_come c =
     let len = ap (λ (xs : List ℕ). length xs) c.as_slice-class-items.ensures in
     let item = ap (λ (xs : List ℕ). get_or xs c.loop-class.class-index 0) c.as_slice-class-items.ensures in
-    let here : has_come (key_of (keys_of c.args.self.now.moments) (get_or c.as_slice-class-items.result.now c.loop-class.class-index 0)) c.args.now ≡ true
+    let here : has_come (key_of (late_keys c.args.self.now.moments) (get_or c.as_slice-class-items.result.now c.loop-class.class-index 0)) c.args.now ≡ true
     = ap (λ (k : Option ℕ). has_come k c.args.now) (sym c.key.ensures) ∙ sym c.has_come.ensures ∙ c.if-has_come.true in
     ap (λ n. Some n) item
-    ∙ find_hit (λ d. has_come (key_of (keys_of c.args.self.now.moments) d) c.args.now) (order_of c.args.self.now.times) c.loop-class.class-index c.loop-class.invariant (omega arith)
-    (ap (λ n. has_come (key_of (keys_of c.args.self.now.moments) n) c.args.now) (sym item) ∙ here)
+    ∙ find_hit (λ d. has_come (key_of (late_keys c.args.self.now.moments) d) c.args.now) (order_of c.args.self.now.times) c.loop-class.class-index c.loop-class.invariant (omega arith)
+    (ap (λ n. has_come (key_of (late_keys c.args.self.now.moments) n) c.args.now) (sym item) ∙ here)
 
 pub loop-class-preserved : goal.loop-class-preserved
 loop-class-preserved c =
     let len = ap (λ (xs : List ℕ). length xs) c.as_slice-class-items.ensures in
     let item = ap (λ (xs : List ℕ). get_or xs c.loop-class.class-index 0) c.as_slice-class-items.ensures in
-    let here : has_come (key_of (keys_of c.args.self.now.moments) (get_or c.as_slice-class-items.result.now c.loop-class.class-index 0)) c.args.now ≡ false
+    let here : has_come (key_of (late_keys c.args.self.now.moments) (get_or c.as_slice-class-items.result.now c.loop-class.class-index 0)) c.args.now ≡ false
     = ap (λ (k : Option ℕ). has_come k c.args.now) (sym c.key.ensures) ∙ sym c.has_come.ensures ∙ c.if-has_come.false in
-    find_more (λ d. has_come (key_of (keys_of c.args.self.now.moments) d) c.args.now) (order_of c.args.self.now.times) c.loop-class.class-index c.loop-class.invariant (omega arith)
-    (ap (λ n. has_come (key_of (keys_of c.args.self.now.moments) n) c.args.now) (sym item) ∙ here)
+    find_more (λ d. has_come (key_of (late_keys c.args.self.now.moments) d) c.args.now) (order_of c.args.self.now.times) c.loop-class.class-index c.loop-class.invariant (omega arith)
+    (ap (λ n. has_come (key_of (late_keys c.args.self.now.moments) n) c.args.now) (sym item) ∙ here)

@@ -1,7 +1,7 @@
 use Rattle.std.proofs.Common.{◌≡◌, ◌+◌, rules}
 use Rattle.service_curve.specs.Curve.{time_at}
 use Rattle.service_curve.proofs.Firsts.{first_in_piece}
-use Rattle.service_curve.proofs.Curve.first.Goals as goal
+use Rattle.service_curve.proofs.Curve.first_by.Goals as goal
 
 pub returns-clause-least : goal.returns-clause-least
 returns-clause-least c =
