@@ -3,32 +3,42 @@
 use crate::arrivals::packets;
 use crate::runs::{IMPLIED, ended, play_over};
 use memory_files::MemoryFiles;
+use play_cli::Status;
+use std::alloc::Global;
+use std::process::Abort;
 use std::test::Fail;
 
-// The header has 24 bytes, and each of two records 76.
+// The header has 24 bytes, and each of two records 76: how a play ends of which so many bytes are there.
+fn end_of(count: u64) -> Status {
+    match count {
+        0..24 => ended(4, count, 1),
+        25..100 => ended(4, 24, 5),
+        101..176 => ended(4, 100, 5),
+        _ => ended(0, 0, 0),
+    }
+}
+
+// Plays a capture that is cut: without a fault all of it leaves, else the header.
+fn play_cut(rt: &impl Abort, alloc: Global, arrivals: &[u8]) -> Result<(), Fail> {
+    let count = arrivals.len() as u64;
+    let mut files = MemoryFiles::new(alloc);
+    let status = play_over(alloc, &mut files, IMPLIED, arrivals)?;
+    assert_eq!(rt; status, end_of(count), "{count}");
+    let left = if status.code == 0 { count } else { 24 };
+    assert_eq!(rt;
+        files.get("out").unwrap_or_default().len() as u64,
+        left,
+        "{count}"
+    );
+    Ok(())
+}
+
 #[test]
 fn cuts_to_each_length(rt: HostRuntime) -> Result<(), Fail> {
+    let arrivals = packets(rt.alloc(), 2, (0, 0), 100)?;
+    assert_eq!(rt; arrivals.len(), 176);
     for count in 0..=176 {
-        let status = match count {
-            0..24 => ended(4, count, 1),
-            25..100 => ended(4, 24, 5),
-            101..176 => ended(4, 100, 5),
-            _ => ended(0, 0, 0),
-        };
-        let mut arrivals = packets(rt.alloc(), 2, (0, 0), 100)?;
-        arrivals.truncate(count as usize);
-        let mut files = MemoryFiles::new(rt.alloc());
-        assert_eq!(rt;
-            play_over(rt.alloc(), &mut files, IMPLIED, &arrivals)?,
-            status,
-            "{count}"
-        );
-        let left = if status.code == 0 { count } else { 24 };
-        assert_eq!(rt;
-            files.get("out").unwrap_or_default().len() as u64,
-            left,
-            "{count}"
-        );
+        play_cut(&rt, rt.alloc(), arrivals.get(..count).unwrap_or_default())?;
     }
     Ok(())
 }

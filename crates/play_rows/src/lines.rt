@@ -3,6 +3,8 @@
 use crate::arrivals::packets;
 use crate::runs::{IMPLIED, play_over, played};
 use memory_files::MemoryFiles;
+use play_cli::Status;
+use std::alloc::Global;
 use std::test::Fail;
 
 // The words of `IMPLIED`: behind a backslash, a carriage return and a line feed a line goes on.
@@ -15,16 +17,27 @@ const JOINS_NOTHING: [&str; 3] = [
     "interface if0 bandwidth 8M hfsc \\\r",
 ];
 
+// How a play of two packets ends.
+fn status_under(alloc: Global, config: &str) -> Result<Status, Fail> {
+    let arrivals = packets(alloc, 2, (0, 0), 100)?;
+    let mut files = MemoryFiles::new(alloc);
+    Ok(play_over(alloc, &mut files, config, &arrivals)?)
+}
+
+// The fates of a play of two packets.
+fn fates_under(alloc: Global, config: &str) -> Result<Vec<u8>, Fail> {
+    let arrivals = packets(alloc, 2, (0, 0), 100)?;
+    let files = played(alloc, config, &arrivals)?;
+    Ok(Vec::from_slice(alloc, files.get("fates").unwrap_or_default())?)
+}
+
 #[test]
 fn carriage_returns_are_blanks(rt: HostRuntime) -> Result<(), Fail> {
-    let alloc = rt.alloc();
-    let arrivals = packets(alloc, 2, (0, 0), 100)?;
-    let plain = played(alloc, IMPLIED, &arrivals)?;
-    let files = played(alloc, RETURNS, &arrivals)?;
-    assert!(rt; files.get("fates") == plain.get("fates"));
+    let plain = fates_under(rt.alloc(), IMPLIED)?;
+    let fates = fates_under(rt.alloc(), RETURNS)?;
+    assert!(rt; fates.as_slice() == plain.as_slice());
     for config in JOINS_NOTHING {
-        let mut files = MemoryFiles::new(alloc);
-        let status = play_over(alloc, &mut files, config, &arrivals)?;
+        let status = status_under(rt.alloc(), config)?;
         assert_eq!(rt;
             (status.code, status.line, status.word),
             (3, 1, 6),

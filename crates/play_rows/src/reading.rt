@@ -110,22 +110,31 @@ fn opened<'a>(alloc: Global, files: &mut MemoryFiles, first: &'a [u8]) -> Result
     }
 }
 
-// The first packet ends at the end of the clock, so nothing behind the second record needs to be read: at most 65,536 bytes are, past
-// its end at byte 176. Each read moves one byte, so at least 86,388 of the 152,100 bytes are left.
-#[test]
-fn reading_stops_at_the_late_sending(rt: HostRuntime) -> Result<(), Fail> {
-    let alloc = rt.alloc();
+// One packet that ends at the end of the clock, and 2,000 behind it; each read moves one byte.
+fn late_files(alloc: Global) -> Result<MemoryFiles, NoMemory> {
     let second = 4_294_965_198;
     let mut arrivals = packets(alloc, 1, (second, 848_000_000), 262_144)?;
     arrive(&mut arrivals, 2_000, (second, 848_000_001), 100, &PLAIN)?;
-    assert_eq!(rt; arrivals.len(), 152_100);
     let mut files = MemoryFiles::new(alloc);
     files.put("in", &arrivals)?;
     files.chunk(1);
-    let none: [u8; 0] = [];
-    let opened = opened(alloc, &mut files, &none)?;
-    let played = play_two(alloc, &mut files, &opened);
-    assert!(rt; played.err() == Some(PlayFault::Limit(Limit::Clock)));
+    Ok(files)
+}
+
+// How the play of these files ends.
+fn ended(alloc: Global, files: &mut MemoryFiles) -> Result<Option<PlayFault>, Fail> {
+    let opened = opened(alloc, files, &[])?;
+    Ok(play_two(alloc, files, &opened).err())
+}
+
+// Nothing behind the second record needs to be read: at most 65,536 bytes are, past its end at byte 176. So at least 86,388 of the
+// 152,100 bytes are left.
+#[test]
+fn reading_stops_at_the_late_sending(rt: HostRuntime) -> Result<(), Fail> {
+    let mut files = late_files(rt.alloc())?;
+    assert_eq!(rt; files.get("in").unwrap_or_default().len(), 152_100);
+    let fault = ended(rt.alloc(), &mut files)?;
+    assert!(rt; fault == Some(PlayFault::Limit(Limit::Clock)));
     assert!(rt; files.calls(Call::Read) <= 176 + 65_536);
     assert_eq!(rt; files.get("fates").unwrap_or_default().len(), 43);
     Ok(())

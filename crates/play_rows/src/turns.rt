@@ -8,29 +8,6 @@ use std::alloc::Global;
 use std::process::Abort;
 use std::test::Fail;
 
-// How much one call moves at most.
-#[derive(Clone, Copy, Debug)]
-struct Pieces {
-    read: u32,
-    write: u32,
-}
-
-// A play of voice and data whose nth call of a kind fails, and how it ended.
-fn play_without(
-    alloc: Global,
-    arrivals: &[u8],
-    pieces: Pieces,
-    call: Call,
-    nth: u64,
-) -> Result<(MemoryFiles, Status), NoMemory> {
-    let mut files = MemoryFiles::new(alloc);
-    files.chunk(pieces.read.max(1));
-    files.short_writes(pieces.write.max(1));
-    files.fail_at(call, nth)?;
-    let status = play_over(alloc, &mut files, VOICE_AND_DATA, arrivals)?;
-    Ok((files, status))
-}
-
 // The kind of the part whose count of write faults rose.
 fn written_kind(files: &MemoryFiles) -> u8 {
     for kind in 1..4 {
@@ -59,29 +36,63 @@ fn assert_fronts(rt: &impl Abort, files: &MemoryFiles, whole: &MemoryFiles, nth:
     }
 }
 
+// Whether a play was done, so that no call failed: then it made so many calls of the kind, and its statistics are whole. Else it ends
+// as the call that failed says.
+fn is_done(
+    rt: &impl Abort,
+    files: &MemoryFiles,
+    whole: &MemoryFiles,
+    status: Status,
+    (call, nth): (Call, u64),
+    config_reads: u64,
+) -> bool {
+    assert_fronts(rt, files, whole, nth);
+    if status.code == 0 {
+        assert_eq!(rt; files.calls(call), nth);
+        assert!(rt; files.get("stats") == whole.get("stats"));
+        return true;
+    }
+    let wanted = failed(call, nth, config_reads, files);
+    assert_eq!(rt; status, wanted, "{call:?} {nth}");
+    false
+}
+
+// A play of voice and data where nothing fails.
+fn whole_play(alloc: Global) -> Result<MemoryFiles, Fail> {
+    let arrivals = voice_and_data(alloc)?;
+    played(alloc, VOICE_AND_DATA, &arrivals)
+}
+
+// One whose nth call of a kind fails, where a read and a write move so much at most; and how it ended.
+fn play_without(
+    alloc: Global,
+    arrivals: &[u8],
+    (read, write): (u32, u32),
+    (call, nth): (Call, u64),
+) -> Result<(MemoryFiles, Status), NoMemory> {
+    let mut files = MemoryFiles::new(alloc);
+    files.chunk(read.max(1));
+    files.short_writes(write.max(1));
+    files.fail_at(call, nth)?;
+    let status = play_over(alloc, &mut files, VOICE_AND_DATA, arrivals)?;
+    Ok((files, status))
+}
+
 // Lets each call of a kind fail in turn, until a play has no such call; says how many failed.
 fn fail_upwards(
     rt: &impl Abort,
     alloc: Global,
-    pieces: Pieces,
+    pieces: (u32, u32),
     call: Call,
     config_reads: u64,
 ) -> Result<u64, Fail> {
-    let arrivals = voice_and_data(alloc)?;
-    let whole = played(alloc, VOICE_AND_DATA, &arrivals)?;
+    let whole = whole_play(alloc)?;
+    let arrivals = whole.get("in").unwrap_or_default();
     for nth in 0..10_000 {
-        let (files, status) = play_without(alloc, &arrivals, pieces, call, nth)?;
-        assert_fronts(rt, &files, &whole, nth);
-        if status.code == 0 {
-            assert_eq!(rt; files.calls(call), nth);
-            assert!(rt; files.get("stats") == whole.get("stats"));
+        let (files, status) = play_without(alloc, arrivals, pieces, (call, nth))?;
+        if is_done(rt, &files, &whole, status, (call, nth), config_reads) {
             return Ok(nth);
         }
-        assert_eq!(rt;
-            status,
-            failed(call, nth, config_reads, &files),
-            "{call:?} {nth}"
-        );
     }
     Err(Fail::new("each play failed"))
 }
@@ -89,11 +100,7 @@ fn fail_upwards(
 // The configuration has 183 bytes, and the end is read by one call more. The capture has 24 and 51 times 76 bytes.
 #[test]
 fn each_call_fails_in_turn(rt: HostRuntime) -> Result<(), Fail> {
-    let whole = Pieces {
-        read: u32::MAX,
-        write: u32::MAX,
-    };
-    let small = Pieces { read: 1, write: 7 };
+    let (whole, small) = ((u32::MAX, u32::MAX), (1, 7));
     let alloc = rt.alloc();
     assert_eq!(rt; VOICE_AND_DATA.len(), 183);
     assert!(rt; fail_upwards(&rt, alloc, whole, Call::Read, 2)? >= 4);

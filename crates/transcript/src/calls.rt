@@ -1,9 +1,11 @@
-// Single calls of the crates below.
+// Single calls of the crates below, each by the words of a line; nothing where they are not understood.
 
 ghost use Rattle.std.specs.Prelude.{IfSome};
 ghost use Rattle.service_curve.specs.Curve.{IsInRange};
 
+use crate::openings::deadline_over;
 use crate::packet::{Packet, number};
+use crate::quoted::add_hex;
 use packet_heads::{FlowHeads, flow};
 use play_base::NoMemory;
 use service_curve::Curve;
@@ -15,10 +17,10 @@ const STEEPEST: u64 = 1_000_000_000_000;
 const LONGEST: u64 = 1_000_000_000_000_000;
 
 // The curve of these words, if it is in range.
-pub fn curve_of(m1: &str, d: &str, m2: &str) -> Option<Curve>
+fn curve_of(words: [&str; 3]) -> Option<Curve>
     ensures { IfSome result (λ curve. IsInRange curve) }
 {
-    let (m1, d, m2) = (number(m1)?, number(d)?, number(m2)?);
+    let (m1, d, m2) = (number(words[0])?, number(words[1])?, number(words[2])?);
     if m1 <= STEEPEST && d <= LONGEST && m2 <= STEEPEST {
         Some(Curve { m1, d, m2 })
     } else {
@@ -26,39 +28,35 @@ pub fn curve_of(m1: &str, d: &str, m2: &str) -> Option<Curve>
     }
 }
 
-/// The units that a curve gives in a time, in the words of a line.
-pub fn amount(alloc: Global, curve: [&str; 3], time: &str) -> Result<String, NoMemory> {
-    match (curve_of(curve[0], curve[1], curve[2]), number(time)) {
-        (Some(curve), Some(time)) => {
-            let units = curve.amount(u128::from(time));
-            Ok(format!(in alloc; "> {units}\n")?)
-        }
-        _ => Ok(String::from_str(alloc, "> not understood\n")?),
+/// Of a curve: the units that it gives in a time, the least time in which it gives so many, or their deadline over openings.
+pub fn of_curve(words: [&str; 3], what: &str, rest: &[&str]) -> Option<Option<u128>> {
+    let curve = curve_of(words)?;
+    let [count, rest @ ..] = rest else {
+        return None;
+    };
+    let count = u128::from(number(count)?);
+    match what {
+        "at" if rest.is_empty() => Some(Some(curve.amount(count))),
+        "first" if rest.is_empty() => Some(curve.first(count)),
+        "deadline" => deadline_over(curve, count, rest),
+        _ => None,
     }
 }
 
-/// The least time in which a curve gives these units.
-pub fn first(alloc: Global, curve: [&str; 3], units: &str) -> Result<String, NoMemory> {
-    match (curve_of(curve[0], curve[1], curve[2]), number(units)) {
-        (Some(curve), Some(units)) => {
-            match curve.first(u128::from(units)) {
-                Some(time) => Ok(format!(in alloc; "> {time}\n")?),
-                None => Ok(String::from_str(alloc, "> never\n")?),
-            }
-        }
-        _ => Ok(String::from_str(alloc, "> not understood\n")?),
-    }
-}
-
-/// The flow of a frame, which is told in the words of a packet's heads.
-pub fn flow_of(alloc: Global, heads: &[&str]) -> Result<String, NoMemory> {
+/// Makes the frame of a packet with these heads, and adds what the program reads as its flow.
+pub fn flow_of(alloc: Global, answer: &mut String, heads: &[&str]) -> Result<bool, NoMemory> {
     match Packet::read(alloc, "0", "60", heads) {
-        Some(packet) => flow_told(alloc, &packet.frame()?),
-        None => Ok(String::from_str(alloc, "> not understood\n")?),
+        Some(packet) => {
+            let frame = packet.frame()?;
+            add_flow(alloc, answer, &frame)?;
+            Ok(true)
+        }
+        None => Ok(false),
     }
 }
 
-fn flow_told(alloc: Global, frame: &[u8]) -> Result<String, NoMemory> {
+// Adds the flow of a frame.
+fn add_flow(alloc: Global, answer: &mut String, frame: &[u8]) -> Result<(), NoMemory> {
     match flow(frame) {
         FlowHeads::V4 {
             tos,
@@ -74,14 +72,20 @@ fn flow_told(alloc: Global, frame: &[u8]) -> Result<String, NoMemory> {
             target,
             ports,
         } => {
-            let source = hex::encode(alloc, source)?;
-            let target = hex::encode(alloc, target)?;
-            let heads = format!(in alloc; "> tos {tos} protocol {protocol} {source} > {target}")?;
-            match ports {
-                Some((from, to)) => Ok(format!(in alloc; "{heads} ports {from} > {to}\n")?),
-                None => Ok(format!(in alloc; "{heads} no ports\n")?),
-            }
+            write!(answer, "> tos {tos} protocol {protocol} ")?;
+            add_hex(alloc, answer, source)?;
+            answer.push_str(" > ")?;
+            add_hex(alloc, answer, target)?;
+            add_ports(answer, ports)
         }
-        FlowHeads::Other => Ok(String::from_str(alloc, "> other\n")?),
+        FlowHeads::Other => Ok(answer.push_str("> other\n")?),
+    }
+}
+
+// Adds the ports of a flow, if it has any.
+fn add_ports(answer: &mut String, ports: Option<(u16, u16)>) -> Result<(), NoMemory> {
+    match ports {
+        Some((from, to)) => Ok(write!(answer, " ports {from} > {to}\n")?),
+        None => Ok(answer.push_str(" no ports\n")?),
     }
 }

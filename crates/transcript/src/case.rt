@@ -2,39 +2,17 @@
 
 use crate::arrivals::Arrivals;
 use crate::averages::average;
-use crate::calls::{amount, first, flow_of};
+use crate::calls::{flow_of, of_curve};
 use crate::changes::change;
+use crate::command::whole_words;
 use crate::moments::next_at;
-use crate::openings::deadline;
 use crate::packet::number;
-use crate::quoted::{lines, quoted, records};
+use crate::quoted::{add_line, quote, quote_lines, tell};
+use crate::records::records;
 use memory_files::{Call, MemoryFiles};
 use play_base::NoMemory;
-use play_cli::run;
+use play_cli::{Status, run};
 use std::alloc::Global;
-
-const CONFIGURATION: [&str; 4] = ["--config", "conf", "--interface", "if0"];
-
-const ARRIVALS: [&str; 2] = ["--arrivals", "in"];
-
-const MARKED: [&str; 2] = ["--marked", "marked"];
-
-const GIVEN: [&str; 4] = ["--departures", "out", "--fates", "fates"];
-
-const OTHERS: [&str; 4] = ["--stats", "stats", "--seed", "42"];
-
-const NEXT: [&str; 10] = [
-    "--next",
-    "if1",
-    "--departures2",
-    "out2",
-    "--fates2",
-    "fates2",
-    "--stats2",
-    "stats2",
-    "--path",
-    "path",
-];
 
 /// What was said since the case began, and the files of its runs.
 #[derive(Drop)]
@@ -43,53 +21,6 @@ pub struct Case {
     config: String,
     arrivals: Arrivals,
     files: MemoryFiles,
-}
-
-// The words of a command line, with the usual options in the place of `..`.
-fn whole_words(alloc: Global, command: &[&str]) -> Result<Vec<String>, NoMemory> {
-    let mut words = Vec::new(alloc);
-    for word in command {
-        if *word == ".." {
-            push_usual(alloc, &mut words, command)?;
-        } else {
-            words.push(String::from_str(alloc, word)?)?;
-        }
-    }
-    Ok(words)
-}
-
-// The usual options of a command.
-fn push_usual(alloc: Global, words: &mut Vec<String>, command: &[&str]) -> Result<(), NoMemory> {
-    push_words(alloc, words, &CONFIGURATION)?;
-    match command {
-        ["check", ..] => Ok(()),
-        ["condition", ..] => {
-            push_words(alloc, words, &ARRIVALS)?;
-            push_words(alloc, words, &MARKED)
-        }
-        ["chain", ..] => {
-            push_words(alloc, words, &ARRIVALS)?;
-            push_words(alloc, words, &GIVEN)?;
-            push_words(alloc, words, &OTHERS)?;
-            push_words(alloc, words, &NEXT)
-        }
-        ["verify", ..] => {
-            push_words(alloc, words, &ARRIVALS)?;
-            push_words(alloc, words, &GIVEN)
-        }
-        _ => {
-            push_words(alloc, words, &ARRIVALS)?;
-            push_words(alloc, words, &GIVEN)?;
-            push_words(alloc, words, &OTHERS)
-        }
-    }
-}
-
-fn push_words(alloc: Global, words: &mut Vec<String>, more: &[&str]) -> Result<(), NoMemory> {
-    for word in more {
-        words.push(String::from_str(alloc, word)?)?;
-    }
-    Ok(())
 }
 
 // Whether a word names a file of a run.
@@ -120,156 +51,208 @@ impl Case {
         })
     }
 
-    /// Does what a line says, and tells what is to stand below it.
-    pub fn follow(&mut self, line: &str) -> Result<String, NoMemory> {
-        let alloc = self.alloc;
+    /// Does what a line says, and adds what is to stand below it.
+    pub fn follow(&mut self, line: &str, answer: &mut String) -> Result<(), NoMemory> {
         if let Some(text) = line.strip_prefix("    ") {
-            self.config.push_str(text)?;
-            self.config.push_str("\n")?;
-            return Ok(String::new(alloc));
+            return self.configure(text);
         }
         if line.starts_with("==") {
-            *self = Case::new(alloc)?;
+            *self = Case::new(self.alloc)?;
+            return Ok(());
         }
-        if line.is_empty() || line.starts_with("==") || line.starts_with('#') {
-            return Ok(String::new(alloc));
+        if line.is_empty() || line.starts_with('#') {
+            return Ok(());
         }
         if let Some(text) = line.strip_prefix("$ line ") {
-            return self.check_with(text);
+            return self.check_with(text, answer);
         }
-        let words: Vec<&str> = line.split_whitespace().collect(alloc)?;
-        match words.as_slice() {
-            ["$", words @ ..] => self.ask(words),
+        self.follow_words(line, answer)
+    }
+
+    // Adds a line of the configuration.
+    fn configure(&mut self, line: &str) -> Result<(), NoMemory> {
+        self.config.push_str(line)?;
+        Ok(self.config.push_str("\n")?)
+    }
+
+    // Does what the words of a line say, or tells that they are not understood.
+    fn follow_words(&mut self, line: &str, answer: &mut String) -> Result<(), NoMemory> {
+        let words: Vec<&str> = line.split_whitespace().collect(self.alloc)?;
+        if self.obey(&words, answer)? {
+            Ok(())
+        } else {
+            add_line(answer, "not understood")
+        }
+    }
+
+    // Does what is asked or ordered, if it is understood.
+    fn obey(&mut self, words: &[&str], answer: &mut String) -> Result<bool, NoMemory> {
+        match words {
+            ["$", words @ ..] => self.ask(words, answer),
             ["fail", call, nth] => self.fail(call, nth),
             ["repeat", count, words @ ..] => self.repeat(count, words),
+            words => self.change(words),
+        }
+    }
+
+    // Changes the files of the case, or its capture.
+    fn change(&mut self, words: &[&str]) -> Result<bool, NoMemory> {
+        match words {
             ["anew"] => {
-                self.files = MemoryFiles::new(alloc);
-                told(alloc, true)
+                self.files = MemoryFiles::new(self.alloc);
+                Ok(true)
             }
-            [how, name, words @ ..] if is_file(name) => self.change(how, name, words),
-            words => told(alloc, self.arrivals.follow(words)?),
+            [how, name, words @ ..] if is_file(name) => self.change_file(how, name, words),
+            words => self.arrivals.follow(words),
         }
     }
 
     // Changes the bytes of a file.
-    fn change(&mut self, how: &str, name: &str, words: &[&str]) -> Result<String, NoMemory> {
-        let mut bytes = Vec::new(self.alloc);
-        bytes.extend_from_slice(self.files.get(name).unwrap_or_default())?;
+    fn change_file(&mut self, how: &str, name: &str, words: &[&str]) -> Result<bool, NoMemory> {
+        let bytes = self.files.get(name).unwrap_or_default();
+        let mut bytes = Vec::from_slice(self.alloc, bytes)?;
         let understood = change(self.alloc, &mut bytes, how, words)?;
         self.files.put(name, &bytes)?;
-        told(self.alloc, understood)
+        Ok(understood)
     }
 
     // Answers what is asked behind `$`.
-    fn ask(&mut self, words: &[&str]) -> Result<String, NoMemory> {
-        let alloc = self.alloc;
+    fn ask(&mut self, words: &[&str], answer: &mut String) -> Result<bool, NoMemory> {
         match words {
-            ["cat", name] => quoted(alloc, self.files.get(name)),
-            ["lines", name, from, to] => match (number(from), number(to)) {
-                (Some(from), Some(to)) => lines(alloc, self.files.get(name), from, to),
-                _ => told(alloc, false),
-            },
-            ["packets", name] => self.packets(name, Some(u64::MAX)),
-            ["packets", name, most] => self.packets(name, number(most)),
-            ["flow", heads @ ..] => flow_of(alloc, heads),
-            ["curve", m1, d, m2, "at", time] => amount(alloc, [m1, d, m2], time),
-            ["curve", m1, d, m2, "first", units] => first(alloc, [m1, d, m2], units),
-            ["curve", m1, d, m2, "deadline", units, "over", openings @ ..] => {
-                deadline(alloc, [m1, d, m2], units, openings)
+            ["cat", name] => quote(answer, self.files.get(name)),
+            ["lines", name, from, to] => self.lines(name, from, to, answer),
+            ["packets", name] => records(self.alloc, answer, self.files.get(name), u64::MAX),
+            ["packets", name, most] => self.packets(name, most, answer),
+            words => self.call(words, answer),
+        }
+    }
+
+    // Answers single calls, and runs of the program.
+    fn call(&mut self, words: &[&str], answer: &mut String) -> Result<bool, NoMemory> {
+        match words {
+            ["flow", heads @ ..] => flow_of(self.alloc, answer, heads),
+            ["curve", m1, d, m2, what, words @ ..] => {
+                tell(answer, of_curve([m1, d, m2], what, words))
             }
-            ["next", moment] => self.next(moment),
-            ["average", rate, happened @ ..] => average(alloc, rate, happened),
-            words => self.run(words),
+            ["average", rate, happened @ ..] => tell(answer, average(rate, happened)),
+            ["next", moment] => self.next(moment, answer),
+            words => self.run(words, answer),
+        }
+    }
+
+    // Tells the first records of a capture.
+    fn packets(&self, name: &str, most: &str, answer: &mut String) -> Result<bool, NoMemory> {
+        match number(most) {
+            Some(most) => records(self.alloc, answer, self.files.get(name), most),
+            None => Ok(false),
+        }
+    }
+
+    // Tells lines of a file.
+    fn lines(
+        &self,
+        name: &str,
+        from: &str,
+        to: &str,
+        answer: &mut String,
+    ) -> Result<bool, NoMemory> {
+        let bytes = self.files.get(name).unwrap_or_default();
+        let text = str::from_utf8(bytes).unwrap_or_default();
+        match (number(from), number(to)) {
+            (Some(from), Some(to)) => {
+                quote_lines(answer, text, from, to)?;
+                Ok(true)
+            }
+            _ => Ok(false),
         }
     }
 
     // Tells what the discipline of the configuration answers at a moment.
-    fn next(&self, moment: &str) -> Result<String, NoMemory> {
-        let mut files = MemoryFiles::new(self.alloc);
-        files.put("conf", self.config.as_bytes())?;
-        files.put("in", self.arrivals.as_slice())?;
+    fn next(&self, moment: &str, answer: &mut String) -> Result<bool, NoMemory> {
         match number(moment) {
-            Some(moment) if moment <= i64::MAX as u64 => next_at(self.alloc, &mut files, moment),
-            _ => told(self.alloc, false),
+            Some(moment) if moment <= i64::MAX as u64 => {
+                let mut files = MemoryFiles::new(self.alloc);
+                files.put("conf", self.config.as_bytes())?;
+                files.put("in", self.arrivals.as_slice())?;
+                next_at(self.alloc, &mut files, moment, answer)?;
+                Ok(true)
+            }
+            _ => Ok(false),
         }
     }
 
     // Adds this many lines of configuration; `%` in them is the number of each, from 1.
-    fn repeat(&mut self, count: &str, words: &[&str]) -> Result<String, NoMemory> {
+    fn repeat(&mut self, count: &str, words: &[&str]) -> Result<bool, NoMemory> {
         let Some(count) = number(count) else {
-            return told(self.alloc, false);
+            return Ok(false);
         };
+        let text = words.join(self.alloc, " ")?;
         for i in 1..=count {
-            let i = format!(in self.alloc; "{i}")?;
-            let mut blank = "";
-            for word in words {
-                let word = word.replace(self.alloc, "%", i.as_str())?;
-                self.config.push_str(blank)?;
-                self.config.push_str(word.as_str())?;
-                blank = " ";
-            }
-            self.config.push_str("\n")?;
+            self.add_row(i, text.as_str())?;
         }
-        Ok(String::new(self.alloc))
+        Ok(true)
+    }
+
+    // Adds a line of configuration, with its number in the place of `%`.
+    fn add_row(&mut self, number: u64, text: &str) -> Result<(), NoMemory> {
+        let number = format!(in self.alloc; "{number}")?;
+        let line = text.replace(self.alloc, "%", number.as_str())?;
+        self.configure(line.as_str())
     }
 
     // Checks the configuration with this line behind it, and tells the last line of what is said.
-    fn check_with(&mut self, line: &str) -> Result<String, NoMemory> {
+    fn check_with(&self, line: &str, answer: &mut String) -> Result<(), NoMemory> {
         let mut files = MemoryFiles::new(self.alloc);
-        let mut config = String::from_str(self.alloc, self.config.as_str())?;
-        config.push_str(line)?;
-        files.put("conf", config.as_bytes())?;
-        let words = whole_words(self.alloc, &["check", ".."])?;
-        let _ = run(self.alloc, &words, &mut files);
+        self.put_config(&mut files, line)?;
+        self.check(&mut files)?;
         let said = str::from_utf8(files.said()).unwrap_or_default();
-        let last = said.lines().next_back().unwrap_or_default();
-        Ok(format!(in self.alloc; "> {last}\n")?)
+        add_line(answer, said.lines().next_back().unwrap_or_default())
     }
 
-    // Tells the first records of a capture.
-    fn packets(&self, name: &str, most: Option<u64>) -> Result<String, NoMemory> {
-        match (self.files.get(name), most) {
-            (Some(bytes), Some(most)) => records(self.alloc, bytes, most),
-            (bytes, Some(_)) => quoted(self.alloc, bytes),
-            (_, None) => told(self.alloc, false),
-        }
+    // Puts the configuration with a line behind it into other files.
+    fn put_config(&self, files: &mut MemoryFiles, line: &str) -> Result<(), NoMemory> {
+        let mut config = String::from_str(self.alloc, self.config.as_str())?;
+        config.push_str(line)?;
+        files.put("conf", config.as_bytes())
+    }
+
+    // Runs `check` over other files.
+    fn check(&self, files: &mut MemoryFiles) -> Result<(), NoMemory> {
+        let words = whole_words(self.alloc, &["check", ".."])?;
+        let _ = run(self.alloc, &words, files);
+        Ok(())
     }
 
     // Runs a command, and tells its message and how it ended.
-    fn run(&mut self, command: &[&str]) -> Result<String, NoMemory> {
-        let alloc = self.alloc;
-        let words = whole_words(alloc, command)?;
+    fn run(&mut self, command: &[&str], answer: &mut String) -> Result<bool, NoMemory> {
+        let words = whole_words(self.alloc, command)?;
         self.files.put("conf", self.config.as_bytes())?;
         self.files.put("in", self.arrivals.as_slice())?;
         let before = self.files.said().len();
-        let status = run(alloc, &words, &mut self.files);
-        let mut answer = quoted(alloc, self.files.said().get(before..))?;
-        let (code, kind) = (status.code, status.kind);
-        let line = match (code, status.line) {
-            (4 | 7, link) if link > 0 => {
-                format!(in alloc; "> status {code} kind {kind} link {link}\n")?
-            }
-            _ => format!(in alloc; "> status {code} kind {kind}\n")?,
-        };
-        answer.push_str(line.as_str())?;
-        Ok(answer)
+        let status = run(self.alloc, &words, &mut self.files);
+        quote(answer, self.files.said().get(before..))?;
+        add_status(answer, status)?;
+        Ok(true)
     }
 
     // Lets the nth call of a kind fail, from 0.
-    fn fail(&mut self, call: &str, nth: &str) -> Result<String, NoMemory> {
-        let understood = match (call_of(call), number(nth)) {
+    fn fail(&mut self, call: &str, nth: &str) -> Result<bool, NoMemory> {
+        match (call_of(call), number(nth)) {
             (Some(call), Some(nth)) => {
                 self.files.fail_at(call, nth)?;
-                true
+                Ok(true)
             }
-            _ => false,
-        };
-        told(self.alloc, understood)
+            _ => Ok(false),
+        }
     }
 }
 
-// Nothing, or that a line is not understood.
-fn told(alloc: Global, understood: bool) -> Result<String, NoMemory> {
-    let answer = if understood { "" } else { "> not understood\n" };
-    Ok(String::from_str(alloc, answer)?)
+// Adds how a command ended. Only of a chain its status tells the link.
+fn add_status(answer: &mut String, status: Status) -> Result<(), NoMemory> {
+    let (code, kind, link) = (status.code, status.kind, status.line);
+    if (code == 4 || code == 7) && link > 0 {
+        Ok(write!(answer, "> status {code} kind {kind} link {link}\n")?)
+    } else {
+        Ok(write!(answer, "> status {code} kind {kind}\n")?)
+    }
 }

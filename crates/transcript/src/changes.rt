@@ -13,69 +13,95 @@ pub fn change(
     how: &str,
     words: &[&str],
 ) -> Result<bool, NoMemory> {
-    match (how, words) {
-        ("bytes", [digits]) => match hex::decode(alloc, *digits) {
-            Ok(more) => Ok(bytes.extend_from_slice(&more).map(|_| true)?),
-            Err(_) => Ok(false),
-        },
-        ("cut", [count]) => match number(count) {
-            Some(count) => {
-                bytes.truncate(count as usize);
-                Ok(true)
-            }
-            None => Ok(false),
-        },
-        ("put", [at, digits]) => Ok(put(alloc, bytes, at, digits).is_some()),
-        ("row", [line, words @ ..]) => match number(line) {
-            Some(line) => {
-                *bytes = with_row(alloc, bytes, line, words)?;
-                Ok(true)
-            }
+    let [word, rest @ ..] = words else {
+        return Ok(false);
+    };
+    match (how, rest) {
+        ("bytes", []) => add(alloc, bytes, word),
+        ("cut", []) => Ok(cut(bytes, word).is_some()),
+        ("put", [digits]) => Ok(put(alloc, bytes, word, digits).is_some()),
+        ("row", words) => match number(word) {
+            Some(line) => put_row(alloc, bytes, line, words),
             None => Ok(false),
         },
         _ => Ok(false),
     }
 }
 
+// Adds the bytes of hexadecimal digits.
+fn add(alloc: Global, bytes: &mut Vec<u8>, digits: &str) -> Result<bool, NoMemory> {
+    match hex::decode(alloc, digits) {
+        Ok(more) => {
+            bytes.extend_from_slice(&more)?;
+            Ok(true)
+        }
+        Err(_) => Ok(false),
+    }
+}
+
+// Leaves so many bytes.
+fn cut(bytes: &mut Vec<u8>, count: &str) -> Option<()> {
+    bytes.truncate(number(count)? as usize);
+    Some(())
+}
+
 // Overwrites bytes from a place on.
 fn put(alloc: Global, bytes: &mut Vec<u8>, at: &str, digits: &str) -> Option<()> {
+    let at = number(at)? as usize;
     let piece = hex::decode(alloc, digits).ok()?;
-    let mut at = number(at)? as usize;
-    for byte in &piece {
+    overwrite(bytes, at, &piece)
+}
+
+fn overwrite(bytes: &mut [u8], from: usize, piece: &[u8]) -> Option<()> {
+    let mut at = from;
+    for byte in piece {
         *bytes.get_mut(at)? = *byte;
         at = at.wrapping_add(1);
     }
     Some(())
 }
 
-// Adds words parted by blanks, and a line feed.
+// Puts words in the place of a line of a text, or behind the last; leaves the line out where there are none.
+fn put_row(
+    alloc: Global,
+    bytes: &mut Vec<u8>,
+    line: u64,
+    words: &[&str],
+) -> Result<bool, NoMemory> {
+    let mut changed = Vec::new(alloc);
+    let text = str::from_utf8(bytes).unwrap_or_default();
+    push_rows(&mut changed, text, line, words)?;
+    *bytes = changed;
+    Ok(true)
+}
+
+// Adds the lines of a text, with these words in the place of one.
+fn push_rows(changed: &mut Vec<u8>, text: &str, line: u64, words: &[&str]) -> Result<(), NoMemory> {
+    let mut here: u64 = 0;
+    for row in text.lines() {
+        here = here.wrapping_add(1);
+        if here == line {
+            push_row(changed, words)?;
+        } else {
+            push_row(changed, &[row])?;
+        }
+    }
+    if here < line {
+        push_row(changed, words)?;
+    }
+    Ok(())
+}
+
+// Adds words parted by blanks, and a line feed; nothing where there are none.
 fn push_row(text: &mut Vec<u8>, words: &[&str]) -> Result<(), NoMemory> {
+    if words.is_empty() {
+        return Ok(());
+    }
     let mut blank: &[u8] = b"";
     for word in words {
         text.extend_from_slice(blank)?;
         text.extend_from_slice(word.as_bytes())?;
         blank = b" ";
     }
-    text.extend_from_slice(b"\n")?;
-    Ok(())
-}
-
-// A text with these words in the place of a line, or behind the last; without the line where there are none.
-fn with_row(alloc: Global, text: &[u8], line: u64, words: &[&str]) -> Result<Vec<u8>, NoMemory> {
-    let mut changed = Vec::new(alloc);
-    let text = str::from_utf8(text).unwrap_or_default();
-    let mut here: u64 = 0;
-    for row in text.lines() {
-        here = here.wrapping_add(1);
-        if here != line {
-            changed.extend_from_slice(row.as_bytes())?;
-            changed.extend_from_slice(b"\n")?;
-        } else if !words.is_empty() {
-            push_row(&mut changed, words)?;
-        }
-    }
-    if here < line && !words.is_empty() {
-        push_row(&mut changed, words)?;
-    }
-    Ok(changed)
+    Ok(text.extend_from_slice(b"\n")?)
 }

@@ -9,10 +9,12 @@ mod averages;
 mod calls;
 mod case;
 mod changes;
+mod command;
 mod moments;
 mod openings;
 mod packet;
 mod quoted;
+mod records;
 mod sendings;
 
 use case::Case;
@@ -27,11 +29,15 @@ pub fn answered(alloc: Global, text: &str) -> Result<String, NoMemory> {
     let mut case = Case::new(alloc)?;
     for line in text.lines() {
         if !line.starts_with('>') {
-            answered.push_str(line)?;
-            answered.push_str("\n")?;
-            let answer = case.follow(line)?;
-            answered.push_str(answer.as_str())?;
+            answer(&mut case, line, &mut answered)?;
         }
     }
     Ok(answered)
+}
+
+// Adds a line, and below it what it answers.
+fn answer(case: &mut Case, line: &str, answered: &mut String) -> Result<(), NoMemory> {
+    answered.push_str(line)?;
+    answered.push_str("\n")?;
+    case.follow(line, answered)
 }

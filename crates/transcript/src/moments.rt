@@ -3,8 +3,11 @@
 ghost use Rattle.std.specs.Prelude.{◌≡◌, ◌≤◌, ◌<◌, ◌^◌, [], ℕ, List, IfOk, IfSome, length};
 ghost use Rattle.altq_model.specs.Lawful.{IsOneOf};
 ghost use Rattle.command_base.specs.Configuration.{IsConfigured};
+ghost use Rattle.conf_tree.specs.declared.interface.Kind.TheVariants as kind;
 ghost use Rattle.discipline.specs.Laws.{HasRate};
+ghost use Rattle.frame_classes.specs.Frames.{place_in};
 
+use crate::quoted::add_line;
 use crate::sendings::{ask, play_until};
 use command_base::{ConfigFault, read_conf};
 use conf_laws::configurations_fit;
@@ -29,8 +32,8 @@ fn rule_word(rule: Rule) -> &'static str {
     }
 }
 
-// An answer in the words of a line.
-fn told(alloc: Global, interface: &Interface, pick: Pick) -> Result<String, NoMemory> {
+// Adds an answer in the words of a line.
+fn tell(answer: &mut String, interface: &Interface, pick: Pick) -> Result<(), NoMemory> {
     match pick {
         Pick::Send {
             ticket,
@@ -44,40 +47,78 @@ fn told(alloc: Global, interface: &Interface, pick: Pick) -> Result<String, NoMe
                 Some(class) => class.name.as_str(),
                 None => "?",
             };
-            Ok(format!(in alloc; "> send {number} {name} {rule}\n")?)
+            Ok(write!(answer, "> send {number} {name} {rule}\n")?)
         }
-        Pick::Wait { till } => Ok(format!(in alloc; "> wait {till}\n")?),
-        Pick::Empty => Ok(String::from_str(alloc, "> empty\n")?),
+        Pick::Wait { till } => Ok(write!(answer, "> wait {till}\n")?),
+        Pick::Empty => add_line(answer, "empty"),
     }
 }
 
-// The answer of a discipline to which nothing was offered yet.
+// What a discipline to which nothing was offered yet answers once these records are played up to a moment; or when the packet ends
+// that is under way.
 fn answer_of<D: Discipline, C: Classify>(
-    alloc: Global,
-    interface: &Interface,
+    rate: u64,
     discipline: &mut D,
     classify: &C,
     records: &Records,
     moment: u64,
-) -> Result<String, NoMemory>
+) -> Result<Pick, u64>
     requires early { moment < 2 ^ 63 }
     requires few { length records.now ≤ 4000000 }
-    requires least { 1000 ≤ interface.now.rate }
-    requires most { interface.now.rate ≤ 10 ^ 12 }
-    requires rate { HasRate (D.link_rate discipline.old) interface.now.rate }
+    requires least { 1000 ≤ rate }
+    requires most { rate ≤ 10 ^ 12 }
+    requires rate { HasRate (D.link_rate discipline.old) rate }
     requires new { D.stands discipline.old [] }
     requires held { (frame : List ℕ) → IsOneOf (C.placed classify.now frame).class (D.policy discipline.old).classes }
     requires precs { (frame : List ℕ) → (C.placed classify.now frame).prec ≤ 2 }
 {
-    let mut clock = LinkClock::new(interface.rate);
+    let mut clock = LinkClock::new(rate);
     play_until(discipline, &mut clock, classify, records, moment);
-    match ask(discipline, &clock, moment) {
-        Some(pick) => told(alloc, interface, pick),
-        None => {
-            let free = clock.free();
-            Ok(format!(in alloc; "> busy {free}\n")?)
-        }
-    }
+    ask(discipline, &clock, moment)
+}
+
+// The answer of HFSC, of which the classifier tells the classes of frames.
+fn by_hfsc(
+    alloc: Global,
+    interface: &Interface,
+    classifier: &Classifier,
+    records: &Records,
+    moment: u64,
+) -> Result<Result<Pick, u64>, NoMemory>
+    requires early { moment < 2 ^ 63 }
+    requires few { length records.now ≤ 4000000 }
+    requires configured { IsConfigured interface.now }
+    requires kind { interface.now.kind ≡ kind.Hfsc }
+    requires placed { ⟦<Classifier as Classify>⟧.placed classifier.now ≡ place_in interface.now }
+{
+    configurations_fit();
+    frames_have_classes();
+    interfaces_keep_their_promises();
+    let mut hfsc = hfsc_of(alloc, interface)?;
+    let rate = interface.rate;
+    Ok(answer_of(rate, &mut hfsc, classifier, records, moment))
+}
+
+// The answer of CBQ likewise.
+fn by_cbq(
+    alloc: Global,
+    interface: &Interface,
+    classifier: &Classifier,
+    records: &Records,
+    moment: u64,
+) -> Result<Result<Pick, u64>, NoMemory>
+    requires early { moment < 2 ^ 63 }
+    requires few { length records.now ≤ 4000000 }
+    requires configured { IsConfigured interface.now }
+    requires kind { interface.now.kind ≡ kind.Cbq }
+    requires placed { ⟦<Classifier as Classify>⟧.placed classifier.now ≡ place_in interface.now }
+{
+    configurations_fit();
+    frames_have_classes();
+    interfaces_keep_their_promises();
+    let mut cbq = cbq_of(alloc, interface)?;
+    let rate = interface.rate;
+    Ok(answer_of(rate, &mut cbq, classifier, records, moment))
 }
 
 // The answer of the discipline of an interface.
@@ -86,24 +127,33 @@ fn answer_in(
     interface: &Interface,
     records: &Records,
     moment: u64,
-) -> Result<String, NoMemory>
+) -> Result<Result<Pick, u64>, NoMemory>
     requires early { moment < 2 ^ 63 }
     requires few { length records.now ≤ 4000000 }
     requires configured { IsConfigured interface.now }
 {
-    configurations_fit();
-    frames_have_classes();
-    interfaces_keep_their_promises();
     let classifier = Classifier::build(alloc, interface)?;
     match interface.kind {
-        Kind::Hfsc => {
-            let mut hfsc = hfsc_of(alloc, interface)?;
-            answer_of(alloc, interface, &mut hfsc, &classifier, records, moment)
-        }
-        Kind::Cbq => {
-            let mut cbq = cbq_of(alloc, interface)?;
-            answer_of(alloc, interface, &mut cbq, &classifier, records, moment)
-        }
+        Kind::Hfsc => by_hfsc(alloc, interface, &classifier, records, moment),
+        Kind::Cbq => by_cbq(alloc, interface, &classifier, records, moment),
+    }
+}
+
+// Adds the answer of the discipline of an interface.
+fn tell_answer(
+    alloc: Global,
+    interface: &Interface,
+    records: &Records,
+    moment: u64,
+    answer: &mut String,
+) -> Result<(), NoMemory>
+    requires early { moment < 2 ^ 63 }
+    requires few { length records.now ≤ 4000000 }
+    requires configured { IsConfigured interface.now }
+{
+    match answer_in(alloc, interface, records, moment)? {
+        Ok(pick) => tell(answer, interface, pick),
+        Err(free) => Ok(write!(answer, "> busy {free}\n")?),
     }
 }
 
@@ -123,21 +173,25 @@ fn records_in(alloc: Global, files: &mut MemoryFiles) -> Result<Option<Records>,
     }
 }
 
-/// What the discipline of `if0` answers at a moment before 2^63, by the configuration `conf` and the capture `in`.
-pub fn next_at(alloc: Global, files: &mut MemoryFiles, moment: u64) -> Result<String, NoMemory>
+/// Adds what the discipline of `if0` answers at a moment before 2^63, by the configuration `conf` and the capture `in`.
+pub fn next_at(
+    alloc: Global,
+    files: &mut MemoryFiles,
+    moment: u64,
+    answer: &mut String,
+) -> Result<(), NoMemory>
     requires { moment < 2 ^ 63 }
 {
-    let refused = String::from_str(alloc, "> refused\n")?;
     let conf = match read_conf(alloc, files, "conf") {
         Ok(conf) => conf,
         Err(ConfigFault::NoMemory) => return Err(NoMemory),
-        Err(_) => return Ok(refused),
+        Err(_) => return add_line(answer, "refused"),
     };
     let Some(interface) = conf.interface("if0") else {
-        return Ok(refused);
+        return add_line(answer, "refused");
     };
     match records_in(alloc, files)? {
-        Some(records) => answer_in(alloc, interface, &records, moment),
-        None => Ok(refused),
+        Some(records) => tell_answer(alloc, interface, &records, moment, answer),
+        None => add_line(answer, "refused"),
     }
 }

@@ -6,12 +6,9 @@ ghost use Rattle.service_curve.specs.Curve.{IsInRange};
 ghost use Rattle.runtime_curve.specs.Opening.{IsWithin, RisesFromZero};
 ghost use Rattle.runtime_curve.specs.Running.{last_of};
 
-use crate::calls::curve_of;
 use crate::packet::number;
-use play_base::NoMemory;
 use runtime_curve::{Opening, Running};
 use service_curve::Curve;
-use std::alloc::Global;
 
 // The opening of these words.
 fn opening_of(at: &str, count: &str) -> Option<Opening>
@@ -58,11 +55,16 @@ fn opened(curve: Curve, openings: &[&str]) -> Option<(Running, Opening)>
     }
 }
 
-// The deadline, if these words tell a curve, openings and a count above the last one's.
-fn deadline_of(curve: [&str; 3], units: &str, openings: &[&str]) -> Option<Option<u128>> {
-    let curve = curve_of(curve[0], curve[1], curve[2])?;
-    let units = u128::from(number(units)?);
-    if curve.m1 < curve.m2 && curve.m1 != 0 {
+/// The deadline of so many units over openings, which are told behind the word `over`; nothing where these words are not understood, or
+/// the last opening has as many units.
+pub fn deadline_over(curve: Curve, units: u128, words: &[&str]) -> Option<Option<u128>>
+    requires in_range { IsInRange curve }
+    requires units { units < 2 ^ 64 }
+{
+    let [over, openings @ ..] = words else {
+        return None;
+    };
+    if *over != "over" || (curve.m1 < curve.m2 && curve.m1 != 0) {
         return None;
     }
     let (running, last) = opened(curve, openings)?;
@@ -70,19 +72,5 @@ fn deadline_of(curve: [&str; 3], units: &str, openings: &[&str]) -> Option<Optio
         Some(running.deadline(units))
     } else {
         None
-    }
-}
-
-/// The first moment at which a curve over openings reaches these units.
-pub fn deadline(
-    alloc: Global,
-    curve: [&str; 3],
-    units: &str,
-    openings: &[&str],
-) -> Result<String, NoMemory> {
-    match deadline_of(curve, units, openings) {
-        Some(Some(moment)) => Ok(format!(in alloc; "> {moment}\n")?),
-        Some(None) => Ok(String::from_str(alloc, "> never\n")?),
-        None => Ok(String::from_str(alloc, "> not understood\n")?),
     }
 }

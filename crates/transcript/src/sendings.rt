@@ -17,7 +17,8 @@ const SEED: u64 = 42;
 // At most 4,000,000 packets are sent, each behind one wait.
 const MOST_TURNS: u32 = 8_000_001;
 
-// Sends what is due first from `now` on, if that starts before `till`, and answers from when to go on; or waits.
+// Sends the packet that is due at `now`, or as soon as the link is free; else waits until one is. Answers the moment from which to go
+// on, or nothing where no packet starts before `till`.
 fn turn<D: Discipline>(
     discipline: &mut D,
     clock: &mut LinkClock,
@@ -84,8 +85,8 @@ fn send_before<D: Discipline>(discipline: &mut D, clock: &mut LinkClock, from: u
     }
 }
 
-/// Offers the packets that arrive up to a moment, each once every sending is made that starts before it, and makes those that start
-/// before the moment.
+/// Plays records up to a moment: every packet that arrives by then is offered, and every sending is made that starts before it. A
+/// sending that starts before a packet arrives is made before that packet is offered.
 pub fn play_until<D: Discipline, C: Classify>(
     discipline: &mut D,
     clock: &mut LinkClock,
@@ -121,14 +122,15 @@ pub fn play_until<D: Discipline, C: Classify>(
     send_before(discipline, clock, latest, moment);
 }
 
-/// What a discipline answers at a moment, or nothing where a packet is under way.
-pub fn ask<D: Discipline>(discipline: &mut D, clock: &LinkClock, moment: u64) -> Option<Pick>
+/// What a discipline answers at a moment; or when the packet ends that is under way.
+pub fn ask<D: Discipline>(discipline: &mut D, clock: &LinkClock, moment: u64) -> Result<Pick, u64>
     requires early { moment < 2 ^ 63 }
     requires rate { HasRate (D.link_rate discipline.old) clock.now.rate }
     requires at { (most : ℕ) × IsAt (D.stands discipline.old) clock.now most moment moment }
 {
-    if clock.free() > moment {
-        return None;
+    let free = clock.free();
+    if free > moment {
+        return Err(free);
     }
-    Some(discipline.next(moment, clock))
+    Ok(discipline.next(moment, clock))
 }

@@ -1,7 +1,7 @@
 use Rattle.std.proofs.Common.{ℕ}
 use Rattle.discipline.specs.Laws.{HasRate}
-use Rattle.wait_rows.specs.Known.{IsKnown}
-use Rattle.wait_rows.proofs.steps.steps_at.Given as goal
+use Rattle.play_rows.specs.Known.{IsKnown}
+use Rattle.play_rows.proofs.steps.steps_at.Given as goal
 
 abbrev pub invariant-loop-now : goal.invariant-loop-now
 invariant-loop-now g l = record {

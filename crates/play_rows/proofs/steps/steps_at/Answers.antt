@@ -1,6 +1,6 @@
 use Rattle.std.proofs.Common.{arith}
-use Rattle.wait_rows.proofs.Moving.{known_later}
-use Rattle.wait_rows.proofs.steps.steps_at.Goals as goal
+use Rattle.play_rows.proofs.Moving.{known_later}
+use Rattle.play_rows.proofs.steps.steps_at.Goals as goal
 
 pub step_at-requires-clause-known : goal.step_at-requires-clause-known
 step_at-requires-clause-known g c =

@@ -1,8 +1,8 @@
 use Rattle.std.proofs.Common.{arith, ap}
 use Rattle.altq_model.specs.History.{bare}
 use Rattle.altq_model.specs.Link.{Link}
-use Rattle.wait_rows.proofs.Moving.{before_by}
-use Rattle.wait_rows.proofs.steps.due_at.Goals as goal
+use Rattle.play_rows.proofs.Moving.{before_by}
+use Rattle.play_rows.proofs.steps.due_at.Goals as goal
 
 pub next-requires-clause-later : goal.next-requires-clause-later
 next-requires-clause-later g c =

@@ -3,8 +3,8 @@ use Rattle.std.specs.declared.option.Option.{Option}
 use Rattle.altq_model.specs.History.{Sent, Sending, bare}
 use Rattle.altq_model.specs.Link.{Link}
 use Rattle.discipline.specs.Laws.{HasRate}
-use Rattle.wait_rows.proofs.Moving.{before_by, before_later, known_later, link_after, may_choose}
-use Rattle.wait_rows.proofs.steps.step_at.Goals as goal
+use Rattle.play_rows.proofs.Moving.{before_by, before_later, known_later, link_after, may_choose}
+use Rattle.play_rows.proofs.steps.step_at.Goals as goal
 
 pub sent-requires-clause-later : goal.sent-requires-clause-later
 sent-requires-clause-later g c =

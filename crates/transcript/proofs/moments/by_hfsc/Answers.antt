@@ -1,7 +1,7 @@
 -- The numbers of a configured interface are in their ranges, and its classes hold its frames.
 use Rattle.command_base.proofs.ReadingLemmas.{fits}
 use Rattle.transcript.proofs.InterfaceLemmas.{held_in, prec_in}
-use Rattle.transcript.proofs.moments.answer_in.Goals as goal
+use Rattle.transcript.proofs.moments.by_hfsc.Goals as goal
 
 pub hfsc_of-requires-clause-fit : goal.hfsc_of-requires-clause-fit
 hfsc_of-requires-clause-fit c = fits c.args.interface.now c.configurations_fit.ensures c.requires.configured
@@ -15,18 +15,7 @@ answer_of-requires-clause-most c = (fits c.args.interface.now c.configurations_f
 pub answer_of-requires-clause-held : goal.answer_of-requires-clause-held
 answer_of-requires-clause-held c =
     held_in c.args.interface.now _ _ c.frames_have_classes.ensures.class c.interfaces_keep_their_promises.ensures.held c.requires.configured
-    c.in_ok-hfsc-in-Hfsc.ensures.policy c.in_ok-classifier.ensures.placed
+    c.in_ok-hfsc.ensures.policy c.requires.placed
 
 pub answer_of-requires-clause-precs : goal.answer_of-requires-clause-precs
-answer_of-requires-clause-precs c = prec_in c.args.interface.now _ c.frames_have_classes.ensures.prec c.in_ok-classifier.ensures.placed
-
-pub cbq_of-requires-clause-fit : goal.cbq_of-requires-clause-fit
-cbq_of-requires-clause-fit c = fits c.args.interface.now c.configurations_fit.ensures c.requires.configured
-
-pub answer_of-requires-in-Cbq-clause-held : goal.answer_of-requires-in-Cbq-clause-held
-answer_of-requires-in-Cbq-clause-held c =
-    held_in c.args.interface.now _ _ c.frames_have_classes.ensures.class c.interfaces_keep_their_promises.ensures.held c.requires.configured
-    c.in_ok-cbq-in-Cbq.ensures.policy c.in_ok-classifier.ensures.placed
-
-pub answer_of-requires-in-Cbq-clause-precs : goal.answer_of-requires-in-Cbq-clause-precs
-answer_of-requires-in-Cbq-clause-precs c = prec_in c.args.interface.now _ c.frames_have_classes.ensures.prec c.in_ok-classifier.ensures.placed
+answer_of-requires-clause-precs c = prec_in c.args.interface.now _ c.frames_have_classes.ensures.prec c.requires.placed

@@ -1,7 +1,7 @@
 use Rattle.std.proofs.Common.{◌-◌, ◌≡◌, ◌≤◌}
 use Rattle.altq_model.specs.Lawful.{IsOneOf}
-use Rattle.wait_rows.specs.Known.{IsKnown}
-use Rattle.wait_rows.proofs.steps.offer_all.Given as goal
+use Rattle.play_rows.specs.Known.{IsKnown}
+use Rattle.play_rows.proofs.steps.offer_all.Given as goal
 
 abbrev pub invariant-loop-offered : goal.invariant-loop-offered
 invariant-loop-offered g l = record {

@@ -2,7 +2,7 @@
 ghost use Rattle.std.specs.Prelude.{◌≡◌, ◌≤◌, ◌<◌, ◌+◌, ◌^◌, ℕ, []};
 ghost use Rattle.altq_model.specs.Lawful.{IsOneOf};
 ghost use Rattle.discipline.specs.Laws.{HasRate};
-ghost use Rattle.wait_rows.specs.Known.{IsKnown};
+ghost use Rattle.play_rows.specs.Known.{IsKnown};
 
 use discipline::{Discipline, Pick, Sending, Verdict};
 use leaf_queue::Words;

@@ -4,8 +4,8 @@ use Rattle.altq_model.specs.History.{DrawnWords, bare}
 use Rattle.altq_model.specs.Lawful.{latest}
 use Rattle.discipline.specs.Laws.{arrival_with, offer_of}
 use Rattle.discipline.specs.Moments.{IsOffer}
-use Rattle.wait_rows.proofs.Moving.{before_by, latest_by}
-use Rattle.wait_rows.proofs.steps.offer.Goals as goal
+use Rattle.play_rows.proofs.Moving.{before_by, latest_by}
+use Rattle.play_rows.proofs.steps.offer.Goals as goal
 
 pub offer-requires-clause-later : goal.offer-requires-clause-later
 offer-requires-clause-later g c =

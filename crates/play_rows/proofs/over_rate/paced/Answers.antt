@@ -2,8 +2,8 @@ use Rattle.std.proofs.Common.{sym, subst}
 use Rattle.std.specs.Prelude.{All}
 use Rattle.cbq_laws.specs.Ways.{IsEightDeep}
 use Rattle.cbq_sharing.specs.Fresh.{IsClass}
-use Rattle.wait_rows.proofs.Paced.{tree, classes}
-use Rattle.wait_rows.proofs.over_rate.paced.Goals as goal
+use Rattle.play_rows.proofs.Paced.{tree, classes}
+use Rattle.play_rows.proofs.over_rate.paced.Goals as goal
 
 pub build-requires-clause-tree : goal.build-requires-clause-tree
 build-requires-clause-tree c = subst IsEightDeep (sym c.as_slice.ensures) (tree c.args.rate c.args.packetsize)

@@ -6,7 +6,7 @@ use Rattle.altq_model.specs.Laws.{StartsBefore}
 use Rattle.altq_model.specs.Link.{Link, after_sending, link}
 use Rattle.link_clock.specs.Clock.{Clock}
 use Rattle.discipline.specs.Moments.{IsChoice, StartsBy}
-use Rattle.wait_rows.specs.Known.{IsKnown}
+use Rattle.play_rows.specs.Known.{IsKnown}
 
 pub before_by : (t : ℕ) (h : List Event) → StartsBefore t h → StartsBy t h
 before_by t [] s = tt
