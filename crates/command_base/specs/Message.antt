@@ -43,6 +43,10 @@ written_name written.Answer = codes "result"
 abbrev pub out_of_memory : List ℕ
 out_of_memory = codes "altqplay: out of memory\n"
 
+-- the message of a fault of a capture, by the byte at fault and the name of the fault
+abbrev pub capture_message : ℕ → List ℕ → List ℕ
+capture_message place name = codes "altqplay: capture byte " ++ (decimal place ++ (codes ": " ++ (name ++ codes "\n")))
+
 -- the message of a fault of one of two links does not name the link
 abbrev pub link_message : LinkFault → List ℕ
 link_message (fault.Capture damage) =

@@ -1,26 +1,36 @@
 // The message of what ended a command early.
 ghost use Rattle.std.specs.Prelude.{◌≡◌, IfOk, string_bytes};
-ghost use Rattle.command_base.specs.Message.{link_message, message_of};
+ghost use Rattle.command_base.specs.Message.{capture_message, link_message, message_of};
 
 use crate::{Failure, LinkFault};
+use conf_lines::ConfPlace;
 use std::alloc::{AllocError, Global};
 
 /// The message where memory ran out; it takes none.
 pub(crate) const OUT_OF_MEMORY: &str = "altqplay: out of memory\n";
+
+// The message of a fault of a capture, by the byte at fault and the name of the fault.
+fn capture_message(alloc: Global, place: u64, name: &str) -> Result<String, AllocError>
+    ensures { IfOk result (λ m. string_bytes m ≡ capture_message place name.now) }
+{
+    format!(in alloc; "altqplay: capture byte {place}: {name}\n")
+}
+
+// The message of a fault of the configuration.
+fn place_message(alloc: Global, place: ConfPlace) -> Result<String, AllocError>
+    ensures { IfOk result (λ m. string_bytes m ≡ message_of (Failure.Configuration place)) }
+{
+    let (line, word, name) = (place.line, place.word, place.kind.name());
+    format!(in alloc; "altqplay: configuration line {line} word {word}: {name}\n")
+}
 
 // The message of a fault of one of two links, which is that of the fault without them.
 fn link_message(alloc: Global, fault: LinkFault) -> Result<String, AllocError>
     ensures { IfOk result (λ m. string_bytes m ≡ link_message fault) }
 {
     match fault {
-        LinkFault::Capture(damage) => {
-            let (place, name) = (damage.place, damage.kind.name());
-            format!(in alloc; "altqplay: capture byte {place}: {name}\n")
-        }
-        LinkFault::Pcapng(block) => {
-            let (place, name) = (block.place, block.kind.name());
-            format!(in alloc; "altqplay: capture byte {place}: {name}\n")
-        }
+        LinkFault::Capture(damage) => capture_message(alloc, damage.place, damage.kind.name()),
+        LinkFault::Pcapng(block) => capture_message(alloc, block.place, block.kind.name()),
         LinkFault::Long => String::from_str(alloc, "altqplay: limit 1 reached\n"),
         LinkFault::Clock => String::from_str(alloc, "altqplay: limit 2 reached\n"),
     }
@@ -35,18 +45,9 @@ pub(crate) fn message(alloc: Global, failure: Failure) -> Result<String, AllocEr
             let kind = fault.kind();
             format!(in alloc; "altqplay: words refused, kind {kind}\n")
         }
-        Failure::Configuration(place) => {
-            let (line, word, name) = (place.line, place.word, place.kind.name());
-            format!(in alloc; "altqplay: configuration line {line} word {word}: {name}\n")
-        }
-        Failure::Capture(damage) => {
-            let (place, name) = (damage.place, damage.kind.name());
-            format!(in alloc; "altqplay: capture byte {place}: {name}\n")
-        }
-        Failure::Pcapng(block) => {
-            let (place, name) = (block.place, block.kind.name());
-            format!(in alloc; "altqplay: capture byte {place}: {name}\n")
-        }
+        Failure::Configuration(place) => place_message(alloc, place),
+        Failure::Capture(damage) => capture_message(alloc, damage.place, damage.kind.name()),
+        Failure::Pcapng(block) => capture_message(alloc, block.place, block.kind.name()),
         Failure::Read(part) => {
             let name = part.name();
             format!(in alloc; "altqplay: reading {name} failed\n")

@@ -6,7 +6,7 @@ use crate::part::Part;
 use crate::statement::Form;
 
 /// What the next word of a statement is.
-#[derive(Clone, Copy, Debug)]
+#[derive(Clone, Copy)]
 pub(crate) enum Next {
     /// The word that says which statement it is.
     Statement,
@@ -41,7 +41,7 @@ pub(crate) enum Next {
 }
 
 /// A state of the parser of a statement.
-#[derive(Clone, Copy, Debug)]
+#[derive(Clone, Copy)]
 pub(crate) struct Place {
     /// Which statement it is.
     pub(crate) form: Form,
@@ -57,14 +57,14 @@ pub(crate) struct Place {
 }
 
 /// The item of a word, if it gives more than which statement it is, and the parser's state after the word.
-#[derive(Debug, Drop)]
+#[derive(Drop)]
 pub(crate) struct Step {
     pub(crate) what: Option<What>,
     pub(crate) after: Place,
 }
 
 /// Why a word is refused.
-#[derive(Clone, Copy, Debug)]
+#[derive(Clone, Copy)]
 pub(crate) enum Refusal {
     /// It is a fault of this kind.
     Kind(ConfKind),

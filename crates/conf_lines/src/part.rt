@@ -7,7 +7,7 @@ use crate::slot::is_text;
 use crate::statement::Form;
 
 /// What a word is that must be there.
-#[derive(Clone, Copy, Debug, PartialEq, Eq)]
+#[derive(Clone, Copy)]
 pub(crate) enum Slot {
     /// A NAME.
     Name,
@@ -26,7 +26,7 @@ pub(crate) enum Slot {
 }
 
 /// A part of a statement.
-#[derive(Clone, Copy, Debug, PartialEq, Eq)]
+#[derive(Clone, Copy)]
 pub(crate) enum Part {
     /// A word that is always there.
     Must(Slot),

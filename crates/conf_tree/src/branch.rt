@@ -10,7 +10,7 @@ use play_base::NoMemory;
 use std::alloc::Global;
 
 /// A class, and what later statements need to know of it.
-#[derive(Debug, Drop)]
+#[derive(Drop)]
 pub(crate) struct Branch {
     pub(crate) class: Class,
     /// Its level, the root being on level 1.

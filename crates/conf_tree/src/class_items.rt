@@ -39,6 +39,16 @@ pub(crate) fn push(whats: &mut Vec<What>, what: What) -> Result<(), NoMemory>
     }
 }
 
+/// Adds a name.
+pub(crate) fn push_name(alloc: Global, whats: &mut Vec<What>, name: &str) -> Result<(), NoMemory>
+    ensures { OnOk result (whats.new.items ≡ whats.old.items ++ What.Name name.now ∷ []) }
+{
+    match text_of(alloc, name) {
+        Ok(text) => push(whats, What::Name(text)),
+        Err(NoMemory) => Err(NoMemory),
+    }
+}
+
 /// Adds an option with its number.
 pub(crate) fn push_with(whats: &mut Vec<What>, key: Key, number: What) -> Result<(), NoMemory>
     ensures { OnOk result (whats.new.items ≡ whats.old.items ++ What.Key key ∷ number ∷ []) }
@@ -124,10 +134,9 @@ pub(crate) fn class_whats(
     ensures { IfOk result (λ whats. whats.items ≡ (class_line kind interface.now all.now class.now).whats) }
 {
     let mut whats = Vec::new(alloc);
-    push(&mut whats, What::Name(text_of(alloc, interface)?))?;
-    push(&mut whats, What::Name(text_of(alloc, class.name.as_str())?))?;
-    let parent = parent_word(all, class.parent);
-    push(&mut whats, What::Name(text_of(alloc, parent)?))?;
+    push_name(alloc, &mut whats, interface)?;
+    push_name(alloc, &mut whats, class.name.as_str())?;
+    push_name(alloc, &mut whats, parent_word(all, class.parent))?;
     match kind {
         Kind::Hfsc => push_hfsc(&mut whats, class)?,
         Kind::Cbq => push_cbq(&mut whats, class)?,

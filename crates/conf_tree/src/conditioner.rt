@@ -3,7 +3,7 @@
 use traffic_meter::MeterRule;
 
 /// What a `conditioner` gives a class.
-#[derive(Clone, Copy, Debug, PartialEq, Eq)]
+#[derive(Clone, Copy)]
 pub(crate) struct Conditioner {
     /// The number of its class among the classes of its interface.
     pub(crate) class: u32,

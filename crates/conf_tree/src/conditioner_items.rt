@@ -2,8 +2,7 @@
 ghost use Rattle.std.specs.Prelude.{◌≡◌, ◌∷◌, ◌++◌, [], IfOk, OnOk};
 ghost use Rattle.conf_tree.specs.Canonical.{meter_whats, conditioner_line};
 
-use crate::branch::text_of;
-use crate::class_items::{push, push_with};
+use crate::class_items::{push, push_name, push_with};
 use conf_lines::{Key, What};
 use play_base::NoMemory;
 use std::alloc::Global;
@@ -46,8 +45,8 @@ pub(crate) fn conditioner_whats(
     ensures { IfOk result (λ whats. whats.items ≡ (conditioner_line interface.now class.now rule).whats) }
 {
     let mut whats = Vec::new(alloc);
-    push(&mut whats, What::Name(text_of(alloc, interface)?))?;
-    push(&mut whats, What::Name(text_of(alloc, class)?))?;
+    push_name(alloc, &mut whats, interface)?;
+    push_name(alloc, &mut whats, class)?;
     push_meter(&mut whats, rule)?;
     Ok(whats)
 }

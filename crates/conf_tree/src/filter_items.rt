@@ -2,9 +2,8 @@
 ghost use Rattle.std.specs.Prelude.{◌≡◌, ◌∷◌, ◌++◌, [], IfOk, OnOk};
 ghost use Rattle.conf_tree.specs.Canonical.{tos_whats, end4_whats, end6_whats, parts_whats, filter_line};
 
-use crate::branch::text_of;
 use crate::class::Class;
-use crate::class_items::{class_word, push, push_with};
+use crate::class_items::{class_word, push, push_name, push_with};
 use crate::filter::{Addresses, Filter};
 use conf_lines::{Key, What};
 use play_base::NoMemory;
@@ -89,9 +88,8 @@ pub(crate) fn filter_whats(
     ensures { IfOk result (λ whats. whats.items ≡ (filter_line interface.now all.now filter.now).whats) }
 {
     let mut whats = Vec::new(alloc);
-    push(&mut whats, What::Name(text_of(alloc, interface)?))?;
-    let class = class_word(all, filter.class);
-    push(&mut whats, What::Name(text_of(alloc, class)?))?;
+    push_name(alloc, &mut whats, interface)?;
+    push_name(alloc, &mut whats, class_word(all, filter.class))?;
     let ruleno = What::Whole(u64::from(filter.ruleno));
     push_with(&mut whats, Key::Ruleno, ruleno)?;
     push_parts(&mut whats, filter)?;

@@ -13,7 +13,7 @@ use conf_lines::{ConfKind, ConfPlace, Item, Key, MOST_BEND, MOST_RATE, Slots, Te
 use service_curve::Curve;
 
 /// What the options of a class have set so far; `None` and false where they have not.
-#[derive(Clone, Copy, Debug)]
+#[derive(Clone, Copy)]
 pub(crate) struct Settings {
     pub(crate) real: Option<Curve>,
     /// Whether the real-time curve was set last by `rt` or `grate`.
@@ -33,7 +33,7 @@ pub(crate) struct Settings {
 }
 
 /// What the options of a class are read under: its line, the bandwidth of its interface, and whether that has a default.
-#[derive(Clone, Copy, Debug)]
+#[derive(Clone, Copy)]
 pub(crate) struct Scope {
     pub(crate) line: u64,
     pub(crate) rate: u64,
@@ -41,14 +41,14 @@ pub(crate) struct Scope {
 }
 
 /// Where a class stands below its root.
-#[derive(Clone, Copy, Debug)]
+#[derive(Clone, Copy)]
 pub(crate) struct Spot {
     pub(crate) parent: Option<u32>,
     pub(crate) level: u8,
 }
 
 /// A class but for its name: where it stands, its settings, and its rate, which is 0 in HFSC.
-#[derive(Clone, Copy, Debug)]
+#[derive(Clone, Copy)]
 pub(crate) struct Shape {
     pub(crate) spot: Spot,
     pub(crate) settings: Settings,
@@ -267,12 +267,6 @@ fn with_upper(settings: Settings, upper: Option<Curve>) -> Settings
     }
 }
 
-fn with_drop(settings: Settings, drop: DropRule) -> Settings
-    ensures { result ≡ record settings { drop = drop } }
-{
-    Settings { drop, ..settings }
-}
-
 /// What an option of both kinds of classes sets, and `default` tests.
 fn set_queue(
     scope: Scope,
@@ -283,15 +277,28 @@ fn set_queue(
 ) -> Result<Settings, ConfPlace>
     ensures { result ≡ set_queue scope s word key items.now }
 {
+    let mut s = s;
     match key {
         Key::Qlimit => {
-            let limit = count_behind(Key::Qlimit, items).unwrap_or(s.limit);
-            Ok(Settings { limit, ..s })
+            s.limit = count_behind(Key::Qlimit, items).unwrap_or(s.limit);
+            Ok(s)
         }
-        Key::Red => Ok(with_drop(s, DropRule::Red)),
-        Key::Ecn => Ok(with_drop(s, DropRule::Ecn)),
-        Key::Rio => Ok(with_drop(s, DropRule::Rio)),
-        Key::Cleardscp => Ok(Settings { clear: true, ..s }),
+        Key::Red => {
+            s.drop = DropRule::Red;
+            Ok(s)
+        }
+        Key::Ecn => {
+            s.drop = DropRule::Ecn;
+            Ok(s)
+        }
+        Key::Rio => {
+            s.drop = DropRule::Rio;
+            Ok(s)
+        }
+        Key::Cleardscp => {
+            s.clear = true;
+            Ok(s)
+        }
         Key::Default => set_default(scope, s, word),
         _ => Ok(s),
     }
@@ -307,28 +314,29 @@ fn set_cbq(
 ) -> Result<Settings, ConfPlace>
     ensures { result ≡ set_cbq scope s word key items.now }
 {
+    let mut s = s;
     match key {
         Key::Priority => {
-            let priority = priority_or(s.priority, items);
-            Ok(Settings { priority, ..s })
+            s.priority = priority_or(s.priority, items);
+            Ok(s)
         }
         Key::Pbandwidth => {
             let n = number_behind(Key::Pbandwidth, items);
             set_percent(scope, s, word_at(items, 0), n)
         }
         Key::Exactbandwidth => {
-            let rate = number_behind(Key::Exactbandwidth, items).or(s.rate);
-            Ok(Settings { rate, ..s })
+            s.rate = number_behind(Key::Exactbandwidth, items).or(s.rate);
+            Ok(s)
         }
         Key::Borrow => Ok(Settings { borrow: true, ..s }),
         Key::Control => Ok(Settings { control: true, ..s }),
         Key::Maxburst => {
-            let maxburst = count_behind(Key::Maxburst, items).unwrap_or(s.maxburst);
-            Ok(Settings { maxburst, ..s })
+            s.maxburst = count_behind(Key::Maxburst, items).unwrap_or(s.maxburst);
+            Ok(s)
         }
         Key::Packetsize => {
-            let packetsize = count_behind(Key::Packetsize, items).unwrap_or(s.packetsize);
-            Ok(Settings { packetsize, ..s })
+            s.packetsize = count_behind(Key::Packetsize, items).unwrap_or(s.packetsize);
+            Ok(s)
         }
         _ => set_queue(scope, s, word, key, items),
     }

@@ -3,9 +3,8 @@ ghost use Rattle.std.specs.Prelude.{◌≡◌, ◌∷◌, ◌++◌, [], IfOk, On
 ghost use Rattle.conf_tree.specs.Printed.{printed};
 ghost use Rattle.conf_tree.specs.Canonical.{kind_key, interface_whats, interface_line, class_line, class_lines, filter_line, filter_lines, conditioner_line, meter_lines, conditioner_lines, written_classes, interface_lines, canonical_text};
 
-use crate::branch::text_of as name_of;
 use crate::class::Class;
-use crate::class_items::{class_whats, push, push_with};
+use crate::class_items::{class_whats, push, push_name, push_with};
 use crate::conditioner_items::conditioner_whats;
 use crate::filter::{Addresses, Filter};
 use crate::filter_items::filter_whats;
@@ -25,8 +24,7 @@ fn interface_whats(alloc: Global, interface: &Interface) -> Result<Vec<What>, No
         Kind::Cbq => Key::Cbq,
     };
     let mut whats = Vec::new(alloc);
-    let name = name_of(alloc, interface.name.as_str())?;
-    push(&mut whats, What::Name(name))?;
+    push_name(alloc, &mut whats, interface.name.as_str())?;
     push_with(&mut whats, Key::Bandwidth, What::Rate(interface.rate))?;
     push(&mut whats, What::Key(kind))?;
     Ok(whats)

@@ -74,7 +74,7 @@ const FAULTS: [BlockFault; 10] = [
 
 // What is wrong with a block, and what to do, by the kind of its fault.
 fn fault_of(kind: u8) -> (&'static str, &'static str) {
-    for fault in FAULTS {
+    for fault in &FAULTS {
         if fault.kind == kind {
             return (fault.fault, fault.remedy);
         }

@@ -51,7 +51,7 @@ const PACKED: [Packed; 5] = [
 
 // The format of a file by its first bytes: a packed one, or the capture format of some old systems, which libpcap reads too.
 fn format_of(head: &[u8]) -> Format {
-    for packed in PACKED {
+    for packed in &PACKED {
         if head.starts_with(packed.magic) {
             return Format::Packed(packed.name, packed.tool);
         }

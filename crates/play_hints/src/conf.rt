@@ -67,6 +67,12 @@ fn interface_of<'a>(alloc: Global, bytes: &'a [u8]) -> Option<&'a [u8]> {
     }
 }
 
+// Adds a name, behind a comma where another stands before it.
+fn add_name(alloc: Global, names: &mut String, name: &[u8]) -> Result<(), AllocError> {
+    names.push_str(if names.is_empty() { "" } else { ", " })?;
+    names.push_str(shown(alloc, name)?.as_str())
+}
+
 // The names of the interfaces of a text.
 fn interfaces(alloc: Global, text: &[u8]) -> Result<String, AllocError> {
     let mut names = String::new(alloc);
@@ -76,12 +82,27 @@ fn interfaces(alloc: Global, text: &[u8]) -> Result<String, AllocError> {
             break;
         };
         if let Some(name) = interface_of(alloc, &rest[..line.to]) {
-            names.push_str(if names.is_empty() { "" } else { ", " })?;
-            names.push_str(shown(alloc, name)?.as_str())?;
+            add_name(alloc, &mut names, name)?;
         }
         rest = &rest[line.to..];
     }
     Ok(names)
+}
+
+// The line on an interface that is absent, by the names of those that there are.
+fn absent_line(
+    alloc: Global,
+    name: &str,
+    interface: &str,
+    names: &str,
+) -> Result<String, AllocError> {
+    if names.is_empty() {
+        format!(in alloc;
+            "{name}: no interface {interface}, and no other: begin with: interface {interface} bandwidth 10M hfsc"
+        )
+    } else {
+        format!(in alloc; "{name}: no interface {interface}: it has {names}")
+    }
 }
 
 // What to say where the interface asked for is absent.
@@ -92,13 +113,7 @@ fn absent_hint(
     text: &[u8],
 ) -> Result<String, AllocError> {
     let names = interfaces(alloc, text)?;
-    let line = if names.is_empty() {
-        format!(in alloc;
-            "{name}: no interface {interface}, and no other: begin with: interface {interface} bandwidth 10M hfsc"
-        )?
-    } else {
-        format!(in alloc; "{name}: no interface {interface}: it has {names}")?
-    };
+    let line = absent_line(alloc, name, interface, names.as_str())?;
     one_line(alloc, line.as_str())
 }
 
@@ -159,14 +174,31 @@ fn add_source(
     };
     let (line, column) = physical(bytes, end.saturating_sub(length));
     let cut = if column > WIDE { column - 40 } else { 0 };
-    let line = line.get(cut..).unwrap_or_default();
+    add_shown(alloc, text, line.get(cut..).unwrap_or_default())?;
+    let note = if at == 0 { foreign(words) } else { "" };
+    add_carets(alloc, text, column.saturating_sub(cut), length, note)
+}
+
+// Adds a line of a configuration as it is shown, up to the most of its bytes.
+fn add_shown(alloc: Global, text: &mut String, line: &[u8]) -> Result<(), AllocError> {
     let line = as_shown(alloc, line.get(..SHOWN).unwrap_or(line))?;
     let line = line.as_str();
-    add_line(alloc, text, format!(in alloc; "  {line}")?.as_str())?;
-    let carets = carets(alloc, column.saturating_sub(cut), length)?;
+    let indented = format!(in alloc; "  {line}")?;
+    add_line(alloc, text, indented.as_str())
+}
+
+// Adds carets below a word, and a note behind them.
+fn add_carets(
+    alloc: Global,
+    text: &mut String,
+    column: usize,
+    length: usize,
+    note: &str,
+) -> Result<(), AllocError> {
+    let carets = carets(alloc, column, length)?;
     let carets = carets.as_str();
-    let note = if at == 0 { foreign(words) } else { "" };
-    add_line(alloc, text, format!(in alloc; "  {carets}{note}")?.as_str())
+    let indented = format!(in alloc; "  {carets}{note}")?;
+    add_line(alloc, text, indented.as_str())
 }
 
 // Carets below a word, one where there is none.
@@ -181,6 +213,63 @@ fn carets(alloc: Global, column: usize, length: usize) -> Result<String, AllocEr
     Ok(text)
 }
 
+// The word at fault as it is shown, with a colon behind it; no text where none is at fault or one is missing.
+fn word_shown(alloc: Global, words: &[Word], at: Option<usize>) -> Result<String, AllocError> {
+    match words.get(at.unwrap_or(words.len())) {
+        Some(word) => {
+            let word = word.parts;
+            let word = shown(alloc, word.get(..LONG).unwrap_or(word))?;
+            format!(in alloc; "{word}: ")
+        }
+        None => Ok(String::new(alloc)),
+    }
+}
+
+// The line on a fault: the name and the number of the line, and the word at fault before what is wrong with it.
+fn fault_line(
+    alloc: Global,
+    name: &str,
+    number: u64,
+    word: &str,
+    fault: &str,
+) -> Result<String, AllocError> {
+    format!(in alloc; "{name}:{number}: {word}{fault}")
+}
+
+// Adds the line on a fault of a kind, at a word if one is given.
+fn add_fault(
+    alloc: Global,
+    text: &mut String,
+    place: (&str, u64),
+    kind: ConfKind,
+    words: &[Word],
+    at: Option<usize>,
+) -> Result<(), AllocError> {
+    let word = word_shown(alloc, words, at)?;
+    let fault = fault_text(alloc, kind, words, at.unwrap_or(0))?;
+    let line = fault_line(alloc, place.0, place.1, word.as_str(), fault.as_str())?;
+    add_line(alloc, text, line.as_str())
+}
+
+// Adds what to say of a fault of a line with these words.
+fn add_hint(
+    alloc: Global,
+    text: &mut String,
+    name: &str,
+    place: ConfAt,
+    kind: ConfKind,
+    bytes: &[u8],
+    words: &[Word],
+) -> Result<(), AllocError> {
+    let named = (name, place.line);
+    if place.word == 0 {
+        return add_fault(alloc, text, named, kind, words, None);
+    }
+    let at = usize::try_from(place.word - 1).unwrap_or(0);
+    add_fault(alloc, text, named, kind, words, Some(at))?;
+    add_source(alloc, text, bytes, words, at)
+}
+
 // What to say of a fault of a line.
 fn line_hint(
     alloc: Global,
@@ -190,35 +279,8 @@ fn line_hint(
     bytes: &[u8],
 ) -> Result<String, AllocError> {
     let words = words_of(alloc, bytes);
-    let number = place.line;
     let mut text = String::new(alloc);
-    if place.word == 0 {
-        let fault = fault_text(alloc, kind, &words, 0)?;
-        add_line(
-            alloc,
-            &mut text,
-            format!(in alloc; "{name}:{number}: {fault}")?.as_str(),
-        )?;
-        return Ok(text);
-    }
-    let at = usize::try_from(place.word - 1).unwrap_or(0);
-    let fault = fault_text(alloc, kind, &words, at)?;
-    if at < words.len() {
-        let word = word_at(&words, at);
-        let word = shown(alloc, word.get(..LONG).unwrap_or(word))?;
-        add_line(
-            alloc,
-            &mut text,
-            format!(in alloc; "{name}:{number}: {word}: {fault}")?.as_str(),
-        )?;
-    } else {
-        add_line(
-            alloc,
-            &mut text,
-            format!(in alloc; "{name}:{number}: {fault}")?.as_str(),
-        )?;
-    }
-    add_source(alloc, &mut text, bytes, &words, at)?;
+    add_hint(alloc, &mut text, name, place, kind, bytes, &words)?;
     Ok(text)
 }
 

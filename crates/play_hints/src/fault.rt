@@ -59,13 +59,18 @@ const FORMS: [Statement; 7] = [
     },
 ];
 
+// Whether a statement begins with these words.
+fn begins(statement: &Statement, first: &[u8], second: &[u8]) -> bool {
+    let is_second = statement.second.is_empty() || statement.second.as_bytes() == second;
+    is_second && statement.first.as_bytes() == first
+}
+
 // The form of the statement that a line begins.
 fn form(words: &[Word]) -> &'static str {
     let first = word_at(words, 0);
     let second = word_at(words, 1);
-    for statement in FORMS {
-        let is_second = statement.second.is_empty() || statement.second.as_bytes() == second;
-        if is_second && statement.first.as_bytes() == first {
+    for statement in &FORMS {
+        if begins(statement, first, second) {
             return statement.written;
         }
     }

@@ -40,9 +40,9 @@ pub(crate) enum Wanted {
 
 // The option of a word.
 fn key_of(word: &Word) -> Option<Key> {
-    for key in KEYS {
+    for key in &KEYS {
         if key.word().as_bytes() == word.parts {
-            return Some(key);
+            return Some(*key);
         }
     }
     None

@@ -73,14 +73,19 @@ fn on_one_line(alloc: Global, told: &str) -> Result<String, AllocError> {
     Ok(text)
 }
 
+// Clap's text of an error on one line, without the word that it begins with.
+fn clap_line(alloc: Global, error: &Error) -> Result<String, AllocError> {
+    let told = format!(in alloc; "{error}")?;
+    let told = told.as_str();
+    on_one_line(alloc, told.strip_prefix("error: ").unwrap_or(told))
+}
+
 // What clap says of options that it refuses.
 fn options_hint(alloc: Global, words: &[String], error: &Error) -> Result<String, AllocError> {
     if error.kind() == ErrorKind::DisplayHelp {
         return usage(alloc);
     }
-    let told = format!(in alloc; "{error}")?;
-    let told = told.as_str();
-    let told = on_one_line(alloc, told.strip_prefix("error: ").unwrap_or(told))?;
+    let told = clap_line(alloc, error)?;
     let command = first(words);
     let line = format!(in alloc; "{command}:{told}")?;
     one_line(alloc, line.as_str())
@@ -96,36 +101,49 @@ fn twin(matches: &ArgMatches<'_>, at: usize, name: &str) -> Option<&'static str>
     None
 }
 
+// What to say of two options with one file name.
+fn equal_hint(alloc: Global, option: &str, other: &str, name: &str) -> Result<String, AllocError> {
+    let line = format!(in alloc; "--{option}, --{other}: both are {name}: give each its own name")?;
+    one_line(alloc, line.as_str())
+}
+
 // Two options whose file names are equal.
 fn equal_names(alloc: Global, matches: &ArgMatches<'_>) -> Result<String, AllocError> {
     for (at, option) in FILES.iter().enumerate() {
         let name = matches.get_str(option).unwrap_or_default();
         if let Some(other) = twin(matches, at.saturating_add(1), name) {
-            let line = format!(in alloc;
-                "--{option}, --{other}: both are {name}: give each its own name"
-            )?;
-            return one_line(alloc, line.as_str());
+            return equal_hint(alloc, option, other, name);
         }
     }
     Ok(String::new(alloc))
+}
+
+// What to say of a count that is none.
+fn count_hint(alloc: Global, text: &str) -> Result<String, AllocError> {
+    let line = format!(in alloc;
+        "--count {text}: no such count: decimal digits, 1 to 1000000, as 1000"
+    )?;
+    one_line(alloc, line.as_str())
+}
+
+// What to say of a seed that is none.
+fn seed_hint(alloc: Global, text: &str) -> Result<String, AllocError> {
+    let line = format!(in alloc;
+        "--seed {text}: no number: decimal digits below 18446744073709551616, as 42"
+    )?;
+    one_line(alloc, line.as_str())
 }
 
 // What is wrong with options that clap takes.
 fn values_hint(alloc: Global, matches: &ArgMatches<'_>) -> Result<String, AllocError> {
     if let Some(text) = matches.get_str("count") {
         if count(text).is_none() {
-            let line = format!(in alloc;
-                "--count {text}: no such count: decimal digits, 1 to 1000000, as 1000"
-            )?;
-            return one_line(alloc, line.as_str());
+            return count_hint(alloc, text);
         }
     }
     if let Some(text) = matches.get_str("seed") {
         if decimal(text.as_bytes()).is_none() {
-            let line = format!(in alloc;
-                "--seed {text}: no number: decimal digits below 18446744073709551616, as 42"
-            )?;
-            return one_line(alloc, line.as_str());
+            return seed_hint(alloc, text);
         }
     }
     equal_names(alloc, matches)
