@@ -18,18 +18,18 @@ fn end_of(count: u64) -> Status {
     }
 }
 
-// Plays a capture that is cut: without a fault all of it leaves, else the header.
-fn play_cut(rt: &impl Abort, alloc: Global, arrivals: &[u8]) -> Result<(), Fail> {
-    let count = arrivals.len() as u64;
-    let mut files = MemoryFiles::new(alloc);
-    let status = play_over(alloc, &mut files, IMPLIED, arrivals)?;
+// Without a fault all of a cut capture leaves, else its header.
+fn assert_cut(rt: &impl Abort, files: &MemoryFiles, status: Status, count: u64) {
     assert_eq!(rt; status, end_of(count), "{count}");
     let left = if status.code == 0 { count } else { 24 };
-    assert_eq!(rt;
-        files.get("out").unwrap_or_default().len() as u64,
-        left,
-        "{count}"
-    );
+    let out = files.get("out").unwrap_or_default();
+    assert_eq!(rt; out.len() as u64, left, "{count}");
+}
+
+fn play_cut(rt: &impl Abort, alloc: Global, arrivals: &[u8]) -> Result<(), Fail> {
+    let mut files = MemoryFiles::new(alloc);
+    let status = play_over(alloc, &mut files, IMPLIED, arrivals)?;
+    assert_cut(rt, &files, status, arrivals.len() as u64);
     Ok(())
 }
 

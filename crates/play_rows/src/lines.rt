@@ -5,6 +5,7 @@ use crate::runs::{IMPLIED, play_over, played};
 use memory_files::MemoryFiles;
 use play_cli::Status;
 use std::alloc::Global;
+use std::process::Abort;
 use std::test::Fail;
 
 // The words of `IMPLIED`: behind a backslash, a carriage return and a line feed a line goes on.
@@ -31,13 +32,9 @@ fn fates_under(alloc: Global, config: &str) -> Result<Vec<u8>, Fail> {
     Ok(Vec::from_slice(alloc, files.get("fates").unwrap_or_default())?)
 }
 
-#[test]
-fn carriage_returns_are_blanks(rt: HostRuntime) -> Result<(), Fail> {
-    let plain = fates_under(rt.alloc(), IMPLIED)?;
-    let fates = fates_under(rt.alloc(), RETURNS)?;
-    assert!(rt; fates.as_slice() == plain.as_slice());
-    for config in JOINS_NOTHING {
-        let status = status_under(rt.alloc(), config)?;
+fn assert_joins_nothing(rt: &impl Abort, alloc: Global) -> Result<(), Fail> {
+    for config in &JOINS_NOTHING {
+        let status = status_under(alloc, config)?;
         assert_eq!(rt;
             (status.code, status.line, status.word),
             (3, 1, 6),
@@ -45,4 +42,12 @@ fn carriage_returns_are_blanks(rt: HostRuntime) -> Result<(), Fail> {
         );
     }
     Ok(())
+}
+
+#[test]
+fn carriage_returns_are_blanks(rt: HostRuntime) -> Result<(), Fail> {
+    let plain = fates_under(rt.alloc(), IMPLIED)?;
+    let fates = fates_under(rt.alloc(), RETURNS)?;
+    assert!(rt; fates.as_slice() == plain.as_slice());
+    assert_joins_nothing(&rt, rt.alloc())
 }

@@ -41,6 +41,32 @@ fn paced(alloc: Global, rate: u64, packetsize: u32) -> Result<Cbq<Tail>, NoMemor
     Cbq::build(alloc, classes.as_slice(), 8_000_000, queues)
 }
 
+// What the link does at these moments under such a class, of which so many packets of a length arrive at 0.
+fn paced_steps(
+    alloc: Global,
+    rate: u64,
+    packetsize: u32,
+    count: u32,
+    len: u32,
+    moments: &[u64],
+) -> Result<Vec<Step>, Fail>
+    requires least { 1000 ≤ rate }
+    requires most { rate ≤ 8000000 }
+    requires some { 1 ≤ packetsize }
+    requires short { packetsize ≤ 1500 }
+    requires few { count ≤ 100 }
+    requires least_len { 1 ≤ len }
+    requires most_len { len ≤ 262144 }
+{
+    let mut cbq = paced(alloc, rate, packetsize)?;
+    let packets = Packets {
+        count,
+        class: 1,
+        len,
+    };
+    steps(alloc, &mut cbq, 8_000_000, packets, moments)
+}
+
 // Three packets of 1,000 bytes at 0. Each takes the link 1 ms and the class 4 ms. Its average begins at its cap, the time of one packet
 // of 500 bytes: 2,000,000. The first packet leaves it, so the second follows at once. That ends 1 ms after the first, which is 3 ms early:
 // the average falls to 2,000,000 - 2,000,000 / 32 - 3,000,000 = -1,062,500. The third has to leave an idle time of at least
@@ -48,14 +74,8 @@ fn paced(alloc: Global, rate: u64, packetsize: u32) -> Result<Cbq<Tail>, NoMemor
 // before that.
 #[test]
 fn class_over_its_rate_waits(rt: HostRuntime) -> Result<(), Fail> {
-    let mut cbq = paced(rt.alloc(), 2_000_000, 500)?;
-    let packets = Packets {
-        count: 3,
-        class: 1,
-        len: 1000,
-    };
     let moments = [0, 1_000_000, 2_000_000];
-    let steps = steps(rt.alloc(), &mut cbq, 8_000_000, packets, &moments)?;
+    let steps = paced_steps(rt.alloc(), 2_000_000, 500, 3, 1000, &moments)?;
     let waits = [
         Step::Ends(1_000_000),
         Step::Ends(2_000_000),
@@ -72,14 +92,8 @@ fn class_over_its_rate_waits(rt: HostRuntime) -> Result<(), Fail> {
 // later. Each starts 1.5 ms before its end.
 #[test]
 fn class_is_paced(rt: HostRuntime) -> Result<(), Fail> {
-    let mut cbq = paced(rt.alloc(), 1_000_000, 1500)?;
-    let packets = Packets {
-        count: 5,
-        class: 1,
-        len: 1500,
-    };
     let moments = [0, 1_500_000, 3_000_000, 4_500_000, 24_116_089, 25_616_089];
-    let steps = steps(rt.alloc(), &mut cbq, 8_000_000, packets, &moments)?;
+    let steps = paced_steps(rt.alloc(), 1_000_000, 1500, 5, 1500, &moments)?;
     let paced = [
         Step::Ends(1_500_000),
         Step::Ends(3_000_000),
