@@ -6,7 +6,7 @@ use Rattle.altq_model.specs.declared.Rule.{Rule}
 use Rattle.line_text.specs.Numbers.{are_digits, cut}
 use Rattle.fate_check.specs.Parse.{fate_of, number_of, rule_of}
 
--- so many bytes at the front are digits, and write a number
+-- the first `count` bytes of a text are digits, and write the number `n`
 pub record WritesFirst (text : List ℕ) (count n : ℕ) : Type 0 where
   pub inside : count ≤ length text
   pub digits : are_digits 10 (take count text) ≡ true

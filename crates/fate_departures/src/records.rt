@@ -31,7 +31,7 @@ fn dress<C: Classify>(
     Ok(())
 }
 
-// What stands behind a head, if it stands at the front. A test of so many bytes costs no call.
+// What stands behind a head, if it stands at the front. Sixteen bytes of an array are compared without a call.
 fn behind_head<'a>(rest: &'a [u8], head: &[u8; 16]) -> Option<&'a [u8]>
     ensures { MatchOption result ((more : List ℕ) → rest.now ≡ head.now ++ more → ⊥) (λ more. rest.now ≡ head.now ++ more.now) }
 {

@@ -3,13 +3,14 @@ use crate::ports::Filed;
 use play_base::NoMemory;
 use std::alloc::Global;
 
-/// How many places are kept: ports whose rest by this number is the same share one.
+/// How many places are kept. Ports that leave the same remainder by this number share one.
 const KEPT: usize = 1024;
 
-/// So few filters are found by bisection as soon.
+/// With fewer filters than this a search is as quick.
 const FEW: usize = 8;
 
-/// Where the filters of each port begin, by the port's rest: guesses, which are tested where they are used. None where filters are few.
+/// Where the filters of each port begin, by the port's remainder: guesses, which are tested where they are used. None where filters are
+/// few.
 pub(crate) fn likely_places(alloc: Global, filed: &[Filed]) -> Result<Vec<u32>, NoMemory> {
     if filed.len() < FEW {
         return Ok(Vec::new(alloc));

@@ -109,8 +109,8 @@ impl Classify for Classifier {
 
     ghost dressed = { dressed_by };
 
-    /// Takes no memory. Of the filters that fix a port only those of the flow's ports are asked, and found by bisection. Where there
-    /// are no filters, of the flow the type of service or traffic class alone is read.
+    /// Takes no memory. Of the filters that fix a port only those of the flow's ports are asked, found at one look or by bisection.
+    /// Where there are no filters, of the flow the type of service or traffic class alone is read.
     fn class(&self, frame: &[u8]) -> Placed {
         match self.filters.only_class() {
             Some(class) => self.place_plain(class, tos(frame)),

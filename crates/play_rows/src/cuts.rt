@@ -8,7 +8,7 @@ use std::alloc::Global;
 use std::process::Abort;
 use std::test::Fail;
 
-// The header has 24 bytes, and each of two records 76: how a play ends of which so many bytes are there.
+// How a play of the first `count` bytes of a capture ends: its header has 24, and each of two records 76.
 fn end_of(count: u64) -> Status {
     match count {
         0..24 => ended(4, count, 1),

@@ -41,7 +41,7 @@ fn paced(alloc: Global, rate: u64, packetsize: u32) -> Result<Cbq<Tail>, NoMemor
     Cbq::build(alloc, classes.as_slice(), 8_000_000, queues)
 }
 
-// What the link does at these moments under such a class, of which so many packets of a length arrive at 0.
+// What the link does at these moments under such a class, of which `count` packets of a length arrive at 0.
 fn paced_steps(
     alloc: Global,
     rate: u64,

@@ -36,8 +36,8 @@ fn assert_fronts(rt: &impl Abort, files: &MemoryFiles, whole: &MemoryFiles, nth:
     }
 }
 
-// Whether a play was done, so that no call failed: then it made so many calls of the kind, and its statistics are whole. Else it ends
-// as the call that failed says.
+// Whether a play was done, so that no call failed: then it made `nth` calls of the kind, and its statistics are whole. Else it ends as
+// the call that failed says.
 fn is_done(
     rt: &impl Abort,
     files: &MemoryFiles,
@@ -63,7 +63,7 @@ fn whole_play(alloc: Global) -> Result<MemoryFiles, Fail> {
     played(alloc, VOICE_AND_DATA, &arrivals)
 }
 
-// One whose nth call of a kind fails, where a read and a write move so much at most; and how it ended.
+// One whose nth call of a kind fails, where a read moves at most `read` bytes and a write `write`; and how it ended.
 fn play_without(
     alloc: Global,
     arrivals: &[u8],

@@ -28,7 +28,7 @@ fn curve_of(words: [&str; 3]) -> Option<Curve>
     }
 }
 
-/// Of a curve: the units that it gives in a time, the least time in which it gives so many, or their deadline over openings.
+/// Of a curve: the units that it gives in a time, the least time in which it gives some units, or their deadline over openings.
 pub fn of_curve(words: [&str; 3], what: &str, rest: &[&str]) -> Option<Option<u128>> {
     let curve = curve_of(words)?;
     let [count, rest @ ..] = rest else {

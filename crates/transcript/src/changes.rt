@@ -39,7 +39,7 @@ fn add(alloc: Global, bytes: &mut Vec<u8>, digits: &str) -> Result<bool, NoMemor
     }
 }
 
-// Leaves so many bytes.
+// Leaves the first bytes, as many as a word says.
 fn cut(bytes: &mut Vec<u8>, count: &str) -> Option<()> {
     bytes.truncate(number(count)? as usize);
     Some(())

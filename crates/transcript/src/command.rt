@@ -3,7 +3,7 @@
 use play_base::NoMemory;
 use std::alloc::Global;
 
-// The usual options of `chain`; the other commands take so many of them, from the first on.
+// The usual options of `chain`; each other command takes the first few of them.
 const USUAL: [&str; 24] = [
     "--config",
     "conf",

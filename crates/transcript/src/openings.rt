@@ -55,7 +55,7 @@ fn opened(curve: Curve, openings: &[&str]) -> Option<(Running, Opening)>
     }
 }
 
-/// The deadline of so many units over openings, which are told behind the word `over`; nothing where these words are not understood, or
+/// The deadline of some units over openings, which are told behind the word `over`; nothing where these words are not understood, or
 /// the last opening has as many units.
 pub fn deadline_over(curve: Curve, units: u128, words: &[&str]) -> Option<Option<u128>>
     requires in_range { IsInRange curve }
