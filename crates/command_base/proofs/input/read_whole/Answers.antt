@@ -1,11 +1,32 @@
-use Rattle.std.proofs.Common.{◌≡◌, ◌++◌, take, length, length-append, ap, subst, arith, List, ℕ}
+use Rattle.std.proofs.Common.{◌≡◌, ◌≤◌, ◌+◌, ◌++◌, take, length, length-append, ap, subst, sym, arith, List, ℕ, Some}
+use Rattle.std.specs.Prelude.{IsSome}
 use Rattle.std.proofs.lemmas.Grind.{common_steps}
-use Rattle.play_base.specs.View.{View, Took}
-use Rattle.play_base.proofs.ViewLaws.{same_trans, took_more, still_there}
+use Rattle.std.proofs.lemmas.List.{length-take}
+use Rattle.play_base.specs.View.{View, Took, Unchanged}
+use Rattle.play_base.proofs.ViewLaws.{same_trans, took_more, still_there, part_of_there}
+use Rattle.command_base.specs.Configuration.{most_bytes}
+use Rattle.command_base.specs.Input.{TookFew}
 use Rattle.command_base.proofs.input.read_whole.Goals as goal
 
 one_more : (a b c : View) (file : ℕ) (xs ys zs : List ℕ) → xs ++ ys ≡ zs → Took a b file xs → Took b c file ys → Took a c file zs
 one_more a b c file xs ys zs e x y = let P : List ℕ → Type 0 = λ ws. Took a c file ws in subst P e (took_more a b c file xs ys x y)
+
+few_taken : (a b : View) (file : ℕ) (xs : List ℕ) → length xs ≤ most_bytes + 1 → Took a b file xs → TookFew a b file
+few_taken a b file xs few took = λ all at.
+    let x = took.left all at in (x.0, x.2, omega (arith, ap length x.1, length-append xs x.0, few))
+
+few_unchanged : (a b c : View) (file : ℕ) (xs : List ℕ)
+    → IsSome (b.part file) → length xs ≤ most_bytes + 1 → Took a b file xs → Unchanged b c → TookFew a c file
+few_unchanged a b c file xs there few took same = λ all at.
+    let x = few_taken a b file xs few took all at in
+    let p = part_of_there (b.part file) there in
+    (x.0, subst (λ o. o ≡ Some x.0) (sym (same.keeps.left file p.0 p.1 tt)) x.1, x.2)
+
+few_more : (a b c : View) (file n : ℕ) (xs ys : List ℕ)
+    → length xs + n ≤ most_bytes + 1 → Took a b file xs → Took b c file (take n ys) → TookFew a c file
+few_more a b c file n xs ys few x y = few_taken a c file (xs ++ take n ys)
+    (omega (arith, length-append xs (take n ys), length-take n ys, few))
+    (took_more a b c file xs (take n ys) x y)
 
 pub loop-piece-preserved : goal.loop-piece-preserved
 loop-piece-preserved g c = record {
@@ -16,7 +37,21 @@ loop-piece-preserved g c = record {
       (grind (arith, common_steps)) c.loop-piece.invariant.took c.in-Ok.ensures.took;
 }
 
+pub returns-in-Err-Failed-clause-few : goal.returns-in-Err-Failed-clause-few
+returns-in-Err-Failed-clause-few g c = few_unchanged (g.F.Files.view c.args.files.now) (g.F.Files.view c.loop-piece.files) (g.F.Files.view c.read.new.self) c.args.file
+    c.loop-piece.all.items c.loop-piece.invariant.there c.loop-piece.invariant.few c.loop-piece.invariant.took c.in-Err-Failed.ensures.refused
+
+pub returns-in-Err-NoMemory-clause-few : goal.returns-in-Err-NoMemory-clause-few
+returns-in-Err-NoMemory-clause-few g c = few_unchanged (g.F.Files.view c.args.files.now) (g.F.Files.view c.loop-piece.files) (g.F.Files.view c.read.new.self) c.args.file
+    c.loop-piece.all.items c.loop-piece.invariant.there c.loop-piece.invariant.few c.loop-piece.invariant.took c.in-Err-NoMemory.ensures.refused
+
+pub returns-then-count-eq0-clause-few : goal.returns-then-count-eq0-clause-few
+returns-then-count-eq0-clause-few g c = few_more _ _ _ _ c.in-Ok.count c.loop-piece.all.items c.read.new.into
+    (omega (arith, c.if-count-eq0.true, c.loop-piece.invariant.few)) c.loop-piece.invariant.took c.in-Ok.ensures.took
+
+pub returns-then-is_err-clause-few : goal.returns-then-is_err-clause-few
+returns-then-is_err-clause-few g c = few_more _ _ _ _ c.in-Ok.count c.loop-piece.all.items c.read.new.into
+    (grind (arith, common_steps)) c.loop-piece.invariant.took c.in-Ok.ensures.took
+
 pub returns-clause-few : goal.returns-clause-few
-returns-clause-few g c = λ all at.
-    let x = c.loop-piece.invariant.took.left all at in
-    (x.0, x.2, omega (arith, ap length x.1, length-append c.loop-piece.all.items x.0, c.loop-piece.invariant.few))
+returns-clause-few g c = few_taken _ _ _ c.loop-piece.all.items c.loop-piece.invariant.few c.loop-piece.invariant.took
