@@ -15,7 +15,7 @@ use service_curve::Curve;
 use std::alloc::Global;
 
 /// What is chosen at a moment.
-#[derive(Clone, Copy, Debug, PartialEq, Eq)]
+#[derive(Clone, Copy)]
 pub enum Chosen {
     /// The head of this leaf is sent by real time.
     Real(u32),
@@ -28,7 +28,7 @@ pub enum Chosen {
 }
 
 /// The classes of an interface, with what both choices keep of them.
-#[derive(Debug, Drop)]
+#[derive(Drop)]
 pub struct Chooser {
     classes: Vec<HfscClass>,
     eligible: Eligible,

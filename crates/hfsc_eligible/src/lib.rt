@@ -36,7 +36,7 @@ use slot::Slot;
 /// The classes of an interface in the order of the file, and their heads.
 ///
 /// Contracts say for which curves and which history of kept packets and sendings a value stands.
-#[derive(Debug, Drop)]
+#[derive(Drop)]
 pub struct Eligible {
     slots: Vec<Slot>,
     deadlines: Ranking,

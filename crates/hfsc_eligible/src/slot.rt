@@ -17,7 +17,7 @@ const MOST: u128 = 1 << 99;
 
 /// A class: its curve over its openings, where it has one that is not 0 everywhere, the units that it was sent by real
 /// time, and the length of its head.
-#[derive(Clone, Copy, Debug)]
+#[derive(Clone, Copy)]
 pub struct Slot {
     real: Option<Running>,
     count: u128,

@@ -11,7 +11,7 @@ use std::alloc::Global;
 
 /// The active children of a class by virtual time, those of them that open after moment 0 by moment, and the greatest virtual
 /// time of all its children. Where no limit holds a child back the second list is empty.
-#[derive(Debug, Drop)]
+#[derive(Drop)]
 pub struct Group {
     times: Ranking,
     moments: Late,

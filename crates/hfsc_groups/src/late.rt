@@ -10,7 +10,7 @@ use ranking::Ranking;
 use std::alloc::Global;
 
 /// The children of a class that open late. In the list a child has the number of places from the first one.
-#[derive(Debug, Drop)]
+#[derive(Drop)]
 pub struct Late {
     first: u32,
     ranking: Ranking,

@@ -22,7 +22,7 @@ const MOST_TIME: u128 = 1 << 79;
 /// A class: its parent; its link-sharing curve over its activations, and its limit over the arrivals that made it active;
 /// the units sent in it and below it; whether it is active; its virtual time; and the moment from which a packet waits on
 /// a path that is open up to it.
-#[derive(Clone, Copy, Debug)]
+#[derive(Clone, Copy)]
 pub struct Node {
     parent: Option<u32>,
     share: Option<Running>,

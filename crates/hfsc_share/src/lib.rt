@@ -36,7 +36,7 @@ const LEVELS: u32 = 8;
 /// The classes of an interface in the order of the file, with what sharing keeps of them.
 ///
 /// Contracts say for which classes and which history of kept packets and sendings a value stands.
-#[derive(Debug, Drop)]
+#[derive(Drop)]
 pub struct Shares {
     nodes: Vec<Node>,
     groups: Vec<Group>,

@@ -21,7 +21,7 @@ const THRESHOLDS: Thresholds = Thresholds {
 /// `count` the packets that were kept since the last drop, -1 where the average was below the lower threshold, at most 2^62;
 /// `idle` the start of the packet that last left the queue empty, in nanoseconds; `step` the time of a step of the average while
 /// nothing waits, at least 1 ns; `limit` the most packets that may wait.
-#[derive(Clone, Copy, Debug, PartialEq, Eq)]
+#[derive(Clone, Copy)]
 pub struct Red {
     pub average: u64,
     pub count: i64,

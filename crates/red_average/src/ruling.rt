@@ -7,14 +7,14 @@ use crate::share::{falls, risen, room};
 use leaf_queue::{Reason, Verdict, Words};
 
 /// The averages from which on packets are dropped, in packets times 2^21: from `low` on some are, from `high` on all.
-#[derive(Clone, Copy, Debug, PartialEq, Eq)]
+#[derive(Clone, Copy)]
 pub struct Thresholds {
     pub low: u64,
     pub high: u64,
 }
 
 /// The verdict on a packet, and the count of kept packets after it: -1 where the average is below the lower threshold.
-#[derive(Clone, Copy, Debug, PartialEq, Eq)]
+#[derive(Clone, Copy)]
 pub struct Ruling {
     pub verdict: Verdict,
     pub count: i64,

@@ -10,7 +10,7 @@ use red_average::Red;
 /// the rule's own does. `Ecn` does what RED does, but answers `Mark` in place of an early drop to a packet of precedence 1, which
 /// says here that its transport is capable of explicit congestion notification (RFC 3168); it draws the same random words as RED,
 /// and its count restarts as after a drop.
-#[derive(Clone, Copy, Debug, PartialEq, Eq)]
+#[derive(Clone, Copy)]
 pub enum AnyQueue {
     Tail(Tail),
     Red(Red),

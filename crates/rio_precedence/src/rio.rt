@@ -15,7 +15,7 @@ use red_average::{idle_step, moved, ruled};
 /// nanoseconds. `count` at a place is the packets of that precedence alone that were kept since one was dropped, -1 where
 /// the average was below its lower threshold, at most 2^62. `step` is the time of a step of an average while nothing waits, at
 /// least 1 ns, and `limit` the most packets that may wait.
-#[derive(Clone, Copy, Debug, PartialEq, Eq)]
+#[derive(Clone, Copy)]
 pub struct Rio {
     pub average: [u64; 3],
     pub count: [i64; 3],
