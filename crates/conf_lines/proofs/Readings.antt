@@ -1,11 +1,14 @@
 -- How a line is read word by word: where its items and its fault stand.
-use Rattle.std.proofs.Common.{◌≡◌, ℕ, ◌+◌, ◌≤◌, List, [], ◌∷◌, Option, Some, None, Result, Ok, Err, refl, arith}
+use Rattle.std.proofs.Common.{◌≡◌, ℕ, ◌+◌, ◌≤◌, List, [], ◌∷◌, ◌++◌, append_assoc, Option, Some, None, Result, Ok, Err, refl, ap, ◌∙◌, arith}
 use Rattle.conf_lines.specs.declared.fault.ConfKind.{ConfKind}
 use Rattle.conf_lines.specs.declared.fault.ConfPlace.{ConfPlace}
+use Rattle.conf_lines.specs.declared.grammar.Place as code_place
+use Rattle.conf_lines.specs.declared.grammar.Refusal.{Refusal}
+use Rattle.conf_lines.specs.declared.grammar.Refusal.TheVariants.{Kind, NoMemory}
 use Rattle.conf_lines.specs.declared.item.Item.{Item}
 use Rattle.conf_lines.specs.declared.item.What.{What}
-use Rattle.conf_lines.specs.Grammar.{Place, Step, step, end}
-use Rattle.conf_lines.specs.Texts.{Reading, fault_at, stops, item_of, behind, read_from}
+use Rattle.conf_lines.specs.Grammar.{Place, Step, Fails, seen, step, end}
+use Rattle.conf_lines.specs.Texts.{Reading, Takes, fault_at, stops, item_of, behind, read_from}
 
 -- what a word that leads there, or to a fault, makes of a line
 abbrev pub past : ℕ → List (List ℕ) → Place → ℕ → Result Step ConfKind → Reading
@@ -70,3 +73,15 @@ more_late at (Some says) r k = record { items = (omega arith, less_late at r.ite
 
 pub late_from : (line : ℕ) (words : List (List ℕ)) (place : Place) (at : ℕ) → AllLate at (read_from line words place at)
 late_from line = each_reading line AllLate (λ place at o. record { items = tt; fault = fault_late line at o }) more_late
+
+-- the place and the item of a word that leads somewhere
+pub taken : (place : Place) (after : code_place.Place) (word : List ℕ) (what : Option What) (at : ℕ) (old new : List Item)
+    → step place word ≡ Ok (record { what = what; after = seen after }) → new ≡ old ++ item_of at what → Takes at place word old new (Ok after)
+taken place after word what at old new e n line words =
+    ap (λ (r : Result Step ConfKind). behind old (past line words place at r)) e ∙ rw (n, append_assoc) refl
+
+-- a word that is refused, or for which there was no memory
+pub refused : (place : Place) (word : List ℕ) (refusal : Refusal) (at : ℕ) (items : List Item) → Fails refusal (step place word)
+    → Takes at place word items items (Err refusal)
+refused place word (Kind kind) at items e = λ line words. ap (λ (r : Result Step ConfKind). behind items (past line words place at r)) e
+refused place word NoMemory at items e = tt

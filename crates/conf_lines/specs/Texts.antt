@@ -1,16 +1,19 @@
 -- The statements of a text: one for each logical line that has words or is too long, read from place to place up to its
 -- first fault.
-use Rattle.std.specs.Prelude.{ℕ, zero, suc, ◌+◌, ◌==◌, List, [], ◌∷◌, ◌++◌, length, take, drop, count_by, nat_lt, if◌then◌else◌, Option, Some, None, Ok, Err}
+use Rattle.std.specs.Prelude.{◌≡◌, ℕ, zero, suc, ◌+◌, ◌==◌, List, [], ◌∷◌, ◌++◌, length, take, drop, count_by, nat_lt, if◌then◌else◌, Option, Some, None, Result, Ok, Err}
 use Rattle.line_text.specs.Lines.{line_len, joined, longest_line}
 use Rattle.line_text.specs.Words.{words_of}
 use Rattle.conf_lines.specs.declared.fault.ConfKind.{ConfKind}
 use Rattle.conf_lines.specs.declared.fault.ConfPlace.{ConfPlace}
+use Rattle.conf_lines.specs.declared.grammar.Place as code_place
+use Rattle.conf_lines.specs.declared.grammar.Refusal.{Refusal}
+use Rattle.conf_lines.specs.declared.grammar.Refusal.TheVariants.{Kind, NoMemory}
 use Rattle.conf_lines.specs.declared.item.Item.{Item}
 use Rattle.conf_lines.specs.declared.item.What.{What}
 use Rattle.conf_lines.specs.declared.statement.Form.{Form}
 use Rattle.conf_lines.specs.declared.statement.Form.TheVariants.{Unread}
 use Rattle.conf_lines.specs.declared.statement.Statement.{Statement}
-use Rattle.conf_lines.specs.Grammar.{Place, step, end, start}
+use Rattle.conf_lines.specs.Grammar.{Place, step, end, start, seen}
 use Rattle.conf_lines.specs.declared.fault.ConfKind.TheVariants.{TooLong}
 
 -- what the words from a place on say: the form where the reading stops, the items up to there, and the first fault
@@ -46,6 +49,15 @@ read_from line (word ∷ words) place at =
       | Ok taken ↦ behind (item_of at taken.what) (read_from line words taken.after (at + 1))
       | Err kind ↦ stops place (fault_at line at (Some kind))
     ]
+
+-- A word is taken: the same reading goes on behind it, its item added, or stops there. Nothing is said where memory ran out.
+abbrev pub Takes : ℕ → Place → List ℕ → List Item → List Item → Result code_place.Place Refusal → Type 0
+Takes at place word old new (Ok after) =
+    (line : ℕ) (words : List (List ℕ))
+    → behind old (read_from line (word ∷ words) place at) ≡ behind new (read_from line words (seen after) (at + 1))
+Takes at place word old new (Err (Kind kind)) =
+    (line : ℕ) (words : List (List ℕ)) → behind old (read_from line (word ∷ words) place at) ≡ behind new (stops place (fault_at line at (Some kind)))
+Takes at place word old new (Err NoMemory) = Unit {0}
 
 -- a statement by its reading
 abbrev pub as_statement : ℕ → ℕ → Reading → Statement

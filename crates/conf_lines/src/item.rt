@@ -5,7 +5,7 @@ use crate::options::Key;
 use std::marker::Model;
 
 /// A text of its own: a name of an interface or a class. Contracts see it as the list of its bytes.
-#[derive(Debug, Drop)]
+#[derive(Drop)]
 pub struct Text {
     string: String,
 }
@@ -33,7 +33,7 @@ impl Text {
 }
 
 /// What one word says.
-#[derive(Debug, Drop)]
+#[derive(Drop)]
 pub enum What {
     /// The name of an interface or a class.
     Name(Text),
@@ -54,7 +54,7 @@ pub enum What {
 }
 
 /// One read word behind those that say which statement it is.
-#[derive(Debug, Drop)]
+#[derive(Drop)]
 pub struct Item {
     /// The number of the word in its logical line, from 1.
     pub word: u64,
@@ -63,7 +63,7 @@ pub struct Item {
 }
 
 /// The items of a statement, in the order of their words. Contracts see them as a list.
-#[derive(Debug, Drop)]
+#[derive(Drop)]
 pub struct Items {
     items: Vec<Item>,
 }

@@ -30,7 +30,7 @@ pub const MOST_BURST: u64 = 1_073_741_824;
 pub const MOST_AF: u64 = 4;
 
 /// What stands behind the word of an option.
-#[derive(Clone, Copy, Debug, PartialEq, Eq)]
+#[derive(Clone, Copy)]
 pub enum Slots {
     /// Nothing.
     Nothing,
@@ -51,7 +51,7 @@ pub enum Slots {
 }
 
 /// The words of options, one for each word of altq.conf(5) that this profile reads.
-#[derive(Clone, Copy, Debug, PartialEq, Eq)]
+#[derive(Clone, Copy)]
 pub enum Key {
     Bandwidth,
     Tbrsize,

@@ -1,19 +1,19 @@
 //! The statements of a text.
 ghost use Rattle.std.specs.Prelude.{◌≡◌, ◌+◌, ◌≤◌, ◌++◌, [], length, IfOk, OnOk};
 ghost use Rattle.line_text.specs.Words.{bytes_of, parts_of};
-ghost use Rattle.conf_lines.specs.Grammar.{start};
-ghost use Rattle.conf_lines.specs.Texts.{statements_of, statement_of, line_feeds, read_from, as_statement, fault_at, item_of, before};
+ghost use Rattle.conf_lines.specs.Grammar.{seen, start};
+ghost use Rattle.conf_lines.specs.Texts.{statements_of, Takes, statement_of, by_words, line_feeds, read_from, as_statement, behind, fault_at, item_of, before};
 
 use crate::fault::{ConfKind, ConfPlace};
 use crate::grammar::{Next, Place, Refusal, Step};
 use crate::item::{Item, Items, What};
-use crate::step::step;
+use crate::step::{end, step};
 use line_text::{Line, LineFault, Word, next_line, word_count, words};
 use play_base::NoMemory;
 use std::alloc::Global;
 
 /// Which statement a line is.
-#[derive(Clone, Copy, Debug, PartialEq, Eq)]
+#[derive(Clone, Copy)]
 pub enum Form {
     Interface,
     ClassHfsc,
@@ -26,7 +26,7 @@ pub enum Form {
 }
 
 /// A statement, read up to its first fault.
-#[derive(Debug, Drop)]
+#[derive(Drop)]
 pub struct Statement {
     /// The number of its first physical line, from 1.
     pub line: u64,
@@ -94,37 +94,57 @@ fn statement_of(alloc: Global, text: &[u8], line: &Line) -> Result<Option<Statem
     ensures { IfOk result (λ found. found ≡ statement_of line.now.number (bytes_of text.now line.now)) }
 {
     match words(alloc, text, line) {
-        Ok(found) => {
-            if found.is_empty() {
-                return Ok(None);
-            }
-            let end = found.len() as u64 + 1;
-            match read(alloc, line.number, end, found.as_slice()) {
-                Ok(statement) => Ok(Some(statement)),
-                Err(NoMemory) => Err(NoMemory),
-            }
-        }
+        Ok(found) => by_words(alloc, line.number, found.as_slice()),
         Err(LineFault::TooLong) => Ok(Some(Statement {
             line: line.number,
             form: Form::Unread,
             items: Items::of(Vec::new(alloc)),
             end: word_count(text, line) + 1,
-            fault: Some(ConfPlace {
-                line: line.number,
-                word: 0,
-                kind: ConfKind::TooLong,
-            }),
+            fault: fault_at(line.number, 0, Some(ConfKind::TooLong)),
         })),
         Err(LineFault::NoMemory) => Err(NoMemory),
     }
 }
 
-/// Reads the words of a line, the number of the word behind them being `end`.
-fn read(alloc: Global, line: u64, end: u64, words: &[Word]) -> Result<Statement, NoMemory>
-    requires { end ≡ length words.now + 1 }
-    ensures { IfOk result (λ found. found ≡ as_statement line end (read_from line (parts_of words.now) start 1)) }
+/// The statement of the words of a line, if there are any.
+fn by_words(alloc: Global, line: u64, words: &[Word]) -> Result<Option<Statement>, NoMemory>
+    ensures { IfOk result (λ found. found ≡ by_words line (parts_of words.now)) }
+{
+    if words.is_empty() {
+        return Ok(None);
+    }
+    match read(alloc, line, words) {
+        Ok(statement) => Ok(Some(statement)),
+        Err(NoMemory) => Err(NoMemory),
+    }
+}
+
+/// Reads the words of a line.
+fn read(alloc: Global, line: u64, words: &[Word]) -> Result<Statement, NoMemory>
+    ensures { IfOk result (λ found. found ≡ as_statement line (length words.now + 1) (read_from line (parts_of words.now) start 1)) }
 {
     let mut items = Vec::new(alloc);
+    match read_words(alloc, line, words, &mut items) {
+        Ok((form, fault)) => Ok(Statement {
+            line,
+            form,
+            items: Items::of(items),
+            end: words.len() as u64 + 1,
+            fault,
+        }),
+        Err(NoMemory) => Err(NoMemory),
+    }
+}
+
+/// Reads words, and adds their items: the form where the reading stops, and the fault there.
+fn read_words(
+    alloc: Global,
+    line: u64,
+    words: &[Word],
+    items: &mut Vec<Item>,
+) -> Result<(Form, Option<ConfPlace>), NoMemory>
+    ensures { IfOk result (λ stop. behind items.old.items (read_from line (parts_of words.now) start 1) ≡ record { form = stop.0; items = items.new.items; fault = stop.1 }) }
+{
     let mut place = Place {
         form: Form::Unread,
         next: Next::Statement,
@@ -133,35 +153,38 @@ fn read(alloc: Global, line: u64, end: u64, words: &[Word]) -> Result<Statement,
         settled: false,
     };
     let mut at = 1;
-    for word in words {
-        match step(alloc, place, word) {
-            Ok(taken) => {
-                let Step { what, after } = taken;
-                add_item(&mut items, at, what)?;
-                place = after;
-            }
+    let mut left = words;
+    while let [word, rest @ ..] = left {
+        match take(alloc, items, at, place, word) {
+            Ok(after) => place = after,
             Err(Refusal::Kind(kind)) => {
-                let fault = fault_at(line, at, Some(kind));
-                return Ok(Statement {
-                    line,
-                    form: place.form,
-                    items: Items::of(items),
-                    end,
-                    fault,
-                });
+                return Ok((place.form, fault_at(line, at, Some(kind))));
             }
             Err(Refusal::NoMemory) => return Err(NoMemory),
         }
         at += 1;
+        left = rest;
     }
-    let fault = fault_at(line, at, crate::step::end(place));
-    Ok(Statement {
-        line,
-        form: place.form,
-        items: Items::of(items),
-        end,
-        fault,
-    })
+    Ok((place.form, fault_at(line, at, end(place))))
+}
+
+/// The place behind a word, whose item is added.
+fn take(
+    alloc: Global,
+    items: &mut Vec<Item>,
+    at: u64,
+    place: Place,
+    word: &Word,
+) -> Result<Place, Refusal>
+    ensures { Takes at (seen place) word.now.parts.now items.old.items items.new.items result }
+{
+    match step(alloc, place, word) {
+        Ok(Step { what, after }) => match add_item(items, at, what) {
+            Ok(()) => Ok(after),
+            Err(NoMemory) => Err(Refusal::NoMemory),
+        },
+        Err(refusal) => Err(refusal),
+    }
 }
 
 /// The fault of a kind at a word of a line.

@@ -327,7 +327,7 @@ pub(crate) fn end(place: Place) -> Option<ConfKind>
     match place.next {
         Next::Part if !may_end(place.parts) => Some(ConfKind::MissingWord),
         Next::Part if place.settled => None,
-        Next::Part if place.form == Form::ClassHfsc => Some(ConfKind::NoShare),
+        Next::Part if matches!(place.form, Form::ClassHfsc) => Some(ConfKind::NoShare),
         _ => Some(ConfKind::MissingWord),
     }
 }

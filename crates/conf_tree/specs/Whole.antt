@@ -26,6 +26,15 @@ implied_classes Hfsc rate =
     implied_hfsc (codes "root") None None ∷ implied_hfsc (codes "default") (Some 0) (Some (straight rate)) ∷ []
 implied_classes Cbq rate = implied_cbq (codes "root") None rate ∷ implied_cbq (codes "default") (Some 0) rate ∷ []
 
+-- either of them: the root has no curve in HFSC
+abbrev pub share_below : Option ℕ → ℕ → Option Curve
+share_below None rate = None
+share_below (Some parent) rate = Some (straight rate)
+
+abbrev pub implied : Kind → List ℕ → Option ℕ → ℕ → Class
+implied Hfsc name parent rate = implied_hfsc name parent (share_below parent rate)
+implied Cbq name parent rate = implied_cbq name parent rate
+
 abbrev pub is_empty : {A : Type 0} → List A → Bool
 is_empty xs = length xs == 0
 

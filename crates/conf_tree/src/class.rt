@@ -5,7 +5,7 @@ use service_curve::Curve;
 use traffic_meter::MeterRule;
 
 /// How a queue decides whether an arriving packet is kept.
-#[derive(Clone, Copy, Debug, PartialEq, Eq)]
+#[derive(Clone, Copy)]
 pub enum DropRule {
     /// It keeps each packet that finds room.
     Tail,
@@ -19,7 +19,7 @@ pub enum DropRule {
 
 /// A class of an interface. In an HFSC class `rate`, `priority`, `maxburst` and `packetsize` are 0, and `borrow` and
 /// `control` are false; in a CBQ class `real`, `share` and `upper` are `None`.
-#[derive(Debug, Drop)]
+#[derive(Drop)]
 pub struct Class {
     /// Its name, which no other class of its interface has.
     pub name: Text,

@@ -1,8 +1,9 @@
 //! The checked configuration.
-ghost use Rattle.std.specs.Prelude.{◌≡◌, IfErr, IfOk, Ok, bytes_eq, find, option_copied};
-ghost use Rattle.conf_tree.specs.Answers.{Fails};
+ghost use Rattle.std.specs.Prelude.{◌≡◌, IfErr, IfOk, Ok, bytes_eq, find, map, option_copied};
+ghost use Rattle.conf_tree.specs.Answers.{Fails, Gains};
 ghost use Rattle.conf_tree.specs.Canonical.{canonical_text};
-ghost use Rattle.conf_tree.specs.Reading.{reading};
+ghost use Rattle.conf_tree.specs.Reading.{reading, reading_from};
+ghost use Rattle.conf_tree.specs.Whole.{whole};
 
 use crate::interface::Interface;
 use crate::reading::read_statement;
@@ -15,7 +16,7 @@ use std::alloc::Global;
 use std::marker::Model;
 
 /// A checked configuration. Contracts see it as the list of its interfaces, in the order of the text.
-#[derive(Debug, Drop)]
+#[derive(Drop)]
 pub struct Conf {
     interfaces: Vec<Interface>,
 }
@@ -40,14 +41,9 @@ impl Conf {
         ensures refused { IfErr result (λ fault. Fails fault (reading statements.now)) }
     {
         let mut tree = Tree::new(alloc);
-        for statement in statements {
-            match read_statement(alloc, &mut tree, statement) {
-                Ok(()) => {}
-                Err(fault) => return Err(fault),
-            }
-        }
-        if let Some(fault) = first_undecided(tree.interfaces()) {
-            return Err(ConfFault::At(fault));
+        match read_all(alloc, &mut tree, statements) {
+            Ok(()) => {}
+            Err(fault) => return Err(fault),
         }
         match whole_all(alloc, tree.into_interfaces()) {
             Ok(interfaces) => Ok(Conf { interfaces }),
@@ -73,6 +69,26 @@ impl Conf {
     {
         let text = text_of(alloc, self.interfaces.as_slice())?;
         Ok(text.into_bytes())
+    }
+}
+
+/// Reads the statements of a text, up to its first fault.
+fn read_all<'a>(
+    alloc: Global,
+    tree: &mut Tree<'a>,
+    statements: &'a [Statement],
+) -> Result<(), ConfFault>
+    ensures { Gains result (map whole tree.new) (reading_from tree.old statements.now) }
+{
+    for statement in statements {
+        match read_statement(alloc, tree, statement) {
+            Ok(()) => {}
+            Err(fault) => return Err(fault),
+        }
+    }
+    match first_undecided(tree.interfaces()) {
+        Some(fault) => Err(ConfFault::At(fault)),
+        None => Ok(()),
     }
 }
 

@@ -1,7 +1,7 @@
 //! Filters.
 
 /// The addresses that a filter matches: those that agree with its own under its masks. Its own are masked.
-#[derive(Clone, Copy, Debug, PartialEq, Eq)]
+#[derive(Clone, Copy)]
 pub enum Addresses {
     /// Of IPv4, each with its mask.
     V4 {
@@ -21,7 +21,7 @@ pub enum Addresses {
 
 /// A filter: packets that it matches go to its class, unless a filter of a greater rule number, or an earlier one of the
 /// same number, matches them too.
-#[derive(Clone, Copy, Debug, PartialEq, Eq)]
+#[derive(Clone, Copy)]
 pub struct Filter {
     /// The number of its class among the classes of its interface.
     pub class: u32,

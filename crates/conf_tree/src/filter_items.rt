@@ -51,7 +51,6 @@ fn push_tos(
 fn push_parts(whats: &mut Vec<What>, filter: &Filter) -> Result<(), NoMemory>
     ensures { OnOk result (whats.new.items ≡ whats.old.items ++ parts_whats filter.now filter.now.addresses) }
 {
-    let protocol = What::Whole(u64::from(filter.protocol));
     match filter.addresses {
         Addresses::V4 {
             target,
@@ -61,7 +60,7 @@ fn push_parts(whats: &mut Vec<What>, filter: &Filter) -> Result<(), NoMemory>
         } => {
             push_end4(whats, target, target_mask, filter.target_port)?;
             push_end4(whats, source, source_mask, filter.source_port)?;
-            push(whats, protocol)?;
+            push(whats, What::Whole(u64::from(filter.protocol)))?;
             push_tos(whats, Key::Tos, Key::Tosmask, filter.tos)
         }
         Addresses::V6 {
@@ -72,7 +71,7 @@ fn push_parts(whats: &mut Vec<What>, filter: &Filter) -> Result<(), NoMemory>
         } => {
             push_end6(whats, target, target_len, filter.target_port)?;
             push_end6(whats, source, source_len, filter.source_port)?;
-            push(whats, protocol)?;
+            push(whats, What::Whole(u64::from(filter.protocol)))?;
             push_tos(whats, Key::Tclass, Key::Tclassmask, filter.tos)
         }
     }

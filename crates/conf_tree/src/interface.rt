@@ -9,7 +9,7 @@ use std::marker::Model;
 use traffic_meter::MeterRule;
 
 /// How an interface shares its link.
-#[derive(Clone, Copy, Debug, PartialEq, Eq)]
+#[derive(Clone, Copy, PartialEq, Eq)]
 pub enum Kind {
     /// The hierarchical fair service curve, after Stoica, Zhang and Ng, 1997.
     Hfsc,
@@ -18,7 +18,7 @@ pub enum Kind {
 }
 
 /// The classes of an interface, in the order of the text. Contracts see them as a list.
-#[derive(Debug, Drop)]
+#[derive(Drop)]
 pub struct ClassList {
     classes: Vec<Class>,
 }
@@ -51,7 +51,7 @@ impl ClassList {
 }
 
 /// The filters of an interface, in the order of the text. Contracts see them as a list.
-#[derive(Debug, Drop)]
+#[derive(Drop)]
 pub struct FilterList {
     filters: Vec<Filter>,
 }
@@ -84,7 +84,7 @@ impl FilterList {
 }
 
 /// An interface with its classes and its filters.
-#[derive(Debug, Drop)]
+#[derive(Drop)]
 pub struct Interface {
     /// Its name, which no other interface of the configuration has.
     pub name: Text,

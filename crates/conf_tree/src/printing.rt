@@ -69,9 +69,8 @@ fn push_words(alloc: Global, out: &mut String, whats: &[What]) -> Result<(), All
     ensures { OnOk result (string_bytes out.new ++ codes "\n" ≡ string_bytes out.old ++ rest_of (map word_of whats.now)) }
 {
     for what in whats {
-        let word = word_of(alloc, what)?;
         out.push_str(" ")?;
-        out.push_str(word.as_str())?;
+        out.push_str(word_of(alloc, what)?.as_str())?;
     }
     Ok(())
 }

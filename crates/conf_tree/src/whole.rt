@@ -1,6 +1,6 @@
 //! The end of the text.
-ghost use Rattle.std.specs.Prelude.{◌≡◌, ◌∷◌, [], IfOk, Some, None, map};
-ghost use Rattle.conf_tree.specs.Whole.{implied_hfsc, implied_cbq, implied_classes, classes_of, whole, undecided, first_undecided};
+ghost use Rattle.std.specs.Prelude.{◌≡◌, ◌∷◌, ◌++◌, [], IfOk, OnOk, Some, None, map};
+ghost use Rattle.conf_tree.specs.Whole.{implied_hfsc, implied_cbq, implied, implied_classes, classes_of, whole, undecided, first_undecided};
 
 use crate::branch::{Branch, text_of};
 use crate::class::Class;
@@ -37,28 +37,47 @@ fn implied_cbq(name: Text, parent: Option<u32>, rate: u64) -> Class
     class_of(name, parent, rate, settings)
 }
 
+/// A class that no statement names, on an interface of this kind and bandwidth.
+fn implied(kind: Kind, name: Text, parent: Option<u32>, rate: u64) -> Class
+    ensures { result ≡ implied kind name parent rate }
+{
+    let line = Curve {
+        m1: rate,
+        d: 0,
+        m2: rate,
+    };
+    match kind {
+        Kind::Hfsc if parent.is_none() => implied_hfsc(name, parent, None),
+        Kind::Hfsc => implied_hfsc(name, parent, Some(line)),
+        Kind::Cbq => implied_cbq(name, parent, rate),
+    }
+}
+
+/// Adds a class that no statement names.
+fn push_implied(
+    alloc: Global,
+    classes: &mut Vec<Class>,
+    kind: Kind,
+    name: &str,
+    parent: Option<u32>,
+    rate: u64,
+) -> Result<(), NoMemory>
+    ensures { OnOk result (classes.new.items ≡ classes.old.items ++ implied kind name.now parent rate ∷ []) }
+{
+    let name = text_of(alloc, name)?;
+    match classes.push(implied(kind, name, parent, rate)) {
+        Ok(()) => Ok(()),
+        Err(_) => Err(NoMemory),
+    }
+}
+
 /// The two implied classes of an interface.
 fn implied_classes(alloc: Global, kind: Kind, rate: u64) -> Result<Vec<Class>, NoMemory>
     ensures { IfOk result (λ classes. classes.items ≡ implied_classes kind rate) }
 {
-    let root = text_of(alloc, "root")?;
-    let default = text_of(alloc, "default")?;
     let mut classes = Vec::new(alloc);
-    match kind {
-        Kind::Hfsc => {
-            classes.push(implied_hfsc(root, None, None))?;
-            let line = Curve {
-                m1: rate,
-                d: 0,
-                m2: rate,
-            };
-            classes.push(implied_hfsc(default, Some(0), Some(line)))?;
-        }
-        Kind::Cbq => {
-            classes.push(implied_cbq(root, None, rate))?;
-            classes.push(implied_cbq(default, Some(0), rate))?;
-        }
-    }
+    push_implied(alloc, &mut classes, kind, "root", None, rate)?;
+    push_implied(alloc, &mut classes, kind, "default", Some(0), rate)?;
     Ok(classes)
 }
 
@@ -74,6 +93,22 @@ fn bare_classes(alloc: Global, branches: Vec<Branch>) -> Result<Vec<Class>, NoMe
     Ok(classes)
 }
 
+/// The classes of an interface at the end of the text.
+fn classes_of(
+    alloc: Global,
+    kind: Kind,
+    rate: u64,
+    branches: Vec<Branch>,
+) -> Result<Vec<Class>, NoMemory>
+    ensures { IfOk result (λ classes. classes.items ≡ classes_of kind rate branches.items) }
+{
+    if branches.is_empty() {
+        implied_classes(alloc, kind, rate)
+    } else {
+        bare_classes(alloc, branches)
+    }
+}
+
 /// An interface at the end of the text.
 pub(crate) fn whole(alloc: Global, draft: Draft) -> Result<Interface, NoMemory>
     ensures { IfOk result (λ interface. interface ≡ whole draft.entry) }
@@ -82,11 +117,7 @@ pub(crate) fn whole(alloc: Global, draft: Draft) -> Result<Interface, NoMemory>
     let (rate, kind) = (draft.rate, draft.kind);
     let (branches, filters) = draft.into_parts();
     let none_written = branches.is_empty();
-    let classes = if none_written {
-        implied_classes(alloc, kind, rate)?
-    } else {
-        bare_classes(alloc, branches)?
-    };
+    let classes = classes_of(alloc, kind, rate, branches)?;
     Ok(Interface {
         name,
         rate,

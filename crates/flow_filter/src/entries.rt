@@ -15,7 +15,7 @@ use play_base::NoMemory;
 use std::alloc::Global;
 
 /// The entries of filters of one version.
-#[derive(Debug, Drop)]
+#[derive(Drop)]
 pub enum Entries {
     V4(Vec<Entry4>),
     V6(Vec<Entry6>),

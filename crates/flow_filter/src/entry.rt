@@ -7,7 +7,7 @@ use crate::numbers::{number_4, number_6};
 use conf_tree::{Addresses, Filter};
 
 /// What a filter fixes besides addresses, as in `Filter`.
-#[derive(Clone, Copy, Debug)]
+#[derive(Clone, Copy)]
 pub struct Rest {
     pub target_port: u16,
     pub source_port: u16,
@@ -16,7 +16,7 @@ pub struct Rest {
 }
 
 /// A filter of IPv4 in numbers.
-#[derive(Clone, Copy, Debug)]
+#[derive(Clone, Copy)]
 pub struct Entry4 {
     pub target: u32,
     pub target_mask: u32,
@@ -26,7 +26,7 @@ pub struct Entry4 {
 }
 
 /// A filter of IPv6 in numbers, each prefix length as the mask of that many first bits.
-#[derive(Clone, Copy, Debug)]
+#[derive(Clone, Copy)]
 pub struct Entry6 {
     pub target: u128,
     pub target_mask: u128,

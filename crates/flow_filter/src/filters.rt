@@ -17,7 +17,7 @@ use std::marker::Model;
 
 /// The filters of an interface, those that `control` adds among them, and its default class. Contracts see the `Rules` of
 /// the interface.
-#[derive(Debug, Drop)]
+#[derive(Drop)]
 pub struct Filters {
     filters: Vec<Filter>,
     otherwise: u32,

@@ -18,7 +18,7 @@ use play_base::NoMemory;
 use std::alloc::Global;
 
 /// The order in which filters are asked, and those of each version and port in it.
-#[derive(Debug, Drop)]
+#[derive(Drop)]
 pub struct Index {
     pub places: Vec<u32>,
     pub four: Sides,

@@ -11,7 +11,7 @@ use play_base::NoMemory;
 use std::alloc::Global;
 
 /// A filter under a port, by its number in the order in which filters are asked.
-#[derive(Clone, Copy, Debug)]
+#[derive(Clone, Copy)]
 pub struct Filed {
     pub port: u16,
     pub rank: u32,

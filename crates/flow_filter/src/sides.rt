@@ -18,7 +18,7 @@ use play_base::NoMemory;
 use std::alloc::Global;
 
 /// The filters of a version that fix the target's port, and the others, by the source's.
-#[derive(Debug, Drop)]
+#[derive(Drop)]
 pub struct Sides {
     pub by_target: Table,
     pub by_source: Table,

@@ -18,7 +18,7 @@ use play_base::NoMemory;
 use std::alloc::Global;
 
 /// The filters of a group in the order of their ports, their entries in the same order, and where those of a port likely begin.
-#[derive(Debug, Drop)]
+#[derive(Drop)]
 pub struct Table {
     pub filed: Vec<Filed>,
     pub entries: Entries,

@@ -3,7 +3,7 @@ ghost use Rattle.std.specs.Prelude.{◌≡◌, ℕ, ◌+◌, ◌<◌, ◌≤◌,
 ghost use Rattle.line_text.specs.Lines.{joint, through_line_feed, line_len, joined, ends};
 
 /// A logical line of a text: the physical line with this number, counted from 1, and those that continue it.
-#[derive(Clone, Copy, Debug, PartialEq, Eq)]
+#[derive(Clone, Copy)]
 pub struct Line {
     /// The number of its first physical line, from 1.
     pub number: u64,

@@ -11,7 +11,7 @@ use std::alloc::{AllocError, AllocFailed, Global};
 const LONGEST_LINE: usize = 4096;
 
 /// A word of a line.
-#[derive(Clone, Copy, Debug)]
+#[derive(Clone, Copy)]
 pub struct Word<'a> {
     /// Its number in its logical line, from 1.
     pub index: u64,

@@ -7,7 +7,7 @@ ghost use Rattle.packet_heads.specs.Heads.{flow_of};
 /// The flow of a frame. The addresses are parts of the frame, four bytes each in `V4` and sixteen in `V6`. `tos` is the
 /// type of service of IPv4 or the traffic class of IPv6, `protocol` the number of the protocol that the packet carries,
 /// and `ports` are the source's and then the target's, of TCP and UDP alone.
-#[derive(Clone, Copy, Debug, PartialEq, Eq)]
+#[derive(Clone, Copy)]
 pub enum FlowHeads<'a> {
     V4 {
         tos: u8,

@@ -1,7 +1,8 @@
 // What is wrong with a capture.
 
 use crate::block::{block_line, is_pcapng};
-use printable_text::{one_line, shown};
+use crate::line::line_shown;
+use printable_text::shown;
 use std::alloc::{AllocError, Global};
 
 // What a file is that begins otherwise than a capture of the classic format: what unpacks or converts it.
@@ -62,23 +63,32 @@ fn format_of(head: &[u8]) -> Format {
     }
 }
 
+// What to say of a packed file.
+fn packed_line(alloc: Global, name: &str, format: &str, tool: &str) -> Result<String, AllocError> {
+    format!(in alloc; "{name}: {format}: unpack it first: {tool} {name}")
+}
+
+// What to say of a capture of some old systems.
+fn modified_line(alloc: Global, name: &str) -> Result<String, AllocError> {
+    format!(in alloc;
+        "{name}: modified libpcap: convert it first: editcap -F nsecpcap {name} out.pcap"
+    )
+}
+
+// What to say of a file of no format, by its first bytes.
+fn other_line(alloc: Global, name: &str, head: &[u8]) -> Result<String, AllocError> {
+    let begin = shown(alloc, head)?;
+    format!(in alloc;
+        "{name}: no capture, it begins with \"{begin}\": give a file that tcpdump -w wrote"
+    )
+}
+
 // What to say of a file that begins with no magic of a capture.
 fn magic_hint(alloc: Global, name: &str, head: &[u8]) -> Result<String, AllocError> {
     match format_of(head) {
-        Format::Packed(format, tool) => {
-            format!(in alloc; "{name}: {format}: unpack it first: {tool} {name}")
-        }
-        Format::Modified => {
-            format!(in alloc;
-                "{name}: modified libpcap: convert it first: editcap -F nsecpcap {name} out.pcap"
-            )
-        }
-        Format::Other => {
-            let begin = shown(alloc, head.get(..8).unwrap_or(head))?;
-            format!(in alloc;
-                "{name}: no capture, it begins with \"{begin}\": give a file that tcpdump -w wrote"
-            )
-        }
+        Format::Packed(format, tool) => packed_line(alloc, name, format, tool),
+        Format::Modified => modified_line(alloc, name),
+        Format::Other => other_line(alloc, name, head.get(..8).unwrap_or(head)),
     }
 }
 
@@ -119,6 +129,34 @@ fn link_hint(alloc: Global, name: &str, head: &[u8]) -> Result<String, AllocErro
     format!(in alloc; "{name}: link type {link}, {called}: need 1, Ethernet: {remedy}")
 }
 
+// What to say of a file that is shorter than the head of a capture.
+fn short_line(alloc: Global, name: &str, length: u64) -> Result<String, AllocError> {
+    format!(in alloc;
+        "{name}: {length} bytes, a capture has 24 at least: was it written to its end?"
+    )
+}
+
+// What to say of a capture of another version.
+fn version_line(alloc: Global, name: &str, major: u16, minor: u16) -> Result<String, AllocError> {
+    format!(in alloc;
+        "{name}: version {major}.{minor}: need 2.4: editcap -F nsecpcap {name} out.pcap"
+    )
+}
+
+// What is wrong with a record, by the kind of its damage.
+fn record_fault(kind: u8) -> &'static str {
+    match kind {
+        5 => "is cut: all before it was decided; statistics stay empty",
+        6 => "has no length: all before it was decided; statistics stay empty",
+        _ => "is longer than 262144 bytes: all before it was decided; is the file damaged?",
+    }
+}
+
+// What to say of a record at a place.
+fn record_line(alloc: Global, name: &str, place: u64, fault: &str) -> Result<String, AllocError> {
+    format!(in alloc; "{name}: the record at byte {place} {fault}")
+}
+
 // What to say of a damage by its kind.
 fn damage_line(
     alloc: Global,
@@ -128,34 +166,11 @@ fn damage_line(
     kind: u8,
 ) -> Result<String, AllocError> {
     match kind {
-        1 => {
-            format!(in alloc;
-                "{name}: {place} bytes, a capture has 24 at least: was it written to its end?"
-            )
-        }
+        1 => short_line(alloc, name, place),
         2 => magic_hint(alloc, name, head),
-        3 => {
-            let (major, minor) = (number_at(head, 4), number_at(head, 6));
-            format!(in alloc;
-                "{name}: version {major}.{minor}: need 2.4: editcap -F nsecpcap {name} out.pcap"
-            )
-        }
+        3 => version_line(alloc, name, number_at(head, 4), number_at(head, 6)),
         4 => link_hint(alloc, name, head),
-        5 => {
-            format!(in alloc;
-                "{name}: the record at byte {place} is cut: all before it was decided; statistics stay empty"
-            )
-        }
-        6 => {
-            format!(in alloc;
-                "{name}: the record at byte {place} has no length: all before it was decided; statistics stay empty"
-            )
-        }
-        _ => {
-            format!(in alloc;
-                "{name}: the record at byte {place} is longer than 262144 bytes: all before it was decided; is the file damaged?"
-            )
-        }
+        _ => record_line(alloc, name, place, record_fault(kind)),
     }
 }
 
@@ -168,10 +183,10 @@ pub fn capture_hint(
     place: u64,
     kind: u8,
 ) -> Result<String, AllocError> {
-    let line = if is_pcapng(head) {
-        block_line(alloc, name, place, kind)?
+    let made = if is_pcapng(head) {
+        block_line(alloc, name, place, kind)
     } else {
-        damage_line(alloc, name, head, place, kind)?
+        damage_line(alloc, name, head, place, kind)
     };
-    one_line(alloc, line.as_str())
+    line_shown(alloc, made)
 }

@@ -1,14 +1,14 @@
 // What is wrong with a configuration.
 
 use crate::fault::{fault_text, word_at};
-use crate::line::{end_of, logical_line, physical, words_of};
+use crate::line::{add_made, end_of, line_shown, logical_line, physical, words_of};
 use conf_lines::ConfKind;
 use line_text::{Word, next_line};
-use printable_text::{add_line, one_line, shown, shown_byte};
+use printable_text::{shown, shown_byte};
 use std::alloc::{AllocError, Global};
 
 /// Where a configuration is refused, and by which kind, as status 3 says it.
-#[derive(Clone, Copy, Debug)]
+#[derive(Clone, Copy)]
 pub struct ConfAt {
     pub line: u64,
     pub word: u64,
@@ -61,9 +61,15 @@ fn kind_of(number: u8) -> Option<ConfKind> {
 // The name of the interface that a line declares.
 fn interface_of<'a>(alloc: Global, bytes: &'a [u8]) -> Option<&'a [u8]> {
     let found = words_of(alloc, bytes);
-    match word_at(&found, 0) {
-        b"interface" => Some(word_at(&found, 1)),
-        _ => None,
+    declared(&found)
+}
+
+// The name of the interface that words declare.
+fn declared<'a>(words: &[Word<'a>]) -> Option<&'a [u8]> {
+    if word_at(words, 0) == b"interface".as_slice() {
+        Some(word_at(words, 1))
+    } else {
+        None
     }
 }
 
@@ -73,19 +79,25 @@ fn add_name(alloc: Global, names: &mut String, name: &[u8]) -> Result<(), AllocE
     names.push_str(shown(alloc, name)?.as_str())
 }
 
-// The names of the interfaces of a text.
-fn interfaces(alloc: Global, text: &[u8]) -> Result<String, AllocError> {
-    let mut names = String::new(alloc);
+// Adds the names of the interfaces of a text.
+fn add_interfaces(alloc: Global, names: &mut String, text: &[u8]) -> Result<(), AllocError> {
     let mut rest = text;
     for _ in 0..=text.len() {
         let Some(line) = next_line(rest, 0, 1) else {
             break;
         };
         if let Some(name) = interface_of(alloc, &rest[..line.to]) {
-            add_name(alloc, &mut names, name)?;
+            add_name(alloc, names, name)?;
         }
         rest = &rest[line.to..];
     }
+    Ok(())
+}
+
+// The names of the interfaces of a text.
+fn interfaces(alloc: Global, text: &[u8]) -> Result<String, AllocError> {
+    let mut names = String::new(alloc);
+    add_interfaces(alloc, &mut names, text)?;
     Ok(names)
 }
 
@@ -113,8 +125,7 @@ fn absent_hint(
     text: &[u8],
 ) -> Result<String, AllocError> {
     let names = interfaces(alloc, text)?;
-    let line = absent_line(alloc, name, interface, names.as_str())?;
-    one_line(alloc, line.as_str())
+    line_shown(alloc, absent_line(alloc, name, interface, names.as_str()))
 }
 
 // The words that begin a line of pf.conf, and one of tc.
@@ -125,7 +136,7 @@ const OF_PF: [&str; 8] = [
 const OF_TC: [&str; 2] = ["tc", "qdisc"];
 
 // Whether a word is one of these.
-fn is_one_of(word: &[u8], names: &[&str]) -> bool {
+pub(crate) fn is_one_of(word: &[u8], names: &[&str]) -> bool {
     for name in names {
         if name.as_bytes() == word {
             return true;
@@ -182,9 +193,12 @@ fn add_source(
 // Adds a line of a configuration as it is shown, up to the most of its bytes.
 fn add_shown(alloc: Global, text: &mut String, line: &[u8]) -> Result<(), AllocError> {
     let line = as_shown(alloc, line.get(..SHOWN).unwrap_or(line))?;
-    let line = line.as_str();
-    let indented = format!(in alloc; "  {line}")?;
-    add_line(alloc, text, indented.as_str())
+    add_made(alloc, text, indented(alloc, line.as_str(), ""))
+}
+
+// A line below the one on a fault, and a note behind it.
+fn indented(alloc: Global, line: &str, note: &str) -> Result<String, AllocError> {
+    format!(in alloc; "  {line}{note}")
 }
 
 // Adds carets below a word, and a note behind them.
@@ -196,9 +210,7 @@ fn add_carets(
     note: &str,
 ) -> Result<(), AllocError> {
     let carets = carets(alloc, column, length)?;
-    let carets = carets.as_str();
-    let indented = format!(in alloc; "  {carets}{note}")?;
-    add_line(alloc, text, indented.as_str())
+    add_made(alloc, text, indented(alloc, carets.as_str(), note))
 }
 
 // Carets below a word, one where there is none.
@@ -247,8 +259,8 @@ fn add_fault(
 ) -> Result<(), AllocError> {
     let word = word_shown(alloc, words, at)?;
     let fault = fault_text(alloc, kind, words, at.unwrap_or(0))?;
-    let line = fault_line(alloc, place.0, place.1, word.as_str(), fault.as_str())?;
-    add_line(alloc, text, line.as_str())
+    let line = fault_line(alloc, place.0, place.1, word.as_str(), fault.as_str());
+    add_made(alloc, text, line)
 }
 
 // Adds what to say of a fault of a line with these words.

@@ -80,11 +80,12 @@ fn form(words: &[Word]) -> &'static str {
 // What is wrong with a word that stands where none of its kind may.
 fn unknown(alloc: Global, words: &[Word], at: usize) -> Result<String, AllocError> {
     let form = form(words);
-    if at == 0 {
-        format!(in alloc; "no statement: {form}")
+    let fault = if at == 0 {
+        "no statement"
     } else {
-        format!(in alloc; "not known here: {form}")
-    }
+        "not known here"
+    };
+    format!(in alloc; "{fault}: {form}")
 }
 
 // What is wrong with a number.
@@ -116,9 +117,10 @@ fn rate_range(alloc: Global, words: &[Word], at: usize) -> Result<String, AllocE
 
 // What is wrong with an address.
 fn bad_address(alloc: Global, words: &[Word]) -> Result<String, AllocError> {
-    let text = match word_at(words, 0) {
-        b"filter6" => "no address: one of IPv6, as fe80::1/64, or 0 for any",
-        _ => "no address: a.b.c.d, then netmask a.b.c.d, or 0 for any",
+    let text = if word_at(words, 0) == b"filter6".as_slice() {
+        "no address: one of IPv6, as fe80::1/64, or 0 for any"
+    } else {
+        "no address: a.b.c.d, then netmask a.b.c.d, or 0 for any"
     };
     String::from_str(alloc, text)
 }
@@ -165,9 +167,10 @@ fn plain(kind: ConfKind) -> &'static str {
 
 // What is wrong with a class of the other kind.
 fn other_kind(words: &[Word]) -> &'static str {
-    match word_at(words, 1) {
-        b"cbq" => "an interface of hfsc: class hfsc",
-        _ => "an interface of cbq: class cbq",
+    if word_at(words, 1) == b"cbq".as_slice() {
+        "an interface of hfsc: class hfsc"
+    } else {
+        "an interface of cbq: class cbq"
     }
 }
 

@@ -1,7 +1,7 @@
 // What is wrong with the files of a run.
 
 use crate::block::is_pcapng;
-use printable_text::one_line;
+use crate::line::line_shown;
 use std::alloc::{AllocError, Global};
 
 /// What is said where memory ran out; it takes none.
@@ -18,8 +18,7 @@ pub struct File<'a> {
 /// What to say of a file that could not be opened, read, created or written.
 pub fn file_hint(alloc: Global, file: File<'_>) -> Result<String, AllocError> {
     let (name, fault) = (file.name, file.fault);
-    let line = format!(in alloc; "{name}: {fault}")?;
-    one_line(alloc, line.as_str())
+    line_shown(alloc, format!(in alloc; "{name}: {fault}"))
 }
 
 /// What to say of a capture with more records or bytes than may be, by its first bytes.
@@ -29,26 +28,32 @@ pub fn long_capture_hint(alloc: Global, name: &str, head: &[u8]) -> Result<Strin
     } else {
         "all before was decided"
     };
-    let line = format!(in alloc;
-        "{name}: more than 4000000 records, or 2^30 bytes: {left}; cut it: editcap -F nsecpcap -c 4000000 {name} part.pcap"
-    )?;
-    one_line(alloc, line.as_str())
+    line_shown(
+        alloc,
+        format!(in alloc;
+            "{name}: more than 4000000 records, or 2^30 bytes: {left}; cut it: editcap -F nsecpcap -c 4000000 {name} part.pcap"
+        ),
+    )
 }
 
 /// What to say of a packet that would end too late.
 pub fn clock_hint(alloc: Global, name: &str) -> Result<String, AllocError> {
-    let line = format!(in alloc;
-        "{name}: a packet would end at 2^32 seconds or later: all before was decided; set the stamps back: editcap -F nsecpcap -t -SECONDS {name} earlier.pcap"
-    )?;
-    one_line(alloc, line.as_str())
+    line_shown(
+        alloc,
+        format!(in alloc;
+            "{name}: a packet would end at 2^32 seconds or later: all before was decided; set the stamps back: editcap -F nsecpcap -t -SECONDS {name} earlier.pcap"
+        ),
+    )
 }
 
 /// What to say of a configuration of more bytes than may be.
 pub fn long_conf_hint(alloc: Global, name: &str) -> Result<String, AllocError> {
-    let line = format!(in alloc;
-        "{name}: more than 1048576 bytes: is it a configuration? if so leave out its comments"
-    )?;
-    one_line(alloc, line.as_str())
+    line_shown(
+        alloc,
+        format!(in alloc;
+            "{name}: more than 1048576 bytes: is it a configuration? if so leave out its comments"
+        ),
+    )
 }
 
 /// What to say where a word of the command line is no UTF-8.

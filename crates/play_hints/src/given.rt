@@ -1,6 +1,6 @@
 // What is wrong with given fates and departures.
 
-use printable_text::one_line;
+use crate::line::line_shown;
 use std::alloc::{AllocError, Global};
 
 /// The names of the files that a check was given.
@@ -40,12 +40,13 @@ pub fn refuted_hint(
         given.fates
     };
     let fault = broken(test);
-    let line = format!(in alloc; "{name}: row {row}: {fault}")?;
-    one_line(alloc, line.as_str())
+    line_shown(alloc, format!(in alloc; "{name}: row {row}: {fault}"))
 }
 
 /// What to say of a file to be checked that has more bytes than may be.
 pub fn long_given_hint(alloc: Global, name: &str) -> Result<String, AllocError> {
-    let line = format!(in alloc; "{name}: more than 2^30 bytes: check a shorter play")?;
-    one_line(alloc, line.as_str())
+    line_shown(
+        alloc,
+        format!(in alloc; "{name}: more than 2^30 bytes: check a shorter play"),
+    )
 }

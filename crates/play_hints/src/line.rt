@@ -1,7 +1,8 @@
-// The logical line at fault, and where a word stands in it.
+// The logical line at fault, where a word stands in it, and lines as they are shown.
 
 use line_text::{Line, Word, next_line, words};
-use std::alloc::Global;
+use printable_text::{add_line, one_line};
+use std::alloc::{AllocError, Global};
 
 // The bytes of the logical line that begins with a physical line, counted from 1.
 pub(crate) fn logical_line(text: &[u8], number: u64) -> Option<&[u8]> {
@@ -73,4 +74,27 @@ pub(crate) fn physical(bytes: &[u8], place: usize) -> (&[u8], usize) {
         line.get(..end).unwrap_or_default(),
         place.saturating_sub(from),
     )
+}
+
+// What was made, as one line.
+pub(crate) fn line_shown(
+    alloc: Global,
+    made: Result<String, AllocError>,
+) -> Result<String, AllocError> {
+    match made {
+        Ok(line) => one_line(alloc, line.as_str()),
+        Err(error) => Err(error),
+    }
+}
+
+// Adds what was made as a line.
+pub(crate) fn add_made(
+    alloc: Global,
+    text: &mut String,
+    made: Result<String, AllocError>,
+) -> Result<(), AllocError> {
+    match made {
+        Ok(line) => add_line(alloc, text, line.as_str()),
+        Err(error) => Err(error),
+    }
 }

@@ -80,7 +80,7 @@ pub(crate) fn want_at(words: &[Word], at: usize) -> Wanted {
             None => None,
         };
         if let Some(key) = key {
-            if key == Key::Trtcm && back == 3 {
+            if back == 3 && matches!(key, Key::Trtcm) {
                 return Wanted::Rate(1000, peak_rate(words, at));
             }
             return behind(key, back).unwrap_or(Wanted::Other);

@@ -1,11 +1,12 @@
 // What is wrong with the words of the command line.
 
 use crate::calling::usage;
+use crate::conf::is_one_of;
+use crate::line::line_shown;
 use clap::error::ErrorKind;
 use clap::{ArgMatches, Error};
 use line_text::decimal;
 use play_words::{count, options_read};
-use printable_text::one_line;
 use std::alloc::{AllocError, Global};
 
 // The options that name files.
@@ -22,6 +23,9 @@ const FILES: [&str; 10] = [
     "marked",
 ];
 
+// The words that ask how the program is called.
+const FOR_USAGE: [&str; 5] = ["--help", "-h", "help", "--version", "-V"];
+
 // The first word, or no text.
 fn first(words: &[String]) -> &str {
     match words.first() {
@@ -32,7 +36,7 @@ fn first(words: &[String]) -> &str {
 
 // Whether the words ask how the program is called: there is none, or the first asks for help or the version.
 fn ask_for_usage(words: &[String]) -> bool {
-    words.is_empty() || matches!(first(words), "--help" | "-h" | "help" | "--version" | "-V")
+    words.is_empty() || is_one_of(first(words).as_bytes(), &FOR_USAGE)
 }
 
 // What to do where the first word is no command.
@@ -41,10 +45,12 @@ fn no_command(alloc: Global, words: &[String]) -> Result<String, AllocError> {
         return usage(alloc);
     }
     let word = first(words);
-    let line = format!(in alloc;
-        "{word}: no command: check, play, shares, chain, make, verify or condition"
-    )?;
-    one_line(alloc, line.as_str())
+    line_shown(
+        alloc,
+        format!(in alloc;
+            "{word}: no command: check, play, shares, chain, make, verify or condition"
+        ),
+    )
 }
 
 // Adds the lines of a part of clap's text as one, parted by blanks.
@@ -61,14 +67,20 @@ fn is_about_usage(part: &str) -> bool {
     part.starts_with("Usage:") || part.starts_with("For more information") || part.trim().is_empty()
 }
 
+// Adds a part of clap's text behind a semicolon where another stands before it; nothing where it is about usage.
+fn add_unless_usage(text: &mut String, part: &str) -> Result<(), AllocError> {
+    if is_about_usage(part) {
+        return Ok(());
+    }
+    text.push_str(if text.is_empty() { "" } else { ";" })?;
+    add_part(text, part)
+}
+
 // Clap's text on one line: its parts but those on usage, parted by semicolons.
 fn on_one_line(alloc: Global, told: &str) -> Result<String, AllocError> {
     let mut text = String::new(alloc);
     for part in told.split("\n\n") {
-        if !is_about_usage(part) {
-            text.push_str(if text.is_empty() { "" } else { ";" })?;
-            add_part(&mut text, part)?;
-        }
+        add_unless_usage(&mut text, part)?;
     }
     Ok(text)
 }
@@ -87,8 +99,7 @@ fn options_hint(alloc: Global, words: &[String], error: &Error) -> Result<String
     }
     let told = clap_line(alloc, error)?;
     let command = first(words);
-    let line = format!(in alloc; "{command}:{told}")?;
-    one_line(alloc, line.as_str())
+    line_shown(alloc, format!(in alloc; "{command}:{told}"))
 }
 
 // The next file name that equals that of an option, by its option.
@@ -103,8 +114,10 @@ fn twin(matches: &ArgMatches<'_>, at: usize, name: &str) -> Option<&'static str>
 
 // What to say of two options with one file name.
 fn equal_hint(alloc: Global, option: &str, other: &str, name: &str) -> Result<String, AllocError> {
-    let line = format!(in alloc; "--{option}, --{other}: both are {name}: give each its own name")?;
-    one_line(alloc, line.as_str())
+    line_shown(
+        alloc,
+        format!(in alloc; "--{option}, --{other}: both are {name}: give each its own name"),
+    )
 }
 
 // Two options whose file names are equal.
@@ -120,18 +133,20 @@ fn equal_names(alloc: Global, matches: &ArgMatches<'_>) -> Result<String, AllocE
 
 // What to say of a count that is none.
 fn count_hint(alloc: Global, text: &str) -> Result<String, AllocError> {
-    let line = format!(in alloc;
-        "--count {text}: no such count: decimal digits, 1 to 1000000, as 1000"
-    )?;
-    one_line(alloc, line.as_str())
+    line_shown(
+        alloc,
+        format!(in alloc; "--count {text}: no such count: decimal digits, 1 to 1000000, as 1000"),
+    )
 }
 
 // What to say of a seed that is none.
 fn seed_hint(alloc: Global, text: &str) -> Result<String, AllocError> {
-    let line = format!(in alloc;
-        "--seed {text}: no number: decimal digits below 18446744073709551616, as 42"
-    )?;
-    one_line(alloc, line.as_str())
+    line_shown(
+        alloc,
+        format!(in alloc;
+            "--seed {text}: no number: decimal digits below 18446744073709551616, as 42"
+        ),
+    )
 }
 
 // What is wrong with options that clap takes.

@@ -1,5 +1,5 @@
 -- The options as they are built, and what is read of them.
-use Rattle.std.proofs.Common.{◌≡◌, ◌∙◌, ◌⊎◌, ◌&&◌, ◌++◌, ◌+◌, ◌<◌, List, [], ◌∷◌, length, take, get_or, Option, Some, None, Bool, true, false, Result, Ok, Err, IfErr, IfOk, IsErrAnd, ◌≢◌, refl, sym, ap, ap₂, inl, inr, cond, arith, subst, ℕ}
+use Rattle.std.proofs.Common.{◌≡◌, ◌∙◌, ◌⊎◌, ◌&&◌, ◌++◌, ◌+◌, ◌<◌, List, [], ◌∷◌, length, take, get_or, Option, Some, None, Bool, true, false, Result, Ok, Err, IfErr, IfOk, ◌≢◌, refl, sym, ap, ap₂, inl, inr, cond, arith, subst, ℕ}
 use Rattle.std.proofs.lemmas.Bool.{ne_eqb}
 use Rattle.std.proofs.lemmas.List.{map-append, take_more}
 use Rattle.clap.specs.Simple.{is_simple}
@@ -22,7 +22,7 @@ use Rattle.play_words.specs.declared.words.WordsFault.TheVariants.{Options}
 use Rattle.play_words.specs.Causes.{Explains, cause_of, is_memory}
 use Rattle.play_words.specs.declared.options.OptionsOf.{OptionsOf}
 use Rattle.play_words.specs.declared.options.OptionsOf.TheVariants.{Play, Check, Make, Verify, Chain, Condition}
-use Rattle.play_words.specs.Options.{app_by, chain_app, check_app, make_app, play_app, takes_options, required_option, verify_app, with_options, options_of, value_of, condition_app}
+use Rattle.play_words.specs.Options.{app_by, options_refusal, chain_app, check_app, make_app, play_app, takes_options, required_option, verify_app, with_options, options_of, value_of, condition_app}
 use Rattle.line_text.specs.Numbers.{number}
 use Rattle.play_words.specs.Words.{IsMake, IsPlay, Named, Words, count_in, count_of, make_refusal, options_by, play_refusal, rows_read, rows_refusal}
 
@@ -112,22 +112,16 @@ text_or None t d is empty = empty ∙ ap (λ (x : Option Text). unwrap_or x []) 
 text_or (Some x) t d is empty = ap (λ (y : Option Text). unwrap_or y []) is
 
 -- the cause that clap's error gives is that of its reading, or want of memory
-pub explained : (kinds : Kinds) (kind : ErrorKind) → (kind ≡ OutOfMemory) ⊎ IsAmong kind kinds
-    → Explains (cond (is_empty kinds) None (Some 2)) (cause_of kind)
-explained [] kind (inl e) = let P : ErrorKind → Type 0 = λ k. Explains None (cause_of k) in rw e tt
-explained [] kind (inr among) = absurd among
-explained (x ∷ xs) kind h =
-    let more : is_empty (x ∷ xs) ≡ false = ne_eqb _ _ (λ e. omega arith) in
-    rw more (go (is_memory kind))
+pub told_why : (app : App) (words : Words) (kind : ErrorKind) (cause : Unread) → (kind ≢ OutOfMemory → takes_options app words ≡ false)
+    → cause ≡ cause_of kind → Explains (options_refusal app words) cause
+told_why app words kind cause refused is = rw is (known (is_memory kind) refl)
   where
-    go : (b : Bool) → Explains (Some 2) (cond b NoMemory (Refused Options))
-    go true = tt
-    go false = refl
+    no : (b : Bool) → b ≡ true → b ≡ false → ⊥
+    no b t f = let e : true ≡ false = sym t ∙ f in cc
 
-pub refused_by : {T : Type 0} (r : Result T Unread) (kinds : Kinds) (kind : ErrorKind) → IsErrAnd r (λ cause. cause ≡ cause_of kind)
-    → (kind ≡ OutOfMemory) ⊎ IsAmong kind kinds → IfErr r (Explains (cond (is_empty kinds) None (Some 2)))
-refused_by (Ok x) kinds kind e h = tt
-refused_by (Err cause) kinds kind e h = rw e (explained kinds kind h)
+    known : (b : Bool) → is_memory kind ≡ b → Explains (options_refusal app words) (cond b NoMemory (Refused Options))
+    known true e = tt
+    known false e = ap (λ (b : Bool). cond b None (Some 2)) (refused (λ k. no (is_memory kind) (ap is_memory k) e))
 
 -- what clap reads, or its own error
 pub matches_read : (app : App) (texts : List Text) (r : Result ArgMatches Error) → is_simple app ≡ true → IfOk r (HasMatchesOf app texts)

@@ -34,6 +34,49 @@ fn command<'a>(alloc: Global, name: &'a str, options: &[&'a str]) -> Result<Comm
     Ok(command)
 }
 
+// The options of each command.
+const PLAY: [&str; 7] = [
+    "config",
+    "interface",
+    "arrivals",
+    "departures",
+    "fates",
+    "stats",
+    "seed",
+];
+
+const CHECK: [&str; 2] = ["config", "interface"];
+
+const MAKE: [&str; 8] = [
+    "count",
+    "config",
+    "interface",
+    "arrivals",
+    "departures",
+    "fates",
+    "stats",
+    "seed",
+];
+
+const VERIFY: [&str; 5] = ["config", "interface", "arrivals", "departures", "fates"];
+
+const CHAIN: [&str; 12] = [
+    "config",
+    "interface",
+    "arrivals",
+    "departures",
+    "fates",
+    "stats",
+    "seed",
+    "next",
+    "departures2",
+    "fates2",
+    "stats2",
+    "path",
+];
+
+const CONDITION: [&str; 4] = ["config", "interface", "arrivals", "marked"];
+
 /// Whose options are read.
 #[derive(Clone, Copy)]
 pub(crate) enum OptionsOf {
@@ -50,78 +93,19 @@ fn command_of<'a>(alloc: Global, options: OptionsOf) -> Result<Command<'a>, Allo
     ensures { IfOk result (λ command. app_of command ≡ app_by options) }
 {
     match options {
-        OptionsOf::Play => command(
-            alloc,
-            "play",
-            &[
-                "config",
-                "interface",
-                "arrivals",
-                "departures",
-                "fates",
-                "stats",
-                "seed",
-            ],
-        ),
-        OptionsOf::Check => command(alloc, "check", &["config", "interface"]),
-        OptionsOf::Make => command(
-            alloc,
-            "make",
-            &[
-                "count",
-                "config",
-                "interface",
-                "arrivals",
-                "departures",
-                "fates",
-                "stats",
-                "seed",
-            ],
-        ),
-        OptionsOf::Verify => command(
-            alloc,
-            "verify",
-            &["config", "interface", "arrivals", "departures", "fates"],
-        ),
-        OptionsOf::Chain => command(
-            alloc,
-            "chain",
-            &[
-                "config",
-                "interface",
-                "arrivals",
-                "departures",
-                "fates",
-                "stats",
-                "seed",
-                "next",
-                "departures2",
-                "fates2",
-                "stats2",
-                "path",
-            ],
-        ),
-        OptionsOf::Condition => command(
-            alloc,
-            "condition",
-            &["config", "interface", "arrivals", "marked"],
-        ),
+        OptionsOf::Play => command(alloc, "play", &PLAY),
+        OptionsOf::Check => command(alloc, "check", &CHECK),
+        OptionsOf::Make => command(alloc, "make", &MAKE),
+        OptionsOf::Verify => command(alloc, "verify", &VERIFY),
+        OptionsOf::Chain => command(alloc, "chain", &CHAIN),
+        OptionsOf::Condition => command(alloc, "condition", &CONDITION),
     }
-}
-
-// What clap reads of the words by this command.
-fn read<'a>(command: Command<'a>, words: &'a [String]) -> Result<ArgMatches<'a>, Unread>
-    requires { is_simple_and_free (app_of command) ≡ true }
-    ensures taken { OnOk result (takes_options (app_of command.entry) words.entry.now ≡ true) }
-    ensures read { IfOk result (λ m. rows_of (found_of m) ≡ options_of (app_of command.entry) words.entry.now) }
-    ensures refused { IfErr result (Explains (options_refusal (app_of command.entry) words.entry.now)) }
-{
-    Ok(command.try_get_matches_from(words)?)
 }
 
 // What clap reads of the words by this command, with its own error.
 fn told<'a>(command: Command<'a>, words: &'a [String]) -> Result<ArgMatches<'a>, Error>
     requires { is_simple_and_free (app_of command) ≡ true }
+    ensures taken { OnOk result (takes_options (app_of command.entry) words.entry.now ≡ true) }
     ensures read { IfOk result (λ m. rows_of (found_of m) ≡ options_of (app_of command.entry) words.entry.now) }
     ensures refused { IfErr result (λ e. kind_of e ≢ OutOfMemory → takes_options (app_of command.entry) words.entry.now ≡ false) }
 {
@@ -134,6 +118,7 @@ pub(crate) fn options_told<'a>(
     options: OptionsOf,
     words: &'a [String],
 ) -> Result<ArgMatches<'a>, Error>
+    ensures taken { OnOk result (takes_options (app_by options) words.now ≡ true) }
     ensures read { IfOk result (λ m. rows_of (found_of m) ≡ options_of (app_by options) words.now) }
     ensures refused { IfErr result (λ e. kind_of e ≢ OutOfMemory → takes_options (app_by options) words.now ≡ false) }
 {
@@ -150,7 +135,10 @@ pub(crate) fn options_matched<'a>(
     ensures read { IfOk result (λ m. rows_of (found_of m) ≡ options_of (app_by options) words.now) }
     ensures refused { IfErr result (Explains (options_refusal (app_by options) words.now)) }
 {
-    read(command_of(alloc, options)?, words)
+    match options_told(alloc, options, words) {
+        Ok(matches) => Ok(matches),
+        Err(error) => Err(Unread::from(error)),
+    }
 }
 
 /// The value of an option that was read, or no text.

@@ -3,7 +3,7 @@
 /// The rates of a meter in bits per second, its bursts in bytes, and the class of assured forwarding, 1 to 4, whose code points
 /// its colours give. A configuration keeps the rates at 1,000 to 10^12, `pir` at least `cir`, `cbs` and `pbs` at 1 to 2^30, and
 /// `ebs` at 0 to 2^30; a meter has an answer for each value.
-#[derive(Clone, Copy, Debug, PartialEq, Eq)]
+#[derive(Clone, Copy)]
 pub enum MeterRule {
     /// One rate, the committed one, with a committed and an excess burst (RFC 2697).
     Single {
@@ -23,7 +23,7 @@ pub enum MeterRule {
 }
 
 /// The colour of a packet.
-#[derive(Clone, Copy, Debug, PartialEq, Eq)]
+#[derive(Clone, Copy)]
 pub enum Colour {
     /// It keeps to the committed rate and burst.
     Green,

@@ -1,7 +1,8 @@
-use Rattle.std.proofs.Common.{◌∙◌, ap}
-use Rattle.clap.specs.Words.{is_simple_and_free}
-use Rattle.play_words.proofs.OptionLemmas.{simple_by}
+use Rattle.clap.specs.Words.{kind_of}
+use Rattle.play_words.specs.Options.{app_by}
+use Rattle.play_words.proofs.OptionLemmas.{told_why}
 use Rattle.play_words.proofs.options.options_matched.Goals as goal
 
-pub read-requires : goal.read-requires
-read-requires c = ap is_simple_and_free c.in_ok-command_of.ensures ∙ simple_by c.args.options
+pub returns-in-Err-clause-refused : goal.returns-in-Err-clause-refused
+returns-in-Err-clause-refused c =
+    told_why (app_by c.args.options) c.args.words.now (kind_of c.in-Err.error) c.from.result c.in-Err.ensures.refused c.from.ensures
