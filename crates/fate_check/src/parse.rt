@@ -12,7 +12,7 @@ use line_text::{cut, decimal};
 use play_text::Names;
 
 // The seven fields of a row.
-#[derive(Clone, Copy, Debug)]
+#[derive(Clone, Copy)]
 pub(crate) struct RowFields<'a> {
     number: &'a [u8],
     at: &'a [u8],

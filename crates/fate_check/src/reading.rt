@@ -12,7 +12,7 @@ use std::alloc::AllocFailed;
 
 /// A row of fates: the packet's number, its arrival in nanoseconds, its length in bytes, its class, and what became of it. Nothing
 /// is known of a row but that it stands in a text: each number may be any of its type.
-#[derive(Clone, Copy, Debug, PartialEq, Eq)]
+#[derive(Clone, Copy)]
 pub struct Row {
     pub number: u64,
     pub at: u64,

@@ -1,6 +1,6 @@
 // What rows of fates are held to, and the answer.
 /// A packet as it arrived at its class: at this moment in nanoseconds, with this length in bytes and this precedence.
-#[derive(Clone, Copy, Debug, PartialEq, Eq)]
+#[derive(Clone, Copy)]
 pub struct Arrived {
     pub at: u64,
     pub len: u32,
@@ -10,7 +10,7 @@ pub struct Arrived {
 
 /// What can become of a class's packets: the rules by which they can be sent, and whether they can be dropped before the queue is
 /// full. A queue may always be full.
-#[derive(Clone, Copy, Debug, PartialEq, Eq)]
+#[derive(Clone, Copy)]
 pub struct Allowed {
     pub real_time: bool,
     pub share: bool,
@@ -20,7 +20,7 @@ pub struct Allowed {
 }
 
 /// The tests of rows, the least first.
-#[derive(Clone, Copy, Debug, PartialEq, Eq)]
+#[derive(Clone, Copy)]
 pub enum Kind {
     /// Number, arrival, length and class are those of a packet that arrived, and its fate can occur in its class.
     Reading,
@@ -37,7 +37,7 @@ pub enum Kind {
 }
 
 /// Why rows are no journal.
-#[derive(Clone, Copy, Debug, PartialEq, Eq)]
+#[derive(Clone, Copy)]
 pub enum Refuted {
     /// The first row that fails the least test that fails; rows are counted from 1.
     At { row: u64, kind: Kind },

@@ -5,7 +5,7 @@ use crate::Waiting;
 use play_base::Ticket;
 
 /// A packet that waits in a class: its ticket in the pool, its length in bytes, 1 to 262,144, and its precedence, 0, 1 or 2.
-#[derive(Clone, Copy, Debug, PartialEq, Eq)]
+#[derive(Clone, Copy)]
 pub struct Entry {
     pub ticket: Ticket,
     pub len: u32,
@@ -13,7 +13,7 @@ pub struct Entry {
 }
 
 /// The number of a place.
-#[derive(Clone, Copy, Debug, PartialEq, Eq)]
+#[derive(Clone, Copy)]
 pub struct Slot(pub u32);
 
 impl Slot {
@@ -26,14 +26,14 @@ impl Slot {
 }
 
 /// An entry, and the slot of the next node of its list; that of the last node means nothing.
-#[derive(Clone, Copy, Debug, PartialEq, Eq)]
+#[derive(Clone, Copy)]
 pub struct Node {
     pub entry: Entry,
     pub next: Slot,
 }
 
 /// The list of a class: its first and its last place, which mean nothing where it is empty, and how many wait.
-#[derive(Clone, Copy, Debug, PartialEq, Eq)]
+#[derive(Clone, Copy)]
 pub struct Row {
     pub first: Slot,
     pub last: Slot,

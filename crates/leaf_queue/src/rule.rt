@@ -6,7 +6,7 @@ use crate::Words;
 use altq_model::{Reason, Verdict};
 
 /// How many packets of a queue wait: those of precedence 0, those of precedence 0 or 1, and all of them. A precedence is 0, 1 or 2.
-#[derive(Clone, Copy, Debug, PartialEq, Eq)]
+#[derive(Clone, Copy)]
 pub struct Waiting {
     pub best: u32,
     pub middle: u32,

@@ -4,7 +4,7 @@ ghost use Rattle.play_base.specs.View.{Rose};
 ghost use Rattle.memory_files.specs.Planned.{is_planned, place_of};
 
 /// The kinds of calls on files.
-#[derive(Clone, Copy, Debug, PartialEq, Eq)]
+#[derive(Clone, Copy, Debug)]
 pub enum Call {
     Open,
     Create,

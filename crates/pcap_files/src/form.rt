@@ -8,7 +8,7 @@ use capture_model::{Damage, DamageKind};
 
 /// The form of a capture: whether its numbers are big-endian, and whether the fractions of its stamps count nanoseconds, and
 /// not microseconds.
-#[derive(Clone, Copy, Debug, PartialEq, Eq)]
+#[derive(Clone, Copy)]
 pub struct Head {
     pub big: bool,
     pub nanos: bool,

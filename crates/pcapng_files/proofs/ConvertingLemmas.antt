@@ -8,8 +8,9 @@ use Rattle.capture_model.specs.Capture.{Record, IsCapture, most_bytes, most_reco
 use Rattle.capture_model.specs.Header.{capture_header}
 use Rattle.capture_model.specs.Written.{IsWithin, record_text, record_texts, written}
 use Rattle.pcap_files.proofs.WritingLemmas.{reads_written}
-use Rattle.pcapng_model.specs.Block.{Whole, framed, told, Found, NewSection, NewInterface, Packet as PacketFound, Passed, Told, Tells}
+use Rattle.pcapng_model.specs.Block.{Broken, Whole, framed, told, Found, NewSection, NewInterface, Packet as PacketFound, Passed, Told, Tells}
 use Rattle.pcapng_model.specs.Interface as model
+use Rattle.pcapng_model.specs.declared.fault.NgKind.{NgKind}
 use Rattle.pcapng_model.specs.Reading.{Place, Block, Step, End, Fault, step, step_by, step_in, past, past_all, packets, packets_in, start}
 use Rattle.pcapng_model.specs.Reading.{Stand, Reads, IsPcapng}
 use Rattle.pcapng_model.specs.Reading as reading
@@ -18,12 +19,14 @@ use Rattle.pcapng_model.proofs.StandLemmas.{stand_more, past_more, packets_more}
 use Rattle.pcapng_files.proofs.OptionLemmas.{more_left, not_less}
 use Rattle.pcapng_files.proofs.UnreadLemmas.{behind_head, drop_further, step_behind}
 use Rattle.pcapng_files.proofs.RecordLemmas.{lent_is}
-use Rattle.pcapng_files.specs.Converted.{IsCause, IsConversion, IsFault}
+use Rattle.pcapng_files.specs.Converted.{IsCause, IsConversion, IsFault, IsRefusal, fault_of}
 use Rattle.pcapng_files.specs.Converting.{Took, Advanced, place_of}
 use Rattle.pcapng_files.specs.Views.{interface, packet, records_of}
 use Rattle.pcapng_files.specs.declared.conversion.Conversion.{Conversion}
 use Rattle.pcapng_files.specs.declared.fault.NgFault.{NgFault}
 use Rattle.pcapng_files.specs.declared.fault.NgFault.TheVariants as ng
+use Rattle.pcapng_files.specs.declared.fault.Refusal.{Refusal}
+use Rattle.pcapng_files.specs.declared.fault.Refusal.TheVariants as refusal
 use Rattle.pcapng_files.specs.declared.interface.Interface.{Interface}
 use Rattle.pcapng_files.specs.declared.packet.Packet.{Packet}
 
@@ -175,6 +178,18 @@ whole file bytes capture c x past_end few short joined =
 
 step_here : (bytes : List ℕ) (p : Place) → p.at < length bytes → length bytes ≤ most_bytes → step bytes p ≡ step_in p (framed p.big bytes p.at)
 step_here bytes p here short = rw (more_left (length bytes) p.at here, not_less most_bytes (length bytes) short) refl
+
+-- a block that is not taken, and one that is not whole
+pub refused : (xs : List ℕ) (p : Place) (r : Refusal) (big : Bool) (kind : ℕ) (body : List ℕ) (after : ℕ) → p.at < length xs → length xs ≤ most_bytes
+    → framed p.big xs p.at ≡ Whole big kind body after → IsRefusal r (told big kind body p.interfaces p.count) → IsFault (fault_of r p.at) (step xs p)
+refused xs p (refusal.Broken k) big kind body after here short whole t =
+    step_here xs p here short ∙ ap (step_in p) whole ∙ ap (step_by p.at after) t
+refused xs p refusal.Limit big kind body after here short whole t = step_here xs p here short ∙ ap (step_in p) whole ∙ ap (step_by p.at after) t
+refused xs p refusal.NoMemory big kind body after here short whole t = tt
+
+pub unframed : (xs : List ℕ) (p : Place) (kind : NgKind) → p.at < length xs → length xs ≤ most_bytes → framed p.big xs p.at ≡ Broken kind
+    → IsFault (fault_of (refusal.Broken kind) p.at) (step xs p)
+unframed xs p kind here short broken = step_here xs p here short ∙ ap (step_in p) broken
 
 -- the record was put of the packet that a body holds
 pub record IsPut (xs ys body : List ℕ) (p : Option Packet) (old new after : ℕ) : Type 0 where

@@ -138,6 +138,16 @@ pub ends_before : (found : Option Packet) (written place interfaces body after :
 ends_before None written place interfaces body after most room some short size = tt
 ends_before (Some p) written place interfaces body after most room some short size = omega (arith, most, room, some, short, size)
 
+pub ends_within : (found : Option Packet) (written after size : ℕ) → IfSome found (λ p. written + 16 + p.captured ≤ after) → after ≤ size
+    → IfSome found (λ p. written + 16 + p.captured ≤ size)
+ends_within None written after size ends within = tt
+ends_within (Some p) written after size ends within = omega (arith, ends, within)
+
+pub stands_within : (found : Option Packet) (place body after size : ℕ) → IfSome found (λ p. 20 + p.captured ≤ body) → place + 12 + body ≡ after
+    → after ≤ size → IfSome found (λ p. place + 8 + 20 + p.captured ≤ size)
+stands_within None place body after size short is within = tt
+stands_within (Some p) place body after size short is within = omega (arith, short, is, within)
+
 -- THE HEAD
 -- what a vector holds whose elements were lent
 pub lent_is : (xs ys : List ℕ) (n : ℕ) → n ≡ length xs → length ys ≡ length xs → take n (ys ++ drop (length ys) xs) ≡ ys

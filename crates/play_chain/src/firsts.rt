@@ -9,7 +9,7 @@ use play_loop::{Keeper, KeptFate};
 use std::alloc::Global;
 
 /// What a first play made of a packet, with its arrival in nanoseconds.
-#[derive(Clone, Copy, Debug, PartialEq, Eq)]
+#[derive(Clone, Copy)]
 pub enum First {
     /// Nothing yet.
     Absent,
@@ -21,7 +21,7 @@ pub enum First {
 
 /// The fates of a first play in a table by their numbers, of 24 bytes for each number up to the greatest and the room by which a `Vec`
 /// grows; no clause bounds that. As a `Keeper` it is told them by the play.
-#[derive(Debug, Drop)]
+#[derive(Drop)]
 pub struct Firsts {
     pub(crate) rows: Vec<First>,
     // how many were sent

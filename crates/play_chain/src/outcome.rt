@@ -1,7 +1,7 @@
 // What becomes of a packet on its way.
 
 /// What became of a packet on two links.
-#[derive(Clone, Copy, Debug, PartialEq, Eq)]
+#[derive(Clone, Copy)]
 pub enum Outcome {
     /// The first link dropped it.
     DroppedFirst,
@@ -12,7 +12,7 @@ pub enum Outcome {
 }
 
 /// When a packet came to the first link, in nanoseconds, and what became of it.
-#[derive(Clone, Copy, Debug, PartialEq, Eq)]
+#[derive(Clone, Copy)]
 pub struct Passage {
     pub arrival: u64,
     pub outcome: Outcome,

@@ -8,7 +8,7 @@ use std::alloc::Global;
 
 /// The paths of packets through two links, as far as they are known. Contracts say for which fates of the first play and of the second
 /// a value stands. The k-th sending of the first play is packet k of the second.
-#[derive(Debug, Drop)]
+#[derive(Drop)]
 pub struct Path {
     pub(crate) alloc: Global,
     pub(crate) firsts: Firsts,

@@ -117,7 +117,7 @@ pub fn table_text(alloc: Global, firsts: &[First], seconds: &[Second]) -> Result
 }
 
 /// Some rows of the text, and the number behind theirs.
-#[derive(Debug, Drop)]
+#[derive(Drop)]
 pub struct Piece {
     pub text: Vec<u8>,
     pub next: usize,

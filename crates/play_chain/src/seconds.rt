@@ -10,7 +10,7 @@ use play_loop::{Keeper, KeptFate};
 use std::alloc::Global;
 
 /// What a second play made of a packet.
-#[derive(Clone, Copy, Debug, PartialEq, Eq)]
+#[derive(Clone, Copy)]
 pub enum Second {
     /// Nothing yet.
     Absent,
@@ -22,7 +22,7 @@ pub enum Second {
 
 /// The fates of a second play in a table by their numbers there, of 16 bytes for each number up to the greatest and the room by which a
 /// `Vec` grows; no clause bounds that. As a `Keeper` it is told them by the play.
-#[derive(Debug, Drop)]
+#[derive(Drop)]
 pub struct Seconds {
     pub(crate) rows: Vec<Second>,
 }

@@ -90,6 +90,11 @@ pub fates_cause : (dep fat : ℕ) (v w : View) (t : Trouble) (f : PlayFault) →
     → (IsErrOf {T = Unit {0}} (Err t) trouble.Failed → WriteFault v w fat) → IsWriteCause dep fat v w f
 fates_cause dep fat v w t f e h = rw e (by_trouble dep fat v w t h)
 
+-- and after a whole write of the departures
+pub fates_later : {dep fat : ℕ} {u v : View} {xs : List ℕ} (w : View) (t : Trouble) (f : PlayFault) → Wrote u v dep xs → f ≡ output_fault output.Fates t
+    → (IsErrOf {T = Unit {0}} (Err t) trouble.Failed → WriteFault v w fat) → IsWriteCause dep fat u w f
+fates_later {dep} {fat} {v = v} w t f x e h = cause_since w f x.keeps refl refl (fates_cause dep fat v w t f e h)
+
 -- calls one after another that add to the outputs
 pub adds_nothing : {A : Type 0} (v : View) (o : Outputs) (a : A) → AddsOnly v v o o (Ok a)
 adds_nothing v o a = record {

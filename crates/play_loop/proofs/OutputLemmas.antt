@@ -70,6 +70,14 @@ flushed_second {u} {v} {w} {dep} {fat} {recs} {rows} {ds} {ts} h x y =
     let grew : Grew u v dep recs [] [] = record { written = recs; wrote = x; split = refl } in
     fronts_same (append-nil ds) (append-nil ts) (fronts_rowed (texts_departed h grew) (stopped_at_front _ _ _ _ [] y))
 
+-- where it was
+pub flushed_whole : {u v w : View} {dep fat : ℕ} {recs rows ds ts : List ℕ} → TextsAre u dep fat recs rows ds ts → Wrote u v dep recs → Wrote v w fat rows
+    → TextsAre w dep fat [] [] ds ts
+flushed_whole {u} {v} {w} {dep} {fat} {recs} {rows} {ds} {ts} h x y =
+    let first : Grew u v dep recs [] [] = record { written = recs; wrote = x; split = refl } in
+    let second : Grew v w fat rows [] [] = record { written = rows; wrote = y; split = refl } in
+    texts_same (texts_rowed (texts_departed h first) second) (append-nil ds) (append-nil ts)
+
 pub same_trans : {a b c : Outputs} → SameFiles a b → SameFiles b c → SameFiles a c
 same_trans x y = record { departures = y.departures ∙ x.departures; fates = y.fates ∙ x.fates }
 

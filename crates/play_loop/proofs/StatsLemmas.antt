@@ -21,7 +21,7 @@ use Rattle.play_loop.specs.Kept.{KeepsBeside, KeepsPlayed}
 use Rattle.play_loop.specs.Outputs.{IsBeforeStats, IsStatsCause}
 use Rattle.play_loop.specs.Played.{AreBegun, AreReady, Explains, Fronts, HasStopped, HoldTexts, LeavesStats, Plays, Writes}
 use Rattle.play_loop.specs.Setup.{Setup}
-use Rattle.play_loop.specs.Told.{Tells}
+use Rattle.play_loop.specs.Told.{HasDecided, Tells}
 use Rattle.gathered_writes.proofs.GatherLemmas.{take_drop}
 use Rattle.play_loop.proofs.PlayLemmas.{whole_front}
 
@@ -36,6 +36,11 @@ pub tells_as : (x : Setup) (stood : List Happened → Type 0) (P Q : List KeptFa
     → IfOk r (Tells x stood P u v o) → IfOk r (Tells x stood Q u v o)
 tells_as x stood P Q u v o (Ok t) h p = λ told rest l. (let y = p told rest l in (y.0, y.1, record { played = y.2.played; told = h _ y.2.told }))
 tells_as x stood P Q u v o (Err e) h p = p
+
+pub decided_as : (x : Setup) (P Q : List KeptFate → Type 0) (r : Result Totals PlayFault) → ((ks : List KeptFate) → P ks → Q ks)
+    → IfOk r (HasDecided x P) → IfOk r (HasDecided x Q)
+decided_as x P Q (Ok t) h d = record { arrived = d.arrived; history = d.history; play = d.play; told = h _ d.told }
+decided_as x P Q (Err e) h d = d
 
 -- a write of the statistics that failed failed for them, or for lack of memory
 by_cause : (P : PlayFault → Type 0) (stats : ℕ) (u v : View) (f : PlayFault) → IsStatsCause stats u v f → (WriteFault u v stats → P (play.Write output.Statistics)) → P play.NoMemory → P f

@@ -6,7 +6,7 @@ use crate::{Limit, PlayFault};
 use pcap_files::CaptureFault;
 
 /// What became of the sendings that are due before an arrival.
-#[derive(Clone, Copy, Debug, PartialEq, Eq)]
+#[derive(Clone, Copy)]
 pub enum Due {
     /// They were made.
     Made,
@@ -15,7 +15,7 @@ pub enum Due {
 }
 
 /// How the events of a play ended.
-#[derive(Clone, Copy, Debug, PartialEq, Eq)]
+#[derive(Clone, Copy)]
 pub enum Ending {
     /// All were made.
     Whole,

@@ -44,10 +44,13 @@ impl Keeper for Kept {
     ghost before = { λ s. take s.before (fates_in s) };
 
     fn keep(&mut self, fate: KeptFate) -> Result<(), NoMemory> {
-        if self.fates.len() == self.fates.capacity() {
-            self.fates.reserve_exact(self.fates.len() / 2 + 16)?;
+        let held = self.fates.len();
+        if held == self.fates.capacity() && self.fates.reserve_exact(held / 2 + 16).is_err() {
+            return Err(NoMemory);
         }
-        self.fates.push(fate)?;
-        Ok(())
+        match self.fates.push(fate) {
+            Ok(()) => Ok(()),
+            Err(_) => Err(NoMemory),
+        }
     }
 }

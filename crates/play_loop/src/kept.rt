@@ -5,7 +5,7 @@ use altq_model::Fate;
 use std::alloc::Global;
 
 /// What became of a packet: its number from 1, its arrival in nanoseconds, and its fate.
-#[derive(Clone, Copy, Debug, PartialEq, Eq)]
+#[derive(Clone, Copy)]
 pub struct KeptFate {
     pub number: u64,
     pub arrival: u64,
@@ -14,7 +14,7 @@ pub struct KeptFate {
 
 /// Fates in the order in which plays decided them. Contracts see them as a list, by `fates_in`. Its memory grows by half; no clause
 /// bounds it.
-#[derive(Debug, Drop)]
+#[derive(Drop)]
 pub struct Kept {
     pub(crate) fates: Vec<KeptFate>,
     // how many it held before the latest play began

@@ -35,6 +35,13 @@ impl Outputs {
             counts,
         }
     }
+
+    // The counts alone.
+    pub fn into_counts(self) -> Vec<Counts>
+        ensures { result ≡ self.counts }
+    {
+        self.counts
+    }
 }
 
 /// The counts of a whole play: of all packets, and of each class at the place of its name.

@@ -6,12 +6,12 @@ ghost use Rattle.altq_model.specs.Lawful.{IsOneOf};
 ghost use Rattle.play_base.specs.View.{NoneAppears, SameCounts, ReadFault};
 ghost use Rattle.discipline.specs.Laws.{HasRate};
 ghost use Rattle.play_text.specs.Names.{HasClass};
-ghost use Rattle.play_loop.specs.Answers.{IsAnswer, answer_of};
+ghost use Rattle.play_loop.specs.Answers.{IsAnswer, IsBrokenOff, answer_of};
 ghost use Rattle.class_counts.specs.Counting.{HasCounted};
 ghost use Rattle.play_loop.specs.Ending.{HasBroken, HasRun, IsClean};
 ghost use Rattle.play_loop.specs.Kept.{KeepsPlayed, OnlyPlayed, OnlyWrote};
 ghost use Rattle.play_loop.specs.KeptFates.{fates_in};
-ghost use Rattle.play_loop.specs.Outputs.{FrontsAre, IsWriteCause, SameFiles, TextsAre};
+ghost use Rattle.play_loop.specs.Outputs.{AreOpened, FrontsAre, IsWriteCause, SameFiles, TextsAre};
 ghost use Rattle.play_loop.specs.Played.{AreEmpty, AreReady, Explains, Fronts, LeavesStats, Plays};
 ghost use Rattle.play_loop.specs.Reading.{CanRead, StartsOn};
 ghost use Rattle.play_loop.specs.Setup.{IsSound, setup_of};
@@ -250,6 +250,59 @@ fn play_capture<D: Discipline, C: Classify, F: Files, K: Keeper>(
     ensures before { K.before keeper.new ≡ K.before keeper.old }
     ensures others { OnlyPlayed opened.now.arrivals opened.now.departures opened.now.fates (F.view files.old) (F.view files.new) }
 {
+    let mut outputs = Outputs::new(alloc, opened, counts);
+    match play_opened(
+        alloc,
+        discipline,
+        classify,
+        names,
+        rate,
+        words,
+        opened,
+        keeper,
+        files,
+        &mut outputs,
+    ) {
+        Ok((ending, totals)) => answer(ending, totals, outputs.into_counts()),
+        Err(fault) => Err(fault),
+    }
+}
+
+// Plays a capture to outputs to which nothing was added, and says how its events ended. What it holds besides is dropped before the
+// outputs are taken apart.
+#[tactic(auto, using(play_base::proofs::ViewLaws::same_trans, play_base::proofs::ViewLaws::same_refl))]
+fn play_opened<D: Discipline, C: Classify, F: Files, K: Keeper>(
+    alloc: Global,
+    discipline: &mut D,
+    classify: &C,
+    names: &Names,
+    rate: u64,
+    words: &mut Words,
+    opened: &Opened<'_>,
+    keeper: &mut K,
+    files: &mut F,
+    outputs: &mut Outputs,
+) -> Result<(Ending, Totals), PlayFault>
+    requires ready { AreReady (F.view files.old) opened.now }
+    requires least { 1000 ≤ rate }
+    requires most { rate ≤ 10 ^ 12 }
+    requires rate { HasRate (D.link_rate discipline.old) rate }
+    requires new { D.stands discipline.old [] }
+    requires fresh { words.old.drawn ≡ 0 }
+    requires sound { IsSound (setup_of (D.policy discipline.old) (C.placed classify.now) (C.dressed classify.now) names.now rate words.old.seed) }
+    requires opened { AreOpened outputs.old opened.now }
+    requires no_records { outputs.old.records.items ≡ [] }
+    requires no_rows { outputs.old.rows ≡ [] }
+    requires none { HasCounted names.now [] [] outputs.old.counts.items }
+    requires begun { K.told keeper.old [] }
+    ensures ended { IfOk result (λ end. IsAnswer (setup_of (D.policy discipline.old) (C.placed classify.now) (C.dressed classify.now) names.now rate words.old.seed)
+        (D.stands discipline.new) (K.told keeper.new) (F.view files.old) (F.view files.new) opened.now
+        (answer_of end.0 (record { totals = end.1; counts = outputs.new.counts }))) }
+    ensures broken { IfErr result (IsBrokenOff (setup_of (D.policy discipline.old) (C.placed classify.now) (C.dressed classify.now) names.now rate words.old.seed)
+        (D.stands discipline.new) (F.view files.old) (F.view files.new) opened.now) }
+    ensures before { K.before keeper.new ≡ K.before keeper.old }
+    ensures others { OnlyPlayed opened.now.arrivals opened.now.departures opened.now.fates (F.view files.old) (F.view files.new) }
+{
     match write_heads(files, opened.departures, opened.fates) {
         Ok(()) => {}
         Err(fault) => return Err(fault),
@@ -261,7 +314,6 @@ fn play_capture<D: Discipline, C: Classify, F: Files, K: Keeper>(
     let Ok(mut progress) = Progress::begin(alloc, discipline, rate) else {
         return Err(PlayFault::NoMemory);
     };
-    let mut outputs = Outputs::new(alloc, opened, counts);
     let ending = match play_records(
         &mut reader,
         &mut progress,
@@ -269,20 +321,20 @@ fn play_capture<D: Discipline, C: Classify, F: Files, K: Keeper>(
         classify,
         names,
         words,
-        &mut outputs,
+        outputs,
         keeper,
         files,
     ) {
         Ok(ending) => ending,
         Err(fault) => return Err(fault),
     };
-    match finish(files, &mut outputs) {
+    match finish(files, outputs) {
         Ok(()) => {}
         Err(fault) => return Err(fault),
     }
     // A law, which the proof cites: it does nothing.
     every_file_has_a_reading();
-    answer(ending, progress.totals(), outputs.counts)
+    Ok((ending, progress.totals()))
 }
 
 // What the play of a capture answers that ended so.

@@ -10,7 +10,7 @@ use service_curve::Curve;
 
 /// How far apart the work of two siblings was: their numbers; their gap, in nanoseconds at both rates, rounded up, where both have
 /// linear curves; and the bound that it keeps, where link sharing alone decides.
-#[derive(Clone, Copy, Debug, PartialEq, Eq)]
+#[derive(Clone, Copy)]
 pub struct Gap {
     pub first: u32,
     pub second: u32,

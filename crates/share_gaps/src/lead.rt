@@ -4,7 +4,7 @@ ghost use Rattle.share_gaps.specs.Serve.{after_gains, gain_of};
 
 /// By how much, at most, the work of each of two siblings by the rate of the other is ahead in a stretch in which both are active: of
 /// the first in one that ends now, of the second in one that ends now, and of either in any.
-#[derive(Clone, Copy, Debug, PartialEq, Eq)]
+#[derive(Clone, Copy)]
 pub struct Lead {
     pub first: u128,
     pub second: u128,

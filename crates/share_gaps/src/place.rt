@@ -15,7 +15,7 @@ const LEVELS: u32 = 8;
 
 /// A class and those above it up to the root; whether it is a leaf; and the rows of the pairs whose first stands among them, and of
 /// those whose second does.
-#[derive(Debug, Drop)]
+#[derive(Drop)]
 pub struct Place {
     pub path: Vec<u32>,
     pub leaf: bool,

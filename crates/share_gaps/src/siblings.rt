@@ -7,7 +7,7 @@ use play_base::NoMemory;
 use std::alloc::Global;
 
 /// Two classes with the same parent, by their numbers; the first stands earlier in the file.
-#[derive(Clone, Copy, Debug, PartialEq, Eq)]
+#[derive(Clone, Copy)]
 pub struct Siblings {
     pub first: u32,
     pub second: u32,

@@ -22,7 +22,7 @@ use std::alloc::Global;
 
 /// The siblings of a tree of classes, and how far apart their work was while both were active. Contracts say for which history of
 /// packets kept and sent a value stands.
-#[derive(Debug, Drop)]
+#[derive(Drop)]
 pub struct Watch {
     classes: Vec<HfscClass>,
     siblings: Vec<Siblings>,

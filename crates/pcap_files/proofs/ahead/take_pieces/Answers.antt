@@ -8,11 +8,11 @@ pub loop-files-preserved : goal.loop-files-preserved
 loop-files-preserved g c =
     let before = c.loop-files.invariant.took in
     let next = take c.in-Ok.count c.read.new.into in
-    let grown : c.extend_from_slice.new.self.items ≡ c.loop-files.buffer.items ++ next = grind (arith, common_steps) in
+    let grown : c.extend_from_slice.new.self.items ≡ c.loop-files.buffer.items ++ next = rw c.if-is_err.ensures.negation at c.extend_from_slice.ensures.items in
     record {
       counts = same_trans _ _ _ c.loop-files.invariant.counts c.in-Ok.ensures.counts;
       there = still_there _ _ _ _ _ c.in-Ok.ensures.took.keeps c.loop-files.invariant.there;
-      room = grind (arith, common_steps);
+      room = omega arith;
       bounded = grind (arith, common_steps, c.in-Ok.ensures.count);
       took = (
         before.0 ++ next,

@@ -1,4 +1,4 @@
-use Rattle.std.proofs.Common.{◌∙◌, sym, rules}
+use Rattle.std.proofs.Common.{arith, ◌∙◌, sym}
 use Rattle.pcapng_files.specs.Views.{settings}
 use Rattle.pcapng_files.proofs.OptionLemmas.{ends_coded, ends_short, forbidden, follows}
 use Rattle.pcapng_files.proofs.options.options.Goals as goal
@@ -21,10 +21,10 @@ loop-rest-preserved c =
     let next = follows known.0 c.args.big c.loop-rest.rest.now (settings c.loop-rest.set) (settings c.in-Some.next) c.two-code.result c.two-len.result
     c.behind.result.now c.behind-rest.result.now
     (record { long = c.loop-rest-test.true; code_is = c.two-code.ensures; some = c.if-code-eq0.false; len_is = c.two-len.ensures; value_is = c.behind.ensures })
-    known.1 (search rules) (sym c.in-Some.ensures) (search rules) in
+    known.1 (omega arith) (sym c.in-Some.ensures) (cc) in
     (next.turns, next.enough, sym next.same ∙ known.2)
 
 pub returns : goal.returns
 returns c =
     let known = c.loop-rest.invariant in
-    sym (ends_short known.0 c.args.big c.loop-rest.rest.now (settings c.loop-rest.set) (search rules)) ∙ known.2
+    sym (ends_short known.0 c.args.big c.loop-rest.rest.now (settings c.loop-rest.set) (omega arith)) ∙ known.2

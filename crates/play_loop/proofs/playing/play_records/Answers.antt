@@ -5,6 +5,7 @@ use Rattle.std.specs.declared.option.Option.{Option}
 use Rattle.altq_model.specs.Arrivals.{Captured, bare_arrival, bare_arrivals}
 use Rattle.altq_model.specs.History.{Happened}
 use Rattle.pcap_files.specs.declared.fault.CaptureFault.{CaptureFault}
+use Rattle.pcap_files.specs.declared.fault.CaptureFault.TheVariants as capture
 use Rattle.pcap_files.specs.declared.record.Record.{Record as Read}
 use Rattle.pcap_files.specs.Reading.{Answers, Counts}
 use Rattle.play_base.proofs.ViewLaws.{same_refl, same_trans as same_counts}
@@ -21,10 +22,10 @@ use Rattle.play_loop.specs.Reading.{StartsOn, arrival_of}
 use Rattle.play_loop.specs.Setup.{Setup, setup_of}
 use Rattle.play_loop.specs.Underway.{DueIs, OfferedIs, StayDue, moment, shown}
 use Rattle.play_loop.proofs.KeptLemmas.{cause_since, played_nothing, took_more, wrote_more}
-use Rattle.play_loop.proofs.OutputLemmas.{fronts_files}
+use Rattle.play_loop.proofs.OutputLemmas.{fronts_files, same_trans}
 use Rattle.play_loop.proofs.PacketLemmas.{before_stays, held_same}
 use Rattle.play_loop.proofs.PlayLemmas.{cut_by}
-use Rattle.play_loop.proofs.RecordLemmas.{IsComing, ahead_of, all_read, coming, cut_starts, first_of_all, first_of_read, has_read, none_arrives, of_none, of_some, read_kept, under_kept}
+use Rattle.play_loop.proofs.RecordLemmas.{IsComing, ahead_of, all_read, coming, cut_starts, first_of_all, first_of_read, has_read, none_arrives, of_none, of_some, read_kept, read_since, under_kept}
 use Rattle.play_loop.proofs.TurnLemmas.{begun_of, offered_stays, on, under_countable}
 use Rattle.play_loop.proofs.playing.play_records.Given.{Over}
 use Rattle.play_loop.proofs.playing.play_records.Goals.{After-arrive-arriving, After-next, In_default}
@@ -284,3 +285,39 @@ returns-in-Err-play_packet-clause-others g c =
 pub returns-in-Err-play_packet-clause-why : goal.returns-in-Err-play_packet-clause-why
 returns-in-Err-play_packet-clause-why g c = cause_since (g.F.Files.view c.play_packet.new.files) c.in-Err-play_packet.fault (took g (goal.at.returns-in-Err-play_packet-clause-why g c).After-next).keeps
     c.records.invariant.same.departures c.records.invariant.same.fates c.in-Err-play_packet.ensures.only.why
+
+pub returns-in-Ok-Made-clause-no_fault : goal.returns-in-Ok-Made-clause-no_fault
+returns-in-Ok-Made-clause-no_fault g c = λ _. same_counts _ _ _ (same_counts _ _ _ c.records.invariant.no_fault c.in-Ok.ensures.counts) c.in-Ok-Made.ensures.only.no_fault
+
+pub returns-in-Ok-Made-clause-same : goal.returns-in-Ok-Made-clause-same
+returns-in-Ok-Made-clause-same g c = same_trans c.records.invariant.same c.in-Ok-Made.ensures.only.same
+
+pub returns-in-Ok-Late-clause-no_fault : goal.returns-in-Ok-Late-clause-no_fault
+returns-in-Ok-Late-clause-no_fault g c = λ _. same_counts _ _ _ (same_counts _ _ _ c.records.invariant.no_fault c.in-Ok.ensures.counts) c.in-Ok-Late.ensures.only.no_fault
+
+pub returns-in-Ok-Late-clause-same : goal.returns-in-Ok-Late-clause-same
+returns-in-Ok-Late-clause-same g c = same_trans c.records.invariant.same c.in-Ok-Late.ensures.only.same
+
+pub returns-in-Ok-Late-play_packet-clause-no_fault : goal.returns-in-Ok-Late-play_packet-clause-no_fault
+returns-in-Ok-Late-play_packet-clause-no_fault g c = λ _. same_counts _ _ _ (same_counts _ _ _ c.records.invariant.no_fault c.in-Ok.ensures.counts) c.in-Ok-Late-play_packet.ensures.only.no_fault
+
+pub returns-in-Ok-Late-play_packet-clause-same : goal.returns-in-Ok-Late-play_packet-clause-same
+returns-in-Ok-Late-play_packet-clause-same g c =
+    let before = c.records.invariant.same in
+    let more = c.in-Ok-Late-play_packet.ensures.only.same in
+    record { departures = more.departures ∙ before.departures; fates = more.fates ∙ before.fates }
+
+pub returns-in-Err-send_due-clause-same : goal.returns-in-Err-send_due-clause-same
+returns-in-Err-send_due-clause-same g c = same_trans c.records.invariant.same c.in-Err-send_due.ensures.only.same
+
+pub returns-in-Err-play_packet-clause-same : goal.returns-in-Err-play_packet-clause-same
+returns-in-Err-play_packet-clause-same g c =
+    let before = c.records.invariant.same in
+    let more = c.in-Err-play_packet.ensures.only.same in
+    record { departures = more.departures ∙ before.departures; fates = more.fates ∙ before.fates }
+
+pub returns-in-Err-clause-read : goal.returns-in-Err-clause-read
+returns-in-Err-clause-read g c = λ q.
+    let e : c.in-Err.fault ≡ capture.Read = cc in
+    let error : CaptureFault → Result (Option Read) CaptureFault = λ f. Err f in
+    read_since (g.F.Files.view c.next.new.files) c.records.invariant.others c.records.invariant.file c.records.invariant.sound (c.in-Err.ensures.read (ap error e))

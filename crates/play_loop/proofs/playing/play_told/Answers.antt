@@ -1,7 +1,8 @@
 -- The play ends before its capture, or with it, and then the statistics are written.
-use Rattle.std.proofs.Common.{ℕ, List, [], subst, arith}
+use Rattle.std.proofs.Common.{◌∙◌, ℕ, List, [], subst, arith}
 use Rattle.altq_model.specs.declared.Counts.{Counts}
 use Rattle.play_base.specs.View.{Wrote, WroteFront}
+use Rattle.play_base.proofs.ViewLaws.{same_trans}
 use Rattle.play_text.specs.Names.{NameList}
 use Rattle.play_text.specs.Statistics.{stats_of}
 use Rattle.play_loop.specs.Setup.{Setup, setup_of}
@@ -69,3 +70,27 @@ returns-clause-stats g c =
 
 pub returns-clause-keeps : goal.returns-clause-keeps
 returns-clause-keeps g c = keeps_written c.requires.ready c.in-Ok-play_capture.ensures.others.keeps c.in-Err-write_stats.ensures.front.1
+
+pub returns-in-Ok-write_stats-clause-no_fault : goal.returns-in-Ok-write_stats-clause-no_fault
+returns-in-Ok-write_stats-clause-no_fault g c = same_trans _ _ _ c.in-Ok-play_capture.ensures.answer.no_fault c.in-Ok-write_stats.ensures.no_fault
+
+pub returns-in-Ok-write_stats-clause-none : goal.returns-in-Ok-write_stats-clause-none
+returns-in-Ok-write_stats-clause-none g c = λ f h. c.in-Ok-write_stats.ensures.wrote.none f (c.in-Ok-play_capture.ensures.others.none f h)
+
+pub returns-in-Ok-write_stats-clause-said : goal.returns-in-Ok-write_stats-clause-said
+returns-in-Ok-write_stats-clause-said g c = c.in-Ok-write_stats.ensures.wrote.said ∙ c.in-Ok-play_capture.ensures.others.said
+
+pub returns-in-Ok-write_stats-clause-decided : goal.returns-in-Ok-write_stats-clause-decided
+returns-in-Ok-write_stats-clause-decided g c = c.in-Ok-play_capture.ensures.answer.decided
+
+pub returns-clause-none : goal.returns-clause-none
+returns-clause-none g c = λ f h. c.in-Err-write_stats.ensures.front.1.none f (c.in-Ok-play_capture.ensures.others.none f h)
+
+pub returns-clause-said : goal.returns-clause-said
+returns-clause-said g c = c.in-Err-write_stats.ensures.front.1.said ∙ c.in-Ok-play_capture.ensures.others.said
+
+pub returns-in-Err-clause-why : goal.returns-in-Err-clause-why
+returns-in-Err-clause-why g c = c.in-Err.ensures.answer.why
+
+pub returns-in-Err-clause-front : goal.returns-in-Err-clause-front
+returns-in-Err-clause-front g c = c.in-Err.ensures.answer.front

@@ -1,4 +1,5 @@
-use Rattle.play_loop.proofs.KeptLemmas.{wrote_both}
+use Rattle.play_base.proofs.ViewLaws.{same_trans}
+use Rattle.play_loop.proofs.KeptLemmas.{fates_later, wrote_both}
 use Rattle.play_loop.proofs.OutputLemmas.{heads_first, heads_second, heads_whole}
 use Rattle.play_loop.proofs.playing.write_heads.Goals as goal
 
@@ -13,3 +14,12 @@ returns-in-Err-write_all-clause-stopped g c = λ h. heads_second c.head_bytes.en
 
 pub returns-in-Err-write_all-clause-others : goal.returns-in-Err-write_all-clause-others
 returns-in-Err-write_all-clause-others g c = wrote_both c.requires.departures c.requires.fates c.in-Ok.ensures.wrote c.in-Err-write_all.ensures.front.1
+
+pub returns-in-Err-write_all-clause-why : goal.returns-in-Err-write_all-clause-why
+returns-in-Err-write_all-clause-why g c = fates_later (g.F.Files.view c.write_all-2.new.files) c.in-Err-write_all.trouble c.output_fault-in-Err-write_all.result c.in-Ok.ensures.wrote c.output_fault-in-Err-write_all.ensures c.in-Err-write_all.ensures.failed
+
+pub returns-in-Ok-write_all-clause-no_fault : goal.returns-in-Ok-write_all-clause-no_fault
+returns-in-Ok-write_all-clause-no_fault g c = same_trans _ _ _ c.in-Ok.ensures.counts c.in-Ok-write_all.ensures.counts
+
+pub returns-in-Ok-write_all-clause-others : goal.returns-in-Ok-write_all-clause-others
+returns-in-Ok-write_all-clause-others g c = wrote_both c.requires.departures c.requires.fates c.in-Ok.ensures.wrote c.in-Ok-write_all.ensures.wrote

@@ -3,7 +3,7 @@ use Rattle.capture_model.specs.Capture.{step, place_after, Fault, damage}
 use Rattle.pcap_files.specs.Forms.{form}
 use Rattle.pcap_files.specs.Reading.{IsCause}
 use Rattle.pcap_files.proofs.ReaderLemmas.{took_some, took_into, took_twice, pending_took, stands_at, stands_reads, stands_with, cut_reads, answered}
-use Rattle.play_base.proofs.ViewLaws.{same_trans}
+use Rattle.play_base.proofs.ViewLaws.{rose_later, same_trans, still_there}
 use Rattle.pcap_files.specs.Stand.{stand_at}
 use Rattle.pcap_files.specs.declared.stand.Stand.{Stand as Stands}
 use Rattle.pcap_files.proofs.PrefixLemmas.{failed_of, headed_taken, part_taken}
@@ -97,3 +97,27 @@ returns-in-Ok-clause-ahead g c = λ holds.
     let whole = holds.whole c.in-Headed.stamp c.in-Headed.captured c.in-Headed.original headed in
     let two = c.fill-in-Headed.ensures.idle (omega (arith, whole, ap length one.1)) in
     two.0 ∙ one.0
+
+pub take_record-requires-clause-counted : goal.take_record-requires-clause-counted
+take_record-requires-clause-counted g c = (c.stand_at.ensures.fits c.in-Headed.stamp c.in-Headed.captured c.in-Headed.original c.in-Headed.is).0
+
+pub take_record-requires-clause-placed : goal.take_record-requires-clause-placed
+take_record-requires-clause-placed g c = (c.stand_at.ensures.fits c.in-Headed.stamp c.in-Headed.captured c.in-Headed.original c.in-Headed.is).1
+
+pub take_record-requires-clause-short : goal.take_record-requires-clause-short
+take_record-requires-clause-short g c = (c.stand_at.ensures.headed c.in-Headed.stamp c.in-Headed.captured c.in-Headed.original c.in-Headed.is).1
+
+pub take_record-requires-clause-some : goal.take_record-requires-clause-some
+take_record-requires-clause-some g c = (c.stand_at.ensures.headed c.in-Headed.stamp c.in-Headed.captured c.in-Headed.original c.in-Headed.is).2
+
+pub fill-requires-in-Headed-clause-there : goal.fill-requires-in-Headed-clause-there
+fill-requires-in-Headed-clause-there g c = still_there _ _ _ _ _ c.in_default.ensures.took.1.keeps c.requires.there
+
+pub fill-requires-in-Headed-clause-small : goal.fill-requires-in-Headed-clause-small
+fill-requires-in-Headed-clause-small g c = omega (arith, (c.stand_at.ensures.headed c.in-Headed.stamp c.in-Headed.captured c.in-Headed.original c.in-Headed.is).1)
+
+pub returns-in-Err-fill-clause-read : goal.returns-in-Err-fill-clause-read
+returns-in-Err-fill-clause-read g c = λ failed p at.
+    let k = c.in_default.ensures.took.1.keeps in
+    rose_later _ _ _ (k.later.read p)
+    (c.in-Err-fill.ensures.failed (failed_of c.in-Err-fill.trouble c.fault_of-in-Err-fill.result c.fault_of-in-Err-fill.ensures failed) p (k.part c.args.self.now.file p at))
