@@ -16,7 +16,7 @@ use std::marker::Model;
 
 /// Tells of each frame the class of its flow by the filters of an interface, and its precedence in the class's queue; and leaves a
 /// frame as it departs. Contracts see what is kept of the interface.
-#[derive(Debug, Drop)]
+#[derive(Drop)]
 pub struct Classifier {
     filters: Filters,
     handlings: Vec<Handling>,
