@@ -125,10 +125,7 @@ fn mark_front<F: Files>(
             rest: false,
         },
     };
-    match mark_file(&mut fronted, from, to, marker) {
-        Ok(()) => Ok(()),
-        Err(why) => Err(why),
-    }
+    mark_file(&mut fronted, from, to, marker)
 }
 
 /// Writes what the marker makes of the arrivals, of which `given` tells how they begin: the marker has taken the front where the file
