@@ -14,7 +14,7 @@ use pcapng_files::{Front, FrontFiles};
 use play_base::{Files, Trouble, write_all};
 
 /// Why a capture is not marked to its end.
-#[derive(Clone, Copy, Debug, PartialEq, Eq)]
+#[derive(Clone, Copy)]
 pub(crate) enum Unmarked {
     /// It fails this test first. What stands before that is marked.
     Damaged(Damage),
