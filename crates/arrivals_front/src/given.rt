@@ -18,7 +18,7 @@ const SECTION: [u8; 4] = [0x0a, 0x0d, 0x0d, 0x0a];
 const MOST: usize = 1 << 30;
 
 /// The bytes that stand in front of what the file of the arrivals has left, and what follows them.
-#[derive(Debug, Drop)]
+#[derive(Drop)]
 pub struct Given {
     pub front: Vec<u8>,
     /// What the file has left follows the front: it holds a classic capture.

@@ -8,7 +8,7 @@ use crate::status::ended;
 use admission::Fit;
 
 /// What a command did.
-#[derive(Clone, Copy, Debug, PartialEq, Eq)]
+#[derive(Clone, Copy)]
 pub enum Done {
     /// It played the capture.
     Played,

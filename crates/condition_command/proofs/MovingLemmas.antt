@@ -16,10 +16,10 @@ use Rattle.play_base.specs.declared.trouble.Trouble.{Trouble}
 use Rattle.play_base.specs.declared.trouble.Trouble.TheVariants as trouble
 use Rattle.pcapng_files.specs.Fronts.{front_view, with_front}
 use Rattle.pcapng_files.proofs.FrontLaws.{left_self}
-use Rattle.play_base.specs.View.{View, Any, NotNamed, OtherThan, Took, Wrote, WroteFront}
+use Rattle.play_base.specs.View.{View, Any, NoneAppears, NotNamed, OtherThan, Took, Wrote, WroteFront}
 use Rattle.play_base.proofs.ViewLaws.{keeps_fewer, keeps_refl, keeps_trans, later_trans, part_of_there, still_there, wrote_nothing}
 use Rattle.traffic_marks.specs.Marked.{Conditioning, marked}
-use Rattle.condition_command.specs.Marking.{CameOf, HasMarked, Marks, MarksLeft, read_trouble, write_trouble}
+use Rattle.condition_command.specs.Marking.{CameOf, HasMarked, KeepsOthers, Marks, MarksLeft, read_trouble, write_trouble}
 use Rattle.condition_command.specs.Moving.{AreApart, HasMoved, IsOn}
 use Rattle.condition_command.specs.declared.marking.Unmarked.{Unmarked}
 
@@ -111,6 +111,21 @@ on_wrote u v w from to m n o apart x y given = record {
   moved = moved_wrote u v w from to x.taken x.written n.held.ready apart x.moved y;
   stands = λ c first s. given c (first ++ x.taken) x.written (x.stands c first s);
 }
+
+-- all but the two files stays
+pub record Stays (u v : View) (from to : ℕ) : Type 0 where
+  pub keeps : KeepsOthers u v from to
+  pub none : NoneAppears u v
+  pub said : v.said ≡ u.said
+
+pub stays_on : (u v : View) (from to : ℕ) (m n : Marking Classes) → IsOn u v from to m n → Stays u v from to
+stays_on u v from to m n x = record { keeps = x.moved.keeps; none = x.moved.none; said = x.moved.said }
+
+pub stays_wrote : (u v w : View) (from to : ℕ) (m n : Marking Classes) (bytes : List ℕ) → AreApart u from to → IsOn u v from to m n → Wrote v w to bytes
+    → Stays u w from to
+stays_wrote u v w from to m n bytes apart x y =
+    let h = moved_wrote u v w from to x.taken x.written bytes apart x.moved y in
+    record { keeps = h.keeps; none = h.none; said = h.said }
 
 -- what a marker stands for, and what its file has left, is a front of what becomes of the capture
 pub stands_front : (c : Conditioning) (taken bytes left : List ℕ) (m : Marking Classes) (k : ℕ) → Stands placed_by c taken bytes m

@@ -2,12 +2,11 @@
 use Rattle.std.proofs.Common.{◌≡◌, ◌∙◌, ◌⊎◌, inl, inr, ℕ, List, None, Some, Err, sym, subst, arith}
 use Rattle.std.specs.Prelude.{IsSome, IsTrue}
 use Rattle.std.specs.declared.option.Option.{Option}
-use Rattle.arrivals_front.specs.Given.{Follows}
 use Rattle.arrivals_front.specs.declared.given.Given.{Given}
 use Rattle.conf_tree.specs.declared.interface.Interface.{Interface}
 use Rattle.pcapng_files.specs.declared.fault.NgFault.{NgFault}
 use Rattle.pcapng_files.specs.declared.fault.NgFault.TheVariants as ng
-use Rattle.play_base.specs.View.{View, Any, IsNew, Keeps, Rose, Unchanged}
+use Rattle.play_base.specs.View.{View, Any, Keeps, Rose, Unchanged}
 use Rattle.play_base.proofs.ViewLaws.{rose_later}
 use Rattle.command_base.specs.Configuration.{Accepts}
 use Rattle.command_base.specs.Faults.{CannotRead, Untouched}
@@ -24,6 +23,7 @@ use Rattle.command_base.proofs.PartLemmas.{fresh_before, new_part, same_part, th
 use Rattle.early_stops.specs.Arriving.{IsNoPcapng, OnlyOpens}
 use Rattle.condition_command.specs.Arriving.{ArrivalCauses}
 use Rattle.condition_command.specs.Conditioning.{AreBroken, ConditionEnds, ConditionFails, MarkNames}
+use Rattle.condition_command.specs.Starting.{HasOpened, HasStarted}
 use Rattle.condition_command.proofs.LeaveLemmas.{HasArrivals, IsReading, leaves_reading, reading_conf, reading_more, reading_unchanged, reading_untouched}
 use Rattle.condition_command.proofs.EndLemmas.{IsAsked}
 use Rattle.condition_command.proofs.TellLemmas.{told}
@@ -99,14 +99,6 @@ uncreated_ends u v w n found r a c rose =
     ends_reading u w n (failure.Write written.Marked) (reading_unchanged u v w n r c)
     (λ t. (found, a t), rose_later _ _ _ (r.keeps.later.write 6) rose)
 
--- the arrivals were opened
-pub record HasOpened (v w : View) (n : MarkNames) (from : ℕ) (g : Given) : Type 0 where
-  pub is_new : IsNew v w 2 n.arrivals from
-  pub there : IsTrue v.tells → IsSome (v.bytes n.arrivals)
-  pub follows : IsTrue v.tells → (given : List ℕ) → v.bytes n.arrivals ≡ Some given → Follows w from given g
-  pub keeps : Keeps Any Any v w
-  pub opens : OnlyOpens v w 2
-
 opened_one : (u v w : View) (n : MarkNames) (from f : ℕ) (g : Given) → OnlyReads u v n.config → HasOpened v w n from g → u.part f ≡ None → w.part f ≡ Some 2
     → (v.part f ≡ None) ⊎ ((q : ℕ) × (v.part f ≡ Some q)) → f ≡ from
 opened_one u v w n from f g r o fresh at (inl none) = (new_part v w 2 n.arrivals from f 2 o.is_new none at).1
@@ -114,12 +106,6 @@ opened_one u v w n from f g r o fresh at (inr old) =
     let same : old.0 ≡ 2 = same_part old.0 2 (sym (o.keeps.part f old.0 old.1) ∙ at) in
     let one : old.0 ≡ 1 = r.part f old.0 fresh old.1 in
     absurd (omega (arith, same, one))
-
--- the configuration was read, with the interface asked for, and then the arrivals were opened
-pub record HasStarted (u v w : View) (n : MarkNames) (found : Interface) (from : ℕ) (g : Given) : Type 0 where
-  pub read : EndsAtConfig u v n.config
-  pub accepts : Accepts u n.config n.interface found
-  pub opened : HasOpened v w n from g
 
 pub arrivals_of : (u v w : View) (n : MarkNames) (found : Interface) (from : ℕ) (g : Given) → HasStarted u v w n found from g → HasArrivals u w n from
 arrivals_of u v w n found from g x = record {

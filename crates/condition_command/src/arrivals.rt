@@ -12,7 +12,7 @@ use play_base::{Files, Trouble};
 use std::alloc::Global;
 
 /// The file of the arrivals, and how they begin.
-#[derive(Debug, Drop)]
+#[derive(Drop)]
 pub(crate) struct Arrivals {
     pub file: u32,
     pub given: Given,

@@ -14,7 +14,7 @@ use pcapng_files::{Front, FrontFiles};
 use play_base::{Files, Trouble, write_all};
 
 /// Why a capture is not marked to its end.
-#[derive(Clone, Copy, Debug, PartialEq, Eq)]
+#[derive(Clone, Copy)]
 pub(crate) enum Unmarked {
     /// It fails this test first. What stands before that is marked.
     Damaged(Damage),
@@ -125,10 +125,7 @@ fn mark_front<F: Files>(
             rest: false,
         },
     };
-    match mark_file(&mut fronted, from, to, marker) {
-        Ok(()) => Ok(()),
-        Err(why) => Err(why),
-    }
+    mark_file(&mut fronted, from, to, marker)
 }
 
 /// Writes what the marker makes of the arrivals, of which `given` tells how they begin: the marker has taken the front where the file

@@ -2,7 +2,7 @@
 use capture_model::Damage;
 
 /// What stands behind the records that a marker has made ready.
-#[derive(Clone, Copy, Debug, PartialEq, Eq)]
+#[derive(Clone, Copy)]
 pub enum Behind {
     /// More may follow: no whole record stands there yet.
     More,

@@ -7,16 +7,50 @@ ghost use Rattle.command_base.specs.Configuration.{Accepts, IsConfigured};
 ghost use Rattle.play_command.specs.Ending.{PlayEnds};
 ghost use Rattle.play_files.specs.Failing.{play_failure, unplayed_failure};
 ghost use Rattle.play_command.specs.Found.{PlaysTo, TellsOf};
+ghost use Rattle.discipline.specs.Laws.{HasRate};
+ghost use Rattle.interface_policy.specs.Policy.{policy_of};
 
 use crate::cited_laws::laws_hold;
 use crate::found::{play_classic_by, play_found_by};
 use conf_tree::{Interface, Kind};
+use discipline::Discipline;
 use interface_policy::{cbq_of, hfsc_of, one_queue_of, sole_class};
 use play_base::{Files, NoMemory};
 use play_files::Unplayed;
 use play_loop::{Keeper, KeepsNothing, PlayFault, Totals};
 use play_words::PlayWords;
 use std::alloc::Global;
+
+// Does what `play_found_by` does, by a discipline that was just built; where there was no memory for it, nothing is opened.
+fn found_built<D: Discipline + Drop, K: Keeper, F: Files>(
+    alloc: Global,
+    files: &mut F,
+    found: &Interface,
+    words: &PlayWords<'_>,
+    built: Result<D, NoMemory>,
+    keeper: &mut K,
+) -> Result<Totals, Unplayed>
+    requires begun { K.told keeper.old [] }
+    requires new { IfOk built (λ d. D.stands d []) }
+    requires policy { IfOk built (λ d. D.policy d ≡ policy_of found.now) }
+    requires rate { IfOk built (λ d. HasRate (D.link_rate d) found.now.rate) }
+    requires configured { IsConfigured found.now }
+    requires accepted { Accepts (F.view files.old) words.now.config.now words.now.interface.now found.now }
+    requires distinct { AreDistinct words.now.config.now words.now.arrivals.now words.now.departures.now words.now.fates.now words.now.stats.now }
+    ensures done { IfOk result (PlaysTo (F.view files.old) (F.view files.new) (names_read words.now) words.now.seed) }
+    ensures ends { IfErr result (λ fault. PlayEnds (F.view files.old) (F.view files.new) (names_read words.now) words.now.seed
+        (Err (unplayed_failure fault))) }
+    ensures told { IfOk result (TellsOf (K.told keeper.new) (F.view files.old) (F.view files.new) (names_read words.now) words.now.seed found.now) }
+    ensures before { K.before keeper.new ≡ K.before keeper.old }
+    ensures silent { (F.view files.new).said ≡ (F.view files.old).said }
+    ensures high { (f p : ℕ) → (F.view files.old).part f ≡ None → (F.view files.new).part f ≡ Some p → 2 ≤ p }
+{
+    laws_hold();
+    match built {
+        Ok(mut discipline) => play_found_by(alloc, files, found, words, &mut discipline, keeper),
+        Err(NoMemory) => Err(Unplayed::Play(PlayFault::NoMemory)),
+    }
+}
 
 /// Does what `play_found` does, and tells each decision of the play to a keeper that was told nothing. After Ok that was told exactly
 /// the journal of the play, each packet with its arrival.
@@ -42,19 +76,13 @@ pub fn play_found_told<K: Keeper, F: Files>(
     laws_hold();
     match found.kind {
         Kind::Hfsc => match sole_class(found) {
-            Some(class) => match one_queue_of(alloc, found, class) {
-                Ok(mut queue) => play_found_by(alloc, files, found, words, &mut queue, keeper),
-                Err(NoMemory) => Err(Unplayed::Play(PlayFault::NoMemory)),
-            },
-            None => match hfsc_of(alloc, found) {
-                Ok(mut hfsc) => play_found_by(alloc, files, found, words, &mut hfsc, keeper),
-                Err(NoMemory) => Err(Unplayed::Play(PlayFault::NoMemory)),
-            },
+            Some(class) => {
+                let built = one_queue_of(alloc, found, class);
+                found_built(alloc, files, found, words, built, keeper)
+            }
+            None => found_built(alloc, files, found, words, hfsc_of(alloc, found), keeper),
         },
-        Kind::Cbq => match cbq_of(alloc, found) {
-            Ok(mut cbq) => play_found_by(alloc, files, found, words, &mut cbq, keeper),
-            Err(NoMemory) => Err(Unplayed::Play(PlayFault::NoMemory)),
-        },
+        Kind::Cbq => found_built(alloc, files, found, words, cbq_of(alloc, found), keeper),
     }
 }
 
@@ -76,6 +104,39 @@ pub fn play_found<F: Files>(
     ensures high { (f p : ℕ) → (F.view files.old).part f ≡ None → (F.view files.new).part f ≡ Some p → 2 ≤ p }
 {
     play_found_told(alloc, files, found, words, &mut KeepsNothing)
+}
+
+// Does what `play_classic_by` does, by a discipline that was just built; where there was no memory for it, nothing is opened.
+fn classic_built<D: Discipline + Drop, K: Keeper, F: Files>(
+    alloc: Global,
+    files: &mut F,
+    found: &Interface,
+    words: &PlayWords<'_>,
+    built: Result<D, NoMemory>,
+    keeper: &mut K,
+) -> Result<Totals, PlayFault>
+    requires begun { K.told keeper.old [] }
+    requires new { IfOk built (λ d. D.stands d []) }
+    requires policy { IfOk built (λ d. D.policy d ≡ policy_of found.now) }
+    requires rate { IfOk built (λ d. HasRate (D.link_rate d) found.now.rate) }
+    requires configured { IsConfigured found.now }
+    requires accepted { Accepts (F.view files.old) words.now.config.now words.now.interface.now found.now }
+    requires classic { IsTrue (F.view files.old).tells → (given : List ℕ) → (F.view files.old).bytes words.now.arrivals.now ≡ Some given
+        → is_pcapng given ≡ false }
+    requires distinct { AreDistinct words.now.config.now words.now.arrivals.now words.now.departures.now words.now.fates.now words.now.stats.now }
+    ensures done { IfOk result (PlaysTo (F.view files.old) (F.view files.new) (names_read words.now) words.now.seed) }
+    ensures ends { IfErr result (λ fault. PlayEnds (F.view files.old) (F.view files.new) (names_read words.now) words.now.seed
+        (Err (play_failure fault))) }
+    ensures told { IfOk result (TellsOf (K.told keeper.new) (F.view files.old) (F.view files.new) (names_read words.now) words.now.seed found.now) }
+    ensures before { K.before keeper.new ≡ K.before keeper.old }
+    ensures silent { (F.view files.new).said ≡ (F.view files.old).said }
+    ensures high { (f p : ℕ) → (F.view files.old).part f ≡ None → (F.view files.new).part f ≡ Some p → 2 ≤ p }
+{
+    laws_hold();
+    match built {
+        Ok(mut discipline) => play_classic_by(alloc, files, found, words, &mut discipline, keeper),
+        Err(NoMemory) => Err(PlayFault::NoMemory),
+    }
 }
 
 /// Does what `play_found_told` does with arrivals that are a classic capture, whatever they begin with: nothing is taken of them before
@@ -104,18 +165,12 @@ pub fn play_classic_told<K: Keeper, F: Files>(
     laws_hold();
     match found.kind {
         Kind::Hfsc => match sole_class(found) {
-            Some(class) => match one_queue_of(alloc, found, class) {
-                Ok(mut queue) => play_classic_by(alloc, files, found, words, &mut queue, keeper),
-                Err(NoMemory) => Err(PlayFault::NoMemory),
-            },
-            None => match hfsc_of(alloc, found) {
-                Ok(mut hfsc) => play_classic_by(alloc, files, found, words, &mut hfsc, keeper),
-                Err(NoMemory) => Err(PlayFault::NoMemory),
-            },
+            Some(class) => {
+                let built = one_queue_of(alloc, found, class);
+                classic_built(alloc, files, found, words, built, keeper)
+            }
+            None => classic_built(alloc, files, found, words, hfsc_of(alloc, found), keeper),
         },
-        Kind::Cbq => match cbq_of(alloc, found) {
-            Ok(mut cbq) => play_classic_by(alloc, files, found, words, &mut cbq, keeper),
-            Err(NoMemory) => Err(PlayFault::NoMemory),
-        },
+        Kind::Cbq => classic_built(alloc, files, found, words, cbq_of(alloc, found), keeper),
     }
 }

@@ -15,7 +15,7 @@ use play_words::PlayWords;
 use std::alloc::Global;
 
 /// The file of the arrivals, and how they begin.
-#[derive(Debug, Drop)]
+#[derive(Drop)]
 pub struct Arrivals {
     pub file: u32,
     pub given: Given,

@@ -61,10 +61,7 @@ fn marked_records<F: Files>(
         file,
         marker,
     };
-    match read_records(alloc, &mut marked, file) {
-        Ok(records) => Ok(records),
-        Err(fault) => Err(fault),
-    }
+    read_records(alloc, &mut marked, file)
 }
 
 // The records of what the conditioners of an interface make of what the file has left, which is a whole capture.

@@ -55,3 +55,24 @@ returns-in-Err-convert-clause-refused g c =
 
 pub returns-in-Err-convert-clause-keeps : goal.returns-in-Err-convert-clause-keeps
 returns-in-Err-convert-clause-keeps g c = keeps_trans Any _ _ _ _ c.in-Ok.ensures.keeps c.in-Ok-whole_file.ensures.keeps
+
+pub returns-in-Err-whole_file-clause-keeps : goal.returns-in-Err-whole_file-clause-keeps
+returns-in-Err-whole_file-clause-keeps g c = keeps_trans Any _ _ _ _ c.in-Ok.ensures.keeps c.in-Err-whole_file.ensures.keeps
+
+pub returns-in-Err-whole_file-clause-none : goal.returns-in-Err-whole_file-clause-none
+returns-in-Err-whole_file-clause-none g c = λ f h. c.in-Err-whole_file.ensures.none f (c.in-Ok.ensures.none f h)
+
+pub returns-in-Err-whole_file-clause-said : goal.returns-in-Err-whole_file-clause-said
+returns-in-Err-whole_file-clause-said g c = c.in-Err-whole_file.ensures.said ∙ c.in-Ok.ensures.said
+
+pub returns-in-Ok-convert-clause-none : goal.returns-in-Ok-convert-clause-none
+returns-in-Ok-convert-clause-none g c = λ f h. c.in-Ok-whole_file.ensures.none f (c.in-Ok.ensures.none f h)
+
+pub returns-in-Ok-convert-clause-said : goal.returns-in-Ok-convert-clause-said
+returns-in-Ok-convert-clause-said g c = c.in-Ok-whole_file.ensures.said ∙ c.in-Ok.ensures.said
+
+pub returns-in-Err-convert-clause-none : goal.returns-in-Err-convert-clause-none
+returns-in-Err-convert-clause-none g c = λ f h. c.in-Ok-whole_file.ensures.none f (c.in-Ok.ensures.none f h)
+
+pub returns-in-Err-convert-clause-said : goal.returns-in-Err-convert-clause-said
+returns-in-Err-convert-clause-said g c = c.in-Ok-whole_file.ensures.said ∙ c.in-Ok.ensures.said

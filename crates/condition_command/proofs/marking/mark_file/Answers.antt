@@ -10,9 +10,9 @@ use Rattle.play_base.proofs.ViewLaws.{same_refl, same_trans}
 use Rattle.condition_command.specs.Marking.{MarksLeft}
 use Rattle.condition_command.specs.declared.marking.Unmarked.{Unmarked}
 use Rattle.condition_command.specs.declared.marking.Unmarked.TheVariants as unmarked
-use Rattle.condition_command.proofs.MovingLemmas.{EndsAs, marks_cut, marks_told, marks_unwritten, on_begun, on_taken, on_wrote}
+use Rattle.condition_command.proofs.MovingLemmas.{EndsAs, Stays, marks_cut, marks_told, marks_unwritten, on_begun, on_taken, on_wrote, stays_on, stays_wrote}
 use Rattle.condition_command.proofs.marking.mark_file.Given.{Over}
-use Rattle.condition_command.proofs.marking.mark_file.Goals.{In_default}
+use Rattle.condition_command.proofs.marking.mark_file.Goals.{In-Err, In-Err-write_all, In_default}
 use Rattle.condition_command.proofs.marking.mark_file.Goals as goal
 
 pub turns-init : goal.turns-init
@@ -98,3 +98,81 @@ returns-in-Damaged-clause-marks g c =
 pub returns-in-Limit-clause-marks : goal.returns-in-Limit-clause-marks
 returns-in-Limit-clause-marks g c =
     told g (goal.at.returns-in-Limit-clause-marks g c).In_default behind.Limit (Err unmarked.Limit) c.in-Limit.is (λ k capture taken written h. h)
+
+-- beside that nothing changed: a read failed, or a write, or all was written
+unread : (g : Over) (c : In-Err g)
+    → Stays (g.F.Files.view c.args.files.now) (g.F.Files.view c.next_records.new.files) c.args.from c.args.to
+unread g c =
+    let u = g.F.Files.view c.args.files.now in
+    let w = g.F.Files.view c.next_records.new.files in
+    let m = c.args.marker.now in
+    let o = c.next_records.new.self in
+    stays_on u w c.args.from c.args.to m o
+    (on_taken u (g.F.Files.view c.turns.files) w c.args.from c.args.to m c.turns.marker o c.turns.invariant.on c.in-Err.ensures.taken)
+
+unwritten : (g : Over) (c : In-Err-write_all g)
+    → Stays (g.F.Files.view c.args.files.now) (g.F.Files.view c.write_all.new.files) c.args.from c.args.to
+unwritten g c =
+    let u = g.F.Files.view c.args.files.now in
+    let w = g.F.Files.view c.next_records.new.files in
+    let m = c.args.marker.now in
+    let o = c.next_records.new.self in
+    let front = c.in-Err-write_all.ensures.front in
+    stays_wrote u w (g.F.Files.view c.write_all.new.files) c.args.from c.args.to m o _ c.requires.apart
+    (on_taken u (g.F.Files.view c.turns.files) w c.args.from c.args.to m c.turns.marker o c.turns.invariant.on c.in-Ok.ensures.taken) front.1
+
+written : (g : Over) (c : In_default g)
+    → Stays (g.F.Files.view c.args.files.now) (g.F.Files.view c.write_all.new.files) c.args.from c.args.to
+written g c =
+    let u = g.F.Files.view c.args.files.now in
+    let w = g.F.Files.view c.next_records.new.files in
+    let m = c.args.marker.now in
+    let o = c.next_records.new.self in
+    stays_wrote u w (g.F.Files.view c.write_all.new.files) c.args.from c.args.to m o _ c.requires.apart
+    (on_taken u (g.F.Files.view c.turns.files) w c.args.from c.args.to m c.turns.marker o c.turns.invariant.on c.in-Ok.ensures.taken)
+    c.in_default.ensures.wrote
+
+pub returns-in-Err-clause-keeps : goal.returns-in-Err-clause-keeps
+returns-in-Err-clause-keeps g c = (unread g (goal.at.returns-in-Err-clause-keeps g c).In-Err).keeps
+
+pub returns-in-Err-clause-none : goal.returns-in-Err-clause-none
+returns-in-Err-clause-none g c = (unread g (goal.at.returns-in-Err-clause-none g c).In-Err).none
+
+pub returns-in-Err-clause-said : goal.returns-in-Err-clause-said
+returns-in-Err-clause-said g c = (unread g (goal.at.returns-in-Err-clause-said g c).In-Err).said
+
+pub returns-in-Err-write_all-clause-keeps : goal.returns-in-Err-write_all-clause-keeps
+returns-in-Err-write_all-clause-keeps g c = (unwritten g (goal.at.returns-in-Err-write_all-clause-keeps g c).In-Err-write_all).keeps
+
+pub returns-in-Err-write_all-clause-none : goal.returns-in-Err-write_all-clause-none
+returns-in-Err-write_all-clause-none g c = (unwritten g (goal.at.returns-in-Err-write_all-clause-none g c).In-Err-write_all).none
+
+pub returns-in-Err-write_all-clause-said : goal.returns-in-Err-write_all-clause-said
+returns-in-Err-write_all-clause-said g c = (unwritten g (goal.at.returns-in-Err-write_all-clause-said g c).In-Err-write_all).said
+
+pub returns-in-End-clause-keeps : goal.returns-in-End-clause-keeps
+returns-in-End-clause-keeps g c = (written g (goal.at.returns-in-End-clause-keeps g c).In_default).keeps
+
+pub returns-in-End-clause-none : goal.returns-in-End-clause-none
+returns-in-End-clause-none g c = (written g (goal.at.returns-in-End-clause-none g c).In_default).none
+
+pub returns-in-End-clause-said : goal.returns-in-End-clause-said
+returns-in-End-clause-said g c = (written g (goal.at.returns-in-End-clause-said g c).In_default).said
+
+pub returns-in-Damaged-clause-keeps : goal.returns-in-Damaged-clause-keeps
+returns-in-Damaged-clause-keeps g c = (written g (goal.at.returns-in-Damaged-clause-keeps g c).In_default).keeps
+
+pub returns-in-Damaged-clause-none : goal.returns-in-Damaged-clause-none
+returns-in-Damaged-clause-none g c = (written g (goal.at.returns-in-Damaged-clause-none g c).In_default).none
+
+pub returns-in-Damaged-clause-said : goal.returns-in-Damaged-clause-said
+returns-in-Damaged-clause-said g c = (written g (goal.at.returns-in-Damaged-clause-said g c).In_default).said
+
+pub returns-in-Limit-clause-keeps : goal.returns-in-Limit-clause-keeps
+returns-in-Limit-clause-keeps g c = (written g (goal.at.returns-in-Limit-clause-keeps g c).In_default).keeps
+
+pub returns-in-Limit-clause-none : goal.returns-in-Limit-clause-none
+returns-in-Limit-clause-none g c = (written g (goal.at.returns-in-Limit-clause-none g c).In_default).none
+
+pub returns-in-Limit-clause-said : goal.returns-in-Limit-clause-said
+returns-in-Limit-clause-said g c = (written g (goal.at.returns-in-Limit-clause-said g c).In_default).said
