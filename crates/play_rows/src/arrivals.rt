@@ -1,6 +1,5 @@
 // Captures in little-endian nanoseconds.
 
-use crate::frames::PLAIN;
 use play_base::NoMemory;
 use std::alloc::Global;
 
@@ -9,38 +8,34 @@ const HEAD: [u8; 24] = [
     0x4d, 0x3c, 0xb2, 0xa1, 2, 0, 4, 0, 0, 0, 0, 0, 0, 0, 0, 0, 0, 0, 4, 0, 1, 0, 0, 0,
 ];
 
-/// A capture without a record.
-pub fn no_arrivals(alloc: Global) -> Result<Vec<u8>, NoMemory> {
-    Ok(Vec::from_slice(alloc, &HEAD)?)
-}
+/// 60 bytes of no protocol, which go to the default class.
+pub const PLAIN: [u8; 60] = [0; 60];
 
-// Adds a record of these four numbers and this frame.
-fn push_record(capture: &mut Vec<u8>, numbers: [u32; 4], frame: &[u8]) -> Result<(), NoMemory> {
-    for number in numbers {
-        capture.extend_from_slice(&number.to_le_bytes())?;
-    }
-    capture.extend_from_slice(frame)?;
-    Ok(())
-}
+/// The head of a record of 60 captured bytes: a packet of 100 bytes at 0.
+pub const HUNDRED: [u8; 16] = [0, 0, 0, 0, 0, 0, 0, 0, 60, 0, 0, 0, 100, 0, 0, 0];
 
-/// Adds packets of one length and one frame that arrive at one second and nanosecond.
-pub fn arrive(
+/// Adds this many records with one head and one frame.
+pub fn add_records(
     capture: &mut Vec<u8>,
     count: u32,
-    at: (u32, u32),
-    len: u32,
+    head: &[u8; 16],
     frame: &[u8],
 ) -> Result<(), NoMemory> {
-    let captured = u32::try_from(frame.len()).unwrap_or(u32::MAX);
     for _ in 0..count {
-        push_record(capture, [at.0, at.1, captured, len], frame)?;
+        capture.extend_from_slice(head)?;
+        capture.extend_from_slice(frame)?;
     }
     Ok(())
 }
 
-/// A capture of equal packets of 60 captured bytes.
-pub fn packets(alloc: Global, count: u32, at: (u32, u32), len: u32) -> Result<Vec<u8>, NoMemory> {
-    let mut capture = no_arrivals(alloc)?;
-    arrive(&mut capture, count, at, len, &PLAIN)?;
+/// A capture of this many records with one head and one frame.
+pub fn records(
+    alloc: Global,
+    count: u32,
+    head: &[u8; 16],
+    frame: &[u8],
+) -> Result<Vec<u8>, NoMemory> {
+    let mut capture = Vec::from_slice(alloc, &HEAD)?;
+    add_records(&mut capture, count, head, frame)?;
     Ok(capture)
 }

@@ -1,33 +1,12 @@
-// Runs over files in memory.
+// Plays over files in memory.
 
-use crate::arrivals::{arrive, no_arrivals};
-use crate::frames::{PLAIN, datagram};
 use memory_files::MemoryFiles;
 use play_base::NoMemory;
 use play_cli::{Status, run};
 use std::alloc::Global;
-use std::test::Fail;
 
 /// An interface without classes, on a link of 8 megabits a second.
 pub const IMPLIED: &str = "interface if0 bandwidth 8M hfsc";
-
-/// A leaf for voice beside one for data.
-pub const VOICE_AND_DATA: &str =
-    "interface if0 bandwidth 8M hfsc\nclass hfsc if0 root NULL pshare 100\nclass hfsc if0 voice root [sc 4M 5 1M]\nclass hfsc if0 data root [sc 0 5 4M] default\nfilter if0 voice 0 5004 0 0 17\n";
-
-/// 50 packets of data at 0, and one of voice after 10 ms.
-pub fn voice_and_data(alloc: Global) -> Result<Vec<u8>, NoMemory> {
-    let mut arrivals = no_arrivals(alloc)?;
-    arrive(&mut arrivals, 50, (0, 0), 1000, &PLAIN)?;
-    arrive(
-        &mut arrivals,
-        1,
-        (0, 10_000_000),
-        200,
-        &datagram(alloc, 5004)?,
-    )?;
-    Ok(arrivals)
-}
 
 const PLAY: [&str; 15] = [
     "play",
@@ -77,16 +56,5 @@ pub fn ended(code: u8, place: u64, kind: u8) -> Status {
         word: 0,
         place,
         kind,
-    }
-}
-
-/// The files after a play that was done.
-pub fn played(alloc: Global, config: &str, capture: &[u8]) -> Result<MemoryFiles, Fail> {
-    let mut files = MemoryFiles::new(alloc);
-    let status = play_over(alloc, &mut files, config, capture)?;
-    if status.code == 0 {
-        Ok(files)
-    } else {
-        Err(Fail::new("not done"))
     }
 }

@@ -2,7 +2,7 @@
 
 ghost use Rattle.std.specs.Prelude.{◌≤◌};
 
-use crate::packet::number;
+use crate::words::number;
 use leaf_queue::{QueueRule, Waiting, Words};
 use red_average::Red;
 
@@ -48,14 +48,13 @@ fn red_after(rate: u64, happened: &[&str]) -> Option<Red>
     if left.is_empty() { Some(red) } else { None }
 }
 
-/// RED's average, in packets times 2^21, after what happened in a queue of a link of this rate; nothing where these words are not
-/// understood.
-pub fn average(rate: &str, happened: &[&str]) -> Option<Option<u128>> {
+/// RED's average, in packets times 2^21, after what happened in a queue of a link of the rate that the first of these words says.
+pub fn average(words: &[&str]) -> Option<Option<u128>> {
+    let (rate, happened) = words.split_first()?;
     let rate = number(rate)?;
-    if SLOWEST <= rate && rate <= FASTEST {
-        let red = red_after(rate, happened)?;
-        Some(Some(u128::from(red.average)))
-    } else {
-        None
+    if rate < SLOWEST || FASTEST < rate {
+        return None;
     }
+    let red = red_after(rate, happened)?;
+    Some(Some(u128::from(red.average)))
 }

@@ -1,55 +1,43 @@
 // Changes of bytes, of a capture or of a file.
 
-use crate::packet::number;
-use play_base::NoMemory;
+use crate::words::number;
 use std::alloc::Global;
 
-/// Changes bytes as the words of a line say, and tells whether they are understood: `bytes` adds some in hexadecimal, `cut` leaves so
-/// many, `put` overwrites some from a place on, and `row` puts words in the place of a line of text, from 1, or behind the last, or
-/// leaves that line out.
-pub fn change(
-    alloc: Global,
-    bytes: &mut Vec<u8>,
-    how: &str,
-    words: &[&str],
-) -> Result<bool, NoMemory> {
-    let [word, rest @ ..] = words else {
-        return Ok(false);
-    };
-    match (how, rest) {
-        ("bytes", []) => add(alloc, bytes, word),
-        ("cut", []) => Ok(cut(bytes, word).is_some()),
-        ("put", [digits]) => Ok(put(alloc, bytes, word, digits).is_some()),
-        ("row", words) => match number(word) {
-            Some(line) => put_row(alloc, bytes, line, words),
-            None => Ok(false),
-        },
-        _ => Ok(false),
+/// How bytes change: some are added in hexadecimal, as many as is said are left, some are overwritten from a place on, or words are put
+/// in the place of a line of text, from 1, or behind the last, or leave that line out.
+#[derive(Clone, Copy)]
+pub enum How {
+    Add,
+    Cut,
+    Put,
+    Row,
+}
+
+/// Changes bytes as the words of a line say.
+pub fn change(alloc: Global, bytes: &mut Vec<u8>, how: How, words: &[&str]) -> Option<()> {
+    let (word, rest) = words.split_first()?;
+    match how {
+        How::Add => add(alloc, bytes, word),
+        How::Cut => cut(bytes, word),
+        How::Put => put(alloc, bytes, word, rest),
+        How::Row => put_row(alloc, bytes, word, rest),
     }
 }
 
-// Adds the bytes of hexadecimal digits.
-fn add(alloc: Global, bytes: &mut Vec<u8>, digits: &str) -> Result<bool, NoMemory> {
-    match hex::decode(alloc, digits) {
-        Ok(more) => {
-            bytes.extend_from_slice(&more)?;
-            Ok(true)
-        }
-        Err(_) => Ok(false),
-    }
+/// Adds the bytes of hexadecimal digits.
+pub fn add(alloc: Global, bytes: &mut Vec<u8>, digits: &str) -> Option<()> {
+    let more = hex::decode(alloc, digits).ok()?;
+    bytes.extend_from_slice(&more).ok()
 }
 
-// Leaves the first bytes, as many as a word says.
 fn cut(bytes: &mut Vec<u8>, count: &str) -> Option<()> {
     bytes.truncate(number(count)? as usize);
     Some(())
 }
 
-// Overwrites bytes from a place on.
-fn put(alloc: Global, bytes: &mut Vec<u8>, at: &str, digits: &str) -> Option<()> {
-    let at = number(at)? as usize;
-    let piece = hex::decode(alloc, digits).ok()?;
-    overwrite(bytes, at, &piece)
+fn put(alloc: Global, bytes: &mut [u8], at: &str, digits: &[&str]) -> Option<()> {
+    let piece = hex::decode(alloc, *digits.first()?).ok()?;
+    overwrite(bytes, number(at)? as usize, &piece)
 }
 
 fn overwrite(bytes: &mut [u8], from: usize, piece: &[u8]) -> Option<()> {
@@ -61,47 +49,33 @@ fn overwrite(bytes: &mut [u8], from: usize, piece: &[u8]) -> Option<()> {
     Some(())
 }
 
-// Puts words in the place of a line of a text, or behind the last; leaves the line out where there are none.
-fn put_row(
-    alloc: Global,
-    bytes: &mut Vec<u8>,
-    line: u64,
-    words: &[&str],
-) -> Result<bool, NoMemory> {
+fn put_row(alloc: Global, bytes: &mut Vec<u8>, line: &str, words: &[&str]) -> Option<()> {
+    let row = words.join(alloc, " ").ok()?;
     let mut changed = Vec::new(alloc);
     let text = str::from_utf8(bytes).unwrap_or_default();
-    push_rows(&mut changed, text, line, words)?;
+    push_rows(&mut changed, text, number(line)?, row.as_str())?;
     *bytes = changed;
-    Ok(true)
+    Some(())
 }
 
-// Adds the lines of a text, with these words in the place of one.
-fn push_rows(changed: &mut Vec<u8>, text: &str, line: u64, words: &[&str]) -> Result<(), NoMemory> {
+// Adds the lines of a text, with another in the place of one.
+fn push_rows(changed: &mut Vec<u8>, text: &str, line: u64, other: &str) -> Option<()> {
     let mut here: u64 = 0;
     for row in text.lines() {
         here = here.wrapping_add(1);
-        if here == line {
-            push_row(changed, words)?;
-        } else {
-            push_row(changed, &[row])?;
-        }
+        push_row(changed, if here == line { other } else { row })?;
     }
     if here < line {
-        push_row(changed, words)?;
+        return push_row(changed, other);
     }
-    Ok(())
+    Some(())
 }
 
-// Adds words parted by blanks, and a line feed; nothing where there are none.
-fn push_row(text: &mut Vec<u8>, words: &[&str]) -> Result<(), NoMemory> {
-    if words.is_empty() {
-        return Ok(());
+// Adds a line, unless it is empty.
+fn push_row(text: &mut Vec<u8>, row: &str) -> Option<()> {
+    if row.is_empty() {
+        return Some(());
     }
-    let mut blank: &[u8] = b"";
-    for word in words {
-        text.extend_from_slice(blank)?;
-        text.extend_from_slice(word.as_bytes())?;
-        blank = b" ";
-    }
-    Ok(text.extend_from_slice(b"\n")?)
+    text.extend_from_slice(row.as_bytes()).ok()?;
+    text.push(b'\n').ok()
 }

@@ -1,21 +1,23 @@
 //! Worked plays as text. A transcript holds cases: a configuration, packets, commands, and below each command what it answers.
 //!
 //! README.md of this crate says what a line may say. Nothing here is part of the program: the crate runs it over files in memory, so
-//! that what a play answers can be compared with what was reckoned, at no proof for each play.
+//! that what a play answers can be compared with what was reckoned, at no proof for each play. `None` of a function says that the
+//! words are not understood, or that memory ran out.
 #![tactic(auto)]
 
-mod arrivals;
 mod averages;
 mod calls;
+mod capture;
 mod case;
 mod changes;
 mod command;
 mod moments;
 mod openings;
 mod packet;
-mod quoted;
 mod records;
 mod sendings;
+mod texts;
+mod words;
 
 use case::Case;
 use play_base::NoMemory;
@@ -26,18 +28,39 @@ use std::alloc::Global;
 /// `NoMemory` comes only when memory runs out. Time and memory are those of the plays.
 pub fn answered(alloc: Global, text: &str) -> Result<String, NoMemory> {
     let mut answered = String::new(alloc);
-    let mut case = Case::new(alloc)?;
+    let Some(mut case) = Case::new(alloc) else {
+        return Err(NoMemory);
+    };
     for line in text.lines() {
         if !line.starts_with('>') {
-            answer(&mut case, line, &mut answered)?;
+            answer(alloc, &mut case, line, &mut answered)?;
         }
     }
     Ok(answered)
 }
 
 // Adds a line, and below it what it answers.
-fn answer(case: &mut Case, line: &str, answered: &mut String) -> Result<(), NoMemory> {
-    answered.push_str(line)?;
-    answered.push_str("\n")?;
-    case.follow(line, answered)
+fn answer(
+    alloc: Global,
+    case: &mut Case,
+    line: &str,
+    answered: &mut String,
+) -> Result<(), NoMemory> {
+    let mut said = String::new(alloc);
+    let understood = case.follow(line, &mut said).is_some();
+    write!(answered, "{line}\n")?;
+    let said = if understood {
+        said.as_str()
+    } else {
+        "not understood"
+    };
+    quote(answered, said)
+}
+
+// Adds each line of a text behind `> `.
+fn quote(answered: &mut String, text: &str) -> Result<(), NoMemory> {
+    for line in text.lines() {
+        write!(answered, "> {line}\n")?;
+    }
+    Ok(())
 }

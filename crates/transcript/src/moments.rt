@@ -7,7 +7,6 @@ ghost use Rattle.conf_tree.specs.declared.interface.Kind.TheVariants as kind;
 ghost use Rattle.discipline.specs.Laws.{HasRate};
 ghost use Rattle.frame_classes.specs.Frames.{place_in};
 
-use crate::quoted::add_line;
 use crate::sendings::{ask, play_until};
 use command_base::{ConfigFault, read_conf};
 use conf_laws::configurations_fit;
@@ -32,7 +31,7 @@ fn rule_word(rule: Rule) -> &'static str {
     }
 }
 
-// Adds an answer in the words of a line.
+// Adds an answer in words.
 fn tell(answer: &mut String, interface: &Interface, pick: Pick) -> Result<(), NoMemory> {
     match pick {
         Pick::Send {
@@ -47,10 +46,10 @@ fn tell(answer: &mut String, interface: &Interface, pick: Pick) -> Result<(), No
                 Some(class) => class.name.as_str(),
                 None => "?",
             };
-            Ok(write!(answer, "> send {number} {name} {rule}\n")?)
+            Ok(write!(answer, "send {number} {name} {rule}")?)
         }
-        Pick::Wait { till } => Ok(write!(answer, "> wait {till}\n")?),
-        Pick::Empty => add_line(answer, "empty"),
+        Pick::Wait { till } => Ok(write!(answer, "wait {till}")?),
+        Pick::Empty => Ok(answer.push_str("empty")?),
     }
 }
 
@@ -153,7 +152,7 @@ fn tell_answer(
 {
     match answer_in(alloc, interface, records, moment)? {
         Ok(pick) => tell(answer, interface, pick),
-        Err(free) => Ok(write!(answer, "> busy {free}\n")?),
+        Err(free) => Ok(write!(answer, "busy {free}")?),
     }
 }
 
@@ -185,13 +184,13 @@ pub fn next_at(
     let conf = match read_conf(alloc, files, "conf") {
         Ok(conf) => conf,
         Err(ConfigFault::NoMemory) => return Err(NoMemory),
-        Err(_) => return add_line(answer, "refused"),
+        Err(_) => return Ok(answer.push_str("refused")?),
     };
     let Some(interface) = conf.interface("if0") else {
-        return add_line(answer, "refused");
+        return Ok(answer.push_str("refused")?);
     };
     match records_in(alloc, files)? {
         Some(records) => tell_answer(alloc, interface, &records, moment, answer),
-        None => add_line(answer, "refused"),
+        None => Ok(answer.push_str("refused")?),
     }
 }

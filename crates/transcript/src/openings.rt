@@ -6,7 +6,7 @@ ghost use Rattle.service_curve.specs.Curve.{IsInRange};
 ghost use Rattle.runtime_curve.specs.Opening.{IsWithin, RisesFromZero};
 ghost use Rattle.runtime_curve.specs.Running.{last_of};
 
-use crate::packet::number;
+use crate::words::number;
 use runtime_curve::{Opening, Running};
 use service_curve::Curve;
 

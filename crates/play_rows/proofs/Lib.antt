@@ -1,3 +1,0 @@
-mod Limited
-mod Moving
-mod Paced
