@@ -42,6 +42,13 @@ impl Bytes {
         Bytes { held: bytes }
     }
 
+    /// These very bytes, with their memory.
+    pub fn into_vec(self) -> Vec<u8>
+        ensures { result.items ≡ self }
+    {
+        self.held
+    }
+
     /// The bytes in order.
     pub fn as_slice(&self) -> &[u8]
         ensures { result.now ≡ self.now }
