@@ -1,5 +1,5 @@
 -- How long the row of a fate can be.
-use Rattle.std.proofs.Common.{◌≡◌, ◌≤◌, ◌+◌, ◌*◌, ◌∙◌, ℕ, suc, Bool, true, false, List, [], ◌∷◌, ◌++◌, length, eqb, if◌then◌else◌, refl, ap, sym, arith}
+use Rattle.std.proofs.Common.{◌≡◌, ◌≤◌, ◌+◌, ◌*◌, ℕ, suc, Bool, true, false, List, [], ◌∷◌, ◌++◌, length, eqb, if◌then◌else◌, ap, arith}
 use Rattle.std.proofs.lemmas.List.{length-append}
 use Rattle.csv.specs.Writing.{default_writer, escaped, needs_quotes, quoted, field_text, fields_text, row_text, is_blank}
 

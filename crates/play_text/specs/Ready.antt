@@ -1,6 +1,5 @@
 -- A writer of comma-separated values between two rows.
-use Rattle.std.specs.Prelude.{◌≡◌, ◌++◌, ℕ, List, [], false}
-use Rattle.std.specs.declared.vec.Vec.{Vec}
+use Rattle.std.specs.Prelude.{◌≡◌, [], false}
 use Rattle.csv.specs.declared.writer.Writer.{Writer}
 use Rattle.csv.specs.Writing.{default_writer, writer_setup, writer_pending, fields_written, has_written}
 

@@ -3,6 +3,7 @@
 
 mod laws;
 mod names;
+mod number;
 mod rows;
 mod stats;
 mod summary;

@@ -1,14 +1,14 @@
 // The rows of the fates.
-ghost use Rattle.std.specs.Prelude.{◌≡◌, ◌≤◌, ◌+◌, ◌∷◌, ◌++◌, [], true, IfOk, OnErr, OnOk, length, map};
+ghost use Rattle.std.specs.Prelude.{◌≡◌, ◌≢◌, ◌≤◌, ◌+◌, ◌∷◌, ◌++◌, [], true, IfOk, OnErr, OnOk, decimal, length, map};
 ghost use Rattle.csv.specs.Writing.{default_writer, row_text, writer_pending, writer_under};
 ghost use Rattle.play_text.specs.Texts.{fate_text, fates_header, rule_word, reason_word};
 ghost use Rattle.play_text.specs.Names.{HasClass, name_of};
 ghost use Rattle.play_text.specs.Ready.{IsBetweenRows, IsReady};
 
 use crate::names::Names;
+use crate::number::Number;
 use altq_model::{Fate, Reason, Rule};
 use csv::{Writer, WriterBuilder};
-use itoa::Buffer;
 use play_base::NoMemory;
 use std::alloc::Global;
 use std::marker::Model;
@@ -41,14 +41,36 @@ fn reason_name(reason: Reason) -> &'static str
 // take as many once more, two bytes a field, and its separators.
 const LONGEST_ROW: usize = 565;
 
-// Memory for the digits of a row's numbers, which is cleared once and not for each row.
+// The start and the end of a packet that was dropped.
+const NOTHING: &[u8] = &[];
+
+// The numbers of a row. Those of the last sending stay, since most sendings start where the one before them ends.
 #[derive(Drop)]
 struct Digits {
-    number: Buffer,
-    at: Buffer,
-    len: Buffer,
-    start: Buffer,
-    end: Buffer,
+    number: Number,
+    at: Number,
+    len: Number,
+    times: Times,
+}
+
+// The start and the end of a sending.
+#[derive(Drop)]
+struct Times {
+    start: Number,
+    end: Number,
+}
+
+impl Times {
+    // Writes a start, unless it is the end that was written last: then that is the start now.
+    fn begin(&mut self, start: u64)
+        ensures { self.new.start.value ≡ start }
+    {
+        if start == self.end.value() {
+            mem::swap(&mut self.start, &mut self.end);
+        } else {
+            self.start.set(start);
+        }
+    }
 }
 
 /// Rows of fates that are gathered as text: comma-separated values, each row with a line feed at its end. Contracts see the text.
@@ -93,11 +115,13 @@ impl Rows {
             writer: writer_over(Vec::new(alloc)),
             most: 0,
             digits: Digits {
-                number: Buffer::new(),
-                at: Buffer::new(),
-                len: Buffer::new(),
-                start: Buffer::new(),
-                end: Buffer::new(),
+                number: Number::zero(),
+                at: Number::zero(),
+                len: Number::zero(),
+                times: Times {
+                    start: Number::zero(),
+                    end: Number::zero(),
+                },
             },
         }
     }
@@ -202,80 +226,98 @@ fn add_fate(
     ensures longer { result ≡ true → length ((writer_under writer.new).items ++ writer_pending writer.new)
         ≤ length ((writer_under writer.old).items ++ writer_pending writer.old) + 565 }
 {
-    let number = digits.number.format(number);
-    let at = digits.at.format(at);
-    let len = digits.len.format(len);
+    digits.number.set(number);
+    digits.at.set(at);
+    digits.len.set(u64::from(len));
     match *fate {
         Fate::Sent { start, end, rule } => {
-            let start = digits.start.format(start);
-            let end = digits.end.format(end);
-            put(writer, number, at, len, class, rule_name(rule), start, end)
+            if start != at {
+                digits.times.begin(start);
+            }
+            digits.times.end.set(end);
+            put_sent(writer, digits, class, rule_name(rule), start)
         }
-        Fate::Dropped(reason) => {
-            put_dropped(writer, number, at, len, class, reason_name(reason))
-        }
+        Fate::Dropped(reason) => put_dropped(writer, digits, class, reason_name(reason)),
     }
 }
 
 // Writes the row of a drop; false where memory was wanting.
-fn put_dropped<'a>(
-    writer: &mut Writer<Vec<u8>>,
-    number: &'a str,
-    at: &'a str,
-    len: &'a str,
-    class: &'a str,
-    word: &'a str,
-) -> bool
+fn put_dropped(writer: &mut Writer<Vec<u8>>, digits: &Digits, class: &str, word: &str) -> bool
     requires between { IsBetweenRows writer.old }
-    requires number { length number.now ≤ 40 }
-    requires at { length at.now ≤ 40 }
-    requires len { length len.now ≤ 40 }
     requires class { length class.now ≤ 64 }
     requires word { length word.now ≤ 8 }
     ensures between { result ≡ true → IsBetweenRows writer.new }
     ensures text { result ≡ true → (writer_under writer.new).items ++ writer_pending writer.new
-        ≡ ((writer_under writer.old).items ++ writer_pending writer.old) ++ row_text default_writer
-        (number.now ∷ at.now ∷ len.now ∷ class.now ∷ word.now ∷ [] ∷ [] ∷ []) }
+        ≡ ((writer_under writer.old).items ++ writer_pending writer.old) ++ row_text default_writer (decimal digits.now.number.value
+        ∷ decimal digits.now.at.value ∷ decimal digits.now.len.value ∷ class.now ∷ word.now ∷ [] ∷ [] ∷ []) }
     ensures longer { result ≡ true → length ((writer_under writer.new).items ++ writer_pending writer.new)
         ≤ length ((writer_under writer.old).items ++ writer_pending writer.old) + 565 }
 {
-    put(writer, number, at, len, class, word, "", "")
+    put(writer, digits, class, word, NOTHING, NOTHING)
 }
 
-// Writes a row of these fields; false where memory was wanting. All are in one array, which `csv` writes, so they have one lifetime.
-fn put<'a>(
+// Writes the row of a sending that starts at this moment; false where memory was wanting.
+fn put_sent(
     writer: &mut Writer<Vec<u8>>,
-    number: &'a str,
-    at: &'a str,
-    len: &'a str,
-    class: &'a str,
-    word: &'a str,
-    start: &'a str,
-    end: &'a str,
+    digits: &Digits,
+    class: &str,
+    word: &str,
+    start: u64,
 ) -> bool
     requires between { IsBetweenRows writer.old }
-    requires number { length number.now ≤ 40 }
-    requires at { length at.now ≤ 40 }
-    requires len { length len.now ≤ 40 }
+    requires class { length class.now ≤ 64 }
+    requires word { length word.now ≤ 8 }
+    requires start { digits.now.at.value ≢ start → digits.now.times.start.value ≡ start }
+    ensures between { result ≡ true → IsBetweenRows writer.new }
+    ensures text { result ≡ true → (writer_under writer.new).items ++ writer_pending writer.new
+        ≡ ((writer_under writer.old).items ++ writer_pending writer.old) ++ row_text default_writer (decimal digits.now.number.value
+        ∷ decimal digits.now.at.value ∷ decimal digits.now.len.value ∷ class.now ∷ word.now ∷ decimal start ∷ decimal digits.now.times.end.value ∷ []) }
+    ensures longer { result ≡ true → length ((writer_under writer.new).items ++ writer_pending writer.new)
+        ≤ length ((writer_under writer.old).items ++ writer_pending writer.old) + 565 }
+{
+    let begun = with_value(&digits.at, &digits.times.start, start);
+    let ended = digits.times.end.as_bytes();
+    put(writer, digits, class, word, begun.as_bytes(), ended)
+}
+
+// The first of two numbers where it has this value, else the second, which has it then.
+fn with_value<'a>(one: &'a Number, other: &'a Number, value: u64) -> &'a Number
+    requires { one.now.value ≢ value → other.now.value ≡ value }
+    ensures { result.now.value ≡ value }
+{
+    if one.value() == value { one } else { other }
+}
+
+// Writes a row of these numbers and fields; false where memory was wanting. All are in one array, which `csv` writes, so they have one
+// lifetime.
+fn put<'a>(
+    writer: &mut Writer<Vec<u8>>,
+    digits: &'a Digits,
+    class: &'a str,
+    word: &'a str,
+    start: &'a [u8],
+    end: &'a [u8],
+) -> bool
+    requires between { IsBetweenRows writer.old }
     requires class { length class.now ≤ 64 }
     requires word { length word.now ≤ 8 }
     requires start { length start.now ≤ 40 }
     requires end { length end.now ≤ 40 }
     ensures between { result ≡ true → IsBetweenRows writer.new }
     ensures text { result ≡ true → (writer_under writer.new).items ++ writer_pending writer.new
-        ≡ ((writer_under writer.old).items ++ writer_pending writer.old) ++ row_text default_writer
-        (number.now ∷ at.now ∷ len.now ∷ class.now ∷ word.now ∷ start.now ∷ end.now ∷ []) }
+        ≡ ((writer_under writer.old).items ++ writer_pending writer.old) ++ row_text default_writer (decimal digits.now.number.value
+        ∷ decimal digits.now.at.value ∷ decimal digits.now.len.value ∷ class.now ∷ word.now ∷ start.now ∷ end.now ∷ []) }
     ensures longer { result ≡ true → length ((writer_under writer.new).items ++ writer_pending writer.new)
         ≤ length ((writer_under writer.old).items ++ writer_pending writer.old) + 565 }
 {
     let fields = [
-        number.as_bytes(),
-        at.as_bytes(),
-        len.as_bytes(),
+        digits.number.as_bytes(),
+        digits.at.as_bytes(),
+        digits.len.as_bytes(),
         class.as_bytes(),
         word.as_bytes(),
-        start.as_bytes(),
-        end.as_bytes(),
+        start,
+        end,
     ];
     add_row(writer, &fields)
 }
