@@ -1,8 +1,8 @@
 -- The computed moments are the first ones.
-use Rattle.std.proofs.Common.{◌≡◌, ◌≤◌, ◌<◌, ◌+◌, ◌-◌, ◌*◌, ◌⊎◌, inl, inr, ℕ, Bool, true, false, refl, ap, sym, subst, arith, ◌∙◌}
+use Rattle.std.proofs.Common.{◌≡◌, ◌≤◌, ◌<◌, ◌+◌, ◌-◌, ◌*◌, ◌/◌, ◌%◌, ◌⊎◌, inl, inr, ℕ, Bool, true, false, refl, ap, sym, subst, arith, ◌∙◌}
 use Rattle.std.specs.Prelude.{nat_le, ◌==◌, if◌then◌else◌, Option, None, Some}
 use Rattle.std.proofs.lemmas.Bool.{cases_lt}
-use Rattle.std.proofs.lemmas.Nat.{div_below}
+use Rattle.std.proofs.lemmas.Nat.{div_below, div-add-mod', div-mul-add, mod_below}
 use Rattle.service_curve.specs.declared.Curve.{Curve}
 use Rattle.service_curve.specs.Curve.{amount, time_at, first}
 use Rattle.service_curve.specs.Moment.{IsFirst, HasCome}
@@ -110,8 +110,14 @@ first_is_one P (Some x) (Some y) f g =
 pub first_is_first : (s : Curve) (x : ℕ) → IsFirst (λ t. x ≤ amount s t) (first s x)
 first_is_first s x = first_of (λ t. x ≤ amount s t) (first s x) (first_comes s x) (first_reaches s x)
 
--- the first time by the piece in which the curve gives the amount
-pub first_in_piece : (s : Curve) (x slope before rest y : ℕ) → first s x ≡ Some (before + time_at slope rest) → y ≡ before + time_at slope rest
-    → IsFirst (λ t. x ≤ amount s t) (Some y)
-first_in_piece s x slope before rest y e f =
-    subst (λ (o : Option ℕ). IsFirst (λ t. x ≤ amount s t) o) (e ∙ ap (λ n. Some n) (sym f)) (first_is_first s x)
+-- so is what is equal to it
+pub equals_first : (s : Curve) (x : ℕ) (o : Option ℕ) → o ≡ first s x → IsFirst (λ t. x ≤ amount s t) o
+equals_first s x o e = subst (λ (y : Option ℕ). IsFirst (λ t. x ≤ amount s t) y) (sym e) (first_is_first s x)
+
+-- a quotient rounded up is one more than the quotient of one less
+pub time_more : (slope wanted : ℕ) → 0 < slope → 1 ≤ wanted → (wanted - 1) / slope + 1 ≡ time_at slope wanted
+time_more slope wanted h k =
+    let parts : (wanted - 1) / slope * slope + (wanted - 1) % slope ≡ wanted - 1 = div-add-mod' (wanted - 1) slope in
+    let small : (wanted - 1) % slope < slope = mod_below (wanted - 1) slope h in
+    let sum : wanted + (slope - 1) ≡ ((wanted - 1) / slope + 1) * slope + (wanted - 1) % slope = omega (arith, parts, h, k) in
+    sym (ap (λ n. n / slope) sum ∙ div-mul-add ((wanted - 1) / slope + 1) slope ((wanted - 1) % slope) small)

@@ -7,7 +7,7 @@
 //! Curve Algorithm for Link-Sharing, Real-Time and Priority Services", SIGCOMM 1997.
 #![tactic(auto)]
 
-ghost use Rattle.std.specs.Prelude.{◌≡◌, ◌≢◌, ◌<◌, ◌≤◌, ◌+◌, ◌-◌, ◌*◌, ◌/◌, ◌^◌, ◌↔◌, ℕ, nat_le, IfSome, Some, None, if◌then◌else◌};
+ghost use Rattle.std.specs.Prelude.{◌≡◌, ◌≢◌, ◌<◌, ◌≤◌, ◌+◌, ◌-◌, ◌*◌, ◌/◌, ◌^◌, ◌↔◌, ℕ, IfSome, Some, None};
 ghost use Rattle.service_curve.specs.Curve.{IsInRange, amount, curve, first, straight, time_at};
 ghost use Rattle.service_curve.specs.Inverse.{inverses};
 ghost use Rattle.service_curve.specs.Moment.{IsFirst};
@@ -15,7 +15,7 @@ ghost use Rattle.service_curve.specs.Moment.{IsFirst};
 mod inverses;
 
 pub use inverses::Inverses;
-use inverses::{inverse, quotient};
+use inverses::{inverse, time_at};
 
 /// A service curve of two pieces: the slope `m1` for a time of `d`, and from there on the slope `m2`.
 ///
@@ -28,11 +28,10 @@ pub struct Curve {
     pub m2: u64,
 }
 
-/// One slope with its number, the time before it begins, and the amount that it is to give from there.
+/// One slope, the time before it begins, and the amount that it is to give from there.
 #[derive(Clone, Copy)]
 struct Piece {
     slope: u64,
-    inverse: u64,
     before: u64,
     rest: u128,
 }
@@ -75,6 +74,7 @@ impl Curve {
 
     /// The least time, in nanoseconds, in which the curve gives `wanted` units, where `wanted` is less than 2^100. `None`
     /// comes exactly where it never gives so much: its second slope is 0, and its first piece gives less.
+    #[inline(never)]
     pub fn first(&self, wanted: u128) -> Option<u128>
         requires in_range { IsInRange self.now }
         requires wanted { wanted < 2 ^ 100 }
@@ -82,11 +82,12 @@ impl Curve {
         ensures is { result ≡ first self.now wanted }
         ensures bounded { IfSome result (λ t. t ≤ self.now.d + wanted) }
     {
-        let none = Inverses {
-            first: 0,
-            second: 0,
-        };
-        self.first_by(&none, wanted)
+        let piece = self.piece(wanted);
+        if piece.slope == 0 {
+            return if piece.rest == 0 { Some(0) } else { None };
+        }
+        let slope = u128::from(piece.slope);
+        Some(u128::from(piece.before) + (piece.rest + (slope - 1)) / slope)
     }
 
     /// The numbers by which `first_by` guesses quotients.
@@ -101,6 +102,7 @@ impl Curve {
 
     /// What `first` answers, and at less cost where the numbers are those of the curve: then amounts below 2^64 are not
     /// divided. With others it answers the same. Constant time.
+    #[inline(always)]
     pub fn first_by(&self, inverses: &Inverses, wanted: u128) -> Option<u128>
         requires in_range { IsInRange self.now }
         requires wanted { wanted < 2 ^ 100 }
@@ -108,27 +110,36 @@ impl Curve {
         ensures is { result ≡ first self.now wanted }
         ensures bounded { IfSome result (λ t. t ≤ self.now.d + wanted) }
     {
-        let piece = self.piece(inverses, wanted);
-        if piece.slope == 0 {
-            return if piece.rest == 0 { Some(0) } else { None };
+        if wanted == 0 || wanted > u128::from(u64::MAX) {
+            return self.first(wanted);
         }
-        Some(
-            u128::from(piece.before)
-                + quotient(
-                    piece.rest + u128::from(piece.slope - 1),
-                    piece.slope,
-                    piece.inverse,
-                ),
-        )
+        self.first_short(inverses, wanted as u64)
+    }
+
+    /// The same for an amount of one word, which is not 0.
+    #[inline(always)]
+    fn first_short(&self, inverses: &Inverses, wanted: u64) -> Option<u128>
+        requires in_range { IsInRange self.now }
+        requires wanted { 1 ≤ wanted }
+        ensures is { result ≡ first self.now wanted }
+    {
+        let bend = u128::from(self.m1) * u128::from(self.d);
+        if u128::from(wanted) <= bend {
+            return Some(u128::from(time_at(wanted, self.m1, inverses.first)));
+        }
+        if self.m2 == 0 {
+            return None;
+        }
+        let rest = wanted - bend as u64;
+        Some(u128::from(self.d) + u128::from(time_at(rest, self.m2, inverses.second)))
     }
 
     /// The piece in which the curve comes to give an amount.
-    fn piece(&self, inverses: &Inverses, wanted: u128) -> Piece
+    fn piece(&self, wanted: u128) -> Piece
         requires in_range { IsInRange self.now }
         requires wanted { wanted < 2 ^ 100 }
         ensures least { result.rest ≤ wanted }
         ensures slope { result.slope ≤ 10 ^ 12 }
-        ensures number { result.inverse ≡ (if nat_le wanted (self.now.m1 * self.now.d) then inverses.now.first else inverses.now.second) }
         ensures before { result.before ≤ self.now.d }
         ensures some { result.slope ≢ 0 → first self.now wanted ≡ Some (result.before + time_at result.slope result.rest) }
         ensures nothing { result.slope ≡ 0 → result.rest ≡ 0 → first self.now wanted ≡ Some 0 }
@@ -138,14 +149,12 @@ impl Curve {
         if wanted <= bend {
             Piece {
                 slope: self.m1,
-                inverse: inverses.first,
                 before: 0,
                 rest: wanted,
             }
         } else {
             Piece {
                 slope: self.m2,
-                inverse: inverses.second,
                 before: self.d,
                 rest: wanted - bend,
             }
