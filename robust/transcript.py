@@ -204,6 +204,23 @@ class Case:
         self.config = before
         return said[-2:-1]
 
+    def cuts(self, words):
+        """How a command ends over each length of the capture: those that end otherwise than the one before."""
+        whole, files, lines, before = bytes(self.capture), self.folder, [], None
+        self.folder = tempfile.TemporaryDirectory()
+        for length in range(len(whole) + 1):
+            self.capture = whole[:length]
+            *said, ending = self.run(words)
+            place = re.search(r"byte (\d+)", said[-1]) if said else None
+            if place:
+                ending += " at the cut" if int(place[1]) == length else f" at {place[1]}"
+            ending += f", out {len(self.get('out') or b'')}"
+            if ending != before:
+                lines.append(f"from {length}: {ending}")
+            before = ending
+        self.capture, self.folder = bytearray(whole), files
+        return lines
+
     def follow(self, line):
         """Does what a line says: what is to stand below it, or None where this cannot tell."""
         words = line.split()
@@ -214,7 +231,7 @@ class Case:
         elif words[0] == "repeat":
             for i in range(1, int(words[1]) + 1):
                 self.config += " ".join(words[2:]).replace("%", str(i)) + "\n"
-        elif words[0] == "anew":
+        elif words[0] in ("anew", "pieces"):
             self.folder, self.can = tempfile.TemporaryDirectory(), True
         elif words[0] == "fail":
             self.can = False
@@ -232,8 +249,12 @@ class Case:
 
     def answer(self, line, words):
         """What is asked behind `$`."""
-        if not self.can or words[0] in ("flow", "curve", "average", "next"):
+        if not self.can or words[0] in ("flow", "curve", "average", "next") or words[0] == "each" and words[2] == "fails":
             return None
+        if words[0] == "each":
+            return self.cuts(words[2:])
+        if words[0] == "steady":
+            return self.run(words[1:])
         if words[0] == "line":
             return self.with_line(line.removeprefix("$ line "))
         if words[0] == "cat":

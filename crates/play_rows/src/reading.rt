@@ -3,8 +3,6 @@ ghost use Rattle.std.specs.Prelude.{◌≡◌, ◌≤◌, ◌^◌, ◌∷◌, []
 ghost use Rattle.memory_files.specs.Memory.{memory_view};
 ghost use Rattle.play_loop.specs.Played.{AreReady};
 
-use crate::arrivals::{PLAIN, add_records, records};
-use crate::runs::play_words;
 use altq_model::{Placed, Rule};
 use leaf_queue::{Tail, Words};
 use memory_files::{Call, MemoryFiles};
@@ -13,7 +11,7 @@ use play_base::{Files, NoMemory};
 use play_files::create_outputs;
 use play_loop::{Limit, Opened, PlayFault, Totals, play};
 use play_text::Names;
-use play_words::{Command, read_words};
+use play_words::PlayWords;
 use std::alloc::Global;
 use std::test::Fail;
 
@@ -91,45 +89,67 @@ fn play_two(
     )
 }
 
-// Opens the arrivals, of which these bytes were taken, and creates the outputs of a play.
-fn opened<'a>(alloc: Global, files: &mut MemoryFiles, first: &'a [u8]) -> Result<Opened<'a>, Fail>
-    requires few { length first.now ≤ 24 }
+// The names of the files.
+const NAMES: PlayWords<'static> = PlayWords {
+    config: "conf",
+    interface: "if0",
+    arrivals: "in",
+    departures: "out",
+    fates: "fates",
+    stats: "stats",
+    seed: 42,
+};
+
+// Opens the arrivals, and creates the outputs of a play.
+fn opened(files: &mut MemoryFiles) -> Result<Opened<'static>, Fail>
     ensures { IfOk result (λ o. AreReady (memory_view files.new) o) }
 {
-    let words = play_words(alloc)?;
-    let Ok(Command::Play(read)) = read_words(alloc, words.as_slice()) else {
-        return Err(Fail::new("words"));
-    };
-    let Ok(arrivals) = files.open(2, read.arrivals) else {
+    let Ok(arrivals) = files.open(2, NAMES.arrivals) else {
         return Err(Fail::new("arrivals"));
     };
-    match create_outputs(files, &read, arrivals, first) {
+    match create_outputs(files, &NAMES, arrivals, &[]) {
         Ok(opened) => Ok(opened),
         Err(_) => Err(Fail::new("files")),
     }
 }
 
-// The heads of records of 60 captured bytes at 4,294,965,198 s: a packet of 262,144 bytes at 848,000,000 ns, which ends at the end of the
-// clock, and one of 100 bytes a nanosecond later.
+// A capture in little-endian nanoseconds: its head, and the heads of records of 60 captured bytes at 4,294,965,198 s. A packet of 262,144
+// bytes at 848,000,000 ns ends at the end of the clock, and one of 100 bytes comes a nanosecond later.
+const HEAD: [u8; 24] = [
+    0x4d, 0x3c, 0xb2, 0xa1, 2, 0, 4, 0, 0, 0, 0, 0, 0, 0, 0, 0, 0, 0, 4, 0, 1, 0, 0, 0,
+];
+
 const LATE: [u8; 16] = [206, 247, 255, 255, 0, 116, 139, 50, 60, 0, 0, 0, 0, 0, 4, 0];
 
 const BEHIND: [u8; 16] = [
     206, 247, 255, 255, 1, 116, 139, 50, 60, 0, 0, 0, 100, 0, 0, 0,
 ];
 
-// One packet that ends at the end of the clock, and 2,000 behind it; each read moves one byte.
+// Adds one packet that ends at the end of the clock, and 2,000 behind it.
+fn add_late(capture: &mut Vec<u8>) -> Result<(), NoMemory> {
+    capture.extend_from_slice(&HEAD)?;
+    capture.extend_from_slice(&LATE)?;
+    capture.extend_from_slice(&[0; 60])?;
+    for _ in 0..2_000 {
+        capture.extend_from_slice(&BEHIND)?;
+        capture.extend_from_slice(&[0; 60])?;
+    }
+    Ok(())
+}
+
+// The files of this capture, of which a read moves one byte.
 fn late_files(alloc: Global) -> Result<MemoryFiles, NoMemory> {
-    let mut arrivals = records(alloc, 1, &LATE, &PLAIN)?;
-    add_records(&mut arrivals, 2_000, &BEHIND, &PLAIN)?;
+    let mut capture = Vec::new(alloc);
+    add_late(&mut capture)?;
     let mut files = MemoryFiles::new(alloc);
-    files.put("in", &arrivals)?;
+    files.put("in", &capture)?;
     files.chunk(1);
     Ok(files)
 }
 
 // How the play of these files ends.
 fn ended(alloc: Global, files: &mut MemoryFiles) -> Result<Option<PlayFault>, Fail> {
-    let opened = opened(alloc, files, &[])?;
+    let opened = opened(files)?;
     Ok(play_two(alloc, files, &opened).err())
 }
 

@@ -1,7 +1,5 @@
 // The average of RED over arrivals.
 
-ghost use Rattle.std.specs.Prelude.{◌≤◌};
-
 use crate::words::number;
 use leaf_queue::{QueueRule, Waiting, Words};
 use red_average::Red;
@@ -14,8 +12,9 @@ const SLOWEST: u64 = 1_000;
 
 const FASTEST: u64 = 1_000_000_000_000;
 
-// Tells RED of an event: its moment, and the number of packets that an arrival found waiting, or `empty` where the last packet left.
-fn happen(red: &mut Red, words: &mut Words, at: &str, what: &str) -> Option<()> {
+// Tells RED of an event: its moment, and the number of packets that an arrival found waiting, or `empty` where the last packet left. No
+// average rests on the words by which packets are dropped.
+fn happen(red: &mut Red, at: &str, what: &str) -> Option<()> {
     let at = number(at)?;
     if what == "empty" {
         let none = Waiting {
@@ -30,22 +29,18 @@ fn happen(red: &mut Red, words: &mut Words, at: &str, what: &str) -> Option<()> 
     if waiting > red.limit {
         return None;
     }
-    let _ = red.arrive(waiting, at, words);
+    let _ = red.arrive(waiting, at, &mut Words::new(0));
     Some(())
 }
 
-// RED after some events, each of two words.
-fn red_after(rate: u64, happened: &[&str]) -> Option<Red>
-    requires { 1000 ≤ rate }
-{
-    let mut red = Red::new(MOST, rate);
-    let mut words = Words::new(0);
-    let mut left = happened;
+// Tells RED of events, each of two words.
+fn happen_all(red: &mut Red, events: &[&str]) -> Option<()> {
+    let mut left = events;
     while let [at, what, rest @ ..] = left {
-        happen(&mut red, &mut words, at, what)?;
+        happen(red, at, what)?;
         left = rest;
     }
-    if left.is_empty() { Some(red) } else { None }
+    if left.is_empty() { Some(()) } else { None }
 }
 
 /// RED's average, in packets times 2^21, after what happened in a queue of a link of the rate that the first of these words says.
@@ -55,6 +50,7 @@ pub fn average(words: &[&str]) -> Option<Option<u128>> {
     if rate < SLOWEST || FASTEST < rate {
         return None;
     }
-    let red = red_after(rate, happened)?;
+    let mut red = Red::new(MOST, rate);
+    happen_all(&mut red, happened)?;
     Some(Some(u128::from(red.average)))
 }

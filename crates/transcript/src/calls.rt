@@ -52,10 +52,10 @@ pub fn of_curve(words: &[&str]) -> Option<Option<u128>> {
 pub fn add_flow_of(alloc: Global, answer: &mut String, heads: &[&str]) -> Option<()> {
     let packet = Packet::read("60", heads)?;
     let frame = packet.frame(alloc)?;
-    add_flow(alloc, answer, flow(&frame))
+    add_flow(answer, flow(&frame))
 }
 
-fn add_flow(alloc: Global, answer: &mut String, heads: FlowHeads) -> Option<()> {
+fn add_flow(answer: &mut String, heads: FlowHeads) -> Option<()> {
     match heads {
         FlowHeads::V4 {
             tos,
@@ -63,22 +63,31 @@ fn add_flow(alloc: Global, answer: &mut String, heads: FlowHeads) -> Option<()> 
             source,
             target,
             ports,
-        }
-        | FlowHeads::V6 {
+        } => add_ip(answer, [tos, protocol], source, target, ports),
+        FlowHeads::V6 {
             tos,
             protocol,
             source,
             target,
             ports,
-        } => {
-            write!(answer, "tos {tos} protocol {protocol} ").ok()?;
-            add_hex(alloc, answer, source)?;
-            answer.push_str(" > ").ok()?;
-            add_hex(alloc, answer, target)?;
-            add_ports(answer, ports)
-        }
+        } => add_ip(answer, [tos, protocol], source, target, ports),
         FlowHeads::Other => answer.push_str("other").ok(),
     }
+}
+
+// Adds the heads of a packet of IPv4 or IPv6.
+fn add_ip(
+    answer: &mut String,
+    [tos, protocol]: [u8; 2],
+    source: &[u8],
+    target: &[u8],
+    ports: Option<(u16, u16)>,
+) -> Option<()> {
+    write!(answer, "tos {tos} protocol {protocol} ").ok()?;
+    add_hex(answer, source)?;
+    answer.push_str(" > ").ok()?;
+    add_hex(answer, target)?;
+    add_ports(answer, ports)
 }
 
 // Adds the ports of a flow, if it has any.

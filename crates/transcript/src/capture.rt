@@ -11,18 +11,6 @@ pub struct Form {
     pub micro: bool,
 }
 
-/// The form that words name.
-pub fn form_of(order: &str, unit: &str) -> Option<Form> {
-    let (big, micro) = match (order, unit) {
-        ("little", "nano") => (false, false),
-        ("little", "micro") => (false, true),
-        ("big", "nano") => (true, false),
-        ("big", "micro") => (true, true),
-        _ => return None,
-    };
-    Some(Form { big, micro })
-}
-
 /// Begins a capture anew with the header of a form.
 pub fn begin(capture: &mut Vec<u8>, form: Form) -> Option<()> {
     let magic = if form.micro { 0xa1b2_c3d4 } else { 0xa1b2_3c4d };

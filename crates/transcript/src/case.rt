@@ -2,76 +2,27 @@
 
 use crate::averages::average;
 use crate::calls::{add_flow_of, of_curve};
-use crate::capture::{Form, arrive, begin, form_of};
+use crate::capture::{Form, arrive, begin};
 use crate::changes::{How, change};
-use crate::command::run_over;
+use crate::command::{add_status, run_over, run_steady_over};
 use crate::moments::next_at;
+use crate::packet::word;
 use crate::records::add_records;
 use crate::texts::{add_lines, add_text};
+use crate::trials::{Each, OUTPUTS};
 use crate::words::number;
-use memory_files::{Call, MemoryFiles};
-use play_cli::Status;
+use memory_files::{Call, MemoryFiles, SteadyFiles};
 use std::alloc::Global;
 
 /// What was said since the case began, and the files of its runs.
 #[derive(Drop)]
 pub struct Case {
-    alloc: Global,
-    config: String,
-    capture: Vec<u8>,
+    pub alloc: Global,
+    pub config: String,
+    pub capture: Vec<u8>,
+    pub files: MemoryFiles,
     form: Form,
-    files: MemoryFiles,
-}
-
-// What a line orders.
-#[derive(Clone, Copy)]
-enum Verb {
-    Ask,
-    Head,
-    Change(How),
-    Fail,
-    Repeat,
-    Anew,
-}
-
-fn verb_of(word: &str) -> Option<Verb> {
-    match word {
-        "$" => Some(Verb::Ask),
-        "head" => Some(Verb::Head),
-        "bytes" => Some(Verb::Change(How::Add)),
-        "cut" => Some(Verb::Change(How::Cut)),
-        "put" => Some(Verb::Change(How::Put)),
-        "row" => Some(Verb::Change(How::Row)),
-        "fail" => Some(Verb::Fail),
-        "repeat" => Some(Verb::Repeat),
-        "anew" => Some(Verb::Anew),
-        _ => None,
-    }
-}
-
-// What a line asks.
-#[derive(Clone, Copy)]
-enum Question {
-    Cat,
-    Lines,
-    Packets,
-    Flow,
-    Curve,
-    Average,
-    Next,
-}
-
-fn question_of(word: &str) -> Option<Question> {
-    match word {
-        "cat" => Some(Question::Cat),
-        "lines" => Some(Question::Lines),
-        "packets" => Some(Question::Packets),
-        "flow" => Some(Question::Flow),
-        "curve" => Some(Question::Curve),
-        "average" => Some(Question::Average),
-        "next" => Some(Question::Next),
-        _ => None,
-    }
+    pieces: (u32, u32),
 }
 
 // The kind of call that a word names.
@@ -104,8 +55,9 @@ impl Case {
             alloc,
             config: String::new(alloc),
             capture,
-            form,
             files: MemoryFiles::new(alloc),
+            form,
+            pieces: (u32::MAX, u32::MAX),
         })
     }
 
@@ -131,29 +83,35 @@ impl Case {
     // Does what the words of a line say.
     fn obey(&mut self, words: &[&str], answer: &mut String) -> Option<()> {
         let (name, rest) = words.split_first()?;
-        match verb_of(name) {
-            Some(Verb::Ask) => self.ask(rest, answer),
-            Some(Verb::Head) => self.begin(rest),
-            Some(Verb::Change(how)) => self.change(how, rest),
-            Some(Verb::Fail) => self.fail(rest),
-            Some(Verb::Repeat) => self.repeat(rest),
-            Some(Verb::Anew) => self.forget(),
-            None => arrive(self.alloc, &mut self.capture, self.form, words),
+        match *name {
+            "$" => self.ask(rest, answer),
+            "head" => self.begin(rest),
+            "bytes" => self.change(How::Add, rest),
+            "cut" => self.change(How::Cut, rest),
+            "put" => self.change(How::Put, rest),
+            "row" => self.change(How::Row, rest),
+            "fail" => self.fail(rest),
+            "repeat" => self.repeat(rest),
+            "pieces" => self.set_pieces(rest),
+            "anew" => self.forget(),
+            _ => arrive(self.alloc, &mut self.capture, self.form, words),
         }
     }
 
     // Answers what is asked behind `$`.
     fn ask(&mut self, words: &[&str], answer: &mut String) -> Option<()> {
         let (name, rest) = words.split_first()?;
-        match question_of(name) {
-            Some(Question::Cat) => self.cat(rest, answer),
-            Some(Question::Lines) => self.lines(rest, answer),
-            Some(Question::Packets) => self.packets(rest, answer),
-            Some(Question::Flow) => add_flow_of(self.alloc, answer, rest),
-            Some(Question::Curve) => add_number(answer, of_curve(rest)),
-            Some(Question::Average) => add_number(answer, average(rest)),
-            Some(Question::Next) => self.next(rest, answer),
-            None => self.run(words, answer),
+        match *name {
+            "cat" => add_text(answer, self.files.get(rest.first()?)),
+            "lines" => self.lines(rest, answer),
+            "packets" => self.packets(rest, answer),
+            "flow" => add_flow_of(self.alloc, answer, rest),
+            "curve" => add_number(answer, of_curve(rest)),
+            "average" => add_number(answer, average(rest)),
+            "next" => self.next(rest, answer),
+            "each" => self.each(rest, answer),
+            "steady" => self.steady(rest, answer),
+            _ => self.run(words, answer),
         }
     }
 
@@ -162,14 +120,35 @@ impl Case {
         let [order, unit] = words else {
             return None;
         };
-        self.form = form_of(order, unit)?;
+        self.form = Form {
+            big: *order == "big",
+            micro: *unit == "micro",
+        };
         begin(&mut self.capture, self.form)
+    }
+
+    /// Files of which a read and a write move as much as is said.
+    pub fn new_files(&self) -> MemoryFiles {
+        let (read, write) = self.pieces;
+        let mut files = MemoryFiles::new(self.alloc);
+        files.chunk(read.max(1));
+        files.short_writes(write.max(1));
+        files
     }
 
     // Forgets the files, and which calls are to fail.
     fn forget(&mut self) -> Option<()> {
-        self.files = MemoryFiles::new(self.alloc);
+        self.files = self.new_files();
         Some(())
+    }
+
+    // Lets a read of the files move at most so many bytes, and a write so many.
+    fn set_pieces(&mut self, words: &[&str]) -> Option<()> {
+        let [read, write] = words else {
+            return None;
+        };
+        self.pieces = (word(read)?, word(write)?);
+        self.forget()
     }
 
     // Changes the bytes of a file, or of the capture.
@@ -210,11 +189,6 @@ impl Case {
         }
     }
 
-    // Tells the text of a file.
-    fn cat(&self, words: &[&str], answer: &mut String) -> Option<()> {
-        add_text(answer, self.files.get(words.first()?))
-    }
-
     // Tells lines of a file.
     fn lines(&self, words: &[&str], answer: &mut String) -> Option<()> {
         let [name, from, to] = words else {
@@ -232,7 +206,7 @@ impl Case {
             Some(most) => number(most)?,
             None => u64::MAX,
         };
-        add_records(self.alloc, answer, self.files.get(name), most)
+        add_records(answer, self.files.get(name), most)
     }
 
     // Tells what the discipline of the configuration answers at a moment.
@@ -254,10 +228,7 @@ impl Case {
         let mut files = MemoryFiles::new(self.alloc);
         let check = ["check", ".."];
         run_over(self.alloc, &mut files, config.as_str(), &[], &check)?;
-        let said = str::from_utf8(files.said()).unwrap_or_default();
-        answer
-            .push_str(said.lines().next_back().unwrap_or_default())
-            .ok()
+        add_last(answer, files.said())
     }
 
     // Runs a command, and tells its message and how it ended.
@@ -268,6 +239,54 @@ impl Case {
         add_text(answer, self.files.said().get(before..))?;
         add_status(answer, status)
     }
+
+    // Runs a command again and again, and tells where it ends otherwise.
+    fn each(&self, words: &[&str], answer: &mut String) -> Option<()> {
+        let (what, rest) = words.split_first()?;
+        if *what == "cut" {
+            return self.tell_runs(Each::Cut, rest, answer);
+        }
+        let (fails, command) = rest.split_first()?;
+        if *fails != "fails" {
+            return None;
+        }
+        self.tell_runs(Each::Fails(call_of(what)?), command, answer)
+    }
+
+    // Runs a command over files that never fail, and keeps what it wrote.
+    fn steady(&mut self, command: &[&str], answer: &mut String) -> Option<()> {
+        let mut files = SteadyFiles::new(self.alloc);
+        self.run_steadily(&mut files, command, answer)
+    }
+
+    fn run_steadily(
+        &mut self,
+        files: &mut SteadyFiles,
+        command: &[&str],
+        answer: &mut String,
+    ) -> Option<()> {
+        let (read, write) = self.pieces;
+        files.chunk(read.max(1));
+        files.short_writes(write.max(1));
+        files.put("conf", self.config.as_bytes()).ok()?;
+        files.put("in", &self.capture).ok()?;
+        let status = run_steady_over(self.alloc, files, command)?;
+        for name in &OUTPUTS {
+            self.files
+                .put(name, files.get(name).unwrap_or_default())
+                .ok()?;
+        }
+        add_text(answer, Some(files.said()))?;
+        add_status(answer, status)
+    }
+}
+
+// Adds the last line of a text.
+fn add_last(answer: &mut String, text: &[u8]) -> Option<()> {
+    let text = str::from_utf8(text).unwrap_or_default();
+    answer
+        .push_str(text.lines().next_back().unwrap_or_default())
+        .ok()
 }
 
 // Adds a number, or that there is none.
@@ -276,13 +295,4 @@ fn add_number(answer: &mut String, number: Option<Option<u128>>) -> Option<()> {
         Some(number) => write!(answer, "{number}").ok(),
         None => answer.push_str("never").ok(),
     }
-}
-
-// Adds how a command ended. Only of a chain its status tells the link.
-fn add_status(answer: &mut String, status: Status) -> Option<()> {
-    let (code, kind, link) = (status.code, status.kind, status.line);
-    if (code == 4 || code == 7) && link > 0 {
-        return write!(answer, "status {code} kind {kind} link {link}").ok();
-    }
-    write!(answer, "status {code} kind {kind}").ok()
 }

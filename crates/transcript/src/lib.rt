@@ -17,6 +17,7 @@ mod packet;
 mod records;
 mod sendings;
 mod texts;
+mod trials;
 mod words;
 
 use case::Case;

@@ -7,7 +7,7 @@ ghost use Rattle.conf_tree.specs.declared.interface.Kind.TheVariants as kind;
 ghost use Rattle.discipline.specs.Laws.{HasRate};
 ghost use Rattle.frame_classes.specs.Frames.{place_in};
 
-use crate::sendings::{ask, play_until};
+use crate::sendings::play_until;
 use command_base::{ConfigFault, read_conf};
 use conf_laws::configurations_fit;
 use conf_tree::{Interface, Kind};
@@ -73,7 +73,11 @@ fn answer_of<D: Discipline, C: Classify>(
 {
     let mut clock = LinkClock::new(rate);
     play_until(discipline, &mut clock, classify, records, moment);
-    ask(discipline, &clock, moment)
+    let free = clock.free();
+    if free > moment {
+        return Err(free);
+    }
+    Ok(discipline.next(moment, &clock))
 }
 
 // The answer of HFSC, of which the classifier tells the classes of frames.

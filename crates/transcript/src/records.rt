@@ -1,19 +1,18 @@
 // The records of a capture in little-endian nanoseconds, each in the words of an arrival.
 
 use crate::texts::{add_hex, add_text};
-use std::alloc::Global;
 
-/// A record, and the bytes behind it.
+// A record, and the bytes behind it.
 #[derive(Clone, Copy)]
-pub struct Record<'a> {
-    pub at: u64,
+struct Record<'a> {
+    at: u64,
     length: u32,
     frame: &'a [u8],
-    pub behind: &'a [u8],
+    behind: &'a [u8],
 }
 
-/// The first record of the bytes behind a capture's head, or of some of them.
-pub fn first_of(bytes: &[u8]) -> Option<Record<'_>> {
+// The first record of the bytes behind a capture's head, or of some of them.
+fn first_of(bytes: &[u8]) -> Option<Record<'_>> {
     let (second, behind) = word_of(bytes)?;
     let (nanosecond, behind) = word_of(behind)?;
     let (captured, behind) = word_of(behind)?;
@@ -34,50 +33,36 @@ fn word_of(bytes: &[u8]) -> Option<(u32, &[u8])> {
     Some((u32::from_le_bytes(*word), behind))
 }
 
-/// The head of a capture, and its records.
-pub fn parts_of(bytes: &[u8]) -> (&[u8], &[u8]) {
-    bytes.split_at_checked(24).unwrap_or((bytes, &[]))
-}
-
 /// Adds the head of a capture and its first records.
-pub fn add_records(
-    alloc: Global,
-    answer: &mut String,
-    bytes: Option<&[u8]>,
-    most: u64,
-) -> Option<()> {
+pub fn add_records(answer: &mut String, bytes: Option<&[u8]>, most: u64) -> Option<()> {
     let Some(bytes) = bytes else {
         return add_text(answer, None);
     };
-    let (head, mut rest) = parts_of(bytes);
+    let (head, mut rest) = bytes.split_at_checked(24).unwrap_or((bytes, &[]));
     answer.push_str("bytes ").ok()?;
-    add_hex(alloc, answer, head)?;
+    add_hex(answer, head)?;
     let mut before: &[u8] = &[];
     for _ in 0..most {
         let Some(record) = first_of(rest) else {
             break;
         };
-        add_record(alloc, answer, record, before)?;
+        add_record(answer, record, before)?;
         before = record.frame;
         rest = record.behind;
     }
-    add_rest(answer, rest.len())
+    let more = rest.len();
+    if more == 0 {
+        return Some(());
+    }
+    write!(answer, "\n{more} bytes more").ok()
 }
 
 // Adds a record, whose frame is told as `same` where it is that of the record before.
-fn add_record(alloc: Global, answer: &mut String, record: Record, before: &[u8]) -> Option<()> {
+fn add_record(answer: &mut String, record: Record, before: &[u8]) -> Option<()> {
     let (at, length) = (record.at, record.length);
     write!(answer, "\n{at} {length} hex ").ok()?;
     if record.frame == before {
         return answer.push_str("same").ok();
     }
-    add_hex(alloc, answer, record.frame)
-}
-
-// Says how many bytes are not told.
-fn add_rest(answer: &mut String, more: usize) -> Option<()> {
-    if more == 0 {
-        return Some(());
-    }
-    write!(answer, "\n{more} bytes more").ok()
+    add_hex(answer, record.frame)
 }

@@ -121,16 +121,3 @@ pub fn play_until<D: Discipline, C: Classify>(
     }
     send_before(discipline, clock, latest, moment);
 }
-
-/// What a discipline answers at a moment; or when the packet ends that is under way.
-pub fn ask<D: Discipline>(discipline: &mut D, clock: &LinkClock, moment: u64) -> Result<Pick, u64>
-    requires early { moment < 2 ^ 63 }
-    requires rate { HasRate (D.link_rate discipline.old) clock.now.rate }
-    requires at { (most : ℕ) × IsAt (D.stands discipline.old) clock.now most moment moment }
-{
-    let free = clock.free();
-    if free > moment {
-        return Err(free);
-    }
-    Ok(discipline.next(moment, clock))
-}

@@ -1,7 +1,5 @@
 // Texts of files, and bytes as text.
 
-use std::alloc::Global;
-
 /// Adds the text of a file, and says where the file or its last line feed is missing.
 pub fn add_text(answer: &mut String, bytes: Option<&[u8]>) -> Option<()> {
     let text = match bytes {
@@ -28,7 +26,9 @@ pub fn add_lines(answer: &mut String, text: &str, from: u64, to: u64) -> Option<
 }
 
 /// Adds bytes in hexadecimal.
-pub fn add_hex(alloc: Global, answer: &mut String, bytes: &[u8]) -> Option<()> {
-    let digits = hex::encode(alloc, bytes).ok()?;
-    answer.push_str(digits.as_str()).ok()
+pub fn add_hex(answer: &mut String, bytes: &[u8]) -> Option<()> {
+    for byte in bytes {
+        write!(answer, "{byte:02x}").ok()?;
+    }
+    Some(())
 }
