@@ -1,5 +1,5 @@
 -- The first filter that matches, in the order in which they are asked, is the one that wins.
-use Rattle.std.proofs.Common.{◌≡◌, ◌⊎◌, inl, inr, ⊎_elim, ℕ, ◌<◌, ◌≤◌, ◌==◌, min, Bool, true, false, ◌&&◌, ◌||◌, List, length, get_or, Option, Some, None, refl, arith, sym, ◌∙◌, ap, subst}
+use Rattle.std.proofs.Common.{◌≡◌, ◌⊎◌, inl, inr, ⊎_elim, ℕ, ◌<◌, ◌≤◌, ◌==◌, min, Bool, true, false, ◌&&◌, ◌||◌, List, [], length, get_or, Option, Some, None, refl, arith, sym, ◌∙◌, ap, subst}
 use Rattle.std.specs.Prelude.{Contains, option_and_then, slice_get}
 use Rattle.std.specs.Option.{option_map_or, IfSome}
 use Rattle.std.proofs.lemmas.Bool.{and_parts, cases_lt}
@@ -15,8 +15,6 @@ use Rattle.flow_filter.specs.declared.entries.Entries.{Entries}
 use Rattle.flow_filter.specs.declared.entries.Entries.TheVariants as entries
 use Rattle.flow_filter.specs.declared.numbers.Numbers.{Numbers}
 use Rattle.flow_filter.specs.declared.numbers.Numbers.TheVariants as numbers
-use Rattle.flow_filter.specs.declared.numbers.Numbers4.{Numbers4}
-use Rattle.flow_filter.specs.declared.numbers.Numbers6.{Numbers6}
 use Rattle.flow_filter.specs.declared.ports.Group.{Group}
 use Rattle.flow_filter.specs.declared.ports.Side.{Side}
 use Rattle.flow_filter.specs.declared.ports.Version.{Version}
@@ -24,10 +22,9 @@ use Rattle.flow_filter.specs.declared.ports.Version.TheVariants as version
 use Rattle.flow_filter.specs.declared.sides.Sides.{Sides}
 use Rattle.flow_filter.specs.declared.table.Table.{Table}
 use Rattle.flow_filter.specs.declared.ports.Side.TheVariants.{Target, Source}
-use Rattle.flow_filter.specs.declared.index.Index.{Index}
 use Rattle.flow_filter.specs.Entries.{fits_at, of_version}
 use Rattle.flow_filter.specs.Filed.{IsAtMost, port_among, port_in, port_on, version_of}
-use Rattle.flow_filter.specs.Index.{Indexes, least}
+use Rattle.flow_filter.specs.Index.{least}
 use Rattle.flow_filter.specs.Matches.{addresses_agree_4, addresses_agree_6, matches, ports_agree, ports_of, rest_agrees}
 use Rattle.flow_filter.specs.Numbers.{AreNumbersOf, ports_in}
 use Rattle.flow_filter.specs.Ranked.{IsRanked, filter_at, matches_at, ruleno_at}
@@ -156,6 +153,13 @@ none_fits : (entries : Entries) (k : ℕ) → fits_at entries None k ≡ false
 none_fits (entries.V4 xs) k = taken_by_none (slice_get xs.items k)
 none_fits (entries.V6 xs) k = taken_by_none (slice_get xs.items k)
 
+-- nothing is found where no filter is filed
+none_filed : (filed : List Filed) (port : ℕ) (test : ℕ → Bool) → filed ≡ [] → IsFirstUnder filed port test None
+none_filed filed port test none = record {
+  agrees = tt;
+  first = λ rank holds passes. let within = holds.1 in absurd (omega (arith, ap length none, within));
+}
+
 module _ (v : Version) (filters : List Filter) (places : List ℕ) (heads : Heads) (sides : Sides) (i : AreSides v filters places sides) where
   abbrev test : ℕ → Bool
   test = matches_at filters places (of_version v heads)
@@ -185,6 +189,13 @@ module _ (v : Version) (filters : List Filter) (places : List ℕ) (heads : Head
         (λ on. at_most_second of_source of_target rank (by_target.first rank (i.targets.all rank t (filed filters places v Target heads rank t a on)) h)) on))
         (under_ports a.asked s t agree);
   }
+
+  -- where no filter fixes the source's port, or none at all, those of the target's are all
+  pub first_by_target : (s t : ℕ) (of_target : Option ℕ) → ports_of (of_version v heads) ≡ Some (s, t) → sides.by_source.filed.items ≡ []
+      → IsFirstUnder sides.by_target.filed.items t test of_target → IsFirst test of_target
+  first_by_target s t of_target some none by_target =
+      let empty : (port : ℕ) → IsFirstUnder sides.by_source.filed.items port test None = λ port. none_filed sides.by_source.filed.items port test none in
+      first_with_ports s t None None of_target some (empty 0) (empty s) by_target
 
   -- a flow that has no numbers matches none
   in_no_table : (group : Group) (table : Table) → group.version ≡ v → IsTable group filters places table → AreNumbersOf (of_version v heads) None
@@ -216,36 +227,6 @@ ports_are (V4 heads) (numbers.V6 n) is = absurd is
 ports_are (V6 heads) (numbers.V4 n) is = absurd is
 ports_are (V6 heads) (numbers.V6 n) is = is.ports
 ports_are Other n is = cc
-
--- what searches the sides of one version finds, for a flow in numbers of that version
-abbrev pub FindsFirst : Sides → Numbers → (found : Option ℕ) → Type 0
-FindsFirst sides n found =
-    (v : Version) (filters : List Filter) (places : List ℕ) (heads : Heads) → AreSides v filters places sides → AreNumbersOf (of_version v heads) (Some n)
-    → IsFirst (matches_at filters places (of_version v heads)) found
-
-module _ (filters : List Filter) (places : List ℕ) (sides : Sides) (found : Option ℕ) where
-  pub by_version_4 : (flow : Flow) (n : Numbers) (m : Numbers4) → n ≡ numbers.V4 m → AreNumbersOf flow (Some n) → AreSides version.V4 filters places sides
-      → FindsFirst sides n found → IsFirst (matches_at filters places flow) found
-  by_version_4 (V4 heads) n m e is s finds = finds version.V4 filters places heads s is
-  by_version_4 (V6 heads) (numbers.V4 n) m e is s finds = absurd is
-  by_version_4 (V6 heads) (numbers.V6 n) m e is s finds = cc
-  by_version_4 Other n m e is s finds = cc
-
-  pub by_version_6 : (flow : Flow) (n : Numbers) (m : Numbers6) → n ≡ numbers.V6 m → AreNumbersOf flow (Some n) → AreSides version.V6 filters places sides
-      → FindsFirst sides n found → IsFirst (matches_at filters places flow) found
-  by_version_6 (V4 heads) (numbers.V4 n) m e is s finds = cc
-  by_version_6 (V4 heads) (numbers.V6 n) m e is s finds = absurd is
-  by_version_6 (V6 heads) n m e is s finds = finds version.V6 filters places heads s is
-  by_version_6 Other n m e is s finds = cc
-
-pub without_numbers : (filters : List Filter) (index : Index) (flow : Flow) → Indexes filters index → AreNumbersOf flow None
-    → IsFirst (matches_at filters index.places.items flow) None
-without_numbers filters index (V4 heads) i none = none_without_numbers version.V4 filters index.places.items heads index.four i.four none
-without_numbers filters index (V6 heads) i none = none_without_numbers version.V6 filters index.places.items heads index.six i.six none
-without_numbers filters index Other i none = record {
-  agrees = tt;
-  first = λ rank h. let a = asked_at filters index.places.items Other rank h in let never = a.agrees in cc;
-}
 
 -- it is the one that wins
 ruleno_is : (filters : List Filter) (place : ℕ) (f : Filter) → slice_get filters place ≡ Some f → ruleno_at filters place ≡ f.ruleno

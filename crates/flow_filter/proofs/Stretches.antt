@@ -1,15 +1,17 @@
 -- A search among the entries of one port.
-use Rattle.std.proofs.Common.{◌≡◌, ⊎_elim, inl, inr, ℕ, ◌<◌, ◌≤◌, ◌+◌, ◌-◌, eqb, Bool, true, false, List, length, get_or, Option, Some, None, ltb, leb, option_map, refl, arith, sym, ◌∙◌, ap}
-use Rattle.std.specs.Prelude.{Contains, slice_get}
+use Rattle.std.proofs.Common.{◌≡◌, ⊎_elim, inl, inr, ℕ, ◌<◌, ◌≤◌, ◌+◌, eqb, Bool, true, false, List, length, get_or, Option, Some, None, ltb, leb, option_map, refl, arith, sym, subst, ◌∙◌, ap}
+use Rattle.std.specs.Prelude.{Contains, replicate, slice_get, slice_set}
 use Rattle.std.specs.List.Sorted.{IsPartitionPoint}
 use Rattle.std.specs.Option.{option_map_or}
 use Rattle.std.proofs.lemmas.Bool.{cases_lt, eq-eqb, eqb-true}
 use Rattle.std.proofs.lemmas.Bool.Decides.{nat_tests}
 use Rattle.std.proofs.lemmas.List.{get_or_default}
+use Rattle.std.proofs.lemmas.List.Elements.{All-replicate, All-set}
 use Rattle.std.proofs.lemmas.Option.{slice_get-get_or, slice_get_past, get_or_from_slice_get}
 use Rattle.flow_filter.specs.declared.ports.Filed.{Filed}
+use Rattle.flow_filter.specs.declared.ports.Stretch.{Stretch}
 use Rattle.flow_filter.specs.Filed.{IsInOrder}
-use Rattle.flow_filter.specs.Search.{BeginsAt, IsFirstFit, IsFirstUnder, IsStretch, is_at}
+use Rattle.flow_filter.specs.Search.{AreStretches, BeginsAt, IsFirstFit, IsFirstUnder, IsStretch, is_at}
 
 less : (m n : ℕ) → ltb m n ≡ true → m < n
 less m n h = grind (arith, nat_tests)
@@ -64,23 +66,6 @@ at_there filed port k e = elim (cases_lt k (length filed)) [
       absurd (cc)
 ]
 
--- at a place of the port, if it is the first or a lesser port stands before it
-pub begins_here : (filed : List Filed) (port start : ℕ) → is_at filed port start ≡ true
-    → (0 < start → ltb (get_or filed (start - 1) (record { port = 0; rank = 0 })).port port ≡ true) → IsInOrder filed → BeginsAt filed port start
-begins_here filed port start found before order =
-    let there = at_there filed port start found in
-    let none : Filed = record { port = 0; rank = 0 } in
-    record {
-      within = omega (arith, there.within);
-      lesser = λ k d low.
-          let rise = order.ports_rise k (start - 1) d (omega (arith, low)) (omega (arith, low, there.within)) in
-          let same = ap (λ (e : Filed). e.port) (get_or_default filed (start - 1) d none (omega (arith, low, there.within))) in
-          omega (arith, rise, same, less _ _ (before (omega (arith, low))));
-      others = λ k d from high.
-          let rise = order.ports_rise start k d from high in
-          omega (arith, rise, there.its d);
-    }
-
 -- up to a place at which no more of them stands
 ends_at : (filed : List Filed) (port start end : ℕ) → IsInOrder filed → BeginsAt filed port start → start ≤ end → end ≤ length filed
     → ((k : ℕ) (d : Filed) → start ≤ k → k < end → (get_or filed k d).port ≡ port) → is_at filed port end ≡ false → IsStretch filed port start end
@@ -111,6 +96,19 @@ one_alone filed port start order begins found gone =
     (λ k d low high.
     let same : k ≡ start = omega (arith, low, high) in
     ap (λ (n : ℕ). (get_or filed n d).port) same ∙ there.its d) gone
+
+-- a stretch that is found, and one that is kept
+pub its_stretch : (filed : List Filed) (port : ℕ) (one : Stretch) → one.port ≡ port → IsStretch filed port one.start one.end
+    → IsStretch filed one.port one.start one.end
+its_stretch filed port one e found = subst (λ (n : ℕ). IsStretch filed n one.start one.end) (sym e) found
+
+pub keep_stretch : (filed : List Filed) (kept : List Stretch) (at : ℕ) (one : Stretch) → IsStretch filed one.port one.start one.end
+    → AreStretches filed kept → AreStretches filed (slice_set kept at one)
+keep_stretch filed kept at one its all = All-set (λ (s : Stretch). IsStretch filed s.port s.start s.end) kept at one its all
+
+pub same_stretches : (filed : List Filed) (count : ℕ) (one : Stretch) → IsStretch filed one.port one.start one.end
+    → AreStretches filed (replicate count one)
+same_stretches filed count one its = All-replicate (λ (s : Stretch). IsStretch filed s.port s.start s.end) count one its
 
 -- what is found among the entries of a port, each of which fits where the test holds of its number
 module _ (filed : List Filed) (port start end : ℕ) (fits test : ℕ → Bool) (order : IsInOrder filed) (stretch : IsStretch filed port start end)

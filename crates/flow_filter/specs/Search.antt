@@ -1,7 +1,8 @@
 -- What searches among filters that are filed find.
-use Rattle.std.specs.Prelude.{◌≡◌, ℕ, ◌<◌, ◌≤◌, ◌==◌, Bool, true, false, List, length, Contains, Option, IfSome, slice_get, slice_index_or}
+use Rattle.std.specs.Prelude.{◌≡◌, ℕ, ◌<◌, ◌≤◌, ◌==◌, Bool, true, false, List, length, All, Contains, Option, IfSome, slice_get, slice_index_or}
 use Rattle.std.specs.Option.{option_map_or}
 use Rattle.flow_filter.specs.declared.ports.Filed.{Filed}
+use Rattle.flow_filter.specs.declared.ports.Stretch.{Stretch}
 use Rattle.flow_filter.specs.Filed.{IsAtMost}
 
 -- the first place from `start` up to `end` at which a test holds, if it does at one
@@ -24,6 +25,10 @@ pub record IsStretch (filed : List Filed) (port start end : ℕ) : Type 0 where
   pub within : end ≤ length filed
   pub its : (k : ℕ) (d : Filed) → start ≤ k → k < end → (slice_index_or filed k d).port ≡ port
   pub all : (k : ℕ) (d : Filed) → k < length filed → (slice_index_or filed k d).port ≡ port → (start ≤ k) × (k < end)
+
+-- each of these is the stretch of its port
+abbrev pub AreStretches : List Filed → List Stretch → Type 0
+AreStretches filed kept = All (λ (one : Stretch). IsStretch filed one.port one.start one.end) kept
 
 -- a number that passes a test, if one is found, and no later than each that passes and is filed under a port
 pub record IsFirstUnder (filed : List Filed) (port : ℕ) (test : ℕ → Bool) (found : Option ℕ) : Type 0 where

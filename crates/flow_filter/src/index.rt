@@ -1,14 +1,12 @@
 //! Where the filters of a version and a port stand among all.
-ghost use Rattle.std.specs.Prelude.{List, IfOk, Some};
+ghost use Rattle.std.specs.Prelude.{List, IfOk};
 ghost use Rattle.conf_tree.specs.declared.filter.Filter.{Filter};
 ghost use Rattle.flow_filter.specs.Index.{Indexes};
-ghost use Rattle.flow_filter.specs.Numbers.{AreNumbersOf};
 ghost use Rattle.flow_filter.specs.Ranked.{matches_at};
 ghost use Rattle.flow_filter.specs.Search.{IsFirst};
-ghost use Rattle.packet_heads.specs.Flow.{Flow};
 ghost use Rattle.packet_heads.specs.Heads.{flow_of};
 
-use crate::numbers::{Numbers, numbers_of};
+use crate::numbers::{Numbers, numbers_4, numbers_6};
 use crate::ports::Version;
 use crate::ranking::ranked;
 use crate::sides::Sides;
@@ -41,20 +39,28 @@ impl Index {
         ensures { (filters : List Filter) → Indexes filters self.now
             → IsFirst (matches_at filters self.now.places.items (flow_of heads.now)) result }
     {
-        match numbers_of(heads) {
-            Some(numbers) => self.first_of(&numbers),
-            None => None,
-        }
-    }
-
-    /// The same for a flow in numbers.
-    fn first_of(&self, numbers: &Numbers) -> Option<u32>
-        ensures { (filters : List Filter) (flow : Flow) → Indexes filters self.now → AreNumbersOf flow (Some numbers.now)
-            → IsFirst (matches_at filters self.now.places.items flow) result }
-    {
-        match numbers {
-            Numbers::V4(_) => self.four.first(numbers),
-            Numbers::V6(_) => self.six.first(numbers),
+        match heads {
+            FlowHeads::V4 {
+                tos,
+                protocol,
+                source,
+                target,
+                ports,
+            } => match numbers_4(*tos, *protocol, source, target, *ports) {
+                Some(numbers) => self.four.first(&Numbers::V4(numbers)),
+                None => None,
+            },
+            FlowHeads::V6 {
+                tos,
+                protocol,
+                source,
+                target,
+                ports,
+            } => match numbers_6(*tos, *protocol, source, target, *ports) {
+                Some(numbers) => self.six.first(&Numbers::V6(numbers)),
+                None => None,
+            },
+            FlowHeads::Other => None,
         }
     }
 }

@@ -1,36 +1,42 @@
-//! Where the filters of a port likely begin.
-use crate::ports::Filed;
+//! Where the filters of a port begin and where they end, mostly at one look.
+ghost use Rattle.std.specs.Prelude.{IfOk};
+ghost use Rattle.flow_filter.specs.Filed.{IsInOrder};
+ghost use Rattle.flow_filter.specs.Search.{AreStretches, IsStretch};
+
+use crate::ports::{Filed, Stretch, search};
 use play_base::NoMemory;
 use std::alloc::Global;
 
-/// How many places are kept. Ports that leave the same remainder by this number share one.
+/// How many stretches are kept. Ports that leave the same remainder by this number share one.
 const KEPT: usize = 1024;
 
 /// With fewer filters than this a search is as quick.
 const FEW: usize = 8;
 
-/// Where the filters of each port begin, by the port's remainder: guesses, which are tested where they are used. None where filters are
+/// Of each remainder the stretch of a port that leaves it, if any filter has such a port, else that of port 0. None where filters are
 /// few.
-pub(crate) fn likely_places(alloc: Global, filed: &[Filed]) -> Result<Vec<u32>, NoMemory> {
+pub(crate) fn likely_stretches(alloc: Global, filed: &[Filed]) -> Result<Vec<Stretch>, NoMemory>
+    ensures { IfOk result (λ likely. IsInOrder filed.now → AreStretches filed.now likely.items) }
+{
     if filed.len() < FEW {
         return Ok(Vec::new(alloc));
     }
-    let mut likely = Vec::from_elem(alloc, 0u32, KEPT)?;
-    for place in (0..filed.len()).rev() {
-        let Some(one) = filed.get(place) else {
-            continue;
-        };
+    let mut likely = Vec::from_elem(alloc, search(filed, 0), KEPT)?;
+    for one in filed {
         if let Some(kept) = likely.get_mut(usize::from(one.port) % KEPT) {
-            *kept = u32::try_from(place).unwrap_or(0);
+            *kept = search(filed, one.port);
         }
     }
     Ok(likely)
 }
 
-/// The place that is kept for a port; 0 where none is.
-pub(crate) fn likely_place(likely: &[u32], port: u16) -> usize {
+/// The stretch of a port: the one that is kept, if it is that port's, else by a search.
+#[inline]
+pub(crate) fn stretch(filed: &[Filed], likely: &[Stretch], port: u16) -> Stretch
+    ensures { IsInOrder filed.now → AreStretches filed.now likely.now → IsStretch filed.now port result.start result.end }
+{
     match likely.get(usize::from(port) % KEPT) {
-        Some(place) => *place as usize,
-        None => 0,
+        Some(kept) if kept.port == port => *kept,
+        _ => search(filed, port),
     }
 }

@@ -1,10 +1,10 @@
 //! A flow in numbers, made once a packet.
-ghost use Rattle.std.specs.Prelude.{◌≡◌, ◌≢◌, ◌<◌, ◌≤◌, IfNone, IfSome, length};
+ghost use Rattle.std.specs.Prelude.{◌≡◌, ◌≢◌, ◌<◌, ◌≤◌, IfNone, IfSome, length, option_map};
 ghost use Rattle.flow_filter.specs.Numbers.{AreNumbersOf, IsNumberOf, ports_in};
-ghost use Rattle.packet_heads.specs.Heads.{flow_of};
+ghost use Rattle.flow_filter.specs.declared.numbers.Numbers.TheVariants as numbers;
+ghost use Rattle.packet_heads.specs.Flow as flow;
 
 use byteorder::{BigEndian, ByteOrder};
-use packet_heads::FlowHeads;
 
 /// A flow of IPv4, its addresses as numbers.
 #[derive(Clone, Copy)]
@@ -71,39 +71,46 @@ fn whole_6(address: &[u8]) -> Option<u128>
     Some(number_6(address))
 }
 
-/// A flow in numbers. None where it is `Other`, or where an address is too short for its version, or one of IPv6 too long.
-pub(crate) fn numbers_of(heads: &FlowHeads) -> Option<Numbers>
-    ensures { AreNumbersOf (flow_of heads.now) result }
+/// A flow of IPv4 in numbers. None where an address is too short.
+#[inline]
+pub(crate) fn numbers_4(
+    tos: u8,
+    protocol: u8,
+    source: &[u8],
+    target: &[u8],
+    ports: Option<(u16, u16)>,
+) -> Option<Numbers4>
+    ensures { AreNumbersOf (flow.V4 (record { tos = tos; protocol = protocol; source = source.now; target = target.now; ports = ports }))
+        (option_map numbers.V4 result) }
 {
-    match heads {
-        FlowHeads::V4 {
-            tos,
-            protocol,
-            source,
-            target,
-            ports,
-        } => Some(Numbers::V4(Numbers4 {
-            source: whole_4(source)?,
-            target: whole_4(target)?,
-            tos: *tos,
-            protocol: *protocol,
-            ports: *ports,
-        })),
-        FlowHeads::V6 {
-            tos,
-            protocol,
-            source,
-            target,
-            ports,
-        } => Some(Numbers::V6(Numbers6 {
-            source: whole_6(source)?,
-            target: whole_6(target)?,
-            tos: *tos,
-            protocol: *protocol,
-            ports: *ports,
-        })),
-        FlowHeads::Other => None,
-    }
+    Some(Numbers4 {
+        source: whole_4(source)?,
+        target: whole_4(target)?,
+        tos,
+        protocol,
+        ports,
+    })
+}
+
+/// A flow of IPv6 in numbers. None where an address has not sixteen bytes.
+#[inline]
+pub(crate) fn numbers_6(
+    tos: u8,
+    protocol: u8,
+    source: &[u8],
+    target: &[u8],
+    ports: Option<(u16, u16)>,
+) -> Option<Numbers6>
+    ensures { AreNumbersOf (flow.V6 (record { tos = tos; protocol = protocol; source = source.now; target = target.now; ports = ports }))
+        (option_map numbers.V6 result) }
+{
+    Some(Numbers6 {
+        source: whole_6(source)?,
+        target: whole_6(target)?,
+        tos,
+        protocol,
+        ports,
+    })
 }
 
 /// The ports of a flow, the source's first.

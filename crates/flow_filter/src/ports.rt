@@ -4,7 +4,6 @@ ghost use Rattle.flow_filter.specs.Filed.{HoldsAll, IsFiledByRank, IsInOrder, po
 ghost use Rattle.flow_filter.specs.Ranked.{filter_at};
 ghost use Rattle.flow_filter.specs.Search.{BeginsAt, IsStretch, is_at};
 
-use crate::likely::likely_place;
 use crate::ranking::filter_at;
 use conf_tree::{Addresses, Filter};
 use play_base::NoMemory;
@@ -15,6 +14,14 @@ use std::alloc::Global;
 pub struct Filed {
     pub port: u16,
     pub rank: u32,
+}
+
+/// Where the filters under a port begin and where they end.
+#[derive(Clone, Copy)]
+pub struct Stretch {
+    pub port: u16,
+    pub start: usize,
+    pub end: usize,
 }
 
 /// The side whose port a filter is filed under.
@@ -133,34 +140,22 @@ fn end_of(filed: &[Filed], port: u16, start: usize) -> usize
     filed.partition_point(|one| one.port <= port)
 }
 
-/// Whether those of a port begin at a place.
-fn is_start(filed: &[Filed], port: u16, place: usize) -> bool
-    ensures { result ≡ true → IsInOrder filed.now → BeginsAt filed.now port place }
-{
-    if !is_at(filed, port, place) {
-        return false;
-    }
-    if place == 0 {
-        return true;
-    }
-    filed[place - 1].port < port
-}
-
-/// Where those of a port begin: mostly at the likely place, else by a search.
-fn start_of(filed: &[Filed], likely: &[u32], port: u16) -> usize
+/// Where those of a port begin.
+fn start_of(filed: &[Filed], port: u16) -> usize
     ensures { IsInOrder filed.now → BeginsAt filed.now port result }
 {
-    let place = likely_place(likely, port);
-    if is_start(filed, port, place) {
-        return place;
-    }
     filed.partition_point(|one| one.port < port)
 }
 
-/// Where those of a port begin and where they end, among filters in the order of their ports.
-pub(crate) fn stretch(filed: &[Filed], likely: &[u32], port: u16) -> (usize, usize)
-    ensures { IsInOrder filed.now → IsStretch filed.now port result.0 result.1 }
+/// The stretch of a port among filters in the order of their ports, by a search.
+pub(crate) fn search(filed: &[Filed], port: u16) -> Stretch
+    ensures port { result.port ≡ port }
+    ensures places { IsInOrder filed.now → IsStretch filed.now port result.start result.end }
 {
-    let start = start_of(filed, likely, port);
-    (start, end_of(filed, port, start))
+    let start = start_of(filed, port);
+    Stretch {
+        port,
+        start,
+        end: end_of(filed, port, start),
+    }
 }

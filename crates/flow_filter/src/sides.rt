@@ -1,14 +1,8 @@
 //! The filters of one version of IP by their ports.
-ghost use Rattle.std.specs.Prelude.{◌≡◌, ℕ, List, IfOk, Some};
-ghost use Rattle.conf_tree.specs.declared.filter.Filter.{Filter};
-ghost use Rattle.packet_heads.specs.Flow.{Heads};
-ghost use Rattle.flow_filter.specs.Entries.{of_version};
+ghost use Rattle.std.specs.Prelude.{◌≡◌, IfOk, Some};
 ghost use Rattle.flow_filter.specs.Index.{least};
-ghost use Rattle.flow_filter.specs.Numbers.{AreNumbersOf};
-ghost use Rattle.flow_filter.specs.Ranked.{matches_at};
-ghost use Rattle.flow_filter.specs.Search.{IsFirst};
-ghost use Rattle.flow_filter.specs.Tables.{AreSides};
-ghost use Rattle.flow_filter.specs.declared.ports.Version.{Version};
+ghost use Rattle.flow_filter.specs.Numbers.{ports_in};
+ghost use Rattle.flow_filter.specs.Tables.{AreSides, FindsFirst};
 
 use crate::numbers::{Numbers, ports_in};
 use crate::ports::{Group, Side, Version};
@@ -51,15 +45,25 @@ impl Sides {
     }
 
     /// The number of the first filter that matches a flow of that version, in the order in which they are asked.
+    #[inline]
     pub(crate) fn first(&self, flow: &Numbers) -> Option<u32>
-        ensures { (version : Version) (filters : List Filter) (places : List ℕ) (heads : Heads) → AreSides version filters places self.now
-            → AreNumbersOf (of_version version heads) (Some flow.now)
-            → IsFirst (matches_at filters places (of_version version heads)) result }
+        ensures { FindsFirst self.now flow.now result }
+    {
+        let Some((source, target)) = ports_in(flow) else {
+            return self.by_source.first_under(0, flow);
+        };
+        if self.by_source.is_empty() {
+            return self.by_target.first_under(target, flow);
+        }
+        self.first_of_all(source, target, flow)
+    }
+
+    /// The same for a flow with these ports, of the filters of both sides.
+    #[inline(never)]
+    fn first_of_all(&self, source: u16, target: u16, flow: &Numbers) -> Option<u32>
+        ensures { ports_in flow.now ≡ Some (source, target) → FindsFirst self.now flow.now result }
     {
         let any = self.by_source.first_under(0, flow);
-        let Some((source, target)) = ports_in(flow) else {
-            return any;
-        };
         let of_source = self.by_source.first_under(source, flow);
         let of_target = self.by_target.first_under(target, flow);
         least(any, least(of_source, of_target))

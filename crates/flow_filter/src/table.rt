@@ -1,5 +1,5 @@
 //! The filters of a group by their ports, each in numbers.
-ghost use Rattle.std.specs.Prelude.{◌≡◌, ℕ, List, IfOk, Some, option_map, slice_get};
+ghost use Rattle.std.specs.Prelude.{◌≡◌, ℕ, List, [], IfOk, Some, option_map, slice_get, true};
 ghost use Rattle.conf_tree.specs.declared.filter.Filter.{Filter};
 ghost use Rattle.packet_heads.specs.Flow.{Heads};
 ghost use Rattle.flow_filter.specs.Entries.{of_version};
@@ -10,19 +10,19 @@ ghost use Rattle.flow_filter.specs.Tables.{IsTable};
 ghost use Rattle.flow_filter.specs.declared.ports.Group.{Group};
 
 use crate::entries::Entries;
-use crate::likely::likely_places;
+use crate::likely::{likely_stretches, stretch};
 use crate::numbers::Numbers;
-use crate::ports::{Filed, Group, filed_by_port, stretch};
+use crate::ports::{Filed, Group, Stretch, filed_by_port};
 use conf_tree::Filter;
 use play_base::NoMemory;
 use std::alloc::Global;
 
-/// The filters of a group in the order of their ports, their entries in the same order, and where those of a port likely begin.
+/// The filters of a group in the order of their ports, their entries in the same order, and the stretches of ports.
 #[derive(Drop)]
 pub struct Table {
     pub filed: Vec<Filed>,
     pub entries: Entries,
-    likely: Vec<u32>,
+    pub likely: Vec<Stretch>,
 }
 
 impl Table {
@@ -37,12 +37,20 @@ impl Table {
     {
         let filed = filed_by_port(alloc, group, filters, places)?;
         let entries = Entries::build(alloc, group.version, filters, places, filed.as_slice())?;
-        let likely = likely_places(alloc, filed.as_slice())?;
+        let likely = likely_stretches(alloc, filed.as_slice())?;
         Ok(Table {
             filed,
             entries,
             likely,
         })
+    }
+
+    /// Whether no filter is filed.
+    #[inline]
+    pub(crate) fn is_empty(&self) -> bool
+        ensures { result ≡ true → self.now.filed.items ≡ [] }
+    {
+        self.filed.is_empty()
     }
 
     /// The first of those filed under a port whose filter matches a flow. It is the mere test where none is filed.
@@ -66,8 +74,8 @@ impl Table {
             → IsFirstUnder self.now.filed.items port (matches_at filters places (of_version group.version heads)) result }
     {
         let filed = self.filed.as_slice();
-        let (start, end) = stretch(filed, self.likely.as_slice(), port);
-        match self.entries.first_fit(flow, start, end) {
+        let its = stretch(filed, self.likely.as_slice(), port);
+        match self.entries.first_fit(flow, its.start, its.end) {
             Some(k) => rank_at(filed, k),
             None => None,
         }

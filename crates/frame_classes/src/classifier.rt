@@ -1,7 +1,8 @@
 // Where an interface puts its frames.
 ghost use Rattle.std.specs.Prelude.{◌≡◌, IfOk};
-ghost use Rattle.frame_classes.specs.Frames.{classes_of, dress_in, is_capable, place_in, placed_flow, precedence_by, precedence_in};
+ghost use Rattle.frame_classes.specs.Frames.{classes_of, dress_in, place_in, placed_flow, precedence_by};
 ghost use Rattle.frame_classes.specs.Handlings.{handling_at};
+ghost use Rattle.packet_heads.specs.Departing.{tos_of};
 ghost use Rattle.packet_heads.specs.Heads.{flow_of};
 
 use crate::handling::{Handling, handling_at, handlings};
@@ -9,7 +10,7 @@ use altq_model::Placed;
 use conf_tree::Interface;
 use discipline::Classify;
 use flow_filter::Filters;
-use packet_heads::{FlowHeads, dress, flow, precedence, precedence_of, tos};
+use packet_heads::{FlowHeads, dress, flow, precedence_of, tos};
 use play_base::NoMemory;
 use std::alloc::Global;
 use std::marker::Model;
@@ -59,37 +60,22 @@ impl Classifier {
         ensures { result ≡ placed_flow self.now (flow_of heads.now) }
     {
         let class = self.filters.class(heads);
-        let handling = handling_at(self.handlings.as_slice(), class);
-        Placed {
-            class,
-            prec: precedence_in(handling.marks, heads),
-        }
+        self.place_plain(class, tos_in(heads))
     }
 }
 
-// Whether the transport of a flow is capable of explicit congestion notification.
-fn is_capable(heads: &FlowHeads) -> bool
-    ensures { result ≡ is_capable (flow_of heads.now) }
+// The type of service or traffic class of a flow, 0 of `Other`.
+fn tos_in(heads: &FlowHeads) -> u8
+    ensures { result ≡ tos_of (flow_of heads.now) }
 {
     match heads {
-        FlowHeads::V4 { tos, .. } => *tos % 4 != 0,
-        FlowHeads::V6 { tos, .. } => *tos % 4 != 0,
-        FlowHeads::Other => false,
+        FlowHeads::V4 { tos, .. } => *tos,
+        FlowHeads::V6 { tos, .. } => *tos,
+        FlowHeads::Other => 0,
     }
 }
 
-// The precedence of a flow in a class that marks, or not.
-fn precedence_in(marks: bool, heads: &FlowHeads) -> u8
-    ensures { result ≡ precedence_in marks (flow_of heads.now) }
-{
-    if marks {
-        u8::from(is_capable(heads))
-    } else {
-        precedence(heads)
-    }
-}
-
-// The same by the type of service or traffic class alone, 0 of `Other`.
+// The precedence in a class that marks, or not, by the type of service or traffic class.
 fn precedence_by(marks: bool, tos: u8) -> u8
     ensures { result ≡ precedence_by marks tos }
 {

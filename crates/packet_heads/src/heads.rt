@@ -45,7 +45,20 @@ const UDP: u8 = 17;
 /// IPv4 has at least 20 bytes, says version 4 and at least five words; one of IPv6 has 40 bytes and says version 6; any
 /// other frame is `Other`. The ports are there where the protocol is TCP or UDP, the packet is no later fragment, and all
 /// four bytes of both stand behind the header. Constant time; takes no memory. See RFC 791, RFC 8200 and IEEE 802.1Q.
+#[inline]
 pub fn flow(frame: &[u8]) -> FlowHeads<'_>
+    ensures value { flow_of result ≡ flow frame.now }
+    ensures parts { HasAddresses frame.now (packet_place frame.now) (flow_of result) }
+{
+    // Most frames have no tag, and hold IPv4.
+    if has_bytes(2, frame, 12) && two_at(frame, 12) == IPV4 {
+        return flow_4(&frame[14..]);
+    }
+    flow_behind_tags(frame)
+}
+
+// The same of any frame: its type is looked for behind the tags.
+fn flow_behind_tags(frame: &[u8]) -> FlowHeads<'_>
     ensures value { flow_of result ≡ flow frame.now }
     ensures parts { HasAddresses frame.now (packet_place frame.now) (flow_of result) }
 {
@@ -136,11 +149,11 @@ fn type_place(frame: &[u8]) -> usize
     }
 }
 
-// Whether a header of IPv4 begins the packet.
+// Whether a header of IPv4 begins the packet: 4 in the upper half of its first byte, and 5 or more in the lower one.
 fn is_head_4(packet: &[u8]) -> bool
     ensures { result ≡ is_head_4 packet.now }
 {
-    has_bytes(20, packet, 0) && packet[0] >> 4 == 4 && packet[0] & 0x0f >= 5
+    has_bytes(20, packet, 0) && matches!(packet[0], 0x45..=0x4f)
 }
 
 // The flow of a packet of IPv4.

@@ -1,6 +1,13 @@
--- The addresses are parts of the packet, and that is a part of the frame.
-use Rattle.packet_heads.proofs.Addresses.{addresses_of}
+-- A frame that is not tagged holds its packet from the fifteenth byte on.
+use Rattle.std.proofs.Common.{◌∙◌, sym}
+use Rattle.packet_heads.proofs.Addresses.{IsUntagged, untagged_addresses, untagged_flow}
 use Rattle.packet_heads.proofs.heads.flow.Goals as goal
 
-pub returns-clause-parts : goal.returns-clause-parts
-returns-clause-parts c = addresses_of c.args.frame.now c.two_at.result c.type_place-place.result _ c.type_place-place.ensures.value c.flow_by_type.ensures
+untagged : (c : goal.After-flow_4) → IsUntagged c.args.frame.now
+untagged c = record { long = sym c.if-has_bytes.ensures; type = sym c.two_at.ensures ∙ c.if-two_at-eq-IPV4.true }
+
+pub returns-then-two_at-eq-IPV4-clause-value : goal.returns-then-two_at-eq-IPV4-clause-value
+returns-then-two_at-eq-IPV4-clause-value c = c.flow_4.ensures ∙ untagged_flow c.args.frame.now (untagged c)
+
+pub returns-then-two_at-eq-IPV4-clause-parts : goal.returns-then-two_at-eq-IPV4-clause-parts
+returns-then-two_at-eq-IPV4-clause-parts c = untagged_addresses c.args.frame.now _ (untagged c) c.flow_4.ensures
