@@ -4,7 +4,7 @@ ghost use Rattle.capture_model.specs.Written.{record_text};
 ghost use Rattle.play_base.specs.View.{SameCounts, WriteFault};
 ghost use Rattle.gathered_writes.specs.Gathered.{Grew, Stopped};
 
-use crate::gather;
+use crate::gathered::gather_both;
 use pcap_files::record_head;
 use play_base::{Files, Trouble};
 
@@ -30,11 +30,7 @@ pub fn gather_record<F: Files>(
     ensures failed { IsErrOf result Trouble.Failed → WriteFault (F.view files.old) (F.view files.new) file }
 {
     let head = record_head(stamp, bytes.len() as u32, len);
-    match gather(files, file, pending, &head) {
-        Ok(()) => {}
-        Err(trouble) => return Err(trouble),
-    }
-    match gather(files, file, pending, bytes) {
+    match gather_both(files, file, pending, &head, bytes) {
         Ok(()) => Ok(()),
         Err(trouble) => Err(trouble),
     }

@@ -25,8 +25,9 @@ fn records_of<F: Files>(alloc: Global, files: &mut F, file: u32) -> Result<Recor
         Ok(reader) => reader,
         Err(fault) => return Err(fault),
     };
+    let mut room = Vec::new(alloc);
     'records: loop {
-        let found = match reader.next(files) {
+        let found = match reader.next(files, &mut room) {
             Ok(found) => found,
             Err(fault) => return Err(fault),
         };
@@ -36,6 +37,7 @@ fn records_of<F: Files>(alloc: Global, files: &mut F, file: u32) -> Result<Recor
         if records.add(&record).is_err() {
             return Err(CaptureFault::NoMemory);
         }
+        room = record.bytes.into_vec();
     }
 }
 

@@ -13,6 +13,7 @@ use crate::{CaptureFault, Record};
 use capture_model::DamageKind;
 use play_base::{Bytes, Files};
 use std::alloc::Global;
+use std::mem::replace;
 
 // Bytes of a file's header.
 const FILE_HEAD: usize = 24;
@@ -84,9 +85,14 @@ impl Reader {
     /// count of read faults of the file's part rose in this call, and then the records answered are all that stand complete in
     /// the bytes that were taken. After any fault the reader answers that fault again and takes nothing. When a record is
     /// answered, at most 65,535 bytes past it were taken, and none where it stood in those taken before. Between this
-    /// reader's calls nothing else may read from the file. Takes time in proportion to the bytes taken and the record's.
+    /// reader's calls nothing else may read from the file. Takes time in proportion to the bytes taken and the record's. The record's
+    /// bytes take the memory of `room`, in place of what stands there, and more only where that does not hold them; `room` has none then.
     #[inline(always)]
-    pub fn next<F: Files>(&mut self, files: &mut F) -> Result<Option<Record>, CaptureFault>
+    pub fn next<F: Files>(
+        &mut self,
+        files: &mut F,
+        room: &mut Vec<u8>,
+    ) -> Result<Option<Record>, CaptureFault>
         requires there { IsSome ((F.view files.old).part self.old.file) }
         ensures record { IfOk result (λ answer. IfSome answer (λ r.
             Answers (F.view files.old) (F.view files.new) self.old self.new r)) }
@@ -110,7 +116,7 @@ impl Reader {
         if let Some(fault) = self.fault {
             return Err(fault);
         }
-        match self.take_next(files) {
+        match self.take_next(files, room) {
             Ok(record) => Ok(record),
             Err(fault) => {
                 self.fault = Some(fault);
@@ -121,7 +127,11 @@ impl Reader {
 
     // The next record of a reader that has answered no fault.
     #[inline(always)]
-    fn take_next<F: Files>(&mut self, files: &mut F) -> Result<Option<Record>, CaptureFault>
+    fn take_next<F: Files>(
+        &mut self,
+        files: &mut F,
+        room: &mut Vec<u8>,
+    ) -> Result<Option<Record>, CaptureFault>
         requires there { IsSome ((F.view files.old).part self.old.file) }
         requires sound { self.old.fault ≡ None }
         ensures record { IfOk result (λ answer. IfSome answer (λ r.
@@ -156,7 +166,7 @@ impl Reader {
                 if let Err(trouble) = self.ahead.fill(files, self.file, whole) {
                     return Err(fault_of(trouble));
                 }
-                match self.take_record(stamp, captured, original) {
+                match self.take_record(room, stamp, captured, original) {
                     Ok(record) => Ok(Some(record)),
                     Err(fault) => Err(fault),
                 }
@@ -164,9 +174,10 @@ impl Reader {
         }
     }
 
-    // Takes the record with this header from the bytes ahead, where it stands whole.
+    // Takes the record with this header from the bytes ahead, where it stands whole, into the memory of `room`.
     fn take_record(
         &mut self,
+        room: &mut Vec<u8>,
         stamp: u64,
         captured: u32,
         original: u32,
@@ -187,9 +198,11 @@ impl Reader {
             let damage = damage_at(u64::from(place), DamageKind::ShortRecord);
             return Err(CaptureFault::Damage(damage));
         }
-        let Ok(bytes) = Vec::from_slice(self.alloc, &ahead[RECORD_HEAD..whole]) else {
+        let mut bytes = replace(room, Vec::new(self.alloc));
+        bytes.clear();
+        if bytes.extend_from_slice(&ahead[RECORD_HEAD..whole]).is_err() {
             return Err(CaptureFault::NoMemory);
-        };
+        }
         self.ahead.pass(whole);
         self.progress = Progress {
             count: count + 1,

@@ -3,6 +3,8 @@ use Rattle.std.proofs.Common.{◌≡◌, ◌++◌, ◌∙◌, ℕ, List, [], ref
 use Rattle.std.proofs.lemmas.List.{append-nil}
 use Rattle.std.specs.Prelude.{IsSome}
 use Rattle.std.specs.declared.option.Option.{Option}
+use Rattle.std.specs.declared.alloc.Global.{Global}
+use Rattle.std.specs.declared.vec.Vec.{Vec}
 use Rattle.capture_model.specs.Header.{capture_header}
 use Rattle.play_base.specs.View.{View, Any, Keeps, Wrote, WroteFront}
 use Rattle.play_base.proofs.HoldsLaws.{apart_kept, apart_sym}
@@ -80,6 +82,10 @@ flushed_whole {u} {v} {w} {dep} {fat} {recs} {rows} {ds} {ts} h x y =
 
 pub same_trans : {a b c : Outputs} → SameFiles a b → SameFiles b c → SameFiles a c
 same_trans x y = record { departures = y.departures ∙ x.departures; fates = y.fates ∙ x.fates }
+
+-- whatever memory is left to the next packet read
+pub same_spare : {a b : Outputs} {spare : Vec ℕ Global} → SameFiles a b → SameFiles a (record b { spare = spare })
+same_spare x = record { departures = x.departures; fates = x.fates }
 
 pub fronts_files : {v : View} {dep fat dep' fat' : ℕ} {ds ts : List ℕ} → dep ≡ dep' → fat ≡ fat' → FrontsAre v dep fat ds ts → FrontsAre v dep' fat' ds ts
 fronts_files d f h = rw (← d, ← f) h

@@ -2,6 +2,8 @@
 use Rattle.std.proofs.Common.{◌≡◌, ◌≤◌, ◌<◌, ◌++◌, ◌∙◌, ◌+◌, ◌⊎◌, inl, inr, ℕ, zero, suc, max, arith, List, [], ◌∷◌, length, None, Some, refl, ap, sym, subst, append-nil, length-append}
 use Rattle.std.specs.Prelude.{slice_get, option_map, nat_lt, IfNone, IfSome, IsTrue}
 use Rattle.std.specs.declared.option.Option.{Option}
+use Rattle.std.specs.declared.alloc.Global.{Global}
+use Rattle.std.specs.declared.vec.Vec.{Vec}
 use Rattle.altq_model.specs.declared.Placed.{Placed}
 use Rattle.altq_model.specs.Arrivals.{Captured, arrivals_from, arrivals_of, bare_arrival, bare_arrivals}
 use Rattle.altq_model.specs.History.{Arrival, Event, DrawnWords, Happened, bare, offered, journal}
@@ -104,8 +106,9 @@ pub record IsComing (x : Setup) (m : Moment) (w : DrawnWords) (told : List ℕ �
   pub counted : length arrived ≤ answered r
   pub read : (bytes : List ℕ) → told bytes → HasReadOne x.place m.files r bytes arrived (latest (bare g)) a.packet.at
 
-pub under_kept : {F : ℕ → Type 0} {x : Setup} {m : Moment} {v : View} {arrived : List Captured} {w : DrawnWords} {g : List Happened} → IsUnderway x m arrived w g → Keeps Any F m.files v
-    → IsUnderway x (record m { files = v }) arrived w g
+-- a read leaves what was written, and takes the memory that was left to it
+pub under_kept : {F : ℕ → Type 0} {x : Setup} {m : Moment} {v : View} {spare : Vec ℕ Global} {arrived : List Captured} {w : DrawnWords} {g : List Happened} → IsUnderway x m arrived w g → Keeps Any F m.files v
+    → IsUnderway x (record m { files = v; outputs = record m.outputs { spare = spare } }) arrived w g
 under_kept u k = record {
   setup = moved_on u.setup refl refl refl;
   going = u.going;
@@ -183,14 +186,14 @@ pub record HasArrived (x : Setup) (m : Moment) (answer : Read) (top : ℕ) (a : 
 
 pub coming : {F : ℕ → Type 0} {x : Setup} {m : Moment} {v : View} {o : Outputs} {w : DrawnWords} {told : List ℕ → Type 0} {r r' : Reader} {top : ℕ} {arrived : List Captured} {g : List Happened}
     (answer : Read) (a : Arriving) → IsReading x m w told r top arrived g → Keeps Any F m.files v → Answers m.files v r r' answer → NextCounts r r' answer
-    → HasArrived x m answer top a o.counts.items → o ≡ record m.outputs { counts = o.counts }
+    → HasArrived x m answer top a o.counts.items → o ≡ record m.outputs { counts = o.counts; spare = o.spare }
     → IsComing x (record m { files = v; outputs = o }) w told r' a (arrived ++ arrival_of x.place a ∷ []) g
-coming {x = x} {w = w} {top = top} {arrived = arrived} {g = g} answer a z k answers counts c same =
+coming {x = x} {o = o} {w = w} {top = top} {arrived = arrived} {g = g} answer a z k answers counts c same =
     let b : Captured = arrival_of x.place a in
     let size = length-append arrived (b ∷ []) in
     let number : a.packet.number ≡ offered (bare g) + 1 = omega (arith, c.number, z.under.going.totals.arrived) in
     record {
-      under = under_read a (under_kept z.under k) z.last (omega (arith, z.last_is, c.read.at)) (omega (arith, z.counted, counts.number, answer.counted)) c.within same c.counted;
+      under = under_read a (under_kept {spare = o.spare} z.under k) z.last (omega (arith, z.last_is, c.read.at)) (omega (arith, z.counted, counts.number, answer.counted)) c.within same c.counted;
       held = record {
         there = ap (λ (n : ℕ). slice_get (arrived ++ b ∷ []) n) z.offers ∙ there_push arrived b;
         packet_is = ap (λ (n : ℕ). numbered n b) number;

@@ -9,7 +9,8 @@ use play_core::Totals;
 use play_text::Rows;
 use std::alloc::Global;
 
-/// The numbers of departures and fates, the bytes that are gathered for each, and the counts so far of each class of the names.
+/// The numbers of departures and fates, the bytes that are gathered for each, the counts so far of each class of the names, and memory
+/// of the bytes of a packet that left the play, which those of the next one read take.
 #[derive(Drop)]
 pub struct Outputs {
     pub departures: u32,
@@ -17,6 +18,7 @@ pub struct Outputs {
     pub records: Vec<u8>,
     pub rows: Rows,
     pub counts: Vec<Counts>,
+    pub spare: Vec<u8>,
 }
 
 impl Outputs {
@@ -33,6 +35,7 @@ impl Outputs {
             records: Vec::new(alloc),
             rows: Rows::new(alloc),
             counts,
+            spare: Vec::new(alloc),
         }
     }
 

@@ -27,8 +27,8 @@ returns-in-Ok-gather_row-clause-added g c =
       counted = c.count.ensures;
     }
 
-pub returns-clause-stopped : goal.returns-clause-stopped
-returns-clause-stopped g c = λ ds ts h.
+pub returns-in-Err-gather_row-clause-stopped : goal.returns-in-Err-gather_row-clause-stopped
+returns-in-Err-gather_row-clause-stopped g c = λ ds ts h.
     let R : List ℕ → Type 0 = λ xs. Grew (g.F.Files.view c.args.files.now) (g.F.Files.view c.gather_record.new.files) c.args.outputs.now.departures c.args.outputs.now.records.items c.gather_record.new.pending.items (record_text (record { stamp = c.args.departure.end; captured = xs; original = c.args.departure.packet.len })) in
     let S : Departure → Type 0 = λ d. Stopped (g.F.Files.view c.gather_record.new.files) (g.F.Files.view c.gather_row.new.files) c.args.outputs.now.fates c.args.outputs.now.rows (fate_text d.packet.number d.packet.at d.packet.len (name_of c.args.names.now c.args.departure.class) (fate.Sent d.start d.end d.rule)) in
     fronts_rowed (texts_departed h (subst R (c.as_slice-bytes.ensures ∙ ap (λ (d : Departure). d.packet.bytes) c.dress_packet.ensures) c.in-Ok.ensures.grew))
@@ -42,8 +42,8 @@ returns-in-Ok-gather_row-clause-only g c = record {
   why = tt;
 }
 
-pub returns-clause-only : goal.returns-clause-only
-returns-clause-only g c = record {
+pub returns-in-Err-gather_row-clause-only : goal.returns-in-Err-gather_row-clause-only
+returns-in-Err-gather_row-clause-only g c = record {
   same = record { departures = refl; fates = refl };
   others = wrote_both c.requires.can.departures c.requires.can.fates c.in-Ok.ensures.grew.wrote c.in-Err-gather_row.ensures.stopped.wrote;
   no_fault = tt;
