@@ -45,7 +45,7 @@ const UDP: u8 = 17;
 /// IPv4 has at least 20 bytes, says version 4 and at least five words; one of IPv6 has 40 bytes and says version 6; any
 /// other frame is `Other`. The ports are there where the protocol is TCP or UDP, the packet is no later fragment, and all
 /// four bytes of both stand behind the header. Constant time; takes no memory. See RFC 791, RFC 8200 and IEEE 802.1Q.
-#[inline]
+#[inline(always)]
 pub fn flow(frame: &[u8]) -> FlowHeads<'_>
     ensures value { flow_of result ≡ flow frame.now }
     ensures parts { HasAddresses frame.now (packet_place frame.now) (flow_of result) }
