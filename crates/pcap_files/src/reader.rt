@@ -175,6 +175,7 @@ impl Reader {
     }
 
     // Takes the record with this header from the bytes ahead, where it stands whole, into the memory of `room`.
+    #[inline(always)]
     fn take_record(
         &mut self,
         room: &mut Vec<u8>,

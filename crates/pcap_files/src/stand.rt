@@ -45,6 +45,7 @@ fn stamp(head: Head, bytes: &[u8]) -> u64
 /// What the bytes at the next record's place tell of it: `End` where there are none, `Limit` behind 4,000,000 records or where the
 /// record would end past 2^30 bytes, `Damaged` where its header fails a test; `ShortRecord` of these tells that fewer than 16 bytes
 /// stand there. Whether all that `Headed` announces stands there is not asked. Constant time (pcap-savefile(5)).
+#[inline(always)]
 pub fn stand_at(head: Head, progress: Progress, ahead: &[u8]) -> Stand
     ensures value { result ≡ stand_at (form head) progress.count progress.place ahead.now }
     ensures none { result ≡ Stand.End → length ahead.now ≡ 0 }
