@@ -10,7 +10,7 @@ use Rattle.runtime_curve.specs.declared.Running.{Running}
 use Rattle.runtime_curve.specs.declared.held.Held.{Held}
 use Rattle.runtime_curve.specs.Opening.{RisesFromZero, least_over, IsAtLeast, eligible_curve, IsFrom}
 use Rattle.runtime_curve.specs.Deadline.{deadline, reaches, from_last, soonest}
-use Rattle.runtime_curve.specs.Held.{StandFor, Stand, AreUpTo, MayFollow, both, last_held}
+use Rattle.runtime_curve.specs.Held.{Stand, AreUpTo, MayFollow, both, last_held, three}
 use Rattle.runtime_curve.specs.Running.{StandsFor, last_of, deadline_now, eligible_now, soonest_now}
 use Rattle.runtime_curve.proofs.Reaching.{reaches_least}
 use Rattle.runtime_curve.proofs.Deadlines.{deadline_is_first}
@@ -37,22 +37,22 @@ pub deadline_stands : (r : Running) (s : Curve) (os : List Opening) (count : ℕ
     → IsSomeAnd (last_of r) (λ last. last.count < count) → deadline_now r count ≡ deadline s os count
 unfolding last_of deadline_now
 deadline_stands r s os count stands past =
-    subst (λ (c : Curve). deadline c (both r.held) count ≡ deadline s os count) (sym stands.curve)
-    (held_deadline s r.held os count (subst RisesFromZero stands.curve r.slopes) stands.held past)
+    subst (λ (c : Curve). deadline c (both (three r.kept)) count ≡ deadline s os count) (sym stands.curve)
+    (held_deadline s (three r.kept) os count (subst RisesFromZero stands.curve r.slopes) stands.held past)
 
 pub eligible_stands : (r : Running) (s : Curve) (os : List Opening) (now count : ℕ) → StandsFor r s os
     → IsSomeAnd (last_of r) (λ last. last.at ≤ now) → eligible_now r now count ≡ reaches (eligible_curve s) os now count
 unfolding last_of eligible_now
 eligible_stands r s os now count stands past =
-    subst (λ (c : Curve). reaches (eligible_curve c) (both r.held) now count ≡ reaches (eligible_curve s) os now count) (sym stands.curve)
-    (held_eligible s r.held os now count stands.held past)
+    subst (λ (c : Curve). reaches (eligible_curve c) (both (three r.kept)) now count ≡ reaches (eligible_curve s) os now count) (sym stands.curve)
+    (held_eligible s (three r.kept) os now count stands.held past)
 
 pub soonest_stands : (r : Running) (s : Curve) (os : List Opening) (count : ℕ) → StandsFor r s os
     → IsSome (last_of r) → soonest_now r count ≡ soonest s os count
 unfolding last_of soonest_now
 soonest_stands r s os count stands past =
-    subst (λ (c : Curve). from_last (last_held r.held) (deadline (eligible_curve c) (both r.held) count) ≡ soonest s os count) (sym stands.curve)
-    (held_soonest s r.held os count stands.held past)
+    subst (λ (c : Curve). from_last (last_held (three r.kept)) (deadline (eligible_curve c) (both (three r.kept)) count) ≡ soonest s os count) (sym stands.curve)
+    (held_soonest s (three r.kept) os count stands.held past)
 
 -- and so they are the first moment, and the truth
 pub deadline_now_first : (r : Running) (s : Curve) (os : List Opening) (count : ℕ) → StandsFor r s os
@@ -77,16 +77,20 @@ eligible_now_true r s os now count stands past =
 pub may_follow : (o : Option Held) (new : Opening) → ForSome (last_held o) (λ last. (last.at ≤ new.at) × (last.count ≤ new.count)) → MayFollow o new
 may_follow o new later = λ h e. let last = later h.last (ap last_held e) in record { at = last.0; count = last.1 }
 
--- what is held stands for the openings by the curve that is kept
-pub held_stands : (r : Running) (s : Curve) (os : List Opening) (h : Held) → r.held ≡ Some h → StandsFor r s os → StandFor r.curve h os
-held_stands r s os h e stands = subst (λ (c : Curve). Stand c (Some h) os) (sym stands.curve) (subst (λ (o : Option Held). Stand s o os) e stands.held)
+-- what is kept stands for the openings by the curve that is kept
+pub kept_stands : (r : Running) (s : Curve) (os : List Opening) → StandsFor r s os → Stand r.curve (three r.kept) os
+kept_stands r s os stands = subst (λ (c : Curve). Stand c (three r.kept) os) (sym stands.curve) stands.held
 
-pub begun_stands : (old new : Running) (s : Curve) (os : List Opening) (o : Opening) (h : Held) → StandsFor old s os
-    → new.curve ≡ old.curve → new.held ≡ Some h → h.last ≡ o → StandFor s h (o ∷ os) → StandsFor new s (o ∷ os)
+stood : (s : Curve) (k : Option Held) (o : Opening) (os : List Opening) → last_held k ≡ Some o → Stand s k os → AreUpTo o os
+stood s None o os e x = absurd cc
+stood s (Some h) o os e x = let same : h.last ≡ o = cc in subst (λ (y : Opening). AreUpTo y os) same x.up_to
+
+pub begun_stands : (old new : Running) (s : Curve) (os : List Opening) (o : Opening) → StandsFor old s os → new.curve ≡ old.curve
+    → last_held (three new.kept) ≡ Some o → Stand s (three new.kept) (o ∷ os) → StandsFor new s (o ∷ os)
 unfolding last_of
-begun_stands old new s os o h stands same held last for = record {
+begun_stands old new s os o stands same last for = record {
   curve = same ∙ stands.curve;
-  last = ap last_held held ∙ ap (λ (x : Opening). Some x) last;
-  up_to = subst (λ (x : Opening). AreUpTo x (o ∷ os)) last for.up_to;
-  held = subst (λ (x : Option Held). Stand s x (o ∷ os)) (sym held) for;
+  last = last;
+  up_to = stood s (three new.kept) o (o ∷ os) last for;
+  held = for;
 }

@@ -4,3 +4,4 @@ pub mod TwoLines
 pub mod Lowest
 pub mod Early
 pub mod Answered
+pub mod Kept

@@ -1,9 +1,10 @@
 -- The lower of two lines, and the openings that stand for all after one more.
 use Rattle.std.proofs.Common.{◌≡◌, ◌≤◌, ◌<◌, ◌+◌, ◌-◌, ◌*◌, inl, inr, ℕ, List, [], ◌∷◌, Some, refl, ap, sym, subst, arith}
+use Rattle.std.proofs.lemmas.Nat.{mul-le}
 use Rattle.service_curve.specs.declared.Curve.{Curve}
 use Rattle.runtime_curve.specs.declared.Opening.{Opening}
 use Rattle.runtime_curve.specs.declared.held.Held.{Held}
-use Rattle.runtime_curve.specs.Held.{Lower, LowerThanAll, IsOneOf, IsUpTo, AreUpTo, StandFor}
+use Rattle.runtime_curve.specs.Held.{Lower, LowerThanAll, IsOneOf, IsUpTo, AreUpTo, StandFor, held_one}
 
 lower_trans : (m : ℕ) (a b c : Opening) → Lower m a b → Lower m b c → Lower m a c
 lower_trans m a b c x y = omega arith
@@ -32,9 +33,6 @@ up_to_more : (a b : Opening) (os : List Opening) → IsUpTo b a → AreUpTo a os
 up_to_more a b [] h x = tt
 up_to_more a b (o ∷ os) h x = (up_to_next o a b x.0 h, up_to_more a b os h x.1)
 
-abbrev pub held_one : Opening → Held
-held_one o = record { steep = o; flat = o; last = o }
-
 pub up_to_itself : (o : Opening) → IsUpTo o o
 up_to_itself o = record { at = omega arith; count = omega arith }
 
@@ -50,10 +48,10 @@ gained m old new h =
     let three = ap (λ n. m * n) two in
     omega arith
 
-pub new_lower : (m : ℕ) (old new : Opening) → IsUpTo new old → new.count - old.count < m * (new.at - old.at) → Lower m new old
+pub new_lower : (m : ℕ) (old new : Opening) → IsUpTo new old → new.count - old.count ≤ m * (new.at - old.at) → Lower m new old
 new_lower m old new h less = let rise = gained m old new h in let more : old.count ≤ new.count = h.count in omega arith
 
-pub old_lower : (m : ℕ) (old new : Opening) → IsUpTo new old → m * (new.at - old.at) ≤ new.count - old.count → Lower m old new
+pub old_lower : (m : ℕ) (old new : Opening) → IsUpTo new old → m * (new.at - old.at) < new.count - old.count → Lower m old new
 old_lower m old new h less = let rise = gained m old new h in let more : old.count ≤ new.count = h.count in omega arith
 
 -- what the choice of the lower of an old opening and a new one keeps
@@ -94,3 +92,37 @@ one_stands s h r new os x k e rises same g = record {
   where
     equal : s.m2 ≤ s.m1 → s.m2 ≡ s.m1
     equal falls = omega arith
+
+-- of an old opening and a new one each may be the lower
+pub old_kept : (m : ℕ) (old new : Opening) → Lower m old new → IsLower m old new old
+old_kept m old new low = record { low = λ os x. (low, x); one = λ os x. lower_in old new os x }
+
+pub new_kept : (m : ℕ) (old new : Opening) → Lower m new old → IsLower m old new new
+new_kept m old new low = record { low = λ os x. lower_low m old new new os low (omega arith) x; one = λ os x. inl refl }
+
+-- an opening that is lower than an earlier one by a slope is so by a steeper one
+steeper : (m n : ℕ) (a b : Opening) → m ≤ n → IsUpTo a b → Lower m a b → Lower n a b
+steeper m n a b h k low =
+    let one = gained m b a k in
+    let two = gained n b a k in
+    let three = mul-le m (a.at - b.at) n (a.at - b.at) h (omega arith) in
+    omega (arith, one, two, three, low)
+
+steeper_all : (m n : ℕ) (a : Opening) (os : List Opening) → m ≤ n → AreUpTo a os → LowerThanAll m a os → LowerThanAll n a os
+steeper_all m n a [] h k low = tt
+steeper_all m n a (o ∷ os) h k low = (steeper m n a o h k.0 low.0, steeper_all m n a os h k.1 low.1)
+
+-- a new opening whose line of the second slope is the lowest stands for all
+pub new_stands : (s : Curve) (h : Held) (new : Opening) (os : List Opening) → StandFor s h os → IsUpTo new h.last → Lower s.m2 new h.flat
+    → StandFor s (held_one new) (new ∷ os)
+new_stands s h new os x k low =
+    let lower = lower_all s.m2 new h.flat os low x.flat_low in
+    let up = up_to_more h.last new os k x.up_to in
+    record {
+      steep_in = inl refl;
+      flat_in = inl refl;
+      steep_low = λ falls. (omega arith, steeper_all s.m2 s.m1 new os falls up lower);
+      flat_low = (omega arith, lower);
+      last = refl;
+      up_to = (up_to_itself new, up);
+    }

@@ -198,3 +198,6 @@ one_line s p q x e = subst (λ (o : Opening). reached_at s q x ≡ deadline s (o
 -- a slope that falls makes eligible by itself
 pub falls : (s : Curve) → (s.m1 ≤ s.m2 → ⊥) → eligible_curve s ≡ s
 falls s h = let e : nat_le s.m2 s.m1 ≡ true = grind (arith, nat_tests, h) in rw e refl
+
+pub rises_not : (s : Curve) → s.m2 ≤ s.m1 → eligible_curve s ≡ s
+rises_not s h = let e : nat_le s.m2 s.m1 ≡ true = grind (arith, nat_tests, h) in rw e refl

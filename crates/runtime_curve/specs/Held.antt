@@ -4,6 +4,8 @@ use Rattle.std.specs.Prelude.{◌≡◌, ◌≤◌, ◌+◌, ◌*◌, ◌⊎◌,
 use Rattle.service_curve.specs.declared.Curve.{Curve}
 use Rattle.runtime_curve.specs.declared.Opening.{Opening}
 use Rattle.runtime_curve.specs.declared.held.Held.{Held}
+use Rattle.runtime_curve.specs.declared.held.Kept.{Kept}
+use Rattle.runtime_curve.specs.declared.held.Kept.TheVariants.{Nothing, One, Three}
 use Rattle.runtime_curve.specs.Opening.{IsWithin, newest}
 
 -- the line of this slope through the first opening is nowhere above that through the second
@@ -55,16 +57,27 @@ abbrev pub both : Option Held → List Opening
 both None = []
 both (Some h) = h.steep ∷ h.flat ∷ []
 
-abbrev pub AreWithin : Option Held → Type 0
-AreWithin o = (h : Held) → o ≡ Some h → IsWithin h.steep × IsWithin h.flat
+-- one opening that stands for all
+abbrev pub held_one : Opening → Held
+held_one o = record { steep = o; flat = o; last = o }
 
--- none that is held is later than the last or of greater count
-abbrev pub AreOrdered : Option Held → Type 0
-AreOrdered o = (h : Held) → o ≡ Some h → IsUpTo h.last h.steep × IsUpTo h.last h.flat
+-- what is kept, as three openings
+abbrev pub three : Kept → Option Held
+three Nothing = None
+three (One o) = Some (held_one o)
+three (Three h) = Some h
 
--- where there is an opening
-abbrev pub IsOneLine : Curve → Option Held → Type 0
-IsOneLine s o = (h : Held) → o ≡ Some h → AreOne s h
+-- openings that are held: none is later than the last or of greater count
+pub record IsHeld (s : Curve) (h : Held) : Type 0 where
+  pub steep : IsWithin h.steep
+  pub flat : IsWithin h.flat
+  pub steep_order : IsUpTo h.last h.steep
+  pub flat_order : IsUpTo h.last h.flat
+  pub one : AreOne s h
+
+pub record IsKept (s : Curve) (k : Kept) : Type 0 where
+  pub one : (o : Opening) → k ≡ One o → IsWithin o
+  pub three : (h : Held) → k ≡ Three h → IsHeld s h
 
 -- an opening may follow those that are held
 abbrev pub MayFollow : Option Held → Opening → Type 0

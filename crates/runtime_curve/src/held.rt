@@ -1,9 +1,10 @@
 //! The openings that stand for all: the lowest by each slope, and the last.
-ghost use Rattle.std.specs.Prelude.{◌≡◌, ◌≤◌, ◌^◌, ◌∷◌, [], List, Some};
+ghost use Rattle.std.specs.Prelude.{◌≡◌, ◌≤◌, ◌^◌, ◌∷◌, List, Some, true, false};
 ghost use Rattle.service_curve.specs.Curve.{IsInRange};
 ghost use Rattle.runtime_curve.specs.declared.Opening.{Opening};
+ghost use Rattle.runtime_curve.specs.declared.held.Kept.TheVariants.{One};
 ghost use Rattle.runtime_curve.specs.Opening.{IsWithin};
-ghost use Rattle.runtime_curve.specs.Held.{AreOne, IsUpTo, LowerThanAll, IsOneOf, StandFor};
+ghost use Rattle.runtime_curve.specs.Held.{IsHeld, IsKept, IsUpTo, Lower, MayFollow, Stand, StandFor, last_held, three};
 
 use crate::Opening;
 use service_curve::Curve;
@@ -17,62 +18,97 @@ pub struct Held {
     pub last: Opening,
 }
 
-/// Of an opening and a new one, not before it, keeps the one whose line of this slope is lower.
-fn keep_lower(slope: u64, kept: &mut Opening, new: Opening)
-    requires slope { slope ≤ 10 ^ 12 }
-    requires kept { IsWithin kept.old }
-    requires new { IsWithin new }
-    requires order { IsUpTo new kept.old }
-    ensures within { IsWithin kept.new }
-    ensures order { IsUpTo new kept.new }
-    ensures low { (os : List Opening) → LowerThanAll slope kept.old os → LowerThanAll slope kept.new (new ∷ os) }
-    ensures one { (os : List Opening) → IsOneOf kept.old os → IsOneOf kept.new (new ∷ os) }
-{
-    if new.count - kept.count < slope as u128 * (new.at - kept.at) {
-        *kept = new;
-    }
+/// What is kept of the openings.
+#[derive(Clone, Copy, Debug, PartialEq, Eq)]
+pub enum Kept {
+    /// There is none.
+    Nothing,
+    /// The last, which stands for all.
+    One(Opening),
+    /// Those that stand for all.
+    Three(Held),
 }
 
-/// One opening more, which may follow the last. What is held changes in its place. Where the slope does not fall the line of the
-/// second slope alone counts, and both openings are the one whose line it is.
-pub fn add_opening(curve: &Curve, held: &mut Held, new: Opening)
+/// Whether the line of a slope through a new opening, not before another, is nowhere above that one's.
+#[inline(always)]
+#[tactic(auto, using(crate::proofs::Lowest::new_lower, crate::proofs::Lowest::old_lower))]
+fn is_lower(slope: u64, kept: &Opening, new: &Opening) -> bool
+    requires slope { slope ≤ 10 ^ 12 }
+    requires kept { IsWithin kept.now }
+    requires new { IsWithin new.now }
+    requires order { IsUpTo new.now kept.now }
+    ensures lower { result ≡ true → Lower slope new.now kept.now }
+    ensures higher { result ≡ false → Lower slope kept.now new.now }
+{
+    new.count - kept.count <= u128::from(slope) * (new.at - kept.at)
+}
+
+/// One opening more, which may follow the last. What is kept changes in its place. Where its line of the second slope is the
+/// lowest so is that of the first, and it stands for all.
+#[inline(always)]
+pub fn add_opening(curve: &Curve, kept: &mut Kept, new: Opening)
     requires in_range { IsInRange curve.now }
     requires new { IsWithin new }
-    requires steep { IsWithin held.old.steep }
-    requires flat { IsWithin held.old.flat }
-    requires steep_order { IsUpTo held.old.last held.old.steep }
-    requires flat_order { IsUpTo held.old.last held.old.flat }
-    requires last { IsUpTo new held.old.last }
-    ensures steep { IsWithin held.new.steep }
-    ensures flat { IsWithin held.new.flat }
-    ensures steep_order { IsUpTo held.new.last held.new.steep }
-    ensures flat_order { IsUpTo held.new.last held.new.flat }
-    ensures last { held.new.last ≡ new }
-    ensures one { AreOne curve.now held.new }
-    ensures opened { (os : List Opening) → StandFor curve.now held.old os → StandFor curve.now held.new (new ∷ os) }
+    requires kept { IsKept curve.now kept.old }
+    requires follows { MayFollow (three kept.old) new }
+    ensures kept { IsKept curve.now kept.new }
+    ensures last { last_held (three kept.new) ≡ Some new }
+    ensures opened { (os : List Opening) → Stand curve.now (three kept.old) os → Stand curve.now (three kept.new) (new ∷ os) }
 {
-    keep_lower(curve.m2, &mut held.flat, new);
-    held.last = new;
-    if curve.m1 <= curve.m2 {
-        held.steep = held.flat;
-        return;
+    match kept {
+        Kept::Nothing => *kept = Kept::One(new),
+        Kept::One(only) => {
+            if is_lower(curve.m2, only, &new) {
+                *only = new;
+                return;
+            }
+            *kept = Kept::Three(second_opening(curve, *only, new));
+        }
+        Kept::Three(held) => {
+            if is_lower(curve.m2, &held.flat, &new) {
+                *kept = Kept::One(new);
+                return;
+            }
+            add_last(curve, held, new);
+        }
     }
-    keep_lower(curve.m1, &mut held.steep, new);
 }
 
-/// The openings that stand for all, where there is one.
-#[tactic(auto, using(crate::proofs::Lowest::first_stands))]
-pub fn first_opening(new: Opening) -> Held
+/// A second opening, whose line of the second slope is not lower than that of the first.
+#[inline(never)]
+fn second_opening(curve: &Curve, first: Opening, new: Opening) -> Held
+    requires in_range { IsInRange curve.now }
+    requires first { IsWithin first }
     requires new { IsWithin new }
-    ensures steep { result.steep ≡ new }
-    ensures flat { result.flat ≡ new }
+    requires order { IsUpTo new first }
+    requires above { Lower curve.now.m2 first new }
+    ensures held { IsHeld curve.now result }
     ensures last { result.last ≡ new }
-    ensures one { (s : Curve) → AreOne s result }
-    ensures opened { (s : Curve) (os : List Opening) → os ≡ [] → StandFor s result (new ∷ os) }
+    ensures opened { (os : List Opening) → Stand curve.now (three (One first)) os → StandFor curve.now result (new ∷ os) }
 {
-    Held {
-        steep: new,
-        flat: new,
-        last: new,
+    let mut held = Held {
+        steep: first,
+        flat: first,
+        last: first,
+    };
+    add_last(curve, &mut held, new);
+    held
+}
+
+/// One opening more whose line of the second slope is not lower than the lowest. Where the slope does not fall that line alone
+/// counts, and both openings are the one whose line it is.
+fn add_last(curve: &Curve, held: &mut Held, new: Opening)
+    requires in_range { IsInRange curve.now }
+    requires new { IsWithin new }
+    requires held { IsHeld curve.now held.old }
+    requires last { IsUpTo new held.old.last }
+    requires above { Lower curve.now.m2 held.old.flat new }
+    ensures held { IsHeld curve.now held.new }
+    ensures last { held.new.last ≡ new }
+    ensures opened { (os : List Opening) → StandFor curve.now held.old os → StandFor curve.now held.new (new ∷ os) }
+{
+    held.last = new;
+    if curve.m1 > curve.m2 && is_lower(curve.m1, &held.steep, &new) {
+        held.steep = new;
     }
 }

@@ -4,7 +4,7 @@
 //! what the class was sent before it. From each opening on the class is allowed its count and what its curve gives; of
 //! all openings the least counts. Moments are in nanoseconds, counts in units, of which a byte has 8,000,000,000.
 //!
-//! Of all openings only three are kept, so nothing here takes memory and each call takes constant time. The source is
+//! Of all openings at most three are kept, so nothing here takes memory and each call takes constant time. The source is
 //! Stoica, Zhang and Ng, "A Hierarchical Fair Service Curve Algorithm for Link-Sharing, Real-Time and Priority Services",
 //! SIGCOMM 1997: the deadline curve and the eligible curve.
 #![tactic(auto)]
@@ -17,15 +17,18 @@ ghost use Rattle.service_curve.specs.Moment.{IsFirst, HasCome};
 ghost use Rattle.runtime_curve.specs.declared.Opening.{Opening};
 ghost use Rattle.runtime_curve.specs.Opening.{opening, RisesFromZero, least_over, IsAtLeast, Reaches, eligible_curve, IsFrom};
 ghost use Rattle.runtime_curve.specs.Deadline.{deadline, reaches, soonest};
-ghost use Rattle.runtime_curve.specs.Held.{AreOrdered, AreWithin, IsOneLine, MayFollow};
+ghost use Rattle.runtime_curve.specs.Held.{IsKept};
 
 use service_curve::{Curve, Inverses};
 
 mod held;
 mod lines;
 
-use held::{Held, add_opening, first_opening};
-use lines::{both_allow, both_counted, deadline_of, early_of, eligible_curve, later_of};
+use held::{Kept, add_opening};
+use lines::{
+    allows, both_allow, both_counted, deadline_of, early_at, early_of, eligible_curve, later_of,
+    reached_at,
+};
 
 /// A moment at which a class opened, in nanoseconds, and the units that it had been sent by real time before it.
 #[derive(Clone, Copy, Debug, PartialEq, Eq)]
@@ -42,12 +45,10 @@ pub struct Opening {
 pub struct Running {
     curve: Curve,
     inverses: Inverses,
-    held: Option<Held>,
+    kept: Kept,
     ghost in_range: { IsInRange curve },
     ghost slopes: { RisesFromZero curve },
-    ghost within: { AreWithin held },
-    ghost ordered: { AreOrdered held },
-    ghost one: { IsOneLine curve held },
+    ghost held: { IsKept curve kept },
 }
 
 impl Running {
@@ -63,12 +64,13 @@ impl Running {
         Running {
             curve,
             inverses: curve.inverses(),
-            held: None,
+            kept: Kept::Nothing,
         }
     }
 
     /// Adds an opening at a moment before 2^80 with a count below 2^100, neither of which is less than in the opening
     /// before it.
+    #[inline(always)]
     pub fn begin(&mut self, at: u128, count: u128)
         requires at { at < 2 ^ 80 }
         requires count { count < 2 ^ 100 }
@@ -77,18 +79,13 @@ impl Running {
             → StandsFor self.new s (opening at count ∷ os) }
         ensures last { last_of self.new ≡ Some (opening at count) }
     {
-        let curve = self.curve;
-        let new = Opening { at, count };
-        if let Some(held) = &mut self.held {
-            add_opening(&curve, held, new);
-            return;
-        }
-        self.held = Some(first_opening(new));
+        add_opening(&self.curve, &mut self.kept, Opening { at, count });
     }
 
     /// The deadline: the first moment, in nanoseconds, at which the deadline curve, the least over all openings, reaches
     /// `count` units. `None` comes exactly where there is no such moment. There is an opening; `count` is greater than the
     /// last one's, and less than 2^100.
+    #[inline(always)]
     pub fn deadline(&self, count: u128) -> Option<u128>
         requires amount { count < 2 ^ 100 }
         requires opened { IsSomeAnd (last_of self.now) (λ last. last.count < count) }
@@ -97,9 +94,19 @@ impl Running {
         ensures is { (s : Curve) (os : List Opening) → StandsFor self.now s os → result ≡ deadline s os count }
         ensures now { result ≡ deadline_now self.now count }
     {
-        match &self.held {
-            None => Some(0),
-            Some(held) => deadline_of(&self.curve, &self.inverses, held, count),
+        self.deadline_kept(count)
+    }
+
+    /// The same by what is kept.
+    #[inline(always)]
+    fn deadline_kept(&self, count: u128) -> Option<u128>
+        requires { count < 2 ^ 100 }
+        ensures { result ≡ deadline_now self.now count }
+    {
+        match &self.kept {
+            Kept::Nothing => Some(0),
+            Kept::One(only) => reached_at(&self.curve, &self.inverses, only, count),
+            Kept::Three(held) => deadline_of(&self.curve, &self.inverses, held, count),
         }
     }
 
@@ -116,18 +123,26 @@ impl Running {
             → result ≡ reaches (eligible_curve s) os now count }
         ensures now { result ≡ eligible_now self.now now count }
     {
-        match self.held {
-            None => true,
-            Some(held) => {
-                let curve = eligible_curve(&self.curve);
-                both_allow(&curve, held.steep, held.flat, now, count)
-            }
+        self.eligible_kept(now, count)
+    }
+
+    /// The same by what is kept.
+    fn eligible_kept(&self, now: u128, count: u128) -> bool
+        requires { now < 2 ^ 80 }
+        ensures { result ≡ eligible_now self.now now count }
+    {
+        let curve = eligible_curve(&self.curve);
+        match &self.kept {
+            Kept::Nothing => true,
+            Kept::One(only) => allows(&curve, only, now, count),
+            Kept::Three(held) => both_allow(&curve, &held.steep, &held.flat, now, count),
         }
     }
 
     /// The first moment, in nanoseconds and not before the last opening, at which a class that was sent `count` units
     /// may be sent more: the least over all openings of what makes it eligible reaches the count then. `None` comes
     /// exactly where there is no such moment. There is an opening, and `count` is less than 2^100.
+    #[inline(always)]
     pub fn soonest(&self, count: u128) -> Option<u128>
         requires amount { count < 2 ^ 100 }
         requires opened { IsSome (last_of self.now) }
@@ -136,17 +151,37 @@ impl Running {
         ensures is { (s : Curve) (os : List Opening) → StandsFor self.now s os → result ≡ soonest s os count }
         ensures now { result ≡ soonest_now self.now count }
     {
-        match &self.held {
-            None => Some(0),
-            Some(held) => {
-                if both_counted(&held.steep, &held.flat, count) {
-                    return Some(held.last.at);
-                }
-                later_of(
-                    early_of(&self.curve, &self.inverses, held, count),
-                    Some(held.last.at),
-                )
-            }
+        self.soonest_kept(count)
+    }
+
+    /// The same by what is kept.
+    #[inline(always)]
+    fn soonest_kept(&self, count: u128) -> Option<u128>
+        requires { count < 2 ^ 100 }
+        ensures { result ≡ soonest_now self.now count }
+    {
+        match &self.kept {
+            Kept::One(only) if count <= only.count => Some(only.at),
+            _ => self.soonest_past(count),
+        }
+    }
+
+    /// The same, whatever is kept.
+    fn soonest_past(&self, count: u128) -> Option<u128>
+        requires { count < 2 ^ 100 }
+        ensures { result ≡ soonest_now self.now count }
+    {
+        match &self.kept {
+            Kept::Nothing => Some(0),
+            Kept::One(only) => later_of(
+                early_at(&self.curve, &self.inverses, only, count),
+                Some(only.at),
+            ),
+            Kept::Three(held) if both_counted(&held.steep, &held.flat, count) => Some(held.last.at),
+            Kept::Three(held) => later_of(
+                early_of(&self.curve, &self.inverses, held, count),
+                Some(held.last.at),
+            ),
         }
     }
 }

@@ -25,7 +25,13 @@ pub fn later_of(a: Option<u128>, b: Option<u128>) -> Option<u128>
 }
 
 /// The first moment up to which an opening allows a count.
-fn reached_at(curve: &Curve, inverses: &Inverses, opening: &Opening, count: u128) -> Option<u128>
+#[inline(always)]
+pub fn reached_at(
+    curve: &Curve,
+    inverses: &Inverses,
+    opening: &Opening,
+    count: u128,
+) -> Option<u128>
     requires in_range { IsInRange curve.now }
     requires within { IsWithin opening.now }
     requires amount { count < 2 ^ 100 }
@@ -41,6 +47,7 @@ fn reached_at(curve: &Curve, inverses: &Inverses, opening: &Opening, count: u128
 }
 
 /// The first moment up to which two openings allow a count: mostly that of the second, by which the first mostly allows it too.
+#[inline(always)]
 #[tactic(auto, using(crate::proofs::Deadlines::second_is_later))]
 fn latest_of(
     curve: &Curve,
@@ -59,9 +66,26 @@ fn latest_of(
     if allows_by(curve, one, reached, count) {
         return reached;
     }
+    later_than(curve, inverses, one, reached, count)
+}
+
+/// The later of the first moment up to which an opening allows a count, and another moment.
+#[inline(never)]
+fn later_than(
+    curve: &Curve,
+    inverses: &Inverses,
+    opening: &Opening,
+    other: Option<u128>,
+    count: u128,
+) -> Option<u128>
+    requires in_range { IsInRange curve.now }
+    requires within { IsWithin opening.now }
+    requires amount { count < 2 ^ 100 }
+    ensures { result ≡ later_of (reached_at curve.now opening.now count) (later_of other (Some 0)) }
+{
     later_of(
-        reached_at(curve, inverses, one, count),
-        later_of(reached, Some(0)),
+        reached_at(curve, inverses, opening, count),
+        later_of(other, Some(0)),
     )
 }
 
@@ -72,12 +96,13 @@ fn allows_by(curve: &Curve, opening: &Opening, moment: Option<u128>, count: u128
     ensures { result ≡ allows_by curve.now opening.now moment count }
 {
     match moment {
-        Some(moment) if moment < EARLY => allows(curve, *opening, moment, count),
+        Some(moment) if moment < EARLY => allows(curve, opening, moment, count),
         _ => false,
     }
 }
 
 /// The first moment up to which the openings that stand for all allow a count. Where the slope does not fall they are one.
+#[inline(never)]
 #[tactic(auto, using(crate::proofs::TwoLines::one_line))]
 pub fn deadline_of(curve: &Curve, inverses: &Inverses, held: &Held, count: u128) -> Option<u128>
     requires in_range { IsInRange curve.now }
@@ -104,14 +129,23 @@ pub fn early_of(curve: &Curve, inverses: &Inverses, held: &Held, count: u128) ->
     ensures { result ≡ deadline (eligible_curve curve.now) (held.now.steep ∷ held.now.flat ∷ []) count }
 {
     if curve.m1 <= curve.m2 {
-        return reached_at(
-            &eligible_curve(curve),
-            &of_second(inverses),
-            &held.flat,
-            count,
-        );
+        return early_at(curve, inverses, &held.flat, count);
     }
     latest_of(curve, inverses, &held.steep, &held.flat, count)
+}
+
+/// The first moment up to which an opening allows a count by the curve that makes a class eligible.
+#[tactic(auto, using(crate::proofs::TwoLines::rises_not))]
+pub fn early_at(curve: &Curve, inverses: &Inverses, opening: &Opening, count: u128) -> Option<u128>
+    requires in_range { IsInRange curve.now }
+    requires within { IsWithin opening.now }
+    requires amount { count < 2 ^ 100 }
+    ensures { result ≡ reached_at (eligible_curve curve.now) opening.now count }
+{
+    if curve.m2 <= curve.m1 {
+        return reached_at(curve, inverses, opening, count);
+    }
+    reached_at(&eligible_curve(curve), &of_second(inverses), opening, count)
 }
 
 /// Whether two openings had a count already, and so allow it at every moment. Those of a class that just opened mostly do.
@@ -151,22 +185,22 @@ pub fn eligible_curve(curve: &Curve) -> Curve
 }
 
 /// Whether an opening allows a count up to a moment.
-fn allows(curve: &Curve, opening: Opening, now: u128, count: u128) -> bool
+pub fn allows(curve: &Curve, opening: &Opening, now: u128, count: u128) -> bool
     requires in_range { IsInRange curve.now }
-    requires within { IsWithin opening }
+    requires within { IsWithin opening.now }
     requires now { now < 2 ^ 80 }
-    ensures { result ≡ nat_le count (line curve.now now opening) }
+    ensures { result ≡ nat_le count (line curve.now now opening.now) }
 {
     count <= opening.count + curve.amount(now.saturating_sub(opening.at))
 }
 
 /// Whether two openings allow a count up to a moment.
-pub fn both_allow(curve: &Curve, one: Opening, other: Opening, now: u128, count: u128) -> bool
+pub fn both_allow(curve: &Curve, one: &Opening, other: &Opening, now: u128, count: u128) -> bool
     requires in_range { IsInRange curve.now }
-    requires one { IsWithin one }
-    requires other { IsWithin other }
+    requires one { IsWithin one.now }
+    requires other { IsWithin other.now }
     requires now { now < 2 ^ 80 }
-    ensures { result ≡ reaches curve.now (one ∷ other ∷ []) now count }
+    ensures { result ≡ reaches curve.now (one.now ∷ other.now ∷ []) now count }
 {
     allows(curve, one, now, count) && allows(curve, other, now, count)
 }
