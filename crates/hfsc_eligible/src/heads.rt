@@ -20,6 +20,7 @@ pub fn has_come(moment: Option<u128>, now: u128) -> bool
 
 /// Puts a class anew into the lists by deadline and by moment, or takes it out of them; `was` says whether it was there. A class
 /// without a curve is in neither, and costs nothing.
+#[inline(always)]
 pub fn rank(deadlines: &mut Ranking, moments: &mut Ranking, class: u32, was: bool, slot: &Slot)
     requires deadline_place { class < length (keys_of deadlines.old) }
     requires moment_place { class < length (keys_of moments.old) }
@@ -28,13 +29,21 @@ pub fn rank(deadlines: &mut Ranking, moments: &mut Ranking, class: u32, was: boo
     ensures deadlines { IsReplaced class (slot_has_head slot.now) (slot_deadline slot.now) deadlines.old deadlines.new }
     ensures moments { IsReplaced class (slot_has_head slot.now) (slot_soonest slot.now) moments.old moments.new }
 {
-    if slot.has_head() {
-        deadlines.replace(class, was, true, slot.deadline());
-        moments.replace(class, was, true, slot.soonest());
-        return;
+    if was || slot.has_head() {
+        rank_anew(deadlines, moments, class, was, slot);
     }
-    if was {
-        deadlines.replace(class, true, false, None);
-        moments.replace(class, true, false, None);
-    }
+}
+
+/// The same for a class with a curve.
+fn rank_anew(deadlines: &mut Ranking, moments: &mut Ranking, class: u32, was: bool, slot: &Slot)
+    requires deadline_place { class < length (keys_of deadlines.old) }
+    requires moment_place { class < length (keys_of moments.old) }
+    requires deadline_was { is_in class (order_of deadlines.old) ≡ was }
+    requires moment_was { is_in class (order_of moments.old) ≡ was }
+    ensures deadlines { IsReplaced class (slot_has_head slot.now) (slot_deadline slot.now) deadlines.old deadlines.new }
+    ensures moments { IsReplaced class (slot_has_head slot.now) (slot_soonest slot.now) moments.old moments.new }
+{
+    let stands = slot.has_head();
+    deadlines.replace(class, was, stands, slot.deadline());
+    moments.replace(class, was, stands, slot.soonest());
 }
