@@ -67,6 +67,7 @@ impl Ranking {
 
     /// Puts in a class that is not there, with its key. It takes the logarithm of the classes to find the place, and moves
     /// those that stand behind it.
+    #[inline(never)]
     pub fn put(&mut self, class: u32, key: Option<u128>)
         requires class { class < length (keys_of self.old) }
         requires absent { is_in class (order_of self.old) ≡ false }
@@ -85,12 +86,12 @@ impl Ranking {
         ensures keys { keys_of self.new ≡ keys_of self.old }
         ensures order { order_of self.new ≡ without (order_of self.old) class }
     {
-        let place = place_in(&self.order, &self.keys, class);
-        self.take_found(class, place);
+        self.take_out(class);
     }
 
     /// Takes a class out where it `was` there, and puts it in with a key where it `is` to be there. It takes the time of
     /// `take` and `put`; a class that stays there moves only those between its places.
+    #[inline(always)]
     pub fn replace(&mut self, class: u32, was: bool, is: bool, key: Option<u128>)
         requires class { class < length (keys_of self.old) }
         requires was { is_in class (order_of self.old) ≡ was }
@@ -98,13 +99,10 @@ impl Ranking {
     {
         if !was {
             self.put_if(class, is, key);
-            return;
-        }
-        let from = place_in(&self.order, &self.keys, class);
-        if is {
-            self.shift(class, from, key);
+        } else if is {
+            self.rekey(class, key);
         } else {
-            self.take_found(class, from);
+            self.take_out(class);
         }
     }
 
@@ -119,7 +117,31 @@ impl Ranking {
         self.keys[place] = key;
     }
 
+    /// Finds a class that is there, and takes it out.
+    #[inline(never)]
+    fn take_out(&mut self, class: u32)
+        requires there { is_in class (order_of self.old) ≡ true }
+        ensures keys { keys_of self.new ≡ keys_of self.old }
+        ensures order { order_of self.new ≡ without (order_of self.old) class }
+        ensures classes { (c : ℕ) → is_in c (order_of self.new) ≡ (if class == c then false else is_in c (order_of self.old)) }
+    {
+        let place = place_in(&self.order, &self.keys, class);
+        self.take_found(class, place);
+    }
+
+    /// Finds a class that is there, and gives it another key.
+    #[inline(never)]
+    fn rekey(&mut self, class: u32, key: Option<u128>)
+        requires class { class < length (keys_of self.old) }
+        requires there { is_in class (order_of self.old) ≡ true }
+        ensures { IsReplaced class true key self.old self.new }
+    {
+        let from = place_in(&self.order, &self.keys, class);
+        self.shift(class, from, key);
+    }
+
     /// Takes out a class that is there, at the place where it was found.
+    #[inline(always)]
     fn take_found(&mut self, class: u32, place: usize)
         requires there { is_in class (order_of self.old) ≡ true }
         requires found { IsFound (keys_of self.old) (order_of self.old) class place place }
@@ -131,6 +153,7 @@ impl Ranking {
     }
 
     /// Gives a class that is there another key, and moves it past those that stand between its places.
+    #[inline(always)]
     fn shift(&mut self, class: u32, from: usize, key: Option<u128>)
         requires class { class < length (keys_of self.old) }
         requires there { is_in class (order_of self.old) ≡ true }
@@ -144,6 +167,7 @@ impl Ranking {
     }
 
     /// Puts a class in with a key, where it is to be there.
+    #[inline(always)]
     fn put_if(&mut self, class: u32, is: bool, key: Option<u128>)
         requires class { class < length (keys_of self.old) }
         requires absent { is_in class (order_of self.old) ≡ false }

@@ -1,11 +1,12 @@
 //! The place of a class in a list in the order of the keys.
-ghost use Rattle.std.specs.Prelude.{◌≡◌, ◌+◌, ◌-◌, ◌<◌, length, slice_index, true};
+ghost use Rattle.std.specs.Prelude.{◌≡◌, ◌+◌, ◌-◌, ◌<◌, length, slice_index, true, if◌then◌else◌};
 ghost use Rattle.std.specs.List.{remove};
 ghost use Rattle.hfsc_model.specs.RealTime.{goes_first, is_earlier};
 ghost use Rattle.ranking.specs.Order.{is_before, is_ranked, key_of};
 ghost use Rattle.ranking.specs.Search.{IsFound};
 
 /// Whether the first moment is before the second, where `None` means never.
+#[inline(always)]
 fn is_earlier(a: Option<u128>, b: Option<u128>) -> bool
     ensures { result ≡ is_earlier a b }
 {
@@ -19,6 +20,7 @@ fn is_earlier(a: Option<u128>, b: Option<u128>) -> bool
 }
 
 /// The key of a class.
+#[inline(always)]
 fn key_of(keys: &[Option<u128>], class: u32) -> Option<u128>
     ensures { result ≡ key_of keys.now class }
 {
@@ -28,17 +30,23 @@ fn key_of(keys: &[Option<u128>], class: u32) -> Option<u128>
     }
 }
 
-/// Whether a class with the first key goes before one with the second.
+/// Whether a class with the first key goes before one with the second. No branch hangs on the keys, since none of these could be
+/// foretold.
+#[inline(always)]
 fn goes_first(a: Option<u128>, one: u32, b: Option<u128>, other: u32) -> bool
     ensures { result ≡ goes_first a one b other }
 {
-    if is_earlier(a, b) {
-        return true;
-    }
-    if is_earlier(b, a) {
-        return false;
-    }
-    one < other
+    let earlier = is_earlier(a, b);
+    let later = is_earlier(b, a);
+    earlier | (!later & (one < other))
+}
+
+/// One of two places, for the same reason by itself.
+#[inline(always)]
+fn chosen(test: bool, one: usize, other: usize) -> usize
+    ensures { result ≡ (if test then one else other) }
+{
+    if test { one } else { other }
 }
 
 /// Whether a class goes before another.
@@ -59,11 +67,9 @@ pub fn place_of(order: &[u32], keys: &[Option<u128>], class: u32, key: Option<u1
     while low < high {
         let middle = low + (high - low) / 2;
         let other = order[middle];
-        if goes_first(key_of(keys, other), other, key, class) {
-            low = middle + 1;
-        } else {
-            high = middle;
-        }
+        let goes = goes_first(key_of(keys, other), other, key, class);
+        low = chosen(goes, middle + 1, low);
+        high = chosen(goes, high, middle);
     }
     low
 }
@@ -118,11 +124,9 @@ pub fn place_beside(
     let mut middle = least;
     while least < most {
         let other = other_at(order, from, middle);
-        if goes_first(key_of(keys, other), other, key, class) {
-            least = middle + 1;
-        } else {
-            most = middle;
-        }
+        let goes = goes_first(key_of(keys, other), other, key, class);
+        least = chosen(goes, middle + 1, least);
+        most = chosen(goes, most, middle);
         middle = least + (most - least) / 2;
     }
     least
