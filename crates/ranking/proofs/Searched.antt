@@ -1,10 +1,10 @@
 -- What a look at the middle adds to a search.
-use Rattle.std.proofs.Common.{◌≡◌, ◌<◌, ◌≤◌, ◌+◌, ◌⊎◌, inl, inr, ℕ, Bool, true, false, List, [], ◌∷◌, Some, length, refl, sym, ap, subst, arith, get_or, ◌-◌, ◌∙◌}
-use Rattle.std.specs.Prelude.{Option, slice_get, if◌then◌else◌}
+use Rattle.std.proofs.Common.{◌≡◌, ◌<◌, ◌≤◌, ◌+◌, ◌⊎◌, inl, inr, ℕ, suc, Bool, true, false, List, [], ◌∷◌, length, refl, sym, ap, subst, arith, get_or, ◌∙◌}
+use Rattle.std.specs.Prelude.{Option, ◌==◌, if◌then◌else◌}
 use Rattle.std.proofs.lemmas.Bool.{cases_lt}
-use Rattle.std.proofs.lemmas.Option.{get_or_from_slice_get}
+use Rattle.std.proofs.lemmas.Bool.Decides.{nat_tests}
 use Rattle.hfsc_model.specs.RealTime.{goes_first}
-use Rattle.ranking.specs.Order.{is_before, is_ranked, key_of}
+use Rattle.ranking.specs.Order.{is_before, is_in, is_ranked, key_of}
 use Rattle.ranking.specs.Search.{IsFound, IsRanked}
 use Rattle.ranking.proofs.Ordered.{before_trans, goes_not, in_order}
 use Rattle.ranking.proofs.Ranks.{ranked_true}
@@ -69,32 +69,21 @@ found_all keys xs c = record {
   from = λ k a b. absurd (omega arith);
 }
 
--- after a look at the front
-pub front_below : (keys : List (Option ℕ)) (xs : List ℕ) (c x : ℕ) → is_ranked keys xs ≡ true → slice_get xs 0 ≡ Some x → is_before keys x c ≡ false → IsFound keys xs c 0 0
-front_below keys [] c x r e b = absurd cc
-front_below keys (y ∷ ys) c x r e b =
-    let same : y ≡ x = cc in
-    found_below keys (y ∷ ys) c 0 0 (length (y ∷ ys)) (ranked_true keys (y ∷ ys) r) (found_all keys (y ∷ ys) c) (omega arith) (omega arith) (ap (λ n. is_before keys n c) same ∙ b)
-
--- where the front is the class itself
-pub front_found : (keys : List (Option ℕ)) (xs : List ℕ) (c x : ℕ) → is_ranked keys xs ≡ true → slice_get xs 0 ≡ Some x → x ≡ c → IsFound keys xs c 0 0
-front_found keys xs c x r e same = front_below keys xs c x r e (ap (λ n. is_before keys n c) same ∙ goes_not (key_of keys c) c)
-
--- where the last is the class itself
-pub last_found : (keys : List (Option ℕ)) (xs : List ℕ) (c x : ℕ) → is_ranked keys xs ≡ true → slice_get xs (length xs - 1) ≡ Some x → x ≡ c
-    → IsFound keys xs c (length xs - 1) (length xs - 1)
-last_found keys [] c x r e same = absurd cc
-last_found keys (y ∷ ys) c x r e same = record {
+-- where a class stands
+pub found_there : (keys : List (Option ℕ)) (xs : List ℕ) (c k : ℕ) → is_ranked keys xs ≡ true → k < length xs → get_or xs k 0 ≡ c → IsFound keys xs c k k
+found_there keys xs c k r h e = record {
   in_order = omega arith;
   within = omega arith;
-  before = λ k a. ap (λ n. is_before keys (get_or (y ∷ ys) k 0) n) (sym is) ∙ in_order keys (y ∷ ys) k (length ys) (ranked_true keys (y ∷ ys) r) (omega (arith, a)) (omega arith);
-  from = λ k a b.
-      let at : k ≡ length ys = omega (arith, a, b) in
-      ap (λ n. is_before keys n c) (ap (λ n. get_or (y ∷ ys) n 0) at ∙ is) ∙ goes_not (key_of keys c) c;
+  before = λ j a. ap (λ n. is_before keys (get_or xs j 0) n) (sym e) ∙ in_order keys xs j k (ranked_true keys xs r) a h;
+  from = (found_below keys xs c 0 k (length xs) (ranked_true keys xs r) (found_all keys xs c) (omega arith) h
+      (ap (λ n. is_before keys n c) e ∙ goes_not (key_of keys c) c)).from;
 }
+
+-- where no place has it a class is not in the list
+pub not_there : (xs : List ℕ) (c : ℕ) → ((k : ℕ) → k < length xs → get_or xs k 0 ≡ c → ⊥) → is_in c xs ≡ false
+not_there [] c f = refl
+not_there (x ∷ xs) c f = go (x == c) refl (not_there xs c (λ k h. f (suc k) (omega (arith, h))))
   where
-    is : get_or (y ∷ ys) (length ys) 0 ≡ c
-    is = get_or_from_slice_get (y ∷ ys) (length ys) x 0 (ap (λ n. slice_get (y ∷ ys) n) back ∙ e) ∙ same
-      where
-        back : length ys ≡ length (y ∷ ys) - 1
-        back = omega arith
+    go : (b : Bool) → (x == c) ≡ b → is_in c xs ≡ false → (if b then true else is_in c xs) ≡ false
+    go true e i = absurd (f 0 (omega arith) (grind (arith, nat_tests, e)))
+    go false e i = i

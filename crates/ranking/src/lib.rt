@@ -1,7 +1,8 @@
 //! Classes in the order of their keys.
 //!
 //! A key is a moment or a virtual time. One of `None` comes after all others, and of equal keys the class that stands
-//! earlier in the file goes first. Places are found by binary search, and `reserve` takes all memory.
+//! earlier in the file goes first. A place is found by binary search, a class that is there by its number, and `reserve` takes all
+//! memory.
 #![tactic(auto)]
 
 ghost use Rattle.std.specs.Prelude.{◌≡◌, ◌==◌, ◌≤◌, ◌<◌, ℕ, [], length, true, false, slice_set, IfOk, if◌then◌else◌};
@@ -79,8 +80,7 @@ impl Ranking {
         put_at(&mut self.order, place, class);
     }
 
-    /// Takes out a class that is there. It takes the logarithm of the classes to find it, and moves those that stand
-    /// behind it.
+    /// Takes out a class that is there. It looks at the numbers of those before it, and moves those behind it.
     pub fn take(&mut self, class: u32)
         requires { is_in class (order_of self.old) ≡ true }
         ensures keys { keys_of self.new ≡ keys_of self.old }
@@ -125,7 +125,7 @@ impl Ranking {
         ensures order { order_of self.new ≡ without (order_of self.old) class }
         ensures classes { (c : ℕ) → is_in c (order_of self.new) ≡ (if class == c then false else is_in c (order_of self.old)) }
     {
-        let place = place_in(&self.order, &self.keys, class);
+        let place = place_in(&self.order, class);
         self.take_found(class, place);
     }
 
@@ -136,7 +136,7 @@ impl Ranking {
         requires there { is_in class (order_of self.old) ≡ true }
         ensures { IsReplaced class true key self.old self.new }
     {
-        let from = place_in(&self.order, &self.keys, class);
+        let from = place_in(&self.order, class);
         self.shift(class, from, key);
     }
 

@@ -1,8 +1,8 @@
 //! The place of a class in a list in the order of the keys.
-ghost use Rattle.std.specs.Prelude.{◌≡◌, ◌+◌, ◌-◌, ◌<◌, length, slice_index, true, if◌then◌else◌};
+ghost use Rattle.std.specs.Prelude.{◌≡◌, ◌+◌, ◌-◌, ◌<◌, ℕ, List, Option, length, slice_index, true, if◌then◌else◌};
 ghost use Rattle.std.specs.List.{remove};
 ghost use Rattle.hfsc_model.specs.RealTime.{goes_first, is_earlier};
-ghost use Rattle.ranking.specs.Order.{is_before, is_ranked, key_of};
+ghost use Rattle.ranking.specs.Order.{is_before, is_in, is_ranked, key_of};
 ghost use Rattle.ranking.specs.Search.{IsFound};
 
 /// Whether the first moment is before the second, where `None` means never.
@@ -74,22 +74,18 @@ pub fn place_of(order: &[u32], keys: &[Option<u128>], class: u32, key: Option<u1
     low
 }
 
-/// The same of a class that is in the list. The ends are tried first: there most classes stand that leave.
-pub fn place_in(order: &[u32], keys: &[Option<u128>], class: u32) -> usize
-    requires { is_ranked keys.now order.now ≡ true }
-    ensures { IsFound keys.now order.now class result result }
+/// The place of a class that is in the list. A look at a number costs far less than one at a key, so it looks at one after another.
+#[inline(always)]
+pub fn place_in(order: &[u32], class: u32) -> usize
+    requires { is_in class order.now ≡ true }
+    ensures { (keys : List (Option ℕ)) → is_ranked keys order.now ≡ true → IsFound keys order.now class result result }
 {
-    if let Some(first) = order.first() {
-        if *first == class {
-            return 0;
+    for place in 0..order.len() {
+        if order[place] == class {
+            return place;
         }
     }
-    if let Some(last) = order.last() {
-        if *last == class {
-            return order.len() - 1;
-        }
-    }
-    place_of(order, keys, class, key_of(keys, class))
+    0
 }
 
 /// The class at a place of a list without the one at `from`.
