@@ -1,10 +1,9 @@
 -- What a look at the middle adds to a search.
-use Rattle.std.proofs.Common.{◌≡◌, ◌<◌, ◌≤◌, ◌+◌, ◌⊎◌, inl, inr, ℕ, suc, Bool, true, false, List, [], ◌∷◌, length, refl, sym, ap, subst, arith, get_or, ◌∙◌}
-use Rattle.std.specs.Prelude.{Option, ◌==◌, if◌then◌else◌}
+use Rattle.std.proofs.Common.{◌≡◌, ◌<◌, ◌≤◌, ◌+◌, ◌⊎◌, inl, inr, ℕ, Bool, true, false, List, length, refl, sym, ap, subst, arith, get_or, ◌∙◌}
+use Rattle.std.specs.Prelude.{Option, if◌then◌else◌}
 use Rattle.std.proofs.lemmas.Bool.{cases_lt}
-use Rattle.std.proofs.lemmas.Bool.Decides.{nat_tests}
 use Rattle.hfsc_model.specs.RealTime.{goes_first}
-use Rattle.ranking.specs.Order.{is_before, is_in, is_ranked, key_of}
+use Rattle.ranking.specs.Order.{is_before, is_ranked, key_of}
 use Rattle.ranking.specs.Search.{IsFound, IsRanked}
 use Rattle.ranking.proofs.Ordered.{before_trans, goes_not, in_order}
 use Rattle.ranking.proofs.Ranks.{ranked_true}
@@ -78,12 +77,3 @@ found_there keys xs c k r h e = record {
   from = (found_below keys xs c 0 k (length xs) (ranked_true keys xs r) (found_all keys xs c) (omega arith) h
       (ap (λ n. is_before keys n c) e ∙ goes_not (key_of keys c) c)).from;
 }
-
--- where no place has it a class is not in the list
-pub not_there : (xs : List ℕ) (c : ℕ) → ((k : ℕ) → k < length xs → get_or xs k 0 ≡ c → ⊥) → is_in c xs ≡ false
-not_there [] c f = refl
-not_there (x ∷ xs) c f = go (x == c) refl (not_there xs c (λ k h. f (suc k) (omega (arith, h))))
-  where
-    go : (b : Bool) → (x == c) ≡ b → is_in c xs ≡ false → (if b then true else is_in c xs) ≡ false
-    go true e i = absurd (f 0 (omega arith) (grind (arith, nat_tests, e)))
-    go false e i = i

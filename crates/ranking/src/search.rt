@@ -1,9 +1,15 @@
 //! The place of a class in a list in the order of the keys.
-ghost use Rattle.std.specs.Prelude.{◌≡◌, ◌+◌, ◌-◌, ◌<◌, ℕ, List, Option, length, slice_index, true, if◌then◌else◌};
+ghost use Rattle.std.specs.Prelude.{◌≡◌, ◌+◌, ◌-◌, ◌<◌, length, slice_index, true, if◌then◌else◌};
 ghost use Rattle.std.specs.List.{remove};
 ghost use Rattle.hfsc_model.specs.RealTime.{goes_first, is_earlier};
-ghost use Rattle.ranking.specs.Order.{is_before, is_in, is_ranked, key_of};
+ghost use Rattle.ranking.specs.Keys.{all_keys};
+ghost use Rattle.ranking.specs.Order.{is_before, is_ranked, key_of};
 ghost use Rattle.ranking.specs.Search.{IsFound};
+
+use crate::keys::Keys;
+
+/// How many classes are looked at by their numbers.
+const FEW: usize = 8;
 
 /// Whether the first moment is before the second, where `None` means never.
 #[inline(always)]
@@ -19,19 +25,7 @@ fn is_earlier(a: Option<u128>, b: Option<u128>) -> bool
     }
 }
 
-/// The key of a class.
-#[inline(always)]
-fn key_of(keys: &[Option<u128>], class: u32) -> Option<u128>
-    ensures { result ≡ key_of keys.now class }
-{
-    match keys.get(class as usize) {
-        None => None,
-        Some(key) => *key,
-    }
-}
-
-/// Whether a class with the first key goes before one with the second. No branch hangs on the keys, since none of these could be
-/// foretold.
+/// Whether a class with the first key goes before one with the second. Both keys are compared both ways, without a branch between.
 #[inline(always)]
 fn goes_first(a: Option<u128>, one: u32, b: Option<u128>, other: u32) -> bool
     ensures { result ≡ goes_first a one b other }
@@ -41,7 +35,7 @@ fn goes_first(a: Option<u128>, one: u32, b: Option<u128>, other: u32) -> bool
     earlier | (!later & (one < other))
 }
 
-/// One of two places, for the same reason by itself.
+/// The first of two places where a test holds, else the second.
 #[inline(always)]
 fn chosen(test: bool, one: usize, other: usize) -> usize
     ensures { result ≡ (if test then one else other) }
@@ -50,42 +44,43 @@ fn chosen(test: bool, one: usize, other: usize) -> usize
 }
 
 /// Whether a class goes before another.
-pub fn goes_before(keys: &[Option<u128>], class: u32, other: u32) -> bool
-    ensures { result ≡ is_before keys.now class other }
+pub fn goes_before(keys: &Keys, class: u32, other: u32) -> bool
+    ensures { result ≡ is_before (all_keys keys.now) class other }
 {
-    goes_first(key_of(keys, class), class, key_of(keys, other), other)
+    goes_first(keys.get(class), class, keys.get(other), other)
 }
 
 /// How many classes of the list go before a class with its key.
-pub fn place_of(order: &[u32], keys: &[Option<u128>], class: u32, key: Option<u128>) -> usize
-    requires ranked { is_ranked keys.now order.now ≡ true }
-    requires key { key ≡ key_of keys.now class }
-    ensures { IsFound keys.now order.now class result result }
+pub fn place_of(order: &[u32], keys: &Keys, class: u32, key: Option<u128>) -> usize
+    requires ranked { is_ranked (all_keys keys.now) order.now ≡ true }
+    requires key { key ≡ key_of (all_keys keys.now) class }
+    ensures { IsFound (all_keys keys.now) order.now class result result }
 {
     let mut low = 0;
     let mut high = order.len();
     while low < high {
         let middle = low + (high - low) / 2;
         let other = order[middle];
-        let goes = goes_first(key_of(keys, other), other, key, class);
+        let goes = goes_first(keys.get(other), other, key, class);
         low = chosen(goes, middle + 1, low);
         high = chosen(goes, high, middle);
     }
     low
 }
 
-/// The place of a class that is in the list. A look at a number costs far less than one at a key, so it looks at one after another.
+/// The same of a class that is in the list. The numbers of the first few classes are looked at first, since that costs less than keys,
+/// and lists are mostly short.
 #[inline(always)]
-pub fn place_in(order: &[u32], class: u32) -> usize
-    requires { is_in class order.now ≡ true }
-    ensures { (keys : List (Option ℕ)) → is_ranked keys order.now ≡ true → IsFound keys order.now class result result }
+pub fn place_in(order: &[u32], keys: &Keys, class: u32) -> usize
+    requires { is_ranked (all_keys keys.now) order.now ≡ true }
+    ensures { IsFound (all_keys keys.now) order.now class result result }
 {
-    for place in 0..order.len() {
+    for place in 0..order.len().min(FEW) {
         if order[place] == class {
             return place;
         }
     }
-    0
+    place_of(order, keys, class, keys.get(class))
 }
 
 /// The class at a place of a list without the one at `from`.
@@ -103,24 +98,18 @@ fn other_at(order: &[u32], from: usize, place: usize) -> u32
 
 /// How many of the other classes go before a class that stands at `from`, with its new key. Where it goes behind the one before it,
 /// the one behind it is tried next: most keys grow a little.
-pub fn place_beside(
-    order: &[u32],
-    keys: &[Option<u128>],
-    from: usize,
-    class: u32,
-    key: Option<u128>,
-) -> usize
+pub fn place_beside(order: &[u32], keys: &Keys, from: usize, class: u32, key: Option<u128>) -> usize
     requires from { from < length order.now }
-    requires ranked { is_ranked keys.now (remove order.now from) ≡ true }
-    requires key { key ≡ key_of keys.now class }
-    ensures { IsFound keys.now (remove order.now from) class result result }
+    requires ranked { is_ranked (all_keys keys.now) (remove order.now from) ≡ true }
+    requires key { key ≡ key_of (all_keys keys.now) class }
+    ensures { IsFound (all_keys keys.now) (remove order.now from) class result result }
 {
     let mut least = lowest_beside(order, keys, from, class, key);
     let mut most = order.len() - 1;
     let mut middle = least;
     while least < most {
         let other = other_at(order, from, middle);
-        let goes = goes_first(key_of(keys, other), other, key, class);
+        let goes = goes_first(keys.get(other), other, key, class);
         least = chosen(goes, middle + 1, least);
         most = chosen(goes, most, middle);
         middle = least + (most - least) / 2;
@@ -129,23 +118,17 @@ pub fn place_beside(
 }
 
 /// How many of the other classes go before it at least: those before it, where it goes behind the one before it.
-fn lowest_beside(
-    order: &[u32],
-    keys: &[Option<u128>],
-    from: usize,
-    class: u32,
-    key: Option<u128>,
-) -> usize
+fn lowest_beside(order: &[u32], keys: &Keys, from: usize, class: u32, key: Option<u128>) -> usize
     requires from { from < length order.now }
-    requires ranked { is_ranked keys.now (remove order.now from) ≡ true }
-    requires key { key ≡ key_of keys.now class }
-    ensures { IsFound keys.now (remove order.now from) class result (length order.now - 1) }
+    requires ranked { is_ranked (all_keys keys.now) (remove order.now from) ≡ true }
+    requires key { key ≡ key_of (all_keys keys.now) class }
+    ensures { IsFound (all_keys keys.now) (remove order.now from) class result (length order.now - 1) }
 {
     if from == 0 {
         return 0;
     }
     let other = order[from - 1];
-    if goes_first(key_of(keys, other), other, key, class) {
+    if goes_first(keys.get(other), other, key, class) {
         from
     } else {
         0
