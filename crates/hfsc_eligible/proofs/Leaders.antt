@@ -4,13 +4,13 @@ use Rattle.std.specs.Prelude.{Option, ◌==◌, slice_get, if◌then◌else◌}
 use Rattle.std.specs.List.{find}
 use Rattle.std.proofs.lemmas.Bool.{cases_eq, cases_lt}
 use Rattle.std.proofs.lemmas.Bool.Decides.{nat_tests}
-use Rattle.std.proofs.lemmas.Option.{get_or_from_slice_get, slice_get-get_or, slice_get_past}
+use Rattle.std.proofs.lemmas.Option.{slice_get-get_or, slice_get_past}
 use Rattle.hfsc_model.specs.RealTime.{goes_first, has_come}
 use Rattle.ranking.specs.Order.{AreInOrder, is_before, is_in, key_of}
 use Rattle.ranking.specs.Ranking.{keys_of, order_of}
 use Rattle.ranking.specs.Search.{IsRanked}
 use Rattle.ranking.proofs.Ordered.{before_trans, goes_not, goes_other, goes_trans, in_order}
-use Rattle.ranking.proofs.Orders.{find_hit, find_more, found_first, found_none, in_below, is_order, item_below}
+use Rattle.ranking.proofs.Orders.{find_hit, find_more, found_first, found_none, in_below, is_order}
 use Rattle.ranking.proofs.Ranks.{in_more, ranked_true, same_test}
 use Rattle.hfsc_eligible.specs.declared.Eligible.{Eligible}
 use Rattle.hfsc_eligible.specs.Eligible.{IsLeader, come_at, come_with, first_key, pick_now, soonest_now}
@@ -128,15 +128,6 @@ module _ (e : Eligible) (now : ℕ) where
       let P : List ℕ → Type 0 = λ zs. slice_get zs place ≡ Some (get_or ys place 0) in
       subst P same (slice_get-get_or ys place 0 low)
 
-  pub key_low : (place c : ℕ) → slice_get xs place ≡ Some c → c < length (keys_of e.moments)
-  key_low place c is = elim (cases_lt place (length xs)) [
-    | inl l ↦
-        let same : get_or xs place 0 ≡ c = get_or_from_slice_get xs place c 0 is in
-        let P : ℕ → Type 0 = λ n. n < length (keys_of e.moments) in
-        subst P same (item_below (length (keys_of e.moments)) xs place e.moments.below l)
-    | inr l ↦ let z = slice_get_past xs place l in absurd (cc)
-  ]
-
   pub come_is : (place c : ℕ) (b : Bool) (k : Option ℕ) → slice_get xs place ≡ Some c → k ≡ key_of (keys_of e.moments) c → b ≡ has_come k now
       → (if b then Some c else None) ≡ come_at e place now
   come_is place c b k is key come =
@@ -148,15 +139,6 @@ module _ (e : Eligible) (now : ℕ) where
       sym (ap (come_with test) (slice_get_past xs place long))
 
   -- a look at a place in the order of the deadlines
-  pub order_low : (ys : List ℕ) (place : ℕ) → ys ≡ order_of e.deadlines → place < length ys → get_or ys place 0 < length (keys_of e.moments)
-  order_low ys place same low =
-      let P : List ℕ → Type 0 = λ zs. place < length zs → get_or zs place 0 < length (keys_of e.deadlines) in
-      let below : get_or ys place 0 < length (keys_of e.deadlines) =
-      subst P (sym same) (λ l. item_below (length (keys_of e.deadlines)) (order_of e.deadlines) place e.deadlines.below l) low in
-      let one = e.by_deadline.classes in
-      let two = e.by_moment.classes in
-      omega (arith, below, one, two)
-
   come_now : (c : ℕ) (k : Option ℕ) (b t : Bool) → k ≡ key_of (keys_of e.moments) c → b ≡ has_come k now → b ≡ t → test c ≡ t
   come_now c k b t key come is = sym (come ∙ ap (λ (o : Option ℕ). has_come o now) key) ∙ is
 

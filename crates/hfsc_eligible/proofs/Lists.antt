@@ -7,7 +7,7 @@ use Rattle.std.proofs.lemmas.List.{length-set, get_or-set_same, get_or-set_other
 use Rattle.service_curve.specs.declared.Curve.{Curve}
 use Rattle.ranking.specs.declared.Ranking.{Ranking}
 use Rattle.ranking.specs.Order.{is_in, key_of, IsOrderOf}
-use Rattle.ranking.specs.Ranking.{IsReplaced, keys_of, order_of}
+use Rattle.ranking.specs.Ranking.{HasPlace, IsReplaced, keys_of, order_of}
 use Rattle.ranking.proofs.Orders.{is_order, key_in, outside}
 use Rattle.hfsc_model.specs.Event.{HfscHistory}
 use Rattle.hfsc_model.specs.Event.{Enqueued, Sent}
@@ -28,6 +28,7 @@ use Rattle.hfsc_eligible.proofs.Slots.{slot_head_is}
 pub holds_changed : (f : Slot → Option ℕ) (slots : List Slot) (class : ℕ) (x : Slot) (old new : Ranking) → Holds f slots old → class < length slots
     → IsReplaced class (slot_has_head x) (f x) old new → Holds f (slice_set slots class x) new
 holds_changed f slots class x old new holds h r = record {
+  first = r.first ∙ holds.first;
   classes = r.count ∙ holds.classes ∙ sym (length-set slots class x);
   heads = λ c d k. r.classes c ∙ heads c d (class == c) refl (subst (λ n. c < n) (length-set slots class x) k);
   keys = λ c d k e. keys c d (class == c) refl (subst (λ n. c < n) (length-set slots class x) k) e;
@@ -58,8 +59,11 @@ pub was_there : (f : Slot → Option ℕ) (slots : List Slot) (class : ℕ) (x :
     → x ≡ get_or slots class x → was ≡ slot_has_head x → is_in class (order_of r) ≡ was
 was_there f slots class x was r holds h e w = holds.heads class x h ∙ sym (ap slot_has_head e) ∙ sym w
 
-pub has_place : (f : Slot → Option ℕ) (slots : List Slot) (class : ℕ) (r : Ranking) → Holds f slots r → class < length slots → class < length (keys_of r)
-has_place f slots class r holds h = let same = holds.classes in omega arith
+pub has_place : (f : Slot → Option ℕ) (slots : List Slot) (class : ℕ) (r : Ranking) → Holds f slots r → class < length slots → HasPlace r class
+has_place f slots class r holds h = record {
+  from = let zero = holds.first in omega (arith, zero);
+  room = let same = holds.classes in omega (arith, same, h);
+}
 
 -- the slots stand for the classes
 pub record AllStand (slots : List Slot) (curves : List (Option Curve)) (h : HfscHistory) : Type 0 where

@@ -3,7 +3,7 @@ use Rattle.std.specs.Prelude.{◌≡◌, ◌<◌, ℕ, true, false, List, length
 use Rattle.service_curve.specs.declared.Curve.{Curve}
 use Rattle.ranking.specs.declared.Ranking.{Ranking}
 use Rattle.ranking.specs.Order.{is_in, key_of}
-use Rattle.ranking.specs.Ranking.{keys_of, order_of}
+use Rattle.ranking.specs.Ranking.{first_of, keys_of, order_of}
 use Rattle.hfsc_model.specs.Leaf.{new_leaf}
 use Rattle.hfsc_model.specs.RealTime.{curve_of}
 use Rattle.hfsc_eligible.specs.declared.slot.Slot.{Slot}
@@ -11,6 +11,7 @@ use Rattle.hfsc_eligible.specs.Slot.{SlotStands, last_opening, slot_has_head}
 
 -- exactly the classes with a curve and a head stand in a list, each with its key
 pub record Holds (key : Slot → Option ℕ) (slots : List Slot) (ranking : Ranking) : Type 0 where
+  pub first : first_of ranking ≡ 0
   pub classes : length (keys_of ranking) ≡ length slots
   pub heads : (c : ℕ) (d : Slot) → c < length slots → is_in c (order_of ranking) ≡ slot_has_head (slice_index_or slots c d)
   pub keys : (c : ℕ) (d : Slot) → c < length slots → slot_has_head (slice_index_or slots c d) ≡ true

@@ -1,7 +1,7 @@
 //! The lists of the heads.
-ghost use Rattle.std.specs.Prelude.{◌≡◌, ◌<◌, length};
+ghost use Rattle.std.specs.Prelude.{◌≡◌};
 ghost use Rattle.ranking.specs.Order.{is_in};
-ghost use Rattle.ranking.specs.Ranking.{IsReplaced, keys_of, order_of};
+ghost use Rattle.ranking.specs.Ranking.{HasPlace, IsReplaced, order_of};
 ghost use Rattle.hfsc_eligible.specs.Slot.{slot_deadline, slot_has_head, slot_soonest};
 ghost use Rattle.hfsc_model.specs.RealTime.{has_come};
 
@@ -22,8 +22,8 @@ pub fn has_come(moment: Option<u128>, now: u128) -> bool
 /// without a curve is in neither, and costs nothing.
 #[inline(always)]
 pub fn rank(deadlines: &mut Ranking, moments: &mut Ranking, class: u32, was: bool, slot: &Slot)
-    requires deadline_place { class < length (keys_of deadlines.old) }
-    requires moment_place { class < length (keys_of moments.old) }
+    requires deadline_place { HasPlace deadlines.old class }
+    requires moment_place { HasPlace moments.old class }
     requires deadline_was { is_in class (order_of deadlines.old) ≡ was }
     requires moment_was { is_in class (order_of moments.old) ≡ was }
     ensures deadlines { IsReplaced class (slot_has_head slot.now) (slot_deadline slot.now) deadlines.old deadlines.new }
@@ -36,8 +36,8 @@ pub fn rank(deadlines: &mut Ranking, moments: &mut Ranking, class: u32, was: boo
 
 /// The same for a class with a curve.
 fn rank_anew(deadlines: &mut Ranking, moments: &mut Ranking, class: u32, was: bool, slot: &Slot)
-    requires deadline_place { class < length (keys_of deadlines.old) }
-    requires moment_place { class < length (keys_of moments.old) }
+    requires deadline_place { HasPlace deadlines.old class }
+    requires moment_place { HasPlace moments.old class }
     requires deadline_was { is_in class (order_of deadlines.old) ≡ was }
     requires moment_was { is_in class (order_of moments.old) ≡ was }
     ensures deadlines { IsReplaced class (slot_has_head slot.now) (slot_deadline slot.now) deadlines.old deadlines.new }

@@ -50,7 +50,6 @@ impl Eligible {
 
     /// The classes of these real-time curves, without a packet. A curve that is 0 everywhere counts as none. There are at
     /// most 256; a curve whose slope rises has to rise from 0.
-    #[tactic(auto, using(crate::proofs::Same::new_is))]
     pub fn build(alloc: Global, curves: &[Option<Curve>]) -> Result<Eligible, NoMemory>
         requires classes { length curves.now ≤ 256 }
         requires curves { All CanCarry curves.now }
@@ -60,8 +59,8 @@ impl Eligible {
     {
         let slots = slots_of(alloc, curves)?;
         let classes = slots.len() as u32;
-        let deadlines = Ranking::reserve(alloc, classes)?;
-        let moments = Ranking::reserve(alloc, classes)?;
+        let deadlines = Ranking::reserve(alloc, 0, classes, None)?;
+        let moments = Ranking::reserve(alloc, 0, classes, None)?;
         Ok(Eligible {
             slots,
             deadlines,

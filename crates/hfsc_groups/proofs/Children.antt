@@ -26,7 +26,7 @@ use Rattle.hfsc_groups.specs.declared.late.Late.{Late}
 use Rattle.hfsc_groups.specs.Late.{first_key, is_late, late_keys, late_order}
 use Rattle.hfsc_groups.specs.Group.{Delays, GroupHolds, Ranks, first_moment, time_key}
 use Rattle.hfsc_groups.proofs.Found.{IsNode, node_of}
-use Rattle.hfsc_groups.proofs.Numbered.{late_ranked}
+use Rattle.hfsc_groups.proofs.Lists.{late_ranked}
 use Rattle.hfsc_groups.proofs.Opening.{leaf_opens, child_opens, opens_child, leaf_childless, active_child}
 use Rattle.hfsc_groups.proofs.Moments.{within_from, later_come, later_some, limit_some, first_come_of, open_later}
 

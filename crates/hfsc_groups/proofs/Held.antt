@@ -55,7 +55,12 @@ child_kept nodes class x p c put = ap (is_number p) (parents_kept nodes class x 
 ranks_changed : (key : Option Node → Option ℕ) (nodes : List Node) (class : ℕ) (x : Node) (p : ℕ) (old new : Ranking) → IsPut nodes class x → x.parent ≡ Some p
     → Ranks nodes p key old → IsReplaced class x.active (key (Some x)) old new → Ranks (slice_set nodes class x) p key new
 ranks_changed key nodes class x p old new put of ranks r = record {
-  room = λ c k. let n = r.count in let m = ranks.room c (sym (child_kept nodes class x p c put) ∙ k) in omega arith;
+  places = λ c k.
+      let place = ranks.places c (sym (child_kept nodes class x p c put) ∙ k) in
+      record {
+        from = let from = place.from in let first = r.first in omega (arith, from, first);
+        room = let room = place.room in let count = r.count in omega (arith, room, count);
+      };
   exactly = λ c. r.classes c ∙ exactly c (class == c) refl;
   keys = keys;
 }
@@ -164,7 +169,7 @@ active_kept nodes class x p c put other =
 ranks_kept : (key : Option Node → Option ℕ) (nodes : List Node) (class : ℕ) (x : Node) (p : ℕ) (r : Ranking) → IsPut nodes class x → (x.parent ≡ Some p → ⊥)
     → Ranks nodes p key r → Ranks (slice_set nodes class x) p key r
 ranks_kept key nodes class x p r put other ranks = record {
-  room = λ c k. ranks.room c (sym (child_kept nodes class x p c put) ∙ k);
+  places = λ c k. ranks.places c (sym (child_kept nodes class x p c put) ∙ k);
   exactly = λ c. ranks.exactly c ∙ sym (active_kept nodes class x p c put other);
   keys = λ c a.
       let was = sym (active_kept nodes class x p c put other) ∙ a in
@@ -228,7 +233,7 @@ group_kept nodes class x p g put other holds = record {
 pub may_change : (nodes : List Node) (class p : ℕ) (g : Group) (was : Bool) → parent_in (slice_get nodes class) ≡ Some p → active_in (slice_get nodes class) ≡ was
     → GroupHolds nodes p g → MayChange class was g
 may_change nodes class p g was of is holds = record {
-  times = record { room = holds.times.room class child; there = holds.times.exactly class ∙ active };
+  times = record { place = holds.times.places class child; there = holds.times.exactly class ∙ active };
   moments = record {
     place = holds.moments.places class child;
     there = holds.moments.exactly class ∙ keyed (is_active_child nodes p class) refl ∙ ap (λ b. b && is_late (key_of (late_keys g.moments) class)) active;

@@ -1,6 +1,5 @@
 pub mod Places
 pub mod Lists
-pub mod Numbered
 pub mod Found
 pub mod Held
 pub mod Staying
@@ -10,3 +9,4 @@ pub mod Moments
 pub mod Children
 pub mod New
 pub mod Parents
+pub mod Calm

@@ -10,7 +10,10 @@ use Rattle.hfsc_model.specs.Tree.{is_number}
 use Rattle.hfsc_groups.specs.declared.node.Node.{Node}
 use Rattle.hfsc_groups.specs.Node.{active_in, parent_in, is_active_child}
 use Rattle.hfsc_groups.specs.Group.{Ranks}
-use Rattle.ranking.proofs.Ranks.{same_test, in_more}
+use Rattle.hfsc_groups.specs.declared.late.Late.{Late}
+use Rattle.hfsc_groups.specs.Late.{late_keys, late_order}
+use Rattle.ranking.specs.Search.{IsRanked}
+use Rattle.ranking.proofs.Ranks.{ranked_true, same_test, in_more}
 
 pub item_in : (xs : List ℕ) (k : ℕ) → k < length xs → is_in (get_or xs k 0) xs ≡ true
 item_in [] k h = absurd (omega arith)
@@ -21,6 +24,10 @@ pub got_in : (xs : List ℕ) (k c : ℕ) → slice_get xs k ≡ Some c → is_in
 got_in [] k c e = absurd cc
 got_in (x ∷ xs) zero c e = let same : x ≡ c = cc in rw same (rw (same_test c) refl)
 got_in (x ∷ xs) (suc k) c e = in_more x c xs (got_in xs k c e)
+
+-- the children that open late stand in order
+pub late_ranked : (l : Late) → IsRanked (late_keys l) (late_order l)
+late_ranked l = ranked_true (late_keys l) (late_order l) l.ranking.ranked
 
 -- what stands in the list of a group is a class
 pub ranked_low : (nodes : List Node) (p c : ℕ) (key : Option Node → Option ℕ) (r : Ranking) → Ranks nodes p key r → is_in c (order_of r) ≡ true → c < length nodes

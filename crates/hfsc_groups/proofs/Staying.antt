@@ -37,6 +37,7 @@ group_same : (nodes : List Node) (class p : ℕ) (g : Group) (x y : Node) → sl
     → x.active ≡ true → IsSame x y → IsChanged class y.active y.time y.opens g g
 group_same nodes class p g x y at holds of a s = record {
   times = record {
+    first = refl;
     count = refl;
     classes = stays class (order_of g.times) y.active (holds.times.exactly class ∙ here ∙ sym awake);
     keyed = holds.times.keys class here ∙ ap (λ n. Some n) (ap time_in at ∙ sym s.time)

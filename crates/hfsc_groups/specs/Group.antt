@@ -1,9 +1,9 @@
 -- The children of a class in the order of their virtual times, and those that open late in that of the moments from which
 -- they open.
-use Rattle.std.specs.Prelude.{◌≡◌, ◌≤◌, ◌<◌, ◌-◌, ◌&&◌, ◌==◌, ℕ, max, Bool, true, List, [], length, Option, None, Some, slice_get, slice_set, slice_index_or, if◌then◌else◌}
+use Rattle.std.specs.Prelude.{◌≡◌, ◌≤◌, ◌<◌, ◌+◌, ◌-◌, ◌&&◌, ◌==◌, ℕ, max, Bool, true, List, [], length, Option, None, Some, slice_get, slice_set, slice_index_or, if◌then◌else◌}
 use Rattle.std.specs.List.{find}
 use Rattle.ranking.specs.Order.{is_in, key_of}
-use Rattle.ranking.specs.Ranking.{IsReplaced, keys_of, order_of}
+use Rattle.ranking.specs.Ranking.{HasPlace, IsReplaced, first_of, keys_of, order_of}
 use Rattle.ranking.specs.declared.Ranking.{Ranking}
 use Rattle.hfsc_model.specs.declared.HfscClass.{HfscClass}
 use Rattle.hfsc_model.specs.RealTime.{has_come}
@@ -12,18 +12,18 @@ use Rattle.hfsc_groups.specs.declared.node.Node.{Node}
 use Rattle.hfsc_groups.specs.declared.group.Group.{Group}
 use Rattle.hfsc_groups.specs.declared.late.Late.{Late}
 use Rattle.hfsc_groups.specs.Lists.{MayReplace}
-use Rattle.hfsc_groups.specs.Late.{HasPlace, IsDelayed, IsNewLate, MayDelay, first_key, is_late, late_keys, late_order}
+use Rattle.hfsc_groups.specs.Late.{HasLatePlace, IsDelayed, IsNewLate, MayDelay, first_key, is_late, late_keys, late_order}
 use Rattle.hfsc_groups.specs.Node.{is_child_in, is_active_child, time_in, opens_in}
 
 -- exactly the active children of p stand in a list, each with its key
 pub record Ranks (nodes : List Node) (p : ℕ) (key : Option Node → Option ℕ) (ranking : Ranking) : Type 0 where
-  pub room : (c : ℕ) → is_child_in nodes p c ≡ true → c < length (keys_of ranking)
+  pub places : (c : ℕ) → is_child_in nodes p c ≡ true → HasPlace ranking c
   pub exactly : (c : ℕ) → is_in c (order_of ranking) ≡ is_active_child nodes p c
   pub keys : (c : ℕ) → is_active_child nodes p c ≡ true → key_of (keys_of ranking) c ≡ key (slice_get nodes c)
 
 -- exactly the active children of p that open late stand in a list; each that is active has its key
 pub record Delays (nodes : List Node) (p : ℕ) (late : Late) : Type 0 where
-  pub places : (c : ℕ) → is_child_in nodes p c ≡ true → HasPlace late c
+  pub places : (c : ℕ) → is_child_in nodes p c ≡ true → HasLatePlace late c
   pub exactly : (c : ℕ) → is_in c (late_order late) ≡ (is_active_child nodes p c && is_late (opens_in (slice_get nodes c)))
   pub keys : (c : ℕ) → is_active_child nodes p c ≡ true → key_of (late_keys late) c ≡ opens_in (slice_get nodes c)
 
@@ -49,19 +49,20 @@ pub record GroupsHold (nodes : List Node) (groups : List Group) : Type 0 where
   pub count : length groups ≡ length nodes
   pub each : (p : ℕ) (g : Group) → slice_get groups p ≡ Some g → GroupHolds nodes p g
 
--- no child is active, and none was; there is a place for each of `places` classes, and for a late one from `first` on
+-- no child is active, and none was; there is a place for each class from `first` on up to `places` classes
 pub record IsNewGroup (first places : ℕ) (g : Group) : Type 0 where
   pub times : order_of g.times ≡ []
   pub moments : IsNewLate first (places - first) g.moments
-  pub time_keys : length (keys_of g.times) ≡ places
+  pub time_first : first_of g.times ≡ first
+  pub time_keys : length (keys_of g.times) ≡ first + (places - first)
   pub high : g.high ≡ 0
 
 -- the group of p, in which each of its children has a place
 pub record IsEmpty (cs : List HfscClass) (p : ℕ) (g : Group) : Type 0 where
   pub times : order_of g.times ≡ []
   pub moments : late_order g.moments ≡ []
-  pub time_keys : (c : ℕ) → is_child cs p c ≡ true → c < length (keys_of g.times)
-  pub moment_keys : (c : ℕ) → is_child cs p c ≡ true → HasPlace g.moments c
+  pub time_keys : (c : ℕ) → is_child cs p c ≡ true → HasPlace g.times c
+  pub moment_keys : (c : ℕ) → is_child cs p c ≡ true → HasLatePlace g.moments c
   pub high : g.high ≡ 0
 
 pub record AreEmpty (cs : List HfscClass) (groups : List Group) : Type 0 where

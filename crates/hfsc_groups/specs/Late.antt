@@ -1,43 +1,38 @@
--- The children that open late, in the order of the moments from which they open. In the list a child has the number of places
--- from the first one; here it has its number among all classes.
-use Rattle.std.specs.Prelude.{◌≡◌, ◌≤◌, ◌<◌, ◌+◌, ◌&&◌, ◌==◌, ℕ, zero, suc, nat_lt, Bool, true, List, [], ◌∷◌, length, Option, None, Some, if◌then◌else◌}
+-- The children that open late, in the order of the moments from which they open.
+use Rattle.std.specs.Prelude.{◌≡◌, ◌+◌, ◌&&◌, ◌==◌, ℕ, nat_lt, Bool, true, false, List, [], ◌∷◌, length, Option, None, Some, if◌then◌else◌}
 use Rattle.ranking.specs.Order.{is_in, key_of}
-use Rattle.ranking.specs.Ranking.{keys_of, order_of}
+use Rattle.ranking.specs.Ranking.{HasPlace, first_of, keys_of, order_of}
 use Rattle.ranking.specs.declared.Ranking.{Ranking}
+use Rattle.hfsc_groups.specs.Calm.{IsCalm}
 use Rattle.hfsc_groups.specs.declared.late.Late.{Late}
-
--- keys of classes from a number on, and none for those before it
-abbrev pub keys_from : ℕ → List (Option ℕ) → List (Option ℕ)
-keys_from zero ks = ks
-keys_from (suc n) ks = None ∷ keys_from n ks
-
-abbrev pub numbers_from : ℕ → List ℕ → List ℕ
-numbers_from n [] = []
-numbers_from n (c ∷ cs) = (n + c) ∷ numbers_from n cs
 
 -- the key of each class
 abbrev pub late_keys : Late → List (Option ℕ)
-late_keys l = keys_from l.first (keys_of l.ranking)
+late_keys l = keys_of l.ranking
 
 -- the classes that are there, in their order
 abbrev pub late_order : Late → List ℕ
-late_order l = numbers_from l.first (order_of l.ranking)
+late_order l = order_of l.ranking
 
 -- there is a place for the key of a class
-pub record HasPlace (l : Late) (c : ℕ) : Type 0 where
-  pub from : l.first ≤ c
-  pub room : c < l.first + length (keys_of l.ranking)
+abbrev pub HasLatePlace : Late → ℕ → Type 0
+HasLatePlace l c = HasPlace l.ranking c
 
 -- no class is there; there is a place for each of `count` classes from `from` on
 pub record IsNewLate (from count : ℕ) (l : Late) : Type 0 where
   pub order : late_order l ≡ []
-  pub first : l.first ≡ from
-  pub places : length (keys_of l.ranking) ≡ count
+  pub first : first_of l.ranking ≡ from
+  pub places : length (keys_of l.ranking) ≡ from + count
 
 -- a moment is after 0 or never comes
 abbrev pub is_late : Option ℕ → Bool
 is_late None = true
 is_late (Some t) = nat_lt 0 t
+
+-- nor is a class that opens from this moment
+pub record StaysCalm (opens : Option ℕ) (r : Ranking) : Type 0 where
+  pub calm : IsCalm r
+  pub at_once : is_late opens ≡ false
 
 abbrev pub first_key : List (Option ℕ) → List ℕ → Option ℕ
 first_key keys [] = Some 0
@@ -45,21 +40,22 @@ first_key keys (c ∷ cs) = key_of keys c
 
 -- what holds before a child is placed anew, and after
 pub record MayDelay (class : ℕ) (was : Bool) (old : Late) : Type 0 where
-  pub place : HasPlace old class
+  pub place : HasLatePlace old class
   pub there : is_in class (late_order old) ≡ (was && is_late (key_of (late_keys old) class))
 
 pub record IsDelayed (class : ℕ) (is : Bool) (opens : Option ℕ) (old new : Late) : Type 0 where
-  pub places : (c : ℕ) → HasPlace old c → HasPlace new c
+  pub places : (c : ℕ) → HasLatePlace old c → HasLatePlace new c
   pub classes : (c : ℕ) → is_in c (late_order new) ≡ (if class == c then is && is_late opens else is_in c (late_order old))
   pub keyed : key_of (late_keys new) class ≡ opens
   pub others : (c : ℕ) → (c ≡ class → ⊥) → key_of (late_keys new) c ≡ key_of (late_keys old) c
 
--- the same by the number in the list
+-- the same of the list alone
 pub record MayDelayIn (class : ℕ) (was : Bool) (old : Ranking) : Type 0 where
-  pub room : class < length (keys_of old)
+  pub place : HasPlace old class
   pub there : is_in class (order_of old) ≡ (was && is_late (key_of (keys_of old) class))
 
 pub record IsDelayedIn (class : ℕ) (is : Bool) (opens : Option ℕ) (old new : Ranking) : Type 0 where
+  pub first : first_of new ≡ first_of old
   pub count : length (keys_of new) ≡ length (keys_of old)
   pub classes : (c : ℕ) → is_in c (order_of new) ≡ (if class == c then is && is_late opens else is_in c (order_of old))
   pub keyed : key_of (keys_of new) class ≡ opens

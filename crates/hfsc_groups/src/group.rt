@@ -1,6 +1,6 @@
 //! The children of a class: those that are active in the order of their virtual times, those of them that open late in that
 //! of the moments from which they open, and the high mark of all.
-ghost use Rattle.std.specs.Prelude.{◌≡◌, ℕ, Option, [], max, true, IfOk};
+ghost use Rattle.std.specs.Prelude.{◌≡◌, ℕ, Option, Some, [], max, slice_get, true, IfOk};
 ghost use Rattle.hfsc_model.specs.RealTime.{has_come};
 ghost use Rattle.hfsc_groups.specs.Lists.{HasKeys};
 
@@ -21,13 +21,13 @@ pub struct Group {
 impl Group {
     ghost use Rattle.hfsc_groups.specs.Group.{IsNewGroup, MayChange, IsChanged, first_moment, first_open, ranked_in};
 
-    /// No active child, with room for children among the classes from `first` to `classes`: a key for every class up to them in the
-    /// first list, and for those from `first` on in the second.
+    /// No active child, with room for children among the classes from `first` to `classes`.
     pub fn reserve(alloc: Global, first: u32, classes: u32) -> Result<Group, NoMemory>
         ensures { IfOk result (IsNewGroup first classes) }
     {
-        let times = Ranking::reserve(alloc, classes)?;
-        let moments = Late::reserve(alloc, first, classes.saturating_sub(first))?;
+        let places = classes.saturating_sub(first);
+        let times = Ranking::reserve(alloc, first, places, None)?;
+        let moments = Late::reserve(alloc, first, places)?;
         Ok(Group {
             times,
             moments,
@@ -49,6 +49,14 @@ impl Group {
         self.high
     }
 
+    /// Whether no child ever opened later than at once: then the first moment is 0. Constant time.
+    #[inline(always)]
+    pub fn is_calm(&self) -> bool
+        ensures { result ≡ true → first_moment self.now ≡ Some 0 }
+    {
+        self.moments.is_calm()
+    }
+
     /// The first moment from which a child opens, 0 where no child is active. One that opens at once stands in the first list
     /// alone, so the second is shorter then. Constant time.
     pub fn first_moment(&self) -> Option<u128>
@@ -66,6 +74,9 @@ impl Group {
         requires { HasKeys self.now.times self.now.moments }
         ensures { result ≡ first_open now self.now }
     {
+        if self.moments.is_calm() {
+            return front(self.times.as_slice());
+        }
         for class in self.times.as_slice() {
             if has_come(self.moments.key(*class), now) {
                 return Some(*class);
@@ -81,9 +92,20 @@ impl Group {
         requires { MayChange class was self.old }
         ensures { IsChanged class is time opens self.old self.new }
     {
-        self.times.replace(class, was, is, Some(time));
         self.moments.delay(class, was, is, opens);
+        self.times.replace(class, was, is, Some(time));
         self.high = self.high.max(time);
+    }
+}
+
+/// The first class of a list.
+#[inline(always)]
+fn front(order: &[u32]) -> Option<u32>
+    ensures { result ≡ slice_get order.now 0 }
+{
+    match order.first() {
+        None => None,
+        Some(class) => Some(*class),
     }
 }
 

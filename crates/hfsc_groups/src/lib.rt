@@ -7,6 +7,7 @@
 //! Services", SIGCOMM 1997; upper limits are those of altq.conf(5).
 #![tactic(auto)]
 
+mod delays;
 mod group;
 mod late;
 mod node;

@@ -9,6 +9,7 @@ ghost use Rattle.hfsc_model.specs.Share.{or_zero};
 ghost use Rattle.hfsc_groups.specs.Curves.{CanCarry, RunningStands, IsBy, IsUpTo, IsOpen, last_in, limit_opens, share_of, since};
 ghost use Rattle.hfsc_groups.specs.Classes.{IsClass};
 
+use crate::group::Group;
 use hfsc_model::HfscClass;
 use runtime_curve::Running;
 use service_curve::Curve;
@@ -41,6 +42,7 @@ pub struct Node {
 }
 
 impl Node {
+    ghost use Rattle.hfsc_groups.specs.Group.{first_moment};
     ghost use Rattle.hfsc_groups.specs.Node.{IsNewNode, IsActivated, IsAwake, IsServed, IsReopened};
 
     /// A class without a packet.
@@ -113,16 +115,31 @@ impl Node {
         }
     }
 
-    /// The class opens from the moment from which its limit lets it be served, or from that below it where this is later. One
-    /// that is not after `last`, the last wake, counts as 0: it has come.
-    pub fn reopen(&mut self, below: Option<u128>, last: u64)
-        ensures { IsReopened last below self.old self.new }
+    /// The class opens from the moment from which its limit lets it be served, or from the first below it where this is later. One
+    /// that is not after `last`, the last wake, counts as 0: it has come. Where it is not active the moment stays.
+    #[inline(always)]
+    pub fn reopen(&mut self, below: &Group, last: u64)
+        ensures { IsReopened last (first_moment below.now) self.old self.new }
     {
-        self.opens = if self.active {
-            since(opens_with(&self.limit, self.total, below), u128::from(last))
-        } else {
-            None
-        };
+        if self.active {
+            self.opens = self.opens_over(below, u128::from(last));
+        }
+    }
+
+    /// The moment from which an active class opens.
+    #[inline(always)]
+    fn opens_over(&self, below: &Group, last: u128) -> Option<u128>
+        requires { self.now.active ≡ true }
+        ensures { (o : Option Curve) (os : List Opening) → RunningStands self.now.limit o os
+            → result ≡ since last (later_of (limit_opens o os self.now.total) (first_moment below.now)) }
+    {
+        if self.limit.is_none() && below.is_calm() {
+            return Some(0);
+        }
+        since(
+            opens_with(&self.limit, self.total, below.first_moment()),
+            last,
+        )
     }
 
     /// The parent.

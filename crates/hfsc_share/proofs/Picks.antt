@@ -19,7 +19,7 @@ use Rattle.hfsc_groups.specs.declared.node.Node.{Node}
 use Rattle.hfsc_groups.specs.declared.group.Group.{Group}
 use Rattle.hfsc_groups.specs.Classes.{opens_under, IsSoonest}
 use Rattle.hfsc_groups.specs.Node.{active_in, opens_in, is_child_in, parent_in, time_in, OpensAt}
-use Rattle.hfsc_groups.specs.Late.{HasPlace, late_keys}
+use Rattle.hfsc_groups.specs.Late.{HasLatePlace, late_keys}
 use Rattle.hfsc_groups.specs.Group.{first_open, time_key, GroupHolds}
 use Rattle.hfsc_groups.proofs.Under.{under_low, in_line, same_or_up, IsUp}
 use Rattle.hfsc_groups.proofs.Opening.{all_over, over_all, Opens, opens_is, is_opens, waits_is, is_waits, is_active}
@@ -440,7 +440,7 @@ soonest_is s cs h stands = go (is_active_at s 0) refl
     go false a = none_soonest s cs h stands a
 
 -- what stands in the list by virtual time has a place for its moment
-pub has_keys : (nodes : List Node) (p : ℕ) (g : Group) → GroupHolds nodes p g → (c : ℕ) → is_in c (order_of g.times) ≡ true → HasPlace g.moments c
+pub has_keys : (nodes : List Node) (p : ℕ) (g : Group) → GroupHolds nodes p g → (c : ℕ) → is_in c (order_of g.times) ≡ true → HasLatePlace g.moments c
 has_keys nodes p g holds c i = holds.moments.places c (and_true (is_child_in nodes p c) (active_in (slice_get nodes c)) (sym (holds.times.exactly c) ∙ i)).0
 
 -- the first child that is open is a class

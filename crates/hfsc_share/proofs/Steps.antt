@@ -1,5 +1,5 @@
 -- Each class of a walk, its beginning and its end.
-use Rattle.std.proofs.Common.{◌≡◌, ◌≤◌, ◌<◌, ℕ, Bool, true, false, List, [], ◌∷◌, None, Some, length, ◌++◌, refl, ap, sym, subst, arith, ◌∙◌}
+use Rattle.std.proofs.Common.{◌≡◌, ◌≤◌, ◌<◌, ℕ, Bool, true, false, List, [], ◌∷◌, None, Some, length, ◌++◌, get_or, refl, ap, sym, subst, arith, ◌∙◌}
 use Rattle.std.specs.Prelude.{Option, ◌==◌, ◌&&◌, ◌||◌, nat_lt, not, slice_get, slice_set, if◌then◌else◌}
 use Rattle.std.proofs.lemmas.Bool.Decides.{nat_tests}
 use Rattle.std.proofs.lemmas.List.{length-set}
@@ -23,8 +23,8 @@ use Rattle.hfsc_groups.specs.declared.group.Group.{Group}
 use Rattle.hfsc_groups.specs.Curves.{limit_opens}
 use Rattle.hfsc_groups.specs.Classes.{AreClasses, AreSmall, waits_in}
 use Rattle.hfsc_groups.specs.Node.{active_in, is_child_in, parent_in, AreParentsFirst, IsActivated, IsAwake, IsReopened, IsServed, NodeStands, OpensAt}
-use Rattle.hfsc_groups.specs.Group.{GroupsHold, ranked_in}
-use Rattle.hfsc_groups.proofs.Places.{get_here, get_other}
+use Rattle.hfsc_groups.specs.Group.{GroupsHold, first_moment, ranked_in}
+use Rattle.hfsc_groups.proofs.Places.{get_here, get_other, get_read}
 use Rattle.hfsc_groups.proofs.Held.{split}
 use Rattle.hfsc_groups.proofs.Moments.{open_later}
 use Rattle.hfsc_groups.proofs.Opening.{active_is, is_active, is_waits, leaf_alone, waits_is}
@@ -351,8 +351,14 @@ kept_more s cs h class at len stands waits = record {
             waits_push (leaf h c).waiting (record { at = at; len = len }) ∙ sym (subst (λ m. is_waiting (leaf h m).waiting ≡ true) same waits)
         go false e = refl
 
-pub reopened_by : (last : ℕ) (below other : Option ℕ) (x y : Node) → below ≡ other → IsReopened last below x y → IsReopened last other x y
-reopened_by last below other x y e r = subst (λ (o : Option ℕ). IsReopened last o x y) e r
+-- a class opens anew over the group that was read
+pub reopened_by : (last class : ℕ) (groups : List Group) (g : Group) (x y : Node) → class < length groups → g ≡ get_or groups class g
+    → IsReopened last (first_moment g) x y → IsReopened last (moment_of (slice_get groups class)) x y
+reopened_by last class groups g x y low e r = subst (λ (o : Option ℕ). IsReopened last o x y) (sym (ap moment_of (get_read groups class g low e))) r
+
+-- each class has a group
+pub has_group : (nodes : List Node) (groups : List Group) (class : ℕ) → GroupsHold nodes groups → class < length nodes → class < length groups
+has_group nodes groups class holds low = let count = holds.count in omega (arith, count, low)
 
 pub awake_by : (at start other : ℕ) (x y : Node) → (x.active ≡ false → start ≡ other) → IsAwake at start x y → IsAwake at other x y
 awake_by at start other x y e a = record {

@@ -19,7 +19,7 @@ ghost use Rattle.hfsc_model.specs.Limit.{share_pick};
 ghost use Rattle.hfsc_groups.specs.Classes.{AreClasses, AreSmall, IsSoonest, waits_in};
 ghost use Rattle.hfsc_groups.specs.Node.{AreParentsFirst, AreLimitsBy, time_in};
 ghost use Rattle.hfsc_groups.specs.Group.{AreRanked, GroupsHold, MayRank, ranked_in};
-ghost use Rattle.hfsc_share.specs.Walk.{IsLeafThat, IsOpenIn, IsStep, Walks, has_ranked, moment_of, start_among, start_below};
+ghost use Rattle.hfsc_share.specs.Walk.{IsLeafThat, IsOpenIn, IsStep, Walks, has_ranked, start_among, start_below};
 
 use hfsc_groups::{Group, Node, groups_of, has_come, nodes_of, rank};
 use hfsc_model::HfscClass;
@@ -177,12 +177,11 @@ impl Shares {
         ensures parent { (p : ℕ) → result ≡ Some p → parent_at self.old class ≡ Some p }
     {
         let start = self.start_of(class);
-        let below = self.first_moment_below(class);
         let node = &mut self.nodes[class as usize];
         let was = node.is_active();
         let opens = node.opens();
         node.wake(self.woken, start);
-        node.reopen(below, self.woken);
+        node.reopen(&self.groups[class as usize], self.woken);
         let same = was && node.opens() == opens;
         rank_unless(same, &mut self.groups, class, was, node);
         parent_unless(same, node)
@@ -216,11 +215,10 @@ impl Shares {
         ensures parent { result ≡ parent_at self.old class }
     {
         let waits = self.waits_below(class, waits);
-        let below = self.first_moment_below(class);
         let node = &mut self.nodes[class as usize];
         let was = node.is_active();
         node.serve(amount, waits);
-        node.reopen(below, self.woken);
+        node.reopen(&self.groups[class as usize], self.woken);
         rank(&mut self.groups, class, was, node);
         node.parent()
     }
@@ -256,14 +254,6 @@ impl Shares {
         ensures most { result ≤ 2 ^ 79 }
     {
         self.nodes[class as usize].time()
-    }
-
-    /// The first moment from which a child of a class opens, 0 where none is active.
-    fn first_moment_below(&self, class: u32) -> Option<u128>
-        requires { class < classes_of self.now }
-        ensures { result ≡ moment_of (slice_get self.now.groups.items class) }
-    {
-        self.groups[class as usize].first_moment()
     }
 
     /// A packet waits in a class itself, which `here` says, or below it: a child is active.

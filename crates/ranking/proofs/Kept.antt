@@ -33,17 +33,17 @@ pub put_in : (keys seen_keys : List (Option ℕ)) (order seen : List ℕ) (c p :
     → seen_keys ≡ keys → seen ≡ order → IsFound seen_keys seen c p p → insert order p c ≡ with_class keys order c
 put_in keys seen_keys order seen c p e f found = put_found keys order c p (found_in keys seen_keys order seen c p e f found)
 
-pub put_ranked : (keys : List (Option ℕ)) (order new : List ℕ) (c : ℕ) (k : Option ℕ) → new ≡ with_class (slice_set keys c k) order c
-    → is_in c order ≡ false → is_ranked keys order ≡ true → is_ranked (slice_set keys c k) new ≡ true
-put_ranked keys order new c k e i r =
-    ap (λ (xs : List ℕ). is_ranked (slice_set keys c k) xs) e
+pub put_ranked : (keys after : List (Option ℕ)) (order new : List ℕ) (c : ℕ) (k : Option ℕ) → after ≡ slice_set keys c k
+    → new ≡ with_class (slice_set keys c k) order c → is_in c order ≡ false → is_ranked keys order ≡ true → is_ranked after new ≡ true
+put_ranked keys after order new c k set e i r =
+    ap (λ (ks : List (Option ℕ)). is_ranked ks new) set ∙ ap (λ (xs : List ℕ). is_ranked (slice_set keys c k) xs) e
     ∙ true_ranked (slice_set keys c k) (with_class (slice_set keys c k) order c)
     (with_ranked (slice_set keys c k) order c (ranked_true (slice_set keys c k) order (put_before keys order c k i r)) i)
 
-pub put_below : (keys : List (Option ℕ)) (order new : List ℕ) (c : ℕ) (k : Option ℕ) → new ≡ with_class (slice_set keys c k) order c
-    → c < length keys → are_below (length keys) order ≡ true → are_below (length (slice_set keys c k)) new ≡ true
-put_below keys order new c k e h b =
-    ap (λ (xs : List ℕ). are_below (length (slice_set keys c k)) xs) e
+pub put_below : (keys after : List (Option ℕ)) (order new : List ℕ) (c : ℕ) (k : Option ℕ) → after ≡ slice_set keys c k
+    → new ≡ with_class (slice_set keys c k) order c → c < length keys → are_below (length keys) order ≡ true → are_below (length after) new ≡ true
+put_below keys after order new c k set e h b =
+    ap (λ (ks : List (Option ℕ)). are_below (length ks) new) set ∙ ap (λ (xs : List ℕ). are_below (length (slice_set keys c k)) xs) e
     ∙ ap (λ n. are_below n (with_class (slice_set keys c k) order c)) (length-set keys c k)
     ∙ true_below (length keys) (with_class (slice_set keys c k) order c) (with_below (slice_set keys c k) (length keys) order c h (below_true (length keys) order b))
 
@@ -51,5 +51,13 @@ pub put_room : (keys : List (Option ℕ)) (order : List ℕ) (c : ℕ) → is_ra
     → c < length keys → is_in c order ≡ false → length order < length keys
 put_room keys order c r b h i = has_room keys (length keys) order c (ranked_true keys order r) (below_true (length keys) order b) h i
 
-pub noted_below : (keys : List (Option ℕ)) (order : List ℕ) (c : ℕ) (k : Option ℕ) → are_below (length keys) order ≡ true → are_below (length (slice_set keys c k)) order ≡ true
-noted_below keys order c k b = ap (λ n. are_below n order) (length-set keys c k) ∙ b
+-- nor does a note
+pub noted_ranked : (keys after : List (Option ℕ)) (order : List ℕ) (c : ℕ) (k : Option ℕ) → after ≡ slice_set keys c k → is_in c order ≡ false → is_ranked keys order ≡ true
+    → is_ranked after order ≡ true
+noted_ranked keys after order c k set i r = ap (λ (ks : List (Option ℕ)). is_ranked ks order) set ∙ put_before keys order c k i r
+
+pub set_length : (keys after : List (Option ℕ)) (c : ℕ) (k : Option ℕ) → after ≡ slice_set keys c k → length after ≡ length keys
+set_length keys after c k set = ap (λ (ks : List (Option ℕ)). length ks) set ∙ length-set keys c k
+
+pub noted_below : (keys after : List (Option ℕ)) (order : List ℕ) (c : ℕ) (k : Option ℕ) → after ≡ slice_set keys c k → are_below (length keys) order ≡ true → are_below (length after) order ≡ true
+noted_below keys after order c k set b = ap (λ n. are_below n order) (set_length keys after c k set) ∙ b

@@ -1,3 +1,4 @@
+pub mod Keyed
 pub mod Ordered
 pub mod Placed
 pub mod Searched

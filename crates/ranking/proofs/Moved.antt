@@ -1,12 +1,11 @@
 -- Classes that come to a place of a list, leave it, or go from one to another.
-use Rattle.std.proofs.Common.{◌≡◌, ◌<◌, ◌≤◌, ◌+◌, ◌-◌, ◌⊎◌, inl, inr, ℕ, Bool, true, false, List, [], ◌∷◌, ◌++◌, length, refl, sym, ap, subst, arith, get_or, ◌∙◌}
+use Rattle.std.proofs.Common.{◌≡◌, ◌<◌, ◌≤◌, ◌+◌, ◌-◌, ◌⊎◌, inl, inr, ℕ, Bool, true, false, List, length, refl, sym, ap, arith, get_or, ◌∙◌}
 use Rattle.std.specs.Prelude.{◌==◌, Option, slice_set, if◌then◌else◌}
 use Rattle.std.specs.List.{CopiedTo, SameBelow, SameFrom, insert, remove}
 use Rattle.std.proofs.lemmas.Bool.{cases_lt}
-use Rattle.std.proofs.lemmas.List.{get_or-set_other, get_or-set_same, get_or_append_left, get_or_default, length-append, length-set, same_lists}
+use Rattle.std.proofs.lemmas.List.{get_or-set_other, get_or-set_same, get_or_default, length-set, same_lists}
 use Rattle.std.proofs.lemmas.List.Edits.{get_or-insert_above, get_or-insert_at, get_or-insert_below, get_or-remove_above, get_or-remove_below, length-insert, length-remove}
-use Rattle.hfsc_model.specs.RealTime.{goes_first}
-use Rattle.ranking.specs.Order.{is_before, is_in, is_ranked, key_of, with_class, without}
+use Rattle.ranking.specs.Order.{is_before, is_in, is_ranked, with_class, without}
 use Rattle.ranking.specs.Search.{IsFound}
 use Rattle.ranking.specs.declared.Ranking.{Ranking}
 use Rattle.ranking.specs.Ranking.{keys_of, order_of}
@@ -49,24 +48,6 @@ at_each xs ys p c low same here below above =
     go : (k d : ℕ) → k < length xs → (k < p) ⊎ (p ≤ k) → get_or (slice_set xs p c) k d ≡ get_or ys k d
     go k d h (inl a) = get_or-set_other xs p k c d (λ e. omega (arith, e, a)) ∙ below k d a
     go k d h (inr a) = behind k d h (cases_lt p k) a
-
-pub put_moved : (xs ys : List ℕ) (p c : ℕ) → p ≤ length xs → length ys ≡ length (xs ++ c ∷ [])
-    → SameBelow (xs ++ c ∷ []) ys (p + 1) → CopiedTo (xs ++ c ∷ []) ys p (p + 1) (length xs - p) → slice_set ys p c ≡ insert xs p c
-put_moved xs ys p c low long same copied =
-    at_each ys (insert xs p c) p c (omega (arith, low, long, one)) (long ∙ one ∙ sym more) (get_or-insert_at xs p c c low)
-    (λ k d a. same k d (omega (arith, a)) ∙ get_or_append_left xs (c ∷ []) d k (omega (arith, a, low)) ∙ sym (get_or-insert_below xs p c d k a low))
-    (λ k d a h.
-    let back : p + (k - (p + 1)) ≡ k - 1 = omega (arith, a) in
-    let next : (k - 1) + 1 ≡ k = omega (arith, a) in
-    copied k d (omega (arith, a)) (omega (arith, h, long, one, low)) ∙ ap (λ n. get_or (xs ++ c ∷ []) n d) back
-    ∙ get_or_append_left xs (c ∷ []) d (k - 1) (omega (arith, a, h, long, one))
-    ∙ sym (ap (λ n. get_or (insert xs p c) n d) (sym next) ∙ get_or-insert_above xs p c d (k - 1) (omega (arith, a)) low))
-  where
-    one : length (xs ++ c ∷ []) ≡ length xs + 1
-    one = length-append xs (c ∷ [])
-
-    more : length (insert xs p c) ≡ length xs + 1
-    more = length-insert xs p c low
 
 -- the length of a list where one comes and one goes
 moved_length : (xs : List ℕ) (from to c : ℕ) → from < length xs → to < length xs → length (insert (remove xs from) to c) ≡ length xs
@@ -146,23 +127,6 @@ found_any keys order c from low =
     let less = length-remove order from low in
     record { in_order = omega arith; within = omega (arith, less); before = λ k a. absurd (omega (arith, a)); from = λ k a b. absurd (omega (arith, a, b, less)) }
 
-pub put_from : (xs zs ys : List ℕ) (p c n : ℕ) → zs ≡ xs ++ c ∷ [] → n ≡ length xs → p ≤ length xs → length ys ≡ length zs
-    → SameBelow zs ys (p + 1) → CopiedTo zs ys p (p + 1) (n - p) → slice_set ys p c ≡ insert xs p c
-put_from xs zs ys p c n e m low long same copied =
-    put_moved xs ys p c low (long ∙ ap length e) (subst (λ (l : List ℕ). SameBelow l ys (p + 1)) e same)
-    (subst (λ k. CopiedTo (xs ++ c ∷ []) ys p (p + 1) (k - p)) m (subst (λ (l : List ℕ). CopiedTo l ys p (p + 1) (n - p)) e copied))
-
--- what a look at one of the others tells
-pub tested : (keys : List (Option ℕ)) (xs : List ℕ) (c mid other : ℕ) (k key : Option ℕ) (r v : Bool) → other ≡ get_or xs mid 0 → k ≡ key_of keys other
-    → key ≡ key_of keys c → r ≡ goes_first k other key c → r ≡ v → is_before keys (get_or xs mid 0) c ≡ v
-tested keys xs c mid other k key r v e f g h i =
-    ap (λ n. is_before keys n c) (sym e) ∙ ap (λ (o : Option ℕ). goes_first o other (key_of keys c) c) (sym f)
-    ∙ ap (λ (o : Option ℕ). goes_first k other o c) (sym g) ∙ sym h ∙ i
-
-pub next_found : (keys : List (Option ℕ)) (xs : List ℕ) (c low high newlow newhigh : ℕ) → newlow ≡ low → newhigh ≡ high → IsFound keys xs c low high → IsFound keys xs c newlow newhigh
-next_found keys xs c low high newlow newhigh e f found =
-    subst (λ n. IsFound keys xs c newlow n) (sym f) (subst (λ n. IsFound keys xs c n high) (sym e) found)
-
 -- a class that is there is found at a place, and gets a key
 pub record Shifts (r : Ranking) (c from : ℕ) (key : Option ℕ) : Type 0 where
   pub low : c < length (keys_of r)
@@ -196,10 +160,6 @@ shifted r c from to key seen_keys seen new s e f found i =
     i ∙ ap (λ (xs : List ℕ). insert xs to c) (shift_taken r c from key s).rest
     ∙ put_found (slice_set (keys_of r) c key) (without (order_of r) c) c to (shift_found r c from to key seen_keys seen s e f found)
 
--- a class that comes last moves no other
-pub put_last : (xs zs : List ℕ) (p c n : ℕ) → zs ≡ xs ++ c ∷ [] → n ≡ length xs → p ≤ length xs → n ≤ p → slice_set zs p c ≡ insert xs p c
-put_last xs zs p c n e m low past = put_from xs zs zs p c n e m low refl (λ k d a. refl) (λ k d a b. absurd (omega (arith, a, b, past)))
-
--- nor does one that stays at its place
+-- a class that stays at its place moves no other
 pub moved_nowhere : (xs : List ℕ) (from to c : ℕ) → to ≤ from → from ≤ to → from < length xs → slice_set xs to c ≡ insert (remove xs from) to c
 moved_nowhere xs from to c h k f = moved_down xs xs from to c h f refl (λ i d a. refl) (λ i d a b. absurd (omega (arith, a, b, h, k))) (λ i d a. refl)

@@ -1,8 +1,8 @@
 -- What a look at the middle adds to a search.
-use Rattle.std.proofs.Common.{◌≡◌, ◌<◌, ◌≤◌, ◌+◌, ◌⊎◌, inl, inr, ℕ, Bool, true, false, List, [], ◌∷◌, Some, length, refl, sym, ap, arith, get_or, ◌-◌, ◌∙◌}
-use Rattle.std.specs.Prelude.{Option, slice_get}
+use Rattle.std.proofs.Common.{◌≡◌, ◌<◌, ◌≤◌, ◌+◌, ◌⊎◌, inl, inr, ℕ, Bool, true, false, List, length, refl, sym, ap, subst, arith, get_or, ◌∙◌}
+use Rattle.std.specs.Prelude.{Option, if◌then◌else◌}
 use Rattle.std.proofs.lemmas.Bool.{cases_lt}
-use Rattle.std.proofs.lemmas.Option.{get_or_from_slice_get}
+use Rattle.hfsc_model.specs.RealTime.{goes_first}
 use Rattle.ranking.specs.Order.{is_before, is_ranked, key_of}
 use Rattle.ranking.specs.Search.{IsFound, IsRanked}
 use Rattle.ranking.proofs.Ordered.{before_trans, goes_not, in_order}
@@ -41,6 +41,24 @@ found_below keys xs c low mid high r found l h e = record {
     go k (inl a) b s = no (is_before keys (get_or xs k 0) c) k refl a s
     go k (inr a) b s = let same : k ≡ mid = omega arith in ap (λ n. is_before keys (get_or xs n 0) c) same ∙ e
 
+-- both together, of a look that answered
+pub found_half : (keys : List (Option ℕ)) (xs : List ℕ) (c low mid high newlow newhigh : ℕ) (b : Bool) → IsRanked keys xs → IsFound keys xs c low high
+    → low ≤ mid → mid < high → is_before keys (get_or xs mid 0) c ≡ b → newlow ≡ (if b then mid + 1 else low) → newhigh ≡ (if b then high else mid)
+    → IsFound keys xs c newlow newhigh
+found_half keys xs c low mid high newlow newhigh b r found l h e f g =
+    subst (λ n. IsFound keys xs c newlow n) (sym g) (subst (λ n. IsFound keys xs c n (if b then high else mid)) (sym f) (go b e))
+  where
+    go : (v : Bool) → is_before keys (get_or xs mid 0) c ≡ v → IsFound keys xs c (if v then mid + 1 else low) (if v then high else mid)
+    go true e = found_above keys xs c low mid high r found h e
+    go false e = found_below keys xs c low mid high r found l h e
+
+-- what a look at a class tells
+pub tested : (keys : List (Option ℕ)) (xs : List ℕ) (c mid other : ℕ) (k key : Option ℕ) (r : Bool) → other ≡ get_or xs mid 0 → k ≡ key_of keys other
+    → key ≡ key_of keys c → r ≡ goes_first k other key c → is_before keys (get_or xs mid 0) c ≡ r
+tested keys xs c mid other k key r e f g h =
+    ap (λ n. is_before keys n c) (sym e) ∙ ap (λ (o : Option ℕ). goes_first o other (key_of keys c) c) (sym f)
+    ∙ ap (λ (o : Option ℕ). goes_first k other o c) (sym g) ∙ sym h
+
 -- before a look
 pub found_all : (keys : List (Option ℕ)) (xs : List ℕ) (c : ℕ) → IsFound keys xs c 0 (length xs)
 found_all keys xs c = record {
@@ -50,32 +68,12 @@ found_all keys xs c = record {
   from = λ k a b. absurd (omega arith);
 }
 
--- after a look at the front
-pub front_below : (keys : List (Option ℕ)) (xs : List ℕ) (c x : ℕ) → is_ranked keys xs ≡ true → slice_get xs 0 ≡ Some x → is_before keys x c ≡ false → IsFound keys xs c 0 0
-front_below keys [] c x r e b = absurd cc
-front_below keys (y ∷ ys) c x r e b =
-    let same : y ≡ x = cc in
-    found_below keys (y ∷ ys) c 0 0 (length (y ∷ ys)) (ranked_true keys (y ∷ ys) r) (found_all keys (y ∷ ys) c) (omega arith) (omega arith) (ap (λ n. is_before keys n c) same ∙ b)
-
--- where the front is the class itself
-pub front_found : (keys : List (Option ℕ)) (xs : List ℕ) (c x : ℕ) → is_ranked keys xs ≡ true → slice_get xs 0 ≡ Some x → x ≡ c → IsFound keys xs c 0 0
-front_found keys xs c x r e same = front_below keys xs c x r e (ap (λ n. is_before keys n c) same ∙ goes_not (key_of keys c) c)
-
--- where the last is the class itself
-pub last_found : (keys : List (Option ℕ)) (xs : List ℕ) (c x : ℕ) → is_ranked keys xs ≡ true → slice_get xs (length xs - 1) ≡ Some x → x ≡ c
-    → IsFound keys xs c (length xs - 1) (length xs - 1)
-last_found keys [] c x r e same = absurd cc
-last_found keys (y ∷ ys) c x r e same = record {
+-- where a class stands
+pub found_there : (keys : List (Option ℕ)) (xs : List ℕ) (c k : ℕ) → is_ranked keys xs ≡ true → k < length xs → get_or xs k 0 ≡ c → IsFound keys xs c k k
+found_there keys xs c k r h e = record {
   in_order = omega arith;
   within = omega arith;
-  before = λ k a. ap (λ n. is_before keys (get_or (y ∷ ys) k 0) n) (sym is) ∙ in_order keys (y ∷ ys) k (length ys) (ranked_true keys (y ∷ ys) r) (omega (arith, a)) (omega arith);
-  from = λ k a b.
-      let at : k ≡ length ys = omega (arith, a, b) in
-      ap (λ n. is_before keys n c) (ap (λ n. get_or (y ∷ ys) n 0) at ∙ is) ∙ goes_not (key_of keys c) c;
+  before = λ j a. ap (λ n. is_before keys (get_or xs j 0) n) (sym e) ∙ in_order keys xs j k (ranked_true keys xs r) a h;
+  from = (found_below keys xs c 0 k (length xs) (ranked_true keys xs r) (found_all keys xs c) (omega arith) h
+      (ap (λ n. is_before keys n c) e ∙ goes_not (key_of keys c) c)).from;
 }
-  where
-    is : get_or (y ∷ ys) (length ys) 0 ≡ c
-    is = get_or_from_slice_get (y ∷ ys) (length ys) x 0 (ap (λ n. slice_get (y ∷ ys) n) back ∙ e) ∙ same
-      where
-        back : length ys ≡ length (y ∷ ys) - 1
-        back = omega arith

@@ -10,12 +10,7 @@ pub fn put_at(order: &mut Vec<u32>, place: usize, class: u32)
     ensures items { order.new.items ≡ insert order.old.items place class }
     ensures capacity { vec_capacity order.old ≤ vec_capacity order.new }
 {
-    let len = order.len();
-    let _ = order.push(class);
-    if place < len {
-        order.copy_within(place..len, place + 1);
-    }
-    order[place] = class;
+    let _ = order.insert(place, class);
 }
 
 /// Takes out what stands at a place.
@@ -24,10 +19,7 @@ pub fn take_at(order: &mut Vec<u32>, place: usize)
     ensures items { order.new.items ≡ remove order.old.items place }
     ensures capacity { vec_capacity order.new ≡ vec_capacity order.old }
 {
-    if place + 1 < order.len() {
-        order.copy_within(place + 1..order.len(), place);
-    }
-    let _ = order.pop();
+    let _ = order.remove(place);
 }
 
 /// Puts a class at a place, and takes out what stands at another.

@@ -1,12 +1,7 @@
 use Rattle.std.proofs.Common.{◌∙◌, Bool, None, Some, ap, arith, get_or, sym}
 use Rattle.std.specs.Prelude.{if◌then◌else◌}
-use Rattle.hfsc_eligible.proofs.Leaders.{come_is, key_low, read_at}
+use Rattle.hfsc_eligible.proofs.Leaders.{come_is, read_at}
 use Rattle.hfsc_eligible.proofs.Eligible.come_at.Goals as goal
-
-pub key-requires : goal.key-requires
-key-requires c =
-    key_low c.args.self.now c.args.now c.args.place (get_or c.as_slice-early.result.now c.args.place 0)
-    (read_at c.args.self.now c.args.now c.as_slice-early.result.now c.args.place c.as_slice-early.ensures (omega arith))
 
 pub returns-then-has_come : goal.returns-then-has_come
 returns-then-has_come c =

@@ -1,9 +1,6 @@
 use Rattle.std.proofs.Common.{arith}
-use Rattle.hfsc_eligible.proofs.Leaders.{hit, leader_is_pick, leads_on, miss, order_low}
+use Rattle.hfsc_eligible.proofs.Leaders.{hit, leader_is_pick, leads_on, miss}
 use Rattle.hfsc_eligible.proofs.Eligible.first_come.Goals as goal
-
-pub key-requires : goal.key-requires
-key-requires c = order_low c.args.self.now c.args.now c.as_slice-order.result.now c.loop-place.place c.as_slice-order.ensures (omega arith)
 
 pub returns-then-has_come : goal.returns-then-has_come
 returns-then-has_come c =

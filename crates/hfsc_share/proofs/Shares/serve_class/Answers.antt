@@ -7,7 +7,7 @@ use Rattle.play_base.specs.Units.{units}
 use Rattle.hfsc_groups.specs.Node.{active_in}
 use Rattle.hfsc_groups.proofs.Places.{get_read}
 use Rattle.hfsc_groups.proofs.Held.{held_ranked, is_put, limits_put, may_change, parent_within, parents_put}
-use Rattle.hfsc_share.proofs.Steps.{stepped, set_active, serve_step, reopened_by, served_by, none_ranked}
+use Rattle.hfsc_share.proofs.Steps.{stepped, set_active, serve_step, has_group, reopened_by, served_by, none_ranked}
 use Rattle.hfsc_share.proofs.Shares.serve_class.Goals as goal
 
 pub rank-requires : goal.rank-requires
@@ -53,7 +53,8 @@ returns-clause-walks c =
         holds = c.args.self.now.groups_hold;
         within = c.requires.class;
         at = at;
-        reopened = reopened_by c.args.self.now.woken c.first_moment_below-below.result _ c.serve.new.self c.reopen.new.self c.first_moment_below-below.ensures c.reopen.ensures;
+        reopened = reopened_by c.args.self.now.woken c.args.class c.args.self.now.groups.items c.index.result.now c.serve.new.self c.reopen.new.self
+            (has_group c.args.self.now.nodes.items c.args.self.now.groups.items c.args.class c.args.self.now.groups_hold c.requires.class) c.index.ensures c.reopen.ensures;
       };
       served = served_by c.args.amount (units len) c.waits_below-waits.result _ c.index_mut-node.result.now c.serve.new.self e c.waits_below-waits.ensures c.serve.ensures;
     })

@@ -12,7 +12,7 @@ use Rattle.hfsc_groups.proofs.Held.{held_ranked, is_put, limits_put, may_change,
 use Rattle.hfsc_groups.specs.declared.node.Node.{Node}
 use Rattle.hfsc_groups.proofs.Staying.{same_ranked}
 use Rattle.hfsc_share.specs.Walk.{start_below, IsLeafThat, Walks}
-use Rattle.hfsc_share.proofs.Steps.{Taking, IsTaking, awake_by, stepped, set_active, wake_step, reopened_by}
+use Rattle.hfsc_share.proofs.Steps.{Taking, IsTaking, awake_by, stepped, set_active, wake_step, has_group, reopened_by}
 use Rattle.hfsc_share.proofs.Stopping.{stops}
 use Rattle.hfsc_share.proofs.Shares.take_in.Goals as goal
 use Rattle.hfsc_share.proofs.Shares.take_in.Goals.{then-was, else-was}
@@ -99,7 +99,8 @@ returns-clause-walks c = λ cs h leaf len l w.
       holds = c.args.self.now.groups_hold;
       within = c.requires;
       at = at;
-      reopened = reopened_by c.args.self.now.woken c.first_moment_below-below.result _ c.wake.new.self c.reopen.new.self c.first_moment_below-below.ensures c.reopen.ensures;
+      reopened = reopened_by c.args.self.now.woken c.args.class c.args.self.now.groups.items c.index.result.now c.wake.new.self c.reopen.new.self
+          (has_group c.args.self.now.nodes.items c.args.self.now.groups.items c.args.class c.args.self.now.groups_hold c.requires) c.index.ensures c.reopen.ensures;
     }
 
     same : c.if-was.same ≡ true → (x.active ≡ true) × (c.reopen.new.self.opens ≡ x.opens)

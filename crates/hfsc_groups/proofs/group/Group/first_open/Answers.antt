@@ -1,18 +1,17 @@
-use Rattle.std.proofs.Common.{◌≡◌, ◌∙◌, List, ℕ, Some, true, false, length, get_or, ap, sym, subst, arith}
-use Rattle.std.specs.Prelude.{Option}
+use Rattle.std.proofs.Common.{◌≡◌, ◌∙◌, List, ℕ, Some, true, false, length, get_or, ap, sym, arith}
+use Rattle.std.specs.Prelude.{Option, slice_get}
 use Rattle.ranking.specs.Order.{key_of}
 use Rattle.ranking.specs.Ranking.{order_of}
 use Rattle.ranking.proofs.Orders.{find_more, find_hit}
 use Rattle.hfsc_model.specs.RealTime.{has_come}
-use Rattle.hfsc_groups.specs.Late.{HasPlace, late_keys}
-use Rattle.hfsc_groups.proofs.Lists.{item_in}
+use Rattle.hfsc_groups.specs.Late.{late_keys}
+use Rattle.hfsc_groups.proofs.Calm.{calm_open}
 use Rattle.hfsc_groups.proofs.group.Group.first_open.Goals as goal
 
-pub key-requires : goal.key-requires
-key-requires c =
-    let len = ap (λ (xs : List ℕ). length xs) c.as_slice-class-items.ensures in
-    let item = ap (λ (xs : List ℕ). get_or xs c.loop-class.class-index 0) c.as_slice-class-items.ensures in
-    subst (λ n. HasPlace c.args.self.now.moments n) (sym item) (c.requires _ (item_in (order_of c.args.self.now.times) c.loop-class.class-index (omega arith)))
+pub returns-then-is_calm : goal.returns-then-is_calm
+returns-then-is_calm c =
+    c.front.ensures ∙ ap (λ (xs : List ℕ). slice_get xs 0) c.as_slice.ensures
+    ∙ calm_open c.args.self.now c.args.now (c.is_calm.ensures c.if-is_calm.true) c.requires
 
 pub returns-then-has_come : goal.returns-then-has_come
 returns-then-has_come c =

@@ -1,9 +1,22 @@
-use Rattle.std.proofs.Common.{refl}
-use Rattle.hfsc_groups.proofs.Numbered.{delayed_in, may_delay_in}
+use Rattle.std.proofs.Common.{arith}
+use Rattle.hfsc_groups.proofs.Calm.{calm_stays}
 use Rattle.hfsc_groups.proofs.late.Late.delay.Goals as goal
 
+pub returns-then-stays_calm : goal.returns-then-stays_calm
+returns-then-stays_calm c = calm_stays c.args.self.now c.args.class c.args.is c.args.opens c.requires.place (c.stays_calm.ensures c.if-stays_calm.true)
+
 pub delay_in-requires : goal.delay_in-requires
-delay_in-requires c = may_delay_in c.args.class c.args.was c.args.self.now c.requires
+delay_in-requires c = record { place = c.requires.place; there = c.requires.there }
 
 pub returns : goal.returns
-returns c = delayed_in c.args.class c.args.was c.args.is c.args.opens c.args.self.now _ c.requires refl c.delay_in.ensures
+returns c =
+    let r = c.delay_in.ensures in
+    record {
+      places = λ d place. record {
+        from = let from = place.from in let first = r.first in omega (arith, from, first);
+        room = let room = place.room in let count = r.count in omega (arith, room, count);
+      };
+      classes = r.classes;
+      keyed = r.keyed;
+      others = r.others;
+    }
