@@ -1,5 +1,5 @@
 -- The sending that is due is of a leaf that may send, of its head, and by its rule.
-use Rattle.std.proofs.Common.{◌≡◌, ◌≤◌, ℕ, List, [], ◌∷◌, Some, refl, ap, sym, subst, arith, ◌∙◌, drop}
+use Rattle.std.proofs.Common.{◌≡◌, ◌<◌, ◌≤◌, ℕ, List, [], ◌∷◌, Some, refl, ap, sym, subst, arith, ◌∙◌, drop, length}
 use Rattle.std.specs.Prelude.{Option, slice_get}
 use Rattle.std.specs.Option.{option_map}
 use Rattle.ranking.proofs.Ranks.{same_test}
@@ -41,6 +41,11 @@ pub record IsSent (cs : List HfscClass) (h : HfscHistory) (list : List Entry) (n
   pub here : slice_get list 0 ≡ Some front
   pub long : front.len ≡ len
   pub pick : choice_of (choice cs h now) ≡ record { class = c; rule = r }
+
+-- a list with a front holds something
+pub has_front : (xs : List Entry) (x : Entry) → slice_get xs 0 ≡ Some x → 0 < length xs
+has_front [] x e = absurd cc
+has_front (y ∷ ys) x e = omega arith
 
 from_head : (cs : List HfscClass) (h : HfscHistory) (lists : ℕ → List Entry) (now : ℕ) (p : Choice) (c len : ℕ) (r : Rule) (t : Ticket) (xs : List Entry) → lists p.class ≡ xs
     → send_head p.class p.rule xs ≡ Send t c len r → choice_of (choice cs h now) ≡ p → IsSender cs h now p.class → IsSent cs h (lists c) now c len r

@@ -9,9 +9,19 @@ use Rattle.hfsc_model.specs.Event.{Sent as HfscSent}
 use Rattle.hfsc_core.specs.Chooser.{Stands, chosen_now, classes_of, woken_at}
 use Rattle.hfsc_core.specs.Hfsc.{Held, HfscStands, due_of}
 use Rattle.hfsc_core.proofs.Choosing.{chosen_is}
-use Rattle.hfsc_core.proofs.Leaving.{may_leave, sent_is, sent_of_due, sent_stands}
+use Rattle.hfsc_core.proofs.Leaving.{has_front, may_leave, sent_is, sent_of_due, sent_stands}
 use Rattle.hfsc_core.proofs.Standing.{hfsc_after, known_of, known_sent, place_high}
 use Rattle.hfsc_core.proofs.hfsc.HfscDiscipline.sent.Goals as goal
+
+pub take-requires : goal.take-requires
+take-requires g c =
+    let d = c.self.inside in
+    let k = c.self.invariant.known in
+    let s = c.args.sending in
+    let later = subst (λ (v : Held g.row.Q.Denot). woken_at v.chooser ≤ s.start) (sym c.self.view_is) c.requires.later in
+    let due = ap (λ (v : Held g.row.Q.Denot). due_of v s.start) c.self.view_is ∙ c.requires.due in
+    let x = sent_is (classes_of d.chooser) k.0 (list_in d.rows) s.start s.class s.len s.rule s.ticket (chosen_now d.chooser s.start) (chosen_is d.chooser k.0 k.1.stands s.start later) due in
+    record { some = has_front (list_in d.rows s.class) x.front x.here }
 
 pub head_len-head-requires-clause-high : goal.head_len-head-requires-clause-high
 head_len-head-requires-clause-high g c =
