@@ -142,7 +142,7 @@ impl Case {
         Some(())
     }
 
-    // Lets a read of the files move at most so many bytes, and a write so many.
+    // Begins the files anew, with the most bytes that a read moves, and the most that a write moves.
     fn set_pieces(&mut self, words: &[&str]) -> Option<()> {
         let [read, write] = words else {
             return None;
