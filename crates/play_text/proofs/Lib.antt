@@ -1,3 +1,4 @@
+pub mod DigitLemmas
 pub mod NameLemmas
 pub mod RowLemmas
 pub mod StatsLemmas

@@ -45,6 +45,19 @@ impl Number {
         self.value = value;
     }
 
+    // Writes another number, which mostly is the next one: of that the last digit alone differs, unless it was 9.
+    pub fn follow(&mut self, value: u64)
+        ensures { self.new.value ≡ value }
+    {
+        let digit = self.bytes[LONGEST - 1];
+        if self.value < value && value - self.value == 1 && digit < b'9' {
+            self.bytes[LONGEST - 1] = digit + 1;
+            self.value = value;
+        } else {
+            self.set(value);
+        }
+    }
+
     // Its digits, 20 at the most.
     pub fn as_bytes(&self) -> &[u8]
         ensures digits { result.now ≡ decimal self.now.value }

@@ -226,7 +226,7 @@ fn add_fate(
     ensures longer { result ≡ true → length ((writer_under writer.new).items ++ writer_pending writer.new)
         ≤ length ((writer_under writer.old).items ++ writer_pending writer.old) + 565 }
 {
-    digits.number.set(number);
+    digits.number.follow(number);
     digits.at.set(at);
     digits.len.set(u64::from(len));
     match *fate {
