@@ -84,6 +84,7 @@ impl Chooser {
 
     /// What is chosen at `now`: by real time where some head is eligible, else by share where some path is open, else the least
     /// moment at which a leaf that waits may send.
+    #[inline(always)]
     pub fn chosen(&self, now: u64) -> Chosen
         ensures { result ≡ chosen_now self.now now }
     {

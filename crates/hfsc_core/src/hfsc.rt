@@ -37,6 +37,7 @@ impl<Q: QueueRule + Drop> Model for Hfsc<Q> {
 }
 
 // The head of a class's list is sent by a rule.
+#[inline(always)]
 fn head_by<Q: QueueRule + Drop>(rows: &Rows<Q>, class: u32, rule: Rule) -> Pick
     requires low { rows.now.first ≤ class }
     requires high { class < rows.now.first + length rows.now.queues }
@@ -54,6 +55,7 @@ fn head_by<Q: QueueRule + Drop>(rows: &Rows<Q>, class: u32, rule: Rule) -> Pick
 }
 
 // What is due where this is chosen.
+#[inline(always)]
 fn pick_of<Q: QueueRule + Drop>(rows: &Rows<Q>, chosen: Chosen) -> Pick
     requires { MayAsk rows.now chosen }
     ensures { result ≡ pick_of (list_in rows.now) chosen }

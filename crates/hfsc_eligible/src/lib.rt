@@ -111,6 +111,7 @@ impl Eligible {
     /// a tie going to the class that stands earlier in the file. `None` comes exactly where no head is eligible. No opening
     /// is later than `now`. It looks at the heads in both orders by turns, up to the first eligible one by deadline or to the last
     /// eligible one by moment, whichever comes sooner.
+    #[inline(always)]
     pub fn pick(&self, now: u64) -> Option<u32>
         ensures pick { (curves : List (Option Curve)) (h : HfscHistory) → StandsFor self.now curves h → AreOpenBy h now
             → MatchOption result (NoneIsEligible curves h now) (IsRealPick curves h now) }
@@ -175,6 +176,7 @@ impl Eligible {
     }
 
     /// The first class in the order of the deadlines whose head is eligible, sought only where some head is.
+    #[inline(always)]
     fn picked(&self, now: u128) -> Option<u32>
         ensures { result ≡ pick_now self.now now }
     {
@@ -186,6 +188,7 @@ impl Eligible {
 
     /// The first class in the order of the deadlines whose head is eligible, where some head is: the first that comes in that order, or
     /// the one of least deadline among those that come in the order of the moments, whichever walk is shorter.
+    #[inline(never)]
     fn first_come(&self, now: u128) -> Option<u32>
         requires { has_come (soonest_now self.now) now ≡ true }
         ensures { result ≡ pick_now self.now now }

@@ -1,10 +1,11 @@
 //! One class: its curves, its total, whether it is active, its virtual time, and the moment from which it opens.
-ghost use Rattle.std.specs.Prelude.{◌≡◌, ◌+◌, ◌<◌, ◌≤◌, ◌^◌, ◌∷◌, [], ℕ, List, Option, None, Some, max, min, true, false, is_some, if◌then◌else◌};
+ghost use Rattle.std.specs.Prelude.{◌≡◌, ◌+◌, ◌<◌, ◌≤◌, ◌^◌, ◌∷◌, [], ℕ, List, Option, None, Some, max, min, true, false, is_some, IsSomeAnd, if◌then◌else◌};
 ghost use Rattle.std.specs.Option.{ForSome};
 ghost use Rattle.service_curve.specs.declared.Curve.{Curve};
 ghost use Rattle.runtime_curve.specs.declared.Opening.{Opening};
 ghost use Rattle.runtime_curve.specs.Opening.{opening};
 ghost use Rattle.runtime_curve.specs.Deadline.{deadline, later_of};
+ghost use Rattle.runtime_curve.specs.Running.{StandsFor, last_of};
 ghost use Rattle.hfsc_model.specs.Share.{or_zero};
 ghost use Rattle.hfsc_groups.specs.Curves.{CanCarry, RunningStands, IsBy, IsUpTo, IsOpen, last_in, limit_opens, share_of, since};
 ghost use Rattle.hfsc_groups.specs.Classes.{IsClass};
@@ -85,6 +86,7 @@ impl Node {
     }
 
     /// Units were sent in the class or below it, which stays active where a packet waits.
+    #[inline(always)]
     pub fn serve(&mut self, amount: u128, waits: bool)
         requires { amount < 2 ^ 100 }
         ensures { IsServed amount waits self.old self.new }
@@ -96,6 +98,7 @@ impl Node {
     }
 
     /// The virtual time with a total that is not less.
+    #[inline(always)]
     fn time_at(&self, total: u128) -> u128
         requires more { self.now.total ≤ total }
         requires most { total ≤ 2 ^ 99 }
@@ -107,10 +110,7 @@ impl Node {
             → result ≡ min (max self.now.time (or_zero (deadline s os total))) (2 ^ 79) }
     {
         match &self.share {
-            Some(share) if self.active && self.total < total => {
-                let reached = share.deadline(total).unwrap_or(0);
-                self.time.max(reached).min(MOST_TIME)
-            }
+            Some(share) if self.active && self.total < total => time_by(share, self.time, total),
             _ => self.time,
         }
     }
@@ -195,7 +195,24 @@ fn running_of(curve: Option<Curve>) -> Option<Running>
     }
 }
 
+/// The virtual time by a link-sharing curve with a greater total, not less than it was. This is the long part of a sending, and so a
+/// call of its own.
+#[inline(never)]
+fn time_by(share: &Running, time: u128, total: u128) -> u128
+    requires time { time ≤ 2 ^ 79 }
+    requires total { total < 2 ^ 100 }
+    requires opened { IsSomeAnd (last_of share.now) (λ last. last.count < total) }
+    ensures later { time ≤ result }
+    ensures most { result ≤ 2 ^ 79 }
+    ensures grown { (s : Curve) (os : List Opening) → StandsFor share.now s os
+        → result ≡ min (max time (or_zero (deadline s os total))) (2 ^ 79) }
+{
+    let reached = share.deadline(total).unwrap_or(0);
+    time.max(reached).min(MOST_TIME)
+}
+
 /// Adds an opening, where there is a curve.
+#[inline(always)]
 fn begin(running: &mut Option<Running>, at: u128, count: u128)
     requires at { at < 2 ^ 80 }
     requires count { count < 2 ^ 100 }

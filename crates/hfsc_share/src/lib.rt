@@ -110,6 +110,7 @@ impl Shares {
     /// the children below which a packet waits on a path that is open, a tie going to the class that stands earlier in the
     /// file. `None` comes exactly where no active leaf may be served at `now`. On each level it looks at the children in
     /// that order up to the first that may.
+    #[inline(always)]
     pub fn pick(&self, now: u64) -> Option<u32>
         ensures pick { (cs : List HfscClass) (h : HfscHistory) → StandsFor self.now cs h → last_wake self.now ≤ now
             → result ≡ share_pick cs h now }
@@ -166,6 +167,7 @@ impl Shares {
     }
 
     /// What `wake_class` does of a class that is not open already.
+    #[inline(always)]
     fn take_in(&mut self, class: u32) -> Option<u32>
         requires { class < classes_of self.old }
         ensures walks { (cs : List HfscClass) (h : HfscHistory) (leaf len : ℕ) → IsLeafThat cs h leaf false
@@ -265,6 +267,7 @@ impl Shares {
     }
 
     /// The leaf to send, where the root is open.
+    #[inline(always)]
     fn picked(&self, now: u128) -> Option<u32>
         ensures { result ≡ pick_now self.now now }
     {
@@ -288,6 +291,7 @@ impl Shares {
     }
 
     /// Down from the root, on each level by the first child that is open.
+    #[inline(always)]
     fn leaf_below(&self, now: u128) -> u32
         requires { 0 < classes_of self.now }
         ensures { result ≡ down 8 self.now.groups.items now 0 }

@@ -51,6 +51,7 @@ pub fn goes_before(keys: &Keys, class: u32, other: u32) -> bool
 }
 
 /// How many classes of the list go before a class with its key.
+#[inline(always)]
 pub fn place_of(order: &[u32], keys: &Keys, class: u32, key: Option<u128>) -> usize
     requires ranked { is_ranked (all_keys keys.now) order.now ≡ true }
     requires key { key ≡ key_of (all_keys keys.now) class }
@@ -80,6 +81,15 @@ pub fn place_in(order: &[u32], keys: &Keys, class: u32) -> usize
             return place;
         }
     }
+    place_past(order, keys, class)
+}
+
+/// The same by its key, where it stands behind the first few.
+#[inline(never)]
+fn place_past(order: &[u32], keys: &Keys, class: u32) -> usize
+    requires { is_ranked (all_keys keys.now) order.now ≡ true }
+    ensures { IsFound (all_keys keys.now) order.now class result result }
+{
     place_of(order, keys, class, keys.get(class))
 }
 

@@ -79,6 +79,10 @@ pub record IsKept (s : Curve) (k : Kept) : Type 0 where
   pub one : (o : Opening) → k ≡ One o → IsWithin o
   pub three : (h : Held) → k ≡ Three h → IsHeld s h
 
+-- the line of the second slope through a new opening is not below that through the only one, where there is only one
+abbrev pub IsAboveOne : Curve → Kept → Opening → Type 0
+IsAboveOne s k new = (o : Opening) → k ≡ One o → Lower s.m2 o new
+
 -- an opening may follow those that are held
 abbrev pub MayFollow : Option Held → Opening → Type 0
 MayFollow o new = (h : Held) → o ≡ Some h → IsUpTo new h.last

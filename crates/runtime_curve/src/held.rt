@@ -4,7 +4,7 @@ ghost use Rattle.service_curve.specs.Curve.{IsInRange};
 ghost use Rattle.runtime_curve.specs.declared.Opening.{Opening};
 ghost use Rattle.runtime_curve.specs.declared.held.Kept.TheVariants.{One};
 ghost use Rattle.runtime_curve.specs.Opening.{IsWithin};
-ghost use Rattle.runtime_curve.specs.Held.{IsHeld, IsKept, IsUpTo, Lower, MayFollow, Stand, StandFor, last_held, three};
+ghost use Rattle.runtime_curve.specs.Held.{IsAboveOne, IsHeld, IsKept, IsUpTo, Lower, MayFollow, Stand, StandFor, last_held, three};
 
 use crate::Opening;
 use service_curve::Curve;
@@ -56,14 +56,32 @@ pub fn add_opening(curve: &Curve, kept: &mut Kept, new: Opening)
     ensures opened { (os : List Opening) → Stand curve.now (three kept.old) os → Stand curve.now (three kept.new) (new ∷ os) }
 {
     match kept {
-        Kept::Nothing => *kept = Kept::One(new),
         Kept::One(only) => {
             if is_lower(curve.m2, only, &new) {
                 *only = new;
                 return;
             }
-            *kept = Kept::Three(second_opening(curve, *only, new));
+            add_beside(curve, kept, new);
         }
+        _ => add_beside(curve, kept, new),
+    }
+}
+
+/// The same where the new opening does not take the place of the only one. Most openings do, and so this is a call of its own.
+#[inline(never)]
+fn add_beside(curve: &Curve, kept: &mut Kept, new: Opening)
+    requires in_range { IsInRange curve.now }
+    requires new { IsWithin new }
+    requires kept { IsKept curve.now kept.old }
+    requires follows { MayFollow (three kept.old) new }
+    requires above { IsAboveOne curve.now kept.old new }
+    ensures kept { IsKept curve.now kept.new }
+    ensures last { last_held (three kept.new) ≡ Some new }
+    ensures opened { (os : List Opening) → Stand curve.now (three kept.old) os → Stand curve.now (three kept.new) (new ∷ os) }
+{
+    match kept {
+        Kept::Nothing => *kept = Kept::One(new),
+        Kept::One(only) => *kept = Kept::Three(second_opening(curve, *only, new)),
         Kept::Three(held) => {
             if is_lower(curve.m2, &held.flat, &new) {
                 *kept = Kept::One(new);
@@ -75,7 +93,7 @@ pub fn add_opening(curve: &Curve, kept: &mut Kept, new: Opening)
 }
 
 /// A second opening, whose line of the second slope is not lower than that of the first.
-#[inline(never)]
+#[inline(always)]
 fn second_opening(curve: &Curve, first: Opening, new: Opening) -> Held
     requires in_range { IsInRange curve.now }
     requires first { IsWithin first }
