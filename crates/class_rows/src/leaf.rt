@@ -9,6 +9,7 @@ ghost use Rattle.class_rows.specs.Leaf.{after_verdict, gone, HasPrecs};
 use leaf_queue::{Entry, Lists, QueueRule, Verdict, Words};
 
 // Offers a packet to a queue, and puts it at the end of its list if it is kept.
+#[inline(always)]
 pub fn offer_to<Q: QueueRule>(
     queue: &mut Q,
     lists: &mut Lists,
@@ -43,6 +44,7 @@ pub fn offer_to<Q: QueueRule>(
 }
 
 // Takes the head of a list, and tells its queue.
+#[inline(always)]
 pub fn take_from<Q: QueueRule>(queue: &mut Q, lists: &mut Lists, place: u32, now: u64)
     requires place { place < length lists.old.lists }
     requires some { 0 < length (list_of lists.old.lists place) }

@@ -133,6 +133,7 @@ impl<Q: QueueRule + Drop> Rows<Q> {
     }
 
     /// Takes the head of a class's list, which is not empty, and tells its queue. Takes no memory.
+    #[inline(always)]
     pub fn take(&mut self, class: u32, now: u64)
         requires some { 0 < length (list_in self.old class) }
         ensures lists { (c : ℕ) → list_in self.new c ≡ after_sent class (list_in self.old) c }

@@ -105,6 +105,7 @@ impl Classify for Classifier {
     }
 
     /// Clears the code point in a class that asks for it, and marks the packet where its queue did. Takes no memory; constant time.
+    #[inline(always)]
     fn dress(&self, class: u32, marked: bool, frame: &mut [u8]) {
         let handling = handling_at(self.handlings.as_slice(), class);
         dress(frame, handling.clears, marked);

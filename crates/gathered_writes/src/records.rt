@@ -11,6 +11,7 @@ use play_base::{Files, Trouble};
 /// Adds a record to the bytes that are gathered for a file: its header, with its stamp in nanoseconds, how many bytes it has and the
 /// length on the link, and then these bytes. After an error a front of all of it was written.
 #[tactic(auto, using(play_base::proofs::ViewLaws::same_trans, play_base::proofs::ViewLaws::same_refl))]
+#[inline(always)]
 pub fn gather_record<F: Files>(
     files: &mut F,
     file: u32,

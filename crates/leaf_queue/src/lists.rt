@@ -48,6 +48,7 @@ impl Lists {
     }
 
     /// Puts an entry at the end of the list of a class, where fewer stand in all lists than there is room. Constant time.
+    #[inline(always)]
     pub fn push(&mut self, class: u32, entry: Entry)
         requires class { class < length self.old.lists }
         requires room { total_of self.old.lists < self.old.room }
@@ -66,6 +67,7 @@ impl Lists {
     }
 
     /// Takes out the head of the list of a class: None exactly where that list is empty. Constant time.
+    #[inline(always)]
     pub fn pop(&mut self, class: u32) -> Option<Entry>
         requires { class < length self.old.lists }
         ensures head { result ≡ slice_get (list_of self.old.lists class) 0 }

@@ -103,6 +103,7 @@ fn what_is_sent<D: Discipline>(discipline: &mut D, clock: &LinkClock, till: u64)
 // What comes next, given the next arrival, in nanoseconds, if there is one: an arrival up to the least moment at which a class
 // may send is offered first. `moment` is no earlier than the last end nor than any arrival that was offered. The discipline is
 // asked again where it waits. Takes no memory.
+#[inline(always)]
 pub(crate) fn next_step<D: Discipline>(
     discipline: &mut D,
     clock: &LinkClock,
