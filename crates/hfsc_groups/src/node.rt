@@ -64,6 +64,7 @@ impl Node {
 
     /// A packet that arrived at a moment waits in the class or below it: the class is active, or becomes so with a virtual
     /// time of at least `start`.
+    #[inline(always)]
     pub fn wake(&mut self, at: u64, start: u128)
         requires { IsBy at self.old.limit }
         ensures { IsAwake at start self.old self.new }
@@ -74,6 +75,7 @@ impl Node {
     }
 
     /// The class becomes active with a packet that arrived at a moment, and takes a virtual time of at least `start`.
+    #[inline(always)]
     fn activate(&mut self, at: u64, start: u128)
         requires { IsBy at self.old.limit }
         ensures { IsActivated at start self.old self.new }

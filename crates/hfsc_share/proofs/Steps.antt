@@ -20,7 +20,7 @@ use Rattle.hfsc_model.specs.Limit.{arrivals_of}
 use Rattle.hfsc_laws.proofs.Tree.{and_true, true_and, any_is, under_self, parent_of}
 use Rattle.hfsc_groups.specs.declared.node.Node.{Node}
 use Rattle.hfsc_groups.specs.declared.group.Group.{Group}
-use Rattle.hfsc_groups.specs.Curves.{limit_opens}
+use Rattle.hfsc_groups.specs.Curves.{IsBy, limit_opens}
 use Rattle.hfsc_groups.specs.Classes.{AreClasses, AreSmall, waits_in}
 use Rattle.hfsc_groups.specs.Node.{active_in, is_child_in, parent_in, AreParentsFirst, IsActivated, IsAwake, IsReopened, IsServed, NodeStands, OpensAt}
 use Rattle.hfsc_groups.specs.Group.{GroupsHold, first_moment, ranked_in}
@@ -368,6 +368,17 @@ awake_by at start other x y e a = record {
   active = a.active;
   same = a.same;
   begun = λ f. subst (λ n. IsActivated at n x y) (e f) (a.begun f);
+}
+
+-- an active class is awake as it is
+pub active_awake : (at start : ℕ) (x : Node) → x.active ≡ true → IsBy at x.limit → IsAwake at start x x
+active_awake at start x a by = record {
+  parent = refl;
+  later = omega arith;
+  by = by;
+  active = a;
+  same = λ f. refl;
+  begun = λ f. absurd cc;
 }
 
 pub served_by : (amount other : ℕ) (b d : Bool) (x y : Node) → amount ≡ other → b ≡ d → IsServed amount b x y → IsServed other d x y

@@ -151,10 +151,13 @@ impl Shares {
         ensures woken { last_wake self.new ≡ last_wake self.old }
         ensures parent { (p : ℕ) → result ≡ Some p → parent_at self.old class ≡ Some p }
     {
+        if !self.is_active(class) {
+            return self.begin_in(class);
+        }
         if self.is_open(class) {
             return None;
         }
-        self.take_in(class)
+        self.reopen_in(class)
     }
 
     /// Whether a class is active, and was open at the last event.
@@ -166,9 +169,18 @@ impl Shares {
         node.is_active() && node.opens() == Some(0)
     }
 
-    /// What `wake_class` does of a class that is not open already.
+    /// Whether a packet waits in a class or below it.
     #[inline(always)]
-    fn take_in(&mut self, class: u32) -> Option<u32>
+    fn is_active(&self, class: u32) -> bool
+        requires { class < classes_of self.now }
+        ensures { result ≡ is_active_at self.now class }
+    {
+        self.nodes[class as usize].is_active()
+    }
+
+    /// What `wake_class` does of a class that is not active.
+    #[inline(always)]
+    fn begin_in(&mut self, class: u32) -> Option<u32>
         requires { class < classes_of self.old }
         ensures walks { (cs : List HfscClass) (h : HfscHistory) (leaf len : ℕ) → IsLeafThat cs h leaf false
             → Walks cs h (Enqueued leaf (last_wake self.old) len ∷ h) (last_wake self.old) leaf (Some class) self.old.nodes.items
@@ -181,24 +193,39 @@ impl Shares {
         let start = self.start_of(class);
         let node = &mut self.nodes[class as usize];
         let was = node.is_active();
-        let opens = node.opens();
         node.wake(self.woken, start);
         node.reopen(&self.groups[class as usize], self.woken);
-        let same = was && node.opens() == opens;
-        rank_unless(same, &mut self.groups, class, was, node);
+        rank(&mut self.groups, class, was, node);
+        node.parent()
+    }
+
+    /// What `wake_class` does of a class that is active, and was not open already.
+    #[inline(never)]
+    fn reopen_in(&mut self, class: u32) -> Option<u32>
+        requires class { class < classes_of self.old }
+        requires active { is_active_at self.old class ≡ true }
+        ensures walks { (cs : List HfscClass) (h : HfscHistory) (leaf len : ℕ) → IsLeafThat cs h leaf false
+            → Walks cs h (Enqueued leaf (last_wake self.old) len ∷ h) (last_wake self.old) leaf (Some class) self.old.nodes.items
+            → Walks cs h (Enqueued leaf (last_wake self.old) len ∷ h) (last_wake self.old) leaf result self.new.nodes.items }
+        ensures step { IsStep class self.old.nodes.items self.new.nodes.items }
+        ensures active { is_active_at self.new class ≡ true }
+        ensures woken { last_wake self.new ≡ last_wake self.old }
+        ensures parent { (p : ℕ) → result ≡ Some p → parent_at self.old class ≡ Some p }
+    {
+        let node = &mut self.nodes[class as usize];
+        let opens = node.opens();
+        node.reopen(&self.groups[class as usize], self.woken);
+        let same = node.opens() == opens;
+        rank_unless(same, &mut self.groups, class, node);
         parent_unless(same, node)
     }
 
-    /// The virtual time to take where a class becomes active; 0 where it is active.
+    /// The virtual time to take where a class becomes active.
     fn start_of(&self, class: u32) -> u128
         requires { class < classes_of self.now }
-        ensures { is_active_at self.now class ≡ false
-            → result ≡ start_below self.now.nodes.items self.now.groups.items (parent_at self.now class) }
+        ensures { result ≡ start_below self.now.nodes.items self.now.groups.items (parent_at self.now class) }
     {
         let node = &self.nodes[class as usize];
-        if node.is_active() {
-            return 0;
-        }
         self.start_below(node.parent())
     }
 
@@ -307,14 +334,14 @@ impl Shares {
     }
 }
 
-/// Puts a class anew into the lists of its parent, unless it is the `same` to it as before: then they stay.
-fn rank_unless(same: bool, groups: &mut Vec<Group>, class: u32, was: bool, node: &Node)
-    requires change { MayRank class was node.now groups.old.items }
+/// Puts an active class anew into the lists of its parent, unless it is the `same` to it as before: then they stay.
+fn rank_unless(same: bool, groups: &mut Vec<Group>, class: u32, node: &Node)
+    requires change { MayRank class true node.now groups.old.items }
     requires same { same ≡ true → AreRanked class node.now groups.old.items groups.old.items }
     ensures { AreRanked class node.now groups.old.items groups.new.items }
 {
     if !same {
-        rank(groups, class, was, node);
+        rank(groups, class, true, node);
     }
 }
 

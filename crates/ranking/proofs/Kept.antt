@@ -1,6 +1,6 @@
 -- What a ranking keeps where a class is put in or taken out.
-use Rattle.std.proofs.Common.{◌≡◌, ◌<◌, ℕ, true, false, List, None, length, ap, subst, ◌∙◌}
-use Rattle.std.specs.Prelude.{Option, slice_set}
+use Rattle.std.proofs.Common.{◌≡◌, ◌<◌, ℕ, Bool, true, false, List, [], ◌∷◌, ◌++◌, None, ◌-◌, length, take, refl, sym, ap, subst, arith, ◌∙◌}
+use Rattle.std.specs.Prelude.{◌==◌, Option, slice_set, if◌then◌else◌}
 use Rattle.std.specs.List.{insert}
 use Rattle.std.proofs.lemmas.List.{length-set, get_or-set_other}
 use Rattle.ranking.specs.Order.{is_ranked, are_below, is_in, with_class, without}
@@ -61,3 +61,20 @@ set_length keys after c k set = ap (λ (ks : List (Option ℕ)). length ks) set 
 
 pub noted_below : (keys after : List (Option ℕ)) (order : List ℕ) (c : ℕ) (k : Option ℕ) → after ≡ slice_set keys c k → are_below (length keys) order ≡ true → are_below (length after) order ≡ true
 noted_below keys after order c k set b = ap (λ n. are_below n order) (set_length keys after c k set) ∙ b
+
+-- a class alone
+pub put_first : (keys : List (Option ℕ)) (order new : List ℕ) (c : ℕ) → length order ≡ 0 → new ≡ order ++ c ∷ [] → new ≡ with_class keys order c
+put_first keys [] new c h e = e
+put_first keys (x ∷ xs) new c h e = absurd (omega arith)
+
+only : (order : List ℕ) (c : ℕ) → length order ≡ 1 → is_in c order ≡ true → without order c ≡ []
+only [] c h i = refl
+only (x ∷ y ∷ ys) c h i = absurd (omega arith)
+only (x ∷ []) c h i = go (x == c) i
+  where
+    go : (b : Bool) → (if b then true else false) ≡ true → (if b then [] else x ∷ []) ≡ []
+    go true e = refl
+    go false e = absurd cc
+
+pub take_only : (order new : List ℕ) (c n : ℕ) → length order ≡ 1 → n ≡ 1 → is_in c order ≡ true → new ≡ take (n - 1) order → new ≡ without order c
+take_only order new c n h e i t = t ∙ ap (λ k. take (k - 1) order) e ∙ sym (only order c h i)

@@ -18,7 +18,7 @@ mod moves;
 mod search;
 
 use keys::Keys;
-use moves::{move_to, put_at, take_at};
+use moves::{move_to, put_at, put_last, take_at};
 use search::{goes_before, place_beside, place_in, place_of};
 
 /// Some of the classes from a first one on, in the order of their keys. No key is kept for those before it.
@@ -76,9 +76,39 @@ impl Ranking {
     }
 
     /// Puts in a class that is not there, with its key. It takes the logarithm of the classes to find the place, and moves
-    /// those that stand behind it.
-    #[inline(never)]
+    /// those that stand behind it. Where none is there it takes constant time.
+    #[inline(always)]
     pub fn put(&mut self, class: u32, key: Option<u128>)
+        requires class { HasPlace self.old class }
+        requires absent { is_in class (order_of self.old) ≡ false }
+        ensures first { first_of self.new ≡ first_of self.old }
+        ensures keys { keys_of self.new ≡ slice_set (keys_of self.old) class key }
+        ensures order { order_of self.new ≡ with_class (keys_of self.new) (order_of self.old) class }
+    {
+        if self.order.is_empty() {
+            self.put_alone(class, key);
+        } else {
+            self.put_among(class, key);
+        }
+    }
+
+    /// The same where no class is there.
+    #[inline(always)]
+    fn put_alone(&mut self, class: u32, key: Option<u128>)
+        requires class { HasPlace self.old class }
+        requires absent { is_in class (order_of self.old) ≡ false }
+        requires empty { length (order_of self.old) ≡ 0 }
+        ensures first { first_of self.new ≡ first_of self.old }
+        ensures keys { keys_of self.new ≡ slice_set (keys_of self.old) class key }
+        ensures order { order_of self.new ≡ with_class (keys_of self.new) (order_of self.old) class }
+    {
+        self.keys.set(class, key);
+        put_last(&mut self.order, class);
+    }
+
+    /// The same where any may be there.
+    #[inline(never)]
+    fn put_among(&mut self, class: u32, key: Option<u128>)
         requires class { HasPlace self.old class }
         requires absent { is_in class (order_of self.old) ≡ false }
         ensures first { first_of self.new ≡ first_of self.old }
@@ -129,9 +159,38 @@ impl Ranking {
         self.keys.set(class, key);
     }
 
+    /// Takes out a class that is there. The only one need not be found.
+    #[inline(always)]
+    fn take_out(&mut self, class: u32)
+        requires there { is_in class (order_of self.old) ≡ true }
+        ensures first { first_of self.new ≡ first_of self.old }
+        ensures keys { keys_of self.new ≡ keys_of self.old }
+        ensures order { order_of self.new ≡ without (order_of self.old) class }
+        ensures classes { (c : ℕ) → is_in c (order_of self.new) ≡ (if class == c then false else is_in c (order_of self.old)) }
+    {
+        if self.order.len() == 1 {
+            self.take_last(class);
+        } else {
+            self.take_among(class);
+        }
+    }
+
+    /// Takes out the only class that is there.
+    #[inline(always)]
+    fn take_last(&mut self, class: u32)
+        requires there { is_in class (order_of self.old) ≡ true }
+        requires alone { length (order_of self.old) ≡ 1 }
+        ensures first { first_of self.new ≡ first_of self.old }
+        ensures keys { keys_of self.new ≡ keys_of self.old }
+        ensures order { order_of self.new ≡ without (order_of self.old) class }
+        ensures classes { (c : ℕ) → is_in c (order_of self.new) ≡ (if class == c then false else is_in c (order_of self.old)) }
+    {
+        let _ = self.order.pop();
+    }
+
     /// Finds a class that is there, and takes it out.
     #[inline(never)]
-    fn take_out(&mut self, class: u32)
+    fn take_among(&mut self, class: u32)
         requires there { is_in class (order_of self.old) ≡ true }
         ensures first { first_of self.new ≡ first_of self.old }
         ensures keys { keys_of self.new ≡ keys_of self.old }

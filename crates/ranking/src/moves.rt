@@ -1,5 +1,5 @@
 //! Classes come to a place of a list, leave it, and go from one to another. Only those that have to move are moved.
-ghost use Rattle.std.specs.Prelude.{◌≡◌, ◌≤◌, ◌<◌, length};
+ghost use Rattle.std.specs.Prelude.{◌≡◌, ◌≤◌, ◌<◌, ◌++◌, ◌∷◌, [], length};
 ghost use Rattle.std.specs.Vec.{vec_len, vec_capacity};
 ghost use Rattle.std.specs.List.{insert, remove};
 
@@ -11,6 +11,16 @@ pub fn put_at(order: &mut Vec<u32>, place: usize, class: u32)
     ensures capacity { vec_capacity order.old ≤ vec_capacity order.new }
 {
     let _ = order.insert(place, class);
+}
+
+/// Puts a class in behind all others.
+#[inline(always)]
+pub fn put_last(order: &mut Vec<u32>, class: u32)
+    requires { vec_len order.old < vec_capacity order.old }
+    ensures items { order.new.items ≡ order.old.items ++ class ∷ [] }
+    ensures capacity { vec_capacity order.old ≤ vec_capacity order.new }
+{
+    let _ = order.push(class);
 }
 
 /// Takes out what stands at a place.

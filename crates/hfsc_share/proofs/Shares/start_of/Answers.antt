@@ -12,6 +12,6 @@ start_below-requires c = λ p e.
     omega arith
 
 pub returns : goal.returns
-returns c = λ a.
+returns c =
     let at = get_read c.args.self.now.nodes.items c.args.class c.index-node.result.now c.requires c.index-node.ensures in
     c.start_below.ensures ∙ ap (start_below c.args.self.now.nodes.items c.args.self.now.groups.items) (c.parent.ensures ∙ sym (ap parent_in at))

@@ -4,7 +4,7 @@ use Rattle.std.proofs.lemmas.List.{get_or-set_same}
 use Rattle.ranking.specs.Keys.{all_keys}
 use Rattle.ranking.specs.Order.{is_ranked, key_of, with_class}
 use Rattle.ranking.proofs.Kept.{put_before, put_in, put_ranked, put_below, put_room, set_length}
-use Rattle.ranking.proofs.Ranking.put.Goals as goal
+use Rattle.ranking.proofs.Ranking.put_among.Goals as goal
 
 pub place_of-place-requires-clause-ranked : goal.place_of-place-requires-clause-ranked
 place_of-place-requires-clause-ranked c =
