@@ -1,11 +1,11 @@
 // How far a capture is read by the loop itself, over two classes in strict order.
 ghost use Rattle.std.specs.Prelude.{◌≡◌, ◌≤◌, ◌^◌, ◌∷◌, [], codes, length, IfOk};
-ghost use Rattle.memory_files.specs.Memory.{memory_view};
+ghost use Rattle.memory_files.specs.Steady.{steady_view};
 ghost use Rattle.play_loop.specs.Played.{AreReady};
 
 use altq_model::{Placed, Rule};
 use leaf_queue::{Tail, Words};
-use memory_files::{Call, MemoryFiles};
+use memory_files::{Call, SteadyFiles};
 use plain_disciplines::{Classify, Discipline, Strict};
 use play_base::{Files, NoMemory};
 use play_files::create_outputs;
@@ -65,10 +65,10 @@ fn two_queues(alloc: Global) -> Result<Strict<Tail>, NoMemory>
 // Plays the opened capture through both on the slowest link.
 fn play_two(
     alloc: Global,
-    files: &mut MemoryFiles,
+    files: &mut SteadyFiles,
     opened: &Opened<'_>,
 ) -> Result<Totals, PlayFault>
-    requires ready { AreReady (memory_view files.old) opened.now }
+    requires ready { AreReady (steady_view files.old) opened.now }
 {
     let Ok(names) = two_names(alloc) else {
         return Err(PlayFault::NoMemory);
@@ -101,8 +101,8 @@ const NAMES: PlayWords<'static> = PlayWords {
 };
 
 // Opens the arrivals, and creates the outputs of a play.
-fn opened(files: &mut MemoryFiles) -> Result<Opened<'static>, Fail>
-    ensures { IfOk result (λ o. AreReady (memory_view files.new) o) }
+fn opened(files: &mut SteadyFiles) -> Result<Opened<'static>, Fail>
+    ensures { IfOk result (λ o. AreReady (steady_view files.new) o) }
 {
     let Ok(arrivals) = files.open(2, NAMES.arrivals) else {
         return Err(Fail::new("arrivals"));
@@ -137,18 +137,19 @@ fn add_late(capture: &mut Vec<u8>) -> Result<(), NoMemory> {
     Ok(())
 }
 
-// The files of this capture, of which a read moves one byte.
-fn late_files(alloc: Global) -> Result<MemoryFiles, NoMemory> {
+// The files of this capture, of which a read moves one byte, and a write seven.
+fn late_files(alloc: Global) -> Result<SteadyFiles, NoMemory> {
     let mut capture = Vec::new(alloc);
     add_late(&mut capture)?;
-    let mut files = MemoryFiles::new(alloc);
+    let mut files = SteadyFiles::new(alloc);
     files.put("in", &capture)?;
     files.chunk(1);
+    files.short_writes(7);
     Ok(files)
 }
 
 // How the play of these files ends.
-fn ended(alloc: Global, files: &mut MemoryFiles) -> Result<Option<PlayFault>, Fail> {
+fn ended(alloc: Global, files: &mut SteadyFiles) -> Result<Option<PlayFault>, Fail> {
     let opened = opened(files)?;
     Ok(play_two(alloc, files, &opened).err())
 }
