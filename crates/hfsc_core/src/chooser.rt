@@ -56,6 +56,7 @@ impl Chooser {
     }
 
     /// A packet of `len` bytes was kept at the moment `at` in a leaf, in which nothing waited where it was `empty`.
+    #[inline(always)]
     pub fn kept(&mut self, class: u32, at: u64, len: u32, empty: bool)
         requires { (h : HfscHistory) × MayKeep self.old h class at len empty }
         ensures stands { (h : HfscHistory) → MayKeep self.old h class at len empty → Stands self.new (Enqueued class at len ∷ h) }
@@ -72,6 +73,7 @@ impl Chooser {
     }
 
     /// The head of a leaf, of `len` bytes, was sent, by real time or else by share; `head` is the length of the next one.
+    #[inline(always)]
     pub fn sent(&mut self, class: u32, len: u32, real: bool, head: Option<u32>)
         requires { (h : HfscHistory) × MayLeave self.old h class len head }
         ensures stands { (h : HfscHistory) (start : ℕ) → MayLeave self.old h class len head → Stands self.new (Sent class len real start ∷ h) }

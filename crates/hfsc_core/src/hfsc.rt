@@ -149,6 +149,7 @@ impl<Q: QueueRule + Drop> Discipline for Hfsc<Q> {
         self.rows.room()
     }
 
+    #[inline(always)]
     fn offer(
         &mut self,
         ticket: Ticket,
@@ -169,11 +170,13 @@ impl<Q: QueueRule + Drop> Discipline for Hfsc<Q> {
         verdict
     }
 
+    #[inline(always)]
     fn next(&mut self, now: u64, _clock: &LinkClock) -> Pick {
         let chosen = self.chooser.chosen(now);
         pick_of(&self.rows, chosen)
     }
 
+    #[inline(always)]
     fn sent(&mut self, sending: Sending, _clock: &LinkClock) {
         self.rows.take(sending.class, sending.start);
         let real = is_real(sending.rule);

@@ -68,6 +68,7 @@ impl Shares {
     /// A packet was kept at the moment `at` in a leaf in which nothing waited. No earlier `wake` had a later `at`. What
     /// is claimed of histories is claimed while totals are at most 2^99 and virtual times at most 2^79. It takes a time
     /// that grows with the levels of the tree, and on each with the logarithm of the siblings, which it moves.
+    #[inline(always)]
     pub fn wake(&mut self, leaf: u32, at: u64)
         requires class { leaf < classes_of self.old }
         requires leaf { IsLeafAt self.old leaf }
