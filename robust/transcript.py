@@ -253,6 +253,8 @@ class Case:
             return None
         if words[0] == "each":
             return self.cuts(words[2:])
+        if words[0] == "steady":
+            return self.run(words[1:])
         if words[0] == "line":
             return self.with_line(line.removeprefix("$ line "))
         if words[0] == "cat":

@@ -2,9 +2,7 @@
 #![tactic(auto)]
 
 mod commands;
-mod laws;
 mod program;
 
 pub use command_base::Status;
-pub use laws::steady_files_meet_no_fault;
-pub use program::run;
+pub use program::{run, run_steady};

@@ -1,5 +1,6 @@
 // The one public call: from the words of the command line to a status.
-ghost use Rattle.std.specs.Prelude.{◌≡◌, ℕ, None, Some};
+ghost use Rattle.std.specs.Prelude.{◌≡◌, ◌≢◌, ℕ, None, Some};
+ghost use Rattle.memory_files.specs.Steady.{steady_view};
 ghost use Rattle.play_base.specs.View.{SameCounts, View};
 ghost use Rattle.play_words.specs.Words.{IsChain, IsCheck, IsMake, IsPlay, IsShares, IsVerify, count_of, refusal, seed_of};
 ghost use Rattle.command_base.specs.Names.{names_of};
@@ -19,6 +20,7 @@ use crate::commands::{
     run_chain, run_check, run_condition, run_make, run_play, run_shares, run_verify,
 };
 use command_base::{Failure, Status, told};
+use memory_files::SteadyFiles;
 use play_base::Files;
 use play_words::{Command, Unread, read_words};
 use std::alloc::Global;
@@ -89,4 +91,37 @@ pub fn run<F: Files>(alloc: Global, words: &[String], files: &mut F) -> Status
         Err(Unread::Refused(fault)) => told(alloc, files, Err(Failure::Words(fault))),
         Err(Unread::NoMemory) => told(alloc, files, Err(Failure::NoMemory)),
     }
+}
+
+/// Over files that never fail no fault of reading or writing is answered; what is playable is done, and what can be checked, where there
+/// is memory.
+pub fn run_steady(alloc: Global, words: &[String], files: &mut SteadyFiles) -> Status
+    ensures refused { (kind : ℕ) → refusal words.now ≡ Some kind →
+        Ends (IsRefused (steady_view files.old) (steady_view files.new) kind) (steady_view files.old) (steady_view files.new) result }
+    ensures words { result.code ≡ 2 → refusal words.now ≡ Some result.kind }
+    ensures plays { refusal words.now ≡ None → IsPlay words.now → (seed : ℕ) → seed_of words.now ≡ Some seed →
+        Ends (PlayEnds (steady_view files.old) (steady_view files.new) (names_of words.now) seed) (steady_view files.old) (steady_view files.new) result }
+    ensures measures { refusal words.now ≡ None → IsShares words.now → (seed : ℕ) → seed_of words.now ≡ Some seed →
+        Ends (SharesEnds (steady_view files.old) (steady_view files.new) (names_of words.now) seed)
+        (steady_view files.old) (steady_view files.new) result }
+    ensures checks { refusal words.now ≡ None → IsCheck words.now →
+        Ends (CheckEnds (steady_view files.old) (steady_view files.new) (names_of words.now).config (names_of words.now).interface)
+        (steady_view files.old) (steady_view files.new) result }
+    ensures makes { refusal words.now ≡ None → IsMake words.now → (seed count : ℕ) → seed_of words.now ≡ Some seed →
+        count_of words.now ≡ Some count →
+        Ends (MakeEnds (steady_view files.old) (steady_view files.new) (names_of words.now) seed count)
+        (steady_view files.old) (steady_view files.new) result }
+    ensures verifies { refusal words.now ≡ None → IsVerify words.now →
+        Ends (VerifyEnds (steady_view files.old) (steady_view files.new) (inputs_named words.now))
+        (steady_view files.old) (steady_view files.new) result }
+    ensures chains { refusal words.now ≡ None → IsChain words.now → (seed : ℕ) → seed_of words.now ≡ Some seed →
+        Ends (ChainEnds (steady_view files.old) (steady_view files.new) (links_of words.now) seed)
+        (steady_view files.old) (steady_view files.new) result }
+    ensures conditions { refusal words.now ≡ None → IsCondition words.now →
+        Ends (ConditionEnds (steady_view files.old) (steady_view files.new) (mark_names words.now))
+        (steady_view files.old) (steady_view files.new) result }
+    ensures read { result.code ≢ 5 }
+    ensures write { result.code ≢ 6 }
+{
+    run(alloc, words, files)
 }

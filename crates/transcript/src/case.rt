@@ -4,14 +4,14 @@ use crate::averages::average;
 use crate::calls::{add_flow_of, of_curve};
 use crate::capture::{Form, arrive, begin};
 use crate::changes::{How, change};
-use crate::command::{add_status, run_over};
+use crate::command::{add_status, run_over, run_steady_over};
 use crate::moments::next_at;
 use crate::packet::word;
 use crate::records::add_records;
 use crate::texts::{add_lines, add_text};
-use crate::trials::Each;
+use crate::trials::{Each, OUTPUTS};
 use crate::words::number;
-use memory_files::{Call, MemoryFiles};
+use memory_files::{Call, MemoryFiles, SteadyFiles};
 use std::alloc::Global;
 
 /// What was said since the case began, and the files of its runs.
@@ -110,6 +110,7 @@ impl Case {
             "average" => add_number(answer, average(rest)),
             "next" => self.next(rest, answer),
             "each" => self.each(rest, answer),
+            "steady" => self.steady(rest, answer),
             _ => self.run(words, answer),
         }
     }
@@ -250,6 +251,33 @@ impl Case {
             return None;
         }
         self.tell_runs(Each::Fails(call_of(what)?), command, answer)
+    }
+
+    // Runs a command over files that never fail, and keeps what it wrote.
+    fn steady(&mut self, command: &[&str], answer: &mut String) -> Option<()> {
+        let mut files = SteadyFiles::new(self.alloc);
+        self.run_steadily(&mut files, command, answer)
+    }
+
+    fn run_steadily(
+        &mut self,
+        files: &mut SteadyFiles,
+        command: &[&str],
+        answer: &mut String,
+    ) -> Option<()> {
+        let (read, write) = self.pieces;
+        files.chunk(read.max(1));
+        files.short_writes(write.max(1));
+        files.put("conf", self.config.as_bytes()).ok()?;
+        files.put("in", &self.capture).ok()?;
+        let status = run_steady_over(self.alloc, files, command)?;
+        for name in &OUTPUTS {
+            self.files
+                .put(name, files.get(name).unwrap_or_default())
+                .ok()?;
+        }
+        add_text(answer, Some(files.said()))?;
+        add_status(answer, status)
     }
 }
 

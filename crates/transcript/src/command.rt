@@ -1,8 +1,8 @@
 // Commands over files in memory.
 
-use memory_files::MemoryFiles;
+use memory_files::{MemoryFiles, SteadyFiles};
 use play_base::NoMemory;
-use play_cli::{Status, run};
+use play_cli::{Status, run, run_steady};
 use std::alloc::Global;
 
 // The usual options of a command.
@@ -32,6 +32,12 @@ pub fn run_over(
     files.put("in", capture).ok()?;
     let words = whole_words(alloc, command).ok()?;
     Some(run(alloc, &words, files))
+}
+
+/// Runs a command over files that never fail.
+pub fn run_steady_over(alloc: Global, files: &mut SteadyFiles, command: &[&str]) -> Option<Status> {
+    let words = whole_words(alloc, command).ok()?;
+    Some(run_steady(alloc, &words, files))
 }
 
 /// Adds how a command ended. Only of a chain its status tells the link.

@@ -12,8 +12,8 @@ pub enum Each {
     Fails(Call),
 }
 
-// What a play writes.
-const OUTPUTS: [&str; 3] = ["out", "fates", "stats"];
+/// What a play writes.
+pub const OUTPUTS: [&str; 3] = ["out", "fates", "stats"];
 
 impl Case {
     /// Tells how the runs of a command end: each run that ends otherwise than the one before it.
