@@ -10,6 +10,7 @@ ghost use Rattle.play_base.specs.Units.{units, ceil_div};
 ghost use Rattle.altq_model.specs.Link.{after_sending, end_of, idle_link};
 ghost use Rattle.link_clock.specs.Clock.{Clock, IsRunning};
 
+use quotients::{inverse, quotient};
 use std::marker::Model;
 
 /// The units of a byte: a rate of R bits per second carries R·t units in t nanoseconds.
@@ -20,6 +21,8 @@ const BYTE: u128 = 8_000_000_000;
 #[derive(Drop)]
 pub struct LinkClock {
     rate: u64,
+    // Quotients by the rate are guessed by it.
+    inverse: u64,
     free: u64,
     run: u64,
     sent: u128,
@@ -36,8 +39,10 @@ impl Model for LinkClock {
     ghost invariant = { λ c. IsRunning c.rate c.free c.run c.sent };
 }
 
-// The end of a run that began at `run`, with `sent` units up to it. Most runs are short enough for a division of 64 bits, which is cheaper.
-fn run_end(rate: u64, run: u64, sent: u128) -> u64
+// The end of a run that began at `run`, with `sent` units up to it. Most runs are short enough for a quotient of 64 bits, which a product
+// guesses.
+#[inline(always)]
+fn run_end(rate: u64, inverse: u64, run: u64, sent: u128) -> u64
     requires rate { 0 < rate }
     requires fits { run + ceil_div sent rate < 2 ^ 64 }
     requires small { sent + rate < 2 ^ 128 }
@@ -45,7 +50,7 @@ fn run_end(rate: u64, run: u64, sent: u128) -> u64
 {
     let amount = sent + u128::from(rate - 1);
     let time = if amount <= u128::from(u64::MAX) {
-        amount as u64 / rate
+        quotient(amount as u64, rate, inverse)
     } else {
         (amount / u128::from(rate)) as u64
     };
@@ -61,6 +66,7 @@ impl LinkClock {
     {
         LinkClock {
             rate,
+            inverse: inverse(rate),
             free: 0,
             run: 0,
             sent: 0,
@@ -75,7 +81,7 @@ impl LinkClock {
     }
 
     /// The end, in nanoseconds, of a packet of `len` bytes that starts at `now`: no earlier than the last end, and no later
-    /// than 2^63. One division; takes no memory.
+    /// than 2^63. One division where a run is longer than 2^64 units or the guess fails; takes no memory.
     pub fn end_of(&self, now: u64, len: u32) -> u64
         requires free { self.now.link.free ≤ now }
         requires early { now ≤ 2 ^ 63 }
@@ -84,9 +90,9 @@ impl LinkClock {
     {
         let more = u128::from(len) * BYTE;
         if now == self.free {
-            run_end(self.rate, self.run, self.sent + more)
+            run_end(self.rate, self.inverse, self.run, self.sent + more)
         } else {
-            run_end(self.rate, now, more)
+            run_end(self.rate, self.inverse, now, more)
         }
     }
 

@@ -15,7 +15,8 @@ ghost use Rattle.service_curve.specs.Moment.{IsFirst};
 mod inverses;
 
 pub use inverses::Inverses;
-use inverses::{inverse, time_at};
+use inverses::time_at;
+use quotients::inverse;
 
 /// A service curve of two pieces: the slope `m1` for a time of `d`, and from there on the slope `m2`.
 ///
