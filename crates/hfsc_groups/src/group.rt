@@ -88,9 +88,9 @@ impl Group {
     /// Puts a child anew into its lists, with its virtual time, not less than before, and the moment from which it opens.
     /// `was` and `is` say whether it was active, and is now. It takes the logarithm of the active children, which it moves.
     #[inline(always)]
-    pub fn replace(&mut self, class: u32, was: bool, is: bool, time: u128, opens: Option<u128>)
+    pub fn replace(&mut self, class: u32, was: bool, is: bool, time: u128, opens: &Option<u128>)
         requires { MayChange class was self.old }
-        ensures { IsChanged class is time opens self.old self.new }
+        ensures { IsChanged class is time opens.now self.old self.new }
     {
         self.moments.delay(class, was, is, opens);
         self.times.replace(class, was, is, Some(time));

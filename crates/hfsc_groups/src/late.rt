@@ -40,13 +40,13 @@ impl Late {
 
     /// Whether no child ever opened late, nor does one that opens from this moment.
     #[inline(always)]
-    fn stays_calm(&self, opens: Option<u128>) -> bool
-        ensures { result ≡ true → StaysCalm opens self.now.ranking }
+    fn stays_calm(&self, opens: &Option<u128>) -> bool
+        ensures { result ≡ true → StaysCalm opens.now self.now.ranking }
     {
         if !self.calm {
             return false;
         }
-        !is_late(opens)
+        !is_late(*opens)
     }
 
     /// How many children open late.
@@ -73,14 +73,14 @@ impl Late {
     /// Puts a child anew into the list, where those that open at once do not stand; `was` and `is` say whether it was active, and
     /// is now.
     #[inline(always)]
-    pub fn delay(&mut self, class: u32, was: bool, is: bool, opens: Option<u128>)
+    pub fn delay(&mut self, class: u32, was: bool, is: bool, opens: &Option<u128>)
         requires { MayDelay class was self.old }
-        ensures { IsDelayed class is opens self.old self.new }
+        ensures { IsDelayed class is opens.now self.old self.new }
     {
         if self.stays_calm(opens) {
             return;
         }
         self.calm = false;
-        delay_in(&mut self.ranking, class, was, is, opens);
+        delay_in(&mut self.ranking, class, was, is, *opens);
     }
 }

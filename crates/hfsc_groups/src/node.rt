@@ -26,13 +26,14 @@ const MOST_TIME: u128 = 1 << 79;
 /// a path that is open up to it.
 #[derive(Clone, Copy)]
 pub struct Node {
+    // What each sending reads and writes stands together.
     parent: Option<u32>,
-    share: Option<Running>,
-    limit: Option<Running>,
-    total: u128,
     active: bool,
     time: u128,
+    total: u128,
     opens: Option<u128>,
+    share: Option<Running>,
+    limit: Option<Running>,
     ghost total_small: { total ≤ 2 ^ 99 },
     ghost time_small: { time ≤ 2 ^ 79 },
     ghost share_by: { IsBy time share },
@@ -53,12 +54,12 @@ impl Node {
     {
         Node {
             parent: class.parent,
-            share: running_of(share_of(class)),
-            limit: running_of(class.limit),
-            total: 0,
             active: false,
             time: 0,
+            total: 0,
             opens: None,
+            share: running_of(share_of(class)),
+            limit: running_of(class.limit),
         }
     }
 
@@ -172,6 +173,13 @@ impl Node {
         ensures { result ≡ self.now.opens }
     {
         self.opens
+    }
+
+    /// The same where it is kept: where it has come, nothing else is read of it.
+    pub fn opening(&self) -> &Option<u128>
+        ensures { result.now ≡ self.now.opens }
+    {
+        &self.opens
     }
 }
 

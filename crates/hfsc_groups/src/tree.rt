@@ -19,7 +19,7 @@ pub fn rank(groups: &mut Vec<Group>, class: u32, was: bool, node: &Node)
     ensures { AreRanked class node.now groups.old.items groups.new.items }
 {
     if let Some(parent) = node.parent() {
-        groups[parent as usize].replace(class, was, node.is_active(), node.time(), node.opens());
+        groups[parent as usize].replace(class, was, node.is_active(), node.time(), node.opening());
     }
 }
 

@@ -23,6 +23,6 @@ returns-in-Some c = record {
       changed = c.replace.new.self;
       at = get_read c.args.groups.now.items c.in-Some.parent c.index_mut.result.now (c.requires.low c.in-Some.parent of) c.index_mut.ensures.value;
       set = refl;
-      change = is_changed c.args.class c.is_active.result c.time.result c.opens.result c.args.node.now c.index_mut.result.now c.replace.new.self
-          c.is_active.ensures c.time.ensures.is c.opens.ensures c.replace.ensures;
+      change = is_changed c.args.class c.is_active.result c.time.result c.opening.result.now c.args.node.now c.index_mut.result.now c.replace.new.self
+          c.is_active.ensures c.time.ensures.is c.opening.ensures c.replace.ensures;
     }

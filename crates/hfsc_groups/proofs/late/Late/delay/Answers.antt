@@ -3,7 +3,7 @@ use Rattle.hfsc_groups.proofs.Calm.{calm_stays}
 use Rattle.hfsc_groups.proofs.late.Late.delay.Goals as goal
 
 pub returns-then-stays_calm : goal.returns-then-stays_calm
-returns-then-stays_calm c = calm_stays c.args.self.now c.args.class c.args.is c.args.opens c.requires.place (c.stays_calm.ensures c.if-stays_calm.true)
+returns-then-stays_calm c = calm_stays c.args.self.now c.args.class c.args.is c.args.opens.now c.requires.place (c.stays_calm.ensures c.if-stays_calm.true)
 
 pub delay_in-requires : goal.delay_in-requires
 delay_in-requires c = record { place = c.requires.place; there = c.requires.there }
