@@ -1,5 +1,5 @@
 // Bytes in pieces.
-ghost use Rattle.std.specs.Prelude.{◌≡◌, ◌≤◌, ◌<◌, ◌+◌, ◌^◌, ◌++◌, [], List, ℕ, length, IsSome, OnOk, OnErr, IsErrOf, max, vec_len};
+ghost use Rattle.std.specs.Prelude.{◌≡◌, ◌≤◌, ◌<◌, ◌+◌, ◌^◌, ◌++◌, ◌↔◌, [], List, ℕ, length, IsSome, IsTrue, OnOk, OnErr, IsErrOf, max, vec_len};
 ghost use Rattle.play_base.specs.View.{SameCounts, Wrote, WroteFront, WriteFault};
 ghost use Rattle.gathered_writes.specs.Gathered.{Grew, Stopped};
 
@@ -67,41 +67,20 @@ fn gather_anew<F: Files>(
     }
 }
 
-// Adds a head and the bytes behind it as two calls of `gather` do, with one test of the bound where both find room.
+// Whether so many more bytes can be gathered without a write.
 #[inline(always)]
-#[tactic(auto, using(play_base::proofs::ViewLaws::same_trans, play_base::proofs::ViewLaws::same_refl))]
-pub(crate) fn gather_both<F: Files>(
-    files: &mut F,
-    file: u32,
-    pending: &mut Vec<u8>,
-    head: &[u8],
-    bytes: &[u8],
-) -> Result<(), Trouble>
-    requires there { IsSome ((F.view files.old).part file) }
-    requires short { length head.now + length bytes.now < 2 ^ 63 }
-    ensures grew { OnOk result (Grew (F.view files.old) (F.view files.new) file pending.old.items pending.new.items (head.now ++ bytes.now)) }
-    ensures bounded { OnOk result (vec_len pending.new ≤ max (vec_len pending.old) 65536) }
-    ensures no_fault { OnOk result (SameCounts (F.view files.old) (F.view files.new)) }
-    ensures stopped { OnErr result (Stopped (F.view files.old) (F.view files.new) file pending.old.items (head.now ++ bytes.now)) }
-    ensures failed { IsErrOf result Trouble.Failed → WriteFault (F.view files.old) (F.view files.new) file }
+pub(crate) fn fits(pending: &Vec<u8>, more: usize) -> bool
+    requires { more < 2 ^ 63 }
+    ensures { IsTrue result ↔ (vec_len pending.now + more ≤ 65536) }
 {
-    if pending.len() + head.len() + bytes.len() > BOUND {
-        return gather_each(files, file, pending, head, bytes);
-    }
-    if pending.extend_from_slice(head).is_err() {
-        return Err(Trouble::NoMemory);
-    }
-    match pending.extend_from_slice(bytes) {
-        Ok(()) => Ok(()),
-        Err(_) => Err(Trouble::NoMemory),
-    }
+    pending.len() + more <= BOUND
 }
 
 // Adds a head, and then the bytes behind it.
 #[cold]
 #[inline(never)]
 #[tactic(auto, using(play_base::proofs::ViewLaws::same_trans, play_base::proofs::ViewLaws::same_refl))]
-fn gather_each<F: Files>(
+pub(crate) fn gather_each<F: Files>(
     files: &mut F,
     file: u32,
     pending: &mut Vec<u8>,

@@ -1,12 +1,15 @@
 // Records of a capture, in pieces.
-ghost use Rattle.std.specs.Prelude.{◌≤◌, ◌<◌, ◌*◌, ◌^◌, length, IsSome, OnOk, OnErr, IsErrOf};
+ghost use Rattle.std.specs.Prelude.{◌≡◌, ◌≤◌, ◌<◌, ◌*◌, ◌^◌, ◌++◌, length, IsSome, OnOk, OnErr, IsErrOf};
 ghost use Rattle.capture_model.specs.Written.{record_text};
 ghost use Rattle.play_base.specs.View.{SameCounts, WriteFault};
 ghost use Rattle.gathered_writes.specs.Gathered.{Grew, Stopped};
 
-use crate::gathered::gather_both;
-use pcap_files::record_head;
-use play_base::{Files, Trouble};
+use crate::gathered::{fits, gather_each};
+use pcap_files::{put_record_head, record_head};
+use play_base::{Files, NoMemory, Trouble};
+
+/// The bytes of a record's header.
+const RECORD_HEAD: usize = 16;
 
 /// Adds a record to the bytes that are gathered for a file: its header, with its stamp in nanoseconds, how many bytes it has and the
 /// length on the link, and then these bytes. After an error a front of all of it was written.
@@ -30,9 +33,29 @@ pub fn gather_record<F: Files>(
         (record_text (record { stamp = stamp; captured = bytes.now; original = len }))) }
     ensures failed { IsErrOf result Trouble.Failed → WriteFault (F.view files.old) (F.view files.new) file }
 {
-    let head = record_head(stamp, bytes.len() as u32, len);
-    match gather_both(files, file, pending, &head, bytes) {
-        Ok(()) => Ok(()),
-        Err(trouble) => Err(trouble),
+    if !fits(pending, RECORD_HEAD + bytes.len()) {
+        let head = record_head(stamp, bytes.len() as u32, len);
+        return match gather_each(files, file, pending, &head, bytes) {
+            Ok(()) => Ok(()),
+            Err(trouble) => Err(trouble),
+        };
     }
+    match add_record(pending, stamp, bytes, len) {
+        Ok(()) => Ok(()),
+        Err(_) => Err(Trouble::NoMemory),
+    }
+}
+
+// Adds a record to bytes. Its header is written in place: to copy it right after its four parts were written would wait for them.
+#[inline(always)]
+fn add_record(pending: &mut Vec<u8>, stamp: u64, bytes: &[u8], len: u32) -> Result<(), NoMemory>
+    requires early { stamp < 2 ^ 32 * 10 ^ 9 }
+    requires within { length bytes.now ≤ len }
+    ensures added { OnOk result (pending.new.items ≡ pending.old.items ++ record_text (record { stamp = stamp; captured = bytes.now; original = len })) }
+{
+    let from = pending.len();
+    pending.extend_from_slice(&[0; RECORD_HEAD])?;
+    put_record_head(&mut pending[from..], stamp, bytes.len() as u32, len);
+    pending.extend_from_slice(bytes)?;
+    Ok(())
 }

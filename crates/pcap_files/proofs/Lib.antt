@@ -1,3 +1,4 @@
+pub mod PieceLemmas
 pub mod PlaceLemmas
 pub mod ReaderLemmas
 pub mod ReadingLaws

@@ -1,6 +1,6 @@
 // Bytes that are taken from a file in pieces, ahead of their use.
-ghost use Rattle.std.specs.Prelude.{◌≡◌, ◌≤◌, ◌<◌, ◌+◌, ◌⊎◌, ◌^◌, ◌++◌, [], max, length, drop, vec_len, IsSome, IfOk, OnOk, OnErr, IsErrOf};
-ghost use Rattle.play_base.specs.View.{ReadFault, SameCounts, IsAtEnd};
+ghost use Rattle.std.specs.Prelude.{◌≡◌, ◌≤◌, ◌<◌, ◌+◌, ◌-◌, ◌⊎◌, ◌^◌, max, length, drop, take, vec_len, IsSome, IfOk, OnOk, OnErr, IsErrOf};
+ghost use Rattle.play_base.specs.View.{ReadFault, SameCounts, IsAtEnd, Took, Unchanged};
 ghost use Rattle.pcap_files.specs.Ahead.{TookFewer, TookSome, TookInto};
 
 use play_base::{Files, NoMemory, Trouble};
@@ -13,23 +13,24 @@ const PIECE: usize = 65_536;
 /// The bytes that were taken and not passed yet, which contracts see as their list.
 #[derive(Drop)]
 pub struct Ahead {
+    // They stand between the two places; what stands behind them is room for the next piece.
     buffer: Vec<u8>,
     from: usize,
-    piece: Vec<u8>,
+    to: usize,
 }
 
 impl Model for Ahead {
-    ghost use Rattle.std.specs.Prelude.{ℕ, List, ◌≡◌, ◌≤◌, drop, vec_len};
+    ghost use Rattle.std.specs.Prelude.{ℕ, List, ◌≤◌, drop, take, vec_len};
 
     ghost Value = { List ℕ };
 
-    ghost view = { λ a. drop a.from a.buffer.items };
+    ghost view = { λ a. drop a.from (take a.to a.buffer.items) };
 
-    ghost invariant = { λ a. (a.from ≤ vec_len a.buffer) × (vec_len a.piece ≡ 65536) };
+    ghost invariant = { λ a. (a.from ≤ a.to) × (a.to ≤ vec_len a.buffer) };
 }
 
 impl Ahead {
-    // Room for one piece, and these bytes, which were taken before.
+    // These bytes, which were taken before.
     pub fn new(alloc: Global, first: &[u8]) -> Result<Ahead, NoMemory>
         ensures first { IfOk result (λ ahead. ahead ≡ first.now) }
     {
@@ -37,21 +38,19 @@ impl Ahead {
         if buffer.extend_from_slice(first).is_err() {
             return Err(NoMemory);
         }
-        match Vec::from_elem(alloc, 0u8, PIECE) {
-            Ok(piece) => Ok(Ahead {
-                buffer,
-                from: 0,
-                piece,
-            }),
-            Err(_) => Err(NoMemory),
-        }
+        let to = buffer.len();
+        Ok(Ahead {
+            buffer,
+            from: 0,
+            to,
+        })
     }
 
     // The bytes in order.
     pub fn as_slice(&self) -> &[u8]
         ensures { result.now ≡ self.now }
     {
-        &self.buffer[self.from..]
+        &self.buffer[self.from..self.to]
     }
 
     // Leaves out the first bytes.
@@ -78,7 +77,7 @@ impl Ahead {
         ensures stopped { IsErrOf result Trouble.Failed → TookFewer need (F.view files.old) (F.view files.new) file self.old self.new }
         ensures idle { need ≤ length self.old → (F.view files.new ≡ F.view files.old) × (self.new ≡ self.old) }
     {
-        if self.buffer.len() - self.from >= need {
+        if self.to - self.from >= need {
             return Ok(());
         }
         self.refill(files, file, need)
@@ -96,57 +95,97 @@ impl Ahead {
         ensures failed { IsErrOf result Trouble.Failed → ReadFault (F.view files.old) (F.view files.new) file }
         ensures stopped { IsErrOf result Trouble.Failed → TookFewer need (F.view files.old) (F.view files.new) file self.old self.new }
     {
-        drop_front(&mut self.buffer, self.from);
+        move_to_front(&mut self.buffer, self.from, self.to);
+        self.to -= self.from;
         self.from = 0;
-        match take_pieces(files, file, &mut self.buffer, &mut self.piece, need) {
+        match take_pieces(files, file, &mut self.buffer, &mut self.to, need) {
             Ok(()) => Ok(()),
             Err(trouble) => Err(trouble),
         }
     }
 }
 
-// Drops the first `count` bytes: those behind them move to the front.
-fn drop_front(buffer: &mut Vec<u8>, count: usize)
-    requires { count ≤ vec_len buffer.old }
-    ensures { buffer.new.items ≡ drop count buffer.old.items }
+// Moves the bytes between the two places to the front.
+fn move_to_front(buffer: &mut Vec<u8>, from: usize, to: usize)
+    requires order { from ≤ to }
+    requires within { to ≤ vec_len buffer.old }
+    ensures moved { take (to - from) buffer.new.items ≡ drop from (take to buffer.old.items) }
+    ensures long { vec_len buffer.new ≡ vec_len buffer.old }
 {
-    let kept = buffer.len() - count;
-    buffer.copy_within(count.., 0);
-    buffer.truncate(kept);
+    buffer.copy_within(from..to, 0);
 }
 
-// Reads pieces into the buffer until it has `need` bytes, or the file is at its end.
+// Reads pieces to the place `to` of the buffer until `need` bytes stand before it, or the file is at its end.
 fn take_pieces<F: Files>(
     files: &mut F,
     file: u32,
     buffer: &mut Vec<u8>,
-    piece: &mut [u8],
+    to: &mut usize,
     need: usize,
 ) -> Result<(), Trouble>
     requires there { IsSome ((F.view files.old).part file) }
     requires small { need < 2 ^ 40 }
-    requires room { length piece.old ≡ 65536 }
-    ensures took { OnOk result (TookInto (F.view files.old) (F.view files.new) file buffer.old.items buffer.new.items) }
+    requires within { to.old ≤ vec_len buffer.old }
+    ensures within { to.new ≤ vec_len buffer.new }
+    ensures took { OnOk result (TookInto (F.view files.old) (F.view files.new) file (take to.old buffer.old.items) (take to.new buffer.new.items)) }
     ensures counts { OnOk result (SameCounts (F.view files.old) (F.view files.new)) }
-    ensures enough { OnOk result ((need ≤ vec_len buffer.new) ⊎ IsAtEnd (F.view files.new) file) }
-    ensures bounded { OnOk result (vec_len buffer.new ≤ max (vec_len buffer.old) (need + 65535)) }
+    ensures enough { OnOk result ((need ≤ to.new) ⊎ IsAtEnd (F.view files.new) file) }
+    ensures bounded { OnOk result (to.new ≤ max to.old (need + 65535)) }
     ensures some { OnErr result (TookSome (F.view files.old) (F.view files.new) file) }
     ensures failed { IsErrOf result Trouble.Failed → ReadFault (F.view files.old) (F.view files.new) file }
     ensures stopped { IsErrOf result Trouble.Failed →
-        TookFewer need (F.view files.old) (F.view files.new) file buffer.old.items buffer.new.items }
-    ensures room { length piece.new ≡ length piece.old }
+        TookFewer need (F.view files.old) (F.view files.new) file (take to.old buffer.old.items) (take to.new buffer.new.items) }
 {
-    while buffer.len() < need {
-        let count = match files.read(file, piece) {
+    while *to < need {
+        let count = match read_piece(files, file, buffer, *to) {
             Ok(count) => count,
             Err(trouble) => return Err(trouble),
         };
         if count == 0 {
             return Ok(());
         }
-        if buffer.extend_from_slice(&piece[..count]).is_err() {
-            return Err(Trouble::NoMemory);
-        }
+        *to += count;
+    }
+    Ok(())
+}
+
+// Reads one piece to the place `to`, and says how many bytes it has. What stands before it stays.
+fn read_piece<F: Files>(
+    files: &mut F,
+    file: u32,
+    buffer: &mut Vec<u8>,
+    to: usize,
+) -> Result<usize, Trouble>
+    requires there { IsSome ((F.view files.old).part file) }
+    requires small { to < 2 ^ 40 }
+    requires within { to ≤ vec_len buffer.old }
+    ensures within { to ≤ vec_len buffer.new }
+    ensures stays { take to buffer.new.items ≡ take to buffer.old.items }
+    ensures count { IfOk result (λ n. (n ≤ 65536) × (to + n ≤ vec_len buffer.new)) }
+    ensures took { IfOk result (λ n. Took (F.view files.old) (F.view files.new) file (take n (drop to buffer.new.items))) }
+    ensures counts { OnOk result (SameCounts (F.view files.old) (F.view files.new)) }
+    ensures end { IfOk result (λ n. n ≡ 0 → IsAtEnd (F.view files.new) file) }
+    ensures refused { OnErr result (Unchanged (F.view files.old) (F.view files.new)) }
+    ensures failed { IsErrOf result Trouble.Failed → ReadFault (F.view files.old) (F.view files.new) file }
+{
+    if make_room(buffer, to + PIECE).is_err() {
+        return Err(Trouble::NoMemory);
+    }
+    match files.read(file, &mut buffer[to..to + PIECE]) {
+        Ok(count) => Ok(count),
+        Err(trouble) => Err(trouble),
+    }
+}
+
+// Lets the buffer have at least so many bytes. Those that it has stay.
+fn make_room(buffer: &mut Vec<u8>, count: usize) -> Result<(), NoMemory>
+    requires { count < 2 ^ 41 }
+    ensures room { OnOk result (count ≤ vec_len buffer.new) }
+    ensures kept { take (vec_len buffer.old) buffer.new.items ≡ buffer.old.items }
+    ensures long { vec_len buffer.old ≤ vec_len buffer.new }
+{
+    if buffer.len() < count && buffer.resize(count, 0).is_err() {
+        return Err(NoMemory);
     }
     Ok(())
 }

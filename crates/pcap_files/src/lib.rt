@@ -21,4 +21,4 @@ pub use progress::Progress;
 pub use reader::Reader;
 pub use record::Record;
 pub use stand::{Stand, stand_at};
-pub use writing::{head_bytes, record_head};
+pub use writing::{head_bytes, put_record_head, record_head};

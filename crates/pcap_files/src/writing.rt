@@ -1,5 +1,5 @@
 // The headers that a capture is written with.
-ghost use Rattle.std.specs.Prelude.{◌≡◌, ◌<◌, ◌*◌, ◌^◌};
+ghost use Rattle.std.specs.Prelude.{◌≡◌, ◌≤◌, ◌<◌, ◌*◌, ◌^◌, ◌++◌, drop, length};
 ghost use Rattle.capture_model.specs.Header.{capture_header, record_header};
 
 use byteorder::{ByteOrder, LittleEndian};
@@ -20,9 +20,19 @@ pub fn record_head(end: u64, captured: u32, len: u32) -> [u8; 16]
     ensures { result ≡ record_header end captured len }
 {
     let mut head = [0; 16];
-    LittleEndian::write_u32(&mut head, (end / 1_000_000_000) as u32);
+    put_record_head(&mut head, end, captured, len);
+    head
+}
+
+/// Writes the same over the first 16 bytes. What stands behind them stays.
+#[inline(always)]
+pub fn put_record_head(head: &mut [u8], end: u64, captured: u32, len: u32)
+    requires early { end < 2 ^ 32 * 10 ^ 9 }
+    requires room { 16 ≤ length head.old }
+    ensures { head.new ≡ record_header end captured len ++ drop 16 head.old }
+{
+    LittleEndian::write_u32(head, (end / 1_000_000_000) as u32);
     LittleEndian::write_u32(&mut head[4..], (end % 1_000_000_000) as u32);
     LittleEndian::write_u32(&mut head[8..], captured);
     LittleEndian::write_u32(&mut head[12..], len);
-    head
 }
