@@ -117,6 +117,7 @@ impl<Q: QueueRule + Drop> Rows<Q> {
 
     /// Offers a packet to the queue of a queue class, and puts it at the end of its list if it is kept. It is dropped as `Full`
     /// exactly where the queue is at its limit. Takes no memory.
+    #[inline(always)]
     pub fn offer(&mut self, class: u32, entry: Entry, now: u64, words: &mut Words) -> Verdict
         requires class { IsOneOf class (classes_in self.old) }
         requires prec { entry.prec ≤ 2 }

@@ -47,6 +47,7 @@ impl QueueRule for AnyQueue {
         }
     }
 
+    #[inline(always)]
     fn offer(&mut self, now: u64, waiting: Waiting, prec: u8, words: &mut Words) -> Verdict {
         match self {
             AnyQueue::Tail(tail) => tail.offer(now, waiting, prec, words),
