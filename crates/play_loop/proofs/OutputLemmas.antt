@@ -3,8 +3,6 @@ use Rattle.std.proofs.Common.{◌≡◌, ◌++◌, ◌∙◌, ℕ, List, [], ref
 use Rattle.std.proofs.lemmas.List.{append-nil}
 use Rattle.std.specs.Prelude.{IsSome}
 use Rattle.std.specs.declared.option.Option.{Option}
-use Rattle.std.specs.declared.alloc.Global.{Global}
-use Rattle.std.specs.declared.vec.Vec.{Vec}
 use Rattle.capture_model.specs.Header.{capture_header}
 use Rattle.play_base.specs.View.{View, Any, Keeps, Wrote, WroteFront}
 use Rattle.play_base.proofs.HoldsLaws.{apart_kept, apart_sym}
@@ -13,6 +11,7 @@ use Rattle.gathered_writes.specs.Gathered.{Grew, Stopped}
 use Rattle.gathered_writes.proofs.GatheredLaws.{text_grew, text_stopped, text_beside, text_front, text_kept, text_of_held, text_same, front_longer, front_same}
 use Rattle.gathered_writes.proofs.GatherLemmas.{grew_whole, stopped_at_front, stopped_whole}
 use Rattle.play_loop.specs.declared.outputs.Outputs.{Outputs}
+use Rattle.play_loop.specs.declared.spare.Spare.{Spare}
 use Rattle.play_loop.specs.Outputs.{TextsAre, FrontsAre, SameFiles}
 use Rattle.play_loop.specs.Played.{AreEmpty}
 
@@ -84,7 +83,7 @@ pub same_trans : {a b c : Outputs} → SameFiles a b → SameFiles b c → SameF
 same_trans x y = record { departures = y.departures ∙ x.departures; fates = y.fates ∙ x.fates }
 
 -- whatever memory is left to the next packet read
-pub same_spare : {a b : Outputs} {spare : Vec ℕ Global} → SameFiles a b → SameFiles a (record b { spare = spare })
+pub same_spare : {a b : Outputs} {spare : Spare} → SameFiles a b → SameFiles a (record b { spare = spare })
 same_spare x = record { departures = x.departures; fates = x.fates }
 
 pub fronts_files : {v : View} {dep fat dep' fat' : ℕ} {ds ts : List ℕ} → dep ≡ dep' → fat ≡ fat' → FrontsAre v dep fat ds ts → FrontsAre v dep' fat' ds ts

@@ -2,8 +2,6 @@
 use Rattle.std.proofs.Common.{◌≡◌, ◌≤◌, ◌<◌, ◌++◌, ◌∙◌, ◌+◌, ◌⊎◌, inl, inr, ℕ, zero, suc, max, arith, List, [], ◌∷◌, length, None, Some, refl, ap, sym, subst, append-nil, length-append}
 use Rattle.std.specs.Prelude.{slice_get, option_map, nat_lt, IfNone, IfSome, IsTrue}
 use Rattle.std.specs.declared.option.Option.{Option}
-use Rattle.std.specs.declared.alloc.Global.{Global}
-use Rattle.std.specs.declared.vec.Vec.{Vec}
 use Rattle.altq_model.specs.declared.Placed.{Placed}
 use Rattle.altq_model.specs.Arrivals.{Captured, arrivals_from, arrivals_of, bare_arrival, bare_arrivals}
 use Rattle.altq_model.specs.History.{Arrival, Event, DrawnWords, Happened, bare, offered, journal}
@@ -38,6 +36,7 @@ use Rattle.altq_model.specs.declared.Counts.{Counts}
 use Rattle.play_loop.specs.declared.arriving.Arriving.{Arriving}
 use Rattle.class_counts.specs.declared.counting.Counted.TheVariants.{Arrived}
 use Rattle.play_loop.specs.declared.outputs.Outputs.{Outputs}
+use Rattle.play_loop.specs.declared.spare.Spare.{Spare}
 use Rattle.class_counts.specs.Counting.{HasCounted, count_at}
 use Rattle.play_loop.specs.Ending.{AreFirst, IsAhead, IsAll}
 use Rattle.play_loop.specs.Kept.{IsOther, OnlyWrote, OnlyPlayed}
@@ -107,7 +106,7 @@ pub record IsComing (x : Setup) (m : Moment) (w : DrawnWords) (told : List ℕ �
   pub read : (bytes : List ℕ) → told bytes → HasReadOne x.place m.files r bytes arrived (latest (bare g)) a.packet.at
 
 -- a read leaves what was written, and takes the memory that was left to it
-pub under_kept : {F : ℕ → Type 0} {x : Setup} {m : Moment} {v : View} {spare : Vec ℕ Global} {arrived : List Captured} {w : DrawnWords} {g : List Happened} → IsUnderway x m arrived w g → Keeps Any F m.files v
+pub under_kept : {F : ℕ → Type 0} {x : Setup} {m : Moment} {v : View} {spare : Spare} {arrived : List Captured} {w : DrawnWords} {g : List Happened} → IsUnderway x m arrived w g → Keeps Any F m.files v
     → IsUnderway x (record m { files = v; outputs = record m.outputs { spare = spare } }) arrived w g
 under_kept u k = record {
   setup = moved_on u.setup refl refl refl;

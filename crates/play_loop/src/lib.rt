@@ -10,6 +10,7 @@ mod kept;
 mod outputs;
 mod playing;
 mod sending;
+mod spare;
 mod telling;
 mod writing;
 

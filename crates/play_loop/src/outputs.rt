@@ -2,6 +2,7 @@
 ghost use Rattle.std.specs.Prelude.{◌≡◌, []};
 ghost use Rattle.play_loop.specs.Outputs.{AreOpened, output_fault};
 
+use crate::spare::Spare;
 use crate::{Opened, Output, PlayFault};
 use altq_model::Counts;
 use play_base::Trouble;
@@ -10,7 +11,7 @@ use play_text::Rows;
 use std::alloc::Global;
 
 /// The numbers of departures and fates, the bytes that are gathered for each, the counts so far of each class of the names, and memory
-/// of the bytes of a packet that left the play, which those of the next one read take.
+/// of packets that left the play.
 #[derive(Drop)]
 pub struct Outputs {
     pub departures: u32,
@@ -18,7 +19,7 @@ pub struct Outputs {
     pub records: Vec<u8>,
     pub rows: Rows,
     pub counts: Vec<Counts>,
-    pub spare: Vec<u8>,
+    pub spare: Spare,
 }
 
 impl Outputs {
@@ -35,7 +36,7 @@ impl Outputs {
             records: Vec::new(alloc),
             rows: Rows::new(alloc),
             counts,
-            spare: Vec::new(alloc),
+            spare: Spare::new(alloc),
         }
     }
 

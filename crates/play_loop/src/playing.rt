@@ -72,7 +72,8 @@ fn write_heads<F: Files>(files: &mut F, departures: u32, fates: u32) -> Result<(
 /// decided before it; after any other error fronts of their texts. The statistics hold nothing then, but after a failed write of them,
 /// or lack of memory, maybe a front. Holds one packet besides those that wait, a piece of 65,536 bytes of the capture, what is
 /// gathered, and the counts of each class: nothing that grows with the capture. A packet takes the memory of one that left, so at most
-/// 2,048 bytes, or twice its own. Costs a few steps and the bytes of each packet, and what the discipline and `classify` cost.
+/// 2,048 bytes, or twice its own; that of up to 65 that left is kept for those to come. Costs a few steps and the bytes of each packet,
+/// and what the discipline and `classify` cost.
 #[tactic(auto, using(play_base::proofs::ViewLaws::same_trans, play_base::proofs::ViewLaws::same_refl))]
 pub fn play<D: Discipline, C: Classify, F: Files>(
     alloc: Global,
@@ -378,7 +379,7 @@ fn play_records<D: Discipline, C: Classify, F: Files, K: Keeper>(
 {
     let mut latest = 0;
     'records: loop {
-        let found = match reader.next(files, &mut outputs.spare) {
+        let found = match reader.next(files, outputs.spare.room()) {
             Ok(found) => found,
             Err(fault) => return Ok(Ending::Cut(fault)),
         };

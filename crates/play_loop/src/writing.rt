@@ -13,23 +13,10 @@ use altq_model::{Counts, Fate};
 use class_counts::{Counted, count};
 use discipline::Classify;
 use gathered_writes::{flush, flush_rows, gather_record, gather_row};
-use play_base::{Bytes, Files, write_all};
+use play_base::{Files, write_all};
 use play_core::{Departure, Dropped};
 use play_text::{Names, stats_text};
 use std::alloc::Global;
-
-// The most memory that is left to the next packet read, in bytes: a frame of most links is shorter. A packet of few bytes may take it and
-// wait with it, so more would let memory grow.
-const MOST_SPARE: usize = 2_048;
-
-// Leaves the memory of a packet's bytes to the next packet read.
-#[inline]
-fn leave(spare: &mut Vec<u8>, bytes: Bytes) {
-    let bytes = bytes.into_vec();
-    if bytes.capacity() <= MOST_SPARE {
-        *spare = bytes;
-    }
-}
 
 // Rewrites the bytes of a sent packet as they leave: marked, or with the code point cleared, as `classify` has it.
 fn dress_packet<C: Classify>(classify: &C, departure: &mut Departure)
@@ -78,7 +65,7 @@ pub fn write_sent<C: Classify, F: Files>(
     let file = outputs.fates;
     match gather_row(files, file, &mut outputs.rows, names, class, packet, &fate) {
         Ok(()) => {
-            leave(&mut outputs.spare, departure.packet.bytes);
+            outputs.spare.leave(departure.packet.bytes);
             Ok(())
         }
         Err(trouble) => Err(output_fault(Output::Fates, trouble)),
@@ -106,7 +93,7 @@ pub fn write_dropped<F: Files>(
     let file = outputs.fates;
     match gather_row(files, file, &mut outputs.rows, names, class, &packet, &fate) {
         Ok(()) => {
-            leave(&mut outputs.spare, packet.bytes);
+            outputs.spare.leave(packet.bytes);
             Ok(())
         }
         Err(trouble) => Err(output_fault(Output::Fates, trouble)),

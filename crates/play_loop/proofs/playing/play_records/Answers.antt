@@ -16,6 +16,7 @@ use Rattle.play_core.specs.declared.totals.Totals.{Totals}
 use Rattle.play_core.specs.Ended.{IsCutOff}
 use Rattle.play_core.proofs.OfferLemmas.{is_bare_arrival}
 use Rattle.play_loop.specs.declared.ending.Due.{Due}
+use Rattle.play_loop.specs.declared.spare.Spare.{Spare}
 use Rattle.play_loop.specs.Ending.{IsAll}
 use Rattle.play_loop.specs.Kept.{OnlyPlayed}
 use Rattle.play_loop.specs.Reading.{StartsOn, arrival_of}
@@ -170,11 +171,11 @@ arrive-arriving-requires-clause-named g c = c.requires.under.setup.sound.named
 pub arrive-arriving-requires-clause-countable : goal.arrive-arriving-requires-clause-countable
 arrive-arriving-requires-clause-countable g c = under_countable c.records.invariant.reading.2.under
 
--- one more packet was read, and is the next to be offered
-come : (g : Over) (c : After-arrive-arriving g)
+-- one more packet was read, and is the next to be offered; whatever memory is left then
+come : {spare : Spare} (g : Over) (c : After-arrive-arriving g)
     → IsComing (setup g c.args.discipline.now c.args.classify.now c.args.names.now c.args.progress.now.clock.rate c.args.words.now.seed)
     (moment (shown g.D.Discipline.policy g.D.Discipline.stands g.D.Discipline.lists g.D.Discipline.limits g.D.Discipline.link_rate c.records.discipline) (g.F.Files.view c.next.new.files)
-    (record c.records.outputs { counts = c.arrive-arriving.new.counts; spare = c.next.new.room }) (g.K.Keeper.told c.records.keeper) c.records.progress) c.records.words
+    (record c.records.outputs { counts = c.arrive-arriving.new.counts; spare = spare }) (g.K.Keeper.told c.records.keeper) c.records.progress) c.records.words
     (StartsOn (g.F.Files.view c.args.files.now) c.args.reader.now) c.next.new.self c.arrive-arriving.result
     (c.records.invariant.reading.0 ++ arrival_of (g.C.Classify.placed c.args.classify.now) c.arrive-arriving.result ∷ []) c.records.invariant.reading.1
 come g c =
