@@ -1,6 +1,6 @@
 // The packets that wait, by their tickets.
-ghost use Rattle.std.specs.Prelude.{◌≡◌, ◌≢◌, ◌<◌, ◌+◌, ◌^◌, ℕ, true, false, None, Some, IsSome, IfOk};
-ghost use Rattle.leaf_queue.specs.Pool.{Held, IsReserved, packet_of, is_marked, count_of};
+ghost use Rattle.std.specs.Prelude.{◌≡◌, ◌≢◌, ◌<◌, ◌+◌, ◌^◌, ℕ, None, Some, IsSome, IfOk};
+ghost use Rattle.leaf_queue.specs.Pool.{Held, IsReserved, packet_of, is_marked, count_of, ticket_of};
 
 use crate::reserve::reserved;
 use play_base::{NoMemory, Packet, Ticket};
@@ -16,7 +16,7 @@ pub(crate) struct Kept {
 }
 
 /// The packets that wait, some of them marked by their queue. Contracts see a map from tickets to packets and one from tickets to
-/// marks, and the room that was reserved.
+/// marks, the ticket of the packet that is put next, and the room that was reserved.
 #[derive(Drop)]
 pub struct Pool {
     held: Slab<Kept>,
@@ -26,9 +26,16 @@ pub struct Pool {
 impl Model for Pool {
     ghost Value = { Held };
 
-    ghost view = { λ p. record { slots = p.held.slots; room = p.room } };
+    ghost view = { λ p. record { slots = p.held.slots; next = ticket_of p.held.vacant_key; room = p.room } };
 
     ghost invariant = { λ p. IsReserved p.held p.room };
+}
+
+// A key of a slab as a ticket. Of a slab with reserved room none is greater than a ticket can be.
+fn ticket_of(key: usize) -> u32
+    ensures { result ≡ ticket_of key }
+{
+    key.min(u32::MAX as usize) as u32
 }
 
 impl Pool {
@@ -43,35 +50,26 @@ impl Pool {
         Ok(Pool { held, room: n })
     }
 
-    /// Puts a packet, not marked, where fewer are held than there is room, and answers its ticket, one that was not held. Constant
-    /// time.
-    pub fn put(&mut self, packet: Packet) -> Ticket
+    /// The ticket that the next packet gets, where there is room for it. Takes no memory. Constant time.
+    pub fn next(&self) -> Ticket
+        ensures { result.0 ≡ self.now.next }
+    {
+        Ticket(ticket_of(self.held.vacant_key()))
+    }
+
+    /// Puts a packet, marked or not, under the next ticket, which was not held, where fewer are held than there is room. Takes no
+    /// memory. Constant time.
+    pub fn put(&mut self, packet: Packet, marked: bool)
         requires { count_of self.old < self.old.room }
-        ensures fresh { packet_of self.old result.0 ≡ None }
-        ensures put { packet_of self.new result.0 ≡ Some packet }
-        ensures plain { is_marked self.new result.0 ≡ false }
-        ensures others { (t : ℕ) → t ≢ result.0 → packet_of self.new t ≡ packet_of self.old t }
-        ensures marks { (t : ℕ) → t ≢ result.0 → is_marked self.new t ≡ is_marked self.old t }
+        ensures fresh { packet_of self.old self.old.next ≡ None }
+        ensures put { packet_of self.new self.old.next ≡ Some packet }
+        ensures mark { is_marked self.new self.old.next ≡ marked }
+        ensures others { (t : ℕ) → t ≢ self.old.next → packet_of self.new t ≡ packet_of self.old t }
+        ensures marks { (t : ℕ) → t ≢ self.old.next → is_marked self.new t ≡ is_marked self.old t }
         ensures count { count_of self.new ≡ count_of self.old + 1 }
         ensures room { self.new.room ≡ self.old.room }
     {
-        let kept = Kept {
-            packet,
-            marked: false,
-        };
-        Ticket(self.held.insert_reserved(kept) as u32)
-    }
-
-    /// Marks the packet of a ticket that is held, and changes nothing else. Takes no memory. Constant time.
-    pub fn mark(&mut self, ticket: Ticket)
-        requires { IsSome (packet_of self.old ticket.0) }
-        ensures mark { is_marked self.new ticket.0 ≡ true }
-        ensures packets { (t : ℕ) → packet_of self.new t ≡ packet_of self.old t }
-        ensures marks { (t : ℕ) → t ≢ ticket.0 → is_marked self.new t ≡ is_marked self.old t }
-        ensures count { count_of self.new ≡ count_of self.old }
-        ensures room { self.new.room ≡ self.old.room }
-    {
-        self.held[ticket.0 as usize].marked = true;
+        self.held.insert_reserved(Kept { packet, marked });
     }
 
     /// Whether the packet of a ticket that is held was marked. Takes no memory. Constant time.

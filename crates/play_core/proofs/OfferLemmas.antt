@@ -1,5 +1,5 @@
 -- The play goes on after an offer.
-use Rattle.std.proofs.Common.{◌≡◌, ◌≢◌, ◌≤◌, ◌<◌, ◌+◌, ◌-◌, ◌^◌, ◌∙◌, ℕ, Bool, true, false, cond, List, [], ◌∷◌, length, None, Some, refl, ap, sym, subst, arith}
+use Rattle.std.proofs.Common.{◌≡◌, ◌≤◌, ◌<◌, ◌+◌, ◌-◌, ◌^◌, ◌∙◌, ℕ, Bool, true, false, cond, List, [], ◌∷◌, length, None, Some, refl, ap, sym, subst, arith}
 use Rattle.std.specs.Prelude.{slice_get, ◌==◌, ◌&&◌, unwrap_or, option_map, is_some}
 use Rattle.std.specs.declared.option.Option.{Option}
 use Rattle.std.proofs.lemmas.Bool.{eq-eqb, ne_eqb}
@@ -18,7 +18,7 @@ use Rattle.play_laws.proofs.TimeLemmas.{next_later}
 use Rattle.play_base.specs.declared.packet.Packet.{Packet}
 use Rattle.play_base.specs.declared.packet.Ticket.{Ticket}
 use Rattle.leaf_queue.specs.declared.node.Entry.{Entry}
-use Rattle.leaf_queue.specs.Pool.{Held, packet_of, is_marked, count_of}
+use Rattle.leaf_queue.specs.Pool.{packet_of, is_marked, count_of}
 use Rattle.link_clock.specs.Clock.{Clock}
 use Rattle.discipline.specs.Laws.{IsAnswer, after_offer, held_in, room_of}
 use Rattle.discipline.specs.Laws as discipline
@@ -53,9 +53,8 @@ pub record IsTaken (s t : State) (b : Arrival) (packet : Packet) (ticket : Ticke
   pub sent : t.progress.totals.sent ≡ s.progress.totals.sent
   pub dropped : t.progress.totals.dropped ≡ s.progress.totals.dropped + one_lost v
   pub last_end : t.progress.totals.last_end ≡ s.progress.totals.last_end
-  pub fresh : packet_of s.progress.pool ticket.0 ≡ None
-  pub others : (k : ℕ) → k ≢ ticket.0 → packet_of t.progress.pool k ≡ packet_of s.progress.pool k
-  pub marks : (k : ℕ) → k ≢ ticket.0 → is_marked t.progress.pool k ≡ is_marked s.progress.pool k
+  pub held : (k : ℕ) (other : Packet) → packet_of s.progress.pool k ≡ Some other → packet_of t.progress.pool k ≡ Some other
+  pub marks : (k : ℕ) (other : Packet) → packet_of s.progress.pool k ≡ Some other → is_marked t.progress.pool k ≡ is_marked s.progress.pool k
   pub kept : is_kept v ≡ true → packet_of t.progress.pool ticket.0 ≡ Some packet
   pub mark : is_kept v ≡ true → is_marked t.progress.pool ticket.0 ≡ is_mark v
   pub count : count_of t.progress.pool ≡ count_of s.progress.pool + one_kept v
@@ -111,9 +110,6 @@ answered_by {s = s} {w = w} {arrived = arrived} {g = g} {a = a} {v = v} u e z =
     let A : List Event → Type 0 = λ h. IsAnswer s.policy h s.words (bare_arrival a) v w in
     (subst A y.same r.0, r.1)
 
-not_free : (pool : Held) (t u : ℕ) (packet : Packet) → packet_of pool t ≡ Some packet → packet_of pool u ≡ None → t ≡ u → ⊥
-not_free pool t u packet a b e = (let x : Some packet ≡ None = sym a ∙ ap (packet_of pool) e ∙ b in (cc))
-
 both_true : (k b : Bool) → (k && b) ≡ true → k ≡ true
 both_true true b e = refl
 both_true false b e = absurd (cc)
@@ -126,12 +122,11 @@ holds_offered : {s t : State} {arrived : List Captured} {g : List Happened} (a :
 holds_offered {s = s} {t = t} {arrived = arrived} {g = g} a ticket v u z e w c =
     let n : ℕ = offered (bare g) + 1 in
     let old = each_moves arrived arrived g (e ∷ g) s.progress.pool t.progress.pool (labels c u.going.told) (labels c g) (λ k m o y.
-    let apart = not_free s.progress.pool k ticket.0 (numbered m (arrival arrived m)) y.packet z.fresh in
     let once = (laws_of (come_of u)).waits_once m c in
     let off : (n == m) ≡ false = ne_eqb n m (λ i. absurd (let l = within_count m (offered (bare g)) (omega (arith, o, once)) in omega (arith, l, i))) in
     record {
-      packet = z.others k apart ∙ y.packet;
-      mark = z.marks k apart ∙ y.mark ∙ sym (w m ∙ ap (λ (b : Bool). cond b (is_mark v) (was_marked m g)) off);
+      packet = z.held k (numbered m (arrival arrived m)) y.packet;
+      mark = z.marks k (numbered m (arrival arrived m)) y.packet ∙ y.mark ∙ sym (w m ∙ ap (λ (b : Bool). cond b (is_mark v) (was_marked m g)) off);
     }) (u.going.holds c) in
     let on : (n == n) ≡ true = eq-eqb n n refl in
     each_if arrived (e ∷ g) t.progress.pool (is_kept v && (a.class == c)) (labels c u.going.told) (labels c g) ticket.0 n old (λ k.

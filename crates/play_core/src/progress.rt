@@ -16,7 +16,7 @@ use altq_model::{Placed, Verdict};
 use discipline::Discipline;
 use leaf_queue::{Pool, Words};
 use link_clock::LinkClock;
-use play_base::{NoMemory, Packet, Ticket};
+use play_base::{NoMemory, Packet};
 use std::alloc::Global;
 
 impl Progress {
@@ -92,9 +92,9 @@ impl Progress {
     {
         let at = packet.at;
         let len = packet.len;
-        let ticket = self.pool.put(packet);
+        let ticket = self.pool.next();
         let verdict = discipline.offer(ticket, placed.class, len, placed.prec, at, words);
-        let dropped = settle(&mut self.pool, ticket, verdict);
+        let dropped = settle(&mut self.pool, packet, verdict);
         self.latest = at;
         self.totals.arrived += 1;
         self.totals.dropped += lost(&dropped);
@@ -151,27 +151,27 @@ fn lost(dropped: &Option<Dropped>) -> u64
     }
 }
 
-// Marks a packet of the pool, takes it out, or leaves it as it is, by its verdict.
-fn settle(pool: &mut Pool, ticket: Ticket, verdict: Verdict) -> Option<Dropped>
-    requires held { IsSome (packet_of pool.old ticket.0) }
-    requires plain { is_marked pool.old ticket.0 ≡ false }
-    ensures others { (t : ℕ) → t ≢ ticket.0 → packet_of pool.new t ≡ packet_of pool.old t }
-    ensures marks { (t : ℕ) → t ≢ ticket.0 → is_marked pool.new t ≡ is_marked pool.old t }
-    ensures kept { is_kept verdict ≡ true → packet_of pool.new ticket.0 ≡ packet_of pool.old ticket.0 }
-    ensures mark { is_kept verdict ≡ true → is_marked pool.new ticket.0 ≡ is_mark verdict }
-    ensures count { count_of pool.new + 1 ≡ count_of pool.old + one_kept verdict }
+// Puts a packet into the pool, marked or not, or hands it back, by its verdict.
+#[inline(always)]
+fn settle(pool: &mut Pool, packet: Packet, verdict: Verdict) -> Option<Dropped>
+    requires { count_of pool.old < pool.old.room }
+    ensures held { (t : ℕ) (other : Packet) → packet_of pool.old t ≡ Some other → packet_of pool.new t ≡ Some other }
+    ensures marks { (t : ℕ) (other : Packet) → packet_of pool.old t ≡ Some other → is_marked pool.new t ≡ is_marked pool.old t }
+    ensures kept { is_kept verdict ≡ true → packet_of pool.new pool.old.next ≡ Some packet }
+    ensures mark { is_kept verdict ≡ true → is_marked pool.new pool.old.next ≡ is_mark verdict }
+    ensures count { count_of pool.new ≡ count_of pool.old + one_kept verdict }
     ensures room { pool.new.room ≡ pool.old.room }
-    ensures told { (packet : Packet) → packet_of pool.old ticket.0 ≡ Some packet → result ≡ handed_back verdict packet }
+    ensures told { result ≡ handed_back verdict packet }
 {
     match verdict {
-        Verdict::Keep => None,
-        Verdict::Mark => {
-            pool.mark(ticket);
+        Verdict::Keep => {
+            pool.put(packet, false);
             None
         }
-        Verdict::Drop(reason) => Some(Dropped {
-            packet: pool.take(ticket),
-            reason,
-        }),
+        Verdict::Mark => {
+            pool.put(packet, true);
+            None
+        }
+        Verdict::Drop(reason) => Some(Dropped { packet, reason }),
     }
 }

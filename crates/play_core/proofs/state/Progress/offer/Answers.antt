@@ -1,8 +1,9 @@
-use Rattle.std.proofs.Common.{◌≡◌, ◌+◌, ◌∙◌, ℕ, List, refl, ap, arith}
+use Rattle.std.proofs.Common.{◌+◌, ◌∙◌, ℕ, List, refl, ap, arith}
 use Rattle.altq_model.specs.declared.Verdict.{Verdict}
 use Rattle.altq_model.specs.Arrivals.{Captured, bare_arrival}
 use Rattle.altq_model.specs.History.{DrawnWords, Event, Happened, bare, offered}
 use Rattle.play_base.specs.declared.packet.Packet.{Packet}
+use Rattle.leaf_queue.specs.Pool.{is_marked, packet_of}
 use Rattle.discipline.specs.Laws.{IsAnswer, entry}
 use Rattle.play_core.specs.declared.state.Progress.{Progress}
 use Rattle.play_core.specs.Turns.{Offers, handed_back}
@@ -47,12 +48,10 @@ pub returns-clause-offered : goal.returns-clause-offered
 returns-clause-offered g c = λ arrived h a y o.
     let e = c.offer-verdict.ensures in
     let s = c.settle-dropped.ensures in
-    let put = c.put-ticket.ensures in
-    let back : c.settle-dropped.result ≡ handed_back c.offer-verdict.result c.args.packet = s.told c.args.packet put.put in
-    let few = c.lost.ensures ∙ lost c.settle-dropped.result c.offer-verdict.result c.args.packet back in
+    let few = c.lost.ensures ∙ lost c.settle-dropped.result c.offer-verdict.result c.args.packet s.told in
     going_offered {t = state g.D.Discipline c.offer-verdict.new.self c.offer-verdict.new.words _} (goes g c.args.discipline.now y) o (record {
       kind = record { policy = e.policy; limits = e.limits; rate = e.rate };
-      entry = entry c.put-ticket.result c.args.packet.len c.args.placed.prec;
+      entry = entry c.next-ticket.result c.args.packet.len c.args.placed.prec;
       answers = record { history = e.history; sized = record { least = c.requires.some; most = c.requires.short } };
       one_of = c.requires.class;
       lists_are = e.lists;
@@ -63,18 +62,17 @@ returns-clause-offered g c = λ arrived h a y o.
       sent = refl;
       dropped = ap (λ (k : ℕ). c.args.self.now.totals.dropped + k) few;
       last_end = refl;
-      fresh = put.fresh;
-      others = λ t n. s.others t n ∙ put.others t n;
-      marks = λ t n. s.marks t n ∙ put.marks t n;
-      kept = λ k. s.kept k ∙ put.put;
-      mark = s.mark;
-      count = omega (arith, s.count, put.count);
-      room = s.room ∙ put.room;
+      held = s.held;
+      marks = s.marks;
+      kept = λ k. ap (packet_of c.settle-dropped.new.pool) c.next-ticket.ensures ∙ s.kept k;
+      mark = λ k. ap (is_marked c.settle-dropped.new.pool) c.next-ticket.ensures ∙ s.mark k;
+      count = s.count;
+      room = s.room;
     })
 
 pub returns-clause-told : goal.returns-clause-told
 returns-clause-told g c = λ arrived h a y o.
-    c.settle-dropped.ensures.told c.args.packet c.put-ticket.ensures.put ∙ ap (λ (v : Verdict). handed_back v c.args.packet) (answer g c arrived h a y o).verdict
+    c.settle-dropped.ensures.told ∙ ap (λ (v : Verdict). handed_back v c.args.packet) (answer g c arrived h a y o).verdict
 
 pub returns-clause-seed : goal.returns-clause-seed
 returns-clause-seed g c = let n = c.requires.next in (answer g c n.0 n.1 n.2 n.3 n.4).words.seed
