@@ -67,7 +67,7 @@ fn gather_anew<F: Files>(
     }
 }
 
-// Whether so many more bytes can be gathered without a write.
+// Whether `more` bytes can be gathered without a write.
 #[inline(always)]
 pub(crate) fn fits(pending: &Vec<u8>, more: usize) -> bool
     requires { more < 2 ^ 63 }

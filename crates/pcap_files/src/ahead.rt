@@ -177,7 +177,7 @@ fn read_piece<F: Files>(
     }
 }
 
-// Lets the buffer have at least so many bytes. Those that it has stay.
+// Gives the buffer at least `count` bytes. Those that it has stay.
 fn make_room(buffer: &mut Vec<u8>, count: usize) -> Result<(), NoMemory>
     requires { count < 2 ^ 41 }
     ensures room { OnOk result (count ≤ vec_len buffer.new) }
