@@ -16,10 +16,10 @@ use Rattle.altq_model.specs.Counts.{counts_of, is_early, is_forced, is_full, is_
 use Rattle.altq_model.specs.declared.Verdict.{Verdict}
 use Rattle.altq_model.specs.declared.Verdict.TheVariants.{Keep, Mark, Drop}
 use Rattle.altq_model.specs.History.{Decision, Happened, dropped_by, journal}
-use Rattle.play_base.specs.declared.packet.Packet.{Packet}
 use Rattle.play_core.specs.declared.turn.Departure.{Departure}
 use Rattle.play_core.specs.declared.turn.Dropped.{Dropped}
-use Rattle.play_core.specs.Turns.{handed_back}
+use Rattle.play_core.specs.declared.turn.LentPacket.{LentPacket}
+use Rattle.play_core.specs.Turns.{drop_of}
 use Rattle.std.specs.Option.{option_map_or}
 use Rattle.play_laws.specs.Events.{AreOfArrivals}
 use Rattle.play_laws.proofs.CountsLemmas.{arrivals_add, decisions_add, decisions_stay}
@@ -259,10 +259,10 @@ counted_dropped names arrived js n class r ks h c =
     let P : ℕ → Type 0 = λ k. HasCounted names arrived (js ++ (n, fate.Dropped r) ∷ []) (count_at names k (counted.Dropped r) ks) in
     subst P (sym c) (counted_more names arrived arrived js _ _ _ ks h (drop_moves arrived js n r))
 
--- an offer, of which this is handed back
-pub counted_by : (names : NameList) (arrived : List Captured) (js : List Decision) (n class : ℕ) (v : Verdict) (packet : Packet) (ks : List Counts) → HasCounted names arrived js ks
+-- an offer, of which this is told
+pub counted_by : (names : NameList) (arrived : List Captured) (js : List Decision) (n class : ℕ) (v : Verdict) (packet : LentPacket) (ks : List Counts) → HasCounted names arrived js ks
     → class ≡ (arrival arrived n).class
-    → HasCounted names arrived (js ++ dropped_by v n) (option_map_or (λ (d : Dropped). count_at names class (counted.Dropped d.reason) ks) (handed_back v packet) ks)
+    → HasCounted names arrived (js ++ dropped_by v n) (option_map_or (λ (d : Dropped). count_at names class (counted.Dropped d.reason) ks) (drop_of v packet) ks)
 counted_by names arrived js n class Keep packet ks h c = let P : List Decision → Type 0 = λ l. HasCounted names arrived l ks in subst P (sym (append-nil js)) h
 counted_by names arrived js n class Mark packet ks h c = let P : List Decision → Type 0 = λ l. HasCounted names arrived l ks in subst P (sym (append-nil js)) h
 counted_by names arrived js n class (Drop r) packet ks h c = counted_dropped names arrived js n class r ks h c

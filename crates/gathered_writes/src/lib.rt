@@ -8,4 +8,4 @@ mod rows;
 
 pub use gathered::{flush, gather};
 pub use records::gather_record;
-pub use rows::{flush_rows, gather_row};
+pub use rows::{FateRow, flush_rows, gather_row};

@@ -6,41 +6,51 @@ ghost use Rattle.play_text.specs.Texts.{fate_text};
 ghost use Rattle.gathered_writes.specs.Gathered.{Grew, Stopped};
 
 use altq_model::Fate;
-use play_base::{Files, Packet, Trouble, write_all};
+use play_base::{Files, Trouble, write_all};
 use play_text::{Names, Rows};
 
 /// Rows are written once they have more bytes than this. A row has fewer than 256, so no more than 65,536 are gathered.
 const ROWS_BOUND: usize = 65_536 - 256;
 
+/// What a row tells of a packet: its number from 1, its arrival in nanoseconds, its length in bytes, its class, and its fate.
+#[derive(Clone, Copy)]
+pub struct FateRow {
+    pub number: u64,
+    pub at: u64,
+    pub len: u32,
+    pub class: u32,
+    pub fate: Fate,
+}
+
 /// Adds the row of a packet's fate to those that are gathered for a file, and writes the rows once they have more than 65,280 bytes.
 /// After an error a front of all of it was written.
+#[inline(always)]
 #[tactic(auto, using(play_base::proofs::ViewLaws::same_trans, play_base::proofs::ViewLaws::same_refl))]
 pub fn gather_row<F: Files>(
     files: &mut F,
     file: u32,
     rows: &mut Rows,
     names: &Names,
-    class: u32,
-    packet: &Packet,
-    fate: &Fate,
+    row: FateRow,
 ) -> Result<(), Trouble>
     requires there { IsSome ((F.view files.old).part file) }
-    requires named { HasClass names.now class }
+    requires named { HasClass names.now row.class }
     ensures grew { OnOk result (Grew (F.view files.old) (F.view files.new) file rows.old rows.new
-        (fate_text packet.now.number packet.now.at packet.now.len (name_of names.now class) fate.now)) }
+        (fate_text row.number row.at row.len (name_of names.now row.class) row.fate)) }
     ensures bounded { OnOk result (length rows.new ≤ 65280) }
     ensures no_fault { OnOk result (SameCounts (F.view files.old) (F.view files.new)) }
     ensures stopped { OnErr result (Stopped (F.view files.old) (F.view files.new) file rows.old
-        (fate_text packet.now.number packet.now.at packet.now.len (name_of names.now class) fate.now)) }
+        (fate_text row.number row.at row.len (name_of names.now row.class) row.fate)) }
     ensures failed { IsErrOf result Trouble.Failed → WriteFault (F.view files.old) (F.view files.new) file }
 {
-    let Packet {
+    let FateRow {
         number,
         at,
         len,
-        ..
-    } = *packet;
-    let Ok(()) = rows.add(names, number, at, len, class, fate) else {
+        class,
+        fate,
+    } = row;
+    let Ok(()) = rows.add(names, number, at, len, class, &fate) else {
         return Err(Trouble::NoMemory);
     };
     if rows.most() <= ROWS_BOUND {

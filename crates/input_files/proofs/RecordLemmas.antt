@@ -7,9 +7,10 @@ use Rattle.capture_model.specs.Capture.{Fault, Header, Record, ReadsFrom}
 use Rattle.pcap_files.specs.declared.fault.CaptureFault.{CaptureFault}
 use Rattle.pcap_files.specs.declared.fault.CaptureFault.TheVariants as fault
 use Rattle.pcap_files.specs.declared.reader.Reader.{Reader}
+use Rattle.pcap_files.specs.declared.record.Found.{Found}
 use Rattle.pcap_files.specs.declared.record.Record.{Record as Answer}
 use Rattle.pcap_files.specs.Ahead.{TookSome}
-use Rattle.pcap_files.specs.Reading.{Answers, IsHeadFault, Shows, StandsFor}
+use Rattle.pcap_files.specs.Reading.{Answers, IsHeadFault, Shows, StandsFor, Told, told_by, told_of}
 use Rattle.pcap_files.proofs.ReaderLemmas.{took_unchanged}
 use Rattle.play_base.specs.View.{View, ReadFault, Took, Unchanged}
 use Rattle.play_base.proofs.ViewLaws.{rose_before, rose_later, took_more, took_nothing}
@@ -49,22 +50,24 @@ head_fault fault.Limit bytes h = absurd h
 head_fault fault.Read bytes h = record { records = []; reads = tt }
 head_fault fault.NoMemory bytes h = record { records = []; reads = tt }
 
-pub shown_same : (a : Answer) (n : ℕ) (r : Record) → Shows a n r → shown_by a ≡ shown_of r
+pub shown_same : (a : Answer) (n : ℕ) (r : Record) → Shows (told_of a) n r → shown_by a ≡ shown_of r
 shown_same a n r s = rw (s.stamp, s.len, s.bytes) refl
 
 -- one more record is read
-pub read_more : (u v : View) (old new : Reader) (bytes : List ℕ) (shown after : List Shown) (o : Option Answer) (a : Answer)
-    → IfSome o (λ x. Answers u v old new x) → o ≡ Some a → after ≡ shown ++ shown_by a ∷ []
+pub read_more : (u v : View) (old new : Reader) (bytes : List ℕ) (shown after : List Shown) (o : Option Found) (f : Found) (a : Answer)
+    → IfSome o (λ x. Answers u v old new (told_by new x)) → o ≡ Some f → told_of a ≡ told_by new f → after ≡ shown ++ shown_by a ∷ []
     → ((records : List Record) × StandsFor u old bytes records × (shown ≡ map shown_of records))
     → (records : List Record) × StandsFor v new bytes records × (after ≡ map shown_of records)
-read_more u v old new bytes shown after o a answered is grown h =
-    let W : Option Answer → Type 0 = λ x. IfSome x (λ y. Answers u v old new y) in
-    let answer : Answers u v old new a = subst W is answered in
-    let x = answer bytes h.0 h.1 in (
+read_more u v old new bytes shown after o f a answered is lent grown h =
+    let W : Option Found → Type 0 = λ x. IfSome x (λ y. Answers u v old new (told_by new y)) in
+    let answer : Answers u v old new (told_by new f) = subst W is answered in
+    let x = answer bytes h.0 h.1 in
+    let P : Told → Type 0 = λ t. Shows t (length h.0) x.0 in
+    let shows : Shows (told_of a) (length h.0) x.0 = subst P (sym lent) x.1 in (
       h.0 ++ x.0 ∷ [],
       x.2,
       grown ∙ ap (λ ys. ys ++ shown_by a ∷ []) h.2
-          ∙ ap (λ y. map shown_of h.0 ++ y ∷ []) (shown_same a (length h.0) x.0 x.1) ∙ sym (map-append shown_of h.0 (x.0 ∷ [])),
+          ∙ ap (λ y. map shown_of h.0 ++ y ∷ []) (shown_same a (length h.0) x.0 shows) ∙ sym (map-append shown_of h.0 (x.0 ∷ [])),
     )
 
 pub stays_same : (u v : View) (file : ℕ) (f : CaptureFault) → StaysOrFails u v file f f

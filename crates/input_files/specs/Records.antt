@@ -14,7 +14,7 @@ pub record Shown : Type 0 where
   pub bytes : List ℕ
 
 abbrev pub shown_by : Answer → Shown
-shown_by a = record { stamp = a.stamp; len = a.len; bytes = a.bytes }
+shown_by a = record { stamp = a.stamp; len = a.len; bytes = a.bytes.now }
 
 abbrev pub shown_of : Record → Shown
 shown_of r = record { stamp = r.stamp; len = max r.original (length r.captured); bytes = r.captured }

@@ -84,10 +84,10 @@ impl Records {
     }
 
     /// Puts a record at the end. The only error is lack of memory. Costs the length of its captured bytes, and now and then a move of all.
-    pub fn add(&mut self, found: &Record) -> Result<(), NoMemory>
+    pub fn add(&mut self, found: &Record<'_>) -> Result<(), NoMemory>
         ensures { OnOk result (self.new ≡ self.old ++ shown_by found.now ∷ []) }
     {
-        let bytes = found.bytes.as_slice();
+        let bytes = found.bytes;
         let from = self.bytes.len();
         self.bytes.extend_from_slice(bytes)?;
         self.held.push(Held {

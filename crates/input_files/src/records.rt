@@ -25,19 +25,17 @@ fn records_of<F: Files>(alloc: Global, files: &mut F, file: u32) -> Result<Recor
         Ok(reader) => reader,
         Err(fault) => return Err(fault),
     };
-    let mut room = Vec::new(alloc);
     'records: loop {
-        let found = match reader.next(files, &mut room) {
-            Ok(found) => found,
+        let answer = match reader.next(files) {
+            Ok(answer) => answer,
             Err(fault) => return Err(fault),
         };
-        let Some(record) = found else {
+        let Some(found) = answer else {
             return Ok(records);
         };
-        if records.add(&record).is_err() {
+        if records.add(&reader.lend(found)).is_err() {
             return Err(CaptureFault::NoMemory);
         }
-        room = record.bytes.into_vec();
     }
 }
 

@@ -1,6 +1,6 @@
 -- Lists that are taken in pieces.
 use Rattle.std.proofs.Common.{◌≡◌, ◌≤◌, ◌∙◌, ◌+◌, ◌-◌, ◌++◌, ℕ, zero, suc, List, [], ◌∷◌, length, take, drop, ap, sym, arith, zero-add, length-drop}
-use Rattle.std.proofs.lemmas.List.{take_all, take_at, length-take-le}
+use Rattle.std.proofs.lemmas.List.{take_all, take_at, take-take, length-take, length-take-le}
 use Rattle.std.proofs.lemmas.Slice.{between_is}
 use Rattle.std.specs.List.{copy_within}
 
@@ -19,3 +19,12 @@ copied_to_front xs ys i j order within copied =
     let part = take count (drop i xs) in
     let long : length part ≡ count = length-take-le count (drop i xs) (omega (arith, length-drop i xs, order, within)) in
     ap (take count) copied ∙ take_at part (drop (0 + count) xs) count long ∙ between_is xs i j
+
+-- the bytes before a place, and then some of those that were taken behind it
+pub passed_more : (from count to : ℕ) (xs before waiting : List ℕ) → from ≤ to → before ≡ take from xs → waiting ≡ drop from (take to xs)
+    → count ≤ length waiting → take (from + count) xs ≡ before ++ take count waiting
+passed_more from count to xs before waiting order first rest fits =
+    let within : from + count ≤ to = omega (arith, order, fits, ap length rest, length-drop from (take to xs), length-take to xs) in
+    sym (take-take (from + count) to xs within) ∙ take_more_bytes from count (take to xs)
+    ∙ ap (λ (ys : List ℕ). ys ++ take count (drop from (take to xs))) (take-take from to xs order ∙ sym first)
+    ∙ ap (λ (ys : List ℕ). before ++ take count ys) (sym rest)

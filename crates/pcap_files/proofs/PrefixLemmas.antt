@@ -111,12 +111,12 @@ is_last Limit h = tt
 
 -- a read that failed while a record was not whole
 pub all_taken : (v w : View) (r : Reader) (ahead bytes : List ℕ) (records : List capture.Record) → StandsFor v r bytes records → r.fault ≡ None
-    → TookInto v w r.file r.ahead ahead
+    → TookInto v w r.file r.ahead.waiting ahead
     → ((x : capture.Record) (n : ℕ) → step (form r.head) bytes (length records) (place_after 24 records) ≡ Next x n → place_after 24 records + length ahead < n)
     → AreAllTaken w r.file bytes records
 all_taken v w r ahead bytes records s sound t short =
     let at = r.progress.place in
-    let p = pending_took v w r.file at r.ahead ahead bytes (s.pending sound) t in
+    let p = pending_took v w r.file at r.ahead.waiting ahead bytes (s.pending sound) t in
     let rest = p.rest.0 in
     let taken = take at bytes ++ ahead in
     let split : bytes ≡ taken ++ rest = sym (take-append-drop at bytes) ∙ ap (λ (xs : List ℕ). take at bytes ++ xs) p.rest.2 ∙ sym (append_assoc (take at bytes) ahead rest) in
@@ -161,14 +161,14 @@ none_taken v w file first before ahead rest taken h t short =
 
 -- what was needed of the record that stands there, a header at least, was not there
 pub part_taken : (v w : View) (r : Reader) (ahead bytes : List ℕ) (records : List capture.Record) → StandsFor v r bytes records → r.fault ≡ None
-    → TookInto v w r.file r.ahead ahead → length ahead < 16 → AreAllTaken w r.file bytes records
+    → TookInto v w r.file r.ahead.waiting ahead → length ahead < 16 → AreAllTaken w r.file bytes records
 part_taken v w r ahead bytes records s sound t fewer =
     all_taken v w r ahead bytes records s sound t (λ x n h.
     let place = (next_place (form r.head) bytes (length records) (place_after 24 records) x n h).0 in
     omega (arith, place, fewer))
 
 pub headed_taken : (v w : View) (r : Reader) (ahead bytes : List ℕ) (records : List capture.Record) (h : Head) → StandsFor v r bytes records → r.fault ≡ None
-    → TookInto v w r.file r.ahead ahead → StandsHead r bytes records h → length ahead < 16 + h.captured → AreAllTaken w r.file bytes records
+    → TookInto v w r.file r.ahead.waiting ahead → StandsHead r bytes records h → length ahead < 16 + h.captured → AreAllTaken w r.file bytes records
 headed_taken v w r ahead bytes records h s sound t here fewer =
     all_taken v w r ahead bytes records s sound t (λ x n e.
     let place = headed_ends h.stamp h.captured h.original r.progress.place n (drop r.progress.place bytes) x (sym here ∙ e) in

@@ -1,24 +1,25 @@
 -- What a reader stands for, as it takes bytes and answers records.
-use Rattle.std.proofs.Common.{◌≡◌, ◌≤◌, ◌<◌, ◌∙◌, ℕ, ◌+◌, List, [], ◌∷◌, ◌++◌, length, take, drop, refl, sym, ap, subst, arith, inl, inr, append-nil, append_assoc, length-append, length-drop}
+use Rattle.std.proofs.Common.{◌≡◌, ◌≤◌, ◌<◌, ◌∙◌, ℕ, ◌+◌, ◌-◌, List, [], ◌∷◌, ◌++◌, length, take, drop, refl, sym, ap, subst, arith, inl, inr, append-nil, append_assoc, length-append, length-drop}
 use Rattle.std.specs.Prelude.{◌⊎◌, ◌≢◌, IsSome, Bool, true, false, nat_lt, max, None, Some}
 use Rattle.std.specs.declared.option.Option.{Option}
 use Rattle.std.specs.Int.{w16, from_be_bytes, from_le_bytes}
-use Rattle.std.proofs.lemmas.List.{drop-append-le, drop-drop, length-take}
+use Rattle.std.proofs.lemmas.List.{drop-append-le, drop-drop, drop-take, length-take}
+use Rattle.std.proofs.Math.Seq.{drop-append-add}
 use Rattle.play_base.specs.View.{View, Any, IsAtEnd, Took, Unchanged}
 use Rattle.play_base.proofs.ViewLaws.{keeps_fewer, keeps_trans, part_of_there, still_there, took_more}
 use Rattle.capture_model.specs.declared.damage.DamageKind.TheVariants.{ShortRecord}
 use Rattle.capture_model.specs.Capture.{Form, Step, Next, Fault, Stand, Formed, Unformed, Header, half, word, header, header_in, form_of, damage, step, place_after, Reads, ReadsFrom, ReadsAs}
 use Rattle.capture_model.specs.Capture as capture
-use Rattle.pcap_files.specs.Ahead.{Pending, TookInto, TookSome}
+use Rattle.pcap_files.specs.Ahead.{Held, Pending, TookInto, TookSome, last}
 use Rattle.pcap_files.specs.Forms.{form}
-use Rattle.pcap_files.specs.Reading.{StandsFor, Shows, IsTaken, IsCut, IsCause, ReadsTo}
+use Rattle.pcap_files.specs.Reading.{StandsFor, Shows, IsTaken, told_by, IsCut, IsCause, ReadsTo}
 use Rattle.pcap_files.specs.Stand.{stand_at, step_of}
 use Rattle.pcap_files.specs.declared.stand.Stand.{Stand as Stands}
 use Rattle.pcap_files.specs.declared.stand.Stand.TheVariants.{Headed}
 use Rattle.pcap_files.specs.declared.fault.CaptureFault.{CaptureFault}
 use Rattle.pcap_files.specs.declared.fault.CaptureFault.TheVariants as fault
 use Rattle.pcap_files.specs.declared.reader.Reader.{Reader}
-use Rattle.pcap_files.specs.declared.record.Record.{Record}
+use Rattle.pcap_files.specs.declared.record.Found.{Found}
 use Rattle.pcap_files.proofs.PlaceLemmas.{seen, word_seen, length_here, step_here}
 
 pub is_less : (m n : ℕ) → m < n → nat_lt m n ≡ true
@@ -120,11 +121,11 @@ reads_formed f bytes records last e x = subst (λ (h : Header). ReadsFrom h byte
 
 -- what stands after the records answered, by the bytes taken there
 pub stands_step : (v w : View) (r : Reader) (ahead bytes : List ℕ) (records : List capture.Record) → StandsFor v r bytes records
-    → r.fault ≡ None → TookInto v w r.file r.ahead ahead → (16 ≤ length ahead) ⊎ IsAtEnd w r.file
+    → r.fault ≡ None → TookInto v w r.file r.ahead.waiting ahead → (16 ≤ length ahead) ⊎ IsAtEnd w r.file
     → step (form r.head) bytes (length records) (place_after 24 records)
     ≡ step_of (stand_at (form r.head) r.progress.count r.progress.place ahead) r.progress.place (drop r.progress.place bytes)
 stands_step v w r ahead bytes records s sound t enough =
-    let p = pending_took v w r.file r.progress.place r.ahead ahead bytes (s.pending sound) t in
+    let p = pending_took v w r.file r.progress.place r.ahead.waiting ahead bytes (s.pending sound) t in
     let here = step_here (form r.head) bytes ahead p.rest.0 r.progress.count r.progress.place p.place p.rest.2
     (none_left w r.file r.progress.place 16 ahead bytes p enough) in
     ap (λ (n : ℕ). step (form r.head) bytes n (place_after 24 records)) (sym s.count)
@@ -149,8 +150,8 @@ pending_same v f f' at at' ahead ahead' bytes ef ep ea p = record {
 
 -- a reader that came no further
 pub stands_with : (v w : View) (r n : Reader) (bytes : List ℕ) (records : List capture.Record) → StandsFor v r bytes records
-    → n.head ≡ r.head → n.progress ≡ r.progress → (n.fault ≡ None → Pending w n.file n.progress.place n.ahead bytes)
-    → (n.fault ≡ None → length n.ahead ≤ 65535) → IsCause n.fault (step (form r.head) bytes (length records) (place_after 24 records))
+    → n.head ≡ r.head → n.progress ≡ r.progress → (n.fault ≡ None → Pending w n.file n.progress.place n.ahead.waiting bytes)
+    → (n.fault ≡ None → length n.ahead.waiting ≤ 65535) → IsCause n.fault (step (form r.head) bytes (length records) (place_after 24 records))
     → StandsFor w n bytes records
 stands_with v w r n bytes records s eh ep pending ahead cause = record {
   formed = s.formed ∙ ap (λ h. Formed (form h)) (sym eh);
@@ -181,8 +182,8 @@ cause_reads v r bytes records fault.Read s e = tt
 cause_reads v r bytes records fault.NoMemory s e = tt
 
 -- the reader with other bytes ahead
-abbrev pub holding : Reader → List ℕ → Reader
-holding r ahead = record { alloc = r.alloc; file = r.file; head = r.head; progress = r.progress; ahead = ahead; fault = r.fault }
+abbrev pub holding : Reader → Held → Reader
+holding r held = record { file = r.file; head = r.head; progress = r.progress; ahead = held; fault = r.fault }
 
 -- the head of a record: its stamp, how many bytes were captured, and how many the packet had
 pub record Head : Type 0 where
@@ -198,10 +199,10 @@ StandsHead r bytes records h =
 
 -- a record whose head was taken is not whole
 pub cut_reads : (v w : View) (r : Reader) (ahead bytes : List ℕ) (records : List capture.Record) (h : Head) (f : CaptureFault)
-    → StandsFor v r bytes records → r.fault ≡ None → TookInto v w r.file r.ahead ahead → StandsHead r bytes records h
+    → StandsFor v r bytes records → r.fault ≡ None → TookInto v w r.file r.ahead.waiting ahead → StandsHead r bytes records h
     → (16 + h.captured ≤ length ahead) ⊎ IsAtEnd w r.file → IsCut f r.progress.place ahead h.captured → ReadsTo f bytes records
 cut_reads v w r ahead bytes records h (fault.Damage found) s sound t here enough cut =
-    let p = pending_took v w r.file r.progress.place r.ahead ahead bytes (s.pending sound) t in
+    let p = pending_took v w r.file r.progress.place r.ahead.waiting ahead bytes (s.pending sound) t in
     let e = p.rest.2 in
     let short : length (drop r.progress.place bytes) < 16 + h.captured = elim (none_left w r.file r.progress.place (16 + h.captured) ahead bytes p enough) [
       | inl more ↦ absurd (omega (arith, more, cut.0))
@@ -212,16 +213,25 @@ cut_reads v w r ahead bytes records h (fault.Damage found) s sound t here enough
     stands_reads v r bytes records (Fault found) s (here ∙ stands ∙ ap Fault (sym cut.1))
 cut_reads v w r ahead bytes records h fault.Limit s sound t here enough cut = absurd cut
 cut_reads v w r ahead bytes records h fault.Read s sound t here enough cut = absurd cut
-cut_reads v w r ahead bytes records h fault.NoMemory s sound t here enough cut = tt
+cut_reads v w r ahead bytes records h fault.NoMemory s sound t here enough cut = absurd cut
 
--- a whole record is answered
-pub answered : (v w : View) (r n : Reader) (answer : Record) (ahead bytes : List ℕ) (records : List capture.Record) (h : Head)
-    → StandsFor v r bytes records → r.fault ≡ None → TookInto v w r.file r.ahead ahead → StandsHead r bytes records h
-    → length ahead ≤ 65535 + (16 + h.captured) → IsTaken (holding r ahead) n answer h.stamp h.captured h.original
-    → (x : capture.Record) × Shows answer (length records) x × StandsFor w n bytes (records ++ x ∷ [])
-answered v w r n answer ahead bytes records h s sound t here bound k =
+-- the bytes that were passed last, behind 16 others
+last_passed : (before ahead : List ℕ) (count : ℕ) → 16 + count ≤ length ahead → last count (before ++ take (16 + count) ahead) ≡ take count (drop 16 ahead)
+last_passed before ahead count enough =
+    let front : List ℕ = take (16 + count) ahead in
+    let long : length (before ++ front) - count ≡ length before + 16 =
+    omega (arith, length-append before front, length-take (16 + count) ahead, enough) in
+    ap (λ (n : ℕ). drop n (before ++ front)) long ∙ drop-append-add before front 16 ∙ drop-take 16 count ahead
+
+-- a whole record is found
+pub answered : (v w : View) (r n : Reader) (found : Found) (held : Held) (bytes : List ℕ) (records : List capture.Record) (h : Head)
+    → StandsFor v r bytes records → r.fault ≡ None → TookInto v w r.file r.ahead.waiting held.waiting → StandsHead r bytes records h
+    → length held.waiting ≤ 65535 + (16 + h.captured) → IsTaken (holding r held) n found h.stamp h.captured h.original
+    → (x : capture.Record) × Shows (told_by n found) (length records) x × StandsFor w n bytes (records ++ x ∷ [])
+answered v w r n found held bytes records h s sound t here bound k =
     let captured : ℕ = h.captured in
-    let p = pending_took v w r.file r.progress.place r.ahead ahead bytes (s.pending sound) t in
+    let ahead : List ℕ = held.waiting in
+    let p = pending_took v w r.file r.progress.place r.ahead.waiting ahead bytes (s.pending sound) t in
     let e = p.rest.2 in
     let x : capture.Record = record { stamp = h.stamp; captured = take captured (drop 16 ahead); original = h.original } in
     let long : length (take captured (drop 16 ahead)) ≡ captured = omega (arith, length-take captured (drop 16 ahead), length-drop 16 ahead, k.enough) in
@@ -231,16 +241,18 @@ answered v w r n answer ahead bytes records h s sound t here bound k =
     let next : step_of (Headed h.stamp captured h.original) r.progress.place (drop r.progress.place bytes) ≡ Next x (r.progress.place + 16 + captured) = rw (whole, same) refl in
     let place : r.progress.place + 16 + captured ≡ place_after 24 records + 16 + length (take captured (drop 16 ahead)) = omega (arith, s.place, long) in
     let stands : step (form r.head) bytes (length records) (place_after 24 records) ≡ Next x (place_after 24 records + 16 + length x.captured) =
-    here ∙ next ∙ ap (Next x) place in (
+    here ∙ next ∙ ap (Next x) place in
+    let lent : last found.captured n.ahead.passed ≡ take captured (drop 16 ahead) =
+    ap (λ (m : ℕ). last m n.ahead.passed) k.captured ∙ ap (last captured) k.passed ∙ last_passed held.passed ahead captured k.enough in (
       x,
-      record { number = omega (arith, k.number, s.count); stamp = k.stamp; len = k.len ∙ ap (max h.original) (sym long); bytes = k.bytes },
+      record { number = omega (arith, k.number, s.count); stamp = k.stamp; len = k.len ∙ ap (max h.original) (sym long); bytes = lent },
       record {
         formed = s.formed ∙ ap (λ head. Formed (form head)) (sym k.head);
         stand = subst (λ head. Stand (form head) bytes 0 24 (records ++ x ∷ [])) (sym k.head)
             (stand_more (form r.head) bytes 0 24 records x s.stand (ap (λ (n : ℕ). step (form r.head) bytes n (place_after 24 records)) (omega arith) ∙ stands));
         count = omega (arith, k.count, s.count, length-append records (x ∷ []));
         place = k.place ∙ place ∙ sym (place_after_more 24 records x);
-        pending = λ _. pending_same w r.file n.file (r.progress.place + (16 + captured)) n.progress.place (drop (16 + captured) ahead) n.ahead bytes
+        pending = λ _. pending_same w r.file n.file (r.progress.place + (16 + captured)) n.progress.place (drop (16 + captured) ahead) n.ahead.waiting bytes
             k.file (omega (arith, k.place)) k.ahead (pending_passed w r.file r.progress.place (16 + captured) ahead bytes p k.enough);
         ahead = λ _. omega (arith, ap length k.ahead, length-drop (16 + captured) ahead, bound);
         cause = subst (λ q. IsCause q (step (form n.head) bytes (length (records ++ x ∷ [])) (place_after 24 (records ++ x ∷ [])))) (sym (k.fault ∙ sound)) tt;
@@ -249,7 +261,7 @@ answered v w r n answer ahead bytes records h s sound t here bound k =
 
 -- the same by what the code found in the bytes ahead
 pub stands_at : (v w : View) (r : Reader) (ahead found bytes : List ℕ) (records : List capture.Record) (q : Stands) → StandsFor v r bytes records
-    → r.fault ≡ None → TookInto v w r.file r.ahead ahead → (16 ≤ length ahead) ⊎ IsAtEnd w r.file
+    → r.fault ≡ None → TookInto v w r.file r.ahead.waiting ahead → (16 ≤ length ahead) ⊎ IsAtEnd w r.file
     → found ≡ ahead → q ≡ stand_at (form r.head) r.progress.count r.progress.place found
     → step (form r.head) bytes (length records) (place_after 24 records) ≡ step_of q r.progress.place (drop r.progress.place bytes)
 stands_at v w r ahead found bytes records q s sound t enough same value =
@@ -267,7 +279,7 @@ started_head v w file first before ahead found rest taken h t enough same =
 
 -- a reader that has read the head and passed it
 pub started : (v w : View) (n : Reader) (first before ahead rest : List ℕ) → before ≡ first → v.left n.file ≡ Some rest
-    → TookInto v w n.file before ahead → 24 ≤ length ahead → length ahead ≤ 65559 → n.ahead ≡ drop 24 ahead → n.progress.count ≡ 0
+    → TookInto v w n.file before ahead → 24 ≤ length ahead → length ahead ≤ 65559 → n.ahead.waiting ≡ drop 24 ahead → n.progress.count ≡ 0
     → n.progress.place ≡ 24 → n.fault ≡ None → header (first ++ rest) ≡ Formed (form n.head) → StandsFor w n (first ++ rest) []
 started v w n first before ahead rest taken h t enough bound passed count place sound formed =
     let bytes = first ++ rest in
@@ -277,7 +289,7 @@ started v w n first before ahead rest taken h t enough bound passed count place 
       stand = tt;
       count = count;
       place = place;
-      pending = λ e. pending_same w n.file n.file 24 n.progress.place (drop 24 ahead) n.ahead bytes refl place passed (pending_passed w n.file 0 24 ahead bytes p enough);
+      pending = λ e. pending_same w n.file n.file 24 n.progress.place (drop 24 ahead) n.ahead.waiting bytes refl place passed (pending_passed w n.file 0 24 ahead bytes p enough);
       ahead = λ e. omega (arith, ap length passed, length-drop 24 ahead, bound);
       cause = subst (λ q. IsCause q (step (form n.head) bytes 0 24)) (sym sound) tt;
     }

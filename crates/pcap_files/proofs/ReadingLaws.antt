@@ -39,7 +39,7 @@ pub taken : (v : View) (r : Reader) (bytes rest : List ℕ) (records : List Reco
 taken v r bytes rest records s sound left =
     let x = s.pending sound in
     let same : x.rest.0 ≡ rest = same_some x.rest.0 rest (sym x.rest.1 ∙ left) in
-    omega (arith, s.ahead sound, s.place, x.place, length-drop r.progress.place bytes, ap length x.rest.2, length-append r.ahead x.rest.0, ap length same)
+    omega (arith, s.ahead sound, s.place, x.place, length-drop r.progress.place bytes, ap length x.rest.2, length-append r.ahead.waiting x.rest.0, ap length same)
 
 abbrev next_of : Record → Step → Record
 next_of other End = other

@@ -1,6 +1,15 @@
 -- Bytes that were taken from a file before they are asked for.
-use Rattle.std.specs.Prelude.{◌≡◌, ◌≤◌, ◌<◌, ℕ, List, ◌++◌, length, drop, Some}
+use Rattle.std.specs.Prelude.{◌≡◌, ◌≤◌, ◌<◌, ◌-◌, ℕ, List, ◌++◌, length, drop, Some}
 use Rattle.play_base.specs.View.{View, Took}
+
+-- the bytes of a file that are held: those that were passed, and those behind them
+pub record Held : Type 0 where
+  pub passed : List ℕ
+  pub waiting : List ℕ
+
+-- the last `count` of these bytes
+abbrev pub last : (count : ℕ) → List ℕ → List ℕ
+last count bytes = drop (length bytes - count) bytes
 
 -- some bytes were taken from the file, and nothing else changed but counts
 abbrev pub TookSome : View → View → ℕ → Type 0

@@ -1,7 +1,7 @@
 // Bytes that are taken from a file in pieces, ahead of their use.
-ghost use Rattle.std.specs.Prelude.{◌≡◌, ◌≤◌, ◌<◌, ◌+◌, ◌-◌, ◌⊎◌, ◌^◌, max, length, drop, take, vec_len, IsSome, IfOk, OnOk, OnErr, IsErrOf};
+ghost use Rattle.std.specs.Prelude.{◌≡◌, ◌≤◌, ◌<◌, ◌+◌, ◌-◌, ◌++◌, ◌⊎◌, ◌^◌, max, length, drop, take, vec_len, IsSome, IfOk, OnOk, OnErr, IsErrOf};
 ghost use Rattle.play_base.specs.View.{ReadFault, SameCounts, IsAtEnd, Took, Unchanged};
-ghost use Rattle.pcap_files.specs.Ahead.{TookFewer, TookSome, TookInto};
+ghost use Rattle.pcap_files.specs.Ahead.{TookFewer, TookSome, TookInto, last};
 
 use play_base::{Files, NoMemory, Trouble};
 use std::alloc::Global;
@@ -10,21 +10,22 @@ use std::marker::Model;
 // The most bytes that one read takes.
 const PIECE: usize = 65_536;
 
-/// The bytes that were taken and not passed yet, which contracts see as their list.
+/// The bytes that were taken and not passed yet, and those passed before them that still stand there. Contracts see the two lists.
 #[derive(Drop)]
 pub struct Ahead {
-    // They stand between the two places; what stands behind them is room for the next piece.
+    // The bytes not passed stand between the two places; what stands behind them is room for the next piece.
     buffer: Vec<u8>,
     from: usize,
     to: usize,
 }
 
 impl Model for Ahead {
-    ghost use Rattle.std.specs.Prelude.{ℕ, List, ◌≤◌, drop, take, vec_len};
+    ghost use Rattle.std.specs.Prelude.{◌≤◌, drop, take, vec_len};
+    ghost use Rattle.pcap_files.specs.Ahead.{Held};
 
-    ghost Value = { List ℕ };
+    ghost Value = { Held };
 
-    ghost view = { λ a. drop a.from (take a.to a.buffer.items) };
+    ghost view = { λ a. record { passed = take a.from a.buffer.items; waiting = drop a.from (take a.to a.buffer.items) } };
 
     ghost invariant = { λ a. (a.from ≤ a.to) × (a.to ≤ vec_len a.buffer) };
 }
@@ -32,7 +33,7 @@ impl Model for Ahead {
 impl Ahead {
     // These bytes, which were taken before.
     pub fn new(alloc: Global, first: &[u8]) -> Result<Ahead, NoMemory>
-        ensures first { IfOk result (λ ahead. ahead ≡ first.now) }
+        ensures first { IfOk result (λ ahead. ahead.waiting ≡ first.now) }
     {
         let mut buffer = Vec::new(alloc);
         if buffer.extend_from_slice(first).is_err() {
@@ -46,17 +47,28 @@ impl Ahead {
         })
     }
 
-    // The bytes in order.
+    // The bytes that were not passed, in order.
     pub fn as_slice(&self) -> &[u8]
-        ensures { result.now ≡ self.now }
+        ensures { result.now ≡ self.now.waiting }
     {
         &self.buffer[self.from..self.to]
     }
 
-    // Leaves out the first bytes.
+    // The bytes that were passed last.
+    #[inline(always)]
+    pub fn last(&self, count: usize) -> &[u8]
+        requires { count ≤ length self.now.passed }
+        ensures { result.now ≡ last count self.now.passed }
+    {
+        &self.buffer[self.from - count..self.from]
+    }
+
+    // Passes the first bytes.
+    #[inline(always)]
     pub fn pass(&mut self, count: usize)
-        requires { count ≤ length self.old }
-        ensures { self.new ≡ drop count self.old }
+        requires { count ≤ length self.old.waiting }
+        ensures waiting { self.new.waiting ≡ drop count self.old.waiting }
+        ensures passed { self.new.passed ≡ self.old.passed ++ take count self.old.waiting }
     {
         self.from += count;
     }
@@ -68,14 +80,14 @@ impl Ahead {
     pub fn fill<F: Files>(&mut self, files: &mut F, file: u32, need: usize) -> Result<(), Trouble>
         requires there { IsSome ((F.view files.old).part file) }
         requires small { need < 2 ^ 40 }
-        ensures took { OnOk result (TookInto (F.view files.old) (F.view files.new) file self.old self.new) }
+        ensures took { OnOk result (TookInto (F.view files.old) (F.view files.new) file self.old.waiting self.new.waiting) }
         ensures counts { OnOk result (SameCounts (F.view files.old) (F.view files.new)) }
-        ensures enough { OnOk result ((need ≤ length self.new) ⊎ IsAtEnd (F.view files.new) file) }
-        ensures bounded { OnOk result (length self.new ≤ max (length self.old) (need + 65535)) }
+        ensures enough { OnOk result ((need ≤ length self.new.waiting) ⊎ IsAtEnd (F.view files.new) file) }
+        ensures bounded { OnOk result (length self.new.waiting ≤ max (length self.old.waiting) (need + 65535)) }
         ensures some { OnErr result (TookSome (F.view files.old) (F.view files.new) file) }
         ensures failed { IsErrOf result Trouble.Failed → ReadFault (F.view files.old) (F.view files.new) file }
-        ensures stopped { IsErrOf result Trouble.Failed → TookFewer need (F.view files.old) (F.view files.new) file self.old self.new }
-        ensures idle { need ≤ length self.old → (F.view files.new ≡ F.view files.old) × (self.new ≡ self.old) }
+        ensures stopped { IsErrOf result Trouble.Failed → TookFewer need (F.view files.old) (F.view files.new) file self.old.waiting self.new.waiting }
+        ensures idle { need ≤ length self.old.waiting → (F.view files.new ≡ F.view files.old) × (self.new ≡ self.old) }
     {
         if self.to - self.from >= need {
             return Ok(());
@@ -87,13 +99,13 @@ impl Ahead {
     fn refill<F: Files>(&mut self, files: &mut F, file: u32, need: usize) -> Result<(), Trouble>
         requires there { IsSome ((F.view files.old).part file) }
         requires small { need < 2 ^ 40 }
-        ensures took { OnOk result (TookInto (F.view files.old) (F.view files.new) file self.old self.new) }
+        ensures took { OnOk result (TookInto (F.view files.old) (F.view files.new) file self.old.waiting self.new.waiting) }
         ensures counts { OnOk result (SameCounts (F.view files.old) (F.view files.new)) }
-        ensures enough { OnOk result ((need ≤ length self.new) ⊎ IsAtEnd (F.view files.new) file) }
-        ensures bounded { OnOk result (length self.new ≤ max (length self.old) (need + 65535)) }
+        ensures enough { OnOk result ((need ≤ length self.new.waiting) ⊎ IsAtEnd (F.view files.new) file) }
+        ensures bounded { OnOk result (length self.new.waiting ≤ max (length self.old.waiting) (need + 65535)) }
         ensures some { OnErr result (TookSome (F.view files.old) (F.view files.new) file) }
         ensures failed { IsErrOf result Trouble.Failed → ReadFault (F.view files.old) (F.view files.new) file }
-        ensures stopped { IsErrOf result Trouble.Failed → TookFewer need (F.view files.old) (F.view files.new) file self.old self.new }
+        ensures stopped { IsErrOf result Trouble.Failed → TookFewer need (F.view files.old) (F.view files.new) file self.old.waiting self.new.waiting }
     {
         move_to_front(&mut self.buffer, self.from, self.to);
         self.to -= self.from;

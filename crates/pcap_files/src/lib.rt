@@ -19,6 +19,6 @@ pub use form::Head;
 pub use laws::{bytes_read_one_way, written_captures_read_back};
 pub use progress::Progress;
 pub use reader::Reader;
-pub use record::Record;
+pub use record::{Found, Record};
 pub use stand::{Stand, stand_at};
 pub use writing::{head_bytes, put_record_head, record_head};

@@ -2,18 +2,17 @@
 ghost use Rattle.std.specs.Prelude.{◌≡◌, ◌≤◌, ◌<◌, ◌+◌, ◌++◌, ◌^◌, ◌⊎◌, ℕ, List, [], max, length, None, Some, Err, IsSome, IfOk, IfErr, IfSome, IfNone, OnOk, OnErr, IsErrOf};
 ghost use Rattle.play_base.specs.View.{ReadFault, SameCounts};
 ghost use Rattle.pcap_files.specs.Ahead.{TookSome};
-ghost use Rattle.pcap_files.specs.Reading.{StandsFor, Answers, AreAllTaken, Counts, HoldsNext, IsCutOff, Stays, IsWhole, IsFault, IsHeadFault, SameBut, IsTaken, IsCut};
+ghost use Rattle.pcap_files.specs.Reading.{StandsFor, Answers, AreAllTaken, Counts, Holds, HoldsNext, IsCutOff, Stays, IsWhole, IsFault, IsHeadFault, SameBut, IsTaken, IsCut, told_by, told_of};
 
 use crate::ahead::Ahead;
 use crate::fault::fault_of;
 use crate::form::{Head, damage_at};
 use crate::progress::Progress;
 use crate::stand::{RECORD_HEAD, Stand, stand_at};
-use crate::{CaptureFault, Record};
+use crate::{CaptureFault, Found, Record};
 use capture_model::DamageKind;
-use play_base::{Bytes, Files};
+use play_base::Files;
 use std::alloc::Global;
-use std::mem::replace;
 
 // Bytes of a file's header.
 const FILE_HEAD: usize = 24;
@@ -22,7 +21,6 @@ const FILE_HEAD: usize = 24;
 /// and a record at once.
 #[derive(Drop)]
 pub struct Reader {
-    alloc: Global,
     file: u32,
     head: Head,
     progress: Progress,
@@ -68,7 +66,6 @@ impl Reader {
         };
         ahead.pass(FILE_HEAD);
         Ok(Reader {
-            alloc,
             file,
             head,
             progress: Progress {
@@ -85,18 +82,15 @@ impl Reader {
     /// count of read faults of the file's part rose in this call, and then the records answered are all that stand complete in
     /// the bytes that were taken. After any fault the reader answers that fault again and takes nothing. When a record is
     /// answered, at most 65,535 bytes past it were taken, and none where it stood in those taken before. Between this
-    /// reader's calls nothing else may read from the file. Takes time in proportion to the bytes taken and the record's. The record's
-    /// bytes take the memory of `room`, in place of what stands there, and more only where that does not hold them; `room` has none then.
+    /// reader's calls nothing else may read from the file. Takes time in proportion to the bytes taken and the record's, and
+    /// constant time for a record that stood in those taken before: its bytes are not copied, and `lend` gives them until the next call.
     #[inline(always)]
-    pub fn next<F: Files>(
-        &mut self,
-        files: &mut F,
-        room: &mut Vec<u8>,
-    ) -> Result<Option<Record>, CaptureFault>
+    pub fn next<F: Files>(&mut self, files: &mut F) -> Result<Option<Found>, CaptureFault>
         requires there { IsSome ((F.view files.old).part self.old.file) }
-        ensures record { IfOk result (λ answer. IfSome answer (λ r.
-            Answers (F.view files.old) (F.view files.new) self.old self.new r)) }
-        ensures counted { IfOk result (λ answer. IfSome answer (λ r. Counts self.old self.new r)) }
+        ensures record { IfOk result (λ answer. IfSome answer (λ found.
+            Answers (F.view files.old) (F.view files.new) self.old self.new (told_by self.new found))) }
+        ensures counted { IfOk result (λ answer. IfSome answer (λ found. Counts self.old self.new (told_by self.new found))) }
+        ensures holds { IfOk result (λ answer. IfSome answer (λ found. Holds self.new found)) }
         ensures end { IfOk result (λ answer. IfNone answer (IsWhole (F.view files.old) self.old)) }
         ensures none { IfOk result (λ answer. IfNone answer (Stays (F.view files.old) (F.view files.new) self.old self.new)) }
         ensures fault { IfErr result (λ fault. IsFault (F.view files.old) self.old fault) }
@@ -116,8 +110,8 @@ impl Reader {
         if let Some(fault) = self.fault {
             return Err(fault);
         }
-        match self.take_next(files, room) {
-            Ok(record) => Ok(record),
+        match self.take_next(files) {
+            Ok(found) => Ok(found),
             Err(fault) => {
                 self.fault = Some(fault);
                 Err(fault)
@@ -125,18 +119,30 @@ impl Reader {
         }
     }
 
+    /// The record that the last call of `next` found, with its bytes, which stay where they were read to. Takes no memory, in constant
+    /// time.
+    #[inline(always)]
+    pub fn lend(&self, found: Found) -> Record<'_>
+        requires { Holds self.now found }
+        ensures { told_of result ≡ told_by self.now found }
+    {
+        Record {
+            number: found.number,
+            stamp: found.stamp,
+            len: found.len,
+            bytes: self.ahead.last(found.captured as usize),
+        }
+    }
+
     // The next record of a reader that has answered no fault.
     #[inline(always)]
-    fn take_next<F: Files>(
-        &mut self,
-        files: &mut F,
-        room: &mut Vec<u8>,
-    ) -> Result<Option<Record>, CaptureFault>
+    fn take_next<F: Files>(&mut self, files: &mut F) -> Result<Option<Found>, CaptureFault>
         requires there { IsSome ((F.view files.old).part self.old.file) }
         requires sound { self.old.fault ≡ None }
-        ensures record { IfOk result (λ answer. IfSome answer (λ r.
-            Answers (F.view files.old) (F.view files.new) self.old self.new r)) }
-        ensures counted { IfOk result (λ answer. IfSome answer (λ r. Counts self.old self.new r)) }
+        ensures record { IfOk result (λ answer. IfSome answer (λ found.
+            Answers (F.view files.old) (F.view files.new) self.old self.new (told_by self.new found))) }
+        ensures counted { IfOk result (λ answer. IfSome answer (λ found. Counts self.old self.new (told_by self.new found))) }
+        ensures holds { IfOk result (λ answer. IfSome answer (λ found. Holds self.new found)) }
         ensures end { IfOk result (λ answer. IfNone answer (IsWhole (F.view files.old) self.old)) }
         ensures none { IfOk result (λ answer. IfNone answer (Stays (F.view files.old) (F.view files.new) self.old self.new)) }
         ensures fault { IfErr result (λ fault. IsFault (F.view files.old) self.old fault) }
@@ -166,54 +172,47 @@ impl Reader {
                 if let Err(trouble) = self.ahead.fill(files, self.file, whole) {
                     return Err(fault_of(trouble));
                 }
-                match self.take_record(room, stamp, captured, original) {
-                    Ok(record) => Ok(Some(record)),
+                match self.take_record(stamp, captured, original) {
+                    Ok(found) => Ok(Some(found)),
                     Err(fault) => Err(fault),
                 }
             }
         }
     }
 
-    // Takes the record with this header from the bytes ahead, where it stands whole, into the memory of `room`.
+    // Takes the record with this header from the bytes ahead, where it stands whole.
     #[inline(always)]
     fn take_record(
         &mut self,
-        room: &mut Vec<u8>,
         stamp: u64,
         captured: u32,
         original: u32,
-    ) -> Result<Record, CaptureFault>
+    ) -> Result<Found, CaptureFault>
         requires counted { self.old.progress.count < 4000000 }
         requires placed { self.old.progress.place + 16 + captured ≤ 2 ^ 30 }
         requires early { stamp < 2 ^ 62 }
         requires short { max captured original ≤ 262144 }
         requires some { 1 ≤ max captured original }
-        ensures taken { IfOk result (λ r. IsTaken self.old self.new r stamp captured original) }
-        ensures cut { IfErr result (λ fault. IsCut fault self.old.progress.place self.old.ahead captured) }
+        ensures taken { IfOk result (λ found. IsTaken self.old self.new found stamp captured original) }
+        ensures cut { IfErr result (λ fault. IsCut fault self.old.progress.place self.old.ahead.waiting captured) }
         ensures same { OnErr result (SameBut self.old self.new) }
     {
         let Progress { count, place } = self.progress;
         let whole = RECORD_HEAD + captured as usize;
-        let ahead = self.ahead.as_slice();
-        if ahead.len() < whole {
+        if self.ahead.as_slice().len() < whole {
             let damage = damage_at(u64::from(place), DamageKind::ShortRecord);
             return Err(CaptureFault::Damage(damage));
-        }
-        let mut bytes = replace(room, Vec::new(self.alloc));
-        bytes.clear();
-        if bytes.extend_from_slice(&ahead[RECORD_HEAD..whole]).is_err() {
-            return Err(CaptureFault::NoMemory);
         }
         self.ahead.pass(whole);
         self.progress = Progress {
             count: count + 1,
             place: place + 16 + captured,
         };
-        Ok(Record {
+        Ok(Found {
             number: u64::from(count) + 1,
             stamp,
             len: captured.max(original),
-            bytes: Bytes::of(bytes),
+            captured,
         })
     }
 }

@@ -24,9 +24,10 @@ use Rattle.discipline.specs.Laws.{IsAnswer, after_offer, held_in, room_of}
 use Rattle.discipline.specs.Laws as discipline
 use Rattle.discipline.specs.Moments.{IsOffer, IsSized, StartsBefore, StartsBy}
 use Rattle.play_core.specs.declared.turn.Dropped.{Dropped}
+use Rattle.play_core.specs.declared.turn.LentPacket.{LentPacket}
 use Rattle.play_core.specs.Going.{numbered, HoldEach, one_kept}
 use Rattle.play_core.specs.Totals.{AreTotals}
-use Rattle.play_core.specs.Turns.{Offers, handed_back}
+use Rattle.play_core.specs.Turns.{Offers, packet_of_lent, drop_of}
 use Rattle.play_core.proofs.Come.{laws_of}
 use Rattle.play_core.proofs.GoingLemmas.{Going, Goes, SameKind, State, come_of, renamed, within_old}
 use Rattle.play_core.proofs.HeldLemmas.{held_offered}
@@ -180,34 +181,34 @@ taken_on {s = s} {t = t} {arrived = arrived} {g = g} a ticket v u there due z =
       room = z.room ∙ y.room;
     })
 
-pub same_bare_arrival : (n : ℕ) (a : Captured) (packet : Packet) (placed : Placed) → packet ≡ numbered n a → placed ≡ record { class = a.class; prec = a.prec }
+pub same_bare_arrival : (n : ℕ) (a : Captured) (packet : LentPacket) (placed : Placed) → packet_of_lent packet ≡ numbered n a → placed ≡ record { class = a.class; prec = a.prec }
     → discipline.arrival_with placed.class packet.len placed.prec packet.at ≡ bare_arrival a
 same_bare_arrival n a packet placed e f =
     ap (λ (k : Packet). discipline.arrival_with placed.class k.len placed.prec k.at) e ∙ ap (λ (k : Placed). discipline.arrival_with k.class a.len k.prec a.at) f
 
-pub answered : {s : State} {stood : List Happened → Type 0} {w : DrawnWords} {arrived : List Captured} {g : List Happened} {a : Captured} {packet : Packet} {placed : Placed} {ticket : Ticket}
+pub answered : {s : State} {stood : List Happened → Type 0} {w : DrawnWords} {arrived : List Captured} {g : List Happened} {a : Captured} {packet : LentPacket} {placed : Placed} {ticket : Ticket}
     {v : Verdict} → Goes s arrived g → Offers s.policy s.progress.clock.rate s.words.seed arrived g a packet placed
     → IsAnswered s stood w (discipline.arrival_with placed.class packet.len placed.prec packet.at) ticket v → IsAnswer s.policy (bare g) s.words (bare_arrival a) v w
 answered {s = s} {stood = stood} {w = w} {g = g} {a = a} {packet = packet} {placed = placed} {ticket = ticket} {v = v} u o z =
     let P : Arrival → Type 0 = λ b. IsAnswered s stood w b ticket v in
     (answered_by u o.next.there (subst P (same_bare_arrival (offered (bare g) + 1) a packet placed o.packet_is o.placed_is) z)).0
 
-pub going_offered : {s t : State} {arrived : List Captured} {g : List Happened} {a : Captured} {packet : Packet} {placed : Placed} {ticket : Ticket} {v : Verdict} → Goes s arrived g
+pub going_offered : {s t : State} {arrived : List Captured} {g : List Happened} {a : Captured} {packet : LentPacket} {placed : Placed} {ticket : Ticket} {v : Verdict} → Goes s arrived g
     → Offers s.policy s.progress.clock.rate s.words.seed arrived g a packet placed
-    → IsTaken s t (discipline.arrival_with placed.class packet.len placed.prec packet.at) packet ticket v → Going t arrived (offer_of s.policy s.words.seed g (bare_arrival a) ∷ g)
+    → IsTaken s t (discipline.arrival_with placed.class packet.len placed.prec packet.at) (packet_of_lent packet) ticket v → Going t arrived (offer_of s.policy s.words.seed g (bare_arrival a) ∷ g)
 going_offered {s = s} {t = t} {arrived = arrived} {g = g} {a = a} {packet = packet} {placed = placed} {ticket = ticket} {v = v} u o z =
     let n : ℕ = offered (bare g) + 1 in
     let P : Arrival × Packet → Type 0 = λ q. IsTaken s t q.0 q.1 ticket v in
     let arrival_with = same_bare_arrival n a packet placed o.packet_is o.placed_is in
-    let held : packet ≡ numbered n (arrival arrived n) = o.packet_is ∙ ap (numbered n) (sym (is_bare_arrival arrived g a o.next.there).numbered_is) in
+    let held : packet_of_lent packet ≡ numbered n (arrival arrived n) = o.packet_is ∙ ap (numbered n) (sym (is_bare_arrival arrived g a o.next.there).numbered_is) in
     taken_on a ticket v u o.next.there (o.next.is_due, u.going.begun.events) (subst P (cc (arrival_with, held)) z)
 
 pub most_lost : (r : Option Dropped) → cond (is_some r) 1 0 ≤ 1
 most_lost None = omega arith
 most_lost (Some d) = omega arith
 
--- what is handed back tells of a drop
-pub lost : (r : Option Dropped) (v : Verdict) (packet : Packet) → r ≡ handed_back v packet → cond (is_some r) 1 0 ≡ one_lost v
+-- what is told is of a drop
+pub lost : (r : Option Dropped) (v : Verdict) (packet : LentPacket) → r ≡ drop_of v packet → cond (is_some r) 1 0 ≡ one_lost v
 lost r Keep packet e = ap (λ (o : Option Dropped). cond (is_some o) 1 0) e
 lost r Mark packet e = ap (λ (o : Option Dropped). cond (is_some o) 1 0) e
 lost r (Drop q) packet e = ap (λ (o : Option Dropped). cond (is_some o) 1 0) e

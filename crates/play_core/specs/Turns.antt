@@ -9,6 +9,7 @@ use Rattle.altq_model.specs.History.{Arrival, Sent, Happened, bare, offered, was
 use Rattle.altq_model.specs.Play.{Policy, due, offer_of}
 use Rattle.play_base.specs.declared.packet.Packet.{Packet}
 use Rattle.play_core.specs.declared.turn.Dropped.{Dropped}
+use Rattle.play_core.specs.declared.turn.LentPacket.{LentPacket}
 use Rattle.play_core.specs.declared.turn.Departure.{Departure}
 use Rattle.play_core.specs.declared.turn.Turn.{Turn}
 use Rattle.play_core.specs.declared.turn.Turn.TheVariants.{End, Offer, Send, Late}
@@ -20,17 +21,21 @@ pub record IsNext (p : Policy) (rate seed : ℕ) (arrived : List Captured) (g : 
   pub there : slice_get arrived (offered (bare g)) ≡ Some a
   pub is_due : due p rate seed (bare_arrivals arrived) g ≡ Some (offer_of p seed g (bare_arrival a))
 
+-- the packet with the bytes that are lent
+abbrev pub packet_of_lent : LentPacket → Packet
+packet_of_lent p = record { number = p.number; at = p.at; len = p.len; bytes = p.bytes.now }
+
 -- the next event is the offer of this packet, which was placed there
-pub record Offers (p : Policy) (rate seed : ℕ) (arrived : List Captured) (g : List Happened) (a : Captured) (packet : Packet) (placed : Placed) : Type 0 where
+pub record Offers (p : Policy) (rate seed : ℕ) (arrived : List Captured) (g : List Happened) (a : Captured) (packet : LentPacket) (placed : Placed) : Type 0 where
   pub next : IsNext p rate seed arrived g a
-  pub packet_is : packet ≡ numbered (offered (bare g) + 1) a
+  pub packet_is : packet_of_lent packet ≡ numbered (offered (bare g) + 1) a
   pub placed_is : placed ≡ record { class = a.class; prec = a.prec }
 
--- the packet that is handed back after a drop, or none
-abbrev pub handed_back : Verdict → Packet → Option Dropped
-handed_back Keep packet = None
-handed_back Mark packet = None
-handed_back (Drop reason) packet = Some (record { packet = packet; reason = reason })
+-- what is told of a packet after its drop, or nothing
+abbrev pub drop_of : Verdict → LentPacket → Option Dropped
+drop_of Keep p = None
+drop_of Mark p = None
+drop_of (Drop reason) p = Some (record { number = p.number; at = p.at; len = p.len; reason = reason })
 
 -- a sending, as the play's history has it
 abbrev pub departs : Departure → Happened

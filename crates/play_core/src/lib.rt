@@ -12,4 +12,4 @@ mod turn;
 pub use laws::plays_go_on;
 pub use state::Progress;
 pub use totals::Totals;
-pub use turn::{Departure, Dropped, Turn};
+pub use turn::{Departure, Dropped, LentPacket, Turn};

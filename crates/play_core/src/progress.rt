@@ -1,5 +1,5 @@
 // The next event of a play.
-ghost use Rattle.std.specs.Prelude.{◌≡◌, ◌≢◌, ◌≤◌, ◌<◌, ◌*◌, ◌+◌, ◌^◌, ◌∷◌, [], ℕ, true, false, List, IfOk, IsSome, Some, is_some, length, if◌then◌else◌};
+ghost use Rattle.std.specs.Prelude.{◌≡◌, ◌≢◌, ◌≤◌, ◌<◌, ◌*◌, ◌+◌, ◌^◌, ◌∷◌, [], ℕ, true, false, List, IfOk, OnOk, IsSome, Some, is_some, length, if◌then◌else◌};
 ghost use Rattle.altq_model.specs.Arrivals.{Captured, bare_arrival, bare_arrivals};
 ghost use Rattle.altq_model.specs.History.{DrawnWords, Happened, bare, is_kept, is_mark};
 ghost use Rattle.altq_model.specs.Lawful.{AreRising, IsOneOf};
@@ -7,17 +7,18 @@ ghost use Rattle.altq_model.specs.Play.{offer_of};
 ghost use Rattle.discipline.specs.Laws.{HasRate};
 ghost use Rattle.leaf_queue.specs.Pool.{count_of, is_marked, packet_of};
 ghost use Rattle.play_core.specs.Going.{IsGoing, one_kept};
-ghost use Rattle.play_core.specs.Turns.{ComesNext, Offers, arrives, handed_back, turned};
+ghost use Rattle.play_core.specs.Turns.{ComesNext, Offers, arrives, packet_of_lent, drop_of, turned};
 
 use crate::state::Progress;
 use crate::step::{Step, next_step};
-use crate::{Departure, Dropped, Totals, Turn};
+use crate::{Departure, Dropped, LentPacket, Totals, Turn};
 use altq_model::{Placed, Verdict};
 use discipline::Discipline;
 use leaf_queue::{Pool, Words};
 use link_clock::LinkClock;
-use play_base::{NoMemory, Packet};
+use play_base::{Bytes, NoMemory, Packet};
 use std::alloc::Global;
+use std::mem::replace;
 
 impl Progress {
     /// Begins the play of a discipline that nothing was offered yet, over a link of `rate` bits per second, 1,000 to 10^12. Takes
@@ -58,47 +59,53 @@ impl Progress {
     }
 
     /// Offers the next arrival, which is due, to the class in which it was placed; its number is one more than that of the last one.
-    /// The packet is kept, or handed back with the reason of its drop. Takes no memory.
+    /// The packet is kept, or what is told of its drop is answered. Only a packet that is kept has its bytes copied: they take the memory
+    /// of `room`, in place of what stands there, and more only where that does not hold them; `room` has none then. The only error is
+    /// lack of memory for these bytes, and then the play cannot go on.
     #[inline(always)]
     pub fn offer<D: Discipline>(
         &mut self,
         discipline: &mut D,
         words: &mut Words,
-        packet: Packet,
+        packet: &LentPacket<'_>,
         placed: Placed,
-    ) -> Option<Dropped>
+        room: &mut Vec<u8>,
+    ) -> Result<Option<Dropped>, NoMemory>
         requires class { IsOneOf placed.class (D.policy discipline.old).classes }
         requires prec { placed.prec ≤ 2 }
-        requires some { 1 ≤ packet.len }
-        requires short { packet.len ≤ 262144 }
-        requires early { packet.at < 2 ^ 62 }
+        requires some { 1 ≤ packet.now.len }
+        requires short { packet.now.len ≤ 262144 }
+        requires early { packet.now.at < 2 ^ 62 }
         requires next { (arrived : List Captured) × (g : List Happened) × (a : Captured)
             × IsGoing (D.policy discipline.old) (D.stands discipline.old) (D.lists discipline.old) (D.limits discipline.old) (D.link_rate discipline.old) arrived words.old self.old g
-            × Offers (D.policy discipline.old) self.old.clock.rate words.old.seed arrived g a packet placed }
-        ensures offered { (arrived : List Captured) (g : List Happened) (a : Captured)
+            × Offers (D.policy discipline.old) self.old.clock.rate words.old.seed arrived g a packet.now placed }
+        ensures offered { OnOk result ((arrived : List Captured) (g : List Happened) (a : Captured)
             → IsGoing (D.policy discipline.old) (D.stands discipline.old) (D.lists discipline.old) (D.limits discipline.old) (D.link_rate discipline.old) arrived words.old self.old g
-            → Offers (D.policy discipline.old) self.old.clock.rate words.old.seed arrived g a packet placed
+            → Offers (D.policy discipline.old) self.old.clock.rate words.old.seed arrived g a packet.now placed
             → IsGoing (D.policy discipline.new) (D.stands discipline.new) (D.lists discipline.new) (D.limits discipline.new) (D.link_rate discipline.new) arrived words.new self.new
-            (offer_of (D.policy discipline.old) words.old.seed g (bare_arrival a) ∷ g) }
-        ensures told { (arrived : List Captured) (g : List Happened) (a : Captured)
+            (offer_of (D.policy discipline.old) words.old.seed g (bare_arrival a) ∷ g)) }
+        ensures told { IfOk result (λ dropped. (arrived : List Captured) (g : List Happened) (a : Captured)
             → IsGoing (D.policy discipline.old) (D.stands discipline.old) (D.lists discipline.old) (D.limits discipline.old) (D.link_rate discipline.old) arrived words.old self.old g
-            → Offers (D.policy discipline.old) self.old.clock.rate words.old.seed arrived g a packet placed
-            → result ≡ handed_back ((D.policy discipline.old).answer (bare g) words.old (bare_arrival a)).verdict packet }
+            → Offers (D.policy discipline.old) self.old.clock.rate words.old.seed arrived g a packet.now placed
+            → dropped ≡ drop_of ((D.policy discipline.old).answer (bare g) words.old (bare_arrival a)).verdict packet.now) }
         ensures rate { self.new.clock.rate ≡ self.old.clock.rate }
         ensures seed { words.new.seed ≡ words.old.seed }
         ensures policy { D.policy discipline.new ≡ D.policy discipline.old }
         ensures limits { D.limits discipline.new ≡ D.limits discipline.old }
         ensures link_rate { D.link_rate discipline.new ≡ D.link_rate discipline.old }
     {
-        let at = packet.at;
-        let len = packet.len;
         let ticket = self.pool.next();
-        let verdict = discipline.offer(ticket, placed.class, len, placed.prec, at, words);
-        let dropped = settle(&mut self.pool, packet, verdict);
-        self.latest = at;
-        self.totals.arrived += 1;
-        self.totals.dropped += lost(&dropped);
-        dropped
+        let Placed { class, prec } = placed;
+        let verdict = discipline.offer(ticket, class, packet.len, prec, packet.at, words);
+        match settle(&mut self.pool, packet, verdict, room) {
+            Ok(dropped) => {
+                self.latest = packet.at;
+                self.totals.arrived += 1;
+                self.totals.dropped += lost(&dropped);
+                Ok(dropped)
+            }
+            Err(_) => Err(NoMemory),
+        }
     }
 
     /// The next event of the play, given the moment of the next arrival, if there is one: the offer of that arrival if it comes up to
@@ -141,7 +148,7 @@ impl Progress {
     }
 }
 
-// How many packets came back: one or none.
+// How many packets were dropped: one or none.
 fn lost(dropped: &Option<Dropped>) -> u64
     ensures { result ≡ (if is_some dropped.now then 1 else 0) }
 {
@@ -151,27 +158,57 @@ fn lost(dropped: &Option<Dropped>) -> u64
     }
 }
 
-// Puts a packet into the pool, marked or not, or hands it back, by its verdict.
+// Puts a packet into the pool, marked or not, or tells of its drop, by its verdict.
 #[inline(always)]
-fn settle(pool: &mut Pool, packet: Packet, verdict: Verdict) -> Option<Dropped>
+fn settle(
+    pool: &mut Pool,
+    packet: &LentPacket<'_>,
+    verdict: Verdict,
+    room: &mut Vec<u8>,
+) -> Result<Option<Dropped>, NoMemory>
     requires { count_of pool.old < pool.old.room }
-    ensures held { (t : ℕ) (other : Packet) → packet_of pool.old t ≡ Some other → packet_of pool.new t ≡ Some other }
-    ensures marks { (t : ℕ) (other : Packet) → packet_of pool.old t ≡ Some other → is_marked pool.new t ≡ is_marked pool.old t }
-    ensures kept { is_kept verdict ≡ true → packet_of pool.new pool.old.next ≡ Some packet }
-    ensures mark { is_kept verdict ≡ true → is_marked pool.new pool.old.next ≡ is_mark verdict }
-    ensures count { count_of pool.new ≡ count_of pool.old + one_kept verdict }
-    ensures room { pool.new.room ≡ pool.old.room }
-    ensures told { result ≡ handed_back verdict packet }
+    ensures held { OnOk result ((t : ℕ) (other : Packet) → packet_of pool.old t ≡ Some other → packet_of pool.new t ≡ Some other) }
+    ensures marks { OnOk result ((t : ℕ) (other : Packet) → packet_of pool.old t ≡ Some other → is_marked pool.new t ≡ is_marked pool.old t) }
+    ensures kept { OnOk result (is_kept verdict ≡ true → packet_of pool.new pool.old.next ≡ Some (packet_of_lent packet.now)) }
+    ensures mark { OnOk result (is_kept verdict ≡ true → is_marked pool.new pool.old.next ≡ is_mark verdict) }
+    ensures count { OnOk result (count_of pool.new ≡ count_of pool.old + one_kept verdict) }
+    ensures room { OnOk result (pool.new.room ≡ pool.old.room) }
+    ensures told { IfOk result (λ dropped. dropped ≡ drop_of verdict packet.now) }
 {
-    match verdict {
-        Verdict::Keep => {
-            pool.put(packet, false);
-            None
+    let marked = match verdict {
+        Verdict::Keep => false,
+        Verdict::Mark => true,
+        Verdict::Drop(reason) => {
+            return Ok(Some(Dropped {
+                number: packet.number,
+                at: packet.at,
+                len: packet.len,
+                reason,
+            }));
         }
-        Verdict::Mark => {
-            pool.put(packet, true);
-            None
+    };
+    match held(packet, room) {
+        Ok(packet) => {
+            pool.put(packet, marked);
+            Ok(None)
         }
-        Verdict::Drop(reason) => Some(Dropped { packet, reason }),
+        Err(_) => Err(NoMemory),
     }
+}
+
+// The packet with its bytes, which are copied into the memory of `room`.
+#[inline(always)]
+fn held(packet: &LentPacket<'_>, room: &mut Vec<u8>) -> Result<Packet, NoMemory>
+    ensures { IfOk result (λ held. held ≡ packet_of_lent packet.now) }
+{
+    let empty = Vec::new(*room.allocator());
+    let mut bytes = replace(room, empty);
+    bytes.clear();
+    bytes.extend_from_slice(packet.bytes)?;
+    Ok(Packet {
+        number: packet.number,
+        at: packet.at,
+        len: packet.len,
+        bytes: Bytes::of(bytes),
+    })
 }

@@ -1,11 +1,22 @@
-// What a play hands back of its packets.
+// What a play takes and hands back of its packets.
 use altq_model::{Reason, Rule};
 use play_base::Packet;
 
-/// A packet that was dropped, and why.
-#[derive(Drop)]
+/// A packet that is offered. The bytes that were captured of it are lent: they are copied only where its queue keeps it.
+#[derive(Clone, Copy)]
+pub struct LentPacket<'a> {
+    pub number: u64,
+    pub at: u64,
+    pub len: u32,
+    pub bytes: &'a [u8],
+}
+
+/// A packet that was dropped: its number from 1, its arrival in nanoseconds, its length in bytes, and why.
+#[derive(Clone, Copy)]
 pub struct Dropped {
-    pub packet: Packet,
+    pub number: u64,
+    pub at: u64,
+    pub len: u32,
     pub reason: Reason,
 }
 

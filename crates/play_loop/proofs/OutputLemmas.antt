@@ -1,7 +1,7 @@
 -- What writes to the two output files leave of both texts.
 use Rattle.std.proofs.Common.{◌≡◌, ◌++◌, ◌∙◌, ℕ, List, [], refl}
 use Rattle.std.proofs.lemmas.List.{append-nil}
-use Rattle.std.specs.Prelude.{IsSome}
+use Rattle.std.specs.Prelude.{IsSome, Result}
 use Rattle.std.specs.declared.option.Option.{Option}
 use Rattle.capture_model.specs.Header.{capture_header}
 use Rattle.play_base.specs.View.{View, Any, Keeps, Wrote, WroteFront}
@@ -12,7 +12,8 @@ use Rattle.gathered_writes.proofs.GatheredLaws.{text_grew, text_stopped, text_be
 use Rattle.gathered_writes.proofs.GatherLemmas.{grew_whole, stopped_at_front, stopped_whole}
 use Rattle.play_loop.specs.declared.outputs.Outputs.{Outputs}
 use Rattle.play_loop.specs.declared.spare.Spare.{Spare}
-use Rattle.play_loop.specs.Outputs.{TextsAre, FrontsAre, SameFiles}
+use Rattle.play_loop.specs.declared.fault.PlayFault.{PlayFault}
+use Rattle.play_loop.specs.Outputs.{AddsOnly, TextsAre, FrontsAre, SameFiles}
 use Rattle.play_loop.specs.Played.{AreEmpty}
 
 module _ {u : View} {dep fat : ℕ} {recs rows ds ts : List ℕ} (h : TextsAre u dep fat recs rows ds ts) where
@@ -85,6 +86,9 @@ same_trans x y = record { departures = y.departures ∙ x.departures; fates = y.
 -- whatever memory is left to the next packet read
 pub same_spare : {a b : Outputs} {spare : Spare} → SameFiles a b → SameFiles a (record b { spare = spare })
 same_spare x = record { departures = x.departures; fates = x.fates }
+
+pub only_spare : {A : Type 0} {u v : View} {a b : Outputs} {spare : Spare} {r : Result A PlayFault} → AddsOnly u v a b r → AddsOnly u v a (record b { spare = spare }) r
+only_spare x = record { same = same_spare x.same; others = x.others; no_fault = x.no_fault; why = x.why }
 
 pub fronts_files : {v : View} {dep fat dep' fat' : ℕ} {ds ts : List ℕ} → dep ≡ dep' → fat ≡ fat' → FrontsAre v dep fat ds ts → FrontsAre v dep' fat' ds ts
 fronts_files d f h = rw (← d, ← f) h

@@ -34,7 +34,7 @@ module _ {place : List ℕ → Placed} {arrived : List Captured} {g : List Happe
 module _ {x : Setup} {m : Moment} {arrived : List Captured} {w : DrawnWords} {g : List Happened} {p : Arriving} (u : IsUnderway x m arrived w g) where
   -- it may be offered: it is placed in a class of the policy
   pub held_class : {k : List Happened} → IsHeld x.place arrived k p → IsOneOf p.placed.class m.shown.policy.classes
-  held_class h = rw (u.setup.policy, h.placed_is) (u.setup.sound.held p.packet.bytes)
+  held_class h = rw (u.setup.policy, h.placed_is) (u.setup.sound.held p.packet.bytes.now)
 
   -- its offer is due once every sending before it was made
   pub offers_it : {arrival : Option ℕ} → IsHeld x.place arrived g p → AreMade x arrived g arrival

@@ -15,8 +15,7 @@ use Rattle.play_text.specs.Texts.{fates_header}
 use Rattle.pcap_files.specs.declared.fault.CaptureFault.{CaptureFault}
 use Rattle.pcap_files.specs.declared.fault.CaptureFault.TheVariants as fault
 use Rattle.pcap_files.specs.declared.reader.Reader.{Reader}
-use Rattle.pcap_files.specs.declared.record.Record.{Record as Read}
-use Rattle.pcap_files.specs.Reading.{Answers, Counts as NextCounts, IsWhole, StandsFor, Shows, answered}
+use Rattle.pcap_files.specs.Reading.{Answers, Counts as NextCounts, IsWhole, StandsFor, Shows, Told, answered}
 use Rattle.pcap_files.proofs.ReadingLaws.{answered_front, one_reading, stands_kept}
 use Rattle.play_base.specs.View.{View, Keeps, Any, ReadFault}
 use Rattle.play_base.proofs.ViewLaws.{rose_later, still_there}
@@ -117,7 +116,7 @@ under_kept u k = record {
 -- one more packet was read and counted
 under_read : {x : Setup} {m : Moment} {o : Outputs} {arrived : List Captured} {w : DrawnWords} {g : List Happened} (a : Arriving) → IsUnderway x m arrived w g → EndsWithOffer g
     → last_at 0 (bare_arrivals arrived) ≤ a.packet.at → length arrived < most_records → IsWithin a → o ≡ record m.outputs { counts = o.counts }
-    → o.counts.items ≡ count_at x.names (x.place a.packet.bytes).class (Arrived a.packet.len a.raised) m.outputs.counts.items
+    → o.counts.items ≡ count_at x.names (x.place a.packet.bytes.now).class (Arrived a.packet.len a.raised) m.outputs.counts.items
     → IsUnderway x (record m { outputs = o }) (arrived ++ arrival_of x.place a ∷ []) w g
 under_read {x} {m} {o} {arrived} {w} {g} a u last l few i same more_is =
     let b : Captured = arrival_of x.place a in
@@ -147,7 +146,7 @@ of_some {A} P o a e h = let Q : Option A → Type 0 = λ k. IfSome k P in subst 
 pub of_none : {A : Type 0} (P : Type 0) (o : Option A) → o ≡ None → IfNone o P → P
 of_none {A} P o e h = let Q : Option A → Type 0 = λ k. IfNone k P in subst Q e h
 
-arrival_made : (place : List ℕ → Placed) (answer : Read) (top now count : ℕ) (a : Arriving) (s : Record) → IsRead answer top a → now ≡ top → Shows answer count s
+arrival_made : (place : List ℕ → Placed) (answer : Told) (top now count : ℕ) (a : Arriving) (s : Record) → IsRead answer top a → now ≡ top → Shows answer count s
     → arrival_of place a ≡ record {
       at = max now s.stamp;
       len = max s.original (length s.captured);
@@ -158,7 +157,7 @@ arrival_made : (place : List ℕ → Placed) (answer : Read) (top now count : �
     }
 arrival_made place answer top now count a s i e y = cc (i.at, i.len, i.bytes, i.raised, e, y.stamp, y.len, y.bytes)
 
-read_record : {place : List ℕ → Placed} {v v' : View} {r r' : Reader} {bytes : List ℕ} {arrived : List Captured} {top : ℕ} {answer : Read} (a : Arriving) → IsRead answer top a
+read_record : {place : List ℕ → Placed} {v v' : View} {r r' : Reader} {bytes : List ℕ} {arrived : List Captured} {top : ℕ} {answer : Told} (a : Arriving) → IsRead answer top a
     → (h : HasRead place v r bytes arrived top)
     → (s : Record) × Shows answer (length h.records) s × StandsFor v' r' bytes (h.records ++ s ∷ [])
     → HasReadOne place v' r' bytes (arrived ++ arrival_of place a ∷ []) top a.packet.at
@@ -176,15 +175,16 @@ read_record {place} {top = top} {answer} a i h y =
     }
 
 -- what a reader's answer and its arrival show: the packet is the next by number, placed and counted
-pub record HasArrived (x : Setup) (m : Moment) (answer : Read) (top : ℕ) (a : Arriving) (ks : List Counts) : Type 0 where
+pub record HasArrived (x : Setup) (m : Moment) (answer : Told) (top : ℕ) (a : Arriving) (ks : List Counts) : Type 0 where
   pub read : IsRead answer top a
   pub number : a.packet.number ≡ m.progress.totals.arrived + 1
-  pub placed : a.placed ≡ x.place a.packet.bytes
+  pub placed : a.placed ≡ x.place a.packet.bytes.now
   pub within : IsWithin a
-  pub counted : ks ≡ count_at x.names (x.place a.packet.bytes).class (Arrived a.packet.len a.raised) m.outputs.counts.items
+  pub few : answer.number ≤ 4000000
+  pub counted : ks ≡ count_at x.names (x.place a.packet.bytes.now).class (Arrived a.packet.len a.raised) m.outputs.counts.items
 
 pub coming : {F : ℕ → Type 0} {x : Setup} {m : Moment} {v : View} {o : Outputs} {w : DrawnWords} {told : List ℕ → Type 0} {r r' : Reader} {top : ℕ} {arrived : List Captured} {g : List Happened}
-    (answer : Read) (a : Arriving) → IsReading x m w told r top arrived g → Keeps Any F m.files v → Answers m.files v r r' answer → NextCounts r r' answer
+    (answer : Told) (a : Arriving) → IsReading x m w told r top arrived g → Keeps Any F m.files v → Answers m.files v r r' answer → NextCounts r r' answer
     → HasArrived x m answer top a o.counts.items → o ≡ record m.outputs { counts = o.counts; spare = o.spare }
     → IsComing x (record m { files = v; outputs = o }) w told r' a (arrived ++ arrival_of x.place a ∷ []) g
 coming {x = x} {o = o} {w = w} {top = top} {arrived = arrived} {g = g} answer a z k answers counts c same =
@@ -192,7 +192,7 @@ coming {x = x} {o = o} {w = w} {top = top} {arrived = arrived} {g = g} answer a 
     let size = length-append arrived (b ∷ []) in
     let number : a.packet.number ≡ offered (bare g) + 1 = omega (arith, c.number, z.under.going.totals.arrived) in
     record {
-      under = under_read a (under_kept {spare = o.spare} z.under k) z.last (omega (arith, z.last_is, c.read.at)) (omega (arith, z.counted, counts.number, answer.counted)) c.within same c.counted;
+      under = under_read a (under_kept {spare = o.spare} z.under k) z.last (omega (arith, z.last_is, c.read.at)) (omega (arith, z.counted, counts.number, c.few)) c.within same c.counted;
       held = record {
         there = ap (λ (n : ℕ). slice_get (arrived ++ b ∷ []) n) z.offers ∙ there_push arrived b;
         packet_is = ap (λ (n : ℕ). numbered n b) number;

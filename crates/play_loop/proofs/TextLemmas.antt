@@ -24,7 +24,8 @@ use Rattle.play_laws.proofs.DepartureLemmas.{arrival_stays, written-append}
 use Rattle.play_core.specs.declared.turn.Departure.{Departure}
 use Rattle.play_core.specs.declared.turn.Dropped.{Dropped}
 use Rattle.play_core.specs.Going.{numbered}
-use Rattle.play_core.specs.Turns.{departs, handed_back}
+use Rattle.play_core.specs.Turns.{departs, packet_of_lent, drop_of}
+use Rattle.play_core.specs.declared.turn.LentPacket.{LentPacket}
 use Rattle.class_counts.specs.Fit.{IsFit, AreFit}
 use Rattle.play_loop.specs.declared.kept.Kept.{Kept}
 use Rattle.play_loop.specs.declared.kept.KeptFate.{KeptFate}
@@ -97,30 +98,37 @@ pub departures_offered : (dress : Dressing) (p : Policy) (seed : ℕ) (arrived :
     → departures dress arrived g ≡ departures dress arrived (offer_of p seed g a ∷ g)
 departures_offered dress p seed arrived g a = ap (λ (rs : List Record). written rs) (sym (append-nil (departed dress arrived g)))
 
-rows_offered : (names : Naming) (arrived : List Captured) (n class : ℕ) (a : Captured) (packet : Packet) (v : Verdict) → arrival arrived n ≡ a → packet ≡ numbered n a → class ≡ a.class
-    → option_map_or (dropped_row names class) (handed_back v packet) [] ≡ fate_rows names arrived (dropped_by v n)
+rows_offered : (names : Naming) (arrived : List Captured) (n class : ℕ) (a : Captured) (packet : LentPacket) (v : Verdict) → arrival arrived n ≡ a → packet_of_lent packet ≡ numbered n a → class ≡ a.class
+    → option_map_or (dropped_row names class) (drop_of v packet) [] ≡ fate_rows names arrived (dropped_by v n)
 rows_offered names arrived n class a packet Keep e f h = refl
 rows_offered names arrived n class a packet Mark e f h = refl
-rows_offered names arrived n class a packet (Drop r) e f h = rw (f, h, ← e) (sym (append-nil (fate_row names arrived (n, fate.Dropped r))))
+rows_offered names arrived n class a packet (Drop r) e f h =
+    let number : packet.number ≡ n = ap (λ (k : Packet). k.number) f in
+    let at : packet.at ≡ a.at = ap (λ (k : Packet). k.at) f in
+    let len : packet.len ≡ a.len = ap (λ (k : Packet). k.len) f in
+    rw (number, at, len, h, ← e) (sym (append-nil (fate_row names arrived (n, fate.Dropped r))))
 
-drop_told : (arrived : List Captured) (n : ℕ) (a : Captured) (packet : Packet) (v : Verdict) → arrival arrived n ≡ a → packet ≡ numbered n a
-    → option_map_or (λ (d : Dropped). dropped_fate d ∷ []) (handed_back v packet) [] ≡ kept_fates arrived (dropped_by v n)
+drop_told : (arrived : List Captured) (n : ℕ) (a : Captured) (packet : LentPacket) (v : Verdict) → arrival arrived n ≡ a → packet_of_lent packet ≡ numbered n a
+    → option_map_or (λ (d : Dropped). dropped_fate d ∷ []) (drop_of v packet) [] ≡ kept_fates arrived (dropped_by v n)
 drop_told arrived n a packet Keep e f = refl
 drop_told arrived n a packet Mark e f = refl
-drop_told arrived n a packet (Drop r) e f = rw (f, ← e) refl
+drop_told arrived n a packet (Drop r) e f =
+    let number : packet.number ≡ n = ap (λ (k : Packet). k.number) f in
+    let at : packet.at ≡ a.at = ap (λ (k : Packet). k.at) f in
+    rw (number, at, ← e) refl
 
 abbrev verdict_of : Policy → (seed : ℕ) → List Happened → Captured → Verdict
 verdict_of p seed g a = (p.answer (bare g) (record { seed = seed; drawn = drawn (bare g) }) (bare_arrival a)).verdict
 
-module _ (p : Policy) (seed : ℕ) (arrived : List Captured) (g : List Happened) (a : Captured) (packet : Packet)
-    (e : arrival arrived (offered (bare g) + 1) ≡ a) (f : packet ≡ numbered (offered (bare g) + 1) a) where
+module _ (p : Policy) (seed : ℕ) (arrived : List Captured) (g : List Happened) (a : Captured) (packet : LentPacket)
+    (e : arrival arrived (offered (bare g) + 1) ≡ a) (f : packet_of_lent packet ≡ numbered (offered (bare g) + 1) a) where
   pub fates_offered : (names : Naming) (class : ℕ) → class ≡ a.class
-      → fates names arrived (journal g) ++ option_map_or (dropped_row names class) (handed_back (verdict_of p seed g a) packet) [] ≡ fates names arrived (journal (offer_of p seed g (bare_arrival a) ∷ g))
+      → fates names arrived (journal g) ++ option_map_or (dropped_row names class) (drop_of (verdict_of p seed g a) packet) [] ≡ fates names arrived (journal (offer_of p seed g (bare_arrival a) ∷ g))
   fates_offered names class h =
       ap (λ (t : List ℕ). fates names arrived (journal g) ++ t) (rows_offered names arrived (offered (bare g) + 1) class a packet (verdict_of p seed g a) e f h)
       ∙ sym (fates-append names arrived (journal g) (dropped_by (verdict_of p seed g a) (offered (bare g) + 1)))
 
-  pub told_offered : kept_fates arrived (journal g) ++ option_map_or (λ (d : Dropped). dropped_fate d ∷ []) (handed_back (verdict_of p seed g a) packet) []
+  pub told_offered : kept_fates arrived (journal g) ++ option_map_or (λ (d : Dropped). dropped_fate d ∷ []) (drop_of (verdict_of p seed g a) packet) []
       ≡ kept_fates arrived (journal (offer_of p seed g (bare_arrival a) ∷ g))
   told_offered =
       ap (λ (t : List KeptFate). kept_fates arrived (journal g) ++ t) (drop_told arrived (offered (bare g) + 1) a packet (verdict_of p seed g a) e f)

@@ -10,11 +10,12 @@ use Rattle.play_base.specs.View.{View}
 use Rattle.play_text.specs.Names.{name_of}
 use Rattle.play_core.specs.declared.turn.Departure.{Departure}
 use Rattle.play_core.specs.declared.turn.Dropped.{Dropped}
-use Rattle.play_core.specs.Turns.{departs, handed_back}
+use Rattle.play_core.specs.Turns.{departs, drop_of}
 use Rattle.play_core.proofs.OfferLemmas.{is_bare_arrival}
 use Rattle.play_loop.specs.declared.arriving.Arriving.{Arriving}
 use Rattle.play_loop.specs.declared.kept.KeptFate.{KeptFate}
 use Rattle.play_loop.specs.declared.outputs.Outputs.{Outputs}
+use Rattle.play_loop.specs.declared.spare.Spare.{Spare}
 use Rattle.class_counts.specs.Counting.{HasCounted}
 use Rattle.play_loop.specs.KeptFates.{dropped_fates, kept_fates, sent_fate}
 use Rattle.play_loop.specs.Outputs.{AddsDropped, AddsSent, HasFronts, SameFiles, StopsDropped, StopsSent, dropped_counts, dropped_rows}
@@ -45,11 +46,16 @@ module _ {x : Setup} {l : Moment} {arrived : List Captured} {w : DrawnWords} {g 
         (fronts_same (departures_sent g s.leaves x.dress s.mark_is) (fates_sent g s.leaves (name_of x.names)) (stops _ _ y));
   }
 
--- the offer of the next packet, and what was handed back of it
+-- whatever memory is left to the next packet that is kept
+pub written_spare : {x : Setup} {v : View} {o : Outputs} {spare : Spare} {told : List KeptFate → Type 0} {arrived : List Captured} {g : List Happened} → AreWritten x v o told arrived g
+    → AreWritten x v (record o { spare = spare }) told arrived g
+written_spare y = record { given = y.given; counted = y.counted; was_told = y.was_told; fit = y.fit }
+
+-- the offer of the next packet, and what was told of it
 pub record IsOffered (x : Setup) (m : Moment) (arrived : List Captured) (w : DrawnWords) (g : List Happened) (a : Arriving) (back : Option Dropped) : Type 0 where
   pub held : IsHeld x.place arrived g a
   pub words : w.drawn ≡ drawn (bare g)
-  pub back_is : back ≡ handed_back (m.shown.policy.answer (bare g) w (bare_arrival (arrival_of x.place a))).verdict a.packet
+  pub back_is : back ≡ drop_of (m.shown.policy.answer (bare g) w (bare_arrival (arrival_of x.place a))).verdict a.packet
 
 -- the history with it
 abbrev pub offered_by : Setup → Moment → DrawnWords → List Happened → Arriving → List Happened
@@ -61,10 +67,10 @@ pub record IsOfferMade (x : Setup) (m n : Moment) (arrived : List Captured) (w v
   pub on : IsOn x n arrived v (offered_by x m w g a)
 
 module _ {x : Setup} {l : Moment} {arrived : List Captured} {w : DrawnWords} {g : List Happened} {a : Arriving} {back : Option Dropped} (o : IsOffered x l arrived w g a back) where
-  back_of : back ≡ handed_back (l.shown.policy.answer (bare g) (record { seed = w.seed; drawn = drawn (bare g) }) (bare_arrival (arrival_of x.place a))).verdict a.packet
+  back_of : back ≡ drop_of (l.shown.policy.answer (bare g) (record { seed = w.seed; drawn = drawn (bare g) }) (bare_arrival (arrival_of x.place a))).verdict a.packet
   back_of =
       o.back_is
-      ∙ ap (λ (n : ℕ). handed_back (l.shown.policy.answer (bare g) (record { seed = w.seed; drawn = n }) (bare_arrival (arrival_of x.place a))).verdict a.packet) o.words
+      ∙ ap (λ (n : ℕ). drop_of (l.shown.policy.answer (bare g) (record { seed = w.seed; drawn = n }) (bare_arrival (arrival_of x.place a))).verdict a.packet) o.words
 
   -- the row that it adds, what it tells, and what it counts
   rows_after : fates_of x arrived g ++ dropped_rows (name_of x.names) a.placed.class back ≡ fates_of x arrived (offered_by x l w g a)

@@ -26,7 +26,7 @@ abbrev pub sent_fate : Departure → KeptFate
 sent_fate d = record { number = d.packet.number; arrival = d.packet.at; fate = fate.Sent d.start d.end d.rule }
 
 abbrev pub dropped_fate : Dropped → KeptFate
-dropped_fate d = record { number = d.packet.number; arrival = d.packet.at; fate = fate.Dropped d.reason }
+dropped_fate d = record { number = d.number; arrival = d.at; fate = fate.Dropped d.reason }
 
 -- of one that was dropped, or of none
 abbrev pub dropped_fates : Option Dropped → List KeptFate

@@ -69,7 +69,7 @@ sent_row names d = fate_text d.packet.number d.packet.at d.packet.len (names d.c
 
 -- the row of a packet that was dropped
 abbrev pub dropped_row : Naming → (class : ℕ) → Dropped → List ℕ
-dropped_row names class d = fate_text d.packet.number d.packet.at d.packet.len (names class) (fate.Dropped d.reason)
+dropped_row names class d = fate_text d.number d.at d.len (names class) (fate.Dropped d.reason)
 
 -- what trouble with an output means for the play
 abbrev pub output_fault : Output → Trouble → PlayFault

@@ -5,8 +5,7 @@ use Rattle.altq_model.specs.Arrivals.{Captured, arrivals_of}
 use Rattle.altq_model.specs.Lawful.{greatest}
 use Rattle.capture_model.specs.Capture.{Record}
 use Rattle.pcap_files.specs.declared.reader.Reader.{Reader}
-use Rattle.pcap_files.specs.declared.record.Record.{Record as Read}
-use Rattle.pcap_files.specs.Reading.{StandsFor}
+use Rattle.pcap_files.specs.Reading.{StandsFor, Told}
 use Rattle.play_base.specs.Holds.{Apart}
 use Rattle.play_base.specs.View.{View}
 use Rattle.play_loop.specs.declared.arriving.Arriving.{Arriving}
@@ -17,9 +16,9 @@ abbrev pub arrival_of : (List ℕ → Placed) → Arriving → Captured
 arrival_of place p = record {
   at = p.packet.at;
   len = p.packet.len;
-  class = (place p.packet.bytes).class;
-  prec = (place p.packet.bytes).prec;
-  bytes = p.packet.bytes;
+  class = (place p.packet.bytes.now).class;
+  prec = (place p.packet.bytes.now).prec;
+  bytes = p.packet.bytes.now;
   raised = p.raised;
 }
 
@@ -28,13 +27,13 @@ pub record IsWithin (p : Arriving) : Type 0 where
   pub early : p.packet.at < 2 ^ 62
   pub some : 1 ≤ p.packet.len
   pub short : p.packet.len ≤ 262144
-  pub fits : length p.packet.bytes ≤ p.packet.len
+  pub fits : length p.packet.bytes.now ≤ p.packet.len
 
 -- what an answer of the reader shows of a record makes its arrival
-pub record IsRead (answer : Read) (top : ℕ) (a : Arriving) : Type 0 where
+pub record IsRead (answer : Told) (top : ℕ) (a : Arriving) : Type 0 where
   pub at : a.packet.at ≡ max top answer.stamp
   pub len : a.packet.len ≡ answer.len
-  pub bytes : a.packet.bytes ≡ answer.bytes
+  pub bytes : a.packet.bytes.now ≡ answer.bytes
   pub raised : a.raised ≡ nat_lt answer.stamp top
 
 -- a reader that answered nothing yet stands for these bytes, where the files tell them

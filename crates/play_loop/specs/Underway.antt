@@ -14,7 +14,7 @@ use Rattle.play_core.specs.declared.state.Progress.{Progress}
 use Rattle.play_core.specs.Ended.{IsBegun, IsCutOff}
 use Rattle.play_core.specs.Finished.{EndsWithOffer}
 use Rattle.play_core.specs.Going.{IsGoing, numbered}
-use Rattle.play_core.specs.Turns.{IsNext, arrives}
+use Rattle.play_core.specs.Turns.{IsNext, arrives, packet_of_lent}
 use Rattle.play_loop.specs.declared.arriving.Arriving.{Arriving}
 use Rattle.play_loop.specs.declared.ending.Due.{Due}
 use Rattle.play_loop.specs.declared.ending.Due.TheVariants.{Made, Late}
@@ -111,8 +111,8 @@ DueIs Late x arrived g arrival = IsCutOff x.policy x.rate x.seed (bare_arrivals 
 -- this arrival was read, is placed by its bytes and is the next to be offered
 pub record IsHeld (place : List ℕ → Placed) (arrived : List Captured) (g : List Happened) (p : Arriving) : Type 0 where
   pub there : slice_get arrived (offered (bare g)) ≡ Some (arrival_of place p)
-  pub packet_is : p.packet ≡ numbered (offered (bare g) + 1) (arrival_of place p)
-  pub placed_is : p.placed ≡ place p.packet.bytes
+  pub packet_is : packet_of_lent p.packet ≡ numbered (offered (bare g) + 1) (arrival_of place p)
+  pub placed_is : p.placed ≡ place p.packet.bytes.now
 
 -- as many packets were offered, and none later
 abbrev pub SameOffers : (before after : List Happened) → Type 0

@@ -379,11 +379,11 @@ fn play_records<D: Discipline, C: Classify, F: Files, K: Keeper>(
 {
     let mut latest = 0;
     'records: loop {
-        let found = match reader.next(files, outputs.spare.room()) {
+        let found = match reader.next(files) {
             Ok(found) => found,
             Err(fault) => return Ok(Ending::Cut(fault)),
         };
-        let Some(record) = found else {
+        let Some(found) = found else {
             return match send_due(
                 progress, discipline, classify, names, None, outputs, keeper, files,
             ) {
@@ -392,12 +392,13 @@ fn play_records<D: Discipline, C: Classify, F: Files, K: Keeper>(
                 Err(fault) => Err(fault),
             };
         };
+        let record = reader.lend(found);
         let number = progress.totals().arrived + 1;
         let counts = &mut outputs.counts;
-        let arriving = arrive(record, classify, names, number, latest, counts);
+        let arriving = arrive(&record, classify, names, number, latest, counts);
         latest = arriving.packet.at;
         match play_packet(
-            progress, discipline, classify, names, words, arriving, outputs, keeper, files,
+            progress, discipline, classify, names, words, &arriving, outputs, keeper, files,
         ) {
             Ok(Due::Made) => {}
             Ok(Due::Late) => return Ok(Ending::Late),

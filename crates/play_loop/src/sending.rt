@@ -69,7 +69,7 @@ pub fn play_packet<D: Discipline, C: Classify, F: Files, K: Keeper>(
     classify: &C,
     names: &Names,
     words: &mut Words,
-    arriving: Arriving,
+    arriving: &Arriving<'_>,
     outputs: &mut Outputs,
     keeper: &mut K,
     files: &mut F,
@@ -77,19 +77,18 @@ pub fn play_packet<D: Discipline, C: Classify, F: Files, K: Keeper>(
     requires under { (x : Setup) × (arrived : List Captured) × (g : List Happened)
         × IsUnderway (classed (classing (C.placed classify.now) (C.dressed classify.now) names.now) x)
         (moment (shown D.policy D.stands D.lists D.limits D.link_rate discipline.old) (F.view files.old) outputs.old (K.told keeper.old) progress.old) arrived words.old g
-        × IsHeld (C.placed classify.now) arrived g arriving }
-    requires within { IsWithin arriving }
+        × IsHeld (C.placed classify.now) arrived g arriving.now }
+    requires within { IsWithin arriving.now }
     ensures due { IfOk result (OffersTo (classing (C.placed classify.now) (C.dressed classify.now) names.now)
         (moment (shown D.policy D.stands D.lists D.limits D.link_rate discipline.old) (F.view files.old) outputs.old (K.told keeper.old) progress.old)
-        (moment (shown D.policy D.stands D.lists D.limits D.link_rate discipline.new) (F.view files.new) outputs.new (K.told keeper.new) progress.new) words.old words.new arriving) }
+        (moment (shown D.policy D.stands D.lists D.limits D.link_rate discipline.new) (F.view files.new) outputs.new (K.told keeper.new) progress.new) words.old words.new arriving.now) }
     ensures broken { OnErr result (OffersBroken (classing (C.placed classify.now) (C.dressed classify.now) names.now)
         (moment (shown D.policy D.stands D.lists D.limits D.link_rate discipline.old) (F.view files.old) outputs.old (K.told keeper.old) progress.old)
-        (F.view files.new) words.old arriving) }
+        (F.view files.new) words.old arriving.now) }
     ensures only { AddsOnly (F.view files.old) (F.view files.new) outputs.old outputs.new result }
     ensures before { K.before keeper.new ≡ K.before keeper.old }
 {
-    let packet = arriving.packet;
-    let placed = arriving.placed;
+    let Arriving { packet, placed, .. } = *arriving;
     let at = Some(packet.at);
     match send_due(
         progress, discipline, classify, names, at, outputs, keeper, files,
@@ -98,7 +97,11 @@ pub fn play_packet<D: Discipline, C: Classify, F: Files, K: Keeper>(
         Ok(Due::Late) => return Ok(Due::Late),
         Err(fault) => return Err(fault),
     }
-    let dropped = progress.offer(discipline, words, packet, placed);
+    let room = outputs.spare.room();
+    let dropped = match progress.offer(discipline, words, &packet, placed, room) {
+        Ok(dropped) => dropped,
+        Err(_) => return Err(PlayFault::NoMemory),
+    };
     match add_dropped(files, outputs, keeper, names, placed.class, dropped) {
         Ok(()) => Ok(Due::Made),
         Err(fault) => Err(fault),

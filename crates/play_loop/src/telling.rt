@@ -35,8 +35,8 @@ fn dropped_fate(dropped: &Dropped) -> KeptFate
     ensures { result ≡ dropped_fate dropped.now }
 {
     KeptFate {
-        number: dropped.packet.number,
-        arrival: dropped.packet.at,
+        number: dropped.number,
+        arrival: dropped.at,
         fate: Fate::Dropped(dropped.reason),
     }
 }

@@ -12,7 +12,7 @@ use crate::{Output, PlayFault};
 use altq_model::{Counts, Fate};
 use class_counts::{Counted, count};
 use discipline::Classify;
-use gathered_writes::{flush, flush_rows, gather_record, gather_row};
+use gathered_writes::{FateRow, flush, flush_rows, gather_record, gather_row};
 use play_base::{Files, write_all};
 use play_core::{Departure, Dropped};
 use play_text::{Names, stats_text};
@@ -56,14 +56,18 @@ pub fn write_sent<C: Classify, F: Files>(
         Ok(()) => {}
         Err(trouble) => return Err(output_fault(Output::Departures, trouble)),
     }
-    let packet = &departure.packet;
-    let fate = Fate::Sent {
-        start: departure.start,
-        end: departure.end,
-        rule: departure.rule,
+    let row = FateRow {
+        number: departure.packet.number,
+        at: departure.packet.at,
+        len: departure.packet.len,
+        class,
+        fate: Fate::Sent {
+            start: departure.start,
+            end: departure.end,
+            rule: departure.rule,
+        },
     };
-    let file = outputs.fates;
-    match gather_row(files, file, &mut outputs.rows, names, class, packet, &fate) {
+    match gather_row(files, outputs.fates, &mut outputs.rows, names, row) {
         Ok(()) => {
             outputs.spare.leave(departure.packet.bytes);
             Ok(())
@@ -87,15 +91,22 @@ pub fn write_dropped<F: Files>(
     ensures stopped { OnErr result (StopsDropped names.now (F.view files.old) (F.view files.new) outputs.old class (Some dropped)) }
     ensures only { AddsOnly (F.view files.old) (F.view files.new) outputs.old outputs.new result }
 {
-    let Dropped { packet, reason } = dropped;
+    let Dropped {
+        number,
+        at,
+        len,
+        reason,
+    } = dropped;
     count(&mut outputs.counts, names, class, Counted::Dropped(reason));
-    let fate = Fate::Dropped(reason);
-    let file = outputs.fates;
-    match gather_row(files, file, &mut outputs.rows, names, class, &packet, &fate) {
-        Ok(()) => {
-            outputs.spare.leave(packet.bytes);
-            Ok(())
-        }
+    let row = FateRow {
+        number,
+        at,
+        len,
+        class,
+        fate: Fate::Dropped(reason),
+    };
+    match gather_row(files, outputs.fates, &mut outputs.rows, names, row) {
+        Ok(()) => Ok(()),
         Err(trouble) => Err(output_fault(Output::Fates, trouble)),
     }
 }

@@ -3,8 +3,8 @@ use Rattle.std.specs.Prelude.{Err, IfSome}
 use Rattle.std.specs.declared.option.Option.{Option}
 use Rattle.std.proofs.lemmas.Grind.{common_steps}
 use Rattle.pcap_files.specs.declared.fault.CaptureFault.TheVariants as fault
-use Rattle.pcap_files.specs.declared.record.Record.{Record as Answer}
-use Rattle.pcap_files.specs.Reading.{Counts}
+use Rattle.pcap_files.specs.declared.record.Found.{Found}
+use Rattle.pcap_files.specs.Reading.{Counts, told_by}
 use Rattle.input_files.specs.Records.{shown_by}
 use Rattle.play_base.proofs.ViewLaws.{same_trans, still_there}
 use Rattle.input_files.proofs.RecordLemmas.{fault_later, head_fault, read_more, some_more}
@@ -44,10 +44,10 @@ returns-then-is_err-clause-some g c = some_more _ _ _ _ _ c.records.invariant.fi
 
 pub records-preserved : goal.records-preserved
 records-preserved g c =
-    let grown : c.add.new.self ≡ c.records.records ++ shown_by c.in-Some.record ∷ [] = grind (arith, common_steps, c.add.ensures, c.if-is_err.ensures.value) in
-    let longer : length c.add.new.self ≡ length c.records.records + 1 = ap length grown ∙ length-append c.records.records (shown_by c.in-Some.record ∷ []) in
-    let W : Option Answer → Type 0 = λ x. IfSome x (λ y. Counts c.records.reader c.next.new.self y) in
-    let counts : Counts c.records.reader c.next.new.self c.in-Some.record = subst W c.in-Some.is c.in-Ok-next.ensures.counted in
+    let grown : c.add.new.self ≡ c.records.records ++ shown_by c.lend.result ∷ [] = grind (arith, common_steps, c.add.ensures, c.if-is_err.ensures.value) in
+    let longer : length c.add.new.self ≡ length c.records.records + 1 = ap length grown ∙ length-append c.records.records (shown_by c.lend.result ∷ []) in
+    let W : Option Found → Type 0 = λ x. IfSome x (λ y. Counts c.records.reader c.next.new.self (told_by c.next.new.self y)) in
+    let counts : Counts c.records.reader c.next.new.self (told_by c.next.new.self c.in-Some.found) = subst W c.in-Some.is c.in-Ok-next.ensures.counted in
     record {
       there = still_there _ _ _ _ _ c.in-Ok-next.ensures.some.1.keeps c.records.invariant.there;
       file = c.next.ensures.file ∙ c.records.invariant.file;
@@ -55,6 +55,6 @@ records-preserved g c =
       took = some_more _ _ _ _ _ c.records.invariant.file c.records.invariant.took c.in-Ok-next.ensures.some;
       no_fault = same_trans _ _ _ c.records.invariant.no_fault c.in-Ok-next.ensures.counts;
       counted = omega (arith, counts.number, counts.count, longer, c.records.invariant.counted);
-      few = omega (arith, counts.number, longer, c.records.invariant.counted, c.in-Some.record.counted);
-      read = λ bytes left. read_more (g.F.Files.view c.records.files) (g.F.Files.view c.next.new.files) c.records.reader c.next.new.self bytes c.records.records _ c.in-Ok-next.found c.in-Some.record c.in-Ok-next.ensures.record c.in-Some.is grown (c.records.invariant.read bytes left);
+      few = omega (arith, counts.number, longer, c.records.invariant.counted, c.in-Some.found.counted);
+      read = λ bytes left. read_more (g.F.Files.view c.records.files) (g.F.Files.view c.next.new.files) c.records.reader c.next.new.self bytes c.records.records _ c.in-Ok-next.answer c.in-Some.found c.lend.result c.in-Ok-next.ensures.record c.in-Some.is c.lend.ensures grown (c.records.invariant.read bytes left);
     }

@@ -6,8 +6,8 @@ use Rattle.altq_model.specs.Arrivals.{Captured, bare_arrival, bare_arrivals}
 use Rattle.altq_model.specs.History.{Happened}
 use Rattle.pcap_files.specs.declared.fault.CaptureFault.{CaptureFault}
 use Rattle.pcap_files.specs.declared.fault.CaptureFault.TheVariants as capture
-use Rattle.pcap_files.specs.declared.record.Record.{Record as Read}
-use Rattle.pcap_files.specs.Reading.{Answers, Counts}
+use Rattle.pcap_files.specs.declared.record.Found.{Found}
+use Rattle.pcap_files.specs.Reading.{Answers, Counts, Holds, Told, told_by}
 use Rattle.play_base.proofs.ViewLaws.{same_refl, same_trans as same_counts}
 use Rattle.play_laws.proofs.ArrivalLemmas.{bare_arrivals_length}
 use Rattle.play_laws.proofs.OneLemmas.{later_arrivals}
@@ -19,7 +19,7 @@ use Rattle.play_loop.specs.declared.ending.Due.{Due}
 use Rattle.play_loop.specs.declared.spare.Spare.{Spare}
 use Rattle.play_loop.specs.Ending.{IsAll}
 use Rattle.play_loop.specs.Kept.{OnlyPlayed}
-use Rattle.play_loop.specs.Reading.{StartsOn, arrival_of}
+use Rattle.play_loop.specs.Reading.{IsRead, StartsOn, arrival_of}
 use Rattle.play_loop.specs.Setup.{Setup, setup_of}
 use Rattle.play_loop.specs.Underway.{DueIs, OfferedIs, StayDue, moment, shown}
 use Rattle.play_loop.proofs.KeptLemmas.{cause_since, played_nothing, took_more, wrote_more}
@@ -75,7 +75,7 @@ returns-in-Err-clause-ended g c =
           records = h.records;
           arrivals = h.arrivals;
           reads = cut_by c.in-Err.fault (g.F.Files.view c.next.new.files) c.records.reader.file c.next.new.self.file bytes h.records c.next.ensures.file (c.in-Err.ensures.fault bytes h.records h.stands)
-              (λ q. c.in-Err.ensures.cut (ap {B = Result (Option Read) CaptureFault} (λ (f : CaptureFault). Err f) q) c.records.invariant.sound bytes h.records h.stands);
+              (λ q. c.in-Err.ensures.cut (ap {B = Result (Option Found) CaptureFault} (λ (f : CaptureFault). Err f) q) c.records.invariant.sound bytes h.records h.stands);
         });
       };
       first = first_of_read x _ _ _ z.0 _ z.1 z.2.read (offered_stays x z.0 z.1 (omega (arith, z.2.offers, bare_arrivals_length z.0)) z.2.last (begun_of (on z.2.under)).events);
@@ -171,6 +171,9 @@ arrive-arriving-requires-clause-named g c = c.requires.under.setup.sound.named
 pub arrive-arriving-requires-clause-countable : goal.arrive-arriving-requires-clause-countable
 arrive-arriving-requires-clause-countable g c = under_countable c.records.invariant.reading.2.under
 
+pub lend-record-requires : goal.lend-record-requires
+lend-record-requires g c = of_some (Holds c.next.new.self) _ c.in-Some.found c.in-Some.is c.in-Ok.ensures.holds
+
 -- one more packet was read, and is the next to be offered; whatever memory is left then
 come : {spare : Spare} (g : Over) (c : After-arrive-arriving g)
     → IsComing (setup g c.args.discipline.now c.args.classify.now c.args.names.now c.args.progress.now.clock.rate c.args.words.now.seed)
@@ -180,14 +183,17 @@ come : {spare : Spare} (g : Over) (c : After-arrive-arriving g)
     (c.records.invariant.reading.0 ++ arrival_of (g.C.Classify.placed c.args.classify.now) c.arrive-arriving.result ∷ []) c.records.invariant.reading.1
 come g c =
     let made = c.arrive-arriving.ensures in
-    coming c.in-Some.record c.arrive-arriving.result c.records.invariant.reading.2 c.next.ensures.some.1.keeps
-    (of_some (Answers (g.F.Files.view c.records.files) (g.F.Files.view c.next.new.files) c.records.reader c.next.new.self) _ c.in-Some.record c.in-Some.is c.in-Ok.ensures.record)
-    (of_some (Counts c.records.reader c.next.new.self) _ c.in-Some.record c.in-Some.is c.in-Ok.ensures.counted)
+    let told : Found → Told = told_by c.next.new.self in
+    let R : Told → Type 0 = λ t. IsRead t c.records.latest c.arrive-arriving.result in
+    coming (told c.in-Some.found) c.arrive-arriving.result c.records.invariant.reading.2 c.next.ensures.some.1.keeps
+    (of_some (λ found. Answers (g.F.Files.view c.records.files) (g.F.Files.view c.next.new.files) c.records.reader c.next.new.self (told found)) _ c.in-Some.found c.in-Some.is c.in-Ok.ensures.record)
+    (of_some (λ found. Counts c.records.reader c.next.new.self (told found)) _ c.in-Some.found c.in-Some.is c.in-Ok.ensures.counted)
     (record {
-      read = made.read;
+      read = subst R c.lend-record.ensures made.read;
       number = omega (arith, made.number, ap (λ (k : Totals). k.arrived) c.totals-number.ensures);
       placed = made.placed;
       within = made.within;
+      few = c.in-Some.found.counted;
       counted = made.counted;
     }) refl
 
@@ -323,5 +329,5 @@ returns-in-Err-clause-same g c = same_spare c.records.invariant.same
 pub returns-in-Err-clause-read : goal.returns-in-Err-clause-read
 returns-in-Err-clause-read g c = λ q.
     let e : c.in-Err.fault ≡ capture.Read = cc in
-    let error : CaptureFault → Result (Option Read) CaptureFault = λ f. Err f in
+    let error : CaptureFault → Result (Option Found) CaptureFault = λ f. Err f in
     read_since (g.F.Files.view c.next.new.files) c.records.invariant.others c.records.invariant.file c.records.invariant.sound (c.in-Err.ensures.read (ap error e))

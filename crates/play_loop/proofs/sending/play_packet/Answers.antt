@@ -11,10 +11,11 @@ use Rattle.play_loop.specs.Setup.{Setup}
 use Rattle.play_loop.specs.Underway.{AreMade, DueIs, IsHeld, IsUnderway, Moment, classed, classing, moment, shown}
 use Rattle.play_loop.proofs.KeptLemmas.{then_err, then_ok}
 use Rattle.play_loop.proofs.PacketLemmas.{before_stays, held_arrives, held_class, held_same, not_earlier, offers_it, with_stays}
-use Rattle.play_loop.proofs.TurnLemmas.{begun_of, can_add, moved_on}
-use Rattle.play_loop.proofs.WrittenLemmas.{IsOfferMade, fronts_offered, offered_by, written_offered}
+use Rattle.play_loop.proofs.TurnLemmas.{begun_of, can_add, moved_on, on}
+use Rattle.play_loop.proofs.OutputLemmas.{fronts_files, fronts_of_texts, only_spare, same_spare}
+use Rattle.play_loop.proofs.WrittenLemmas.{IsOfferMade, fronts_offered, offered_by, written_offered, written_spare}
 use Rattle.play_loop.proofs.sending.play_packet.Given.{Over}
-use Rattle.play_loop.proofs.sending.play_packet.Goals.{After-offer-dropped}
+use Rattle.play_loop.proofs.sending.play_packet.Goals.{In-Ok}
 use Rattle.play_loop.proofs.sending.play_packet.Goals as goal
 
 pub send_due-requires : goal.send_due-requires
@@ -23,7 +24,7 @@ send_due-requires g c = let r = c.requires.under in record { under = (r.0, r.1, 
 pub returns-in-Ok-Late-clause-due : goal.returns-in-Ok-Late-clause-due
 returns-in-Ok-Late-clause-due g c = λ x arrived g' u h.
     let d = c.in-Ok-Late.ensures.due x arrived c.args.words.now g' u (held_arrives h) in
-    let Q : Due → Type 0 = λ z. DueIs z (classed (classing (g.C.Classify.placed c.args.classify.now) (g.C.Classify.dressed c.args.classify.now) c.args.names.now) x) arrived d.0 (Some c.args.arriving.packet.at) in
+    let Q : Due → Type 0 = λ z. DueIs z (classed (classing (g.C.Classify.placed c.args.classify.now) (g.C.Classify.dressed c.args.classify.now) c.args.names.now) x) arrived d.0 (Some c.args.arriving.now.packet.at) in
     (d.0, d.1, (subst Q c.in-Ok-Late.field-0-is d.3, d.2))
 
 pub returns-in-Err-clause-broken : goal.returns-in-Err-clause-broken
@@ -31,82 +32,101 @@ returns-in-Err-clause-broken g c = λ x arrived g' u h.
     let d = c.in-Err.ensures.broken x arrived c.args.words.now g' u (held_arrives h) in
     (d.0, d.1, before_stays (classed (classing (g.C.Classify.placed c.args.classify.now) (g.C.Classify.dressed c.args.classify.now) c.args.names.now) x) h d.0 d.2.0 d.1.begun.events)
 
-pub offer-dropped-requires-clause-class : goal.offer-dropped-requires-clause-class
-offer-dropped-requires-clause-class g c =
+pub offer-requires-clause-class : goal.offer-requires-clause-class
+offer-requires-clause-class g c =
     let r = c.requires.under in
     let d = c.in-Ok-Made.ensures.due r.0 r.1 c.args.words.now r.2 r.3 (held_arrives r.4) in
     held_class d.1 r.4
 
-pub offer-dropped-requires-clause-prec : goal.offer-dropped-requires-clause-prec
-offer-dropped-requires-clause-prec g c =
+pub offer-requires-clause-prec : goal.offer-requires-clause-prec
+offer-requires-clause-prec g c =
     let r = c.requires.under in
-    omega (arith, ap (λ (k : Placed). k.prec) r.4.placed_is, r.3.setup.sound.precs c.args.arriving.packet.bytes)
+    omega (arith, ap (λ (k : Placed). k.prec) r.4.placed_is, r.3.setup.sound.precs c.args.arriving.now.packet.bytes.now)
 
-pub offer-dropped-requires-clause-next : goal.offer-dropped-requires-clause-next
-offer-dropped-requires-clause-next g c =
+pub offer-requires-clause-next : goal.offer-requires-clause-next
+offer-requires-clause-next g c =
     let r = c.requires.under in
     let d = c.in-Ok-Made.ensures.due r.0 r.1 c.args.words.now r.2 r.3 (held_arrives r.4) in
-    let Q : Due → Type 0 = λ z. DueIs z (classed (classing (g.C.Classify.placed c.args.classify.now) (g.C.Classify.dressed c.args.classify.now) c.args.names.now) r.0) r.1 d.0 (Some c.args.arriving.packet.at) in
-    (r.1, d.0, arrival_of (g.C.Classify.placed c.args.classify.now) c.args.arriving, d.1.going, offers_it d.1 (held_same r.4 d.2.0) (subst Q c.in-Ok-Made.field-0-is d.3))
+    let Q : Due → Type 0 = λ z. DueIs z (classed (classing (g.C.Classify.placed c.args.classify.now) (g.C.Classify.dressed c.args.classify.now) c.args.names.now) r.0) r.1 d.0 (Some c.args.arriving.now.packet.at) in
+    (r.1, d.0, arrival_of (g.C.Classify.placed c.args.classify.now) c.args.arriving.now, d.1.going, offers_it d.1 (held_same r.4 d.2.0) (subst Q c.in-Ok-Made.field-0-is d.3))
 
 pub add_dropped-requires : goal.add_dropped-requires
 add_dropped-requires g c =
     let r = c.requires.under in
     let d = c.in-Ok-Made.ensures.due r.0 r.1 c.args.words.now r.2 r.3 (held_arrives r.4) in
     let P : Placed → Type 0 = λ k. HasClass c.args.names.now k.class in
-    record { can = can_add d.1 (subst P (sym r.4.placed_is) (r.3.setup.sound.named c.args.arriving.packet.bytes)) }
+    let can = can_add d.1 (subst P (sym r.4.placed_is) (r.3.setup.sound.named c.args.arriving.now.packet.bytes.now)) in
+    record { can = record { named = can.named; countable = can.countable; departures = can.departures; fates = can.fates } }
 
 -- the play before the offer, and with it
-module _ (g : Over) (c : After-offer-dropped g) where
+module _ (g : Over) (c : In-Ok g) where
   abbrev before : Moment
   before = moment (shown g.D.Discipline.policy g.D.Discipline.stands g.D.Discipline.lists g.D.Discipline.limits g.D.Discipline.link_rate c.send_due.new.discipline) (g.F.Files.view c.send_due.new.files) c.send_due.new.outputs (g.K.Keeper.told c.send_due.new.keeper) c.send_due.new.progress
 
   abbrev after : Moment
   after = record before {
-    shown = shown g.D.Discipline.policy g.D.Discipline.stands g.D.Discipline.lists g.D.Discipline.limits g.D.Discipline.link_rate c.offer-dropped.new.discipline;
-    progress = c.offer-dropped.new.self;
+    shown = shown g.D.Discipline.policy g.D.Discipline.stands g.D.Discipline.lists g.D.Discipline.limits g.D.Discipline.link_rate c.offer.new.discipline;
+    progress = c.offer.new.self;
   }
 
-  offered : (x : Setup) (arrived : List Captured) (k : List Happened) → IsUnderway x before arrived c.args.words.now k → IsHeld x.place arrived k c.args.arriving
-      → AreMade x arrived k (Some c.args.arriving.packet.at) → IsOfferMade x before after arrived c.args.words.now c.offer-dropped.new.words k c.args.arriving c.offer-dropped.result
+  offered : (x : Setup) (arrived : List Captured) (k : List Happened) → IsUnderway x before arrived c.args.words.now k → IsHeld x.place arrived k c.args.arriving.now
+      → AreMade x arrived k (Some c.args.arriving.now.packet.at) → IsOfferMade x before after arrived c.args.words.now c.offer.new.words k c.args.arriving.now c.in-Ok.dropped
   offered x arrived k u held made =
       let offers = offers_it u held made in
-      let offer = c.offer-dropped.ensures in
+      let offer = c.offer.ensures in
+      let made = c.in-Ok.ensures in
       record {
-        offered = record { held = held; words = u.going.words; back_is = offer.told arrived k (arrival_of x.place c.args.arriving) u.going offers };
-        on = record { setup = moved_on u.setup offer.policy offer.rate offer.seed; going = offer.offered arrived k (arrival_of x.place c.args.arriving) u.going offers };
+        offered = record { held = held; words = u.going.words; back_is = made.told arrived k (arrival_of x.place c.args.arriving.now) u.going offers };
+        on = record { setup = moved_on u.setup offer.policy offer.rate offer.seed; going = made.offered arrived k (arrival_of x.place c.args.arriving.now) u.going offers };
       }
 
-pub returns-in-Ok-clause-due : goal.returns-in-Ok-clause-due
-returns-in-Ok-clause-due g c = λ x arrived g' u h.
+pub returns-in-Ok-add_dropped-clause-due : goal.returns-in-Ok-add_dropped-clause-due
+returns-in-Ok-add_dropped-clause-due g c = λ x arrived g' u h.
     let d = c.in-Ok-Made.ensures.due x arrived c.args.words.now g' u (held_arrives h) in
     let y : Setup = classed (classing (g.C.Classify.placed c.args.classify.now) (g.C.Classify.dressed c.args.classify.now) c.args.names.now) x in
-    let Q : Due → Type 0 = λ z. DueIs z y arrived d.0 (Some c.args.arriving.packet.at) in
+    let Q : Due → Type 0 = λ z. DueIs z y arrived d.0 (Some c.args.arriving.now.packet.at) in
     let held = held_same h d.2.0 in
-    let to = (goal.at.returns-in-Ok-clause-due g c).After-offer-dropped in
+    let to = (goal.at.returns-in-Ok-add_dropped-clause-due g c).In-Ok in
     let o = offered g to y arrived d.0 d.1 held (subst Q c.in-Ok-Made.field-0-is d.3) in
     let latest = not_earlier d.1 held in (
-      offered_by y (before g to) c.args.words.now d.0 c.args.arriving,
-      record { setup = moved_on o.on.setup refl refl refl; going = o.on.going; written = written_offered o.offered d.1.written c.in-Ok.ensures.added c.in-Ok.ensures.told },
+      offered_by y (before g to) c.args.words.now d.0 c.args.arriving.now,
+      record { setup = moved_on o.on.setup refl refl refl; going = o.on.going; written = written_offered o.offered (written_spare d.1.written) c.in-Ok-add_dropped.ensures.added c.in-Ok-add_dropped.ensures.told },
       (tt, ap (λ (n : ℕ). n + 1) d.2.0, omega (arith, latest)),
     )
 
-pub returns-in-Ok-clause-only : goal.returns-in-Ok-clause-only
-returns-in-Ok-clause-only g c = then_ok c.requires.under.3.written.given c.in-Ok-Made.ensures.only c.in-Ok.ensures.only
+pub returns-in-Ok-add_dropped-clause-only : goal.returns-in-Ok-add_dropped-clause-only
+returns-in-Ok-add_dropped-clause-only g c = then_ok c.requires.under.3.written.given (only_spare c.in-Ok-Made.ensures.only) c.in-Ok-add_dropped.ensures.only
 
 pub returns-in-Err-add_dropped-clause-broken : goal.returns-in-Err-add_dropped-clause-broken
 returns-in-Err-add_dropped-clause-broken g c = λ x arrived g' u h.
     let d = c.in-Ok-Made.ensures.due x arrived c.args.words.now g' u (held_arrives h) in
     let y : Setup = classed (classing (g.C.Classify.placed c.args.classify.now) (g.C.Classify.dressed c.args.classify.now) c.args.names.now) x in
-    let Q : Due → Type 0 = λ z. DueIs z y arrived d.0 (Some c.args.arriving.packet.at) in
+    let Q : Due → Type 0 = λ z. DueIs z y arrived d.0 (Some c.args.arriving.now.packet.at) in
     let held = held_same h d.2.0 in
-    let to = (goal.at.returns-in-Err-add_dropped-clause-broken g c).After-offer-dropped in
+    let to = (goal.at.returns-in-Err-add_dropped-clause-broken g c).In-Ok in
     let o = offered g to y arrived d.0 d.1 held (subst Q c.in-Ok-Made.field-0-is d.3) in
     let begun = begun_of o.on in (
-      offered_by y (before g to) c.args.words.now d.0 c.args.arriving,
+      offered_by y (before g to) c.args.words.now d.0 c.args.arriving.now,
       record { begun = begun; fronts = fronts_offered o.offered d.1.written.given c.in-Ok-Made.ensures.only.same c.in-Err-add_dropped.ensures.stopped },
-      with_stays y held (offer_of (before g to).shown.policy c.args.words.now.seed d.0 (bare_arrival (arrival_of y.place c.args.arriving))) refl tt begun.events,
+      with_stays y held (offer_of (before g to).shown.policy c.args.words.now.seed d.0 (bare_arrival (arrival_of y.place c.args.arriving.now))) refl tt begun.events,
     )
 
 pub returns-in-Err-add_dropped-clause-only : goal.returns-in-Err-add_dropped-clause-only
-returns-in-Err-add_dropped-clause-only g c = then_err c.requires.under.3.written.given c.in-Ok-Made.ensures.only c.in-Err-add_dropped.ensures.only
+returns-in-Err-add_dropped-clause-only g c = then_err c.requires.under.3.written.given (only_spare c.in-Ok-Made.ensures.only) c.in-Err-add_dropped.ensures.only
+
+-- without memory for the packet's bytes what was written before stays
+pub returns-in-Err-offer-clause-broken : goal.returns-in-Err-offer-clause-broken
+returns-in-Err-offer-clause-broken g c = λ x arrived g' u h.
+    let d = c.in-Ok-Made.ensures.due x arrived c.args.words.now g' u (held_arrives h) in
+    let y : Setup = classed (classing (g.C.Classify.placed c.args.classify.now) (g.C.Classify.dressed c.args.classify.now) c.args.names.now) x in
+    let same = c.in-Ok-Made.ensures.only.same in
+    let begun = begun_of (on d.1) in (
+      d.0,
+      record { begun = begun; fronts = fronts_files same.departures same.fates (fronts_of_texts d.1.written.given) },
+      before_stays y h d.0 d.2.0 begun.events,
+    )
+
+pub returns-in-Err-offer-clause-only : goal.returns-in-Err-offer-clause-only
+returns-in-Err-offer-clause-only g c =
+    let only = c.in-Ok-Made.ensures.only in
+    record { same = same_spare only.same; others = only.others; no_fault = tt; why = tt }

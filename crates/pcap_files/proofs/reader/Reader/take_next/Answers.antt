@@ -1,5 +1,6 @@
 use Rattle.std.proofs.Common.{◌≡◌, ℕ, List, ◌∙◌, ap, sym, subst, refl, arith, length}
 use Rattle.capture_model.specs.Capture.{step, place_after, Fault, damage}
+use Rattle.pcap_files.specs.Ahead.{Held}
 use Rattle.pcap_files.specs.Forms.{form}
 use Rattle.pcap_files.specs.Reading.{IsCause}
 use Rattle.pcap_files.proofs.ReaderLemmas.{took_some, took_into, took_twice, pending_took, stands_at, stands_reads, stands_with, cut_reads, answered}
@@ -16,14 +17,14 @@ pub returns-in-End-clause-end : goal.returns-in-End-clause-end
 returns-in-End-clause-end g c = λ bytes records s.
     let self = c.args.self.now in
     stands_reads _ self bytes records _ s
-    (stands_at _ _ self c.fill.new.self _ bytes records _ s c.requires.sound c.in_default.ensures.took c.in_default.ensures.enough c.as_slice.ensures c.in-End.ensures.value)
+    (stands_at _ _ self c.fill.new.self.waiting _ bytes records _ s c.requires.sound c.in_default.ensures.took c.in_default.ensures.enough c.as_slice.ensures c.in-End.ensures.value)
 
 pub returns-in-End-clause-none : goal.returns-in-End-clause-none
 returns-in-End-clause-none g c = λ bytes records s.
     let self = c.args.self.now in
     let empty : length c.as_slice.result.now ≡ 0 = c.in-End.ensures.none refl in
     stands_with _ _ self _ bytes records s refl refl
-    (λ h. pending_took _ _ self.file self.progress.place self.ahead c.fill.new.self bytes (s.pending c.requires.sound) c.in_default.ensures.took)
+    (λ h. pending_took _ _ self.file self.progress.place self.ahead.waiting c.fill.new.self.waiting bytes (s.pending c.requires.sound) c.in_default.ensures.took)
     (λ _. omega (arith, empty, ap length c.as_slice.ensures))
     (subst (λ q. IsCause q (step (form self.head) bytes (length records) (place_after 24 records))) (sym c.requires.sound) tt)
 
@@ -31,22 +32,22 @@ pub returns-in-Limit-clause-fault : goal.returns-in-Limit-clause-fault
 returns-in-Limit-clause-fault g c = λ bytes records s.
     let self = c.args.self.now in
     stands_reads _ self bytes records _ s
-    (stands_at _ _ self c.fill.new.self _ bytes records _ s c.requires.sound c.in_default.ensures.took c.in_default.ensures.enough c.as_slice.ensures c.in-Limit.ensures.value)
+    (stands_at _ _ self c.fill.new.self.waiting _ bytes records _ s c.requires.sound c.in_default.ensures.took c.in_default.ensures.enough c.as_slice.ensures c.in-Limit.ensures.value)
 
 pub returns-in-Damaged-clause-fault : goal.returns-in-Damaged-clause-fault
 returns-in-Damaged-clause-fault g c = λ bytes records s.
     let self = c.args.self.now in
     stands_reads _ self bytes records _ s
-    (stands_at _ _ self c.fill.new.self _ bytes records _ s c.requires.sound c.in_default.ensures.took c.in_default.ensures.enough c.as_slice.ensures c.in-Damaged.ensures.value
+    (stands_at _ _ self c.fill.new.self.waiting _ bytes records _ s c.requires.sound c.in_default.ensures.took c.in_default.ensures.enough c.as_slice.ensures c.in-Damaged.ensures.value
     ∙ ap (λ (place : ℕ). Fault (damage place c.in-Damaged.kind)) (sym c.from.ensures) ∙ ap Fault (sym c.damage_at.ensures))
 
 pub returns-in-Ok-clause-record : goal.returns-in-Ok-clause-record
 returns-in-Ok-clause-record g c = λ bytes records s.
     let self = c.args.self.now in
-    answered _ _ self c.take_record.new.self c.in-Ok.record c.fill-in-Headed.new.self bytes records
+    answered _ _ self c.take_record.new.self c.in-Ok.found c.fill-in-Headed.new.self bytes records
     (record { stamp = c.in-Headed.stamp; captured = c.in-Headed.captured; original = c.in-Headed.original }) s c.requires.sound
     (took_twice _ _ _ _ _ _ _ c.in_default.ensures.took c.in_default-fill.ensures.took)
-    (stands_at _ _ self c.fill.new.self _ bytes records _ s c.requires.sound c.in_default.ensures.took c.in_default.ensures.enough c.as_slice.ensures c.in-Headed.ensures.value)
+    (stands_at _ _ self c.fill.new.self.waiting _ bytes records _ s c.requires.sound c.in_default.ensures.took c.in_default.ensures.enough c.as_slice.ensures c.in-Headed.ensures.value)
     (omega (arith, s.ahead c.requires.sound, c.in_default.ensures.bounded, c.in_default-fill.ensures.bounded))
     c.in-Ok.ensures.taken
 
@@ -56,10 +57,10 @@ returns-in-Ok-clause-some g c = took_into _ _ _ _ _ (took_twice _ _ _ _ _ _ _ c.
 pub returns-in-Err-take_record-clause-fault : goal.returns-in-Err-take_record-clause-fault
 returns-in-Err-take_record-clause-fault g c = λ bytes records s.
     let self = c.args.self.now in
-    cut_reads _ _ self c.fill-in-Headed.new.self bytes records
+    cut_reads _ _ self c.fill-in-Headed.new.self.waiting bytes records
     (record { stamp = c.in-Headed.stamp; captured = c.in-Headed.captured; original = c.in-Headed.original }) c.in-Err-take_record.fault s c.requires.sound
     (took_twice _ _ _ _ _ _ _ c.in_default.ensures.took c.in_default-fill.ensures.took)
-    (stands_at _ _ self c.fill.new.self _ bytes records _ s c.requires.sound c.in_default.ensures.took c.in_default.ensures.enough c.as_slice.ensures c.in-Headed.ensures.value)
+    (stands_at _ _ self c.fill.new.self.waiting _ bytes records _ s c.requires.sound c.in_default.ensures.took c.in_default.ensures.enough c.as_slice.ensures c.in-Headed.ensures.value)
     c.in_default-fill.ensures.enough
     c.in-Err-take_record.ensures.cut
 
@@ -73,16 +74,16 @@ take_record-requires-clause-early g c =
 pub returns-in-Err-clause-cut : goal.returns-in-Err-clause-cut
 returns-in-Err-clause-cut g c = λ failed bytes records s.
     let t = c.in-Err.ensures.stopped (failed_of c.in-Err.trouble c.fault_of.result c.fault_of.ensures failed) in
-    part_taken _ _ c.args.self.now c.fill.new.self bytes records s c.requires.sound t.took t.fewer
+    part_taken _ _ c.args.self.now c.fill.new.self.waiting bytes records s c.requires.sound t.took t.fewer
 
 pub returns-in-Err-fill-clause-cut : goal.returns-in-Err-fill-clause-cut
 returns-in-Err-fill-clause-cut g c = λ failed bytes records s.
     let self = c.args.self.now in
     let t = c.in-Err-fill.ensures.stopped (failed_of c.in-Err-fill.trouble c.fault_of-in-Err-fill.result c.fault_of-in-Err-fill.ensures failed) in
-    headed_taken _ _ self c.fill-in-Headed.new.self bytes records
+    headed_taken _ _ self c.fill-in-Headed.new.self.waiting bytes records
     (record { stamp = c.in-Headed.stamp; captured = c.in-Headed.captured; original = c.in-Headed.original }) s c.requires.sound
     (took_twice _ _ _ _ _ _ _ c.in_default.ensures.took t.took)
-    (stands_at _ _ self c.fill.new.self _ bytes records _ s c.requires.sound c.in_default.ensures.took c.in_default.ensures.enough c.as_slice.ensures c.in-Headed.ensures.value)
+    (stands_at _ _ self c.fill.new.self.waiting _ bytes records _ s c.requires.sound c.in_default.ensures.took c.in_default.ensures.enough c.as_slice.ensures c.in-Headed.ensures.value)
     t.fewer
 
 pub returns-in-Ok-clause-counts : goal.returns-in-Ok-clause-counts
@@ -93,9 +94,9 @@ returns-in-Ok-clause-ahead g c = λ holds.
     let self = c.args.self.now in
     let one = c.fill.ensures.idle holds.head in
     let at : List ℕ → Stands = stand_at (form self.head) self.progress.count self.progress.place in
-    let headed = ap at (sym one.1) ∙ ap at (sym c.as_slice.ensures) ∙ sym c.in-Headed.ensures.value in
+    let headed = ap (λ (h : Held). at h.waiting) (sym one.1) ∙ ap at (sym c.as_slice.ensures) ∙ sym c.in-Headed.ensures.value in
     let whole = holds.whole c.in-Headed.stamp c.in-Headed.captured c.in-Headed.original headed in
-    let two = c.fill-in-Headed.ensures.idle (omega (arith, whole, ap length one.1)) in
+    let two = c.fill-in-Headed.ensures.idle (omega (arith, whole, ap (λ (h : Held). length h.waiting) one.1)) in
     two.0 ∙ one.0
 
 pub take_record-requires-clause-counted : goal.take_record-requires-clause-counted

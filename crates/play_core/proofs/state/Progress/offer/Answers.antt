@@ -1,4 +1,4 @@
-use Rattle.std.proofs.Common.{◌+◌, ◌∙◌, ℕ, List, refl, ap, arith}
+use Rattle.std.proofs.Common.{◌≡◌, ◌+◌, ◌∙◌, ℕ, List, refl, ap, arith}
 use Rattle.altq_model.specs.declared.Verdict.{Verdict}
 use Rattle.altq_model.specs.Arrivals.{Captured, bare_arrival}
 use Rattle.altq_model.specs.History.{DrawnWords, Event, Happened, bare, offered}
@@ -6,10 +6,11 @@ use Rattle.play_base.specs.declared.packet.Packet.{Packet}
 use Rattle.leaf_queue.specs.Pool.{is_marked, packet_of}
 use Rattle.discipline.specs.Laws.{IsAnswer, entry}
 use Rattle.play_core.specs.declared.state.Progress.{Progress}
-use Rattle.play_core.specs.Turns.{Offers, handed_back}
+use Rattle.play_core.specs.Turns.{Offers, drop_of}
 use Rattle.play_core.proofs.GoingLemmas.{Going, Goes, goes_by, few_counts, state}
 use Rattle.play_core.proofs.OfferLemmas.{answered, going_offered, is_bare_arrival, is_later, lost, most_lost}
 use Rattle.play_core.proofs.state.Progress.offer.Given.{Over}
+use Rattle.play_core.proofs.state.Progress.offer.Goals.{After-offer-verdict}
 use Rattle.play_core.proofs.state.Progress.offer.Goals as goal
 
 abbrev goes : (g : Over) (d : g.row.D.Denot) {arrived : List Captured} {w : DrawnWords} {x : Progress} {h : List Happened} → Going (state g.D.Discipline d w x) arrived h
@@ -30,28 +31,28 @@ offer-verdict-requires-clause-later g c =
     let l = g.met.D.Discipline.moments c.args.discipline.now y.told y.stands c.requires.next.2.at later.arrived later.by in
     omega (arith, l, ap (λ (k : Packet). k.at) c.requires.next.4.packet_is)
 
-pub overflow_add-self-2 : goal.overflow_add-self-2
-overflow_add-self-2 g c =
+pub overflow_add-self-in-Ok : goal.overflow_add-self-in-Ok
+overflow_add-self-in-Ok g c =
     let f = few_counts (goes g c.args.discipline.now c.requires.next.3) in
-    grind (arith, f.dropped, most_lost c.settle-dropped.result, c.lost.ensures)
+    grind (arith, f.dropped, most_lost c.in-Ok.dropped, c.lost.ensures)
 
 -- the answer was the policy's
-answer : (g : Over) (c : goal.After-self-3-1 g) (arrived : List Captured) (h : List Happened) (a : Captured)
+answer : (g : Over) (c : After-offer-verdict g) (arrived : List Captured) (h : List Happened) (a : Captured)
     → Going (state g.D.Discipline c.args.discipline.now c.args.words.now c.args.self.now) arrived h
-    → Offers (g.D.Discipline.policy c.args.discipline.now) c.args.self.now.clock.rate c.args.words.now.seed arrived h a c.args.packet c.args.placed
+    → Offers (g.D.Discipline.policy c.args.discipline.now) c.args.self.now.clock.rate c.args.words.now.seed arrived h a c.args.packet.now c.args.placed
     → IsAnswer (g.D.Discipline.policy c.args.discipline.now) (bare h) c.args.words.now (bare_arrival a) c.offer-verdict.result c.offer-verdict.new.words
 answer g c arrived h a y o =
     answered {stood = g.D.Discipline.stands c.offer-verdict.new.self} (goes g c.args.discipline.now y) o
     (record { history = c.offer-verdict.ensures.history; sized = record { least = c.requires.some; most = c.requires.short } })
 
-pub returns-clause-offered : goal.returns-clause-offered
-returns-clause-offered g c = λ arrived h a y o.
+pub returns-in-Ok-clause-offered : goal.returns-in-Ok-clause-offered
+returns-in-Ok-clause-offered g c = λ arrived h a y o.
     let e = c.offer-verdict.ensures in
-    let s = c.settle-dropped.ensures in
-    let few = c.lost.ensures ∙ lost c.settle-dropped.result c.offer-verdict.result c.args.packet s.told in
+    let s = c.in-Ok.ensures in
+    let few = c.lost.ensures ∙ lost c.in-Ok.dropped c.offer-verdict.result c.args.packet.now s.told in
     going_offered {t = state g.D.Discipline c.offer-verdict.new.self c.offer-verdict.new.words _} (goes g c.args.discipline.now y) o (record {
       kind = record { policy = e.policy; limits = e.limits; rate = e.rate };
-      entry = entry c.next-ticket.result c.args.packet.len c.args.placed.prec;
+      entry = entry c.next-ticket.result c.args.packet.now.len c.args.placed.prec;
       answers = record { history = e.history; sized = record { least = c.requires.some; most = c.requires.short } };
       one_of = c.requires.class;
       lists_are = e.lists;
@@ -64,15 +65,22 @@ returns-clause-offered g c = λ arrived h a y o.
       last_end = refl;
       held = s.held;
       marks = s.marks;
-      kept = λ k. ap (packet_of c.settle-dropped.new.pool) c.next-ticket.ensures ∙ s.kept k;
-      mark = λ k. ap (is_marked c.settle-dropped.new.pool) c.next-ticket.ensures ∙ s.mark k;
+      kept = λ k. ap (packet_of c.settle.new.pool) c.next-ticket.ensures ∙ s.kept k;
+      mark = λ k. ap (is_marked c.settle.new.pool) c.next-ticket.ensures ∙ s.mark k;
       count = s.count;
       room = s.room;
     })
 
-pub returns-clause-told : goal.returns-clause-told
-returns-clause-told g c = λ arrived h a y o.
-    c.settle-dropped.ensures.told ∙ ap (λ (v : Verdict). handed_back v c.args.packet) (answer g c arrived h a y o).verdict
+pub returns-in-Ok-clause-told : goal.returns-in-Ok-clause-told
+returns-in-Ok-clause-told g c = λ arrived h a y o.
+    c.in-Ok.ensures.told ∙ ap (λ (v : Verdict). drop_of v c.args.packet.now) (answer g (goal.at.returns-in-Ok-clause-told g c).After-offer-verdict arrived h a y o).verdict
 
-pub returns-clause-seed : goal.returns-clause-seed
-returns-clause-seed g c = let n = c.requires.next in (answer g c n.0 n.1 n.2 n.3 n.4).words.seed
+-- whatever came of the bytes
+same_seed : (g : Over) (c : After-offer-verdict g) → c.offer-verdict.new.words.seed ≡ c.args.words.now.seed
+same_seed g c = let n = c.requires.next in (answer g c n.0 n.1 n.2 n.3 n.4).words.seed
+
+pub returns-in-Ok-clause-seed : goal.returns-in-Ok-clause-seed
+returns-in-Ok-clause-seed g c = same_seed g (goal.at.returns-in-Ok-clause-seed g c).After-offer-verdict
+
+pub returns-in-Err-clause-seed : goal.returns-in-Err-clause-seed
+returns-in-Err-clause-seed g c = same_seed g (goal.at.returns-in-Err-clause-seed g c).After-offer-verdict
