@@ -10,6 +10,7 @@ mod numbers;
 mod progress;
 mod reader;
 mod record;
+mod rows;
 mod stand;
 mod writing;
 
@@ -20,5 +21,6 @@ pub use laws::{bytes_read_one_way, written_captures_read_back};
 pub use progress::Progress;
 pub use reader::Reader;
 pub use record::{Found, Record};
+pub use rows::worked_records;
 pub use stand::{Stand, stand_at};
 pub use writing::{head_bytes, put_record_head, record_head};

@@ -22,8 +22,8 @@ use std::mem::replace;
 
 impl Progress {
     /// Begins the play of a discipline that nothing was offered yet, over a link of `rate` bits per second, 1,000 to 10^12. Takes
-    /// all the memory that the play takes: a place for each packet that the discipline has room for, and one for the packet that
-    /// is offered. `NoMemory` comes only when memory runs out.
+    /// the memory of a place for each packet that the discipline has room for, and of one more; what the bytes of a packet take comes
+    /// with its offer. `NoMemory` comes only when memory runs out.
     pub fn begin<D: Discipline>(
         alloc: Global,
         discipline: &D,

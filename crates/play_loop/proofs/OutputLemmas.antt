@@ -83,7 +83,7 @@ flushed_whole {u} {v} {w} {dep} {fat} {recs} {rows} {ds} {ts} h x y =
 pub same_trans : {a b c : Outputs} → SameFiles a b → SameFiles b c → SameFiles a c
 same_trans x y = record { departures = y.departures ∙ x.departures; fates = y.fates ∙ x.fates }
 
--- whatever memory is left to the next packet read
+-- whatever memory is left to the next packet that is kept
 pub same_spare : {a b : Outputs} {spare : Spare} → SameFiles a b → SameFiles a (record b { spare = spare })
 same_spare x = record { departures = x.departures; fates = x.fates }
 

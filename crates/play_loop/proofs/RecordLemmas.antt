@@ -35,7 +35,6 @@ use Rattle.altq_model.specs.declared.Counts.{Counts}
 use Rattle.play_loop.specs.declared.arriving.Arriving.{Arriving}
 use Rattle.class_counts.specs.declared.counting.Counted.TheVariants.{Arrived}
 use Rattle.play_loop.specs.declared.outputs.Outputs.{Outputs}
-use Rattle.play_loop.specs.declared.spare.Spare.{Spare}
 use Rattle.class_counts.specs.Counting.{HasCounted, count_at}
 use Rattle.play_loop.specs.Ending.{AreFirst, IsAhead, IsAll}
 use Rattle.play_loop.specs.Kept.{IsOther, OnlyWrote, OnlyPlayed}
@@ -104,9 +103,9 @@ pub record IsComing (x : Setup) (m : Moment) (w : DrawnWords) (told : List ℕ �
   pub counted : length arrived ≤ answered r
   pub read : (bytes : List ℕ) → told bytes → HasReadOne x.place m.files r bytes arrived (latest (bare g)) a.packet.at
 
--- a read leaves what was written, and takes the memory that was left to it
-pub under_kept : {F : ℕ → Type 0} {x : Setup} {m : Moment} {v : View} {spare : Spare} {arrived : List Captured} {w : DrawnWords} {g : List Happened} → IsUnderway x m arrived w g → Keeps Any F m.files v
-    → IsUnderway x (record m { files = v; outputs = record m.outputs { spare = spare } }) arrived w g
+-- a read leaves what was written
+pub under_kept : {F : ℕ → Type 0} {x : Setup} {m : Moment} {v : View} {arrived : List Captured} {w : DrawnWords} {g : List Happened} → IsUnderway x m arrived w g → Keeps Any F m.files v
+    → IsUnderway x (record m { files = v }) arrived w g
 under_kept u k = record {
   setup = moved_on u.setup refl refl refl;
   going = u.going;
@@ -185,14 +184,14 @@ pub record HasArrived (x : Setup) (m : Moment) (answer : Told) (top : ℕ) (a : 
 
 pub coming : {F : ℕ → Type 0} {x : Setup} {m : Moment} {v : View} {o : Outputs} {w : DrawnWords} {told : List ℕ → Type 0} {r r' : Reader} {top : ℕ} {arrived : List Captured} {g : List Happened}
     (answer : Told) (a : Arriving) → IsReading x m w told r top arrived g → Keeps Any F m.files v → Answers m.files v r r' answer → NextCounts r r' answer
-    → HasArrived x m answer top a o.counts.items → o ≡ record m.outputs { counts = o.counts; spare = o.spare }
+    → HasArrived x m answer top a o.counts.items → o ≡ record m.outputs { counts = o.counts }
     → IsComing x (record m { files = v; outputs = o }) w told r' a (arrived ++ arrival_of x.place a ∷ []) g
 coming {x = x} {o = o} {w = w} {top = top} {arrived = arrived} {g = g} answer a z k answers counts c same =
     let b : Captured = arrival_of x.place a in
     let size = length-append arrived (b ∷ []) in
     let number : a.packet.number ≡ offered (bare g) + 1 = omega (arith, c.number, z.under.going.totals.arrived) in
     record {
-      under = under_read a (under_kept {spare = o.spare} z.under k) z.last (omega (arith, z.last_is, c.read.at)) (omega (arith, z.counted, counts.number, c.few)) c.within same c.counted;
+      under = under_read a (under_kept z.under k) z.last (omega (arith, z.last_is, c.read.at)) (omega (arith, z.counted, counts.number, c.few)) c.within same c.counted;
       held = record {
         there = ap (λ (n : ℕ). slice_get (arrived ++ b ∷ []) n) z.offers ∙ there_push arrived b;
         packet_is = ap (λ (n : ℕ). numbered n b) number;

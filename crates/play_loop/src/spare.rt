@@ -1,4 +1,4 @@
-// Memory of packets that left the play, which those that are read take.
+// Memory of packets that left the play, for those that are kept after them.
 use play_base::Bytes;
 use std::alloc::Global;
 
@@ -25,7 +25,7 @@ impl Spare {
         }
     }
 
-    // The memory that the next record takes, where there is any.
+    // The memory for the next packet that is kept, where there is any.
     #[inline(always)]
     pub fn room(&mut self) -> &mut Vec<u8> {
         if self.room.capacity() == 0 {
@@ -36,7 +36,7 @@ impl Spare {
         &mut self.room
     }
 
-    // Leaves the memory of a packet's bytes to those that are read.
+    // Leaves the memory of a packet's bytes to those that are kept after it.
     #[inline(always)]
     pub fn leave(&mut self, bytes: Bytes) {
         let bytes = bytes.into_vec();

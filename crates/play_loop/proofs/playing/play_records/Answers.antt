@@ -16,14 +16,13 @@ use Rattle.play_core.specs.declared.totals.Totals.{Totals}
 use Rattle.play_core.specs.Ended.{IsCutOff}
 use Rattle.play_core.proofs.OfferLemmas.{is_bare_arrival}
 use Rattle.play_loop.specs.declared.ending.Due.{Due}
-use Rattle.play_loop.specs.declared.spare.Spare.{Spare}
 use Rattle.play_loop.specs.Ending.{IsAll}
 use Rattle.play_loop.specs.Kept.{OnlyPlayed}
 use Rattle.play_loop.specs.Reading.{IsRead, StartsOn, arrival_of}
 use Rattle.play_loop.specs.Setup.{Setup, setup_of}
 use Rattle.play_loop.specs.Underway.{DueIs, OfferedIs, StayDue, moment, shown}
 use Rattle.play_loop.proofs.KeptLemmas.{cause_since, played_nothing, took_more, wrote_more}
-use Rattle.play_loop.proofs.OutputLemmas.{fronts_files, same_spare, same_trans}
+use Rattle.play_loop.proofs.OutputLemmas.{fronts_files, same_trans}
 use Rattle.play_loop.proofs.PacketLemmas.{before_stays, held_same}
 use Rattle.play_loop.proofs.PlayLemmas.{cut_by}
 use Rattle.play_loop.proofs.RecordLemmas.{IsComing, ahead_of, all_read, coming, cut_starts, first_of_all, first_of_read, has_read, none_arrives, of_none, of_some, read_kept, read_since, under_kept}
@@ -174,11 +173,11 @@ arrive-arriving-requires-clause-countable g c = under_countable c.records.invari
 pub lend-record-requires : goal.lend-record-requires
 lend-record-requires g c = of_some (Holds c.next.new.self) _ c.in-Some.found c.in-Some.is c.in-Ok.ensures.holds
 
--- one more packet was read, and is the next to be offered; whatever memory is left then
-come : {spare : Spare} (g : Over) (c : After-arrive-arriving g)
+-- one more packet was read, and is the next to be offered
+come : (g : Over) (c : After-arrive-arriving g)
     → IsComing (setup g c.args.discipline.now c.args.classify.now c.args.names.now c.args.progress.now.clock.rate c.args.words.now.seed)
     (moment (shown g.D.Discipline.policy g.D.Discipline.stands g.D.Discipline.lists g.D.Discipline.limits g.D.Discipline.link_rate c.records.discipline) (g.F.Files.view c.next.new.files)
-    (record c.records.outputs { counts = c.arrive-arriving.new.counts; spare = spare }) (g.K.Keeper.told c.records.keeper) c.records.progress) c.records.words
+    (record c.records.outputs { counts = c.arrive-arriving.new.counts }) (g.K.Keeper.told c.records.keeper) c.records.progress) c.records.words
     (StartsOn (g.F.Files.view c.args.files.now) c.args.reader.now) c.next.new.self c.arrive-arriving.result
     (c.records.invariant.reading.0 ++ arrival_of (g.C.Classify.placed c.args.classify.now) c.arrive-arriving.result ∷ []) c.records.invariant.reading.1
 come g c =
@@ -297,13 +296,13 @@ pub returns-in-Ok-Made-clause-no_fault : goal.returns-in-Ok-Made-clause-no_fault
 returns-in-Ok-Made-clause-no_fault g c = λ _. same_counts _ _ _ (same_counts _ _ _ c.records.invariant.no_fault c.in-Ok.ensures.counts) c.in-Ok-Made.ensures.only.no_fault
 
 pub returns-in-Ok-Made-clause-same : goal.returns-in-Ok-Made-clause-same
-returns-in-Ok-Made-clause-same g c = same_trans (same_spare c.records.invariant.same) c.in-Ok-Made.ensures.only.same
+returns-in-Ok-Made-clause-same g c = same_trans c.records.invariant.same c.in-Ok-Made.ensures.only.same
 
 pub returns-in-Ok-Late-clause-no_fault : goal.returns-in-Ok-Late-clause-no_fault
 returns-in-Ok-Late-clause-no_fault g c = λ _. same_counts _ _ _ (same_counts _ _ _ c.records.invariant.no_fault c.in-Ok.ensures.counts) c.in-Ok-Late.ensures.only.no_fault
 
 pub returns-in-Ok-Late-clause-same : goal.returns-in-Ok-Late-clause-same
-returns-in-Ok-Late-clause-same g c = same_trans (same_spare c.records.invariant.same) c.in-Ok-Late.ensures.only.same
+returns-in-Ok-Late-clause-same g c = same_trans c.records.invariant.same c.in-Ok-Late.ensures.only.same
 
 pub returns-in-Ok-Late-play_packet-clause-no_fault : goal.returns-in-Ok-Late-play_packet-clause-no_fault
 returns-in-Ok-Late-play_packet-clause-no_fault g c = λ _. same_counts _ _ _ (same_counts _ _ _ c.records.invariant.no_fault c.in-Ok.ensures.counts) c.in-Ok-Late-play_packet.ensures.only.no_fault
@@ -315,7 +314,7 @@ returns-in-Ok-Late-play_packet-clause-same g c =
     record { departures = more.departures ∙ before.departures; fates = more.fates ∙ before.fates }
 
 pub returns-in-Err-send_due-clause-same : goal.returns-in-Err-send_due-clause-same
-returns-in-Err-send_due-clause-same g c = same_trans (same_spare c.records.invariant.same) c.in-Err-send_due.ensures.only.same
+returns-in-Err-send_due-clause-same g c = same_trans c.records.invariant.same c.in-Err-send_due.ensures.only.same
 
 pub returns-in-Err-play_packet-clause-same : goal.returns-in-Err-play_packet-clause-same
 returns-in-Err-play_packet-clause-same g c =
@@ -324,7 +323,7 @@ returns-in-Err-play_packet-clause-same g c =
     record { departures = more.departures ∙ before.departures; fates = more.fates ∙ before.fates }
 
 pub returns-in-Err-clause-same : goal.returns-in-Err-clause-same
-returns-in-Err-clause-same g c = same_spare c.records.invariant.same
+returns-in-Err-clause-same g c = c.records.invariant.same
 
 pub returns-in-Err-clause-read : goal.returns-in-Err-clause-read
 returns-in-Err-clause-read g c = λ q.

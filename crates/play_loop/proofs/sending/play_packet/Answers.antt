@@ -8,7 +8,7 @@ use Rattle.play_text.specs.Names.{HasClass}
 use Rattle.play_loop.specs.declared.ending.Due.{Due}
 use Rattle.play_loop.specs.Reading.{arrival_of}
 use Rattle.play_loop.specs.Setup.{Setup}
-use Rattle.play_loop.specs.Underway.{AreMade, DueIs, IsHeld, IsUnderway, Moment, classed, classing, moment, shown}
+use Rattle.play_loop.specs.Underway.{DueIs, IsHeld, IsUnderway, Moment, SameOffers, classed, classing, moment, shown}
 use Rattle.play_loop.proofs.KeptLemmas.{then_err, then_ok}
 use Rattle.play_loop.proofs.PacketLemmas.{before_stays, held_arrives, held_class, held_same, not_earlier, offers_it, with_stays}
 use Rattle.play_loop.proofs.TurnLemmas.{begun_of, can_add, moved_on, on}
@@ -69,29 +69,46 @@ module _ (g : Over) (c : In-Ok g) where
     progress = c.offer.new.self;
   }
 
-  offered : (x : Setup) (arrived : List Captured) (k : List Happened) → IsUnderway x before arrived c.args.words.now k → IsHeld x.place arrived k c.args.arriving.now
-      → AreMade x arrived k (Some c.args.arriving.now.packet.at) → IsOfferMade x before after arrived c.args.words.now c.offer.new.words k c.args.arriving.now c.in-Ok.dropped
-  offered x arrived k u held made =
-      let offers = offers_it u held made in
+  abbrev played : Setup → Setup
+  played x = classed (classing (g.C.Classify.placed c.args.classify.now) (g.C.Classify.dressed c.args.classify.now) c.args.names.now) x
+
+  record IsOffered (x : Setup) (arrived : List Captured) (past : List Happened) : Type 0 where
+    events : List Happened
+    under : IsUnderway x before arrived c.args.words.now events
+    same : SameOffers past events
+    held : IsHeld x.place arrived events c.args.arriving.now
+    offer : IsOfferMade x before after arrived c.args.words.now c.offer.new.words events c.args.arriving.now c.in-Ok.dropped
+
+  offered : (x : Setup) (arrived : List Captured) (past : List Happened)
+      → IsUnderway (played x) (moment (shown g.D.Discipline.policy g.D.Discipline.stands g.D.Discipline.lists g.D.Discipline.limits g.D.Discipline.link_rate c.args.discipline.now) (g.F.Files.view c.args.files.now) c.args.outputs.now (g.K.Keeper.told c.args.keeper.now) c.args.progress.now) arrived c.args.words.now past
+      → IsHeld (played x).place arrived past c.args.arriving.now → IsOffered (played x) arrived past
+  offered x arrived past u h =
+      let d = c.in-Ok-Made.ensures.due x arrived c.args.words.now past u (held_arrives h) in
+      let Q : Due → Type 0 = λ z. DueIs z (played x) arrived d.0 (Some c.args.arriving.now.packet.at) in
+      let held = held_same h d.2.0 in
+      let offers = offers_it d.1 held (subst Q c.in-Ok-Made.field-0-is d.3) in
       let offer = c.offer.ensures in
       let made = c.in-Ok.ensures in
       record {
-        offered = record { held = held; words = u.going.words; back_is = made.told arrived k (arrival_of x.place c.args.arriving.now) u.going offers };
-        on = record { setup = moved_on u.setup offer.policy offer.rate offer.seed; going = made.offered arrived k (arrival_of x.place c.args.arriving.now) u.going offers };
+        events = d.0;
+        under = d.1;
+        same = d.2;
+        held = held;
+        offer = record {
+          offered = record { held = held; words = d.1.going.words; back_is = made.told arrived d.0 (arrival_of (played x).place c.args.arriving.now) d.1.going offers };
+          on = record { setup = moved_on d.1.setup offer.policy offer.rate offer.seed; going = made.offered arrived d.0 (arrival_of (played x).place c.args.arriving.now) d.1.going offers };
+        };
       }
 
 pub returns-in-Ok-add_dropped-clause-due : goal.returns-in-Ok-add_dropped-clause-due
 returns-in-Ok-add_dropped-clause-due g c = λ x arrived g' u h.
-    let d = c.in-Ok-Made.ensures.due x arrived c.args.words.now g' u (held_arrives h) in
-    let y : Setup = classed (classing (g.C.Classify.placed c.args.classify.now) (g.C.Classify.dressed c.args.classify.now) c.args.names.now) x in
-    let Q : Due → Type 0 = λ z. DueIs z y arrived d.0 (Some c.args.arriving.now.packet.at) in
-    let held = held_same h d.2.0 in
     let to = (goal.at.returns-in-Ok-add_dropped-clause-due g c).In-Ok in
-    let o = offered g to y arrived d.0 d.1 held (subst Q c.in-Ok-Made.field-0-is d.3) in
-    let latest = not_earlier d.1 held in (
-      offered_by y (before g to) c.args.words.now d.0 c.args.arriving.now,
-      record { setup = moved_on o.on.setup refl refl refl; going = o.on.going; written = written_offered o.offered (written_spare d.1.written) c.in-Ok-add_dropped.ensures.added c.in-Ok-add_dropped.ensures.told },
-      (tt, ap (λ (n : ℕ). n + 1) d.2.0, omega (arith, latest)),
+    let z = offered g to x arrived g' u h in
+    let on = z.offer.on in
+    let latest = not_earlier z.under z.held in (
+      offered_by (played g to x) (before g to) c.args.words.now z.events c.args.arriving.now,
+      record { setup = moved_on on.setup refl refl refl; going = on.going; written = written_offered z.offer.offered (written_spare z.under.written) c.in-Ok-add_dropped.ensures.added c.in-Ok-add_dropped.ensures.told },
+      (tt, ap (λ (n : ℕ). n + 1) z.same.0, omega (arith, latest)),
     )
 
 pub returns-in-Ok-add_dropped-clause-only : goal.returns-in-Ok-add_dropped-clause-only
@@ -99,16 +116,13 @@ returns-in-Ok-add_dropped-clause-only g c = then_ok c.requires.under.3.written.g
 
 pub returns-in-Err-add_dropped-clause-broken : goal.returns-in-Err-add_dropped-clause-broken
 returns-in-Err-add_dropped-clause-broken g c = λ x arrived g' u h.
-    let d = c.in-Ok-Made.ensures.due x arrived c.args.words.now g' u (held_arrives h) in
-    let y : Setup = classed (classing (g.C.Classify.placed c.args.classify.now) (g.C.Classify.dressed c.args.classify.now) c.args.names.now) x in
-    let Q : Due → Type 0 = λ z. DueIs z y arrived d.0 (Some c.args.arriving.now.packet.at) in
-    let held = held_same h d.2.0 in
     let to = (goal.at.returns-in-Err-add_dropped-clause-broken g c).In-Ok in
-    let o = offered g to y arrived d.0 d.1 held (subst Q c.in-Ok-Made.field-0-is d.3) in
-    let begun = begun_of o.on in (
-      offered_by y (before g to) c.args.words.now d.0 c.args.arriving.now,
-      record { begun = begun; fronts = fronts_offered o.offered d.1.written.given c.in-Ok-Made.ensures.only.same c.in-Err-add_dropped.ensures.stopped },
-      with_stays y held (offer_of (before g to).shown.policy c.args.words.now.seed d.0 (bare_arrival (arrival_of y.place c.args.arriving.now))) refl tt begun.events,
+    let z = offered g to x arrived g' u h in
+    let y : Setup = played g to x in
+    let begun = begun_of z.offer.on in (
+      offered_by y (before g to) c.args.words.now z.events c.args.arriving.now,
+      record { begun = begun; fronts = fronts_offered z.offer.offered z.under.written.given c.in-Ok-Made.ensures.only.same c.in-Err-add_dropped.ensures.stopped },
+      with_stays y z.held (offer_of (before g to).shown.policy c.args.words.now.seed z.events (bare_arrival (arrival_of y.place c.args.arriving.now))) refl tt begun.events,
     )
 
 pub returns-in-Err-add_dropped-clause-only : goal.returns-in-Err-add_dropped-clause-only
