@@ -174,6 +174,7 @@ impl Rows {
     /// Adds the row of a packet's fate: its number from 1, its arrival in nanoseconds, its length in bytes, the name of its class, how
     /// it was sent or why it was dropped, and for a sending its start and end in nanoseconds. The class is one of `names`. The only
     /// error is lack of memory, and then no row is left. Costs the length of the row, and a search for the class.
+    #[inline(always)]
     pub fn add(
         &mut self,
         names: &Names,
@@ -208,7 +209,9 @@ impl Rows {
     }
 }
 
-// Writes the row of a fate; false where memory was wanting.
+// Writes the row of a fate; false where memory was wanting. It is laid out where a fate is told, since a caller knows whether that is a
+// sending or a drop, and then half of it goes.
+#[inline(always)]
 fn add_fate(
     writer: &mut Writer<Vec<u8>>,
     digits: &mut Digits,
@@ -242,6 +245,7 @@ fn add_fate(
 }
 
 // Writes the row of a drop; false where memory was wanting.
+#[inline(always)]
 fn put_dropped(writer: &mut Writer<Vec<u8>>, digits: &Digits, class: &str, word: &str) -> bool
     requires between { IsBetweenRows writer.old }
     requires class { length class.now ≤ 64 }
@@ -257,6 +261,7 @@ fn put_dropped(writer: &mut Writer<Vec<u8>>, digits: &Digits, class: &str, word:
 }
 
 // Writes the row of a sending that starts at this moment; false where memory was wanting.
+#[inline(always)]
 fn put_sent(
     writer: &mut Writer<Vec<u8>>,
     digits: &Digits,
@@ -290,6 +295,7 @@ fn with_value<'a>(one: &'a Number, other: &'a Number, value: u64) -> &'a Number
 
 // Writes a row of these numbers and fields; false where memory was wanting. All are in one array, which `csv` writes, so they have one
 // lifetime.
+#[inline(always)]
 fn put<'a>(
     writer: &mut Writer<Vec<u8>>,
     digits: &'a Digits,
