@@ -4,7 +4,7 @@
     altqwork meter --config altq.conf --class voice --rows meter.csv --picture meter.svg arrivals.pcap
 
 The packets of the class are those that the filters give it as they come, before any is marked: the capture is played without
-conditioners, and the fates tell the classes (docs/METERS.md). For each colour the packets and their bytes are counted. --rows writes for
+conditioners, and the fates tell the classes (docs/reference/METERS.md). For each colour the packets and their bytes are counted. --rows writes for
 each packet what the buckets hold when it comes, its colour, and what is left; amounts are bytes, exact. --picture draws the buckets over
 time. The exit status is 0. It needs no library.
 """
