@@ -25,6 +25,7 @@ MODULES = {
     "gap": "gap",
     "meter": "meter",
     "path": "path",
+    "try": "trying",
 }
 REFUSED, MISSING = 2, 77
 
