@@ -130,7 +130,7 @@ def options_of(words):
 def main(words):
     options = options_of(words)
     if not os.access(options.program, os.X_OK):
-        print(f"fuzz.py: {options.program} is not there: example/run builds it", file=sys.stderr)
+        print(f"fuzz.py: no program {options.program}", file=sys.stderr)
         return 1
     if options.valgrind:
         VALGRIND[0] = shutil.which("valgrind") or sys.exit("fuzz.py: valgrind was not found on this machine")

@@ -484,7 +484,7 @@ def main(words):
         return 2
     program = os.path.abspath(words[1]) if words else PROGRAM
     if not os.access(program, os.X_OK):
-        print(f"real_files.py: nothing was tried, since {program} is not there: example/run builds it", file=sys.stderr)
+        print(f"real_files.py: nothing was tried, since there is no program {program}", file=sys.stderr)
         return 0 if is_quick else 1
     prepare()
     manual = content(os.path.join(ROOT, "docs", "reference", "MANUAL.md")).decode()

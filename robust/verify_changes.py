@@ -247,7 +247,7 @@ def options_of(words):
 def main(words):
     options = options_of(words)
     if not os.access(options.program, os.X_OK):
-        print(f"verify_changes.py: {options.program} is not there: example/run builds it", file=sys.stderr)
+        print(f"verify_changes.py: no program {options.program}", file=sys.stderr)
         return 1
     prepare()
     numbers = range(options.first, options.first + options.plays) if options.only is None else [options.only]

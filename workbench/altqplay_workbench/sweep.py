@@ -25,6 +25,7 @@ from concurrent.futures import ProcessPoolExecutor, as_completed
 
 from .conf import interface_named
 from .faults import Missing, Refused
+from .libraries import advice
 from .play import add_program, play, program
 from .rows import read_stats
 
@@ -250,6 +251,6 @@ def run(args):
         try:
             plot(os.path.join(args.into, "plot.html"), rows)
         except ModuleNotFoundError as fault:
-            raise Missing(f"the Python library {fault.name} is not installed: run workbench/setup, or say --no-plot") from None
+            raise Missing(f"the Python library {fault.name} is not installed: {advice(fault.name)}, or say --no-plot") from None
     print(f"{os.path.join(args.into, 'table.csv')}: {len(runs)} runs, {failed} failed")
     return 1 if failed else 0
