@@ -26,6 +26,7 @@ MODULES = {
     "gap": "gap",
     "meter": "meter",
     "path": "path",
+    "try": "trying",
 }
 REFUSED, MISSING = 2, 77
 

@@ -5,7 +5,7 @@ before and after a change.
     altqwork late --config today.conf --fates fates.csv [arrivals.pcap]
 
 A packet of a leaf with a real-time curve is due when the curve has given what was sent up to and with it, from each of the
-leaf's openings on (docs/HFSC.md, "Due moments"). `missed` counts the packets that end after their due moments, `late` those
+leaf's openings on (docs/reference/HFSC.md, "Due moments"). `missed` counts the packets that end after their due moments, `late` those
 that do so by more than --allow, by default the time of one longest packet, which check's `fits` promises; `worst` is the
 greatest end less due moment. Times are nanoseconds. The exit status is 0 where the play, or the one after the change, has no
 late packet, and else 1.
