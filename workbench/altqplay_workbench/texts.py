@@ -35,8 +35,10 @@ class Times:
 
 
 def aligned(rows: Sequence[Sequence[str]], left: int = 1) -> list[str]:
-    """Rows of words as lines: the first columns, `left` of them, begin below each other, and the others end so."""
-    widths = [max(len(row[place]) for row in rows if place < len(row)) for place in range(max(map(len, rows), default=0))]
+    """Rows of words as lines: the first columns, `left` of them, begin below each other, and the others end so. A row of one word is a
+    line of its own, however long."""
+    wide = [row for row in rows if len(row) > 1]
+    widths = [max((len(row[place]) for row in wide if place < len(row)), default=0) for place in range(max(map(len, rows), default=0))]
     lines = []
     for row in rows:
         words = [word.ljust(width) if place < left else word.rjust(width) for place, (word, width) in enumerate(zip(row, widths))]

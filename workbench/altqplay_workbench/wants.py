@@ -138,6 +138,12 @@ def known(wants: Iterable[Want], classes: Iterable[str]) -> None:
             raise Refused(f"--want {want.text!r}: no configuration has a class {want.of}; there are {', '.join(names)}")
 
 
+def of_sides(wants: Sequence[Want], sides: Sequence[Any]) -> list[list[Verdict]]:
+    """What plays (`plays.Side`) make of each want. `Refused` where no play has its class."""
+    known(wants, dict.fromkeys(name for side in sides for name in side.interface.classes))
+    return [[of_side(want, side) for side in sides] for want in wants]
+
+
 def of_side(want: Want, side: Any) -> Verdict:
     """What a play (`plays.Side`) makes of a want."""
     own = side.class_is(want.of)

@@ -31,6 +31,7 @@ def test_rounding_is_that_of_decimals(ns):
 
 
 def test_columns_end_below_each_other():
-    assert aligned([["", "packets", "worst"], ["voice"], ["  play", "200", "1.704"]]) == [
-        "        packets  worst", "voice", "  play      200  1.704"]
+    assert aligned([["", "packets", "worst"], ["voice, which is long"], ["  play", "200", "1.704"]]) == [
+        "        packets  worst", "voice, which is long", "  play      200  1.704"]
+    assert aligned([["alone"]]) == ["alone"]
     assert aligned([]) == []
