@@ -39,7 +39,7 @@ class Fields:
         found = text[self.ends]
         if not (found[:, :-1] == ord(",")).all() or not (found[:, -1] == ord("\n")).all():
             raise ValueError
-        self.words = numpy.ndarray(len(data) - WORD + 1, dtype="<u8", buffer=data, strides=(1,))
+        self.words: numpy.ndarray = numpy.ndarray(len(data) - WORD + 1, dtype="<u8", buffer=data, strides=(1,))
 
     def sizes(self, column: int) -> numpy.ndarray:
         """How many bytes the fields of a column have."""

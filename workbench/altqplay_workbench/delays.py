@@ -95,7 +95,7 @@ def run(args: Namespace) -> int:
     from .rows import read_fates
 
     known = read_conf(args.config, args.interface, args.program).classes if args.config else ()
-    first, second = (Numbered.of(read_fates(name)) for name in (args.first, args.second))
+    first, second = (Numbered.of_fates(read_fates(name)) for name in (args.first, args.second))
     same_arrivals(first, second)
     rows, changed = class_rows(first, second, classes_of(first, second, known), Times(args.ns))
     print("\n".join(aligned(rows)))

@@ -22,7 +22,7 @@ class Numbered:
         self.places = dict(zip(names, numpy.split(numpy.argsort(self.of, kind="stable"), ends[:-1]))) if len(names) else {}
 
     @classmethod
-    def of(cls, fates: Fates) -> Numbered:
+    def of_fates(cls, fates: Fates) -> Numbered:
         """Those of fates that were read as columns."""
         return cls(fates.classes, number=fates.number, arrival=fates.arrival, length=fates.length, of=fates.of_class, end=fates.end)
 
