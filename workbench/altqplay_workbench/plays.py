@@ -79,6 +79,11 @@ def class_names(sides):
     return list(dict.fromkeys(name for side in sides for name in side.classes()))
 
 
+def every(side):
+    """The places of all packets of a play."""
+    return numpy.arange(len(side))
+
+
 def of_either(sides, name):
     """The places of the packets that are of a class in any of some plays."""
     owns = [side.class_is(name) for side in sides]
