@@ -9,6 +9,7 @@ from dataclasses import dataclass, field
 from typing import List, NamedTuple, Optional
 
 from .faults import Refused
+from .printable import printable
 
 NAME = re.compile(r"[A-Za-z0-9_.:/-]{1,64}\Z")
 MOST_CLASSES, MOST_FILTERS, MOST_INTERFACES, MOST_LEVELS = 256, 1024, 16, 8
@@ -111,7 +112,7 @@ class Notes:
     def lines(self):
         """The notes, those with a place in the order of the file."""
         placed = [f"line {line} word {place}: {text}" for line, place, text in sorted(self.placed)]
-        return placed + self.general
+        return [printable(line) for line in placed + self.general]
 
 
 def rate_text(rate):
@@ -161,7 +162,7 @@ def filter_text(interface, one):
 
 def text_of(interfaces, notes):
     """The altq.conf: a comment for each note, then the interfaces."""
-    lines = [f"# From {notes.name} by altqwork import; docs/PF-TC.md says what became of each word."]
+    lines = [f"# From {printable(notes.name)} by altqwork import; docs/PF-TC.md says what became of each word."]
     lines += [f"# {line}" for line in notes.lines()]
     for interface in interfaces:
         tbrsize = f" tbrsize {interface.tbrsize}" if interface.tbrsize else ""
