@@ -360,7 +360,7 @@ def rules_of(lines, tables, notes):
     for words in lines:
         kind = words[0].text
         if kind == "block" and queue_of_block(words):
-            notes.add(queue_of_block(words), "what is blocked never comes to a queue, so the rule is left out")
+            notes.add(queue_of_block(words), "what is blocked never comes to a queue, so the rule is left out", has_effect=False)
         elif kind in ("pass", "match"):
             found.append(rule_of(words, tables, notes))
         elif kind not in OTHERS and kind not in ACTIONS and kind not in ("altq", "queue"):
