@@ -1,7 +1,7 @@
 #!/usr/bin/env python3
 """Runs the commands that the pages show, and compares what comes out with what the pages show.
 
-Takes names of pages; without them all pages of docs/ and README.md are looked at. With --quiet before them it says
+Takes names of pages; without them README.md and all pages of docs/ and its folders are looked at. With --quiet before them it says
 nothing but what does not come out as shown and what was left out. It takes seconds, 100 MB of disk and 200 MB of memory.
 
 A block of a page that is marked `console` holds commands and what they print, on standard output and standard
@@ -15,6 +15,7 @@ out, and named, and so is each later command of the page that names a file which
 is 0 where what was run came out as shown, else 1, and 2 for other arguments.
 """
 
+import glob
 import os
 import re
 import shutil
@@ -192,8 +193,7 @@ def main(words):
         if "--quiet" not in options:
             print(f"try_commands.py: nothing was run, since there is no {' and no '.join(lacking)}")
         return 0
-    docs = os.path.join(ROOT, "docs")
-    pages = pages or [os.path.join(ROOT, "README.md")] + sorted(os.path.join(docs, name) for name in os.listdir(docs) if name.endswith(".md"))
+    pages = pages or [os.path.join(ROOT, "README.md"), *sorted(glob.glob(os.path.join(ROOT, "docs", "**", "*.md"), recursive=True))]
     done = [judge(page, "--quiet" in options) for page in pages]
     return 0 if all(done) else 1
 

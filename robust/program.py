@@ -1,4 +1,4 @@
-"""Runs the program in a folder, and says which statuses and messages docs/MANUAL.md gives it.
+"""Runs the program in a folder, and says which statuses and messages docs/reference/MANUAL.md gives it.
 
 The scripts of this folder share it. Nothing here is part of any test of the gate.
 """

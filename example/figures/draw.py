@@ -1,5 +1,5 @@
 #!/usr/bin/env python3
-"""Makes a figure of docs/FIGURES.md: its captures, its plays, its numbers and its picture.
+"""Makes a figure of docs/teaching/FIGURES.md: its captures, its plays, its numbers and its picture.
 
 Takes FIGURE, one of hfsc-delay, hfsc-return, red-average, rio-drops and cbq-borrowing, and works from any directory.
 What it makes lies in example/out/figures. It prints the numbers, and draws FIGURE.png there with gnuplot; where that
