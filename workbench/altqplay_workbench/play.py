@@ -46,6 +46,15 @@ def execute():
     os.execv(PACKED[0], ["altqplay", *sys.argv[1:]])
 
 
+def usage():
+    """How the program is called, as it says itself on standard error; empty where it is not there."""
+    try:
+        done = subprocess.run([program(), "--help"], stdout=subprocess.DEVNULL, stderr=subprocess.PIPE, stdin=subprocess.DEVNULL, check=False)
+    except (Missing, OSError):
+        return ""
+    return done.stderr.decode("ascii", "replace")
+
+
 def answer(named, words):
     """What the program says to some words. `Refused` with what it said where its status is not 0."""
     done = subprocess.run([program(named), *words], stdout=subprocess.PIPE, stderr=subprocess.PIPE, stdin=subprocess.DEVNULL, check=False)
