@@ -25,19 +25,24 @@ INSIDE = ["python3", "python3-venv", "python3-numpy", "python3-pandas", "python3
 
 # Uses what is installed, in a new folder: $1 has the examples. The counts are those that docs/EXAMPLE.md shows.
 USE = r"""
+show() {
+    printf '$ %s\n' "$*"
+    "$@"
+}
 use() {
     cp "$1"/*.py "$1"/*.conf .
-    python3 office.py office.pcap
+    show python3 office.py office.pcap
     files='--config office.conf --interface if0 --arrivals office.pcap --departures departures.pcap --fates fates.csv'
-    altqplay play $files --stats stats.csv --seed 42
+    show altqplay play $files --stats stats.csv --seed 42
     printf '%s\n' class,arrived,arrivedbytes,raised,sent,sentbytes,full,early,forced voice,200,42800,0,200,42800,0,0,0 \
         bulk,240,363360,0,163,246782,77,0,0 rest,180,180000,0,180,180000,0,0,0 '*,620,586160,0,543,469582,77,0,0' | cmp - stats.csv
-    altqplay verify $files | tail -n 1
-    altqwork --version
-    altqwork report --config office.conf office.pcap page.html
-    grep -c '</html>' page.html
+    show altqplay verify $files
+    show altqwork --version
+    show altqwork report --config office.conf office.pcap page.html
+    show grep -c '</html>' page.html
     status=0; altqplay --help >/dev/null 2>help.txt || status=$?
-    [ $status -eq 2 ] && head -n 1 help.txt
+    echo "\$ altqplay --help, status $status: $(head -n 1 help.txt)"
+    [ $status -eq 2 ]
 }
 left() {
     status=0; command -v altqplay || status=$?
@@ -46,12 +51,12 @@ left() {
 """
 DEBIAN = r"""
 echo "== dpkg, Debian $(cat /etc/debian_version)"
-dpkg -i "$packages"/*.deb
+show dpkg -i "$packages"/*.deb
 cd "$(mktemp -d)"
 use /usr/share/doc/altqplay/examples
 zcat /usr/share/man/man1/altqplay.1.gz /usr/share/man/man1/altqwork.1.gz | grep '^\.TH'
 listed=$(dpkg -L altqplay | grep -v '^/\.$')
-dpkg -P altqplay
+show dpkg -P altqplay
 hash -r; left "the package"
 for file in $listed; do [ -d "$file" ] || [ ! -e "$file" ] || { echo "$file is left"; exit 1; }; done
 [ ! -e /usr/share/altqplay ] && [ ! -e /usr/share/doc/altqplay ]
@@ -59,7 +64,7 @@ for file in $listed; do [ -d "$file" ] || [ ! -e "$file" ] || { echo "$file is l
 ARCHIVE = r"""
 echo "== archive"
 cd "$(mktemp -d)"
-tar -xzf "$packages"/*.tar.gz
+show tar -xzf "$packages"/*.tar.gz
 here=$(echo "$PWD"/altqplay-*)
 mkdir room; cd room
 path=$PATH; PATH=$here/bin:$PATH; hash -r
@@ -71,12 +76,12 @@ echo "== wheel, $(python3 --version)"
 cd "$(mktemp -d)"
 examples=$PWD/examples; mkdir examples
 tar -xzf "$packages"/*.tar.gz --strip-components=5 -C examples --wildcards '*/share/doc/altqplay/examples'
-python3 -m venv --system-site-packages venv
+show python3 -m venv --system-site-packages venv
 before=$(find venv | sort)
-venv/bin/pip install --quiet --disable-pip-version-check --no-index --no-deps "$packages"/*.whl
+show venv/bin/pip install --quiet --disable-pip-version-check --no-index --no-deps "$packages"/*.whl
 path=$PATH; PATH=$PWD/venv/bin:$PATH; hash -r
 mkdir room; cd room; use "$examples"; cd ..
-pip uninstall --quiet --disable-pip-version-check --yes altqplay
+show pip uninstall --quiet --disable-pip-version-check --yes altqplay
 PATH=$path; hash -r; left "the wheel"
 [ "$before" = "$(find venv | sort)" ] || { find venv -name '*altq*'; exit 1; }
 """
