@@ -43,7 +43,12 @@ def load(name):
     except ModuleNotFoundError as fault:
         if fault.name == path:
             return None
-        raise Missing(f"the Python library {fault.name} is not installed: {advice(fault.name)}") from None
+        raise Missing(lacking(fault)) from None
+
+
+def lacking(fault):
+    """What to say of a library that is not there."""
+    return f"the Python library {fault.name} is not installed: {advice(fault.name)}"
 
 
 def add_command(commands, name, module):
@@ -99,4 +104,7 @@ def answered(words):
         return REFUSED
     except Missing as fault:
         print(f"altqwork: {fault}", file=sys.stderr)
+        return MISSING
+    except ModuleNotFoundError as fault:
+        print(f"altqwork: {lacking(fault)}", file=sys.stderr)
         return MISSING

@@ -62,6 +62,9 @@ def test_a_library_that_is_missing(tmp_path):
     assert done.returncode == 77 and b"is not installed: run workbench/setup" in done.stderr
     assert subprocess.run([*words, "--version"], stdout=subprocess.PIPE, check=False).returncode == 0
     assert subprocess.run([*words, "delays", "--help"], stdout=subprocess.PIPE, check=False).returncode == 0
+    (tmp_path / "f").write_text(HEAD)
+    done = subprocess.run([*words, "delays", tmp_path / "f", tmp_path / "f"], stdout=subprocess.PIPE, stderr=subprocess.PIPE, check=False)
+    assert (done.returncode, done.stderr) == (77, b"altqwork: the Python library numpy is not installed: run workbench/setup\n")
 
 
 @pytest.fixture
