@@ -25,6 +25,7 @@ other words.
 import contextlib
 import os
 import shutil
+import signal
 import subprocess
 import sys
 import tempfile
@@ -260,6 +261,24 @@ def cut_while_read(room):
     return Ending(found.run, {**found.outputs, "departures": bytes(got)})
 
 
+def interrupted(room):
+    """A play that gets SIGINT while its departures, which go into a named pipe, are written."""
+    room.lay()
+    got = bytearray()
+
+    def read():
+        with open(room.path("pipe"), "rb", buffering=0) as file:
+            got.extend(file.read(len(DEPARTURES_HEAD)) + file.read(1))
+            for name in filter(str.isdigit, os.listdir("/proc")):
+                with contextlib.suppress(OSError):
+                    if os.path.samefile(f"/proc/{name}/exe", room.program):
+                        os.kill(int(name), signal.SIGINT)
+            got.extend(file.readall())
+
+    found = piped(room, "departures", read)
+    return Ending(found.run, {**found.outputs, "departures": bytes(got)})
+
+
 @contextlib.contextmanager
 def disk(room, size):
     """A disk of so many bytes in the folder `disk` of a new room."""
@@ -386,6 +405,7 @@ QUICK = [
     Try("statistics on a full device", device, ("stats", "/dev/full"), 6, writing("stats"), ("whole", "whole", "nothing")),
     *[Try("an output into a named pipe that is read to its end", into_pipe, (which,), 0, "", WHOLE) for which in OUTPUTS],
     Try("departures into a named pipe whose reader goes away", into_pipe, ("departures", 24), 6, writing("departures"), ("head", "head or front", "empty")),
+    Try("a play that SIGINT ends while it writes", interrupted, (), -2, "", ("front", "head or front", "empty")),
     Try("4 open files at most, one of them the configuration", with_few_descriptors, (4,), 5, reading("arrivals"), UNTOUCHED),
     Try("5, 6 or 7 open files at most", with_few_descriptors, (5,), 6, writing("departures"), after_creation("departures")),
     Try("5, 6 or 7 open files at most", with_few_descriptors, (6,), 6, writing("fates"), after_creation("fates")),
