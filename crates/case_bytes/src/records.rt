@@ -1,6 +1,7 @@
 // The records of a capture in little-endian nanoseconds, each in the words of an arrival.
 
 use crate::texts::{add_hex, add_text};
+use byteorder::{ByteOrder, LittleEndian};
 
 // A record, and the bytes behind it.
 #[derive(Clone, Copy)]
@@ -13,24 +14,17 @@ struct Record<'a> {
 
 // The first record of the bytes behind a capture's head, or of some of them.
 fn first_of(bytes: &[u8]) -> Option<Record<'_>> {
-    let (second, behind) = word_of(bytes)?;
-    let (nanosecond, behind) = word_of(behind)?;
-    let (captured, behind) = word_of(behind)?;
-    let (length, behind) = word_of(behind)?;
-    let (frame, behind) = behind
-        .split_at_checked(captured as usize)
-        .unwrap_or((behind, &[]));
+    let (head, behind) = bytes.split_first_chunk::<16>()?;
+    let second = LittleEndian::read_u32(&head[..4]);
+    let nanosecond = LittleEndian::read_u32(&head[4..8]);
+    let captured = LittleEndian::read_u32(&head[8..12]) as usize;
+    let (frame, behind) = behind.split_at_checked(captured).unwrap_or((behind, &[]));
     Some(Record {
         at: u64::from(second) * 1_000_000_000 + u64::from(nanosecond),
-        length,
+        length: LittleEndian::read_u32(&head[12..]),
         frame,
         behind,
     })
-}
-
-fn word_of(bytes: &[u8]) -> Option<(u32, &[u8])> {
-    let (word, behind) = bytes.split_first_chunk::<4>()?;
-    Some((u32::from_le_bytes(*word), behind))
 }
 
 /// Adds the head of a capture and its first records.
