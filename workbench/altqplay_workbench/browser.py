@@ -6,6 +6,7 @@ import subprocess
 import tempfile
 
 from .faults import Missing, Refused
+from .libraries import advice
 
 NAMES = ("chromium", "chromium-browser", "google-chrome")
 WIDTH, SCALE, SECONDS = 1210, 0.8, 60
@@ -16,7 +17,7 @@ def chromium():
     """Chromium's path. `Missing` where there is none."""
     found = next((path for path in map(shutil.which, NAMES) if path), None)
     if found is None:
-        raise Missing("Chromium is not installed: run workbench/setup --tests")
+        raise Missing(f"Chromium is not installed: {advice('it', ' --tests')}")
     return found
 
 

@@ -11,6 +11,7 @@ import sys
 
 from . import __version__
 from .faults import Missing, Refused
+from .libraries import advice
 
 # Each subcommand's module. One whose module is not here is no subcommand.
 MODULES = {
@@ -22,9 +23,11 @@ MODULES = {
     "compare": "compare",
     "why": "why",
     "sweep": "sweep",
+    "find": "find",
     "gap": "gap",
     "meter": "meter",
     "path": "path",
+    "try": "trying",
 }
 REFUSED, MISSING = 2, 77
 
@@ -37,7 +40,7 @@ def load(name):
     except ModuleNotFoundError as fault:
         if fault.name == path:
             return None
-        raise Missing(f"the Python library {fault.name} is not installed: run workbench/setup") from None
+        raise Missing(f"the Python library {fault.name} is not installed: {advice(fault.name)}") from None
 
 
 def add_command(commands, name, module):
@@ -64,8 +67,9 @@ def parser_of(words):
     return parser
 
 
-def main(words):
-    """Runs the words of a command line and answers the exit status."""
+def main(words=None):
+    """Runs the words of a command line, those of this process where none are given, and answers the exit status."""
+    words = sys.argv[1:] if words is None else words
     try:
         args = parser_of(words).parse_args(words)
         status = args.run(args)
