@@ -2,15 +2,15 @@
 
     altqwork why fates.csv altq.conf --packet 477
     altqwork why fates.csv altq.conf --at 10000000 --arrivals arrivals.pcap
-    altqwork why fates.csv altq.conf --csv decisions.csv
 
 It replays the fates by a plain model of the rules, written from the pages alone, and compares each. Without --packet and --at
 it only says how many agree. Where the rules decide otherwise it prints the row and the numbers there, ends the replay, and the
-exit status is 1. The rows stand in the order of decision, as altqplay writes them; `sent` and `dropped` stand for any rule.
+exit status is 1. The rows stand in the order of decision, as altqplay writes them; `sent` and `dropped` stand for any rule. Of more
+than 20,000 fates it replays only the decisions that --packet and --at ask for, each from the state that the fates before it tell.
 
 Moments are nanoseconds, counts and totals units, of which a byte has 8,000,000,000. `after` is a number behind the decision; all
 others are those before it. A class with `ecn` or `rio` needs the capture, `red`, `ecn` and `rio` need the seed. Which class a frame
-is of, the fates tell. It needs no library, but altqplay, which says what the configuration means.
+is of, the fates tell. Of up to 20,000 fates it needs no library, but altqplay, which says what the configuration means.
 """
 
 from __future__ import annotations
@@ -28,6 +28,7 @@ from .why_pictures import offer_lines, picture_of, state_lines
 from .why_replay import Behind, Replay
 
 NAME = "why"
+LONG = 20_000  # fates
 HELP = "the numbers behind a decision, and whether the fates are those of the rules"
 
 
@@ -83,7 +84,7 @@ def otherwise_lines(told: Told, name: str) -> list[str]:
     packet = told.last.packet
     if found.ours is not None:
         lines.append(f"by the rules: {row_text(found.ours)}")
-        own = next((row for row, fate in told.replay.question.rows if fate.number == packet.number), None)
+        own = told.replay.question.row_of(packet.number)
         lines += [f"packet {packet.number} stands in {place(own)}"] if own not in (None, found.row) else []
     else:
         lines.append(f"by the rules: packet {packet.number} is kept")
@@ -91,10 +92,27 @@ def otherwise_lines(told: Told, name: str) -> list[str]:
 
 
 def run(args: Namespace) -> int:
-    asked = question(args)
-    wrong = [number for number in args.packet if not 1 <= number <= len(asked.packets)]
+    status = of_long_play(args) if (args.packet or args.at) and not args.csv and is_long(args.fates) else None
+    return of_whole_play(args) if status is None else status
+
+
+def is_long(name: str) -> bool:
+    """Whether a file has more fates than are replayed in a second."""
+    with open(name, "rb") as file:
+        return sum(piece.count(b"\n") for piece in iter(lambda: file.read(1 << 20), b"")) > LONG
+
+
+def test_packets(args: Namespace, count: int) -> None:
+    """Refuses a packet that is asked for and is none of so many."""
+    wrong = [number for number in args.packet if not 1 <= number <= count]
     if wrong:
-        raise Refused(f"{args.fates}: no packet {wrong[0]}: it has {len(asked.packets)}")
+        raise Refused(f"{args.fates}: no packet {wrong[0]}: it has {count}")
+
+
+def of_whole_play(args: Namespace) -> int:
+    """Replays all."""
+    asked = question(args)
+    test_packets(args, len(asked.packets))
     replay = Replay(asked)
     told = Told(replay, args)
     if args.csv:
@@ -106,15 +124,39 @@ def run(args: Namespace) -> int:
     return 1 if replay.otherwise else 0
 
 
-def follow(replay: Replay, told: Told, rows: Rows | None) -> None:
-    """Replays all, for the pictures and for the rows."""
+def of_long_play(args: Namespace) -> int | None:
+    """Replays what is asked for alone; None where that cannot be told from the fates, or a library is missing."""
+    try:
+        from .why_window import Unordered, windows
+    except ModuleNotFoundError:
+        return None
+    count, lines = 0, []
+    try:
+        asked = windows(args)
+    except Unordered:
+        return None
+    test_packets(args, len(asked.columns.fates))
+    for window in asked.windows(args.packet, args.at):
+        replay = Replay(window)
+        told = Told(replay, window.asked())
+        follow(replay, told, None, window.count())
+        lines, count = lines + told.lines, count + replay.count
+        if replay.otherwise:
+            print("\n".join(lines + otherwise_lines(told, args.fates)))
+            return 1
+    print("\n".join(lines + [f"{args.fates}: {len(asked.columns.fates)} fates, of which {count} decisions were replayed, all of them those of the rules"]))
+    return 0
+
+
+def follow(replay: Replay, told: Told, rows: Rows | None, most: int | None = None) -> None:
+    """Replays all, or `most` decisions, for the pictures and for the rows."""
     looks = [told.look] + ([rows.look] if rows else [])
 
     def look(decision: Offer | Sending) -> Behind | None:
         behind = [found for found in [one(decision) for one in looks] if found]
         return (lambda taken: [found(taken) for found in behind]) if behind else None
 
-    replay.decisions(look if rows else told.look)
+    replay.decisions(look if rows else told.look, most)
     if replay.otherwise is None:
         told.passed(2**200)
     elif isinstance(told.last, Offer) and not told.has_picture:
