@@ -17,6 +17,7 @@ from .why_history import Columns, History, Point, Unordered
 from .why_inputs import frames_of
 from .why_state import play_at
 
+NEAR = 2000  # decisions that are replayed sooner than a state is told anew
 Services = Optional["tuple[list[int], list[bool]]"]
 
 
@@ -99,7 +100,8 @@ def parts_of(columns: Columns, packets: Sequence[int], moments: Sequence[int], w
         if sending is not None:
             before = columns.sent(sending)
             after = Point(before.offers, before.sendings + 1)
-            found += [Part(offer, after, (number,))] if whole else [Part(offer, behind, (number,)), Part(before, after, (number,))]
+            is_one = whole or order(after) - order(offer) <= NEAR
+            found += [Part(offer, after, (number,))] if is_one else [Part(offer, behind, (number,)), Part(before, after, (number,))]
         else:
             found.append(Part(offer, behind, (number,)))
     found += [Part(columns.at(moment), columns.behind(moment), moments=(moment,)) for moment in moments]
@@ -109,10 +111,10 @@ def parts_of(columns: Columns, packets: Sequence[int], moments: Sequence[int], w
 
 
 def merged(parts: list[Part]) -> Iterator[Part]:
-    """Parts in the order of their begins, those that meet as one."""
+    """Parts in the order of their begins, those that meet or nearly do as one."""
     last: Optional[Part] = None
     for part in parts:
-        if last is not None and order(part.begin) <= order(last.end):
+        if last is not None and order(part.begin) <= order(last.end) + NEAR:
             last = last.joined(part)
         else:
             if last is not None:
