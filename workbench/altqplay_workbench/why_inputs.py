@@ -33,6 +33,11 @@ class Question:
         """The rows of the packets that are dropped, by number."""
         return {fate.number: (row, fate) for row, fate in self.rows if fate.start is None}
 
+    @property
+    def origin(self) -> int:
+        """The first arrival."""
+        return self.packets[0].arrival if self.packets else 0
+
     def row_of(self, number: int) -> int | None:
         """The row of a packet."""
         return next((row for row, fate in self.rows if fate.number == number), None)

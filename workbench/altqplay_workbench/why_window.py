@@ -81,9 +81,14 @@ class Window:
         """The play by the rules at the part's begin."""
         return play_at(self.columns, self.part.begin, self.part.end.offers, self.seed, self.services)
 
-    def asked(self) -> Namespace:
+    @property
+    def origin(self) -> int:
+        """The first arrival."""
+        return int(self.columns.arrival[0]) if len(self.columns.arrival) else 0
+
+    def asked(self, args: Namespace) -> Namespace:
         """The words that ask for what is told of the part."""
-        return Namespace(packet=list(self.part.packets), at=list(self.part.moments))
+        return Namespace(packet=list(self.part.packets), at=list(self.part.moments), story=args.story, ns=args.ns)
 
     def count(self) -> int:
         """How many decisions are replayed."""

@@ -10,7 +10,7 @@ from hypothesis import given, settings
 from hypothesis import strategies as some
 from worked import QUARTER
 
-from altqplay_workbench import why
+from altqplay_workbench import why, why_window
 from altqplay_workbench.play import play
 
 pytest.importorskip("numpy")
@@ -40,11 +40,13 @@ def moments(rows):
 def both(altqwork, monkeypatch, words):
     """What `why` says by a replay of all, and of the decisions alone; the last line of each is left out."""
     found = []
-    for long in (10**9, -1):
+    for long, near in ((10**9, 0), (-1, 0), (-1, 2000)):
         monkeypatch.setattr(why, "LONG", long)
+        monkeypatch.setattr(why_window, "NEAR", near)
         status, said, fault = altqwork("why", *words)
         found.append((status, said.splitlines()[:-1] if status == 0 else said.splitlines(), fault))
-    return found
+    assert found[1] == found[2]
+    return found[:2]
 
 
 def test_random_decisions(altqwork, program, tmp_path, monkeypatch):
@@ -76,10 +78,12 @@ def test_each_packet_of_one_play(altqwork, program, tmp_path, monkeypatch):
 
 
 def test_last_line_says_how_many(altqwork, played, monkeypatch):
-    """The offer and the sending of packet 6 are two decisions of 18."""
+    """The offer and the sending of packet 6 are two decisions of 18; between them 3 more offers and 3 sendings."""
     one = played(QUARTER, "3x1000@0:5004 6x1000@0")
     monkeypatch.setattr(why, "LONG", 8)
-    assert altqwork("why", one.fates, one.config, "--packet", 6)[1].splitlines()[-1] == f"{one.fates}: 9 fates, of which 2 decisions were replayed, all of them those of the rules"
+    for near, count in ((0, 2), (8, 8)):
+        monkeypatch.setattr(why_window, "NEAR", near)
+        assert altqwork("why", one.fates, one.config, "--packet", 6)[1].splitlines()[-1] == f"{one.fates}: 9 fates, of which {count} decisions were replayed, all of them those of the rules"
     monkeypatch.setattr(why, "LONG", 10)
     assert altqwork("why", one.fates, one.config, "--packet", 6)[1].splitlines()[-1] == f"{one.fates}: 9 fates, all of them those of the rules"
 
