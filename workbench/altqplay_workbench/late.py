@@ -179,13 +179,13 @@ def is_well(sides, verdicts):
 
 
 def run(args):
-    if args.capture and args.arrivals is None:
+    if args.capture and not plays.captures_of(args):
         raise Refused("--capture needs the capture of the arrivals")
     times = Times(args.ns)
     with plays.Question(args) as question:
         sides = question.sides
         verdicts = wants.of_sides(args.wants, sides)
-        print("\n".join(question.told + [heading(side, times) for side in sides]))
+        print("\n".join(question.told + question.missing + [heading(side, times) for side in sides]))
         flows = flow_table(sides, Flows(question.frames), args.flows, times) if question.frames else []
         print("\n".join(aligned(class_table(sides, times) + flows) + wants.lines([side.label for side in sides], verdicts, times)))
         if args.rows:

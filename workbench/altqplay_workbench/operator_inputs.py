@@ -97,3 +97,9 @@ def prepared(config: str, interface: str | None, captures: Sequence[str], folder
     if marks:
         raise Refused("--mark: packets are not marked yet")
     return Prepared(conf_text, name, notes, shown, captures[0], shown, numpy.arange(len(Frames(shown)) + 1), told)
+
+
+def without_captures(config: str, interface: str | None, options: Options) -> Prepared:
+    """A configuration whose plays were made: there is nothing to play."""
+    conf_text, name, notes = conf_of(config, interface, options)
+    return Prepared(conf_text, name, notes, "", "", "", numpy.arange(1))

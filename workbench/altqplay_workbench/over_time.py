@@ -8,7 +8,7 @@ from __future__ import annotations
 
 import html as markup
 import math
-from dataclasses import dataclass, field
+from dataclasses import dataclass
 from typing import Optional, Sequence
 
 HIGH = 200  # units of a picture's height
@@ -27,7 +27,7 @@ class Picture:
     plays: Sequence[Values]
     drops: Sequence[Sequence[int]] = ()
     wants: Sequence[tuple[float, str]] = ()
-    shown: str = field(default="{:,.3g}")
+    shown: str = "{:.3f}"
 
 
 def nice(span: float, most: int) -> float:

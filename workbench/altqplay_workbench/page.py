@@ -10,6 +10,7 @@ import os
 from typing import Any, Iterable, Optional, Sequence
 
 from . import late, over_time, plays, series, summary, wants
+from .printable import printable
 from .rows import DROPPED
 from .texts import Times
 
@@ -23,8 +24,8 @@ one.open = true; folded.push(one) } }); addEventListener('afterprint', () => { w
 
 
 def said(text: str) -> str:
-    """A text as HTML, where what cannot be printed is a question mark."""
-    return markup.escape("".join(letter if letter.isprintable() else "?" for letter in text), quote=True)
+    """A text as HTML of printable characters."""
+    return markup.escape(printable(text), quote=True)
 
 
 def verdict_html(row: Sequence[wants.Verdict], labels: Sequence[str], times: Times) -> str:
@@ -183,6 +184,7 @@ def html(question: Any, verdicts: Sequence[Sequence[wants.Verdict]], times: Time
     drawing = Drawing(sides, [row[0].want for row in verdicts], part)
     heads = [f"{label}: {config}: {late.heading(side, times).split(': ', 1)[1]}" for side, (label, config) in zip(sides, question.configs)]
     above = "".join(f"<p>{said(text)}</p>" for text in [*question.told, summary.default_texts(sides) + "."])
+    above += "".join(f'<p class="flag">{said(text)}</p>' for text in question.missing)
     unit = f"<p>Times are in {'nanoseconds' if times.exact else 'milliseconds; a time says its nanoseconds where the mouse rests on it'}.</p>"
     below = [folded("Numbers by class", unit + class_table(sides, times)), folded("Packets that wait, and rates, over time", drawing.loads()),
              folded("Flows that lose most", flows or ""), folded("Packets that became late or are dropped now", changes(sides) if len(sides) == 2 else ""),
