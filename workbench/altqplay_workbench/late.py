@@ -19,6 +19,7 @@ import csv
 import numpy
 
 from . import plays, wants
+from .delays import ranks
 from .faults import Refused
 from .flows import Flows
 from .texts import Times, add_times, aligned
@@ -26,8 +27,7 @@ from .texts import Times, add_times, aligned
 NAME = "late"
 HELP = "each packet's due moment, by how much it was missed, delays, and what was dropped"
 SHOWN = 10
-RANKS = (("median", 50), ("99 in 100", 99))
-DELAYS = [*(name for name, _parts in RANKS), "greatest"]
+DELAYS = ["median", "99 in 100", "greatest"]
 LATENESS = ["due", "missed", "late", "worst"]
 TIMES = {*DELAYS, "least", "worst"}  # the columns that are times
 
@@ -50,19 +50,10 @@ def lateness(side, own):
     return [len(missed), int((missed > 0).sum()), int(side.is_late[own].sum()), int(missed.max())]
 
 
-def ranks(values):
-    """The least of some delays, those that so many of a hundred do not pass, and the greatest; None each where there is no delay."""
-    if not len(values):
-        return [None] * (len(RANKS) + 2)
-    places = [0, *(-(-parts * len(values) // 100) - 1 for _name, parts in RANKS), len(values) - 1]
-    ranked = numpy.partition(values, sorted(set(places)))
-    return [int(ranked[place]) for place in places]
-
-
 def delays(side, own):
-    """The delays by rank of the packets sent at some places of a play."""
+    """The least delay of the packets sent at some places of a play, those by rank, and the greatest; None each where none is sent."""
     sent = own[side.is_sent[own]]
-    return ranks((side.end - side.arrival)[sent])
+    return ranks(side.end[sent] - side.arrival[sent])
 
 
 def counts(side, own):
