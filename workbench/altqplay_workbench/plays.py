@@ -174,7 +174,7 @@ class Question:
 
     def side(self, number):
         """The play of a configuration: made now, or read."""
-        (label, _config), given = self.configs[number], self.inputs[number]
+        label, given = self.configs[number][0], self.inputs[number]
         folder = os.path.join(self.folder, label)
         os.makedirs(folder, exist_ok=True)
         config = os.path.join(folder, "altq.conf")
