@@ -12,7 +12,7 @@ import sys
 import tempfile
 from fractions import Fraction
 
-from . import pf_queues, pf_rules, play, tc_classes, tc_filters
+from . import pf_filters, pf_queues, pf_rules, play, tc_classes, tc_filters
 from .altq_text import Notes, try_all, text_of
 from .config_kinds import NAMES, kind_of
 from .faults import Missing, Refused
@@ -60,7 +60,9 @@ def imported(text, given, notes):
     if (given.kind or kind(text, notes.name)) == "pf":
         lines = list(statements(text, notes))
         interfaces = pf_queues.interfaces_of(lines, given, notes)
-        pf_rules.add_filters(lines, interfaces, notes)
+        rules = pf_rules.rules_of(lines, pf_rules.tables_of(lines), notes)
+        pf_rules.settle_groups(rules, interfaces, notes)
+        pf_filters.add_filters(lines, rules, interfaces, notes)
         return interfaces
     devices = tc_classes.devices_of(commands(text, notes), given, notes)
     if not devices:
