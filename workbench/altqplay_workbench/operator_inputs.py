@@ -15,7 +15,7 @@ import numpy
 
 from . import importing
 from .altq_text import Note
-from .captures import LONGEST, Frames
+from .captures import LONGEST, frames_of
 from .conf import interface_named
 from .config_kinds import kind_of
 from .convert import converted, is_playable
@@ -96,7 +96,7 @@ def prepared(config: str, interface: str | None, captures: Sequence[str], folder
     shown, told = playable(captures, folder, options)
     if marks:
         raise Refused("--mark: packets are not marked yet")
-    return Prepared(conf_text, name, notes, shown, captures[0], shown, numpy.arange(len(Frames(shown)) + 1), told)
+    return Prepared(conf_text, name, notes, shown, captures[0], shown, numpy.arange(len(frames_of(shown)) + 1), told)
 
 
 def without_captures(config: str, interface: str | None, options: Options) -> Prepared:

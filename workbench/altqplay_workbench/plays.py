@@ -10,8 +10,8 @@ from concurrent.futures import ThreadPoolExecutor
 
 import numpy
 
-from . import operator_inputs
-from .captures import Frames
+from . import importing, operator_inputs
+from .captures import frames_of
 from .conf import read_conf
 from .convert import add_lengths
 from .due import BYTE, MOST, due_moments
@@ -151,7 +151,7 @@ class Question:
             self.told = self.inputs[0].told
             self.missing = [f"{config}: not played, and has an effect: {text}" for (_label, config), one in zip(self.configs, self.inputs)
                             for text in [one.not_understood()] if text]
-            self.frames = Frames(self.inputs[0].shown) if self.captures else None
+            self.frames = frames_of(self.inputs[0].shown) if self.captures else None
         except BaseException:
             self.close()
             raise
@@ -172,16 +172,29 @@ class Question:
                 found.append(operator_inputs.without_captures(config, args.interface, options))
         return found
 
+    def conf_file(self, number, folder):
+        """The altq.conf of a play: the one that was given, or one made of what was given."""
+        config, text = self.configs[number][1], self.inputs[number].conf_text
+        if config != "-" and importing.read(config) == text:
+            return config
+        made = os.path.join(folder, "altq.conf")
+        if config != "-" and os.path.exists(made) and os.path.samefile(made, config):
+            raise Refused(f"{made}: the configuration itself would be written over")
+        with open(made, "w", encoding="utf-8") as file:
+            file.write(text)
+        return made
+
     def side(self, number):
         """The play of a configuration: made now, or read."""
         label, given = self.configs[number][0], self.inputs[number]
         folder = os.path.join(self.folder, label)
         os.makedirs(folder, exist_ok=True)
-        config = os.path.join(folder, "altq.conf")
-        with open(config, "w", encoding="utf-8") as file:
-            file.write(given.conf_text)
+        config = self.conf_file(number, folder)
         interface = read_conf(config, given.interface, self.args.program)
-        fates = self.args.fates[number] if self.args.fates else play(config, interface.name, given.arrivals, folder, self.args.seed, self.args.program).fates
+        if self.args.fates:
+            fates = self.args.fates[number]
+        else:
+            fates = play(config, interface.name, given.arrivals, folder, self.args.seed, self.args.program).fates
         return Side(label, interface, read_fates(fates), self.args.allow)
 
     def close(self):

@@ -259,7 +259,7 @@ def test_the_program_reads_what_is_made(altqwork, program, tmp_path):
     altqwork("convert", data("cooked2.pcapng"), made)
     (tmp_path / "c.conf").write_text("interface if0 bandwidth 8M hfsc\n")
     status, said, _fault = altqwork("late", "--config", tmp_path / "c.conf", made)
-    assert status == 0 and "default\n  play            6        0" in said
+    assert status == 0 and said.splitlines()[3].split()[:3] == ["play", "6", "0"]
 
 
 @pytest.mark.parametrize("name", ["cooked.pcap", "cooked2.pcapng", "cooked.pcap.gz", "raw.pcap"])
@@ -277,12 +277,13 @@ def test_changed_bytes_never_end_but_in_an_answer(altqwork, tmp_path, name):
 
 def test_no_capture_is_written_over(altqwork, program, tmp_path):
     raw = classic(101, [(0, IP, 200)])
-    (tmp_path / "arrivals.pcap").write_bytes(raw)
+    (tmp_path / "play").mkdir()
+    capture = tmp_path / "play" / "arrivals.pcap"
+    capture.write_bytes(raw)
     (tmp_path / "c.conf").write_text("interface if0 hfsc\n")
-    for words in (["convert", tmp_path / "arrivals.pcap", tmp_path / "arrivals.pcap"],
-                  ["late", "--config", tmp_path / "c.conf", "--keep", tmp_path, tmp_path / "arrivals.pcap"]):
+    for words in (["convert", capture, capture], ["late", "--config", tmp_path / "c.conf", "--keep", tmp_path, capture]):
         status, _said, fault = altqwork(*words)
-        assert status == 2 and "written over" in fault and (tmp_path / "arrivals.pcap").read_bytes() == raw
+        assert status == 2 and "written over" in fault and capture.read_bytes() == raw
     (tmp_path / "b.pcap").write_bytes(classic(1, []))
     assert altqwork("late", "--config", tmp_path / "c.conf", "--capture", tmp_path / "b.pcap", tmp_path / "b.pcap")[0] == 2
 

@@ -212,6 +212,32 @@ def test_any_capture_is_played(altqwork, program, tmp_path):
     assert "longest packet sent: 206 bytes" in said  # 140 of data, 8 + 20 of heads, 14 of Ethernet, 24
 
 
+PF = """altq on em0 hfsc bandwidth 8Mb queue { voice rest }
+queue voice bandwidth 10% hfsc(realtime 1Mb)
+queue rest bandwidth 70% hfsc(default)
+pass out on em0 inet proto udp from any to any port 5004 queue voice
+pass out on em0 inet proto udp from any to any user alice queue voice
+"""
+
+
+def test_a_pf_conf_is_imported(altqwork, program, tmp_path):
+    """It has an interface, and what of it was not understood is said."""
+    (tmp_path / "pf.conf").write_text(PF)
+    (tmp_path / "a.pcap").write_bytes(classic(1, [(0, bytes(12) + b"\x08\x00" + udp(port), 214) for port in (5004, 80, 80)]))
+    for words in ([tmp_path / "a.pcap"], ["--arrivals", tmp_path / "a.pcap"]):
+        status, said, _fault = altqwork("late", "--config", tmp_path / "pf.conf", *words)
+        assert status == 0 and "interfaces" not in said and "not played, and has an effect: line 5 word 12: user" in said
+        assert [line.split()[:3] for line in said.splitlines() if line.startswith("  play")][:2] == [["play", "1", "0"], ["play", "2", "0"]]
+
+
+def test_no_configuration_is_written_over(altqwork, program, tmp_path):
+    (tmp_path / "play").mkdir()
+    (tmp_path / "play" / "altq.conf").write_text(PF)
+    (tmp_path / "a.pcap").write_bytes(classic(1, []))
+    status, _said, fault = altqwork("late", "--config", tmp_path / "play" / "altq.conf", "--keep", tmp_path, tmp_path / "a.pcap")
+    assert status == 2 and "written over" in fault and (tmp_path / "play" / "altq.conf").read_text() == PF
+
+
 def random_play(chance, folder):
     """A configuration and a capture."""
     rate, leaves = chance.choice([64_000, 1_000_000, 8_000_000, 3_333_333, 10**9]), chance.randrange(1, 5)
