@@ -15,6 +15,7 @@ from .rows import DROPPED
 from .texts import Times
 
 STYLE = os.path.join(os.path.dirname(os.path.abspath(__file__)), "page.css")
+STEPS = 300  # of a picture: as many as a phone has room for
 MOST_DRAWN, MANY = 20, 5  # the most classes that are drawn, and from how many on their pictures are lower
 CLASS_HEAD = ["packets", "sent", *DROPPED, "least", *late.DELAYS]
 FLOW_HEAD = ["packets", "dropped", *late.DELAYS]
@@ -141,7 +142,7 @@ class Drawing:
     """The pictures of a page, on one axis of seconds after the first arrival."""
 
     def __init__(self, sides: Sequence[Any], asked: Sequence[wants.Want], part: tuple[int, int]) -> None:
-        self.sides, self.asked, self.steps = sides, asked, series.Steps(*part)
+        self.sides, self.asked, self.steps = sides, asked, series.Steps(*part, STEPS)
         self.names = plays.class_names(sides)
         self.shown = most_packets(sides, self.names)
         origin = min((int(side.arrival.min()) for side in sides if len(side)), default=0)
@@ -181,6 +182,7 @@ def html(question: Any, verdicts: Sequence[Sequence[wants.Verdict]], times: Time
     sides, labels = question.sides, [side.label for side in question.sides]
     title = " → ".join(os.path.basename(config) for _label, config in question.configs)
     lines = "".join(class_line(line, labels, times) for line in summary.lines(sides, verdicts))
+    compared = f"<p>Worse and better are changes by more than 1 in {summary.CHANGE}.</p>" if len(sides) == 2 else ""
     drawing = Drawing(sides, [row[0].want for row in verdicts], part)
     heads = [f"{label}: {config}: {late.heading(side, times).split(': ', 1)[1]}" for side, (label, config) in zip(sides, question.configs)]
     above = "".join(f"<p>{said(text)}</p>" for text in [*question.told, summary.default_texts(sides) + "."])
@@ -192,6 +194,6 @@ def html(question: Any, verdicts: Sequence[Sequence[wants.Verdict]], times: Time
     with open(STYLE, encoding="ascii") as file:
         style = file.read()
     head = f'<meta charset="utf-8"><meta name="viewport" content="width=device-width, initial-scale=1"><title>altqplay: {said(title)}</title><style>{style}</style>'
-    body = (f'<h1>{said(title)}</h1>\n{above}\n<ul class="classes">{lines}</ul>\n<h2>Delays over time</h2>{drawing.key(times)}\n{drawing.delays()}\n'
+    body = (f'<h1>{said(title)}</h1>\n{above}\n<ul class="classes">{lines}</ul>{compared}\n<h2>Delays over time</h2>{drawing.key(times)}\n{drawing.delays()}\n'
             + "\n".join(below) + f"\n<script>{SCRIPT}</script>")
     return f'<!DOCTYPE html>\n<html lang="en"><head>{head}</head><body>\n{body}\n</body></html>\n'

@@ -7,7 +7,7 @@
 A configuration is an altq.conf, a pf.conf or lines of tc, which is imported; a capture may be of any kind, and is converted.
 
 On top a line a class says how long its slowest packet takes, whether that is worse, what is dropped, and whether each --want is
-kept. Below it a picture a class shows the greatest delays and the drops over time, in 1,000 steps, before and after on one axis;
+kept. Below it a picture a class shows the greatest delays and the drops over time, in 300 steps, before and after on one axis;
 --from and --to draw a part in finer steps. What is folded below has all numbers, of the whole play: the delays by rank, the
 lateness (as `late` says it), the packets that wait, the rates, the flows that lose most, the packets that became late or are
 dropped now. What a change made another number is bold. --picture also writes what the page shows as PNG, by Chromium.

@@ -221,7 +221,7 @@ def test_a_part_is_drawn_finer(browse, altqwork, office):
     folder, words = office
     assert altqwork(*words, folder / "part.html", "--from", "480", "--to", "481.5")[0] == 0
     driver = browse(folder / "part.html")
-    assert "1,000 steps of 0.002 ms" in driver.execute_script("return document.body.textContent")
+    assert "300 steps of 0.005 ms" in driver.execute_script("return document.body.textContent")
     texts = driver.execute_script("return Array.from(document.querySelector('.axis').querySelectorAll('span')).map(one => one.textContent)")
     assert texts[0] == "0.4800" and texts[-1] == "0.4814" and len(texts) == 8
     assert table(driver, "classes")["all", "before"][0] == 620
