@@ -136,8 +136,8 @@ def test_wants_and_vanished_due_moments(browse, altqwork, office):
     assert "  before  kept: 200 packets, the slowest 3.416 ms" in said.splitlines() and "packets, the slowest 13.704 ms" in said
     shown = lines(browse(page))
     assert shown["voice"][:3] == ["slowest 3.4 → 13.7 ms", "worse", "0 dropped"]
-    assert "200 packets have no due moment any more" in shown["voice"][3] and "voice delay<10ms: kept → broken" in shown["voice"][3]
-    assert shown["rest"][3].startswith("rest drop=0: kept, 0 of 180 packets dropped")
+    assert "200 packets have no due moment any more" in shown["voice"][3] and "delay<10ms: kept → broken" in shown["voice"][3]
+    assert shown["rest"][3].startswith("drop=0: kept, 0 of 180 packets dropped")
     assert browse(page).execute_script("return document.querySelector('figure[data-of=voice] span.asked').textContent") == "want < 10 ms"
 
 
