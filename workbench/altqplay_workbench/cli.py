@@ -5,12 +5,14 @@ are the subcommand's own answers, 2 says that the words or an input were refused
 """
 
 import argparse
+import contextlib
 import importlib
 import os
 import sys
 
 from . import __version__
 from .faults import Missing, Refused
+from .printable import Printed
 
 # Each subcommand's module. One whose module is not here is no subcommand.
 MODULES = {
@@ -66,6 +68,12 @@ def parser_of(words):
 
 
 def main(words):
+    """Runs the words of a command line and answers the exit status. All that is said is printable text."""
+    with contextlib.redirect_stdout(Printed(sys.stdout)), contextlib.redirect_stderr(Printed(sys.stderr)):
+        return answered(words)
+
+
+def answered(words):
     """Runs the words of a command line and answers the exit status."""
     try:
         args = parser_of(words).parse_args(words)

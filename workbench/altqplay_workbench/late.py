@@ -19,6 +19,7 @@ import csv
 import numpy
 
 from . import plays, wants
+from .delays import ranks
 from .faults import Refused
 from .flows import Flows
 from .texts import Times, add_times, aligned
@@ -26,8 +27,7 @@ from .texts import Times, add_times, aligned
 NAME = "late"
 HELP = "each packet's due moment, by how much it was missed, delays, and what was dropped"
 SHOWN = 10
-RANKS = (("median", 50), ("99 in 100", 99))
-DELAYS = [*(name for name, _parts in RANKS), "greatest"]
+DELAYS = ["median", "99 in 100", "greatest"]
 LATENESS = ["due", "missed", "late", "worst"]
 TIMES = {*DELAYS, "least", "worst"}  # the columns that are times
 
@@ -50,19 +50,10 @@ def lateness(side, own):
     return [len(missed), int((missed > 0).sum()), int(side.is_late[own].sum()), int(missed.max())]
 
 
-def ranks(values):
-    """The least of some delays, those that so many of a hundred do not pass, and the greatest; None each where there is no delay."""
-    if not len(values):
-        return [None] * (len(RANKS) + 2)
-    places = [0, *(-(-parts * len(values) // 100) - 1 for _name, parts in RANKS), len(values) - 1]
-    ranked = numpy.partition(values, sorted(set(places)))
-    return [int(ranked[place]) for place in places]
-
-
 def delays(side, own):
-    """The delays by rank of the packets sent at some places of a play."""
+    """The least delay of the packets sent at some places of a play, those by rank, and the greatest; None each where none is sent."""
     sent = own[side.is_sent[own]]
-    return ranks((side.end - side.arrival)[sent])
+    return ranks(side.end[sent] - side.arrival[sent])
 
 
 def counts(side, own):
@@ -109,7 +100,7 @@ def changed(first, second, own):
     was_late, is_late, was_sent, is_sent = first.is_late[own], second.is_late[own], first.is_sent[own], second.is_sent[own]
     lost, told = len(without_due(first, second, own)), []
     if lost:
-        told.append(f"{lost} {'packet has' if lost == 1 else 'packets have'} no due moment any more")
+        told.append(f"{lost:,} {'packet has' if lost == 1 else 'packets have'} no due moment any more")
     if was_late.any() or second.has_due[own].any():
         mended = int((was_late & ~is_late & second.has_due[own]).sum())
         told.append(f"became late: {listed(first.number[own[is_late & ~was_late]])}, late no more: {mended}")
@@ -174,18 +165,18 @@ def heading(side, times):
 
 def is_well(sides, verdicts):
     """Whether the last play has no late packet, no packet lost its due moment by the change, and each want is kept."""
-    every = numpy.arange(len(sides[0]))
-    return not (sides[-1].is_late.any() or (len(sides) == 2 and len(without_due(*sides, every)))) and wants.all_kept(verdicts)
+    has_lost = len(sides) == 2 and len(without_due(*sides, plays.every(sides[0])))
+    return not (sides[-1].is_late.any() or has_lost) and wants.all_kept(verdicts)
 
 
 def run(args):
-    if args.capture and args.arrivals is None:
+    if args.capture and not plays.captures_of(args):
         raise Refused("--capture needs the capture of the arrivals")
     times = Times(args.ns)
     with plays.Question(args) as question:
         sides = question.sides
         verdicts = wants.of_sides(args.wants, sides)
-        print("\n".join(question.told + [heading(side, times) for side in sides]))
+        print("\n".join(question.told + question.missing + [heading(side, times) for side in sides]))
         flows = flow_table(sides, Flows(question.frames), args.flows, times) if question.frames else []
         print("\n".join(aligned(class_table(sides, times) + flows) + wants.lines([side.label for side in sides], verdicts, times)))
         if args.rows:
