@@ -1,4 +1,4 @@
-"""Reads fates, statistics and paths, the CSV files that plays write (docs/FORMATS.md). Moments and lengths are exact integers.
+"""Reads fates, statistics and paths, the CSV files that plays write (docs/reference/FORMATS.md). Moments and lengths are exact integers.
 
 `fate_rows` and `path_rows` give row after row and need no library. `read_fates` gives columns, a million rows in a second.
 """
