@@ -112,4 +112,5 @@ class Reading:
             "has_ports": has_ports, "flags": flags.astype(numpy.int64),
             "is_bare": is_tcp & (flags & numpy.uint64(ACK) > 0) & (payload == 0),
             "icmp": kind.astype(numpy.int64), "code": numpy.where(is_icmp, self.heads.byte(at + 1), 0).astype(numpy.int64),
-            "ident": numpy.where(is_echo, self.word(at + 4), 0).astype(numpy.int64)})
+            # what tells one exchange of ICMP from another: the identifier of an echo, else the type
+            "ident": numpy.where(is_echo, self.word(at + 4), numpy.where(is_icmp, kind + 65536, 0)).astype(numpy.int64)})

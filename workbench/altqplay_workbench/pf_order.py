@@ -12,6 +12,7 @@ from __future__ import annotations
 from typing import List, NamedTuple
 
 import numpy
+import pandas
 
 from .altq_text import Interface, Notes
 from .asked import has_port
@@ -88,9 +89,10 @@ class Order:
         inner = {one.parent for one in interface.classes} if interface.discipline == "hfsc" else set()
         self.classes = [one.name for one in interface.classes if one.name not in inner]
         self.default = self.classes.index(next(one.name for one in interface.classes if one.is_default))
-        self.has_state = numpy.array([rule.has_state for rule in self.rules] + [False])
+        self.has_state = numpy.array([rule.has_state and rule.word.text == "pass" for rule in self.rules] + [False])
         self.blocks = numpy.array([rule.word.text == "block" for rule in self.rules] + [False])
         self.queues = numpy.array([[self.queue(rule, 0), self.queue(rule, 1)] for rule in self.rules] + [[-1, -1]])
+        self.tags = ["", *dict.fromkeys(rule.tag for rule in self.rules if rule.tag)]
 
     def queue(self, rule: Rule, place: int) -> int:
         """The class of a rule's first or second queue, by number; that of a queue that this interface has not is the default; -1 for none."""
@@ -99,39 +101,41 @@ class Order:
         name = rule.queues[min(place, len(rule.queues) - 1)].text
         return self.classes.index(name) if name in self.classes else self.default
 
-    def verdicts(self, place: Place, heads: Headers, is_opening, tags=None) -> Verdicts:
-        """The verdicts at a place: of the rules that match the last holds, or the first that is quick."""
-        count = len(heads)
-        last, match, done, matched = (numpy.full(count, -1), numpy.full(count, -1), numpy.zeros(count, dtype=bool), numpy.zeros(count, dtype=bool))
+    def verdicts(self, place: Place, heads: Headers, is_opening, tags) -> Verdicts:
+        """The verdicts at a place: of the rules that match the last holds, or the first that is quick. Tags change in their place."""
+        last, match = numpy.full(len(heads), -1), numpy.full(len(heads), -1)
+        is_done, is_matched = numpy.zeros(len(heads), dtype=bool), numpy.zeros(len(heads), dtype=bool)
         for number, rule in enumerate(self.rules):
             if not looks(rule, place, self.name):
                 continue
             is_match = rule.word.text == "match"
-            found = ~(matched if is_match else done) & asks_kind(rule, heads, is_opening)
-            found &= asks_ends(rule, heads) if found.any() else False
+            found = ~is_done & ~is_matched if is_match else ~is_done
+            found &= asks_kind(rule, heads, is_opening)
             if rule.tagged:
-                has = (tags if tags is not None else numpy.full(count, "", dtype=object)) == rule.tagged[0]
-                found &= ~has if rule.tagged[1] else has
-            if is_match and rule.queues:
-                match[found] = number
-            elif not is_match:
+                found &= (tags == self.tag(rule.tagged[0])) != rule.tagged[1]
+            if not found.any():
+                continue
+            found &= asks_ends(rule, heads)
+            if not is_match:
                 last[found] = number
-            if rule.tag and tags is not None:
-                tags[found] = rule.tag
+            elif rule.queues:
+                match[found] = number
+            if rule.tag:
+                tags[found] = self.tags.index(rule.tag)
             if rule.is_quick:
-                matched |= found if is_match else False
-                done |= found if not is_match else False
+                (is_matched if is_match else is_done)[found] = True
         return Verdicts(last, match)
 
-    def with_states(self, own: Verdicts, connection) -> Verdicts:
-        """The verdicts once the first packet of a connection that a rule with a state passes has made one."""
-        makes = numpy.flatnonzero(self.has_state[own.rule] & ~self.blocks[own.rule])
+    def tag(self, name: str) -> int:
+        """The number of a tag, -1 for one that no rule gives."""
+        return self.tags.index(name) if name in self.tags else -1
+
+    def makers(self, own: Verdicts, connection) -> numpy.ndarray:
+        """For each packet the one whose verdict holds for it: the first of its connection that makes a state, or itself."""
+        makes = numpy.flatnonzero(self.has_state[own.rule])
         first = numpy.full(int(connection.max()) + 1 if len(connection) else 0, len(connection), dtype=numpy.int64)
         first[connection[makes][::-1]] = makes[::-1]
-        state = first[connection]
-        has = state <= numpy.arange(len(connection))
-        at = numpy.where(has, state, 0)
-        return Verdicts(numpy.where(has, own.rule[at], own.rule), numpy.where(has, own.match[at], own.match))
+        return numpy.minimum(first[connection], numpy.arange(len(connection)))
 
     def named(self, verdicts: Verdicts, is_second) -> numpy.ndarray:
         """The class that a place names for each packet, or -1."""
@@ -139,49 +143,56 @@ class Order:
         own, other = self.queues[verdicts.rule, place], self.queues[verdicts.match, place]
         return numpy.where(own >= 0, own, other)
 
-    def place(self, place: Place, kinds: "Kinds", tags, is_asked=False) -> Verdicts:
-        """The verdicts at a place of all packets, or of those that they answer: of each kind of headers once, then by states."""
-        heads, is_opening = (kinds.asked, numpy.ones(len(kinds.rows), dtype=bool)) if is_asked else (kinds.heads, kinds.is_opening)
-        verdicts = self.verdicts(place, heads, is_opening, tags)
-        return self.with_states(Verdicts(verdicts.rule[kinds.of], verdicts.match[kinds.of]), kinds.connection)
-
-    def both(self, places, kinds: "Kinds", is_second, is_asked=False):
-        """The class that two places name for each packet, the second before the first, or -1; and the verdicts of the second."""
-        tags = numpy.full(len(kinds.rows), "", dtype=object)
-        first, second = (self.place(place, kinds, tags, is_asked) for place in places)
-        named = self.named(second, is_second)
-        return numpy.where(named >= 0, named, self.named(first, is_second)), second
+    def through(self, places, kinds: "Kinds", is_asked=False) -> List[Verdicts]:
+        """The verdicts of all packets, or of those that they answer, at two places that a packet passes one behind the other."""
+        tags, found = numpy.zeros(len(kinds.of), dtype=numpy.int64), []
+        for place in places:
+            of = pandas.factorize(kinds.of * len(self.tags) + tags)[0]
+            rows = first_rows(of)
+            heads = (kinds.asked if is_asked else kinds.heads).at(rows)
+            of_rows = tags[rows]
+            own = self.verdicts(place, heads, kinds.is_older[rows] | is_asked, of_rows)
+            makers = self.makers(Verdicts(own.rule[of], own.match[of]), kinds.connection)
+            found.append(Verdicts(own.rule[of[makers]], own.match[of[makers]]))
+            tags = of_rows[of[makers]]
+        return found
 
     def placed(self, heads: Headers) -> "Placed":
         """The class of each packet of a capture."""
-        kinds = Kinds(heads)
+        kinds, is_ip = Kinds(heads), heads.family > 0
+        own_in, own_out = self.through((ELSEWHERE_IN, HERE_OUT), kinds)
+        asked_in, asked_out = self.through((HERE_IN, ELSEWHERE_OUT), kinds, is_asked=True)
+        is_answer = self.are_answers(heads, kinds, own_out, asked_in) & is_ip
+        came, left = (Verdicts(*(numpy.where(is_answer & self.has_state[state.rule], theirs, ours) for theirs, ours in zip(state, own)))
+                      for state, own in ((asked_out, own_in), (asked_in, own_out)))
         is_second = heads.is_bare | (heads.tos == LOWDELAY)
-        own, left = self.both((ELSEWHERE_IN, HERE_OUT), kinds, is_second)
-        answer, came = self.both((ELSEWHERE_OUT, HERE_IN), kinds, is_second, is_asked=True)
-        is_ip = heads.family > 0
-        is_answer = self.are_answers(heads, kinds, left, came) & is_ip
-        found = numpy.where(is_answer, answer, own)
+        where_out, where_in = self.named(left, is_second), self.named(came, is_second)
+        found = numpy.where(where_out >= 0, where_out, where_in)
         found = numpy.where(is_ip & (found >= 0), found, self.default)
-        return Placed(self.classes, found, ~is_answer & self.blocks[left.rule] & is_ip, int(kinds.is_older.sum()), is_answer)
+        return Placed(self.classes, found, self.blocks[left.rule] & is_ip, int(kinds.is_older.sum()), is_answer)
 
-    def are_answers(self, heads: Headers, kinds: "Kinds", own: Verdicts, other: Verdicts) -> numpy.ndarray:
+    def are_answers(self, heads: Headers, kinds: "Kinds", own: Verdicts, asked: Verdicts) -> numpy.ndarray:
         """Which packets answer a connection that the other end opened."""
         firsts = kinds.firsts
         flags, is_tcp = heads.flags[firsts] & (SYN | ACK), heads.protocol[firsts] == TCP
-        ours, theirs = own.rule[firsts], other.rule[firsts]
-        passes = self.has_state[theirs] & ~self.blocks[theirs] & (theirs >= 0)
-        names_ours, names_theirs = (self.named(verdicts, numpy.zeros(len(heads), dtype=bool))[firsts] >= 0 for verdicts in (own, other))
+        ours, theirs = own.rule[firsts], asked.rule[firsts]
+        nothing = numpy.zeros(len(heads), dtype=bool)
+        names_ours, names_theirs = (self.named(verdicts, nothing)[firsts] >= 0 for verdicts in (own, asked))
         quick = numpy.array([rule.is_quick for rule in self.rules] + [False])
         later = numpy.where(quick[theirs] == quick[ours], numpy.where(quick[ours], theirs < ours, theirs > ours), quick[theirs])
-        guess = passes & (self.blocks[ours] | (names_theirs & ~names_ours) | (names_theirs & names_ours & later))
-        is_answer = numpy.where(is_tcp & (flags == SYN), False, numpy.where(is_tcp & (flags == SYN | ACK), passes, guess))
+        guess = self.has_state[theirs] & (self.blocks[ours] | (names_theirs & ~names_ours) | (names_theirs & names_ours & later))
+        is_answer = numpy.where(is_tcp & (flags == SYN), False, numpy.where(is_tcp & (flags == SYN | ACK), True, guess))
         return is_answer[kinds.connection]
 
 
 class Kinds:
-    """What of a capture's packets is the same: the packets of a connection, and those whose headers rules cannot tell apart."""
+    """What of a capture's packets is the same: `connection` numbers those of one connection, `firsts` has the first packet of each, and
+    `of` numbers those whose headers rules cannot tell apart. `asked` has the headers of what each packet answers."""
 
     def __init__(self, heads: Headers):
+        self.heads, self.asked = heads, heads.turned()
+        for answer, request in REQUESTS.items():
+            self.asked.icmp = numpy.where(heads.icmp == answer, request, self.asked.icmp)
         self.connection = heads.groups(CONNECTION)
         self.firsts = first_rows(self.connection)
         begins = numpy.zeros(len(heads), dtype=bool)
@@ -189,11 +200,6 @@ class Kinds:
         self.is_older = begins & (heads.protocol == TCP) & (heads.flags & SYN == 0) & heads.has_ports
         every = Headers({**{name: getattr(heads, name) for name in COLUMNS}, "is_older": self.is_older})
         self.of = every.groups((*COLUMNS, "is_older"))
-        self.rows = first_rows(self.of)
-        self.heads, self.is_opening = heads.at(self.rows), self.is_older[self.rows]
-        self.asked = self.heads.turned()
-        for answer, request in REQUESTS.items():
-            self.asked.icmp = numpy.where(self.heads.icmp == answer, request, self.asked.icmp)
 
 
 class Placed(NamedTuple):
