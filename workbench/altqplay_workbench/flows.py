@@ -1,7 +1,7 @@
 """The flow of each frame of a capture: addresses, protocol and ports, of IPv4 and IPv6, behind any VLAN tags.
 
 Ports are those of TCP, UDP, UDP-Lite, DCCP and SCTP, in packets that are no later fragments; the headers of IPv6 that may
-stand between are not passed over. It is for tables: the program's own rules of what flow a frame is of are in docs/FRAMES.md.
+stand between are not passed over. It is for tables: the program's own rules of what flow a frame is of are in docs/reference/FRAMES.md.
 """
 
 import ipaddress

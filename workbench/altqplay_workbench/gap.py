@@ -5,7 +5,7 @@
 
 A stretch is a part of the play in which packets of both siblings, or below them, wait after each event. With the rates r1 and r2 of two
 linear link-sharing curves and U1 and U2, what they were sent in a stretch, the gap is the greatest |U1/r1 - U2/r2|, in nanoseconds, over all
-stretches (docs/FAIRNESS.md). For each pair of siblings the gap is told with its bound, and with the moments at which the stretch begins and
+stretches (docs/teaching/FAIRNESS.md). For each pair of siblings the gap is told with its bound, and with the moments at which the stretch begins and
 ends that has it. --rows writes, for each event of a stretch, the greatest gap of the stretches that end with it, and --picture draws these over
 time, with the bound as a line. The exit status is 0. It needs no library.
 """

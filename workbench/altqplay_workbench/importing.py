@@ -3,7 +3,7 @@
 FILE is a pf.conf(5) with altq and queue lines, or pfSense's /tmp/rules.debug; or a script of tc(8) commands, or what
 `tc qdisc show`, `tc -d class show` and `tc filter show` print, one behind the other. Of tc hfsc is read, with u32, flower
 and matchall. What has no equivalent, or means something else here, is a comment at the head of the altq.conf with its line
-and word; docs/PF-TC.md has the table. What has an effect that the altq.conf does not have is counted in the last line. The exit
+and word; docs/operators/PF-TC.md has the table. What has an effect that the altq.conf does not have is counted in the last line. The exit
 status is 0 where nothing has, 3 where something has, 2 where FILE is refused and nothing is written.
 """
 

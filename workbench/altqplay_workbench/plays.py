@@ -74,6 +74,22 @@ def due_of(interface, fates):
     return due, has_due
 
 
+def class_names(sides):
+    """The classes that packets of some plays are of, in the configurations' order."""
+    return list(dict.fromkeys(name for side in sides for name in side.classes()))
+
+
+def every(side):
+    """The places of all packets of a play."""
+    return numpy.arange(len(side))
+
+
+def of_either(sides, name):
+    """The places of the packets that are of a class in any of some plays."""
+    owns = [side.class_is(name) for side in sides]
+    return owns[0] if all(len(own) == len(owns[0]) and (own == owns[0]).all() for own in owns) else numpy.unique(numpy.concatenate(owns))
+
+
 def same_arrivals(sides):
     """Refuses two plays that are not of the same arrivals."""
     if len(sides) < 2:

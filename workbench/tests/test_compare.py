@@ -16,7 +16,7 @@ from altqplay_workbench.rows import Fate
 
 HEAD = "number,arrival,length,class,fate,start,end\n"
 SKELETONS = os.path.join(os.path.dirname(os.path.dirname(os.path.abspath(__file__))), "skeletons")
-# docs/COMPARING.md, "How to compare": two sendings have changed places.
+# docs/authors/COMPARING.md, "How to compare": two sendings have changed places.
 OURS = HEAD + """1,0,1000,a,share,0,1000000
 2,10000000,1000,b,share,10000000,11000000
 3,10000000,1000,b,share,11000000,12000000
@@ -81,7 +81,7 @@ def test_foreign_journal(files, capsys):
 @pytest.mark.parametrize("answer, said, status", [
     ("exit 2", "plain tests of the second (order, starts, one packet at a time, ends): none fail; this is no proof", 0),
     ("echo verified", "altqplay verify: verified", 0),
-    ("echo 'row 3 kind 6'; exit 10", "altqplay verify: row 3 kind 6", 1),
+    ("echo 'row 3 kind 6'; exit 10", "altqplay verify: line 4 (row 3) kind 6", 1),
 ])
 def test_verify_is_asked_where_it_is(files, tmp_path, capsys, answer, said, status):
     (tmp_path / "fake").write_text(f"""#!/bin/sh
@@ -125,7 +125,7 @@ def test_drop_is_decided_before_a_sending_of_its_moment():
 
 
 def test_fraction_of_a_run():
-    """On 3 Mbit/s 100 bytes take 266,666 2/3 ns, and the run is rounded up once (docs/COMPARING.md, "The carried fraction")."""
+    """On 3 Mbit/s 100 bytes take 266,666 2/3 ns, and the run is rounded up once (docs/authors/COMPARING.md, "The carried fraction")."""
     ends = [(1, 0, 266667), (2, 266667, 533334), (3, 533334, 800000), (4, 1000000, 1266667)]
     found = {number: Fate(number, 0, 100, "a", "sent", start, end) for number, start, end in ends}
     assert journals.faults(found, 3 * 10**6) == []
@@ -135,11 +135,11 @@ def test_fraction_of_a_run():
 
 @pytest.mark.parametrize("text, said", [
     ("number,arrival\n", "its first row is not that of fates"),
-    (HEAD + "1,0,1000,a,sent,0\n", "row 2: 6 words, and not 7"),
-    (HEAD + "1,0,1000,a,gone,0,1\n", "row 2: no fate: 'gone'"),
-    (HEAD + "1,0,1000,a,dropped,0,1\n", "row 2: a packet that was dropped has a start"),
-    (HEAD + "1,0,1e3,a,sent,0,1\n", "row 2: length is no whole number"),
-    (HEAD + "1,0,1000,a,sent,0,1\n1,0,1000,a,sent,1,2\n", "row 3: packet 1 has two fates"),
+    (HEAD + "1,0,1000,a,sent,0\n", "line 2 (row 1): 6 words, and not 7"),
+    (HEAD + "1,0,1000,a,gone,0,1\n", "line 2 (row 1): no fate: 'gone'"),
+    (HEAD + "1,0,1000,a,dropped,0,1\n", "line 2 (row 1): a packet that was dropped has a start"),
+    (HEAD + "1,0,1e3,a,sent,0,1\n", "line 2 (row 1): length is no whole number"),
+    (HEAD + "1,0,1000,a,sent,0,1\n1,0,1000,a,sent,1,2\n", "line 3 (row 2): packet 1 has two fates"),
 ])
 def test_faulty_journals(tmp_path, text, said):
     (tmp_path / "odd.csv").write_text(text)

@@ -265,7 +265,7 @@ def matches(one, flow):
 
 
 def winner(interface, flow):
-    """The class of a flow by docs/CONFIGURATION.md, "Which filter wins"."""
+    """The class of a flow by docs/reference/CONFIGURATION.md, "Which filter wins"."""
     found = [one for one in interface.filters if matches(one, flow)]
     default = next(one.name for one in interface.classes if one.is_default)
     return max(found, key=lambda one: one.rank).owner if found else default

@@ -44,7 +44,7 @@ def browse():
 
 @pytest.fixture
 def office(altqwork, program, tmp_path):
-    """The report of the office of docs/OPERATING.md; answers the folder of its files and the words it was made by."""
+    """The report of the office of docs/operators/OPERATING.md; answers the folder of its files and the words it was made by."""
     subprocess.run(["python3", example("office.py")], check=True, stdout=subprocess.DEVNULL)
     with open(example("office.conf"), encoding="ascii") as file:
         (tmp_path / "new.conf").write_text(file.read().replace("sc 1M 0 1M", "sc 2.5M 0 2.5M"))
@@ -81,7 +81,7 @@ def test_numbers_are_those_of_the_files(browse, office):
             ranked = delays(folder / "kept" / label / "fates.csv", name)
             count = len(ranked)
             assert shown[name, label][5:9] == [ranked[0], ranked[(count + 1) // 2 - 1], ranked[(99 * count + 99) // 100 - 1], ranked[-1]]
-    # docs/OPERATING.md reckons the due moments of `voice`: 3,416,000 is the greatest delay, of a packet due 1,712,000 after it came
+    # docs/operators/OPERATING.md reckons the due moments of `voice`: 3,416,000 is the greatest delay, of a packet due 1,712,000 after it came
     assert shown["voice", "before"][9] == 200 and shown["voice", "before"][11:] == [0, 3_416_000 - 1_712_000]
     assert shown["rest", "after"][9:] == [0, 0, 0, None]
 
@@ -116,7 +116,7 @@ def test_pictures_are_those_of_the_numbers(browse, office):
             assert len(traces[name, 0, column][0]) == 1000
             assert sum(value or 0 for value in traces[name, 1, column][1]) == numbers[2]
             assert round(10**6 * max(value or 0 for value in traces[name, 2, column][1])) == numbers[8]
-    # docs/OPERATING.md: 50 packets of bulk wait at each drop; two calls of 214 bytes every 20 ms are 171,200 bits per second
+    # docs/operators/OPERATING.md: 50 packets of bulk wait at each drop; two calls of 214 bytes every 20 ms are 171,200 bits per second
     assert max(traces["bulk", 0, 0][1]) == 50
     assert 0.15 < sorted(traces["voice", 3, 0][1])[500] < 0.19
 
