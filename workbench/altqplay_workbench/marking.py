@@ -60,8 +60,8 @@ class Marking:
         """How many frames are of neither version of IP."""
         return int((self.heads.family == 0).sum())
 
-    def write(self, name: str, of_class, names: List[str], is_left_out=None) -> None:
-        """Writes the marked copy, without those packets that are left out."""
+    def write(self, name: str, of_class, names: List[str]) -> None:
+        """Writes the marked copy."""
         data = numpy.frombuffer(bytearray(self.frames.data), dtype=numpy.uint8)
         starts = self.reading.heads.at + self.reading.ip
         for family, size, offset, address in ((4, 4, 16, four), (6, 16, 24, six)):
@@ -71,11 +71,4 @@ class Marking:
             for n in range(size):
                 data[starts[own] + offset + n] = marks[of_class[own], n]
         with open(name, "wb") as file:
-            if is_left_out is None or not is_left_out.any():
-                end = self.frames.places[-1] + 16 + self.frames.captured[-1] if len(self.frames) else 24
-                file.write(data[:end])
-                return
-            file.write(data[:24])
-            for number in numpy.flatnonzero(~is_left_out).tolist():
-                at = self.frames.places[number]
-                file.write(data[at:at + 16 + self.frames.captured[number]])
+            file.write(data[:self.frames.places[-1] + 16 + self.frames.captured[-1] if len(self.frames) else 24])

@@ -49,7 +49,7 @@ class Prepared:
     """What is played: `conf_text` with its `interface`, and the capture `arrivals`. `notes` say what was not understood.
 
     `original` is the capture as given; `shown` the classic capture of Ethernet that has its frames, number by number.
-    `numbers[n]` is the number there of the packet that the play numbers n; it takes one number, or a column of numpy.
+    `numbers[n]` is the number there of the packet that the play numbers n; it takes one number, or a column of numpy. Here they are the same.
     `classes`, where packets were classified here, has the class of each packet of the play, by its number less 1.
     `told` has lines on what was done to the capture.
     """
@@ -151,8 +151,7 @@ def of_altq(config: str, read: Read, options: Options, count: int):
     rule = max(rules, default=0) + 1
     if rule > GREATEST_RULE:
         raise Refused(f"{config}: a filter has ruleno {GREATEST_RULE}, so none of a greater number can be put above it")
-    return Placed([name for name in conf.classes if name not in inner], numpy.full(count, -1), numpy.zeros(count, dtype=bool), 0,
-                  numpy.zeros(count, dtype=bool)), rule
+    return Placed([name for name in conf.classes if name not in inner], numpy.full(count, -1), numpy.zeros(count, dtype=bool), [], 0), rule
 
 
 def put_marks(placed: Placed, marks: dict, heads) -> None:
@@ -173,7 +172,8 @@ def told_of(placed: Placed, marking: Marking) -> List[str]:
     if unmarked:
         lines.append(f"{unmarked} frames of neither version of IP cannot be marked: they are in the default class")
     if blocked:
-        lines.append(f"{blocked} packets are stopped by a block rule, and are not played")
+        where = ", ".join(map(str, placed.block_lines))
+        lines.append(f"{blocked} packets would be stopped by a block rule (line {where}): they are played in the default class; leave them out of the capture")
     if placed.older:
         lines.append(f"{placed.older} connections of TCP began before the capture: each is read as if its first packet here had opened it")
     return lines
@@ -198,9 +198,7 @@ def prepared(config: str, interface: Optional[str], captures: Sequence[str], fol
         placed = read.classify(frames, read.notes)
     put_marks(placed, selectors, marking.heads)
     arrivals = os.path.join(folder, "marked.pcap")
-    marking.write(arrivals, placed.of_class, placed.classes, placed.is_blocked)
-    kept = ~placed.is_blocked
-    names = [placed.classes[number] if number >= 0 else "" for number in placed.of_class[kept].tolist()] if read.classify else None
+    marking.write(arrivals, placed.of_class, placed.classes)
+    names = [placed.classes[number] for number in placed.of_class.tolist()] if read.classify else None
     conf_text = read.bare_text + filters(read.interface, placed.classes, marking.base, rule)
-    return Prepared(conf_text, read.interface, read.notes.all(), arrivals, captures[0], shown,
-                    numpy.concatenate([[0], numbers[1:][kept]]), told + told_of(placed, marking), names)
+    return Prepared(conf_text, read.interface, read.notes.all(), arrivals, captures[0], shown, numbers, told + told_of(placed, marking), names)

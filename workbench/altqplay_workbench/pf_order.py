@@ -21,7 +21,6 @@ from .pf_rules import Rule
 
 LOWDELAY = 16
 CONNECTION = ("family", "protocol", "src_high", "src_low", "dst_high", "dst_low", "sport", "dport", "ident")
-BLOCKED, DEFAULT = -2, -1
 REQUESTS = {0: 8, 129: 128}
 
 
@@ -169,7 +168,9 @@ class Order:
         where_out, where_in = self.named(left, is_second), self.named(came, is_second)
         found = numpy.where(where_out >= 0, where_out, where_in)
         found = numpy.where(is_ip & (found >= 0), found, self.default)
-        return Placed(self.classes, found, self.blocks[left.rule] & is_ip, int(kinds.is_older.sum()), is_answer)
+        is_blocked = self.blocks[left.rule] & is_ip
+        lines = sorted({self.rules[number].word.line for number in numpy.unique(left.rule[is_blocked]).tolist()})
+        return Placed(self.classes, numpy.where(is_blocked, self.default, found), is_blocked, lines, int(kinds.is_older.sum()))
 
     def are_answers(self, heads: Headers, kinds: "Kinds", own: Verdicts, asked: Verdicts) -> numpy.ndarray:
         """Which packets answer a connection that the other end opened."""
@@ -203,14 +204,14 @@ class Kinds:
 
 
 class Placed(NamedTuple):
-    """Where the packets of a capture are: the classes' names, and for each packet the number of its class there and whether a `block`
-    stops it; how many connections are older than the capture; which packets answer one that the other end opened."""
+    """Where the packets of a capture are: the classes' names, and for each packet the number of its class there, which packets a `block`
+    would stop, the lines of those rules, and how many connections are older than the capture."""
 
     classes: List[str]
     of_class: numpy.ndarray
     is_blocked: numpy.ndarray
+    block_lines: List[int]
     older: int
-    is_answer: numpy.ndarray
 
 
 def placed(interface: Interface, rules: List[Rule], frames) -> Placed:

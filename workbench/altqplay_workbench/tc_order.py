@@ -175,7 +175,7 @@ class Order(FilterReader):
                     found[taken] = classes.index(one.owner)
                 elif one.owner in self.names and one.owner != node:
                     waiting[one.owner] = waiting.get(one.owner, numpy.zeros(count, dtype=bool)) | taken
-        return Placed(classes, found, numpy.zeros(count, dtype=bool), 0, numpy.zeros(count, dtype=bool))
+        return Placed(classes, found, numpy.zeros(count, dtype=bool), [], 0)
 
 
 def number_of(name: str):

@@ -47,13 +47,17 @@ CONNECTION = strategies.tuples(strategies.booleans(), strategies.sampled_from(["
 
 
 def exchanged(number, connection):
-    """The packets of a connection in both directions; one of UDP is opened from inside."""
+    """The packets of a connection that go out, and the first one where it came in.
+
+    Of UDP the opener is inside. Other packets that come in may make states that a capture of one direction does not show, and the
+    classifier takes it that they make none.
+    """
     by_inside, proto, host, port, tos, rest = connection
     by_inside = by_inside or proto == "udp"
     ends = [(INSIDE + host, 40000 + number), (OUTSIDE, port)] if by_inside else [(OUTSIDE, 40000 + number), (INSIDE + host, port)]
     steps = [(True, "S", 0), (False, "SA", 0), (True, "A", 0)] if proto == "tcp" else [(True, "", 5)]
     steps += [(of_opener, "A" if proto == "tcp" else "", payload) for of_opener, payload in rest]
-    for of_opener, flags, payload in steps:
+    for of_opener, flags, payload in [step for step in steps if step[0] == by_inside or step[1] == "S"]:
         (src, sport), (dst, dport) = ends if of_opener else ends[::-1]
         yield Packet("out" if of_opener == by_inside else "in", proto, src, sport, dst, dport, tos, flags, payload)
 
@@ -66,7 +70,7 @@ def by_udp_of_outside(rules):
 @settings(max_examples=400, deadline=None)
 @given(strategies.lists(RULE, max_size=7), strategies.lists(CONNECTION, min_size=1, max_size=4))
 def test_classes_are_those_of_a_plain_reading(tmp_path_factory, rules, connections):
-    """All packets of both directions go through the plain machine; the capture has those alone that come to em0's queue."""
+    """The packets go through the plain machine; the capture has those alone that come to em0's queue."""
     if by_udp_of_outside(rules):
         connections = [connection for connection in connections if connection[1] == "tcp"]
     machine, captured, expected = Machine(rules, "d"), [], []
