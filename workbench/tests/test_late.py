@@ -226,7 +226,7 @@ def test_a_pf_conf_is_imported(altqwork, program, tmp_path):
     (tmp_path / "a.pcap").write_bytes(classic(1, [(0, bytes(12) + b"\x08\x00" + udp(port), 214) for port in (5004, 80, 80)]))
     for words in ([tmp_path / "a.pcap"], ["--arrivals", tmp_path / "a.pcap"]):
         status, said, _fault = altqwork("late", "--config", tmp_path / "pf.conf", *words)
-        assert status == 0 and "interfaces" not in said and "not played, and has an effect: line 5 word 12: user" in said
+        assert status == 0 and "interfaces" not in said and "not understood: line 5 word 12: user" in said
         assert [line.split()[:3] for line in said.splitlines() if line.startswith("  play")][:2] == [["play", "1", "0"], ["play", "2", "0"]]
 
 
