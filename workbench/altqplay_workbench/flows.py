@@ -41,6 +41,10 @@ class Heads:
         found &= KEPT[numpy.clip(self.captured - offset, 0, WORD)]
         return found >> numpy.uint64(8 * (WORD - size))
 
+    def byte(self, offset: Any) -> numpy.ndarray:
+        """The byte of each frame at an offset, one for all or one each."""
+        return self.word(offset, 1)
+
 
 def columns(heads: Heads) -> list[numpy.ndarray]:
     """What tells a flow, in columns: type, protocol and both ports as one number, and the addresses, of IPv4 both in the first."""
