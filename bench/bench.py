@@ -3,8 +3,8 @@
 
     bench.py [PACKETS] [--runs N] [--only LINE,LINE] [--slow] [--others] [--program PROGRAM] [--reference PROGRAM]
 
-PACKETS (200,000) are in each capture; bench/inputs.py says what each line plays. The program must be built: example/run builds
-crates/altqplay/out/altqplay. It works in a new folder, in memory where the machine has /dev/shm, and removes it at the end.
+PACKETS (200,000) are in each capture; bench/inputs.py says what each line plays. The program is the one
+that release/program finds. It works in a new folder, in memory where the machine has /dev/shm, and removes it at the end.
 
 For each line it prints
 
@@ -31,12 +31,12 @@ import time
 sys.dont_write_bytecode = True
 HERE = os.path.dirname(os.path.abspath(__file__))
 ROOT = os.path.dirname(HERE)
-sys.path[:0] = [os.path.join(ROOT, "example"), HERE]
+sys.path[:0] = [os.path.join(ROOT, "robust"), os.path.join(ROOT, "example"), HERE]
 
 from generate import capture_head, record  # noqa: E402
 from inputs import LINES, OTHERS, SLOW  # noqa: E402
+from program import PROGRAM  # noqa: E402
 
-PROGRAM = os.path.join(ROOT, "crates", "altqplay", "out", "altqplay")
 ALL = {**{label: (*line, "play") for label, line in {**LINES, **SLOW}.items()}, **OTHERS}
 
 # The options of each command that name a file, and what it is called; outputs end with a mark.
@@ -188,7 +188,7 @@ def parsed(words):
 def main(words):
     options = parsed(words)
     if not os.access(options.program, os.X_OK):
-        print(f"bench.py: {options.program} is not there: example/run builds it", file=sys.stderr)
+        print(f"bench.py: no program {options.program}", file=sys.stderr)
         return 1
     print(f"{options.packets} packets a capture, the least of {options.runs} runs; {os.cpu_count()} processors; nanoseconds a packet")
     more = f"{'reference':>11}{'times':>8}" if options.reference else ""

@@ -128,7 +128,7 @@ def main(argv):
     parser.add_argument("--profile", action="store_true")
     options = parser.parse_args(argv)
     if not os.access(options.program, os.X_OK):
-        print(f"conditioners.py: {options.program} is not there: example/run builds it", file=sys.stderr)
+        print(f"conditioners.py: no program {options.program}", file=sys.stderr)
         return 1
     prepare()
     print(f"{options.packets} packets; a packet:")

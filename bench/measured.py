@@ -94,7 +94,7 @@ def main(argv):
     parser.add_argument("--reference", type=os.path.abspath)
     options = parser.parse_args(argv)
     if not os.access(options.program, os.X_OK):
-        print(f"measured.py: {options.program} is not there: example/run builds it", file=sys.stderr)
+        print(f"measured.py: no program {options.program}", file=sys.stderr)
         return 1
     prepare()
     commands = ("play", "shares", "verify")

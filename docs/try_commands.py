@@ -1,20 +1,21 @@
 #!/usr/bin/env python3
 """Runs the commands that the pages show, and compares what comes out with what the pages show.
 
-Takes names of pages; without them all pages of docs/ and README.md are looked at. With --quiet before them it says
+Takes names of pages; without them README.md and all pages of docs/ and its folders are looked at. With --quiet before them it says
 nothing but what does not come out as shown and what was left out. It takes seconds, 100 MB of disk and 200 MB of memory.
 
 A block of a page that is marked `console` holds commands and what they print, on standard output and standard
 error together. A line that begins with `$ ` is a command, lines that begin with `> ` continue it, and a line `...`
 stands for any lines. The commands of a page are given to one bash, one after the other, in a new folder that
-holds example/, docs/ and workbench/ of this repository, the built program and its data. So they change nothing here.
+holds bin/, example/, docs/, release/ and workbench/ of this repository, the program that release/program finds and its
+data. So they change nothing here.
 
-The program must be built: crates/altqplay/out/altqplay, which example/run and `rt ci` build. Where that, bash, a tool
-of TOOLS or what a subcommand of the workbench needs is missing, what needs it is left out, and named, and so is each
-later command of the page that names a file which only such a command makes. The exit status
+Where the program, bash, a tool of TOOLS or what a subcommand of the workbench needs is missing, what needs it is left
+out, and named, and so is each later command of the page that names a file which only such a command makes. The exit status
 is 0 where what was run came out as shown, else 1, and 2 for other arguments.
 """
 
+import glob
 import os
 import re
 import shutil
@@ -26,7 +27,8 @@ from collections import namedtuple
 from functools import lru_cache
 
 ROOT = os.path.dirname(os.path.dirname(os.path.abspath(__file__)))
-PROGRAM = os.path.join("crates", "altqplay", "out", "altqplay")
+RULE = os.path.join(ROOT, "release", "program")  # prints the path of the program
+PROGRAM = os.path.join("crates", "altqplay", "out", "altqplay")  # where the commands have it
 WORKBENCH = os.path.join("workbench", "altqwork")
 MISSING = 77  # the status of a subcommand of the workbench whose libraries are not there
 TOOLS = ["tcpdump", "tshark", "capinfos", "editcap", "gnuplot"]
@@ -116,12 +118,18 @@ def are_same(lines, shown):
     return bool(lines) and is_same(lines[0], shown[0]) and are_same(lines[1:], shown[1:])
 
 
+@lru_cache
+def program():
+    """The path of the program, empty where there is none."""
+    return os.fsdecode(subprocess.run([RULE], stdout=subprocess.PIPE, stderr=subprocess.DEVNULL, check=False).stdout).strip()
+
+
 def make_room(room):
     """Fills a new folder with what the commands of a page need."""
-    for name in ("example", "docs", "workbench", os.path.join("crates", "altqplay", "data")):
+    for name in ("bin", "example", "docs", "release", "workbench", os.path.join("crates", "altqplay", "data")):
         shutil.copytree(os.path.join(ROOT, name), os.path.join(room, name), ignore=shutil.ignore_patterns("out", "venv", "__pycache__"))
     os.makedirs(os.path.join(room, os.path.dirname(PROGRAM)))
-    shutil.copyfile(os.path.join(ROOT, PROGRAM), os.path.join(room, PROGRAM))
+    shutil.copyfile(program(), os.path.join(room, PROGRAM))
     os.chmod(os.path.join(room, PROGRAM), 0o755)
 
 
@@ -133,7 +141,7 @@ def printed(todo):
         make_room(room)
         with open(script, "w", encoding="utf-8") as file:
             file.write(text)
-        environment = {**os.environ, "LC_ALL": "C.UTF-8", "PYTHONDONTWRITEBYTECODE": "1"}
+        environment = {**os.environ, "ALTQPLAY": os.path.join(room, PROGRAM), "LC_ALL": "C.UTF-8", "PYTHONDONTWRITEBYTECODE": "1"}
         shell = subprocess.Popen(["bash", script], cwd=room, env=environment, stdin=subprocess.DEVNULL,
                                  stdout=output, stderr=subprocess.STDOUT, start_new_session=True)
         try:
@@ -180,13 +188,12 @@ def main(words):
     if set(options) - {"--quiet"}:
         print("usage: try_commands.py [--quiet] [PAGE ..]", file=sys.stderr)
         return 2
-    lacking = [what for what, is_there in [("bash", shutil.which("bash")), (PROGRAM, os.path.isfile(os.path.join(ROOT, PROGRAM)))] if not is_there]
+    lacking = [what for what, is_there in [("bash", shutil.which("bash")), ("program", program())] if not is_there]
     if lacking:
         if "--quiet" not in options:
             print(f"try_commands.py: nothing was run, since there is no {' and no '.join(lacking)}")
         return 0
-    docs = os.path.join(ROOT, "docs")
-    pages = pages or [os.path.join(ROOT, "README.md")] + sorted(os.path.join(docs, name) for name in os.listdir(docs) if name.endswith(".md"))
+    pages = pages or [os.path.join(ROOT, "README.md"), *sorted(glob.glob(os.path.join(ROOT, "docs", "**", "*.md"), recursive=True))]
     done = [judge(page, "--quiet" in options) for page in pages]
     return 0 if all(done) else 1
 

@@ -1,8 +1,8 @@
 #!/usr/bin/env python3
-"""Compares the man page and the completions of altqplay with docs/MANUAL.md.
+"""Compares the man page and the completions of altqplay with docs/reference/MANUAL.md.
 
-docs/altqplay.1 is rendered by groff and by mandoc, where each is there. Neither may warn, and what comes out must
-have these of docs/MANUAL.md: the commands, each option with what it names, each status with its meaning and
+docs/reference/altqplay.1 is rendered by groff and by mandoc, where each is there. Neither may warn, and what comes out must
+have these of docs/reference/MANUAL.md: the commands, each option with what it names, each status with its meaning and
 kinds, each message, the head rows of fates and statistics, and the words of the fates. Case and blanks are not
 compared. The completion for bash must offer the commands, exactly the options of each, each once, and behind
 an option names of files, names of interfaces or nothing. That for zsh must name the same options; it is not run.
@@ -19,9 +19,9 @@ import tempfile
 from pathlib import Path
 
 DOCS = Path(__file__).resolve().parent
-PAGE = str(DOCS / "altqplay.1")
+PAGE = str(DOCS / "reference" / "altqplay.1")
 COMPLETIONS = DOCS.parent / "example" / "completions"
-MANUAL = (DOCS / "MANUAL.md").read_text(encoding="utf-8")
+MANUAL = (DOCS / "reference" / "MANUAL.md").read_text(encoding="utf-8")
 # Of each command its options, each with the word for its value.
 COMMANDS = {name: dict(re.findall(r"(--\w+) (\w+)", line)) for name, line in re.findall(r"^    altqplay (\w+) (--.*)$", MANUAL, re.M)}
 # All options, each with the word for its value.
@@ -111,7 +111,7 @@ def main(words):
     wrong = [fault for tool in tools for fault in page_faults(tool)] + (list(completion_faults()) if has_bash else [])
     if sorted(re.findall(r"'(--\w+)=\[", (COMPLETIONS / "_altqplay").read_text(encoding="utf-8"))) != sorted(OPTIONS):
         wrong.append("_altqplay does not name the options of the manual")
-    notes = ["docs/altqplay.1: " + (f"rendered by {' and '.join(tools)}" if tools else "left out, since there is no groff and no mandoc"),
+    notes = ["docs/reference/altqplay.1: " + (f"rendered by {' and '.join(tools)}" if tools else "left out, since there is no groff and no mandoc"),
              "altqplay.bash: " + ("tried" if has_bash else "left out, since there is no bash")]
     for line in wrong + ([] if "--quiet" in words else notes):
         print(line)

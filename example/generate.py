@@ -25,16 +25,16 @@ Other scripts use the functions of this one to make captures of their own.
 """
 
 import os
-import struct
 import sys
 
-NANOSECONDS = 10**9
+sys.path.insert(0, os.path.join(os.path.dirname(os.path.dirname(os.path.abspath(__file__))), "workbench"))
+
+from altqplay_workbench.bursts import DATA_PORT, NANOSECONDS, capture_head, captured_bytes, record  # noqa: E402
+
 MILLISECOND = 10**6
-SNAP = 60  # captured bytes of a frame, at most
 
 FIRST = 1 * NANOSECONDS  # the stamp of the first frame
 VOICE_PORT = 5004
-DATA_PORT = 9000
 CROWD = FIRST + 910 * MILLISECOND
 
 # name, frames, length in bytes, first stamp, nanoseconds apart, port, type of service
@@ -47,42 +47,6 @@ TRAFFIC = [
     ("late", 1, 100, CROWD + 266_668, 0, DATA_PORT, 0),
     ("second", 100, 1514, FIRST + 1100 * MILLISECOND, 2 * MILLISECOND, DATA_PORT, 0),
 ]
-
-
-def head_checksum(head):
-    """The checksum of an IPv4 header whose own checksum is zero (RFC 791)."""
-    total = sum(struct.unpack(">10H", head))
-    while total >> 16:
-        total = (total & 0xFFFF) + (total >> 16)
-    return total ^ 0xFFFF
-
-
-def captured_bytes(number, length, port, tos):
-    """The first 60 bytes, or fewer, of a frame of this length: Ethernet, IPv4 and UDP headers, then zeros.
-
-    `number` goes into the identification of the IPv4 header, so that frames differ. The length is at least 42
-    (the three headers) and at most 65,549 (what an IPv4 header can tell).
-    """
-    ethernet = bytes.fromhex("020000000002" "020000000001" "0800")
-    inside = length - len(ethernet)
-    source, target = bytes([10, 0, 0, 1]), bytes([10, 0, 0, 2])
-    fields = (0x45, tos, inside, number % 2**16, 0x4000, 64, 17)
-    bare = struct.pack(">BBHHHBBH4s4s", *fields, 0, source, target)
-    ip = struct.pack(">BBHHHBBH4s4s", *fields, head_checksum(bare), source, target)
-    udp = struct.pack(">HHHH", 40000, port, inside - 20, 0)
-    frame = ethernet + ip + udp
-    return (frame + bytes(SNAP))[: min(length, SNAP)]
-
-
-def capture_head():
-    """The header of a capture: little-endian, nanoseconds, version 2.4, Ethernet."""
-    return struct.pack("<IHHiIII", 0xA1B23C4D, 2, 4, 0, 0, 262144, 1)
-
-
-def record(stamp, captured, length):
-    """A record: a frame of this length with this stamp in nanoseconds, of which these bytes were captured."""
-    seconds, nanoseconds = divmod(stamp, NANOSECONDS)
-    return struct.pack("<IIII", seconds, nanoseconds, len(captured), length) + captured
 
 
 def write_capture(name, frames):

@@ -145,7 +145,7 @@ def options_of(words):
 def main(words):
     options = options_of(words)
     if not os.access(options.program, os.X_OK):
-        print(f"chain.py: {options.program} is not there: example/run builds it", file=sys.stderr)
+        print(f"chain.py: no program {options.program}", file=sys.stderr)
         return 1
     prepare()
     numbers = range(options.first, options.first + options.chains) if options.only is None else [options.only]

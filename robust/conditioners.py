@@ -257,7 +257,7 @@ def options_of(words):
     parser.add_argument("--first", type=int, default=0, metavar="NUMBER")
     parser.add_argument("--only", type=int, metavar="NUMBER")
     parser.add_argument("--keep", type=os.path.abspath, metavar="FOLDER")
-    parser.add_argument("--program", type=os.path.abspath, default=os.environ.get("ALTQPLAY", PROGRAM))
+    parser.add_argument("--program", type=os.path.abspath, default=PROGRAM)
     parser.add_argument("--reference", type=os.path.abspath, metavar="PROGRAM")
     options = parser.parse_args(words)
     if options.quick:
@@ -268,7 +268,7 @@ def options_of(words):
 def main(words):
     options = options_of(words)
     if not os.access(options.program, os.X_OK):
-        print(f"conditioners.py: {options.program} is not there: example/run builds it", file=sys.stderr)
+        print(f"conditioners.py: no program {options.program}", file=sys.stderr)
         return 1
     prepare()
     numbers = range(options.first, options.first + options.plays) if options.only is None else [options.only]

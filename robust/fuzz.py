@@ -7,7 +7,7 @@ No part of any test: it takes minutes. The cases follow from SEED and their numb
 from 0 or from --first on, so a run of this script repeats. Each case is run twice in a new folder, or once with --once, and
 
   - ends within a second of processor time, and one more for each megabyte of its files, by no signal,
-  - with a status and a message of docs/MANUAL.md, and nothing on standard error,
+  - with a status and a message of docs/reference/MANUAL.md, and nothing on standard error,
   - the same both times: status, standard output and every file,
   - and its files are as judge.py says: nothing is created before the configuration is accepted, fates are whole rows that
     agree with the capture, departures are the packets of the fates, damages are named at their bytes.
@@ -130,7 +130,7 @@ def options_of(words):
 def main(words):
     options = options_of(words)
     if not os.access(options.program, os.X_OK):
-        print(f"fuzz.py: {options.program} is not there: example/run builds it", file=sys.stderr)
+        print(f"fuzz.py: no program {options.program}", file=sys.stderr)
         return 1
     if options.valgrind:
         VALGRIND[0] = shutil.which("valgrind") or sys.exit("fuzz.py: valgrind was not found on this machine")

@@ -1,4 +1,4 @@
-"""What `altqplay verify` is to say of given files, read from docs/MANUAL.md a second time: slowly, test by test, by plain Python.
+"""What `altqplay verify` is to say of given files, read from docs/reference/MANUAL.md a second time: slowly, test by test, by plain Python.
 
 It knows the class of each packet from a play of the program, since filters are not reckoned again, and takes curves over their
 openings from the workbench's model of the rules.

@@ -1,7 +1,7 @@
 """Says what is wrong with how a run of the program ended, as far as that can be told without playing.
 
 It reads the capture by itself, and looks whether status, message, departures, fates and statistics agree with it and with
-one another as docs/MANUAL.md and docs/FORMATS.md say. Which class sends when, and what a queue drops, it does not know.
+one another as docs/reference/MANUAL.md and docs/reference/FORMATS.md say. Which class sends when, and what a queue drops, it does not know.
 """
 
 import re

@@ -1,4 +1,4 @@
-"""Reads and makes pcapng captures, for judge.py and cases.py, by the rules of docs/FORMATS.md."""
+"""Reads and makes pcapng captures, for judge.py and cases.py, by the rules of docs/reference/FORMATS.md."""
 
 import struct
 

@@ -1,4 +1,4 @@
-"""Runs the built program in a folder, and says which statuses and messages docs/MANUAL.md gives it.
+"""Runs the program in a folder, and says which statuses and messages docs/reference/MANUAL.md gives it.
 
 The scripts of this folder share it. Nothing here is part of any test of the gate.
 """
@@ -8,10 +8,19 @@ import os
 import re
 import resource
 import signal
+import subprocess
 from collections import namedtuple
 
 ROOT = os.path.dirname(os.path.dirname(os.path.abspath(__file__)))
-PROGRAM = os.path.join(ROOT, "crates", "altqplay", "out", "altqplay")
+
+
+def found():
+    """The program that release/program finds, else the name of the one that is not built."""
+    done = subprocess.run([os.path.join(ROOT, "release", "program")], stdout=subprocess.PIPE, stderr=subprocess.DEVNULL, check=False)
+    return os.fsdecode(done.stdout).strip() or os.path.join(ROOT, "crates", "altqplay", "out", "altqplay")
+
+
+PROGRAM = found()
 
 # How a run ended: its status (below 0 the signal that ended it), what stood on standard output and standard error
 # after it, and the seconds of processor time that it took.

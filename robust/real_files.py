@@ -1,5 +1,5 @@
 #!/usr/bin/env python3
-"""Runs the built program on real files as a stranger may have them, and compares with docs/MANUAL.md, "On real files".
+"""Runs the built program on real files as a stranger may have them, and compares with docs/reference/MANUAL.md, "On real files".
 
     real_files.py [--quick] [--program PROGRAM]
 
@@ -470,7 +470,7 @@ def is_as_stated(room, one, manual):
     except Late:
         told = ["it did not end"]
     if f"| {one.row} | {one.status if one.status >= 0 else 'signal'}" not in manual:
-        told.append("docs/MANUAL.md has no such row")
+        told.append("docs/reference/MANUAL.md has no such row")
     if told:
         print(f"{label}: {'; '.join(told)}")
     return not told
@@ -484,10 +484,10 @@ def main(words):
         return 2
     program = os.path.abspath(words[1]) if words else PROGRAM
     if not os.access(program, os.X_OK):
-        print(f"real_files.py: nothing was tried, since {program} is not there: example/run builds it", file=sys.stderr)
+        print(f"real_files.py: nothing was tried, since there is no program {program}", file=sys.stderr)
         return 0 if is_quick else 1
     prepare()
-    manual = content(os.path.join(ROOT, "docs", "MANUAL.md")).decode()
+    manual = content(os.path.join(ROOT, "docs", "reference", "MANUAL.md")).decode()
     tries = QUICK if is_quick else QUICK + DEMANDING
     with tempfile.TemporaryDirectory(prefix="altqplay-real-") as top:
         room = Room(top, program)

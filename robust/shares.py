@@ -121,7 +121,7 @@ def options_of(words):
 def main(words):
     options = options_of(words)
     if not os.access(options.program, os.X_OK):
-        print(f"shares.py: {options.program} is not there: example/run builds it", file=sys.stderr)
+        print(f"shares.py: no program {options.program}", file=sys.stderr)
         return 1
     prepare()
     numbers = range(options.first, options.first + options.plays) if options.only is None else [options.only]

@@ -6,7 +6,7 @@
 The plays follow from SEED and their numbers: PLAYS of them (300 without the word) from 0 or from --first on, of SEED 1 where none is said, each
 with COUNT changes (10): a field, a byte, two rows exchanged, a row left out or twice, a class renamed, sendings in another order or later with
 departures that go with it, and some of these together. Of each the status and what is said must be those of given.py, a reading of
-docs/MANUAL.md by plain Python, and with --reference those of another program of the same command line, too. The files of a play itself must be
+docs/reference/MANUAL.md by plain Python, and with --reference those of another program of the same command line, too. The files of a play itself must be
 verified. --quick is 40 plays of a fixed seed, which the gate runs. --keep leaves the files of the play of --only in a folder. It ends with how
 many files were verified, and refuted by which kind. The exit status is 0 where nothing differs, 1 where something does, 2 for other words.
 """
@@ -247,7 +247,7 @@ def options_of(words):
 def main(words):
     options = options_of(words)
     if not os.access(options.program, os.X_OK):
-        print(f"verify_changes.py: {options.program} is not there: example/run builds it", file=sys.stderr)
+        print(f"verify_changes.py: no program {options.program}", file=sys.stderr)
         return 1
     prepare()
     numbers = range(options.first, options.first + options.plays) if options.only is None else [options.only]

@@ -1,5 +1,5 @@
 #!/usr/bin/env python3
-"""Draws a picture of docs/COURSE.md from the rule itself, and prints the numbers that it draws.
+"""Draws a picture of docs/teaching/COURSE.md from the rule itself, and prints the numbers that it draws.
 
 Takes PICTURE, one of curves, virtual, average and buckets, and works from any directory. It reckons in whole numbers and
 plays nothing, so the program is not needed. PICTURE.png comes to example/out/course by gnuplot; where that is not

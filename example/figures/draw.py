@@ -1,9 +1,9 @@
 #!/usr/bin/env python3
-"""Makes a figure of docs/FIGURES.md: its captures, its plays, its numbers and its picture.
+"""Makes a figure of docs/teaching/FIGURES.md: its captures, its plays, its numbers and its picture.
 
 Takes FIGURE, one of hfsc-delay, hfsc-return, red-average, rio-drops and cbq-borrowing, and works from any directory.
 What it makes lies in example/out/figures. It prints the numbers, and draws FIGURE.png there with gnuplot; where that
-is not installed it says so and draws nothing. The program must be built. The exit status is 0 where all that could be
+is not installed it says so and draws nothing. The exit status is 0 where all that could be
 done was done, 1 where a play failed, and 2 for other arguments.
 """
 
@@ -22,7 +22,7 @@ from gnuplot import COLOURS, DASHES, SHAPES, NoPicture, backlog, block, millisec
 
 HERE = os.path.dirname(os.path.abspath(__file__))
 OUT = os.path.join(os.path.dirname(HERE), "out", "figures")
-PROGRAM = os.path.join(HERE, "..", "..", "crates", "altqplay", "out", "altqplay")
+PROGRAM = os.path.join(HERE, "..", "..", "bin", "altqplay")
 HEAD = """\
 set multiplot
 set border 3

@@ -1,5 +1,5 @@
 #!/usr/bin/env python3
-"""Writes the captures and configurations of the figures: docs/FIGURES.md says what each figure shows.
+"""Writes the captures and configurations of the figures: docs/teaching/FIGURES.md says what each figure shows.
 
 Takes FIGURE FOLDER, a figure of FIGURES and the folder to write into, which is made if it is not there. For each play
 of the figure there are NAME.conf and NAME.pcap afterwards. Frames are those of generate.py; stamps are whole

@@ -63,7 +63,7 @@ def earliest_deadline(rows, name, other):
 def red_averages(rows):
     """Of each packet in the order of arrival: its arrival, how many wait then, RED's average with it, and its fate.
 
-    The average is reckoned by the rule of docs/QUEUE-RULES.md from arrivals, starts and drops alone.
+    The average is reckoned by the rule of docs/reference/QUEUE-RULES.md from arrivals, starts and drops alone.
     """
     starts = sorted(fate.start for fate in sent(rows))
     found, average, kept = [], 0, 0

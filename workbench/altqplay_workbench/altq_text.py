@@ -1,6 +1,6 @@
 """What an import makes of a foreign configuration: interfaces with classes and filters, and the altq.conf that says them.
 
-The ranges are those of docs/CONFIGURATION.md. Rates are in bits per second, times in milliseconds.
+The ranges are those of docs/reference/CONFIGURATION.md. Rates are in bits per second, times in milliseconds.
 """
 
 import ipaddress
@@ -190,7 +190,7 @@ def filter_text(interface, one):
 
 def text_of(interfaces, notes):
     """The altq.conf: a comment for each note, then the interfaces."""
-    lines = [f"# From {printable(notes.name)} by altqwork import; docs/PF-TC.md says what became of each word."]
+    lines = [f"# From {printable(notes.name)} by altqwork import; docs/operators/PF-TC.md says what became of each word."]
     lines += [f"# {line}" for line in notes.lines()]
     for interface in interfaces:
         tbrsize = f" tbrsize {interface.tbrsize}" if interface.tbrsize else ""

@@ -7,6 +7,7 @@ import subprocess
 import tempfile
 
 from .faults import Missing, Refused
+from .libraries import advice
 
 NAMES = ("chromium", "chromium-browser", "google-chrome")
 WIDTH, SCALE, SECONDS, MOST_HIGH = 1200, 0.8, 60, 20_000
@@ -20,7 +21,7 @@ def chromium():
     """Chromium's path. `Missing` where there is none."""
     found = next((path for path in map(shutil.which, NAMES) if path), None)
     if found is None:
-        raise Missing("Chromium is not installed: run workbench/setup --tests")
+        raise Missing(f"Chromium is not installed: {advice('it', ' --tests')}")
     return found
 
 

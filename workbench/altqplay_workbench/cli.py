@@ -12,6 +12,7 @@ import sys
 
 from . import __version__
 from .faults import Missing, Refused
+from .libraries import advice
 from .printable import Printed
 
 # Each subcommand's module. One whose module is not here is no subcommand.
@@ -29,6 +30,7 @@ MODULES = {
     "gap": "gap",
     "meter": "meter",
     "path": "path",
+    "try": "trying",
 }
 REFUSED, MISSING = 2, 77
 
@@ -41,7 +43,7 @@ def load(name):
     except ModuleNotFoundError as fault:
         if fault.name == path:
             return None
-        raise Missing(f"the Python library {fault.name} is not installed: run workbench/setup") from None
+        raise Missing(f"the Python library {fault.name} is not installed: {advice(fault.name)}") from None
 
 
 def add_command(commands, name, module):
@@ -68,8 +70,9 @@ def parser_of(words):
     return parser
 
 
-def main(words):
-    """Runs the words of a command line and answers the exit status. All that is said is printable text."""
+def main(words=None):
+    """Runs the words of a command line, those of this process where none are given, and answers the exit status. All that is said is printable text."""
+    words = sys.argv[1:] if words is None else words
     with contextlib.redirect_stdout(Printed(sys.stdout)), contextlib.redirect_stderr(Printed(sys.stderr)):
         return answered(words)
 

@@ -1,4 +1,4 @@
-"""Due moments: when a packet must have ended by its class's real-time curve (docs/HFSC.md, "Due moments"). Exact integers.
+"""Due moments: when a packet must have ended by its class's real-time curve (docs/reference/HFSC.md, "Due moments"). Exact integers.
 
 A packet opens if it is its class's first, or arrives later than the start of the one before it. From each opening on the
 curve gives what it gives from 0; a packet is due when, from every opening up to it, all that was sent since that opening up

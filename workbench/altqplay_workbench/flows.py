@@ -1,7 +1,7 @@
 """The flow of each frame of a capture: addresses, protocol and ports, of IPv4 and IPv6, behind any VLAN tags.
 
 Ports are those of TCP, UDP, UDP-Lite, DCCP and SCTP, in packets that are no later fragments; the headers of IPv6 that may
-stand between are not passed over. It is for tables: the program's own rules of what flow a frame is of are in docs/FRAMES.md.
+stand between are not passed over. It is for tables: the program's own rules of what flow a frame is of are in docs/reference/FRAMES.md.
 """
 
 from __future__ import annotations
@@ -40,6 +40,10 @@ class Heads:
             found <<= (8 * numpy.clip(places - starts, 0, WORD - 1)).astype(numpy.uint64)
         found &= KEPT[numpy.clip(self.captured - offset, 0, WORD)]
         return found >> numpy.uint64(8 * (WORD - size))
+
+    def byte(self, offset: Any) -> numpy.ndarray:
+        """The byte of each frame at an offset, one for all or one each."""
+        return self.word(offset, 1)
 
 
 def columns(heads: Heads) -> list[numpy.ndarray]:

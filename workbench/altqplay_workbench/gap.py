@@ -7,7 +7,7 @@
 For each pair of siblings with linear link-sharing curves it says which part of what the two were sent while both waited each got, and
 which part is its share. A stretch is a part of the play in which packets of both siblings, or below them, wait after each event. With
 the rates r1 and r2 of the two and U1 and U2, what they were sent in a stretch, the gap is the greatest time |U1/r1 - U2/r2| over all
-stretches (docs/FAIRNESS.md). It is told with its bound, and with the moments after the first arrival at which the stretch begins and
+stretches (docs/teaching/FAIRNESS.md). It is told with its bound, and with the moments after the first arrival at which the stretch begins and
 ends that has it. --rows writes, for each event of a stretch, the greatest gap of the stretches that end with it, in nanoseconds, and
 --picture draws these over time, with the bound as a line. The exit status is 0. It needs no library.
 """

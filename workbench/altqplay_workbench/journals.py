@@ -1,6 +1,6 @@
 """Journals: fates that another program may have written, by plain Python, and what every journal of one link keeps.
 
-A journal is a file of fates (docs/FORMATS.md). That of another program may say `sent` and `dropped` where it knows no rule, and
+A journal is a file of fates (docs/reference/FORMATS.md). That of another program may say `sent` and `dropped` where it knows no rule, and
 its rows may stand in any order. The tests here are plain sums: that they pass is no proof of anything.
 """
 

@@ -5,7 +5,7 @@ play or before and after a change.
     altqwork late --config today.conf --want 'voice delay<10ms' --want 'voice drop=0' arrivals.pcap
 
 A packet of a leaf with a real-time curve is due when the curve has given what was sent up to and with it, from each of the
-leaf's openings on (docs/HFSC.md, "Due moments"). `missed` counts the packets that end after their due moments, `late` those
+leaf's openings on (docs/reference/HFSC.md, "Due moments"). `missed` counts the packets that end after their due moments, `late` those
 that do so by more than --allow, by default the time of one longest packet, which check's `fits` promises; `worst` is the
 greatest end less due moment. A class without a real-time curve promises nothing: its packets have no due moment, and none of
 them is late, however long it takes. Where a change takes a curve away, it is said how many packets lost their due moments.

@@ -4,8 +4,8 @@
     altqwork meter --config altq.conf --class voice --rows meter.csv --picture meter.svg arrivals.pcap
 
 The packets of the class are those that the filters give it as they come, before any is marked: the capture is played without
-conditioners, and the fates tell the classes (docs/METERS.md). For each colour the packets and their bytes are counted. --rows writes for
-each packet what the buckets hold when it comes, its colour, and what is left; amounts are bytes, exact. --picture draws the buckets over
+conditioners, and the fates tell the classes (docs/reference/METERS.md). For each colour the packets and their bytes are counted. --rows
+writes for each packet what the buckets hold when it comes, its colour, and what is left; amounts are bytes, exact. --picture draws the buckets over
 time. The exit status is 0. It needs no library.
 """
 
@@ -75,29 +75,37 @@ def in_bytes(units):
     return f"{whole}.{rest * 125:012d}".rstrip("0") if rest else str(whole)
 
 
-def write_rows(name, rule, found):
-    """Writes a row for each packet."""
-    with open(name, "w", newline="", encoding="ascii") as file:
-        rows = csv.writer(file, lineterminator="\n")
-        rows.writerow(["number", "moment", "length", "committed", rule.other_bucket, "colour", "committedleft", rule.other_bucket + "left"])
-        for one in found:
-            amounts = map(in_bytes, (one.committed, one.other, one.committed_left, one.other_left))
-            committed, other, committed_left, other_left = amounts
-            rows.writerow([one.number, one.moment, one.length, committed, other, one.colour, committed_left, other_left])
+def table(rule, found):
+    """A row for each packet, behind a head row."""
+    head = ["number", "moment", "length", "committed", rule.other_bucket, "colour", "committedleft", rule.other_bucket + "left"]
+    rows = [[str(one.number), str(one.moment), str(one.length), in_bytes(one.committed), in_bytes(one.other), one.colour,
+             in_bytes(one.committed_left), in_bytes(one.other_left)] for one in found]
+    return [head, *rows]
+
+
+def packets_of(interface, config, name, arrivals, program):
+    """The meter of a class, and what it makes of the packets of the class."""
+    rule = interface.meters.get(name)
+    if rule is None:
+        raise Refused(f"{config}: {name} is no class with a conditioner")
+    return rule, metered(rule, [fate for fate in unmarked_fates(interface, arrivals, program) if fate.name == name])
+
+
+def rows_of(config, interface, name, arrivals, program):
+    """What the meter of a class makes of a capture: a row for each packet of the class, behind a head row."""
+    return table(*packets_of(read_conf(config, interface, program), config, name, arrivals, program))
 
 
 def run(args):
     interface = read_conf(args.config, args.interface, args.program)
-    rule = interface.meters.get(args.of_class)
-    if rule is None:
-        raise Refused(f"{args.config}: {args.of_class} is no class with a conditioner")
-    found = metered(rule, [fate for fate in unmarked_fates(interface, args.arrivals, args.program) if fate.name == args.of_class])
+    rule, found = packets_of(interface, args.config, args.of_class, args.arrivals, args.program)
     print(f"{'':8}{'packets':>9}{'bytes':>13}")
     for colour in (GREEN, YELLOW, RED):
         own = [one.length for one in found if one.colour == colour]
         print(f"{colour:8}{len(own):>9}{sum(own):>13}")
     if args.rows:
-        write_rows(args.rows, rule, found)
+        with open(args.rows, "w", newline="", encoding="ascii") as file:
+            csv.writer(file, lineterminator="\n").writerows(table(rule, found))
     if args.picture:
         with open(args.picture, "w", encoding="ascii") as file:
             file.write(picture(args.of_class, rule, found))

@@ -112,7 +112,10 @@ def add_arguments(parser):
     parser.add_argument("--as", dest="kind", choices=["pf", "tc"], help="what the configurations are, where their words do not tell")
     parser.add_argument("--bandwidth", metavar="RATE", help="the link's bandwidth where a pf.conf or tc does not say it, as 10mbit or 10Mb")
     parser.add_argument("--default", metavar="CLASS", help="the default class where a pf.conf or tc names none")
-    parser.add_argument("--mark", dest="marks", action="append", default=[], metavar="'MARK=FILTER'", help="what has a mark of tc's fwmark, as 10='udp dport 10000-20000'")
+    parser.add_argument("--address", action="append", default=[], metavar="NAME=ADDRESS[,..]",
+                        help="the addresses of a name that a pf.conf does not tell: of (self), em0:network, a table or a host")
+    parser.add_argument("--mark", dest="marks", action="append", default=[], metavar="NAME='PACKETS'",
+                        help="the packets of a class, or with a mark of tc's fwmark, as 10='udp dport 10000-20000'; of several marks the last holds")
     parser.add_argument("--fates", metavar="FILE", action="append", default=[],
                         help="fates of a play that was made, one for each configuration in their order; else the capture is played")
     parser.add_argument("--seed", type=int, default=42, metavar="N", help="the seed of the plays, 42 by default")
@@ -148,8 +151,8 @@ class Question:
             with ThreadPoolExecutor() as pool:
                 self.sides = list(pool.map(self.side, range(len(self.configs))))
             same_arrivals(self.sides)
-            self.told = self.inputs[0].told
-            self.missing = [f"{config}: not played, and has an effect: {text}" for (_label, config), one in zip(self.configs, self.inputs)
+            self.told = told_of(self.configs, self.inputs)
+            self.missing = [f"{config}: {text}" for (_label, config), one in zip(self.configs, self.inputs)
                             for text in [one.not_understood()] if text]
             self.frames = frames_of(self.inputs[0].shown) if self.captures else None
         except BaseException:
@@ -164,12 +167,12 @@ class Question:
         for label, config in self.configs:
             folder = os.path.join(self.folder, label)
             lengths = {} if found else {"overhead": args.overhead, "atm": args.atm, "snap": args.snap}
-            options = operator_inputs.Options(args.bandwidth, args.default, args.kind, **lengths)
+            options = operator_inputs.Options(args.bandwidth, args.default, args.kind, args.address, program=args.program, **lengths)
             captures = [found[0].shown] if found and self.captures else self.captures
             if captures:
                 found.append(operator_inputs.prepared(config, args.interface, captures, folder, args.marks, options))
             else:
-                found.append(operator_inputs.without_captures(config, args.interface, options))
+                found.append(operator_inputs.without_captures(config, args.interface, args.marks, options))
         return found
 
     def conf_file(self, number, folder):
@@ -206,6 +209,13 @@ class Question:
 
     def __exit__(self, *_fault):
         self.close()
+
+
+def told_of(configs, inputs):
+    """What was done to the captures for the plays: what is said of one alone names it."""
+    first = inputs[0].told
+    alone = [f"{label}: {line}" for (label, _config), one in zip(configs, inputs) for line in one.told if not all(line in other.told for other in inputs)]
+    return [line for line in first if all(line in other.told for other in inputs[1:])] + alone if len(inputs) > 1 else first
 
 
 def configs_of(args):

@@ -1,4 +1,4 @@
-"""Reads fates, statistics and paths, the CSV files that plays write (docs/FORMATS.md). Moments and lengths are exact integers.
+"""Reads fates, statistics and paths, the CSV files that plays write (docs/reference/FORMATS.md). Moments and lengths are exact integers.
 
 `fate_rows` and `path_rows` give row after row and need no library. `read_fates` gives columns, a million rows in a second.
 """
@@ -85,7 +85,7 @@ def path_rows(name):
 
 
 def read_fates(name):
-    """The fates of a file as `columns.Fates`; it needs numpy and pandas. `Refused` names the first row that is none."""
+    """The fates of a file as `columns.Fates`; it needs numpy. `Refused` names the first row that is none."""
     from .columns import read
 
     return read(name)

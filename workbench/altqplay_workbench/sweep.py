@@ -29,6 +29,7 @@ from . import wants
 from .conf import interface_named, read_conf
 from .delays import ranks
 from .faults import Missing, Refused
+from .libraries import advice
 from .play import add_program, play, program
 from .rows import DROPPED, read_fates, read_stats
 from .texts import Times
@@ -281,6 +282,6 @@ def run(args):
         try:
             plot(os.path.join(args.into, "plot.html"), rows)
         except ModuleNotFoundError as fault:
-            raise Missing(f"the Python library {fault.name} is not installed: run workbench/setup, or say --no-plot") from None
+            raise Missing(f"the Python library {fault.name} is not installed: {advice(fault.name)}, or say --no-plot") from None
     print(f"{os.path.join(args.into, 'table.csv')}: {len(runs)} runs, {failed} failed" + (f", {breaking} break a want" if args.wants else ""))
     return 1 if failed or breaking else 0

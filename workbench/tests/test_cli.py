@@ -1,6 +1,7 @@
 """The command line: its words, its statuses, and `delays`."""
 
 import os
+import shutil
 import subprocess
 import sys
 
@@ -36,6 +37,39 @@ def test_a_library_that_is_missing(tmp_path):
     assert done.returncode == 77 and b"is not installed: run workbench/setup" in done.stderr
     assert subprocess.run([*words, "--version"], stdout=subprocess.PIPE, check=False).returncode == 0
     assert subprocess.run([*words, "delays", "--help"], stdout=subprocess.PIPE, check=False).returncode == 0
+
+
+@pytest.fixture
+def installed(tmp_path):
+    """The package as a wheel installs it: without the repository around it. Runs its command under an interpreter's options."""
+    shutil.copytree(os.path.join(ROOT, "workbench", "altqplay_workbench"), tmp_path / "site" / "altqplay_workbench",
+                    ignore=shutil.ignore_patterns("__pycache__"))
+    call = "import sys; sys.argv[0] = 'altqwork'; from altqplay_workbench.__main__ import main; sys.exit(main())"
+
+    def run(*words, options=(), path=os.environ["PATH"]):
+        done = subprocess.run([sys.executable, *options, "-B", "-c", call, *map(str, words)], stdout=subprocess.PIPE, stderr=subprocess.PIPE,
+                              check=False, cwd=tmp_path, env={"PATH": path, "PYTHONPATH": str(tmp_path / "site")})
+        return done.returncode, done.stdout.decode(), done.stderr.decode()
+    return run
+
+
+def test_the_installed_command(installed):
+    assert installed("--version") == (0, called(["--version"])[1], "")
+
+
+def test_advice_of_a_package_names_no_script(installed, tmp_path):
+    (tmp_path / "a.pcap").write_bytes(classic(1, []))
+    late = ["late", "--config", example("office.conf"), tmp_path / "a.pcap"]
+    assert installed(*late, options=["-S"])[2].endswith("is not installed: install numpy\n")
+    assert installed(*late, path=str(tmp_path))[::2] == (77, "altqwork: altqplay is not there: install it, or name it with --program\n")
+
+
+def test_a_package_runs_the_program_in_it(installed, program, tmp_path):
+    inside = tmp_path / "site" / "altqplay_workbench" / "bin"
+    inside.mkdir()
+    shutil.copy(program, inside / "altqplay")
+    (tmp_path / "a.pcap").write_bytes(classic(1, []))
+    assert installed("late", "--config", example("office.conf"), tmp_path / "a.pcap", path=str(tmp_path))[0] == 0
 
 
 def test_no_program(altqwork, tmp_path, monkeypatch):

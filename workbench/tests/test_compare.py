@@ -16,7 +16,7 @@ from altqplay_workbench.rows import Fate
 
 HEAD = "number,arrival,length,class,fate,start,end\n"
 SKELETONS = os.path.join(os.path.dirname(os.path.dirname(os.path.abspath(__file__))), "skeletons")
-# docs/COMPARING.md, "How to compare": two sendings have changed places.
+# docs/authors/COMPARING.md, "How to compare": two sendings have changed places.
 OURS = HEAD + """1,0,1000,a,share,0,1000000
 2,10000000,1000,b,share,10000000,11000000
 3,10000000,1000,b,share,11000000,12000000
@@ -125,7 +125,7 @@ def test_drop_is_decided_before_a_sending_of_its_moment():
 
 
 def test_fraction_of_a_run():
-    """On 3 Mbit/s 100 bytes take 266,666 2/3 ns, and the run is rounded up once (docs/COMPARING.md, "The carried fraction")."""
+    """On 3 Mbit/s 100 bytes take 266,666 2/3 ns, and the run is rounded up once (docs/authors/COMPARING.md, "The carried fraction")."""
     ends = [(1, 0, 266667), (2, 266667, 533334), (3, 533334, 800000), (4, 1000000, 1266667)]
     found = {number: Fate(number, 0, 100, "a", "sent", start, end) for number, start, end in ends}
     assert journals.faults(found, 3 * 10**6) == []

@@ -4,6 +4,7 @@ import bz2
 import gzip
 import lzma
 import random
+import re
 import shutil
 import struct
 import subprocess

@@ -19,7 +19,7 @@ UNITS = {"K": 10**3, "M": 10**6, "G": 10**9}
 
 def options_of(name, **options):
     """The options of a call."""
-    return argparse.Namespace(**{"file": name, "kind": None, "interface": None, "bandwidth": None, "default": None, **options})
+    return argparse.Namespace(**{"file": name, "kind": None, "interface": None, "bandwidth": None, "default": None, "address": [], **options})
 
 
 def made(text, **options):
@@ -265,7 +265,7 @@ def matches(one, flow):
 
 
 def winner(interface, flow):
-    """The class of a flow by docs/CONFIGURATION.md, "Which filter wins"."""
+    """The class of a flow by docs/reference/CONFIGURATION.md, "Which filter wins"."""
     found = [one for one in interface.filters if matches(one, flow)]
     default = next(one.name for one in interface.classes if one.is_default)
     return max(found, key=lambda one: one.rank).owner if found else default

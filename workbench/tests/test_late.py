@@ -67,10 +67,10 @@ def test_due_moments_are_those_of_the_definition(curve, origin, steps):
 
 # A curve, packets (arrival, start, length), and when they are due, reckoned by hand. 1,000 bytes are 8*10^12 units.
 @pytest.mark.parametrize("curve, packets, due", [
-    # 200 bytes at 4,000,000 bits per second take 400,000: docs/HFSC.md, "Voice beside data"
+    # 200 bytes at 4,000,000 bits per second take 400,000: docs/reference/HFSC.md, "Voice beside data"
     (Curve(4_000_000, 5_000_000, 1_000_000), [(10_000_000, 10_000_000, 200)], [10_400_000]),
     (Curve(0, 5_000_000, 4_000_000), [(0, 0, 1000), (0, 1_000_000, 1000)], [7_000_000, 9_000_000]),
-    # docs/OPERATING.md: two packets of 214 bytes at one moment
+    # docs/operators/OPERATING.md: two packets of 214 bytes at one moment
     (Curve(1_000_000, 10_000_000, 200_000), [(0, 0, 214), (0, 428_000, 214)], [1_712_000, 3_424_000]),
     # exactly the bend, and a byte more: 8,000 units a nanosecond for 1 ms are 1,000 bytes
     (Curve(8_000_000, 1_000_000, 1_000_000), [(0, 0, 1000)], [1_000_000]), (Curve(8_000_000, 1_000_000, 1_000_000), [(0, 0, 1001)], [1_008_000]),
@@ -180,7 +180,7 @@ def test_a_damaged_archive_is_refused(altqwork, program, tmp_path):
 
 
 def office(altqwork, tmp_path):
-    """The office of docs/OPERATING.md: its capture, and the configuration with a rate for `rest`."""
+    """The office of docs/operators/OPERATING.md: its capture, and the configuration with a rate for `rest`."""
     subprocess.run(["python3", example("office.py")], check=True, stdout=subprocess.DEVNULL)
     with open(example("office.conf"), encoding="ascii") as file:
         (tmp_path / "new.conf").write_text(file.read().replace("rest root", "rest root [rt 3.6M 0 3.6M]"))
@@ -195,7 +195,7 @@ def test_office(altqwork, program, tmp_path):
     assert status == 1 and lines[0].startswith("before: fits; late is what ends more than 3.028 ms ")
     assert lines[1].startswith("after: exceeds at 10000000 by 16000000000000; ")
     rows = {tuple(line.split(",")[:2]): line for line in (tmp_path / "rows.csv").read_text().splitlines()}
-    # docs/OPERATING.md: 521 is due at 2,401,712,000 and ends 1,704,000 after that; 477 at 2,288,712,000 and 7,100,000
+    # docs/operators/OPERATING.md: 521 is due at 2,401,712,000 and ends 1,704,000 after that; 477 at 2,288,712,000 and 7,100,000
     assert rows["before", "521"] == "before,521,voice,2400000000,2403416000,2401712000,1704000"
     assert rows["after", "477"] == "after,477,voice,2287000000,2295812000,2288712000,7100000"
     lost = [line.split(",") for line in rows.values() if line.startswith("after") and (line.split(",")[4] == "" or line.split(",")[6] and int(line.split(",")[6]) > 3_028_000)]
@@ -226,7 +226,7 @@ def test_a_pf_conf_is_imported(altqwork, program, tmp_path):
     (tmp_path / "a.pcap").write_bytes(classic(1, [(0, bytes(12) + b"\x08\x00" + udp(port), 214) for port in (5004, 80, 80)]))
     for words in ([tmp_path / "a.pcap"], ["--arrivals", tmp_path / "a.pcap"]):
         status, said, _fault = altqwork("late", "--config", tmp_path / "pf.conf", *words)
-        assert status == 0 and "interfaces" not in said and "not played, and has an effect: line 5 word 12: user" in said
+        assert status == 0 and "interfaces" not in said and "not understood: line 5 word 12: user" in said
         assert [line.split()[:3] for line in said.splitlines() if line.startswith("  play")][:2] == [["play", "1", "0"], ["play", "2", "0"]]
 
 

@@ -1,4 +1,4 @@
-"""`meter`: colours and buckets reckoned by hand, from the rules of docs/METERS.md, and the picture."""
+"""`meter`: colours and buckets reckoned by hand, from the rules of docs/reference/METERS.md, and the picture."""
 
 import pytest
 

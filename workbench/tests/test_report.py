@@ -46,7 +46,7 @@ def browse():
 
 @pytest.fixture
 def office(altqwork, program, tmp_path):
-    """The report of the office of docs/EXAMPLE.md; answers the folder of its files and the words it was made by."""
+    """The report of the office of docs/operators/EXAMPLE.md; answers the folder of its files and the words it was made by."""
     subprocess.run(["python3", example("office.py")], check=True, stdout=subprocess.DEVNULL)
     with open(example("office.conf"), encoding="ascii") as file:
         (tmp_path / "new.conf").write_text(file.read().replace("sc 1M 0 1M", "sc 2.5M 0 2.5M"))
@@ -84,7 +84,7 @@ def test_numbers_are_those_of_the_files(browse, office):
             ranked = delays(folder / "kept" / label / "fates.csv", name)
             count = len(ranked)
             assert shown[name, label][5:9] == [ranked[0], ranked[(count + 1) // 2 - 1], ranked[(99 * count + 99) // 100 - 1], ranked[-1]]
-    # docs/OPERATING.md reckons the due moments of `voice`: 3,416,000 is the greatest delay, of a packet due 1,712,000 after it came
+    # docs/operators/OPERATING.md reckons the due moments of `voice`: 3,416,000 is the greatest delay, of a packet due 1,712,000 after it came
     assert shown["voice", "before"][9] == 200 and shown["voice", "before"][11:] == [0, 3_416_000 - 1_712_000]
     assert shown["rest", "after"][9:] == [0, None, None, None]
 
@@ -115,7 +115,7 @@ def lines(driver):
 
 
 def test_a_line_a_class(browse, office):
-    """Delays and drops of docs/EXAMPLE.md: 3,416,000 ns in both; 53,428,000 and 115,380,000; 202,796,000 and 202,620,000, 77 and 71 drops."""
+    """Delays and drops of docs/operators/EXAMPLE.md: 3,416,000 ns in both; 53,428,000 and 115,380,000; 202,796,000 and 202,620,000, 77 and 71 drops."""
     driver = browse(office[0] / "page.html")
     assert lines(driver) == {"voice": ["slowest 3.4 ms", "same", "0 dropped", ""], "rest": ["slowest 53.4 → 115.4 ms", "worse", "0 dropped", ""],
                              "bulk": ["slowest 202.8 → 202.6 ms", "better", "77 → 71 dropped", ""]}
@@ -125,7 +125,7 @@ def test_a_line_a_class(browse, office):
 
 
 def test_wants_and_vanished_due_moments(browse, altqwork, office):
-    """`voice` without its real-time curve takes up to 13,704,000 ns (docs/EXAMPLE.md), and the page, the command and its status say so."""
+    """`voice` without its real-time curve takes up to 13,704,000 ns (docs/operators/EXAMPLE.md), and the page, the command and its status say so."""
     folder, _words = office
     with open(example("office.conf"), encoding="ascii") as file:
         (folder / "lost.conf").write_text(file.read().replace("[rt 1M 10 200K] ", ""))
@@ -142,7 +142,7 @@ def test_wants_and_vanished_due_moments(browse, altqwork, office):
 
 
 def test_status_is_1_where_a_packet_is_late(altqwork, office):
-    """docs/OPERATING.md: with 3.6 Mbit/s for `rest` seven packets of `voice` become late."""
+    """docs/operators/OPERATING.md: with 3.6 Mbit/s for `rest` seven packets of `voice` become late."""
     folder, _words = office
     with open(example("office.conf"), encoding="ascii") as file:
         (folder / "late.conf").write_text(file.read().replace("rest root", "rest root [rt 3.6M 0 3.6M]"))

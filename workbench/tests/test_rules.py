@@ -63,7 +63,7 @@ def test_openings_are_those_of_the_definition(curve, steps, further):
 
 
 def test_worked_curves():
-    """docs/CURVES.md."""
+    """docs/reference/CURVES.md."""
     one = Openings(Curve(0, 20 * MS, 4 * MBIT))
     one.begin(0, 0)
     assert one.reaches(2 * KB) == 24 * MS
@@ -79,7 +79,7 @@ def test_worked_curves():
 
 
 def test_worked_averages():
-    """docs/CBQ.md and docs/QUEUE-RULES.md: averages, verdicts and counts."""
+    """docs/reference/CBQ.md and docs/reference/QUEUE-RULES.md: averages, verdicts and counts."""
     assert moved(12000000, -10500000, 12000000) == 1125000 and moved(-9410156, 9116089, 12000000) == 0 and needed(-9410156) == 9116089
     red = Red(50, 8 * MBIT, "red")
     red.waiting = [5]
@@ -105,7 +105,7 @@ def test_worked_averages():
 
 
 def test_words_and_frames():
-    """docs/FORMATS.md and docs/FRAMES.md."""
+    """docs/reference/FORMATS.md and docs/reference/FRAMES.md."""
     words = Words(42)
     assert [f"{words.draw():08x}" for _ in range(3)] == ["a15c02b7", "7b47f409", "ba1d3330"] and words.drawn == 3
     frame = bytes.fromhex("020000000002020000000001" "0800" "452800f800000000" "401100000a0000010a000002" "0403138900e40000")

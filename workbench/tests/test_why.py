@@ -1,4 +1,4 @@
-"""`why`: each worked row of docs/HFSC.md, CBQ.md and QUEUE-RULES.md is printed."""
+"""`why`: each worked row of docs/reference/HFSC.md, CBQ.md and QUEUE-RULES.md is printed."""
 
 from worked import BURST, HALVES, LIMIT, LOANS, PACED, QUARTER, ROUNDS, SURPLUS, VOICE, picked, with_words
 

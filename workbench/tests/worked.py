@@ -1,4 +1,4 @@
-"""The worked plays of docs/HFSC.md, CBQ.md and QUEUE-RULES.md, and what `why` says of one."""
+"""The worked plays of docs/reference/HFSC.md, CBQ.md and QUEUE-RULES.md, and what `why` says of one."""
 
 import subprocess
 

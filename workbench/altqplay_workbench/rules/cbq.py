@@ -1,4 +1,4 @@
-"""CBQ (docs/CBQ.md): averages, who may send by its own average or by a loan, and weighted rounds.
+"""CBQ (docs/reference/CBQ.md): averages, who may send by its own average or by a loan, and weighted rounds.
 
 A `Node` is a class with what its history makes of it.
 """

@@ -1,4 +1,4 @@
-"""The classes that are played of an interface, from its canonical lines (docs/CONFIGURATION.md, "Canonical text")."""
+"""The classes that are played of an interface, from its canonical lines (docs/reference/CONFIGURATION.md, "Canonical text")."""
 
 from __future__ import annotations
 

@@ -1,4 +1,4 @@
-"""Service curves over several openings (docs/CURVES.md).
+"""Service curves over several openings (docs/reference/CURVES.md).
 
 A curve that falls is at each moment the lesser of two lines: that of its first slope through the opening, and that of its second
 slope, which is higher by (m1 - m2) * d there. A curve that rises from 0 is the line of its second slope, d later. So of all

@@ -1,5 +1,5 @@
 """What a queue is told of a frame: its drop precedence, and whether its transport is capable of congestion notification
-(docs/FRAMES.md)."""
+(docs/reference/FRAMES.md)."""
 
 from __future__ import annotations
 

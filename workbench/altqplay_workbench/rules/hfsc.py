@@ -1,4 +1,4 @@
-"""HFSC (docs/HFSC.md): real time among the leaves, link sharing down the tree, and upper limits.
+"""HFSC (docs/reference/HFSC.md): real time among the leaves, link sharing down the tree, and upper limits.
 
 A `Node` is a class with what its history makes of it. A moment that never comes is NEVER.
 """

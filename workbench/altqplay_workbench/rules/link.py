@@ -1,4 +1,4 @@
-"""The link: one packet at a time, and the ends of its runs (docs/MANUAL.md, "What is played")."""
+"""The link: one packet at a time, and the ends of its runs (docs/reference/MANUAL.md, "What is played")."""
 
 from __future__ import annotations
 

@@ -1,4 +1,4 @@
-"""The meters of conditioners, colour-blind, after RFC 2697 and RFC 2698, as exact fluids (docs/METERS.md)."""
+"""The meters of conditioners, colour-blind, after RFC 2697 and RFC 2698, as exact fluids (docs/reference/METERS.md)."""
 
 from __future__ import annotations
 

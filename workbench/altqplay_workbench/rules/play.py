@@ -1,4 +1,4 @@
-"""Plays arrivals by the rules, one decision at a time (docs/MANUAL.md, "What is played")."""
+"""Plays arrivals by the rules, one decision at a time (docs/reference/MANUAL.md, "What is played")."""
 
 from __future__ import annotations
 

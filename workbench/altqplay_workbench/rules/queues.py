@@ -1,4 +1,4 @@
-"""What a queue keeps and drops: by its limit, RED, RED that marks, and RIO (docs/QUEUE-RULES.md)."""
+"""What a queue keeps and drops: by its limit, RED, RED that marks, and RIO (docs/reference/QUEUE-RULES.md)."""
 
 from __future__ import annotations
 

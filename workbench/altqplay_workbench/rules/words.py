@@ -1,5 +1,5 @@
-"""The words of a seed: those of the generator PCG XSH RR 64/32 (O'Neill 2014) on stream 54 (docs/FORMATS.md, "The capture that
-`make` writes"; docs/MANUAL.md says that RED and RIO draw the first of the seed)."""
+"""The words of a seed: those of the generator PCG XSH RR 64/32 (O'Neill 2014) on stream 54 (docs/reference/FORMATS.md, "The capture that
+`make` writes"; docs/reference/MANUAL.md says that RED and RIO draw the first of the seed)."""
 
 MULTIPLIER, STREAM = 6364136223846793005, 54
 HALF, WHOLE = 2**32 - 1, 2**64 - 1
