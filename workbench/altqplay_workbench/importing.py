@@ -14,6 +14,7 @@ from fractions import Fraction
 
 from . import pf_filters, pf_queues, pf_rules, play, tc_classes, tc_filters
 from .altq_text import Notes, try_all, text_of
+from .asked import entry_of
 from .config_kinds import NAMES, kind_of
 from .faults import Missing, Refused
 from .pf_words import statements
@@ -33,6 +34,8 @@ def add_arguments(parser):
     parser.add_argument("--interface", metavar="NAME", help="the device of what tc shows without one")
     parser.add_argument("--bandwidth", metavar="RATE", help="the link's bandwidth where FILE does not say it, as 10mbit or 10Mb")
     parser.add_argument("--default", metavar="CLASS", help="the default class where FILE names none")
+    parser.add_argument("--address", action="append", default=[], metavar="NAME=ADDRESS[,..]",
+                        help="the addresses of a name that FILE does not tell: of (self), em0:network, a table or a host")
     parser.add_argument("--program", metavar="PATH", help="the program that checks what was made")
 
 
@@ -56,30 +59,51 @@ def kind(text, name):
     return found
 
 
-def imported(text, given, notes):
-    """The interfaces of a text."""
-    if (given.kind or kind(text, notes.name)) == "pf":
-        lines = list(statements(text, notes))
-        interfaces = pf_queues.interfaces_of(lines, given, notes)
-        rules = pf_rules.rules_of(lines, pf_rules.tables_of(lines), notes)
-        pf_rules.settle_groups(rules, interfaces, notes)
-        pf_filters.add_filters(lines, rules, interfaces, notes)
-        return interfaces
+def pf_parts(text, given, notes):
+    """The statements of a pf.conf, its rules, and its interfaces without filters."""
+    lines = list(statements(text, notes))
+    interfaces = pf_queues.interfaces_of(lines, given, notes)
+    rules = pf_rules.rules_of(lines, pf_rules.tables_of(lines, given.addresses), notes)
+    pf_rules.settle_groups(rules, interfaces, notes)
+    return lines, rules, interfaces
+
+
+def tc_parts(text, given, notes):
+    """The devices of lines of tc, and their interfaces without filters."""
     devices = tc_classes.devices_of(commands(text, notes), given, notes)
     if not devices:
         raise Refused(f"{notes.name}: no qdisc, class or filter stands in it")
-    found = []
-    for device in devices:
-        interface = tc_classes.interface_of(device, given, notes)
+    return devices, [tc_classes.interface_of(device, given, notes) for device in devices]
+
+
+def imported(text, given, notes):
+    """The interfaces of a text."""
+    if (given.kind or kind(text, notes.name)) == "pf":
+        lines, rules, interfaces = pf_parts(text, given, notes)
+        pf_filters.add_filters(lines, rules, interfaces, notes)
+        return interfaces
+    devices, interfaces = tc_parts(text, given, notes)
+    for device, interface in zip(devices, interfaces):
         tc_filters.add_filters(device, interface, notes)
-        found.append(interface)
+    return interfaces
+
+
+def addresses_of(words):
+    """The addresses of `--address NAME=ADDRESS[,..]` by name."""
+    found = {}
+    for word in words:
+        name, _, texts = word.partition("=")
+        entries = [entry_of(text) for text in texts.split(",")]
+        if None in entries or not name:
+            raise Refused(f"--address {word}: NAME=ADDRESS[,..] is wanted, as (self)=10.0.0.1 or <phones>=10.1.0.0/16")
+        found[name] = entries
     return found
 
 
 def conf_of(text, given):
     """The altq.conf of a text, with its interfaces and its notes."""
     notes = Notes(given.file)
-    given.bandwidth = rate(given.bandwidth)
+    given.bandwidth, given.addresses = rate(given.bandwidth), addresses_of(given.address)
     interfaces = imported(text, given, notes)
     try_all(interfaces, notes)
     return text_of(interfaces, notes), interfaces, notes
