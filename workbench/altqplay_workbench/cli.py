@@ -23,6 +23,7 @@ MODULES = {
     "compare": "compare",
     "why": "why",
     "sweep": "sweep",
+    "find": "find",
     "gap": "gap",
     "meter": "meter",
     "path": "path",

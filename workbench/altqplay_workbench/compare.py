@@ -7,22 +7,24 @@ moved, and where the first difference is.
 
 --foreign tests the second file before it is compared: by `altqplay verify` where the program has it and a configuration and the
 arrivals are named, else by plain tests, which prove nothing: order within each class, starts, a link that carries one packet at
-a time, and with --config or --bandwidth the ends. The delay of a packet that was sent is its end minus its arrival, in
-nanoseconds; a median is the lower of two middle values. The exit status is 0 where nothing differs, 1 where something does or a
-test fails, and 2 where the files are no fates of the same arrivals. It needs no library.
+a time, and with --config or --bandwidth the ends. The delay of a packet that was sent is its end minus its arrival; a median is
+the lower of two middle values. The exit status is 0 where nothing differs, 1 where something does or a test fails, and 2 where
+the files are no fates of the same arrivals. Without --by-class it needs no library.
 """
 
 import os
+import re
 import subprocess
 import tempfile
 from collections import Counter
 
-from . import delays, play
+from . import play
 from .captures import records, write_ethernet
 from .conf import read_conf
 from .faults import Refused
-from .journals import by_moment, faults, read_journal, row_text, without_rule
-from .rows import FATES_HEAD
+from .journals import by_moment, delay, faults, read_journal, row_text, same_arrivals, without_rule
+from .rows import FATES_HEAD, place
+from .texts import Times, add_times, aligned
 
 NAME = "compare"
 HELP = "two plays packet by packet, or another program's journal with ours"
@@ -43,6 +45,7 @@ def add_arguments(parser):
     parser.add_argument("--arrivals", metavar="FILE", help="the capture of the arrivals, for --foreign")
     parser.add_argument("--bandwidth", type=int, metavar="BITS", help="bits per second of the link, for --foreign without --config")
     play.add_program(parser)
+    add_times(parser)
     parser.add_argument("first_file", metavar="first", help="fates")
     parser.add_argument("second_file", metavar="second", help="fates of the same arrivals")
 
@@ -67,28 +70,25 @@ def changed_fates(first, second):
     return lines, count + len(moved)
 
 
-def spread(label, values):
-    """Count, least, median and greatest of some integers."""
-    if not values:
-        return f"  {label:<22}{0:>9}"
+def spread(label, values, times):
+    """Count, least, median and greatest of some times, as a row of a table."""
     ranked = sorted(values)
-    return f"  {label:<22}{len(ranked):>9}{ranked[0]:>14}{ranked[(len(ranked) - 1) // 2]:>14}{ranked[-1]:>14}"
+    return [f"  {label}", str(len(ranked)), *(times.number(ranked[at]) for at in (0, (len(ranked) - 1) // 2, -1) if ranked)]
 
 
-def moved_delays(first, second):
+def moved_delays(first, second, times):
     """The lines on how the delays moved, and how many did."""
-    both = [n for n in first if first[n].end is not None and second[n].end is not None]
-    moves = [second[n].end - first[n].end for n in both]
-    lines = ["delays in nanoseconds:", f"  {'':<22}{'packets':>9}{'least':>14}{'median':>14}{'greatest':>14}"]
+    moves = [second[n].end - first[n].end for n in first if first[n].end is not None and second[n].end is not None]
+    rows = [[f"delays in {times.unit}", "packets", "least", "median", "greatest"]]
     for label, side in (("sent in the first", first), ("sent in the second", second)):
-        lines.append(spread(label, [delays.delay(fate) for fate in side.values() if fate.end is not None]))
-    lines.append(spread("sent in both: moved by", moves))
-    lines.append(f"  of those sent in both: {sum(m < 0 for m in moves)} earlier, {moves.count(0)} the same, {sum(m > 0 for m in moves)} later")
-    return lines, len(moves) - moves.count(0)
+        rows.append(spread(label, [delay(fate) for fate in side.values() if fate.end is not None], times))
+    rows.append(spread("sent in both: moved by", moves, times))
+    counts = f"  of those sent in both: {sum(m < 0 for m in moves)} earlier, {moves.count(0)} the same, {sum(m > 0 for m in moves)} later"
+    return [*aligned(rows), counts], len(moves) - moves.count(0)
 
 
 def is_late(fate, most):
-    return fate.end is not None and delays.delay(fate) > most
+    return fate.end is not None and delay(fate) > most
 
 
 def late(first, second, most):
@@ -111,11 +111,11 @@ def waiting(journal, at):
 
 def first_difference(first, second):
     """The lines on the first decision that differs."""
-    for place, (ours, theirs) in enumerate(zip(by_moment(first), by_moment(second)), 1):
+    for count, (ours, theirs) in enumerate(zip(by_moment(first), by_moment(second)), 1):
         if ours == theirs:
             continue
         at = min(fate.arrival if fate.start is None else fate.start for fate in (ours, theirs))
-        lines = [f"first difference: decision {place}, at {at}", f"  first  {row_text(ours)}", f"  second {row_text(theirs)}"]
+        lines = [f"first difference: decision {count}, at {at}", f"  first  {row_text(ours)}", f"  second {row_text(theirs)}"]
         return lines + [f"  waits in {name}: {listed(numbers)}" for name, numbers in waiting(first, at).items()]
     return ["first difference: none"]
 
@@ -141,11 +141,16 @@ def verified(args, journal):
     return None if done.returncode == REFUSED_WORDS else (done.stdout.decode("ascii", "replace").splitlines(), done.returncode)
 
 
+def with_line(text):
+    """What `altqplay verify` says of a row of the fates, with the file's line too; the rows of kind 8 are records of departures."""
+    return re.sub(r"\brow (\d+) kind (?!8\b)", lambda found: f"{place(int(found[1]) + 1)} kind ", text)
+
+
 def tested(args, second):
     """The lines on whether the second file can be what a link did, and how many tests fail."""
     answer = verified(args, second) if args.config and args.arrivals else None
     if answer is not None:
-        return [f"altqplay verify: {line}" for line in answer[0]], int(answer[1] != 0)
+        return [f"altqplay verify: {with_line(line)}" for line in answer[0]], int(answer[1] != 0)
     bandwidth = args.bandwidth
     if args.config:
         bandwidth = read_conf(args.config, args.interface, args.program).bandwidth
@@ -161,17 +166,18 @@ def selected(first, second, args):
     return {n: first[n] for n in own}, {n: second[n] for n in own}
 
 
-def by_class(first, second):
+def by_class(first, second, times):
     """The table of the delays by class."""
-    lines = [f"{'':<10}{'packets':>8}{'dropped':>9}{'least':>13}{'median':>13}{'99 in 100':>13}{'greatest':>13}"]
-    for name in delays.classes_of(first, second):
-        lines += [name, delays.line("first", first, name), delays.line("second", second, name), delays.changes(first, second, name)[0]]
-    return lines
+    from .delays import class_rows
+    from .numbered import Numbered, classes_of
+
+    sides = [Numbered.of_rows(side.values()) for side in (first, second)]
+    return aligned(class_rows(*sides, classes_of(*sides), times)[0])
 
 
 def run(args):
     first, second = read_journal(args.first_file), read_journal(args.second_file)
-    delays.same_arrivals(first, second)
+    same_arrivals(first, second)
     lines, failed = tested(args, second) if args.foreign else ([], 0)
     if args.ignore_rule:
         first, second = ({n: without_rule(fate) for n, fate in side.items()} for side in (first, second))
@@ -179,10 +185,10 @@ def run(args):
     for label, name, side in (("first", args.first_file, first), ("second", args.second_file, second)):
         counts = Counter(fate.fate for fate in side.values())
         lines.append(f"{label + ':':<8}{name}: " + ", ".join(f"{n} {fate}" for fate, n in sorted(counts.items())))
-    told, changed = changed_fates(first, second)
-    more, moved = moved_delays(first, second)
+    times, (told, changed) = Times(args.ns), changed_fates(first, second)
+    more, moved = moved_delays(first, second, times)
     lines += told + more
-    lines += by_class(first, second) if args.by_class else []
+    lines += by_class(first, second, times) if args.by_class else []
     lines += late(first, second, args.late) if args.late is not None else []
     lines += first_difference(first, second) if args.first else []
     print("\n".join(lines))

@@ -7,7 +7,7 @@ its rows may stand in any order. The tests here are plain sums: that they pass i
 import csv
 
 from .faults import Refused
-from .rows import DROPPED, FATES_HEAD, SENT, Fate, whole
+from .rows import DROPPED, FATES_HEAD, SENT, Fate, place, whole
 
 BYTE = 8 * 10**9
 SENT_WORDS, DROPPED_WORDS = (*SENT, "sent"), (*DROPPED, "dropped")
@@ -16,12 +16,12 @@ SENT_WORDS, DROPPED_WORDS = (*SENT, "sent"), (*DROPPED, "dropped")
 def entry(name, line, row):
     """The fate of a row."""
     if len(row) != len(FATES_HEAD):
-        raise Refused(f"{name}: row {line}: {len(row)} words, and not {len(FATES_HEAD)}")
+        raise Refused(f"{name}: {place(line)}: {len(row)} words, and not {len(FATES_HEAD)}")
     if row[4] not in SENT_WORDS + DROPPED_WORDS:
-        raise Refused(f"{name}: row {line}: no fate: {row[4]!r}; write sent or dropped where there is no rule")
+        raise Refused(f"{name}: {place(line)}: no fate: {row[4]!r}; write sent or dropped where there is no rule")
     is_sent = row[4] in SENT_WORDS
     if not is_sent and row[5:] != ["", ""]:
-        raise Refused(f"{name}: row {line}: a packet that was dropped has a start or an end")
+        raise Refused(f"{name}: {place(line)}: a packet that was dropped has a start or an end")
     numbers = [whole(name, line, what, word) for what, word in zip(FATES_HEAD[:3], row)]
     times = [whole(name, line, what, word) for what, word in zip(FATES_HEAD[5:], row[5:])] if is_sent else [None, None]
     return Fate(*numbers, row[3], row[4], *times)
@@ -36,9 +36,24 @@ def read_journal(name):
         for row in rows:
             fate = entry(name, rows.line_num, row)
             if fate.number in found:
-                raise Refused(f"{name}: row {rows.line_num}: packet {fate.number} has two fates")
+                raise Refused(f"{name}: {place(rows.line_num)}: packet {fate.number} has two fates")
             found[fate.number] = fate
     return found
+
+
+def same_arrivals(first, second):
+    """Refuses two journals that are not of the same arrivals."""
+    if first.keys() != second.keys():
+        odd = min(first.keys() ^ second.keys())
+        raise Refused(f"packet {odd} stands in one file alone: not the same arrivals, or a play that was cut off")
+    for number in sorted(first):
+        if first[number][:3] != second[number][:3]:
+            raise Refused(f"packet {number} has another arrival or length in the second file")
+
+
+def delay(fate):
+    """The end of a packet that was sent minus its arrival."""
+    return fate.end - fate.arrival
 
 
 def moment(fate):

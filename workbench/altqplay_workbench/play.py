@@ -4,13 +4,15 @@ import functools
 import os
 import shutil
 import subprocess
+import sys
 from collections import namedtuple
 
 from .faults import Missing, Refused
 
 HERE = os.path.dirname(os.path.abspath(__file__))
 RULE = os.path.join(os.path.dirname(os.path.dirname(HERE)), "release", "program")  # of the repository: prints the path of its program
-PACKED = os.path.join(HERE, "bin", "altqplay")  # of a wheel
+# Where a package has it: a wheel, and what is unpacked below a folder that has bin/ and share/.
+PACKED = [os.path.join(HERE, "bin", "altqplay"), os.path.join(HERE, "..", "..", "..", "bin", "altqplay")]
 
 # The files of a play.
 Played = namedtuple("Played", "departures fates stats")
@@ -25,18 +27,23 @@ def of_repository():
 
 
 def program(named=None):
-    """The program's path: as named, else of ALTQPLAY, else of this repository or wheel, else on the path. `Missing` where there is none."""
+    """The program's path: as named, else of ALTQPLAY, else of this repository or package, else on the path. `Missing` where there is none."""
     asked = named or os.environ.get("ALTQPLAY")
     if asked:
         found = shutil.which(asked)
         if found is None:
             raise Missing(f"no program {asked}")
         return found
-    found = of_repository() or (PACKED if os.access(PACKED, os.X_OK) else shutil.which("altqplay"))
+    found = of_repository() or next((path for path in PACKED if os.access(path, os.X_OK)), None) or shutil.which("altqplay")
     if not found:
         advice = "example/run --build proves and builds it" if os.access(RULE, os.X_OK) else "install it"
         raise Missing(f"altqplay is not there: {advice}, or name it with --program")
     return found
+
+
+def execute():
+    """Becomes the program that is in the wheel, with the words of this process: the wheel's command `altqplay`."""
+    os.execv(PACKED[0], ["altqplay", *sys.argv[1:]])
 
 
 def answer(named, words):

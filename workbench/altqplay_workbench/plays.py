@@ -10,7 +10,7 @@ from concurrent.futures import ThreadPoolExecutor
 
 import numpy
 
-from .captures import CLASSIC, Frames, opened
+from .captures import CLASSIC, Frames
 from .conf import read_conf
 from .convert import add_lengths, converted
 from .due import BYTE, MOST, due_moments
@@ -74,6 +74,17 @@ def due_of(interface, fates):
     return due, has_due
 
 
+def class_names(sides):
+    """The classes that packets of some plays are of, in the configurations' order."""
+    return list(dict.fromkeys(name for side in sides for name in side.classes()))
+
+
+def of_either(sides, name):
+    """The places of the packets that are of a class in any of some plays."""
+    owns = [side.class_is(name) for side in sides]
+    return owns[0] if all(len(own) == len(owns[0]) and (own == owns[0]).all() for own in owns) else numpy.unique(numpy.concatenate(owns))
+
+
 def same_arrivals(sides):
     """Refuses two plays that are not of the same arrivals."""
     if len(sides) < 2:
@@ -108,12 +119,10 @@ def is_playable(name, args):
     if args.overhead or args.atm:
         return False
     with open(name, "rb") as file:
-        is_packed = file.read(2) == b"\x1f\x8b"
-    with opened(name) as file:
         head = file.read(24)
     order, _unit = CLASSIC.get(head[:4], (None, 0))
     link = head[20:22] if order == "<" else head[22:24][::-1]
-    return not is_packed and order is not None and link == b"\x01\x00"
+    return order is not None and link == b"\x01\x00"
 
 
 class Question:

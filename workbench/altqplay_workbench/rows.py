@@ -22,24 +22,29 @@ Fate = namedtuple("Fate", "number arrival length name fate start end")
 Path = namedtuple("Path", "number arrival outcome end")
 
 
+def place(line):
+    """A line of a file, with the number that `altqplay verify` gives its row: the head is line 1 and row 0."""
+    return f"line {line} (row {line - 1})"
+
+
 def whole(name, line, what, word):
     """A whole number below 2^63 of a row."""
     if not WHOLE.fullmatch(word) or int(word) >= 2**63:
-        raise Refused(f"{name}: row {line}: {what} is no whole number below 2^63: {word!r}")
+        raise Refused(f"{name}: {place(line)}: {what} is no whole number below 2^63: {word!r}")
     return int(word)
 
 
 def fate_of(name, line, row):
     """The fate of a row."""
     if len(row) != len(FATES_HEAD):
-        raise Refused(f"{name}: row {line}: {len(row)} words, and not {len(FATES_HEAD)}")
+        raise Refused(f"{name}: {place(line)}: {len(row)} words, and not {len(FATES_HEAD)}")
     numbers = [whole(name, line, what, word) for what, word in zip(FATES_HEAD[:3], row)]
     if not NAME.fullmatch(row[3]):
-        raise Refused(f"{name}: row {line}: no name of a class: {row[3]!r}")
+        raise Refused(f"{name}: {place(line)}: no name of a class: {row[3]!r}")
     if row[4] not in SENT + DROPPED:
-        raise Refused(f"{name}: row {line}: no fate: {row[4]!r}")
+        raise Refused(f"{name}: {place(line)}: no fate: {row[4]!r}")
     if row[4] in DROPPED and row[5:] != ["", ""]:
-        raise Refused(f"{name}: row {line}: a packet that was dropped has a start or an end")
+        raise Refused(f"{name}: {place(line)}: a packet that was dropped has a start or an end")
     times = [whole(name, line, what, word) for what, word in zip(FATES_HEAD[5:], row[5:])] if row[4] in SENT else [None, None]
     return Fate(*numbers, row[3], row[4], *times)
 
@@ -47,12 +52,12 @@ def fate_of(name, line, row):
 def path_of(name, line, row):
     """The path of a row."""
     if len(row) != len(PATH_HEAD):
-        raise Refused(f"{name}: row {line}: {len(row)} words, and not {len(PATH_HEAD)}")
+        raise Refused(f"{name}: {place(line)}: {len(row)} words, and not {len(PATH_HEAD)}")
     number, arrival = [whole(name, line, what, word) for what, word in zip(PATH_HEAD, row[:2])]
     if row[2] not in OUTCOMES:
-        raise Refused(f"{name}: row {line}: no outcome: {row[2]!r}")
+        raise Refused(f"{name}: {place(line)}: no outcome: {row[2]!r}")
     if row[2] != "sent" and row[3]:
-        raise Refused(f"{name}: row {line}: a packet that was dropped has an end")
+        raise Refused(f"{name}: {place(line)}: a packet that was dropped has an end")
     return Path(number, arrival, row[2], whole(name, line, "end", row[3]) if row[2] == "sent" else None)
 
 
@@ -63,7 +68,7 @@ def lines(name, head):
             raise Refused(f"{name}: its first row is not {','.join(head)}")
         for number, line in enumerate(file, 2):
             if not line.endswith("\n"):
-                raise Refused(f"{name}: row {number} is cut: no line feed ends it")
+                raise Refused(f"{name}: {place(number)} is cut: no line feed ends it")
             yield number, line[:-1].split(",")
 
 
@@ -91,6 +96,6 @@ def read_stats(name):
     found = {}
     for number, words in lines(name, STATS_HEAD):
         if len(words) != len(STATS_HEAD):
-            raise Refused(f"{name}: row {number}: {len(words)} words, and not {len(STATS_HEAD)}")
+            raise Refused(f"{name}: {place(number)}: {len(words)} words, and not {len(STATS_HEAD)}")
         found[words[0]] = {what: whole(name, number, what, word) for what, word in zip(STATS_HEAD[1:], words[1:])}
     return found

@@ -2,11 +2,13 @@
 
     altqwork sweep today.conf --set 'rest rt=1M,2M,2.8M,3.6M' --seeds 1-3 --into results --arrivals monday.pcap tuesday.pcap
 
---set 'CLASS WORD=V,V' puts each value in the place of what the configurations say: of `rt`, `ls`, `sc` and `ul` the line of a rate,
-of `exactbandwidth`, `pbandwidth`, `pshare`, `priority` and `qlimit` the value itself. `bandwidth=V,V` without a class is that of
-the interface. Several --set make a grid. The captures are such as the program reads; altqwork convert makes them.
+--set 'CLASS WORD=V,V' puts each value in the place of what the configurations say: of `rt`, `ls`, `sc` and `ul` a rate, for a line,
+or a curve of two slopes as 3M/10/1500K, which is 3M for 10 ms and then 1500K; of `exactbandwidth`, `pbandwidth`, `pshare`,
+`priority` and `qlimit` the value itself. `bandwidth=V,V` without a class is that of the interface. Several --set make a grid. The
+captures are such as the program reads; altqwork convert makes them.
 
-table.csv in the folder has a row for each run and class, delays in nanoseconds, its last word `ok` or what failed. plot.html draws
+table.csv in the folder has a row for each run and each class that holds packets, delays in nanoseconds, its last word `ok` or what
+failed. plot.html draws
 the greatest delay and the drops of each class. A sweep that was cut off goes on where it stopped: what is done stands in runs.jsonl,
 and is made again only where the configuration, the capture, the seed or the program is another. --scheduler HOST:PORT plays by
 dask.distributed in place of this machine's processors: the captures, the program and this package stand at one path on all
@@ -23,17 +25,21 @@ import tempfile
 from collections import namedtuple
 from concurrent.futures import ProcessPoolExecutor, as_completed
 
-from .conf import interface_named
+from .conf import interface_named, read_conf
+from .delays import ranks
 from .faults import Missing, Refused
 from .libraries import advice
 from .play import add_program, play, program
-from .rows import read_stats
+from .rows import DROPPED, read_fates, read_stats
 
 NAME = "sweep"
 HELP = "many configurations, rates, captures and seeds into one table and one plot"
 CURVES = ("rt", "ls", "sc", "ul")
 VALUES = ("exactbandwidth", "pbandwidth", "pshare", "priority", "qlimit")
 HEAD = ["config", "settings", "capture", "seed", "class", "packets", "dropped", "median", "of99", "greatest", "answer"]
+RANKS = (50, 99, 100)  # of a hundred delays
+FORM = 2  # of what is kept of a run
+COLOURS = ["#0072b2", "#d55e00", "#009e73", "#cc79a7", "#000000", "#56b4e9", "#e69f00"]  # tellable apart by the colour-blind (Okabe and Ito)
 SETTING = re.compile(r"(?:(\S+)\s+)?(\w+)=(\S+)\Z")
 
 # One run of the grid: what is played, and the key by which a sweep that goes on knows it again.
@@ -46,7 +52,7 @@ def add_arguments(parser):
     parser.add_argument("--into", default="sweep", metavar="FOLDER", help="where the results stand, sweep by default")
     parser.add_argument("--jobs", type=int, metavar="N", help="how many plays at a time; all processors by default")
     parser.add_argument("--scheduler", metavar="HOST:PORT", help="plays on the machines of this scheduler of dask.distributed")
-    parser.add_argument("--no-plot", action="store_true", help="makes the table alone, which needs no library")
+    parser.add_argument("--no-plot", action="store_true", help="makes the table alone")
     add_program(parser)
     parser.add_argument("--arrivals", nargs="+", required=True, metavar="CAPTURE", help="the captures")
     parser.add_argument("configs", nargs="+", metavar="CONFIG", help="the configurations")
@@ -72,8 +78,18 @@ def settings_of(texts):
             raise Refused(f"--set {text!r}: not CLASS WORD=VALUES with rt, ls, sc, ul, {', '.join(VALUES)}, or bandwidth=VALUES")
         if match[2] != "bandwidth" and not match[1]:
             raise Refused(f"--set {text!r}: the class is missing")
-        axes.append([((match[1], match[2]), value) for value in match[3].split(",")])
+        values = match[3].split(",")
+        if match[2] in CURVES and any(value.count("/") not in (0, 2) for value in values):
+            raise Refused(f"--set {text!r}: a curve is a rate, or m1/d/m2 as 3M/10/1500K, d in milliseconds")
+        axes.append([((match[1], match[2]), value) for value in values])
     return list(itertools.product(*axes))
+
+
+def words_of(option, value):
+    """A setting as words of a statement."""
+    if option not in CURVES:
+        return [option, value]
+    return [option, *value.split("/")] if "/" in value else [option, value, "0", value]
 
 
 def changed(text, interface, settings, name):
@@ -85,7 +101,7 @@ def changed(text, interface, settings, name):
         for at, line in enumerate(lines):
             words = re.sub(r"[\[\]]", " ", line.split("#")[0]).split()
             if (words[:2] if of is None else words[2:4] if words[:1] == ["class"] else None) == head:
-                lines[at], found = " ".join(words + ([option, value, "0", value] if option in CURVES else [option, value])), True
+                lines[at], found = " ".join(words + words_of(option, value)), True
         if not found:
             raise Refused(f"{name}: interface {interface} has no class {of}" if of else f"{name}: no interface {interface}")
     return "\n".join(lines)
@@ -117,26 +133,21 @@ def grid(args):
         for settings in settings_of(args.settings):
             made = changed(text, interface, settings, name)
             for capture, seed in itertools.product(args.arrivals, numbers(args.seeds)):
-                key = hashlib.sha256("\0".join([made, interface, held[capture], held[path], str(seed)]).encode()).hexdigest()
+                key = hashlib.sha256("\0".join([str(FORM), made, interface, held[capture], held[path], str(seed)]).encode()).hexdigest()
                 found.append(Run(name, label(settings), made, interface, os.path.abspath(capture), seed, path, key))
     return found
 
 
-def delays_of(name):
-    """The delays of each class of fates, in rising order."""
-    found = {}
-    with open(name, encoding="ascii") as file:
-        next(file)
-        for line in file:
-            _number, arrival, _length, of, _fate, _start, end = line.rstrip("\n").split(",")
-            if end:
-                found.setdefault(of, []).append(int(end) - int(arrival))
-    return {of: sorted(values) for of, values in found.items()}
+def holders(interface, stats):
+    """The classes that hold packets: those without children, and any to which packets came."""
+    parents = {one.parent for one in interface.classes.values()}
+    return [name for name in stats if name != "*" and (name not in parents or stats[name]["arrived"])]
 
 
-def ranks(values):
-    """The delays that half and 99 in 100 do not pass, and the greatest."""
-    return [values[-(-parts * len(values) // 100) - 1] for parts in (50, 99, 100)] if values else ["", "", ""]
+def class_row(name, stats, fates):
+    """The row of a class: packets, drops and delays."""
+    own = ranks(fates.delays()[fates.class_is(name) & fates.is_sent], RANKS)
+    return [name, stats["arrived"], sum(stats[reason] for reason in DROPPED), *("" if delay is None else delay for delay in own), "ok"]
 
 
 def played(run):
@@ -146,10 +157,10 @@ def played(run):
             config = os.path.join(folder, "altq.conf")
             with open(config, "w", encoding="ascii", errors="replace") as file:
                 file.write(run.text)
+            interface = read_conf(config, run.interface, run.program)
             files = play(config, run.interface, run.capture, folder, run.seed, run.program)
-            stats, delays = read_stats(files.stats), delays_of(files.fates)
-        return [[of, one["arrived"], one["full"] + one["early"] + one["forced"], *ranks(delays.get(of, [])), "ok"]
-                for of, one in stats.items() if of != "*"]
+            stats, fates = read_stats(files.stats), read_fates(files.fates)
+        return [class_row(name, stats[name], fates) for name in holders(interface, stats)]
     except (Refused, Missing, OSError) as fault:
         return [["-", "", "", "", "", "", str(fault)]]
 
@@ -224,7 +235,7 @@ def write_table(name, rows):
 
 
 def plot(name, rows):
-    """Writes a page: for each class the greatest delay in milliseconds and the drops of each run."""
+    """Writes a page: for each class the greatest delay in milliseconds and the drops of each run, in one colour."""
     from plotly import graph_objects, subplots
 
     figure = subplots.make_subplots(rows=2, cols=1, shared_xaxes=True, subplot_titles=["greatest delay, ms", "packets dropped"])
@@ -232,7 +243,8 @@ def plot(name, rows):
     for number, of in enumerate(dict.fromkeys(row[4] for row in good)):
         own = [row for row in good if row[4] == of]
         where = [f"{row[0]} {row[1]}<br>{row[2]} seed {row[3]}" for row in own]
-        style = {"name": of, "mode": "markers+lines", "legendgroup": of, "marker": {"symbol": number % 8, "size": 9}}
+        colour = COLOURS[number % len(COLOURS)]
+        style = {"name": of, "mode": "markers+lines", "legendgroup": of, "marker": {"symbol": number % 8, "size": 9, "color": colour}, "line": {"color": colour}}
         heights = [row[9] / 10**6 if row[9] != "" else None for row in own]
         figure.add_trace(graph_objects.Scatter(x=where, y=heights, **style), row=1, col=1)
         figure.add_trace(graph_objects.Scatter(x=where, y=[row[6] for row in own], showlegend=False, **style), row=2, col=1)

@@ -20,6 +20,7 @@ from argparse import ArgumentParser, Namespace
 from .faults import Refused
 from .journals import row_text
 from .play import add_program
+from .rows import place
 from .rules.play import Offer, Sending
 from .why_csv import Rows
 from .why_inputs import question
@@ -78,12 +79,12 @@ class Told:
 def otherwise_lines(told: Told, name: str) -> list[str]:
     """The lines on the first difference."""
     found = told.replay.otherwise
-    lines = [f"{name}: row {found.row}: {row_text(found.fate)}"]
+    lines = [f"{name}: {place(found.row)}: {row_text(found.fate)}"]
     packet = told.last.packet
     if found.ours is not None:
         lines.append(f"by the rules: {row_text(found.ours)}")
         own = next((row for row, fate in told.replay.question.rows if fate.number == packet.number), None)
-        lines += [f"packet {packet.number} stands in row {own}"] if own not in (None, found.row) else []
+        lines += [f"packet {packet.number} stands in {place(own)}"] if own not in (None, found.row) else []
     else:
         lines.append(f"by the rules: packet {packet.number} is kept")
     return lines + ([found.hint] if found.hint else [])

@@ -10,7 +10,7 @@ from .conf import Interface, read_conf
 from .faults import Refused
 from .journals import entry
 from .meter import marked_services
-from .rows import FATES_HEAD, Fate, lines
+from .rows import FATES_HEAD, Fate, lines, place
 from .rules.classes import classes_of
 from .rules.frames import is_capable, precedence, type_of_service
 from .rules.packets import Packet
@@ -58,11 +58,11 @@ def packets_of(name: str, rows: list[tuple[int, Fate]], interface: Interface, se
     places, found = places_of(interface), []
     for row, fate in sorted(rows, key=lambda pair: pair[1].number):
         if fate.name not in places:
-            raise Refused(f"{name}: row {row}: {fate.name} is no class of {interface.name} that holds packets")
+            raise Refused(f"{name}: {place(row)}: {fate.name} is no class of {interface.name} that holds packets")
         if found and fate.arrival < found[-1].arrival:
-            raise Refused(f"{name}: row {row}: packet {fate.number} arrives before packet {fate.number - 1}")
+            raise Refused(f"{name}: {place(row)}: packet {fate.number} arrives before packet {fate.number - 1}")
         if not fate.length:
-            raise Refused(f"{name}: row {row}: packet {fate.number} has no length")
+            raise Refused(f"{name}: {place(row)}: packet {fate.number} has no length")
         tos = services[fate.number - 1] if services else None
         found.append(Packet(fate.number, fate.arrival, fate.length, places[fate.name], precedence(tos), is_capable(tos)))
     return found

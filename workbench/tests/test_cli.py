@@ -1,4 +1,4 @@
-"""The command line: its words, its statuses, and `delays`, which needs no library."""
+"""The command line: its words, its statuses, and `delays`."""
 
 import os
 import shutil
@@ -85,13 +85,37 @@ def test_delays(altqwork, tmp_path):
     # delays 10, 20, 30, 40 of class a: half do not pass 20, 99 in 100 do not pass 40; then 10 is dropped, 20 takes 50, 40 takes 35
     (tmp_path / "first").write_text(HEAD + "".join(f"{n},100,60,a,share,{95 + 10 * n},{100 + 10 * n}\n" for n in (1, 2, 3, 4)))
     (tmp_path / "second").write_text(HEAD + "1,100,60,a,full,,\n3,100,60,a,share,125,130\n4,100,60,a,share,130,135\n2,100,60,a,share,145,150\n")
-    status, said, _fault = altqwork("delays", tmp_path / "first", tmp_path / "second")
-    assert status == 1 and said.splitlines()[1:] == [
-        "a",
-        "  first          4        0           10           20           40           40",
-        "  second         4        1           30           35           50           50",
-        "  changed: 1 dropped now, 0 sent now, 1 sooner by up to 5, 1 later by up to 30"]
+    status, said, _fault = altqwork("delays", "--ns", tmp_path / "first", tmp_path / "second")
+    assert status == 1 and said.splitlines() == [
+        "times in ns  packets  dropped  least  median  99 in 100  greatest", "a",
+        "  first            4        0     10      20         40        40",
+        "  second           4        1     30      35         50        50",
+        "  changed: 1 dropped now, 0 sent now, 1 sooner by up to 5 ns, 1 later by up to 30 ns"]
     assert altqwork("delays", tmp_path / "first", tmp_path / "first")[0] == 0
+
+
+def test_delays_in_milliseconds(altqwork, tmp_path):
+    # 1.2345 and 7 ms, then 2 ms and 2^63 - 1 ns, of which no digit is lost
+    (tmp_path / "first").write_text(HEAD + "1,0,60,a,share,0,1234500\n2,0,60,a,share,1234500,7000000\n")
+    (tmp_path / "second").write_text(HEAD + f"1,0,60,a,share,0,2000000\n2,0,60,a,share,2000000,{2**63 - 1}\n")
+    assert altqwork("delays", tmp_path / "first", tmp_path / "second")[1].splitlines() == [
+        "times in ms  packets  dropped  least  median          99 in 100           greatest", "a",
+        "  first            2        0  1.235   1.235              7.000              7.000",
+        "  second           2        0  2.000   2.000  9223372036854.776  9223372036854.776",
+        "  changed: 0 dropped now, 0 sent now, 0 sooner, 2 later by up to 9223372036847.776 ms"]
+    assert altqwork("delays", "--ns", tmp_path / "first", tmp_path / "second")[1].splitlines()[3].split()[-2:] == [str(2**63 - 1)] * 2
+
+
+def test_delays_in_the_order_of_the_configuration(altqwork, program, tmp_path):
+    # packets of b come first, c is of no configuration; a packet of c is of b in the second play
+    (tmp_path / "c.conf").write_text("interface if0 bandwidth 8M hfsc\nclass hfsc if0 root NULL pshare 100\n"
+                                     "class hfsc if0 a root pshare 50\nclass hfsc if0 b root pshare 50 default\n")
+    (tmp_path / "first").write_text(HEAD + "1,0,60,c,full,,\n2,0,60,b,share,0,60000\n3,0,60,a,share,60000,120000\n")
+    (tmp_path / "second").write_text(HEAD + "1,0,60,b,full,,\n2,0,60,b,share,0,60000\n3,0,60,a,share,60000,120000\n")
+    for words, order in (([], "c b a"), (["--config", tmp_path / "c.conf"], "a b c")):
+        lines = altqwork("delays", *words, tmp_path / "first", tmp_path / "second")[1].splitlines()
+        assert " ".join(line for line in lines if line in "abc") == order
+        assert lines[lines.index("b") + 3] == "  changed: 0 dropped now, 0 sent now, 1 of another class, 0 sooner, 0 later"
 
 
 @pytest.mark.parametrize("text, why", [("", "first row"), (HEAD, "packet 1 stands in one file alone"), (HEAD + "1,101,60,a,full,,\n", "packet 1 has another arrival"),

@@ -81,7 +81,7 @@ def test_foreign_journal(files, capsys):
 @pytest.mark.parametrize("answer, said, status", [
     ("exit 2", "plain tests of the second (order, starts, one packet at a time, ends): none fail; this is no proof", 0),
     ("echo verified", "altqplay verify: verified", 0),
-    ("echo 'row 3 kind 6'; exit 10", "altqplay verify: row 3 kind 6", 1),
+    ("echo 'row 3 kind 6'; exit 10", "altqplay verify: line 4 (row 3) kind 6", 1),
 ])
 def test_verify_is_asked_where_it_is(files, tmp_path, capsys, answer, said, status):
     (tmp_path / "fake").write_text(f"""#!/bin/sh
@@ -135,11 +135,11 @@ def test_fraction_of_a_run():
 
 @pytest.mark.parametrize("text, said", [
     ("number,arrival\n", "its first row is not that of fates"),
-    (HEAD + "1,0,1000,a,sent,0\n", "row 2: 6 words, and not 7"),
-    (HEAD + "1,0,1000,a,gone,0,1\n", "row 2: no fate: 'gone'"),
-    (HEAD + "1,0,1000,a,dropped,0,1\n", "row 2: a packet that was dropped has a start"),
-    (HEAD + "1,0,1e3,a,sent,0,1\n", "row 2: length is no whole number"),
-    (HEAD + "1,0,1000,a,sent,0,1\n1,0,1000,a,sent,1,2\n", "row 3: packet 1 has two fates"),
+    (HEAD + "1,0,1000,a,sent,0\n", "line 2 (row 1): 6 words, and not 7"),
+    (HEAD + "1,0,1000,a,gone,0,1\n", "line 2 (row 1): no fate: 'gone'"),
+    (HEAD + "1,0,1000,a,dropped,0,1\n", "line 2 (row 1): a packet that was dropped has a start"),
+    (HEAD + "1,0,1e3,a,sent,0,1\n", "line 2 (row 1): length is no whole number"),
+    (HEAD + "1,0,1000,a,sent,0,1\n1,0,1000,a,sent,1,2\n", "line 3 (row 2): packet 1 has two fates"),
 ])
 def test_faulty_journals(tmp_path, text, said):
     (tmp_path / "odd.csv").write_text(text)

@@ -1,5 +1,6 @@
 """`late`: due moments by their definition, worked rows, plays, and the command."""
 
+import gzip
 import random
 import subprocess
 
@@ -85,23 +86,97 @@ def test_worked_rows(curve, packets, due):
     assert reckoned(curve, packets) == due == by_definition(curve, packets)
 
 
+HEAD = "number,arrival,length,class,fate,start,end\n"
+
+
 # One packet of 1,000 bytes on a link of 8 Mbit/s is due after 1,000,000, and late if it ends more than 1,000,000 after that.
 @pytest.mark.parametrize("end, words, numbers", [
-    (1_000_000, [], "1        0        1        0        0             0"), (1_000_001, [], "1        0        1        1        0             1"),
-    (2_000_000, [], "1        0        1        1        0       1000000"), (2_000_001, [], "1        0        1        1        1       1000001"),
-    (1_000_007, ["--allow", "7"], "1        0        1        1        0             7"), (1_000_007, ["--allow", "6"], "1        0        1        1        1             7")])
+    (1_000_000, [], "1 0 0 0"), (1_000_001, [], "1 1 0 1"), (2_000_000, [], "1 1 0 1000000"), (2_000_001, [], "1 1 1 1000001"),
+    (1_000_007, ["--allow", "7"], "1 1 0 7"), (1_000_007, ["--allow", "6"], "1 1 1 7")])
 def test_late_at_the_bound(altqwork, program, tmp_path, end, words, numbers):
     (tmp_path / "c.conf").write_text("interface if0 bandwidth 8M hfsc\nclass hfsc if0 root NULL\nclass hfsc if0 a root sc 8M 0 8M default\n")
-    (tmp_path / "f.csv").write_text(f"number,arrival,length,class,fate,start,end\n1,0,1000,a,share,{end - 1_000_000},{end}\n")
-    status, said, _fault = altqwork("late", "--config", tmp_path / "c.conf", "--fates", tmp_path / "f.csv", *words)
-    assert said.splitlines()[3] == "  play            " + numbers and status == int(numbers.split()[4])
+    (tmp_path / "f.csv").write_text(f"{HEAD}1,0,1000,a,share,{end - 1_000_000},{end}\n")
+    status, said, _fault = altqwork("late", "--ns", "--config", tmp_path / "c.conf", "--fates", tmp_path / "f.csv", *words)
+    assert said.splitlines()[3].split() == ["play", "1", "0", *[str(end)] * 3, *numbers.split()] and status == int(numbers.split()[2])
 
 
 def test_the_time_of_the_longest_packet_is_rounded_up(altqwork, program, tmp_path):
-    (tmp_path / "c.conf").write_text("interface if0 bandwidth 3M hfsc\n")
-    (tmp_path / "f.csv").write_text("number,arrival,length,class,fate,start,end\n1,0,1000,default,share,0,2666667\n2,0,1500,default,full,,\n")
-    said = altqwork("late", "--config", tmp_path / "c.conf", "--fates", tmp_path / "f.csv")[1]
-    assert said.startswith("play: fits; late is what ends more than 2666667 after its due moment (longest packet sent: 1000 bytes)")
+    (tmp_path / "c.conf").write_text("interface if0 bandwidth 3M hfsc\nclass hfsc if0 root NULL\nclass hfsc if0 a root sc 1M 0 1M default\n")
+    (tmp_path / "f.csv").write_text(HEAD + "1,0,1000,a,share,0,2666667\n2,0,1500,a,full,,\n")
+    said = altqwork("late", "--config", tmp_path / "c.conf", "--fates", tmp_path / "f.csv", "--ns")[1]
+    assert said.startswith("play: fits; late is what ends more than 2666667 ns after its due moment (longest packet sent: 1000 bytes)")
+
+
+def two_plays(altqwork, tmp_path, curves, fates, *words):
+    """`late` of two plays of class `a` with some curves, by the rows of their fates."""
+    for name, curve, rows in zip(("before", "after"), curves, fates):
+        (tmp_path / f"{name}.conf").write_text(f"interface if0 bandwidth 8M hfsc\nclass hfsc if0 root NULL\nclass hfsc if0 a root {curve} default\n")
+        (tmp_path / f"{name}.csv").write_text(HEAD + rows)
+    return altqwork("late", "--before", tmp_path / "before.conf", "--after", tmp_path / "after.conf", "--fates", tmp_path / "before.csv",
+                    "--fates", tmp_path / "after.csv", *words)
+
+
+# Three packets of 1,000 bytes at 0, 5 and 5 ms, the last of which is dropped; and a delay that is ten times as long.
+SHORT = "1,0,1000,a,share,0,1000000\n3,5000000,1000,a,full,,\n2,5000000,1000,a,share,5000000,6000000\n"
+LONG = "1,0,1000,a,share,9000000,10000000\n3,5000000,1000,a,full,,\n2,5000000,1000,a,share,10000000,11000000\n"
+
+
+def test_due_moments_that_vanish_are_told(altqwork, program, tmp_path):
+    """A class whose real-time curve is taken away is not `0 late`: what it lost is said, its delays stand there, and the status is 1."""
+    status, said, _fault = two_plays(altqwork, tmp_path, ("sc 8M 0 8M", "ls 8M 0 8M"), (SHORT, LONG))
+    lines = said.splitlines()
+    assert status == 1 and "  2 packets have no due moment any more" in lines and "became late" not in said
+    assert lines[0].startswith("before: fits; late is what ends more than 1.000 ms after") and lines[1] == "after: fits; no packet has a due moment"
+    assert [line.split() for line in lines[2:6]] == [
+        ["times", "in", "ms", "packets", "dropped", "median", "99", "in", "100", "greatest", "due", "missed", "late", "worst"], ["a"],
+        ["before", "3", "1", "1.000", "1.000", "1.000", "2", "0", "0", "0.000"], ["after", "3", "1", "6.000", "10.000", "10.000", "0", "-", "-", "-"]]
+
+
+def test_due_moments_that_stay_are_no_loss(altqwork, program, tmp_path):
+    status, said, _fault = two_plays(altqwork, tmp_path, ("sc 8M 0 8M", "sc 8M 0 8M"), (SHORT, SHORT))
+    assert status == 0 and "no due moment" not in said and "  became late: 0, late no more: 0" in said.splitlines()
+    assert two_plays(altqwork, tmp_path, ("ls 8M 0 8M", "sc 8M 0 8M"), (LONG, SHORT))[0] == 0
+
+
+def test_packets_that_are_dropped_now_lost_no_due_moment(altqwork, program, tmp_path):
+    dropped = "3,5000000,1000,a,full,,\n2,5000000,1000,a,full,,\n1,0,1000,a,share,0,1000000\n"
+    status, said, _fault = two_plays(altqwork, tmp_path, ("sc 8M 0 8M", "sc 8M 0 8M"), (SHORT, dropped))
+    assert status == 0 and "no due moment" not in said and "  dropped now: 1 (2), sent now: 0" in said.splitlines()
+
+
+@pytest.mark.parametrize("want, status, told", [
+    ("a delay<2ms", 1, ["before  kept: 2 packets, the slowest 1.000 ms", "after   broken: 2 of 2 packets, the slowest 10.000 ms"]),
+    ("a delay<=10ms", 0, ["before  kept: 2 packets, the slowest 1.000 ms", "after   kept: 2 packets, the slowest 10.000 ms"]),
+    ("a drop=0", 1, ["before  broken: 1 of 3 packets dropped", "after   broken: 1 of 3 packets dropped"]),
+    # 2,000 bytes are 16,000 bits: in 2 ms and, since both wait from 0 and 5 ms on, till 11 ms
+    ("a rate>=2M", 1, ["before  kept: 8.000 Mbit/s over 2 packets", "after   broken: 1.454 Mbit/s over 2 packets"])])
+def test_wants(altqwork, program, tmp_path, want, status, told):
+    found, said, _fault = two_plays(altqwork, tmp_path, ("ls 8M 0 8M", "ls 8M 0 8M"), (SHORT, LONG), "--want", want)
+    assert found == status and said.splitlines()[-4:] == ["wants:", want, *("  " + line for line in told)]
+
+
+def test_a_want_of_no_class_is_refused(altqwork, program, tmp_path):
+    status, said, fault = two_plays(altqwork, tmp_path, ("ls 8M 0 8M", "ls 8M 0 8M"), (SHORT, LONG), "--want", "voip drop=0")
+    assert (status, said) == (2, "") and "no configuration has a class voip; there are root, a" in fault
+
+
+def test_cbq_has_no_columns_of_due_moments(altqwork, program, tmp_path):
+    (tmp_path / "c.conf").write_text("interface if0 bandwidth 8M cbq\nclass cbq if0 root NULL pbandwidth 100\nclass cbq if0 a root pbandwidth 50 default\n")
+    (tmp_path / "f.csv").write_text(HEAD + "1,0,1000,a,own,0,1000000\n")
+    status, said, _fault = altqwork("late", "--config", tmp_path / "c.conf", "--fates", tmp_path / "f.csv")
+    assert status == 0 and said.splitlines()[1].split()[-4:] == ["99", "in", "100", "greatest"] and "due moment" in said.splitlines()[0]
+    assert said.splitlines()[3].split() == ["play", "1", "0", "1.000", "1.000", "1.000"]
+
+
+def test_a_damaged_archive_is_refused(altqwork, program, tmp_path):
+    """`late` and `report` name a packed capture that is cut or no archive, and end with 2."""
+    (tmp_path / "c.conf").write_text("interface if0 hfsc\n")
+    whole = gzip.compress(classic(1, [(0, bytes(60), 60)] * 20), mtime=0)
+    for place, damaged in enumerate((whole[:12], whole[:-20], b"\x1f\x8bno archive", whole[:20] + b"\xff" * 30 + whole[50:])):
+        (tmp_path / f"{place}.pcap.gz").write_bytes(damaged)
+        for words in (["late"], ["report"]):
+            status, said, fault = altqwork(*words, "--config", tmp_path / "c.conf", tmp_path / f"{place}.pcap.gz", *(["x.html"] if words == ["report"] else []))
+            assert (status, said) == (2, "") and f"{place}.pcap.gz" in fault
 
 
 def office(altqwork, tmp_path):
@@ -117,7 +192,7 @@ def test_office(altqwork, program, tmp_path):
     status, said, _fault = altqwork("late", "--before", before, "--after", after, "--rows", tmp_path / "rows.csv", "--capture", tmp_path / "late.pcap",
                                     "--keep", tmp_path / "kept", arrivals)
     lines = said.splitlines()
-    assert status == 1 and lines[0].startswith("before: fits; late is what ends more than 3028000 ")
+    assert status == 1 and lines[0].startswith("before: fits; late is what ends more than 3.028 ms ")
     assert lines[1].startswith("after: exceeds at 10000000 by 16000000000000; ")
     rows = {tuple(line.split(",")[:2]): line for line in (tmp_path / "rows.csv").read_text().splitlines()}
     # docs/operators/OPERATING.md: 521 is due at 2,401,712,000 and ends 1,704,000 after that; 477 at 2,288,712,000 and 7,100,000

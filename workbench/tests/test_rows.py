@@ -29,14 +29,14 @@ def test_both_readers_agree(tmp_path_factory, drawn):
 
 
 @pytest.mark.parametrize("text, why", [
-    ("", "first row"), ("number,arrival\n", "first row"), (HEAD + "1,2,3,a,share,4\n", "row 2: 6 words"), (HEAD + "1,2,3,a,share,4,5,6\n", "row 2: 8 words"),
-    (HEAD + "1,2,3,a,share,4,5\n1,2,x,a,share,4,5\n", "row 3: length is no whole number below 2^63: 'x'"), (HEAD + "1,-2,3,a,share,4,5\n", "row 2: arrival"),
-    (HEAD + "1,2,3,a,lost,4,5\n", "no fate: 'lost'"), (HEAD + "1,2,3,a,full,4,5\n", "dropped has a start"), (HEAD + "1,2,3,a,share,,\n", "row 2: start"),
-    (HEAD + "1,2,3,a,share,-1,-1\n", "row 2: start"), (HEAD + f"1,{2**63},3,a,share,4,5\n", "row 2: arrival"), (HEAD + "1,2,3,a b,share,4,5\n", "no name of a class"),
-    (HEAD + "1,2,3,a,share,4,5\n1,2,3,a,full,,\n", "packet 1 has two fates"), (HEAD + "1,2,3,a,share,4,5", "cut"), (HEAD + "1,2,3,a,full,,\n1,2,3,a,sh", "row 3"),
-    *((HEAD + f"{number},2,3,a,share,4,5\n", "row 2: number") for number in ("", " 5", "+5", "5.0", "1e3", "05", "1_0", "0x1", "True", "5 ", '"5"')),
-    (HEAD + "1,2,3,a,share,4,5\r\n", "row 2: end"), (HEAD + "1,2,3,\u00e4,share,4,5\n", "no name of a class"), (HEAD + "\n", "row 2: 1 words"),
-    (HEAD + "1e3,2,3,a,share,4,5\n1001.,2,3,a,share,4,5\n", "row 2: number")])
+    ("", "first row"), ("number,arrival\n", "first row"), (HEAD + "1,2,3,a,share,4\n", "line 2 (row 1): 6 words"), (HEAD + "1,2,3,a,share,4,5,6\n", "line 2 (row 1): 8 words"),
+    (HEAD + "1,2,3,a,share,4,5\n1,2,x,a,share,4,5\n", "line 3 (row 2): length is no whole number below 2^63: 'x'"), (HEAD + "1,-2,3,a,share,4,5\n", "line 2 (row 1): arrival"),
+    (HEAD + "1,2,3,a,lost,4,5\n", "no fate: 'lost'"), (HEAD + "1,2,3,a,full,4,5\n", "dropped has a start"), (HEAD + "1,2,3,a,share,,\n", "line 2 (row 1): start"),
+    (HEAD + "1,2,3,a,share,-1,-1\n", "line 2 (row 1): start"), (HEAD + f"1,{2**63},3,a,share,4,5\n", "line 2 (row 1): arrival"), (HEAD + "1,2,3,a b,share,4,5\n", "no name of a class"),
+    (HEAD + "1,2,3,a,share,4,5\n1,2,3,a,full,,\n", "packet 1 has two fates"), (HEAD + "1,2,3,a,share,4,5", "cut"), (HEAD + "1,2,3,a,full,,\n1,2,3,a,sh", "line 3 (row 2)"),
+    *((HEAD + f"{number},2,3,a,share,4,5\n", "line 2 (row 1): number") for number in ("", " 5", "+5", "5.0", "1e3", "05", "1_0", "0x1", "True", "5 ", '"5"')),
+    (HEAD + "1,2,3,a,share,4,5\r\n", "line 2 (row 1): end"), (HEAD + "1,2,3,\u00e4,share,4,5\n", "no name of a class"), (HEAD + "\n", "line 2 (row 1): 1 words"),
+    (HEAD + "1e3,2,3,a,share,4,5\n1001.,2,3,a,share,4,5\n", "line 2 (row 1): number")])
 def test_what_is_no_fates(tmp_path, text, why):
     (tmp_path / "f.csv").write_text(text)
     with pytest.raises(Refused) as fault:

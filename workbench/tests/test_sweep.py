@@ -27,7 +27,7 @@ def test_settings_are_a_grid():
     assert sweep.label(grid[5]) == "a rt=2M; bandwidth=10M" and sweep.label(()) == "-"
 
 
-@pytest.mark.parametrize("text", ["a rt", "a rt=", "rt=1M", "a colour=red", "a bandwidth=1M", "a b rt=1M"])
+@pytest.mark.parametrize("text", ["a rt", "a rt=", "rt=1M", "a colour=red", "a bandwidth=1M", "a b rt=1M", "a rt=1M/2", "a rt=1M,1M/2/3/4"])
 def test_faulty_settings(text):
     with pytest.raises(Refused, match="--set"):
         sweep.settings_of([text])
@@ -37,6 +37,7 @@ def test_faulty_settings(text):
     ([(("a", "rt"), "2M")], "class hfsc if0 a root sc 1M 0 1M rt 2M 0 2M"),
     ([(("a", "qlimit"), "9")], "class hfsc if0 a root sc 1M 0 1M qlimit 9"),
     ([((None, "bandwidth"), "9M")], "interface if0 bandwidth 8M hfsc bandwidth 9M"),
+    ([(("a", "rt"), "3M/10/1500K")], "class hfsc if0 a root sc 1M 0 1M rt 3M 10 1500K"),
     ([(("a", "ul"), "3M"), (("a", "qlimit"), "7")], "class hfsc if0 a root sc 1M 0 1M ul 3M 0 3M qlimit 7"),
 ])
 def test_setting_stands_behind_what_it_replaces(settings, line):
@@ -55,12 +56,6 @@ def test_seeds():
     for text in ("", "x", "3-1", "1,", "-1"):
         with pytest.raises(Refused, match="--seeds"):
             sweep.numbers(text)
-
-
-def test_ranks():
-    """Of 200 delays the 100th and the 198th in rising order, and the last."""
-    assert sweep.ranks(list(range(1, 201))) == [100, 198, 200]
-    assert sweep.ranks([7]) == [7, 7, 7] and sweep.ranks([]) == ["", "", ""]
 
 
 @pytest.fixture
@@ -101,6 +96,19 @@ def test_drops_are_counted(place):
     assert [row[5:7] for row in rows] == [["2", "1"], ["3", "2"]]
 
 
+def test_curves_of_two_slopes(place):
+    """By real time `a` is due first: 4 Mbit/s for 2 ms are a packet of 1,000 bytes, which then waits for no other."""
+    assert [row[-1] for row in swept(place, "--set", "a rt=4M/2/1M,0/5/2M")] == ["ok"] * 8
+
+
+def test_only_classes_that_hold_packets(place):
+    """The root holds none, nor does an inner class; of CBQ a class with children may, and does where its packets came."""
+    assert {row[4] for row in swept(place)} == {"a", "b"}
+    (place / "altq.conf").write_text("interface if0 bandwidth 8M cbq\nclass cbq if0 root NULL pbandwidth 100\nclass cbq if0 x root pbandwidth 50\n"
+                                     "class cbq if0 y root pbandwidth 40 borrow default\nclass cbq if0 z y pbandwidth 20\nclass cbq if0 w x pbandwidth 20\n")
+    assert {row[4] for row in swept(place)} == {"y", "z", "w"}
+
+
 def test_run_that_fails_is_a_row(place):
     rows = swept(place, "--set", "b pshare=50,0", status=1)
     failed = [row for row in rows if row[-1] != "ok"]
@@ -139,6 +147,19 @@ def test_plot(place):
     assert main(["sweep", "--into", str(place / "out"), str(place / "altq.conf"), "--arrivals", str(place / "two.pcap")]) == 0
     page = (place / "out" / "plot.html").read_text()
     assert "greatest delay, ms" in page and "<script src" not in page
+
+
+def test_a_class_has_one_colour(tmp_path):
+    """In both plots, for the marks and for the lines; two classes have two."""
+    pytest.importorskip("plotly")
+    rows = [["c", "-", "a.pcap", 42, name, 3, 0, 1, 2, 3, "ok"] for name in ("a", "b", "c")]
+    sweep.plot(str(tmp_path / "p.html"), rows)
+    page = (tmp_path / "p.html").read_text()
+    data = json.JSONDecoder().raw_decode(page[page.rindex('[{"legendgroup"'):])[0]
+    colours = {trace["name"]: {trace["marker"]["color"], trace["line"]["color"]} for trace in data}
+    for trace in data:
+        assert {trace["marker"]["color"], trace["line"]["color"]} == colours[trace["name"]] and len(colours[trace["name"]]) == 1
+    assert len(data) == 6 and len({next(iter(found)) for found in colours.values()}) == 3
 
 
 def test_missing_capture(place, capsys):

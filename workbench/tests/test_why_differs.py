@@ -35,7 +35,7 @@ def test_a_changed_decision_is_caught_at_its_row(played, tmp_path, number):
         for row in changes(rows[at]):
             (tmp_path / "changed.csv").write_text("\n".join(rows[:at] + [row] + rows[at + 1:]) + "\n")
             status, said, fault = one.why()
-            assert (status, fault) == (1, "") and f"changed.csv: row {at + 1}: {row}\nby the rules: " in said
+            assert (status, fault) == (1, "") and f"changed.csv: line {at + 1} (row {at}): {row}\nby the rules: " in said
 
 
 def test_two_sendings_that_changed_places(played, tmp_path):
@@ -45,7 +45,7 @@ def test_two_sendings_that_changed_places(played, tmp_path):
     one.fates = str(tmp_path / "theirs.csv")
     (tmp_path / "theirs.csv").write_text(text.replace("2,0,1000,a,share,4", "X,0,1000,b,sent,4").replace("7,0,1000,b,share", "2,0,1000,a,sent").replace("X", "7"))
     status, said, _fault = one.why()
-    assert status == 1 and "row 6: 7,0,1000,b,sent,4000000,5000000\nby the rules: 2,0,1000,a,share,4000000,5000000\npacket 2 stands in row 7\n" in said
+    assert status == 1 and "line 6 (row 5): 7,0,1000,b,sent,4000000,5000000\nby the rules: 2,0,1000,a,share,4000000,5000000\npacket 2 stands in line 7 (row 6)\n" in said
     assert "the children of root: a, virtual time 4000000; second b, virtual time 4000000, equal: a stands earlier in the file" in said
 
 
@@ -92,8 +92,8 @@ HEAD = "number,arrival,length,class,fate,start,end\n"
 
 @pytest.mark.parametrize("rows, words, why", [
     ("1,0,60,b,share,0,60000\n1,0,60,b,full,,\n", [], "packet 1 has two fates"), ("2,0,60,b,share,0,60000\n", [], "packet 1 has no fate: a play that was cut off"),
-    ("1,0,60,c,share,0,60000\n", [], "row 2: c is no class of if0 that holds packets"), ("1,0,60,root,share,0,60000\n", [], "root is no class"),
-    ("1,5,60,b,share,5,60005\n2,4,60,b,full,,\n", [], "row 3: packet 2 arrives before packet 1"), ("1,0,0,b,share,0,0\n", [], "has no length"),
+    ("1,0,60,c,share,0,60000\n", [], "line 2 (row 1): c is no class of if0 that holds packets"), ("1,0,60,root,share,0,60000\n", [], "root is no class"),
+    ("1,5,60,b,share,5,60005\n2,4,60,b,full,,\n", [], "line 3 (row 2): packet 2 arrives before packet 1"), ("1,0,0,b,share,0,0\n", [], "has no length"),
     ("1,0,60,b,late,0,60000\n", [], "no fate: 'late'"), ("1,0,60,b,share,0,60000\n", ["--packet", "2"], "no packet 2: it has 1"),
     ("1,0,60,b,share,0,60000\n", ["--arrivals", "A"], "record 1 arrives at 7 with 60 bytes, and the fates say otherwise"),
     ("1,7,60,b,share,7,60007\n2,7,60,b,share,60007,120007\n", ["--arrivals", "A"], "1 records, and packet 2 has a fate")])

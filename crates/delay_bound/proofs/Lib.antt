@@ -1,0 +1,4 @@
+pub mod Growth
+pub mod Conforming
+pub mod Kept
+pub mod Bounds
